@@ -1,0 +1,5 @@
+pub mod Faults
+pub mod KeyKinds
+pub mod Memory
+pub mod Order
+pub mod Spelling
