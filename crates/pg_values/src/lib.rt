@@ -34,3 +34,6 @@ pub use spelling::write_value;
 pub use steps::Steps;
 pub use text::{NoMemory, PgText};
 pub use value::{Kind, Value, copy_value};
+
+#[cfg(test)]
+mod tests;
