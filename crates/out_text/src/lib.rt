@@ -1,0 +1,15 @@
+//! What partscript prints: tables of rows, as psql's aligned format and isolationtester print them.
+//!
+//! A table is a line of names, a rule of dashes, a line for each row, the count of the rows and an
+//! empty line. Every column is as wide as its widest text, so a table is printed in two passes:
+//! `column` finds the columns with their widths, and `line` then writes one line after another.
+//! The printed form is the definition `printed_table`; each writer below appends its part of it.
+#![tactic(auto)]
+
+mod column;
+mod line;
+mod table;
+mod width;
+
+pub use column::Column;
+pub use table::write_table;
