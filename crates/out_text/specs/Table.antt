@@ -1,6 +1,6 @@
 -- The printed form of a table, as psql's aligned format and isolationtester print it. Every definition is over any
 -- list of names, kinds and rows: there are as many columns as names, a missing value is null, and a missing kind is text.
-use Rattle.std.specs.Prelude.{ℕ, ◌+◌, ◌-◌, ◌==◌, Bool, true, false, ◌&&◌, ◌||◌, nat_le, nat_lt, if◌then◌else◌, List, [], ◌∷◌, ◌++◌, max, length, map, codes, decimal, replicate, count_by, slice_index_or}
+use Rattle.std.specs.Prelude.{ℕ, zero, suc, ◌+◌, ◌-◌, ◌==◌, Bool, true, false, ◌&&◌, ◌||◌, nat_le, nat_lt, if◌then◌else◌, List, [], ◌∷◌, ◌++◌, max, length, map, codes, decimal, replicate, count_by, slice_index_or}
 use Rattle.std.specs.List.{flat_map, join_by, range_with_len}
 use Rattle.pg_values.specs.declared.value.Kind.{Kind}
 use Rattle.pg_values.specs.declared.value.Kind.TheVariants.{Int4 as KInt4, Int8 as KInt8, Text as KText}
@@ -63,6 +63,9 @@ aligned column text =
     let spaces = replicate (column.width - char_count text) 32 in
     if column.is_right then spaces ++ text else (if column.is_last then text else text ++ spaces)
 
+abbrev pub printed_name : List (List ℕ) → Column → List ℕ
+printed_name names column = aligned column (name_text column.place names)
+
 -- null in the last column is printed as nothing
 abbrev pub printed_cell : List Value → Column → List ℕ
 printed_cell row column =
@@ -74,11 +77,12 @@ line part byte columns = join_by part (byte ∷ []) columns ++ codes "\n"
 
 -- what stands before column i
 abbrev pub between : ℕ → ℕ → List ℕ
-between i byte = if i == 0 then [] else byte ∷ []
+between zero byte = []
+between (suc i) byte = byte ∷ []
 
 -- joined by `|`
 abbrev pub names_line : List (List ℕ) → List Column → List ℕ
-names_line names = line (λ column. aligned column (name_text column.place names)) 124
+names_line names = line (printed_name names) 124
 
 abbrev pub row_line : List Column → List Value → List ℕ
 row_line columns row = line (printed_cell row) 124 columns

@@ -1,9 +1,9 @@
-ghost use Rattle.std.specs.Prelude.{◌≡◌, IfOk};
+ghost use Rattle.std.specs.Prelude.{◌≡◌, ◌<◌, IfOk, length};
 ghost use Rattle.out_text.specs.Table.{kind_at};
 ghost use Rattle.out_text.specs.Table as spec;
 
 use crate::width::column_width;
-use pg_values::{Answer, Kind, NoMemory};
+use pg_values::{Answer, Kind, NoMemory, PgText, Row};
 use std::alloc::Global;
 
 /// How a column of a table is printed.
@@ -36,7 +36,26 @@ fn is_right_at(place: usize, kinds: &[Kind]) -> bool
     }
 }
 
+fn column_at(
+    alloc: Global,
+    names: &[PgText],
+    kinds: &[Kind],
+    rows: &[Row],
+    place: usize,
+) -> Result<Column, NoMemory>
+    requires { place < length names.now }
+    ensures { IfOk result (λ column. column ≡ spec.column_at names.now kinds.now rows.now place) }
+{
+    Ok(Column {
+        place,
+        width: column_width(alloc, place, names, rows)?,
+        is_right: is_right_at(place, kinds),
+        is_last: place + 1 == names.len(),
+    })
+}
+
 // The columns of an answer, in order.
+#[tactic(auto, using(crate::proofs::Joined::columns))]
 pub(crate) fn columns_of(alloc: Global, a: &Answer) -> Result<Vec<Column>, NoMemory>
     ensures { IfOk result (λ columns. columns.items ≡ spec.columns_of a.now.names a.now.kinds a.now.rows) }
 {
@@ -45,12 +64,7 @@ pub(crate) fn columns_of(alloc: Global, a: &Answer) -> Result<Vec<Column>, NoMem
     let rows = a.rows.as_slice();
     let mut columns = Vec::with_capacity(alloc, names.len())?;
     for place in 0..names.len() {
-        columns.push(Column {
-            place,
-            width: column_width(alloc, place, names, rows)?,
-            is_right: is_right_at(place, kinds),
-            is_last: place + 1 == names.len(),
-        })?;
+        columns.push(column_at(alloc, names, kinds, rows, place)?)?;
     }
     Ok(columns)
 }

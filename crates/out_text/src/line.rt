@@ -1,6 +1,6 @@
 ghost use Rattle.std.specs.Prelude.{◌≡◌, ◌++◌, OnOk, replicate, codes};
 ghost use Rattle.std.specs.List.{flat_map};
-ghost use Rattle.out_text.specs.Table.{aligned, cell_value, name_text, names_line, printed_cell, row_line, between};
+ghost use Rattle.out_text.specs.Table.{aligned, cell_value, names_line, printed_cell, printed_name, row_line, between};
 ghost use Rattle.out_text.specs.Table as spec;
 
 use crate::Column;
@@ -66,7 +66,7 @@ fn write_cell(
 }
 
 fn write_name(column: &Column, names: &[PgText], out: &mut Vec<u8>) -> Result<(), NoMemory>
-    ensures { OnOk result (out.new.items ≡ out.old.items ++ aligned column.now (name_text column.now.place names.now)) }
+    ensures { OnOk result (out.new.items ≡ out.old.items ++ printed_name names.now column.now) }
 {
     match names.get(column.place) {
         Some(name) => write_aligned(column, name.as_bytes(), out),
@@ -84,6 +84,7 @@ fn write_between(i: usize, byte: u8, out: &mut Vec<u8>) -> Result<(), NoMemory>
     Ok(())
 }
 
+#[tactic(auto, using(crate::proofs::Joined::joined))]
 pub(crate) fn write_names(
     columns: &[Column],
     names: &[PgText],
@@ -99,6 +100,7 @@ pub(crate) fn write_names(
     Ok(())
 }
 
+#[tactic(auto, using(crate::proofs::Joined::joined))]
 pub(crate) fn write_rule(columns: &[Column], out: &mut Vec<u8>) -> Result<(), NoMemory>
     ensures { OnOk result (out.new.items ≡ out.old.items ++ spec.rule columns.now) }
 {
@@ -110,6 +112,7 @@ pub(crate) fn write_rule(columns: &[Column], out: &mut Vec<u8>) -> Result<(), No
     Ok(())
 }
 
+#[tactic(auto, using(crate::proofs::Joined::joined))]
 pub(crate) fn write_row(
     alloc: Global,
     columns: &[Column],

@@ -1,0 +1,7 @@
+use Rattle.std.proofs.Common.{◌≡◌, ◌++◌, ◌∷◌, [], take, replicate}
+use Rattle.std.specs.List.{join_by}
+use Rattle.out_text.proofs.line.write_rule.Given as goal
+
+-- the columns so far are joined
+abbrev pub invariant-loop-i : goal.invariant-loop-i
+invariant-loop-i l = l.out.items ≡ l.initial.out.items ++ join_by (λ column. replicate column.width 45) (43 ∷ []) (take l.i l.columns)
