@@ -55,7 +55,7 @@ fn column_at(
 }
 
 // The columns of an answer, in order.
-#[tactic(auto, using(crate::proofs::Joined::columns))]
+#[tactic(auto, using(crate::proofs::TableLaws::columns))]
 pub(crate) fn columns_of(alloc: Global, a: &Answer) -> Result<Vec<Column>, NoMemory>
     ensures { IfOk result (λ columns. columns.items ≡ spec.columns_of a.now.names a.now.kinds a.now.rows) }
 {

@@ -13,3 +13,6 @@ mod width;
 
 pub use column::Column;
 pub use table::write_table;
+
+#[cfg(test)]
+mod tests;

@@ -84,7 +84,7 @@ fn write_between(i: usize, byte: u8, out: &mut Vec<u8>) -> Result<(), NoMemory>
     Ok(())
 }
 
-#[tactic(auto, using(crate::proofs::Joined::joined))]
+#[tactic(auto, using(crate::proofs::TableLaws::joined))]
 pub(crate) fn write_names(
     columns: &[Column],
     names: &[PgText],
@@ -100,7 +100,7 @@ pub(crate) fn write_names(
     Ok(())
 }
 
-#[tactic(auto, using(crate::proofs::Joined::joined))]
+#[tactic(auto, using(crate::proofs::TableLaws::joined))]
 pub(crate) fn write_rule(columns: &[Column], out: &mut Vec<u8>) -> Result<(), NoMemory>
     ensures { OnOk result (out.new.items ≡ out.old.items ++ spec.rule columns.now) }
 {
@@ -112,7 +112,7 @@ pub(crate) fn write_rule(columns: &[Column], out: &mut Vec<u8>) -> Result<(), No
     Ok(())
 }
 
-#[tactic(auto, using(crate::proofs::Joined::joined))]
+#[tactic(auto, using(crate::proofs::TableLaws::joined))]
 pub(crate) fn write_row(
     alloc: Global,
     columns: &[Column],

@@ -1,4 +1,4 @@
-use Rattle.std.proofs.Common.{◌≡◌, ◌++◌, ◌∷◌, [], take, replicate}
+use Rattle.std.proofs.Common.{◌≡◌, ◌++◌, ◌∷◌, [], take}
 use Rattle.std.specs.List.{join_by}
 use Rattle.out_text.specs.Table.{printed_cell}
 use Rattle.out_text.proofs.line.write_row.Given as goal

@@ -1,5 +1,5 @@
 -- Columns joined by a byte, as far as a loop has come.
-use Rattle.std.proofs.Common.{◌≡◌, ℕ, ◌+◌, ◌<◌, ◌≤◌, List, [], ◌∷◌, ◌++◌, take, length, get_or, zero, suc, refl, sym, ap, ◌∙◌, append_assoc, append-nil, add-one, zero-add, map, arith}
+use Rattle.std.proofs.Common.{◌≡◌, ℕ, ◌+◌, ◌<◌, List, [], ◌∷◌, ◌++◌, take, length, get_or, zero, suc, refl, sym, ap, ◌∙◌, append_assoc, append-nil, add-one, zero-add, map, arith}
 use Rattle.std.proofs.Math.Seq.{take-suc}
 use Rattle.std.proofs.lemmas.List.{flat_map_more}
 use Rattle.std.proofs.lemmas.List.FromFn.{map-range_with_len_more}
@@ -35,4 +35,5 @@ pub column_added : {X : Type 0} (f : ℕ → X) (n : ℕ) (before after : List X
 column_added f n before after x p q r = let e = map-range_with_len_more f 0 n n (zero-add n) in cc
 
 pub ruleset joined = (column_written)
+
 pub ruleset columns = (column_added)

@@ -1,0 +1,14 @@
+pub mod Barred
+pub mod Build
+pub mod Chain
+pub mod Depths
+pub mod Either
+pub mod ExampleLaws
+pub mod Follow
+pub mod KindClasses
+pub mod Laws
+pub mod Many
+pub mod Rows
+pub mod Single
+pub mod Steps
+pub mod Whole

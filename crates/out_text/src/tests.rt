@@ -1,0 +1,92 @@
+use crate::write_table;
+use pg_values::{Answer, Kind, KindList, NameList, NoMemory, PgText, Row, RowList, Value};
+use std::alloc::Global;
+use std::test::Fail;
+
+// The value that stands as digits, as a text or as `t` and `f`; nothing stands for null.
+fn value(alloc: Global, kind: Kind, cell: &str) -> Result<Value, NoMemory> {
+    if cell.is_empty() {
+        return Ok(Value::Null);
+    }
+    match kind {
+        Kind::Int4 => Ok(Value::Int4(cell.parse().unwrap_or(0))),
+        Kind::Int8 => Ok(Value::Int8(cell.parse().unwrap_or(0))),
+        Kind::Text => Ok(Value::Text(PgText::from_bytes(alloc, cell.as_bytes())?)),
+        Kind::Day => Ok(Value::Day(cell.parse().unwrap_or(0))),
+        Kind::Truth => Ok(Value::Truth(cell == "t")),
+    }
+}
+
+fn row(alloc: Global, columns: &[(&str, Kind)], cells: &[&str]) -> Result<Row, NoMemory> {
+    let mut row = Row::new(alloc);
+    for ((_, kind), cell) in columns.iter().zip(cells) {
+        row.push(value(alloc, *kind, cell)?)?;
+    }
+    Ok(row)
+}
+
+// The table behind a byte that was there before.
+fn table(alloc: Global, columns: &[(&str, Kind)], lines: &[&[&str]]) -> Result<Vec<u8>, NoMemory> {
+    let mut names = NameList::new(alloc);
+    let mut kinds = KindList::new(alloc);
+    for (name, kind) in columns {
+        names.push(PgText::from_bytes(alloc, name.as_bytes())?)?;
+        kinds.push(*kind)?;
+    }
+    let mut rows = RowList::new(alloc);
+    for cells in lines {
+        rows.push(row(alloc, columns, cells)?)?;
+    }
+    let mut out = Vec::from_slice(alloc, b">")?;
+    write_table(alloc, &Answer { names, kinds, rows }, &mut out)?;
+    Ok(out)
+}
+
+#[test]
+fn one_column(rt: HostRuntime) -> Result<(), Fail> {
+    let number = [("a", Kind::Int4)];
+    let none = table(rt.alloc(), &number, &[])?;
+    assert!(rt; none.as_slice() == b">a\n-\n(0 rows)\n\n".as_slice());
+    let one = table(rt.alloc(), &number, &[&["10"]])?;
+    assert!(rt; one.as_slice() == b"> a\n--\n10\n(1 row)\n\n".as_slice());
+    Ok(())
+}
+
+#[test]
+fn a_column_that_stands_left(rt: HostRuntime) -> Result<(), Fail> {
+    let got = table(rt.alloc(), &[("pg_cancel_backend", Kind::Truth)], &[&["t"]])?;
+    let want = b">pg_cancel_backend\n-----------------\nt\n(1 row)\n\n";
+    assert!(rt; got.as_slice() == want.as_slice());
+    Ok(())
+}
+
+#[test]
+fn null_in_the_last_column(rt: HostRuntime) -> Result<(), Fail> {
+    let columns = [("tableoid", Kind::Text), ("a", Kind::Int4)];
+    let got = table(rt.alloc(), &columns, &[&["d", ""]])?;
+    assert!(rt; got.as_slice() == b">tableoid|a\n--------+-\nd       |\n(1 row)\n\n".as_slice());
+    Ok(())
+}
+
+#[test]
+fn columns_of_several_kinds(rt: HostRuntime) -> Result<(), Fail> {
+    let left = [
+        ("größe", Kind::Int8),
+        ("day", Kind::Day),
+        ("name", Kind::Text),
+    ];
+    let got = table(rt.alloc(), &left, &[&["-5", "19782", "ä|é"], &["", "", ""]])?;
+    let want =
+        ">größe|day       |name\n-----+----------+----\n   -5|2024-02-29|ä|é\n     |          |\n(2 rows)\n\n";
+    assert!(rt; got.as_slice() == want.as_bytes());
+    let right = [("a", Kind::Int4), ("ä", Kind::Text), ("b", Kind::Int8)];
+    let got = table(
+        rt.alloc(),
+        &right,
+        &[&["-2147483648", "", "7"], &["1", "éé", ""]],
+    )?;
+    let want =
+        ">          a|ä |b\n-----------+--+-\n-2147483648|  |7\n          1|éé|\n(2 rows)\n\n";
+    assert!(rt; got.as_slice() == want.as_bytes());
+    Ok(())
+}

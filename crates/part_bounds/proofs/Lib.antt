@@ -1,0 +1,7 @@
+pub mod Choice
+pub mod IntBoundLaws
+pub mod OverlapLaws
+pub mod PlainOrder
+pub mod PointOrder
+pub mod TotalOrder
+pub mod Walk

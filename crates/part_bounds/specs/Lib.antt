@@ -1,0 +1,5 @@
+pub mod Accepts
+pub mod Bounds
+pub mod IntBounds
+pub mod Laws
+pub mod Points

@@ -1,0 +1,106 @@
+ghost use Rattle.std.specs.Prelude.{◌≡◌, ◌<◌, ◌≤◌, false, OnOk, OnErr, IfOk, All, length, position, slice_get, Some, None};
+ghost use Rattle.std.specs.List.{AllPairs, position_or_len};
+ghost use Rattle.part_bounds.specs.Bounds as bounds_spec;
+ghost use Rattle.part_bounds.specs.Bounds.{overlaps, with_bound, in_plain_order, BoundOfKind, BoundOfKinds, BoundsFit};
+
+use crate::Bound;
+use crate::point::cmp_points;
+use pg_values::{KeyKind, NoMemory};
+use std::alloc::Global;
+use std::marker::Model;
+
+/// The bounds of the partitions of one table in plain order, seen as their list.
+#[derive(Drop)]
+pub struct BoundSet<K: KeyKind> {
+    pub(crate) kind: K,
+    pub(crate) bounds: Vec<Bound>,
+}
+
+impl<K: KeyKind> Model for BoundSet<K> {
+    ghost use Rattle.std.specs.Prelude.{List, All};
+    ghost use Rattle.part_bounds.specs.declared.partition_bound.Bound.{Bound};
+    ghost use Rattle.part_bounds.specs.Bounds.{BoundOfKind, IsInPlainOrder};
+
+    ghost Value = { List Bound };
+
+    ghost view = { λ s. s.bounds.items };
+
+    ghost invariant = { λ s. All (BoundOfKind (K.admits s.kind)) s.bounds.items × IsInPlainOrder s.bounds.items };
+}
+
+// Whether the first bound stands behind the second in plain order.
+fn comes_after<K: KeyKind>(kind: &K, a: &Bound, b: &Bound) -> bool
+    requires fit { BoundsFit a.now b.now }
+    requires of_kind { BoundOfKind (K.admits kind.now) a.now }
+    ensures { result ≡ bounds_spec.comes_after a.now b.now }
+{
+    match (a, b) {
+        (Bound::Range { lower, .. }, Bound::Range { lower: other, .. }) => {
+            cmp_points(kind, lower, other).is_gt()
+        }
+    }
+}
+
+// The place of a further bound: the first bound that comes after it, or the end.
+fn place<K: KeyKind>(kind: &K, bounds: &[Bound], b: &Bound) -> usize
+    requires fit { All (λ c. BoundsFit c b.now) bounds.now }
+    requires of_kind { All (BoundOfKind (K.admits kind.now)) bounds.now }
+    ensures first { result ≡ position_or_len (λ c. bounds_spec.comes_after c b.now) bounds.now }
+    ensures within { result ≤ length bounds.now }
+{
+    for (i, other) in bounds.iter().enumerate() {
+        if comes_after(kind, other, b) {
+            return i;
+        }
+    }
+    bounds.len()
+}
+
+/// The set of the given bounds.
+pub fn make_set<K: KeyKind + Drop>(
+    alloc: Global,
+    bounds: Vec<Bound>,
+    kind: K,
+) -> Result<BoundSet<K>, NoMemory>
+    requires of_kind { All (BoundOfKinds K.admits) bounds.items }
+    requires fit { All (λ a. All (BoundsFit a) bounds.items) bounds.items }
+    requires apart { AllPairs (λ a b. overlaps a b ≡ false) bounds.items }
+    ensures { IfOk result (λ set. set ≡ in_plain_order bounds.items) }
+{
+    let mut set = BoundSet {
+        kind,
+        bounds: Vec::new(alloc),
+    };
+    for b in bounds {
+        add_bound(&mut set, b)?;
+    }
+    Ok(set)
+}
+
+/// Adds a bound at its place in plain order.
+pub fn add_bound<K: KeyKind>(set: &mut BoundSet<K>, b: Bound) -> Result<(), NoMemory>
+    requires of_kind { BoundOfKinds K.admits b }
+    requires fit { All (λ a. BoundsFit a b) set.old }
+    requires apart { position (overlaps b) set.old ≡ None }
+    ensures ok { OnOk result (set.new ≡ with_bound b set.old) }
+    ensures err { OnErr result (set.new ≡ set.old) }
+{
+    let at = place(&set.kind, &set.bounds, &b);
+    set.bounds.insert(at, b)?;
+    Ok(())
+}
+
+/// How many bounds there are.
+pub fn len<K: KeyKind>(set: &BoundSet<K>) -> usize
+    ensures { result ≡ length set.now }
+{
+    set.bounds.len()
+}
+
+/// The bound of a partition, by its place in plain order.
+pub fn bound<K: KeyKind>(set: &BoundSet<K>, child: usize) -> &Bound
+    requires { child < length set.now }
+    ensures { slice_get set.now child ≡ Some result.now }
+{
+    &set.bounds[child]
+}

@@ -1,0 +1,34 @@
+//! Partition bounds of one level of a partitioned table, and the search for the partition that
+//! accepts a key.
+//!
+//! A RANGE bound `FROM (lower) TO (upper)` contains the points from its lower point on and below
+//! its upper point. For n key columns a point is a list of n + 1 edges, each MINVALUE, a value or
+//! MAXVALUE, compared edge by edge; the points of a bound and the key of a row are filled up with
+//! MINVALUE. A key with a null is accepted by no range.
+//!
+//! `BoundSet` holds the bounds of the partitions of one table in plain order, that is by lower
+//! point, whatever order they were added in. No two of its bounds overlap, so at most one accepts
+//! a key. Contracts see the set as the list of its bounds, and `find_child` answers the place of
+//! the one that accepts. The searches count each comparison of two points in a `Steps`.
+#![tactic(auto)]
+
+mod bound_set;
+mod key;
+mod laws;
+mod partition_bound;
+mod point;
+mod search;
+#[cfg(test)]
+mod tests;
+
+pub use bound_set::{BoundSet, add_bound, bound, len, make_set};
+pub use key::{Key, RowKey};
+pub use laws::{
+    added_in_either_order, at_most_one_accepts, no_common_key, plain_order_is_sorted,
+    plain_order_keeps,
+};
+pub use partition_bound::{Bound, copy_bound, range_bound};
+pub use point::{Edge, Point};
+pub use search::{
+    accepts, bound_accepts, find_child, find_child_uncounted, overlap, overlap_uncounted,
+};

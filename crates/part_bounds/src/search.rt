@@ -1,0 +1,181 @@
+ghost use Rattle.std.specs.Prelude.{true, ◌≡◌, ◌<◌, All, length, position, IfSome, slice_get};
+ghost use Rattle.part_bounds.specs.Bounds as bounds_spec;
+ghost use Rattle.part_bounds.specs.Bounds.{BoundOfKind, BoundsFit, greater, is_below, is_filled, lesser};
+ghost use Rattle.part_bounds.specs.Points.{EdgeOfKind, PointsFit};
+ghost use Rattle.part_bounds.specs.Accepts as accepts_spec;
+ghost use Rattle.part_bounds.specs.Accepts.{FitsBound, FitsSet};
+
+use crate::key::has_null;
+use crate::point::{cmp_key, count_key, count_points};
+use crate::{Bound, BoundSet, Key, Point};
+use pg_values::{KeyKind, Steps};
+use std::marker::Brand;
+use std::sync::ledger::{Blank, Ledger};
+
+// Whether the bound accepts the key, of which it is known whether it has a null. Counted.
+fn count_accepts<K: KeyKind, Q: Key, L: Ledger>(
+    kind: &K,
+    b: &Bound,
+    key: &Q,
+    has_null: bool,
+    steps: &mut Steps<L>,
+) -> bool
+    requires null { has_null ≡ accepts_spec.has_null (Q.values key.now) }
+    requires fits { FitsBound (Q.values key.now) b.now }
+    requires of_kind { BoundOfKind (K.admits kind.now) b.now }
+    ensures { result ≡ accepts_spec.accepts (Q.values key.now) b.now }
+{
+    match b {
+        Bound::Range { lower, upper } => {
+            !has_null
+                && count_key(kind, lower, key, steps).is_le()
+                && count_key(kind, upper, key, steps).is_gt()
+        }
+    }
+}
+
+// Whether two ranges that are not empty overlap: each begins before the other ends.
+fn ranges_overlap<K: KeyKind, L: Ledger>(
+    kind: &K,
+    lower: &Point,
+    upper: &Point,
+    from: &Point,
+    to: &Point,
+    steps: &mut Steps<L>,
+) -> bool
+    requires begin { PointsFit lower.now to.now }
+    requires end { PointsFit upper.now from.now }
+    requires lower_of_kind { All (EdgeOfKind (K.admits kind.now)) lower.now }
+    requires upper_of_kind { All (EdgeOfKind (K.admits kind.now)) upper.now }
+    requires filled { is_below lower.now upper.now ≡ true }
+    requires other_filled { is_below from.now to.now ≡ true }
+    ensures { result ≡ is_below (greater from.now lower.now) (lesser to.now upper.now) }
+{
+    count_points(kind, lower, to, steps).is_lt() && count_points(kind, upper, from, steps).is_gt()
+}
+
+// Whether two bounds overlap.
+fn overlap_each_other<K: KeyKind, L: Ledger>(
+    kind: &K,
+    a: &Bound,
+    b: &Bound,
+    steps: &mut Steps<L>,
+) -> bool
+    requires fit { BoundsFit a.now b.now }
+    requires of_kind { BoundOfKind (K.admits kind.now) a.now }
+    requires filled { is_filled b.now ≡ true }
+    ensures { result ≡ bounds_spec.overlaps b.now a.now }
+{
+    match (a, b) {
+        (
+            Bound::Range { lower, upper },
+            Bound::Range {
+                lower: from,
+                upper: to,
+            },
+        ) => { ranges_overlap(kind, lower, upper, from, to, steps) }
+    }
+}
+
+/// Whether the bound accepts the key.
+pub fn bound_accepts<K: KeyKind, Q: Key>(kind: &K, b: &Bound, key: &Q) -> bool
+    requires fits { FitsBound (Q.values key.now) b.now }
+    requires of_kind { BoundOfKind (K.admits kind.now) b.now }
+    ensures { result ≡ accepts_spec.accepts (Q.values key.now) b.now }
+{
+    match b {
+        Bound::Range { lower, upper } => {
+            !has_null(key) && cmp_key(kind, lower, key).is_le() && cmp_key(kind, upper, key).is_gt()
+        }
+    }
+}
+
+/// Whether a partition, named by its place, accepts the key.
+pub fn accepts<K: KeyKind, Q: Key>(set: &BoundSet<K>, child: usize, key: &Q) -> bool
+    requires child { child < length set.now }
+    requires fits { FitsSet set.now (Q.values key.now) }
+    ensures { IfSome (slice_get set.now child) (λ b. result ≡ accepts_spec.accepts (Q.values key.now) b) }
+{
+    bound_accepts(&set.kind, &set.bounds[child], key)
+}
+
+/// The first sibling in plain order that overlaps the bound.
+pub fn overlap<K: KeyKind, L: Ledger>(
+    set: &BoundSet<K>,
+    b: &Bound,
+    steps: &mut Steps<L>,
+) -> Option<usize>
+    requires fit { All (λ a. BoundsFit a b.now) set.now }
+    requires filled { is_filled b.now ≡ true }
+    ensures { result ≡ position (bounds_spec.overlaps b.now) set.now }
+{
+    for (at, other) in set.bounds.iter().enumerate() {
+        if overlap_each_other(&set.kind, other, b, steps) {
+            return Some(at);
+        }
+    }
+    None
+}
+
+/// The partition that accepts the key.
+pub fn find_child<K: KeyKind, Q: Key, L: Ledger>(
+    set: &BoundSet<K>,
+    key: &Q,
+    steps: &mut Steps<L>,
+) -> Option<usize>
+    requires { FitsSet set.now (Q.values key.now) }
+    ensures { result ≡ position (accepts_spec.accepts (Q.values key.now)) set.now }
+{
+    let has_null = has_null(key);
+    for (i, b) in set.bounds.iter().enumerate() {
+        if count_accepts(&set.kind, b, key, has_null, steps) {
+            return Some(i);
+        }
+    }
+    None
+}
+
+// The search with a counter made for it.
+fn find_from<K: KeyKind, Q: Key, L: Ledger>(
+    set: &BoundSet<K>,
+    key: &Q,
+    blank: Blank,
+) -> Option<usize>
+    requires fits { FitsSet set.now (Q.values key.now) }
+    requires name { blank.name ≡ L.name }
+    requires parts { blank.parts ≡ L.parts }
+    requires some { 0 < blank.parts }
+    ensures { result ≡ position (accepts_spec.accepts (Q.values key.now)) set.now }
+{
+    let mut steps = Steps::<L>::new(blank);
+    find_child(set, key, &mut steps)
+}
+
+fn overlap_from<K: KeyKind, L: Ledger>(set: &BoundSet<K>, b: &Bound, blank: Blank) -> Option<usize>
+    requires fit { All (λ a. BoundsFit a b.now) set.now }
+    requires filled { is_filled b.now ≡ true }
+    requires name { blank.name ≡ L.name }
+    requires parts { blank.parts ≡ L.parts }
+    requires some { 0 < blank.parts }
+    ensures { result ≡ position (bounds_spec.overlaps b.now) set.now }
+{
+    let mut steps = Steps::<L>::new(blank);
+    overlap(set, b, &mut steps)
+}
+
+/// The same as `find_child`, for a caller that does not count.
+pub fn find_child_uncounted<K: KeyKind, Q: Key>(set: &BoundSet<K>, key: &Q) -> Option<usize>
+    requires { FitsSet set.now (Q.values key.now) }
+    ensures { result ≡ position (accepts_spec.accepts (Q.values key.now)) set.now }
+{
+    find_from::<K, Q, Brand>(set, key, Blank::new(1))
+}
+
+/// The same as `overlap`, for a caller that does not count.
+pub fn overlap_uncounted<K: KeyKind>(set: &BoundSet<K>, b: &Bound) -> Option<usize>
+    requires fit { All (λ a. BoundsFit a b.now) set.now }
+    requires filled { is_filled b.now ≡ true }
+    ensures { result ≡ position (bounds_spec.overlaps b.now) set.now }
+{
+    overlap_from::<K, Brand>(set, b, Blank::new(1))
+}

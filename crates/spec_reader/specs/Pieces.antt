@@ -1,0 +1,61 @@
+-- What stands at the front of a text.
+use Rattle.std.specs.Prelude.{ℕ, suc, ◌==◌, nat_lt, if◌then◌else◌, List, [], ◌∷◌, false, Option, Some, None, length, take}
+use Rattle.std.specs.List.{prefix_len}
+use Rattle.spec_reader.specs.declared.bytes.Run.TheVariants as runs
+use Rattle.spec_reader.specs.declared.kind.Kind.{Kind}
+use Rattle.spec_reader.specs.declared.kind.Kind.TheVariants as kinds
+use Rattle.spec_reader.specs.declared.piece.Piece.{Piece}
+use Rattle.spec_reader.specs.Bytes.{is_blank, is_digit, begins_name, goes_on}
+use Rattle.spec_reader.specs.Quotes.{quoted_len}
+use Rattle.spec_reader.specs.Words.{word_kind}
+
+-- blanks or a comment, of so many bytes
+abbrev pub gap : ℕ → Piece
+gap n = record { kind = None; len = n }
+
+abbrev pub token : Kind → ℕ → Piece
+token k n = record { kind = Some k; len = n }
+
+-- a fault takes all the rest
+abbrev pub fault : List ℕ → Piece
+fault text = token kinds.Fault (length text)
+
+-- a keyword or a name
+abbrev pub name : List ℕ → Piece
+name text = let n : ℕ = prefix_len (goes_on runs.Name) text in token (word_kind (take n text)) n
+
+-- behind the opening quote, up to the closing one
+abbrev pub quoted_to : List ℕ → Option ℕ → Piece
+quoted_to text None = fault text
+quoted_to text (Some n) = token kinds.QuotedName (suc n)
+
+abbrev pub quoted_name : List ℕ → Piece
+quoted_name [] = fault []
+quoted_name (b ∷ rest) = quoted_to (b ∷ rest) (quoted_len false rest)
+
+-- up to the first `}`
+abbrev pub block : List ℕ → Piece
+block text = let n : ℕ = prefix_len (goes_on runs.Block) text in if nat_lt n (length text) then token kinds.Block (suc n) else fault text
+
+abbrev pub sign : ℕ → List ℕ → Piece
+sign b text =
+    if b == 40 then token kinds.OpenParenthesis 1
+    else (if b == 41 then token kinds.CloseParenthesis 1
+    else (if b == 44 then token kinds.Comma 1
+    else (if b == 42 then token kinds.Star 1
+    else fault text)))
+
+-- by the first byte: a blank, a comment, a name, a number, a quoted name, a block, a sign or a fault
+abbrev pub piece_by : ℕ → List ℕ → Piece
+piece_by b text =
+    if is_blank b then gap 1
+    else (if b == 35 then gap (prefix_len (goes_on runs.Comment) text)
+    else (if begins_name b then name text
+    else (if is_digit b then token kinds.Number (prefix_len (goes_on runs.Digits) text)
+    else (if b == 34 then quoted_name text
+    else (if b == 123 then block text
+    else sign b text)))))
+
+abbrev pub piece_of : List ℕ → Piece
+piece_of [] = gap 0
+piece_of (b ∷ rest) = piece_by b (b ∷ rest)

@@ -1,0 +1,41 @@
+ghost use Rattle.std.specs.Prelude.{◌≡◌};
+ghost use Rattle.spec_reader.specs.Words as words;
+
+/// What a token is.
+#[derive(Clone, Copy, Debug, PartialEq, Eq)]
+pub enum Kind {
+    Setup,
+    Teardown,
+    Session,
+    Step,
+    Permutation,
+    Notices,
+
+    Name,
+    /// A name between double quotes.
+    QuotedName,
+    /// A text between `{` and the first `}`.
+    Block,
+    Number,
+
+    OpenParenthesis,
+    CloseParenthesis,
+    Comma,
+    Star,
+
+    /// What is no token, and all behind it. It is the last one.
+    Fault,
+}
+
+pub fn same_kind(a: Kind, b: Kind) -> bool
+    ensures { result ≡ words.is a b }
+{
+    (a as u8) == (b as u8)
+}
+
+/// Whether a token of the kind is a name.
+pub fn is_name(kind: Kind) -> bool
+    ensures { result ≡ words.is_name kind }
+{
+    same_kind(kind, Kind::Name) || same_kind(kind, Kind::QuotedName)
+}

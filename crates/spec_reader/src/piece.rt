@@ -1,0 +1,95 @@
+ghost use Rattle.std.specs.Prelude.{◌≡◌, ◌≤◌, ◌<◌, ◌≢◌, [], length};
+ghost use Rattle.spec_reader.specs.Pieces as pieces;
+
+use crate::bytes::{Run, begins_name, is_blank, is_digit, run_len};
+use crate::kind::Kind;
+use crate::quotes::quoted_len;
+use crate::words::word_kind;
+
+/// What stands at the front of a text: a token of a kind, or a gap between tokens; and its length.
+#[derive(Clone, Copy)]
+pub struct Piece {
+    pub kind: Option<Kind>,
+    pub len: usize,
+}
+
+fn gap(len: usize) -> Piece
+    ensures { result ≡ pieces.gap len }
+{
+    Piece { kind: None, len }
+}
+
+fn token(kind: Kind, len: usize) -> Piece
+    ensures { result ≡ pieces.token kind len }
+{
+    Piece {
+        kind: Some(kind),
+        len,
+    }
+}
+
+fn name(text: &[u8]) -> Piece
+    ensures { result ≡ pieces.name text.now }
+{
+    let len = run_len(Run::Name, text);
+    token(word_kind(&text[..len]), len)
+}
+
+fn quoted_name(text: &[u8]) -> Piece
+    requires { text.now ≢ [] }
+    ensures same { result ≡ pieces.quoted_name text.now }
+    ensures within { result.len ≤ length text.now }
+{
+    match quoted_len(&text[1..]) {
+        Some(n) => token(Kind::QuotedName, n + 1),
+        None => token(Kind::Fault, text.len()),
+    }
+}
+
+fn block(text: &[u8]) -> Piece
+    ensures { result ≡ pieces.block text.now }
+{
+    let len = run_len(Run::Block, text);
+    if len < text.len() {
+        token(Kind::Block, len + 1)
+    } else {
+        token(Kind::Fault, text.len())
+    }
+}
+
+fn sign(b: u8, text: &[u8]) -> Piece
+    ensures { result ≡ pieces.sign b text.now }
+{
+    match b {
+        b'(' => token(Kind::OpenParenthesis, 1),
+        b')' => token(Kind::CloseParenthesis, 1),
+        b',' => token(Kind::Comma, 1),
+        b'*' => token(Kind::Star, 1),
+        _ => token(Kind::Fault, text.len()),
+    }
+}
+
+/// The piece at the front of a text that is not empty.
+pub fn piece_of(text: &[u8]) -> Piece
+    requires { text.now ≢ [] }
+    ensures same { result ≡ pieces.piece_of text.now }
+    ensures some { 0 < result.len }
+    ensures within { result.len ≤ length text.now }
+{
+    let b = text[0];
+    if is_blank(b) {
+        gap(1)
+    } else if b == b'#' {
+        gap(run_len(Run::Comment, text))
+    } else if begins_name(b) {
+        name(text)
+    } else if is_digit(b) {
+        token(Kind::Number, run_len(Run::Digits, text))
+    } else if b == b'"' {
+        quoted_name(text)
+    } else if b == b'{' {
+        block(text)
+    } else {
+        sign(b, text)
+    }
+}

@@ -1,0 +1,32 @@
+ghost use Rattle.std.specs.Prelude.{◌≡◌};
+ghost use Rattle.std.specs.Str.{bytes_eq};
+ghost use Rattle.spec_reader.specs.Words as words;
+
+use crate::kind::Kind;
+
+fn same_word(a: &[u8], b: &[u8]) -> bool
+    ensures { result ≡ bytes_eq a.now b.now }
+{
+    a == b
+}
+
+/// The kind of a keyword, or of a name.
+pub fn word_kind(word: &[u8]) -> Kind
+    ensures { result ≡ words.word_kind word.now }
+{
+    if same_word(word, b"setup") {
+        Kind::Setup
+    } else if same_word(word, b"teardown") {
+        Kind::Teardown
+    } else if same_word(word, b"session") {
+        Kind::Session
+    } else if same_word(word, b"step") {
+        Kind::Step
+    } else if same_word(word, b"permutation") {
+        Kind::Permutation
+    } else if same_word(word, b"notices") {
+        Kind::Notices
+    } else {
+        Kind::Name
+    }
+}

@@ -1,0 +1,31 @@
+-- No word has the kind of a fault.
+use Rattle.std.proofs.Common.{◌≡◌, ℕ, Bool, true, false, not, ◌&&◌, cond, List, [], ◌∷◌, refl}
+use Rattle.std.specs.Str.{str_eq_ignore_ascii_case}
+use Rattle.sql_tokens.specs.declared.kind.Kind.{Kind}
+use Rattle.sql_tokens.specs.declared.kind.Kind.TheVariants.{Fault}
+use Rattle.sql_tokens.specs.Words.{is, words, look_up, word_kind}
+
+abbrev without_fault : List (List ℕ × Kind) → Bool
+without_fault [] = true
+without_fault (w ∷ ws) = not (is w.1 Fault) && without_fault ws
+
+pick : (f : Bool) (k j : Kind) → is k Fault ≡ false → is j Fault ≡ false → is (cond f k j) Fault ≡ false
+pick true k j g h = g
+pick false k j g h = h
+
+first_of_both : (a b : Bool) → (not a && b) ≡ true → a ≡ false
+first_of_both true b h = cc
+first_of_both false b h = refl
+
+second_of_both : (a b : Bool) → (not a && b) ≡ true → b ≡ true
+second_of_both true b h = cc
+second_of_both false b h = h
+
+look_up_sound : (ws : List (List ℕ × Kind)) (word : List ℕ) → without_fault ws ≡ true → is (look_up ws word) Fault ≡ false
+look_up_sound [] word h = refl
+look_up_sound (w ∷ ws) word h =
+    pick (str_eq_ignore_ascii_case w.0 word) w.1 (look_up ws word) (first_of_both (is w.1 Fault) (without_fault ws) h) (look_up_sound ws word (second_of_both (is w.1 Fault) (without_fault ws) h))
+
+pub word_kind_sound : (word : List ℕ) → is (word_kind word) Fault ≡ false
+unfolding word_kind
+word_kind_sound word = look_up_sound words word refl

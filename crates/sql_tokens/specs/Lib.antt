@@ -1,0 +1,10 @@
+pub mod Bytes
+pub mod Comments
+pub mod Contents
+pub mod Numbers
+pub mod Pieces
+pub mod Quotes
+pub mod Signs
+pub mod Tokens
+pub mod Words
+pub mod Written

@@ -1,0 +1,65 @@
+ghost use Rattle.std.specs.Prelude.{◌≡◌, ◌-◌, length, drop, take, map, IfOk};
+ghost use Rattle.std.specs.Char.{to_ascii_lowercase};
+ghost use Rattle.sql_tokens.specs.Contents as contents;
+ghost use Rattle.sql_tokens.specs.Quotes.{inside};
+
+use crate::bytes::behind;
+use crate::numbers::number_of_digits;
+use crate::quotes::undoubled;
+use crate::{Kind, Token, same_kind};
+use pg_values::{NoMemory, PgText};
+use std::alloc::Global;
+
+/// The first bytes: all of them where there are fewer.
+fn first(z: &[u8], n: usize) -> &[u8]
+    ensures { result.now ≡ take n z.now }
+{
+    &z[..n.min(z.len())]
+}
+
+fn bytes_of(text: &[u8], token: Token) -> &[u8]
+    ensures { result.now ≡ contents.bytes_of text.now token }
+{
+    first(
+        behind(text, token.start),
+        token.end.saturating_sub(token.start),
+    )
+}
+
+fn inside_of(z: &[u8]) -> &[u8]
+    ensures { result.now ≡ inside z.now }
+{
+    first(behind(z, 1), z.len().saturating_sub(2))
+}
+
+fn folded(alloc: Global, name: &[u8]) -> Result<Vec<u8>, NoMemory>
+    ensures { IfOk result (λ v. v.items ≡ map to_ascii_lowercase name.now) }
+{
+    let name: Vec<u8> = name.iter().map(|b| b.to_ascii_lowercase()).collect(alloc)?;
+    Ok(name)
+}
+
+/// The name that a name token or a word says.
+pub fn name_of(alloc: Global, text: &[u8], token: Token) -> Result<PgText, NoMemory>
+    ensures { IfOk result (λ n. n ≡ contents.name_in text.now token) }
+{
+    let bytes = bytes_of(text, token);
+    if same_kind(token.kind, Kind::QuotedName) {
+        return Ok(PgText::from_vec(undoubled(alloc, b'"', inside_of(bytes))?));
+    }
+    Ok(PgText::from_vec(folded(alloc, bytes)?))
+}
+
+/// The number of a number or a parameter token, and 2^63 for each that is no `bigint`.
+pub fn number_of(text: &[u8], token: Token) -> u64
+    ensures { result ≡ contents.number_in text.now token }
+{
+    number_of_digits(bytes_of(text, token))
+}
+
+/// The text of a string token.
+pub fn string_of(alloc: Global, text: &[u8], token: Token) -> Result<PgText, NoMemory>
+    ensures { IfOk result (λ t. t ≡ contents.string_in text.now token) }
+{
+    Ok(PgText::from_vec(undoubled(alloc, b'\'', inside_of(bytes_of(text, token)))?))
+}

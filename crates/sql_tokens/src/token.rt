@@ -1,0 +1,11 @@
+use crate::Kind;
+
+/// A token and its places in the text: its first byte, and the byte behind its last.
+///
+/// A fault has both at the first byte of what could not be read.
+#[derive(Clone, Copy, Debug, PartialEq, Eq)]
+pub struct Token {
+    pub kind: Kind,
+    pub start: usize,
+    pub end: usize,
+}
