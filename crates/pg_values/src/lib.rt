@@ -2,8 +2,8 @@
 //!
 //! - `Value` is what a column of a row holds, `Kind` the type of a column, `Row` the values of
 //!   one row, `Answer` what a SELECT gives. Contracts see texts and rows as plain lists.
-//! - `cmp_values` is the one order of values; a `KeyKind` names the values that a partition key
-//!   may hold and compares them by that order.
+//! - `cmp_values` is the one order of values and `value_hash` their hash; a `KeyKind` names the
+//!   values that a partition key may hold, and compares and hashes them by these.
 //! - `Source` and `Sink` are where bytes come from and go to. A read or a write may answer
 //!   `Failed` only where the object counted a fault, so "a fault was reported" can be said and
 //!   checked. `BytesSource` and `ListSink` are such objects in memory, for tests.
@@ -13,6 +13,7 @@
 
 mod answer;
 mod bytes_source;
+mod hash;
 mod key_kind;
 mod list_sink;
 mod order;
@@ -25,7 +26,8 @@ mod value;
 
 pub use answer::{Answer, KindList, NameList};
 pub use bytes_source::BytesSource;
-pub use key_kind::{IntKey, KeyKind};
+pub use hash::{combine_hash, value_hash};
+pub use key_kind::{DayKey, IntKey, KeyKind, TextKey, TruthKey, ValueKey};
 pub use list_sink::ListSink;
 pub use order::cmp_values;
 pub use outside::{Failed, Sink, Source};
