@@ -14,13 +14,11 @@ use pg_values::Value;
 // The text of an integer is read as that integer.
 fn integer_reads_back(n: i32)
     ensures { reads KInt4 (signed_decimal n) ≡ Ok (Int4 n) }
-{
-}
+{}
 
 fn bigint_reads_back(n: i64)
     ensures { reads KInt8 (signed_decimal n) ≡ Ok (Int8 n) }
-{
-}
+{}
 
 fn date_reads_back(day: i32)
     requires { IsDay day }
