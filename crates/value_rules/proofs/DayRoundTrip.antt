@@ -1,5 +1,5 @@
 -- The text of a date is read again as that date.
-use Rattle.std.proofs.Common.{◌≡◌, ℕ, zero, suc, ◌+◌, ◌-◌, ◌*◌, ◌/◌, ◌%◌, ◌<◌, ◌≤◌, true, ℤ, pos, negsuc, List, [], ◌∷◌, ◌++◌, Ok, inl, inr, refl, sym, ap, ◌∙◌, arith}
+use Rattle.std.proofs.Common.{◌≡◌, ℕ, ◌+◌, ◌-◌, ◌*◌, ◌/◌, ◌%◌, ◌<◌, ◌≤◌, true, ℤ, pos, negsuc, [], ◌∷◌, ◌++◌, Ok, inl, inr, refl, ap, ◌∙◌, arith}
 use Rattle.std.proofs.lemmas.Bool.{cases_lt}
 use Rattle.std.proofs.lemmas.Int.{ints}
 use Rattle.std.proofs.lemmas.Bool.Decides.{nat_tests}
@@ -7,7 +7,7 @@ use Rattle.jiff_core.specs.Calendar.{IsCivilDate, days_from_civil, day_count, da
 use Rattle.jiff_core.proofs.CalendarLemmas.{day_count-lt_year, days_from_civil-day_count}
 use Rattle.jiff_core.proofs.MarchLemmas.{day_count-early}
 use Rattle.jiff_core.proofs.SignedLemmas.{signed_arith}
-use Rattle.jiff_fmt.specs.Text.{pad2, pad4, year_text}
+use Rattle.jiff_fmt.specs.Text.{pad2, pad4}
 use Rattle.pg_values.specs.Days.{IsDay, is_day, day_text}
 use Rattle.pg_values.specs.Spelling.{spelled}
 use Rattle.pg_values.specs.declared.value.Kind.TheVariants.{Day as KDay}

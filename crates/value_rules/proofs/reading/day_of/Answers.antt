@@ -1,4 +1,4 @@
-use Rattle.std.proofs.Common.{◌≡◌, ◌≤◌, pos, sym, ◌∙◌, ap, arith, rules, Ok, w8, w16, w32, FitsSigned, ℤ}
+use Rattle.std.proofs.Common.{◌≤◌, sym, ◌∙◌, ap, arith, Ok, w8, w16, w32, FitsSigned, ℤ}
 use Rattle.std.proofs.lemmas.Int.{to_z-of_z, to_z_pos}
 use Rattle.jiff_core.proofs.SignedLemmas.{signed_arith}
 use Rattle.pg_values.specs.declared.value.Value.TheVariants.{Day}
