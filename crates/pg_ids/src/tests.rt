@@ -1,4 +1,4 @@
-use crate::{SessionSet, Which};
+use crate::{SessionList, SessionSet, Which};
 
 #[test]
 fn a_set_has_the_sessions_that_were_put_in(rt: HostRuntime) {
@@ -16,4 +16,14 @@ fn a_set_has_the_sessions_that_were_put_in(rt: HostRuntime) {
     }
     assert!(rt; Which::TablesInFrom.word() == b"tables in FROM".as_slice());
     assert!(rt; Which::BytesOfTuples.word() == b"bytes of tuples".as_slice());
+}
+
+#[test]
+fn a_list_keeps_the_order(rt: HostRuntime) {
+    let list = SessionList::empty().with(64).with(0).with(7);
+    assert!(rt; list.at(0) == Some(64));
+    assert!(rt; list.at(1) == Some(0));
+    assert!(rt; list.at(2) == Some(7));
+    assert!(rt; list.at(3) == None);
+    assert!(rt; SessionList::empty().at(0) == None);
 }
