@@ -1,5 +1,7 @@
 ghost use Rattle.std.specs.Prelude.{◌≡◌, ◌<◌, ◌==◌, ◌||◌, ℕ, false};
-ghost use Rattle.pg_ids.specs.Sets.{has};
+ghost use Rattle.std.specs.Prelude.{nat_eq};
+ghost use Rattle.std.specs.List.{list_any};
+ghost use Rattle.pg_ids.specs.Sets.{has, sessions};
 
 /// A set of sessions, as the bits of two machine words.
 #[derive(Clone, Copy, Debug, PartialEq, Eq)]
@@ -15,12 +17,18 @@ impl SessionSet {
         SessionSet { bits: 0 }
     }
 
+    fn has_bit(self, session: u32) -> bool
+        ensures { result ≡ has self session }
+    {
+        session < 128 && (self.bits >> session) & 1 == 1
+    }
+
     /// Whether the session is in it.
     pub fn has(&self, session: u32) -> bool
-        ensures { result ≡ has self.now session }
+        ensures is { result ≡ has self.now session }
+        ensures listed { session < 128 → result ≡ list_any (nat_eq session) (sessions self.now) }
     {
-        let bits = self.bits;
-        session < 128 && (bits >> session) & 1 == 1
+        self.has_bit(session)
     }
 
     /// The set with the session.

@@ -1,8 +1,6 @@
-use Rattle.std.proofs.Common.{arith}
-use Rattle.std.proofs.lemmas.Grind.{common_steps}
-use Rattle.std.proofs.lemmas.Bool.Decides.{nat_tests}
-use Rattle.std.proofs.lemmas.Nat.Bits.{bit_at_above}
+use Rattle.std.proofs.Common.{sym, ◌∙◌}
+use Rattle.pg_ids.proofs.Listing.{sessions_has}
 use Rattle.pg_ids.proofs.session_set.SessionSet.has.Goals as goal
 
-pub returns-else-session-lt128 : goal.returns-else-session-lt128
-returns-else-session-lt128 c = grind (arith, common_steps, nat_tests, bit_at_above c.args.self.now.bits 128 c.args.session)
+pub returns-clause-listed : goal.returns-clause-listed
+returns-clause-listed c = λ h. c.has_bit.ensures ∙ sym (sessions_has c.args.session c.args.self.now h)
