@@ -1,5 +1,6 @@
 pub mod Choice
 pub mod IntBoundLaws
+pub mod ListedLaws
 pub mod OverlapLaws
 pub mod PlainOrder
 pub mod PointOrder

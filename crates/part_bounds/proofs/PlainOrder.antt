@@ -1,6 +1,7 @@
 -- Bounds in plain order.
 use Rattle.std.proofs.Common.{◌≡◌, ℕ, suc, ◌+◌, None, Bool, true, false, ◌&&◌, List, [], ◌∷◌, ◌++◌, get_or, append-nil, refl, sym, ap, ◌∙◌, subst, arith, if◌then◌else◌}
 use Rattle.std.specs.List.{All, AllPairs, position, position_or_len, insert}
+use Rattle.std.specs.Cmp.{IsTotalOrder, on_total, then_total, nat_cmp_total}
 use Rattle.std.specs.List.Sorted.{IsPermutation}
 use Rattle.std.specs.Ordering.{is_gt, is_lt}
 use Rattle.std.proofs.lemmas.List.Elements.{All-cons, All-head, All-tail, All-nil}
@@ -8,13 +9,14 @@ use Rattle.std.proofs.lemmas.List.Kept.{AllPairs-cons}
 use Rattle.std.proofs.lemmas.List.Sorted.{IsPermutation-refl, IsPermutation-trans, IsPermutation-middle, IsPermutation-append_right, IsPermutation-sym, IsPermutation-insert}
 use Rattle.pg_values.specs.declared.value.Value.{Value}
 use Rattle.part_bounds.specs.declared.partition_bound.Bound.{Bound}
-use Rattle.part_bounds.specs.declared.partition_bound.Bound.TheVariants.{Range}
+use Rattle.part_bounds.specs.declared.partition_bound.Bound.TheVariants.{Range, List as Listed, Default}
 use Rattle.part_bounds.specs.Points.{point_order}
 use Rattle.part_bounds.specs.Laws.{AddedInEitherOrder, PlainOrderKeeps, PlainOrderIsSorted}
-use Rattle.part_bounds.specs.Bounds.{comes_after, with_bound, with_bounds, in_plain_order, overlaps, is_filled, BoundOfKind, BoundsFit, IsInPlainOrder}
+use Rattle.part_bounds.specs.Bounds.{side, stand, plain_order, comes_after, are_siblings, with_bound, with_bounds, in_plain_order, overlaps, is_filled, BoundOfKind, BoundsFit, IsInPlainOrder}
 use Rattle.part_bounds.proofs.PointOrder.{point_total}
 use Rattle.part_bounds.proofs.Choice.{position_none, position-None}
-use Rattle.part_bounds.proofs.OverlapLaws.{overlaps_turned, overlap_of_filled}
+use Rattle.part_bounds.proofs.OverlapLaws.{overlaps_turned, siblings_turn, overlap_of_filled}
+use Rattle.part_bounds.proofs.ListedLaws.{shared_least}
 use Rattle.part_bounds.proofs.TotalOrder.{le_trans, le_lt, gt-le, lt-gt}
 
 pairs-head : {X : Type 0} (R : X → X → Type 0) (x : X) (xs : List X) → AllPairs R (x ∷ xs) → All (R x) xs
@@ -32,18 +34,24 @@ All-with_bound P b (c ∷ cs) p h = by (comes_after c b) (All-with_bound P b cs 
     by true rest = All-cons P b (c ∷ cs) p h
     by false rest = All-cons P c (with_bound b cs) (All-head P c cs h) rest
 
+pub plain_total : IsTotalOrder plain_order
+plain_total = then_total (on_total side nat_cmp_total) (on_total stand point_total)
+
 -- a bound that stands before another does not come after it
 after_turned : (a b : Bound) → comes_after a b ≡ true → comes_after b a ≡ false
-after_turned (Range l u) (Range m v) h = gt-le point_total l m h
+after_turned a b h = gt-le plain_total a b h
 
 after_trans : (a b c : Bound) → comes_after a b ≡ false → comes_after b c ≡ false → comes_after a c ≡ false
-after_trans (Range l u) (Range m v) (Range n w) h k = le_trans point_total l m n h k
+after_trans a b c h k = le_trans plain_total a b c h k
 
 abbrev Before : Bound → Bound → Type 0
 Before a b = comes_after a b ≡ false
 
 abbrev Apart : Bound → Bound → Type 0
 Apart a b = overlaps a b ≡ false
+
+abbrev Siblings : Bound → Bound → Type 0
+Siblings a b = are_siblings a b ≡ true
 
 -- one more bound at its place
 pub sorted-with_bound : (b : Bound) (bounds : List Bound) → AllPairs Before bounds → AllPairs Before (with_bound b bounds)
@@ -59,14 +67,18 @@ sorted-with_bound b (c ∷ cs) h = by (comes_after c b) refl (sorted-with_bound 
         AllPairs-cons Before b (c ∷ cs) (All-cons (Before b) c cs first (λ i d lt. after_trans b c (get_or cs i d) first (later i d lt))) h
     by false e rest = AllPairs-cons Before c (with_bound b cs) (All-with_bound (Before c) b cs e later) rest
 
--- a bound that overlaps none, in either order
-pub apart-with_bound : (b : Bound) (bounds : List Bound) → All (Apart b) bounds → All (λ a. Apart a b) bounds → AllPairs Apart bounds → AllPairs Apart (with_bound b bounds)
-apart-with_bound b [] f g h = AllPairs-cons Apart b [] f h
-apart-with_bound b (c ∷ cs) f g h = by (comes_after c b) (apart-with_bound b cs (All-tail (Apart b) c cs f) (All-tail (λ a. Apart a b) c cs g) (pairs-tail Apart c cs h))
+-- what holds between the bounds, and with one more in either order, holds between them all
+pub pairs-with_bound : (R : Bound → Bound → Type 0) (b : Bound) (bounds : List Bound) → All (R b) bounds → All (λ a. R a b) bounds → AllPairs R bounds → AllPairs R (with_bound b bounds)
+pairs-with_bound R b [] f g h = AllPairs-cons R b [] f h
+pairs-with_bound R b (c ∷ cs) f g h = by (comes_after c b) (pairs-with_bound R b cs (All-tail (R b) c cs f) (All-tail (λ a. R a b) c cs g) (pairs-tail R c cs h))
   where
-    by : (t : Bool) → AllPairs Apart (with_bound b cs) → AllPairs Apart (if t then b ∷ (c ∷ cs) else c ∷ with_bound b cs)
-    by true rest = AllPairs-cons Apart b (c ∷ cs) f h
-    by false rest = AllPairs-cons Apart c (with_bound b cs) (All-with_bound (Apart c) b cs (All-head (λ a. Apart a b) c cs g) (pairs-head Apart c cs h)) rest
+    by : (t : Bool) → AllPairs R (with_bound b cs) → AllPairs R (if t then b ∷ (c ∷ cs) else c ∷ with_bound b cs)
+    by true rest = AllPairs-cons R b (c ∷ cs) f h
+    by false rest = AllPairs-cons R c (with_bound b cs) (All-with_bound (R c) b cs (All-head (λ a. R a b) c cs g) (pairs-head R c cs h)) rest
+
+-- a bound that overlaps none
+pub apart-with_bound : (b : Bound) (bounds : List Bound) → All (Apart b) bounds → All (λ a. Apart a b) bounds → AllPairs Apart bounds → AllPairs Apart (with_bound b bounds)
+apart-with_bound = pairs-with_bound Apart
 
 -- the place of one more bound
 pub with_bound-insert : (b : Bound) (bounds : List Bound) → with_bound b bounds ≡ insert bounds (position_or_len (λ c. comes_after c b) bounds) b
@@ -89,15 +101,18 @@ none_overlaps : (b : Bound) (bounds : List Bound) → position (overlaps b) boun
 none_overlaps b bounds none = position-None (overlaps b) bounds none
 
 -- what a set keeps with one more bound
-pub set-with_bound : (P : Value → Type 0) (b : Bound) (bounds : List Bound) → All (BoundOfKind P) bounds × IsInPlainOrder bounds → BoundOfKind P b → position (overlaps b) bounds ≡ None
+pub set-with_bound : (P : Value → Type 0) (b : Bound) (bounds : List Bound) → All (BoundOfKind P) bounds × IsInPlainOrder bounds → BoundOfKind P b → All (λ a. BoundsFit a b) bounds → position (overlaps b) bounds ≡ None
     → All (BoundOfKind P) (with_bound b bounds) × IsInPlainOrder (with_bound b bounds)
-set-with_bound P b bounds h kind none =
+set-with_bound P b bounds h kind fit none =
     let apart = none_overlaps b bounds none in
-    let turned : All (λ a. Apart a b) bounds = λ i d lt. overlaps_turned (get_or bounds i d) b ∙ apart i d lt in (
+    let turned : All (λ a. Apart a b) bounds = λ i d lt. overlaps_turned (get_or bounds i d) b ∙ apart i d lt in
+    let siblings : All (λ a. Siblings a b) bounds = λ i d lt. (fit i d lt).0 in
+    let siblings_turned : All (Siblings b) bounds = λ i d lt. siblings_turn b (get_or bounds i d) ∙ siblings i d lt in (
       All-with_bound (BoundOfKind P) b bounds kind h.0,
       record {
         sorted = sorted-with_bound b bounds h.1.sorted;
         apart = apart-with_bound b bounds apart turned h.1.apart;
+        siblings = pairs-with_bound Siblings b bounds siblings_turned siblings h.1.siblings;
       },
     )
 
@@ -182,9 +197,9 @@ with_two a b (c ∷ cs) h = by (comes_after c a) refl (comes_after c b) refl (wi
         ap (with_bound a) (behind b c cs g) ∙ behind a c (with_bound b cs) e ∙ ap (λ l. c ∷ l) rest
         ∙ sym (ap (with_bound b) (behind a c cs e) ∙ behind b c (with_bound a cs) g)
 
--- two bounds with one lower point overlap, unless one is empty
-one_stands_behind : (a b : Bound) → overlaps a b ≡ false → is_filled a ≡ true → is_filled b ≡ true → comes_after a b ≡ false → comes_after b a ≡ true
-one_stands_behind (Range l u) (Range m v) apart f g h = by (is_gt (point_order m l)) refl
+-- two bounds that stand at one place overlap, unless one is empty
+one_stands_behind : (a b : Bound) → are_siblings a b ≡ true → overlaps a b ≡ false → is_filled a ≡ true → is_filled b ≡ true → comes_after a b ≡ false → comes_after b a ≡ true
+one_stands_behind (Range l u) (Range m v) s apart f g h = by (is_gt (point_order m l)) refl
   where
     by : (t : Bool) → is_gt (point_order m l) ≡ t → t ≡ true
     by true e = refl
@@ -193,10 +208,22 @@ one_stands_behind (Range l u) (Range m v) apart f g h = by (is_gt (point_order m
         let ended : is_gt (point_order v l) ≡ true = sym (lt-gt point_total l v) ∙ le_lt point_total l m v h g in
         let both : is_lt (point_order m u) && is_gt (point_order v l) ≡ true = rw (begun, ended) refl in
         sym apart ∙ (overlap_of_filled m v l u g f ∙ both)
+one_stands_behind (Listed values) (Listed others) s apart f g h = by (comes_after (Listed others) (Listed values)) refl
+  where
+    by : (t : Bool) → comes_after (Listed others) (Listed values) ≡ t → t ≡ true
+    by true e = refl
+    by false e = sym apart ∙ shared_least values others f g h e
+one_stands_behind Default Default s apart f g h = cc
+one_stands_behind Default (Range l u) s apart f g h = cc
+one_stands_behind Default (Listed values) s apart f g h = cc
+one_stands_behind (Range l u) Default s apart f g h = refl
+one_stands_behind (Listed values) Default s apart f g h = refl
+one_stands_behind (Range l u) (Listed values) s apart f g h = cc
+one_stands_behind (Listed values) (Range l u) s apart f g h = cc
 
 pub either_order : AddedInEitherOrder
-either_order a b bounds apart f g = by (comes_after a b) refl
+either_order a b bounds s apart f g = by (comes_after a b) refl
   where
     by : (t : Bool) → comes_after a b ≡ t → with_bound a (with_bound b bounds) ≡ with_bound b (with_bound a bounds)
     by true e = sym (with_two b a bounds e)
-    by false e = with_two a b bounds (one_stands_behind a b apart f g e)
+    by false e = with_two a b bounds (one_stands_behind a b s apart f g e)

@@ -1,12 +1,13 @@
--- Which bound of a set accepts a key (5.11.2 Declarative Partitioning).
-use Rattle.std.specs.Prelude.{◌≡◌, Bool, false, not, ◌&&◌, List, All}
+-- Which bound of a level accepts a key (5.11.2 Declarative Partitioning).
+use Rattle.std.specs.Prelude.{◌≡◌, Bool, true, false, not, ◌&&◌, ◌||◌, List, All, length}
 use Rattle.std.specs.List.{list_any}
 use Rattle.std.specs.Ordering.{is_gt, is_le}
 use Rattle.pg_values.specs.declared.value.Value.{Value}
 use Rattle.part_bounds.specs.declared.partition_bound.Bound.{Bound}
-use Rattle.part_bounds.specs.declared.partition_bound.Bound.TheVariants.{Range}
+use Rattle.part_bounds.specs.declared.partition_bound.Bound.TheVariants.{Range, List as Listed, Default}
 use Rattle.part_bounds.specs.declared.point.Edge.{Edge}
 use Rattle.part_bounds.specs.Points.{point_order, point_of, is_null, PointsFit}
+use Rattle.part_bounds.specs.Listed.{lists, only, ValuesFit}
 
 -- whether a value of the key is null
 abbrev pub has_null : List Value → Bool
@@ -16,13 +17,26 @@ has_null key = list_any is_null key
 abbrev pub lies_between : List Edge → List Edge → List Edge → Bool
 lies_between lower upper p = is_le (point_order lower p) && is_gt (point_order upper p)
 
--- a range accepts the keys without null whose point lies between its points
+-- a bound by itself: a range accepts the keys without null whose point lies between its points, a list those that
+-- it lists, null included, and DEFAULT none
 abbrev pub accepts : List Value → Bound → Bool
 accepts key (Range lower upper) = not (has_null key) && lies_between lower upper (point_of key)
+accepts key (Listed values) = lists values (only key)
+accepts key Default = false
 
--- a key that the bound can be asked of: for a range, where it has no null, its point can be compared
+abbrev pub is_default : Bound → Bool
+is_default Default = true
+is_default _ = false
+
+-- a bound among those of its level: DEFAULT accepts what no other does
+abbrev pub accepts_among : List Bound → List Value → Bound → Bool
+accepts_among bounds key b = accepts key b || (is_default b && not (list_any (accepts key) bounds))
+
+-- a key that the bound can be asked of: its values can be compared with those of the bound
 abbrev pub FitsBound : List Value → Bound → Type 0
 FitsBound key (Range lower upper) = has_null key ≡ false → PointsFit lower (point_of key) × PointsFit upper (point_of key)
+FitsBound key (Listed values) = (length key ≡ 1) × All (λ v. ValuesFit v (only key)) values
+FitsBound key Default = Unit {0}
 
 -- a key that each bound of a set can be asked of
 abbrev pub FitsSet : List Bound → List Value → Type 0

@@ -1,12 +1,14 @@
 -- Partition bounds of one level: when two overlap, and their plain order (5.11.2 Declarative Partitioning, CREATE TABLE).
-use Rattle.std.specs.Prelude.{◌≡◌, Bool, true, false, List, [], ◌∷◌, All, Option, Some, None, if◌then◌else◌}
+use Rattle.std.specs.Prelude.{◌≡◌, ℕ, Bool, true, false, List, [], ◌∷◌, All, Option, Some, None, if◌then◌else◌}
 use Rattle.std.specs.List.{AllPairs}
-use Rattle.std.specs.Ordering.{is_lt, is_gt}
+use Rattle.std.specs.declared.cmp.Ordering.{Ordering}
+use Rattle.std.specs.Ordering.{is_lt, is_gt, nat_cmp, on, then_cmp}
 use Rattle.pg_values.specs.declared.value.Value.{Value}
 use Rattle.part_bounds.specs.declared.partition_bound.Bound.{Bound}
-use Rattle.part_bounds.specs.declared.partition_bound.Bound.TheVariants.{Range}
+use Rattle.part_bounds.specs.declared.partition_bound.Bound.TheVariants.{Range, List as Listed, Default}
 use Rattle.part_bounds.specs.declared.point.Edge.{Edge}
 use Rattle.part_bounds.specs.Points.{point_order, point_of, PointsFit, EdgeOfKind}
+use Rattle.part_bounds.specs.Listed.{share_value, listed_edge, least, ListsFit, ValueOfKind}
 
 -- the first point lies below the second
 abbrev pub is_below : List Edge → List Edge → Bool
@@ -20,13 +22,20 @@ greater p q = if is_below p q then q else p
 abbrev pub lesser : List Edge → List Edge → List Edge
 lesser p q = if is_below p q then p else q
 
--- the greater of the lower points lies below the lesser of the upper points
+-- ranges overlap where the greater of the lower points lies below the lesser of the upper points, lists where they
+-- share a value, null included, and two defaults always
 abbrev pub overlaps : Bound → Bound → Bool
 overlaps (Range l u) (Range m v) = is_below (greater l m) (lesser u v)
+overlaps (Listed values) (Listed others) = share_value values others
+overlaps Default Default = true
+overlaps _ _ = false
 
--- the lower point lies below the upper point, so the range is not empty
+-- a range is not empty where its lower point lies below the upper one, a list where it lists a value
 abbrev pub is_filled : Bound → Bool
 is_filled (Range l u) = is_below l u
+is_filled (Listed []) = false
+is_filled (Listed (v ∷ values)) = true
+is_filled Default = true
 
 -- FROM (lower) TO (upper) of one key column, or nothing where the range is empty
 abbrev pub range_of : Value → Value → Option Bound
@@ -35,9 +44,25 @@ range_of lower upper =
     let u = point_of (upper ∷ []) in
     if is_below l u then Some (Range l u) else None
 
--- the first bound stands behind the second in plain order: its lower point lies above the other's
+-- ---- plain order
+
+-- the default stands behind all others
+abbrev pub side : Bound → ℕ
+side Default = 1
+side _ = 0
+
+-- a range stands at its lower point, a list at its least value
+abbrev pub stand : Bound → List Edge
+stand (Range lower upper) = lower
+stand (Listed values) = listed_edge (least values) ∷ []
+stand Default = []
+
+abbrev pub plain_order : Bound → Bound → Ordering
+plain_order = then_cmp (on side nat_cmp) (on stand point_order)
+
+-- the first bound stands behind the second in plain order
 abbrev pub comes_after : Bound → Bound → Bool
-comes_after (Range l u) (Range m v) = is_gt (point_order l m)
+comes_after a b = is_gt (plain_order a b)
 
 -- the bounds with one more, before the first that comes after it
 abbrev pub with_bound : Bound → List Bound → List Bound
@@ -49,23 +74,40 @@ abbrev pub with_bounds : List Bound → List Bound → List Bound
 with_bounds [] bounds = bounds
 with_bounds (b ∷ more) bounds = with_bounds more (with_bound b bounds)
 
--- the given bounds in plain order: by lower point
+-- the given bounds in plain order
 abbrev pub in_plain_order : List Bound → List Bound
 in_plain_order bounds = with_bounds bounds []
 
--- each value of the bound is one of the kind, and the range is not empty
+-- ---- bounds of one level
+
+-- each value of the bound is one of the kind, and the bound is not empty
 abbrev pub BoundOfKind : (Value → Type 0) → Bound → Type 0
 BoundOfKind P (Range l u) = All (EdgeOfKind P) l × All (EdgeOfKind P) u × (is_below l u ≡ true)
+BoundOfKind P (Listed values) = All (ValueOfKind P) values × ListsFit values values × (is_filled (Listed values) ≡ true)
+BoundOfKind P Default = Unit {0}
 
 -- it is so at each key kind of a type
 abbrev pub BoundOfKinds : {S : Type 0} → (S → Value → Type 0) → Bound → Type 0
 BoundOfKinds {S} admits b = (kind : S) → BoundOfKind (admits kind) b
 
--- each point of the first can be compared with each of the second
-abbrev pub BoundsFit : Bound → Bound → Type 0
-BoundsFit (Range l u) (Range m v) = PointsFit l m × PointsFit l v × PointsFit u m × PointsFit u v
+-- the two are of one strategy, or one is DEFAULT
+abbrev pub are_siblings : Bound → Bound → Bool
+are_siblings (Range l u) (Listed values) = false
+are_siblings (Listed values) (Range l u) = false
+are_siblings _ _ = true
 
--- no bound comes after a later one or overlaps it
+-- of one strategy they have values that can be compared
+abbrev pub CanCompare : Bound → Bound → Type 0
+CanCompare (Range l u) (Range m v) = PointsFit l m × PointsFit l v × PointsFit u m × PointsFit u v
+CanCompare (Listed values) (Listed others) = ListsFit values others
+CanCompare _ _ = Unit {0}
+
+-- the two can stand side by side at one level
+abbrev pub BoundsFit : Bound → Bound → Type 0
+BoundsFit a b = (are_siblings a b ≡ true) × CanCompare a b
+
+-- no bound comes after a later one or overlaps it, and all can stand side by side
 pub record IsInPlainOrder (bounds : List Bound) : Type 0 where
   pub sorted : AllPairs (λ a b. comes_after a b ≡ false) bounds
   pub apart : AllPairs (λ a b. overlaps a b ≡ false) bounds
+  pub siblings : AllPairs (λ a b. are_siblings a b ≡ true) bounds

@@ -2,4 +2,5 @@ pub mod Accepts
 pub mod Bounds
 pub mod IntBounds
 pub mod Laws
+pub mod Listed
 pub mod Points

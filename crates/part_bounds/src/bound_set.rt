@@ -1,9 +1,12 @@
 ghost use Rattle.std.specs.Prelude.{◌≡◌, ◌<◌, ◌≤◌, false, OnOk, OnErr, IfOk, All, length, position, slice_get, Some, None};
 ghost use Rattle.std.specs.List.{AllPairs, position_or_len};
+ghost use Rattle.part_bounds.specs.Accepts as accepts;
 ghost use Rattle.part_bounds.specs.Bounds as bounds_spec;
 ghost use Rattle.part_bounds.specs.Bounds.{overlaps, with_bound, in_plain_order, BoundOfKind, BoundOfKinds, BoundsFit};
 
 use crate::Bound;
+use crate::listed::cmp_least;
+use crate::partition_bound::is_default;
 use crate::point::cmp_points;
 use pg_values::{KeyKind, NoMemory};
 use std::alloc::Global;
@@ -32,12 +35,19 @@ impl<K: KeyKind> Model for BoundSet<K> {
 fn comes_after<K: KeyKind>(kind: &K, a: &Bound, b: &Bound) -> bool
     requires fit { BoundsFit a.now b.now }
     requires of_kind { BoundOfKind (K.admits kind.now) a.now }
+    requires other_of_kind { BoundOfKind (K.admits kind.now) b.now }
     ensures { result ≡ bounds_spec.comes_after a.now b.now }
 {
     match (a, b) {
+        (_, Bound::Default) => false,
+        (Bound::Default, _) => true,
         (Bound::Range { lower, .. }, Bound::Range { lower: other, .. }) => {
             cmp_points(kind, lower, other).is_gt()
         }
+        (Bound::List { values }, Bound::List { values: others }) => {
+            cmp_least(kind, values, others).is_gt()
+        }
+        _ => unreachable!(),
     }
 }
 
@@ -45,6 +55,7 @@ fn comes_after<K: KeyKind>(kind: &K, a: &Bound, b: &Bound) -> bool
 fn place<K: KeyKind>(kind: &K, bounds: &[Bound], b: &Bound) -> usize
     requires fit { All (λ c. BoundsFit c b.now) bounds.now }
     requires of_kind { All (BoundOfKind (K.admits kind.now)) bounds.now }
+    requires other_of_kind { BoundOfKind (K.admits kind.now) b.now }
     ensures first { result ≡ position_or_len (λ c. bounds_spec.comes_after c b.now) bounds.now }
     ensures within { result ≤ length bounds.now }
 {
@@ -103,4 +114,11 @@ pub fn bound<K: KeyKind>(set: &BoundSet<K>, child: usize) -> &Bound
     ensures { slice_get set.now child ≡ Some result.now }
 {
     &set.bounds[child]
+}
+
+/// The place of the default partition, if there is one.
+pub fn default_child<K: KeyKind>(set: &BoundSet<K>) -> Option<usize>
+    ensures { result ≡ position accepts.is_default set.now }
+{
+    set.bounds.iter().position(|b| is_default(b))
 }

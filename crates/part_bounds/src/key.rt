@@ -39,7 +39,7 @@ impl<'r> Key for RowKey<'r> {
 }
 
 // Whether a value is null.
-fn is_null(value: &Value) -> bool
+pub(crate) fn is_null(value: &Value) -> bool
     ensures { result ≡ points.is_null value.now }
 {
     matches!(value, Value::Null)

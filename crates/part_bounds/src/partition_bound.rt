@@ -1,18 +1,29 @@
 ghost use Rattle.std.specs.Prelude.{◌≡◌, IfOk, IfSome};
 ghost use Rattle.pg_values.specs.Order.{AreComparable};
+ghost use Rattle.part_bounds.specs.Accepts as accepts;
 ghost use Rattle.part_bounds.specs.Bounds.{range_of};
 ghost use Rattle.part_bounds.specs.IntBounds.{IsInt4, IsIntBound};
 
 use crate::Point;
 use crate::point::{copy_point, point_at};
-use pg_values::{NoMemory, Value, cmp_values};
+use pg_values::{NoMemory, Row, Value, cmp_values, copy_row};
 use std::alloc::Global;
 
 /// What the keys of one partition have in common.
 #[derive(Debug, Drop)]
 pub enum Bound {
-    /// From the lower point on, below the upper point.
+    /// The keys without null from the lower point on, below the upper point.
     Range { lower: Point, upper: Point },
+    /// The listed values, NULL where it is among them.
+    List { values: Row },
+    /// What no other partition of the table accepts.
+    Default,
+}
+
+pub(crate) fn is_default(b: &Bound) -> bool
+    ensures { result ≡ accepts.is_default b.now }
+{
+    matches!(b, Bound::Default)
 }
 
 /// `FROM (lower) TO (upper)` for one key column, or `None` where no value lies between.
@@ -40,5 +51,10 @@ pub fn copy_bound(alloc: Global, b: &Bound) -> Result<Bound, NoMemory>
             let upper = copy_point(alloc, upper)?;
             Ok(Bound::Range { lower, upper })
         }
+        Bound::List { values } => {
+            let values = copy_row(alloc, values)?;
+            Ok(Bound::List { values })
+        }
+        Bound::Default => Ok(Bound::Default),
     }
 }

@@ -2,8 +2,7 @@ ghost use Rattle.std.specs.Prelude.{◌≡◌, ◌<◌, [], ◌∷◌, IfOk, IfS
 ghost use Rattle.pg_values.specs.declared.value.Value.TheVariants.{Int4};
 ghost use Rattle.part_bounds.specs.IntBounds.{IsIntBound};
 ghost use Rattle.part_bounds.specs.Points.{picked};
-ghost use Rattle.part_bounds.specs.Accepts.{FitsSet};
-ghost use Rattle.part_bounds.specs.Accepts as accepts_spec;
+ghost use Rattle.part_bounds.specs.Accepts.{accepts_among, FitsSet};
 
 use crate::{
     BoundSet, RowKey, add_bound, bound_accepts, copy_bound, find_child, len, make_set,
@@ -40,7 +39,7 @@ fn find_from<L: Ledger>(set: &BoundSet<IntKey>, row: &Row, blank: Blank) -> Opti
     requires name { blank.name ≡ L.name }
     requires parts { blank.parts ≡ L.parts }
     requires some { 0 < blank.parts }
-    ensures { result ≡ position (accepts_spec.accepts (picked row.now (0 ∷ []))) set.now }
+    ensures { result ≡ position (accepts_among set.now (picked row.now (0 ∷ []))) set.now }
 {
     let mut steps = Steps::<L>::new(blank);
     let key = RowKey { row, columns: &[0] };
@@ -51,7 +50,7 @@ fn find_from<L: Ledger>(set: &BoundSet<IntKey>, row: &Row, blank: Blank) -> Opti
 #[tactic(auto, using(crate::proofs::IntBoundLaws::int_bounds))]
 fn child_of(alloc: Global, set: &BoundSet<IntKey>, n: i32) -> Result<Option<usize>, NoMemory>
     requires { All IsIntBound set.now }
-    ensures { IfOk result (λ child. child ≡ position (accepts_spec.accepts (Int4 n ∷ [])) set.now) }
+    ensures { IfOk result (λ child. child ≡ position (accepts_among set.now (Int4 n ∷ [])) set.now) }
 {
     let mut row = Row::new(alloc);
     row.push(Value::Int4(n))?;
