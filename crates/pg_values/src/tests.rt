@@ -1,6 +1,7 @@
 use crate::{
-    BytesSource, Failed, ListSink, NameList, PgText, Row, RowList, Sink, Source, Value, cmp_values,
-    copy_row, write_value,
+    BytesSource, DayKey, Failed, IntKey, KeyKind, ListSink, NameList, PgText, Row, RowList, Sink,
+    Source, TextKey, TruthKey, Value, ValueKey, cmp_values, combine_hash, copy_row, value_hash,
+    write_value,
 };
 use std::alloc::Global;
 use std::cmp::Ordering;
@@ -82,4 +83,54 @@ fn values_compare_and_rows_are_copied(rt: HostRuntime) {
     let mut names = NameList::new(alloc);
     names.push(PgText::new(alloc)).expect(&rt, "memory");
     assert_eq!(rt; names.as_slice().len(), 1);
+}
+
+// The numbers were worked out by bench/hashes.py.
+#[test]
+fn values_hash_as_defined(rt: HostRuntime) {
+    let alloc = rt.alloc();
+    for (number, hash) in [
+        (0i64, 5334560577509996684u64),
+        (1i64, 2268351864360085331u64),
+        (-1i64, 17840618251879852143u64),
+        (42i64, 7200833106982129875u64),
+        (2147483647i64, 16614582521730280191u64),
+        (-2147483648i64, 1769337007524072829u64),
+        (9223372036854775807i64, 16578693421807512553u64),
+        (-9223372036854775808i64, 9700650441488165408u64),
+    ] {
+        assert_eq!(rt; value_hash(&Value::Int8(number)), hash);
+    }
+    for (text, hash) in [
+        ("", 12746098489256034243u64),
+        ("a", 11741518614589318779u64),
+        ("abc", 3628778498291917250u64),
+        ("abcd", 4029384952263848046u64),
+        ("partition", 10348038189196610837u64),
+        ("twelve bytes", 11443144854176202026u64),
+        ("thirteen byte", 10617706863063106451u64),
+        (
+            "a text of more than two dozen bytes",
+            16718168419243561834u64,
+        ),
+    ] {
+        let value = Value::Text(PgText::from_bytes(alloc, text.as_bytes()).expect(&rt, "memory"));
+        assert_eq!(rt; TextKey.hash(&value), hash);
+        assert!(rt; TextKey.compare(&value, &value) == Ordering::Equal);
+    }
+    assert_eq!(rt; IntKey.hash(&Value::Int4(-1)), value_hash(&Value::Int8(-1)));
+    assert_eq!(rt; ValueKey.hash(&Value::Int4(42)), 7200833106982129875);
+    assert_eq!(rt; DayKey.hash(&Value::Day(42)), 7200833106982129875);
+    assert_eq!(rt; TruthKey.hash(&Value::Truth(true)), 2268351864360085331);
+    assert_eq!(rt; value_hash(&Value::Truth(false)), 5334560577509996684);
+    assert_eq!(rt; value_hash(&Value::Null), 0);
+    assert!(rt; ValueKey.compare(&Value::Int4(2), &Value::Int8(1)) == Ordering::Greater);
+    assert!(rt; DayKey.compare(&Value::Day(-1), &Value::Day(1)) == Ordering::Less);
+    assert!(rt; TruthKey.compare(&Value::Truth(false), &Value::Truth(true)) == Ordering::Less);
+    let first = combine_hash(0, 2268351864360085331);
+    assert_eq!(rt;
+        combine_hash(first, 11741518614589318779),
+        10664153961498048712
+    );
+    assert_eq!(rt; combine_hash(0, 17840618251879852143), 4699383769605067090);
 }
