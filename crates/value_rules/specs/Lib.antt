@@ -1,0 +1,4 @@
+pub mod Arithmetic
+pub mod Assignment
+pub mod Ranges
+pub mod Reads
