@@ -1,6 +1,8 @@
 -- The first bound that accepts.
-use Rattle.std.proofs.Common.{◌≡◌, Bool, true, false, not, ℕ, ◌+◌, ◌<◌, List, [], ◌∷◌, Option, Some, None, is_some, cond, ltb, length, get_or, refl, sym, ap, subst, arith}
+use Rattle.std.proofs.Common.{◌≡◌, Bool, true, false, not, ℕ, ◌+◌, ◌<◌, List, [], ◌∷◌, Option, Some, None, is_some, cond, ltb, length, get_or, refl, sym, ap, subst, ◌∙◌, inl, inr, arith}
+use Rattle.std.proofs.lemmas.Bool.{cases_lt}
 use Rattle.std.proofs.lemmas.Bool.Decides.{nat_tests}
+use Rattle.std.proofs.lemmas.List.{get_or_default}
 use Rattle.std.specs.List.{position, position_or_len, list_any, All}
 use Rattle.std.proofs.lemmas.List.Elements.{All-head, All-tail}
 use Rattle.std.proofs.lemmas.List.Folds.{list_any_none, list_any_at}
@@ -63,3 +65,14 @@ position_same {A} p q xs h = ap (λ n. cond (ltb n (length xs)) (Some n) None) (
     by : (xs : List A) → All (λ x. p x ≡ q x) xs → position_or_len p xs ≡ position_or_len q xs
     by [] h = refl
     by (x ∷ xs) h = rw (All-head (λ y. p y ≡ q y) x xs h) (ap (λ n. cond (not (q x)) (1 + n) 0) (by xs (All-tail (λ y. p y ≡ q y) x xs h)))
+
+-- one element more that fails
+pub none_more : {A B : Type 0} (test : A → B → Bool) (b : B) (xs : List A) (i : ℕ) (x : A) → i < length xs → x ≡ get_or xs i x → test x b ≡ false
+    → ((k : ℕ) (d : A) → k < i → test (get_or xs k d) b ≡ false) → (k : ℕ) (d : A) → k < i + 1 → test (get_or xs k d) b ≡ false
+none_more {A} test b xs i x h is fails before k d lt = elim (cases_lt k i) [
+  | inl below ↦ before k d below
+  | inr above ↦
+    let same : k ≡ i = omega arith in
+    let at : get_or xs k d ≡ x = ap (λ n. get_or xs n d) same ∙ get_or_default xs i d x h ∙ sym is in
+    rw at fails
+]

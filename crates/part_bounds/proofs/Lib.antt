@@ -4,5 +4,6 @@ pub mod ListedLaws
 pub mod OverlapLaws
 pub mod PlainOrder
 pub mod PointOrder
+pub mod Residues
 pub mod TotalOrder
 pub mod Walk

@@ -10,15 +10,18 @@ use Rattle.std.proofs.lemmas.List.Folds.{list_any_none}
 use Rattle.std.proofs.Math.Nat.{eq-or-lt_of_le}
 use Rattle.pg_values.specs.declared.value.Value.{Value}
 use Rattle.part_bounds.specs.declared.partition_bound.Bound.{Bound}
-use Rattle.part_bounds.specs.declared.partition_bound.Bound.TheVariants.{Range, List as Listed, Default}
+use Rattle.part_bounds.specs.declared.partition_bound.Bound.TheVariants.{Range, List as Listed, Hash, Default}
 use Rattle.part_bounds.specs.declared.point.Edge.{Edge}
 use Rattle.part_bounds.specs.Points.{point_order, point_of}
+use Rattle.pg_values.specs.Hash.{key_hash}
+use Rattle.part_bounds.specs.Moduli.{divides, meets}
 use Rattle.part_bounds.specs.Listed.{only}
 use Rattle.part_bounds.specs.Bounds.{is_below, greater, lesser, overlaps, are_siblings}
 use Rattle.part_bounds.specs.Accepts.{accepts, accepts_among, is_default, has_null, lies_between}
 use Rattle.part_bounds.specs.Laws.{NoCommonKey, AtMostOneAccepts, DefaultAcceptsTheRest}
 use Rattle.part_bounds.proofs.Choice.{fails_at, position_same, position_passes, position-None}
 use Rattle.part_bounds.proofs.ListedLaws.{share_turned, not_shared}
+use Rattle.part_bounds.proofs.Residues.{no_common_residue}
 use Rattle.part_bounds.proofs.PointOrder.{point_total}
 use Rattle.part_bounds.proofs.TotalOrder.{turn, lt-gt, le_lt, lt_le, lt_lt, around, not_lt-le}
 
@@ -68,28 +71,48 @@ lesser_turned u v p = by (point_order u v) refl
     by Equal e = rw (e, turn point_total u v Equal e) (lt-gt point_total p v ∙ ap is_gt (sym (point_total.congr u v p e)) ∙ sym (lt-gt point_total p u))
     by Greater e = rw (e, turn point_total u v Greater e) refl
 
+or_turned : (s t : Bool) → s || t ≡ t || s
+or_turned true true = refl
+or_turned true false = refl
+or_turned false true = refl
+or_turned false false = refl
+
 -- it does not matter which of the two is named first
 pub overlaps_turned : (a b : Bound) → overlaps a b ≡ overlaps b a
 overlaps_turned (Range l u) (Range m v) = greater_turned l m (lesser u v) ∙ lesser_turned u v (greater m l)
 overlaps_turned (Listed values) (Listed others) = share_turned values others
+overlaps_turned (Hash m r) (Hash n s) = or_turned (meets m r n s) (meets n s m r)
 overlaps_turned Default Default = refl
 overlaps_turned (Range l u) (Listed values) = refl
+overlaps_turned (Range l u) (Hash n s) = refl
 overlaps_turned (Range l u) Default = refl
 overlaps_turned (Listed values) (Range l u) = refl
+overlaps_turned (Listed values) (Hash n s) = refl
 overlaps_turned (Listed values) Default = refl
+overlaps_turned (Hash m r) (Range l u) = refl
+overlaps_turned (Hash m r) (Listed values) = refl
+overlaps_turned (Hash m r) Default = refl
 overlaps_turned Default (Range l u) = refl
 overlaps_turned Default (Listed values) = refl
+overlaps_turned Default (Hash n s) = refl
 
 pub siblings_turn : (a b : Bound) → are_siblings a b ≡ are_siblings b a
 siblings_turn (Range l u) (Range m v) = refl
 siblings_turn (Listed values) (Listed others) = refl
+siblings_turn (Hash m r) (Hash n s) = or_turned (divides m n) (divides n m)
 siblings_turn Default Default = refl
 siblings_turn (Range l u) (Listed values) = refl
+siblings_turn (Range l u) (Hash n s) = refl
 siblings_turn (Range l u) Default = refl
 siblings_turn (Listed values) (Range l u) = refl
+siblings_turn (Listed values) (Hash n s) = refl
 siblings_turn (Listed values) Default = refl
+siblings_turn (Hash m r) (Range l u) = refl
+siblings_turn (Hash m r) (Listed values) = refl
+siblings_turn (Hash m r) Default = refl
 siblings_turn Default (Range l u) = refl
 siblings_turn Default (Listed values) = refl
+siblings_turn Default (Hash n s) = refl
 
 left : (a b : Bool) → a && b ≡ true → a ≡ true
 left true b h = refl
@@ -126,8 +149,14 @@ range_no_common l u m v key apart h = by (accepts key (Range m v)) refl
 pub no_common : NoCommonKey
 no_common (Range l u) (Range m v) key s apart h = range_no_common l u m v key apart h
 no_common (Listed values) (Listed others) key s apart h = not_shared values others (only key) apart h
+no_common (Hash m r) (Hash n t) key s apart h = no_common_residue m r n t (key_hash key) s apart h
 no_common (Range l u) (Listed values) key s apart h = cc
+no_common (Range l u) (Hash n t) key s apart h = cc
 no_common (Listed values) (Range l u) key s apart h = cc
+no_common (Listed values) (Hash n t) key s apart h = cc
+no_common (Hash m r) (Range l u) key s apart h = cc
+no_common (Hash m r) (Listed values) key s apart h = cc
+no_common (Hash m r) Default key s apart h = refl
 no_common (Range l u) Default key s apart h = refl
 no_common (Listed values) Default key s apart h = refl
 no_common Default b key s apart h = cc
@@ -152,6 +181,8 @@ two_defaults : (a b : Bound) → is_default a ≡ true → is_default b ≡ true
 two_defaults Default Default h k apart = cc
 two_defaults (Range l u) b h k apart = cc
 two_defaults (Listed values) b h k apart = cc
+two_defaults (Hash m r) b h k apart = cc
+two_defaults Default (Hash n s) h k apart = cc
 two_defaults Default (Range l u) h k apart = cc
 two_defaults Default (Listed values) h k apart = cc
 
@@ -207,6 +238,7 @@ pub default_alone : (key : List Value) (b : Bound) → is_default b ≡ true →
 default_alone key Default h = refl
 default_alone key (Range l u) h = cc
 default_alone key (Listed values) h = cc
+default_alone key (Hash m r) h = cc
 
 pub default_rest : DefaultAcceptsTheRest
 default_rest bounds key i d apart lt h = (forth, back)

@@ -3,4 +3,5 @@ pub mod Bounds
 pub mod IntBounds
 pub mod Laws
 pub mod Listed
+pub mod Moduli
 pub mod Points

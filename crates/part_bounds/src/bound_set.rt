@@ -1,11 +1,13 @@
-ghost use Rattle.std.specs.Prelude.{◌≡◌, ◌<◌, ◌≤◌, false, OnOk, OnErr, IfOk, All, length, position, slice_get, Some, None};
+ghost use Rattle.std.specs.Prelude.{◌≡◌, ◌<◌, ◌≤◌, true, false, OnOk, OnErr, IfOk, All, length, position, slice_get, Some, None};
 ghost use Rattle.std.specs.List.{AllPairs, position_or_len};
 ghost use Rattle.part_bounds.specs.Accepts as accepts;
 ghost use Rattle.part_bounds.specs.Bounds as bounds_spec;
-ghost use Rattle.part_bounds.specs.Bounds.{overlaps, with_bound, in_plain_order, BoundOfKind, BoundOfKinds, BoundsFit};
+ghost use Rattle.part_bounds.specs.Moduli.{bad_modulus};
+ghost use Rattle.part_bounds.specs.Bounds.{is_filled, overlaps, with_bound, in_plain_order, BoundOfKind, BoundOfKinds, BoundsFit};
 
 use crate::Bound;
 use crate::listed::cmp_least;
+use crate::moduli::{modulus_of, moduli_suit};
 use crate::partition_bound::is_default;
 use crate::point::cmp_points;
 use pg_values::{KeyKind, NoMemory};
@@ -31,6 +33,13 @@ impl<K: KeyKind> Model for BoundSet<K> {
     ghost invariant = { λ s. All (BoundOfKind (K.admits s.kind)) s.bounds.items × IsInPlainOrder s.bounds.items };
 }
 
+// Whether the first modulus and remainder stand behind the second.
+fn is_behind(a: (u32, u32), b: (u32, u32)) -> bool
+    ensures { result ≡ bounds_spec.comes_after (Bound.Hash a.0 a.1) (Bound.Hash b.0 b.1) }
+{
+    a.0.cmp(&b.0).then(a.1.cmp(&b.1)).is_gt()
+}
+
 // Whether the first bound stands behind the second in plain order.
 fn comes_after<K: KeyKind>(kind: &K, a: &Bound, b: &Bound) -> bool
     requires fit { BoundsFit a.now b.now }
@@ -47,6 +56,13 @@ fn comes_after<K: KeyKind>(kind: &K, a: &Bound, b: &Bound) -> bool
         (Bound::List { values }, Bound::List { values: others }) => {
             cmp_least(kind, values, others).is_gt()
         }
+        (
+            Bound::Hash { modulus, remainder },
+            Bound::Hash {
+                modulus: other,
+                remainder: rest,
+            },
+        ) => is_behind((*modulus, *remainder), (*other, *rest)),
         _ => unreachable!(),
     }
 }
@@ -121,4 +137,18 @@ pub fn default_child<K: KeyKind>(set: &BoundSet<K>) -> Option<usize>
     ensures { result ≡ position accepts.is_default set.now }
 {
     set.bounds.iter().position(|b| is_default(b))
+}
+
+/// The modulus of the first bound of the set that does not suit the given one: neither is a factor
+/// of the other.
+pub fn modulus_fault<K: KeyKind>(set: &BoundSet<K>, b: &Bound) -> Option<u32>
+    requires { is_filled b.now ≡ true }
+    ensures { result ≡ bad_modulus b.now set.now }
+{
+    for a in set.bounds.iter() {
+        if !moduli_suit(a, b) {
+            return modulus_of(a);
+        }
+    }
+    None
 }

@@ -1,4 +1,4 @@
-ghost use Rattle.part_bounds.specs.Laws.{AddedInEitherOrder, NoCommonKey, AtMostOneAccepts, DefaultAcceptsTheRest, PlainOrderKeeps, PlainOrderIsSorted};
+ghost use Rattle.part_bounds.specs.Laws.{AddedInEitherOrder, NoCommonKey, AtMostOneAccepts, DefaultAcceptsTheRest, OverlapIsSharedResidue, PlainOrderKeeps, PlainOrderIsSorted};
 
 /// Two bounds of one level that do not overlap accept no key in common.
 pub fn no_common_key()
@@ -13,6 +13,12 @@ pub fn at_most_one_accepts()
 /// A default accepts exactly what no sibling accepts.
 pub fn default_accepts_the_rest()
     ensures { DefaultAcceptsTheRest }
+{}
+
+/// Of moduli of which one is a factor of the other, remainders overlap exactly where some hash
+/// leaves both.
+pub fn overlap_is_shared_residue()
+    ensures { OverlapIsSharedResidue }
 {}
 
 /// Plain order keeps the bounds that are given.

@@ -16,17 +16,18 @@ mod bound_set;
 mod key;
 mod laws;
 mod listed;
+mod moduli;
 mod partition_bound;
 mod point;
 mod search;
 #[cfg(test)]
 mod tests;
 
-pub use bound_set::{BoundSet, add_bound, bound, default_child, len, make_set};
-pub use key::{Key, RowKey};
+pub use bound_set::{BoundSet, add_bound, bound, default_child, len, make_set, modulus_fault};
+pub use key::{Key, RowKey, row_hash};
 pub use laws::{
     added_in_either_order, at_most_one_accepts, default_accepts_the_rest, no_common_key,
-    plain_order_is_sorted, plain_order_keeps,
+    overlap_is_shared_residue, plain_order_is_sorted, plain_order_keeps,
 };
 pub use partition_bound::{Bound, copy_bound, range_bound};
 pub use point::{Edge, Point};

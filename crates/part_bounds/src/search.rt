@@ -1,18 +1,27 @@
-ghost use Rattle.std.specs.Prelude.{true, ◌≡◌, ◌<◌, All, length, position, IfSome, slice_get};
+ghost use Rattle.std.specs.Prelude.{true, ◌≡◌, ◌<◌, ◌%◌, ◌==◌, All, length, position, IfSome, slice_get};
 ghost use Rattle.part_bounds.specs.Bounds as bounds_spec;
 ghost use Rattle.part_bounds.specs.Bounds.{BoundOfKind, BoundsFit, greater, is_below, is_filled, lesser};
 ghost use Rattle.part_bounds.specs.Points.{EdgeOfKind, PointsFit};
 ghost use Rattle.part_bounds.specs.Accepts as accepts_spec;
 ghost use Rattle.part_bounds.specs.Accepts.{accepts_among, FitsBound, FitsSet};
 
-use crate::key::has_null;
+use crate::key::{has_null, row_hash};
 use crate::listed::{count_lists, count_share};
+use crate::moduli::agree;
 use crate::partition_bound::is_default;
 use crate::point::{count_key, count_points};
 use crate::{Bound, BoundSet, Key, Point, default_child};
 use pg_values::{KeyKind, Steps};
 use std::marker::Brand;
 use std::sync::ledger::{Blank, Ledger};
+
+// Whether the hash leaves the remainder.
+fn leaves(hash: u64, modulus: u32, remainder: u32) -> bool
+    requires { 0 < modulus }
+    ensures { result ≡ (hash % modulus == remainder) }
+{
+    hash % modulus as u64 == remainder as u64
+}
 
 // Whether the bound by itself accepts the key, of which it is known whether it has a null. Counted.
 fn count_accepts<K: KeyKind, Q: Key, L: Ledger>(
@@ -34,6 +43,7 @@ fn count_accepts<K: KeyKind, Q: Key, L: Ledger>(
                 && count_key(kind, upper, key, steps).is_gt()
         }
         Bound::List { values } => count_lists(kind, values, key.value(0), steps),
+        Bound::Hash { modulus, remainder } => leaves(row_hash(key), *modulus, *remainder),
         Bound::Default => false,
     }
 }
@@ -81,6 +91,13 @@ fn overlap_each_other<K: KeyKind, L: Ledger>(
         (Bound::List { values: others }, Bound::List { values }) => {
             count_share(kind, values, others, steps)
         }
+        (
+            Bound::Hash {
+                modulus: other,
+                remainder: rest,
+            },
+            Bound::Hash { modulus, remainder },
+        ) => agree(*modulus, *remainder, *other, *rest),
         (Bound::Default, Bound::Default) => true,
         _ => false,
     }
