@@ -8,11 +8,13 @@ use Rattle.pg_values.specs.declared.value.Value.{Value}
 use Rattle.part_bounds.specs.declared.partition_bound.Bound.{Bound}
 use Rattle.part_bounds.specs.Accepts.{accepts}
 use Rattle.part_bounds.specs.Bounds.{overlaps, with_bound, with_bounds}
+use Rattle.part_bounds.proofs.IntBoundLaws.{all_int_siblings}
 use Rattle.part_bounds.proofs.OverlapLaws.{at_most_one, overlaps_turned}
 use Rattle.part_bounds.proofs.PlainOrder.{All-with_bound, apart-with_bound}
 use Rattle.step_engine.specs.Setup.{Partition, Setup, IsWellFormed, bound_of, row_of, children}
 use Rattle.step_engine.specs.Rows.{rows, leaf_rows, stored, LiesIn}
 use Rattle.step_engine.specs.Laws.{EachRowInOneLeaf}
+use Rattle.step_engine.proofs.BoundLaws.{children_ints}
 
 -- two bounds that share no point
 abbrev Apart : Bound → Bound → Type 0
@@ -77,7 +79,7 @@ each_row s w = record { lies = lies; kept = kept }
     lies : (leaf : ℕ) (row : List Value) → leaf < length (stored s) → Contains (get_or (stored s) leaf []) row → LiesIn s leaf row
     lies leaf row lt has = let below : leaf < length (children s) = omega (arith, same) in record {
       accepted = λ d. accepted_at s leaf row d below has;
-      alone = λ other d le h. at_most_one (children s) row other leaf d (children_apart s w) le below h (accepted_at s leaf row d below has);
+      alone = λ other d le h. at_most_one (children s) row other leaf d (all_int_siblings (children s) (children_ints s w)) (children_apart s w) le below h (accepted_at s leaf row d below has);
     }
 
     kept : (row : List Value) → Contains (rows s) row → (leaf : ℕ) × (leaf < length (stored s)) × Contains (get_or (stored s) leaf []) row
