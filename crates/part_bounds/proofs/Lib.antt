@@ -7,3 +7,4 @@ pub mod PointOrder
 pub mod Residues
 pub mod TotalOrder
 pub mod Walk
+pub mod WithinLaws

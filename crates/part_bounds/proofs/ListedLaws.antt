@@ -39,7 +39,7 @@ pub same_trans : (v w x : Value) → is_same v w ≡ true → is_same w x ≡ tr
 same_trans v w x h k = ap is_eq (order_total.congr v w x (is_equal (order v w) h)) ∙ k
 
 -- a value that passes, by its place
-found : {A : Type 0} (p : A → Bool) (xs : List A) → list_any p xs ≡ true → (i : ℕ) × (i < length xs) × ((d : A) → p (get_or xs i d) ≡ true)
+pub found : {A : Type 0} (p : A → Bool) (xs : List A) → list_any p xs ≡ true → (i : ℕ) × (i < length xs) × ((d : A) → p (get_or xs i d) ≡ true)
 found {A} p [] e = cc
 found {A} p (x ∷ xs) e = by (p x) refl e (found p xs)
   where

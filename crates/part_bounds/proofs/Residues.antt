@@ -15,7 +15,7 @@ use Rattle.part_bounds.specs.Bounds.{overlaps, are_siblings}
 use Rattle.part_bounds.specs.Laws.{OverlapIsSharedResidue}
 
 -- a remainder of a remainder, for a factor
-rest_of_rest : (m n h : ℕ) → divides m n ≡ true → h % n % m ≡ h % m
+pub rest_of_rest : (m n h : ℕ) → divides m n ≡ true → h % n % m ≡ h % m
 rest_of_rest m n h d = mod-mod_of_dvd m h (dvd_of_mod-eq-zero m (eqb-true (n % m) 0 d))
 
 -- the remainders that one number leaves agree

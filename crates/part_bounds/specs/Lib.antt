@@ -5,3 +5,4 @@ pub mod Laws
 pub mod Listed
 pub mod Moduli
 pub mod Points
+pub mod Within

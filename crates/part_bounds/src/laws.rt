@@ -1,4 +1,5 @@
 ghost use Rattle.part_bounds.specs.Laws.{AddedInEitherOrder, NoCommonKey, AtMostOneAccepts, DefaultAcceptsTheRest, OverlapIsSharedResidue, PlainOrderKeeps, PlainOrderIsSorted};
+ghost use Rattle.part_bounds.specs.Within.{WithinAccepts};
 
 /// Two bounds of one level that do not overlap accept no key in common.
 pub fn no_common_key()
@@ -35,4 +36,9 @@ pub fn plain_order_is_sorted()
 /// bounds were added.
 pub fn added_in_either_order()
     ensures { AddedInEitherOrder }
+{}
+
+/// What a bound inside another accepts the other accepts.
+pub fn within_accepts()
+    ensures { WithinAccepts }
 {}

@@ -13,6 +13,7 @@
 #![tactic(auto)]
 
 mod bound_set;
+mod inside;
 mod key;
 mod laws;
 mod listed;
@@ -23,14 +24,16 @@ mod search;
 #[cfg(test)]
 mod tests;
 
+
 pub use bound_set::{BoundSet, add_bound, bound, default_child, len, make_set, modulus_fault};
 pub use key::{Key, RowKey, row_hash};
 pub use laws::{
     added_in_either_order, at_most_one_accepts, default_accepts_the_rest, no_common_key,
-    overlap_is_shared_residue, plain_order_is_sorted, plain_order_keeps,
+    overlap_is_shared_residue, plain_order_is_sorted, plain_order_keeps, within_accepts,
 };
 pub use partition_bound::{Bound, copy_bound, range_bound};
 pub use point::{Edge, Point};
 pub use search::{
     accepts, bound_accepts, find_child, find_child_uncounted, overlap, overlap_uncounted,
 };
+pub use inside::within;
