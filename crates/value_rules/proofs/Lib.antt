@@ -1,1 +1,3 @@
+pub mod DayRoundTrip
 pub mod ReadDays
+pub mod RoundTrip

@@ -7,7 +7,8 @@ use Rattle.value_rules.specs.Ranges.{fitted, or_fault}
 use Rattle.pg_values.specs.declared.value.Kind.{Kind}
 use Rattle.pg_values.specs.declared.value.Kind.TheVariants.{Int4 as KInt4, Int8 as KInt8, Text as KText, Day as KDay, Truth as KTruth}
 use Rattle.pg_values.specs.declared.value.Value.{Value}
-use Rattle.pg_values.specs.declared.value.Value.TheVariants.{Text, Day, Truth}
+use Rattle.pg_values.specs.declared.value.Value.TheVariants.{Null, Int4, Int8, Text, Day, Truth}
+use Rattle.pg_values.specs.Days.{IsDay}
 use Rattle.value_rules.specs.declared.reading.ReadFault.{ReadFault}
 use Rattle.value_rules.specs.declared.reading.ReadFault.TheVariants.{Form, NumberRange, DateForm, DateRange}
 use Rattle.pg_values.specs.declared.fault.Fault.{Fault}
@@ -103,3 +104,21 @@ told kind s (Err e) = Err (read_fault kind s e)
 -- the value that the text spells, or the fault that it is refused with
 abbrev pub reads : Kind → List ℕ → Result Value Fault
 reads kind s = told kind s (reading kind s)
+
+-- the kind of a value that is not null
+abbrev pub kind_of : Value → Kind
+kind_of Null = KText
+kind_of (Int4 n) = KInt4
+kind_of (Int8 n) = KInt8
+kind_of (Text s) = KText
+kind_of (Day d) = KDay
+kind_of (Truth p) = KTruth
+
+-- a date is one from 0001-01-01 to 9999-12-31
+abbrev pub IsCalendarDay : Value → Type 0
+IsCalendarDay (Day d) = IsDay d
+IsCalendarDay Null = Unit {0}
+IsCalendarDay (Int4 n) = Unit {0}
+IsCalendarDay (Int8 n) = Unit {0}
+IsCalendarDay (Text s) = Unit {0}
+IsCalendarDay (Truth p) = Unit {0}

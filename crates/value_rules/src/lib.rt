@@ -14,8 +14,11 @@ mod assignment;
 mod operators;
 mod range;
 mod reading;
+mod round_trip;
+
 
 pub use arithmetic::arith;
 pub use assignment::{CoerceFault, coerce};
 pub use operators::{Arith, ArithFault};
 pub use reading::read_value;
+pub use round_trip::reads_back;
