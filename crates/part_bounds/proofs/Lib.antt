@@ -1,6 +1,7 @@
 pub mod Choice
 pub mod IntBoundLaws
 pub mod ListedLaws
+pub mod OneKindLaws
 pub mod OverlapLaws
 pub mod PlainOrder
 pub mod PointOrder

@@ -4,5 +4,6 @@ pub mod IntBounds
 pub mod Laws
 pub mod Listed
 pub mod Moduli
+pub mod OneKind
 pub mod Points
 pub mod Within
