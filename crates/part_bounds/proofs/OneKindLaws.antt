@@ -12,7 +12,7 @@ use Rattle.part_bounds.specs.declared.point.Edge.{Edge}
 use Rattle.part_bounds.specs.declared.point.Edge.TheVariants.{Min, At, Max}
 use Rattle.part_bounds.specs.Points.{point_of, is_null, EdgesFit, EdgeOfKind, PointsFit}
 use Rattle.part_bounds.specs.Listed.{ListsFit, ValueOfKind}
-use Rattle.part_bounds.specs.Bounds.{are_siblings, CanCompare, BoundsFit, BoundOfKinds, is_filled, with_bound}
+use Rattle.part_bounds.specs.Bounds.{are_siblings, CanCompare, BoundsFit, BoundOfKinds, is_below, is_filled, with_bound}
 use Rattle.part_bounds.specs.Accepts.{has_null, FitsBound, FitsSet}
 use Rattle.part_bounds.specs.OneKind.{AreOfOneKind, IsBoundOf, IsKeyOf}
 use Rattle.part_bounds.proofs.PlainOrder.{All-with_bound}
@@ -34,14 +34,14 @@ module _ (P : Value → Type 0) (alike : AreOfOneKind P) where
   edges_fit (At v) Min h k = tt
   edges_fit (At v) Max h k = tt
 
-  points_fit : (l m : List Edge) → All (EdgeOfKind P) l → All (EdgeOfKind P) m → length l ≡ length m → PointsFit l m
+  pub points_fit : (l m : List Edge) → All (EdgeOfKind P) l → All (EdgeOfKind P) m → length l ≡ length m → PointsFit l m
   points_fit [] [] h k e = tt
   points_fit [] (y ∷ m) h k e = absurd (omega (arith, e))
   points_fit (x ∷ l) [] h k e = absurd (omega (arith, e))
   points_fit (x ∷ l) (y ∷ m) h k e =
       (edges_fit x y (All-head (EdgeOfKind P) x l h) (All-head (EdgeOfKind P) y m k), points_fit l m (All-tail (EdgeOfKind P) x l h) (All-tail (EdgeOfKind P) y m k) (omega (arith, e)))
 
-  lists_fit : (values others : List Value) → All (ValueOfKind P) values → All (ValueOfKind P) others → ListsFit values others
+  pub lists_fit : (values others : List Value) → All (ValueOfKind P) values → All (ValueOfKind P) others → ListsFit values others
   lists_fit values others h k i d lt j e le v w = alike (get_or values i d) (get_or others j e) (h i d lt v) (k j e le w)
 
   pub can_compare : (n : ℕ) (a b : Bound) → IsBoundOf P n a → IsBoundOf P n b → CanCompare a b
@@ -99,3 +99,46 @@ filled P n (Range l u) h = h.kind.2
 filled P n (Listed values) h = h.kind.2
 filled P n (Hash m r) h = lt-ltb r m h.kind
 filled P n Default h = refl
+
+-- and they are so with one more
+pub added_more : (P : Value → Type 0) (n : ℕ) (b : Bound) (bounds more : List Bound) → more ≡ with_bound b bounds → IsBoundOf P n b → All (IsBoundOf P n) bounds → All (IsBoundOf P n) more
+added_more P n b bounds more is h all = rw is (All-with_bound (IsBoundOf P n) b bounds h all)
+
+-- a list of values of the kind
+pub list_of_kind : (values : List Value) → All (ValueOfKind IsInteger) values → 0 < length values → IsBoundOf IsInteger 1 (Listed values)
+list_of_kind [] h some = absurd (omega arith)
+list_of_kind (v ∷ values) h some = record { kind = (h, lists_fit IsInteger integers (v ∷ values) (v ∷ values) h h, refl); columns = refl }
+
+-- a range between two points of the kind
+pub range_of_kind : (n : ℕ) (l u : List Edge) → All (EdgeOfKind IsInteger) l → All (EdgeOfKind IsInteger) u → length l ≡ n + 1 → length u ≡ n + 1 → is_below l u ≡ true → IsBoundOf IsInteger n (Range l u)
+range_of_kind n l u h k e f below = record { kind = (h, k, below); columns = (e, f) }
+
+pub hash_of_kind : (n m r : ℕ) → r < m → IsBoundOf IsInteger n (Hash m r)
+hash_of_kind n m r h = record { kind = h; columns = tt }
+
+pub default_of_kind : (n : ℕ) → IsBoundOf IsInteger n Default
+default_of_kind n = record { kind = tt; columns = tt }
+
+pub points_of_integers : (l m : List Edge) → All (EdgeOfKind IsInteger) l → All (EdgeOfKind IsInteger) m → length l ≡ length m → PointsFit l m
+points_of_integers = points_fit IsInteger integers
+
+pub compare_integers : (n : ℕ) (a b : Bound) → IsBoundOf IsInteger n a → IsBoundOf IsInteger n b → CanCompare a b
+compare_integers = can_compare IsInteger integers
+
+pub fits_integers : (n : ℕ) (bounds : List Bound) (b : Bound) → All (IsBoundOf IsInteger n) bounds → IsBoundOf IsInteger n b → All (λ a. are_siblings a b ≡ true) bounds → All (λ a. BoundsFit a b) bounds
+fits_integers = fits_all IsInteger integers
+
+pub key_of_integers : (n : ℕ) (key : List Value) (bounds : List Bound) → IsKeyOf IsInteger n key → All (IsBoundOf IsInteger n) bounds → FitsSet bounds key
+key_of_integers = fits_set IsInteger integers
+
+pub one_key_of_integers : (n : ℕ) (key : List Value) (b : Bound) → IsKeyOf IsInteger n key → IsBoundOf IsInteger n b → FitsBound key b
+one_key_of_integers = fits_bound IsInteger integers
+
+pub filled_integers : (n : ℕ) (b : Bound) → IsBoundOf IsInteger n b → is_filled b ≡ true
+filled_integers = filled IsInteger
+
+pub kinds_of_integers : {S : Type 0} (n : ℕ) (b : Bound) → IsBoundOf IsInteger n b → BoundOfKinds {S = S} (λ _ v. IsInteger v) b
+kinds_of_integers n b h kind = h.kind
+
+-- for the tactics of a caller whose bounds and keys are all of integers
+pub ruleset integer_bounds = (points_of_integers, compare_integers, fits_integers, key_of_integers, one_key_of_integers, filled_integers, kinds_of_integers, added_more, list_of_kind, hash_of_kind, default_of_kind)

@@ -40,6 +40,12 @@ impl Point {
         }
     }
 
+    pub fn as_slice(&self) -> &[Edge]
+        ensures { result.now ≡ self.now }
+    {
+        &self.edges
+    }
+
     pub fn push(&mut self, edge: Edge) -> Result<(), NoMemory>
         ensures ok { OnOk result (self.new ≡ self.old ++ edge ∷ []) }
         ensures err { OnErr result (self.new ≡ self.old) }
