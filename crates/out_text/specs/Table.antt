@@ -1,4 +1,4 @@
--- The printed form of a table, as psql's aligned format and isolationtester print it. Every definition is over any
+-- The printed form of a table, in the manner of psql and isolationtester. Every definition is over any
 -- list of names, kinds and rows: there are as many columns as names, a missing value is null, and a missing kind is text.
 use Rattle.std.specs.Prelude.{ℕ, zero, suc, ◌+◌, ◌-◌, ◌==◌, Bool, true, false, ◌&&◌, ◌||◌, nat_le, nat_lt, if◌then◌else◌, List, [], ◌∷◌, ◌++◌, max, length, map, codes, decimal, replicate, count_by, slice_index_or}
 use Rattle.std.specs.List.{flat_map, join_by, range_with_len}

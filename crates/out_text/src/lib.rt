@@ -1,4 +1,4 @@
-//! What partscript prints: tables of rows, as psql's aligned format and isolationtester print them.
+//! What partscript prints: tables of rows, in the manner of psql and isolationtester.
 //!
 //! A table is a line of names, a rule of dashes, a line for each row, the count of the rows and an
 //! empty line. Every column is as wide as its widest text, so a table is printed in two passes:

@@ -10,8 +10,11 @@ ghost use Rattle.std.specs.Prelude.{◌≡◌};
 ghost use Rattle.partscript.specs.Status as spec;
 
 use adapters::{InputSource, OutputSink};
+use pg_values::NoMemory;
+use std::env;
+use std::io::ErrorKind;
 use std::process::ExitCode;
-use std::{env, io};
+use std::rt::Env;
 use step_engine::{Ended, partscript_run};
 
 /// The status of each answer.
@@ -29,13 +32,35 @@ fn status(ended: Ended) -> u8
     }
 }
 
-fn main(rt: HostRuntime) -> io::Result<ExitCode> {
-    let words: Vec<String> = env::args(&rt)?.skip(1).collect(rt.alloc())?;
+/// The words after the program's name. A word that is no UTF-8 is a word all the same: it stands
+/// there empty.
+fn words_of<R: Env + AllocGlobal>(rt: &R) -> Result<Vec<String>, NoMemory> {
+    let mut words = Vec::new(rt.alloc());
+    match env::args(rt) {
+        Ok(all) => {
+            for word in all.skip(1) {
+                words.push(word)?;
+            }
+        }
+        Err(error) => {
+            if error.kind() == ErrorKind::OutOfMemory {
+                return Err(NoMemory);
+            }
+            words.push(String::new(rt.alloc()))?;
+        }
+    }
+    Ok(words)
+}
+
+fn main(rt: HostRuntime) -> ExitCode {
+    let Ok(words) = words_of(&rt) else {
+        return ExitCode::from(status(Ended::NoMemory));
+    };
     let mut input = InputSource::new(rt.stdin());
     let mut out = OutputSink::new(rt.stdout());
     let mut err = OutputSink::new(rt.stderr());
     let ended = partscript_run(rt.alloc(), &words, &mut input, &mut out, &mut err);
-    Ok(ExitCode::from(status(ended)))
+    ExitCode::from(status(ended))
 }
 
 #[cfg(test)]

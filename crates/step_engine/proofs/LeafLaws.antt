@@ -15,10 +15,7 @@ use Rattle.step_engine.specs.Setup.{Partition, Setup, IsWellFormed, bound_of, ro
 use Rattle.step_engine.specs.Rows.{rows, leaf_rows, stored, LiesIn}
 use Rattle.step_engine.specs.Laws.{EachRowInOneLeaf}
 use Rattle.step_engine.proofs.BoundLaws.{children_ints}
-
--- two bounds that share no point
-abbrev Apart : Bound → Bound → Type 0
-Apart a b = overlaps a b ≡ false
+use Rattle.step_engine.proofs.NoRowLost.{Apart, no_row_lost}
 
 -- bounds that overlap none of those before them are put at their places one after the other
 apart-with_bounds : (more bounds : List Bound) → AllPairs Apart more → All (λ b. All (Apart b) bounds) more → AllPairs Apart bounds → AllPairs Apart (with_bounds more bounds)
@@ -69,9 +66,9 @@ accepted_at s leaf row d lt has =
 some_accepts : (s : Setup) → IsWellFormed s → All (λ row. list_any (accepts row) (children s) ≡ true) (rows s)
 some_accepts s w = All-map (λ row. list_any (accepts row) (children s) ≡ true) row_of s.inserted (λ i d lt. (w.inserted i d lt).accepted)
 
--- of leaves that do not overlap one accepts a row, and there it is kept
+-- of leaves that do not overlap one accepts a row, and there it is kept, once
 pub each_row : EachRowInOneLeaf
-each_row s w = record { lies = lies; kept = kept }
+each_row s w = record { lies = lies; kept = kept; whole = no_row_lost (rows s) (children s) (λ i j d lt le. (all_int_siblings (children s) (children_ints s w) i j d lt le, children_apart s w i j d lt le)) (some_accepts s w) }
   where
     same : length (stored s) ≡ length (children s)
     same = length-map (children s) (leaf_rows (rows s))

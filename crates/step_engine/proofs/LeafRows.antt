@@ -1,12 +1,11 @@
 -- A row that is put into the leaf whose bound accepts it.
-use Rattle.std.proofs.Common.{◌≡◌, ◌≢◌, ℕ, zero, suc, ◌+◌, ◌<◌, ◌≤◌, Bool, true, false, cond, IsTrue, List, [], ◌∷◌, ◌++◌, length, map, filter, get_or, set, Option, Some, None, inl, inr, ◌^◌, replicate, take, is_some, refl, sym, ap, ◌∙◌, subst, arith, append-nil, nat_lt}
+use Rattle.std.proofs.Common.{◌≡◌, ◌≢◌, ℕ, zero, suc, ◌+◌, ◌<◌, ◌≤◌, Bool, true, false, cond, List, [], ◌∷◌, ◌++◌, length, map, get_or, set, Option, Some, None, inl, inr, ◌^◌, replicate, take, is_some, refl, sym, ap, ◌∙◌, arith, append-nil, nat_lt}
 use Rattle.std.specs.List.{position, position_or_len, All, AllPairs, list_any}
 use Rattle.std.proofs.lemmas.List.Elements.{filter-append, All-push}
 use Rattle.std.proofs.lemmas.List.{get_or-map, map-append, take_more}
 use Rattle.std.proofs.lemmas.List.Folds.{list_any_none, list_any_at}
 use Rattle.std.proofs.lemmas.List.Quantifiers.{position-Some}
 use Rattle.std.proofs.lemmas.List.Sums.{fails_before_first}
-use Rattle.std.proofs.lemmas.Grind.{common_steps}
 use Rattle.std.proofs.lemmas.Bool.{cases_lt}
 use Rattle.std.proofs.lemmas.Bool.Decides.{nat_tests}
 use Rattle.pg_values.specs.declared.value.Value.{Value}
@@ -16,8 +15,7 @@ use Rattle.part_bounds.specs.Accepts.{accepts}
 use Rattle.part_bounds.specs.IntBounds.{IsIntBound}
 use Rattle.part_bounds.specs.Laws.{NoCommonKey}
 use Rattle.part_bounds.proofs.IntBoundLaws.{int_siblings}
-use Rattle.pg_values.specs.declared.value.Value.TheVariants.{Int4}
-use Rattle.step_engine.specs.Setup.{CanInsert, FitsInteger, row_of}
+use Rattle.step_engine.specs.Setup.{CanInsert, row_of}
 use Rattle.step_engine.specs.Rows.{leaf_rows}
 
 -- where no place is found, none passes

@@ -3,6 +3,7 @@ pub mod Creations
 pub mod Ends
 pub mod LeafLaws
 pub mod LeafRows
+pub mod NoRowLost
 pub mod Scripts
 pub mod Tables
 pub mod Written

@@ -4,17 +4,15 @@ use Rattle.pg_values.specs.declared.value.Value.{Value}
 use Rattle.sql_syntax.specs.declared.statement.Statement.{Statement}
 use Rattle.sql_syntax.specs.declared.statement.Statement.TheVariants.{Select}
 use Rattle.sql_syntax.specs.Block.{IsBlock}
-use Rattle.sql_syntax.specs.Grammar.{block_rule}
 use Rattle.sql_syntax.proofs.GrammarLaws.{block_law}
 use Rattle.sql_tokens.specs.Tokens.{tokens_of}
 use Rattle.grammar_rules.proofs.Whole.{one_value}
 use Rattle.spec_reader.specs.declared.first_form.FirstSpec.{FirstSpec}
 use Rattle.spec_reader.specs.FirstForm.{IsFirstSpec}
 use Rattle.spec_reader.proofs.FirstLaws.{only_one}
-use Rattle.step_engine.specs.Setup.{Setup, FitsInteger, IsWellFormed}
+use Rattle.step_engine.specs.Setup.{Setup}
 use Rattle.step_engine.specs.Statements.{setup_statements, step_statements}
 use Rattle.step_engine.specs.Script.{Script, IsScript}
-use Rattle.step_engine.specs.Rows.{stored}
 use Rattle.step_engine.specs.Made.{NoSetup, IsMade}
 use Rattle.step_engine.specs.Ready.{IsOnlyBlock, IsReady, run_text}
 use Rattle.step_engine.specs.Printed.{printed}

@@ -1,15 +1,15 @@
 -- The statements of a setup and what they make.
-use Rattle.std.proofs.Common.{◌≡◌, ℕ, List, [], ◌∷◌, ◌++◌, length, map, refl, sym, ap, ◌∙◌, subst}
+use Rattle.std.proofs.Common.{◌≡◌, ℕ, List, [], ◌∷◌, ◌++◌, length, map, sym, ap, ◌∙◌, subst}
 use Rattle.std.specs.List.{All}
 use Rattle.std.proofs.lemmas.List.{same_from_push, length-map}
 use Rattle.pg_values.specs.declared.value.Value.{Value}
 use Rattle.part_bounds.specs.declared.partition_bound.Bound.{Bound}
 use Rattle.part_bounds.specs.Bounds.{in_plain_order}
 use Rattle.sql_syntax.specs.declared.statement.Statement.{Statement}
-use Rattle.sql_syntax.specs.declared.statement.Statement.TheVariants.{CreateTable, CreatePartition, Insert, Select}
+use Rattle.sql_syntax.specs.declared.statement.Statement.TheVariants.{CreateTable, Insert, Select}
 use Rattle.sql_syntax.specs.declared.statement.CreateTable.{CreateTable as CreateRecord}
 use Rattle.sql_syntax.specs.declared.statement.Insert.{Insert as InsertRecord}
-use Rattle.step_engine.specs.Setup.{Partition, Setup, CanInsert, IsWellFormed, bound_of, children, row_of}
+use Rattle.step_engine.specs.Setup.{Setup, CanInsert, bound_of, children, row_of}
 use Rattle.step_engine.specs.Statements.{create_statement, setup_statements, step_statements}
 use Rattle.step_engine.specs.Creating.{Created}
 use Rattle.step_engine.specs.Rows.{leaf_rows}

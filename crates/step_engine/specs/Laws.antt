@@ -1,5 +1,5 @@
 -- What holds of every script.
-use Rattle.std.specs.Prelude.{◌≡◌, ℕ, ◌<◌, ◌≤◌, ◌↔◌, pos, true, List}
+use Rattle.std.specs.Prelude.{◌≡◌, ℕ, ◌<◌, ◌≤◌, ◌↔◌, true, List}
 use Rattle.part_bounds.specs.Accepts.{accepts}
 use Rattle.step_engine.specs.Script.{Script, IsScript}
 use Rattle.step_engine.specs.Setup.{Partition, Setup, IsWellFormed, bound_of, row_of}
@@ -13,6 +13,6 @@ AtMostOneScript = (bytes : List ℕ) (s t : Script) → IsScript bytes s → IsS
 abbrev pub AcceptsFromTo : Type 0
 AcceptsFromTo = (p : Partition) (n : ℕ) → (accepts (row_of n) (bound_of p) ≡ true) ↔ ((p.from ≤ n) × (n < p.to))
 
--- each stored row lies in the one leaf that accepts it
+-- each stored row lies in the one leaf that accepts it, and routing loses and doubles none
 abbrev pub EachRowInOneLeaf : Type 0
 EachRowInOneLeaf = (s : Setup) → IsWellFormed s → EachInOneLeaf s

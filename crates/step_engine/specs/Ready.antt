@@ -1,5 +1,5 @@
 -- A script that was read, with its table made.
-use Rattle.std.specs.Prelude.{◌≡◌, ℕ, ◌<◌, ◌^◌, List, [], ◌∷◌, ◌++◌, filter}
+use Rattle.std.specs.Prelude.{◌≡◌, ℕ, List, [], ◌∷◌, ◌++◌, filter}
 use Rattle.std.specs.List.{flat_map}
 use Rattle.pg_values.specs.declared.value.Kind.TheVariants.{Int4 as KInt4}
 use Rattle.pg_values.specs.declared.value.Value.{Value}

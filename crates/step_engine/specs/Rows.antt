@@ -1,6 +1,7 @@
 -- Where the rows lie, and what a SELECT answers (5.11.2 Declarative Partitioning; Part VI, SELECT).
-use Rattle.std.specs.Prelude.{◌≡◌, ℕ, ◌<◌, ℤ, pos, Bool, true, false, List, [], ◌∷◌, length, map, filter, slice_index_or}
+use Rattle.std.specs.Prelude.{◌≡◌, ℕ, ◌<◌, pos, Bool, true, false, List, [], ◌∷◌, length, map, filter, slice_index_or}
 use Rattle.std.specs.List.{flat_map, Contains}
+use Rattle.std.specs.List.Sorted.{IsPermutation}
 use Rattle.std.specs.Ordering.{is_eq}
 use Rattle.pg_values.specs.declared.value.Value.{Value}
 use Rattle.pg_values.specs.declared.value.Value.TheVariants.{Int4}
@@ -43,3 +44,5 @@ pub record LiesIn (s : Setup) (leaf : ℕ) (row : List Value) : Type 0 where
 pub record EachInOneLeaf (s : Setup) : Type 0 where
   pub lies : (leaf : ℕ) (row : List Value) → leaf < length (stored s) → Contains (slice_index_or (stored s) leaf []) row → LiesIn s leaf row
   pub kept : (row : List Value) → Contains (rows s) row → (leaf : ℕ) × (leaf < length (stored s)) × Contains (slice_index_or (stored s) leaf []) row
+  -- the leaves together hold each row of the INSERT as often as it was inserted
+  pub whole : IsPermutation (rows s) (all_rows s)

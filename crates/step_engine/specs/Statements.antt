@@ -1,5 +1,5 @@
 -- The statements of a script of the first form.
-use Rattle.std.specs.Prelude.{◌≡◌, ℕ, List, [], ◌∷◌, ◌++◌, map}
+use Rattle.std.specs.Prelude.{ℕ, List, [], ◌∷◌, ◌++◌, map}
 use Rattle.sql_syntax.specs.declared.statement.Statement.{Statement}
 use Rattle.sql_syntax.specs.declared.statement.Statement.TheVariants.{CreateTable, CreatePartition, Insert, Select}
 use Rattle.step_engine.specs.Setup.{Partition, Setup}

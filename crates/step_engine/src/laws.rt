@@ -5,7 +5,8 @@ pub fn a_bound_accepts_from_to()
     ensures { AcceptsFromTo }
 {}
 
-/// Each stored row lies in the one leaf whose bound accepts it, and each inserted row is stored.
+/// Each stored row lies in the one leaf whose bound accepts it, each inserted row is stored, and
+/// the leaves together hold each row as often as it was inserted.
 pub fn each_row_in_one_leaf()
     ensures { EachRowInOneLeaf }
 {}

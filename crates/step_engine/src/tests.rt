@@ -228,7 +228,8 @@ fn each_fault_ends_the_call_with_a_prefix(rt: HostRuntime) {
             "read {k}"
         );
     }
-    for k in 0u64..20 {
+    for k in 0..PRINTED.len() as u64 {
+        let taken = &PRINTED.as_bytes()[..k as usize];
         let failed = call(
             alloc,
             script,
@@ -239,8 +240,7 @@ fn each_fault_ends_the_call_with_a_prefix(rt: HostRuntime) {
         )
         .expect(&rt, "memory");
         assert!(rt;
-            failed.ended == Ended::WriteFault
-                && failed.out.bytes() == &PRINTED.as_bytes()[..k as usize],
+            failed.ended == Ended::WriteFault && failed.out.bytes() == taken,
             "write {k}"
         );
         let failed = call(
@@ -253,21 +253,27 @@ fn each_fault_ends_the_call_with_a_prefix(rt: HostRuntime) {
         )
         .expect(&rt, "memory");
         assert!(rt;
-            failed.ended == Ended::WriteFault
-                && failed.out.bytes() == &PRINTED.as_bytes()[..k as usize],
+            failed.ended == Ended::WriteFault && failed.out.bytes() == taken,
             "write {k}"
         );
     }
-    let failed = call(
-        alloc,
-        b"",
-        &Around {
-            err_fails: &[3],
-            ..no_fault(1)
-        },
-    )
-    .expect(&rt, "memory");
-    assert!(rt; failed.is(Ended::WriteFault, "", "scr"));
+    for k in 0..REFUSED.len() as u64 {
+        let failed = call(
+            alloc,
+            b"",
+            &Around {
+                err_fails: &[k],
+                ..no_fault(1)
+            },
+        )
+        .expect(&rt, "memory");
+        assert!(rt;
+            failed.ended == Ended::WriteFault
+                && failed.out.bytes().is_empty()
+                && failed.err.bytes() == &REFUSED.as_bytes()[..k as usize],
+            "line {k}"
+        );
+    }
     let failed = call(
         alloc,
         script,

@@ -1,7 +1,5 @@
-use Rattle.std.proofs.Common.{◌≡◌, ◌++◌, [], ◌∷◌, map, sym, ap, ◌∙◌, subst, rules, length, arith, ◌<◌, None, Some, pos, refl, get_or, set}
-use Rattle.pg_values.specs.declared.value.Value.TheVariants.{Int4}
-use Rattle.step_engine.specs.Setup.{row_of, CanInsert}
-use Rattle.step_engine.specs.Rows.{leaf_rows}
+use Rattle.std.proofs.Common.{◌≡◌, sym, ap, ◌∙◌, subst, arith, None, Some, refl}
+use Rattle.step_engine.specs.Setup.{row_of}
 use Rattle.std.specs.List.{position}
 use Rattle.part_bounds.specs.Accepts.{accepts}
 use Rattle.part_bounds.proofs.OverlapLaws.{no_common}

@@ -1,9 +1,7 @@
-use Rattle.std.proofs.Common.{◌≡◌, ◌++◌, [], ◌∷◌, ℕ, List, map, take, sym, ap, ◌∙◌, subst, rules, length, arith, get_or, replicate, true, cond}
+use Rattle.std.proofs.Common.{◌≡◌, [], map, take, ap, ◌∙◌, subst, rules, replicate, true}
 use Rattle.std.proofs.lemmas.List.{take_all}
 use Rattle.std.specs.List.{All}
-use Rattle.pg_values.specs.declared.value.Value.{Value}
 use Rattle.step_engine.specs.Setup.{row_of, CanInsert}
-use Rattle.step_engine.specs.Rows.{leaf_rows}
 use Rattle.step_engine.proofs.LeafRows.{leaf_rows-none, rows_more, inserted_more}
 use Rattle.step_engine.proofs.leaves.insert_rows.Goals as goal
 

@@ -1,7 +1,6 @@
-use Rattle.std.proofs.Common.{◌≡◌, true, false, rules, sym, ap, ◌∙◌, subst, pos, is_some}
+use Rattle.std.proofs.Common.{◌≡◌, false, rules, sym, ◌∙◌, subst}
 use Rattle.std.specs.List.{list_any}
 use Rattle.part_bounds.specs.Bounds.{overlaps}
-use Rattle.step_engine.specs.Setup.{Partition, bound_of}
 use Rattle.step_engine.proofs.LeafRows.{position-none}
 use Rattle.step_engine.proofs.Creations.{overlapping}
 use Rattle.step_engine.proofs.partitions.create_partition.Goals as goal

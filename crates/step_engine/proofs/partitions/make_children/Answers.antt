@@ -1,5 +1,5 @@
-use Rattle.std.proofs.Common.{◌≡◌, true, false, rules, sym, ap, ◌∙◌, subst, take, length, get_or}
-use Rattle.std.proofs.lemmas.List.{take_more, take_all}
+use Rattle.std.proofs.Common.{◌≡◌, true, false, rules, ap, ◌∙◌}
+use Rattle.std.proofs.lemmas.List.{take_more}
 use Rattle.part_bounds.specs.Bounds.{in_plain_order}
 use Rattle.step_engine.proofs.Creations.{created_none, created_more, creates_next}
 use Rattle.step_engine.proofs.partitions.make_children.Goals as goal

@@ -1,5 +1,4 @@
-use Rattle.std.proofs.Common.{◌≡◌, ◌∷◌, ◌++◌, [], List, rules, sym, ap, ◌∙◌, subst}
-use Rattle.sql_syntax.specs.declared.statement.Statement.{Statement}
+use Rattle.std.proofs.Common.{◌≡◌, ◌∷◌, ◌++◌, [], rules}
 use Rattle.sql_syntax.specs.declared.statement.Statement.TheVariants.{CreateTable, Insert}
 use Rattle.step_engine.proofs.Tables.{not_inserted, is_made}
 use Rattle.step_engine.proofs.table.make_table.Goals as goal

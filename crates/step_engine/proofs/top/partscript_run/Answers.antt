@@ -1,5 +1,5 @@
-use Rattle.std.proofs.Common.{◌≡◌, refl, subst, sym}
-use Rattle.step_engine.specs.Script.{Script, IsScript}
+use Rattle.std.proofs.Common.{refl, subst, sym}
+use Rattle.step_engine.specs.Script.{IsScript}
 use Rattle.step_engine.proofs.Ends.{all_was_read, past_limit, runs}
 use Rattle.step_engine.proofs.top.partscript_run.Goals as goal
 

@@ -1,4 +1,4 @@
-use Rattle.std.proofs.Common.{◌≡◌, inl, rules, subst}
+use Rattle.std.proofs.Common.{inl, rules, subst}
 use Rattle.std.specs.Io.KnownBytes.{Appends}
 use Rattle.step_engine.specs.Input.{AppendsPrefix}
 use Rattle.step_engine.proofs.Scripts.{printed_is}
