@@ -6,8 +6,6 @@ ghost use Rattle.part_bounds.specs.OneKind.{IsBoundOf, IsKeyOf};
 ghost use Rattle.part_bounds.specs.Bounds as bounds_spec;
 ghost use Rattle.part_bounds.specs.Bounds.{is_filled};
 
-
-
 use crate::moduli::moduli_suit;
 use crate::point::cmp_points;
 use crate::{
@@ -80,11 +78,7 @@ fn point(alloc: Global, values: &[Option<i32>]) -> Result<Point, NoMemory>
 
 // FROM (from) TO (to), or nothing where it is empty.
 #[tactic(auto, using(crate::proofs::OneKindLaws::integer_bounds))]
-fn range(
-    alloc: Global,
-    from: &[Option<i32>],
-    to: &[Option<i32>],
-) -> Result<Option<Bound>, NoMemory>
+fn range(alloc: Global, from: &[Option<i32>], to: &[Option<i32>]) -> Result<Option<Bound>, NoMemory>
     requires { length from.now ≡ length to.now }
     ensures { IfOk result (λ made. IfSome made (λ b. IsBoundOf IsInteger (length from.now) b)) }
 {
@@ -138,11 +132,7 @@ fn suits(set: &BoundSet<IntKey>, b: &Bound) -> bool
 
 // Adds the bound where it can stand beside the others and overlaps none; tells the first overlap.
 #[tactic(auto, using(crate::proofs::OneKindLaws::integer_bounds))]
-fn add(
-    set: &mut BoundSet<IntKey>,
-    columns: usize,
-    b: Bound,
-) -> Result<Option<usize>, NoMemory>
+fn add(set: &mut BoundSet<IntKey>, columns: usize, b: Bound) -> Result<Option<usize>, NoMemory>
     requires set { All (IsBoundOf IsInteger columns) set.old }
     requires bound { IsBoundOf IsInteger columns b }
     ensures { IfOk result (λ found. All (IsBoundOf IsInteger columns) set.new) }
@@ -257,4 +247,230 @@ fn each_row_has_its_partition(rt: HostRuntime) {
         let found = child_of(alloc, &set, &[key]).expect(&rt, "memory");
         assert!(rt; found == Some(child));
     }
+}
+
+// The modulus that 6 does not suit, and the sibling that 2 of 4 overlaps.
+#[tactic(auto, using(crate::proofs::OneKindLaws::integer_bounds))]
+fn refused_moduli(alloc: Global) -> Result<(Option<u32>, Option<usize>), NoMemory> {
+    let mut set = remainders(alloc)?;
+    let six = Bound::Hash {
+        modulus: 6,
+        remainder: 5,
+    };
+    let fault = modulus_fault(&set, &six);
+    let four = Bound::Hash {
+        modulus: 4,
+        remainder: 2,
+    };
+    Ok((fault, add(&mut set, 1, four)?))
+}
+
+// Whether a range lies inside a wider one, a wider one inside it, and it inside the default.
+#[tactic(auto, using(crate::proofs::OneKindLaws::integer_bounds))]
+fn insides(alloc: Global) -> Result<Option<(bool, bool, bool)>, NoMemory> {
+    let Some(inner) = range_bound(alloc, Value::Int4(2), Value::Int4(4))? else {
+        return Ok(None);
+    };
+    let Some(outer) = range_bound(alloc, Value::Int4(1), Value::Int4(4))? else {
+        return Ok(None);
+    };
+    let copy = copy_bound(alloc, &inner)?;
+    let default = Bound::Default;
+    Ok(Some((
+        within(&inner, &outer),
+        within(&outer, &copy),
+        within(&inner, &default),
+    )))
+}
+
+#[test]
+fn a_bound_is_told_by_its_definition(rt: HostRuntime) {
+    let alloc = rt.alloc();
+    let set = remainders(alloc).expect(&rt, "memory");
+    let null = child_of(alloc, &set, &[None]).expect(&rt, "memory");
+    assert!(rt; len(&set) == 3 && null == Some(0));
+    let (fault, overlap) = refused_moduli(alloc).expect(&rt, "memory");
+    assert!(rt; fault == Some(4) && overlap == Some(0));
+    let empty = range_bound(alloc, Value::Int4(5), Value::Int4(5)).expect(&rt, "memory");
+    assert!(rt; empty.is_none());
+    let inside = insides(alloc).expect(&rt, "memory");
+    assert!(rt; inside == Some((true, false, false)));
+    let mut row = Row::new(alloc);
+    row.push(Value::Null).expect(&rt, "memory");
+    row.push(Value::Int4(7)).expect(&rt, "memory");
+    let null = RowKey {
+        row: &row,
+        columns: &[0],
+    };
+    let seven = RowKey {
+        row: &row,
+        columns: &[1, 0],
+    };
+    assert!(rt; row_hash(&null) == 0 && row_hash(&seven) != 0);
+}
+
+// ---- bounds that a generator makes, beside a plain program
+
+// The first number of a point, where it is an integer.
+fn first_number(point: &Point) -> i32 {
+    if point.as_slice().is_empty() {
+        return 0;
+    }
+    match &point.as_slice()[0] {
+        Edge::At(Value::Int4(n)) => *n,
+        _ => 0,
+    }
+}
+
+fn is_number(value: &Value, key: Option<i32>) -> bool {
+    match (value, key) {
+        (Value::Null, None) => true,
+        (Value::Int4(n), Some(key)) => *n == key,
+        _ => false,
+    }
+}
+
+// Whether the bound accepts the key of one integer column, by itself.
+fn plain_accepts(b: &Bound, key: Option<i32>, hash: u64) -> bool {
+    match b {
+        Bound::Range { lower, upper } => match key {
+            None => false,
+            Some(n) => first_number(lower) <= n && n < first_number(upper),
+        },
+        Bound::List { values } => values.as_slice().iter().any(|v| is_number(v, key)),
+        Bound::Hash { modulus, remainder } => {
+            *modulus != 0 && hash % *modulus as u64 == *remainder as u64
+        }
+        Bound::Default => false,
+    }
+}
+
+fn plain_child(set: &BoundSet<IntKey>, key: Option<i32>, hash: u64) -> Option<usize> {
+    for i in 0..len(set) {
+        if plain_accepts(bound(set, i), key, hash) {
+            return Some(i);
+        }
+    }
+    for i in 0..len(set) {
+        if matches!(bound(set, i), Bound::Default) {
+            return Some(i);
+        }
+    }
+    None
+}
+
+// Whether the two accept a key in common, tried key by key, or are both the default.
+fn plain_overlap(a: &Bound, b: &Bound) -> bool {
+    for n in 0..40u32 {
+        let key = Some(n as i32);
+        if plain_accepts(a, key, n as u64) && plain_accepts(b, key, n as u64) {
+            return true;
+        }
+    }
+    plain_accepts(a, None, 0) && plain_accepts(b, None, 0)
+        || matches!(a, Bound::Default) && matches!(b, Bound::Default)
+}
+
+fn first_overlap(set: &BoundSet<IntKey>, b: &Bound) -> Option<usize> {
+    for i in 0..len(set) {
+        if plain_overlap(bound(set, i), b) {
+            return Some(i);
+        }
+    }
+    None
+}
+
+// A bound of the strategy, by a number.
+fn generated(alloc: Global, strategy: u32, n: u32) -> Result<Option<Bound>, NoMemory>
+    ensures { IfOk result (λ made. IfSome made (λ b. IsBoundOf IsInteger 1 b)) }
+{
+    if n % 19 == 0 {
+        return Ok(Some(Bound::Default));
+    }
+    let a = (n >> 8) % 32;
+    let more = (n >> 16) % 5;
+    match strategy {
+        0 => range(alloc, &[Some(a as i32)], &[Some((a + more) as i32)]),
+        1 => {
+            let second = if more == 0 {
+                None
+            } else {
+                Some((a * 7 % 32) as i32)
+            };
+            Ok(Some(list(alloc, &[Some(a as i32), second])?))
+        }
+        _ => {
+            let modulus = [1, 2, 4, 8, 3][more as usize];
+            Ok(Some(Bound::Hash {
+                modulus,
+                remainder: a % modulus,
+            }))
+        }
+    }
+}
+
+// Tries the bound, adds it where it overlaps none, and tells whether the plain program agrees.
+#[tactic(auto, using(crate::proofs::OneKindLaws::integer_bounds))]
+fn try_bound(set: &mut BoundSet<IntKey>, b: Bound) -> Result<bool, NoMemory>
+    requires set { All (IsBoundOf IsInteger 1) set.old }
+    requires bound { IsBoundOf IsInteger 1 b }
+    ensures { IfOk result (λ agreed. All (IsBoundOf IsInteger 1) set.new) }
+{
+    if !suits(set, &b) {
+        return Ok(true);
+    }
+    let plain = first_overlap(set, &b);
+    let found = overlap_uncounted(set, &b);
+    if found.is_none() {
+        add_bound(set, b)?;
+    }
+    Ok(found == plain)
+}
+
+#[tactic(auto, using(crate::proofs::OneKindLaws::integer_bounds))]
+fn try_key(alloc: Global, set: &BoundSet<IntKey>, n: Option<i32>) -> Result<bool, NoMemory>
+    requires { All (IsBoundOf IsInteger 1) set.now }
+{
+    let row = integers(alloc, &[n])?;
+    let key = WholeRow { row: &row };
+    let found = find_child_uncounted(set, &key);
+    Ok(found == plain_child(set, n, row_hash(&key)))
+}
+
+// How many bounds of the strategy were tried, or `None` where the plain program does not agree.
+fn try_level(alloc: Global, strategy: u32, seed: u32) -> Result<Option<u32>, NoMemory> {
+    let mut set = make_set(alloc, Vec::new(alloc), IntKey)?;
+    let mut n = seed;
+    let mut tried = 0u32;
+    for _ in 0..40 {
+        n = n.wrapping_mul(1_664_525).wrapping_add(1_013_904_223);
+        if let Some(b) = generated(alloc, strategy, n)? {
+            if !try_bound(&mut set, b)? {
+                return Ok(None);
+            }
+            tried = tried.wrapping_add(1);
+        }
+    }
+    if !try_key(alloc, &set, None)? {
+        return Ok(None);
+    }
+    for key in -1..40 {
+        if !try_key(alloc, &set, Some(key))? {
+            return Ok(None);
+        }
+    }
+    Ok(Some(tried))
+}
+
+#[test]
+fn a_plain_program_agrees(rt: HostRuntime) {
+    let alloc = rt.alloc();
+    let mut tried = 0u32;
+    for seed in 0..4u32 {
+        for strategy in 0..3u32 {
+            let made = try_level(alloc, strategy, seed).expect(&rt, "memory");
+            tried = tried.wrapping_add(made.expect(&rt, "the plain program agrees"));
+        }
+    }
+    assert!(rt; tried > 200);
 }
