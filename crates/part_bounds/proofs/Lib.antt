@@ -1,7 +1,11 @@
 pub mod Choice
 pub mod IntBoundLaws
+pub mod ListedLaws
+pub mod OneKindLaws
 pub mod OverlapLaws
 pub mod PlainOrder
 pub mod PointOrder
+pub mod Residues
 pub mod TotalOrder
 pub mod Walk
+pub mod WithinLaws

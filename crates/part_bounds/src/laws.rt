@@ -1,13 +1,25 @@
-ghost use Rattle.part_bounds.specs.Laws.{AddedInEitherOrder, NoCommonKey, AtMostOneAccepts, PlainOrderKeeps, PlainOrderIsSorted};
+ghost use Rattle.part_bounds.specs.Laws.{AddedInEitherOrder, NoCommonKey, AtMostOneAccepts, DefaultAcceptsTheRest, OverlapIsSharedResidue, PlainOrderKeeps, PlainOrderIsSorted};
+ghost use Rattle.part_bounds.specs.Within.{WithinAccepts};
 
-/// Two bounds that do not overlap accept no key in common.
+/// Two bounds of one level that do not overlap accept no key in common.
 pub fn no_common_key()
     ensures { NoCommonKey }
 {}
 
-/// Of bounds that do not overlap at most one accepts a key.
+/// Of the bounds of a level, none of which overlap, at most one accepts a key.
 pub fn at_most_one_accepts()
     ensures { AtMostOneAccepts }
+{}
+
+/// A default accepts exactly what no sibling accepts.
+pub fn default_accepts_the_rest()
+    ensures { DefaultAcceptsTheRest }
+{}
+
+/// Of moduli of which one is a factor of the other, remainders overlap exactly where some hash
+/// leaves both.
+pub fn overlap_is_shared_residue()
+    ensures { OverlapIsSharedResidue }
 {}
 
 /// Plain order keeps the bounds that are given.
@@ -15,13 +27,18 @@ pub fn plain_order_keeps()
     ensures { PlainOrderKeeps }
 {}
 
-/// Plain order is by lower point.
+/// In plain order no bound comes after a later one.
 pub fn plain_order_is_sorted()
     ensures { PlainOrderIsSorted }
 {}
 
-/// Of two bounds either can be added first, so a set does not depend on the order in which its
+/// Of two bounds of one level either can be added first, so a set does not depend on the order in which its
 /// bounds were added.
 pub fn added_in_either_order()
     ensures { AddedInEitherOrder }
+{}
+
+/// What a bound inside another accepts the other accepts.
+pub fn within_accepts()
+    ensures { WithinAccepts }
 {}

@@ -4,28 +4,37 @@
 //! A RANGE bound `FROM (lower) TO (upper)` contains the points from its lower point on and below
 //! its upper point. For n key columns a point is a list of n + 1 edges, each MINVALUE, a value or
 //! MAXVALUE, compared edge by edge; the points of a bound and the key of a row are filled up with
-//! MINVALUE. A key with a null is accepted by no range.
+//! MINVALUE. A key with a null is accepted by no range. A LIST bound accepts the values that it
+//! lists, NULL among them; a HASH bound the keys whose hash leaves its remainder; DEFAULT what no
+//! other bound of the level accepts.
 //!
-//! `BoundSet` holds the bounds of the partitions of one table in plain order, that is by lower
-//! point, whatever order they were added in. No two of its bounds overlap, so at most one accepts
-//! a key. Contracts see the set as the list of its bounds, and `find_child` answers the place of
-//! the one that accepts. The searches count each comparison of two points in a `Steps`.
+//! `BoundSet` holds the bounds of the partitions of one table in plain order, whatever order they
+//! were added in: ranges by lower point, lists by their least value, remainders by modulus, the
+//! default last. No two of its bounds overlap, so at most one accepts a key. Contracts see the set
+//! as the list of its bounds, and `find_child` answers the place of the one that accepts. The
+//! searches count each comparison of two points, or of a listed value, in a `Steps`.
 #![tactic(auto)]
 
 mod bound_set;
+mod inside;
 mod key;
 mod laws;
+mod listed;
+mod moduli;
 mod partition_bound;
 mod point;
 mod search;
 #[cfg(test)]
 mod tests;
 
-pub use bound_set::{BoundSet, add_bound, bound, len, make_set};
-pub use key::{Key, RowKey};
+pub use bound_set::{
+    BoundSet, add_bound, bound, default_child, len, make_set, modulus_fault, stands_in_plain_order,
+};
+pub use inside::within;
+pub use key::{Key, RowKey, row_hash};
 pub use laws::{
-    added_in_either_order, at_most_one_accepts, no_common_key, plain_order_is_sorted,
-    plain_order_keeps,
+    added_in_either_order, at_most_one_accepts, default_accepts_the_rest, no_common_key,
+    overlap_is_shared_residue, plain_order_is_sorted, plain_order_keeps, within_accepts,
 };
 pub use partition_bound::{Bound, copy_bound, range_bound};
 pub use point::{Edge, Point};

@@ -1,4 +1,4 @@
-ghost use Rattle.std.specs.Prelude.{◌≡◌, ◌+◌, ◌∷◌, [], IfOk, All, ◌<◌, slice_index_or};
+ghost use Rattle.std.specs.Prelude.{◌≡◌, ◌+◌, ◌∷◌, ◌++◌, [], OnOk, OnErr, IfOk, All, ◌<◌, slice_index_or};
 ghost use Rattle.part_bounds.specs.Points.{edge_order, point_order, point_of, EdgesFit, PointsFit, EdgeOfKind};
 
 use crate::Key;
@@ -29,6 +29,30 @@ impl Model for Point {
     ghost Value = { List Edge };
 
     ghost view = { λ p. p.edges.items };
+}
+
+impl Point {
+    pub fn new(alloc: Global) -> Self
+        ensures { result ≡ [] }
+    {
+        Point {
+            edges: Vec::new(alloc),
+        }
+    }
+
+    pub fn as_slice(&self) -> &[Edge]
+        ensures { result.now ≡ self.now }
+    {
+        &self.edges
+    }
+
+    pub fn push(&mut self, edge: Edge) -> Result<(), NoMemory>
+        ensures ok { OnOk result (self.new ≡ self.old ++ edge ∷ []) }
+        ensures err { OnErr result (self.new ≡ self.old) }
+    {
+        self.edges.push(edge)?;
+        Ok(())
+    }
 }
 
 // The point of one value, filled up with MIN.

@@ -1,18 +1,29 @@
-ghost use Rattle.std.specs.Prelude.{true, ◌≡◌, ◌<◌, All, length, position, IfSome, slice_get};
+ghost use Rattle.std.specs.Prelude.{true, ◌≡◌, ◌<◌, ◌%◌, ◌==◌, All, length, position, IfSome, slice_get};
 ghost use Rattle.part_bounds.specs.Bounds as bounds_spec;
 ghost use Rattle.part_bounds.specs.Bounds.{BoundOfKind, BoundsFit, greater, is_below, is_filled, lesser};
 ghost use Rattle.part_bounds.specs.Points.{EdgeOfKind, PointsFit};
 ghost use Rattle.part_bounds.specs.Accepts as accepts_spec;
-ghost use Rattle.part_bounds.specs.Accepts.{FitsBound, FitsSet};
+ghost use Rattle.part_bounds.specs.Accepts.{accepts_among, FitsBound, FitsSet};
 
-use crate::key::has_null;
-use crate::point::{cmp_key, count_key, count_points};
-use crate::{Bound, BoundSet, Key, Point};
+use crate::key::{has_null, row_hash};
+use crate::listed::{count_lists, count_share};
+use crate::moduli::agree;
+use crate::partition_bound::is_default;
+use crate::point::{count_key, count_points};
+use crate::{Bound, BoundSet, Key, Point, default_child};
 use pg_values::{KeyKind, Steps};
 use std::marker::Brand;
 use std::sync::ledger::{Blank, Ledger};
 
-// Whether the bound accepts the key, of which it is known whether it has a null. Counted.
+// Whether the hash leaves the remainder.
+fn leaves(hash: u64, modulus: u32, remainder: u32) -> bool
+    requires { 0 < modulus }
+    ensures { result ≡ (hash % modulus == remainder) }
+{
+    hash % modulus as u64 == remainder as u64
+}
+
+// Whether the bound by itself accepts the key, of which it is known whether it has a null. Counted.
 fn count_accepts<K: KeyKind, Q: Key, L: Ledger>(
     kind: &K,
     b: &Bound,
@@ -31,6 +42,9 @@ fn count_accepts<K: KeyKind, Q: Key, L: Ledger>(
                 && count_key(kind, lower, key, steps).is_le()
                 && count_key(kind, upper, key, steps).is_gt()
         }
+        Bound::List { values } => count_lists(kind, values, key.value(0), steps),
+        Bound::Hash { modulus, remainder } => leaves(row_hash(key), *modulus, *remainder),
+        Bound::Default => false,
     }
 }
 
@@ -74,29 +88,40 @@ fn overlap_each_other<K: KeyKind, L: Ledger>(
                 upper: to,
             },
         ) => { ranges_overlap(kind, lower, upper, from, to, steps) }
+        (Bound::List { values: others }, Bound::List { values }) => {
+            count_share(kind, values, others, steps)
+        }
+        (
+            Bound::Hash {
+                modulus: other,
+                remainder: rest,
+            },
+            Bound::Hash { modulus, remainder },
+        ) => agree(*modulus, *remainder, *other, *rest),
+        (Bound::Default, Bound::Default) => true,
+        _ => false,
     }
 }
 
-/// Whether the bound accepts the key.
+fn accepts_from<K: KeyKind, Q: Key, L: Ledger>(kind: &K, b: &Bound, key: &Q, blank: Blank) -> bool
+    requires fits { FitsBound (Q.values key.now) b.now }
+    requires of_kind { BoundOfKind (K.admits kind.now) b.now }
+    requires name { blank.name ≡ L.name }
+    requires parts { blank.parts ≡ L.parts }
+    requires some { 0 < blank.parts }
+    ensures { result ≡ accepts_spec.accepts (Q.values key.now) b.now }
+{
+    let mut steps = Steps::<L>::new(blank);
+    count_accepts(kind, b, key, has_null(key), &mut steps)
+}
+
+/// Whether the bound by itself accepts the key. `DEFAULT` by itself accepts none.
 pub fn bound_accepts<K: KeyKind, Q: Key>(kind: &K, b: &Bound, key: &Q) -> bool
     requires fits { FitsBound (Q.values key.now) b.now }
     requires of_kind { BoundOfKind (K.admits kind.now) b.now }
     ensures { result ≡ accepts_spec.accepts (Q.values key.now) b.now }
 {
-    match b {
-        Bound::Range { lower, upper } => {
-            !has_null(key) && cmp_key(kind, lower, key).is_le() && cmp_key(kind, upper, key).is_gt()
-        }
-    }
-}
-
-/// Whether a partition, named by its place, accepts the key.
-pub fn accepts<K: KeyKind, Q: Key>(set: &BoundSet<K>, child: usize, key: &Q) -> bool
-    requires child { child < length set.now }
-    requires fits { FitsSet set.now (Q.values key.now) }
-    ensures { IfSome (slice_get set.now child) (λ b. result ≡ accepts_spec.accepts (Q.values key.now) b) }
-{
-    bound_accepts(&set.kind, &set.bounds[child], key)
+    accepts_from::<K, Q, Brand>(kind, b, key, Blank::new(1))
 }
 
 /// The first sibling in plain order that overlaps the bound.
@@ -117,8 +142,8 @@ pub fn overlap<K: KeyKind, L: Ledger>(
     None
 }
 
-/// The partition that accepts the key.
-pub fn find_child<K: KeyKind, Q: Key, L: Ledger>(
+// The partition whose bound by itself accepts the key.
+fn own_child<K: KeyKind, Q: Key, L: Ledger>(
     set: &BoundSet<K>,
     key: &Q,
     steps: &mut Steps<L>,
@@ -135,7 +160,22 @@ pub fn find_child<K: KeyKind, Q: Key, L: Ledger>(
     None
 }
 
-// The search with a counter made for it.
+/// The partition that accepts the key: the one whose bound does, or else the default.
+pub fn find_child<K: KeyKind, Q: Key, L: Ledger>(
+    set: &BoundSet<K>,
+    key: &Q,
+    steps: &mut Steps<L>,
+) -> Option<usize>
+    requires { FitsSet set.now (Q.values key.now) }
+    ensures { result ≡ position (accepts_among set.now (Q.values key.now)) set.now }
+{
+    match own_child(set, key, steps) {
+        Some(child) => Some(child),
+        None => default_child(set),
+    }
+}
+
+// The searches with a counter made for them.
 fn find_from<K: KeyKind, Q: Key, L: Ledger>(
     set: &BoundSet<K>,
     key: &Q,
@@ -145,7 +185,7 @@ fn find_from<K: KeyKind, Q: Key, L: Ledger>(
     requires name { blank.name ≡ L.name }
     requires parts { blank.parts ≡ L.parts }
     requires some { 0 < blank.parts }
-    ensures { result ≡ position (accepts_spec.accepts (Q.values key.now)) set.now }
+    ensures { result ≡ position (accepts_among set.now (Q.values key.now)) set.now }
 {
     let mut steps = Steps::<L>::new(blank);
     find_child(set, key, &mut steps)
@@ -166,7 +206,7 @@ fn overlap_from<K: KeyKind, L: Ledger>(set: &BoundSet<K>, b: &Bound, blank: Blan
 /// The same as `find_child`, for a caller that does not count.
 pub fn find_child_uncounted<K: KeyKind, Q: Key>(set: &BoundSet<K>, key: &Q) -> Option<usize>
     requires { FitsSet set.now (Q.values key.now) }
-    ensures { result ≡ position (accepts_spec.accepts (Q.values key.now)) set.now }
+    ensures { result ≡ position (accepts_among set.now (Q.values key.now)) set.now }
 {
     find_from::<K, Q, Brand>(set, key, Blank::new(1))
 }
@@ -178,4 +218,43 @@ pub fn overlap_uncounted<K: KeyKind>(set: &BoundSet<K>, b: &Bound) -> Option<usi
     ensures { result ≡ position (bounds_spec.overlaps b.now) set.now }
 {
     overlap_from::<K, Brand>(set, b, Blank::new(1))
+}
+
+fn own_from<K: KeyKind, Q: Key, L: Ledger>(
+    set: &BoundSet<K>,
+    key: &Q,
+    blank: Blank,
+) -> Option<usize>
+    requires fits { FitsSet set.now (Q.values key.now) }
+    requires name { blank.name ≡ L.name }
+    requires parts { blank.parts ≡ L.parts }
+    requires some { 0 < blank.parts }
+    ensures { result ≡ position (accepts_spec.accepts (Q.values key.now)) set.now }
+{
+    let mut steps = Steps::<L>::new(blank);
+    own_child(set, key, &mut steps)
+}
+
+// Whether a bound of the set accepts the key.
+fn child_accepts<K: KeyKind, Q: Key>(set: &BoundSet<K>, kind: &K, b: &Bound, key: &Q) -> bool
+    requires all { FitsSet set.now (Q.values key.now) }
+    requires fits { FitsBound (Q.values key.now) b.now }
+    requires of_kind { BoundOfKind (K.admits kind.now) b.now }
+    ensures { result ≡ accepts_among set.now (Q.values key.now) b.now }
+{
+    if is_default(b) {
+        own_from::<K, Q, Brand>(set, key, Blank::new(1)).is_none()
+    } else {
+        bound_accepts(kind, b, key)
+    }
+}
+
+/// Whether a partition, named by its place, accepts the key: the default does where no sibling
+/// does.
+pub fn accepts<K: KeyKind, Q: Key>(set: &BoundSet<K>, child: usize, key: &Q) -> bool
+    requires child { child < length set.now }
+    requires fits { FitsSet set.now (Q.values key.now) }
+    ensures { IfSome (slice_get set.now child) (λ b. result ≡ accepts_among set.now (Q.values key.now) b) }
+{
+    child_accepts(set, &set.kind, &set.bounds[child], key)
 }

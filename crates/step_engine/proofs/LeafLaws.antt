@@ -8,11 +8,13 @@ use Rattle.pg_values.specs.declared.value.Value.{Value}
 use Rattle.part_bounds.specs.declared.partition_bound.Bound.{Bound}
 use Rattle.part_bounds.specs.Accepts.{accepts}
 use Rattle.part_bounds.specs.Bounds.{overlaps, with_bound, with_bounds}
+use Rattle.part_bounds.proofs.IntBoundLaws.{all_int_siblings}
 use Rattle.part_bounds.proofs.OverlapLaws.{at_most_one, overlaps_turned}
 use Rattle.part_bounds.proofs.PlainOrder.{All-with_bound, apart-with_bound}
 use Rattle.step_engine.specs.Setup.{Partition, Setup, IsWellFormed, bound_of, row_of, children}
 use Rattle.step_engine.specs.Rows.{rows, leaf_rows, stored, LiesIn}
 use Rattle.step_engine.specs.Laws.{EachRowInOneLeaf}
+use Rattle.step_engine.proofs.BoundLaws.{children_ints}
 use Rattle.step_engine.proofs.NoRowLost.{Apart, no_row_lost}
 
 -- bounds that overlap none of those before them are put at their places one after the other
@@ -66,7 +68,7 @@ some_accepts s w = All-map (λ row. list_any (accepts row) (children s) ≡ true
 
 -- of leaves that do not overlap one accepts a row, and there it is kept, once
 pub each_row : EachRowInOneLeaf
-each_row s w = record { lies = lies; kept = kept; whole = no_row_lost (rows s) (children s) (children_apart s w) (some_accepts s w) }
+each_row s w = record { lies = lies; kept = kept; whole = no_row_lost (rows s) (children s) (λ i j d lt le. (all_int_siblings (children s) (children_ints s w) i j d lt le, children_apart s w i j d lt le)) (some_accepts s w) }
   where
     same : length (stored s) ≡ length (children s)
     same = length-map (children s) (leaf_rows (rows s))
@@ -74,7 +76,7 @@ each_row s w = record { lies = lies; kept = kept; whole = no_row_lost (rows s) (
     lies : (leaf : ℕ) (row : List Value) → leaf < length (stored s) → Contains (get_or (stored s) leaf []) row → LiesIn s leaf row
     lies leaf row lt has = let below : leaf < length (children s) = omega (arith, same) in record {
       accepted = λ d. accepted_at s leaf row d below has;
-      alone = λ other d le h. at_most_one (children s) row other leaf d (children_apart s w) le below h (accepted_at s leaf row d below has);
+      alone = λ other d le h. at_most_one (children s) row other leaf d (all_int_siblings (children s) (children_ints s w)) (children_apart s w) le below h (accepted_at s leaf row d below has);
     }
 
     kept : (row : List Value) → Contains (rows s) row → (leaf : ℕ) × (leaf < length (stored s)) × Contains (get_or (stored s) leaf []) row

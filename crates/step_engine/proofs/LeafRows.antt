@@ -12,7 +12,9 @@ use Rattle.pg_values.specs.declared.value.Value.{Value}
 use Rattle.part_bounds.specs.declared.partition_bound.Bound.{Bound}
 use Rattle.part_bounds.specs.Bounds.{overlaps}
 use Rattle.part_bounds.specs.Accepts.{accepts}
+use Rattle.part_bounds.specs.IntBounds.{IsIntBound}
 use Rattle.part_bounds.specs.Laws.{NoCommonKey}
+use Rattle.part_bounds.proofs.IntBoundLaws.{int_siblings}
 use Rattle.step_engine.specs.Setup.{CanInsert, row_of}
 use Rattle.step_engine.specs.Rows.{leaf_rows}
 
@@ -49,9 +51,9 @@ leaf_rows-same : (rows : List (List Value)) (row : List Value) (b : Bound) → a
 leaf_rows-same rows row b e = filter-append (λ r. accepts r b) rows (row ∷ []) ∙ ap (λ ys. leaf_rows rows b ++ ys) (rw e refl) ∙ append-nil (leaf_rows rows b)
 
 -- the leaf at the place of the accepting bound has the row as its last, and the others are as they were
-pub leaf_rows-put : NoCommonKey → (bounds : List Bound) (rows : List (List Value)) (row : List Value) (i : ℕ) → AllPairs (λ a b. overlaps a b ≡ false) bounds → position (accepts row) bounds ≡ Some i
+pub leaf_rows-put : NoCommonKey → (bounds : List Bound) (rows : List (List Value)) (row : List Value) (i : ℕ) → AllPairs (λ a b. overlaps a b ≡ false) bounds → All IsIntBound bounds → position (accepts row) bounds ≡ Some i
     → map (leaf_rows (rows ++ row ∷ [])) bounds ≡ set (map (leaf_rows rows) bounds) i (get_or (map (leaf_rows rows) bounds) i [] ++ row ∷ [])
-leaf_rows-put law bounds rows row i apart e =
+leaf_rows-put law bounds rows row i apart ints e =
     map_but_one (leaf_rows rows) (leaf_rows (rows ++ row ∷ [])) (get_or (map (leaf_rows rows) bounds) i [] ++ row ∷ []) bounds i (found bounds e) here others
   where
     found : (bounds : List Bound) → position (accepts row) bounds ≡ Some i → i < length bounds
@@ -68,7 +70,7 @@ leaf_rows-put law bounds rows row i apart e =
         let at = position-Some (accepts row) bounds i d e in
         leaf_rows-same rows row (get_or bounds k d) (elim (cases_lt k i) [
           | inl before ↦ at.2 k before
-          | inr le ↦ law (get_or bounds i d) (get_or bounds k d) row (apart i k d (omega arith) lt) at.1
+          | inr le ↦ law (get_or bounds i d) (get_or bounds k d) row (int_siblings (get_or bounds i d) (get_or bounds k d) (ints i d (omega arith)) (ints k d lt)) (apart i k d (omega arith) lt) at.1
         ])
 
 -- a bound accepts the row of a number at the place that was found

@@ -1,15 +1,9 @@
-use Rattle.std.proofs.Common.{◌≡◌, true, sym, ◌∙◌, arith}
-use Rattle.part_bounds.specs.Accepts.{accepts}
-use Rattle.part_bounds.proofs.Choice.{position_none, position_at}
+use Rattle.std.proofs.Common.{sym, ◌∙◌}
+use Rattle.part_bounds.proofs.OverlapLaws.{own_is, default_is}
 use Rattle.part_bounds.proofs.search.find_child.Goals as goal
 
-pub returns-then-count_accepts : goal.returns-then-count_accepts
-returns-then-count_accepts g c =
-    let key = g.Q.Key.values c.args.key.now in
-    let here : accepts key c.b-item.result ≡ true = sym c.count_accepts.ensures ∙ c.if-count_accepts.true in
-    rw (← c.set.view_is, ← c.deref-b-items.ensures.value) (sym (position_at (accepts key) _ c.loop-i.i _ c.loop-i-test.true c.b-item.is here c.loop-i.invariant))
+pub returns-in-Some : goal.returns-in-Some
+returns-in-Some g c = sym (own_is (g.Q.Key.values c.args.key.now) c.args.set.now c.in-Some.child (sym c.own_child.ensures ∙ c.in-Some.is))
 
-pub returns : goal.returns
-returns g c =
-    let before = c.loop-i.invariant in
-    rw (← c.set.view_is, ← c.deref-b-items.ensures.value) (sym (position_none (accepts (g.Q.Key.values c.args.key.now)) _ (λ k d h. before k d (omega arith))))
+pub returns-in-None : goal.returns-in-None
+returns-in-None g c = c.default_child.ensures ∙ sym (default_is (g.Q.Key.values c.args.key.now) c.args.set.now (sym c.own_child.ensures ∙ c.in-None.is))

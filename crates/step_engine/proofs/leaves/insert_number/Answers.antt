@@ -22,4 +22,4 @@ pub returns-clause-rows : goal.returns-clause-rows
 returns-clause-rows c _ rows before =
     let row : c.in_ok-row.row ≡ row_of c.args.n = c.in_ok-row.ensures ∙ ap row_of c.in-Some.ensures.1 in
     let some : position (accepts (row_of c.args.n)) c.args.set.now ≡ Some c.in-Some-leaf_of.leaf = subst (λ r. position (accepts r) c.args.set.now ≡ Some c.in-Some-leaf_of.leaf) row (sym c.in-Some-leaf_of.ensures) in
-    c.in_ok-put.ensures ∙ rw (row, before) (sym (leaf_rows-put no_common c.args.set.now rows (row_of c.args.n) c.in-Some-leaf_of.leaf c.requires.apart some))
+    c.in_ok-put.ensures ∙ rw (row, before) (sym (leaf_rows-put no_common c.args.set.now rows (row_of c.args.n) c.in-Some-leaf_of.leaf c.requires.apart c.requires.ints some))
