@@ -47,7 +47,9 @@ fn integers_are_read(rt: HostRuntime) {
     let both = "0=0 -0=0 +0=0 +5=5 -5=-5 00012=12 -00012=-12 7=7 42=42 2147483647=2147483647 \
         +2147483647=2147483647 -2147483648=-2147483648 \
         0000000000000000000000000000000000000001=1 999999999=999999999 -1=-1 \
-        1000000000=1000000000";
+        1000000000=1000000000 1=1 +1=1 -00=0 +00=0 10=10 -10=-10 99=99 -99=-99 100=100 \
+        65536=65536 -65536=-65536 1234567890=1234567890 -1234567890=-1234567890 \
+        2147483646=2147483646 -2147483647=-2147483647 0012345678=12345678";
     spell(&rt, alloc, Kind::Int4, both);
     spell(&rt, alloc, Kind::Int8, both);
     let bigints =
@@ -72,7 +74,7 @@ fn integers_are_read(rt: HostRuntime) {
         0,
     );
     let bad =
-        "| |+|-|++1|--1|+-1|-+1|1 | 1|1.0|1e3|0x10|12a|a12|1_000|1,000|½|999999999999999999999999999x|NULL|-  1";
+        "| |+|-|++1|--1|+-1|-+1|1 | 1|1.0|1e3|0x10|12a|a12|1_000|1,000|½|999999999999999999999999999x|NULL|-  1|1-|1+|5-5|٣|0b1|0o7|1e|\t1|1\n|\u{a0}1";
     refuse(&rt, alloc, Kind::Int4, bad, b"22P02", 2);
     refuse(&rt, alloc, Kind::Int8, bad, b"22P02", 2);
 }
@@ -97,21 +99,36 @@ fn dates_and_truth_values_are_read(rt: HostRuntime) {
         &rt,
         alloc,
         Kind::Truth,
-        "t=1 T=1 true=1 TRUE=1 True=1 tRuE=1",
+        "t=1 T=1 true=1 TRUE=1 True=1 tRuE=1 tRue=1 trUe=1 truE=1 TRue=1 TRUe=1 tRUE=1 TrUE=1",
     );
     spell(
         &rt,
         alloc,
         Kind::Truth,
-        "f=0 F=0 false=0 FALSE=0 False=0 fAlSe=0",
+        "f=0 F=0 false=0 FALSE=0 False=0 fAlSe=0 fAlse=0 faLse=0 falSe=0 falsE=0 FAlse=0 FALSE=0",
     );
-    let no_truth = "| |y|yes|no|on|off|1|0|tr|tru|truee|fals|falsee|true | t|tf|null";
+    let no_truth =
+        "| |y|yes|no|on|off|1|0|tr|tru|truee|fals|falsee|true | t|tf|null|tt|ff|ft|f |T |Y|N|Yes|No|ON|OFF|2|-1|00|01|NULL|tru e|falſe|truefalse|t\n|\tf|'t'|t.";
     refuse(&rt, alloc, Kind::Truth, no_truth, b"22P02", 2);
-    match read_value(alloc, Kind::Text, b" a ").expect(&rt, "a value") {
-        Value::Text(text) => assert!(rt; text.as_bytes() == b" a ".as_slice()),
+    reads_back(&Value::Int8(7));
+}
+
+// A text spells itself, whatever it is.
+#[test]
+fn texts_are_read(rt: HostRuntime) {
+    let alloc = rt.alloc();
+    let texts =
+        "| | a | a|a |  |\t|\n|a\nb|a|A|ab|Ab|aB|AB|abc|0|-0|+0|007|1e3|2147483648|9223372036854775808|t|f|true|FALSE|null|NULL|2024-01-05|2024-13-01|'|''|a'b|\"|\"\"|\\|\\n|%|_|{}|{0}|(1, 2)|--|/* */|;|$1|@|ä|Ä|ß|ẞ|½|٣|é|e\u{301}|日本語|\u{feff}|\u{0}|\u{7f}|\u{a0}|😀|a\u{200d}b|zz";
+    for text in texts.split('|') {
+        match read_value(alloc, Kind::Text, text.as_bytes()).expect(&rt, "a value") {
+            Value::Text(read) => assert!(rt; read.as_bytes() == text.as_bytes()),
+            _ => assert!(rt; false),
+        }
+    }
+    match read_value(alloc, Kind::Text, b"\xff\x00").expect(&rt, "a value") {
+        Value::Text(read) => assert!(rt; read.as_bytes() == b"\xff\x00".as_slice()),
         _ => assert!(rt; false),
     }
-    reads_back(&Value::Int8(7));
 }
 
 // The number as an integer, or as a bigint.
