@@ -1,4 +1,4 @@
-// The loops of main.rt in stock Rust, with std's `parse` and `write!`, and the same hash.
+// The loops of program.rattle in stock Rust, with std's `parse` and `write!`, and the same hash.
 use std::io::Write;
 
 const M: u64 = 0x9e37_79b9_7f4a_7c15;
