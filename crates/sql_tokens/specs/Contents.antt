@@ -1,7 +1,7 @@
 -- What a token says (4.1.1 Identifiers and Key Words, 4.1.2 Constants). A place behind the text's end stands for the end.
 use Rattle.std.specs.Prelude.{ℕ, ◌-◌, false, if◌then◌else◌, List, map, take, drop}
-use Rattle.std.specs.Char.{to_ascii_lowercase}
-use Rattle.sql_tokens.specs.declared.kind.Kind.TheVariants.{QuotedName}
+use Rattle.std.specs.Char.{to_ascii_lowercase, to_ascii_uppercase}
+use Rattle.sql_tokens.specs.declared.kind.Kind.TheVariants.{Decimal, QuotedName}
 use Rattle.sql_tokens.specs.declared.token.Token.{Token}
 use Rattle.sql_tokens.specs.Numbers.{number_of_digits}
 use Rattle.sql_tokens.specs.Quotes.{inside, undoubled}
@@ -22,3 +22,7 @@ number_in text token = number_of_digits (bytes_of text token)
 -- what stands between the quotes of a string
 abbrev pub string_in : List ℕ → Token → List ℕ
 string_in text token = undoubled 39 false (inside (bytes_of text token))
+
+-- what a token is called where it is left out by name: a word in capitals, a number as it is written
+abbrev pub called : List ℕ → Token → List ℕ
+called text token = if is token.kind Decimal then bytes_of text token else map to_ascii_uppercase (bytes_of text token)

@@ -1,5 +1,5 @@
 ghost use Rattle.std.specs.Prelude.{◌≡◌, ◌-◌, length, drop, take, map, IfOk};
-ghost use Rattle.std.specs.Char.{to_ascii_lowercase};
+ghost use Rattle.std.specs.Char.{to_ascii_lowercase, to_ascii_uppercase};
 ghost use Rattle.sql_tokens.specs.Contents as contents;
 ghost use Rattle.sql_tokens.specs.Quotes.{inside};
 
@@ -62,4 +62,22 @@ pub fn string_of(alloc: Global, text: &[u8], token: Token) -> Result<PgText, NoM
     ensures { IfOk result (λ t. t ≡ contents.string_in text.now token) }
 {
     Ok(PgText::from_vec(undoubled(alloc, b'\'', inside_of(bytes_of(text, token)))?))
+}
+
+fn raised(alloc: Global, word: &[u8]) -> Result<Vec<u8>, NoMemory>
+    ensures { IfOk result (λ v. v.items ≡ map to_ascii_uppercase word.now) }
+{
+    let word: Vec<u8> = word.iter().map(|b| b.to_ascii_uppercase()).collect(alloc)?;
+    Ok(word)
+}
+
+/// What a token is called where it is left out by name: a word in capitals, a number as it is written.
+pub fn called(alloc: Global, text: &[u8], token: Token) -> Result<PgText, NoMemory>
+    ensures { IfOk result (λ t. t ≡ contents.called text.now token) }
+{
+    let bytes = bytes_of(text, token);
+    if same_kind(token.kind, Kind::Decimal) {
+        return PgText::from_bytes(alloc, bytes);
+    }
+    Ok(PgText::from_vec(raised(alloc, bytes)?))
 }

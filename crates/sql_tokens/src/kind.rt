@@ -1,27 +1,113 @@
 ghost use Rattle.std.specs.Prelude.{◌≡◌};
 ghost use Rattle.sql_tokens.specs.Words as words;
 
-/// What a token is. Words stand first, those that may be names before those that may not.
+/// What a token is. Words stand first, those that may be names before those that may not, and those
+/// of statements and clauses that are left out in one row.
 #[derive(Clone, Copy, Debug, PartialEq, Eq)]
 pub enum Kind {
+    Abort,
+    Access,
+    Alter,
+    Attach,
+    Begin,
+    Between,
     By,
+    Cascade,
+    Commit,
+    Committed,
+    Concurrently,
+    Costs,
+    Date,
+    Deallocate,
+    Delete,
+    Detach,
+    Drop,
+    End,
+    Exclusive,
+    Execute,
+    Explain,
+    Finalize,
+    First,
+    Hash,
     Insert,
     Int,
+    Isolation,
+    Last,
+    Level,
+    List,
+    Lock,
+    Maxvalue,
+    Minvalue,
+    Mode,
+    Modulus,
+    Nulls,
     Of,
+    Off,
     Partition,
+    Prepare,
     Range,
-    Values,
+    Read,
+    Regclass,
+    Remainder,
+    Repeatable,
+    Reset,
+    Restrict,
+    Rollback,
+    Row,
+    Set,
+    Share,
+    Start,
+    Summary,
+    Tableoid,
+    Timing,
+    Uncommitted,
+    Update,
+    Work,
 
+    // Left out where no name may stand.
+    Exists,
+    If,
+    Local,
+    Transaction,
+    Values,
+    /// A word of a statement or clause that is left out, which may be a name.
+    LeftName,
+
+    // Reserved, and left out.
+    Analyze,
     Create,
+    Default,
     For,
     From,
-    Into,
+    On,
+    Only,
     Select,
-    Table,
     To,
+    With,
+    /// A reserved word of a statement or clause that is left out.
+    LeftReserved,
+
+    // Reserved.
+    All,
+    And,
+    As,
+    Asc,
+    Desc,
+    False,
+    In,
+    Inner,
+    Into,
+    Is,
+    Join,
+    Limit,
+    Not,
+    Null,
+    Offset,
+    Or,
+    Order,
+    Table,
+    True,
     Where,
-    /// A reserved word that has no kind of its own.
-    Reserved,
 
     Name,
     QuotedName,
@@ -56,8 +142,14 @@ pub enum Kind {
     Fault,
 }
 
+/// The first of the words that are left out.
+pub const FIRST_LEFT_OUT: Kind = Kind::Exists;
+
 /// The first of the words that may not be names.
-pub const FIRST_RESERVED: Kind = Kind::Create;
+pub const FIRST_RESERVED: Kind = Kind::Analyze;
+
+/// The first word behind those that are left out.
+pub const FIRST_KEPT: Kind = Kind::All;
 
 pub fn same_kind(a: Kind, b: Kind) -> bool
     ensures { result ≡ words.is a b }
@@ -72,4 +164,14 @@ pub fn is_name(kind: Kind) -> bool
     (kind as u8) < (FIRST_RESERVED as u8)
         || same_kind(kind, Kind::Name)
         || same_kind(kind, Kind::QuotedName)
+}
+
+/// Whether a token of the kind belongs to what is left out by name: a word of a statement or clause
+/// that is not there, `::`, or a number with a point or an exponent. Most of them may stand elsewhere.
+pub fn is_left_out(kind: Kind) -> bool
+    ensures { result ≡ words.is_left_out kind }
+{
+    (FIRST_LEFT_OUT as u8) <= (kind as u8) && (kind as u8) < (FIRST_KEPT as u8)
+        || same_kind(kind, Kind::Decimal)
+        || same_kind(kind, Kind::TypeCast)
 }

@@ -11,7 +11,9 @@
 //! tell what a token says when it is asked for. A name without quotes is folded to lower case and
 //! may be a word, in any case of letters; one in quotes is taken as it is, and is no word.
 //!
-//! `Kind` has the words that may be names before the reserved words, which may not.
+//! `Kind` has the words that may be names before the reserved words, which may not. `is_left_out`
+//! tells which tokens are named in a refusal, because what they begin is left out; `called` is the
+//! name by which they go there.
 #![tactic(auto)]
 
 mod bytes;
@@ -27,8 +29,8 @@ mod token;
 mod words;
 mod written;
 
-pub use contents::{name_of, number_of, string_of};
-pub use kind::{Kind, is_name, same_kind};
+pub use contents::{called, name_of, number_of, string_of};
+pub use kind::{Kind, is_left_out, is_name, same_kind};
 pub use reader::read_tokens;
 pub use token::Token;
 pub use written::{names_read_back, strings_read_back};

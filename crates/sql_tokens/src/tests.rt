@@ -1,6 +1,8 @@
 //! Places and kinds here are worked by hand from the manual's rules.
 
-use crate::{Kind, Token, is_name, name_of, number_of, read_tokens, string_of};
+use crate::{
+    Kind, Token, called, is_left_out, is_name, name_of, number_of, read_tokens, string_of,
+};
 use pg_values::NoMemory;
 use std::alloc::Global;
 use std::test::Fail;
@@ -39,8 +41,8 @@ const TEXTS: [(&[u8], &[Place]); 24] = [
         b"VALUES between Null",
         &[
             (Kind::Values, 0, 6),
-            (Kind::Name, 7, 14),
-            (Kind::Reserved, 15, 19),
+            (Kind::Between, 7, 14),
+            (Kind::Null, 15, 19),
         ],
     ),
     (
@@ -160,6 +162,59 @@ fn tokens_say_what_was_meant(rt: HostRuntime) -> Result<(), Fail> {
     assert!(rt; counts(b"$12", 12));
     assert!(rt; counts(b"9223372036854775807", 9_223_372_036_854_775_807));
     assert!(rt; counts(b"99999999999999999999", 9_223_372_036_854_775_808));
+    assert!(rt; goes_by(alloc, b"Union", b"UNION")?);
+    assert!(rt; goes_by(alloc, b"1.5e3", b"1.5e3")?);
+    assert!(rt; goes_by(alloc, b"::", b"::")?);
     assert!(rt; is_name(Kind::Values) && is_name(Kind::QuotedName) && !is_name(Kind::Select));
+    Ok(())
+}
+
+/// Whether the text is one token that is left out and goes by this name.
+fn goes_by(alloc: Global, text: &[u8], want: &[u8]) -> Result<bool, NoMemory> {
+    let tokens = read_tokens(alloc, text)?;
+    match tokens.as_slice() {
+        [token] => {
+            let name = called(alloc, text, *token)?;
+            Ok(is_left_out(token.kind) && name.as_bytes() == want)
+        }
+        _ => Ok(false),
+    }
+}
+
+// Each word of SQL that is left out where no name stands; those that may be names are in lower case.
+const LEFT_OUT: &[u8] =
+    b"ANALYZE buffers call CASE CAST CHECK close cluster COLLATE comment CONSTRAINT copy \
+    CREATE CROSS declare DEFAULT DISTINCT DO EXCEPT exclude exists FETCH FOR FOREIGN FROM FULL function \
+    generated GRANT GROUP HAVING if ILIKE include index inherits INTERSECT LEFT LIKE listen local materialized \
+    merge NATURAL notify nowait ON ONLY OUTER prepared PRIMARY recursive REFERENCES release RETURNING revoke \
+    RIGHT rule savepoint SELECT serializable show SIMILAR TABLESAMPLE temp temporary TO transaction trigger \
+    truncate UNION UNIQUE unlogged USING vacuum values verbose view WINDOW WITH";
+
+// The other reserved words.
+const KEPT: &[u8] =
+    b"ALL AND AS ASC DESC FALSE IN INNER INTO IS JOIN LIMIT NOT NULL OFFSET OR ORDER TABLE TRUE WHERE";
+
+#[test]
+fn words_are_names_or_left_out(rt: HostRuntime) -> Result<(), Fail> {
+    let alloc = rt.alloc();
+    let left_out = read_tokens(alloc, LEFT_OUT)?;
+    assert_eq!(rt; left_out.len(), 80);
+    for token in &left_out {
+        let lower = match LEFT_OUT.get(token.start) {
+            Some(b) => b.is_ascii_lowercase(),
+            None => false,
+        };
+        assert!(rt;
+            is_left_out(token.kind) && is_name(token.kind) == lower,
+            "at {}",
+            token.start
+        );
+    }
+    let kept = read_tokens(alloc, KEPT)?;
+    assert_eq!(rt; kept.len(), 20);
+    assert!(rt;
+        kept.iter()
+            .all(|token| !is_left_out(token.kind) && !is_name(token.kind))
+    );
     Ok(())
 }
