@@ -1,0 +1,114 @@
+use Rattle.std.proofs.Common.{◌-◌, ◌+◌, length, arith, sym, subst, ◌∙◌}
+use Rattle.std.proofs.lemmas.Result.{err_from_is_err_and}
+use Rattle.grammar_rules.specs.Gives.{Refuses}
+use Rattle.grammar_rules.proofs.Steps.{row_more, row_done, row_end, row_fails}
+use Rattle.grammar_rules.proofs.Whole.{gives_by}
+use Rattle.sql_expressions.proofs.Deeper.{chain_gives, comparison_deeper, named_deeper, negation_deeper, operand_deeper, part_deeper, test_deeper, unary_deeper}
+use Rattle.grammar_rules.specs.Rows.{always}
+use Rattle.sql_tokens.specs.declared.kind.Kind.TheVariants as kinds
+use Rattle.sql_expressions.specs.Grammar as grammar
+use Rattle.sql_expressions.specs.Levels as levels
+use Rattle.sql_expressions.specs.Views as views
+use Rattle.sql_expressions.specs.Words as words
+use Rattle.sql_expressions.proofs.levels.+levels.Goals as goal
+
+-- one less of the depth that is left
+pub unary-returns-then-nested_comes-clause-reads : goal.unary-returns-then-nested_comes-clause-reads
+unary-returns-then-nested_comes-clause-reads t c =
+    gives_by _ c.nested.result _ _ (unary_deeper c.args.text.now c.args.budget (c.args.budget - 1) (omega arith) c.args.tokens.now (sym c.nested_comes.ensures ∙ c.if-nested_comes.true)) c.nested.ensures.reads
+
+pub named-returns-then-comes-clause-reads : goal.named-returns-then-comes-clause-reads
+named-returns-then-comes-clause-reads t c =
+    gives_by _ c.called.result _ _ (named_deeper c.args.text.now c.args.budget (c.args.budget - 1) (omega arith) c.args.tokens.now _ _ c.in_ok-kind.ensures (sym c.comes.ensures ∙ c.if-comes.true)) c.called.ensures.reads
+
+pub negation-returns-then-comes-clause-reads : goal.negation-returns-then-comes-clause-reads
+negation-returns-then-comes-clause-reads t c =
+    gives_by _ c.inverted_by.result _ _ (negation_deeper c.args.text.now c.args.budget (c.args.budget - 1) (omega arith) c.args.tokens.now (sym c.comes.ensures ∙ c.if-comes.true)) c.inverted_by.ensures.reads
+
+pub right_operand-returns-clause-reads : goal.right_operand-returns-clause-reads
+right_operand-returns-clause-reads t c =
+    gives_by _ c.operand.result _ _ (operand_deeper c.args.text.now c.args.budget (c.args.budget - 1) (omega arith) c.args.tokens.now c.args.row) c.operand.ensures.reads
+
+pub right_part-returns-clause-reads : goal.right_part-returns-clause-reads
+right_part-returns-clause-reads t c =
+    gives_by _ c.part.result _ _ (part_deeper c.args.text.now c.args.budget (c.args.budget - 1) (omega arith) c.args.tokens.now c.args.joint) c.part.ensures.reads
+
+pub test-returns-clause-reads : goal.test-returns-clause-reads
+test-returns-clause-reads t c =
+    gives_by _ c.tested.result _ _ (test_deeper c.args.text.now c.args.budget (c.args.budget - 1) (omega arith) c.args.tokens.now _ _ c.in_ok-sum.ensures.reads (sym c.test_comes.ensures ∙ c.if-not-test_comes.false) c.if-sum-budget.false) c.tested.ensures.reads
+
+pub comparison-returns-clause-reads : goal.comparison-returns-clause-reads
+comparison-returns-clause-reads t c =
+    gives_by _ c.compared.result _ _ (comparison_deeper c.args.text.now c.args.budget (c.args.budget - 1) (omega arith) c.args.tokens.now _ _ c.in_ok-left.ensures.reads (sym c.comparison_comes.ensures ∙ c.if-not-comparison_comes.false) c.if-left-budget.false) c.compared.ensures.reads
+
+-- a row, behind its first part
+pub list-returns-clause-reads : goal.list-returns-clause-reads
+list-returns-clause-reads t c =
+    chain_gives _ c.more_items.result (words.a kinds.Comma) always levels.only_part levels.add_part (grammar.rules c.args.text.now c.args.below).expression (λ _. (grammar.rules c.args.text.now c.args.below).expression)
+    c.args.tokens.now _ _ _ c.in_ok-first.ensures.reads c.in_ok-first-2.ensures.0 c.more_items.ensures.reads
+
+pub parts_of-returns-clause-reads : goal.parts_of-returns-clause-reads
+parts_of-returns-clause-reads t c =
+    chain_gives _ c.more_parts.result (views.joint_sign c.args.joint) (levels.parts_room (grammar.below c.args.budget)) levels.only_part levels.add_part
+    (views.part_of c.args.joint (grammar.rules c.args.text.now c.args.budget)) (λ _. views.part_of c.args.joint (grammar.under_depth c.args.text.now c.args.budget))
+    c.args.tokens.now _ _ _ c.in_ok-first.ensures.reads c.in_ok-first-2.ensures.0 c.more_parts.ensures.reads
+
+-- items with commas between
+pub more_items-returns-in_err-more-clause-reads : goal.more_items-returns-in_err-more-clause-reads
+more_items-returns-in_err-more-clause-reads t c =
+    let p = err_from_is_err_and c.from_residual.result c.from_residual.ensures.1 in
+    rw (p.1, p.2) (subst (Refuses c.in_err-more.field-0.0) c.loop.invariant.reads
+    (row_fails _ _ _ _ (length c.args.tokens.now - c.loop.counter) (length c.args.tokens.now - c.loop.counter - 1) _ _ _ (omega arith) c.in_err-more.ensures.reads))
+
+pub more_items-returns-then-not-more-clause-reads : goal.more_items-returns-then-not-more-clause-reads
+more_items-returns-then-not-more-clause-reads t c =
+    sym c.loop.invariant.reads ∙ row_done _ _ _ _ (length c.args.tokens.now - c.loop.counter) (length c.args.tokens.now - c.loop.counter - 1) _ _ c.in_ok-more.more _ _ (omega arith) c.if-not-more.true c.in_ok-more.ensures.reads
+
+pub more_items-loop-preserved : goal.more_items-loop-preserved
+more_items-loop-preserved t c = record {
+  reads = row_more _ _ _ _ (length c.args.tokens.now - c.loop.counter) (length c.args.tokens.now - (c.loop.counter + 1)) _ _ c.in_ok-more.more _ _ (omega arith) c.if-not-more.false c.in_ok-more.ensures.reads ∙ c.loop.invariant.reads;
+  within = c.in_ok-more.ensures.within;
+}
+
+pub more_items-returns-clause-reads : goal.more_items-returns-clause-reads
+more_items-returns-clause-reads t c = sym c.loop.invariant.reads ∙ row_end _ _ _ _ (length c.args.tokens.now - c.loop.counter) _ _ (omega arith)
+
+-- operands behind signs
+pub more_operands-returns-in_err-more-clause-reads : goal.more_operands-returns-in_err-more-clause-reads
+more_operands-returns-in_err-more-clause-reads t c =
+    let p = err_from_is_err_and c.from_residual.result c.from_residual.ensures.1 in
+    rw (p.1, p.2) (subst (Refuses c.in_err-more.field-0.0) c.loop.invariant.reads
+    (row_fails _ _ _ _ (length c.args.tokens.now - c.loop.counter) (length c.args.tokens.now - c.loop.counter - 1) _ _ _ (omega arith) c.in_err-more.ensures.reads))
+
+pub more_operands-returns-then-not-more-clause-reads : goal.more_operands-returns-then-not-more-clause-reads
+more_operands-returns-then-not-more-clause-reads t c =
+    sym c.loop.invariant.reads ∙ row_done _ _ _ _ (length c.args.tokens.now - c.loop.counter) (length c.args.tokens.now - c.loop.counter - 1) _ _ c.in_ok-more.more _ _ (omega arith) c.if-not-more.true c.in_ok-more.ensures.reads
+
+pub more_operands-loop-preserved : goal.more_operands-loop-preserved
+more_operands-loop-preserved t c = record {
+  reads = row_more _ _ _ _ (length c.args.tokens.now - c.loop.counter) (length c.args.tokens.now - (c.loop.counter + 1)) _ _ c.in_ok-more.more _ _ (omega arith) c.if-not-more.false c.in_ok-more.ensures.reads ∙ c.loop.invariant.reads;
+  within = c.in_ok-more.ensures.within;
+}
+
+pub more_operands-returns-clause-reads : goal.more_operands-returns-clause-reads
+more_operands-returns-clause-reads t c = sym c.loop.invariant.reads ∙ row_end _ _ _ _ (length c.args.tokens.now - c.loop.counter) _ _ (omega arith)
+
+-- parts behind ANDs or ORs
+pub more_parts-returns-in_err-more-clause-reads : goal.more_parts-returns-in_err-more-clause-reads
+more_parts-returns-in_err-more-clause-reads t c =
+    let p = err_from_is_err_and c.from_residual.result c.from_residual.ensures.1 in
+    rw (p.1, p.2) (subst (Refuses c.in_err-more.field-0.0) c.loop.invariant.reads
+    (row_fails _ _ _ _ (length c.args.tokens.now - c.loop.counter) (length c.args.tokens.now - c.loop.counter - 1) _ _ _ (omega arith) c.in_err-more.ensures.reads))
+
+pub more_parts-returns-then-not-more-clause-reads : goal.more_parts-returns-then-not-more-clause-reads
+more_parts-returns-then-not-more-clause-reads t c =
+    sym c.loop.invariant.reads ∙ row_done _ _ _ _ (length c.args.tokens.now - c.loop.counter) (length c.args.tokens.now - c.loop.counter - 1) _ _ c.in_ok-more.more _ _ (omega arith) c.if-not-more.true c.in_ok-more.ensures.reads
+
+pub more_parts-loop-preserved : goal.more_parts-loop-preserved
+more_parts-loop-preserved t c = record {
+  reads = row_more _ _ _ _ (length c.args.tokens.now - c.loop.counter) (length c.args.tokens.now - (c.loop.counter + 1)) _ _ c.in_ok-more.more _ _ (omega arith) c.if-not-more.false c.in_ok-more.ensures.reads ∙ c.loop.invariant.reads;
+  within = c.in_ok-more.ensures.within;
+}
+
+pub more_parts-returns-clause-reads : goal.more_parts-returns-clause-reads
+more_parts-returns-clause-reads t c = sym c.loop.invariant.reads ∙ row_end _ _ _ _ (length c.args.tokens.now - c.loop.counter) _ _ (omega arith)

@@ -1,0 +1,6 @@
+pub mod Grammar
+pub mod Levels
+pub mod Parsed
+pub mod Tree
+pub mod Views
+pub mod Words

@@ -1,0 +1,67 @@
+-- How the code sees what it reads, and its levels by number.
+use Rattle.std.specs.Prelude.{◌≡◌, ◌<◌, ◌≤◌, ◌⊎◌, ℕ, List, length, map}
+use Rattle.grammar_rules.specs.Reading.{Class, Rule}
+use Rattle.sql_tokens.specs.declared.kind.Kind.TheVariants as word
+use Rattle.sql_tokens.specs.declared.token.Token.{Token}
+use Rattle.sql_expressions.specs.Levels as level
+use Rattle.grammar_rules.specs.Reading.{as_value}
+use Rattle.sql_expressions.specs.Grammar.{any, below, comparison_at, freed, nullity_at, rules, under_depth}
+use Rattle.sql_expressions.specs.Tree.{tree}
+use Rattle.sql_expressions.specs.Words.{a}
+use Rattle.sql_expressions.specs.declared.levels.Deep.{Deep}
+use Rattle.sql_expressions.specs.declared.levels.Joint.{Joint}
+use Rattle.sql_expressions.specs.declared.levels.Joint.TheVariants as joints
+use Rattle.sql_expressions.specs.declared.levels.Parts.{Parts}
+use Rattle.sql_expressions.specs.declared.levels.Row.{Row}
+use Rattle.sql_expressions.specs.declared.levels.Row.TheVariants as rows
+
+abbrev pub deep : Deep → level.Deep
+deep x = (tree x.expr, x.depth)
+
+abbrev pub parts : Parts → level.Parts
+parts p = (map tree p.items.items, p.depth)
+
+-- parts of a row that may be one node of a depth of at most n: a single part is itself
+abbrev pub Fits : ℕ → Parts → Type 0
+Fits n p = (p.depth ≤ n) × ((p.depth < n) ⊎ (length p.items.items ≡ 1))
+
+-- rows of operators
+abbrev pub sign_of : Row → Class Token
+sign_of rows.Sum = level.is_sum
+sign_of rows.Product = level.is_product
+
+abbrev pub operand_of : Row → level.Rules → Rule Token level.Deep
+operand_of rows.Sum r = r.product
+operand_of rows.Product r = r.unary
+
+abbrev pub row_at : List ℕ → Row → ℕ → Rule Token level.Deep
+row_at text row n = level.row (sign_of row) (below n) (operand_of row (rules text n)) (operand_of row (under_depth text n))
+
+-- rows of ANDs and of ORs
+abbrev pub joint_sign : Joint → Class Token
+joint_sign joints.Or = a word.Or
+joint_sign joints.And = a word.And
+
+abbrev pub part_of : Joint → level.Rules → Rule Token level.Deep
+part_of joints.Or r = r.conjunction
+part_of joints.And r = r.negation
+
+abbrev pub parts_at : List ℕ → Joint → ℕ → Rule Token level.Parts
+parts_at text joint n = level.parts (joint_sign joint) (below n) (part_of joint (rules text n)) (part_of joint (under_depth text n))
+
+abbrev pub row_value : Joint → level.Parts → level.Deep
+row_value joints.Or = level.any_value
+row_value joints.And = level.all_value
+
+abbrev pub joint_at : List ℕ → Joint → ℕ → Rule Token level.Deep
+joint_at text joint n = as_value (row_value joint) (parts_at text joint n)
+
+-- other levels
+abbrev pub named_at : List ℕ → ℕ → Rule Token level.Deep
+named_at text n = level.named_leaf text (below n) (any text) (freed text (under_depth text n))
+
+abbrev pub comparison_of : List ℕ → ℕ → Rule Token level.Deep
+comparison_of text n = comparison_at text n (under_depth text n)
+
+abbrev pub nullity_of : List ℕ → ℕ → Rule Token level.Deep
+nullity_of text n = nullity_at text n (under_depth text n)

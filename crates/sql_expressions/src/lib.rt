@@ -1,0 +1,29 @@
+//! Reads expressions of SQL.
+//!
+//! An expression is read level by level, from the loosest (OR) to the tightest (a unary minus), with
+//! one token of look-ahead (PostgreSQL's "4.1.6 Operator Precedence"). `specs/Levels.antt` has a line
+//! for each production. What stands deeper (behind a sign, in parentheses, in a call) is read by the
+//! same levels with one less of the depth that is left, so the depth of the calls here is bounded by
+//! the limit on the depth of an expression, however long the text is. Rows of ANDs and ORs, IN lists
+//! and arguments are flat lists and are read by loops.
+//!
+//! Three answers are told apart, each at the first token that does not fit: no expression goes on
+//! with it, or what it begins is left out by name, or one goes on with it that only a limit bars.
+#![tactic(auto)]
+
+mod expr;
+mod leaf;
+mod levels;
+mod parse;
+mod refused;
+mod words;
+
+pub use expr::{Expr, ExprList};
+pub use leaf::{Leaf, Operator};
+pub use levels::expression;
+pub use parse::{no_two_trees, parse_expression, refusal, whole_expression};
+pub use refused::ParseRefused;
+pub use words::{comes, name, string, word};
+
+#[cfg(test)]
+mod tests;

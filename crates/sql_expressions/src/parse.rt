@@ -1,0 +1,129 @@
+ghost use Rattle.std.specs.Prelude.{◌≡◌, ℕ, List, IfOk};
+ghost use Rattle.grammar_rules.specs.Gives.{Gives};
+ghost use Rattle.grammar_rules.specs.Parses.{Parses};
+ghost use Rattle.grammar_rules.specs.Reading.{read_whole};
+ghost use Rattle.sql_expressions.specs.Grammar as grammar;
+ghost use Rattle.sql_expressions.specs.Parsed as parsed;
+ghost use Rattle.sql_expressions.specs.Tree.{Tree, tree};
+ghost use Rattle.sql_expressions.specs.Words as words;
+ghost use Rattle.sql_tokens.specs.declared.token.Token.{Token as OneToken};
+
+use crate::words::{MOST_NAME_BYTES, MOST_TEXT_BYTES};
+use crate::{Expr, ParseRefused, expression};
+use grammar_rules::{Refused, split};
+use pg_ids::Which;
+use pg_values::NoMemory;
+use sql_tokens::{
+    Kind, Token, called, is_left_out, is_name, name_of, read_tokens, same_kind, string_of,
+};
+use std::alloc::Global;
+
+/// The token from which on `left` tokens are left.
+fn token_at(tokens: &[Token], left: usize) -> Option<Token>
+    ensures { result ≡ parsed.token_at tokens.now left }
+{
+    tokens.get(tokens.len().saturating_sub(left)).copied()
+}
+
+/// A refusal of a token that fits in no text, or of the end.
+fn misfit(alloc: Global, text: &[u8], next: Option<Token>) -> Result<ParseRefused, NoMemory>
+    ensures { IfOk result (λ e. e ≡ parsed.misfit text.now next) }
+{
+    let Some(token) = next else {
+        return Ok(ParseRefused::Syntax { at: text.len() });
+    };
+    if !is_left_out(token.kind) {
+        return Ok(ParseRefused::Syntax { at: token.start });
+    }
+    let word = called(alloc, text, token)?;
+    Ok(ParseRefused::Left { word })
+}
+
+fn is_long_name(alloc: Global, text: &[u8], token: Token) -> Result<bool, NoMemory>
+    ensures { IfOk result (λ b. b ≡ words.is_long_name text.now token) }
+{
+    if !is_name(token.kind) {
+        return Ok(false);
+    }
+    let name = name_of(alloc, text, token)?;
+    Ok(MOST_NAME_BYTES < name.as_bytes().len())
+}
+
+fn is_long_text(alloc: Global, text: &[u8], token: Token) -> Result<bool, NoMemory>
+    ensures { IfOk result (λ b. b ≡ words.is_long_text text.now token) }
+{
+    if !same_kind(token.kind, Kind::Text) {
+        return Ok(false);
+    }
+    let string = string_of(alloc, text, token)?;
+    Ok(MOST_TEXT_BYTES < string.as_bytes().len())
+}
+
+/// The limit that a token passes.
+fn passed(alloc: Global, text: &[u8], next: Option<Token>) -> Result<Which, NoMemory>
+    ensures { IfOk result (λ w. w ≡ parsed.passed text.now next) }
+{
+    let Some(token) = next else {
+        return Ok(Which::NestedExpressions);
+    };
+    if is_long_name(alloc, text, token)? {
+        return Ok(Which::BytesOfAName);
+    }
+    if is_long_text(alloc, text, token)? {
+        return Ok(Which::BytesOfAText);
+    }
+    Ok(Which::NestedExpressions)
+}
+
+/// The refusal of a text where its last tokens do not fit.
+pub fn refusal(
+    alloc: Global,
+    text: &[u8],
+    tokens: &[Token],
+    refused: Refused,
+) -> Result<ParseRefused, NoMemory>
+    ensures { IfOk result (λ e. e ≡ parsed.refusal_of text.now tokens.now refused) }
+{
+    match refused {
+        Refused::NoMemory => Ok(ParseRefused::NoMemory),
+        Refused::Syntax(left) => misfit(alloc, text, token_at(tokens, left)),
+        Refused::Limit(left) => {
+            let which = passed(alloc, text, token_at(tokens, left))?;
+            Ok(ParseRefused::TooMany { which })
+        }
+    }
+}
+
+#[tactic(auto, unfolding(grammar_rules::specs::Reading::read_whole))]
+fn read_all(alloc: Global, text: &[u8], tokens: &[Token]) -> Result<Expr, Refused>
+    ensures { Gives tree result (read_whole (grammar.expression text.now) tokens.now) }
+{
+    let (read, rest) = expression(alloc, text, tokens)?;
+    match split(rest) {
+        None => Ok(read),
+        Some(_) => Err(Refused::Syntax(rest.len())),
+    }
+}
+
+/// Reads tokens that are one expression, up to the last. `text` is the text whose tokens they are.
+pub fn whole_expression(alloc: Global, text: &[u8], tokens: &[Token]) -> Result<Expr, Refused>
+    ensures { Parses (grammar.expression text.now) tree tokens.now result }
+{
+    read_all(alloc, text, tokens)
+}
+
+/// Reads a text that is one expression.
+pub fn parse_expression(alloc: Global, text: &[u8]) -> Result<Expr, ParseRefused>
+    ensures { parsed.ParsesText grammar.expression tree text.now result }
+{
+    let tokens = read_tokens(alloc, text)?;
+    match read_all(alloc, text, &tokens) {
+        Ok(read) => Ok(read),
+        Err(refused) => Err(refusal(alloc, text, &tokens, refused)?),
+    }
+}
+
+/// No text is that of two trees, even where the second is one without limits. The call does nothing.
+pub fn no_two_trees()
+    ensures { (text : List ℕ) (tokens : List OneToken) (a b : Tree) → (grammar.expression text).texts tokens a → (grammar.expression text).free tokens b → b ≡ a }
+{}

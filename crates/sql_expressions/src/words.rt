@@ -1,0 +1,186 @@
+ghost use Rattle.std.specs.Prelude.{◌≡◌};
+ghost use Rattle.grammar_rules.specs.Gives.{Gives};
+ghost use Rattle.grammar_rules.specs.Reading.{begins_in, read_one};
+ghost use Rattle.sql_expressions.specs.Levels as levels;
+ghost use Rattle.sql_expressions.specs.Words as words;
+
+use crate::Leaf;
+use grammar_rules::{Refused, split};
+use pg_values::PgText;
+use sql_tokens::{Kind, Token, is_name, name_of, number_of, same_kind, string_of};
+use std::alloc::Global;
+
+/// The most bytes of a name, behind its folding and between its quotes.
+pub const MOST_NAME_BYTES: usize = 63;
+
+/// The most bytes of a string, between its quotes.
+pub const MOST_TEXT_BYTES: usize = 8192;
+
+/// Whether a token of the kind comes next.
+pub fn comes(tokens: &[Token], kind: Kind) -> bool
+    ensures { result ≡ begins_in (words.a kind) tokens.now }
+{
+    match split(tokens) {
+        None => false,
+        Some((first, _)) => same_kind(first.kind, kind),
+    }
+}
+
+/// A token of the kind.
+pub fn word(tokens: &[Token], kind: Kind) -> Result<(Token, &[Token]), Refused>
+    ensures { Gives (λ x. (x.0, x.1.now)) result (read_one (words.a kind) tokens.now) }
+{
+    match split(tokens) {
+        None => Err(Refused::Syntax(0)),
+        Some((first, rest)) => {
+            if same_kind(first.kind, kind) {
+                Ok((first, rest))
+            } else {
+                Err(Refused::Syntax(tokens.len()))
+            }
+        }
+    }
+}
+
+/// Whether a name comes next.
+pub(crate) fn name_comes(tokens: &[Token]) -> bool
+    ensures { result ≡ begins_in words.a_name tokens.now }
+{
+    match split(tokens) {
+        None => false,
+        Some((first, _)) => is_name(first.kind),
+    }
+}
+
+/// A name that is not too long, with the kind of its token.
+pub fn name<'a>(
+    alloc: Global,
+    text: &[u8],
+    tokens: &'a [Token],
+) -> Result<(Kind, PgText, &'a [Token]), Refused>
+    ensures { Gives (λ x. ((x.0, x.1), x.2.now)) result ((words.name text.now).read tokens.now) }
+{
+    let Some((first, rest)) = split(tokens) else {
+        return Err(Refused::Syntax(0));
+    };
+    if !is_name(first.kind) {
+        return Err(Refused::Syntax(tokens.len()));
+    }
+    let name = name_of(alloc, text, first)?;
+    if MOST_NAME_BYTES < name.as_bytes().len() {
+        return Err(Refused::Limit(tokens.len()));
+    }
+    Ok((first.kind, name, rest))
+}
+
+/// A string that is not too long.
+pub fn string<'a>(
+    alloc: Global,
+    text: &[u8],
+    tokens: &'a [Token],
+) -> Result<(PgText, &'a [Token]), Refused>
+    ensures { Gives (λ x. (x.0, x.1.now)) result ((words.string text.now).read tokens.now) }
+{
+    let Some((first, rest)) = split(tokens) else {
+        return Err(Refused::Syntax(0));
+    };
+    if !same_kind(first.kind, Kind::Text) {
+        return Err(Refused::Syntax(tokens.len()));
+    }
+    let string = string_of(alloc, text, first)?;
+    if MOST_TEXT_BYTES < string.as_bytes().len() {
+        return Err(Refused::Limit(tokens.len()));
+    }
+    Ok((string, rest))
+}
+
+/// A value that is written out, or a parameter.
+pub(crate) fn literal<'a>(
+    alloc: Global,
+    text: &[u8],
+    tokens: &'a [Token],
+) -> Result<(Leaf, &'a [Token]), Refused>
+    ensures { Gives (λ x. (x.0, x.1.now)) result ((words.literal text.now).read tokens.now) }
+{
+    let Some((first, rest)) = split(tokens) else {
+        return Err(Refused::Syntax(0));
+    };
+    if same_kind(first.kind, Kind::Number) {
+        Ok((Leaf::Number(number_of(text, first)), rest))
+    } else if same_kind(first.kind, Kind::Text) {
+        let (string, rest) = string(alloc, text, tokens)?;
+        Ok((Leaf::Text(string), rest))
+    } else if same_kind(first.kind, Kind::Null) {
+        Ok((Leaf::Null, rest))
+    } else if same_kind(first.kind, Kind::True) {
+        Ok((Leaf::Truth(true), rest))
+    } else if same_kind(first.kind, Kind::False) {
+        Ok((Leaf::Truth(false), rest))
+    } else if same_kind(first.kind, Kind::Parameter) {
+        Ok((Leaf::Parameter(number_of(text, first)), rest))
+    } else {
+        Err(Refused::Syntax(tokens.len()))
+    }
+}
+
+/// Whether a value that is written out, or a parameter, comes next.
+pub(crate) fn literal_comes(tokens: &[Token]) -> bool
+    ensures { result ≡ begins_in words.a_literal tokens.now }
+{
+    comes(tokens, Kind::Number)
+        || comes(tokens, Kind::Text)
+        || comes(tokens, Kind::Null)
+        || comes(tokens, Kind::True)
+        || comes(tokens, Kind::False)
+        || comes(tokens, Kind::Parameter)
+}
+
+/// A cast to `regclass`.
+fn cast(tokens: &[Token]) -> Result<(Token, &[Token]), Refused>
+    ensures { Gives (λ x. (x.0, x.1.now)) result (words.past_cast.read tokens.now) }
+{
+    let (_, rest) = word(tokens, Kind::TypeCast)?;
+    word(rest, Kind::Regclass)
+}
+
+/// Behind the name of a table: a point and a column.
+fn dotted<'a>(
+    alloc: Global,
+    text: &[u8],
+    table: PgText,
+    tokens: &'a [Token],
+) -> Result<(Leaf, &'a [Token]), Refused>
+    ensures { Gives (λ x. (x.0, x.1.now)) result ((words.dotted text.now table).read tokens.now) }
+{
+    let (_, rest) = word(tokens, Kind::Dot)?;
+    let (kind, column, rest) = name(alloc, text, rest)?;
+    if same_kind(kind, Kind::Tableoid) && comes(rest, Kind::TypeCast) {
+        let (_, rest) = cast(rest)?;
+        return Ok((Leaf::TableNameOf(table), rest));
+    }
+    Ok((Leaf::ColumnOf(table, column), rest))
+}
+
+/// Behind a name that is no function.
+pub(crate) fn column<'a>(
+    alloc: Global,
+    text: &[u8],
+    kind: Kind,
+    name: PgText,
+    tokens: &'a [Token],
+) -> Result<(Leaf, &'a [Token]), Refused>
+    ensures { Gives (λ x. (x.0, x.1.now)) result ((words.column text.now (kind, name)).read tokens.now) }
+{
+    if comes(tokens, Kind::Dot) {
+        return dotted(alloc, text, name, tokens);
+    }
+    if same_kind(kind, Kind::Date) && comes(tokens, Kind::Text) {
+        let (day, rest) = string(alloc, text, tokens)?;
+        return Ok((Leaf::Date(day), rest));
+    }
+    if same_kind(kind, Kind::Tableoid) && comes(tokens, Kind::TypeCast) {
+        let (_, rest) = cast(tokens)?;
+        return Ok((Leaf::TableName, rest));
+    }
+    Ok((Leaf::Column(name), tokens))
+}
