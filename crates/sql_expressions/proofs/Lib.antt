@@ -1,7 +1,12 @@
 pub mod Deeper
 pub mod DepthLaws
 pub mod LevelLaws
+pub mod LevelLimits
+pub mod Limited
 pub mod ParseLaws
 pub mod RoomLaws
 pub mod RuleLaws
+pub mod RuleLimits
+pub mod TextWords
 pub mod WordLaws
+pub mod WordLimits

@@ -48,7 +48,7 @@ of_either true l w h = refl
 of_either false true w h = w refl
 of_either false false w h = h
 
-no_longer_law : (c long : Class Token) → Within long c → (t : Token) → (c t && not (long t)) ≡ true → Law (no_longer c long) c false none
+pub no_longer_law : (c long : Class Token) → Within long c → (t : Token) → (c t && not (long t)) ≡ true → Law (no_longer c long) c false none
 no_longer_law c long w t e =
     wide {f' = c} {c' = none} (bar long (one_texts long) (λ k x b h. subst (λ (u : Token). long u ≡ true) (sym (head_eq h.0)) h.1) (λ b h. cc h.0) (λ k h. ([], k, (refl, h)))
     (token (λ k. c k && not (long k)) t e) (λ k h. not_both (c k) (long k) h))

@@ -1,5 +1,6 @@
 pub mod Grammar
 pub mod Levels
+pub mod Limits
 pub mod Parsed
 pub mod Tree
 pub mod Views

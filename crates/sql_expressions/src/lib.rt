@@ -12,6 +12,7 @@
 #![tactic(auto)]
 
 mod expr;
+mod laws;
 mod leaf;
 mod levels;
 mod parse;
@@ -19,11 +20,12 @@ mod refused;
 mod words;
 
 pub use expr::{Expr, ExprList};
+pub use laws::{no_two_trees, the_limits};
 pub use leaf::{Leaf, Operator};
 pub use levels::expression;
-pub use parse::{no_two_trees, parse_expression, refusal, whole_expression};
+pub use parse::{parse_expression, refusal, whole_expression};
 pub use refused::ParseRefused;
-pub use words::{comes, name, string, word};
+pub use words::{MOST_NAME_BYTES, comes, name, string, word};
 
 #[cfg(test)]
 mod tests;

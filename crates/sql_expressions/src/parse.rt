@@ -1,12 +1,11 @@
-ghost use Rattle.std.specs.Prelude.{◌≡◌, ℕ, List, IfOk};
+ghost use Rattle.std.specs.Prelude.{◌≡◌, IfOk};
 ghost use Rattle.grammar_rules.specs.Gives.{Gives};
 ghost use Rattle.grammar_rules.specs.Parses.{Parses};
 ghost use Rattle.grammar_rules.specs.Reading.{read_whole};
 ghost use Rattle.sql_expressions.specs.Grammar as grammar;
 ghost use Rattle.sql_expressions.specs.Parsed as parsed;
-ghost use Rattle.sql_expressions.specs.Tree.{Tree, tree};
+ghost use Rattle.sql_expressions.specs.Tree.{tree};
 ghost use Rattle.sql_expressions.specs.Words as words;
-ghost use Rattle.sql_tokens.specs.declared.token.Token.{Token as OneToken};
 
 use crate::words::{MOST_NAME_BYTES, MOST_TEXT_BYTES};
 use crate::{Expr, ParseRefused, expression};
@@ -122,8 +121,3 @@ pub fn parse_expression(alloc: Global, text: &[u8]) -> Result<Expr, ParseRefused
         Err(refused) => Err(refusal(alloc, text, &tokens, refused)?),
     }
 }
-
-/// No text is that of two trees, even where the second is one without limits. The call does nothing.
-pub fn no_two_trees()
-    ensures { (text : List ℕ) (tokens : List OneToken) (a b : Tree) → (grammar.expression text).texts tokens a → (grammar.expression text).free tokens b → b ≡ a }
-{}

@@ -1,6 +1,9 @@
 //! Trees and places here are worked by hand from the grammar.
 
-use crate::{Expr, Leaf, Operator, ParseRefused, no_two_trees, parse_expression, whole_expression};
+use crate::{
+    Expr, Leaf, Operator, ParseRefused, no_two_trees, parse_expression, the_limits,
+    whole_expression,
+};
 use grammar_rules::Refused;
 use pg_values::NoMemory;
 use sql_tokens::read_tokens;
@@ -348,6 +351,7 @@ fn sides(line: &[u8]) -> (&[u8], &[u8]) {
 #[test]
 fn expressions_have_their_trees(rt: HostRuntime) -> Result<(), Fail> {
     no_two_trees();
+    the_limits();
     let alloc = rt.alloc();
     for line in READ.split(|b| *b == b'\n') {
         let (text, want) = sides(line);
