@@ -1,0 +1,72 @@
+use crate::{BoundText, ColumnList, LockedTableList, NameList, Partitioning};
+use pg_values::PgText;
+
+/// A statement that reads and changes no rows, as its text says it.
+#[derive(Debug, Drop)]
+pub enum Command {
+    /// BEGIN or START TRANSACTION, with its isolation level where one is written.
+    Begin(Option<Isolation>),
+    /// COMMIT or END.
+    Commit,
+    /// ROLLBACK or ABORT.
+    Rollback,
+    Set(PgText, SettingValue),
+    Reset(PgText),
+    /// A table, its columns, and how it is partitioned.
+    CreateTable(PgText, ColumnList, Option<Partitioning>),
+    /// A partition, its parent, its bound, and how it is itself partitioned.
+    CreatePartition(PgText, PgText, BoundText, Option<Partitioning>),
+    /// Tables; an absent one is passed over where the first part is true.
+    DropTables(bool, NameList),
+    /// A parent, the table that becomes its partition, and the bound.
+    Attach(PgText, PgText, BoundText),
+    /// A parent, its partition, and how it is detached.
+    Detach(PgText, PgText, Detachment),
+    Lock(LockedTableList, LockMode),
+    Deallocate(PgText),
+    DeallocateAll,
+}
+
+/// READ UNCOMMITTED is READ COMMITTED.
+#[derive(Clone, Copy, Debug, PartialEq, Eq)]
+pub enum Isolation {
+    ReadCommitted,
+    RepeatableRead,
+}
+
+/// What a setting is set to.
+#[derive(Debug, Drop)]
+pub enum SettingValue {
+    /// A name, ON, TRUE or FALSE, folded.
+    Word(PgText),
+    Text(PgText),
+    /// A whole number; 2^63 stands for every number that is no `bigint`.
+    Number(u64),
+}
+
+#[derive(Clone, Copy, Debug, PartialEq, Eq)]
+pub enum Strategy {
+    Range,
+    List,
+    Hash,
+}
+
+#[derive(Clone, Copy, Debug, PartialEq, Eq)]
+pub enum Detachment {
+    AtOnce,
+    Concurrently,
+    Finalize,
+}
+
+/// The modes of table locks, from the weakest.
+#[derive(Clone, Copy, Debug, PartialEq, Eq)]
+pub enum LockMode {
+    AccessShare,
+    RowShare,
+    RowExclusive,
+    ShareUpdateExclusive,
+    Share,
+    ShareRowExclusive,
+    Exclusive,
+    AccessExclusive,
+}

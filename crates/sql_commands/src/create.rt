@@ -1,0 +1,204 @@
+ghost use Rattle.std.specs.Prelude.{◌++◌, ◌∷◌, [], length};
+ghost use Rattle.grammar_rules.specs.Gives.{Gives};
+ghost use Rattle.grammar_rules.specs.Rows.{always, read_row, read_step};
+ghost use Rattle.sql_expressions.specs.Words.{a};
+ghost use Rattle.sql_commands.specs.Grammar as grammar;
+ghost use Rattle.sql_commands.specs.Trees.{command_tree};
+
+use crate::bound::bound;
+use crate::words::{names, plain_name};
+use crate::{ColumnDefinition, ColumnList, Command, NameList, Partitioning, Strategy};
+use grammar_rules::{Refused, split};
+use pg_values::PgText;
+use sql_expressions::{comes, word};
+use sql_tokens::{Kind, Token, same_kind};
+use std::alloc::Global;
+
+/// Whether a column may not be null.
+fn null_or_not(tokens: &[Token]) -> Result<(bool, &[Token]), Refused>
+    ensures { Gives (λ x. (x.0, x.1.now)) result (grammar.null_or_not.read tokens.now) }
+{
+    if comes(tokens, Kind::Not) {
+        let (_, rest) = word(tokens, Kind::Not)?;
+        let (_, rest) = word(rest, Kind::Null)?;
+        return Ok((true, rest));
+    }
+    if comes(tokens, Kind::Null) {
+        let (_, rest) = word(tokens, Kind::Null)?;
+        return Ok((false, rest));
+    }
+    Ok((false, tokens))
+}
+
+fn column<'a>(
+    alloc: Global,
+    text: &[u8],
+    tokens: &'a [Token],
+) -> Result<(ColumnDefinition, &'a [Token]), Refused>
+    ensures { Gives (λ x. (x.0, x.1.now)) result ((grammar.column text.now).read tokens.now) }
+{
+    let (name, rest) = plain_name(alloc, text, tokens)?;
+    let (kind, rest) = plain_name(alloc, text, rest)?;
+    let (not_null, rest) = null_or_not(rest)?;
+    let column = ColumnDefinition {
+        name,
+        kind,
+        not_null,
+    };
+    Ok((column, rest))
+}
+
+#[tactic(auto, unfolding(grammar_rules::specs::Rows::read_step))]
+fn column_step<'a>(
+    alloc: Global,
+    text: &[u8],
+    mut columns: Vec<ColumnDefinition>,
+    tokens: &'a [Token],
+) -> Result<(bool, Vec<ColumnDefinition>, &'a [Token]), Refused>
+    ensures { Gives (λ x. ((x.0, x.1.items), x.2.now)) result (read_step (a Kind.Comma) always grammar.snoc (λ _. (grammar.column text.now).read) columns.items tokens.now) }
+{
+    if !comes(tokens, Kind::Comma) {
+        return Ok((false, columns, tokens));
+    }
+    let (_, rest) = word(tokens, Kind::Comma)?;
+    let (next, rest) = column(alloc, text, rest)?;
+    columns.push(next)?;
+    Ok((true, columns, rest))
+}
+
+fn more_columns<'a>(
+    alloc: Global,
+    text: &[u8],
+    first: Vec<ColumnDefinition>,
+    tokens: &'a [Token],
+) -> Result<(Vec<ColumnDefinition>, &'a [Token]), Refused>
+    ensures { Gives (λ x. (x.0.items, x.1.now)) result (read_row (a Kind.Comma) always grammar.snoc (λ _. (grammar.column text.now).read) (length tokens.now) first.items tokens.now) }
+{
+    let mut done = first;
+    let mut rest = tokens;
+    for _ in 0..tokens.len() {
+        let (more, longer, after) = column_step(alloc, text, done, rest)?;
+        if !more {
+            return Ok((longer, after));
+        }
+        done = longer;
+        rest = after;
+    }
+    Ok((done, rest))
+}
+
+/// Columns with commas between.
+fn columns<'a>(
+    alloc: Global,
+    text: &[u8],
+    tokens: &'a [Token],
+) -> Result<(Vec<ColumnDefinition>, &'a [Token]), Refused>
+    ensures { Gives (λ x. (x.0.items, x.1.now)) result ((grammar.commas (grammar.column text.now)).read tokens.now) }
+{
+    let (first, rest) = column(alloc, text, tokens)?;
+    let mut columns = Vec::new(alloc);
+    columns.push(first)?;
+    more_columns(alloc, text, columns, rest)
+}
+
+fn strategy(tokens: &[Token]) -> Result<(Strategy, &[Token]), Refused>
+    ensures { Gives (λ x. (x.0, x.1.now)) result (grammar.strategy_rule.read tokens.now) }
+{
+    match split(tokens) {
+        None => Err(Refused::Syntax(0)),
+        Some((first, rest)) => {
+            if same_kind(first.kind, Kind::Range) {
+                Ok((Strategy::Range, rest))
+            } else if same_kind(first.kind, Kind::List) {
+                Ok((Strategy::List, rest))
+            } else if same_kind(first.kind, Kind::Hash) {
+                Ok((Strategy::Hash, rest))
+            } else {
+                Err(Refused::Syntax(tokens.len()))
+            }
+        }
+    }
+}
+
+/// PARTITION BY.
+fn by<'a>(
+    alloc: Global,
+    text: &[u8],
+    tokens: &'a [Token],
+) -> Result<(Partitioning, &'a [Token]), Refused>
+    ensures { Gives (λ x. (x.0, x.1.now)) result ((grammar.by text.now).read tokens.now) }
+{
+    let (_, rest) = word(tokens, Kind::Partition)?;
+    let (_, rest) = word(rest, Kind::By)?;
+    let (strategy, rest) = strategy(rest)?;
+    let (_, rest) = word(rest, Kind::OpenParenthesis)?;
+    let (names, rest) = names(alloc, text, rest)?;
+    let (_, rest) = word(rest, Kind::CloseParenthesis)?;
+    let columns = NameList::from_vec(names);
+    Ok((Partitioning { strategy, columns }, rest))
+}
+
+fn maybe_by<'a>(
+    alloc: Global,
+    text: &[u8],
+    tokens: &'a [Token],
+) -> Result<(Option<Partitioning>, &'a [Token]), Refused>
+    ensures { Gives (λ x. (x.0, x.1.now)) result ((grammar.maybe_by text.now).read tokens.now) }
+{
+    if !comes(tokens, Kind::Partition) {
+        return Ok((None, tokens));
+    }
+    let (by, rest) = by(alloc, text, tokens)?;
+    Ok((Some(by), rest))
+}
+
+/// A table of its own columns.
+fn own_columns<'a>(
+    alloc: Global,
+    text: &[u8],
+    name: PgText,
+    tokens: &'a [Token],
+) -> Result<(Command, &'a [Token]), Refused>
+    ensures { Gives (λ x. (command_tree x.0, x.1.now)) result ((grammar.columns text.now name).read tokens.now) }
+{
+    let (_, rest) = word(tokens, Kind::OpenParenthesis)?;
+    let (columns, rest) = columns(alloc, text, rest)?;
+    let (_, rest) = word(rest, Kind::CloseParenthesis)?;
+    let (by, rest) = maybe_by(alloc, text, rest)?;
+    let columns = ColumnList::from_vec(columns);
+    Ok((Command::CreateTable(name, columns, by), rest))
+}
+
+/// A table that is a partition from its beginning.
+fn partition_of<'a>(
+    alloc: Global,
+    text: &[u8],
+    name: PgText,
+    tokens: &'a [Token],
+) -> Result<(Command, &'a [Token]), Refused>
+    ensures { Gives (λ x. (command_tree x.0, x.1.now)) result ((grammar.partition_of text.now name).read tokens.now) }
+{
+    let (_, rest) = word(tokens, Kind::Partition)?;
+    let (_, rest) = word(rest, Kind::Of)?;
+    let (parent, rest) = plain_name(alloc, text, rest)?;
+    let (bound, rest) = bound(alloc, text, rest)?;
+    let (by, rest) = maybe_by(alloc, text, rest)?;
+    Ok((Command::CreatePartition(name, parent, bound, by), rest))
+}
+
+pub(crate) fn create<'a>(
+    alloc: Global,
+    text: &[u8],
+    tokens: &'a [Token],
+) -> Result<(Command, &'a [Token]), Refused>
+    ensures { Gives (λ x. (command_tree x.0, x.1.now)) result ((grammar.create text.now).read tokens.now) }
+{
+    let (_, rest) = word(tokens, Kind::Create)?;
+    let (_, rest) = word(rest, Kind::Table)?;
+    let (name, rest) = plain_name(alloc, text, rest)?;
+    if comes(rest, Kind::OpenParenthesis) {
+        own_columns(alloc, text, name, rest)
+    } else {
+        partition_of(alloc, text, name, rest)
+    }
+}

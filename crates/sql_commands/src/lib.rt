@@ -1,0 +1,30 @@
+//! Reads the statements of SQL that read and change no rows: transactions, settings, tables and their
+//! partitions, locks, and the end of prepared statements.
+//!
+//! `specs/Grammar.antt` has a line for each production, as PostgreSQL's "VI. SQL Commands" writes them.
+//! The next token decides how a text goes on. In three places it does not by itself, since words stand
+//! there that may be names: IF behind DROP TABLE, PREPARE behind DEALLOCATE, and MINVALUE and MAXVALUE in
+//! the bounds of a range. There a name is read first, and the token behind it decides.
+//!
+//! Names are folded, and nothing is looked up.
+#![tactic(auto)]
+
+mod bound;
+mod commands;
+mod create;
+mod drop;
+mod lists;
+mod lock;
+mod session;
+mod tables;
+mod words;
+
+pub use bound::{BoundText, EdgeText};
+pub use commands::{Command, Detachment, Isolation, LockMode, SettingValue, Strategy};
+pub use lists::{
+    ColumnDefinition, ColumnList, EdgeList, LockedTable, LockedTableList, NameList, Partitioning,
+};
+pub use tables::{command, no_two_commands, parse_command, whole_command};
+
+#[cfg(test)]
+mod tests;

@@ -1,0 +1,159 @@
+ghost use Rattle.std.specs.Prelude.{◌++◌, ◌∷◌, [], length};
+ghost use Rattle.grammar_rules.specs.Gives.{Gives};
+ghost use Rattle.grammar_rules.specs.Rows.{always, read_row, read_step};
+ghost use Rattle.sql_expressions.specs.Words.{a};
+ghost use Rattle.sql_commands.specs.Grammar as grammar;
+ghost use Rattle.sql_commands.specs.Trees.{command_tree};
+
+use crate::words::{maybe_word, one_of, plain_name};
+use crate::{Command, LockMode, LockedTable, LockedTableList};
+use grammar_rules::Refused;
+use sql_expressions::{comes, word};
+use sql_tokens::{Kind, Token, same_kind};
+use std::alloc::Global;
+
+fn locked<'a>(
+    alloc: Global,
+    text: &[u8],
+    tokens: &'a [Token],
+) -> Result<(LockedTable, &'a [Token]), Refused>
+    ensures { Gives (λ x. (x.0, x.1.now)) result ((grammar.locked text.now).read tokens.now) }
+{
+    let (only, rest) = maybe_word(tokens, Kind::Only)?;
+    let (name, rest) = plain_name(alloc, text, rest)?;
+    let only = only.is_some();
+    Ok((LockedTable { only, name }, rest))
+}
+
+#[tactic(auto, unfolding(grammar_rules::specs::Rows::read_step))]
+fn locked_step<'a>(
+    alloc: Global,
+    text: &[u8],
+    mut tables: Vec<LockedTable>,
+    tokens: &'a [Token],
+) -> Result<(bool, Vec<LockedTable>, &'a [Token]), Refused>
+    ensures { Gives (λ x. ((x.0, x.1.items), x.2.now)) result (read_step (a Kind.Comma) always grammar.snoc (λ _. (grammar.locked text.now).read) tables.items tokens.now) }
+{
+    if !comes(tokens, Kind::Comma) {
+        return Ok((false, tables, tokens));
+    }
+    let (_, rest) = word(tokens, Kind::Comma)?;
+    let (next, rest) = locked(alloc, text, rest)?;
+    tables.push(next)?;
+    Ok((true, tables, rest))
+}
+
+fn more_tables<'a>(
+    alloc: Global,
+    text: &[u8],
+    first: Vec<LockedTable>,
+    tokens: &'a [Token],
+) -> Result<(Vec<LockedTable>, &'a [Token]), Refused>
+    ensures { Gives (λ x. (x.0.items, x.1.now)) result (read_row (a Kind.Comma) always grammar.snoc (λ _. (grammar.locked text.now).read) (length tokens.now) first.items tokens.now) }
+{
+    let mut done = first;
+    let mut rest = tokens;
+    for _ in 0..tokens.len() {
+        let (more, longer, after) = locked_step(alloc, text, done, rest)?;
+        if !more {
+            return Ok((longer, after));
+        }
+        done = longer;
+        rest = after;
+    }
+    Ok((done, rest))
+}
+
+/// Tables with commas between.
+fn tables<'a>(
+    alloc: Global,
+    text: &[u8],
+    tokens: &'a [Token],
+) -> Result<(Vec<LockedTable>, &'a [Token]), Refused>
+    ensures { Gives (λ x. (x.0.items, x.1.now)) result ((grammar.commas (grammar.locked text.now)).read tokens.now) }
+{
+    let (first, rest) = locked(alloc, text, tokens)?;
+    let mut tables = Vec::new(alloc);
+    tables.push(first)?;
+    more_tables(alloc, text, tables, rest)
+}
+
+/// What may stand behind SHARE.
+fn behind_share(tokens: &[Token]) -> Result<(LockMode, &[Token]), Refused>
+    ensures { Gives (λ x. (x.0, x.1.now)) result (grammar.behind_share.read tokens.now) }
+{
+    if comes(tokens, Kind::Update) {
+        let (_, rest) = word(tokens, Kind::Update)?;
+        let (_, rest) = word(rest, Kind::Exclusive)?;
+        return Ok((LockMode::ShareUpdateExclusive, rest));
+    }
+    if comes(tokens, Kind::Row) {
+        let (_, rest) = word(tokens, Kind::Row)?;
+        let (_, rest) = word(rest, Kind::Exclusive)?;
+        return Ok((LockMode::ShareRowExclusive, rest));
+    }
+    Ok((LockMode::Share, tokens))
+}
+
+/// SHARE or EXCLUSIVE behind another word.
+fn shared_or(
+    share: LockMode,
+    exclusive: LockMode,
+    tokens: &[Token],
+) -> Result<(LockMode, &[Token]), Refused>
+    ensures { Gives (λ x. (x.0, x.1.now)) result ((grammar.share_or_exclusive share exclusive).read tokens.now) }
+{
+    let (first, rest) = one_of(tokens, Kind::Share, Kind::Exclusive)?;
+    if same_kind(first.kind, Kind::Share) {
+        Ok((share, rest))
+    } else {
+        Ok((exclusive, rest))
+    }
+}
+
+fn lock_mode(tokens: &[Token]) -> Result<(LockMode, &[Token]), Refused>
+    ensures { Gives (λ x. (x.0, x.1.now)) result (grammar.lock_mode.read tokens.now) }
+{
+    if comes(tokens, Kind::Access) {
+        let (_, rest) = word(tokens, Kind::Access)?;
+        return shared_or(LockMode::AccessShare, LockMode::AccessExclusive, rest);
+    }
+    if comes(tokens, Kind::Row) {
+        let (_, rest) = word(tokens, Kind::Row)?;
+        return shared_or(LockMode::RowShare, LockMode::RowExclusive, rest);
+    }
+    if comes(tokens, Kind::Share) {
+        let (_, rest) = word(tokens, Kind::Share)?;
+        return behind_share(rest);
+    }
+    let (_, rest) = word(tokens, Kind::Exclusive)?;
+    Ok((LockMode::Exclusive, rest))
+}
+
+/// The mode, which is the strongest where none is written.
+fn maybe_mode(tokens: &[Token]) -> Result<(LockMode, &[Token]), Refused>
+    ensures { Gives (λ x. (x.0, x.1.now)) result (grammar.maybe_mode.read tokens.now) }
+{
+    if !comes(tokens, Kind::In) {
+        return Ok((LockMode::AccessExclusive, tokens));
+    }
+    let (_, rest) = word(tokens, Kind::In)?;
+    let (mode, rest) = lock_mode(rest)?;
+    let (_, rest) = word(rest, Kind::Mode)?;
+    Ok((mode, rest))
+}
+
+pub(crate) fn lock<'a>(
+    alloc: Global,
+    text: &[u8],
+    tokens: &'a [Token],
+) -> Result<(Command, &'a [Token]), Refused>
+    ensures { Gives (λ x. (command_tree x.0, x.1.now)) result ((grammar.lock text.now).read tokens.now) }
+{
+    let (_, rest) = word(tokens, Kind::Lock)?;
+    let (_, rest) = maybe_word(rest, Kind::Table)?;
+    let (tables, rest) = tables(alloc, text, rest)?;
+    let (mode, rest) = maybe_mode(rest)?;
+    let tables = LockedTableList::from_vec(tables);
+    Ok((Command::Lock(tables, mode), rest))
+}
