@@ -1,0 +1,4 @@
+pub mod Settled
+pub mod Shows
+pub mod Undone
+pub mod Views

@@ -1,0 +1,52 @@
+-- What holds of every history.
+use Rattle.std.specs.Prelude.{◌≡◌, ◌≢◌, ℕ, ◌==◌, Bool, true, false, if◌then◌else◌, [], ◌∷◌, ◌++◌, ◌⊎◌, Some, Contains}
+use Rattle.history.specs.declared.transaction.Fate.TheVariants.{Committed}
+use Rattle.history.specs.declared.version.Version.{Version}
+use Rattle.history.specs.declared.version.End.{End}
+use Rattle.history.specs.Transactions.{fate, was_aborted, is_committed, IsSound, IsPast}
+use Rattle.history.specs.Snapshots.{TakenSnapshot}
+use Rattle.history.specs.Rows.{LeafAdded, RowBorn, RowEnded}
+use Rattle.history.specs.History.{Event, History, TxChange, SnapshotChange, RowChange, tx_events, versions, end_of, sees_end, is_seen, seen}
+use Rattle.history.specs.Legal.{IsLegal, IsLooking, MayShow}
+
+-- a version of a transaction that had committed is shown to each snapshot taken since, until that sees an
+-- end of it
+abbrev pub CommittedStaysSeen : Type 0
+CommittedStaysSeen = (earlier later : History) (s : TakenSnapshot) (v : Version) → IsSound (tx_events (later ++ earlier)) → IsPast (tx_events earlier) s.past → IsPast s.past (tx_events (later ++ earlier))
+    → Contains (versions earlier) v → fate (tx_events earlier) v.by.number ≡ Committed
+    → Contains (seen (later ++ earlier) v.leaf.number s) v ⊎ (sees_end (tx_events (later ++ earlier)) s (end_of (later ++ earlier) v.id.number) ≡ true)
+
+-- two snapshots of one transaction and command before which the same was committed see the same
+abbrev pub AlikeSeeAlike : Type 0
+AlikeSeeAlike = (h : History) (leaf : ℕ) (a b : TakenSnapshot) → a.tx ≡ b.tx → a.cmd ≡ b.cmd → ((t : ℕ) → is_committed (fate a.past t) ≡ is_committed (fate b.past t)) → seen h leaf a ≡ seen h leaf b
+
+-- the event is of a row version and was made by the transaction
+abbrev pub is_row_change_by : ℕ → Event → Bool
+is_row_change_by t (TxChange e) = false
+is_row_change_by t (SnapshotChange e) = false
+is_row_change_by t (RowChange (LeafAdded l)) = false
+is_row_change_by t (RowChange (RowBorn v)) = v.by.number == t
+is_row_change_by t (RowChange (RowEnded k e)) = e.by.number == t
+
+-- the history without what the transaction did to row versions
+abbrev pub without : ℕ → History → History
+without t [] = []
+without t (e ∷ h) = if is_row_change_by t e then without t h else e ∷ without t h
+
+-- what an aborted transaction did is seen by nobody else: they see what they would without it
+abbrev pub AbortUndoes : Type 0
+AbortUndoes = (h : History) (leaf t : ℕ) (s : TakenSnapshot) → IsSound (tx_events h) → IsPast s.past (tx_events h) → was_aborted (tx_events h) t ≡ true → s.tx ≢ t → seen h leaf s ≡ seen (without t h) leaf s
+
+-- where a snapshot sees a version, the end that it got was not committed at any earlier place: the snapshots
+-- that see it all stand on one side of its end
+abbrev pub SeenBeforeItsEnd : Type 0
+SeenBeforeItsEnd = (h : History) (v : Version) (e : End) (early late : TakenSnapshot) → IsSound (tx_events h) → IsPast early.past late.past → IsPast late.past (tx_events h)
+    → end_of h v.id.number ≡ Some e → is_seen h late v ≡ true → is_committed (fate early.past e.by.number) ≡ false
+
+-- an event shows no version that could not be shown before it: only a birth enlarges what may be shown
+abbrev pub OnlyBirthsEnlarge : Type 0
+OnlyBirthsEnlarge = (e : Event) (h : History) (v : Version) → IsLegal (e ∷ h) → MayShow (e ∷ h) v → MayShow h v
+
+-- what an open snapshot, or one that is taken now, sees may be shown
+abbrev pub SeenMayShow : Type 0
+SeenMayShow = (h : History) (s : TakenSnapshot) (v : Version) → IsLegal h → IsLooking h s → is_seen h s v ≡ true → MayShow h v

@@ -1,0 +1,40 @@
+-- Which event may come after a history, and which versions may be seen from then on.
+use Rattle.std.specs.Prelude.{◌≡◌, ℕ, nat_lt, true, false, [], ◌∷◌, ◌⊎◌, Option, Some, None}
+use Rattle.history.specs.declared.transaction.Fate.TheVariants.{Running, Committed}
+use Rattle.history.specs.declared.version.Version.{Version}
+use Rattle.history.specs.declared.version.End.{End}
+use Rattle.history.specs.Transactions.{TxEvents, fate, was_aborted, IsSound}
+use Rattle.history.specs.Snapshots.{TakenSnapshot, SnapshotHeld, SnapshotDropped, held_by}
+use Rattle.history.specs.Rows.{LeafAdded, RowBorn, RowEnded, leaf_count}
+use Rattle.history.specs.History.{Event, History, TxChange, SnapshotChange, RowChange, tx_events, snapshot_events, row_events, next_version, end_of, stands}
+
+-- a session holds a snapshot that is taken now, or one of the same place as the one that it holds
+abbrev pub IsTimely : Option TakenSnapshot → TxEvents → TakenSnapshot → Type 0
+IsTimely None txs s = s.past ≡ txs
+IsTimely (Some old) txs s = (s.past ≡ txs) ⊎ (s.past ≡ old.past)
+
+-- the event may come after the history
+abbrev pub May : Event → History → Type 0
+May (TxChange e) h = IsSound (e ∷ tx_events h)
+May (SnapshotChange (SnapshotHeld r s)) h = IsTimely (held_by (snapshot_events h) r) (tx_events h) s
+May (SnapshotChange (SnapshotDropped r)) h = Unit {0}
+May (RowChange (LeafAdded l)) h = l ≡ leaf_count (row_events h)
+May (RowChange (RowBorn v)) h = (v.id.number ≡ next_version h) × (nat_lt v.leaf.number (leaf_count (row_events h)) ≡ true)
+May (RowChange (RowEnded k e)) h = stands h k ≡ true
+
+abbrev pub IsLegal : History → Type 0
+IsLegal [] = Unit {0}
+IsLegal (e ∷ h) = May e h × IsLegal h
+
+-- a snapshot of a transaction that runs, which some session holds or could take now
+abbrev pub IsLooking : History → TakenSnapshot → Type 0
+IsLooking h s = (fate (tx_events h) s.tx ≡ Running) × ((s.past ≡ tx_events h) ⊎ ((r : ℕ) × (held_by (snapshot_events h) r ≡ Some s)))
+
+-- the end is committed, and was so at the place of each open snapshot
+abbrev pub IsOver : History → Option End → Type 0
+IsOver h None = ⊥
+IsOver h (Some e) = (fate (tx_events h) e.by.number ≡ Committed) × ((r : ℕ) (s : TakenSnapshot) → held_by (snapshot_events h) r ≡ Some s → fate s.past e.by.number ≡ Committed)
+
+-- somebody may see the version, now or after an abort
+abbrev pub MayShow : History → Version → Type 0
+MayShow h v = (was_aborted (tx_events h) v.by.number ≡ false) × (IsOver h (end_of h v.id.number) → ⊥)

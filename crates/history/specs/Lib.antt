@@ -1,0 +1,6 @@
+pub mod History
+pub mod Laws
+pub mod Legal
+pub mod Rows
+pub mod Snapshots
+pub mod Transactions

@@ -1,0 +1,22 @@
+//! What happened in a run, as plain data for contracts, and the words that code shares with it.
+//!
+//! A history is the list of all events of a run so far, the newest first. No code keeps one: the
+//! transaction table and the row store keep what they need, and their contracts say that this
+//! stands for a history, before a call and after it. What became of a transaction (`fate`), what a
+//! snapshot sees (`sees`), which versions of a leaf it shows (`seen`) and which snapshots are open
+//! (`held_by`) are definitions over that list, in `specs/`.
+//!
+//! A snapshot's place is the history before it. Each store has its own kind of events, one
+//! constructor of `Event` for each; another kind of event changes no definition of the others.
+#![tactic(auto)]
+
+mod laws;
+mod transaction;
+mod version;
+
+pub use laws::{
+    abort_undoes, alike_see_alike, committed_stays_seen, only_births_enlarge, seen_before_its_end,
+    seen_may_show,
+};
+pub use transaction::{Fate, TxId};
+pub use version::{End, Ending, Version};
