@@ -1,0 +1,6 @@
+use Rattle.std.proofs.Common.{None}
+use Rattle.tx_table.proofs.Tables.{held_kept}
+use Rattle.tx_table.proofs.table.TxTable.drop_held.Goals as goal
+
+pub invariant_of-self : goal.invariant_of-self
+invariant_of-self c = held_kept _ c.args.session None c.self.invariant
