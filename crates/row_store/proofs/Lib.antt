@@ -1,0 +1,4 @@
+pub mod Bytes
+pub mod Changes
+pub mod Listing
+pub mod Shown

@@ -1,0 +1,14 @@
+use Rattle.std.proofs.Common.{◌≡◌, length}
+use Rattle.row_store.specs.Kept.{AreBelow}
+use Rattle.row_store.specs.Stands.{rows_left}
+use Rattle.row_store.proofs.scan.next_shown.Given as goal
+
+-- what was passed over is not shown
+abbrev pub invariant-loop-first : goal.invariant-loop-first
+invariant-loop-first l = record {
+  below : AreBelow l.rest l.versions;
+  left : rows_left l.txs l.snap l.versions l.rest ≡ rows_left l.txs l.snap l.versions l.ids;
+}
+
+abbrev pub decreases-loop-first : goal.decreases-loop-first
+decreases-loop-first l = length l.rest

@@ -1,0 +1,5 @@
+pub mod Kept
+pub mod Limits
+pub mod Refused
+pub mod Stands
+pub mod Told

@@ -1,0 +1,34 @@
+-- What the answers of the store tell.
+use Rattle.std.specs.Prelude.{List, Option, Some, None}
+use Rattle.pg_values.specs.declared.value.Value.{Value}
+use Rattle.pg_ids.specs.declared.ids.LeafId.{LeafId}
+use Rattle.pg_ids.specs.declared.ids.RowId.{RowId}
+use Rattle.history.specs.declared.version.Ending.{Ending}
+use Rattle.history.specs.declared.version.Ending.TheVariants.{Deleted, MovedTo, ReplacedBy}
+use Rattle.history.specs.History.{Outcome, Standing, EndedByRunning, EndedFor}
+use Rattle.row_store.specs.declared.newest.Newest.{Newest}
+use Rattle.row_store.specs.declared.newest.Newest.TheVariants.{Stands, EndedBy, Gone, Moved, Replaced}
+use Rattle.row_store.specs.declared.scan.SeenRow.{SeenRow}
+
+abbrev pub outcome_told : Newest → Outcome
+outcome_told (Stands row) = Standing
+outcome_told (EndedBy tx) = EndedByRunning tx.number
+outcome_told (Gone tx) = EndedFor tx.number Deleted
+outcome_told (Moved tx leaf) = EndedFor tx.number (MovedTo leaf)
+outcome_told (Replaced tx id) = EndedFor tx.number (ReplacedBy id)
+
+-- the row that is lent where the version stands
+abbrev pub row_told : Newest → Option (List Value)
+row_told (Stands row) = Some row.now
+row_told (EndedBy tx) = None
+row_told (Gone tx) = None
+row_told (Moved tx leaf) = None
+row_told (Replaced tx id) = None
+
+abbrev pub shown_row : SeenRow → RowId × List Value
+shown_row r = (r.id, r.row.now)
+
+-- how a version ends that moves to that leaf, or to none
+abbrev pub ending_of : Option LeafId → Ending
+ending_of None = Deleted
+ending_of (Some leaf) = MovedTo leaf

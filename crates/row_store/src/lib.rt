@@ -1,0 +1,36 @@
+//! The row versions of a run, as PostgreSQL's heap keeps them.
+//!
+//! A row is never changed in its place: an UPDATE ends its version and bears another, a DELETE ends
+//! it, and both stay, since older snapshots still see the ended one. `RowStore` keeps all versions
+//! in one list in order of birth, each with the last end that it was given, and for each leaf the
+//! list of its versions' numbers. An end counts while its transaction is not aborted, so an abort
+//! changes nothing here, and the version stands again.
+//!
+//! `scan` lends the rows of a leaf that a snapshot sees and writes the leaf into a `Trail`, so what a
+//! statement has read can be told. `newest` tells what became of one version.
+#![tactic(auto)]
+
+mod leaf;
+mod newest;
+mod refused;
+mod scan;
+mod store;
+mod stored;
+#[cfg(test)]
+mod tests;
+mod trail;
+
+pub use newest::Newest;
+pub use refused::{PutCause, PutRefused, TrailRefused};
+pub use scan::{Scan, SeenRow};
+pub use store::RowStore;
+pub use trail::Trail;
+
+/// How many versions a store takes.
+pub const VERSION_LIMIT: usize = 1_000_000;
+
+/// How many bytes of values a store takes: a value counts 16 bytes, and a text its length besides.
+pub const BYTES_LIMIT: u64 = 268_435_456;
+
+/// How many scans one statement makes at most.
+pub const SCAN_LIMIT: usize = 1_000_000;
