@@ -1,10 +1,15 @@
+pub mod CheckLaws
 pub mod Choice
 pub mod IntBoundLaws
+pub mod LevelLaws
 pub mod ListedLaws
+pub mod OnceLaws
 pub mod OneKindLaws
 pub mod OverlapLaws
 pub mod PlainOrder
 pub mod PointOrder
+pub mod RangeLaws
+pub mod RawLaws
 pub mod Residues
 pub mod TotalOrder
 pub mod Walk

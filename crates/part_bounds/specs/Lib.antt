@@ -1,9 +1,13 @@
 pub mod Accepts
+pub mod BoundFaults
 pub mod Bounds
+pub mod Checks
 pub mod IntBounds
 pub mod Laws
+pub mod Levels
 pub mod Listed
 pub mod Moduli
 pub mod OneKind
 pub mod Points
+pub mod RawBounds
 pub mod Within

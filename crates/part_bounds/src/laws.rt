@@ -1,4 +1,5 @@
 ghost use Rattle.part_bounds.specs.Laws.{AddedInEitherOrder, NoCommonKey, AtMostOneAccepts, DefaultAcceptsTheRest, OverlapIsSharedResidue, PlainOrderKeeps, PlainOrderIsSorted};
+ghost use Rattle.part_bounds.specs.Levels.{CheckedIsOfItsLevel, LevelBoundsFit, LevelBoundsHaveAKind};
 ghost use Rattle.part_bounds.specs.Within.{WithinAccepts};
 
 /// Two bounds of one level that do not overlap accept no key in common.
@@ -41,4 +42,19 @@ pub fn added_in_either_order()
 /// What a bound inside another accepts the other accepts.
 pub fn within_accepts()
     ensures { WithinAccepts }
+{}
+
+/// What `check_bound` gives for a level is a bound of that level.
+pub fn checked_is_of_its_level()
+    ensures { CheckedIsOfItsLevel }
+{}
+
+/// Two bounds of one level can stand side by side, unless a modulus does not suit the other.
+pub fn level_bounds_fit()
+    ensures { LevelBoundsFit }
+{}
+
+/// A set whose key kind admits every value but null can hold the bounds of any level.
+pub fn level_bounds_have_a_kind()
+    ensures { LevelBoundsHaveAKind }
 {}

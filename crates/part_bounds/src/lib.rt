@@ -15,14 +15,21 @@
 //! searches count each comparison of two points, or of a listed value, in a `Steps`.
 #![tactic(auto)]
 
+mod bound_fault;
 mod bound_set;
+mod check;
+#[cfg(test)]
+mod check_tests;
 mod inside;
 mod key;
 mod laws;
+mod level;
 mod listed;
 mod moduli;
 mod partition_bound;
 mod point;
+mod raw_bound;
+mod raw_value;
 mod search;
 #[cfg(test)]
 mod tests;
@@ -30,14 +37,18 @@ mod tests;
 pub use bound_set::{
     BoundSet, add_bound, bound, default_child, len, make_set, modulus_fault, stands_in_plain_order,
 };
+pub use check::check_bound;
 pub use inside::within;
 pub use key::{Key, RowKey, row_hash};
 pub use laws::{
-    added_in_either_order, at_most_one_accepts, default_accepts_the_rest, no_common_key,
-    overlap_is_shared_residue, plain_order_is_sorted, plain_order_keeps, within_accepts,
+    added_in_either_order, at_most_one_accepts, checked_is_of_its_level, default_accepts_the_rest,
+    level_bounds_fit, level_bounds_have_a_kind, no_common_key, overlap_is_shared_residue,
+    plain_order_is_sorted, plain_order_keeps, within_accepts,
 };
+pub use level::{KeyColumn, KeyColumns, Level, Strategy};
 pub use partition_bound::{Bound, copy_bound, range_bound};
 pub use point::{Edge, Point};
+pub use raw_bound::{RawBound, RawEdge, RawEdges, RawValue, RawValues};
 pub use search::{
     accepts, bound_accepts, find_child, find_child_uncounted, overlap, overlap_uncounted,
 };

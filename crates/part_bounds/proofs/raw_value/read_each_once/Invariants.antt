@@ -1,0 +1,14 @@
+use Rattle.std.proofs.Common.{◌≡◌, ◌++◌, drop}
+use Rattle.std.specs.List.{All}
+use Rattle.part_bounds.specs.Levels.{IsOf}
+use Rattle.part_bounds.specs.RawBounds.{values_for, faults_in, read_in, each_once}
+use Rattle.part_bounds.proofs.OnceLaws.{further}
+use Rattle.part_bounds.proofs.raw_value.read_each_once.Given as goal
+
+-- no value so far has a fault, and those that are kept stand before the further ones of the rest
+abbrev pub invariant-loop-value : goal.invariant-loop-value
+invariant-loop-value g l = record {
+  faults : faults_in (values_for l.kind (drop l.value-index l.raw)) ≡ faults_in (values_for l.kind l.raw);
+  once : l.values ++ further l.values (read_in (values_for l.kind (drop l.value-index l.raw))) ≡ each_once (read_in (values_for l.kind l.raw));
+  of_kind : All (IsOf l.kind) l.values;
+}
