@@ -1,5 +1,5 @@
 -- The first fault of several rules.
-use Rattle.std.proofs.Common.{◌≡◌, ◌≤◌, ◌<◌, ℕ, suc, ◌+◌, ◌-◌, Bool, true, false, List, [], ◌∷◌, ◌++◌, length, drop, get_or, Result, Ok, Err, refl, sym, ap, subst, ◌∙◌, arith, add-one}
+use Rattle.std.proofs.Common.{◌≡◌, ◌≤◌, ◌<◌, ℕ, suc, ◌+◌, Bool, true, false, List, [], ◌∷◌, ◌++◌, length, drop, get_or, Result, Ok, Err, refl, sym, ap, subst, ◌∙◌, arith}
 use Rattle.std.proofs.Math.Seq.{drop-cons}
 use Rattle.std.proofs.lemmas.List.{length-drop}
 use Rattle.pg_values.specs.declared.fault.Fault.{Fault}
@@ -7,7 +7,7 @@ use Rattle.pg_values.specs.declared.fault.Refusal.{Refusal}
 use Rattle.pg_values.specs.declared.fault.Refusal.TheVariants.{Sql, NoMemory}
 use Rattle.pg_values.specs.Refusals.{IsAnswer}
 use Rattle.part_bounds.specs.declared.raw_bound.RawEdge.{RawEdge}
-use Rattle.part_bounds.specs.RawBounds.{faults_in, read_in}
+use Rattle.part_bounds.specs.RawBounds.{faults_in}
 use Rattle.part_bounds.specs.Checks.{or_first, unless, repeat_faults, word_faults}
 
 -- where the answer is Ok there is no fault

@@ -1,5 +1,5 @@
 -- Bounds of one level can stand side by side.
-use Rattle.std.proofs.Common.{◌≡◌, ◌≤◌, ◌<◌, ◌==◌, ℕ, Bool, true, false, not, ◌&&◌, ◌||◌, List, [], ◌∷◌, ◌++◌, length, get_or, Result, Ok, Err, refl, sym, subst, ◌∙◌}
+use Rattle.std.proofs.Common.{◌≡◌, ◌==◌, ℕ, Bool, true, false, not, ◌&&◌, ◌||◌, List, [], ◌∷◌, ◌++◌, length, get_or, Result, Ok, Err, refl, subst}
 use Rattle.std.specs.Prelude.{nat_le, nat_lt}
 use Rattle.std.specs.List.{All, filter}
 use Rattle.std.proofs.lemmas.Bool.{eqb-true, leb-true, ltb-true}
@@ -8,18 +8,14 @@ use Rattle.pg_values.specs.KeyKinds.{IsNotNull}
 use Rattle.pg_values.specs.declared.fault.Fault.{Fault}
 use Rattle.pg_values.specs.declared.value.Kind.{Kind}
 use Rattle.pg_values.specs.declared.value.Value.{Value}
-use Rattle.part_bounds.specs.declared.level.Strategy.{Strategy}
 use Rattle.part_bounds.specs.declared.level.Strategy.TheVariants.{Range as ByRange, List as ByList, Hash as ByHash}
 use Rattle.part_bounds.specs.declared.level.KeyColumn.{KeyColumn}
 use Rattle.part_bounds.specs.declared.raw_bound.RawValue.{RawValue}
 use Rattle.part_bounds.specs.declared.raw_bound.RawEdge.{RawEdge}
-use Rattle.part_bounds.specs.declared.raw_bound.RawBound.{RawBound}
 use Rattle.part_bounds.specs.declared.raw_bound.RawBound.TheVariants.{Range as RawRange, List as RawList, Hash as RawHash, Default as RawDefault}
-use Rattle.part_bounds.specs.declared.partition_bound.Bound.{Bound}
 use Rattle.part_bounds.specs.declared.partition_bound.Bound.TheVariants.{Range, List as Listed, Hash, Default}
 use Rattle.part_bounds.specs.Listed.{is_same, ListsFit, ValueOfKind}
-use Rattle.part_bounds.specs.Moduli.{moduli_suit}
-use Rattle.part_bounds.specs.Bounds.{BoundsFit, BoundOfKind, is_below, is_filled}
+use Rattle.part_bounds.specs.Bounds.{is_below, is_filled}
 use Rattle.part_bounds.specs.RawBounds.{value_for, edges_for, values_for, only_kind, faults_in, read_in, point_for, each_once}
 use Rattle.part_bounds.specs.BoundFaults.{wrong_count, null_in_range, empty_range, bad_remainder}
 use Rattle.part_bounds.specs.Checks.{unless, count_faults, has_null_edge, word_faults, range_faults, is_remainder}

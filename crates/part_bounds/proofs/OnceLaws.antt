@@ -1,11 +1,11 @@
 -- Values of which each is kept once.
-use Rattle.std.proofs.Common.{◌≡◌, Bool, true, false, not, cond, ◌||◌, ◌&&◌, List, [], ◌∷◌, ◌++◌, refl, sym, ap, ◌∙◌, append_assoc, if◌then◌else◌}
-use Rattle.std.specs.List.{All, filter, list_any}
+use Rattle.std.proofs.Common.{◌≡◌, Bool, true, false, not, ◌||◌, ◌&&◌, List, [], ◌∷◌, ◌++◌, refl, sym, ap, ◌∙◌, append_assoc, if◌then◌else◌}
+use Rattle.std.specs.List.{All, filter}
 use Rattle.std.proofs.lemmas.List.Elements.{filter_agree, All-nil, All-push}
 use Rattle.pg_values.specs.declared.value.Value.{Value}
 use Rattle.part_bounds.specs.Listed.{is_same, lists}
 use Rattle.part_bounds.specs.RawBounds.{each_once}
-use Rattle.part_bounds.proofs.ListedLaws.{same_trans, found, same_turned}
+use Rattle.part_bounds.proofs.ListedLaws.{same_trans}
 
 filter_all : {A : Type 0} (p : A → Bool) (xs : List A) → ((x : A) → p x ≡ true) → filter p xs ≡ xs
 filter_all p [] all = refl

@@ -1,6 +1,6 @@
 -- What is read of the expressions of a bound is of its key columns' kinds.
-use Rattle.std.proofs.Common.{◌≡◌, ◌≤◌, ◌<◌, ℕ, suc, ◌+◌, ◌*◌, Bool, true, false, ◌&&◌, ◌||◌, List, [], ◌∷◌, ◌++◌, map, length, drop, slice_get, Some, None, Option, Result, Ok, Err, ℤ, get_or, codes, append_assoc, refl, sym, ap, subst, ◌∙◌, arith, add-one, if◌then◌else◌}
-use Rattle.std.specs.List.{All, AllZip, list_any}
+use Rattle.std.proofs.Common.{◌≡◌, ◌<◌, ℕ, suc, ◌+◌, ◌*◌, Bool, true, false, ◌||◌, List, [], ◌∷◌, ◌++◌, length, drop, Some, None, Option, Result, Ok, Err, ℤ, get_or, codes, append_assoc, refl, sym, ap, subst, ◌∙◌, arith, add-one, if◌then◌else◌}
+use Rattle.std.specs.List.{All}
 use Rattle.std.proofs.Math.Seq.{drop-cons}
 use Rattle.std.proofs.lemmas.List.Elements.{All-cons, All-nil}
 use Rattle.pg_values.specs.declared.fault.Fault.{Fault}

@@ -1,7 +1,7 @@
 -- What lies inside a bound is accepted by it.
-use Rattle.std.proofs.Common.{◌≡◌, ◌&&◌, ◌%◌, ◌==◌, Bool, true, false, not, ℕ, ◌+◌, ◌<◌, List, Some, length, drop, get_or, slice_get, refl, sym, ap, ◌∙◌, add-one, eq-eqb}
+use Rattle.std.proofs.Common.{◌≡◌, ◌%◌, ◌==◌, Bool, true, false, not, ℕ, ◌+◌, ◌<◌, List, Some, length, drop, get_or, slice_get, refl, sym, ap, ◌∙◌, add-one, eq-eqb}
 use Rattle.std.specs.List.{list_all}
-use Rattle.std.specs.Ordering.{is_gt, is_le, is_ge, is_lt}
+use Rattle.std.specs.Ordering.{is_gt, is_le, is_ge}
 use Rattle.std.specs.declared.cmp.Ordering.{Ordering}
 use Rattle.std.specs.declared.cmp.Ordering.TheVariants.{Less, Equal, Greater}
 use Rattle.std.proofs.lemmas.Bool.{eqb-true}
@@ -11,7 +11,6 @@ use Rattle.std.proofs.lemmas.Option.{slice_get_within, get_or_from_slice_get}
 use Rattle.pg_values.specs.declared.value.Value.{Value}
 use Rattle.pg_values.specs.declared.value.Value.TheVariants.{Null}
 use Rattle.pg_values.specs.Hash.{key_hash}
-use Rattle.part_bounds.specs.declared.partition_bound.Bound.{Bound}
 use Rattle.part_bounds.specs.declared.partition_bound.Bound.TheVariants.{Range, List as Listed, Hash, Default}
 use Rattle.part_bounds.specs.declared.point.Edge.{Edge}
 use Rattle.part_bounds.specs.Points.{point_order, point_of}

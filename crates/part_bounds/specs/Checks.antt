@@ -1,5 +1,5 @@
 -- What a bound must be for its level, and the faults of one that is not (CREATE TABLE, Notes on partition bounds).
-use Rattle.std.specs.Prelude.{ℕ, nat_lt, nat_le, ◌==◌, Bool, true, false, not, ◌&&◌, ◌||◌, List, [], ◌∷◌, ◌++◌, length, codes, Result, Ok, Err, if◌then◌else◌}
+use Rattle.std.specs.Prelude.{ℕ, nat_lt, nat_le, ◌==◌, Bool, true, false, not, ◌&&◌, ◌||◌, List, [], ◌∷◌, ◌++◌, length, codes, Result, Ok, Err}
 use Rattle.std.specs.List.{list_any}
 use Rattle.pg_values.specs.declared.fault.Fault.{Fault}
 use Rattle.part_bounds.specs.declared.level.Strategy.{Strategy}
@@ -13,7 +13,6 @@ use Rattle.part_bounds.specs.declared.raw_bound.RawBound.{RawBound}
 use Rattle.part_bounds.specs.declared.raw_bound.RawBound.TheVariants.{Range as RawRange, List as RawList, Hash as RawHash, Default as RawDefault}
 use Rattle.part_bounds.specs.declared.partition_bound.Bound.{Bound}
 use Rattle.part_bounds.specs.declared.partition_bound.Bound.TheVariants.{Range, List as Listed, Hash, Default}
-use Rattle.part_bounds.specs.declared.point.Edge.{Edge}
 use Rattle.part_bounds.specs.Points.{is_null}
 use Rattle.part_bounds.specs.Bounds.{is_below}
 use Rattle.part_bounds.specs.RawBounds.{edges_for, only_kind, values_for, faults_in, read_in, point_for, each_once}

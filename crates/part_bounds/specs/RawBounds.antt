@@ -1,5 +1,5 @@
 -- What the expressions of a bound give their key columns (CREATE TABLE, partition_bound_expr; 10.4 Value Storage).
-use Rattle.std.specs.Prelude.{ℕ, Bool, true, false, not, List, [], ◌∷◌, ◌++◌, map, filter, Result, Ok, Err}
+use Rattle.std.specs.Prelude.{not, List, [], ◌∷◌, ◌++◌, map, filter, Result, Ok, Err}
 use Rattle.pg_values.specs.declared.value.Kind.{Kind}
 use Rattle.pg_values.specs.declared.value.Kind.TheVariants.{Text as KText}
 use Rattle.pg_values.specs.declared.value.Value.{Value}
@@ -15,7 +15,6 @@ use Rattle.part_bounds.specs.declared.raw_bound.RawEdge.{RawEdge}
 use Rattle.part_bounds.specs.declared.raw_bound.RawEdge.TheVariants.{Min as RawMin, At as RawAt, Max as RawMax}
 use Rattle.part_bounds.specs.declared.point.Edge.{Edge}
 use Rattle.part_bounds.specs.declared.point.Edge.TheVariants.{Min, At, Max}
-use Rattle.part_bounds.specs.Points.{is_null}
 use Rattle.part_bounds.specs.Listed.{is_same}
 use Rattle.part_bounds.specs.BoundFaults.{wrong_kind, out_of_range}
 

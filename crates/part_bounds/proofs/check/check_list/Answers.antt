@@ -1,4 +1,4 @@
-use Rattle.std.proofs.Common.{◌≡◌, ◌<◌, ◌≢◌, [], length, sym, ap, ◌∙◌, arith, rules}
+use Rattle.std.proofs.Common.{rules}
 use Rattle.std.proofs.lemmas.Result.{err_from_is_err_and}
 use Rattle.part_bounds.proofs.RangeLaws.{list_made, list_fails}
 use Rattle.part_bounds.proofs.check.check_list.Goals as goal

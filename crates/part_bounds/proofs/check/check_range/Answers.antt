@@ -1,4 +1,4 @@
-use Rattle.std.proofs.Common.{◌≡◌, ◌||◌, not, false, length}
+use Rattle.std.proofs.Common.{◌||◌, not, length}
 use Rattle.part_bounds.specs.BoundFaults.{null_in_range}
 use Rattle.part_bounds.specs.Checks.{has_null_edge, unless}
 use Rattle.part_bounds.specs.Levels.{IsPointOf}

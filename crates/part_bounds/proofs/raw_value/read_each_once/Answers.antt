@@ -1,4 +1,4 @@
-use Rattle.std.proofs.Common.{◌≡◌, ◌<◌, ◌+◌, ◌++◌, [], ◌∷◌, List, drop, length, Ok, sym, ap, ◌∙◌, refl, rules, arith, if◌then◌else◌}
+use Rattle.std.proofs.Common.{◌≡◌, ◌+◌, ◌++◌, [], ◌∷◌, drop, Ok, sym, ap, ◌∙◌, refl, rules, if◌then◌else◌}
 use Rattle.part_bounds.specs.Levels.{IsOf}
 use Rattle.part_bounds.specs.Listed.{lists}
 use Rattle.part_bounds.specs.RawBounds.{values_for, faults_in, read_in, each_once}

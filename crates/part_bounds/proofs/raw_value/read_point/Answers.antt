@@ -1,4 +1,4 @@
-use Rattle.std.proofs.Common.{◌≡◌, ◌<◌, ◌+◌, ◌++◌, [], ◌∷◌, List, drop, length, Ok, sym, ap, ◌∙◌, rules, arith}
+use Rattle.std.proofs.Common.{◌≡◌, ◌<◌, ◌+◌, ◌++◌, [], ◌∷◌, drop, length, Ok, sym, ap, ◌∙◌, rules, arith}
 use Rattle.pg_values.specs.declared.value.Kind.TheVariants.{Int4 as KInt4}
 use Rattle.part_bounds.specs.declared.level.KeyColumn.{KeyColumn}
 use Rattle.part_bounds.specs.RawBounds.{edges_for, faults_in, read_in}
