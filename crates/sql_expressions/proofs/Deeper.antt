@@ -13,9 +13,9 @@ use Rattle.sql_expressions.specs.Grammar.{any, below, freed, nullity_at, rules, 
 use Rattle.sql_expressions.specs.Levels.{Deep, Room, Rules, begins_nested, begins_test, is_comparison, nested, call_of, tested, compared, inverted_by, unary, named_leaf, test, comparison, negation}
 use Rattle.sql_expressions.specs.Views.{comparison_of, named_at, operand_of, part_of, row_at}
 use Rattle.sql_expressions.specs.Words.{a, name}
-use Rattle.sql_expressions.specs.declared.levels.Joint.{Joint}
-use Rattle.sql_expressions.specs.declared.levels.Row.{Row}
-use Rattle.sql_expressions.specs.declared.levels.Row.TheVariants as rows
+use Rattle.sql_expressions.specs.declared.signs.Joint.{Joint}
+use Rattle.sql_expressions.specs.declared.signs.Row.{Row}
+use Rattle.sql_expressions.specs.declared.signs.Row.TheVariants as rows
 
 -- the second of two values that are read one after another
 second_read : {A B : Type 0} (x : A) (r : Reading Token B) → ((r >>= λ y. given (x, y.0) y.1) >>= λ (z : (A × B) × List Token). given (second_of z.0) z.1) ≡ r

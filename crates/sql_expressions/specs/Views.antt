@@ -8,12 +8,12 @@ use Rattle.grammar_rules.specs.Reading.{as_value}
 use Rattle.sql_expressions.specs.Grammar.{any, below, comparison_at, freed, nullity_at, rules, under_depth}
 use Rattle.sql_expressions.specs.Tree.{tree}
 use Rattle.sql_expressions.specs.Words.{a}
-use Rattle.sql_expressions.specs.declared.levels.Deep.{Deep}
-use Rattle.sql_expressions.specs.declared.levels.Joint.{Joint}
-use Rattle.sql_expressions.specs.declared.levels.Joint.TheVariants as joints
-use Rattle.sql_expressions.specs.declared.levels.Parts.{Parts}
-use Rattle.sql_expressions.specs.declared.levels.Row.{Row}
-use Rattle.sql_expressions.specs.declared.levels.Row.TheVariants as rows
+use Rattle.sql_expressions.specs.declared.deep.Deep.{Deep}
+use Rattle.sql_expressions.specs.declared.signs.Joint.{Joint}
+use Rattle.sql_expressions.specs.declared.signs.Joint.TheVariants as joints
+use Rattle.sql_expressions.specs.declared.deep.Parts.{Parts}
+use Rattle.sql_expressions.specs.declared.signs.Row.{Row}
+use Rattle.sql_expressions.specs.declared.signs.Row.TheVariants as rows
 
 abbrev pub deep : Deep → level.Deep
 deep x = (tree x.expr, x.depth)

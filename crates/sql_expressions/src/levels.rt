@@ -1,248 +1,29 @@
-ghost use Rattle.std.specs.Prelude.{◌≡◌, ◌<◌, ◌≤◌, ◌⊎◌, ◌+◌, ◌∷◌, [], IfOk, MatchResult, ℕ, length, true};
+ghost use Rattle.std.specs.Prelude.{◌≡◌, ◌<◌, ◌≤◌, ◌+◌, IfOk, length, true};
 ghost use Rattle.grammar_rules.specs.Gives.{Gives};
 ghost use Rattle.grammar_rules.specs.Reading.{begins_in};
 ghost use Rattle.grammar_rules.specs.Rows.{always, read_row, read_step};
-ghost use Rattle.grammar_rules.specs.declared.refused.Refused.TheVariants as refusals;
 ghost use Rattle.sql_expressions.specs.Grammar as grammar;
 ghost use Rattle.sql_expressions.specs.Levels as levels;
 ghost use Rattle.sql_expressions.specs.Tree as trees_of;
 ghost use Rattle.sql_expressions.specs.Views as views;
 ghost use Rattle.sql_expressions.specs.Words as words;
 
-use crate::words::{column, comes, literal, literal_comes, name, name_comes, word};
-use crate::{Expr, ExprList, Operator};
-use grammar_rules::{Refused, split};
+use crate::deep::{
+    Deep, Parts, between, binary, in_list, inverted, is_null, negated, only_part, row_of,
+};
+use crate::signs::{
+    Joint, Row, comparison_comes, expression_comes, joint_comes, nested_comes, operator_of, sign,
+    sign_comes, test_comes,
+};
+use crate::words::{column, comes, literal, name, name_comes, word};
+use crate::{Expr, ExprList};
+use grammar_rules::Refused;
 use pg_values::PgText;
-use sql_tokens::{Kind, Token, same_kind};
+use sql_tokens::{Kind, Token};
 use std::alloc::Global;
 
 /// The deepest that operators, calls and pairs of parentheses stand in one another.
 pub const MOST_DEPTH: u8 = 200;
-
-/// An expression, and how many operators, calls and pairs of parentheses stand over its deepest leaf.
-#[derive(Debug, Drop)]
-struct Deep {
-    expr: Expr,
-    depth: u8,
-}
-
-/// Expressions, and the depth of the deepest.
-#[derive(Debug, Drop)]
-struct Parts {
-    items: Vec<Expr>,
-    depth: u8,
-}
-
-/// A row of operators that are taken together from the left.
-#[derive(Clone, Copy)]
-enum Row {
-    Sum,
-    Product,
-}
-
-/// A row of any length that is one node.
-#[derive(Clone, Copy)]
-enum Joint {
-    Or,
-    And,
-}
-
-fn boxed(alloc: Global, deep: Deep) -> Result<(Box<Expr>, u8), Refused>
-    ensures { MatchResult result (λ x. (trees_of.tree x.0.value ≡ trees_of.tree deep.expr) × (x.1 ≡ deep.depth)) (λ e. e ≡ refusals.NoMemory) }
-{
-    Ok((Box::new(alloc, deep.expr)?, deep.depth))
-}
-
-fn negated(alloc: Global, operand: Deep) -> Result<Deep, Refused>
-    requires { operand.depth < 255 }
-    ensures { MatchResult result (λ d. views.deep d ≡ levels.under trees_of.negated (views.deep operand)) (λ e. e ≡ refusals.NoMemory) }
-{
-    let (expr, depth) = boxed(alloc, operand)?;
-    Ok(Deep {
-        expr: Expr::Negated(expr),
-        depth: depth + 1,
-    })
-}
-
-fn inverted(alloc: Global, operand: Deep) -> Result<Deep, Refused>
-    requires { operand.depth < 255 }
-    ensures { MatchResult result (λ d. views.deep d ≡ levels.under trees_of.inverted (views.deep operand)) (λ e. e ≡ refusals.NoMemory) }
-{
-    let (expr, depth) = boxed(alloc, operand)?;
-    Ok(Deep {
-        expr: Expr::Not(expr),
-        depth: depth + 1,
-    })
-}
-
-fn is_null(alloc: Global, is_not: bool, operand: Deep) -> Result<Deep, Refused>
-    requires { operand.depth < 255 }
-    ensures { MatchResult result (λ d. views.deep d ≡ levels.under (trees_of.is_null is_not) (views.deep operand)) (λ e. e ≡ refusals.NoMemory) }
-{
-    let (expr, depth) = boxed(alloc, operand)?;
-    Ok(Deep {
-        expr: Expr::IsNull(is_not, expr),
-        depth: depth + 1,
-    })
-}
-
-fn binary(alloc: Global, operator: Operator, left: Deep, right: Deep) -> Result<Deep, Refused>
-    requires { (left.depth < 255) × (right.depth < 255) }
-    ensures { MatchResult result (λ d. views.deep d ≡ levels.joined operator (views.deep left) (views.deep right)) (λ e. e ≡ refusals.NoMemory) }
-{
-    let depth = left.depth.max(right.depth) + 1;
-    let (left, _) = boxed(alloc, left)?;
-    let (right, _) = boxed(alloc, right)?;
-    Ok(Deep {
-        expr: Expr::Binary(operator, left, right),
-        depth,
-    })
-}
-
-fn in_list(alloc: Global, is_not: bool, operand: Deep, list: Parts) -> Result<Deep, Refused>
-    requires { (operand.depth < 255) × (list.depth < 255) }
-    ensures { MatchResult result (λ d. views.deep d ≡ levels.in_value is_not (views.deep operand) (views.parts list)) (λ e. e ≡ refusals.NoMemory) }
-{
-    let depth = operand.depth.max(list.depth) + 1;
-    let (operand, _) = boxed(alloc, operand)?;
-    Ok(Deep {
-        expr: Expr::In(is_not, operand, ExprList::from_vec(list.items)),
-        depth,
-    })
-}
-
-fn between(
-    alloc: Global,
-    is_not: bool,
-    operand: Deep,
-    from: Deep,
-    to: Deep,
-) -> Result<Deep, Refused>
-    requires { (operand.depth < 255) × (from.depth < 255) × (to.depth < 255) }
-    ensures { MatchResult result (λ d. views.deep d ≡ levels.between_value is_not (views.deep operand) (views.deep from, views.deep to)) (λ e. e ≡ refusals.NoMemory) }
-{
-    let depth = operand.depth.max(from.depth.max(to.depth)) + 1;
-    let (operand, _) = boxed(alloc, operand)?;
-    let (from, _) = boxed(alloc, from)?;
-    let (to, _) = boxed(alloc, to)?;
-    Ok(Deep {
-        expr: Expr::Between(is_not, operand, from, to),
-        depth,
-    })
-}
-
-/// A single part.
-fn only_part(alloc: Global, deep: Deep) -> Result<Parts, Refused>
-    ensures { MatchResult result (λ p. (views.parts p ≡ levels.only_part (views.deep deep)) × (p.depth ≡ deep.depth) × (length p.items.items ≡ 1)) (λ e. e ≡ refusals.NoMemory) }
-{
-    let mut items = Vec::new(alloc);
-    items.push(deep.expr)?;
-    Ok(Parts {
-        items,
-        depth: deep.depth,
-    })
-}
-
-/// A row of parts; one part is itself.
-fn row_of(joint: Joint, mut parts: Parts) -> Deep
-    requires { (parts.depth < 255) ⊎ (length parts.items.items ≡ 1) }
-    ensures value { views.deep result ≡ views.row_value joint (views.parts parts) }
-    ensures within { (n : ℕ) → views.Fits n parts → result.depth ≤ n }
-{
-    if parts.items.len() == 1 {
-        if let Some(expr) = parts.items.pop() {
-            return Deep {
-                expr,
-                depth: parts.depth,
-            };
-        }
-    }
-    let list = ExprList::from_vec(parts.items);
-    Deep {
-        expr: match joint {
-            Joint::Or => Expr::Or(list),
-            Joint::And => Expr::And(list),
-        },
-        depth: parts.depth + 1,
-    }
-}
-
-fn operator_of(sign: Token) -> Operator
-    ensures { result ≡ levels.operator_of sign }
-{
-    match sign.kind {
-        Kind::Plus => Operator::Add,
-        Kind::Minus => Operator::Subtract,
-        Kind::Star => Operator::Multiply,
-        Kind::Slash => Operator::Divide,
-        Kind::Percent => Operator::Remainder,
-        Kind::Equal => Operator::Equal,
-        Kind::NotEqual => Operator::NotEqual,
-        Kind::Less => Operator::Less,
-        Kind::LessEqual => Operator::LessEqual,
-        Kind::Greater => Operator::Greater,
-        _ => Operator::GreaterEqual,
-    }
-}
-
-fn sign_comes(row: Row, tokens: &[Token]) -> bool
-    ensures { result ≡ begins_in (views.sign_of row) tokens.now }
-{
-    match row {
-        Row::Sum => comes(tokens, Kind::Plus) || comes(tokens, Kind::Minus),
-        Row::Product => {
-            comes(tokens, Kind::Star) || comes(tokens, Kind::Slash) || comes(tokens, Kind::Percent)
-        }
-    }
-}
-
-fn comparison_comes(tokens: &[Token]) -> bool
-    ensures { result ≡ begins_in levels.is_comparison tokens.now }
-{
-    comes(tokens, Kind::Equal)
-        || comes(tokens, Kind::NotEqual)
-        || comes(tokens, Kind::Less)
-        || comes(tokens, Kind::LessEqual)
-        || comes(tokens, Kind::Greater)
-        || comes(tokens, Kind::GreaterEqual)
-}
-
-fn test_comes(tokens: &[Token]) -> bool
-    ensures { result ≡ begins_in levels.begins_test tokens.now }
-{
-    comes(tokens, Kind::Not) || comes(tokens, Kind::In) || comes(tokens, Kind::Between)
-}
-
-fn nested_comes(tokens: &[Token]) -> bool
-    ensures { result ≡ begins_in levels.begins_nested tokens.now }
-{
-    comes(tokens, Kind::Minus) || comes(tokens, Kind::OpenParenthesis)
-}
-
-fn expression_comes(tokens: &[Token]) -> bool
-    ensures { result ≡ begins_in levels.begins_expression tokens.now }
-{
-    comes(tokens, Kind::Not) || nested_comes(tokens) || name_comes(tokens) || literal_comes(tokens)
-}
-
-fn joint_comes(joint: Joint, tokens: &[Token]) -> bool
-    ensures { result ≡ begins_in (views.joint_sign joint) tokens.now }
-{
-    match joint {
-        Joint::Or => comes(tokens, Kind::Or),
-        Joint::And => comes(tokens, Kind::And),
-    }
-}
-
-/// The next token: a sign that was seen to come.
-fn sign(tokens: &[Token]) -> Result<(Token, &[Token]), Refused>
-    ensures { MatchResult result (λ x. tokens.now ≡ x.0 ∷ x.1.now) (λ e. (e ≡ refusals.Syntax 0) × (tokens.now ≡ [])) }
-{
-    match split(tokens) {
-        None => Err(Refused::Syntax(0)),
-        Some(x) => Ok(x),
-    }
-}
 
 #[cycle(levels)]
 fn unary<'a>(

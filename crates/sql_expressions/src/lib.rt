@@ -11,12 +11,14 @@
 //! with it, or what it begins is left out by name, or one goes on with it that only a limit bars.
 #![tactic(auto)]
 
+mod deep;
 mod expr;
 mod laws;
 mod leaf;
 mod levels;
 mod parse;
 mod refused;
+mod signs;
 mod words;
 
 pub use expr::{Expr, ExprList};

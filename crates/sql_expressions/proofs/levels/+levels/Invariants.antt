@@ -5,10 +5,10 @@ use Rattle.sql_expressions.specs.Grammar as grammar
 use Rattle.sql_expressions.specs.Levels as levels
 use Rattle.sql_expressions.specs.Views as views
 use Rattle.sql_expressions.specs.Words as words
-use Rattle.sql_expressions.specs.declared.levels.Joint.{Joint}
-use Rattle.sql_expressions.specs.declared.levels.Joint.TheVariants as joints
-use Rattle.sql_expressions.specs.declared.levels.Row.{Row}
-use Rattle.sql_expressions.specs.declared.levels.Row.TheVariants as rows
+use Rattle.sql_expressions.specs.declared.signs.Joint.{Joint}
+use Rattle.sql_expressions.specs.declared.signs.Joint.TheVariants as joints
+use Rattle.sql_expressions.specs.declared.signs.Row.{Row}
+use Rattle.sql_expressions.specs.declared.signs.Row.TheVariants as rows
 use Rattle.sql_expressions.proofs.levels.+levels.Given as goal
 
 -- how many calls of one budget come below an operand, and below a part
