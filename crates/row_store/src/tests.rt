@@ -387,7 +387,7 @@ fn limits_hand_the_row_back(rt: HostRuntime) -> Result<(), NoMemory> {
     let mut text = Vec::new(alloc);
     text.resize(268_435_456 - 16, 0)?;
     let mut row = Row::new(alloc);
-    row.push(Value::Text(PgText::from_vec(text)))?;
+    row.push(Value::Text(PgText::from_vec(alloc, text)?))?;
     assert!(rt; store.put(leaf, row, tx, 0).is_ok());
     let mut small = Row::new(alloc);
     small.push(Value::Truth(true))?;

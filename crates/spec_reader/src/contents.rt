@@ -31,7 +31,7 @@ pub fn name_of(alloc: Global, text: &[u8], token: Token) -> Result<PgText, NoMem
 {
     let bytes = slice(text, token.start, token.end);
     if same_kind(token.kind, Kind::QuotedName) {
-        return Ok(PgText::from_vec(undoubled(alloc, inside(bytes))?));
+        return PgText::from_vec(alloc, undoubled(alloc, inside(bytes))?);
     }
     PgText::from_bytes(alloc, bytes)
 }

@@ -45,9 +45,9 @@ pub fn name_of(alloc: Global, text: &[u8], token: Token) -> Result<PgText, NoMem
 {
     let bytes = bytes_of(text, token);
     if same_kind(token.kind, Kind::QuotedName) {
-        return Ok(PgText::from_vec(undoubled(alloc, b'"', inside_of(bytes))?));
+        return PgText::from_vec(alloc, undoubled(alloc, b'"', inside_of(bytes))?);
     }
-    Ok(PgText::from_vec(folded(alloc, bytes)?))
+    PgText::from_vec(alloc, folded(alloc, bytes)?)
 }
 
 /// The number of a number or a parameter token, and 2^63 for each that is no `bigint`.
@@ -61,7 +61,7 @@ pub fn number_of(text: &[u8], token: Token) -> u64
 pub fn string_of(alloc: Global, text: &[u8], token: Token) -> Result<PgText, NoMemory>
     ensures { IfOk result (λ t. t ≡ contents.string_in text.now token) }
 {
-    Ok(PgText::from_vec(undoubled(alloc, b'\'', inside_of(bytes_of(text, token)))?))
+    PgText::from_vec(alloc, undoubled(alloc, b'\'', inside_of(bytes_of(text, token)))?)
 }
 
 fn raised(alloc: Global, word: &[u8]) -> Result<Vec<u8>, NoMemory>
@@ -79,5 +79,5 @@ pub fn called(alloc: Global, text: &[u8], token: Token) -> Result<PgText, NoMemo
     if same_kind(token.kind, Kind::Decimal) {
         return PgText::from_bytes(alloc, bytes);
     }
-    Ok(PgText::from_vec(raised(alloc, bytes)?))
+    PgText::from_vec(alloc, raised(alloc, bytes)?)
 }

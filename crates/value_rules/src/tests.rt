@@ -306,7 +306,7 @@ fn values_are_assigned(rt: HostRuntime) {
     assert!(rt; is_handed_back(5, other, CoerceFault::Kinds));
     assert!(rt; matches!(coerce(Value::Null, Kind::Day), Ok(Value::Null)));
     assert!(rt; matches!(coerce(Value::Day(5), Kind::Day), Ok(Value::Day(5))));
-    let text = PgText::new(rt.alloc());
+    let text = PgText::new(rt.alloc()).expect(&rt, "memory");
     let truth = coerce(Value::Text(text), Kind::Truth);
     assert!(rt; matches!(truth, Err((Value::Text(_), CoerceFault::Kinds))));
 }
