@@ -1,5 +1,6 @@
 pub mod Kept
 pub mod Limits
 pub mod Refused
+pub mod Slots
 pub mod Stands
 pub mod Told

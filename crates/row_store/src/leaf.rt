@@ -1,6 +1,6 @@
 ghost use Rattle.std.specs.Prelude.{◌≡◌, [], ◌∷◌, ◌++◌, OnOk, OnErr};
 
-use pg_ids::RowId;
+use crate::slot::ShortId;
 use pg_values::NoMemory;
 use std::alloc::Global;
 use std::marker::Model;
@@ -8,7 +8,7 @@ use std::marker::Model;
 /// The numbers of the versions of a leaf, in order of birth.
 #[derive(Debug, Drop)]
 pub struct Leaf {
-    ids: Vec<RowId>,
+    ids: Vec<ShortId>,
 }
 
 impl Model for Leaf {
@@ -29,13 +29,13 @@ impl Leaf {
         }
     }
 
-    pub fn ids(&self) -> &[RowId]
+    pub fn ids(&self) -> &[ShortId]
         ensures { result.now ≡ self.now }
     {
         &self.ids
     }
 
-    pub fn push(&mut self, id: RowId) -> Result<(), NoMemory>
+    pub fn push(&mut self, id: ShortId) -> Result<(), NoMemory>
         ensures ok { OnOk result (self.new ≡ self.old ++ id ∷ []) }
         ensures err { OnErr result (self.new ≡ self.old) }
     {

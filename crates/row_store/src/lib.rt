@@ -14,6 +14,7 @@ mod leaf;
 mod newest;
 mod refused;
 mod scan;
+mod slot;
 mod store;
 mod stored;
 #[cfg(test)]

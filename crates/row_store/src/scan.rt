@@ -4,7 +4,7 @@ ghost use Rattle.row_store.specs.Told.{shown_row};
 ghost use Rattle.row_store.specs.Kept.{AreBelow, stored_at};
 ghost use Rattle.row_store.specs.Stands.{shows_by, rows_left, shown_stored};
 
-use crate::stored::Stored;
+use crate::slot::{ShortId, Slot};
 use history::Fate;
 use pg_ids::RowId;
 use pg_values::Row;
@@ -21,8 +21,8 @@ pub struct SeenRow<'s> {
 /// The rows of a scan that are left, in order of birth. Contracts see their list.
 #[derive(Drop)]
 pub struct Scan<'s> {
-    pub(crate) ids: &'s [RowId],
-    pub(crate) versions: &'s [Stored],
+    pub(crate) ids: &'s [ShortId],
+    pub(crate) versions: &'s [Slot],
     pub(crate) txs: &'s TxTable,
     pub(crate) snap: &'s Snapshot,
 }
@@ -59,15 +59,15 @@ impl<'s> Iterator for Scan<'s> {
 #[derive(Drop)]
 struct Step<'s> {
     found: Option<SeenRow<'s>>,
-    rest: &'s [RowId],
+    rest: &'s [ShortId],
 }
 
 #[inline]
 fn next_shown<'s>(
     txs: &TxTable,
     snap: &Snapshot,
-    versions: &'s [Stored],
-    ids: &'s [RowId],
+    versions: &'s [Slot],
+    ids: &'s [ShortId],
 ) -> Step<'s>
     requires { AreBelow ids.now versions.now }
     ensures below { AreBelow result.rest.now versions.now }
@@ -89,34 +89,34 @@ fn next_shown<'s>(
 }
 
 #[inline]
-fn version_at(versions: &[Stored], id: RowId) -> &Stored
+fn version_at(versions: &[Slot], id: ShortId) -> &Slot
     requires { id.number < length versions.now }
     ensures { result.now ≡ stored_at versions.now id }
 {
-    &versions[id.number as usize]
+    &versions[id.long().number as usize]
 }
 
 #[inline]
-fn lend(stored: &Stored) -> SeenRow<'_>
+fn lend(stored: &Slot) -> SeenRow<'_>
     ensures { shown_row result ≡ shown_stored stored.now }
 {
     SeenRow {
-        id: stored.version.id,
-        row: &stored.version.row,
+        id: stored.id(),
+        row: stored.row(),
     }
 }
 
 // Whether a scan with the snapshot shows the version.
 #[inline]
-fn is_shown(txs: &TxTable, snap: &Snapshot, stored: &Stored) -> bool
+fn is_shown(txs: &TxTable, snap: &Snapshot, stored: &Slot) -> bool
     ensures { result ≡ shows_by txs.now snap.now stored.now }
 {
-    let ended = match stored.ended {
+    let ended = match stored.ended() {
         Some(end) => match txs.fate(end.by) {
             Fate::Aborted => false,
             _ => txs.sees(snap, end.by, end.cmd),
         },
         None => false,
     };
-    txs.sees(snap, stored.version.by, stored.version.cmd) && !ended
+    txs.sees(snap, stored.by(), stored.cmd()) && !ended
 }
