@@ -111,12 +111,14 @@ fn lend(stored: &Slot) -> SeenRow<'_>
 fn is_shown(txs: &TxTable, snap: &Snapshot, stored: &Slot) -> bool
     ensures { result ≡ shows_by txs.now snap.now stored.now }
 {
-    let ended = match stored.ended() {
+    if !txs.sees(snap, stored.by(), stored.cmd()) {
+        return false;
+    }
+    match stored.ended() {
         Some(end) => match txs.fate(end.by) {
-            Fate::Aborted => false,
-            _ => txs.sees(snap, end.by, end.cmd),
+            Fate::Aborted => true,
+            _ => !txs.sees(snap, end.by, end.cmd),
         },
-        None => false,
-    };
-    txs.sees(snap, stored.by(), stored.cmd()) && !ended
+        None => true,
+    }
 }

@@ -1,4 +1,5 @@
-ghost use Rattle.std.specs.Prelude.{◌≡◌, ◌≢◌, ℕ, ◌≤◌, ◌<◌, [], ◌∷◌, Some, None, IsSome, IfOk, OnErr, length, slice_index_or, option_copied, option_map};
+ghost use Rattle.std.specs.Prelude.{◌≡◌, ◌≢◌, ◌==◌, ℕ, ◌≤◌, ◌<◌, [], ◌∷◌, Some, None, IsSome, IfOk, OnErr, length, slice_index_or, option_copied, option_map};
+ghost use Rattle.std.specs.List.{list_any};
 ghost use Rattle.history.specs.Transactions.{TxBegan, TxCommitted, TxAborted, fate, session_of, open_of, next_tx, IsPast};
 ghost use Rattle.history.specs.Snapshots.{SnapshotHeld, SnapshotDropped, TakenSnapshot, held_by, sees};
 ghost use Rattle.history.specs.History.{History, TxChange, SnapshotChange, tx_events, snapshot_events, given, fresh};
@@ -168,8 +169,10 @@ impl TxTable {
             Some(fate) => *fate == Fate::Committed,
             None => false,
         };
-        let was_over = tx.number < snap.next && !snap.running.contains(&tx.number);
-        (committed && was_over) || (tx.number == snap.own.number && cmd < snap.cmd)
+        if committed && tx.number < snap.next && !is_listed(&snap.running, tx.number) {
+            return true;
+        }
+        tx.number == snap.own.number && cmd < snap.cmd
     }
 
     /// What became of a transaction.
@@ -247,6 +250,18 @@ fn open_in(current: &[Option<u64>], session: u32) -> Option<u64>
         Some(tx) => *tx,
         None => None,
     }
+}
+
+// It goes through the whole list, since that takes less time than to stop at the first that is found.
+#[inline]
+fn is_listed(running: &[u64], tx: u64) -> bool
+    ensures { result ≡ list_any (λ t. t == tx) running.now }
+{
+    let mut any = false;
+    for t in running {
+        any |= *t == tx;
+    }
+    any
 }
 
 // The open transactions, session by session.
