@@ -53,7 +53,7 @@ last_counts [] txs k stay sound = refl
 last_counts (TxChange e ∷ h) txs k stay sound = last_counts h txs k (aborts_before e (tx_events h) txs stay) sound
 last_counts (SnapshotChange e ∷ h) txs k stay sound = last_counts h txs k stay sound
 last_counts (RowChange (LeafAdded l) ∷ h) txs k stay sound = last_counts h txs k stay sound.1
-last_counts (RowChange (RowBorn v) ∷ h) txs k stay sound = last_counts h txs k stay sound.2
+last_counts (RowChange (RowBorn v) ∷ h) txs k stay sound = last_counts h txs k stay sound.1
 last_counts (RowChange (RowEnded id e) ∷ h) txs k stay sound =
     grind (arith, common_steps, last_counts h txs k stay sound.1, none_stays (tx_events h) txs (row_events h) k stay, stands_free h id sound.0)
 

@@ -95,12 +95,15 @@ outcome_in txs (Some e) = outcome_by (fate txs e.by.number) e
 abbrev pub outcome : History → ℕ → Outcome
 outcome h k = outcome_in (tx_events h) (end_of h k)
 
--- a leaf has the next number, a version the next number and a leaf that is there, and is ended only while
--- it stands
+-- the event of rows may come after the history: a leaf has the next number, a version the next number and
+-- a leaf that is there, and is ended only while it stands
+abbrev pub IsRowSound : RowEvent → History → Type 0
+IsRowSound (LeafAdded l) h = l ≡ leaf_count (row_events h)
+IsRowSound (RowBorn v) h = (v.id.number ≡ next_version h) × (nat_lt v.leaf.number (leaf_count (row_events h)) ≡ true)
+IsRowSound (RowEnded k e) h = stands h k ≡ true
+
 abbrev pub AreRowsSound : History → Type 0
 AreRowsSound [] = Unit {0}
 AreRowsSound (TxChange e ∷ h) = AreRowsSound h
 AreRowsSound (SnapshotChange e ∷ h) = AreRowsSound h
-AreRowsSound (RowChange (LeafAdded l) ∷ h) = (l ≡ leaf_count (row_events h)) × AreRowsSound h
-AreRowsSound (RowChange (RowBorn v) ∷ h) = (v.id.number ≡ next_version h) × (nat_lt v.leaf.number (leaf_count (row_events h)) ≡ true) × AreRowsSound h
-AreRowsSound (RowChange (RowEnded k e) ∷ h) = (stands h k ≡ true) × AreRowsSound h
+AreRowsSound (RowChange e ∷ h) = IsRowSound e h × AreRowsSound h

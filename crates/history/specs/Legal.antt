@@ -1,12 +1,11 @@
 -- Which event may come after a history, and which versions may be seen from then on.
-use Rattle.std.specs.Prelude.{◌≡◌, ℕ, nat_lt, true, false, [], ◌∷◌, ◌⊎◌, Option, Some, None}
+use Rattle.std.specs.Prelude.{◌≡◌, ℕ, false, [], ◌∷◌, ◌⊎◌, Option, Some, None}
 use Rattle.history.specs.declared.transaction.Fate.TheVariants.{Running, Committed}
 use Rattle.history.specs.declared.version.Version.{Version}
 use Rattle.history.specs.declared.version.End.{End}
 use Rattle.history.specs.Transactions.{TxEvents, fate, was_aborted, IsSound}
 use Rattle.history.specs.Snapshots.{TakenSnapshot, SnapshotHeld, SnapshotDropped, held_by}
-use Rattle.history.specs.Rows.{LeafAdded, RowBorn, RowEnded, leaf_count}
-use Rattle.history.specs.History.{Event, History, TxChange, SnapshotChange, RowChange, tx_events, snapshot_events, row_events, next_version, end_of, stands}
+use Rattle.history.specs.History.{Event, History, TxChange, SnapshotChange, RowChange, tx_events, snapshot_events, end_of, IsRowSound}
 
 -- a session holds a snapshot that is taken now, or one of the same place as the one that it holds
 abbrev pub IsTimely : Option TakenSnapshot → TxEvents → TakenSnapshot → Type 0
@@ -18,9 +17,7 @@ abbrev pub May : Event → History → Type 0
 May (TxChange e) h = IsSound (e ∷ tx_events h)
 May (SnapshotChange (SnapshotHeld r s)) h = IsTimely (held_by (snapshot_events h) r) (tx_events h) s
 May (SnapshotChange (SnapshotDropped r)) h = Unit {0}
-May (RowChange (LeafAdded l)) h = l ≡ leaf_count (row_events h)
-May (RowChange (RowBorn v)) h = (v.id.number ≡ next_version h) × (nat_lt v.leaf.number (leaf_count (row_events h)) ≡ true)
-May (RowChange (RowEnded k e)) h = stands h k ≡ true
+May (RowChange e) h = IsRowSound e h
 
 abbrev pub IsLegal : History → Type 0
 IsLegal [] = Unit {0}

@@ -48,7 +48,7 @@ born_stands kept h leaf row by cmd room lt enough st =
     let same : w ≡ v = ap numbered n in
     let bytes = bytes-behind (versions h) v in
     record {
-      sound = (refl, lt-ltb leaf.number _ (rw (← st.leaves) lt), st.sound);
+      sound = ((refl, lt-ltb leaf.number _ (rw (← st.leaves) lt)), st.sound);
       births = map-append version_of kept.stored _ ∙ ap (λ vs. vs ++ w ∷ []) st.births ∙ ap (λ (x : Version). versions h ++ x ∷ []) same;
       ends = λ k. ended_behind kept.stored _ k refl ∙ st.ends k;
       leaves = st.leaves;

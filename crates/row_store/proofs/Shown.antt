@@ -9,7 +9,7 @@ use Rattle.history.specs.declared.version.End.{End}
 use Rattle.history.specs.Transactions.{was_aborted, IsPast}
 use Rattle.history.specs.Snapshots.{TakenSnapshot, sees}
 use Rattle.history.specs.Rows.{counted}
-use Rattle.history.specs.History.{History, tx_events, snapshot_events, versions, end_of, sees_end, is_seen, seen}
+use Rattle.history.specs.History.{History, tx_events, snapshot_events, end_of, sees_end, is_seen, seen}
 use Rattle.history.proofs.Settled.{end_of-last}
 use Rattle.tx_table.specs.Kept.{KeptTable, KeptSnapshot}
 use Rattle.tx_table.specs.Stands.{TableStands, SnapshotStands}

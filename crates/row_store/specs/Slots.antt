@@ -1,6 +1,5 @@
 -- What a slot keeps of the end of a version.
 use Rattle.std.specs.Prelude.{ℕ, ◌<◌, Option, Some, None}
-use Rattle.pg_ids.specs.declared.ids.RowId.{RowId}
 use Rattle.history.specs.declared.transaction.TxId.{TxId}
 use Rattle.history.specs.declared.version.End.{End}
 use Rattle.history.specs.declared.version.Ending as history
