@@ -3,8 +3,8 @@
 //! A row is never changed in its place: an UPDATE ends its version and bears another, a DELETE ends
 //! it, and both stay, since older snapshots still see the ended one. `RowStore` keeps all versions
 //! in one list in order of birth, each with the last end that it was given, and for each leaf the
-//! list of its versions' numbers. An end counts while its transaction is not aborted, so an abort
-//! changes nothing here, and the version stands again.
+//! list of its versions' numbers. A `Slot` of 64 bytes keeps a version and its end. An end counts while
+//! its transaction is not aborted, so an abort changes nothing here, and the version stands again.
 //!
 //! `scan` lends the rows of a leaf that a snapshot sees and writes the leaf into a `Trail`, so what a
 //! statement has read can be told. `newest` tells what became of one version.
