@@ -1,0 +1,2 @@
+//! Reads the statements of SQL that read and change rows.
+#![tactic(auto)]
