@@ -1,9 +1,9 @@
 -- The grammar of commands (VI. SQL Commands: BEGIN, COMMIT, ROLLBACK, SET, RESET, CREATE TABLE, DROP TABLE, ALTER TABLE, LOCK, DEALLOCATE).
 -- What a name or a number says stands in the text, so rules of names take the text.
-use Rattle.std.specs.Prelude.{◌≡◌, ℕ, ◌-◌, Bool, true, false, ◌&&◌, ◌||◌, not, if◌then◌else◌, List, [], ◌∷◌, ◌++◌, Option, Some, None, length, take, Ok}
+use Rattle.std.specs.Prelude.{◌≡◌, ℕ, ◌-◌, Bool, true, false, ◌||◌, if◌then◌else◌, List, [], ◌∷◌, Option, Some, None, length, take, Ok}
 use Rattle.grammar_rules.specs.Reading.{Class, Rule, one, nothing, follow, as_value, either, optional, ◌>>=◌}
-use Rattle.grammar_rules.specs.Rows.{second_of, chain, more_of}
-use Rattle.sql_tokens.specs.Contents.{name_in, number_in}
+use Rattle.grammar_rules.specs.Rows.{second_of}
+use Rattle.sql_tokens.specs.Contents.{name_in}
 use Rattle.sql_tokens.specs.Words as words
 use Rattle.sql_tokens.specs.declared.kind.Kind.{Kind}
 use Rattle.sql_tokens.specs.declared.kind.Kind.TheVariants as word
@@ -11,6 +11,7 @@ use Rattle.sql_tokens.specs.declared.token.Token.{Token}
 use Rattle.sql_expressions.specs.Grammar.{expression}
 use Rattle.sql_expressions.specs.Tree.{Tree, listed as list_of_trees}
 use Rattle.sql_expressions.specs.Words.{a, a_name, ◌>>◌, ◌<<◌, ◌&◌, either_if, is_long_name, no_longer, name, string}
+use Rattle.sql_lists.specs.Lists.{one_of, means, maybe, in_parentheses, commas, more_commas, plain_name, is_other_name, other_name, number}
 use Rattle.sql_commands.specs.Trees.{Edge, min, max, at, Bound, range, listed, hash, other, CommandTree, begins, commits, rolls_back, sets, resets, makes_table, makes_partition, drops, attaches, detaches, locks, deallocates, deallocates_all}
 use Rattle.sql_commands.specs.declared.commands.Detachment.{Detachment}
 use Rattle.sql_commands.specs.declared.commands.Detachment.TheVariants as detachment
@@ -25,53 +26,6 @@ use Rattle.sql_commands.specs.declared.commands.Strategy.TheVariants as strategy
 use Rattle.sql_commands.specs.declared.lists.ColumnDefinition.{ColumnDefinition}
 use Rattle.sql_commands.specs.declared.lists.LockedTable.{LockedTable}
 use Rattle.sql_commands.specs.declared.lists.Partitioning.{Partitioning}
-
--- one of two words
-abbrev pub one_of : Kind → Kind → Class Token
-one_of j k t = a j t || a k t
-
--- a value that the words say by themselves
-abbrev pub means : {A B : Type 0} → A → Rule Token B → Rule Token A
-means {A} {B} a p = as_value (λ (x : B). a) p
-
--- a token of the class, or none
-abbrev pub maybe : Class Token → Rule Token (Option Token)
-maybe c = optional c (one c)
-
--- "(" p ")"
-abbrev pub in_parentheses : {A : Type 0} → Rule Token A → Rule Token A
-in_parentheses p = word.OpenParenthesis >> p << word.CloseParenthesis
-
--- p { "," p }
-abbrev pub only : {A : Type 0} → A → List A
-only x = x ∷ []
-
-abbrev pub snoc : {A : Type 0} → List A → Token → A → List A
-snoc xs sign x = xs ++ x ∷ []
-
-abbrev pub commas : {A : Type 0} → Rule Token A → Rule Token (List A)
-commas p = chain (a word.Comma) only snoc p
-
--- { "," p } behind those that stand there
-abbrev pub more_commas : {A : Type 0} → Rule Token A → List A → Rule Token (List A)
-more_commas p xs = more_of (a word.Comma) snoc p xs
-
--- a name alone
-abbrev pub said : Kind × List ℕ → List ℕ
-said x = x.1
-
-abbrev pub plain_name : List ℕ → Rule Token (List ℕ)
-plain_name text = as_value said (name text)
-
--- a name that is not the word k
-abbrev pub is_other_name : Kind → Class Token
-is_other_name k t = a_name t && not (a k t)
-
-abbrev pub other_name : List ℕ → Kind → Rule Token (List ℕ)
-other_name text k = as_value (name_in text) (no_longer (is_other_name k) (λ t. is_long_name text t && not (a k t)))
-
-abbrev pub number : List ℕ → Rule Token ℕ
-number text = as_value (number_in text) (one (a word.Number))
 
 -- [ "WORK" | "TRANSACTION" ]
 abbrev pub is_noise : Class Token

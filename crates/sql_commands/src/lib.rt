@@ -17,12 +17,11 @@ mod lists;
 mod lock;
 mod session;
 mod tables;
-mod words;
 
 pub use bound::{BoundText, EdgeText};
 pub use commands::{Command, Detachment, Isolation, LockMode, SettingValue, Strategy};
 pub use lists::{
-    ColumnDefinition, ColumnList, EdgeList, LockedTable, LockedTableList, NameList, Partitioning,
+    ColumnDefinition, ColumnList, EdgeList, LockedTable, LockedTableList, Partitioning,
 };
 pub use tables::{command, no_two_commands, parse_command, whole_command};
 

@@ -9,7 +9,7 @@ use Rattle.sql_expressions.specs.Grammar.{expression}
 use Rattle.sql_expressions.specs.Levels.{begins_nested}
 use Rattle.sql_expressions.specs.Tree.{Tree}
 use Rattle.sql_expressions.specs.Words.{a, a_name, a_literal, ◌>>◌, ◌<<◌, is_long_name, no_longer}
-use Rattle.sql_commands.specs.Grammar.{plain_name}
+use Rattle.sql_lists.specs.Lists.{plain_name}
 
 -- An expression, and its alias.
 abbrev pub Output : Type 0
