@@ -10,9 +10,9 @@ mod value_list;
 mod words;
 
 pub use name_list::{NameList, names, with_more_names};
-pub use parts::{Part, commas, more_parts};
+pub use parts::{Begun, Part, commas, many, more_parts};
 pub use value_list::values;
 pub use words::{
-    maybe_one_of, maybe_word, name_but, number, one_of, one_of_comes, other_name,
+    maybe_one_of, maybe_word, name_but, name_comes, number, one_of, one_of_comes, other_name,
     other_name_comes, plain_name,
 };

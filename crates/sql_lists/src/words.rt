@@ -1,7 +1,7 @@
 ghost use Rattle.std.specs.Prelude.{◌≡◌};
 ghost use Rattle.grammar_rules.specs.Gives.{Gives};
 ghost use Rattle.grammar_rules.specs.Reading.{begins_in, read_one};
-ghost use Rattle.sql_expressions.specs.Words.{a};
+ghost use Rattle.sql_expressions.specs.Words.{a, a_name};
 ghost use Rattle.sql_lists.specs.Lists as lists;
 
 use grammar_rules::{Refused, split};
@@ -57,6 +57,16 @@ pub fn maybe_word(tokens: &[Token], kind: Kind) -> Result<(Option<Token>, &[Toke
     }
     let (first, rest) = word(tokens, kind)?;
     Ok((Some(first), rest))
+}
+
+/// Whether a name comes next.
+pub fn name_comes(tokens: &[Token]) -> bool
+    ensures { result ≡ begins_in a_name tokens.now }
+{
+    match split(tokens) {
+        None => false,
+        Some((first, _)) => is_name(first.kind),
+    }
 }
 
 /// A name, whatever word it is.
