@@ -8,7 +8,7 @@ use Rattle.sql_expressions.specs.Grammar.{expression}
 use Rattle.sql_expressions.specs.Tree.{Tree}
 use Rattle.sql_expressions.specs.Words.{a}
 use Rattle.sql_queries.specs.Items.{ended, ended_by, ended_at, place_of_word}
-use Rattle.sql_queries.proofs.Splits.{Split, same, longer, shorter, split, append_one}
+use Rattle.sql_queries.proofs.Splits.{Split, same, longer, shorter, split, rest_begins, append_one}
 use Rattle.sql_queries.proofs.WordBehind.{Place, behind, last}
 
 abbrev Found : Type 0
@@ -105,10 +105,6 @@ module _ (text : List ℕ) where
 
     -- where an expression and the word stand, they are found
     module _ (o : Class Token) (within : Within (a word.Between) o) where
-      next_is : (rest more y : List Token) (t : Token) → SameHead rest more → more ≡ t ∷ y → (m : List Token) × (rest ≡ t ∷ m)
-      next_is [] more y t s q = cc
-      next_is (u ∷ rest) more y t s q = (rest, ap (λ z. z ∷ rest) (head_eq (sym s.1 ∙ q)))
-
       no_word : (rest more : List Token) → SameHead rest more → Stops o more → begins_in (a word.Between) rest ≡ false
       no_word [] more s st = refl
       no_word (u ∷ rest) more s st = by (a word.Between u) refl
@@ -119,7 +115,7 @@ module _ (text : List ℕ) where
 
       pub not_missed : (more x y : List Token) (t : Token) (e : Tree) → a word.Between t ≡ true → SameHead after more → Stops o y → (expression text).read x ≡ Ok (e, []) → Place front more x y t → ended_at text k ts ≡ None → ⊥
       not_missed more x y t e h s st r (behind p q) none =
-          let i = next_is after more y t s q in
+          let i = rest_begins after more y t s q in
           let c : begins_in (a word.Between) (drop read ts) ≡ true = subst (λ z. begins_in (a word.Between) z ≡ true) (sym (drop_read ∙ i.1)) h in
           let l = place_here read ts c in
           let w = ended_at_word x t i.0 e k ts (whole ∙ ap (λ z. z ++ after) p ∙ ap (λ z. x ++ z) i.1) (ap length (sym p) ∙ read_front ∙ sym l) h r in

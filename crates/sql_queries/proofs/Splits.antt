@@ -31,6 +31,10 @@ pub same_behind : {T : Type 0} (rest more : List T) (t : T) (m : List T) → res
 same_behind [] more t m e = cc
 same_behind (u ∷ rest) more t m e = (more, ap (λ v. v ∷ more) (sym (head_eq e)))
 
+pub rest_begins : {T : Type 0} (rest more y : List T) (t : T) → SameHead rest more → more ≡ t ∷ y → (m : List T) × (rest ≡ t ∷ m)
+rest_begins [] more y t h e = cc
+rest_begins (u ∷ rest) more y t h e = (rest, ap (λ z. z ∷ rest) (head_eq (sym h.1 ∙ e)))
+
 -- one token between two lists
 pub append_one : {T : Type 0} (x : List T) (t : T) (y : List T) → (x ++ t ∷ []) ++ y ≡ x ++ t ∷ y
 append_one x t y = append_assoc x (t ∷ []) y
