@@ -1,7 +1,7 @@
 -- The items of a SELECT keep the law.
 use Rattle.std.proofs.Common.{◌≡◌, ℕ, suc, ◌-◌, Bool, true, false, cond, ◌&&◌, ◌||◌, not, List, [], ◌∷◌, ◌++◌, length, take, drop, Option, Some, None, Ok, Err, inl, inr, refl, sym, ◌∙◌, ap, subst, append_assoc, append-nil, take-append-drop}
-use Rattle.grammar_rules.specs.Reading.{Class, Reading, Stop, syntax_at, limit_at, Rule, one, one_texts, both_texts, value_texts, as_value, optional, begins_in, given}
-use Rattle.grammar_rules.proofs.Laws.{Law, Reads, Took, Failed, Beyond, Fails, Shape, Stops, SameHead, Within, head_eq, tail_eq, and_true}
+use Rattle.grammar_rules.specs.Reading.{Class, Reading, Stop, syntax_at, limit_at, Rule, one_texts, both_texts, value_texts, as_value, begins_in, given}
+use Rattle.grammar_rules.proofs.Laws.{Law, Reads, Took, Failed, Fails, Shape, Stops, SameHead, Within, head_eq, tail_eq, and_true}
 use Rattle.grammar_rules.proofs.Chain.{none, or_false}
 use Rattle.grammar_rules.proofs.Follow.{follow_shape}
 use Rattle.grammar_rules.proofs.Build.{token, valued, wide, alt, opt, after_token, before_token}
@@ -326,7 +326,7 @@ module _ (text : List ℕ) (facts : Facts text) where
             let i = as_front (n ∷ []) p in
             let k = dotted_column t.name t.dot name t.is_dot in
             let o = h.only (t.dot ∷ sample word.Name ∷ []) (dotted_tokens t.name t.dot) [] k.0 (same_by_head left more t.dot (sample word.Name ∷ []) (t.star ∷ y) (tail_eq i) same)
-                (ap (λ z. z ++ t.dot ∷ sample word.Name ∷ []) p ∙ ap (λ z. z ∷ t.dot ∷ sample word.Name ∷ []) (head_eq i)) k.1 tt in
+            (ap (λ z. z ++ t.dot ∷ sample word.Name ∷ []) p ∙ ap (λ z. z ∷ t.dot ∷ sample word.Name ∷ []) (head_eq i)) k.1 tt in
             cc o.0
         by (n ∷ d ∷ []) p = let i = as_front (n ∷ d ∷ []) p in no_column_of_two n d v (head_eq i) (head_eq (tail_eq i)) (there (n ∷ d ∷ []) p)
         by (n ∷ d ∷ s ∷ m) p =
@@ -346,7 +346,7 @@ module _ (text : List ℕ) (facts : Facts text) where
             let name' : a_name n ≡ true = subst (λ (i : Token). a_name i ≡ true) (sym p) name in
             let l = short_name n (d ∷ h.more) h.value w name' in
             let j : is_starred text (n ∷ d ∷ t.star ∷ rest) ≡ true =
-                stars (a_name n) (is_long_name text n) (a word.Dot d) (a word.Star t.star) name' l (subst (λ (i : Token). a word.Dot i ≡ true) (sym p') t.is_dot) t.is_star in
+            stars (a_name n) (is_long_name text n) (a word.Dot d) (a word.Star t.star) name' l (subst (λ (i : Token). a word.Dot i ≡ true) (sym p') t.is_dot) t.is_star in
             let j' : is_starred text ts ≡ true = subst (λ z. is_starred text z ≡ true) (sym e) j in cc
 
         by : (front : List Token) → h.front ≡ front → ⊥

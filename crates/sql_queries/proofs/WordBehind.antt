@@ -1,8 +1,8 @@
 -- A text of E, and one of M behind it, where a word w may be a text of M by itself or go on behind a text of E: it goes on
 -- where an operand follows.
-use Rattle.std.proofs.Common.{◌≡◌, ℕ, suc, Bool, true, false, List, [], ◌∷◌, ◌++◌, length, Option, Some, None, Ok, Err, ◌⊎◌, inl, inr, refl, sym, ◌∙◌, ap, subst, append_assoc, append-nil, arith}
+use Rattle.std.proofs.Common.{◌≡◌, ℕ, Bool, true, false, List, [], ◌∷◌, ◌++◌, length, Option, Some, None, Ok, Err, ◌⊎◌, inl, inr, refl, sym, ◌∙◌, ap, subst, append_assoc, append-nil, arith}
 use Rattle.grammar_rules.specs.Reading.{Class, Reading, Stop, syntax_at, limit_at, Rule, ◌>>=◌, given, begins_in, both_texts}
-use Rattle.grammar_rules.proofs.Laws.{Stops, SameHead, Took, Failed, Beyond, Fails, Reads, Law, Within, head_eq, tail_eq, same_head, stops_within, pair_eq, took_within}
+use Rattle.grammar_rules.proofs.Laws.{Stops, SameHead, Took, Failed, Beyond, Fails, Reads, Law, Within, head_eq, tail_eq, same_head, stops_within, pair_eq}
 use Rattle.grammar_rules.proofs.Whole.{one_value}
 use Rattle.sql_queries.specs.Items.{left_of, stop_at}
 use Rattle.sql_queries.proofs.Splits.{Split, same, longer, shorter, split, same_self, same_by_head, same_behind, append_one}
@@ -230,9 +230,9 @@ module _ {T A N : Type 0} {E : Rule T A} {M : Rule T (Option N)} {f c g w n o : 
         by_last u [] p r = last (p ∙ ap (λ i. x ++ i ∷ []) (sym (head_eq r))) (tail_eq r)
         by_last u (l ∷ z) p r =
             let p' : h.front ++ h.more ≡ x ++ t ∷ (l ∷ (z ++ h.more)) =
-                ap (λ i. i ++ h.more) p ∙ append_assoc x (u ∷ l ∷ z) h.more ∙ ap (λ i. x ++ i ∷ l ∷ (z ++ h.more)) (sym (head_eq r)) in
+            ap (λ i. i ++ h.more) p ∙ append_assoc x (u ∷ l ∷ z) h.more ∙ ap (λ i. x ++ i ∷ l ∷ (z ++ h.more)) (sym (head_eq r)) in
             let j : begins_in n (l ∷ (z ++ h.more)) ≡ true =
-                s.opens x (l ∷ (z ++ h.more)) t a h.value (to x a v) (subst (λ i. E.free i h.value) p' (le.shape.within (h.front ++ h.more) h.value h.viable)) k in
+            s.opens x (l ∷ (z ++ h.more)) t a h.value (to x a v) (subst (λ i. E.free i h.value) p' (le.shape.within (h.front ++ h.more) h.value h.viable)) k in
             absurd (begun_stops (l ∷ z) more y j (tail_eq r) st)
 
         by : Split h.front more x (t ∷ y) → Place h.front more x y t
