@@ -24,7 +24,7 @@ module _ (text : List ℕ) where
   abbrev null_parts : Parts
   null_parts = only_part null_value
 
-  null_unary : (any text).unary.texts null_text null_value
+  pub null_unary : (any text).unary.texts null_text null_value
   null_unary = unary_to text null_text null_value (inr (inr (leaf.Null, (sample word.Null, inr (refl, refl), refl), refl)))
 
   null_product : (any text).product.texts null_text null_value
@@ -47,7 +47,7 @@ module _ (text : List ℕ) where
   null_expression : (any text).expression.texts null_text null_value
   null_expression = (null_parts, ((null_value, null_parts), (null_text, [], sym (append-nil null_text), null_conjunction, ([], (refl, refl))), refl), refl)
 
-  any_sample : Sample (any text)
+  pub any_sample : Sample (any text)
   any_sample = record { text = null_text; value = null_value; unary = null_unary; sum = null_sum; test = null_test; negation = null_negation; expression = null_expression }
 
   -- The two levels that stand in one another, in any room, over rules that keep the law where there is room.
