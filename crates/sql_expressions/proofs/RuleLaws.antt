@@ -24,7 +24,7 @@ module _ (text : List ℕ) where
   abbrev null_parts : Parts
   null_parts = only_part null_value
 
-  pub null_unary : (any text).unary.texts null_text null_value
+  null_unary : (any text).unary.texts null_text null_value
   null_unary = unary_to text null_text null_value (inr (inr (leaf.Null, (sample word.Null, inr (refl, refl), refl), refl)))
 
   null_product : (any text).product.texts null_text null_value
