@@ -4,6 +4,7 @@ pub mod LevelLaws
 pub mod LevelLimits
 pub mod Limited
 pub mod ParseLaws
+pub mod Places
 pub mod RoomLaws
 pub mod RuleLaws
 pub mod RuleLimits

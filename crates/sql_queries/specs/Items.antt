@@ -1,6 +1,6 @@
 -- The items of a SELECT (VI. SELECT, SELECT List). Without AS every word that may be a name is an alias, and BETWEEN is such
 -- a word: behind an expression it is an operator if an operand follows, and else an alias.
-use Rattle.std.specs.Prelude.{ℕ, suc, ◌-◌, ◌&&◌, ◌||◌, not, if◌then◌else◌, List, [], ◌∷◌, length, take, drop, Option, Some, None, Ok, Err}
+use Rattle.std.specs.Prelude.{ℕ, Bool, false, ◌-◌, ◌&&◌, ◌||◌, not, if◌then◌else◌, List, [], ◌∷◌, length, take, drop, Option, Some, None, Ok, Err}
 use Rattle.grammar_rules.specs.Reading.{Class, Reading, Rule, Stop, syntax_at, limit_at, one, both_texts, as_value, either, either_texts, optional, begins_in, given, ◌>>=◌}
 use Rattle.sql_tokens.specs.Contents.{name_in}
 use Rattle.sql_tokens.specs.declared.kind.Kind.TheVariants as word
@@ -82,7 +82,7 @@ pub data Item : Type 0 where
 
 -- name "." "*"
 abbrev pub starred : List ℕ → Rule Token Item
-starred text = as_value columns_of (plain_name text << word.Dot << word.Star)
+starred text = as_value columns_of ((plain_name text << word.Dot) << word.Star)
 
 -- the three tokens come, and the name is not too long
 abbrev pub is_starred : List ℕ → List Token → Bool

@@ -1,0 +1,4 @@
+pub mod EndedLaws
+pub mod ItemLaws
+pub mod Splits
+pub mod WordBehind
