@@ -91,7 +91,8 @@ pub fn commas<'a, P: Part>(
 
 /// Parts that stand behind one another: the next token says whether one more comes.
 pub trait Begun: Part {
-    ghost use Rattle.grammar_rules.specs.Reading.{Class};
+    ghost use Rattle.std.specs.Prelude.{◌≡◌};
+    ghost use Rattle.grammar_rules.specs.Reading.{Class, begins_in};
     ghost use Rattle.sql_tokens.specs.declared.token.Token.{Token as OneToken};
 
     ghost begins: { Class OneToken };

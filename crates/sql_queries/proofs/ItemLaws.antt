@@ -15,7 +15,8 @@ use Rattle.sql_expressions.specs.Words.{a, a_name, is_long_name, no_longer, name
 use Rattle.sql_expressions.proofs.LevelLaws.{begins_unary, after_expression}
 use Rattle.sql_expressions.proofs.RuleLaws.{expression_law}
 use Rattle.sql_expressions.proofs.WordLaws.{sample, apart, within, no_longer_law, name_law}
-use Rattle.sql_commands.specs.Grammar as commands
+use Rattle.sql_lists.specs.Lists as lists
+use Rattle.sql_lists.proofs.ListLaws.{plain_name_law}
 use Rattle.sql_queries.specs.Items.{Output, is_long_alias, alias, maybe_alias, begins_operand, left_of, stop_at, ended_at, place_of_word, before_word, behind_output, output, Item, columns_of, one_column, starred, is_starred, all_of_them, starred_or_output, item}
 use Rattle.sql_queries.proofs.WordBehind.{Stands, whole_read, read_is, reads_both, lone_word, stops_there, stops_behind}
 use Rattle.sql_queries.proofs.Splits.{same_self, same_by_head, rest_begins}
@@ -37,9 +38,6 @@ begins_alias t = a word.As t || a_name t
 
 abbrev pub after_item : Class Token
 after_item t = after_expression t || (begins_operand t || a word.As t)
-
-plain_name_law : (text : List ℕ) → Law (commands.plain_name text) a_name false none
-plain_name_law text = valued commands.said (name_law text)
 
 first_true : (b d : Bool) → (b && d) ≡ true → b ≡ true
 first_true true d h = refl
@@ -196,16 +194,16 @@ module _ (text : List ℕ) (facts : Facts text) where
   starred_text : (n d s : Token) → a_name n ≡ true → is_long_name text n ≡ false → a word.Dot d ≡ true → a word.Star s ≡ true → columns.texts (n ∷ d ∷ s ∷ []) (columns_of (name_in text n))
   starred_text n d s h l h' h'' =
       let k : (a_name n && not (is_long_name text n)) ≡ true = and_not (a_name n) (is_long_name text n) h l in
-      let v : (commands.plain_name text).texts (n ∷ []) (name_in text n) = (named text n, (n, (refl, k), refl), refl) in
+      let v : (lists.plain_name text).texts (n ∷ []) (name_in text n) = (named text n, (n, (refl, k), refl), refl) in
       (name_in text n, ((name_in text n, s), (n ∷ d ∷ [], s ∷ [], refl, ((name_in text n, d), (n ∷ [], d ∷ [], refl, v, (refl, h')), refl), (refl, h'')), refl), refl)
 
   abbrev not_too_long : Class Token
   not_too_long t = a_name t && not (is_long_name text t)
 
   three_free : (x : List Token) (b : Item) → columns.free x b → Three a_name x
-  three_free x b w = three (commands.plain_name text).free a_name one_name x b w
+  three_free x b w = three (lists.plain_name text).free a_name one_name x b w
     where
-      one_name : (y : List Token) (m : List ℕ) → (commands.plain_name text).free y m → (n : Token) × (y ≡ n ∷ []) × (a_name n ≡ true)
+      one_name : (y : List Token) (m : List ℕ) → (lists.plain_name text).free y m → (n : Token) × (y ≡ n ∷ []) × (a_name n ≡ true)
       one_name y m w = by w.1.0 w.1.1
         where
           by : (n : Token) → (no_longer a_name (is_long_name text)).free y n → (n : Token) × (y ≡ n ∷ []) × (a_name n ≡ true)
@@ -213,7 +211,7 @@ module _ (text : List ℕ) (facts : Facts text) where
           by n (inr v) = (n, v.0, first_true (a_name n) _ v.1)
 
   three_within : (x : List Token) (b : Item) → columns.texts x b → Three not_too_long x
-  three_within x b w = three (commands.plain_name text).texts not_too_long (λ y m w. (w.1.0, w.1.1.0, w.1.1.1)) x b w
+  three_within x b w = three (lists.plain_name text).texts not_too_long (λ y m w. (w.1.0, w.1.1.0, w.1.1.1)) x b w
 
   -- behind a name and a point, at their end or before a star, no output stops
   abbrev Starry : List Token → Type 0
