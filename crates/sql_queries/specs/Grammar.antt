@@ -129,7 +129,7 @@ update_texts text = word.Update >> plain_name text & set_alias text & word.Set >
 abbrev pub behind_alias : List ℕ → List ℕ → Rule Token (Option (List ℕ) × List Setting)
 behind_alias text alias = as_value (λ (xs : List Setting). (Some alias, xs)) (word.Set >> commas (assignment text))
 
-abbrev pub aliased : List ℕ → Rule Token (Option (List ℕ) × List Setting) 
+abbrev pub aliased : List ℕ → Rule Token (Option (List ℕ) × List Setting)
 aliased text = as_value second_of (word.As >> follow (plain_name text) (behind_alias text))
 
 abbrev pub named_so : List ℕ → Rule Token (Option (List ℕ) × List Setting)

@@ -9,11 +9,11 @@ use Rattle.sql_queries.specs.declared.parts.NamedTable.{NamedTable}
 use Rattle.sql_queries.specs.declared.parts.SelectItem.{SelectItem}
 use Rattle.sql_queries.specs.declared.parts.SelectItem.TheVariants as items
 use Rattle.sql_queries.specs.declared.parts.SortKey.{SortKey}
-use Rattle.sql_queries.specs.declared.query.Query.{Query}
-use Rattle.sql_queries.specs.declared.query.Query.TheVariants as queries
-use Rattle.sql_queries.specs.declared.query.RowStatement.{RowStatement}
-use Rattle.sql_queries.specs.declared.query.RowStatement.TheVariants as statements
-use Rattle.sql_queries.specs.declared.query.Select.{Select}
+use Rattle.sql_queries.specs.declared.statements.Query.{Query}
+use Rattle.sql_queries.specs.declared.statements.Query.TheVariants as queries
+use Rattle.sql_queries.specs.declared.statements.RowStatement.{RowStatement}
+use Rattle.sql_queries.specs.declared.statements.RowStatement.TheVariants as statements
+use Rattle.sql_queries.specs.declared.statements.Select.{Select}
 
 -- a table of FROM, and the condition of ON where it is joined
 abbrev pub Joined : Type 0

@@ -10,8 +10,15 @@
 //! Names are folded, and nothing is looked up.
 #![tactic(auto)]
 
+mod changes;
+mod from;
+mod items;
 mod parts;
-mod query;
+mod prepared;
+mod queries;
+mod statements;
+mod selects;
 
 pub use parts::{Assignment, FromItem, NamedTable, SelectItem, SortKey};
-pub use query::{Delete, Insert, Query, RowStatement, Select, Update};
+pub use queries::{no_two_queries, parse_query, query, whole_query};
+pub use statements::{Delete, Insert, Query, RowStatement, Select, Update};
