@@ -1,5 +1,5 @@
 -- The items of a SELECT keep the law.
-use Rattle.std.proofs.Common.{◌≡◌, ℕ, suc, ◌-◌, Bool, true, false, cond, ◌&&◌, ◌||◌, not, List, [], ◌∷◌, ◌++◌, length, take, drop, Option, Some, None, Ok, Err, inl, inr, refl, sym, ◌∙◌, ap, subst, append_assoc, append-nil, take-append-drop}
+use Rattle.std.proofs.Common.{◌≡◌, ℕ, ◌-◌, Bool, true, false, cond, ◌&&◌, ◌||◌, not, List, [], ◌∷◌, ◌++◌, length, take, drop, Option, Some, None, Ok, Err, inl, inr, refl, sym, ◌∙◌, ap, subst, append_assoc, append-nil, take-append-drop}
 use Rattle.grammar_rules.specs.Reading.{Class, Reading, Stop, syntax_at, limit_at, Rule, one_texts, both_texts, value_texts, as_value, begins_in, given}
 use Rattle.grammar_rules.proofs.Laws.{Law, Reads, Took, Failed, Fails, Shape, Stops, SameHead, Within, head_eq, tail_eq, and_true}
 use Rattle.grammar_rules.proofs.Chain.{none, or_false}
@@ -12,7 +12,7 @@ use Rattle.sql_expressions.specs.Grammar.{expression}
 use Rattle.sql_expressions.specs.Levels.{begins_expression}
 use Rattle.sql_expressions.specs.Tree.{Tree}
 use Rattle.sql_expressions.specs.Words.{a, a_name, is_long_name, no_longer, named}
-use Rattle.sql_expressions.proofs.LevelLaws.{begins_unary, after_expression}
+use Rattle.sql_expressions.proofs.LevelLaws.{after_expression}
 use Rattle.sql_expressions.proofs.Places as places
 use Rattle.sql_expressions.proofs.RuleLaws.{expression_law}
 use Rattle.sql_expressions.proofs.WordLaws.{sample, apart, within, no_longer_law, name_law}
