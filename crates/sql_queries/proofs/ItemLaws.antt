@@ -1,5 +1,5 @@
 -- The items of a SELECT keep the law.
-use Rattle.std.proofs.Common.{◌≡◌, ℕ, suc, ◌-◌, Bool, true, false, cond, ◌&&◌, ◌||◌, not, List, [], ◌∷◌, ◌++◌, length, take, drop, Option, Some, None, Ok, Err, inl, inr, refl, sym, ◌∙◌, ap, subst, append_assoc, append-nil, take-append-drop}
+use Rattle.std.proofs.Common.{◌≡◌, ℕ, ◌-◌, Bool, true, false, cond, ◌&&◌, ◌||◌, not, List, [], ◌∷◌, ◌++◌, length, take, drop, Option, Some, None, Ok, Err, inl, inr, refl, sym, ◌∙◌, ap, subst, append_assoc, append-nil, take-append-drop}
 use Rattle.grammar_rules.specs.Reading.{Class, Reading, Stop, syntax_at, limit_at, Rule, one_texts, both_texts, value_texts, as_value, begins_in, given}
 use Rattle.grammar_rules.proofs.Laws.{Law, Reads, Took, Failed, Fails, Shape, Stops, SameHead, Within, head_eq, tail_eq, and_true}
 use Rattle.grammar_rules.proofs.Chain.{none, or_false}
@@ -12,7 +12,8 @@ use Rattle.sql_expressions.specs.Grammar.{expression}
 use Rattle.sql_expressions.specs.Levels.{begins_expression}
 use Rattle.sql_expressions.specs.Tree.{Tree}
 use Rattle.sql_expressions.specs.Words.{a, a_name, is_long_name, no_longer, named}
-use Rattle.sql_expressions.proofs.LevelLaws.{begins_unary, after_expression}
+use Rattle.sql_expressions.proofs.LevelLaws.{after_expression}
+use Rattle.sql_expressions.proofs.Places as places
 use Rattle.sql_expressions.proofs.RuleLaws.{expression_law}
 use Rattle.sql_expressions.proofs.WordLaws.{sample, apart, within, no_longer_law, name_law}
 use Rattle.sql_lists.specs.Lists as lists
@@ -21,16 +22,6 @@ use Rattle.sql_queries.specs.Items.{Output, is_long_alias, alias, maybe_alias, b
 use Rattle.sql_queries.proofs.WordBehind.{Stands, whole_read, read_is, reads_both, lone_word, stops_there, stops_behind}
 use Rattle.sql_queries.proofs.Splits.{same_self, same_by_head, rest_begins}
 use Rattle.sql_queries.proofs.EndedLaws.{Ended, ended_at_is, placed, not_missed}
-
--- What expressions say of a word BETWEEN behind them, and of a name before a point.
-pub record Facts (text : List ℕ) : Type 0 where
-  pub opens_between : (y m : List Token) (t : Token) (d e : Tree) → (expression text).free y d → (expression text).free (y ++ t ∷ m) e → a word.Between t ≡ true → begins_in begins_unary m ≡ true
-  pub goes_on_between : (y m : List Token) (t u : Token) (d e : Tree) → (expression text).free y d → (expression text).free (y ++ t ∷ m) e → a word.Between t ≡ true → begins_unary u ≡ true → (more : List Token) × (c : Tree) × (expression text).free (y ++ t ∷ u ∷ more) c
-  pub not_starred : (n d s : Token) (m : List Token) (e : Tree) → a_name n ≡ true → a word.Dot d ≡ true → a word.Star s ≡ true → (expression text).free (n ∷ d ∷ s ∷ m) e → ⊥
-  pub not_dot_last : (n d : Token) (e : Tree) → a_name n ≡ true → a word.Dot d ≡ true → (expression text).free (n ∷ d ∷ []) e → ⊥
-  pub dotted : (n d : Token) → a_name n ≡ true → a word.Dot d ≡ true → (c : Tree) × (expression text).free (n ∷ d ∷ sample word.Name ∷ []) c
-  pub dotted_within : (n d : Token) → a_name n ≡ true → is_long_name text n ≡ false → a word.Dot d ≡ true → (c : Tree) × (expression text).texts (n ∷ d ∷ sample word.Name ∷ []) c
-  pub long_name_stops : (n : Token) (ts : List Token) → a_name n ≡ true → is_long_name text n ≡ true → (expression text).read (n ∷ ts) ≡ Err (limit_at (suc (length ts)))
 
 -- what begins an alias, and what may go on behind an item
 abbrev pub begins_alias : Class Token
@@ -108,7 +99,7 @@ three P c one_name x b w =
       is_star = v.4.1;
     }
 
-module _ (text : List ℕ) (facts : Facts text) where
+module _ (text : List ℕ) where
   between_alone : (t : Token) (x : List Token) (b : Option (List ℕ)) → (maybe_alias text).free (t ∷ x) b → a word.Between t ≡ true → (x ≡ []) × (b ≡ Some (name_in text t))
   between_alone t x b (inl w) h =
       let v = w.1.1 in
@@ -126,8 +117,8 @@ module _ (text : List ℕ) (facts : Facts text) where
     alone = λ t h. inr (inl (name_in text t, (t, (refl, fits (a_name t) (is_long_name text t) (a word.Between t) (between_is_name t h) h), refl), refl));
     only_alone = between_alone;
     empty = inr (inr (refl, refl));
-    opens = facts.opens_between;
-    goes_on = facts.goes_on_between;
+    opens = places.opens_between text;
+    goes_on = places.goes_on_between text;
     is_word = λ t h k. only_between t (and_true (begins_alias t) (after_expression t) h k);
     word_within = within (a word.Between) after_item (λ t. refl) refl;
     behind_within = within after_expression after_item (λ t. refl) refl;
@@ -236,9 +227,9 @@ module _ (text : List ℕ) (facts : Facts text) where
       by [] k r = let i = (expression_law text).shape.empty v.0 k in cc
       by (n' ∷ []) k r = dot_goes_on d m w.1 y v.1 h' (tail_eq r) w.4 st
       by (n' ∷ d' ∷ []) k r =
-          facts.not_dot_last n' d' v.0 (subst (λ (i : Token). a_name i ≡ true) (head_eq r) h) (subst (λ (i : Token). a word.Dot i ≡ true) (head_eq (tail_eq r)) h') k
+          places.not_dot_last text n' d' v.0 (subst (λ (i : Token). a_name i ≡ true) (head_eq r) h) (subst (λ (i : Token). a word.Dot i ≡ true) (head_eq (tail_eq r)) h') k
       by (n' ∷ d' ∷ s ∷ u) k r =
-          facts.not_starred n' d' s u v.0 (subst (λ (i : Token). a_name i ≡ true) (head_eq r) h) (subst (λ (i : Token). a word.Dot i ≡ true) (head_eq (tail_eq r)) h') (star s (u ++ (w.1 ++ y)) (tail_eq (tail_eq r))) k
+          places.not_starred text n' d' s u v.0 (subst (λ (i : Token). a_name i ≡ true) (head_eq r) h) (subst (λ (i : Token). a word.Dot i ≡ true) (head_eq (tail_eq r)) h') (star s (u ++ (w.1 ++ y)) (tail_eq (tail_eq r))) k
 
   starry : (s : Token) (m : List Token) → a word.Star s ≡ true → Starry (s ∷ m)
   starry s m h t l q = subst (λ (i : Token). a word.Star i ≡ true) (head_eq q) h
@@ -250,7 +241,7 @@ module _ (text : List ℕ) (facts : Facts text) where
       stopped : (u : List Token) (e : Tree) → (expression text).texts (n ∷ u) e → is_long_name text n ≡ true → ⊥
       stopped u e k l =
           let r = whole_read (expression_law text) (n ∷ u) [] e e ((expression_law text).shape.within (n ∷ u) e k) (subst (λ z. (expression text).texts z e) (sym (append-nil (n ∷ u))) k) in
-          let i = sym (facts.long_name_stops n u h l) ∙ r.1 in cc i
+          let i = sym (places.long_name_stops text n u h l) ∙ r.1 in cc i
 
       begun : (u : List Token) → (expression text).texts u w.0.0 → n ∷ m ≡ u ++ w.1.1 → is_long_name text n ≡ true → ⊥
       begun [] k q l = let i = (expression_law text).shape.empty w.0.0 ((expression_law text).shape.within [] w.0.0 k) in cc
@@ -291,12 +282,12 @@ module _ (text : List ℕ) (facts : Facts text) where
 
   dotted_column : (n d : Token) → a_name n ≡ true → a word.Dot d ≡ true → (b : Item) × column.free (dotted_tokens n d) b
   dotted_column n d h h' =
-      let k = facts.dotted n d h h' in
+      let k = places.dotted text n d h h' in
       (one_column (k.0, None), ((k.0, None), (dotted_tokens n d, [], refl, k.1, inr (inr (refl, refl))), refl))
 
   dotted_column_within : (n d : Token) → a_name n ≡ true → is_long_name text n ≡ false → a word.Dot d ≡ true → (b : Item) × column.texts (dotted_tokens n d) b
   dotted_column_within n d h l h' =
-      let k = facts.dotted_within n d h l h' in
+      let k = places.dotted_within text n d h h' l in
       (one_column (k.0, None), ((k.0, None), (dotted_tokens n d, [], refl, k.1, inr (inr (refl, refl))), refl))
 
   module _ (c : Class Token) (x : List Token) (t : Three c x) (name : a_name t.name ≡ true) where

@@ -51,22 +51,18 @@ module _ {T A : Type 0} {E : Rule T A} {f c : Class T} (le : Law E f false c) wh
       subst (λ z. E.texts z e) (sym (k.whole ∙ append-nil k.front)) k.is
 
   -- where a text goes on to one within the limits, the next token may go on behind a text
-  goes_by : (x z : List T) (u : T) (a b : A) (r : Reading T A) → Reads E.texts E.free c (x ++ u ∷ z) r → E.free x a → E.texts (x ++ u ∷ z) b → c u ≡ false → ⊥
-  goes_by x z u a b (Ok (e, rest)) h w k s =
-      let o = h.only rest x (u ∷ z) a (same_self rest) (sym h.whole) w s in
-      let i = h.only rest (x ++ u ∷ z) [] b (same_self rest) (sym h.whole ∙ sym (append-nil (x ++ u ∷ z))) (le.shape.within (x ++ u ∷ z) b k) tt in
-      cc (o.0, i.0)
-  goes_by x z u a b (Err (syntax_at n)) h w k s =
-      h.dead h.rest (x ++ u ∷ z) [] b (same_self h.rest) (sym h.whole ∙ sym (append-nil (x ++ u ∷ z))) (le.shape.within (x ++ u ∷ z) b k) tt
-  goes_by x z u a b (Err (limit_at n)) h w k s =
-      h.0.dead h.0.rest (x ++ u ∷ z) [] b (same_self h.0.rest) (sym h.0.whole ∙ sym (append-nil (x ++ u ∷ z))) k tt
-
   pub goes_behind : (x z : List T) (u : T) (a b : A) → E.free x a → E.texts (x ++ u ∷ z) b → c u ≡ true
   goes_behind x z u a b w k = by (c u) refl
     where
+      ts : List T
+      ts = x ++ u ∷ z
+
       by : (d : Bool) → c u ≡ d → c u ≡ true
       by true e = e
-      by false e = absurd (goes_by x z u a b (E.read (x ++ u ∷ z)) (le.reads (x ++ u ∷ z)) w k e)
+      by false e =
+          let r = whole_read ts [] b b (le.shape.within ts b k) (subst (λ i. E.texts i b) (sym (append-nil ts)) k) in
+          let h : Took E.texts E.free c ts r.0 [] = subst (Reads E.texts E.free c ts) r.1 (le.reads ts) in
+          let i = h.only [] x (u ∷ z) a refl (sym h.whole) w e in cc i.0
 
 module _ {T A N : Type 0} {E : Rule T A} {M : Rule T (Option N)} {f c g w n o : Class T} {named : T → N} (le : Law E f false c) (lm : Law M g true g) (s : Stands E M c g w n o named) where
   abbrev PO : List T → A × Option N → Type 0
@@ -173,50 +169,45 @@ module _ {T A N : Type 0} {E : Rule T A} {M : Rule T (Option N)} {f c g w n o : 
     reads_both (Err (limit_at m)) k = (failed_both E.texts M.texts le.shape.within lm.shape.within m k.0, beyond_both m k.1)
 
   -- The tokens before the word are a text of E, and no operand follows: the word is a text of M.
+  module _ (x : List T) (t : T) (e : A) (is : E.texts x e) (k : w t ≡ true) (more : List T) (d : begins_in n more ≡ false) (l : List T) (b : Option N) (m : M.free l b) (y : List T) (st : Stops o y) where
+    -- the text of M, directly behind them
+    is_lone : (z : List T) → M.free z b → t ∷ more ≡ z ++ y → (y ≡ more) × (b ≡ Some (named t))
+    is_lone [] i q = absurd (word_stops t more y k (sym q) st)
+    is_lone (u ∷ z) i q =
+        let j = s.only_alone u z b i (subst (λ v. w v ≡ true) (head_eq q) k) in
+        (ap (λ v. v ++ y) (sym j.0) ∙ sym (tail_eq q), j.1 ∙ ap (λ v. Some (named v)) (sym (head_eq q)))
+
+    -- a text of E that goes on behind the word
+    goes_past : (z v : List T) → begins_in n z ≡ true → more ≡ z ++ v → ⊥
+    goes_past [] v i q = cc
+    goes_past (u ∷ z) v i q = let j : begins_in n (u ∷ (z ++ v)) ≡ false = subst (λ p. begins_in n p ≡ false) q d in cc
+
+    -- a text of E that ends before them, at the token p
+    ends_before : (u : List T) (p : T) (v : List T) (a : A) → E.free u a → E.texts (u ++ p ∷ v) e → (z : List T) → M.free z b → p ∷ (v ++ t ∷ more) ≡ z ++ y → ⊥
+    ends_before u p v a i h [] j q = let q' : o p ≡ false = subst (Stops o) (sym q) st in let q'' : o p ≡ true = s.behind_within p (goes_behind le u v p a e i h) in cc
+    ends_before u p v a i h (r ∷ z) j q =
+        let g' : g p ≡ true = subst (λ i. g i ≡ true) (sym (head_eq q)) (lm.shape.begins r z b j) in
+        let w' : w p ≡ true = s.is_word p g' (goes_behind le u v p a e i h) in
+        let r' = s.only_alone r z b j (subst (λ i. w i ≡ true) (head_eq q) w') in
+        begun_stops v (t ∷ more) y (s.opens u v p a e i (le.shape.within (u ++ p ∷ v) e h) w') (ap (λ i. i ++ y) (sym r'.0) ∙ sym (tail_eq q)) st
+
+    by_split : (u : List T) (a : A) → E.free u a → Split x (t ∷ more) u (l ++ y) → (y ≡ more) × (a ≡ e) × (b ≡ Some (named t))
+    by_split u a i (same p q) = let j = is_lone l m q in (j.0, one_value le x e a is (subst (λ z. E.free z a) (sym p) i), j.1)
+    by_split u a i (longer v z p q) =
+        let h : E.free (x ++ t ∷ z) a = subst (λ r. E.free r a) (p ∙ ap (λ r. x ++ r ∷ z) (sym (head_eq q))) i in
+        absurd (goes_past z (l ++ y) (s.opens x z t e a (le.shape.within x e is) h k) (tail_eq q))
+    by_split u a i (shorter v z p q) = absurd (ends_before u v z a i (subst (λ r. E.texts r e) p is) l m (sym q))
+
   module _ (x : List T) (t : T) (rest : List T) (e : A) (is : E.texts x e) (k : w t ≡ true) where
-    by_lone_word : (more u y : List T) (a : A) → begins_in n more ≡ false → x ++ t ∷ more ≡ u ++ y → E.free u a → (z : List T) (b : Option N) → M.free z b → (v : List T) → y ≡ z ++ v → Stops o v → (v ≡ more) × ((a ≡ e) × (b ≡ Some (named t)))
-    by_lone_word more u y a d q i z b m v q' st = by (split x (t ∷ more) u y q)
-      where
-        alone : (z : List T) → M.free z b → t ∷ more ≡ z ++ v → (v ≡ more) × (b ≡ Some (named t))
-        alone [] j r = absurd (word_stops t more v k (sym r) st)
-        alone (l ∷ z) j r =
-            let j' = s.only_alone l z b j (subst (λ p. w p ≡ true) (head_eq r) k) in
-            (ap (λ p. p ++ v) (sym j'.0) ∙ sym (tail_eq r), j'.1 ∙ ap (λ p. Some (named p)) (sym (head_eq r)))
-
-        deeper : (z : List T) → begins_in n z ≡ true → more ≡ z ++ y → ⊥
-        deeper [] j r = cc
-        deeper (l ∷ z) j r = let j' : begins_in n (l ∷ (z ++ y)) ≡ false = subst (λ p. begins_in n p ≡ false) r d in cc
-
-        before : (p : T) (l : List T) → x ≡ u ++ p ∷ l → (z : List T) → M.free z b → p ∷ (l ++ t ∷ more) ≡ z ++ v → ⊥
-        before p l r z j r' = by_first z j r'
-          where
-            goes : c p ≡ true
-            goes = goes_behind le u l p a e i (subst (λ o'. E.texts o' e) r is)
-
-            by_first : (z : List T) → M.free z b → p ∷ (l ++ t ∷ more) ≡ z ++ v → ⊥
-            by_first [] j r' = let st' : o p ≡ false = subst (Stops o) (sym r') st in let st'' : o p ≡ true = s.behind_within p goes in cc
-            by_first (o' ∷ z) j r' =
-                let k' : w p ≡ true = s.is_word p (subst (λ i'. g i' ≡ true) (sym (head_eq r')) (lm.shape.begins o' z b j)) goes in
-                let j' = s.only_alone o' z b j (subst (λ i'. w i' ≡ true) (head_eq r') k') in
-                begun_stops l (t ∷ more) v (s.opens u l p a e i (le.shape.within (u ++ p ∷ l) e (subst (λ i'. E.texts i' e) r is)) k')
-                (ap (λ i'. i' ++ v) (sym j'.0) ∙ sym (tail_eq r')) st
-
-        by : Split x (t ∷ more) u y → (v ≡ more) × ((a ≡ e) × (b ≡ Some (named t)))
-        by (same p r) =
-            let j = alone z m (r ∙ q') in
-            (j.0, (one_value le x e a is (subst (λ l. E.free l a) (sym p) i), j.1))
-        by (longer p z' r r') =
-            absurd (deeper z' (s.opens x z' t e a (le.shape.within x e is) (subst (λ l. E.free l a) (r ∙ ap (λ l. x ++ l ∷ z') (sym (head_eq r'))) i) k) (tail_eq r'))
-        by (shorter p l r r') = absurd (before p l r z m (sym r' ∙ q'))
-
     pub lone_word : (ts : List T) → ts ≡ x ++ t ∷ rest → begins_in n rest ≡ false → Took PO UO o ts (e, Some (named t)) rest
     lone_word ts q d = record {
       front = x ++ t ∷ [];
       whole = q ∙ sym (append_one x t rest);
       is = (x, t ∷ [], refl, is, s.alone t k);
       only = λ more u y v e' q' i st.
-          let j = by_lone_word more i.0 (i.1 ++ y) v.0 (same_not_begun rest more d e') (sym (append_one x t more) ∙ q' ∙ ap (λ z. z ++ y) i.2 ∙ append_assoc i.0 i.1 y) i.3 i.1 v.1 i.4 y refl st in
-          (j.0, pair_eq v (e, Some (named t)) j.1.0 j.1.1);
+          let r = sym (append_one x t more) ∙ q' ∙ ap (λ z. z ++ y) i.2 ∙ append_assoc i.0 i.1 y in
+          let j = by_split x t e is k more (same_not_begun rest more d e') i.1 v.1 i.4 y st i.0 v.0 i.3 (split x (t ∷ more) i.0 (i.1 ++ y) r) in
+          (j.0, pair_eq v (e, Some (named t)) j.1 j.2);
     }
 
   -- A reader of E failed.
