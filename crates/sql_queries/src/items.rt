@@ -17,7 +17,7 @@ use std::alloc::Global;
 
 /// An expression, and its alias.
 #[derive(Debug, Drop)]
-pub struct Output {
+pub struct OutputColumn {
     pub value: Expr,
     pub alias: Option<PgText>,
 }
@@ -152,7 +152,7 @@ fn stopped<'a>(
     text: &[u8],
     tokens: &'a [Token],
     stop: Refused,
-) -> Result<(Output, &'a [Token]), Refused>
+) -> Result<(OutputColumn, &'a [Token]), Refused>
     ensures { Gives (λ x. (output_tree x.0, x.1.now)) result (items.before_word text.now (stop_of stop) (items.ended_at text.now (items.place_of_word (length tokens.now - items.left_of (stop_of stop)) tokens.now) tokens.now)) }
 {
     let read = tokens.len().saturating_sub(left_of(stop));
@@ -163,7 +163,7 @@ fn stopped<'a>(
         return Err(stop_at(stop, ended.rest.len()));
     }
     let alias = Some(name_of(alloc, text, ended.word)?);
-    let output = Output {
+    let output = OutputColumn {
         value: ended.value,
         alias,
     };
@@ -174,13 +174,13 @@ fn output<'a>(
     alloc: Global,
     text: &[u8],
     tokens: &'a [Token],
-) -> Result<(Output, &'a [Token]), Refused>
+) -> Result<(OutputColumn, &'a [Token]), Refused>
     ensures { Gives (λ x. (output_tree x.0, x.1.now)) result ((items.output text.now).read tokens.now) }
 {
     match expression(alloc, text, tokens) {
         Ok((value, rest)) => {
             let (alias, rest) = maybe_alias(alloc, text, rest)?;
-            Ok((Output { value, alias }, rest))
+            Ok((OutputColumn { value, alias }, rest))
         }
         Err(Refused::NoMemory) => Err(Refused::NoMemory),
         Err(Refused::Syntax(left)) => stopped(alloc, text, tokens, Refused::Syntax(left)),

@@ -85,6 +85,7 @@ fn arguments<'a>(
 }
 
 /// EXECUTE with the name and the arguments.
+#[derive(Drop)]
 pub(crate) struct Execution {
     pub name: PgText,
     pub arguments: ExprList,
