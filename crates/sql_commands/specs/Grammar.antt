@@ -70,6 +70,14 @@ is_other_name k t = a_name t && not (a k t)
 abbrev pub other_name : List ℕ → Kind → Rule Token (List ℕ)
 other_name text k = as_value (name_in text) (no_longer (is_other_name k) (λ t. is_long_name text t && not (a k t)))
 
+-- the word k, where it may be a name: of tokens at will it is no longer than a name may be
+abbrev pub name_word : List ℕ → Kind → Rule Token Token
+name_word text k = no_longer (a k) (λ t. a k t && is_long_name text t)
+
+-- the texts of p, read as q reads
+abbrev pub read_as : {A : Type 0} → Rule Token A → Rule Token A → Rule Token A
+read_as p q = record { texts = p.texts; free = p.free; read = q.read }
+
 abbrev pub number : List ℕ → Rule Token ℕ
 number text = as_value (number_in text) (one (a word.Number))
 
@@ -239,10 +247,16 @@ abbrev pub create : List ℕ → Rule Token CommandTree
 create text = as_value second_of (word.Create >> word.Table >> follow (plain_name text) (made text))
 
 -- drop = "DROP" "TABLE" [ "IF" "EXISTS" ] name { "," name } [ "CASCADE" | "RESTRICT" ]
--- IF may be a name, so it is read first, and EXISTS behind it decides
 abbrev pub is_behavior : Class Token
 is_behavior = one_of word.Cascade word.Restrict
 
+abbrev pub if_exists : List ℕ → Rule Token Bool
+if_exists text = either (a word.If) (means true (name_word text word.If & one (a word.Exists))) (nothing false)
+
+abbrev pub tables : List ℕ → Rule Token (Bool × List (List ℕ))
+tables text = if_exists text & commas (plain_name text)
+
+-- IF may be a name, so a name is read first, and EXISTS behind it decides
 abbrev pub drop_value : Bool → List (List ℕ) → Bool × List (List ℕ)
 drop_value if_there names = (if_there, names)
 
@@ -251,8 +265,11 @@ dropped_behind text x =
     either_if (words.is x.0 word.If) (a word.Exists) (as_value (drop_value true) (word.Exists >> commas (plain_name text)))
     (as_value (drop_value false) (more_commas (plain_name text) (x.1 ∷ [])))
 
+abbrev pub dropped_by_name : List ℕ → Rule Token (Bool × List (List ℕ))
+dropped_by_name text = as_value second_of (follow (name text) (dropped_behind text))
+
 abbrev pub dropped : List ℕ → Rule Token (Bool × List (List ℕ))
-dropped text = as_value second_of (follow (name text) (dropped_behind text))
+dropped text = read_as (tables text) (dropped_by_name text)
 
 abbrev pub drop_tree : (Bool × List (List ℕ)) × Option Token → CommandTree
 drop_tree x = drops x.0.0 x.0.1
@@ -328,7 +345,17 @@ abbrev pub lock : List ℕ → Rule Token CommandTree
 lock text = as_value lock_value (word.Lock >> maybe (a word.Table) & commas (locked text) & maybe_mode)
 
 -- dealloc = "DEALLOCATE" [ "PREPARE" ] ( name | "ALL" ), where TRANSACTION is no name behind PREPARE
--- PREPARE may be a name, so it is read first, and what stands behind it decides
+abbrev pub name_behind : List ℕ → Option Token → Rule Token (List ℕ)
+name_behind text None = plain_name text
+name_behind text (Some prepare) = other_name text word.Transaction
+
+abbrev pub all_or_name : List ℕ → Option Token → Rule Token CommandTree
+all_or_name text o = either (a word.All) (means deallocates_all (one (a word.All))) (as_value deallocates (name_behind text o))
+
+abbrev pub prepared : List ℕ → Rule Token CommandTree
+prepared text = as_value second_of (follow (optional (a word.Prepare) (name_word text word.Prepare)) (all_or_name text))
+
+-- PREPARE may be a name, so a name is read first, and what stands behind it decides
 abbrev pub behind_prepare : List ℕ → List ℕ → Rule Token CommandTree
 behind_prepare text prepare =
     either (a word.All) (means deallocates_all (one (a word.All)))
@@ -341,9 +368,11 @@ behind_if text name false = nothing (deallocates name)
 abbrev pub behind_deallocate : List ℕ → Kind × List ℕ → Rule Token CommandTree
 behind_deallocate text x = behind_if text x.1 (words.is x.0 word.Prepare)
 
+abbrev pub prepared_by_name : List ℕ → Rule Token CommandTree
+prepared_by_name text = either (a word.All) (means deallocates_all (one (a word.All))) (as_value second_of (follow (name text) (behind_deallocate text)))
+
 abbrev pub deallocate : List ℕ → Rule Token CommandTree
-deallocate text =
-    word.Deallocate >> either (a word.All) (means deallocates_all (one (a word.All))) (as_value second_of (follow (name text) (behind_deallocate text)))
+deallocate text = word.Deallocate >> read_as (prepared text) (prepared_by_name text)
 
 -- command = begin | finish | set | create | drop | alter | lock | dealloc
 abbrev pub begins_begin : Class Token
