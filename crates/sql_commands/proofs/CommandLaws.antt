@@ -4,7 +4,7 @@ use Rattle.grammar_rules.specs.Reading.{Class, Rule, one, as_value}
 use Rattle.grammar_rules.specs.Rows.{second_of}
 use Rattle.grammar_rules.proofs.Laws.{Law, Disjoint, Within}
 use Rattle.grammar_rules.proofs.Chain.{none, with}
-use Rattle.grammar_rules.proofs.Build.{token, empty, valued, wide, seq, then_by, alt, opt, after_token, before_token, more, chained, said}
+use Rattle.grammar_rules.proofs.Build.{token, empty, valued, wide, seq, then_by, alt, opt, after_token, before_token, more, chained}
 use Rattle.sql_tokens.specs.Contents.{name_in, number_in}
 use Rattle.sql_tokens.specs.Words as words
 use Rattle.sql_tokens.specs.declared.kind.Kind.{Kind}
@@ -22,7 +22,7 @@ use Rattle.sql_commands.specs.declared.commands.Isolation.TheVariants as isolati
 use Rattle.sql_commands.specs.declared.commands.SettingValue.TheVariants as setting
 use Rattle.sql_commands.specs.declared.commands.LockMode.{LockMode}
 use Rattle.sql_commands.specs.declared.commands.LockMode.TheVariants as mode
-use Rattle.sql_commands.proofs.NameFirst.{dropped_to, dropped_from, dropped_free_to, dropped_free_from, prepared_to, prepared_from, prepared_free_to, prepared_free_from}
+use Rattle.sql_commands.proofs.NameFirst.{dropped_texts, dropped_free, prepared_texts, prepared_free, read_as_law}
 use Rattle.sql_commands.proofs.TextLaws.{by_text_law}
 
 -- pieces
@@ -201,7 +201,7 @@ dropped_law_by text false names =
 
 dropped_law : (text : List ℕ) → Law (grammar.dropped text) a_name false exists_or_comma
 dropped_law text =
-    wide (said (grammar.tables text).texts (grammar.tables text).free (dropped_to text) (dropped_from text) (dropped_free_to text) (dropped_free_from text)
+    wide (read_as_law (grammar.tables text) (grammar.dropped_by_name text) (dropped_texts text) (dropped_free text)
     (valued second_of (then_by (name_law text) (λ x. dropped_law_by text (words.is x.0 word.If) (x.1 ∷ [])) (λ k h. refl))))
     (within _ _ (λ t. refl) refl) (within _ _ (λ t. refl) refl)
 
@@ -295,7 +295,7 @@ behind_law_by text name false = wide (empty (deallocates name)) (λ k h. cc) (λ
 deallocate_law : (text : List ℕ) → Law (grammar.deallocate text) (a word.Deallocate) false all_or_name
 deallocate_law text =
     wide (after_token (a word.Deallocate) (sample word.Deallocate) refl
-    (said (grammar.prepared text).texts (grammar.prepared text).free (prepared_to text) (prepared_from text) (prepared_free_to text) (prepared_free_from text)
+    (read_as_law (grammar.prepared text) (grammar.prepared_by_name text) (prepared_texts text) (prepared_free text)
     (alt (a word.All) all_law (λ k h. h) (valued second_of (then_by (name_law text) (λ x. behind_law_by text x.1 (words.is x.0 word.Prepare)) (λ k h. refl))) (apart _ _ (λ t. refl) refl))))
     (λ k h. h) (within _ _ (λ t. refl) refl)
 

@@ -3,10 +3,11 @@
 use Rattle.std.proofs.Common.{◌≡◌, ℕ, Bool, true, false, ◌&&◌, not, List, [], ◌∷◌, ◌++◌, Option, Some, None, inl, inr, refl, sym, ◌∙◌, ap, subst}
 use Rattle.std.proofs.lemmas.List.{append-nil, append_assoc}
 use Rattle.std.specs.Prelude.{◌⊎◌}
-use Rattle.grammar_rules.specs.Reading.{Class, Rule, one, one_texts, nothing_texts, both_texts, follow_texts, value_texts, either_texts, as_value}
+use Rattle.grammar_rules.specs.Reading.{Class, Rule, one_texts, nothing_texts, both_texts, follow_texts, value_texts, either_texts, as_value}
 use Rattle.grammar_rules.specs.Rows.{rows_texts, always, second_of}
 use Rattle.grammar_rules.proofs.Depths.{Inside}
-use Rattle.grammar_rules.proofs.Laws.{pair_eq}
+use Rattle.grammar_rules.proofs.Build.{said}
+use Rattle.grammar_rules.proofs.Laws.{Law, pair_eq}
 use Rattle.sql_tokens.specs.Words as words
 use Rattle.sql_tokens.specs.declared.kind.Kind.{Kind}
 use Rattle.sql_tokens.specs.declared.kind.Kind.TheVariants as word
@@ -18,6 +19,11 @@ use Rattle.sql_commands.specs.Trees.{CommandTree, deallocates, deallocates_all}
 
 abbrev Of : Type 0 → Type 1
 Of A = List Token → A → Type 0
+
+-- the same texts
+pub record Same {A : Type 0} (P Q : Of A) : Type 0 where
+  pub to : Inside P Q
+  pub from : Inside Q P
 
 -- the word k of W is a name of N, and a name of that kind is the word
 record WordName (text : List ℕ) (k : Kind) (N : Of (Kind × List ℕ)) (W : Of Token) : Type 0 where
@@ -66,10 +72,13 @@ module _ (text : List ℕ) (k : Kind) (is_name : (t : Token) → a k t ≡ true 
   word_free : WordName text k (name text).free (grammar.name_word text k).free
   word_free = record {
     to = free_to;
-    from = λ ts x n h. let i = kind_of x n.0 n.2 h in (n.0, elim n.1 [
-      | inl o ↦ inl (o.0, both_true (a k n.0) (long n.0) i o.1)
-      | inr o ↦ inr (o.0, short_from (a k n.0) (long n.0) (a_name n.0) i o.1)
-    ]);
+    from = λ ts x n h. let i = kind_of x n.0 n.2 h in (
+      n.0,
+      elim n.1 [
+        | inl o ↦ inl (o.0, both_true (a k n.0) (long n.0) i o.1)
+        | inr o ↦ inr (o.0, short_from (a k n.0) (long n.0) (a_name n.0) i o.1)
+      ],
+    );
   }
 
 -- P where b says so, or Q
@@ -78,14 +87,28 @@ record IsIf {A : Type 0} (b : Bool) (P Q R : Of A) : Type 0 where
   second : Inside Q R
   parts : (ts : List Token) (x : A) → R ts x → ((b ≡ true) × P ts x) ⊎ Q ts x
 
+module _ {A : Type 0} (P Q : Of A) where
+  not_if : IsIf false P Q Q
+  not_if = record { first = λ e ts x k. cc e; second = λ ts x k. k; parts = λ ts x k. inr k }
+
+  one_if : IsIf true P Q (either_texts P Q)
+  one_if = record { first = λ e ts x k. inl k; second = λ ts x k. inr k; parts = λ ts x k. elim k [ inl i ↦ inl (refl, i) | inr i ↦ inr i ] }
+
+  two_if : (O : Of A) → IsIf true (either_texts O P) Q (either_texts O (either_texts P Q))
+  two_if O = record {
+    first = λ e ts x k. elim k [ inl i ↦ inl i | inr i ↦ inr (inl i) ];
+    second = λ ts x k. inr (inr k);
+    parts = λ ts x k. elim k [ inl i ↦ inl (refl, inl i) | inr i ↦ elim i [ inl j ↦ inl (refl, inr j) | inr j ↦ inr j ] ];
+  }
+
 module _ {A : Type 0} (c : Class Token) (p q : Rule Token A) where
   if_texts : (b : Bool) → IsIf b p.texts q.texts (either_if b c p q).texts
-  if_texts true = record { first = λ e ts x k. inl k; second = λ ts x k. inr k; parts = λ ts x k. elim k [ | inl i ↦ inl (refl, i) | inr i ↦ inr i ] }
-  if_texts false = record { first = λ e ts x k. cc e; second = λ ts x k. k; parts = λ ts x k. inr k }
+  if_texts true = one_if p.texts q.texts
+  if_texts false = not_if p.texts q.texts
 
   if_free : (b : Bool) → IsIf b p.free q.free (either_if b c p q).free
-  if_free true = record { first = λ e ts x k. inl k; second = λ ts x k. inr k; parts = λ ts x k. elim k [ | inl i ↦ inl (refl, i) | inr i ↦ inr i ] }
-  if_free false = record { first = λ e ts x k. cc e; second = λ ts x k. k; parts = λ ts x k. inr k }
+  if_free true = one_if p.free q.free
+  if_free false = not_if p.free q.free
 
 -- [ IF EXISTS ] and names
 module _ (text : List ℕ) (N : Of (Kind × List ℕ)) (W : Of Token) (w : WordName text word.If N W) where
@@ -117,12 +140,20 @@ module _ (text : List ℕ) (N : Of (Kind × List ℕ)) (W : Of Token) (w : WordN
     tables_of : (ts u v : List Token) (x : Kind × List ℕ) (z : Bool × List (List ℕ)) → ts ≡ u ++ v → N u x → ((words.is x.0 word.If ≡ true) × BehindExists v z) ⊎ BehindName x v z → Tables ts z
     tables_of ts u v x z e n (inl i) =
         let o = w.from u x n i.0 in
-        let k = i.1.1.1 in
-        (u ++ k.0, k.1, e ∙ ap (λ r. u ++ r) k.2 ∙ sym (append_assoc u k.0 k.1), inl ((o.0, i.1.1.0.0), (u, k.0, refl, o.1, k.3), ap (λ (r : Bool × List (List ℕ)). r.0) i.1.2),
-        subst (Commas k.1) (sym (ap (λ (r : Bool × List (List ℕ)). r.1) i.1.2 ∙ i.1.1.2)) k.4)
-    tables_of ts u v x z e n (inr i) =
-        ([], ts, refl, inr (refl, ap (λ (r : Bool × List (List ℕ)). r.0) i.2),
-        ((x.1, z.1), (u, v, e, (x, n, refl), subst (Rows (x.1 ∷ []) v) (sym (ap (λ (r : Bool × List (List ℕ)). r.1) i.2)) i.1), refl))
+        let k = i.1.1.1 in (
+          u ++ k.0,
+          k.1,
+          e ∙ ap (λ r. u ++ r) k.2 ∙ sym (append_assoc u k.0 k.1),
+          inl ((o.0, i.1.1.0.0), (u, k.0, refl, o.1, k.3), ap (λ (r : Bool × List (List ℕ)). r.0) i.1.2),
+          subst (Commas k.1) (sym (ap (λ (r : Bool × List (List ℕ)). r.1) i.1.2 ∙ i.1.1.2)) k.4,
+        )
+    tables_of ts u v x z e n (inr i) = (
+      [],
+      ts,
+      refl,
+      inr (refl, ap (λ (r : Bool × List (List ℕ)). r.0) i.2),
+      ((x.1, z.1), (u, v, e, (x, n, refl), subst (Rows (x.1 ∷ []) v) (sym (ap (λ (r : Bool × List (List ℕ)). r.1) i.2)) i.1), refl),
+    )
 
     tables_to : Inside Dropped Tables
     tables_to ts z k = subst (Tables ts) (sym k.2) (tables_of ts k.1.0 k.1.1 k.0.0 k.0.1 k.1.2 k.1.3 ((l k.0.0).parts k.1.1 k.0.1 k.1.4))
@@ -132,29 +163,45 @@ module _ (text : List ℕ) (N : Of (Kind × List ℕ)) (W : Of Token) (w : WordN
         let t = i.0.0 in
         let m = i.1 in
         let n = w.to m.0 t m.3 in
-        let y : Bool × List (List ℕ) = (true, z.1) in
-        ((named text t, z), (m.0, m.1 ++ v, e ∙ ap (λ r. r ++ v) m.2 ∙ append_assoc m.0 m.1 v, n.0,
-        (l (named text t)).first n.1 (m.1 ++ v) z (z.1, ((i.0.1, z.1), (m.1, v, refl, m.4, k), refl), pair_eq z y i.2 refl)), refl)
+        let y : Bool × List (List ℕ) = (true, z.1) in (
+          (named text t, z),
+          (
+            m.0,
+            m.1 ++ v,
+            e ∙ ap (λ r. r ++ v) m.2 ∙ append_assoc m.0 m.1 v,
+            n.0,
+            (l (named text t)).first n.1 (m.1 ++ v) z (z.1, ((i.0.1, z.1), (m.1, v, refl, m.4, k), refl), pair_eq z y i.2 refl),
+          ),
+          refl,
+        )
     dropped_of ts u v z e (inr i) k =
         let m = k.1 in
         let x = m.3.0 in
-        let y : Bool × List (List ℕ) = (false, k.0.1) in
-        ((x, z), (m.0, m.1, e ∙ ap (λ r. r ++ v) i.0 ∙ m.2, m.3.1,
-        (l x).second m.1 z (k.0.1, subst (λ c. Rows (grammar.only c) m.1 k.0.1) m.3.2 m.4, pair_eq z y i.1 k.2)), refl)
+        let y : Bool × List (List ℕ) = (false, k.0.1) in (
+          (x, z),
+          (
+            m.0,
+            m.1,
+            e ∙ ap (λ r. r ++ v) i.0 ∙ m.2,
+            m.3.1,
+            (l x).second m.1 z (k.0.1, subst (λ c. Rows (grammar.only c) m.1 k.0.1) m.3.2 m.4, pair_eq z y i.1 k.2),
+          ),
+          refl,
+        )
 
-    tables_from : Inside Tables Dropped
-    tables_from ts z k = dropped_of ts k.0 k.1 z k.2 k.3 k.4
+    tables_same : Same Dropped Tables
+    tables_same = record { to = tables_to; from = λ ts z k. dropped_of ts k.0 k.1 z k.2 k.3 k.4 }
 
 -- [ PREPARE ], and a name or ALL
+abbrev All : Of CommandTree
+All = value_texts (λ (x : Token). deallocates_all) (one_texts (a word.All))
+
+abbrev AllOr : Of (List ℕ) → Of CommandTree
+AllOr P = either_texts All (value_texts deallocates P)
+
 module _ (text : List ℕ) (N : Of (Kind × List ℕ)) (W : Of Token) (w : WordName text word.Prepare N W) (O : Of (List ℕ)) where
   abbrev AName : Of (List ℕ)
   AName = value_texts grammar.said N
-
-  abbrev All : Of CommandTree
-  All = value_texts (λ (x : Token). deallocates_all) (one_texts (a word.All))
-
-  abbrev AllOr : Of (List ℕ) → Of CommandTree
-  AllOr P = either_texts All (value_texts deallocates P)
 
   abbrev Word : Of (Option Token)
   Word = either_texts (value_texts Some W) (nothing_texts None)
@@ -197,8 +244,8 @@ module _ (text : List ℕ) (N : Of (Kind × List ℕ)) (W : Of Token) (w : WordN
         inr ((named text i.0, z), (u, v, e, n.0, (l (named text i.0)).first n.1 v z (all_or (other_to i.0) v z m)), refl)
     named_of ts u v o z e (inr i) k = plain_of ts v z (e ∙ ap (λ r. r ++ v) i.0) (subst (λ r. AllOr (D r) v z) i.1 k)
 
-    named_from : Inside Prepared ByName
-    named_from ts z k = subst (ByName ts) (sym k.2) (named_of ts k.1.0 k.1.1 k.0.0 k.0.1 k.1.2 k.1.3 k.1.4)
+    named_same : Same ByName Prepared
+    named_same = record { to = named_to; from = λ ts z k. subst (ByName ts) (sym k.2) (named_of ts k.1.0 k.1.1 k.0.0 k.0.1 k.1.2 k.1.3 k.1.4) }
 
 -- the productions
 module _ (text : List ℕ) where
@@ -214,53 +261,37 @@ module _ (text : List ℕ) where
   abbrev behind_name : Kind × List ℕ → Rule Token (Bool × List (List ℕ))
   behind_name x = as_value (grammar.drop_value false) (grammar.more_commas (grammar.plain_name text) (x.1 ∷ []))
 
-  pub dropped_to : Inside (grammar.dropped_by_name text).texts (grammar.tables text).texts
-  dropped_to = tables_to text (name text).texts (grammar.name_word text word.If).texts (word_texts text word.If if_is_name) (λ x. (grammar.dropped_behind text x).texts) (λ x. if_texts (a word.Exists) behind_exists (behind_name x) (words.is x.0 word.If))
+  pub dropped_texts : Same (grammar.dropped_by_name text).texts (grammar.tables text).texts
+  dropped_texts =
+      tables_same text (name text).texts (grammar.name_word text word.If).texts (word_texts text word.If if_is_name) (λ x. (grammar.dropped_behind text x).texts)
+      (λ x. if_texts (a word.Exists) behind_exists (behind_name x) (words.is x.0 word.If))
 
-  pub dropped_from : Inside (grammar.tables text).texts (grammar.dropped_by_name text).texts
-  dropped_from = tables_from text (name text).texts (grammar.name_word text word.If).texts (word_texts text word.If if_is_name) (λ x. (grammar.dropped_behind text x).texts) (λ x. if_texts (a word.Exists) behind_exists (behind_name x) (words.is x.0 word.If))
-
-  pub dropped_free_to : Inside (grammar.dropped_by_name text).free (grammar.tables text).free
-  dropped_free_to = tables_to text (name text).free (grammar.name_word text word.If).free (word_free text word.If if_is_name) (λ x. (grammar.dropped_behind text x).free) (λ x. if_free (a word.Exists) behind_exists (behind_name x) (words.is x.0 word.If))
-
-  pub dropped_free_from : Inside (grammar.tables text).free (grammar.dropped_by_name text).free
-  dropped_free_from = tables_from text (name text).free (grammar.name_word text word.If).free (word_free text word.If if_is_name) (λ x. (grammar.dropped_behind text x).free) (λ x. if_free (a word.Exists) behind_exists (behind_name x) (words.is x.0 word.If))
+  pub dropped_free : Same (grammar.dropped_by_name text).free (grammar.tables text).free
+  dropped_free =
+      tables_same text (name text).free (grammar.name_word text word.If).free (word_free text word.If if_is_name) (λ x. (grammar.dropped_behind text x).free)
+      (λ x. if_free (a word.Exists) behind_exists (behind_name x) (words.is x.0 word.If))
 
   abbrev other : Rule Token (List ℕ)
   other = grammar.other_name text word.Transaction
 
-  behind_texts : (n : List ℕ) (b : Bool) → IsIf b (AllOr text (name text).texts (grammar.name_word text word.Prepare).texts (word_texts text word.Prepare prepare_is_name) other.texts other.texts) (nothing_texts (deallocates n)) (grammar.behind_if text n b).texts
-  behind_texts n true = record {
-    first = λ e ts x k. elim k [ | inl i ↦ inl i | inr i ↦ inr (inl i) ];
-    second = λ ts x k. inr (inr k);
-    parts = λ ts x k. elim k [ | inl i ↦ inl (refl, inl i) | inr i ↦ elim i [ | inl j ↦ inl (refl, inr j) | inr j ↦ inr j ] ];
-  }
-  behind_texts n false = record { first = λ e ts x k. cc e; second = λ ts x k. k; parts = λ ts x k. inr k }
+  behind_texts : (n : List ℕ) (b : Bool) → IsIf b (AllOr other.texts) (nothing_texts (deallocates n)) (grammar.behind_if text n b).texts
+  behind_texts n true = two_if (value_texts deallocates other.texts) (nothing_texts (deallocates n)) All
+  behind_texts n false = not_if (AllOr other.texts) (nothing_texts (deallocates n))
 
-  behind_free : (n : List ℕ) (b : Bool) → IsIf b (AllOr text (name text).free (grammar.name_word text word.Prepare).free (word_free text word.Prepare prepare_is_name) other.free other.free) (nothing_texts (deallocates n)) (grammar.behind_if text n b).free
-  behind_free n true = record {
-    first = λ e ts x k. elim k [ | inl i ↦ inl i | inr i ↦ inr (inl i) ];
-    second = λ ts x k. inr (inr k);
-    parts = λ ts x k. elim k [ | inl i ↦ inl (refl, inl i) | inr i ↦ elim i [ | inl j ↦ inl (refl, inr j) | inr j ↦ inr j ] ];
-  }
-  behind_free n false = record { first = λ e ts x k. cc e; second = λ ts x k. k; parts = λ ts x k. inr k }
+  behind_free : (n : List ℕ) (b : Bool) → IsIf b (AllOr other.free) (nothing_texts (deallocates n)) (grammar.behind_if text n b).free
+  behind_free n true = two_if (value_texts deallocates other.free) (nothing_texts (deallocates n)) All
+  behind_free n false = not_if (AllOr other.free) (nothing_texts (deallocates n))
 
-  pub prepared_to : Inside (grammar.prepared_by_name text).texts (grammar.prepared text).texts
-  prepared_to =
-      named_to text (name text).texts (grammar.name_word text word.Prepare).texts (word_texts text word.Prepare prepare_is_name) other.texts (λ o. (grammar.name_behind text o).texts)
+  pub prepared_texts : Same (grammar.prepared_by_name text).texts (grammar.prepared text).texts
+  prepared_texts =
+      named_same text (name text).texts (grammar.name_word text word.Prepare).texts (word_texts text word.Prepare prepare_is_name) other.texts (λ o. (grammar.name_behind text o).texts)
       (λ ts x k. k) (λ ts x k. k) (λ t ts x k. k) (λ t ts x k. k) (λ x. (grammar.behind_deallocate text x).texts) (λ x. behind_texts x.1 (words.is x.0 word.Prepare))
 
-  pub prepared_from : Inside (grammar.prepared text).texts (grammar.prepared_by_name text).texts
-  prepared_from =
-      named_from text (name text).texts (grammar.name_word text word.Prepare).texts (word_texts text word.Prepare prepare_is_name) other.texts (λ o. (grammar.name_behind text o).texts)
-      (λ ts x k. k) (λ ts x k. k) (λ t ts x k. k) (λ t ts x k. k) (λ x. (grammar.behind_deallocate text x).texts) (λ x. behind_texts x.1 (words.is x.0 word.Prepare))
-
-  pub prepared_free_to : Inside (grammar.prepared_by_name text).free (grammar.prepared text).free
-  prepared_free_to =
-      named_to text (name text).free (grammar.name_word text word.Prepare).free (word_free text word.Prepare prepare_is_name) other.free (λ o. (grammar.name_behind text o).free)
+  pub prepared_free : Same (grammar.prepared_by_name text).free (grammar.prepared text).free
+  prepared_free =
+      named_same text (name text).free (grammar.name_word text word.Prepare).free (word_free text word.Prepare prepare_is_name) other.free (λ o. (grammar.name_behind text o).free)
       (λ ts x k. k) (λ ts x k. k) (λ t ts x k. k) (λ t ts x k. k) (λ x. (grammar.behind_deallocate text x).free) (λ x. behind_free x.1 (words.is x.0 word.Prepare))
 
-  pub prepared_free_from : Inside (grammar.prepared text).free (grammar.prepared_by_name text).free
-  prepared_free_from =
-      named_from text (name text).free (grammar.name_word text word.Prepare).free (word_free text word.Prepare prepare_is_name) other.free (λ o. (grammar.name_behind text o).free)
-      (λ ts x k. k) (λ ts x k. k) (λ t ts x k. k) (λ t ts x k. k) (λ x. (grammar.behind_deallocate text x).free) (λ x. behind_free x.1 (words.is x.0 word.Prepare))
+-- a rule that is read in another way, and has the same texts
+pub read_as_law : {A : Type 0} (p q : Rule Token A) {f : Class Token} {n : Bool} {c : Class Token} → Same q.texts p.texts → Same q.free p.free → Law q f n c → Law (grammar.read_as p q) f n c
+read_as_law p q s r l = said p.texts p.free s.to s.from r.to r.from l
