@@ -23,6 +23,7 @@ use Rattle.sql_commands.specs.declared.commands.Isolation.TheVariants as isolati
 use Rattle.sql_commands.specs.declared.commands.SettingValue.TheVariants as setting
 use Rattle.sql_commands.specs.declared.commands.LockMode.{LockMode}
 use Rattle.sql_commands.specs.declared.commands.LockMode.TheVariants as mode
+use Rattle.sql_commands.proofs.NameFirst.{dropped_texts, dropped_free, prepared_texts, prepared_free, read_as_law}
 use Rattle.sql_commands.proofs.TextLaws.{by_text_law}
 
 -- begin, finish
@@ -172,10 +173,16 @@ dropped_law_by text false names =
     wide (valued (grammar.drop_value false) (more (a word.Comma) (sample word.Comma) refl lists.snoc (plain_name_law text) (λ k h. refl) names))
     (within _ _ (λ t. refl) refl) (within _ _ (λ t. refl) refl)
 
+dropped_law : (text : List ℕ) → Law (grammar.dropped text) a_name false exists_or_comma
+dropped_law text =
+    wide (read_as_law (grammar.tables text) (grammar.dropped_by_name text) (dropped_texts text) (dropped_free text)
+    (valued second_of (then_by (name_law text) (λ x. dropped_law_by text (words.is x.0 word.If) (x.1 ∷ [])) (λ k h. refl))))
+    (within _ _ (λ t. refl) refl) (within _ _ (λ t. refl) refl)
+
 drop_law : (text : List ℕ) → Law (grammar.drop_tables text) (a word.Drop) false (λ t. exists_or_comma t || grammar.is_behavior t)
 drop_law text =
     wide (valued grammar.drop_tree (after_token (a word.Drop) (sample word.Drop) refl (after_token (a word.Table) (sample word.Table) refl
-    (seq (valued second_of (then_by (name_law text) (λ x. dropped_law_by text (words.is x.0 word.If) (x.1 ∷ [])) (λ k h. refl))) (maybe_law grammar.is_behavior (sample word.Cascade) refl) (apart _ _ (λ t. refl) refl)))))
+    (seq (dropped_law text) (maybe_law grammar.is_behavior (sample word.Cascade) refl) (apart _ _ (λ t. refl) refl)))))
     (λ k h. h) (within _ _ (λ t. refl) refl)
 
 -- alter
@@ -262,7 +269,8 @@ behind_law_by text name false = wide (empty (deallocates name)) (λ k h. cc) (λ
 deallocate_law : (text : List ℕ) → Law (grammar.deallocate text) (a word.Deallocate) false all_or_name
 deallocate_law text =
     wide (after_token (a word.Deallocate) (sample word.Deallocate) refl
-    (alt (a word.All) all_law (λ k h. h) (valued second_of (then_by (name_law text) (λ x. behind_law_by text x.1 (words.is x.0 word.Prepare)) (λ k h. refl))) (apart _ _ (λ t. refl) refl)))
+    (read_as_law (grammar.prepared text) (grammar.prepared_by_name text) (prepared_texts text) (prepared_free text)
+    (alt (a word.All) all_law (λ k h. h) (valued second_of (then_by (name_law text) (λ x. behind_law_by text x.1 (words.is x.0 word.Prepare)) (λ k h. refl))) (apart _ _ (λ t. refl) refl))))
     (λ k h. h) (within _ _ (λ t. refl) refl)
 
 -- what begins a command, and what may go on behind one

@@ -8,7 +8,7 @@ use Rattle.grammar_rules.specs.Depths.{AtSome}
 use Rattle.grammar_rules.specs.KindClasses.{every}
 use Rattle.grammar_rules.specs.Reading.{Class, Rule, limit_at, Stop, begins_in, one_texts, nothing_texts, both_texts, follow_texts, value_texts, either_texts, nothing, follow, as_value, either}
 use Rattle.grammar_rules.specs.Rows.{all_rows, rows_texts, step_to, always, second_of, chain_by}
-use Rattle.grammar_rules.proofs.Depths.{Inside, value_inside}
+use Rattle.grammar_rules.proofs.Depths.{Inside, value_inside, either_inside, rows_inside}
 use Rattle.grammar_rules.proofs.Laws.{head_eq, tail_eq}
 use Rattle.sql_tokens.specs.Contents.{string_in}
 use Rattle.sql_tokens.specs.Words as words
@@ -34,8 +34,8 @@ use Rattle.sql_expressions.proofs.WordLaws.{sample, apart, within}
 abbrev Of : Type 0 → Type 1
 Of A = List Token → A → Type 0
 
--- where the walk stands: an operand or NOT may begin, an operand of BETWEEN must, a name must behind ".", an operand stands
--- before and NOT behind it, an operand stands before; or in no text
+-- Where the walk stands: where an operand or NOT may begin, where an operand of BETWEEN must, behind ".", behind an operand
+-- and NOT, behind an operand; or nowhere in a text.
 data Place : Type 0 where
   before : Place
   bound : Place
@@ -178,28 +178,22 @@ module _ (u : Token) (h : begins_unary u ≡ true) where
     swaps = λ ts v w s y k e r. absurd (nil_cut v w s (sym k.0 ∙ e));
   }
 
+  value_swaps : {A B : Type 0} {p : Place} (P U : Of A) (f : A → B) → Swaps p P U → Swaps p (value_texts f P) (value_texts f U)
+  value_swaps P U f l ts v w s y k e r = let m = l ts v w s k.0 k.1 e r in (m.0, f m.1, (m.1, m.2, refl))
+
   value_fits : {A B : Type 0} {p q : Place} {P U : Of A} (f : A → B) → Fits p q P U → Fits p q (value_texts f P) (value_texts f U)
-  value_fits f l = record {
-    goes = λ ts y k. l.goes ts k.0 k.1;
-    inside = value_inside f l.inside;
-    swaps = λ ts v w s y k e r. let m = l.swaps ts v w s k.0 k.1 e r in (m.0, f m.1, (m.1, m.2, refl));
-  }
+  value_fits {P = P} {U = U} f l = record { goes = λ ts y k. l.goes ts k.0 k.1; inside = value_inside f l.inside; swaps = value_swaps P U f l.swaps }
 
-  module _ {A : Type 0} {p q : Place} {P U Q V : Of A} (l : Fits p q P U) (m : Fits p q Q V) where
-    either_goes : (ts : List Token) (x : A) → either_texts P Q ts x → run p ts ≡ q
-    either_goes ts x (inl k) = l.goes ts x k
-    either_goes ts x (inr k) = m.goes ts x k
+  either_swaps : {A : Type 0} {p : Place} (P U Q V : Of A) → Swaps p P U → Swaps p Q V → Swaps p (either_texts P Q) (either_texts U V)
+  either_swaps P U Q V l m ts v w s x (inl k) e r = let o = l ts v w s x k e r in (o.0, o.1, inl o.2)
+  either_swaps P U Q V l m ts v w s x (inr k) e r = let o = m ts v w s x k e r in (o.0, o.1, inr o.2)
 
-    either_into : Inside (either_texts P Q) (either_texts U V)
-    either_into ts x (inl k) = inl (l.inside ts x k)
-    either_into ts x (inr k) = inr (m.inside ts x k)
+  either_goes : {A : Type 0} {p q : Place} {P U Q V : Of A} → Fits p q P U → Fits p q Q V → (ts : List Token) (x : A) → either_texts P Q ts x → run p ts ≡ q
+  either_goes l m ts x (inl k) = l.goes ts x k
+  either_goes l m ts x (inr k) = m.goes ts x k
 
-    either_swaps : Swaps p (either_texts P Q) (either_texts U V)
-    either_swaps ts v w s x (inl k) e r = let o = l.swaps ts v w s x k e r in (o.0, o.1, inl o.2)
-    either_swaps ts v w s x (inr k) e r = let o = m.swaps ts v w s x k e r in (o.0, o.1, inr o.2)
-
-    either_fits : Fits p q (either_texts P Q) (either_texts U V)
-    either_fits = record { goes = either_goes; inside = either_into; swaps = either_swaps }
+  either_fits : {A : Type 0} {p q : Place} {P U Q V : Of A} → Fits p q P U → Fits p q Q V → Fits p q (either_texts P Q) (either_texts U V)
+  either_fits {P = P} {U = U} {Q = Q} {V = V} l m = record { goes = either_goes l m; inside = either_inside l.inside m.inside; swaps = either_swaps P U Q V l.swaps m.swaps }
 
   -- one text after another; where the first becomes another, some second follows it
   module _ {A B : Type 0} {p r : Place} {P U : Of A} {Q V : A → Of B} (i : Inside P U) (m : Swaps p P U)
@@ -247,27 +241,14 @@ module _ (u : Token) (h : begins_unary u ≡ true) where
   shut e l = record { ends = λ ts x k. subst (λ z. Leads z (a word.CloseParenthesis) behind) (sym (l.goes ts x k)) e; inside = l.inside; swaps = l.swaps }
 
   value_shut : {A B : Type 0} {p : Place} {P U : Of A} (f : A → B) → Shut p P U → Shut p (value_texts f P) (value_texts f U)
-  value_shut f l = record {
-    ends = λ ts y k. l.ends ts k.0 k.1;
-    inside = value_inside f l.inside;
-    swaps = λ ts v w s y k e r. let m = l.swaps ts v w s k.0 k.1 e r in (m.0, f m.1, (m.1, m.2, refl));
-  }
+  value_shut {P = P} {U = U} f l = record { ends = λ ts y k. l.ends ts k.0 k.1; inside = value_inside f l.inside; swaps = value_swaps P U f l.swaps }
 
-  module _ {A : Type 0} {p : Place} {P U Q V : Of A} (l : Shut p P U) (m : Shut p Q V) where
-    shut_ends : (ts : List Token) (x : A) → either_texts P Q ts x → Leads (run p ts) (a word.CloseParenthesis) behind
-    shut_ends ts x (inl k) = l.ends ts x k
-    shut_ends ts x (inr k) = m.ends ts x k
+  either_ends : {A : Type 0} {p : Place} {P U Q V : Of A} → Shut p P U → Shut p Q V → (ts : List Token) (x : A) → either_texts P Q ts x → Leads (run p ts) (a word.CloseParenthesis) behind
+  either_ends l m ts x (inl k) = l.ends ts x k
+  either_ends l m ts x (inr k) = m.ends ts x k
 
-    shut_into : Inside (either_texts P Q) (either_texts U V)
-    shut_into ts x (inl k) = inl (l.inside ts x k)
-    shut_into ts x (inr k) = inr (m.inside ts x k)
-
-    shut_swaps : Swaps p (either_texts P Q) (either_texts U V)
-    shut_swaps ts v w s x (inl k) e r = let o = l.swaps ts v w s x k e r in (o.0, o.1, inl o.2)
-    shut_swaps ts v w s x (inr k) e r = let o = m.swaps ts v w s x k e r in (o.0, o.1, inr o.2)
-
-    either_shut : Shut p (either_texts P Q) (either_texts U V)
-    either_shut = record { ends = shut_ends; inside = shut_into; swaps = shut_swaps }
+  either_shut : {A : Type 0} {p : Place} {P U Q V : Of A} → Shut p P U → Shut p Q V → Shut p (either_texts P Q) (either_texts U V)
+  either_shut {P = P} {U = U} {Q = Q} {V = V} l m = record { ends = either_ends l m; inside = either_inside l.inside m.inside; swaps = either_swaps P U Q V l.swaps m.swaps }
 
   closed : (p : Place) → Leads p (a word.CloseParenthesis) behind → NotBound p
   closed p l e = let i : nowhere ≡ behind = subst (λ q. step q (sample word.CloseParenthesis) ≡ behind) e (l (sample word.CloseParenthesis) refl) in cc
@@ -286,10 +267,6 @@ module _ (u : Token) (h : begins_unary u ≡ true) where
     all_goes c (b ∷ xs) ts x k =
         subst (λ z. run behind z ≡ behind) (sym k.3)
         (run_append behind k.1 k.2 ∙ ap (λ z. run z k.2) ((l c).goes k.1 b k.4) ∙ all_goes (step_to join c b) xs k.2 x k.5)
-
-    all_into : (c : A) (xs : List (Token × B)) → Inside (all_rows guard join P c xs) (all_rows guard join U c xs)
-    all_into c [] ts x k = k
-    all_into c (b ∷ xs) ts x k = (k.0, k.1, k.2, k.3, (l c).inside k.1 b k.4, all_into (step_to join c b) xs k.2 x k.5)
 
     first_cut : (c : A) (y v w : List Token) (s : Token) (b : Token × B) → guard c ≡ true → P c y b → y ≡ v ++ s ∷ w → run behind v ≡ bound → Some (rows_texts guard join U c) v
     first_cut c y v w s b t k e g =
@@ -311,7 +288,7 @@ module _ (u : Token) (h : begins_unary u ≡ true) where
     rows_fits : (c : A) → Fits behind behind (rows_texts guard join P c) (rows_texts guard join U c)
     rows_fits c = record {
       goes = λ ts x k. all_goes c k.0 ts x k.1;
-      inside = λ ts x k. (k.0, all_into c k.0 ts x k.1);
+      inside = rows_inside guard join (λ x. (l x).inside) c;
       swaps = λ ts v w s x k e g. all_swaps c k.0 ts v w s x k.1 e g;
     }
 
@@ -441,17 +418,13 @@ module _ (u : Token) (h : begins_unary u ≡ true) (text : List ℕ) where
   close_before = leads before behind (a word.CloseParenthesis) (λ t. refl) refl
 
   -- names, literals and columns
-  long_fits : {p q : Place} (c long : Class Token) → NotBound p → ((t : Token) → long t ≡ true → c t ≡ true) → Leads p c q → Fits u h p q (no_longer c long).free (no_longer c long).free
-  long_fits c long n w l =
-      either_fits u h (one_fits u h long n (λ t e. l t (w t e))) (one_fits u h (λ t. c t && not (long t)) n (λ t e. l t (first_true (c t) _ e)))
-    where
-      first_true : (b d : Bool) → (b && d) ≡ true → b ≡ true
-      first_true true d e = refl
-      first_true false d e = cc
-
   and_left : (b d : Bool) → (b && d) ≡ true → b ≡ true
   and_left true d e = refl
   and_left false d e = cc
+
+  long_fits : {p q : Place} (c long : Class Token) → NotBound p → ((t : Token) → long t ≡ true → c t ≡ true) → Leads p c q → Fits u h p q (no_longer c long).free (no_longer c long).free
+  long_fits c long n w l =
+      either_fits u h (one_fits u h long n (λ t e. l t (w t e))) (one_fits u h (λ t. c t && not (long t)) n (λ t e. l t (and_left (c t) _ e)))
 
   name_fits : {p : Place} → NotBound p → Leads p a_name behind → Fits u h p behind (name text).free (name text).free
   name_fits n l = value_fits u h (Words.named text) (long_fits a_name (is_long_name text) n (λ t e. and_left (a_name t) _ e) l)

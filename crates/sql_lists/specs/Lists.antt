@@ -60,5 +60,13 @@ is_other_name k t = a_name t && not (a k t)
 abbrev pub other_name : List ℕ → Kind → Rule Token (List ℕ)
 other_name text k = as_value (name_in text) (no_longer (is_other_name k) (is_long_but text k))
 
+-- the word k, where it may be a name: of tokens at will it is no longer than a name may be
+abbrev pub name_word : List ℕ → Kind → Rule Token Token
+name_word text k = no_longer (a k) (λ t. a k t && is_long_name text t)
+
 abbrev pub number : List ℕ → Rule Token ℕ
 number text = as_value (number_in text) (one (a word.Number))
+
+-- the texts of p, read as q reads
+abbrev pub read_as : {A : Type 0} → Rule Token A → Rule Token A → Rule Token A
+read_as p q = record { texts = p.texts; free = p.free; read = q.read }
