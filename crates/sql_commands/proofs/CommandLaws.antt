@@ -59,7 +59,7 @@ finish_law =
     (within _ _ (λ t. refl) refl) (within _ _ (λ t. refl) refl)
 
 -- set
-setting_value_law : (text : List ℕ) → Law (grammar.setting_value text) (λ t. grammar.is_setting_word t || (a word.Text t || a word.Number t)) false none
+pub setting_value_law : (text : List ℕ) → Law (grammar.setting_value text) (λ t. grammar.is_setting_word t || (a word.Text t || a word.Number t)) false none
 setting_value_law text =
     wide
     (alt grammar.is_setting_word
@@ -149,7 +149,7 @@ partition_of_law text name =
     (seq (plain_name_law text) (seq (bound_law text) (maybe_by_law text) (λ k h. refl)) (λ k h. refl)))))
     (λ k h. h) (within _ _ (λ t. refl) refl)
 
-create_law : (text : List ℕ) → Law (grammar.create text) (a word.Create) false (a word.Partition)
+pub create_law : (text : List ℕ) → Law (grammar.create text) (a word.Create) false (a word.Partition)
 create_law text =
     wide (valued second_of (after_token (a word.Create) (sample word.Create) refl (after_token (a word.Table) (sample word.Table) refl
     (then_by (plain_name_law text)
@@ -179,7 +179,7 @@ dropped_law text =
     (valued second_of (then_by (name_law text) (λ x. dropped_law_by text (words.is x.0 word.If) (x.1 ∷ [])) (λ k h. refl))))
     (within _ _ (λ t. refl) refl) (within _ _ (λ t. refl) refl)
 
-drop_law : (text : List ℕ) → Law (grammar.drop_tables text) (a word.Drop) false (λ t. exists_or_comma t || grammar.is_behavior t)
+pub drop_law : (text : List ℕ) → Law (grammar.drop_tables text) (a word.Drop) false (λ t. exists_or_comma t || grammar.is_behavior t)
 drop_law text =
     wide (valued grammar.drop_tree (after_token (a word.Drop) (sample word.Drop) refl (after_token (a word.Table) (sample word.Table) refl
     (seq (dropped_law text) (maybe_law grammar.is_behavior (sample word.Cascade) refl) (apart _ _ (λ t. refl) refl)))))
@@ -197,7 +197,7 @@ detach_law text parent =
     (seq (plain_name_law text) (maybe_law grammar.is_detachment (sample word.Finalize) refl) (λ k h. refl)))))
     (λ k h. h) (within _ _ (λ t. refl) refl)
 
-alter_law : (text : List ℕ) → Law (grammar.alter text) (a word.Alter) false grammar.is_detachment
+pub alter_law : (text : List ℕ) → Law (grammar.alter text) (a word.Alter) false grammar.is_detachment
 alter_law text =
     wide (valued second_of (after_token (a word.Alter) (sample word.Alter) refl (after_token (a word.Table) (sample word.Table) refl
     (then_by (plain_name_law text)
@@ -241,7 +241,7 @@ maybe_mode_law =
     (alt (a word.In) (after_token (a word.In) (sample word.In) refl (before_token (a word.Mode) (sample word.Mode) refl lock_mode_law (apart _ _ (λ t. refl) refl))) (λ k h. h) (empty mode.AccessExclusive) (λ k h. refl))
     (within _ _ (λ t. refl) refl) (within _ _ (λ t. refl) refl)
 
-lock_law : (text : List ℕ) → Law (grammar.lock text) (a word.Lock) false (λ t. a word.Comma t || a word.In t)
+pub lock_law : (text : List ℕ) → Law (grammar.lock text) (a word.Lock) false (λ t. a word.Comma t || a word.In t)
 lock_law text =
     wide (valued grammar.lock_value (after_token (a word.Lock) (sample word.Lock) refl
     (seq (maybe_law (a word.Table) (sample word.Table) refl) (seq (commas_law (locked_law text) (λ k h. refl)) maybe_mode_law (apart _ _ (λ t. refl) refl)) (apart _ _ (λ t. refl) refl))))
@@ -266,7 +266,7 @@ behind_law_by : (text name : List ℕ) (b : Bool) → Law (grammar.behind_if tex
 behind_law_by text name true = behind_prepare_law text name
 behind_law_by text name false = wide (empty (deallocates name)) (λ k h. cc) (λ k h. cc)
 
-deallocate_law : (text : List ℕ) → Law (grammar.deallocate text) (a word.Deallocate) false all_or_name
+pub deallocate_law : (text : List ℕ) → Law (grammar.deallocate text) (a word.Deallocate) false all_or_name
 deallocate_law text =
     wide (after_token (a word.Deallocate) (sample word.Deallocate) refl
     (read_as_law (grammar.prepared text) (grammar.prepared_by_name text) (prepared_texts text) (prepared_free text)

@@ -1,6 +1,7 @@
 -- The grammar of queries (VI. SQL Commands: SELECT, INSERT, UPDATE, DELETE, PREPARE, EXECUTE, EXPLAIN).
 -- What a name says stands in the text, so rules of names take the text.
 use Rattle.std.specs.Prelude.{ℕ, Bool, true, false, ◌||◌, if◌then◌else◌, List, [], ◌∷◌, ◌++◌, Option, Some, None}
+use Rattle.std.specs.List.{list_any}
 use Rattle.grammar_rules.specs.Reading.{Class, Rule, one, nothing, follow, as_value, either, optional}
 use Rattle.grammar_rules.specs.Rows.{second_of, many, chain_after}
 use Rattle.sql_tokens.specs.Contents.{name_in}
@@ -213,8 +214,7 @@ abbrev pub option : Rule Token Bool
 option = either (a word.Analyze) (means true (one (a word.Analyze))) (means false (one is_plain_option & one (a word.Off)))
 
 abbrev pub has_true : List Bool → Bool
-has_true [] = false
-has_true (b ∷ bs) = b || has_true bs
+has_true bs = list_any (λ b. b) bs
 
 abbrev pub options : Rule Token Bool
 options =
@@ -237,7 +237,11 @@ begins_row_statement t = a word.Select t || (a word.Insert t || one_of word.Upda
 abbrev pub execute_value : List ℕ × Trees → QueryTree
 execute_value x = executes x.0 x.1
 
+abbrev pub row_query : List ℕ → Rule Token QueryTree
+row_query text = as_value rows (row_statement text)
+
+abbrev pub executed : List ℕ → Rule Token QueryTree
+executed text = as_value execute_value (execute text)
+
 abbrev pub query : List ℕ → Rule Token QueryTree
-query text =
-    either begins_row_statement (as_value rows (row_statement text))
-    (either (a word.Prepare) (prepare text) (either (a word.Execute) (as_value execute_value (execute text)) (explain text)))
+query text = either begins_row_statement (row_query text) (either (a word.Prepare) (prepare text) (either (a word.Execute) (executed text) (explain text)))

@@ -16,9 +16,12 @@ mod items;
 mod parts;
 mod prepared;
 mod queries;
-mod statements;
 mod selects;
+mod statements;
 
 pub use parts::{Assignment, FromItem, NamedTable, SelectItem, SortKey};
 pub use queries::{no_two_queries, parse_query, query, whole_query};
 pub use statements::{Delete, Insert, Query, RowStatement, Select, Update};
+
+#[cfg(test)]
+mod tests;

@@ -167,7 +167,7 @@ impl Part for EachOption {
 fn has_true(options: &[bool]) -> bool
     ensures { result ≡ grammar.has_true options.now }
 {
-    options.iter().any(|option| *option)
+    options.contains(&true)
 }
 
 /// Whether ANALYZE stands behind EXPLAIN.

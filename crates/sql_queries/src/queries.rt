@@ -23,6 +23,28 @@ fn row_statement_comes(tokens: &[Token]) -> bool
         || comes(tokens, Kind::Delete)
 }
 
+fn row_query<'a>(
+    alloc: Global,
+    text: &[u8],
+    tokens: &'a [Token],
+) -> Result<(Query, &'a [Token]), Refused>
+    ensures { Gives (λ x. (query_tree x.0, x.1.now)) result ((grammar.row_query text.now).read tokens.now) }
+{
+    let (statement, rest) = row_statement(alloc, text, tokens)?;
+    Ok((Query::Rows(statement), rest))
+}
+
+fn executed<'a>(
+    alloc: Global,
+    text: &[u8],
+    tokens: &'a [Token],
+) -> Result<(Query, &'a [Token]), Refused>
+    ensures { Gives (λ x. (query_tree x.0, x.1.now)) result ((grammar.executed text.now).read tokens.now) }
+{
+    let (execution, rest) = execute(alloc, text, tokens)?;
+    Ok((Query::Execute(execution.name, execution.arguments), rest))
+}
+
 /// The query with which the tokens begin, and the tokens behind it. `text` is the text whose tokens
 /// they are.
 pub fn query<'a>(
@@ -33,17 +55,14 @@ pub fn query<'a>(
     ensures { Gives (λ x. (query_tree x.0, x.1.now)) result ((grammar.query text.now).read tokens.now) }
 {
     if row_statement_comes(tokens) {
-        let (statement, rest) = row_statement(alloc, text, tokens)?;
-        return Ok((Query::Rows(statement), rest));
+        row_query(alloc, text, tokens)
+    } else if comes(tokens, Kind::Prepare) {
+        prepare(alloc, text, tokens)
+    } else if comes(tokens, Kind::Execute) {
+        executed(alloc, text, tokens)
+    } else {
+        explain(alloc, text, tokens)
     }
-    if comes(tokens, Kind::Prepare) {
-        return prepare(alloc, text, tokens);
-    }
-    if comes(tokens, Kind::Execute) {
-        let (execution, rest) = execute(alloc, text, tokens)?;
-        return Ok((Query::Execute(execution.name, execution.arguments), rest));
-    }
-    explain(alloc, text, tokens)
 }
 
 #[tactic(auto, unfolding(grammar_rules::specs::Reading::read_whole))]

@@ -13,3 +13,6 @@ mod statements;
 
 pub use parse::{MOST_STATEMENTS, no_two_blocks, parse_block};
 pub use statement::Statement;
+
+#[cfg(test)]
+mod tests;

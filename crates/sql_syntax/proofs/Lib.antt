@@ -1,0 +1,4 @@
+pub mod BlockLaws
+pub mod Openings
+pub mod StatementLaws
+pub mod Starts
