@@ -30,6 +30,14 @@ plain_name_law text = valued lists.said (name_law text)
 pub number_law : (text : List ℕ) → Law (lists.number text) (a word.Number) false none
 number_law text = valued (number_in text) (token (a word.Number) (sample word.Number) refl)
 
+first_true : (u v : Bool) → (u && v) ≡ true → u ≡ true
+first_true true v h = refl
+first_true false v h = cc
+
+pub name_but_law : (text : List ℕ) (k : Kind) → (a_name (sample word.Name) && not (is_long_name text (sample word.Name) && not (a k (sample word.Name)))) ≡ true → Law (lists.name_but text k) a_name false none
+name_but_law text k e =
+    valued (name_in text) (no_longer_law a_name (lists.is_long_but text k) (λ t h. first_true (a_name t) _ (first_true (is_long_name text t) _ h)) (sample word.Name) e)
+
 both_true : (u v w : Bool) → ((u && v) && w) ≡ true → (u && w) ≡ true
 both_true true true w h = h
 both_true true false w h = cc

@@ -15,10 +15,10 @@ use Rattle.sql_expressions.specs.Words.{a, a_name, is_long_name, no_longer, name
 use Rattle.sql_expressions.proofs.LevelLaws.{after_expression}
 use Rattle.sql_expressions.proofs.Places as places
 use Rattle.sql_expressions.proofs.RuleLaws.{expression_law}
-use Rattle.sql_expressions.proofs.WordLaws.{sample, apart, within, no_longer_law, name_law}
+use Rattle.sql_expressions.proofs.WordLaws.{sample, apart, within}
 use Rattle.sql_lists.specs.Lists as lists
-use Rattle.sql_lists.proofs.ListLaws.{plain_name_law}
-use Rattle.sql_queries.specs.Items.{Output, is_long_alias, alias, maybe_alias, begins_operand, left_of, stop_at, ended_at, place_of_word, before_word, behind_output, output, Item, columns_of, one_column, starred, is_starred, all_of_them, starred_or_output, item}
+use Rattle.sql_lists.proofs.ListLaws.{plain_name_law, name_but_law}
+use Rattle.sql_queries.specs.Items.{Output, maybe_alias, begins_operand, left_of, stop_at, ended_at, place_of_word, before_word, behind_output, output, Item, columns_of, one_column, starred, is_starred, all_of_them, starred_or_output, item}
 use Rattle.sql_queries.proofs.WordBehind.{Stands, whole_read, read_is, reads_both, lone_word, stops_there, stops_behind}
 use Rattle.sql_queries.proofs.Splits.{same_self, same_by_head, rest_begins}
 use Rattle.sql_queries.proofs.EndedLaws.{Ended, ended_at_is, placed, not_missed}
@@ -34,14 +34,10 @@ first_true : (b d : Bool) → (b && d) ≡ true → b ≡ true
 first_true true d h = refl
 first_true false d h = cc
 
-alias_law : (text : List ℕ) → Law (alias text) a_name false none
-alias_law text =
-    valued (name_in text) (no_longer_law a_name (is_long_alias text) (λ t h. first_true (a_name t) _ (first_true (is_long_name text t) _ h)) (sample word.Name) refl)
-
 maybe_alias_law : (text : List ℕ) → Law (maybe_alias text) begins_alias true begins_alias
 maybe_alias_law text =
     wide
-    (alt (a word.As) (valued (λ (n : List ℕ). Some n) (after_token (a word.As) (sample word.As) refl (plain_name_law text))) (λ t h. h) (opt (alias_law text)) (apart _ _ (λ t. refl) refl))
+    (alt (a word.As) (valued (λ (n : List ℕ). Some n) (after_token (a word.As) (sample word.As) refl (plain_name_law text))) (λ t h. h) (opt (name_but_law text word.Between refl)) (apart _ _ (λ t. refl) refl))
     (within _ _ (λ t. refl) refl) (within _ _ (λ t. refl) refl)
 
 -- a word BETWEEN alone is an alias, however long
@@ -107,7 +103,7 @@ module _ (text : List ℕ) where
       let l = as_or_between t k in cc
   between_alone t x b (inr (inl w)) h = by w.1.0 w.1.1 w.1.2
     where
-      by : (u : Token) → (no_longer a_name (is_long_alias text)).free (t ∷ x) u → w.0 ≡ name_in text u → (x ≡ []) × (b ≡ Some (name_in text t))
+      by : (u : Token) → (no_longer a_name (lists.is_long_but text word.Between)).free (t ∷ x) u → w.0 ≡ name_in text u → (x ≡ []) × (b ≡ Some (name_in text t))
       by u (inl v) q = (tail_eq v.0, w.2 ∙ ap (λ z. Some z) (q ∙ ap (name_in text) (sym (head_eq v.0))))
       by u (inr v) q = (tail_eq v.0, w.2 ∙ ap (λ z. Some z) (q ∙ ap (name_in text) (sym (head_eq v.0))))
   between_alone t x b (inr (inr w)) h = cc w.0

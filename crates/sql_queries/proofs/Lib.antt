@@ -1,4 +1,6 @@
 pub mod EndedLaws
 pub mod ItemLaws
+pub mod QueryLaws
+pub mod SettingLaws
 pub mod Splits
 pub mod WordBehind

@@ -8,23 +8,16 @@ use Rattle.sql_tokens.specs.declared.token.Token.{Token}
 use Rattle.sql_expressions.specs.Grammar.{expression}
 use Rattle.sql_expressions.specs.Levels.{begins_nested}
 use Rattle.sql_expressions.specs.Tree.{Tree}
-use Rattle.sql_expressions.specs.Words.{a, a_name, a_literal, ◌>>◌, ◌<<◌, is_long_name, no_longer}
-use Rattle.sql_lists.specs.Lists.{plain_name}
+use Rattle.sql_expressions.specs.Words.{a, a_name, a_literal, ◌>>◌, ◌<<◌, is_long_name}
+use Rattle.sql_lists.specs.Lists.{plain_name, name_but}
 
 -- An expression, and its alias.
 abbrev pub Output : Type 0
 Output = Tree × Option (List ℕ)
 
--- name, where a word BETWEEN is never too long
-abbrev pub is_long_alias : List ℕ → Class Token
-is_long_alias text t = is_long_name text t && not (a word.Between t)
-
-abbrev pub alias : List ℕ → Rule Token (List ℕ)
-alias text = as_value (name_in text) (no_longer a_name (is_long_alias text))
-
--- [ [ "AS" ] name ]
+-- [ [ "AS" ] name ], where no word BETWEEN is too long
 abbrev pub maybe_alias : List ℕ → Rule Token (Option (List ℕ))
-maybe_alias text = either (a word.As) (as_value Some (word.As >> plain_name text)) (optional a_name (alias text))
+maybe_alias text = either (a word.As) (as_value Some (word.As >> plain_name text)) (optional a_name (name_but text word.Between))
 
 -- what an operand of BETWEEN begins with
 abbrev pub begins_operand : Class Token
