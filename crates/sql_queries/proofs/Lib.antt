@@ -1,3 +1,4 @@
+mod EndedCode
 pub mod EndedLaws
 pub mod ItemLaws
 pub mod QueryLaws

@@ -1,7 +1,7 @@
 ghost use Rattle.std.specs.Prelude.{◌≡◌, ◌∷◌, [], map};
 ghost use Rattle.grammar_rules.specs.Gives.{Gives};
 ghost use Rattle.sql_expressions.specs.Tree.{tree, trees};
-ghost use Rattle.sql_tokens.specs.Contents.{name_in};
+ghost use Rattle.sql_lists.specs.Lists as lists;
 ghost use Rattle.sql_queries.specs.Grammar as grammar;
 ghost use Rattle.sql_queries.specs.Trees.{row_tree, setting};
 
@@ -148,6 +148,20 @@ fn behind_alias<'a>(
     Ok((Settings { alias, assignments }, rest))
 }
 
+/// A new value that stands there, and those behind it.
+fn with_more<'a>(
+    alloc: Global,
+    text: &[u8],
+    one: Assignment,
+    tokens: &'a [Token],
+) -> Result<(Vec<Assignment>, &'a [Token]), Refused>
+    ensures { Gives (λ x. (map setting x.0.items, x.1.now)) result ((lists.more_commas (grammar.assignment text.now) (setting one ∷ [])).read tokens.now) }
+{
+    let mut first = Vec::new(alloc);
+    first.push(one)?;
+    more_parts::<EachAssignment>(alloc, text, first, tokens)
+}
+
 /// Behind SET SET and "=": the first column is called `set`.
 fn column_set<'a>(
     alloc: Global,
@@ -160,9 +174,7 @@ fn column_set<'a>(
     let (_, rest) = word(tokens, Kind::Equal)?;
     let (value, rest) = expression(alloc, text, rest)?;
     let column = name_of(alloc, text, column)?;
-    let mut first = Vec::new(alloc);
-    first.push(Assignment { column, value })?;
-    let (assignments, rest) = more_parts::<EachAssignment>(alloc, text, first, rest)?;
+    let (assignments, rest) = with_more(alloc, text, Assignment { column, value }, rest)?;
     let alias = None;
     Ok((Settings { alias, assignments }, rest))
 }
@@ -196,9 +208,7 @@ fn other_first<'a>(
     let (column, rest) = other_name(alloc, text, Kind::Set, tokens)?;
     let (_, rest) = word(rest, Kind::Equal)?;
     let (value, rest) = expression(alloc, text, rest)?;
-    let mut first = Vec::new(alloc);
-    first.push(Assignment { column, value })?;
-    let (assignments, rest) = more_parts::<EachAssignment>(alloc, text, first, rest)?;
+    let (assignments, rest) = with_more(alloc, text, Assignment { column, value }, rest)?;
     let alias = None;
     Ok((Settings { alias, assignments }, rest))
 }

@@ -1,7 +1,7 @@
 ghost use Rattle.std.specs.Prelude.{◌≡◌, ℕ, List};
 ghost use Rattle.grammar_rules.specs.Gives.{Gives};
 ghost use Rattle.grammar_rules.specs.Parses.{Parses};
-ghost use Rattle.grammar_rules.specs.Reading.{begins_in, read_whole};
+ghost use Rattle.grammar_rules.specs.Reading.{begins_in, read_whole, whole_of};
 ghost use Rattle.sql_expressions.specs.Parsed as parsed;
 ghost use Rattle.sql_tokens.specs.declared.token.Token.{Token as OneToken};
 ghost use Rattle.sql_queries.specs.Grammar as grammar;
@@ -65,15 +65,22 @@ pub fn query<'a>(
     }
 }
 
+/// A query that is read, if nothing is left.
+fn whole(read: Query, rest: &[Token]) -> Result<Query, Refused>
+    ensures { Gives query_tree result (whole_of (query_tree read, rest.now)) }
+{
+    match split(rest) {
+        None => Ok(read),
+        Some(_) => Err(Refused::Syntax(rest.len())),
+    }
+}
+
 #[tactic(auto, unfolding(grammar_rules::specs::Reading::read_whole))]
 fn read_all(alloc: Global, text: &[u8], tokens: &[Token]) -> Result<Query, Refused>
     ensures { Gives query_tree result (read_whole (grammar.query text.now) tokens.now) }
 {
     let (read, rest) = query(alloc, text, tokens)?;
-    match split(rest) {
-        None => Ok(read),
-        Some(_) => Err(Refused::Syntax(rest.len())),
-    }
+    whole(read, rest)
 }
 
 /// Reads tokens that are one query, up to the last. `text` is the text whose tokens they are.
