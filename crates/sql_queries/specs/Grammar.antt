@@ -1,6 +1,6 @@
 -- The grammar of queries (VI. SQL Commands: SELECT, INSERT, UPDATE, DELETE, PREPARE, EXECUTE, EXPLAIN).
 -- What a name says stands in the text, so rules of names take the text.
-use Rattle.std.specs.Prelude.{ℕ, Bool, true, false, ◌||◌, if◌then◌else◌, List, [], ◌∷◌, Option, Some, None}
+use Rattle.std.specs.Prelude.{ℕ, Bool, true, false, ◌||◌, List, [], ◌∷◌, Option, Some, None}
 use Rattle.grammar_rules.specs.Reading.{Class, Rule, one, nothing, follow, as_value, either, optional}
 use Rattle.grammar_rules.specs.Rows.{second_of, many, chain_after}
 use Rattle.sql_tokens.specs.Contents.{name_in}
