@@ -2,6 +2,7 @@ pub mod Deeper
 pub mod DepthLaws
 pub mod LevelLaws
 pub mod LevelLimits
+pub mod LevelPlaces
 pub mod Limited
 pub mod ParseLaws
 pub mod Places
@@ -9,5 +10,6 @@ pub mod RoomLaws
 pub mod RuleLaws
 pub mod RuleLimits
 pub mod TextWords
+pub mod Walk
 pub mod WordLaws
 pub mod WordLimits

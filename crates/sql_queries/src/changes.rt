@@ -4,6 +4,7 @@ ghost use Rattle.sql_expressions.specs.Tree.{tree, trees};
 ghost use Rattle.sql_lists.specs.Lists as lists;
 ghost use Rattle.sql_queries.specs.Grammar as grammar;
 ghost use Rattle.sql_queries.specs.Trees.{row_tree, setting};
+ghost use Rattle.sql_queries.specs.Views.{column_in_steps, value_and_more};
 
 use crate::from::{condition, named_table};
 use crate::{Assignment, Delete, Insert, NamedTable, RowStatement, Update};
@@ -162,6 +163,34 @@ fn with_more<'a>(
     more_parts::<EachAssignment>(alloc, text, first, tokens)
 }
 
+/// The value of a column, and the new values behind it.
+fn value_and_more<'a>(
+    alloc: Global,
+    text: &[u8],
+    column: Token,
+    tokens: &'a [Token],
+) -> Result<(Vec<Assignment>, &'a [Token]), Refused>
+    ensures { Gives (λ x. (map setting x.0.items, x.1.now)) result ((value_and_more text.now column).read tokens.now) }
+{
+    let (value, rest) = expression(alloc, text, tokens)?;
+    let column = name_of(alloc, text, column)?;
+    with_more(alloc, text, Assignment { column, value }, rest)
+}
+
+fn column_in_steps<'a>(
+    alloc: Global,
+    text: &[u8],
+    column: Token,
+    tokens: &'a [Token],
+) -> Result<(Settings, &'a [Token]), Refused>
+    ensures { Gives (λ x. ((x.0.alias, map setting x.0.assignments.items), x.1.now)) result ((column_in_steps text.now column).read tokens.now) }
+{
+    let (_, rest) = word(tokens, Kind::Equal)?;
+    let (assignments, rest) = value_and_more(alloc, text, column, rest)?;
+    let alias = None;
+    Ok((Settings { alias, assignments }, rest))
+}
+
 /// Behind SET SET and "=": the first column is called `set`.
 fn column_set<'a>(
     alloc: Global,
@@ -171,12 +200,7 @@ fn column_set<'a>(
 ) -> Result<(Settings, &'a [Token]), Refused>
     ensures { Gives (λ x. ((x.0.alias, map setting x.0.assignments.items), x.1.now)) result ((grammar.column_set text.now column).read tokens.now) }
 {
-    let (_, rest) = word(tokens, Kind::Equal)?;
-    let (value, rest) = expression(alloc, text, rest)?;
-    let column = name_of(alloc, text, column)?;
-    let (assignments, rest) = with_more(alloc, text, Assignment { column, value }, rest)?;
-    let alias = None;
-    Ok((Settings { alias, assignments }, rest))
+    column_in_steps(alloc, text, column, tokens)
 }
 
 /// Behind two words SET.

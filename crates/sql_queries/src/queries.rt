@@ -1,14 +1,14 @@
 ghost use Rattle.std.specs.Prelude.{◌≡◌, ℕ, List};
 ghost use Rattle.grammar_rules.specs.Gives.{Gives};
 ghost use Rattle.grammar_rules.specs.Parses.{Parses};
-ghost use Rattle.grammar_rules.specs.Reading.{begins_in, read_whole, whole_of};
+ghost use Rattle.grammar_rules.specs.Reading.{begins_in, read_whole};
 ghost use Rattle.sql_expressions.specs.Parsed as parsed;
 ghost use Rattle.sql_tokens.specs.declared.token.Token.{Token as OneToken};
 ghost use Rattle.sql_queries.specs.Grammar as grammar;
 ghost use Rattle.sql_queries.specs.Trees.{QueryTree, query_tree};
 
-use crate::Query;
 use crate::prepared::{execute, explain, prepare, row_statement};
+use crate::{Delete, Insert, Query, RowStatement, Select, Update};
 use grammar_rules::{Refused, split};
 use sql_expressions::{ParseRefused, comes, refusal};
 use sql_tokens::{Kind, Token, read_tokens};
@@ -65,13 +65,31 @@ pub fn query<'a>(
     }
 }
 
-/// A query that is read, if nothing is left.
-fn whole(read: Query, rest: &[Token]) -> Result<Query, Refused>
-    ensures { Gives query_tree result (whole_of (query_tree read, rest.now)) }
-{
-    match split(rest) {
-        None => Ok(read),
-        Some(_) => Err(Refused::Syntax(rest.len())),
+// A query is let go part by part: the proof of a function that lets it go whole would grow too large.
+fn leave_select(_select: Select) {}
+
+fn leave_insert(_insert: Insert) {}
+
+fn leave_update(_update: Update) {}
+
+fn leave_delete(_delete: Delete) {}
+
+fn leave_rows(statement: RowStatement) {
+    match statement {
+        RowStatement::Select(select) => leave_select(select),
+        RowStatement::Insert(insert) => leave_insert(insert),
+        RowStatement::Update(update) => leave_update(update),
+        RowStatement::Delete(delete) => leave_delete(delete),
+    }
+}
+
+fn leave(query: Query) {
+    match query {
+        Query::Rows(statement) => leave_rows(statement),
+        Query::Prepare(_, _, statement) => leave_rows(statement),
+        Query::Execute(_, _) => {}
+        Query::ExplainSelect(_, select) => leave_select(select),
+        Query::ExplainExecute(_, _, _) => {}
     }
 }
 
@@ -80,7 +98,13 @@ fn read_all(alloc: Global, text: &[u8], tokens: &[Token]) -> Result<Query, Refus
     ensures { Gives query_tree result (read_whole (grammar.query text.now) tokens.now) }
 {
     let (read, rest) = query(alloc, text, tokens)?;
-    whole(read, rest)
+    match split(rest) {
+        None => Ok(read),
+        Some(_) => {
+            leave(read);
+            Err(Refused::Syntax(rest.len()))
+        }
+    }
 }
 
 /// Reads tokens that are one query, up to the last. `text` is the text whose tokens they are.
