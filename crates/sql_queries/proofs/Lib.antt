@@ -4,4 +4,5 @@ pub mod ItemLaws
 pub mod QueryLaws
 pub mod SettingLaws
 pub mod Splits
+mod StepCode
 pub mod WordBehind

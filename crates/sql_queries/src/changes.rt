@@ -163,6 +163,20 @@ fn with_more<'a>(
     more_parts::<EachAssignment>(alloc, text, first, tokens)
 }
 
+/// The new values behind the first, which is of the column that a token names.
+fn more_settings<'a>(
+    alloc: Global,
+    text: &[u8],
+    column: Token,
+    value: Expr,
+    tokens: &'a [Token],
+) -> Result<(Vec<Assignment>, &'a [Token]), Refused>
+    ensures { Gives (λ x. (map setting x.0.items, x.1.now)) result ((grammar.more_settings text.now column (tree value)).read tokens.now) }
+{
+    let column = name_of(alloc, text, column)?;
+    with_more(alloc, text, Assignment { column, value }, tokens)
+}
+
 /// The value of a column, and the new values behind it.
 fn value_and_more<'a>(
     alloc: Global,
@@ -173,8 +187,7 @@ fn value_and_more<'a>(
     ensures { Gives (λ x. (map setting x.0.items, x.1.now)) result ((value_and_more text.now column).read tokens.now) }
 {
     let (value, rest) = expression(alloc, text, tokens)?;
-    let column = name_of(alloc, text, column)?;
-    with_more(alloc, text, Assignment { column, value }, rest)
+    more_settings(alloc, text, column, value, rest)
 }
 
 fn column_in_steps<'a>(
