@@ -1,13 +1,12 @@
 -- Each production keeps the law: one token of look-ahead decides how its texts are read.
-use Rattle.std.proofs.Common.{◌≡◌, ℕ, Bool, true, false, ◌&&◌, ◌||◌, not, List, [], ◌∷◌, None, refl}
-use Rattle.grammar_rules.specs.Reading.{Class, Rule, one, as_value}
+use Rattle.std.proofs.Common.{◌≡◌, ℕ, Bool, true, false, ◌&&◌, ◌||◌, List, [], ◌∷◌, None, refl}
+use Rattle.grammar_rules.specs.Reading.{Class, one, as_value}
 use Rattle.grammar_rules.specs.Rows.{second_of}
-use Rattle.grammar_rules.proofs.Laws.{Law, Disjoint, Within}
-use Rattle.grammar_rules.proofs.Chain.{none, with}
-use Rattle.grammar_rules.proofs.Build.{token, empty, valued, wide, seq, then_by, alt, opt, after_token, before_token, more, chained}
-use Rattle.sql_tokens.specs.Contents.{name_in, number_in}
+use Rattle.grammar_rules.proofs.Laws.{Law, Within}
+use Rattle.grammar_rules.proofs.Chain.{none}
+use Rattle.grammar_rules.proofs.Build.{token, empty, valued, wide, seq, then_by, alt, opt, after_token, before_token, more}
+use Rattle.sql_tokens.specs.Contents.{name_in}
 use Rattle.sql_tokens.specs.Words as words
-use Rattle.sql_tokens.specs.declared.kind.Kind.{Kind}
 use Rattle.sql_tokens.specs.declared.kind.Kind.TheVariants as word
 use Rattle.sql_tokens.specs.declared.token.Token.{Token}
 use Rattle.sql_expressions.specs.Grammar.{expression}
@@ -17,39 +16,15 @@ use Rattle.sql_expressions.proofs.LevelLaws.{after_expression}
 use Rattle.sql_expressions.proofs.RuleLaws.{expression_law}
 use Rattle.sql_expressions.proofs.WordLaws.{sample, apart, within, no_longer_law, name_law, string_law}
 use Rattle.sql_commands.specs.Trees.{resets, deallocates, deallocates_all, other}
+use Rattle.sql_lists.proofs.ListLaws.{means_law, maybe_law, in_law, commas_law, plain_name_law, number_law, other_name_law}
+use Rattle.sql_lists.specs.Lists as lists
 use Rattle.sql_commands.specs.Grammar as grammar
 use Rattle.sql_commands.specs.declared.commands.Isolation.TheVariants as isolation
 use Rattle.sql_commands.specs.declared.commands.SettingValue.TheVariants as setting
 use Rattle.sql_commands.specs.declared.commands.LockMode.{LockMode}
 use Rattle.sql_commands.specs.declared.commands.LockMode.TheVariants as mode
+use Rattle.sql_commands.proofs.NameFirst.{dropped_texts, dropped_free, prepared_texts, prepared_free, read_as_law}
 use Rattle.sql_commands.proofs.TextLaws.{by_text_law}
-
--- pieces
-means_law : {A B : Type 0} {p : Rule Token B} {f : Class Token} {n : Bool} {c : Class Token} (x : A) → Law p f n c → Law (grammar.means x p) f n c
-means_law {A} {B} x l = valued (λ (y : B). x) l
-
-maybe_law : (c : Class Token) (t : Token) → c t ≡ true → Law (grammar.maybe c) c true c
-maybe_law c t e = wide (opt (token c t e)) (λ k h. h) (λ k h. h)
-
-in_law : {A : Type 0} {p : Rule Token A} {f : Class Token} {c : Class Token} → Law p f false c → Disjoint (a word.CloseParenthesis) c → Law (grammar.in_parentheses p) (a word.OpenParenthesis) false none
-in_law l d = after_token _ (sample word.OpenParenthesis) refl (before_token _ (sample word.CloseParenthesis) refl l d)
-
-commas_law : {A : Type 0} {p : Rule Token A} {f : Class Token} {c : Class Token} → Law p f false c → Disjoint (a word.Comma) c → Law (grammar.commas p) f false (with c (a word.Comma))
-commas_law l d = chained (a word.Comma) (sample word.Comma) refl grammar.only grammar.snoc l d
-
-plain_name_law : (text : List ℕ) → Law (grammar.plain_name text) a_name false none
-plain_name_law text = valued grammar.said (name_law text)
-
-number_law : (text : List ℕ) → Law (grammar.number text) (a word.Number) false none
-number_law text = valued (number_in text) (token (a word.Number) (sample word.Number) refl)
-
-both_true : (u v w : Bool) → ((u && v) && w) ≡ true → (u && w) ≡ true
-both_true true true w h = h
-both_true true false w h = cc
-both_true false v w h = cc
-
-other_name_law : (text : List ℕ) (k : Kind) → (grammar.is_other_name k (sample word.Name) && not (is_long_name text (sample word.Name) && not (a k (sample word.Name)))) ≡ true → Law (grammar.other_name text k) (grammar.is_other_name k) false none
-other_name_law text k e = valued (name_in text) (no_longer_law (grammar.is_other_name k) (λ t. is_long_name text t && not (a k t)) (λ t h. both_true (a_name t) _ _ h) (sample word.Name) e)
 
 -- begin, finish
 begin_words_law : Law grammar.begin_words grammar.begins_begin false grammar.is_noise
@@ -59,7 +34,7 @@ begin_words_law =
     (means_law None (after_token (a word.Start) (sample word.Start) refl (token (a word.Transaction) (sample word.Transaction) refl))) (apart _ _ (λ t. refl) refl))
     (within _ _ (λ t. refl) refl) (within _ _ (λ t. refl) refl)
 
-level_law : Law grammar.level (grammar.one_of word.Read word.Repeatable) false none
+level_law : Law grammar.level (lists.one_of word.Read word.Repeatable) false none
 level_law =
     wide
     (alt (a word.Read) (means_law isolation.ReadCommitted (after_token (a word.Read) (sample word.Read) refl (token grammar.is_committed (sample word.Committed) refl))) (λ k h. h)
@@ -84,7 +59,7 @@ finish_law =
     (within _ _ (λ t. refl) refl) (within _ _ (λ t. refl) refl)
 
 -- set
-setting_value_law : (text : List ℕ) → Law (grammar.setting_value text) (λ t. grammar.is_setting_word t || (a word.Text t || a word.Number t)) false none
+pub setting_value_law : (text : List ℕ) → Law (grammar.setting_value text) (λ t. grammar.is_setting_word t || (a word.Text t || a word.Number t)) false none
 setting_value_law text =
     wide
     (alt grammar.is_setting_word
@@ -118,7 +93,7 @@ by_law text =
 maybe_by_law : (text : List ℕ) → Law (grammar.maybe_by text) (a word.Partition) true (a word.Partition)
 maybe_by_law text = wide (opt (by_law text)) (λ k h. h) (λ k h. h)
 
-null_or_not_law : Law grammar.null_or_not (grammar.one_of word.Not word.Null) true (grammar.one_of word.Not word.Null)
+null_or_not_law : Law grammar.null_or_not (lists.one_of word.Not word.Null) true (lists.one_of word.Not word.Null)
 null_or_not_law =
     wide
     (alt (a word.Not) (means_law true (after_token (a word.Not) (sample word.Not) refl (token (a word.Null) (sample word.Null) refl))) (λ k h. h)
@@ -126,7 +101,7 @@ null_or_not_law =
     (apart _ _ (λ t. refl) refl))
     (within _ _ (λ t. refl) refl) (within _ _ (λ t. refl) refl)
 
-column_law : (text : List ℕ) → Law (grammar.column text) a_name false (grammar.one_of word.Not word.Null)
+column_law : (text : List ℕ) → Law (grammar.column text) a_name false (lists.one_of word.Not word.Null)
 column_law text =
     wide (valued grammar.column_value (seq (plain_name_law text) (seq (plain_name_law text) null_or_not_law (λ k h. refl)) (λ k h. refl)))
     (within _ _ (λ t. refl) refl) (within _ _ (λ t. refl) refl)
@@ -156,7 +131,7 @@ values_bound_law text =
     wide (alt (a word.From) (range_bound_law text) (λ k h. h) (alt (a word.In) (list_bound_law text) (λ k h. h) (hash_bound_law text) (apart _ _ (λ t. refl) refl)) (apart _ _ (λ t. refl) refl))
     (within _ _ (λ t. refl) refl) (within _ _ (λ t. refl) refl)
 
-bound_law : (text : List ℕ) → Law (grammar.bound text) (grammar.one_of word.For word.Default) false none
+bound_law : (text : List ℕ) → Law (grammar.bound text) (lists.one_of word.For word.Default) false none
 bound_law text =
     wide
     (alt (a word.For) (after_token (a word.For) (sample word.For) refl (after_token (a word.Values) (sample word.Values) refl (values_bound_law text))) (λ k h. h)
@@ -174,11 +149,11 @@ partition_of_law text name =
     (seq (plain_name_law text) (seq (bound_law text) (maybe_by_law text) (λ k h. refl)) (λ k h. refl)))))
     (λ k h. h) (within _ _ (λ t. refl) refl)
 
-create_law : (text : List ℕ) → Law (grammar.create text) (a word.Create) false (a word.Partition)
+pub create_law : (text : List ℕ) → Law (grammar.create text) (a word.Create) false (a word.Partition)
 create_law text =
     wide (valued second_of (after_token (a word.Create) (sample word.Create) refl (after_token (a word.Table) (sample word.Table) refl
     (then_by (plain_name_law text)
-    (λ name. wide {f' = grammar.one_of word.OpenParenthesis word.Partition} {c' = a word.Partition}
+    (λ name. wide {f' = lists.one_of word.OpenParenthesis word.Partition} {c' = a word.Partition}
     (alt (a word.OpenParenthesis) (columns_law text name) (λ k h. h) (partition_of_law text name) (apart _ _ (λ t. refl) refl)) (within _ _ (λ t. refl) refl) (within _ _ (λ t. refl) refl))
     (λ k h. refl)))))
     (λ k h. h) (within _ _ (λ t. refl) refl)
@@ -188,20 +163,26 @@ abbrev pub exists_or_comma : Class Token
 exists_or_comma t = a word.Exists t || a word.Comma t
 
 dropped_law_by : (text : List ℕ) (b : Bool) (names : List (List ℕ)) →
-    Law (either_if b (a word.Exists) (as_value (grammar.drop_value true) (word.Exists >> grammar.commas (grammar.plain_name text))) (as_value (grammar.drop_value false) (grammar.more_commas (grammar.plain_name text) names))) exists_or_comma true exists_or_comma
+    Law (either_if b (a word.Exists) (as_value (grammar.drop_value true) (word.Exists >> lists.commas (lists.plain_name text))) (as_value (grammar.drop_value false) (lists.more_commas (lists.plain_name text) names))) exists_or_comma true exists_or_comma
 dropped_law_by text true names =
     wide
     (alt (a word.Exists) (valued (grammar.drop_value true) (after_token (a word.Exists) (sample word.Exists) refl (commas_law (plain_name_law text) (λ k h. refl)))) (λ k h. h)
-    (valued (grammar.drop_value false) (more (a word.Comma) (sample word.Comma) refl grammar.snoc (plain_name_law text) (λ k h. refl) names)) (apart _ _ (λ t. refl) refl))
+    (valued (grammar.drop_value false) (more (a word.Comma) (sample word.Comma) refl lists.snoc (plain_name_law text) (λ k h. refl) names)) (apart _ _ (λ t. refl) refl))
     (within _ _ (λ t. refl) refl) (within _ _ (λ t. refl) refl)
 dropped_law_by text false names =
-    wide (valued (grammar.drop_value false) (more (a word.Comma) (sample word.Comma) refl grammar.snoc (plain_name_law text) (λ k h. refl) names))
+    wide (valued (grammar.drop_value false) (more (a word.Comma) (sample word.Comma) refl lists.snoc (plain_name_law text) (λ k h. refl) names))
     (within _ _ (λ t. refl) refl) (within _ _ (λ t. refl) refl)
 
-drop_law : (text : List ℕ) → Law (grammar.drop_tables text) (a word.Drop) false (λ t. exists_or_comma t || grammar.is_behavior t)
+dropped_law : (text : List ℕ) → Law (grammar.dropped text) a_name false exists_or_comma
+dropped_law text =
+    wide (read_as_law (grammar.tables text) (grammar.dropped_by_name text) (dropped_texts text) (dropped_free text)
+    (valued second_of (then_by (name_law text) (λ x. dropped_law_by text (words.is x.0 word.If) (x.1 ∷ [])) (λ k h. refl))))
+    (within _ _ (λ t. refl) refl) (within _ _ (λ t. refl) refl)
+
+pub drop_law : (text : List ℕ) → Law (grammar.drop_tables text) (a word.Drop) false (λ t. exists_or_comma t || grammar.is_behavior t)
 drop_law text =
     wide (valued grammar.drop_tree (after_token (a word.Drop) (sample word.Drop) refl (after_token (a word.Table) (sample word.Table) refl
-    (seq (valued second_of (then_by (name_law text) (λ x. dropped_law_by text (words.is x.0 word.If) (x.1 ∷ [])) (λ k h. refl))) (maybe_law grammar.is_behavior (sample word.Cascade) refl) (apart _ _ (λ t. refl) refl)))))
+    (seq (dropped_law text) (maybe_law grammar.is_behavior (sample word.Cascade) refl) (apart _ _ (λ t. refl) refl)))))
     (λ k h. h) (within _ _ (λ t. refl) refl)
 
 -- alter
@@ -216,11 +197,11 @@ detach_law text parent =
     (seq (plain_name_law text) (maybe_law grammar.is_detachment (sample word.Finalize) refl) (λ k h. refl)))))
     (λ k h. h) (within _ _ (λ t. refl) refl)
 
-alter_law : (text : List ℕ) → Law (grammar.alter text) (a word.Alter) false grammar.is_detachment
+pub alter_law : (text : List ℕ) → Law (grammar.alter text) (a word.Alter) false grammar.is_detachment
 alter_law text =
     wide (valued second_of (after_token (a word.Alter) (sample word.Alter) refl (after_token (a word.Table) (sample word.Table) refl
     (then_by (plain_name_law text)
-    (λ parent. wide {f' = grammar.one_of word.Attach word.Detach} {c' = grammar.is_detachment}
+    (λ parent. wide {f' = lists.one_of word.Attach word.Detach} {c' = grammar.is_detachment}
     (alt (a word.Attach) (attach_law text parent) (λ k h. h) (detach_law text parent) (apart _ _ (λ t. refl) refl)) (within _ _ (λ t. refl) refl) (within _ _ (λ t. refl) refl))
     (λ k h. refl)))))
     (λ k h. h) (within _ _ (λ t. refl) refl)
@@ -234,7 +215,7 @@ locked_law text =
 share_law : (share exclusive : LockMode) → Law (grammar.share_or_exclusive share exclusive) grammar.is_share_or_exclusive false none
 share_law share exclusive = valued (grammar.shared_or share exclusive) (token grammar.is_share_or_exclusive (sample word.Share) refl)
 
-behind_share_law : Law grammar.behind_share (grammar.one_of word.Update word.Row) true (grammar.one_of word.Update word.Row)
+behind_share_law : Law grammar.behind_share (lists.one_of word.Update word.Row) true (lists.one_of word.Update word.Row)
 behind_share_law =
     wide
     (alt (a word.Update) (means_law mode.ShareUpdateExclusive (after_token (a word.Update) (sample word.Update) refl (token (a word.Exclusive) (sample word.Exclusive) refl))) (λ k h. h)
@@ -245,7 +226,7 @@ behind_share_law =
 abbrev pub begins_mode : Class Token
 begins_mode t = a word.Access t || (a word.Row t || (a word.Share t || a word.Exclusive t))
 
-lock_mode_law : Law grammar.lock_mode begins_mode false (grammar.one_of word.Update word.Row)
+lock_mode_law : Law grammar.lock_mode begins_mode false (lists.one_of word.Update word.Row)
 lock_mode_law =
     wide
     (alt (a word.Access) (after_token (a word.Access) (sample word.Access) refl (share_law mode.AccessShare mode.AccessExclusive)) (λ k h. h)
@@ -260,14 +241,14 @@ maybe_mode_law =
     (alt (a word.In) (after_token (a word.In) (sample word.In) refl (before_token (a word.Mode) (sample word.Mode) refl lock_mode_law (apart _ _ (λ t. refl) refl))) (λ k h. h) (empty mode.AccessExclusive) (λ k h. refl))
     (within _ _ (λ t. refl) refl) (within _ _ (λ t. refl) refl)
 
-lock_law : (text : List ℕ) → Law (grammar.lock text) (a word.Lock) false (λ t. a word.Comma t || a word.In t)
+pub lock_law : (text : List ℕ) → Law (grammar.lock text) (a word.Lock) false (λ t. a word.Comma t || a word.In t)
 lock_law text =
     wide (valued grammar.lock_value (after_token (a word.Lock) (sample word.Lock) refl
     (seq (maybe_law (a word.Table) (sample word.Table) refl) (seq (commas_law (locked_law text) (λ k h. refl)) maybe_mode_law (apart _ _ (λ t. refl) refl)) (apart _ _ (λ t. refl) refl))))
     (λ k h. h) (within _ _ (λ t. refl) refl)
 
 -- deallocate
-all_law : Law (grammar.means deallocates_all (one (a word.All))) (a word.All) false none
+all_law : Law (lists.means deallocates_all (one (a word.All))) (a word.All) false none
 all_law = means_law deallocates_all (token (a word.All) (sample word.All) refl)
 
 abbrev pub all_or_name : Class Token
@@ -277,7 +258,7 @@ behind_prepare_law : (text prepare : List ℕ) → Law (grammar.behind_prepare t
 behind_prepare_law text prepare =
     wide
     (alt (a word.All) all_law (λ k h. h)
-    (alt (grammar.is_other_name word.Transaction) (valued deallocates (other_name_law text word.Transaction refl)) (λ k h. h) (empty (deallocates prepare)) (λ k h. refl))
+    (alt (lists.is_other_name word.Transaction) (valued deallocates (other_name_law text word.Transaction refl)) (λ k h. h) (empty (deallocates prepare)) (λ k h. refl))
     (apart _ _ (λ t. refl) refl))
     (within _ _ (λ t. refl) refl) (within _ _ (λ t. refl) refl)
 
@@ -285,10 +266,11 @@ behind_law_by : (text name : List ℕ) (b : Bool) → Law (grammar.behind_if tex
 behind_law_by text name true = behind_prepare_law text name
 behind_law_by text name false = wide (empty (deallocates name)) (λ k h. cc) (λ k h. cc)
 
-deallocate_law : (text : List ℕ) → Law (grammar.deallocate text) (a word.Deallocate) false all_or_name
+pub deallocate_law : (text : List ℕ) → Law (grammar.deallocate text) (a word.Deallocate) false all_or_name
 deallocate_law text =
     wide (after_token (a word.Deallocate) (sample word.Deallocate) refl
-    (alt (a word.All) all_law (λ k h. h) (valued second_of (then_by (name_law text) (λ x. behind_law_by text x.1 (words.is x.0 word.Prepare)) (λ k h. refl))) (apart _ _ (λ t. refl) refl)))
+    (read_as_law (grammar.prepared text) (grammar.prepared_by_name text) (prepared_texts text) (prepared_free text)
+    (alt (a word.All) all_law (λ k h. h) (valued second_of (then_by (name_law text) (λ x. behind_law_by text x.1 (words.is x.0 word.Prepare)) (λ k h. refl))) (apart _ _ (λ t. refl) refl))))
     (λ k h. h) (within _ _ (λ t. refl) refl)
 
 -- what begins a command, and what may go on behind one

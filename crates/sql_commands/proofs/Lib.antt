@@ -1,2 +1,3 @@
 pub mod CommandLaws
+pub mod NameFirst
 pub mod TextLaws

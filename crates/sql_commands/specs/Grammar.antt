@@ -1,9 +1,9 @@
 -- The grammar of commands (VI. SQL Commands: BEGIN, COMMIT, ROLLBACK, SET, RESET, CREATE TABLE, DROP TABLE, ALTER TABLE, LOCK, DEALLOCATE).
 -- What a name or a number says stands in the text, so rules of names take the text.
-use Rattle.std.specs.Prelude.{◌≡◌, ℕ, ◌-◌, Bool, true, false, ◌&&◌, ◌||◌, not, if◌then◌else◌, List, [], ◌∷◌, ◌++◌, Option, Some, None, length, take, Ok}
+use Rattle.std.specs.Prelude.{◌≡◌, ℕ, ◌-◌, Bool, true, false, ◌||◌, if◌then◌else◌, List, [], ◌∷◌, Option, Some, None, length, take, Ok}
 use Rattle.grammar_rules.specs.Reading.{Class, Rule, one, nothing, follow, as_value, either, optional, ◌>>=◌}
-use Rattle.grammar_rules.specs.Rows.{second_of, chain, more_of}
-use Rattle.sql_tokens.specs.Contents.{name_in, number_in}
+use Rattle.grammar_rules.specs.Rows.{second_of}
+use Rattle.sql_tokens.specs.Contents.{name_in}
 use Rattle.sql_tokens.specs.Words as words
 use Rattle.sql_tokens.specs.declared.kind.Kind.{Kind}
 use Rattle.sql_tokens.specs.declared.kind.Kind.TheVariants as word
@@ -11,6 +11,7 @@ use Rattle.sql_tokens.specs.declared.token.Token.{Token}
 use Rattle.sql_expressions.specs.Grammar.{expression}
 use Rattle.sql_expressions.specs.Tree.{Tree, listed as list_of_trees}
 use Rattle.sql_expressions.specs.Words.{a, a_name, ◌>>◌, ◌<<◌, ◌&◌, either_if, is_long_name, no_longer, name, string}
+use Rattle.sql_lists.specs.Lists.{one_of, means, maybe, in_parentheses, commas, more_commas, plain_name, name_word, is_other_name, other_name, number, read_as}
 use Rattle.sql_commands.specs.Trees.{Edge, min, max, at, Bound, range, listed, hash, other, CommandTree, begins, commits, rolls_back, sets, resets, makes_table, makes_partition, drops, attaches, detaches, locks, deallocates, deallocates_all}
 use Rattle.sql_commands.specs.declared.commands.Detachment.{Detachment}
 use Rattle.sql_commands.specs.declared.commands.Detachment.TheVariants as detachment
@@ -25,53 +26,6 @@ use Rattle.sql_commands.specs.declared.commands.Strategy.TheVariants as strategy
 use Rattle.sql_commands.specs.declared.lists.ColumnDefinition.{ColumnDefinition}
 use Rattle.sql_commands.specs.declared.lists.LockedTable.{LockedTable}
 use Rattle.sql_commands.specs.declared.lists.Partitioning.{Partitioning}
-
--- one of two words
-abbrev pub one_of : Kind → Kind → Class Token
-one_of j k t = a j t || a k t
-
--- a value that the words say by themselves
-abbrev pub means : {A B : Type 0} → A → Rule Token B → Rule Token A
-means {A} {B} a p = as_value (λ (x : B). a) p
-
--- a token of the class, or none
-abbrev pub maybe : Class Token → Rule Token (Option Token)
-maybe c = optional c (one c)
-
--- "(" p ")"
-abbrev pub in_parentheses : {A : Type 0} → Rule Token A → Rule Token A
-in_parentheses p = word.OpenParenthesis >> p << word.CloseParenthesis
-
--- p { "," p }
-abbrev pub only : {A : Type 0} → A → List A
-only x = x ∷ []
-
-abbrev pub snoc : {A : Type 0} → List A → Token → A → List A
-snoc xs sign x = xs ++ x ∷ []
-
-abbrev pub commas : {A : Type 0} → Rule Token A → Rule Token (List A)
-commas p = chain (a word.Comma) only snoc p
-
--- { "," p } behind those that stand there
-abbrev pub more_commas : {A : Type 0} → Rule Token A → List A → Rule Token (List A)
-more_commas p xs = more_of (a word.Comma) snoc p xs
-
--- a name alone
-abbrev pub said : Kind × List ℕ → List ℕ
-said x = x.1
-
-abbrev pub plain_name : List ℕ → Rule Token (List ℕ)
-plain_name text = as_value said (name text)
-
--- a name that is not the word k
-abbrev pub is_other_name : Kind → Class Token
-is_other_name k t = a_name t && not (a k t)
-
-abbrev pub other_name : List ℕ → Kind → Rule Token (List ℕ)
-other_name text k = as_value (name_in text) (no_longer (is_other_name k) (λ t. is_long_name text t && not (a k t)))
-
-abbrev pub number : List ℕ → Rule Token ℕ
-number text = as_value (number_in text) (one (a word.Number))
 
 -- [ "WORK" | "TRANSACTION" ]
 abbrev pub is_noise : Class Token
@@ -239,10 +193,16 @@ abbrev pub create : List ℕ → Rule Token CommandTree
 create text = as_value second_of (word.Create >> word.Table >> follow (plain_name text) (made text))
 
 -- drop = "DROP" "TABLE" [ "IF" "EXISTS" ] name { "," name } [ "CASCADE" | "RESTRICT" ]
--- IF may be a name, so it is read first, and EXISTS behind it decides
 abbrev pub is_behavior : Class Token
 is_behavior = one_of word.Cascade word.Restrict
 
+abbrev pub if_exists : List ℕ → Rule Token Bool
+if_exists text = either (a word.If) (means true (name_word text word.If & one (a word.Exists))) (nothing false)
+
+abbrev pub tables : List ℕ → Rule Token (Bool × List (List ℕ))
+tables text = if_exists text & commas (plain_name text)
+
+-- IF may be a name, so a name is read first, and EXISTS behind it decides
 abbrev pub drop_value : Bool → List (List ℕ) → Bool × List (List ℕ)
 drop_value if_there names = (if_there, names)
 
@@ -251,8 +211,11 @@ dropped_behind text x =
     either_if (words.is x.0 word.If) (a word.Exists) (as_value (drop_value true) (word.Exists >> commas (plain_name text)))
     (as_value (drop_value false) (more_commas (plain_name text) (x.1 ∷ [])))
 
+abbrev pub dropped_by_name : List ℕ → Rule Token (Bool × List (List ℕ))
+dropped_by_name text = as_value second_of (follow (name text) (dropped_behind text))
+
 abbrev pub dropped : List ℕ → Rule Token (Bool × List (List ℕ))
-dropped text = as_value second_of (follow (name text) (dropped_behind text))
+dropped text = read_as (tables text) (dropped_by_name text)
 
 abbrev pub drop_tree : (Bool × List (List ℕ)) × Option Token → CommandTree
 drop_tree x = drops x.0.0 x.0.1
@@ -328,7 +291,17 @@ abbrev pub lock : List ℕ → Rule Token CommandTree
 lock text = as_value lock_value (word.Lock >> maybe (a word.Table) & commas (locked text) & maybe_mode)
 
 -- dealloc = "DEALLOCATE" [ "PREPARE" ] ( name | "ALL" ), where TRANSACTION is no name behind PREPARE
--- PREPARE may be a name, so it is read first, and what stands behind it decides
+abbrev pub name_behind : List ℕ → Option Token → Rule Token (List ℕ)
+name_behind text None = plain_name text
+name_behind text (Some prepare) = other_name text word.Transaction
+
+abbrev pub all_or_name : List ℕ → Option Token → Rule Token CommandTree
+all_or_name text o = either (a word.All) (means deallocates_all (one (a word.All))) (as_value deallocates (name_behind text o))
+
+abbrev pub prepared : List ℕ → Rule Token CommandTree
+prepared text = as_value second_of (follow (optional (a word.Prepare) (name_word text word.Prepare)) (all_or_name text))
+
+-- PREPARE may be a name, so a name is read first, and what stands behind it decides
 abbrev pub behind_prepare : List ℕ → List ℕ → Rule Token CommandTree
 behind_prepare text prepare =
     either (a word.All) (means deallocates_all (one (a word.All)))
@@ -341,9 +314,11 @@ behind_if text name false = nothing (deallocates name)
 abbrev pub behind_deallocate : List ℕ → Kind × List ℕ → Rule Token CommandTree
 behind_deallocate text x = behind_if text x.1 (words.is x.0 word.Prepare)
 
+abbrev pub prepared_by_name : List ℕ → Rule Token CommandTree
+prepared_by_name text = either (a word.All) (means deallocates_all (one (a word.All))) (as_value second_of (follow (name text) (behind_deallocate text)))
+
 abbrev pub deallocate : List ℕ → Rule Token CommandTree
-deallocate text =
-    word.Deallocate >> either (a word.All) (means deallocates_all (one (a word.All))) (as_value second_of (follow (name text) (behind_deallocate text)))
+deallocate text = word.Deallocate >> read_as (prepared text) (prepared_by_name text)
 
 -- command = begin | finish | set | create | drop | alter | lock | dealloc
 abbrev pub begins_begin : Class Token

@@ -1,16 +1,13 @@
-ghost use Rattle.std.specs.Prelude.{◌≡◌, length, map, take};
+ghost use Rattle.std.specs.Prelude.{◌≡◌, map, take};
 ghost use Rattle.grammar_rules.specs.Gives.{Gives};
-ghost use Rattle.grammar_rules.specs.Rows.{always, read_row, read_step};
-ghost use Rattle.sql_expressions.specs.Grammar as expressions;
 ghost use Rattle.sql_expressions.specs.Tree.{tree};
-ghost use Rattle.sql_expressions.specs.Words.{a};
 ghost use Rattle.sql_commands.specs.Grammar as grammar;
 ghost use Rattle.sql_commands.specs.Trees.{bound_tree, edge_tree};
 
 use crate::EdgeList;
-use crate::words::number;
 use grammar_rules::Refused;
 use sql_expressions::{Expr, ExprList, comes, expression, word};
+use sql_lists::{Part, commas, number, values};
 use sql_tokens::{Kind, Token, same_kind};
 use std::alloc::Global;
 
@@ -64,110 +61,27 @@ fn edge<'a>(
     Ok((edge_of(taken, value), rest))
 }
 
-#[tactic(auto, unfolding(grammar_rules::specs::Rows::read_step))]
-fn edge_step<'a>(
-    alloc: Global,
-    text: &[u8],
-    mut edges: Vec<EdgeText>,
-    tokens: &'a [Token],
-) -> Result<(bool, Vec<EdgeText>, &'a [Token]), Refused>
-    ensures { Gives (λ x. ((x.0, map edge_tree x.1.items), x.2.now)) result (read_step (a Kind.Comma) always grammar.snoc (λ _. (grammar.edge text.now).read) (map edge_tree edges.items) tokens.now) }
-{
-    if !comes(tokens, Kind::Comma) {
-        return Ok((false, edges, tokens));
+struct EachEdge;
+
+impl Part for EachEdge {
+    ghost use Rattle.sql_commands.specs.Grammar as grammar;
+    ghost use Rattle.sql_commands.specs.Trees.{Edge as OneEdge, edge_tree};
+
+    type Item = EdgeText;
+
+    ghost Tree = { OneEdge };
+
+    ghost tree = { edge_tree };
+
+    ghost rule = { grammar.edge };
+
+    fn read<'a>(
+        alloc: Global,
+        text: &[u8],
+        tokens: &'a [Token],
+    ) -> Result<(EdgeText, &'a [Token]), Refused> {
+        edge(alloc, text, tokens)
     }
-    let (_, rest) = word(tokens, Kind::Comma)?;
-    let (next, rest) = edge(alloc, text, rest)?;
-    edges.push(next)?;
-    Ok((true, edges, rest))
-}
-
-fn more_edges<'a>(
-    alloc: Global,
-    text: &[u8],
-    first: Vec<EdgeText>,
-    tokens: &'a [Token],
-) -> Result<(Vec<EdgeText>, &'a [Token]), Refused>
-    ensures { Gives (λ x. (map edge_tree x.0.items, x.1.now)) result (read_row (a Kind.Comma) always grammar.snoc (λ _. (grammar.edge text.now).read) (length tokens.now) (map edge_tree first.items) tokens.now) }
-{
-    let mut done = first;
-    let mut rest = tokens;
-    for _ in 0..tokens.len() {
-        let (more, longer, after) = edge_step(alloc, text, done, rest)?;
-        if !more {
-            return Ok((longer, after));
-        }
-        done = longer;
-        rest = after;
-    }
-    Ok((done, rest))
-}
-
-/// Edges with commas between.
-fn edges<'a>(
-    alloc: Global,
-    text: &[u8],
-    tokens: &'a [Token],
-) -> Result<(Vec<EdgeText>, &'a [Token]), Refused>
-    ensures { Gives (λ x. (map edge_tree x.0.items, x.1.now)) result ((grammar.commas (grammar.edge text.now)).read tokens.now) }
-{
-    let (first, rest) = edge(alloc, text, tokens)?;
-    let mut edges = Vec::new(alloc);
-    edges.push(first)?;
-    more_edges(alloc, text, edges, rest)
-}
-
-#[tactic(auto, unfolding(grammar_rules::specs::Rows::read_step))]
-fn value_step<'a>(
-    alloc: Global,
-    text: &[u8],
-    mut values: Vec<Expr>,
-    tokens: &'a [Token],
-) -> Result<(bool, Vec<Expr>, &'a [Token]), Refused>
-    ensures { Gives (λ x. ((x.0, map tree x.1.items), x.2.now)) result (read_step (a Kind.Comma) always grammar.snoc (λ _. (expressions.expression text.now).read) (map tree values.items) tokens.now) }
-{
-    if !comes(tokens, Kind::Comma) {
-        return Ok((false, values, tokens));
-    }
-    let (_, rest) = word(tokens, Kind::Comma)?;
-    let (next, rest) = expression(alloc, text, rest)?;
-    values.push(next)?;
-    Ok((true, values, rest))
-}
-
-fn more_values<'a>(
-    alloc: Global,
-    text: &[u8],
-    first: Vec<Expr>,
-    tokens: &'a [Token],
-) -> Result<(Vec<Expr>, &'a [Token]), Refused>
-    ensures { Gives (λ x. (map tree x.0.items, x.1.now)) result (read_row (a Kind.Comma) always grammar.snoc (λ _. (expressions.expression text.now).read) (length tokens.now) (map tree first.items) tokens.now) }
-{
-    let mut done = first;
-    let mut rest = tokens;
-    for _ in 0..tokens.len() {
-        let (more, longer, after) = value_step(alloc, text, done, rest)?;
-        if !more {
-            return Ok((longer, after));
-        }
-        done = longer;
-        rest = after;
-    }
-    Ok((done, rest))
-}
-
-/// Expressions with commas between.
-fn values<'a>(
-    alloc: Global,
-    text: &[u8],
-    tokens: &'a [Token],
-) -> Result<(Vec<Expr>, &'a [Token]), Refused>
-    ensures { Gives (λ x. (map tree x.0.items, x.1.now)) result ((grammar.commas (expressions.expression text.now)).read tokens.now) }
-{
-    let (first, rest) = expression(alloc, text, tokens)?;
-    let mut values = Vec::new(alloc);
-    values.push(first)?;
-    more_values(alloc, text, values, rest)
 }
 
 /// The edges of FROM or of TO.
@@ -179,7 +93,7 @@ fn point<'a>(
     ensures { Gives (λ x. (map edge_tree x.0.items, x.1.now)) result ((grammar.edges text.now).read tokens.now) }
 {
     let (_, rest) = word(tokens, Kind::OpenParenthesis)?;
-    let (edges, rest) = edges(alloc, text, rest)?;
+    let (edges, rest) = commas::<EachEdge>(alloc, text, rest)?;
     let (_, rest) = word(rest, Kind::CloseParenthesis)?;
     Ok((edges, rest))
 }

@@ -1,5 +1,6 @@
-use crate::{BoundText, ColumnList, LockedTableList, NameList, Partitioning};
+use crate::{BoundText, ColumnList, LockedTableList, Partitioning};
 use pg_values::PgText;
+use sql_lists::NameList;
 
 /// A statement that reads and changes no rows, as its text says it.
 #[derive(Debug, Drop)]

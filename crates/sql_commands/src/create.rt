@@ -1,16 +1,13 @@
-ghost use Rattle.std.specs.Prelude.{◌++◌, ◌∷◌, [], length};
 ghost use Rattle.grammar_rules.specs.Gives.{Gives};
-ghost use Rattle.grammar_rules.specs.Rows.{always, read_row, read_step};
-ghost use Rattle.sql_expressions.specs.Words.{a};
 ghost use Rattle.sql_commands.specs.Grammar as grammar;
 ghost use Rattle.sql_commands.specs.Trees.{command_tree};
 
 use crate::bound::bound;
-use crate::words::{names, plain_name};
-use crate::{ColumnDefinition, ColumnList, Command, NameList, Partitioning, Strategy};
+use crate::{ColumnDefinition, ColumnList, Command, Partitioning, Strategy};
 use grammar_rules::{Refused, split};
 use pg_values::PgText;
 use sql_expressions::{comes, word};
+use sql_lists::{NameList, Part, commas, names, plain_name};
 use sql_tokens::{Kind, Token, same_kind};
 use std::alloc::Global;
 
@@ -48,57 +45,27 @@ fn column<'a>(
     Ok((column, rest))
 }
 
-#[tactic(auto, unfolding(grammar_rules::specs::Rows::read_step))]
-fn column_step<'a>(
-    alloc: Global,
-    text: &[u8],
-    mut columns: Vec<ColumnDefinition>,
-    tokens: &'a [Token],
-) -> Result<(bool, Vec<ColumnDefinition>, &'a [Token]), Refused>
-    ensures { Gives (λ x. ((x.0, x.1.items), x.2.now)) result (read_step (a Kind.Comma) always grammar.snoc (λ _. (grammar.column text.now).read) columns.items tokens.now) }
-{
-    if !comes(tokens, Kind::Comma) {
-        return Ok((false, columns, tokens));
-    }
-    let (_, rest) = word(tokens, Kind::Comma)?;
-    let (next, rest) = column(alloc, text, rest)?;
-    columns.push(next)?;
-    Ok((true, columns, rest))
-}
+struct EachColumn;
 
-fn more_columns<'a>(
-    alloc: Global,
-    text: &[u8],
-    first: Vec<ColumnDefinition>,
-    tokens: &'a [Token],
-) -> Result<(Vec<ColumnDefinition>, &'a [Token]), Refused>
-    ensures { Gives (λ x. (x.0.items, x.1.now)) result (read_row (a Kind.Comma) always grammar.snoc (λ _. (grammar.column text.now).read) (length tokens.now) first.items tokens.now) }
-{
-    let mut done = first;
-    let mut rest = tokens;
-    for _ in 0..tokens.len() {
-        let (more, longer, after) = column_step(alloc, text, done, rest)?;
-        if !more {
-            return Ok((longer, after));
-        }
-        done = longer;
-        rest = after;
-    }
-    Ok((done, rest))
-}
+impl Part for EachColumn {
+    ghost use Rattle.sql_commands.specs.Grammar as grammar;
+    ghost use Rattle.sql_commands.specs.declared.lists.ColumnDefinition.{ColumnDefinition as OneColumn};
 
-/// Columns with commas between.
-fn columns<'a>(
-    alloc: Global,
-    text: &[u8],
-    tokens: &'a [Token],
-) -> Result<(Vec<ColumnDefinition>, &'a [Token]), Refused>
-    ensures { Gives (λ x. (x.0.items, x.1.now)) result ((grammar.commas (grammar.column text.now)).read tokens.now) }
-{
-    let (first, rest) = column(alloc, text, tokens)?;
-    let mut columns = Vec::new(alloc);
-    columns.push(first)?;
-    more_columns(alloc, text, columns, rest)
+    type Item = ColumnDefinition;
+
+    ghost Tree = { OneColumn };
+
+    ghost tree = { λ column. column };
+
+    ghost rule = { grammar.column };
+
+    fn read<'a>(
+        alloc: Global,
+        text: &[u8],
+        tokens: &'a [Token],
+    ) -> Result<(ColumnDefinition, &'a [Token]), Refused> {
+        column(alloc, text, tokens)
+    }
 }
 
 fn strategy(tokens: &[Token]) -> Result<(Strategy, &[Token]), Refused>
@@ -162,7 +129,7 @@ fn own_columns<'a>(
     ensures { Gives (λ x. (command_tree x.0, x.1.now)) result ((grammar.columns text.now name).read tokens.now) }
 {
     let (_, rest) = word(tokens, Kind::OpenParenthesis)?;
-    let (columns, rest) = columns(alloc, text, rest)?;
+    let (columns, rest) = commas::<EachColumn>(alloc, text, rest)?;
     let (_, rest) = word(rest, Kind::CloseParenthesis)?;
     let (by, rest) = maybe_by(alloc, text, rest)?;
     let columns = ColumnList::from_vec(columns);

@@ -2,11 +2,11 @@ ghost use Rattle.grammar_rules.specs.Gives.{Gives};
 ghost use Rattle.sql_commands.specs.Grammar as grammar;
 ghost use Rattle.sql_commands.specs.Trees.{command_tree};
 
-use crate::words::{maybe_one_of, names, with_more_names};
-use crate::{Command, NameList};
+use crate::Command;
 use grammar_rules::Refused;
 use pg_values::PgText;
 use sql_expressions::{comes, name, word};
+use sql_lists::{NameList, maybe_one_of, names, with_more_names};
 use sql_tokens::{Kind, Token, same_kind};
 use std::alloc::Global;
 

@@ -4,7 +4,9 @@
 //! `specs/Grammar.antt` has a line for each production, as PostgreSQL's "VI. SQL Commands" writes them.
 //! The next token decides how a text goes on. In three places it does not by itself, since words stand
 //! there that may be names: IF behind DROP TABLE, PREPARE behind DEALLOCATE, and MINVALUE and MAXVALUE in
-//! the bounds of a range. There a name is read first, and the token behind it decides.
+//! the bounds of a range. There a name is read first, and the token behind it decides. The grammar has
+//! DROP TABLE and DEALLOCATE as they are written all the same: what is read so is proved to have the same
+//! texts, in `proofs/NameFirst.antt`.
 //!
 //! Names are folded, and nothing is looked up.
 #![tactic(auto)]
@@ -17,12 +19,11 @@ mod lists;
 mod lock;
 mod session;
 mod tables;
-mod words;
 
 pub use bound::{BoundText, EdgeText};
 pub use commands::{Command, Detachment, Isolation, LockMode, SettingValue, Strategy};
 pub use lists::{
-    ColumnDefinition, ColumnList, EdgeList, LockedTable, LockedTableList, NameList, Partitioning,
+    ColumnDefinition, ColumnList, EdgeList, LockedTable, LockedTableList, Partitioning,
 };
 pub use tables::{command, no_two_commands, parse_command, whole_command};
 

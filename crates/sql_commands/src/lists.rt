@@ -3,6 +3,7 @@ ghost use Rattle.sql_commands.specs.Trees.{edge_tree, edges_of};
 
 use crate::{EdgeText, Strategy};
 use pg_values::PgText;
+use sql_lists::NameList;
 use std::marker::Model;
 
 /// A column, the name of its type, and whether it may not be null.
@@ -25,34 +26,6 @@ pub struct Partitioning {
 pub struct LockedTable {
     pub only: bool,
     pub name: PgText,
-}
-
-/// Names in order, seen as the list of their bytes.
-#[derive(Debug, Drop)]
-pub struct NameList {
-    names: Vec<PgText>,
-}
-
-impl Model for NameList {
-    ghost use Rattle.std.specs.Prelude.{List, ℕ};
-
-    ghost Value = { List (List ℕ) };
-
-    ghost view = { λ l. l.names.items };
-}
-
-impl NameList {
-    pub fn from_vec(names: Vec<PgText>) -> Self
-        ensures { result ≡ names.items }
-    {
-        NameList { names }
-    }
-
-    pub fn as_slice(&self) -> &[PgText]
-        ensures { result.now ≡ self.now }
-    {
-        &self.names
-    }
 }
 
 /// Columns in order, seen as their list.

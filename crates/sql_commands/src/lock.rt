@@ -1,14 +1,11 @@
-ghost use Rattle.std.specs.Prelude.{◌++◌, ◌∷◌, [], length};
 ghost use Rattle.grammar_rules.specs.Gives.{Gives};
-ghost use Rattle.grammar_rules.specs.Rows.{always, read_row, read_step};
-ghost use Rattle.sql_expressions.specs.Words.{a};
 ghost use Rattle.sql_commands.specs.Grammar as grammar;
 ghost use Rattle.sql_commands.specs.Trees.{command_tree};
 
-use crate::words::{maybe_word, one_of, plain_name};
 use crate::{Command, LockMode, LockedTable, LockedTableList};
 use grammar_rules::Refused;
 use sql_expressions::{comes, word};
+use sql_lists::{Part, commas, maybe_word, one_of, plain_name};
 use sql_tokens::{Kind, Token, same_kind};
 use std::alloc::Global;
 
@@ -25,57 +22,27 @@ fn locked<'a>(
     Ok((LockedTable { only, name }, rest))
 }
 
-#[tactic(auto, unfolding(grammar_rules::specs::Rows::read_step))]
-fn locked_step<'a>(
-    alloc: Global,
-    text: &[u8],
-    mut tables: Vec<LockedTable>,
-    tokens: &'a [Token],
-) -> Result<(bool, Vec<LockedTable>, &'a [Token]), Refused>
-    ensures { Gives (λ x. ((x.0, x.1.items), x.2.now)) result (read_step (a Kind.Comma) always grammar.snoc (λ _. (grammar.locked text.now).read) tables.items tokens.now) }
-{
-    if !comes(tokens, Kind::Comma) {
-        return Ok((false, tables, tokens));
-    }
-    let (_, rest) = word(tokens, Kind::Comma)?;
-    let (next, rest) = locked(alloc, text, rest)?;
-    tables.push(next)?;
-    Ok((true, tables, rest))
-}
+struct EachTable;
 
-fn more_tables<'a>(
-    alloc: Global,
-    text: &[u8],
-    first: Vec<LockedTable>,
-    tokens: &'a [Token],
-) -> Result<(Vec<LockedTable>, &'a [Token]), Refused>
-    ensures { Gives (λ x. (x.0.items, x.1.now)) result (read_row (a Kind.Comma) always grammar.snoc (λ _. (grammar.locked text.now).read) (length tokens.now) first.items tokens.now) }
-{
-    let mut done = first;
-    let mut rest = tokens;
-    for _ in 0..tokens.len() {
-        let (more, longer, after) = locked_step(alloc, text, done, rest)?;
-        if !more {
-            return Ok((longer, after));
-        }
-        done = longer;
-        rest = after;
-    }
-    Ok((done, rest))
-}
+impl Part for EachTable {
+    ghost use Rattle.sql_commands.specs.Grammar as grammar;
+    ghost use Rattle.sql_commands.specs.declared.lists.LockedTable.{LockedTable as OneTable};
 
-/// Tables with commas between.
-fn tables<'a>(
-    alloc: Global,
-    text: &[u8],
-    tokens: &'a [Token],
-) -> Result<(Vec<LockedTable>, &'a [Token]), Refused>
-    ensures { Gives (λ x. (x.0.items, x.1.now)) result ((grammar.commas (grammar.locked text.now)).read tokens.now) }
-{
-    let (first, rest) = locked(alloc, text, tokens)?;
-    let mut tables = Vec::new(alloc);
-    tables.push(first)?;
-    more_tables(alloc, text, tables, rest)
+    type Item = LockedTable;
+
+    ghost Tree = { OneTable };
+
+    ghost tree = { λ table. table };
+
+    ghost rule = { grammar.locked };
+
+    fn read<'a>(
+        alloc: Global,
+        text: &[u8],
+        tokens: &'a [Token],
+    ) -> Result<(LockedTable, &'a [Token]), Refused> {
+        locked(alloc, text, tokens)
+    }
 }
 
 /// What may stand behind SHARE.
@@ -152,7 +119,7 @@ pub(crate) fn lock<'a>(
 {
     let (_, rest) = word(tokens, Kind::Lock)?;
     let (_, rest) = maybe_word(rest, Kind::Table)?;
-    let (tables, rest) = tables(alloc, text, rest)?;
+    let (tables, rest) = commas::<EachTable>(alloc, text, rest)?;
     let (mode, rest) = maybe_mode(rest)?;
     let tables = LockedTableList::from_vec(tables);
     Ok((Command::Lock(tables, mode), rest))

@@ -4,13 +4,13 @@ ghost use Rattle.grammar_rules.specs.Reading.{begins_in, read_one};
 ghost use Rattle.sql_commands.specs.Grammar as grammar;
 ghost use Rattle.sql_commands.specs.Trees.{command_tree};
 
-use crate::words::{
-    maybe_one_of, number, one_of, one_of_comes, other_name, other_name_comes, plain_name,
-};
 use crate::{Command, Isolation, SettingValue};
 use grammar_rules::{Refused, split};
 use pg_values::PgText;
 use sql_expressions::{MOST_NAME_BYTES, comes, name, string, word};
+use sql_lists::{
+    maybe_one_of, number, one_of, one_of_comes, other_name, other_name_comes, plain_name,
+};
 use sql_tokens::{Kind, Token, is_name, name_of, same_kind};
 use std::alloc::Global;
 

@@ -12,11 +12,11 @@ use crate::create::create;
 use crate::drop::drop_tables;
 use crate::lock::lock;
 use crate::session::{begin, deallocate, finish, finish_comes, set};
-use crate::words::{maybe_one_of, one_of_comes, plain_name};
 use crate::{Command, Detachment};
 use grammar_rules::{Refused, split};
 use pg_values::PgText;
 use sql_expressions::{ParseRefused, comes, refusal, word};
+use sql_lists::{maybe_one_of, one_of_comes, plain_name};
 use sql_tokens::{Kind, Token, read_tokens, same_kind};
 use std::alloc::Global;
 

@@ -144,13 +144,13 @@ module _ (any : Rules) (s : Sample any) where
   one_listed : (list_of any.expression).texts s.text (only_part s.value)
   one_listed = ((s.value, only_part s.value), (s.text, [], sym (append-nil s.text), s.expression, ([], (refl, refl))), refl)
 
-  nested_opens : Opens (nested any).texts begins_nested
+  pub nested_opens : Opens (nested any).texts begins_nested
   nested_opens =
       either_opens (value_opens (under negated) (behind_opens (a word.Minus) any.unary.texts s.text s.value s.unary))
       (value_opens deeper (behind_opens (a word.OpenParenthesis) (before_texts (a word.CloseParenthesis) any.expression.texts) _ s.value
       (before_text (a word.CloseParenthesis) any.expression.texts (sample word.CloseParenthesis) refl s.text s.value s.expression)))
 
-  call_opens : (f : List ℕ) → Opens (call_of any.expression f).texts (a word.OpenParenthesis)
+  pub call_opens : (f : List ℕ) → Opens (call_of any.expression f).texts (a word.OpenParenthesis)
   call_opens f =
       behind_opens (a word.OpenParenthesis) _ _ (call_value f ([], 0))
       (before_text (a word.CloseParenthesis) (either_texts (as_value (all_call f) (one (a word.Star))).texts (as_value (call_value f) (arguments any.expression)).texts) (sample word.CloseParenthesis) refl [] (call_value f ([], 0))

@@ -47,7 +47,7 @@ module _ (text : List ℕ) where
   null_expression : (any text).expression.texts null_text null_value
   null_expression = (null_parts, ((null_value, null_parts), (null_text, [], sym (append-nil null_text), null_conjunction, ([], (refl, refl))), refl), refl)
 
-  any_sample : Sample (any text)
+  pub any_sample : Sample (any text)
   any_sample = record { text = null_text; value = null_value; unary = null_unary; sum = null_sum; test = null_test; negation = null_negation; expression = null_expression }
 
   -- The two levels that stand in one another, in any room, over rules that keep the law where there is room.

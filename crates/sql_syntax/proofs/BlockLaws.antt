@@ -1,40 +1,50 @@
--- What follows from the law of the block.
-use Rattle.std.proofs.Common.{◌≡◌, ℕ, List, [], ◌∷◌, Result, Ok, Err, refl, subst, sym}
-use Rattle.grammar_rules.specs.Parses.{SameNext, Parses}
+-- What a block is read as, or where it is refused.
+use Rattle.std.proofs.Common.{◌≡◌, ℕ, List, Result, Ok, Err, refl, sym, subst, cond, Bool, true, false, Option, Some, None}
 use Rattle.grammar_rules.specs.Gives.{Gives, Refuses}
+use Rattle.grammar_rules.specs.Parses.{FailsAt, Parses}
 use Rattle.grammar_rules.specs.Reading.{read_whole}
 use Rattle.grammar_rules.specs.declared.refused.Refused.{Refused}
-use Rattle.grammar_rules.specs.declared.refused.Refused.TheVariants.{NoMemory, Syntax, Limit}
+use Rattle.grammar_rules.specs.declared.refused.Refused.TheVariants as refused
 use Rattle.grammar_rules.proofs.Whole.{parses}
+use Rattle.sql_tokens.specs.Contents.{called}
 use Rattle.sql_tokens.specs.Tokens.{tokens_of}
+use Rattle.sql_tokens.specs.Words.{is_left_out}
 use Rattle.sql_tokens.specs.declared.token.Token.{Token}
-use Rattle.sql_syntax.specs.Block.{IsBlock, StopsAt, ParsesBlock}
-use Rattle.sql_syntax.specs.Grammar.{block_rule}
-use Rattle.sql_syntax.specs.Steps.{read_all, refusal_of}
-use Rattle.sql_syntax.proofs.GrammarLaws.{block_law}
-use Rattle.sql_syntax.specs.declared.statement.Statement.{Statement}
+use Rattle.sql_expressions.specs.Parsed as parsed
+use Rattle.sql_expressions.specs.declared.refused.ParseRefused.{ParseRefused}
+use Rattle.sql_expressions.specs.declared.refused.ParseRefused.TheVariants as refusals
+use Rattle.sql_syntax.specs.Block.{IsMisfit, IsRefused, ParsesBlock, refusal_of}
+use Rattle.sql_syntax.specs.Grammar.{block}
+use Rattle.sql_syntax.specs.Trees.{StatementTree}
+use Rattle.sql_syntax.proofs.StatementLaws.{block_law}
 
-same_next : (ts : List Token) → SameNext ts ts
-same_next [] = refl
-same_next (t ∷ ts) = (ts, refl)
+module _ {X : Type 0} (view : X → List StatementTree) (text : List ℕ) where
+  promised : (r : Result X Refused) (tokens : List Token) → Gives view r (read_whole (block text) tokens) → Parses (block text) view tokens r
+  promised r tokens h = parses view tokens r (block_law text) h
 
-pub stops_no_block : (text : List ℕ) (at : ℕ) (statements : List Statement) → StopsAt text at → IsBlock text statements → ⊥
-stops_no_block text at statements h w =
-    h.1.no_more h.1.after statements (same_next h.1.after) (subst (λ z. (block_rule text).texts z statements) h.1.whole w)
+  pub read_as : (tokens : List Token) (x : X) → tokens ≡ tokens_of text → read_whole (block text) tokens ≡ Ok (view x) → ParsesBlock view text (Ok x)
+  read_as tokens x e h = promised (Ok x) (tokens_of text) (subst (λ z. read_whole (block text) z ≡ Ok (view x)) e h)
 
-parsed : (text : List ℕ) (r : Result (List Statement) Refused) → Gives (λ v. v) r (read_all (block_rule text) (tokens_of text)) → Parses (block_rule text) (λ v. v) (tokens_of text) r
-unfolding read_whole
-parsed text r h = parses (λ v. v) (tokens_of text) r (block_law text) h
+  is_misfit : (left : ℕ) → FailsAt (block text).texts (block text).free (tokens_of text) left → (r : ParseRefused) → r ≡ parsed.misfit text (parsed.token_at (tokens_of text) left) → IsRefused text r
+  is_misfit left h refusals.NoMemory e = tt
+  is_misfit left h (refusals.Syntax at) e = (left, h, e)
+  is_misfit left h (refusals.Left word) e = (left, h, e)
+  is_misfit left h (refusals.TooMany w) e = absurd (none_too_many (parsed.token_at (tokens_of text) left) e)
+    where
+      choose : (b : Bool) (t : Token) → refusals.TooMany w ≡ cond b (refusals.Left (called text t)) (refusals.Syntax t.start) → ⊥
+      choose true t e = cc
+      choose false t e = cc
 
--- what was read to the end is the only block
-pub only_block : (text : List ℕ) (tokens : List Token) (v : List Statement) → tokens ≡ tokens_of text → read_all (block_rule text) tokens ≡ Ok v → ParsesBlock text (Ok v)
-only_block text tokens v e h = parsed text (Ok v) (subst (λ z. read_all (block_rule text) z ≡ Ok v) e h)
+      none_too_many : (o : Option Token) → refusals.TooMany w ≡ parsed.misfit text o → ⊥
+      none_too_many None e = cc
+      none_too_many (Some t) e = choose (is_left_out t.kind) t e
 
-at_place : (text : List ℕ) (e : Refused) → Refuses e (read_all (block_rule text) (tokens_of text)) → ParsesBlock text (Err (refusal_of text (tokens_of text) e))
-at_place text NoMemory h = tt
-at_place text (Syntax left) h = (left, parsed text (Err (Syntax left)) h, refl)
-at_place text (Limit left) h = let p = parsed text (Err (Limit left)) h in (left, p.0, refl)
+  refused_there : (e : Refused) → Refuses e (read_whole (block text) (tokens_of text)) → ParsesBlock view text (Err (refusal_of text (tokens_of text) e))
+  refused_there refused.NoMemory h = tt
+  refused_there (refused.Syntax left) h = is_misfit left (promised (Err (refused.Syntax left)) (tokens_of text) h) (parsed.misfit text (parsed.token_at (tokens_of text) left)) refl
+  refused_there (refused.Limit left) h = let p = promised (Err (refused.Limit left)) (tokens_of text) h in (left, (p.0, p.1, refl))
 
--- what the reader refuses has no block that begins with the token refused
-pub stops_there : (text : List ℕ) (tokens : List Token) (e : Refused) → tokens ≡ tokens_of text → Refuses e (read_all (block_rule text) tokens) → ParsesBlock text (Err (refusal_of text tokens e))
-stops_there text tokens e i h = subst (λ z. ParsesBlock text (Err (refusal_of text z e))) (sym i) (at_place text e (subst (λ z. Refuses e (read_all (block_rule text) z)) i h))
+  pub refused_as : (tokens : List Token) (e : Refused) (r : ParseRefused) → tokens ≡ tokens_of text → Refuses e (read_whole (block text) tokens) → r ≡ refusal_of text tokens e → ParsesBlock view text (Err r)
+  refused_as tokens e r i h k =
+      subst (λ z. ParsesBlock view text (Err z)) (sym k)
+      (subst (λ z. ParsesBlock view text (Err (refusal_of text z e))) (sym i) (refused_there e (subst (λ z. Refuses e (read_whole (block text) z)) i h)))

@@ -1,4 +1,4 @@
 pub mod BlockLaws
-pub mod GrammarLaws
-pub mod StepLaws
-pub mod PlaceLaws
+pub mod Openings
+pub mod StatementLaws
+pub mod Starts

@@ -1,37 +1,53 @@
--- What the parser of a block promises.
-use Rattle.std.specs.Prelude.{◌≡◌, ℕ, ◌-◌, ◌≤◌, List, length, Option, Some, None, slice_get, Result, Ok, Err}
-use Rattle.grammar_rules.specs.Parses.{IsOnly, FailsAt}
+-- What the parser of a block promises: its statements, or the refusal at the first token that does not fit.
+use Rattle.std.specs.Prelude.{◌≡◌, ℕ, if◌then◌else◌, List, Option, Some, None, Result, Ok, Err}
+use Rattle.grammar_rules.specs.Parses.{IsOnly, FailsAt, GoesOn}
+use Rattle.grammar_rules.specs.declared.refused.Refused.{Refused}
+use Rattle.grammar_rules.specs.declared.refused.Refused.TheVariants as refused
+use Rattle.pg_ids.specs.declared.which.Which.{Which}
+use Rattle.pg_ids.specs.declared.which.Which.TheVariants as which
 use Rattle.sql_tokens.specs.Tokens.{tokens_of}
 use Rattle.sql_tokens.specs.declared.token.Token.{Token}
-use Rattle.sql_syntax.specs.Grammar.{block_rule}
-use Rattle.sql_syntax.specs.declared.refused.ParseRefused.{ParseRefused}
-use Rattle.sql_syntax.specs.declared.refused.ParseRefused.TheVariants.{NoMemory, Syntax}
-use Rattle.sql_syntax.specs.declared.statement.Statement.{Statement}
+use Rattle.sql_expressions.specs.Parsed as parsed
+use Rattle.sql_expressions.specs.declared.refused.ParseRefused.{ParseRefused}
+use Rattle.sql_expressions.specs.declared.refused.ParseRefused.TheVariants.{NoMemory, Syntax, Left, TooMany}
+use Rattle.sql_syntax.specs.Grammar.{begins_statement, block}
+use Rattle.sql_syntax.specs.Trees.{StatementTree}
 
--- the text is a block of these statements
-abbrev pub IsBlock : List ℕ → List Statement → Type 0
-IsBlock text statements = (block_rule text).texts (tokens_of text) statements
+-- the text is a block of these statements, within the limits
+abbrev pub IsBlock : List ℕ → List StatementTree → Type 0
+IsBlock text statements = (block text).texts (tokens_of text) statements
 
--- the first byte of a token, or the text's length where there is none
-abbrev pub start_of : List ℕ → Option Token → ℕ
-start_of text (Some t) = t.start
-start_of text None = length text
+-- without the limits
+abbrev pub IsFreeBlock : List ℕ → List StatementTree → Type 0
+IsFreeBlock text statements = (block text).free (tokens_of text) statements
 
--- where the token stands from which on `left` tokens are left
-abbrev pub place_of : List ℕ → List Token → ℕ → ℕ
-place_of text tokens left = start_of text (slice_get tokens (length tokens - left))
+-- the limit that a token passes: the first word of a statement passes none but that on statements
+abbrev pub passed : List ℕ → Option Token → Which
+passed text None = parsed.passed text None
+passed text (Some t) = if begins_statement t then which.Statements else parsed.passed text (Some t)
 
--- the text begins a block up to this place, and with the token that stands there it begins none
-abbrev pub StopsAt : List ℕ → ℕ → Type 0
-StopsAt text at = (left : ℕ) × FailsAt (block_rule text).texts (block_rule text).texts (tokens_of text) left × (at ≡ place_of text (tokens_of text) left)
+-- a refusal by how many tokens are left
+abbrev pub refusal_of : List ℕ → List Token → Refused → ParseRefused
+refusal_of text tokens refused.NoMemory = NoMemory
+refusal_of text tokens (refused.Syntax left) = parsed.misfit text (parsed.token_at tokens left)
+refusal_of text tokens (refused.Limit left) = TooMany (passed text (parsed.token_at tokens left))
 
--- the text is a block of the statements answered and of no others, or it stops at the place answered
-abbrev pub ParsesBlock : List ℕ → Result (List Statement) ParseRefused → Type 0
-ParsesBlock text (Ok statements) = IsOnly (block_rule text).texts (block_rule text).texts (tokens_of text) statements
-ParsesBlock text (Err (Syntax at)) = StopsAt text at
-ParsesBlock text (Err NoMemory) = Unit {0}
+-- Up to a token the text begins a block. With it, it begins none, with limits or without; or none within them.
+abbrev pub IsMisfit : List ℕ → ℕ → ParseRefused → Type 0
+IsMisfit text left r = FailsAt (block text).texts (block text).free (tokens_of text) left × (r ≡ parsed.misfit text (parsed.token_at (tokens_of text) left))
 
--- the place is one of the text, or its end
-abbrev pub IsInside : List ℕ → ParseRefused → Type 0
-IsInside text (Syntax at) = at ≤ length text
-IsInside text NoMemory = Unit {0}
+abbrev pub IsBeyond : List ℕ → ℕ → Which → Type 0
+IsBeyond text left w =
+    FailsAt (block text).texts (block text).texts (tokens_of text) left × GoesOn (block text).free (tokens_of text) left
+    × (w ≡ passed text (parsed.token_at (tokens_of text) left))
+
+abbrev pub IsRefused : List ℕ → ParseRefused → Type 0
+IsRefused text NoMemory = Unit {0}
+IsRefused text (Syntax at) = (left : ℕ) × IsMisfit text left (Syntax at)
+IsRefused text (Left word) = (left : ℕ) × IsMisfit text left (Left word)
+IsRefused text (TooMany w) = (left : ℕ) × IsBeyond text left w
+
+-- the text is a block of the statements answered, and of no others; or it is refused
+abbrev pub ParsesBlock : {X : Type 0} → (X → List StatementTree) → List ℕ → Result X ParseRefused → Type 0
+ParsesBlock view text (Ok x) = IsOnly (block text).texts (block text).free (tokens_of text) (view x)
+ParsesBlock view text (Err e) = IsRefused text e

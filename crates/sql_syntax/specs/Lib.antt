@@ -1,3 +1,4 @@
 pub mod Block
 pub mod Grammar
-pub mod Steps
+pub mod Trees
+pub mod Views

@@ -1,30 +1,18 @@
-//! Reads the text of a block of SQL into its statements.
+//! Reads the SQL of a block: statements with semicolons between.
 //!
-//! The grammar stands in `specs/Grammar.antt`, one line for each production. A production is a
-//! rule: which lists of tokens are its texts, and of which values. `parse_block` answers the only
-//! list of statements that the text is a block of, or the place of the first token with which the
-//! text begins no block, which is where PostgreSQL puts its caret.
-//!
-//! The code follows the grammar: one function for each production, which looks at the next token
-//! only. Words that may be names, as PARTITION, are told from names by where they stand. What
-//! repeats, the rows of an INSERT and the statements, is a loop over a step, so that neither a long
-//! text nor a long list makes the parser recurse.
+//! A block is read whole or refused whole. The refusal is at the first token with which the block is
+//! the beginning of no block, and it says why: the token begins nothing that may stand there (`Syntax`,
+//! by its first byte), or it is a word of what is left out by name (`Left`, by the word), or it would do
+//! without limits (`TooMany`, by the limit). `specs/Grammar.antt` has the statements and the block,
+//! `specs/Block.antt` what the parser promises.
 #![tactic(auto)]
 
-mod block;
-mod create;
-mod insert;
 mod parse;
-mod refused;
-mod select;
 mod statement;
 mod statements;
-mod words;
 
-pub use block::{Block, NumberList};
-pub use parse::{block_is_one, no_limits, parse_block, refused_is_no_block};
-pub use refused::ParseRefused;
-pub use statement::{CreatePartition, CreateTable, Insert, Select, Statement};
+pub use parse::{MOST_STATEMENTS, no_two_blocks, parse_block};
+pub use statement::Statement;
 
 #[cfg(test)]
 mod tests;

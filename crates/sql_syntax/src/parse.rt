@@ -1,64 +1,61 @@
-ghost use Rattle.std.specs.Prelude.{◌≡◌, IfErr, List, ℕ};
-ghost use Rattle.sql_syntax.specs.Block.{IsBlock, IsInside, ParsesBlock, StopsAt, place_of};
-ghost use Rattle.sql_syntax.specs.Grammar.{block_rule};
-ghost use Rattle.sql_syntax.specs.Steps.{refusal_of};
-ghost use Rattle.sql_syntax.specs.declared.statement.Statement.{Statement as OneStatement};
-ghost use Rattle.sql_tokens.specs.declared.token.Token.{Token as OneToken};
+ghost use Rattle.std.specs.Prelude.{◌≡◌, ℕ, IfOk, List, map};
+ghost use Rattle.sql_expressions.specs.Parsed as parsed;
+ghost use Rattle.sql_syntax.specs.Block as block;
+ghost use Rattle.sql_syntax.specs.Trees.{StatementTree, statement_tree};
 
-use crate::statements::all_statements;
-use crate::{Block, ParseRefused};
+use crate::Statement;
+use crate::statements::{all_statements, statement_comes};
 use grammar_rules::Refused;
+use pg_ids::Which;
+use pg_values::NoMemory;
+use sql_expressions::{ParseRefused, refusal};
 use sql_tokens::{Token, read_tokens};
 use std::alloc::Global;
 
-/// The byte of the text at which the last tokens begin.
-fn place(text: &[u8], tokens: &[Token], left: usize) -> usize
-    ensures { result ≡ place_of text.now tokens.now left }
+/// A block has at most so many statements.
+pub const MOST_STATEMENTS: usize = 1024;
+
+/// The token from which on `left` tokens are left.
+fn token_at(tokens: &[Token], left: usize) -> Option<Token>
+    ensures { result ≡ parsed.token_at tokens.now left }
 {
-    match tokens.get(tokens.len().saturating_sub(left)) {
-        Some(token) => token.start,
-        None => text.len(),
-    }
+    tokens.get(tokens.len().saturating_sub(left)).copied()
 }
 
-/// A refusal by its place in the text. The grammar has no limits.
-fn refusal(text: &[u8], tokens: &[Token], refused: Refused) -> ParseRefused
-    ensures { result ≡ refusal_of text.now tokens.now refused }
+/// The refusal of a block where its last tokens do not fit.
+fn refusal_of_block(
+    alloc: Global,
+    text: &[u8],
+    tokens: &[Token],
+    refused: Refused,
+) -> Result<ParseRefused, NoMemory>
+    ensures { IfOk result (λ e. e ≡ block.refusal_of text.now tokens.now refused) }
 {
-    match refused {
-        Refused::NoMemory => ParseRefused::NoMemory,
-        Refused::Syntax(left) | Refused::Limit(left) => {
-            let at = place(text, tokens, left);
-            ParseRefused::Syntax { at }
+    if let Refused::Limit(left) = refused {
+        if let Some(token) = token_at(tokens, left) {
+            if statement_comes(&[token]) {
+                let which = Which::Statements;
+                return Ok(ParseRefused::TooMany { which });
+            }
         }
     }
+    refusal(alloc, text, tokens, refused)
 }
 
-/// Reads a block. No limit is kept here on the length of a name or the number of statements.
-pub fn parse_block(alloc: Global, text: &[u8]) -> Result<Block, ParseRefused>
-    ensures parses { ParsesBlock text.now result }
-    ensures inside { IfErr result (λ e. IsInside text.now e) }
+/// Reads a block. An empty statement is none, and a text of nothing but blanks, comments and semicolons
+/// is a block of no statements.
+pub fn parse_block(alloc: Global, text: &[u8]) -> Result<Vec<Statement>, ParseRefused>
+    ensures { block.ParsesBlock (λ v. map statement_tree v.items) text.now result }
 {
-    let Ok(tokens) = read_tokens(alloc, text) else {
-        return Err(ParseRefused::NoMemory);
-    };
+    let tokens = read_tokens(alloc, text)?;
     match all_statements(alloc, text, &tokens) {
-        Ok(statements) => Ok(Block::from_vec(statements)),
-        Err(refused) => Err(refusal(text, &tokens, refused)),
+        Ok(statements) => Ok(statements),
+        Err(refused) => Err(refusal_of_block(alloc, text, &tokens, refused)?),
     }
 }
 
-/// A text is a block of one list of statements at most.
-pub fn block_is_one()
-    ensures { (text : List ℕ) (a b : List OneStatement) → IsBlock text a → IsBlock text b → a ≡ b }
-{}
-
-/// Where a text stops, it is no block.
-pub fn refused_is_no_block()
-    ensures { (text : List ℕ) (at : ℕ) (statements : List OneStatement) → StopsAt text at → IsBlock text statements → ⊥ }
-{}
-
-/// The grammar has no limits: what would be a block without them is one.
-pub fn no_limits()
-    ensures { (text : List ℕ) (tokens : List OneToken) (statements : List OneStatement) → (block_rule text).free tokens statements → (block_rule text).texts tokens statements }
+/// No text is a block of two lists of statements, even where the second is one without limits. The call
+/// does nothing.
+pub fn no_two_blocks()
+    ensures { (text : List ℕ) (xs ys : List StatementTree) → block.IsBlock text xs → block.IsFreeBlock text ys → ys ≡ xs }
 {}

@@ -1,23 +1,50 @@
-ghost use Rattle.std.specs.Prelude.{◌≡◌, length};
+ghost use Rattle.std.specs.Prelude.{◌≡◌, ℕ, length, map};
 ghost use Rattle.grammar_rules.specs.Gives.{Gives};
-ghost use Rattle.grammar_rules.specs.Reading.{begins_in};
-ghost use Rattle.grammar_rules.specs.Rows.{read_many};
+ghost use Rattle.grammar_rules.specs.Reading.{begins_in, read_whole};
+ghost use Rattle.grammar_rules.specs.Rows.{always, read_row, read_step};
+ghost use Rattle.sql_expressions.specs.Words.{a};
 ghost use Rattle.sql_syntax.specs.Grammar as grammar;
-ghost use Rattle.sql_syntax.specs.Steps.{many_step, read_all, with_earlier};
+ghost use Rattle.sql_syntax.specs.Trees.{statement_tree};
+ghost use Rattle.sql_syntax.specs.Views.{maybe_tree};
 
-use crate::Statement;
-use crate::create::create;
-use crate::insert::insert;
-use crate::select::select;
-use crate::words::{comes, word};
+use crate::{MOST_STATEMENTS, Statement};
 use grammar_rules::{Refused, split};
+use sql_commands::command;
+use sql_expressions::{comes, word};
+use sql_lists::one_of_comes;
+use sql_queries::query;
 use sql_tokens::{Kind, Token};
 use std::alloc::Global;
 
-fn begins_statement(tokens: &[Token]) -> bool
-    ensures { result ≡ begins_in grammar.begins_stmt tokens.now }
+fn query_comes(tokens: &[Token]) -> bool
+    ensures { result ≡ begins_in grammar.begins_query tokens.now }
 {
-    comes(tokens, Kind::Create) || comes(tokens, Kind::Insert) || comes(tokens, Kind::Select)
+    comes(tokens, Kind::Select)
+        || comes(tokens, Kind::Insert)
+        || one_of_comes(tokens, Kind::Update, Kind::Delete)
+        || comes(tokens, Kind::Prepare)
+        || one_of_comes(tokens, Kind::Execute, Kind::Explain)
+}
+
+fn command_comes(tokens: &[Token]) -> bool
+    ensures { result ≡ begins_in grammar.begins_command tokens.now }
+{
+    one_of_comes(tokens, Kind::Begin, Kind::Start)
+        || one_of_comes(tokens, Kind::Commit, Kind::End)
+        || one_of_comes(tokens, Kind::Rollback, Kind::Abort)
+        || one_of_comes(tokens, Kind::Set, Kind::Reset)
+        || comes(tokens, Kind::Create)
+        || comes(tokens, Kind::Drop)
+        || comes(tokens, Kind::Alter)
+        || comes(tokens, Kind::Lock)
+        || comes(tokens, Kind::Deallocate)
+}
+
+/// Whether a statement comes next.
+pub(crate) fn statement_comes(tokens: &[Token]) -> bool
+    ensures { result ≡ begins_in grammar.begins_statement tokens.now }
+{
+    query_comes(tokens) || command_comes(tokens)
 }
 
 fn statement<'a>(
@@ -25,44 +52,52 @@ fn statement<'a>(
     text: &[u8],
     tokens: &'a [Token],
 ) -> Result<(Statement, &'a [Token]), Refused>
-    ensures { Gives (λ x. (x.0, x.1.now)) result ((grammar.stmt text.now).read tokens.now) }
+    ensures { Gives (λ x. (statement_tree x.0, x.1.now)) result ((grammar.statement text.now).read tokens.now) }
 {
-    if comes(tokens, Kind::Create) {
-        create(alloc, text, tokens)
-    } else if comes(tokens, Kind::Insert) {
-        insert(alloc, text, tokens)
-    } else {
-        select(alloc, text, tokens)
+    if query_comes(tokens) {
+        let (query, rest) = query(alloc, text, tokens)?;
+        return Ok((Statement::Query(query), rest));
     }
+    let (command, rest) = command(alloc, text, tokens)?;
+    Ok((Statement::Command(command), rest))
 }
 
-/// A statement and the semicolon behind it.
-fn ended<'a>(
+/// A statement behind so many others, or nothing.
+fn maybe_statement<'a>(
     alloc: Global,
     text: &[u8],
+    before: usize,
     tokens: &'a [Token],
-) -> Result<(Statement, &'a [Token]), Refused>
-    ensures { Gives (λ x. (x.0, x.1.now)) result ((grammar.ended text.now).read tokens.now) }
+) -> Result<(Option<Statement>, &'a [Token]), Refused>
+    ensures { Gives (λ x. (maybe_tree x.0, x.1.now)) result ((grammar.maybe_statement text.now before).read tokens.now) }
 {
-    let (read, rest) = statement(alloc, text, tokens)?;
-    let (_, rest) = word(rest, Kind::Semicolon)?;
-    Ok((read, rest))
+    if !statement_comes(tokens) {
+        return Ok((None, tokens));
+    }
+    if before >= MOST_STATEMENTS {
+        return Err(Refused::Limit(tokens.len()));
+    }
+    let (statement, rest) = statement(alloc, text, tokens)?;
+    Ok((Some(statement), rest))
 }
 
-#[tactic(auto, unfolding(crate::specs::Steps::many_step))]
+#[tactic(auto, unfolding(grammar_rules::specs::Rows::read_step))]
 fn next_statement<'a>(
     alloc: Global,
     text: &[u8],
     mut done: Vec<Statement>,
     tokens: &'a [Token],
 ) -> Result<(bool, Vec<Statement>, &'a [Token]), Refused>
-    ensures { Gives (λ x. ((x.0, x.1.items), x.2.now)) result (many_step grammar.begins_stmt (grammar.ended text.now).read done.items tokens.now) }
+    ensures { Gives (λ x. ((x.0, map statement_tree x.1.items), x.2.now)) result (read_step (a Kind.Semicolon) always grammar.join (λ xs. (grammar.maybe_statement text.now (length xs)).read) (map statement_tree done.items) tokens.now) }
 {
-    if !begins_statement(tokens) {
+    if !comes(tokens, Kind::Semicolon) {
         return Ok((false, done, tokens));
     }
-    let (next, rest) = ended(alloc, text, tokens)?;
-    done.push(next)?;
+    let (_, rest) = word(tokens, Kind::Semicolon)?;
+    let (next, rest) = maybe_statement(alloc, text, done.len(), rest)?;
+    if let Some(next) = next {
+        done.push(next)?;
+    }
     Ok((true, done, rest))
 }
 
@@ -73,7 +108,7 @@ fn more_statements<'a>(
     first: Vec<Statement>,
     tokens: &'a [Token],
 ) -> Result<(Vec<Statement>, &'a [Token]), Refused>
-    ensures { Gives (λ x. (x.0.items, x.1.now)) result (with_earlier first.items (read_many grammar.begins_stmt (grammar.ended text.now).read (length tokens.now) tokens.now)) }
+    ensures { Gives (λ x. (map statement_tree x.0.items, x.1.now)) result (read_row (a Kind.Semicolon) always grammar.join (λ xs. (grammar.maybe_statement text.now (length xs)).read) (length tokens.now) (map statement_tree first.items) tokens.now) }
 {
     let mut done = first;
     let mut rest = tokens;
@@ -88,28 +123,31 @@ fn more_statements<'a>(
     Ok((done, rest))
 }
 
-fn statements<'a>(
+fn block<'a>(
     alloc: Global,
     text: &[u8],
     tokens: &'a [Token],
 ) -> Result<(Vec<Statement>, &'a [Token]), Refused>
-    ensures { Gives (λ x. (x.0.items, x.1.now)) result ((grammar.block_rule text.now).read tokens.now) }
+    ensures { Gives (λ x. (map statement_tree x.0.items, x.1.now)) result ((grammar.block text.now).read tokens.now) }
 {
-    let (read, rest) = ended(alloc, text, tokens)?;
-    let mut first = Vec::new(alloc);
-    first.push(read)?;
-    more_statements(alloc, text, first, rest)
+    let (first, rest) = maybe_statement(alloc, text, 0, tokens)?;
+    let mut done = Vec::new(alloc);
+    if let Some(first) = first {
+        done.push(first)?;
+    }
+    more_statements(alloc, text, done, rest)
 }
 
 /// The statements of all the tokens.
+#[tactic(auto, unfolding(grammar_rules::specs::Reading::read_whole))]
 pub(crate) fn all_statements(
     alloc: Global,
     text: &[u8],
     tokens: &[Token],
 ) -> Result<Vec<Statement>, Refused>
-    ensures { Gives (λ v. v.items) result (read_all (grammar.block_rule text.now) tokens.now) }
+    ensures { Gives (λ v. map statement_tree v.items) result (read_whole (grammar.block text.now) tokens.now) }
 {
-    let (done, rest) = statements(alloc, text, tokens)?;
+    let (done, rest) = block(alloc, text, tokens)?;
     match split(rest) {
         None => Ok(done),
         Some(_) => Err(Refused::Syntax(rest.len())),

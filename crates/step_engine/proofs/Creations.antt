@@ -11,9 +11,9 @@ use Rattle.part_bounds.specs.Bounds.{overlaps, with_bound, with_bounds, in_plain
 use Rattle.part_bounds.specs.IntBounds.{IsIntBound, int_range}
 use Rattle.part_bounds.proofs.PlainOrder.{All-with_bound, apart-with_bound, order_keeps}
 use Rattle.part_bounds.proofs.OverlapLaws.{overlaps_turned}
-use Rattle.sql_syntax.specs.declared.statement.Statement.{Statement}
-use Rattle.sql_syntax.specs.declared.statement.Statement.TheVariants.{CreatePartition}
-use Rattle.sql_syntax.specs.declared.statement.CreatePartition.{CreatePartition as CreateRecord}
+use Rattle.first_syntax.specs.declared.statement.Statement.{Statement}
+use Rattle.first_syntax.specs.declared.statement.Statement.TheVariants.{CreatePartition}
+use Rattle.first_syntax.specs.declared.statement.CreatePartition.{CreatePartition as CreateRecord}
 use Rattle.step_engine.specs.Setup.{Partition, ArePartitions, IsPartition, bound_of}
 use Rattle.step_engine.specs.Statements.{create_statement}
 use Rattle.step_engine.specs.Creating.{Creates, Created}

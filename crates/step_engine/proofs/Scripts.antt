@@ -1,10 +1,10 @@
 -- Bytes that spell a script, and bytes that spell none.
 use Rattle.std.proofs.Common.{◌≡◌, ℕ, ◌<◌, ◌^◌, List, [], ◌∷◌, refl, sym, ap, ◌∙◌, subst}
 use Rattle.pg_values.specs.declared.value.Value.{Value}
-use Rattle.sql_syntax.specs.declared.statement.Statement.{Statement}
-use Rattle.sql_syntax.specs.declared.statement.Statement.TheVariants.{Select}
-use Rattle.sql_syntax.specs.Block.{IsBlock}
-use Rattle.sql_syntax.proofs.GrammarLaws.{block_law}
+use Rattle.first_syntax.specs.declared.statement.Statement.{Statement}
+use Rattle.first_syntax.specs.declared.statement.Statement.TheVariants.{Select}
+use Rattle.first_syntax.specs.Block.{IsBlock}
+use Rattle.first_syntax.proofs.GrammarLaws.{block_law}
 use Rattle.sql_tokens.specs.Tokens.{tokens_of}
 use Rattle.grammar_rules.proofs.Whole.{one_value}
 use Rattle.spec_reader.specs.declared.first_form.FirstSpec.{FirstSpec}

@@ -5,10 +5,10 @@ use Rattle.std.proofs.lemmas.List.{same_from_push, length-map}
 use Rattle.pg_values.specs.declared.value.Value.{Value}
 use Rattle.part_bounds.specs.declared.partition_bound.Bound.{Bound}
 use Rattle.part_bounds.specs.Bounds.{in_plain_order}
-use Rattle.sql_syntax.specs.declared.statement.Statement.{Statement}
-use Rattle.sql_syntax.specs.declared.statement.Statement.TheVariants.{CreateTable, Insert, Select}
-use Rattle.sql_syntax.specs.declared.statement.CreateTable.{CreateTable as CreateRecord}
-use Rattle.sql_syntax.specs.declared.statement.Insert.{Insert as InsertRecord}
+use Rattle.first_syntax.specs.declared.statement.Statement.{Statement}
+use Rattle.first_syntax.specs.declared.statement.Statement.TheVariants.{CreateTable, Insert, Select}
+use Rattle.first_syntax.specs.declared.statement.CreateTable.{CreateTable as CreateRecord}
+use Rattle.first_syntax.specs.declared.statement.Insert.{Insert as InsertRecord}
 use Rattle.step_engine.specs.Setup.{Setup, CanInsert, bound_of, children, row_of}
 use Rattle.step_engine.specs.Statements.{create_statement, setup_statements, step_statements}
 use Rattle.step_engine.specs.Creating.{Created}

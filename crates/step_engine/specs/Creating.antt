@@ -4,7 +4,7 @@ use Rattle.std.specs.List.{AllPairs, Contains, list_any}
 use Rattle.part_bounds.specs.declared.partition_bound.Bound.{Bound}
 use Rattle.part_bounds.specs.Bounds.{overlaps, in_plain_order}
 use Rattle.part_bounds.specs.IntBounds.{IsIntBound}
-use Rattle.sql_syntax.specs.declared.statement.Statement.{Statement}
+use Rattle.first_syntax.specs.declared.statement.Statement.{Statement}
 use Rattle.step_engine.specs.Setup.{Partition, ArePartitions, IsPartition, bound_of}
 use Rattle.step_engine.specs.Statements.{create_statement}
 

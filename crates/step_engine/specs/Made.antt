@@ -1,9 +1,9 @@
 -- What a setup's statements make.
 use Rattle.std.specs.Prelude.{◌≡◌, ℕ, ◌+◌, ◌<◌, ◌≤◌, List, length}
 use Rattle.pg_values.specs.declared.value.Value.{Value}
-use Rattle.sql_syntax.specs.declared.statement.Statement.{Statement}
-use Rattle.sql_syntax.specs.declared.statement.CreateTable.{CreateTable}
-use Rattle.sql_syntax.specs.declared.statement.Insert.{Insert}
+use Rattle.first_syntax.specs.declared.statement.Statement.{Statement}
+use Rattle.first_syntax.specs.declared.statement.CreateTable.{CreateTable}
+use Rattle.first_syntax.specs.declared.statement.Insert.{Insert}
 use Rattle.step_engine.specs.Setup.{Setup, IsName, IsWellFormed}
 use Rattle.step_engine.specs.Statements.{setup_statements}
 use Rattle.step_engine.specs.Rows.{stored}

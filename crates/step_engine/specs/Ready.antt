@@ -4,8 +4,8 @@ use Rattle.std.specs.List.{flat_map}
 use Rattle.pg_values.specs.declared.value.Kind.TheVariants.{Int4 as KInt4}
 use Rattle.pg_values.specs.declared.value.Value.{Value}
 use Rattle.out_text.specs.Table.{printed_table}
-use Rattle.sql_syntax.specs.declared.statement.Statement.{Statement}
-use Rattle.sql_syntax.specs.Block.{IsBlock}
+use Rattle.first_syntax.specs.declared.statement.Statement.{Statement}
+use Rattle.first_syntax.specs.Block.{IsBlock}
 use Rattle.step_engine.specs.Script.{Script, IsScript}
 use Rattle.step_engine.specs.Rows.{stored, passes}
 use Rattle.step_engine.specs.Printed.{heading, permutation_lines, step_line}

@@ -1,6 +1,6 @@
 -- Scripts of the first form: a setup that makes a partitioned table and fills it, and one step that selects by the key.
 use Rattle.std.specs.Prelude.{◌≡◌, ℕ, List}
-use Rattle.sql_syntax.specs.Block.{IsBlock}
+use Rattle.first_syntax.specs.Block.{IsBlock}
 use Rattle.spec_reader.specs.declared.first_form.FirstSpec.{FirstSpec}
 use Rattle.spec_reader.specs.FirstForm.{IsFirstSpec}
 use Rattle.step_engine.specs.Setup.{Setup, FitsInteger, IsWellFormed}

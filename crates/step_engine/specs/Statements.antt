@@ -1,7 +1,7 @@
 -- The statements of a script of the first form.
 use Rattle.std.specs.Prelude.{ℕ, List, [], ◌∷◌, ◌++◌, map}
-use Rattle.sql_syntax.specs.declared.statement.Statement.{Statement}
-use Rattle.sql_syntax.specs.declared.statement.Statement.TheVariants.{CreateTable, CreatePartition, Insert, Select}
+use Rattle.first_syntax.specs.declared.statement.Statement.{Statement}
+use Rattle.first_syntax.specs.declared.statement.Statement.TheVariants.{CreateTable, CreatePartition, Insert, Select}
 use Rattle.step_engine.specs.Setup.{Partition, Setup}
 
 -- CREATE TABLE name PARTITION OF parent FOR VALUES FROM (from) TO (to)

@@ -8,7 +8,7 @@ ghost use Rattle.step_engine.specs.Creating.{Creates, Created, CannotCreate};
 use crate::leaves::{int4, integer};
 use part_bounds::{Bound, BoundSet, add_bound, make_set, overlap_uncounted, range_bound};
 use pg_values::{IntKey, NameList, NoMemory, PgText};
-use sql_syntax::Statement;
+use first_syntax::Statement;
 use std::alloc::Global;
 
 /// The most bytes that a name may have.

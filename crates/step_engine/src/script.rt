@@ -1,6 +1,6 @@
 ghost use Rattle.std.specs.Prelude.{◌<◌, ◌^◌, List, IfOk, IfSome, IfNone};
-ghost use Rattle.sql_syntax.specs.declared.statement.Statement.{Statement};
-ghost use Rattle.sql_syntax.specs.Block.{IsBlock};
+ghost use Rattle.first_syntax.specs.declared.statement.Statement.{Statement};
+ghost use Rattle.first_syntax.specs.Block.{IsBlock};
 ghost use Rattle.step_engine.specs.Script.{Script, IsScript};
 ghost use Rattle.step_engine.specs.Ready.{IsOnlyBlock, IsReady};
 
@@ -9,7 +9,7 @@ use crate::partitions::is_same;
 use crate::table::{asked_number, make_table};
 use pg_values::{NoMemory, PgText};
 use spec_reader::{SpecRefused, read_first_form};
-use sql_syntax::{Block, ParseRefused, parse_block};
+use first_syntax::{Block, ParseRefused, parse_block};
 use std::alloc::Global;
 
 /// A script that was read, with the table that its setup makes.

@@ -1,13 +1,13 @@
 ghost use Rattle.std.specs.Prelude.{◌≡◌, ◌<◌, ◌^◌, ◌↔◌, ◌∷◌, [], ◌++◌, IsTrue, IfOk, IfSome, IfNone, MatchOption, ℕ, length};
-ghost use Rattle.sql_syntax.specs.declared.statement.CreateTable.{CreateTable as CreateRecord};
-ghost use Rattle.sql_syntax.specs.declared.statement.Insert.{Insert as InsertRecord};
-ghost use Rattle.sql_syntax.specs.declared.statement.Statement.TheVariants.{CreateTable as Creates, Insert as Inserts, Select as Selects};
+ghost use Rattle.first_syntax.specs.declared.statement.CreateTable.{CreateTable as CreateRecord};
+ghost use Rattle.first_syntax.specs.declared.statement.Insert.{Insert as InsertRecord};
+ghost use Rattle.first_syntax.specs.declared.statement.Statement.TheVariants.{CreateTable as Creates, Insert as Inserts, Select as Selects};
 ghost use Rattle.step_engine.specs.Made.{GoTogether, IsMade, NoSetup};
 
 use crate::leaves::{LeafList, insert_rows, integer};
 use crate::partitions::{NAME_LIMIT, is_same, make_children};
 use pg_values::{NoMemory, PgText};
-use sql_syntax::{CreateTable, Insert, Statement};
+use first_syntax::{CreateTable, Insert, Statement};
 use std::alloc::Global;
 
 /// The most statements that a block may have.

@@ -1,10 +1,13 @@
-use Rattle.std.proofs.Common.{◌≡◌, ◌-◌, length}
-use Rattle.grammar_rules.specs.Rows.{read_many}
+use Rattle.std.proofs.Common.{◌≡◌, ◌-◌, length, map}
+use Rattle.grammar_rules.specs.Rows.{always, read_row}
+use Rattle.sql_tokens.specs.declared.kind.Kind.TheVariants as kinds
+use Rattle.sql_expressions.specs.Words.{a}
 use Rattle.sql_syntax.specs.Grammar as grammar
-use Rattle.sql_syntax.specs.Steps.{with_earlier}
+use Rattle.sql_syntax.specs.Trees.{statement_tree}
 use Rattle.sql_syntax.proofs.statements.more_statements.Given as goal
 
+-- the rest of the block is read from where the loop stands
 abbrev pub invariant-loop : goal.invariant-loop
 invariant-loop l =
-    with_earlier l.done.items (read_many grammar.begins_stmt (grammar.ended l.fn.text).read (l.end - l.counter) l.rest)
-    ≡ with_earlier l.fn.first.items (read_many grammar.begins_stmt (grammar.ended l.fn.text).read (length l.fn.tokens) l.fn.tokens)
+    read_row (a kinds.Semicolon) always grammar.join (λ xs. (grammar.maybe_statement l.text (length xs)).read) (l.end - l.counter) (map statement_tree l.done.items) l.rest
+    ≡ read_row (a kinds.Semicolon) always grammar.join (λ xs. (grammar.maybe_statement l.text (length xs)).read) (length l.fn.tokens) (map statement_tree l.fn.first.items) l.fn.tokens

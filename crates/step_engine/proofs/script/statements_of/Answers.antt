@@ -1,6 +1,6 @@
 use Rattle.std.proofs.Common.{subst, sym}
-use Rattle.sql_syntax.specs.Block.{IsBlock}
-use Rattle.sql_syntax.proofs.BlockLaws.{stops_no_block}
+use Rattle.first_syntax.specs.Block.{IsBlock}
+use Rattle.first_syntax.proofs.BlockLaws.{stops_no_block}
 use Rattle.step_engine.specs.Ready.{IsOnlyBlock}
 use Rattle.step_engine.proofs.script.statements_of.Goals as goal
 

@@ -1,5 +1,5 @@
 use Rattle.std.proofs.Common.{◌≡◌, ◌∷◌, ◌++◌, [], rules}
-use Rattle.sql_syntax.specs.declared.statement.Statement.TheVariants.{CreateTable, Insert}
+use Rattle.first_syntax.specs.declared.statement.Statement.TheVariants.{CreateTable, Insert}
 use Rattle.step_engine.proofs.Tables.{not_inserted, is_made}
 use Rattle.step_engine.proofs.table.make_table.Goals as goal
 

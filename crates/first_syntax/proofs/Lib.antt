@@ -1,0 +1,4 @@
+pub mod BlockLaws
+pub mod GrammarLaws
+pub mod StepLaws
+pub mod PlaceLaws

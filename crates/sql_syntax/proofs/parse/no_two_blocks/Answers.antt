@@ -1,0 +1,7 @@
+use Rattle.grammar_rules.proofs.Whole.{one_value}
+use Rattle.sql_tokens.specs.Tokens.{tokens_of}
+use Rattle.sql_syntax.proofs.StatementLaws.{block_law}
+use Rattle.sql_syntax.proofs.parse.no_two_blocks.Goals as goal
+
+pub returns : goal.returns
+returns c text xs ys w v = one_value (block_law text) (tokens_of text) xs ys w v

@@ -1,0 +1,8 @@
+-- How the code sees a statement that may be there.
+use Rattle.std.specs.Prelude.{Option, Some, None}
+use Rattle.sql_syntax.specs.Trees.{StatementTree, statement_tree}
+use Rattle.sql_syntax.specs.declared.statement.Statement.{Statement}
+
+abbrev pub maybe_tree : Option Statement → Option StatementTree
+maybe_tree None = None
+maybe_tree (Some x) = Some (statement_tree x)
