@@ -1,0 +1,2 @@
+//! Writes expressions of SQL as text.
+#![tactic(auto)]
