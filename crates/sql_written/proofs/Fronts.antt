@@ -49,7 +49,7 @@ start_no_blank : (b : ℕ) → belongs class.NameStart b ≡ true → belongs cl
 start_no_blank b h = grind (arith, h)
 
 -- a word, up to a byte with which no name goes on
-name_front : (b : ℕ) (z rest : List ℕ) → belongs class.NameStart b ≡ true → prefix_len (belongs class.NamePart) (b ∷ z) ≡ length (b ∷ z) → belongs class.NamePart (slice_index rest 0) ≡ false →
+pub name_front : (b : ℕ) (z rest : List ℕ) → belongs class.NameStart b ≡ true → prefix_len (belongs class.NamePart) (b ∷ z) ≡ length (b ∷ z) → belongs class.NamePart (slice_index rest 0) ≡ false →
     front ((b ∷ z) ++ rest) ≡ Lexeme (word_kind (b ∷ z)) (length (b ∷ z))
 unfolding front
 name_front b z rest s e h =
