@@ -1,3 +1,4 @@
 pub mod Fronts
 pub mod MarkTokens
 pub mod MarksApart
+pub mod TreeApart
