@@ -1,4 +1,5 @@
 pub mod Fronts
 pub mod MarkTokens
 pub mod MarksApart
+pub mod Said
 pub mod TreeApart
