@@ -1,4 +1,5 @@
 pub mod Fronts
+pub mod LeafTexts
 pub mod MarkTokens
 pub mod MarksApart
 pub mod Said
