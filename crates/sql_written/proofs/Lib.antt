@@ -1,5 +1,6 @@
 pub mod Fronts
 pub mod LeafTexts
+pub mod LevelTexts
 pub mod MarkTokens
 pub mod MarksApart
 pub mod Said
