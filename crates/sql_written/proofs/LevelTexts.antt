@@ -242,7 +242,7 @@ module _ (text : List ℕ) where
   compared_on : (s : Token) (x y : List Token) (l r : Deep) → level.is_comparison s ≡ true → (any text).test.texts x l → (any text).test.texts y r → comparison_texts (x ++ s ∷ y) (level.join l s r)
   compared_on s x y l r e h k = ((l, level.join l s r), (x, s ∷ y, refl, h, inl ((s, r), (s ∷ [], y, refl, (refl, e), k), refl)), refl)
 
-  abbrev sign_kind : Operator → Kind
+  abbrev pub sign_kind : Operator → Kind
   sign_kind operator.Add = kinds.Plus
   sign_kind operator.Subtract = kinds.Minus
   sign_kind operator.Multiply = kinds.Star
@@ -255,7 +255,7 @@ module _ (text : List ℕ) where
   sign_kind operator.Greater = kinds.Greater
   sign_kind operator.GreaterEqual = kinds.GreaterEqual
 
-  binary_at : (op : Operator) (from to : ℕ) (x y : List Token) (l r : Deep) → texts_at (left_place op) x l → texts_at (right_place op) y r →
+  pub binary_at : (op : Operator) (from to : ℕ) (x y : List Token) (l r : Deep) → texts_at (left_place op) x l → texts_at (right_place op) y r →
       texts_at (level_of_operator op) (x ++ token (sign_kind op) from to ∷ y) (binary op l.0 r.0, suc (max l.1 r.1))
   binary_at operator.Add from to x y l r h k = sum_on (token kinds.Plus from to) x y l r refl h k
   binary_at operator.Subtract from to x y l r h k = sum_on (token kinds.Minus from to) x y l r refl h k

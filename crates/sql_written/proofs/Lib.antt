@@ -1,3 +1,4 @@
+pub mod Back
 pub mod Fronts
 pub mod LeafTexts
 pub mod LevelTexts
