@@ -170,7 +170,7 @@ module _ (text : List ℕ) where
 
   -- every tree
   mutual
-    back : (e : Tree) → HasText e → (ts : List Token) → Are text ts (marks e) → texts_at text (level_of e) ts (e, depth e)
+    pub back : (e : Tree) → HasText e → (ts : List Token) → Are text ts (marks e) → texts_at text (level_of e) ts (e, depth e)
     back (leaf l) w ts h = leaf_texts text l w ts h
     back (call f us) w ts h =
         let p = parted text ts (spelled.name f ∷ []) (spelled.opening ∷ (row behind_part disjunction us ++ spelled.closing ∷ [])) h in

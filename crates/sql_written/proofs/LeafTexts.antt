@@ -25,7 +25,7 @@ use Rattle.sql_written.specs.Writable.{IsLeaf, IsName, IsText}
 use Rattle.sql_written.proofs.MarksApart.{number_back, plain_is}
 use Rattle.sql_written.proofs.Said.{Are, token, parted, name_said, plain_said, quoted_said}
 
-not_longer : (m n : ℕ) → n ≤ m → nat_lt m n ≡ false
+pub not_longer : (m n : ℕ) → n ≤ m → nat_lt m n ≡ false
 not_longer m n h = grind (arith, h)
 
 module _ (text : List ℕ) where

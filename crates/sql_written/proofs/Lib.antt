@@ -4,5 +4,7 @@ pub mod LeafTexts
 pub mod LevelTexts
 pub mod MarkTokens
 pub mod MarksApart
+pub mod ReadsBack
 pub mod Said
+pub mod ShortMarks
 pub mod TreeApart
