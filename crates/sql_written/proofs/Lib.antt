@@ -1,4 +1,5 @@
 pub mod Back
+pub mod Costs
 pub mod Fronts
 pub mod LeafTexts
 pub mod LevelTexts
