@@ -2,6 +2,8 @@ pub mod Back
 pub mod Costs
 pub mod Fronts
 pub mod LeafTexts
+pub mod Least
+pub mod LeastTexts
 pub mod LevelTexts
 pub mod MarkTokens
 pub mod MarksApart
