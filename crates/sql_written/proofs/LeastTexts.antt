@@ -112,3 +112,131 @@ module _ (text : List ℕ) (R : Token → Type 0) (good : Spelled text R) where
   disjunction_least (t ∷ [], d) n E h =
       loosen disjunction conjunction n E (t, d) (omega arith) (record { fewest = omega (arith, h.fewest); lowest = omega (arith, h.lowest); has = λ e. (h.has e).0 })
   disjunction_least (t ∷ u ∷ ts, d) n E h = own_least (any_of (listed (t ∷ u ∷ ts))) n E (suc d) h.fewest (omega (arith, h.lowest)) (λ e. (tt, h.has e))
+
+  -- a list between "(" and ")"
+  abbrev word_list : Of Deep → Of Parts
+  word_list P =
+      value_texts (λ (x : Token × Parts). x.1) (both_texts (one_texts (a kinds.OpenParenthesis))
+      (value_texts (λ (x : Parts × Token). x.0) (both_texts (row_texts (a kinds.Comma) level.only_part level.add_part P P) (one_texts (a kinds.CloseParenthesis)))))
+
+  enclosed_least : (P : Of Deep) → Keeps disjunction P → (ts : List Token) (p : Parts) → word_list P ts p →
+      (n : ℕ) × (suc n ≤ opened ts) × LeastRow disjunction n (Each R ts) p
+  enclosed_least P keeps ts p w =
+      let b = w.1 in
+      let i = b.4 in
+      let c = i.1 in
+      let l = parts_least disjunction (a kinds.Comma) P keeps c.0 i.0.0 c.3 in
+      (opened c.0, omega (arith, opened_of ts b.0 b.1 b.2, opened_of b.1 c.0 c.1 c.2, opened_one w.0.0 b.0 b.3.0 b.3.1),
+      subst (λ (d : Parts). LeastRow disjunction (opened c.0) (Each R ts) d) (sym (w.2 ∙ i.2))
+      (record { fewest = l.fewest; lowest = l.lowest; has = λ e. l.has (parts_of b.1 c.0 c.1 c.2 (parts_of ts b.0 b.1 b.2 e).1).0; some = l.some }))
+
+  -- behind a word that opens nothing
+  behind_of : {A : Type 0} (c : Class Token) (P : Of A) (ts : List Token) (v : A) → value_texts (λ (x : Token × A). x.1) (both_texts (one_texts c) P) ts v → (y : List Token) × (opened y ≤ opened ts) × (Each R ts → Each R y) × P y v
+  behind_of {A} c P ts v w = let b = w.1 in (b.1, omega (arith, opened_of ts b.0 b.1 b.2), λ e. (parts_of ts b.0 b.1 b.2 e).1, subst (λ (x : A). P b.1 x) (sym w.2) b.4)
+
+  -- the levels over texts that keep to the least
+  module _ (k : Texts) (unaries : Keeps unary k.unary) (negations : Keeps negation k.negation) where
+    products : Keeps product (product_over k).texts
+    products = row_least product unary level.is_product product_sign k.unary unaries k.unary (loosened product unary k.unary (omega arith) unaries)
+
+    sums : Keeps sum (sum_over k).texts
+    sums = row_least sum product level.is_sum sum_sign (product_over k).texts products (product_over k).texts (loosened sum product (product_over k).texts (omega arith) products)
+
+    conjunctions : Keeps conjunction (conjunction_over k).texts
+    conjunctions ts x w =
+        subst (λ (d : Deep). Least conjunction (opened ts) (Each R ts) d) (sym w.2)
+        (conjunction_least w.0 (opened ts) (Each R ts) (parts_least negation (a kinds.And) k.negation negations ts w.0 w.1))
+
+    expressions : Keeps disjunction (expression_over k).texts
+    expressions ts x w =
+        subst (λ (d : Deep). Least disjunction (opened ts) (Each R ts) d) (sym w.2)
+        (disjunction_least w.0 (opened ts) (Each R ts) (parts_least conjunction (a kinds.Or) (conjunction_over k).texts conjunctions ts w.0 w.1))
+
+    -- IN and BETWEEN
+    in_least : (b : Bool) (x : Deep) (p : Parts) (m n j : ℕ) (E F : Type 0) → Least sum m E x → suc n ≤ j → LeastRow disjunction n F p → Least test (m + j) (E × F) (level.in_value b x p)
+    in_least b x p m n j E F h i l =
+        own_least (in_list b x.0 (listed p.0)) (m + j) (E × F) (suc (max x.1 p.1)) (omega (arith, h.fewest, l.fewest)) (omega (arith, h.lowest, l.lowest)) (λ e. (h.has e.0, l.some, l.has e.1))
+
+    between_least : (b : Bool) (x y z : Deep) (m i j : ℕ) (E F G : Type 0) → Least sum m E x → Least sum i F y → Least sum j G z → Least test (m + (i + j)) (E × (F × G)) (level.between_value b x (y, z))
+    between_least b x y z m i j E F G h k l =
+        own_least (between b x.0 y.0 z.0) (m + (i + j)) (E × (F × G)) (suc (max x.1 (max y.1 z.1))) (omega (arith, h.fewest, k.fewest, l.fewest)) (omega (arith, h.lowest, k.lowest, l.lowest))
+        (λ e. (h.has e.0, k.has e.1.0, l.has e.1.1))
+
+    in_or_between_least : (b : Bool) (x v : Deep) (m : ℕ) (E : Type 0) → Least sum m E x → (ts : List Token) → (level.in_or_between (over k) b x).texts ts v → Least test (m + opened ts) (E × Each R ts) v
+    in_or_between_least b x v m E h ts (inl w) =
+        let c = behind_of (a kinds.In) (word_list (expression_over k).texts) ts w.0 w.1 in
+        let l = enclosed_least (expression_over k).texts expressions c.0 w.0 c.3 in
+        subst (λ (d : Deep). Least test (m + opened ts) (E × Each R ts) d) (sym w.2)
+        (wider test (m + opened c.0) (m + opened ts) (E × Each R c.0) (E × Each R ts) (level.in_value b x w.0) (omega (arith, c.1)) (λ e. (e.0, c.2 e.1))
+        (in_least b x w.0 m l.0 (opened c.0) E (Each R c.0) h l.1 l.2))
+    in_or_between_least b x v m E h ts (inr w) =
+        let c = behind_of (a kinds.Between) (both_texts (sum_over k).texts (value_texts (λ (y : Token × Deep). y.1) (both_texts (one_texts (a kinds.And)) (sum_over k).texts))) ts w.0 w.1 in
+        let b1 = c.3 in
+        let d = behind_of (a kinds.And) (sum_over k).texts b1.1 w.0.1 b1.4 in
+        let y = sums b1.0 w.0.0 b1.3 in
+        let z = sums d.0 w.0.1 d.3 in
+        subst (λ (d : Deep). Least test (m + opened ts) (E × Each R ts) d) (sym w.2)
+        (wider test (m + (opened b1.0 + opened d.0)) (m + opened ts) (E × (Each R b1.0 × Each R d.0)) (E × Each R ts) (level.between_value b x w.0)
+        (omega (arith, c.1, d.1, opened_of c.0 b1.0 b1.1 b1.2)) (λ e. let p = parts_of c.0 b1.0 b1.1 b1.2 (c.2 e.1) in (e.0, (p.0, d.2 p.1)))
+        (between_least b x w.0.0 w.0.1 m (opened b1.0) (opened d.0) E (Each R b1.0) (Each R d.0) h y z))
+
+    tested_least : (x v : Deep) (m : ℕ) (E : Type 0) → Least sum m E x → (ts : List Token) → either_texts (level.tested (over k) x).texts (nothing_texts x) ts v → Least test (m + opened ts) (E × Each R ts) v
+    tested_least x v m E h ts (inl (inl w)) =
+        let c = behind_of (a kinds.Not) (level.in_or_between (over k) true x).texts ts v w in
+        wider test (m + opened c.0) (m + opened ts) (E × Each R c.0) (E × Each R ts) v (omega (arith, c.1)) (λ e. (e.0, c.2 e.1)) (in_or_between_least true x v m E h c.0 c.3)
+    tested_least x v m E h ts (inl (inr w)) = in_or_between_least false x v m E h ts w
+    tested_least x v m E h ts (inr w) =
+        subst (λ (d : Deep). Least test (m + opened ts) (E × Each R ts) d) (sym w.1)
+        (wider test m (m + opened ts) E (E × Each R ts) x (omega arith) (λ e. e.0) (loosen test sum m E x (omega arith) h))
+
+    followed_least : (s r : Level) (P : Of Deep) → Keeps r P → (Q : Deep → Of Deep) → ((x v : Deep) (m : ℕ) (E : Type 0) → Least r m E x → (ts : List Token) → Q x ts v → Least s (m + opened ts) (E × Each R ts) v) →
+        Keeps s (value_texts second_of (follow_texts P Q))
+    followed_least s r P keeps Q on ts x w =
+        let b = w.1 in
+        subst (λ (d : Deep). Least s (opened ts) (Each R ts) d) (sym w.2)
+        (wider s (opened b.0 + opened b.1) (opened ts) (Each R b.0 × Each R b.1) (Each R ts) w.0.1 (omega (arith, opened_of ts b.0 b.1 b.2)) (λ e. parts_of ts b.0 b.1 b.2 e)
+        (on w.0.0 w.0.1 (opened b.0) (Each R b.0) (keeps b.0 w.0.0 b.3) b.1 b.4))
+
+    tests : Keeps test (test_over k).texts
+    tests = followed_least test sum (sum_over k).texts sums (λ x. either_texts (level.tested (over k) x).texts (nothing_texts x)) tested_least
+
+    -- comparisons
+    compared_least : (x v : Deep) (m : ℕ) (E : Type 0) → Least test m E x → (ts : List Token) → either_texts (level.compared (over k) x).texts (nothing_texts x) ts v → Least comparison (m + opened ts) (E × Each R ts) v
+    compared_least x v m E h ts (inl w) =
+        let b = w.1 in
+        let t = tests b.1 w.0.1 b.4 in
+        subst (λ (d : Deep). Least comparison (m + opened ts) (E × Each R ts) d) (sym w.2)
+        (wider comparison (m + opened b.1) (m + opened ts) (E × Each R b.1) (E × Each R ts) (level.compared_value x w.0) (omega (arith, opened_of ts b.0 b.1 b.2)) (λ e. (e.0, (parts_of ts b.0 b.1 b.2 e.1).1))
+        (stands_least comparison test test (level.operator_of w.0.0) (comparison_sign w.0.0 b.3.1) x w.0.1 m (opened b.1) E (Each R b.1) h t))
+    compared_least x v m E h ts (inr w) =
+        subst (λ (d : Deep). Least comparison (m + opened ts) (E × Each R ts) d) (sym w.1)
+        (wider comparison m (m + opened ts) E (E × Each R ts) x (omega arith) (λ e. e.0) (loosen comparison test m E x (omega arith) h))
+
+    comparisons : Keeps comparison (value_texts second_of (follow_texts (test_over k).texts (λ x. either_texts (level.compared (over k) x).texts (nothing_texts x))))
+    comparisons = followed_least comparison test (test_over k).texts tests (λ x. either_texts (level.compared (over k) x).texts (nothing_texts x)) compared_least
+
+    -- IS NULL
+    null_least : (b : Bool) (x : Deep) (n : ℕ) (E : Type 0) → Least nullity n E x → Least nullity n E (level.under (is_null b) x)
+    null_least b x n E h = own_least (is_null b x.0) n E (suc x.1) h.fewest (omega (arith, h.lowest)) h.has
+
+    nulls_least : (xs : List (Token × Bool)) (l : Deep) (v : List Token) (x : Deep) (n : ℕ) (E : Type 0) → Least nullity n E l → all_rows always level.null_join (λ (d : Deep). both_texts (one_texts (a kinds.Is)) level.null_or_not.free) l xs v x → Least nullity n E x
+    nulls_least [] l v x n E h w = subst (λ (d : Deep). Least nullity n E d) (sym w.1) h
+    nulls_least (y ∷ xs) l v x n E h w = nulls_least xs (level.null_join l y.0 y.1) w.2 x n E (null_least y.1 l n E h) w.5
+
+    nullities : Keeps nullity (nullity_over k).free
+    nullities ts x w =
+        let b = w.1 in
+        let c = loosen nullity comparison (opened b.0) (Each R b.0) w.0.0 (omega arith) (comparisons b.0 w.0.0 b.3) in
+        subst (λ (d : Deep). Least nullity (opened ts) (Each R ts) d) (sym w.2)
+        (wider nullity (opened b.0) (opened ts) (Each R b.0) (Each R ts) w.0.1 (omega (arith, opened_of ts b.0 b.1 b.2)) (λ e. (parts_of ts b.0 b.1 b.2 e).0)
+        (nulls_least b.4.0 w.0.0 b.1 w.0.1 (opened b.0) (Each R b.0) c b.4.1))
+
+    -- NOT
+    next_negation : Keeps negation (level.negation endless (over k) (over k) (nullity_over k)).free
+    next_negation ts x (inl w) =
+        let c = behind_of (a kinds.Not) k.negation ts w.0 w.1 in
+        let h = negations c.0 w.0 c.3 in
+        subst (λ (d : Deep). Least negation (opened ts) (Each R ts) d) (sym w.2)
+        (wider negation (opened c.0) (opened ts) (Each R c.0) (Each R ts) (level.under inverted w.0) c.1 c.2
+        (own_least (inverted w.0.0) (opened c.0) (Each R c.0) (suc w.0.1) h.fewest (omega (arith, h.lowest)) h.has))
+    next_negation ts x (inr w) = loosen negation nullity (opened ts) (Each R ts) x (omega arith) (nullities ts x w)
