@@ -1,7 +1,8 @@
 -- Every text of a level without limits has at least the parentheses and the depth of what is written of its tree.
 use Rattle.std.proofs.Common.{◌≡◌, ℕ, zero, suc, ◌+◌, ◌≤◌, Bool, true, false, cond, not, ◌&&◌, ◌||◌, max, List, [], ◌∷◌, ◌++◌, length, inl, inr, ◌⊎◌, refl, sym, ap, ◌∙◌, subst, arith, append-nil}
 use Rattle.std.specs.Prelude.{nat_lt}
-use Rattle.grammar_rules.specs.Reading.{Class, Rule, one_texts, nothing_texts, both_texts, follow_texts, value_texts, either_texts}
+use Rattle.grammar_rules.specs.Depths.{AtSome}
+use Rattle.grammar_rules.specs.Reading.{Class, Rule, as_value, nothing, one_texts, nothing_texts, both_texts, follow_texts, value_texts, either_texts}
 use Rattle.grammar_rules.specs.Rows.{all_rows, rows_texts, always, step_to, second_of}
 use Rattle.sql_tokens.specs.Contents.{name_in, number_in, string_in}
 use Rattle.sql_tokens.specs.Words.{is, kinds_list}
@@ -14,7 +15,7 @@ use Rattle.sql_expressions.specs.Grammar.{Texts, any, endless, nesting, over, nu
 use Rattle.sql_expressions.specs.Levels as level
 use Rattle.sql_expressions.specs.Levels.{Deep, Parts}
 use Rattle.sql_expressions.specs.Tree.{Tree, Trees, no_more, and_more, leaf, call, call_of_all, negated, binary, in_list, between, is_null, inverted, all_of, any_of, listed}
-use Rattle.sql_expressions.specs.Words.{a, a_name, cast, column, column_of, dotted, either_if, literal, name, string}
+use Rattle.sql_expressions.specs.Words.{a, a_literal, a_name, cast, column, column_of, dotted, either_if, is_long_name, is_long_text, literal, literal_of, name, string}
 use Rattle.sql_expressions.specs.declared.leaf.Leaf.{Leaf}
 use Rattle.sql_expressions.specs.declared.leaf.Leaf.TheVariants.{Number, Text, Date, Null, Truth, Parameter, Column, ColumnOf, TableName, TableNameOf}
 use Rattle.sql_expressions.specs.declared.leaf.Operator.{Operator}
@@ -134,6 +135,105 @@ module _ (text : List ℕ) (R : Token → Type 0) (good : Spelled text R) where
   behind_of : {A : Type 0} (c : Class Token) (P : Of A) (ts : List Token) (v : A) → value_texts (λ (x : Token × A). x.1) (both_texts (one_texts c) P) ts v → (y : List Token) × (opened y ≤ opened ts) × (Each R ts → Each R y) × P y v
   behind_of {A} c P ts v w = let b = w.1 in (b.1, omega (arith, opened_of ts b.0 b.1 b.2), λ e. (parts_of ts b.0 b.1 b.2 e).1, subst (λ (x : A). P b.1 x) (sym w.2) b.4)
 
+  -- names
+  first_true : (b c : Bool) → (b && c) ≡ true → b ≡ true
+  first_true true c h = refl
+  first_true false c h = cc
+
+  token_name : (ts : List Token) (t : Token) (z : Kind × List ℕ) → ts ≡ t ∷ [] → a_name t ≡ true → z ≡ (t.kind, name_in text t) → Each R ts → IsName z.1
+  token_name ts t z e n v h = subst (λ (y : Kind × List ℕ). IsName y.1) (sym v) (good.name t (subst (Each R) e h).0 n)
+
+  name_has : (ts : List Token) (z : Kind × List ℕ) → (name text).free ts z → Each R ts → IsName z.1
+  name_has ts z w h = go w.0 w.1 w.2
+    where
+      go : (t : Token) → either_texts (one_texts (is_long_name text)) (one_texts (λ t. a_name t && not (is_long_name text t))) ts t → z ≡ (t.kind, name_in text t) → IsName z.1
+      go t (inl i) v = token_name ts t z i.0 (first_true (a_name t) _ i.1) v h
+      go t (inr i) v = token_name ts t z i.0 (first_true (a_name t) _ i.1) v h
+
+  -- strings
+  token_string : (ts : List Token) (t : Token) (z : List ℕ) → ts ≡ t ∷ [] → a kinds.Text t ≡ true → z ≡ string_in text t → Each R ts → IsText z
+  token_string ts t z e n v h = subst IsText (sym v) (good.string t (subst (Each R) e h).0 n)
+
+  string_has : (ts : List Token) (z : List ℕ) → (string text).free ts z → Each R ts → IsText z
+  string_has ts z w h = go w.0 w.1 w.2
+    where
+      go : (t : Token) → either_texts (one_texts (is_long_text text)) (one_texts (λ t. a kinds.Text t && not (is_long_text text t))) ts t → z ≡ string_in text t → IsText z
+      go t (inl i) v = token_string ts t z i.0 (first_true (a kinds.Text t) _ i.1) v h
+      go t (inr i) v = token_string ts t z i.0 (first_true (a kinds.Text t) _ i.1) v h
+
+  -- constants
+  number_few : (t : Token) → number_in text t ≤ NO_BIGINT
+  number_few t = omega arith
+
+  chosen : (b : Bool) (l m : Leaf) → (b ≡ true → IsLeaf l) → (b ≡ false → IsLeaf m) → IsLeaf (cond b l m)
+  chosen true l m h k = h refl
+  chosen false l m h k = k refl
+
+  last_true : (b1 b2 b3 b4 b5 b6 : Bool) → (b1 || (b2 || (b3 || (b4 || (b5 || b6))))) ≡ true → b1 ≡ false → b2 ≡ false → b3 ≡ false → b4 ≡ false → b5 ≡ false → b6 ≡ true
+  last_true false false false false false b6 h i1 i2 i3 i4 i5 = h
+  last_true true b2 b3 b4 b5 b6 h i1 i2 i3 i4 i5 = cc
+  last_true false true b3 b4 b5 b6 h i1 i2 i3 i4 i5 = cc
+  last_true false false true b4 b5 b6 h i1 i2 i3 i4 i5 = cc
+  last_true false false false true b5 b6 h i1 i2 i3 i4 i5 = cc
+  last_true false false false false true b6 h i1 i2 i3 i4 i5 = cc
+
+  literal_spelled : (t : Token) → R t → a_literal t ≡ true → IsLeaf (literal_of text t)
+  literal_spelled t r h =
+      chosen (a kinds.Number t) (Number (number_in text t)) _ (λ e. number_few t)
+      (λ i1. chosen (a kinds.Text t) (Text (string_in text t)) _ (λ e. good.string t r e)
+      (λ i2. chosen (a kinds.Null t) Null _ (λ e. tt)
+      (λ i3. chosen (a kinds.True t) (Truth true) _ (λ e. tt)
+      (λ i4. chosen (a kinds.False t) (Truth false) _ (λ e. tt)
+      (λ i5. good.parameter t r (last_true (a kinds.Number t) (a kinds.Text t) (a kinds.Null t) (a kinds.True t) (a kinds.False t) (a kinds.Parameter t) h i1 i2 i3 i4 i5))))))
+
+  is_literal_text : (t : Token) → is_long_text text t ≡ true → a_literal t ≡ true
+  is_literal_text t h = second (a kinds.Number t) (a kinds.Text t) _ (first_true (a kinds.Text t) _ h)
+    where
+      second : (b c d : Bool) → c ≡ true → (b || (c || d)) ≡ true
+      second true c d e = refl
+      second false true d e = refl
+      second false false d e = cc
+
+  literal_has : (ts : List Token) (l : Leaf) → (literal text).free ts l → Each R ts → IsLeaf l
+  literal_has ts l w h = go w.0 w.1 w.2
+    where
+      go : (t : Token) → either_texts (one_texts (is_long_text text)) (one_texts (λ t. a_literal t && not (is_long_text text t))) ts t → l ≡ literal_of text t → IsLeaf l
+      go t (inl i) v = subst IsLeaf (sym v) (literal_spelled t (subst (Each R) i.0 h).0 (is_literal_text t i.1))
+      go t (inr i) v = subst IsLeaf (sym v) (literal_spelled t (subst (Each R) i.0 h).0 (first_true (a_literal t) _ i.1))
+
+  -- columns
+  of_if : {A : Type 0} (b : Bool) (c : Class Token) (p q : Rule Token A) (ts : List Token) (x : A) → (either_if b c p q).free ts x → p.free ts x ⊎ q.free ts x
+  of_if true c p q ts x w = w
+  of_if false c p q ts x w = inr w
+
+  behind_table : (t : List ℕ) → IsName t → (x : Kind × List ℕ) → IsName x.1 → (ts : List Token) (l : Leaf) → (column_of t x).free ts l → IsLeaf l
+  behind_table t n x m ts l w = go (of_if (is x.0 kinds.Tableoid) (a kinds.TypeCast) (cast (TableNameOf t)) (nothing (ColumnOf t x.1)) ts l w)
+    where
+      go : (cast (TableNameOf t)).free ts l ⊎ (nothing (ColumnOf t x.1)).free ts l → IsLeaf l
+      go (inl i) = subst IsLeaf (sym i.2) n
+      go (inr i) = subst IsLeaf (sym i.1) (n, m)
+
+  dotted_has : (t : List ℕ) → IsName t → (ts : List Token) (l : Leaf) → (dotted text t).free ts l → Each R ts → IsLeaf l
+  dotted_has t n ts l w h =
+      let c = behind_of (a kinds.Dot) (value_texts second_of (follow_texts (name text).free (λ x. (column_of t x).free))) ts l w in
+      let b = c.3.1 in
+      let e = parts_of c.0 b.0 b.1 b.2 (c.2 h) in
+      subst IsLeaf (sym c.3.2) (behind_table t n c.3.0.0 (name_has b.0 c.3.0.0 b.3 e.0) b.1 c.3.0.1 b.4)
+
+  column_has : (x : Kind × List ℕ) → IsName x.1 → (ts : List Token) (l : Leaf) → (column text x).free ts l → Each R ts → IsLeaf l
+  column_has x n ts l (inl w) h = dotted_has x.1 n ts l w h
+  column_has x n ts l (inr w) h = go (of_if (is x.0 kinds.Date) (a kinds.Text) (as_value Date (string text)) (either_if (is x.0 kinds.Tableoid) (a kinds.TypeCast) (cast TableName) (nothing (Column x.1))) ts l w)
+    where
+      last : (cast TableName).free ts l ⊎ (nothing (Column x.1)).free ts l → IsLeaf l
+      last (inl i) = subst IsLeaf (sym i.2) tt
+      last (inr i) = subst IsLeaf (sym i.1) n
+      go : (as_value Date (string text)).free ts l ⊎ (either_if (is x.0 kinds.Tableoid) (a kinds.TypeCast) (cast TableName) (nothing (Column x.1))).free ts l → IsLeaf l
+      go (inl i) = subst IsLeaf (sym i.2) (string_has ts i.0 i.1 h)
+      go (inr i) = last (of_if (is x.0 kinds.Tableoid) (a kinds.TypeCast) (cast TableName) (nothing (Column x.1)) ts l i)
+
+  leaf_least : (l : Leaf) (n : ℕ) (E : Type 0) → (E → IsLeaf l) → Least unary n E (leaf l, 0)
+  leaf_least l n E h = own_least (leaf l) n E 0 (omega arith) (omega arith) h
+
   -- the levels over texts that keep to the least
   module _ (k : Texts) (unaries : Keeps unary k.unary) (negations : Keeps negation k.negation) where
     products : Keeps product (product_over k).texts
@@ -240,3 +340,86 @@ module _ (text : List ℕ) (R : Token → Type 0) (good : Spelled text R) where
         (wider negation (opened c.0) (opened ts) (Each R c.0) (Each R ts) (level.under inverted w.0) c.1 c.2
         (own_least (inverted w.0.0) (opened c.0) (Each R c.0) (suc w.0.1) h.fewest (omega (arith, h.lowest)) h.has))
     next_negation ts x (inr w) = loosen negation nullity (opened ts) (Each R ts) x (omega arith) (nullities ts x w)
+
+    -- calls
+    abbrev inner_texts : List ℕ → Of Deep
+    inner_texts f = either_texts (value_texts (level.all_call f) (one_texts (a kinds.Star))) (value_texts (level.call_value f) (level.arguments (expression_over k)).texts)
+
+    arguments_least : (ts : List Token) (p : Parts) → (level.arguments (expression_over k)).texts ts p → (row_opens disjunction (listed p.0) ≤ opened ts) × (row_depth disjunction (listed p.0) ≤ p.1) × (Each R ts → HaveTexts (listed p.0))
+    arguments_least ts p (inl w) = let l = parts_least disjunction (a kinds.Comma) (expression_over k).texts expressions ts p w in (l.fewest, l.lowest, l.has)
+    arguments_least ts p (inr w) =
+        subst (λ (q : Parts). (row_opens disjunction (listed q.0) ≤ opened ts) × (row_depth disjunction (listed q.0) ≤ q.1) × (Each R ts → HaveTexts (listed q.0))) (sym w.1) (omega arith, omega arith, λ e. tt)
+
+    inner_least : (f : List ℕ) (ts : List Token) (x : Deep) → inner_texts f ts x → Least unary (suc (opened ts)) (IsName f × Each R ts) x
+    inner_least f ts x (inl w) =
+        subst (λ (d : Deep). Least unary (suc (opened ts)) (IsName f × Each R ts) d) (sym w.2)
+        (own_least (call_of_all f) (suc (opened ts)) (IsName f × Each R ts) 1 (omega arith) (omega arith) (λ e. e.0))
+    inner_least f ts x (inr w) =
+        let l = arguments_least ts w.0 w.1 in
+        subst (λ (d : Deep). Least unary (suc (opened ts)) (IsName f × Each R ts) d) (sym w.2)
+        (own_least (call f (listed w.0.0)) (suc (opened ts)) (IsName f × Each R ts) (suc w.0.1) (omega (arith, l.0)) (omega (arith, l.1)) (λ e. (e.0, l.2 e.1)))
+
+    call_least : (f : List ℕ) (ts : List Token) (x : Deep) → (level.call_of (expression_over k) f).texts ts x → Least unary (opened ts) (IsName f × Each R ts) x
+    call_least f ts x w =
+        let b = w.1 in
+        let i = b.4 in
+        let c = i.1 in
+        subst (λ (d : Deep). Least unary (opened ts) (IsName f × Each R ts) d) (sym (w.2 ∙ i.2))
+        (wider unary (suc (opened c.0)) (opened ts) (IsName f × Each R c.0) (IsName f × Each R ts) i.0.0 (omega (arith, opened_of ts b.0 b.1 b.2, opened_of b.1 c.0 c.1 c.2, opened_one w.0.0 b.0 b.3.0 b.3.1))
+        (λ e. (e.0, (parts_of b.1 c.0 c.1 c.2 (parts_of ts b.0 b.1 b.2 e.1).1).0)) (inner_least f c.0 i.0.0 c.3))
+
+    -- "-" unary, "(" expr ")"
+    nested_least : Keeps unary (level.nested (over k)).texts
+    nested_least ts x (inl w) =
+        let c = behind_of (a kinds.Minus) k.unary ts w.0 w.1 in
+        let h = unaries c.0 w.0 c.3 in
+        subst (λ (d : Deep). Least unary (opened ts) (Each R ts) d) (sym w.2)
+        (wider unary (opened c.0) (opened ts) (Each R c.0) (Each R ts) (level.under negated w.0) c.1 c.2
+        (own_least (negated w.0.0) (opened c.0) (Each R c.0) (suc w.0.1) h.fewest (omega (arith, h.lowest)) h.has))
+    nested_least ts x (inr w) =
+        let b = w.1.1 in
+        let i = b.4 in
+        let c = i.1 in
+        let h = expressions c.0 i.0.0 c.3 in
+        let e = i.0.0.0 in
+        let same : w.0 ≡ i.0.0 = w.1.2 ∙ i.2 in
+        subst (λ (d : Deep). Least unary (opened ts) (Each R ts) d) (sym (w.2 ∙ ap level.deeper same))
+        (record {
+          fewest = omega (arith, h.fewest, deeper_one (needs_parentheses unary e) (opens e), deeper_some (needs_parentheses disjunction e) (opens e), opened_of ts b.0 b.1 b.2, opened_of b.1 c.0 c.1 c.2, opened_one w.1.0.0 b.0 b.3.0 b.3.1);
+          lowest = omega (arith, h.lowest, deeper_one (needs_parentheses unary e) (depth e), deeper_some (needs_parentheses disjunction e) (depth e));
+          has = λ g. h.has (parts_of b.1 c.0 c.1 c.2 (parts_of ts b.0 b.1 b.2 g).1).0;
+        })
+
+    -- names: calls and columns
+    named_least : (x : Kind × List ℕ) (ts : List Token) (v : Deep) → either_texts (level.call_of (expression_over k) x.1).texts (value_texts level.flat (column text x).free) ts v → Least unary (opened ts) (IsName x.1 × Each R ts) v
+    named_least x ts v (inl w) = call_least x.1 ts v w
+    named_least x ts v (inr w) =
+        subst (λ (d : Deep). Least unary (opened ts) (IsName x.1 × Each R ts) d) (sym w.2)
+        (leaf_least w.0 (opened ts) (IsName x.1 × Each R ts) (λ e. column_has x e.0 ts w.0 w.1 e.1))
+
+    next_unary : Keeps unary (level.unary text endless (over k) (over k)).free
+    next_unary ts x (inl w) = nested_least ts x w
+    next_unary ts x (inr (inl w)) =
+        let b = w.1 in
+        subst (λ (d : Deep). Least unary (opened ts) (Each R ts) d) (sym w.2)
+        (wider unary (opened b.1) (opened ts) (IsName w.0.0.1 × Each R b.1) (Each R ts) w.0.1 (omega (arith, opened_of ts b.0 b.1 b.2))
+        (λ e. let p = parts_of ts b.0 b.1 b.2 e in (name_has b.0 w.0.0 b.3 p.0, p.1)) (named_least w.0.0 b.1 w.0.1 b.4))
+    next_unary ts x (inr (inr w)) =
+        subst (λ (d : Deep). Least unary (opened ts) (Each R ts) d) (sym w.2)
+        (leaf_least w.0 (opened ts) (Each R ts) (λ e. literal_has ts w.0 w.1 e))
+
+  -- every depth
+  mutual
+    unfolding nesting
+    unary_at : (n : ℕ) → Keeps unary (nesting text n).unary
+    unary_at zero ts x w = absurd w
+    unary_at (suc n) ts x (inl w) = unary_at n ts x w
+    unary_at (suc n) ts x (inr w) = next_unary (nesting text n) (unary_at n) (negation_at n) ts x w
+
+    negation_at : (n : ℕ) → Keeps negation (nesting text n).negation
+    negation_at zero ts x w = absurd w
+    negation_at (suc n) ts x (inl w) = negation_at n ts x w
+    negation_at (suc n) ts x (inr w) = next_negation (nesting text n) (unary_at n) (negation_at n) ts x w
+
+  pub least : Keeps disjunction (any text).expression.texts
+  least = expressions (record { unary = AtSome (λ n. (nesting text n).unary); negation = AtSome (λ n. (nesting text n).negation) }) (λ ts x w. unary_at w.0 ts x w.1) (λ ts x w. negation_at w.0 ts x w.1)

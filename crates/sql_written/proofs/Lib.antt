@@ -1,5 +1,6 @@
 pub mod Back
 pub mod Costs
+pub mod Fewest
 pub mod Fronts
 pub mod LeafTexts
 pub mod Least
