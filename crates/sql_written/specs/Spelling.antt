@@ -18,9 +18,12 @@ use Rattle.sql_written.specs.Marks.{Mark, blank, mark}
 abbrev pub is_kept : ℕ → Bool
 is_kept b = belongs class.NamePart b && not (is_ascii_uppercase b)
 
+abbrev pub begins_name : List ℕ → Bool
+begins_name name = belongs class.NameStart (slice_index name 0)
+
 -- A name needs no quotes if its bytes are those of one, without capitals, and if it is no reserved word.
 abbrev pub is_plain : List ℕ → Bool
-is_plain name = belongs class.NameStart (slice_index name 0) && (prefix_len is_kept name == length name && is_name (word_kind name))
+is_plain name = begins_name name && (prefix_len is_kept name == length name && is_name (word_kind name))
 
 abbrev pub name : List ℕ → Mark
 name z = if is_plain z then mark (word_kind z) z else mark kinds.QuotedName (quoted 34 z)

@@ -1,2 +1,5 @@
 //! Writes expressions of SQL as text.
 #![tactic(auto)]
+
+mod precedence;
+mod spelling;
