@@ -12,3 +12,4 @@ pub mod ReadsBack
 pub mod Said
 pub mod ShortMarks
 pub mod TreeApart
+pub mod WriteSteps
