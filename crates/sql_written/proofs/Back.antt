@@ -1,5 +1,5 @@
 -- What is written of a tree is a text of it, of the depth that the tree has as it is written.
-use Rattle.std.proofs.Common.{◌≡◌, ℕ, zero, suc, ◌+◌, ◌≤◌, Bool, true, false, max, List, [], ◌∷◌, ◌++◌, inl, inr, refl, sym, ap, ◌∙◌, subst, arith, append_assoc, append-nil}
+use Rattle.std.proofs.Common.{◌≡◌, ℕ, suc, Bool, true, false, max, List, [], ◌∷◌, ◌++◌, inl, inr, refl, sym, ap, ◌∙◌, subst, arith, append_assoc, append-nil}
 use Rattle.std.specs.Prelude.{codes}
 use Rattle.grammar_rules.specs.Reading.{one_texts, both_texts}
 use Rattle.grammar_rules.specs.Rows.{rows_texts, always}
@@ -15,14 +15,14 @@ use Rattle.sql_expressions.specs.Words.{a, name}
 use Rattle.sql_expressions.specs.declared.leaf.Operator.{Operator}
 use Rattle.sql_expressions.specs.declared.leaf.Operator.TheVariants as operator
 use Rattle.sql_expressions.proofs.DepthLaws.{unary_to}
-use Rattle.sql_written.specs.Marks.{Mark, blank, mark}
-use Rattle.sql_written.specs.Precedence.{Level, disjunction, conjunction, negation, nullity, test, sum, unary, level_of, level_of_operator, left_place, right_place, needs_parentheses}
+use Rattle.sql_written.specs.Marks.{Mark, blank}
+use Rattle.sql_written.specs.Precedence.{Level, disjunction, conjunction, negation, nullity, sum, unary, level_of, level_of_operator, left_place, right_place, needs_parentheses}
 use Rattle.sql_written.specs.Spelling as spelled
 use Rattle.sql_written.specs.Writable.{HasTwo, HasOne, HasText, HaveTexts, deeper_by, depth, row_depth}
 use Rattle.sql_written.specs.Written.{and_between, behind_minus, behind_part, in_parentheses, marks, more, not_before, or_between, row}
 use Rattle.sql_written.proofs.Said.{Are, token, parted}
 use Rattle.sql_written.proofs.LeafTexts.{leaf_texts, name_texts, only}
-use Rattle.sql_written.proofs.LevelTexts.{Of, row_texts, row_on, texts_at, comparison_texts, climb, loosest, operand, minus_texts, not_texts, sign_kind, binary_at}
+use Rattle.sql_written.proofs.LevelTexts.{Of, row_texts, row_on, texts_at, comparison_texts, operand, minus_texts, not_texts, sign_kind, binary_at}
 
 abbrev pub of_trees : Trees → List Tree
 of_trees no_more = []
@@ -150,8 +150,11 @@ module _ (text : List ℕ) where
       let c = token kinds.CloseParenthesis q.4.0 q.4.1 in
       let p : Parts = (of_trees us, d) in
       let e : i.2 ≡ q.0 ++ c ∷ [] = q.2 ∙ ap (λ r. q.0 ++ r) (only text kinds.CloseParenthesis (codes ")") q.1 q.4) in
-      inl (p, ((s, p), (s ∷ [], h.2, h.3, (refl, refl), ((o, p), (o ∷ [], i.2, i.3, (refl, refl), ((p, c), (q.0, c ∷ [], e, on q.0 q.3, (refl, refl)), refl)), refl)), refl),
-      ap (λ vs. (in_list b x.0 vs, suc (max x.1 d))) (sym (listed_back us)))
+      inl (
+        p,
+        ((s, p), (s ∷ [], h.2, h.3, (refl, refl), ((o, p), (o ∷ [], i.2, i.3, (refl, refl), ((p, c), (q.0, c ∷ [], e, on q.0 q.3, (refl, refl)), refl)), refl)), refl),
+        ap (λ vs. (in_list b x.0 vs, suc (max x.1 d))) (sym (listed_back us)),
+      )
 
   between_texts : (b : Bool) (x y v : Deep) (z : List Token) (ys vs : List Mark) → Are text z (spelled.between_word ∷ blank ∷ (ys ++ blank ∷ spelled.and_word ∷ blank ∷ vs)) →
       ((u : List Token) → Are text u ys → (any text).sum.texts u y) → ((u : List Token) → Are text u vs → (any text).sum.texts u v) → (level.in_or_between (any text) b x).texts z (between b x.0 y.0 v.0, suc (max x.1 (max y.1 v.1)))
@@ -232,10 +235,17 @@ module _ (text : List ℕ) where
     back_row k sign s place no_more one w ts h = absurd one
     back_row k sign s place (and_more t us) one w ts h =
         let p = parted text ts (in_parentheses (needs_parentheses place t) (marks t)) (more sign place us) h in
-        let x : Deep = (t, deeper_by (needs_parentheses place t) (depth t)) in
-        ((x, (t ∷ of_trees us, max x.1 (row_depth place us))),
-        (p.0, p.1, p.2, operand text place (level_of t) t (marks t) (depth t) (needs_parentheses place t) refl (λ vs i. back t w.0 vs i) p.0 p.3,
-        back_more k sign s place us w.1 (level.only_part x) p.1 p.4), refl)
+        let x : Deep = (t, deeper_by (needs_parentheses place t) (depth t)) in (
+          (x, (t ∷ of_trees us, max x.1 (row_depth place us))),
+          (
+            p.0,
+            p.1,
+            p.2,
+            operand text place (level_of t) t (marks t) (depth t) (needs_parentheses place t) refl (λ vs i. back t w.0 vs i) p.0 p.3,
+            back_more k sign s place us w.1 (level.only_part x) p.1 p.4,
+          ),
+          refl,
+        )
 
     back_more : (k : Kind) (sign : List Mark) → Says k sign → (place : Level) (us : Trees) → HaveTexts us → (p : Parts) (ts : List Token) → Are text ts (more sign place us) → more_texts k place p ts (p.0 ++ of_trees us, max p.1 (row_depth place us))
     back_more k sign s place no_more w p ts h = ([], (h, ended p))
@@ -245,6 +255,14 @@ module _ (text : List ℕ) where
         let x : Deep = (t, deeper_by (needs_parentheses place t) (depth t)) in
         let on = back_more k sign s place us w.1 (level.add_part p (token k q.0 q.1) x) r.1 r.4 in
         let c = token k q.0 q.1 in
-        subst (λ (v : Parts). more_texts k place p ts v) (grown p t x.1 (row_depth place us) (of_trees us))
-        ((c, x) ∷ on.0, (refl, c ∷ r.0, r.1, q.3 ∙ ap (λ z. c ∷ z) r.2,
-        (c ∷ [], r.0, refl, (refl, s.self), operand text place (level_of t) t (marks t) (depth t) (needs_parentheses place t) refl (λ vs i. back t w.0 vs i) r.0 r.3), on.1))
+        subst (λ (v : Parts). more_texts k place p ts v) (grown p t x.1 (row_depth place us) (of_trees us)) (
+          (c, x) ∷ on.0,
+          (
+            refl,
+            c ∷ r.0,
+            r.1,
+            q.3 ∙ ap (λ z. c ∷ z) r.2,
+            (c ∷ [], r.0, refl, (refl, s.self), operand text place (level_of t) t (marks t) (depth t) (needs_parentheses place t) refl (λ vs i. back t w.0 vs i) r.0 r.3),
+            on.1,
+          ),
+        )

@@ -1,5 +1,5 @@
 -- How many parentheses are written of a tree, by its operands.
-use Rattle.std.proofs.Common.{◌≡◌, ℕ, suc, ◌+◌, ◌≤◌, Bool, true, false, cond, not, ◌&&◌, List, [], ◌∷◌, ◌++◌, refl, sym, ap, ◌∙◌, arith}
+use Rattle.std.proofs.Common.{◌≡◌, ℕ, suc, ◌+◌, Bool, true, false, cond, not, ◌&&◌, List, [], ◌∷◌, ◌++◌, refl, ap, ◌∙◌, arith}
 use Rattle.sql_tokens.specs.Words.{is, is_name, word_kind}
 use Rattle.sql_tokens.specs.Written.{quoted}
 use Rattle.sql_tokens.specs.declared.kind.Kind.{Kind}
@@ -19,7 +19,7 @@ use Rattle.sql_written.specs.Spelling.{is_plain}
 use Rattle.sql_written.specs.Writable.{deeper_by}
 use Rattle.sql_written.specs.Written.{and_between, behind_minus, behind_part, in_parentheses, marks, more, not_before, or_between, row}
 use Rattle.sql_written.proofs.MarksApart.{plain_is}
-use Rattle.sql_written.proofs.Said.{Are, token}
+use Rattle.sql_written.proofs.Said.{Are}
 
 abbrev mutual
   pub opens : Tree → ℕ
@@ -144,20 +144,34 @@ mutual
       omega (arith, opened_blank e (placed unary e), opened_parentheses (needs_parentheses unary e) (marks e) (opens e) (opened_marks e))
   opened_marks (binary op x y) =
       opened_append (placed (left_place op) x) (blank ∷ spelled.sign op ∷ blank ∷ placed (right_place op) y)
-      ∙ omega (arith, opened_sign op (blank ∷ placed (right_place op) y), opened_parentheses (needs_parentheses (left_place op) x) (marks x) (opens x) (opened_marks x),
-      opened_parentheses (needs_parentheses (right_place op) y) (marks y) (opens y) (opened_marks y))
+      ∙ omega (
+        arith,
+        opened_sign op (blank ∷ placed (right_place op) y),
+        opened_parentheses (needs_parentheses (left_place op) x) (marks x) (opens x) (opened_marks x),
+        opened_parentheses (needs_parentheses (right_place op) y) (marks y) (opens y) (opened_marks y),
+      )
   opened_marks (in_list b x ts) =
       let rest = spelled.in_word ∷ blank ∷ spelled.opening ∷ (row behind_part disjunction ts ++ spelled.closing ∷ []) in
       opened_append (placed sum x) (blank ∷ (not_before b ++ rest))
-      ∙ omega (arith, opened_not b rest, opened_parentheses (needs_parentheses sum x) (marks x) (opens x) (opened_marks x),
-      opened_list (row behind_part disjunction ts), opened_row behind_part disjunction ts refl)
+      ∙ omega (
+        arith,
+        opened_not b rest,
+        opened_parentheses (needs_parentheses sum x) (marks x) (opens x) (opened_marks x),
+        opened_list (row behind_part disjunction ts),
+        opened_row behind_part disjunction ts refl,
+      )
   opened_marks (between b x from to) =
       let last = blank ∷ spelled.and_word ∷ blank ∷ placed sum to in
       let rest = spelled.between_word ∷ blank ∷ (placed sum from ++ last) in
       opened_append (placed sum x) (blank ∷ (not_before b ++ rest))
-      ∙ omega (arith, opened_not b rest, opened_append (placed sum from) last, opened_parentheses (needs_parentheses sum x) (marks x) (opens x) (opened_marks x),
-      opened_parentheses (needs_parentheses sum from) (marks from) (opens from) (opened_marks from),
-      opened_parentheses (needs_parentheses sum to) (marks to) (opens to) (opened_marks to))
+      ∙ omega (
+        arith,
+        opened_not b rest,
+        opened_append (placed sum from) last,
+        opened_parentheses (needs_parentheses sum x) (marks x) (opens x) (opened_marks x),
+        opened_parentheses (needs_parentheses sum from) (marks from) (opens from) (opened_marks from),
+        opened_parentheses (needs_parentheses sum to) (marks to) (opens to) (opened_marks to),
+      )
   opened_marks (is_null b x) =
       opened_append (placed nullity x) (blank ∷ spelled.is_word ∷ blank ∷ (not_before b ++ spelled.null_word ∷ []))
       ∙ omega (arith, opened_not b (spelled.null_word ∷ []), opened_parentheses (needs_parentheses nullity x) (marks x) (opens x) (opened_marks x))

@@ -1,9 +1,8 @@
 -- No text of a tree opens fewer parentheses than what is written of it.
-use Rattle.std.proofs.Common.{◌≡◌, ℕ, ◌≤◌, List, ap, ◌∙◌, arith, subst, sym}
+use Rattle.std.proofs.Common.{◌≡◌, ℕ, ◌≤◌, List, ap, ◌∙◌, arith}
 use Rattle.sql_tokens.specs.Tokens.{tokens_of}
 use Rattle.sql_tokens.specs.declared.token.Token.{Token}
 use Rattle.sql_expressions.specs.Grammar.{expression}
-use Rattle.sql_expressions.specs.Levels.{Deep}
 use Rattle.sql_expressions.specs.Tree.{Tree}
 use Rattle.sql_expressions.proofs.RuleLaws.{expression_law}
 use Rattle.sql_written.specs.Parentheses.{opened}

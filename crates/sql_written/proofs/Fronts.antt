@@ -1,17 +1,16 @@
 -- What stands at the front of a text: the word, the sign or the constant that is written there.
-use Rattle.std.proofs.Common.{◌≡◌, ℕ, zero, suc, ◌+◌, ◌-◌, ◌*◌, ◌<◌, ◌≤◌, ◌^◌, Bool, true, false, cond, not, ◌&&◌, ◌||◌, ◌==◌, min, slice_index, List, [], ◌∷◌, ◌++◌, length, take, drop, Option, Some, None, refl, sym, ap, ◌∙◌, subst, arith, length-append, append_assoc}
+use Rattle.std.proofs.Common.{◌≡◌, ℕ, suc, ◌+◌, ◌<◌, Bool, true, false, cond, ◌&&◌, ◌==◌, slice_index, List, [], ◌∷◌, ◌++◌, length, take, Some, refl, ap, ◌∙◌, arith, length-append, append_assoc}
 use Rattle.std.proofs.Math.Seq.{take-append_seam}
-use Rattle.std.specs.Fmt.{decimal}
 use Rattle.std.specs.List.{prefix_len}
-use Rattle.std.specs.Prelude.{nat_lt, nat_le}
+use Rattle.std.specs.Prelude.{nat_lt}
 use Rattle.std.proofs.lemmas.List.Elements.{All-nil, All-cons}
 use Rattle.std.proofs.lemmas.Str.{IsUtf8-from_ascii, is_utf8-from_IsUtf8}
 use Rattle.std.proofs.lemmas.Str.Ascii.{IsAscii-from_all}
 use Rattle.std.specs.Prelude.{All}
 use Rattle.std.specs.Str.{is_utf8}
 use Rattle.sql_tokens.specs.Bytes.{belongs, past}
-use Rattle.sql_tokens.specs.Numbers.{apart, begins_number, digits_from, kind_of, number, number_of_digits, parameter, past_exponent, past_fraction}
-use Rattle.sql_tokens.specs.Pieces.{begins_name, front, length_of, mark, name, next_piece}
+use Rattle.sql_tokens.specs.Numbers.{apart, kind_of, number, number_of_digits, parameter, past_exponent, past_fraction}
+use Rattle.sql_tokens.specs.Pieces.{front, length_of, mark, next_piece}
 use Rattle.sql_tokens.specs.Quotes.{closed_name, closed_string, closing, quoted_name, string}
 use Rattle.sql_tokens.specs.Words.{word_kind}
 use Rattle.sql_tokens.specs.Written.{doubled, quoted}
@@ -21,7 +20,7 @@ use Rattle.sql_tokens.specs.declared.bytes.Class.TheVariants as class
 use Rattle.sql_tokens.specs.declared.kind.Kind.{Kind}
 use Rattle.sql_tokens.specs.declared.kind.Kind.TheVariants as kinds
 use Rattle.sql_tokens.specs.declared.piece.Piece.{Piece}
-use Rattle.sql_tokens.specs.declared.piece.Piece.TheVariants.{Gap, Lexeme, Broken}
+use Rattle.sql_tokens.specs.declared.piece.Piece.TheVariants.{Gap, Lexeme}
 
 -- a class of bytes ends where the next byte is not of it
 stops_at : (p : ℕ → Bool) (rest : List ℕ) → p (slice_index rest 0) ≡ false → prefix_len p rest ≡ 0

@@ -1,5 +1,5 @@
 -- What is written of an expression without operands is a text of it.
-use Rattle.std.proofs.Common.{◌≡◌, ℕ, ◌<◌, ◌≤◌, Bool, true, false, cond, not, ◌&&◌, ◌||◌, List, [], ◌∷◌, ◌++◌, length, inl, inr, refl, sym, ap, ◌∙◌, subst, arith, append-nil}
+use Rattle.std.proofs.Common.{◌≡◌, ℕ, ◌≤◌, Bool, true, false, cond, List, [], ◌∷◌, ◌++◌, length, inl, inr, refl, sym, ap, ◌∙◌, subst, arith, append-nil}
 use Rattle.std.specs.Fmt.{decimal}
 use Rattle.std.specs.Prelude.{codes, nat_lt}
 use Rattle.grammar_rules.specs.Reading.{Rule, Class}
@@ -13,12 +13,12 @@ use Rattle.sql_tokens.specs.declared.kind.Kind.TheVariants as kinds
 use Rattle.sql_tokens.specs.declared.token.Token.{Token}
 use Rattle.sql_expressions.specs.Grammar.{any}
 use Rattle.sql_expressions.specs.Tree.{leaf}
-use Rattle.sql_expressions.specs.Words.{a, cast, column, column_of, dotted, either_if, literal, name, past_cast, string}
+use Rattle.sql_expressions.specs.Words.{a, cast, column, column_of, either_if, literal, name, string}
 use Rattle.sql_expressions.specs.declared.leaf.Leaf.{Leaf}
 use Rattle.sql_expressions.specs.declared.leaf.Leaf.TheVariants.{Number, Text, Date, Null, Truth, Parameter, Column, ColumnOf, TableName, TableNameOf}
 use Rattle.sql_expressions.specs.declared.words.TheConstants.{MOST_NAME_BYTES, MOST_TEXT_BYTES}
 use Rattle.sql_expressions.proofs.DepthLaws.{unary_to}
-use Rattle.sql_written.specs.Marks.{Mark, blank, mark}
+use Rattle.sql_written.specs.Marks.{mark}
 use Rattle.sql_written.specs.Spelling as spelled
 use Rattle.sql_written.specs.Spelling.{is_plain}
 use Rattle.sql_written.specs.Writable.{IsLeaf, IsName, IsText}

@@ -1,31 +1,21 @@
 -- No text of a tree opens fewer parentheses or is less deep than what is written of it; and what its tokens can say can
 -- be spelled.
-use Rattle.std.proofs.Common.{◌≡◌, ℕ, zero, suc, ◌+◌, ◌≤◌, Bool, true, false, cond, not, ◌&&◌, ◌||◌, max, List, [], ◌∷◌, ◌++◌, length, inl, inr, ◌⊎◌, refl, sym, ap, ◌∙◌, subst, arith, append-nil}
+use Rattle.std.proofs.Common.{◌≡◌, ℕ, suc, ◌+◌, ◌≤◌, Bool, true, false, cond, not, ◌||◌, max, List, [], ◌∷◌, ◌++◌, refl, sym, ap, ◌∙◌, subst, arith}
 use Rattle.std.specs.Prelude.{nat_lt}
-use Rattle.grammar_rules.specs.Reading.{Class, Rule, one_texts, nothing_texts, both_texts, follow_texts, value_texts, either_texts}
-use Rattle.grammar_rules.specs.Rows.{all_rows, rows_texts, always, step_to, second_of}
-use Rattle.sql_tokens.specs.Contents.{name_in, number_in, string_in}
-use Rattle.sql_tokens.specs.Words.{is, kinds_list}
 use Rattle.sql_tokens.specs.declared.kind.Kind.{Kind}
 use Rattle.sql_tokens.specs.declared.kind.Kind.TheVariants as kinds
-use Rattle.sql_tokens.specs.declared.numbers.TheConstants.{MOST_PARAMETER, NO_BIGINT}
 use Rattle.sql_tokens.specs.declared.token.Token.{Token}
 use Rattle.sql_tokens.proofs.EachKind.{each_kind}
-use Rattle.sql_expressions.specs.Grammar.{Texts, any, endless, nesting, over, nullity_over, product_over, sum_over, conjunction_over, expression_over, test_over}
 use Rattle.sql_expressions.specs.Levels as level
 use Rattle.sql_expressions.specs.Levels.{Deep, Parts}
-use Rattle.sql_expressions.specs.Tree.{Tree, Trees, no_more, and_more, leaf, call, call_of_all, negated, binary, in_list, between, is_null, inverted, all_of, any_of, listed}
-use Rattle.sql_expressions.specs.Words.{a, a_name, cast, column, column_of, dotted, either_if, literal, name, string}
-use Rattle.sql_expressions.specs.declared.leaf.Leaf.{Leaf}
-use Rattle.sql_expressions.specs.declared.leaf.Leaf.TheVariants.{Number, Text, Date, Null, Truth, Parameter, Column, ColumnOf, TableName, TableNameOf}
+use Rattle.sql_expressions.specs.Tree.{Tree, binary, listed}
+use Rattle.sql_expressions.specs.Words.{a}
 use Rattle.sql_expressions.specs.declared.leaf.Operator.{Operator}
 use Rattle.sql_expressions.specs.declared.leaf.Operator.TheVariants as operator
-use Rattle.sql_expressions.proofs.Limited.{Each}
 use Rattle.sql_written.specs.Parentheses.{opened}
-use Rattle.sql_written.specs.Precedence.{Level, disjunction, conjunction, negation, nullity, comparison, test, sum, product, unary, rank, is_looser, level_of, level_of_operator, left_place, right_place, needs_parentheses}
-use Rattle.sql_written.specs.Writable.{HasOne, HasTwo, HasText, HaveTexts, IsLeaf, IsName, IsText, deeper_by, depth, row_depth}
+use Rattle.sql_written.specs.Precedence.{Level, comparison, test, sum, product, unary, rank, level_of, level_of_operator, left_place, right_place, needs_parentheses}
+use Rattle.sql_written.specs.Writable.{HasOne, HasText, HaveTexts, deeper_by, depth, row_depth}
 use Rattle.sql_written.proofs.Costs.{cost, opens, row_opens}
-use Rattle.sql_written.proofs.LevelTexts.{Of, row_texts}
 
 -- arithmetic of parentheses
 deeper_less : (b c : Bool) (n : ℕ) → (b ≡ true → c ≡ true) → deeper_by b n ≤ deeper_by c n
@@ -95,7 +85,7 @@ pub loosen : (s r : Level) (n : ℕ) (E : Type 0) (x : Deep) → rank s ≤ rank
 loosen s r n E x h l =
     let m : cost s x.0 ≤ cost r x.0 = deeper_less (needs_parentheses s x.0) (needs_parentheses r x.0) (opens x.0) (λ e. less_more (rank (level_of x.0)) (rank s) (rank r) h e) in
     let d : deeper_by (needs_parentheses s x.0) (depth x.0) ≤ deeper_by (needs_parentheses r x.0) (depth x.0) =
-        deeper_less (needs_parentheses s x.0) (needs_parentheses r x.0) (depth x.0) (λ e. less_more (rank (level_of x.0)) (rank s) (rank r) h e) in
+    deeper_less (needs_parentheses s x.0) (needs_parentheses r x.0) (depth x.0) (λ e. less_more (rank (level_of x.0)) (rank s) (rank r) h e) in
     record { fewest = omega (arith, m, l.fewest); lowest = omega (arith, d, l.lowest); has = l.has }
 
 pub wider : (s : Level) (n m : ℕ) (E F : Type 0) (x : Deep) → n ≤ m → (F → E) → Least s n E x → Least s m F x

@@ -1,33 +1,28 @@
 -- Every text of a level without limits has at least the parentheses and the depth of what is written of its tree.
-use Rattle.std.proofs.Common.{◌≡◌, ℕ, zero, suc, ◌+◌, ◌≤◌, Bool, true, false, cond, not, ◌&&◌, ◌||◌, max, List, [], ◌∷◌, ◌++◌, length, inl, inr, ◌⊎◌, refl, sym, ap, ◌∙◌, subst, arith, append-nil}
-use Rattle.std.specs.Prelude.{nat_lt}
+use Rattle.std.proofs.Common.{◌≡◌, ℕ, zero, suc, ◌+◌, ◌≤◌, Bool, true, false, cond, not, ◌&&◌, ◌||◌, max, List, [], ◌∷◌, ◌++◌, inl, inr, ◌⊎◌, refl, sym, ap, ◌∙◌, subst, arith}
 use Rattle.grammar_rules.specs.Depths.{AtSome}
 use Rattle.grammar_rules.specs.Reading.{Class, Rule, as_value, nothing, one_texts, nothing_texts, both_texts, follow_texts, value_texts, either_texts}
-use Rattle.grammar_rules.specs.Rows.{all_rows, rows_texts, always, step_to, second_of}
+use Rattle.grammar_rules.specs.Rows.{all_rows, always, second_of}
 use Rattle.sql_tokens.specs.Contents.{name_in, number_in, string_in}
-use Rattle.sql_tokens.specs.Words.{is, kinds_list}
+use Rattle.sql_tokens.specs.Words.{is}
 use Rattle.sql_tokens.specs.declared.kind.Kind.{Kind}
 use Rattle.sql_tokens.specs.declared.kind.Kind.TheVariants as kinds
 use Rattle.sql_tokens.specs.declared.numbers.TheConstants.{MOST_PARAMETER, NO_BIGINT}
 use Rattle.sql_tokens.specs.declared.token.Token.{Token}
-use Rattle.sql_tokens.proofs.EachKind.{each_kind}
 use Rattle.sql_expressions.specs.Grammar.{Texts, any, endless, nesting, over, nullity_over, product_over, sum_over, conjunction_over, expression_over, test_over}
 use Rattle.sql_expressions.specs.Levels as level
 use Rattle.sql_expressions.specs.Levels.{Deep, Parts}
-use Rattle.sql_expressions.specs.Tree.{Tree, Trees, no_more, and_more, leaf, call, call_of_all, negated, binary, in_list, between, is_null, inverted, all_of, any_of, listed}
+use Rattle.sql_expressions.specs.Tree.{leaf, call, call_of_all, negated, in_list, between, is_null, inverted, all_of, any_of, listed}
 use Rattle.sql_expressions.specs.Words.{a, a_literal, a_name, cast, column, column_of, dotted, either_if, is_long_name, is_long_text, literal, literal_of, name, string}
 use Rattle.sql_expressions.specs.declared.leaf.Leaf.{Leaf}
-use Rattle.sql_expressions.specs.declared.leaf.Leaf.TheVariants.{Number, Text, Date, Null, Truth, Parameter, Column, ColumnOf, TableName, TableNameOf}
-use Rattle.sql_expressions.specs.declared.leaf.Operator.{Operator}
-use Rattle.sql_expressions.specs.declared.leaf.Operator.TheVariants as operator
+use Rattle.sql_expressions.specs.declared.leaf.Leaf.TheVariants.{Number, Text, Date, Null, Truth, Column, ColumnOf, TableName, TableNameOf}
 use Rattle.sql_expressions.proofs.Limited.{Each}
 use Rattle.sql_written.specs.Parentheses.{opened}
-use Rattle.sql_written.specs.Precedence.{Level, disjunction, conjunction, negation, nullity, comparison, test, sum, product, unary, rank, is_looser, level_of, level_of_operator, left_place, right_place, needs_parentheses}
-use Rattle.sql_written.specs.Writable.{HasOne, HasTwo, HasText, HaveTexts, IsLeaf, IsName, IsText, deeper_by, depth, row_depth}
-use Rattle.sql_written.proofs.Costs.{cost, opens, row_opens}
+use Rattle.sql_written.specs.Precedence.{Level, disjunction, conjunction, negation, nullity, comparison, test, sum, product, unary, rank, needs_parentheses}
+use Rattle.sql_written.specs.Writable.{HaveTexts, IsLeaf, IsName, IsText, depth, row_depth}
+use Rattle.sql_written.proofs.Costs.{opens, row_opens}
 use Rattle.sql_written.proofs.LevelTexts.{Of, row_texts}
-
-use Rattle.sql_written.proofs.Least.{Least, LeastRow, Stands, comparison_sign, deeper_one, deeper_some, less_more, loosen, one_end, opened_of, opened_one, own_least, product_sign, row_depth_end, row_opens_end, stands_least, sum_sign, texts_end, wider}
+use Rattle.sql_written.proofs.Least.{Least, LeastRow, Stands, comparison_sign, deeper_one, deeper_some, loosen, one_end, opened_of, opened_one, own_least, product_sign, row_depth_end, row_opens_end, stands_least, sum_sign, texts_end, wider}
 
 parted : (R : Token → Type 0) (x y : List Token) → Each R (x ++ y) → Each R x × Each R y
 parted R [] y h = (tt, h)
@@ -126,10 +121,12 @@ module _ (text : List ℕ) (R : Token → Type 0) (good : Spelled text R) where
       let b = w.1 in
       let i = b.4 in
       let c = i.1 in
-      let l = parts_least disjunction (a kinds.Comma) P keeps c.0 i.0.0 c.3 in
-      (opened c.0, omega (arith, opened_of ts b.0 b.1 b.2, opened_of b.1 c.0 c.1 c.2, opened_one w.0.0 b.0 b.3.0 b.3.1),
-      subst (λ (d : Parts). LeastRow disjunction (opened c.0) (Each R ts) d) (sym (w.2 ∙ i.2))
-      (record { fewest = l.fewest; lowest = l.lowest; has = λ e. l.has (parts_of b.1 c.0 c.1 c.2 (parts_of ts b.0 b.1 b.2 e).1).0; some = l.some }))
+      let l = parts_least disjunction (a kinds.Comma) P keeps c.0 i.0.0 c.3 in (
+        opened c.0,
+        omega (arith, opened_of ts b.0 b.1 b.2, opened_of b.1 c.0 c.1 c.2, opened_one w.0.0 b.0 b.3.0 b.3.1),
+        subst (λ (d : Parts). LeastRow disjunction (opened c.0) (Each R ts) d) (sym (w.2 ∙ i.2))
+            (record { fewest = l.fewest; lowest = l.lowest; has = λ e. l.has (parts_of b.1 c.0 c.1 c.2 (parts_of ts b.0 b.1 b.2 e).1).0; some = l.some }),
+      )
 
   -- behind a word that opens nothing
   behind_of : {A : Type 0} (c : Class Token) (P : Of A) (ts : List Token) (v : A) → value_texts (λ (x : Token × A). x.1) (both_texts (one_texts c) P) ts v → (y : List Token) × (opened y ≤ opened ts) × (Each R ts → Each R y) × P y v
@@ -227,6 +224,7 @@ module _ (text : List ℕ) (R : Token → Type 0) (good : Spelled text R) where
       last : (cast TableName).free ts l ⊎ (nothing (Column x.1)).free ts l → IsLeaf l
       last (inl i) = subst IsLeaf (sym i.2) tt
       last (inr i) = subst IsLeaf (sym i.1) n
+
       go : (as_value Date (string text)).free ts l ⊎ (either_if (is x.0 kinds.Tableoid) (a kinds.TypeCast) (cast TableName) (nothing (Column x.1))).free ts l → IsLeaf l
       go (inl i) = subst IsLeaf (sym i.2) (string_has ts i.0 i.1 h)
       go (inr i) = last (of_if (is x.0 kinds.Tableoid) (a kinds.TypeCast) (cast TableName) (nothing (Column x.1)) ts l i)
@@ -411,6 +409,7 @@ module _ (text : List ℕ) (R : Token → Type 0) (good : Spelled text R) where
   -- every depth
   mutual
     unfolding nesting
+
     unary_at : (n : ℕ) → Keeps unary (nesting text n).unary
     unary_at zero ts x w = absurd w
     unary_at (suc n) ts x (inl w) = unary_at n ts x w

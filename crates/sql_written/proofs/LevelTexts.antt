@@ -1,5 +1,5 @@
 -- The texts of each level without limits: what a looser level has of a tighter one, and what operators add.
-use Rattle.std.proofs.Common.{◌≡◌, ℕ, zero, suc, ◌+◌, ◌-◌, ◌≤◌, Bool, true, false, max, List, [], ◌∷◌, ◌++◌, inl, inr, refl, sym, ap, ◌∙◌, subst, arith, append_assoc, append-nil}
+use Rattle.std.proofs.Common.{◌≡◌, ℕ, zero, suc, ◌-◌, Bool, true, false, max, List, [], ◌∷◌, ◌++◌, inl, inr, refl, sym, ap, ◌∙◌, subst, append_assoc, append-nil}
 use Rattle.std.specs.Prelude.{codes}
 use Rattle.grammar_rules.specs.Depths.{AtSome}
 use Rattle.grammar_rules.specs.Reading.{Class, one_texts, nothing_texts, both_texts, follow_texts, value_texts, either_texts}
@@ -7,15 +7,15 @@ use Rattle.grammar_rules.specs.Rows.{all_rows, rows_texts, always, step_to, seco
 use Rattle.sql_tokens.specs.declared.kind.Kind.{Kind}
 use Rattle.sql_tokens.specs.declared.kind.Kind.TheVariants as kinds
 use Rattle.sql_tokens.specs.declared.token.Token.{Token}
-use Rattle.sql_expressions.specs.Grammar.{Texts, any, endless, nesting}
+use Rattle.sql_expressions.specs.Grammar.{Texts, any, nesting}
 use Rattle.sql_expressions.specs.Levels as level
 use Rattle.sql_expressions.specs.Levels.{Deep, Parts}
-use Rattle.sql_expressions.specs.Tree.{Tree, leaf, negated, binary, inverted, is_null}
+use Rattle.sql_expressions.specs.Tree.{Tree, negated, binary, inverted}
 use Rattle.sql_expressions.specs.Words.{a}
 use Rattle.sql_expressions.specs.declared.leaf.Operator.{Operator}
 use Rattle.sql_expressions.specs.declared.leaf.Operator.TheVariants as operator
 use Rattle.sql_expressions.proofs.DepthLaws.{unary_to, negation_to}
-use Rattle.sql_written.specs.Marks.{Mark, blank, mark}
+use Rattle.sql_written.specs.Marks.{Mark}
 use Rattle.sql_written.specs.Precedence.{Level, disjunction, conjunction, negation, nullity, comparison, test, sum, product, unary, rank, is_looser, level_of_operator, left_place, right_place}
 use Rattle.sql_written.specs.Spelling as spelled
 use Rattle.sql_written.specs.Writable.{deeper_by}
@@ -43,10 +43,17 @@ module _ {A B C : Type 0} (sign : Class Token) (first : C → A) (join : A → T
   pub row_on : (ts u : List Token) (l : A) (s : Token) (b : B) → sign s ≡ true → row_texts sign first join Q P ts l → P u b → row_texts sign first join Q P (ts ++ s ∷ u) (join l s b)
   row_on ts u l s b e h k =
       let p = h.1 in
-      let here = subst (λ (x : A). all_rows always join (λ (d : A). both_texts (one_texts sign) P) (first h.0.0) p.4.0 p.1 x) (sym h.2) p.4.1 in
-      ((h.0.0, join l s b),
-      (p.0, p.1 ++ s ∷ u, ap (λ z. z ++ s ∷ u) p.2 ∙ append_assoc p.0 p.1 (s ∷ u), p.3,
-      (p.4.0 ++ (s, b) ∷ [], all_end join (λ (d : A). both_texts (one_texts sign) P) (first h.0.0) l p.4.0 (s, b) p.1 (s ∷ u) here (s ∷ [], u, refl, (refl, e), k))), refl)
+      let here = subst (λ (x : A). all_rows always join (λ (d : A). both_texts (one_texts sign) P) (first h.0.0) p.4.0 p.1 x) (sym h.2) p.4.1 in (
+        (h.0.0, join l s b),
+        (
+          p.0,
+          p.1 ++ s ∷ u,
+          ap (λ z. z ++ s ∷ u) p.2 ∙ append_assoc p.0 p.1 (s ∷ u),
+          p.3,
+          (p.4.0 ++ (s, b) ∷ [], all_end join (λ (d : A). both_texts (one_texts sign) P) (first h.0.0) l p.4.0 (s, b) p.1 (s ∷ u) here (s ∷ [], u, refl, (refl, e), k)),
+        ),
+        refl,
+      )
 
 module _ (text : List ℕ) where
   abbrev endlessly : Texts

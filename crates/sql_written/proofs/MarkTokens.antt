@@ -1,5 +1,5 @@
 -- Marks that stand apart are read as they are written, one after another.
-use Rattle.std.proofs.Common.{◌≡◌, ℕ, zero, suc, ◌+◌, ◌-◌, ◌<◌, ◌≤◌, Bool, true, false, slice_index, List, [], ◌∷◌, ◌++◌, length, take, drop, refl, sym, ap, ◌∙◌, subst, arith, length-append, append_assoc, append-nil}
+use Rattle.std.proofs.Common.{◌≡◌, ℕ, suc, ◌+◌, ◌-◌, ◌<◌, ◌≤◌, false, slice_index, List, [], ◌∷◌, ◌++◌, length, drop, refl, sym, ap, ◌∙◌, subst, arith, length-append, append_assoc}
 use Rattle.std.proofs.Math.Seq.{drop-append_seam}
 use Rattle.sql_tokens.specs.Bytes.{belongs}
 use Rattle.sql_tokens.specs.Pieces.{next_piece}
@@ -7,8 +7,7 @@ use Rattle.sql_tokens.specs.Tokens.{behind, taken, told, tokens_by, tokens_of}
 use Rattle.sql_tokens.specs.declared.bytes.Class.TheVariants as class
 use Rattle.sql_tokens.specs.declared.kind.Kind.{Kind}
 use Rattle.sql_tokens.specs.declared.piece.Piece.{Piece}
-use Rattle.sql_tokens.specs.declared.piece.Piece.TheVariants.{Gap, Lexeme, Broken}
-use Rattle.sql_tokens.specs.declared.token.Token.{Token}
+use Rattle.sql_tokens.specs.declared.piece.Piece.TheVariants.{Gap, Lexeme}
 use Rattle.sql_tokens.proofs.Steps.{none_left, step}
 use Rattle.sql_written.specs.Marks.{Mark, blank, mark, bytes_of, text_of, tokens_at}
 use Rattle.sql_written.proofs.Fronts.{blank_piece}

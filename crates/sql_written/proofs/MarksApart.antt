@@ -1,5 +1,5 @@
 -- Each word, sign and constant stands apart from the bytes that may come behind it.
-use Rattle.std.proofs.Common.{◌≡◌, ℕ, zero, suc, ◌+◌, ◌-◌, ◌*◌, ◌/◌, ◌%◌, ◌^◌, ◌<◌, ◌≤◌, Bool, true, false, cond, not, ◌&&◌, ◌||◌, ◌==◌, min, slice_index, List, [], ◌∷◌, ◌++◌, length, refl, sym, ap, ◌∙◌, subst, arith, length-append}
+use Rattle.std.proofs.Common.{◌≡◌, ℕ, suc, ◌+◌, ◌/◌, ◌%◌, ◌^◌, ◌<◌, ◌≤◌, Bool, true, false, cond, ◌&&◌, ◌==◌, slice_index, List, [], ◌∷◌, ◌++◌, length, refl, sym, ap, ◌∙◌, subst, arith, length-append}
 use Rattle.std.proofs.lemmas.Fmt.{decimal_by_steps, IsAscii-decimal}
 use Rattle.std.proofs.lemmas.Str.{IsUtf8-append, IsUtf8-from_ascii, IsUtf8-from_is_utf8, is_utf8-from_IsUtf8}
 use Rattle.std.specs.Fmt.{decimal}
@@ -9,10 +9,10 @@ use Rattle.std.specs.Str.{is_utf8}
 use Rattle.sql_tokens.specs.Bytes.{belongs}
 use Rattle.sql_tokens.specs.Comments.{minus, slash}
 use Rattle.sql_tokens.specs.Numbers.{digits_from, number_of_digits, with_digit}
-use Rattle.sql_tokens.specs.Pieces.{front, mark as mark_piece, next_piece}
+use Rattle.sql_tokens.specs.Pieces.{front, mark as mark_piece}
 use Rattle.sql_tokens.specs.Signs.{sign}
 use Rattle.sql_tokens.specs.Words.{is_name, word_kind}
-use Rattle.sql_tokens.specs.Written.{doubled, quoted}
+use Rattle.sql_tokens.specs.Written.{quoted}
 use Rattle.sql_tokens.specs.declared.bytes.Class.TheVariants as class
 use Rattle.sql_tokens.specs.declared.kind.Kind.{Kind}
 use Rattle.sql_tokens.specs.declared.kind.Kind.TheVariants as kinds
@@ -20,7 +20,7 @@ use Rattle.sql_tokens.specs.declared.numbers.TheConstants.{MOST_PARAMETER, NO_BI
 use Rattle.sql_tokens.specs.declared.piece.Piece.TheVariants.{Lexeme}
 use Rattle.sql_expressions.specs.declared.leaf.Operator.{Operator}
 use Rattle.sql_expressions.specs.declared.leaf.Operator.TheVariants as operator
-use Rattle.sql_written.specs.Marks.{Mark, blank, mark, bytes_of, text_of}
+use Rattle.sql_written.specs.Marks.{mark, bytes_of}
 use Rattle.sql_written.specs.Spelling as spelled
 use Rattle.sql_written.specs.Spelling.{is_kept, is_plain}
 use Rattle.sql_written.specs.Writable.{IsName, IsText}

@@ -1,5 +1,5 @@
 -- What is written of a tree that can be written is a text of it within the limits.
-use Rattle.std.proofs.Common.{◌≡◌, ℕ, List, [], ◌∷◌, ◌++◌, Result, Ok, Err, refl, subst, sym}
+use Rattle.std.proofs.Common.{◌≡◌, ℕ, List, [], ◌∷◌, Result, Ok, Err, refl, subst, sym}
 use Rattle.std.specs.Prelude.{MatchResult}
 use Rattle.grammar_rules.specs.Parses.{FailsAt, IsOnly, SameNext}
 use Rattle.grammar_rules.proofs.Whole.{one_value}
@@ -16,7 +16,6 @@ use Rattle.sql_expressions.proofs.RuleLaws.{expression_law}
 use Rattle.sql_expressions.proofs.Limited.{all_of_each}
 use Rattle.sql_expressions.proofs.RuleLimits.{all}
 use Rattle.sql_expressions.specs.Limits.{IsShort}
-use Rattle.sql_written.specs.Marks.{tokens_at}
 use Rattle.sql_written.specs.Precedence.{disjunction, level_of}
 use Rattle.sql_written.specs.Writable.{HasText, IsWritable, depth}
 use Rattle.sql_written.specs.Written.{marks, written}

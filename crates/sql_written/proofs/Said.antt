@@ -1,21 +1,20 @@
 -- Tokens that are marks: each of the mark's kind, and with its bytes. So they say what was spelled.
-use Rattle.std.proofs.Common.{◌≡◌, ℕ, zero, suc, ◌+◌, ◌-◌, ◌<◌, ◌≤◌, Bool, true, false, cond, not, ◌&&◌, ◌||◌, ◌==◌, slice_index, List, [], ◌∷◌, ◌++◌, map, length, take, drop, refl, sym, ap, ◌∙◌, subst, arith, length-append, append_assoc, append-nil}
+use Rattle.std.proofs.Common.{◌≡◌, ℕ, suc, ◌+◌, ◌-◌, Bool, true, false, cond, not, ◌&&◌, ◌==◌, List, [], ◌∷◌, ◌++◌, map, length, drop, refl, sym, ap, ◌∙◌, arith, length-append, append_assoc}
 use Rattle.std.proofs.Math.Seq.{drop-append_seam, take-append_seam}
 use Rattle.std.specs.Char.{is_ascii_uppercase, to_ascii_lowercase}
 use Rattle.std.specs.List.{prefix_len}
-use Rattle.std.specs.Prelude.{nat_lt}
 use Rattle.std.specs.Str.{str_eq_ignore_ascii_case}
 use Rattle.sql_tokens.specs.Bytes.{belongs}
 use Rattle.sql_tokens.specs.Contents as contents
 use Rattle.sql_tokens.specs.Quotes.{inside, undoubled}
-use Rattle.sql_tokens.specs.Words.{is, is_name, look_up, word_kind, words_of, two, three, four, five, six, seven, eight, nine, ten, eleven, twelve}
+use Rattle.sql_tokens.specs.Words.{is, look_up, word_kind, words_of, two, three, four, five, six, seven, eight, nine, ten, eleven, twelve}
 use Rattle.sql_tokens.specs.Written.{doubled, quoted}
 use Rattle.sql_tokens.specs.declared.bytes.Class.TheVariants as class
 use Rattle.sql_tokens.specs.declared.kind.Kind.{Kind}
 use Rattle.sql_tokens.specs.declared.kind.Kind.TheVariants as kinds
 use Rattle.sql_tokens.specs.declared.token.Token.{Token}
 use Rattle.sql_tokens.proofs.ReadBack.{undoubled-doubled}
-use Rattle.sql_written.specs.Marks.{Mark, blank, mark, bytes_of, text_of, tokens_at}
+use Rattle.sql_written.specs.Marks.{Mark, blank, mark, text_of, tokens_at}
 use Rattle.sql_written.specs.Spelling.{is_kept}
 use Rattle.sql_written.proofs.MarksApart.{IsPlain}
 
@@ -49,10 +48,14 @@ are_there : (text before : List ℕ) (ms : List Mark) (at : ℕ) → at ≡ leng
 are_there text before [] at e h = refl
 are_there text before (blank ∷ ms) at e h =
     are_there text (before ++ 32 ∷ []) ms (at + 1) (omega (arith, length-append before (32 ∷ []))) (h ∙ sym (append_assoc before (32 ∷ []) (text_of ms)))
-are_there text before (mark k z ∷ ms) at e h =
-    (at, at + length z, tokens_at (at + length z) ms, refl,
-    rw (e, h) (bytes_there before z (text_of ms) k),
-    are_there text (before ++ z) ms (at + length z) (omega (arith, length-append before z)) (h ∙ sym (append_assoc before z (text_of ms))))
+are_there text before (mark k z ∷ ms) at e h = (
+  at,
+  at + length z,
+  tokens_at (at + length z) ms,
+  refl,
+  rw (e, h) (bytes_there before z (text_of ms) k),
+  are_there text (before ++ z) ms (at + length z) (omega (arith, length-append before z)) (h ∙ sym (append_assoc before z (text_of ms))),
+)
 
 pub are_written : (ms : List Mark) → Are (text_of ms) (tokens_at 0 ms) ms
 are_written ms = are_there (text_of ms) [] ms 0 refl refl

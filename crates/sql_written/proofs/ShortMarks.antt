@@ -1,5 +1,5 @@
 -- No name and no string that is written passes its limit.
-use Rattle.std.proofs.Common.{◌≡◌, ℕ, ◌≤◌, Bool, true, false, cond, not, ◌&&◌, List, [], ◌∷◌, ◌++◌, length, refl, sym, ap, ◌∙◌, subst, arith}
+use Rattle.std.proofs.Common.{◌≡◌, ℕ, ◌≤◌, Bool, true, false, cond, not, ◌&&◌, List, [], ◌∷◌, ◌++◌, length, refl, sym, subst}
 use Rattle.std.specs.Prelude.{nat_lt}
 use Rattle.sql_tokens.specs.Quotes.{inside, undoubled}
 use Rattle.sql_tokens.specs.Words.{is, is_name, word_kind}
@@ -23,7 +23,7 @@ use Rattle.sql_written.specs.Spelling.{is_plain}
 use Rattle.sql_written.specs.Writable.{HasText, HaveTexts, IsLeaf, IsName, IsText}
 use Rattle.sql_written.specs.Written.{and_between, behind_minus, behind_part, in_parentheses, marks, more, not_before, or_between, row}
 use Rattle.sql_written.proofs.MarksApart.{plain_is}
-use Rattle.sql_written.proofs.Said.{Are, token, name_said, plain_said, quoted_said}
+use Rattle.sql_written.proofs.Said.{Are, name_said, plain_said, quoted_said}
 use Rattle.sql_written.proofs.LeafTexts.{not_longer}
 
 abbrev ShortMark : Mark → Type 0

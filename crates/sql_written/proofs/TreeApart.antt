@@ -1,5 +1,5 @@
 -- The marks of a tree stand apart, so they are its tokens.
-use Rattle.std.proofs.Common.{◌≡◌, ℕ, ◌≤◌, Bool, true, false, ◌==◌, List, [], ◌∷◌, ◌++◌, refl, sym, ap, ◌∙◌, subst, arith}
+use Rattle.std.proofs.Common.{◌≡◌, ℕ, Bool, true, false, ◌==◌, List, [], ◌∷◌, ◌++◌, refl, sym, ap, ◌∙◌, subst}
 use Rattle.sql_tokens.specs.Bytes.{belongs}
 use Rattle.sql_tokens.specs.Tokens.{tokens_of}
 use Rattle.sql_tokens.specs.declared.bytes.Class.TheVariants as class
@@ -8,13 +8,13 @@ use Rattle.sql_expressions.specs.declared.leaf.Leaf.{Leaf}
 use Rattle.sql_expressions.specs.declared.leaf.Leaf.TheVariants.{Number, Text, Date, Null, Truth, Parameter, Column, ColumnOf, TableName, TableNameOf}
 use Rattle.sql_expressions.specs.declared.leaf.Operator.{Operator}
 use Rattle.sql_expressions.specs.declared.leaf.Operator.TheVariants as operator
-use Rattle.sql_written.specs.Marks.{Mark, blank, mark, bytes_of, text_of, tokens_at}
+use Rattle.sql_written.specs.Marks.{Mark, blank, bytes_of, text_of, tokens_at}
 use Rattle.sql_written.specs.Precedence.{Level, disjunction, conjunction, negation, nullity, sum, unary, left_place, right_place, needs_parentheses}
 use Rattle.sql_written.specs.Spelling as spelled
 use Rattle.sql_written.specs.Writable.{HasOne, HasTwo, HasText, HaveTexts, IsLeaf, IsName}
 use Rattle.sql_written.specs.Written.{and_between, behind_minus, behind_part, in_parentheses, marks, more, not_before, or_between, row, written}
 use Rattle.sql_written.proofs.MarkTokens.{StandApart, StandsApart, apart_append, next, next_append, text_append, tokens_written}
-use Rattle.sql_written.proofs.MarksApart.{Ends, Opens, and_apart, between_apart, blank_ends, cast_apart, closing_apart, closing_ends, comma_apart, comma_ends, date_apart, dot_apart, end_ends, in_apart, is_apart, minus_apart, name_apart, name_first, not_apart, null_apart, number_apart, number_first, opening_apart, opening_ends, or_apart, parameter_apart, regclass_apart, sign_apart, star_apart, string_apart, tableoid_apart, truth_apart}
+use Rattle.sql_written.proofs.MarksApart.{Ends, and_apart, between_apart, blank_ends, cast_apart, closing_apart, closing_ends, comma_apart, comma_ends, date_apart, dot_apart, end_ends, in_apart, is_apart, minus_apart, name_apart, name_first, not_apart, null_apart, number_apart, number_first, opening_apart, opening_ends, or_apart, parameter_apart, regclass_apart, sign_apart, star_apart, string_apart, tableoid_apart, truth_apart}
 
 -- first bytes
 record BeginWell (ms : List Mark) : Type 0 where
@@ -197,9 +197,10 @@ mutual
   apart (call f ts) w n h =
       name_of f 40 w.0 opening_ends also (opening_apart _ also apart_append (row behind_part disjunction ts) (spelled.closing ∷ []) n (row_apart behind_part comma_separates disjunction ts w.1 41 closing_ends) (closing_apart n, tt))
   apart (call_of_all f) w n h = name_of f 40 w opening_ends also (opening_apart _ also (star_apart _ also (closing_apart n also tt)))
-  apart (negated e) w n h =
-      (minus_apart _ (minus_first e w n),
-      behind_apart e _ n (parentheses_apart (needs_parentheses unary e) (marks e) n h (λ m k. apart e w m k)) (begin_parentheses (needs_parentheses unary e) (marks e) (begins e w)))
+  apart (negated e) w n h = (
+    minus_apart _ (minus_first e w n),
+    behind_apart e _ n (parentheses_apart (needs_parentheses unary e) (marks e) n h (λ m k. apart e w m k)) (begin_parentheses (needs_parentheses unary e) (marks e) (begins e w)),
+  )
   apart (binary op x y) w n h =
       apart_append (in_parentheses (needs_parentheses (left_place op) x) (marks x)) _ n
       (parentheses_apart (needs_parentheses (left_place op) x) (marks x) 32 blank_ends (λ m k. apart x w.0 m k))

@@ -1,5 +1,5 @@
 -- What is appended one after another is the text of a tree; and how much is left to write.
-use Rattle.std.proofs.Common.{Box, Global, add-one, drop-cons, take, ◌-◌, zero, ◌≡◌, ℕ, suc, ◌+◌, ◌*◌, ◌<◌, ◌≤◌, Bool, true, false, List, [], ◌∷◌, ◌++◌, Result, Ok, Err, map, length, drop, get_or, refl, sym, ap, ◌∙◌, subst, append_assoc, append-nil, arith}
+use Rattle.std.proofs.Common.{Box, Global, add-one, drop-cons, take, ◌-◌, zero, ◌≡◌, ℕ, suc, ◌+◌, ◌<◌, ◌≤◌, Bool, true, false, List, [], ◌∷◌, ◌++◌, Result, Ok, Err, map, length, drop, get_or, refl, sym, ap, ◌∙◌, subst, append_assoc, arith}
 use Rattle.std.specs.Prelude.{OnOk, nat_lt}
 use Rattle.std.proofs.lemmas.Grind.{common_steps}
 use Rattle.sql_expressions.specs.declared.expr.Expr.{Binary, Between, Expr, In, IsNull, Not}
@@ -9,10 +9,10 @@ use Rattle.sql_expressions.specs.declared.expr.Expr.TheVariants.{rolls-Between, 
 use Rattle.sql_expressions.specs.declared.expr.ExprList.{ExprList}
 use Rattle.sql_expressions.specs.Tree.{layer, list_layer, tree, trees, Tree, Trees, no_more, and_more, leaf, call, call_of_all, negated, binary, in_list, between, is_null, inverted, all_of, any_of, listed}
 use Rattle.sql_expressions.specs.declared.leaf.Operator.{Operator}
-use Rattle.sql_written.specs.Marks.{Mark, blank, mark, bytes_of, text_of}
-use Rattle.sql_written.specs.Precedence.{Level, disjunction, conjunction, negation, nullity, sum, unary, rank, level_of, left_place, right_place, needs_parentheses}
+use Rattle.sql_written.specs.Marks.{Mark, blank, text_of}
+use Rattle.sql_written.specs.Precedence.{Level, disjunction, rank, level_of, left_place, right_place}
 use Rattle.sql_written.specs.Spelling as spelled
-use Rattle.sql_written.specs.Written.{and_between, behind_minus, behind_part, in_parentheses, marks, more, not_before, or_between, row}
+use Rattle.sql_written.specs.Written.{behind_part, in_parentheses, marks, more, not_before, row}
 use Rattle.sql_written.proofs.MarkTokens.{text_append}
 
 -- how much is written of a tree

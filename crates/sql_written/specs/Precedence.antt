@@ -3,7 +3,7 @@
 use Rattle.std.specs.Prelude.{ℕ, Bool, nat_lt}
 use Rattle.sql_expressions.specs.Tree.{Tree, leaf, call, call_of_all, negated, binary, in_list, between, is_null, inverted, all_of, any_of}
 use Rattle.sql_expressions.specs.declared.leaf.Operator.{Operator}
-use Rattle.sql_expressions.specs.declared.leaf.Operator.TheVariants.{Add, Subtract, Multiply, Divide, Remainder, Equal, NotEqual, Less, LessEqual, Greater, GreaterEqual}
+use Rattle.sql_expressions.specs.declared.leaf.Operator.TheVariants.{Add, Subtract, Multiply, Divide, Remainder}
 
 -- from the loosest to the tightest
 pub data Level : Type 0 where

@@ -6,13 +6,21 @@ use sql_expressions::{Expr, Operator};
 
 // How tightly the levels bind, from the loosest.
 pub(crate) const DISJUNCTION: u8 = 0;
+
 pub(crate) const CONJUNCTION: u8 = 1;
+
 pub(crate) const NEGATION: u8 = 2;
+
 pub(crate) const NULLITY: u8 = 3;
+
 const COMPARISON: u8 = 4;
+
 const TEST: u8 = 5;
+
 pub(crate) const SUM: u8 = 6;
+
 const PRODUCT: u8 = 7;
+
 pub(crate) const UNARY: u8 = 8;
 
 fn rank_of_operator(operator: Operator) -> u8

@@ -1,8 +1,7 @@
-use Rattle.std.proofs.Common.{rules, ◌≡◌, ◌++◌, ◌∷◌, [], map, ℕ, ◌+◌, ◌*◌, ◌-◌, ◌<◌, ◌≤◌, length, ap, sym, ◌∙◌, refl, arith, true, take, drop}
+use Rattle.std.proofs.Common.{◌≡◌, map, ◌+◌, ◌-◌, length, ap, ◌∙◌, arith, true, take, drop}
 use Rattle.sql_expressions.specs.declared.expr.Expr.{Binary, Between, In, IsNull, Not}
-use Rattle.sql_expressions.specs.Tree.{listed, tree, trees, and_more, binary, in_list, between, is_null, inverted}
+use Rattle.sql_expressions.specs.Tree.{listed, tree, trees, binary, in_list, between, is_null, inverted}
 use Rattle.sql_written.specs.Rows as rows
-use Rattle.sql_written.specs.Precedence.{level_of, rank}
 use Rattle.sql_written.specs.Written.{marks}
 use Rattle.sql_written.proofs.WriteSteps.{between_is, binary_is, in_is, not_is, null_is, between_text, binary_text, in_text, less_is, list_text, more_step, not_text, null_text, on_ok, parentheses_text, part_less, parts_split, parts_step, row_text}
 use Rattle.sql_written.proofs.write.+write.Goals as goal
@@ -53,7 +52,7 @@ write_tree-returns-in_ok-extend_from_slice-in-Between-2 t c =
     let h0 : tree (Between c.in-Between.is_not c.in-Between.operand c.in-Between.from c.in-Between.to) ≡ between c.in-Between.is_not (tree c.in-Between.operand.value) (tree c.in-Between.from.value) (tree c.in-Between.to.value) = between_is c.in-Between.is_not c.in-Between.operand c.in-Between.from c.in-Between.to in
     let h = ap tree c.in-Between.is ∙ h0 in
     let e : tree c.args.e.now ≡ between c.in-Between.is_not (tree c.deref-in-Between.result.now) (tree c.deref-in-Between-2.result.now) (tree c.deref-in-Between-3.result.now) =
-        cc h in
+    cc h in
     on_ok c.write_operand-in-Between-3.result
     (λ k. between_text c.in-Between.is_not (tree c.deref-in-Between.result.now) (tree c.deref-in-Between-2.result.now) (tree c.deref-in-Between-3.result.now) (tree c.args.e.now) _ _ _ _ _ _ _ _ e
     c.in_ok-write_operand-in-Between.ensures c.in_ok-push-in-Between.ensures.items c.in_ok-write_not-in-Between.ensures c.in_ok-extend_from_slice-in-Between.ensures.items c.in_ok-write_operand-in-Between-2.ensures
