@@ -8,8 +8,10 @@ pub mod LeastTexts
 pub mod LevelTexts
 pub mod MarkTokens
 pub mod MarksApart
+pub mod Quoted
 pub mod ReadsBack
 pub mod Said
 pub mod ShortMarks
+pub mod TokensSay
 pub mod TreeApart
 pub mod WriteSteps

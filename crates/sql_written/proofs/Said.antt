@@ -1,5 +1,5 @@
 -- Tokens that are marks: each of the mark's kind, and with its bytes. So they say what was spelled.
-use Rattle.std.proofs.Common.{◌≡◌, ℕ, suc, ◌+◌, ◌-◌, Bool, true, false, cond, not, ◌&&◌, ◌==◌, List, [], ◌∷◌, ◌++◌, map, length, drop, refl, sym, ap, ◌∙◌, arith, length-append, append_assoc}
+use Rattle.std.proofs.Common.{◌≡◌, ℕ, suc, ◌+◌, ◌-◌, Bool, true, false, cond, not, ◌&&◌, ◌||◌, ◌==◌, List, [], ◌∷◌, ◌++◌, map, length, drop, refl, sym, ap, ◌∙◌, arith, length-append, append_assoc}
 use Rattle.std.proofs.Math.Seq.{drop-append_seam, take-append_seam}
 use Rattle.std.specs.Char.{is_ascii_uppercase, to_ascii_lowercase}
 use Rattle.std.specs.List.{prefix_len}
@@ -72,12 +72,15 @@ inside_quoted q z =
 pub quoted_said : (q : ℕ) (z : List ℕ) → (q == q) ≡ true → undoubled q false (inside (quoted q z)) ≡ z
 quoted_said q z e = ap (undoubled q false) (inside_quoted q z) ∙ undoubled-doubled q z e
 
--- no word is a quoted name
-abbrev without_quotes : List (List ℕ × Kind) → Bool
-without_quotes [] = true
-without_quotes (w ∷ ws) = not (is w.1 kinds.QuotedName) && without_quotes ws
+-- no word is a quoted name, a string or a parameter
+abbrev is_constant : Kind → Bool
+is_constant k = is k kinds.QuotedName || (is k kinds.Text || is k kinds.Parameter)
 
-pick : (f : Bool) (k j : Kind) → is k kinds.QuotedName ≡ false → is j kinds.QuotedName ≡ false → is (cond f k j) kinds.QuotedName ≡ false
+abbrev words_alone : List (List ℕ × Kind) → Bool
+words_alone [] = true
+words_alone (w ∷ ws) = not (is_constant w.1) && words_alone ws
+
+pick : (f : Bool) (k j : Kind) → is_constant k ≡ false → is_constant j ≡ false → is_constant (cond f k j) ≡ false
 pick true k j g h = g
 pick false k j g h = h
 
@@ -89,17 +92,17 @@ second_of_both : (a b : Bool) → (not a && b) ≡ true → b ≡ true
 second_of_both true b h = cc
 second_of_both false b h = h
 
-look_up_unquoted : (ws : List (List ℕ × Kind)) (word : List ℕ) → without_quotes ws ≡ true → is (look_up ws word) kinds.QuotedName ≡ false
-look_up_unquoted [] word h = refl
-look_up_unquoted (w ∷ ws) word h =
-    pick (str_eq_ignore_ascii_case w.0 word) w.1 (look_up ws word) (first_of_both (is w.1 kinds.QuotedName) (without_quotes ws) h) (look_up_unquoted ws word (second_of_both (is w.1 kinds.QuotedName) (without_quotes ws) h))
+look_up_word : (ws : List (List ℕ × Kind)) (word : List ℕ) → words_alone ws ≡ true → is_constant (look_up ws word) ≡ false
+look_up_word [] word h = refl
+look_up_word (w ∷ ws) word h =
+    pick (str_eq_ignore_ascii_case w.0 word) w.1 (look_up ws word) (first_of_both (is_constant w.1) (words_alone ws) h) (look_up_word ws word (second_of_both (is_constant w.1) (words_alone ws) h))
 
-choose : (b : Bool) (xs ys : List (List ℕ × Kind)) → without_quotes xs ≡ true → without_quotes ys ≡ true → without_quotes (cond b xs ys) ≡ true
+choose : (b : Bool) (xs ys : List (List ℕ × Kind)) → words_alone xs ≡ true → words_alone ys ≡ true → words_alone (cond b xs ys) ≡ true
 choose true xs ys h g = h
 choose false xs ys h g = g
 
-no_quotes_of : (n : ℕ) → without_quotes (words_of n) ≡ true
-no_quotes_of n =
+words_alone_of : (n : ℕ) → words_alone (words_of n) ≡ true
+words_alone_of n =
     choose (n == 2) two _ refl
     (choose (n == 3) three _ refl
     (choose (n == 4) four _ refl
@@ -112,9 +115,23 @@ no_quotes_of n =
     (choose (n == 11) eleven _ refl
     (choose (n == 12) twelve _ refl refl))))))))))
 
-pub word_unquoted : (word : List ℕ) → is (word_kind word) kinds.QuotedName ≡ false
+no_constant : (word : List ℕ) → is_constant (word_kind word) ≡ false
 unfolding word_kind
-word_unquoted word = look_up_unquoted (words_of (length word)) word (no_quotes_of (length word))
+no_constant word = look_up_word (words_of (length word)) word (words_alone_of (length word))
+
+three_false : (a b c : Bool) → (a || (b || c)) ≡ false → (a ≡ false) × (b ≡ false) × (c ≡ false)
+three_false true b c h = cc
+three_false false true c h = cc
+three_false false false c h = (refl, refl, h)
+
+pub word_unquoted : (word : List ℕ) → is (word_kind word) kinds.QuotedName ≡ false
+word_unquoted word = (three_false (is (word_kind word) kinds.QuotedName) (is (word_kind word) kinds.Text) (is (word_kind word) kinds.Parameter) (no_constant word)).0
+
+pub word_no_text : (word : List ℕ) → is (word_kind word) kinds.Text ≡ false
+word_no_text word = (three_false (is (word_kind word) kinds.QuotedName) (is (word_kind word) kinds.Text) (is (word_kind word) kinds.Parameter) (no_constant word)).1
+
+pub word_no_parameter : (word : List ℕ) → is (word_kind word) kinds.Parameter ≡ false
+word_no_parameter word = (three_false (is (word_kind word) kinds.QuotedName) (is (word_kind word) kinds.Text) (is (word_kind word) kinds.Parameter) (no_constant word)).2
 
 -- a plain name is folded to itself
 lower_kept : (b : ℕ) → is_kept b ≡ true → to_ascii_lowercase b ≡ b
