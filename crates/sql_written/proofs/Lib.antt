@@ -2,6 +2,7 @@ pub mod Back
 pub mod Costs
 pub mod Fewest
 pub mod Fronts
+pub mod GivesWritable
 pub mod LeafTexts
 pub mod Least
 pub mod LeastTexts
@@ -14,4 +15,5 @@ pub mod Said
 pub mod ShortMarks
 pub mod TokensSay
 pub mod TreeApart
+pub mod Utf8
 pub mod WriteSteps
