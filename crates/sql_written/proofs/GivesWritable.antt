@@ -1,17 +1,14 @@
 -- What a parse gives can be written.
-use Rattle.std.proofs.Common.{◌≡◌, ℕ, zero, suc, ◌+◌, ◌-◌, ◌<◌, ◌≤◌, Bool, true, false, cond, not, ◌&&◌, ◌||◌, ◌==◌, slice_index, List, [], ◌∷◌, ◌++◌, map, length, refl, sym, ap, ◌∙◌, subst, arith, length-append}
+use Rattle.std.proofs.Common.{get_or, ◌≡◌, ℕ, zero, suc, ◌<◌, ◌≤◌, Bool, true, false, cond, not, ◌&&◌, List, [], ◌∷◌, map, length, refl, sym, ap, ◌∙◌, subst, arith}
 use lib.ListN.{length-map}
 use Rattle.std.specs.Char.{to_ascii_lowercase}
-use Rattle.std.specs.List.{prefix_len}
-use Rattle.std.specs.Prelude.{All, Contains, nat_lt}
+use Rattle.std.specs.Prelude.{Contains, nat_lt}
 use Rattle.std.specs.Str.{is_utf8}
-use Rattle.sql_tokens.specs.Bytes.{belongs}
-use Rattle.sql_tokens.specs.Contents.{bytes_of, name_in, number_in, string_in}
+use Rattle.sql_tokens.specs.Contents.{bytes_of, name_in, string_in}
 use Rattle.sql_tokens.specs.Quotes.{inside, undoubled}
 use Rattle.sql_tokens.specs.Tokens.{tokens_of}
 use Rattle.sql_tokens.specs.Words.{is, is_name, word_kind}
-use Rattle.sql_tokens.specs.Written.{doubled, quoted}
-use Rattle.sql_tokens.specs.declared.bytes.Class.TheVariants as class
+use Rattle.sql_tokens.specs.Written.{quoted}
 use Rattle.sql_tokens.specs.declared.kind.Kind.{Kind}
 use Rattle.sql_tokens.specs.declared.kind.Kind.TheVariants as kinds
 use Rattle.sql_tokens.specs.declared.token.Token.{Token}
@@ -22,7 +19,7 @@ use Rattle.sql_expressions.specs.Limits.{IsShort, StandIn}
 use Rattle.sql_expressions.specs.Tree.{Tree}
 use Rattle.sql_expressions.specs.Words.{a, a_name}
 use Rattle.sql_expressions.specs.declared.words.TheConstants.{MOST_NAME_BYTES, MOST_TEXT_BYTES}
-use Rattle.sql_expressions.proofs.Limited.{Each, each_of_all}
+use Rattle.sql_expressions.proofs.Limited.{each_of_all}
 use Rattle.sql_expressions.proofs.RuleLimits.{within}
 use Rattle.sql_written.specs.Marks.{bytes_of as bytes_of_mark, mark}
 use Rattle.sql_written.specs.Precedence.{disjunction, needs_parentheses}
@@ -31,10 +28,9 @@ use Rattle.sql_written.specs.Spelling.{is_kept, is_plain}
 use Rattle.sql_written.specs.Writable.{IsName, IsText, IsWritable, depth}
 use Rattle.sql_written.proofs.Least.{deeper_some}
 use Rattle.sql_written.proofs.LeastTexts.{Spelled, least}
-use Rattle.sql_written.proofs.MarksApart.{plain_is, plain_parts}
-use Rattle.sql_written.proofs.Quoted.{IsQuoted}
+use Rattle.sql_written.proofs.MarksApart.{plain_parts}
 use Rattle.sql_written.proofs.Said.{quoted_said}
-use Rattle.sql_written.proofs.TokensSay.{IsWord, Says, Tells, token_tells}
+use Rattle.sql_written.proofs.TokensSay.{IsWord, Tells, token_tells}
 use Rattle.sql_written.proofs.Utf8.{inside_utf8, lower_utf8, quoted_utf8, single_lower, single_part}
 
 -- names
@@ -118,3 +114,12 @@ module _ (text : List ℕ) where
       let l = least text Fits fit_spelled ts (tree, w.0) (free_back ts (tree, w.0) w.1) in
       let each = each_of_all Fits ts (λ k d i. (there k d i, w.3 k d i)) in
       (l.has each, omega (arith, l.lowest, deeper_some (needs_parentheses disjunction tree) (depth tree), w.2))
+
+-- the tokens of a text are its own
+same_element : (ts : List Token) (k : ℕ) (d e : Token) → k < length ts → get_or ts k d ≡ get_or ts k e
+same_element [] k d e h = absurd (omega arith)
+same_element (t ∷ ts) zero d e h = refl
+same_element (t ∷ ts) (suc k) d e h = same_element ts k d e (omega arith)
+
+pub all_stand_in : (text : List ℕ) → StandIn text (tokens_of text)
+all_stand_in text k d h = (k, h, same_element (tokens_of text) k (get_or (tokens_of text) k d) d h)

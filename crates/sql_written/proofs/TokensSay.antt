@@ -1,5 +1,5 @@
 -- What the tokens of a text say: a word is one by its bytes, and a quoted text has each quote twice.
-use Rattle.std.proofs.Common.{◌≡◌, ℕ, zero, suc, ◌+◌, ◌-◌, ◌<◌, ◌≤◌, Bool, true, false, cond, not, ◌&&◌, ◌||◌, ◌==◌, slice_index, List, [], ◌∷◌, ◌++◌, length, take, drop, Option, Some, None, refl, sym, ap, ◌∙◌, subst, arith, drop-drop, eqb-true, length-append}
+use Rattle.std.proofs.Common.{◌≡◌, ℕ, zero, suc, ◌+◌, ◌-◌, ◌<◌, ◌≤◌, Bool, true, false, cond, ◌&&◌, ◌||◌, ◌==◌, slice_index, List, [], ◌∷◌, length, take, drop, Option, Some, None, refl, sym, ap, ◌∙◌, subst, arith, drop-drop, eqb-true, length-append}
 use Rattle.std.specs.List.{prefix_len}
 use Rattle.std.specs.Prelude.{Contains, nat_lt}
 use Rattle.std.specs.Str.{is_utf8}
@@ -12,7 +12,7 @@ use Rattle.sql_tokens.specs.Quotes.{closed_name, closed_string, closing, quoted_
 use Rattle.sql_tokens.specs.Signs.{greater, less, sign, single}
 use Rattle.sql_tokens.specs.Tokens.{behind, taken, told, tokens_by, tokens_of}
 use Rattle.sql_tokens.specs.Words.{is, is_name, word_kind}
-use Rattle.sql_tokens.specs.Written.{doubled, quoted}
+use Rattle.sql_tokens.specs.Written.{doubled}
 use Rattle.sql_tokens.specs.declared.bytes.Class.TheVariants as class
 use Rattle.sql_tokens.specs.declared.kind.Kind.{Kind}
 use Rattle.sql_tokens.specs.declared.kind.Kind.TheVariants as kinds

@@ -1,5 +1,6 @@
 ghost use Rattle.grammar_rules.specs.Parses.{IsOnly};
 ghost use Rattle.sql_expressions.specs.Grammar as grammar;
+ghost use Rattle.sql_expressions.specs.Limits.{StandIn};
 ghost use Rattle.sql_expressions.specs.Parsed.{ParsesText};
 ghost use Rattle.sql_expressions.specs.Tree as expressions;
 ghost use Rattle.sql_expressions.specs.Tree.{Tree};
@@ -12,6 +13,12 @@ ghost use Rattle.sql_written.specs.Parentheses.{opened};
 ghost use Rattle.sql_written.specs.Writable.{IsWritable};
 ghost use Rattle.sql_written.specs.Written.{written};
 ghost use Rattle.std.specs.Prelude.{◌≡◌, ◌≤◌, ℕ, List, MatchResult, Result};
+
+/// What a parse gives can be written: the whole of a text, or some of its tokens. The call does nothing.
+pub fn parses_can_be_written()
+    ensures whole { (text : List ℕ) (tree : Tree) → (grammar.expression text).texts (tokens_of text) tree → IsWritable tree }
+    ensures part { (text : List ℕ) (tokens : List OneToken) (tree : Tree) → StandIn text tokens → (grammar.expression text).texts tokens tree → IsWritable tree }
+{}
 
 /// What is written of a tree is a text of that tree and of no other, within the limits. So a parser
 /// answers the tree, unless its memory runs out. The call does nothing.

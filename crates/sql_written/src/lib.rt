@@ -8,10 +8,11 @@
 //! `specs/Written.antt` says what is written of each tree as a list of marks: words, signs and
 //! constants, with their kinds, and the blanks between them. Each mark stands apart from what comes
 //! behind it, so the tokens of the text are the marks. `specs/Writable.antt` says which trees can be
-//! written: those that a parse can give.
+//! written.
 //!
-//! `reads_back` says that the text of a tree is read as that tree and no other, and
-//! `no_fewer_parentheses` that no text of the tree opens fewer.
+//! `parses_can_be_written` says that these are all that a parse gives, `reads_back` that the text of
+//! such a tree is read as that tree and no other, and `no_fewer_parentheses` that no text of the tree
+//! opens fewer.
 #![tactic(auto)]
 
 mod laws;
@@ -20,5 +21,5 @@ mod row;
 mod spelling;
 mod write;
 
-pub use laws::{no_fewer_parentheses, reads_back};
+pub use laws::{no_fewer_parentheses, parses_can_be_written, reads_back};
 pub use write::write_expression;
