@@ -29,10 +29,12 @@ mod token;
 mod words;
 mod written;
 
+pub use bytes::{Class, belongs};
 pub use contents::{called, name_of, number_of, string_of};
 pub use kind::{Kind, is_left_out, is_name, same_kind};
 pub use reader::read_tokens;
 pub use token::Token;
+pub use words::word_kind;
 pub use written::{names_read_back, strings_read_back};
 
 #[cfg(test)]

@@ -1,0 +1,61 @@
+-- What is written of a tree that can be written is a text of it within the limits.
+use Rattle.std.proofs.Common.{◌≡◌, ℕ, List, [], ◌∷◌, Result, Ok, Err, refl, subst, sym}
+use Rattle.std.specs.Prelude.{MatchResult}
+use Rattle.grammar_rules.specs.Parses.{FailsAt, IsOnly, SameNext}
+use Rattle.grammar_rules.proofs.Whole.{one_value}
+use Rattle.sql_tokens.specs.Tokens.{tokens_of}
+use Rattle.sql_tokens.specs.declared.token.Token.{Token}
+use Rattle.sql_expressions.specs.Grammar.{any, deep_expression, expression}
+use Rattle.sql_expressions.specs.Levels.{Deep}
+use Rattle.sql_expressions.specs.Parsed.{ParsesText}
+use Rattle.sql_expressions.specs.Tree.{Tree, tree}
+use Rattle.sql_expressions.specs.declared.expr.Expr.{Expr}
+use Rattle.sql_expressions.specs.declared.refused.ParseRefused.{ParseRefused}
+use Rattle.sql_expressions.specs.declared.refused.ParseRefused.TheVariants.{NoMemory, Syntax, Left, TooMany}
+use Rattle.sql_expressions.proofs.RuleLaws.{expression_law}
+use Rattle.sql_expressions.proofs.Limited.{all_of_each}
+use Rattle.sql_expressions.proofs.RuleLimits.{all}
+use Rattle.sql_expressions.specs.Limits.{IsShort}
+use Rattle.sql_written.specs.Precedence.{disjunction, level_of}
+use Rattle.sql_written.specs.Writable.{HasText, IsWritable, depth}
+use Rattle.sql_written.specs.Written.{marks, written}
+use Rattle.sql_written.proofs.Back.{back}
+use Rattle.sql_written.proofs.LevelTexts.{climb, loosest}
+use Rattle.sql_written.proofs.Said.{Are, are_written}
+use Rattle.sql_written.proofs.ShortMarks.{short, short_tokens}
+use Rattle.sql_written.proofs.TreeApart.{tree_tokens}
+
+pub tokens_are_marks : (e : Tree) → HasText e → Are (written e) (tokens_of (written e)) (marks e)
+tokens_are_marks e w = subst (λ ts. Are (written e) ts (marks e)) (sym (tree_tokens e w)) (are_written (marks e))
+
+-- without limits, of the depth that the tree has as it is written
+free_at : (text : List ℕ) (ts : List Token) (x : Deep) → (any text).expression.texts ts x → (deep_expression text).free ts x
+free_at text ts x h = h
+
+pub reads_freely : (e : Tree) → HasText e → (deep_expression (written e)).free (tokens_of (written e)) (e, depth e)
+reads_freely e w =
+    let ts = tokens_of (written e) in
+    free_at (written e) ts (e, depth e) (climb (written e) (level_of e) disjunction ts (e, depth e) (loosest (written e) (level_of e)) (back (written e) e w ts (tokens_are_marks e w)))
+
+pub reads : (e : Tree) → IsWritable e → (expression (written e)).texts (tokens_of (written e)) e
+reads e w =
+    let ts = tokens_of (written e) in
+    all (written e) ts e (depth e, reads_freely e w.0, w.1, all_of_each (IsShort (written e)) ts (short_tokens (written e) (marks e) ts (tokens_are_marks e w.0) (short e w.0)))
+
+pub only : (e : Tree) → IsWritable e → IsOnly (expression (written e)).texts (expression (written e)).free (tokens_of (written e)) e
+only e w = record { text = reads e w; only = λ b h. one_value (expression_law (written e)) (tokens_of (written e)) e b (reads e w) h }
+
+-- so a parser answers the tree, unless it has no memory
+same_next : (ts : List Token) → SameNext ts ts
+same_next [] = refl
+same_next (t ∷ ts) = (ts, refl)
+
+never_fails : {P Q : List Token → Tree → Type 0} (ts : List Token) (left : ℕ) (e : Tree) → Q ts e → FailsAt P Q ts left → ⊥
+never_fails {Q = Q} ts left e h f = f.no_more f.after e (same_next f.after) (subst (λ x. Q x e) f.whole h)
+
+pub parsed : (e : Tree) → IsWritable e → (r : Result Expr ParseRefused) → ParsesText expression tree (written e) r → MatchResult r (λ x. tree x ≡ e) (λ x. x ≡ NoMemory)
+parsed e w (Ok x) h = (only e w).only (tree x) ((expression_law (written e)).shape.within (tokens_of (written e)) (tree x) h.text)
+parsed e w (Err NoMemory) h = refl
+parsed e w (Err (Syntax at)) h = absurd (never_fails (tokens_of (written e)) h.0 e ((expression_law (written e)).shape.within (tokens_of (written e)) e (reads e w)) h.1)
+parsed e w (Err (Left word)) h = absurd (never_fails (tokens_of (written e)) h.0 e ((expression_law (written e)).shape.within (tokens_of (written e)) e (reads e w)) h.1)
+parsed e w (Err (TooMany which)) h = absurd (never_fails (tokens_of (written e)) h.0 e (reads e w) h.1)

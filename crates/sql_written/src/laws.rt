@@ -1,0 +1,33 @@
+ghost use Rattle.grammar_rules.specs.Parses.{IsOnly};
+ghost use Rattle.sql_expressions.specs.Grammar as grammar;
+ghost use Rattle.sql_expressions.specs.Limits.{StandIn};
+ghost use Rattle.sql_expressions.specs.Parsed.{ParsesText};
+ghost use Rattle.sql_expressions.specs.Tree as expressions;
+ghost use Rattle.sql_expressions.specs.Tree.{Tree};
+ghost use Rattle.sql_expressions.specs.declared.expr.Expr.{Expr as OneExpr};
+ghost use Rattle.sql_expressions.specs.declared.refused.ParseRefused.{ParseRefused as OneRefusal};
+ghost use Rattle.sql_expressions.specs.declared.refused.ParseRefused.TheVariants as refusals;
+ghost use Rattle.sql_tokens.specs.Tokens.{tokens_of};
+ghost use Rattle.sql_tokens.specs.declared.token.Token.{Token as OneToken};
+ghost use Rattle.sql_written.specs.Parentheses.{opened};
+ghost use Rattle.sql_written.specs.Writable.{IsWritable};
+ghost use Rattle.sql_written.specs.Written.{written};
+ghost use Rattle.std.specs.Prelude.{◌≡◌, ◌≤◌, ℕ, List, MatchResult, Result};
+
+/// What a parse gives can be written: the whole of a text, or some of its tokens. The call does nothing.
+pub fn parses_can_be_written()
+    ensures whole { (text : List ℕ) (tree : Tree) → (grammar.expression text).texts (tokens_of text) tree → IsWritable tree }
+    ensures part { (text : List ℕ) (tokens : List OneToken) (tree : Tree) → StandIn text tokens → (grammar.expression text).texts tokens tree → IsWritable tree }
+{}
+
+/// What is written of a tree is a text of that tree and of no other, within the limits. So a parser
+/// answers the tree, unless its memory runs out. The call does nothing.
+pub fn reads_back()
+    ensures text { (tree : Tree) → IsWritable tree → IsOnly (grammar.expression (written tree)).texts (grammar.expression (written tree)).free (tokens_of (written tree)) tree }
+    ensures parsed { (tree : Tree) (result : Result OneExpr OneRefusal) → IsWritable tree → ParsesText grammar.expression expressions.tree (written tree) result → MatchResult result (λ e. expressions.tree e ≡ tree) (λ e. e ≡ refusals.NoMemory) }
+{}
+
+/// No text of a tree opens fewer parentheses than what is written of it. The call does nothing.
+pub fn no_fewer_parentheses()
+    ensures { (tree : Tree) (text : List ℕ) (tokens : List OneToken) → IsWritable tree → (grammar.expression text).texts tokens tree → opened (tokens_of (written tree)) ≤ opened tokens }
+{}
