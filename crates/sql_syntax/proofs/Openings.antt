@@ -15,32 +15,33 @@ use Rattle.sql_commands.specs.Trees.{CommandTree, resets}
 use Rattle.sql_commands.proofs.CommandLaws.{setting_value_law, create_law, drop_law, alter_law, lock_law, deallocate_law}
 use Rattle.sql_queries.specs.Grammar as queries
 use Rattle.sql_queries.specs.Trees.{QueryTree, selects, rows}
-use Rattle.sql_queries.proofs.QueryLaws.{select_law, insert_law, settings_law, delete_law, prepare_law, execute_law, explain_law}
+use Rattle.sql_queries.proofs.QueryLaws.{select_law, insert_law, delete_law, prepare_law, execute_law, explain_law}
+use Rattle.sql_queries.proofs.SettingLaws.{settings_law}
 use Rattle.sql_syntax.specs.Grammar.{begins_statement, statement}
 use Rattle.sql_syntax.specs.Trees as trees
 use Rattle.sql_syntax.proofs.Starts.{Starts, starts_value, starts_either, starts_both, starts_one, starts_behind, restart}
 
 -- a rule that begins with a word, by its law
 word_starts : {A : Type 0} {f : Class Token} {n : Bool} {c : Class Token} (k : Kind) (p : Rule Token A) → Law (k >> p) f n c → Starts (k >> p).free (a k)
-word_starts k p l = restart (a k) _ _ (l.shape.within l.shape.text l.shape.value l.shape.sample)
+word_starts k p l = restart p.free (a k) _ _ (l.shape.within l.shape.text l.shape.value l.shape.sample)
 
 valued_starts : {A B : Type 0} {f : Class Token} {n : Bool} {c : Class Token} (g : A → B) (k : Kind) (p : Rule Token A) → Law (as_value g (k >> p)) f n c → Starts (as_value g (k >> p)).free (a k)
-valued_starts g k p l = starts_value g (restart (a k) _ _ (l.shape.within l.shape.text l.shape.value l.shape.sample).1)
+valued_starts g k p l = starts_value g (restart p.free (a k) _ _ (l.shape.within l.shape.text l.shape.value l.shape.sample).1)
 
 -- behind a word, a text that a law has
 behind_starts : {A : Type 0} {p : Rule Token A} {f : Class Token} {n : Bool} {c : Class Token} (k : Kind) → Law p f n c → Starts (k >> p).free (a k)
-behind_starts k l = starts_behind (a k) l.shape.text l.shape.value (l.shape.within l.shape.text l.shape.value l.shape.sample)
+behind_starts {p = p} k l = starts_behind p.free (a k) l.shape.text l.shape.value (l.shape.within l.shape.text l.shape.value l.shape.sample)
 
 module _ (text : List ℕ) where
   starts_begin : Starts commands.begin.free commands.begins_begin
   starts_begin =
       starts_value _
-      (starts_both [] None (inr (refl, refl))
+      (starts_both commands.isolation_level.free [] None (inr (refl, refl))
       (starts_either (behind_starts word.Begin (maybe_law commands.is_noise (sample word.Work) refl))
       (starts_value (λ (t : Token). None) (behind_starts word.Start (token (a word.Transaction) (sample word.Transaction) refl)))))
 
   starts_finish : Starts commands.finish.free commands.is_finish
-  starts_finish = starts_value commands.finished (starts_both [] None (inr (refl, refl)) (starts_one commands.is_finish))
+  starts_finish = starts_value commands.finished (starts_both commands.noise.free [] None (inr (refl, refl)) (starts_one commands.is_finish))
 
   starts_set : Starts (commands.set text).free commands.begins_set
   starts_set =
@@ -60,7 +61,8 @@ module _ (text : List ℕ) where
   starts_rows =
       starts_either (starts_value selects (valued_starts queries.select_value word.Select _ (select_law text)))
       (starts_either (valued_starts queries.insert_value word.Insert _ (insert_law text))
-      (starts_either (starts_value queries.update_value (starts_both [] None (inr (refl, refl)) (restart (a word.Update) _ _ ((settings_law text).shape.within _ _ (settings_law text).shape.sample))))
+      (starts_either (starts_value queries.update_value (starts_both (queries.condition text).free [] None (inr (refl, refl))
+      (restart _ (a word.Update) _ _ ((settings_law text).shape.within _ _ (settings_law text).shape.sample))))
       (valued_starts queries.delete_value word.Delete _ (delete_law text))))
 
   starts_query : Starts (queries.query text).free (λ t. queries.begins_row_statement t || (a word.Prepare t || (a word.Execute t || a word.Explain t)))

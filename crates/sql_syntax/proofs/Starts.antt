@@ -24,16 +24,16 @@ starts_either {A} {P = P} {Q = Q} {c = c} {d = d} s s' = record { text = λ t h.
     go t false e h = let w = s'.text t (right_of (c t) (d t) e h) in (w.0, w.1, inr w.2)
 
 -- a text of the second is there
-pub starts_both : {A B : Type 0} {P : Of A} {Q : Of B} {c : Class Token} (y : List Token) (b : B) → Q y b → Starts P c → Starts (both_texts P Q) c
-starts_both y b q s = record { text = λ t h. let w = s.text t h in (w.0 ++ y, (w.1, b), (t ∷ w.0, y, refl, w.2, q)) }
+pub starts_both : {A B : Type 0} {P : Of A} (Q : Of B) {c : Class Token} (y : List Token) (b : B) → Q y b → Starts P c → Starts (both_texts P Q) c
+starts_both Q y b q s = record { text = λ t h. let w = s.text t h in (w.0 ++ y, (w.1, b), (t ∷ w.0, y, refl, w.2, q)) }
 
 pub starts_one : (c : Class Token) → Starts (one_texts c) c
 starts_one c = record { text = λ t h. ([], t, (refl, h)) }
 
 -- behind any token of the class, a text that is there
-pub starts_behind : {A : Type 0} {P : Of A} (c : Class Token) (y : List Token) (b : A) → P y b → Starts (value_texts (λ (x : Token × A). x.1) (both_texts (one_texts c) P)) c
-starts_behind c y b p = record { text = λ t h. (y, b, ((t, b), (t ∷ [], y, refl, (refl, h), p), refl)) }
+pub starts_behind : {A : Type 0} (P : Of A) (c : Class Token) (y : List Token) (b : A) → P y b → Starts (value_texts (λ (x : Token × A). x.1) (both_texts (one_texts c) P)) c
+starts_behind P c y b p = record { text = λ t h. (y, b, ((t, b), (t ∷ [], y, refl, (refl, h), p), refl)) }
 
 -- the same, from a text of the whole
-pub restart : {A : Type 0} {P : Of A} (c : Class Token) (ts : List Token) (x : A) → value_texts (λ (y : Token × A). y.1) (both_texts (one_texts c) P) ts x → Starts (value_texts (λ (y : Token × A). y.1) (both_texts (one_texts c) P)) c
-restart c ts x w = starts_behind c w.1.1 w.0.1 w.1.4
+pub restart : {A : Type 0} (P : Of A) (c : Class Token) (ts : List Token) (x : A) → value_texts (λ (y : Token × A). y.1) (both_texts (one_texts c) P) ts x → Starts (value_texts (λ (y : Token × A). y.1) (both_texts (one_texts c) P)) c
+restart P c ts x w = starts_behind P c w.1.1 w.0.1 w.1.4

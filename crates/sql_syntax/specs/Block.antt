@@ -47,6 +47,10 @@ IsRefused text (Syntax at) = (left : ℕ) × IsMisfit text left (Syntax at)
 IsRefused text (Left word) = (left : ℕ) × IsMisfit text left (Left word)
 IsRefused text (TooMany w) = (left : ℕ) × IsBeyond text left w
 
+-- Up to some token the text begins a block, and with it none within the limits.
+abbrev pub Stops : List ℕ → Type 0
+Stops text = (left : ℕ) × FailsAt (block text).texts (block text).texts (tokens_of text) left
+
 -- the text is a block of the statements answered, and of no others; or it is refused
 abbrev pub ParsesBlock : {X : Type 0} → (X → List StatementTree) → List ℕ → Result X ParseRefused → Type 0
 ParsesBlock view text (Ok x) = IsOnly (block text).texts (block text).free (tokens_of text) (view x)

@@ -16,10 +16,11 @@ use Rattle.sql_syntax.specs.declared.parse.TheConstants.{MOST_STATEMENTS}
 abbrev pub begins_query : Class Token
 begins_query t = begins_row_statement t || (a word.Prepare t || one_of word.Execute word.Explain t)
 
+abbrev pub begins_other_command : Class Token
+begins_other_command t = a word.Create t || (a word.Drop t || (a word.Alter t || (a word.Lock t || a word.Deallocate t)))
+
 abbrev pub begins_command : Class Token
-begins_command t =
-    begins_begin t || (is_finish t || (begins_set t
-    || (a word.Create t || (a word.Drop t || (a word.Alter t || (a word.Lock t || a word.Deallocate t))))))
+begins_command t = begins_begin t || (is_finish t || (begins_set t || begins_other_command t))
 
 abbrev pub begins_statement : Class Token
 begins_statement t = begins_query t || begins_command t

@@ -1,5 +1,7 @@
-ghost use Rattle.std.specs.Prelude.{◌≡◌, ℕ, IfOk, List, map};
+ghost use Rattle.std.specs.Prelude.{◌≡◌, ◌⊎◌, ℕ, IfOk, List, map};
 ghost use Rattle.sql_expressions.specs.Parsed as parsed;
+ghost use Rattle.sql_expressions.specs.declared.refused.ParseRefused.{ParseRefused as OneRefusal};
+ghost use Rattle.sql_expressions.specs.declared.refused.ParseRefused.TheVariants as refusals;
 ghost use Rattle.sql_syntax.specs.Block as block;
 ghost use Rattle.sql_syntax.specs.Trees.{StatementTree, statement_tree};
 
@@ -58,4 +60,10 @@ pub fn parse_block(alloc: Global, text: &[u8]) -> Result<Vec<Statement>, ParseRe
 /// does nothing.
 pub fn no_two_blocks()
     ensures { (text : List ℕ) (xs ys : List StatementTree) → block.IsBlock text xs → block.IsFreeBlock text ys → ys ≡ xs }
+{}
+
+/// Where a block is refused at a token, there is a block that begins with what stands before the token,
+/// and none within the limits that begins with that and the token. The call does nothing.
+pub fn refused_blocks_stop_there()
+    ensures { (text : List ℕ) (refused : OneRefusal) → block.IsRefused text refused → (refused ≡ refusals.NoMemory) ⊎ block.Stops text }
 {}

@@ -1,14 +1,16 @@
-ghost use Rattle.std.specs.Prelude.{◌≡◌, ℕ, length, map};
+ghost use Rattle.std.specs.Prelude.{◌≡◌, IfOk, length, map};
 ghost use Rattle.grammar_rules.specs.Gives.{Gives};
 ghost use Rattle.grammar_rules.specs.Reading.{begins_in, read_whole};
 ghost use Rattle.grammar_rules.specs.Rows.{always, read_row, read_step};
 ghost use Rattle.sql_expressions.specs.Words.{a};
+ghost use Rattle.sql_commands.specs.Grammar.{is_finish};
 ghost use Rattle.sql_syntax.specs.Grammar as grammar;
 ghost use Rattle.sql_syntax.specs.Trees.{statement_tree};
 ghost use Rattle.sql_syntax.specs.Views.{maybe_tree};
 
 use crate::{MOST_STATEMENTS, Statement};
 use grammar_rules::{Refused, split};
+use pg_values::NoMemory;
 use sql_commands::command;
 use sql_expressions::{comes, word};
 use sql_lists::one_of_comes;
@@ -26,18 +28,30 @@ fn query_comes(tokens: &[Token]) -> bool
         || one_of_comes(tokens, Kind::Execute, Kind::Explain)
 }
 
-fn command_comes(tokens: &[Token]) -> bool
-    ensures { result ≡ begins_in grammar.begins_command tokens.now }
+fn finish_comes(tokens: &[Token]) -> bool
+    ensures { result ≡ begins_in is_finish tokens.now }
 {
-    one_of_comes(tokens, Kind::Begin, Kind::Start)
-        || one_of_comes(tokens, Kind::Commit, Kind::End)
+    one_of_comes(tokens, Kind::Commit, Kind::End)
         || one_of_comes(tokens, Kind::Rollback, Kind::Abort)
-        || one_of_comes(tokens, Kind::Set, Kind::Reset)
-        || comes(tokens, Kind::Create)
+}
+
+fn other_command_comes(tokens: &[Token]) -> bool
+    ensures { result ≡ begins_in grammar.begins_other_command tokens.now }
+{
+    comes(tokens, Kind::Create)
         || comes(tokens, Kind::Drop)
         || comes(tokens, Kind::Alter)
         || comes(tokens, Kind::Lock)
         || comes(tokens, Kind::Deallocate)
+}
+
+fn command_comes(tokens: &[Token]) -> bool
+    ensures { result ≡ begins_in grammar.begins_command tokens.now }
+{
+    one_of_comes(tokens, Kind::Begin, Kind::Start)
+        || finish_comes(tokens)
+        || one_of_comes(tokens, Kind::Set, Kind::Reset)
+        || other_command_comes(tokens)
 }
 
 /// Whether a statement comes next.
@@ -123,6 +137,17 @@ fn more_statements<'a>(
     Ok((done, rest))
 }
 
+/// The list of a statement, if there is one.
+fn listed(alloc: Global, first: Option<Statement>) -> Result<Vec<Statement>, NoMemory>
+    ensures { IfOk result (λ v. map statement_tree v.items ≡ grammar.first_of (maybe_tree first)) }
+{
+    let mut list = Vec::new(alloc);
+    if let Some(first) = first {
+        list.push(first)?;
+    }
+    Ok(list)
+}
+
 fn block<'a>(
     alloc: Global,
     text: &[u8],
@@ -131,11 +156,8 @@ fn block<'a>(
     ensures { Gives (λ x. (map statement_tree x.0.items, x.1.now)) result ((grammar.block text.now).read tokens.now) }
 {
     let (first, rest) = maybe_statement(alloc, text, 0, tokens)?;
-    let mut done = Vec::new(alloc);
-    if let Some(first) = first {
-        done.push(first)?;
-    }
-    more_statements(alloc, text, done, rest)
+    let list = listed(alloc, first)?;
+    more_statements(alloc, text, list, rest)
 }
 
 /// The statements of all the tokens.

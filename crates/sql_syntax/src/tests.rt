@@ -260,7 +260,13 @@ fn limits_hold_at_their_edge(rt: HostRuntime) -> Result<(), Fail> {
         (b"SELECT 1 FROM ", 63, b"a", b"", b"bytes of a name"),
         (b"SELECT '", 8192, b"a", b"'", b"bytes of a text"),
         (b"SELECT ", 200, b"- ", b"1", b"nested expressions"),
-        (b"SELECT 1 WHERE ", 200, b"NOT ", b"a", b"nested expressions"),
+        (
+            b"SELECT 1 WHERE ",
+            200,
+            b"NOT ",
+            b"a",
+            b"nested expressions",
+        ),
     ];
     for (front, most, often, end, want) in cases {
         let mut text = Vec::new(alloc);

@@ -10,5 +10,5 @@ returns-in-Ok c =
 
 pub returns : goal.returns
 returns c =
-    refused_as (λ v. map statement_tree v.items) c.args.text.now c.deref.result.now c.in-Err.refused _ (c.deref.ensures.value ∙ c.in_ok-tokens.ensures.tokens) c.in-Err.ensures
+    refused_as c.args.text.now c.deref.result.now c.in-Err.refused _ (c.deref.ensures.value ∙ c.in_ok-tokens.ensures.tokens) c.in-Err.ensures
     (c.in_ok-refusal_of_block-in-Err.ensures ∙ ap (λ z. refusal_of c.args.text.now z c.in-Err.refused) (c.deref-in-Err.ensures.value ∙ sym c.deref.ensures.value))
