@@ -13,7 +13,7 @@ use Rattle.sql_written.specs.Marks.{bytes_of}
 use Rattle.sql_written.specs.Precedence.{Level, disjunction, conjunction, negation, nullity, sum, unary, left_place, right_place, needs_parentheses}
 use Rattle.sql_written.specs.Spelling as spelled
 
--- names of some bytes and not too many, that are UTF-8 as they are spelled
+-- a name of some bytes and not too many, that is UTF-8 as it is spelled
 abbrev pub IsName : List ℕ → Type 0
 IsName z = (0 < length z) × (length z ≤ MOST_NAME_BYTES) × (is_utf8 (bytes_of (spelled.name z)) ≡ true)
 
@@ -32,7 +32,7 @@ IsLeaf (ColumnOf t c) = IsName t × IsName c
 IsLeaf TableName = Unit {0}
 IsLeaf (TableNameOf t) = IsName t
 
--- one part is no list of IN where there is none, and a row of one part is that part
+-- a list of IN has a part, and a row has two, since one part alone is itself
 abbrev pub HasOne : Trees → Type 0
 HasOne no_more = ⊥
 HasOne (and_more t ts) = Unit {0}
