@@ -23,6 +23,7 @@ use Rattle.sql_expressions.proofs.Limited.{each_of_all}
 use Rattle.sql_expressions.proofs.RuleLimits.{within}
 use Rattle.sql_written.specs.Precedence.{disjunction, needs_parentheses}
 use Rattle.sql_written.specs.Writable.{IsName, IsText, IsWritable, depth}
+use Rattle.sql_written.proofs.ShortMarks.{never_both}
 use Rattle.sql_written.proofs.Least.{deeper_some}
 use Rattle.sql_written.proofs.LeastTexts.{Spelled, least}
 use Rattle.sql_written.proofs.Said.{quoted_said}
@@ -47,11 +48,6 @@ quoted_name x z e some u h = (quoted_some x z e some, h, inside_utf8 34 x (omega
 not_longer : (n : ℕ) (b : Bool) (most : ℕ) → b ≡ true → (b && nat_lt most n) ≡ false → n ≤ most
 not_longer n true most e h = grind (arith, h)
 not_longer n false most e h = cc
-
-never_both : (b c : Bool) → not (b && c) ≡ true → b ≡ true → c ≡ false
-never_both true true h e = cc
-never_both true false h e = refl
-never_both false c h e = cc
 
 no_fault : (k : Kind) → is_name k ≡ true → is k kinds.Fault ≡ false
 no_fault k n = never_both (is_name k) (is k kinds.Fault) (each_kind (λ j. not (is_name j && is j kinds.Fault)) refl k) n

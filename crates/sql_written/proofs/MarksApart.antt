@@ -146,9 +146,6 @@ plain_is z h =
     let p = three (belongs class.NameStart (slice_index z 0)) (prefix_len is_kept z == length z) (is_name (word_kind z)) h in
     record { start = p.0; kept = same_long (prefix_len is_kept z) (length z) p.1; named = p.2 }
 
-pub plain_parts : (z : List ℕ) → is_plain z ≡ true → prefix_len (belongs class.NamePart) z ≡ length z
-plain_parts z h = prefix_within is_kept (belongs class.NamePart) part_of_kept z (plain_is z h).kept
-
 plain_apart : (z : List ℕ) (n : ℕ) → IsPlain z → is_utf8 z ≡ true → belongs class.NamePart n ≡ false → IsPiece (word_kind z) z n
 plain_apart [] n p u h = let e : false ≡ true = p.start in cc
 plain_apart (b ∷ z) n p u h = word_apart (word_kind (b ∷ z)) b z n p.start (prefix_within is_kept (belongs class.NamePart) part_of_kept (b ∷ z) p.kept) u refl h

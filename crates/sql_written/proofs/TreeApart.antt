@@ -22,7 +22,7 @@ record BeginWell (ms : List Mark) : Type 0 where
 
 -- one fact, then the others
 infixr 10 ◌also◌
-◌also◌ : {A B : Type 0} → A → B → A × B
+pub ◌also◌ : {A B : Type 0} → A → B → A × B
 a also b = (a, b)
 
 begin_append : (xs ys : List Mark) → BeginWell xs → BeginWell (xs ++ ys)
@@ -51,7 +51,7 @@ begin_parentheses : (b : Bool) (ms : List Mark) → BeginWell ms → BeginWell (
 begin_parentheses true ms h = record { at = λ n. refl }
 begin_parentheses false ms h = h
 
-two_one : (ts : Trees) → HasTwo ts → HasOne ts
+pub two_one : (ts : Trees) → HasTwo ts → HasOne ts
 two_one no_more h = h
 two_one (and_more t ts) h = tt
 
