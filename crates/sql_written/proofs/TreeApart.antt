@@ -8,12 +8,12 @@ use Rattle.sql_expressions.specs.declared.leaf.Leaf.{Leaf}
 use Rattle.sql_expressions.specs.declared.leaf.Leaf.TheVariants.{Number, Text, Date, Null, Truth, Parameter, Column, ColumnOf, TableName, TableNameOf}
 use Rattle.sql_expressions.specs.declared.leaf.Operator.{Operator}
 use Rattle.sql_expressions.specs.declared.leaf.Operator.TheVariants as operator
-use Rattle.sql_written.specs.Marks.{Mark, blank, bytes_of, text_of, tokens_at}
+use Rattle.sql_written.specs.Marks.{Mark, blank, bytes_of, text_of}
 use Rattle.sql_written.specs.Precedence.{Level, disjunction, conjunction, negation, nullity, sum, unary, left_place, right_place, needs_parentheses}
 use Rattle.sql_written.specs.Spelling as spelled
 use Rattle.sql_written.specs.Writable.{HasOne, HasTwo, HasText, HaveTexts, IsLeaf, IsName}
 use Rattle.sql_written.specs.Written.{and_between, behind_minus, behind_part, in_parentheses, marks, more, not_before, or_between, row, written}
-use Rattle.sql_written.proofs.MarkTokens.{StandApart, StandsApart, apart_append, next, next_append, text_append, tokens_written}
+use Rattle.sql_written.proofs.MarkTokens.{StandApart, StandsApart, apart_append, next, next_append, text_append, tokens_written, tokens_at}
 use Rattle.sql_written.proofs.MarksApart.{Ends, and_apart, between_apart, blank_ends, cast_apart, closing_apart, closing_ends, comma_apart, comma_ends, date_apart, dot_apart, end_ends, in_apart, is_apart, minus_apart, name_apart, name_first, not_apart, null_apart, number_apart, number_first, opening_apart, opening_ends, or_apart, parameter_apart, regclass_apart, sign_apart, star_apart, string_apart, tableoid_apart, truth_apart}
 
 -- first bytes
