@@ -22,6 +22,7 @@ use Rattle.sql_written.specs.Writable.{HasTwo, HasOne, HasText, HaveTexts, deepe
 use Rattle.sql_written.specs.Written.{and_between, behind_minus, behind_part, in_parentheses, marks, more, not_before, or_between, row}
 use Rattle.sql_written.proofs.Said.{Are, token, parted}
 use Rattle.sql_written.proofs.LeafTexts.{leaf_texts, name_texts, only}
+use Rattle.sql_written.proofs.TreeApart.{two_one}
 use Rattle.sql_written.proofs.LevelTexts.{Of, row_texts, row_on, texts_at, comparison_texts, operand, minus_texts, not_texts, sign_kind, binary_at}
 
 abbrev pub of_trees : Trees → List Tree
@@ -31,10 +32,6 @@ of_trees (and_more t ts) = t ∷ of_trees ts
 pub listed_back : (ts : Trees) → listed (of_trees ts) ≡ ts
 listed_back no_more = refl
 listed_back (and_more t ts) = ap (and_more t) (listed_back ts)
-
-two_one : (ts : Trees) → HasTwo ts → HasOne ts
-two_one no_more h = h
-two_one (and_more t ts) h = tt
 
 module _ (text : List ℕ) where
   -- a sign and what stands behind it

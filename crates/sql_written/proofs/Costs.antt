@@ -18,6 +18,7 @@ use Rattle.sql_written.specs.Spelling as spelled
 use Rattle.sql_written.specs.Spelling.{is_plain}
 use Rattle.sql_written.specs.Writable.{deeper_by}
 use Rattle.sql_written.specs.Written.{and_between, behind_minus, behind_part, in_parentheses, marks, more, not_before, or_between, row}
+use Rattle.sql_written.proofs.ShortMarks.{never_both}
 use Rattle.sql_written.proofs.MarksApart.{plain_is}
 use Rattle.sql_written.proofs.Said.{Are}
 
@@ -58,11 +59,6 @@ pub opened_tokens : (text : List ℕ) (ms : List Mark) (ts : List Token) → Are
 opened_tokens text [] ts h = ap opened h
 opened_tokens text (blank ∷ ms) ts h = opened_tokens text ms ts h
 opened_tokens text (mark k z ∷ ms) ts h = ap opened h.3 ∙ omega (arith, opened_tokens text ms h.2 h.5)
-
-never_both : (b c : Bool) → not (b && c) ≡ true → b ≡ true → c ≡ false
-never_both true true h e = cc
-never_both true false h e = refl
-never_both false c h e = cc
 
 name_no_opening : (k : Kind) → is_name k ≡ true → is k kinds.OpenParenthesis ≡ false
 name_no_opening k n = never_both (is_name k) (is k kinds.OpenParenthesis) (each_kind (λ j. not (is_name j && is j kinds.OpenParenthesis)) refl k) n

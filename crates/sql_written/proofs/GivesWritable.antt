@@ -7,7 +7,7 @@ use Rattle.std.specs.Str.{is_utf8}
 use Rattle.sql_tokens.specs.Contents.{bytes_of, name_in, string_in}
 use Rattle.sql_tokens.specs.Quotes.{inside, undoubled}
 use Rattle.sql_tokens.specs.Tokens.{tokens_of}
-use Rattle.sql_tokens.specs.Words.{is, is_name, word_kind}
+use Rattle.sql_tokens.specs.Words.{is, is_name}
 use Rattle.sql_tokens.specs.Written.{quoted}
 use Rattle.sql_tokens.specs.declared.kind.Kind.{Kind}
 use Rattle.sql_tokens.specs.declared.kind.Kind.TheVariants as kinds
@@ -21,52 +21,33 @@ use Rattle.sql_expressions.specs.Words.{a, a_name}
 use Rattle.sql_expressions.specs.declared.words.TheConstants.{MOST_NAME_BYTES, MOST_TEXT_BYTES}
 use Rattle.sql_expressions.proofs.Limited.{each_of_all}
 use Rattle.sql_expressions.proofs.RuleLimits.{within}
-use Rattle.sql_written.specs.Marks.{bytes_of as bytes_of_mark, mark}
 use Rattle.sql_written.specs.Precedence.{disjunction, needs_parentheses}
-use Rattle.sql_written.specs.Spelling as spelled
-use Rattle.sql_written.specs.Spelling.{is_kept, is_plain}
 use Rattle.sql_written.specs.Writable.{IsName, IsText, IsWritable, depth}
+use Rattle.sql_written.proofs.ShortMarks.{never_both}
 use Rattle.sql_written.proofs.Least.{deeper_some}
 use Rattle.sql_written.proofs.LeastTexts.{Spelled, least}
-use Rattle.sql_written.proofs.MarksApart.{plain_parts}
 use Rattle.sql_written.proofs.Said.{quoted_said}
 use Rattle.sql_written.proofs.TokensSay.{IsWord, Tells, token_tells}
-use Rattle.sql_written.proofs.Utf8.{inside_utf8, lower_utf8, quoted_utf8, single_lower, single_part}
+use Rattle.sql_written.proofs.Utf8.{inside_utf8, lower_utf8}
 
 -- names
-either_utf8 : (z : List ℕ) (f : Bool) → is_plain z ≡ f → (is_plain z ≡ true → is_utf8 z ≡ true) → is_utf8 (quoted 34 z) ≡ true → is_utf8 (bytes_of_mark (cond f (mark (word_kind z) z) (mark kinds.QuotedName (quoted 34 z)))) ≡ true
-either_utf8 z true e h k = h e
-either_utf8 z false e h k = k
-
-spelled_utf8 : (z : List ℕ) → (is_plain z ≡ true → is_utf8 z ≡ true) → is_utf8 (quoted 34 z) ≡ true → is_utf8 (bytes_of_mark (spelled.name z)) ≡ true
-spelled_utf8 z h k = either_utf8 z (is_plain z) refl h k
-
 word_some : (z : List ℕ) → IsWord z → 0 < length z
 word_some [] w = let e : false ≡ true = w.start in cc
 word_some (b ∷ z) w = omega arith
 
 word_name : (z : List ℕ) → IsWord z → is_utf8 z ≡ true → length (map to_ascii_lowercase z) ≤ MOST_NAME_BYTES → IsName (map to_ascii_lowercase z)
-word_name z w u h =
-    let l = lower_utf8 z u in
-    (omega (arith, length-map z to_ascii_lowercase, word_some z w), h, spelled_utf8 (map to_ascii_lowercase z) (λ e. l) (quoted_utf8 (map to_ascii_lowercase z) (single_lower z w.parts) l))
+word_name z w u h = (omega (arith, length-map z to_ascii_lowercase, word_some z w), h, lower_utf8 z u)
 
 quoted_some : (x z : List ℕ) → z ≡ quoted 34 x → 2 < length z → 0 < length x
 quoted_some [] z e h = let n = ap (λ y. length y) e in absurd (omega (arith, n))
 quoted_some (b ∷ x) z e h = omega arith
 
 quoted_name : (x z : List ℕ) → z ≡ quoted 34 x → 2 < length z → is_utf8 z ≡ true → length x ≤ MOST_NAME_BYTES → IsName x
-quoted_name x z e some u h =
-    let v : is_utf8 (quoted 34 x) ≡ true = subst (λ y. is_utf8 y ≡ true) e u in
-    (quoted_some x z e some, h, spelled_utf8 x (λ p. inside_utf8 x (single_part x (plain_parts x p)) v) v)
+quoted_name x z e some u h = (quoted_some x z e some, h, inside_utf8 34 x (omega arith) (subst (λ y. is_utf8 y ≡ true) e u))
 
 not_longer : (n : ℕ) (b : Bool) (most : ℕ) → b ≡ true → (b && nat_lt most n) ≡ false → n ≤ most
 not_longer n true most e h = grind (arith, h)
 not_longer n false most e h = cc
-
-never_both : (b c : Bool) → not (b && c) ≡ true → b ≡ true → c ≡ false
-never_both true true h e = cc
-never_both true false h e = refl
-never_both false c h e = cc
 
 no_fault : (k : Kind) → is_name k ≡ true → is k kinds.Fault ≡ false
 no_fault k n = never_both (is_name k) (is k kinds.Fault) (each_kind (λ j. not (is_name j && is j kinds.Fault)) refl k) n
@@ -100,7 +81,7 @@ module _ (text : List ℕ) where
       let q = tell.says.string n in
       let z = bytes_of text t in
       let said : string_in text t ≡ q.text = ap (λ y. undoubled 39 false (inside y)) q.same ∙ quoted_said 39 q.text refl in
-      (not_longer (length (string_in text t)) (a kinds.Text t) MOST_TEXT_BYTES n f.1.1, subst (λ (y : List ℕ). is_utf8 (quoted 39 y) ≡ true) (sym said) (subst (λ (y : List ℕ). is_utf8 y ≡ true) q.same tell.utf8))
+      (not_longer (length (string_in text t)) (a kinds.Text t) MOST_TEXT_BYTES n f.1.1, subst (λ (y : List ℕ). is_utf8 y ≡ true) (sym said) (inside_utf8 39 q.text (omega arith) (subst (λ (y : List ℕ). is_utf8 y ≡ true) q.same tell.utf8)))
 
   fit_spelled : Spelled text Fits
   fit_spelled = record { name = name_fits; string = string_fits; parameter = λ t f n. (token_tells text t f.0 (no_fault_parameter t.kind n)).says.parameter n }

@@ -6,11 +6,18 @@ use Rattle.sql_tokens.specs.Pieces.{next_piece}
 use Rattle.sql_tokens.specs.Tokens.{behind, taken, told, tokens_by, tokens_of}
 use Rattle.sql_tokens.specs.declared.bytes.Class.TheVariants as class
 use Rattle.sql_tokens.specs.declared.kind.Kind.{Kind}
+use Rattle.sql_tokens.specs.declared.token.Token.{Token}
 use Rattle.sql_tokens.specs.declared.piece.Piece.{Piece}
 use Rattle.sql_tokens.specs.declared.piece.Piece.TheVariants.{Gap, Lexeme}
 use Rattle.sql_tokens.proofs.Steps.{none_left, step}
-use Rattle.sql_written.specs.Marks.{Mark, blank, mark, bytes_of, text_of, tokens_at}
+use Rattle.sql_written.specs.Marks.{Mark, blank, mark, bytes_of, text_of}
 use Rattle.sql_written.proofs.Fronts.{blank_piece}
+
+-- the tokens of marks, from a place of the text on
+abbrev pub tokens_at : ℕ → List Mark → List Token
+tokens_at at [] = []
+tokens_at at (blank ∷ ms) = tokens_at (at + 1) ms
+tokens_at at (mark k z ∷ ms) = record { kind = k; start = at; end = at + length z } ∷ tokens_at (at + length z) ms
 
 -- the first byte of a text, or the one behind it
 abbrev pub next : List ℕ → ℕ → ℕ

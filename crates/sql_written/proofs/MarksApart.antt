@@ -25,6 +25,7 @@ use Rattle.sql_written.specs.Spelling as spelled
 use Rattle.sql_written.specs.Spelling.{is_kept, is_plain}
 use Rattle.sql_written.specs.Writable.{IsName, IsText}
 use Rattle.sql_written.proofs.Fronts.{EndsNumber, is_ascii, ascii_utf8, name_front, number_front, parameter_front, piece_of, quoted_name_front, string_front}
+use Rattle.sql_written.proofs.Utf8.{quoted_utf8}
 use Rattle.sql_written.proofs.MarkTokens.{IsPiece, StandsApart, next}
 
 -- a byte that may come behind every word and constant
@@ -145,9 +146,6 @@ plain_is z h =
     let p = three (belongs class.NameStart (slice_index z 0)) (prefix_len is_kept z == length z) (is_name (word_kind z)) h in
     record { start = p.0; kept = same_long (prefix_len is_kept z) (length z) p.1; named = p.2 }
 
-pub plain_parts : (z : List ℕ) → is_plain z ≡ true → prefix_len (belongs class.NamePart) z ≡ length z
-plain_parts z h = prefix_within is_kept (belongs class.NamePart) part_of_kept z (plain_is z h).kept
-
 plain_apart : (z : List ℕ) (n : ℕ) → IsPlain z → is_utf8 z ≡ true → belongs class.NamePart n ≡ false → IsPiece (word_kind z) z n
 plain_apart [] n p u h = let e : false ≡ true = p.start in cc
 plain_apart (b ∷ z) n p u h = word_apart (word_kind (b ∷ z)) b z n p.start (prefix_within is_kept (belongs class.NamePart) part_of_kept (b ∷ z) p.kept) u refl h
@@ -161,10 +159,10 @@ quoted_apart z n some u h = record {
   read = λ rest i. piece_of kinds.QuotedName (quoted 34 z) rest u (quoted_name_front z rest some (ap (λ b. b == 34) i ∙ h));
 }
 
-either_name : (z : List ℕ) (n : ℕ) (f : Bool) → is_plain z ≡ f → 0 < length z → is_utf8 (bytes_of (cond f (mark (word_kind z) z) (mark kinds.QuotedName (quoted 34 z)))) ≡ true → belongs class.NamePart n ≡ false → (n == 34) ≡ false →
+either_name : (z : List ℕ) (n : ℕ) (f : Bool) → is_plain z ≡ f → 0 < length z → is_utf8 z ≡ true → belongs class.NamePart n ≡ false → (n == 34) ≡ false →
     StandsApart (cond f (mark (word_kind z) z) (mark kinds.QuotedName (quoted 34 z))) n
 either_name z n true e some u h q = plain_apart z n (plain_is z e) u h
-either_name z n false e some u h q = quoted_apart z n some u q
+either_name z n false e some u h q = quoted_apart z n some (quoted_utf8 34 z (omega arith) u) q
 
 pub name_apart : (z : List ℕ) (n : ℕ) → IsName z → belongs class.NamePart n ≡ false → (n == 34) ≡ false → StandsApart (spelled.name z) n
 name_apart z n w h q = either_name z n (is_plain z) refl w.0 w.2 h q
@@ -173,7 +171,7 @@ name_apart z n w h q = either_name z n (is_plain z) refl w.0 w.2 h q
 pub string_apart : (z : List ℕ) (n : ℕ) → IsText z → (n == 39) ≡ false → StandsApart (spelled.string z) n
 string_apart z n w h = record {
   some = quoted_some 39 z;
-  read = λ rest i. piece_of kinds.Text (quoted 39 z) rest w.1 (string_front z rest (ap (λ b. b == 39) i ∙ h));
+  read = λ rest i. piece_of kinds.Text (quoted 39 z) rest (quoted_utf8 39 z (omega arith) w.1) (string_front z rest (ap (λ b. b == 39) i ∙ h));
 }
 
 pub record OfDigits (n : ℕ) (ds : List ℕ) : Type 0 where

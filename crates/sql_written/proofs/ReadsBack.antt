@@ -32,15 +32,15 @@ tokens_are_marks e w = subst (λ ts. Are (written e) ts (marks e)) (sym (tree_to
 free_at : (text : List ℕ) (ts : List Token) (x : Deep) → (any text).expression.texts ts x → (deep_expression text).free ts x
 free_at text ts x h = h
 
-pub reads_freely : (e : Tree) → HasText e → (deep_expression (written e)).free (tokens_of (written e)) (e, depth e)
-reads_freely e w =
-    let ts = tokens_of (written e) in
-    free_at (written e) ts (e, depth e) (climb (written e) (level_of e) disjunction ts (e, depth e) (loosest (written e) (level_of e)) (back (written e) e w ts (tokens_are_marks e w)))
+pub reads_freely : (text : List ℕ) (ts : List Token) (e : Tree) → HasText e → Are text ts (marks e) → (deep_expression text).free ts (e, depth e)
+reads_freely text ts e w h = free_at text ts (e, depth e) (climb text (level_of e) disjunction ts (e, depth e) (loosest text (level_of e)) (back text e w ts h))
+
+-- wherever its marks stand in a text
+pub reads_there : (text : List ℕ) (ts : List Token) (e : Tree) → IsWritable e → Are text ts (marks e) → (expression text).texts ts e
+reads_there text ts e w h = all text ts e (depth e, reads_freely text ts e w.0 h, w.1, all_of_each (IsShort text) ts (short_tokens text (marks e) ts h (short e w.0)))
 
 pub reads : (e : Tree) → IsWritable e → (expression (written e)).texts (tokens_of (written e)) e
-reads e w =
-    let ts = tokens_of (written e) in
-    all (written e) ts e (depth e, reads_freely e w.0, w.1, all_of_each (IsShort (written e)) ts (short_tokens (written e) (marks e) ts (tokens_are_marks e w.0) (short e w.0)))
+reads e w = reads_there (written e) (tokens_of (written e)) e w (tokens_are_marks e w.0)
 
 pub only : (e : Tree) → IsWritable e → IsOnly (expression (written e)).texts (expression (written e)).free (tokens_of (written e)) e
 only e w = record { text = reads e w; only = λ b h. one_value (expression_law (written e)) (tokens_of (written e)) e b (reads e w) h }

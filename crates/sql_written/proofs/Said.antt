@@ -14,7 +14,8 @@ use Rattle.sql_tokens.specs.declared.kind.Kind.{Kind}
 use Rattle.sql_tokens.specs.declared.kind.Kind.TheVariants as kinds
 use Rattle.sql_tokens.specs.declared.token.Token.{Token}
 use Rattle.sql_tokens.proofs.ReadBack.{undoubled-doubled}
-use Rattle.sql_written.specs.Marks.{Mark, blank, mark, text_of, tokens_at}
+use Rattle.sql_written.proofs.MarkTokens.{tokens_at}
+use Rattle.sql_written.specs.Marks.{Mark, blank, mark, text_of}
 use Rattle.sql_written.specs.Spelling.{is_kept}
 use Rattle.sql_written.proofs.MarksApart.{IsPlain}
 

@@ -24,6 +24,7 @@ use Rattle.sql_written.specs.Writable.{HasText, HaveTexts, IsLeaf, IsName, IsTex
 use Rattle.sql_written.specs.Written.{and_between, behind_minus, behind_part, in_parentheses, marks, more, not_before, or_between, row}
 use Rattle.sql_written.proofs.MarksApart.{plain_is}
 use Rattle.sql_written.proofs.Said.{Are, name_said, plain_said, quoted_said}
+use Rattle.sql_written.proofs.TreeApart.{◌also◌}
 use Rattle.sql_written.proofs.LeafTexts.{not_longer}
 
 abbrev ShortMark : Mark → Type 0
@@ -34,10 +35,6 @@ ShortMark (mark k z) =
 abbrev Short : List Mark → Type 0
 Short [] = Unit {0}
 Short (m ∷ ms) = ShortMark m × Short ms
-
-infixr 10 ◌also◌
-◌also◌ : {A B : Type 0} → A → B → A × B
-a also b = (a, b)
 
 append : (xs ys : List Mark) → Short xs → Short ys → Short (xs ++ ys)
 append [] ys h k = k
@@ -64,7 +61,7 @@ name_short k w z t e l =
     let short : nat_lt MOST_NAME_BYTES (length (name_said k w)) ≡ false = rw e (not_longer MOST_NAME_BYTES (length z) l) in
     (not_both (is_name k) _ short, no_text_of (is k kinds.Text) t _)
 
-never_both : (b c : Bool) → not (b && c) ≡ true → b ≡ true → c ≡ false
+pub never_both : (b c : Bool) → not (b && c) ≡ true → b ≡ true → c ≡ false
 never_both true true h e = cc
 never_both true false h e = refl
 never_both false c h e = cc

@@ -8,21 +8,21 @@ use Rattle.sql_expressions.specs.declared.leaf.Leaf.{Leaf}
 use Rattle.sql_expressions.specs.declared.leaf.Leaf.TheVariants.{Number, Text, Date, Null, Truth, Parameter, Column, ColumnOf, TableName, TableNameOf}
 use Rattle.sql_expressions.specs.declared.leaf.Operator.{Operator}
 use Rattle.sql_expressions.specs.declared.leaf.Operator.TheVariants as operator
-use Rattle.sql_written.specs.Marks.{Mark, blank, bytes_of, text_of, tokens_at}
+use Rattle.sql_written.specs.Marks.{Mark, blank, bytes_of, text_of}
 use Rattle.sql_written.specs.Precedence.{Level, disjunction, conjunction, negation, nullity, sum, unary, left_place, right_place, needs_parentheses}
 use Rattle.sql_written.specs.Spelling as spelled
 use Rattle.sql_written.specs.Writable.{HasOne, HasTwo, HasText, HaveTexts, IsLeaf, IsName}
 use Rattle.sql_written.specs.Written.{and_between, behind_minus, behind_part, in_parentheses, marks, more, not_before, or_between, row, written}
-use Rattle.sql_written.proofs.MarkTokens.{StandApart, StandsApart, apart_append, next, next_append, text_append, tokens_written}
+use Rattle.sql_written.proofs.MarkTokens.{StandApart, StandsApart, apart_append, next, next_append, text_append, tokens_written, tokens_at}
 use Rattle.sql_written.proofs.MarksApart.{Ends, and_apart, between_apart, blank_ends, cast_apart, closing_apart, closing_ends, comma_apart, comma_ends, date_apart, dot_apart, end_ends, in_apart, is_apart, minus_apart, name_apart, name_first, not_apart, null_apart, number_apart, number_first, opening_apart, opening_ends, or_apart, parameter_apart, regclass_apart, sign_apart, star_apart, string_apart, tableoid_apart, truth_apart}
 
 -- first bytes
-record BeginWell (ms : List Mark) : Type 0 where
-  at : (n : ℕ) → belongs class.Blank (next (text_of ms) n) ≡ false
+pub record BeginWell (ms : List Mark) : Type 0 where
+  pub at : (n : ℕ) → belongs class.Blank (next (text_of ms) n) ≡ false
 
 -- one fact, then the others
 infixr 10 ◌also◌
-◌also◌ : {A B : Type 0} → A → B → A × B
+pub ◌also◌ : {A B : Type 0} → A → B → A × B
 a also b = (a, b)
 
 begin_append : (xs ys : List Mark) → BeginWell xs → BeginWell (xs ++ ys)
@@ -51,12 +51,12 @@ begin_parentheses : (b : Bool) (ms : List Mark) → BeginWell ms → BeginWell (
 begin_parentheses true ms h = record { at = λ n. refl }
 begin_parentheses false ms h = h
 
-two_one : (ts : Trees) → HasTwo ts → HasOne ts
+pub two_one : (ts : Trees) → HasTwo ts → HasOne ts
 two_one no_more h = h
 two_one (and_more t ts) h = tt
 
 mutual
-  begins : (e : Tree) → HasText e → BeginWell (marks e)
+  pub begins : (e : Tree) → HasText e → BeginWell (marks e)
   begins (leaf l) w = begin_leaf l w
   begins (call f ts) w = begin_name f _
   begins (call_of_all f) w = begin_name f _
@@ -74,7 +74,7 @@ mutual
   row_begins sign place (and_more t ts) h w = begin_append (in_parentheses (needs_parentheses place t) (marks t)) _ (begin_parentheses (needs_parentheses place t) (marks t) (begins t w.0))
 
 -- names and constants
-name_of : (z : List ℕ) (n : ℕ) → IsName z → Ends n → StandsApart (spelled.name z) n
+pub name_of : (z : List ℕ) (n : ℕ) → IsName z → Ends n → StandsApart (spelled.name z) n
 name_of z n w h = name_apart z n w h.part h.name_quote
 
 dot_of : (z : List ℕ) (ms : List Mark) (n : ℕ) → StandsApart spelled.dot (next (text_of (spelled.name z ∷ ms)) n)
@@ -192,7 +192,7 @@ more_first sign s place (and_more t ts) n h =
     subst Ends (sym (ap (λ z. next z n) (text_append sign rest) ∙ next_append (text_of sign) (text_of rest) n)) (s.first (next (text_of rest) n))
 
 mutual
-  apart : (e : Tree) → HasText e → (n : ℕ) → Ends n → StandApart (marks e) n
+  pub apart : (e : Tree) → HasText e → (n : ℕ) → Ends n → StandApart (marks e) n
   apart (leaf l) w n h = leaf_apart l w n h
   apart (call f ts) w n h =
       name_of f 40 w.0 opening_ends also (opening_apart _ also apart_append (row behind_part disjunction ts) (spelled.closing ∷ []) n (row_apart behind_part comma_separates disjunction ts w.1 41 closing_ends) (closing_apart n, tt))

@@ -1,15 +1,12 @@
 -- Texts that stay UTF-8: with other ASCII in place of some, and between quotes or out of them.
-use Rattle.std.proofs.Common.{◌≡◌, ℕ, suc, ◌+◌, ◌<◌, Bool, true, false, ◌==◌, List, [], ◌∷◌, ◌++◌, map, length, get_or, refl, sym, ap, subst, arith, append_assoc, length-append}
+use Rattle.std.proofs.Common.{cond, eqb-true, ◌≡◌, ℕ, ◌+◌, ◌<◌, Bool, true, false, ◌==◌, List, [], ◌∷◌, ◌++◌, map, length, get_or, refl, sym, subst, arith, append_assoc, length-append}
 use Rattle.std.proofs.Math.Seq.{drop-append-add, get_or-append_seam, take-append_seam}
-use Rattle.std.proofs.lemmas.Str.{IsCharBoundary-after_ascii, IsCharBoundary-before_ascii, IsUtf8-append, IsUtf8-drop, IsUtf8-from_ascii, IsUtf8-from_is_utf8, IsUtf8-take, is_utf8-from_IsUtf8}
+use Rattle.std.proofs.lemmas.Str.{IsCharBoundary-after_ascii, IsCharBoundary-before_ascii, IsUtf8-append, IsUtf8-drop, IsUtf8-from_ascii, IsUtf8-from_is_utf8, IsUtf8-nil, IsUtf8-take, is_utf8-from_IsUtf8}
 use Rattle.std.proofs.lemmas.Str.Ascii.{IsAscii-cons, IsAscii-nil}
 use Rattle.std.specs.Char.{to_ascii_lowercase}
-use Rattle.std.specs.List.{prefix_len}
 use Rattle.std.specs.Prelude.{nat_lt}
 use Rattle.std.specs.Str.{IsUtf8, is_utf8}
-use Rattle.sql_tokens.specs.Bytes.{belongs}
 use Rattle.sql_tokens.specs.Written.{doubled, quoted}
-use Rattle.sql_tokens.specs.declared.bytes.Class.TheVariants as class
 
 one_utf8 : (b : ℕ) → b < 128 → IsUtf8 (b ∷ [])
 one_utf8 b h = IsUtf8-from_ascii (b ∷ []) (IsAscii-cons b [] h IsAscii-nil)
@@ -44,47 +41,36 @@ lower_behind x (b ∷ z) u = subst IsUtf8 (append_assoc x (to_ascii_lowercase b 
 pub lower_utf8 : (z : List ℕ) → is_utf8 z ≡ true → is_utf8 (map to_ascii_lowercase z) ≡ true
 lower_utf8 z u = is_utf8-from_IsUtf8 (map to_ascii_lowercase z) (lower_behind [] z (IsUtf8-from_is_utf8 z u))
 
--- names without quotes in them
-undoubled_one : (b m : ℕ) (w z : List ℕ) (f : Bool) → (b == 34) ≡ f → f ≡ false → doubled 34 w ≡ z → doubled 34 (b ∷ w) ≡ b ∷ z
-undoubled_one b m w z true e h same = cc
-undoubled_one b m w z false e h same = rw e (ap (λ x. b ∷ x) same)
+-- between quotes
+behind_one : (x z w : List ℕ) (b q : ℕ) (f : Bool) → (b == q) ≡ f → q < 128 → ((y : List ℕ) → IsUtf8 (y ++ z) → IsUtf8 (y ++ w)) → IsUtf8 (x ++ b ∷ z) → IsUtf8 (x ++ cond f (q ∷ q ∷ w) (b ∷ w))
+behind_one x z w b q true e h on u =
+    let p = beside x z q h (subst (λ c. IsUtf8 (x ++ c ∷ z)) (eqb-true b q e) u) in
+    let two = IsUtf8-append x (q ∷ q ∷ []) p.0 (around (q ∷ []) [] q h (one_utf8 q h) IsUtf8-nil) in
+    subst IsUtf8 (append_assoc x (q ∷ q ∷ []) w) (on (x ++ q ∷ q ∷ []) (IsUtf8-append (x ++ q ∷ q ∷ []) z two p.1))
+behind_one x z w b q false e h on u = subst IsUtf8 (append_assoc x (b ∷ []) w) (on (x ++ b ∷ []) (subst IsUtf8 (sym (append_assoc x (b ∷ []) z)) u))
 
-kept_no_quote : (b : ℕ) → belongs class.NamePart b ≡ true → (b == 34) ≡ false
-kept_no_quote b h = grind (arith, h)
+doubled_behind : (q : ℕ) → q < 128 → (x z : List ℕ) → IsUtf8 (x ++ z) → IsUtf8 (x ++ doubled q z)
+doubled_behind q h x [] u = u
+doubled_behind q h x (b ∷ z) u = behind_one x z (doubled q z) b q (b == q) refl h (λ y v. doubled_behind q h y z v) u
 
-small_no_quote : (b : ℕ) (f g : Bool) → nat_lt b 65 ≡ f → nat_lt b 91 ≡ g → (b == 34) ≡ false → (to_ascii_lowercase b == 34) ≡ false
-small_no_quote b true g e i h = rw e h
-small_no_quote b false true e i h = rw (e, i) (grind (arith, e))
-small_no_quote b false false e i h = rw (e, i) h
+before_one : (x z w : List ℕ) (b q : ℕ) (f : Bool) → (b == q) ≡ f → q < 128 → ((y : List ℕ) → IsUtf8 (y ++ w) → IsUtf8 (y ++ z)) → IsUtf8 (x ++ cond f (q ∷ q ∷ w) (b ∷ w)) → IsUtf8 (x ++ b ∷ z)
+before_one x z w b q true e h on u =
+    let p = beside x (q ∷ w) q h u in
+    let r = beside [] w q h p.1 in
+    let v = on (x ++ q ∷ []) (IsUtf8-append (x ++ q ∷ []) w (IsUtf8-append x (q ∷ []) p.0 (one_utf8 q h)) r.1) in
+    subst (λ c. IsUtf8 (x ++ c ∷ z)) (sym (eqb-true b q e)) (subst IsUtf8 (append_assoc x (q ∷ []) z) v)
+before_one x z w b q false e h on u = subst IsUtf8 (append_assoc x (b ∷ []) z) (on (x ++ b ∷ []) (subst IsUtf8 (sym (append_assoc x (b ∷ []) w)) u))
 
-lower_no_quote : (b : ℕ) → belongs class.NamePart b ≡ true → (to_ascii_lowercase b == 34) ≡ false
-lower_no_quote b h = small_no_quote b (nat_lt b 65) (nat_lt b 91) refl refl (kept_no_quote b h)
+undoubled_behind : (q : ℕ) → q < 128 → (x z : List ℕ) → IsUtf8 (x ++ doubled q z) → IsUtf8 (x ++ z)
+undoubled_behind q h x [] u = u
+undoubled_behind q h x (b ∷ z) u = before_one x z (doubled q z) b q (b == q) refl h (λ y v. undoubled_behind q h y z v) u
 
-each_part : (p : ℕ → Bool) (b m : ℕ) (z : List ℕ) (f : Bool) → p b ≡ f → prefix_len p (b ∷ z) ≡ suc m → (p b ≡ true) × (prefix_len p z ≡ m)
-each_part p b m z true i e =
-    let one : 1 + prefix_len p z ≡ suc m = rw i at e in
-    (i, omega arith)
-each_part p b m z false i e = let none : 0 ≡ suc m = rw i at e in absurd (omega arith)
+pub quoted_utf8 : (q : ℕ) (z : List ℕ) → q < 128 → is_utf8 z ≡ true → is_utf8 (quoted q z) ≡ true
+quoted_utf8 q z h u =
+    let d = doubled_behind q h [] z (IsUtf8-from_is_utf8 z u) in
+    is_utf8-from_IsUtf8 (quoted q z) (around [] (doubled q z ++ q ∷ []) q h IsUtf8-nil (around (doubled q z) [] q h d IsUtf8-nil))
 
-pub single_lower : (z : List ℕ) → prefix_len (belongs class.NamePart) z ≡ length z → doubled 34 (map to_ascii_lowercase z) ≡ map to_ascii_lowercase z
-single_lower [] e = refl
-single_lower (b ∷ z) e =
-    let p = each_part (belongs class.NamePart) b (length z) z (belongs class.NamePart b) refl e in
-    undoubled_one (to_ascii_lowercase b) 0 (map to_ascii_lowercase z) (map to_ascii_lowercase z) (to_ascii_lowercase b == 34) refl (lower_no_quote b p.0) (single_lower z p.1)
-
-pub single_part : (z : List ℕ) → prefix_len (belongs class.NamePart) z ≡ length z → doubled 34 z ≡ z
-single_part [] e = refl
-single_part (b ∷ z) e =
-    let p = each_part (belongs class.NamePart) b (length z) z (belongs class.NamePart b) refl e in
-    undoubled_one b 0 z z (b == 34) refl (kept_no_quote b p.0) (single_part z p.1)
-
-pub quoted_utf8 : (z : List ℕ) → doubled 34 z ≡ z → is_utf8 z ≡ true → is_utf8 (quoted 34 z) ≡ true
-quoted_utf8 z e u =
-    let v = around z [] 34 (omega arith) (IsUtf8-from_is_utf8 z u) (IsUtf8-from_ascii [] IsAscii-nil) in
-    is_utf8-from_IsUtf8 (quoted 34 z) (subst (λ x. IsUtf8 (34 ∷ (x ++ 34 ∷ []))) (sym e) (around [] (z ++ 34 ∷ []) 34 (omega arith) (IsUtf8-from_ascii [] IsAscii-nil) v))
-
-pub inside_utf8 : (z : List ℕ) → doubled 34 z ≡ z → is_utf8 (quoted 34 z) ≡ true → is_utf8 z ≡ true
-inside_utf8 z e u =
-    let v = subst (λ x. IsUtf8 (34 ∷ (x ++ 34 ∷ []))) e (IsUtf8-from_is_utf8 (quoted 34 z) u) in
-    let w = (beside [] (z ++ 34 ∷ []) 34 (omega arith) v).1 in
-    is_utf8-from_IsUtf8 z (beside z [] 34 (omega arith) w).0
+pub inside_utf8 : (q : ℕ) (z : List ℕ) → q < 128 → is_utf8 (quoted q z) ≡ true → is_utf8 z ≡ true
+inside_utf8 q z h u =
+    let v = (beside [] (doubled q z ++ q ∷ []) q h (IsUtf8-from_is_utf8 (quoted q z) u)).1 in
+    is_utf8-from_IsUtf8 z (undoubled_behind q h [] z (beside (doubled q z) [] q h v).0)

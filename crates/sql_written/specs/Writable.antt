@@ -1,24 +1,20 @@
 -- The trees that a parse can give: each has a text within the limits.
-use Rattle.std.specs.Prelude.{◌≡◌, ◌<◌, ◌≤◌, ℕ, suc, max, Bool, true, if◌then◌else◌, length}
+use Rattle.std.specs.Prelude.{◌≡◌, ◌<◌, ◌≤◌, ℕ, suc, max, Bool, true, if◌then◌else◌, List, length}
 use Rattle.std.specs.Str.{is_utf8}
-use Rattle.std.specs.Prelude.{List}
-use Rattle.sql_tokens.specs.Written.{quoted}
 use Rattle.sql_tokens.specs.declared.numbers.TheConstants.{MOST_PARAMETER, NO_BIGINT}
 use Rattle.sql_expressions.specs.Tree.{Tree, Trees, no_more, and_more, leaf, call, call_of_all, negated, binary, in_list, between, is_null, inverted, all_of, any_of}
 use Rattle.sql_expressions.specs.declared.leaf.Leaf.{Leaf}
 use Rattle.sql_expressions.specs.declared.leaf.Leaf.TheVariants.{Number, Text, Date, Null, Truth, Parameter, Column, ColumnOf, TableName, TableNameOf}
 use Rattle.sql_expressions.specs.declared.levels.TheConstants.{MOST_DEPTH}
 use Rattle.sql_expressions.specs.declared.words.TheConstants.{MOST_NAME_BYTES, MOST_TEXT_BYTES}
-use Rattle.sql_written.specs.Marks.{bytes_of}
 use Rattle.sql_written.specs.Precedence.{Level, disjunction, conjunction, negation, nullity, sum, unary, left_place, right_place, needs_parentheses}
-use Rattle.sql_written.specs.Spelling as spelled
 
--- names of some bytes and not too many, that are UTF-8 as they are spelled
+-- names and strings are UTF-8, and not too long
 abbrev pub IsName : List ℕ → Type 0
-IsName z = (0 < length z) × (length z ≤ MOST_NAME_BYTES) × (is_utf8 (bytes_of (spelled.name z)) ≡ true)
+IsName z = (0 < length z) × (length z ≤ MOST_NAME_BYTES) × (is_utf8 z ≡ true)
 
 abbrev pub IsText : List ℕ → Type 0
-IsText z = (length z ≤ MOST_TEXT_BYTES) × (is_utf8 (quoted 39 z) ≡ true)
+IsText z = (length z ≤ MOST_TEXT_BYTES) × (is_utf8 z ≡ true)
 
 abbrev pub IsLeaf : Leaf → Type 0
 IsLeaf (Number n) = n ≤ NO_BIGINT
@@ -32,7 +28,7 @@ IsLeaf (ColumnOf t c) = IsName t × IsName c
 IsLeaf TableName = Unit {0}
 IsLeaf (TableNameOf t) = IsName t
 
--- one part is no list of IN where there is none, and a row of one part is that part
+-- a list of IN has a part, and a row has two, since one part alone is itself
 abbrev pub HasOne : Trees → Type 0
 HasOne no_more = ⊥
 HasOne (and_more t ts) = Unit {0}

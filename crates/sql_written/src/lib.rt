@@ -23,3 +23,6 @@ mod write;
 
 pub use laws::{no_fewer_parentheses, parses_can_be_written, reads_back};
 pub use write::write_expression;
+
+#[cfg(test)]
+mod tests;
