@@ -16,3 +16,6 @@ pub use words::{
     maybe_one_of, maybe_word, name_but, name_comes, number, one_of, one_of_comes, other_name,
     other_name_comes, plain_name,
 };
+
+#[cfg(test)]
+mod tests;
