@@ -61,7 +61,10 @@ pub fn number_of(text: &[u8], token: Token) -> u64
 pub fn string_of(alloc: Global, text: &[u8], token: Token) -> Result<PgText, NoMemory>
     ensures { IfOk result (λ t. t ≡ contents.string_in text.now token) }
 {
-    PgText::from_vec(alloc, undoubled(alloc, b'\'', inside_of(bytes_of(text, token)))?)
+    PgText::from_vec(
+        alloc,
+        undoubled(alloc, b'\'', inside_of(bytes_of(text, token)))?,
+    )
 }
 
 fn raised(alloc: Global, word: &[u8]) -> Result<Vec<u8>, NoMemory>

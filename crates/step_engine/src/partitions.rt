@@ -6,9 +6,9 @@ ghost use Rattle.step_engine.specs.Setup.{Partition, bound_of};
 ghost use Rattle.step_engine.specs.Creating.{Creates, Created, CannotCreate};
 
 use crate::leaves::{int4, integer};
+use first_syntax::Statement;
 use part_bounds::{Bound, BoundSet, add_bound, make_set, overlap_uncounted, range_bound};
 use pg_values::{IntKey, NameList, NoMemory, PgText};
-use first_syntax::Statement;
 use std::alloc::Global;
 
 /// The most bytes that a name may have.

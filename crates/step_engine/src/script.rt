@@ -7,9 +7,9 @@ ghost use Rattle.step_engine.specs.Ready.{IsOnlyBlock, IsReady};
 use crate::leaves::LeafList;
 use crate::partitions::is_same;
 use crate::table::{asked_number, make_table};
+use first_syntax::{Block, ParseRefused, parse_block};
 use pg_values::{NoMemory, PgText};
 use spec_reader::{SpecRefused, read_first_form};
-use first_syntax::{Block, ParseRefused, parse_block};
 use std::alloc::Global;
 
 /// A script that was read, with the table that its setup makes.

@@ -6,8 +6,8 @@ ghost use Rattle.step_engine.specs.Made.{GoTogether, IsMade, NoSetup};
 
 use crate::leaves::{LeafList, insert_rows, integer};
 use crate::partitions::{NAME_LIMIT, is_same, make_children};
-use pg_values::{NoMemory, PgText};
 use first_syntax::{CreateTable, Insert, Statement};
+use pg_values::{NoMemory, PgText};
 use std::alloc::Global;
 
 /// The most statements that a block may have.
