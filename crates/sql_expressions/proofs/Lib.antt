@@ -1,3 +1,4 @@
+mod Alone
 pub mod Deeper
 pub mod DepthLaws
 pub mod LevelLaws

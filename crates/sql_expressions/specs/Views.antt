@@ -5,6 +5,7 @@ use Rattle.sql_tokens.specs.declared.kind.Kind.TheVariants as word
 use Rattle.sql_tokens.specs.declared.token.Token.{Token}
 use Rattle.sql_expressions.specs.Levels as level
 use Rattle.grammar_rules.specs.Reading.{as_value}
+use Rattle.grammar_rules.specs.Rows.{rows as rows_behind}
 use Rattle.sql_expressions.specs.Grammar.{any, below, comparison_at, freed, nullity_at, rules, under_depth}
 use Rattle.sql_expressions.specs.Tree.{tree}
 use Rattle.sql_expressions.specs.Words.{a}
@@ -65,3 +66,7 @@ comparison_of text n = comparison_at text n (under_depth text n)
 
 abbrev pub nullity_of : List ℕ → ℕ → Rule Token level.Deep
 nullity_of text n = nullity_at text n (under_depth text n)
+
+-- what stands behind the first part of a row, with it
+abbrev pub more_of_row : List ℕ → Joint → ℕ → level.Deep → Rule Token level.Deep
+more_of_row text joint n x = as_value (row_value joint) (rows_behind (joint_sign joint) (level.parts_room (below n)) level.add_part (λ _. part_of joint (under_depth text n)) (level.only_part x))

@@ -276,6 +276,9 @@ fn row_of_operators<'a>(
     ensures within { IfOk result (λ x. x.0.depth ≤ budget) }
 {
     let (first, rest) = operand(alloc, text, row, tokens, budget)?;
+    if !sign_comes(row, rest) {
+        return Ok((first, rest));
+    }
     more_operands(alloc, text, row, first, rest, budget)
 }
 
@@ -507,6 +510,9 @@ fn nullity<'a>(
     ensures within { IfOk result (λ x. x.0.depth ≤ budget) }
 {
     let (first, rest) = comparison(alloc, text, tokens, budget)?;
+    if !comes(rest, Kind::Is) {
+        return Ok((first, rest));
+    }
     more_nulls(alloc, first, rest, budget)
 }
 
@@ -580,22 +586,6 @@ fn right_part<'a>(
 
 /// A part, and those behind it, each behind an AND or an OR.
 #[cycle(levels)]
-fn parts_of<'a>(
-    alloc: Global,
-    text: &[u8],
-    joint: Joint,
-    tokens: &'a [Token],
-    budget: u8,
-) -> Result<(Parts, &'a [Token]), Refused>
-    ensures reads { Gives (λ x. (views.parts x.0, x.1.now)) result ((views.parts_at text.now joint budget).read tokens.now) }
-    ensures within { IfOk result (λ x. views.Fits budget x.0) }
-{
-    let (first, rest) = part(alloc, text, joint, tokens, budget)?;
-    let first = only_part(alloc, first)?;
-    more_parts(alloc, text, joint, first, rest, budget)
-}
-
-#[cycle(levels)]
 fn row_of_parts<'a>(
     alloc: Global,
     text: &[u8],
@@ -606,7 +596,29 @@ fn row_of_parts<'a>(
     ensures reads { Gives (λ x. (views.deep x.0, x.1.now)) result ((views.joint_at text.now joint budget).read tokens.now) }
     ensures within { IfOk result (λ x. x.0.depth ≤ budget) }
 {
-    let (parts, rest) = parts_of(alloc, text, joint, tokens, budget)?;
+    let (first, rest) = part(alloc, text, joint, tokens, budget)?;
+    if !joint_comes(joint, rest) {
+        return Ok((first, rest));
+    }
+    more_of_row(alloc, text, joint, first, rest, budget)
+}
+
+/// The row behind its first part.
+#[cycle(levels)]
+fn more_of_row<'a>(
+    alloc: Global,
+    text: &[u8],
+    joint: Joint,
+    first: Deep,
+    tokens: &'a [Token],
+    budget: u8,
+) -> Result<(Deep, &'a [Token]), Refused>
+    requires { first.depth ≤ budget }
+    ensures reads { Gives (λ x. (views.deep x.0, x.1.now)) result ((views.more_of_row text.now joint budget (views.deep first)).read tokens.now) }
+    ensures within { IfOk result (λ x. x.0.depth ≤ budget) }
+{
+    let first = only_part(alloc, first)?;
+    let (parts, rest) = more_parts(alloc, text, joint, first, tokens, budget)?;
     Ok((row_of(joint, parts), rest))
 }
 

@@ -1,8 +1,9 @@
-use Rattle.std.proofs.Common.{◌-◌, ◌+◌, length, arith, sym, subst, ◌∙◌}
+use Rattle.std.proofs.Common.{◌-◌, ◌+◌, length, arith, ap, sym, subst, ◌∙◌, Ok}
 use Rattle.std.proofs.lemmas.Result.{err_from_is_err_and}
 use Rattle.grammar_rules.specs.Gives.{Refuses}
 use Rattle.grammar_rules.proofs.Steps.{row_more, row_done, row_end, row_fails}
 use Rattle.grammar_rules.proofs.Whole.{gives_by}
+use Rattle.sql_expressions.proofs.Alone.{alone, goes_on, single, valued_alone}
 use Rattle.sql_expressions.proofs.Deeper.{chain_gives, comparison_deeper, named_deeper, negation_deeper, operand_deeper, part_deeper, test_deeper, unary_deeper}
 use Rattle.grammar_rules.specs.Rows.{always}
 use Rattle.sql_tokens.specs.declared.kind.Kind.TheVariants as kinds
@@ -47,11 +48,29 @@ list-returns-clause-reads t c =
     chain_gives _ c.more_items.result (words.a kinds.Comma) always levels.only_part levels.add_part (grammar.rules c.args.text.now c.args.below).expression (λ _. (grammar.rules c.args.text.now c.args.below).expression)
     c.args.tokens.now _ _ _ c.in_ok-first.ensures.reads c.in_ok-first-2.ensures.0 c.more_items.ensures.reads
 
-pub parts_of-returns-clause-reads : goal.parts_of-returns-clause-reads
-parts_of-returns-clause-reads t c =
-    chain_gives _ c.more_parts.result (views.joint_sign c.args.joint) (levels.parts_room (grammar.below c.args.budget)) levels.only_part levels.add_part
+-- a row whose first part stands alone, and one that goes on
+pub row_of_operators-returns-then-not-sign_comes-clause-reads : goal.row_of_operators-returns-then-not-sign_comes-clause-reads
+row_of_operators-returns-then-not-sign_comes-clause-reads t c =
+    alone (views.sign_of c.args.row) (levels.has_room (grammar.below c.args.budget)) levels.itself levels.join (views.operand_of c.args.row (grammar.rules c.args.text.now c.args.budget))
+    (λ _. views.operand_of c.args.row (grammar.under_depth c.args.text.now c.args.budget)) c.args.tokens.now _ _ c.in_ok-first.ensures.reads (sym c.sign_comes.ensures ∙ c.if-not-sign_comes.true)
+
+pub nullity-returns-then-not-comes-clause-reads : goal.nullity-returns-then-not-comes-clause-reads
+nullity-returns-then-not-comes-clause-reads t c =
+    alone (words.a kinds.Is) (levels.has_room (grammar.below c.args.budget)) levels.itself levels.null_join (views.comparison_of c.args.text.now c.args.budget)
+    (λ _. levels.null_or_not) c.args.tokens.now _ _ c.in_ok-first.ensures.reads (sym c.comes.ensures ∙ c.if-not-comes.true)
+
+pub row_of_parts-returns-then-not-joint_comes-clause-reads : goal.row_of_parts-returns-then-not-joint_comes-clause-reads
+row_of_parts-returns-then-not-joint_comes-clause-reads t c =
+    valued_alone (views.joint_sign c.args.joint) (levels.parts_room (grammar.below c.args.budget)) levels.only_part levels.add_part
     (views.part_of c.args.joint (grammar.rules c.args.text.now c.args.budget)) (λ _. views.part_of c.args.joint (grammar.under_depth c.args.text.now c.args.budget))
-    c.args.tokens.now _ _ _ c.in_ok-first.ensures.reads c.in_ok-first-2.ensures.0 c.more_parts.ensures.reads
+    c.args.tokens.now _ _ c.in_ok-first.ensures.reads (views.row_value c.args.joint) (sym c.joint_comes.ensures ∙ c.if-not-joint_comes.true)
+    ∙ ap (λ z. Ok (z, c.in_ok-first.rest.now)) (single c.args.joint (views.deep c.in_ok-first.first))
+
+pub row_of_parts-returns-clause-reads : goal.row_of_parts-returns-clause-reads
+row_of_parts-returns-clause-reads t c =
+    gives_by _ c.more_of_row.result _ _ (goes_on (views.joint_sign c.args.joint) (levels.parts_room (grammar.below c.args.budget)) levels.only_part levels.add_part
+    (views.part_of c.args.joint (grammar.rules c.args.text.now c.args.budget)) (λ _. views.part_of c.args.joint (grammar.under_depth c.args.text.now c.args.budget))
+    c.args.tokens.now _ _ c.in_ok-first.ensures.reads (views.row_value c.args.joint)) c.more_of_row.ensures.reads
 
 -- items with commas between
 pub more_items-returns-in_err-more-clause-reads : goal.more_items-returns-in_err-more-clause-reads

@@ -65,8 +65,8 @@ decreases-negation l = 32 * l.budget + 10
 abbrev pub decreases-part : goal.decreases-part
 decreases-part l = 32 * l.budget + part_rank l.joint
 
-abbrev pub decreases-parts_of : goal.decreases-parts_of
-decreases-parts_of l = 32 * l.budget + part_rank l.joint + 1
+abbrev pub decreases-more_of_row : goal.decreases-more_of_row
+decreases-more_of_row l = 32 * l.budget + 3
 
 abbrev pub decreases-row_of_parts : goal.decreases-row_of_parts
 decreases-row_of_parts l = 32 * l.budget + part_rank l.joint + 2
