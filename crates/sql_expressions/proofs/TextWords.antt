@@ -70,7 +70,7 @@ module _ (n : ℕ) (h : nat_lt MOST_NAME_BYTES n ≡ true) where
       (none 11 eleven _ (omega arith)
       (none 12 twelve _ (omega arith) refl))))))))))
 
-long_is_name : (w : List ℕ) → nat_lt MOST_NAME_BYTES (length w) ≡ true → word_kind w ≡ word.Name
+pub long_is_name : (w : List ℕ) → nat_lt MOST_NAME_BYTES (length w) ≡ true → word_kind w ≡ word.Name
 unfolding word_kind
 long_is_name w h = ap (λ ws. look_up ws w) (no_words (length w) h)
 

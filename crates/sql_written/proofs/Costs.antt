@@ -50,7 +50,7 @@ opened_by [] = 0
 opened_by (blank ∷ ms) = opened_by ms
 opened_by (mark k z ∷ ms) = one_if (is k kinds.OpenParenthesis) + opened_by ms
 
-opened_append : (xs ys : List Mark) → opened_by (xs ++ ys) ≡ opened_by xs + opened_by ys
+pub opened_append : (xs ys : List Mark) → opened_by (xs ++ ys) ≡ opened_by xs + opened_by ys
 opened_append [] ys = omega arith
 opened_append (blank ∷ xs) ys = opened_append xs ys
 opened_append (mark k z ∷ xs) ys = omega (arith, opened_append xs ys)
@@ -63,14 +63,14 @@ opened_tokens text (mark k z ∷ ms) ts h = ap opened h.3 ∙ omega (arith, open
 name_no_opening : (k : Kind) → is_name k ≡ true → is k kinds.OpenParenthesis ≡ false
 name_no_opening k n = never_both (is_name k) (is k kinds.OpenParenthesis) (each_kind (λ j. not (is_name j && is j kinds.OpenParenthesis)) refl k) n
 
-opened_plain : (k : Kind) (z : List ℕ) (ms : List Mark) → is_name k ≡ true → opened_by (mark k z ∷ ms) ≡ opened_by ms
+pub opened_plain : (k : Kind) (z : List ℕ) (ms : List Mark) → is_name k ≡ true → opened_by (mark k z ∷ ms) ≡ opened_by ms
 opened_plain k z ms n = let e : is k kinds.OpenParenthesis ≡ false = name_no_opening k n in rw e (omega arith)
 
 either_opened : (z : List ℕ) (ms : List Mark) (f : Bool) → is_plain z ≡ f → opened_by (cond f (mark (word_kind z) z) (mark kinds.QuotedName (quoted 34 z)) ∷ ms) ≡ opened_by ms
 either_opened z ms true e = opened_plain (word_kind z) z ms (plain_is z e).named
 either_opened z ms false e = opened_plain kinds.QuotedName (quoted 34 z) ms refl
 
-opened_name : (z : List ℕ) (ms : List Mark) → opened_by (spelled.name z ∷ ms) ≡ opened_by ms
+pub opened_name : (z : List ℕ) (ms : List Mark) → opened_by (spelled.name z ∷ ms) ≡ opened_by ms
 opened_name z ms = either_opened z ms (is_plain z) refl
 
 opened_leaf : (l : Leaf) → opened_by (spelled.leaf_marks l) ≡ 0

@@ -20,11 +20,14 @@ opened_written e w = opened_tokens (written e) (marks e) (tokens_of (written e))
 nothing_said : (text : List ℕ) → Spelled text (λ (t : Token). ⊥)
 nothing_said text = record { name = λ t r e. absurd r; string = λ t r e. absurd r; parameter = λ t r e. absurd r }
 
-pub no_fewer_freely : (e : Tree) → HasText e → (text : List ℕ) (ts : List Token) → (expression text).free ts e → opened (tokens_of (written e)) ≤ opened ts
-no_fewer_freely e w text ts h =
+opens_freely : (e : Tree) (text : List ℕ) (ts : List Token) → (expression text).free ts e → opens e ≤ opened ts
+opens_freely e text ts h =
     let l = least text (λ (t : Token). ⊥) (nothing_said text) ts h.0 h.1 in
     let same : opens e ≡ opens h.0.0 = ap opens h.2 in
-    omega (arith, l.fewest, deeper_some (needs_parentheses disjunction h.0.0) (opens h.0.0), same, opened_written e w)
+    omega (arith, l.fewest, deeper_some (needs_parentheses disjunction h.0.0) (opens h.0.0), same)
+
+pub opens_least : (e : Tree) (text : List ℕ) (ts : List Token) → (expression text).texts ts e → opens e ≤ opened ts
+opens_least e text ts h = opens_freely e text ts ((expression_law text).shape.within ts e h)
 
 pub no_fewer : (e : Tree) → HasText e → (text : List ℕ) (ts : List Token) → (expression text).texts ts e → opened (tokens_of (written e)) ≤ opened ts
-no_fewer e w text ts h = no_fewer_freely e w text ts ((expression_law text).shape.within ts e h)
+no_fewer e w text ts h = omega (arith, opens_least e text ts h, opened_written e w)

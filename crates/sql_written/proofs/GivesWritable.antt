@@ -1,5 +1,5 @@
 -- What a parse gives can be written.
-use Rattle.std.proofs.Common.{get_or, ◌≡◌, ℕ, zero, suc, ◌<◌, ◌≤◌, Bool, true, false, cond, not, ◌&&◌, List, [], ◌∷◌, map, length, refl, sym, ap, ◌∙◌, subst, arith}
+use Rattle.std.proofs.Common.{get_or, ◌≡◌, ℕ, zero, suc, ◌<◌, ◌≤◌, Bool, true, false, cond, not, ◌&&◌, ◌||◌, List, [], ◌∷◌, map, length, refl, sym, ap, ◌∙◌, subst, arith}
 use lib.ListN.{length-map}
 use Rattle.std.specs.Char.{to_ascii_lowercase}
 use Rattle.std.specs.Prelude.{Contains, nat_lt}
@@ -35,7 +35,7 @@ word_some : (z : List ℕ) → IsWord z → 0 < length z
 word_some [] w = let e : false ≡ true = w.start in cc
 word_some (b ∷ z) w = omega arith
 
-word_name : (z : List ℕ) → IsWord z → is_utf8 z ≡ true → length (map to_ascii_lowercase z) ≤ MOST_NAME_BYTES → IsName (map to_ascii_lowercase z)
+pub word_name : (z : List ℕ) → IsWord z → is_utf8 z ≡ true → length (map to_ascii_lowercase z) ≤ MOST_NAME_BYTES → IsName (map to_ascii_lowercase z)
 word_name z w u h = (omega (arith, length-map z to_ascii_lowercase, word_some z w), h, lower_utf8 z u)
 
 quoted_some : (x z : List ℕ) → z ≡ quoted 34 x → 2 < length z → 0 < length x
@@ -45,9 +45,13 @@ quoted_some (b ∷ x) z e h = omega arith
 quoted_name : (x z : List ℕ) → z ≡ quoted 34 x → 2 < length z → is_utf8 z ≡ true → length x ≤ MOST_NAME_BYTES → IsName x
 quoted_name x z e some u h = (quoted_some x z e some, h, inside_utf8 34 x (omega arith) (subst (λ y. is_utf8 y ≡ true) e u))
 
-not_longer : (n : ℕ) (b : Bool) (most : ℕ) → b ≡ true → (b && nat_lt most n) ≡ false → n ≤ most
+pub not_longer : (n : ℕ) (b : Bool) (most : ℕ) → b ≡ true → (b && nat_lt most n) ≡ false → n ≤ most
 not_longer n true most e h = grind (arith, h)
 not_longer n false most e h = cc
+
+one_true : (b c : Bool) → b ≡ true → (b || c) ≡ true
+one_true true c h = refl
+one_true false c h = cc
 
 no_fault : (k : Kind) → is_name k ≡ true → is k kinds.Fault ≡ false
 no_fault k n = never_both (is_name k) (is k kinds.Fault) (each_kind (λ j. not (is_name j && is j kinds.Fault)) refl k) n
@@ -69,13 +73,13 @@ module _ (text : List ℕ) where
       let x = q.0.text in
       let said : undoubled 34 false (inside z) ≡ x = ap (λ y. undoubled 34 false (inside y)) q.0.same ∙ quoted_said 34 x refl in
       subst IsName (sym said) (quoted_name x z q.0.same q.1 t.utf8 (subst (λ (y : List ℕ). length y ≤ MOST_NAME_BYTES) said h))
-  name_by k z false e n t h = word_name z (t.says.word n e) t.utf8 h
+  name_by k z false e n t h = word_name z (t.says.word (one_true (is_name k) _ n) e).0 t.utf8 h
 
-  name_fits : (t : Token) → Fits t → a_name t ≡ true → IsName (name_in text t)
+  pub name_fits : (t : Token) → Fits t → a_name t ≡ true → IsName (name_in text t)
   name_fits t f n =
       name_by t.kind (bytes_of text t) (is t.kind kinds.QuotedName) refl n (token_tells text t f.0 (no_fault t.kind n)) (not_longer (length (name_in text t)) (a_name t) MOST_NAME_BYTES n f.1.0)
 
-  string_fits : (t : Token) → Fits t → a kinds.Text t ≡ true → IsText (string_in text t)
+  pub string_fits : (t : Token) → Fits t → a kinds.Text t ≡ true → IsText (string_in text t)
   string_fits t f n =
       let tell = token_tells text t f.0 (no_fault_text t.kind n) in
       let q = tell.says.string n in

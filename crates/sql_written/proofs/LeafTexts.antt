@@ -51,10 +51,10 @@ module _ (text : List ℕ) where
   name_texts z w ts h = either_name z ts (is_plain z) refl w.1 h
 
   -- strings
-  string_said : (z : List ℕ) (from to : ℕ) → bytes_of text (token kinds.Text from to) ≡ quoted 39 z → string_in text (token kinds.Text from to) ≡ z
+  pub string_said : (z : List ℕ) (from to : ℕ) → bytes_of text (token kinds.Text from to) ≡ quoted 39 z → string_in text (token kinds.Text from to) ≡ z
   string_said z from to b = ap (λ y. undoubled 39 false (inside y)) b ∙ quoted_said 39 z refl
 
-  long_text : (z : List ℕ) (from to : ℕ) → IsText z → bytes_of text (token kinds.Text from to) ≡ quoted 39 z → nat_lt MOST_TEXT_BYTES (length (string_in text (token kinds.Text from to))) ≡ false
+  pub long_text : (z : List ℕ) (from to : ℕ) → IsText z → bytes_of text (token kinds.Text from to) ≡ quoted 39 z → nat_lt MOST_TEXT_BYTES (length (string_in text (token kinds.Text from to))) ≡ false
   long_text z from to w b = let said : string_in text (token kinds.Text from to) ≡ z = string_said z from to b in rw said (not_longer MOST_TEXT_BYTES (length z) w.0)
 
   string_texts : (z : List ℕ) → IsText z → (ts : List Token) → Are text ts (spelled.string z ∷ []) → (string text).free ts z
@@ -64,7 +64,7 @@ module _ (text : List ℕ) where
       (t, inr (only kinds.Text (quoted 39 z) ts h, rw short refl), sym (string_said z h.0 h.1 h.4))
 
   -- an expression that begins with a name
-  named : (k : Kind) (z : List ℕ) (x y ts : List Token) (l : Leaf) → ts ≡ x ++ y → (name text).free x (k, z) → (column text (k, z)).free y l → (any text).unary.texts ts (leaf l, 0)
+  pub named : (k : Kind) (z : List ℕ) (x y ts : List Token) (l : Leaf) → ts ≡ x ++ y → (name text).free x (k, z) → (column text (k, z)).free y l → (any text).unary.texts ts (leaf l, 0)
   named k z x y ts l e n c = unary_to text ts (leaf l, 0) (inr (inl (((k, z), (leaf l, 0)), (x, y, e, n, inr (l, c, refl)), refl)))
 
   constant : (ts : List Token) (l : Leaf) → (literal text).free ts l → (any text).unary.texts ts (leaf l, 0)
@@ -74,7 +74,7 @@ module _ (text : List ℕ) where
   if_second true c p q ts x h = inr h
   if_second false c p q ts x h = h
 
-  no_more_of : (k : Kind) (z : List ℕ) → (column text (k, z)).free [] (Column z)
+  pub no_more_of : (k : Kind) (z : List ℕ) → (column text (k, z)).free [] (Column z)
   no_more_of k z = inr (if_second (is k kinds.Date) (a kinds.Text) _ _ [] (Column z) (if_second (is k kinds.Tableoid) (a kinds.TypeCast) _ _ [] (Column z) (refl, refl)))
 
   no_more_behind : (k : Kind) (t z : List ℕ) → (column_of t (k, z)).free [] (ColumnOf t z)

@@ -54,7 +54,7 @@ pub comma_ends : Ends 44
 comma_ends = record { part = refl; name_quote = refl; string_quote = refl; number = ends_number 44 refl refl refl refl refl }
 
 -- words
-word_apart : (k : Kind) (b : ℕ) (z : List ℕ) (n : ℕ) → belongs class.NameStart b ≡ true → prefix_len (belongs class.NamePart) (b ∷ z) ≡ length (b ∷ z) → is_utf8 (b ∷ z) ≡ true →
+pub word_apart : (k : Kind) (b : ℕ) (z : List ℕ) (n : ℕ) → belongs class.NameStart b ≡ true → prefix_len (belongs class.NamePart) (b ∷ z) ≡ length (b ∷ z) → is_utf8 (b ∷ z) ≡ true →
     word_kind (b ∷ z) ≡ k → belongs class.NamePart n ≡ false → IsPiece k (b ∷ z) n
 word_apart k b z n s e u w h = record {
   some = omega arith;
@@ -146,14 +146,14 @@ plain_is z h =
     let p = three (belongs class.NameStart (slice_index z 0)) (prefix_len is_kept z == length z) (is_name (word_kind z)) h in
     record { start = p.0; kept = same_long (prefix_len is_kept z) (length z) p.1; named = p.2 }
 
-plain_apart : (z : List ℕ) (n : ℕ) → IsPlain z → is_utf8 z ≡ true → belongs class.NamePart n ≡ false → IsPiece (word_kind z) z n
+pub plain_apart : (z : List ℕ) (n : ℕ) → IsPlain z → is_utf8 z ≡ true → belongs class.NamePart n ≡ false → IsPiece (word_kind z) z n
 plain_apart [] n p u h = let e : false ≡ true = p.start in cc
 plain_apart (b ∷ z) n p u h = word_apart (word_kind (b ∷ z)) b z n p.start (prefix_within is_kept (belongs class.NamePart) part_of_kept (b ∷ z) p.kept) u refl h
 
 quoted_some : (q : ℕ) (z : List ℕ) → 0 < length (quoted q z)
 quoted_some q z = omega arith
 
-quoted_apart : (z : List ℕ) (n : ℕ) → 0 < length z → is_utf8 (quoted 34 z) ≡ true → (n == 34) ≡ false → IsPiece kinds.QuotedName (quoted 34 z) n
+pub quoted_apart : (z : List ℕ) (n : ℕ) → 0 < length z → is_utf8 (quoted 34 z) ≡ true → (n == 34) ≡ false → IsPiece kinds.QuotedName (quoted 34 z) n
 quoted_apart z n some u h = record {
   some = quoted_some 34 z;
   read = λ rest i. piece_of kinds.QuotedName (quoted 34 z) rest u (quoted_name_front z rest some (ap (λ b. b == 34) i ∙ h));
@@ -306,7 +306,7 @@ pub record Opens (b : ℕ) : Type 0 where
 start_opens : (b : ℕ) → belongs class.NameStart b ≡ true → Opens b
 start_opens b h = record { blank = grind (arith, h); minus = grind (arith, h); digit = grind (arith, h) }
 
-plain_first : (z : List ℕ) (n : ℕ) → IsPlain z → Opens (next z n)
+pub plain_first : (z : List ℕ) (n : ℕ) → IsPlain z → Opens (next z n)
 plain_first [] n p = let e : false ≡ true = p.start in cc
 plain_first (b ∷ z) n p = start_opens b p.start
 

@@ -28,9 +28,13 @@ pub record IsWord (z : List ℕ) : Type 0 where
   pub start : belongs class.NameStart (slice_index z 0) ≡ true
   pub parts : prefix_len (belongs class.NamePart) z ≡ length z
 
+-- what may be a name, and three words that are none
+abbrev pub is_spelled : Kind → Bool
+is_spelled k = is_name k || (is k kinds.On || (is k kinds.True || is k kinds.False))
+
 -- the bytes of a token of a kind
 pub record Says (k : Kind) (z : List ℕ) : Type 0 where
-  pub word : is_name k ≡ true → is k kinds.QuotedName ≡ false → IsWord z
+  pub word : is_spelled k ≡ true → is k kinds.QuotedName ≡ false → IsWord z × (word_kind z ≡ k)
   pub name : is k kinds.QuotedName ≡ true → IsQuoted 34 z × (2 < length z)
   pub string : is k kinds.Text ≡ true → IsQuoted 39 z
   pub parameter : is k kinds.Parameter ≡ true → number_of_digits z ≤ MOST_PARAMETER
@@ -44,7 +48,7 @@ pick : (z : List ℕ) (b : Bool) (p q : Piece) → (b ≡ true → SaysPiece z p
 pick z true p q h g = h refl
 pick z false p q h g = g refl
 
-other : (k : Kind) (z : List ℕ) → is_name k ≡ false → is k kinds.QuotedName ≡ false → is k kinds.Text ≡ false → is k kinds.Parameter ≡ false → Says k z
+other : (k : Kind) (z : List ℕ) → is_spelled k ≡ false → is k kinds.QuotedName ≡ false → is k kinds.Text ≡ false → is k kinds.Parameter ≡ false → Says k z
 other k z a b c d = record {
   word = λ e i. let f : true ≡ false = sym e ∙ a in cc;
   name = λ e. let f : true ≡ false = sym e ∙ b in cc;
@@ -85,7 +89,7 @@ word_says : (z : List ℕ) → begins_name z ≡ true → Says (word_kind (take 
 word_says z h =
     let w = take (past class.NamePart z 0) z in
     record {
-      word = λ e i. is_word z h;
+      word = λ e i. (is_word z h, refl);
       name = λ e. let f : true ≡ false = sym e ∙ word_unquoted w in cc;
       string = λ e. let f : true ≡ false = sym e ∙ word_no_text w in cc;
       parameter = λ e. let f : true ≡ false = sym e ∙ word_no_parameter w in cc;
@@ -136,7 +140,7 @@ quoted_says [] h = cc
 quoted_says (b ∷ w) h = subst (λ c. SaysPiece (c ∷ w) (closed_name (closing 34 false 1 w))) (sym (eqb-true b 34 h)) (closed_quoted w (closing 34 false 1 w) refl)
 
 -- numbers and parameters
-piece_of : (z : List ℕ) (k : Kind) (n : ℕ) → is_name k ≡ false → is k kinds.QuotedName ≡ false → is k kinds.Text ≡ false → is k kinds.Parameter ≡ false → SaysPiece z (Lexeme k n)
+piece_of : (z : List ℕ) (k : Kind) (n : ℕ) → is_spelled k ≡ false → is k kinds.QuotedName ≡ false → is k kinds.Text ≡ false → is k kinds.Parameter ≡ false → SaysPiece z (Lexeme k n)
 piece_of z k n a b c d = other k (take n z) a b c d
 
 number_kind : (z : List ℕ) (end : ℕ) (b : Bool) → SaysPiece z (Lexeme (cond b kinds.Number kinds.Decimal) end)

@@ -33,7 +33,7 @@ fn begins_name(name: &[u8]) -> bool
 }
 
 /// Whether a name needs no quotes.
-fn is_plain(name: &[u8]) -> bool
+pub fn is_plain(name: &[u8]) -> bool
     ensures { result ≡ spelled.is_plain name.now }
 {
     begins_name(name) && kept_len(name) == name.len() && is_name(word_kind(name))
@@ -60,7 +60,7 @@ fn write_doubled(quote: u8, text: &[u8], out: &mut Vec<u8>) -> Result<(), NoMemo
 }
 
 /// Appends a text between quotes, with each quote in it twice.
-fn write_quoted(quote: u8, text: &[u8], out: &mut Vec<u8>) -> Result<(), NoMemory>
+pub fn write_quoted(quote: u8, text: &[u8], out: &mut Vec<u8>) -> Result<(), NoMemory>
     ensures { OnOk result (out.new.items ≡ out.old.items ++ quotes.quoted quote text.now) }
 {
     out.push(quote)?;
@@ -70,7 +70,7 @@ fn write_quoted(quote: u8, text: &[u8], out: &mut Vec<u8>) -> Result<(), NoMemor
 }
 
 /// Appends a name, between quotes only where it must be.
-pub(crate) fn write_name(name: &[u8], out: &mut Vec<u8>) -> Result<(), NoMemory>
+pub fn write_name(name: &[u8], out: &mut Vec<u8>) -> Result<(), NoMemory>
     ensures { OnOk result (out.new.items ≡ out.old.items ++ bytes_of (spelled.name name.now)) }
 {
     if is_plain(name) {
@@ -80,7 +80,8 @@ pub(crate) fn write_name(name: &[u8], out: &mut Vec<u8>) -> Result<(), NoMemory>
     write_quoted(b'"', name, out)
 }
 
-fn write_number(n: u64, out: &mut Vec<u8>) -> Result<(), NoMemory>
+/// Appends a whole number.
+pub fn write_number(n: u64, out: &mut Vec<u8>) -> Result<(), NoMemory>
     ensures { OnOk result (out.new.items ≡ out.old.items ++ bytes_of (spelled.number n)) }
 {
     let mut digits = itoa::Buffer::new();

@@ -1,0 +1,10 @@
+pub mod CommandTexts
+pub mod EachWord
+pub mod Gives
+pub mod GivesLeaves
+pub mod Leaves
+pub mod Opens
+pub mod QueryTexts
+pub mod ReadsBack
+pub mod Spells
+pub mod WriteParts

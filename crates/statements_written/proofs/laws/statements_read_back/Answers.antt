@@ -1,0 +1,10 @@
+use Rattle.std.specs.Prelude.{map}
+use Rattle.sql_syntax.specs.Trees.{statement_tree}
+use Rattle.statements_written.proofs.ReadsBack.{only, parsed}
+use Rattle.statements_written.proofs.laws.statements_read_back.Goals as goal
+
+pub returns-clause-text : goal.returns-clause-text
+returns-clause-text c tree w = only tree w
+
+pub returns-clause-parsed : goal.returns-clause-parsed
+returns-clause-parsed c tree result w h = parsed (λ xs. map statement_tree xs) tree w result h
