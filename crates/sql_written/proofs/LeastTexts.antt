@@ -24,7 +24,7 @@ use Rattle.sql_written.proofs.Costs.{opens, row_opens}
 use Rattle.sql_written.proofs.LevelTexts.{Of, row_texts}
 use Rattle.sql_written.proofs.Least.{Least, LeastRow, Stands, comparison_sign, deeper_one, deeper_some, loosen, one_end, opened_of, opened_one, own_least, product_sign, row_depth_end, row_opens_end, stands_least, sum_sign, texts_end, wider}
 
-parted : (R : Token → Type 0) (x y : List Token) → Each R (x ++ y) → Each R x × Each R y
+pub parted : (R : Token → Type 0) (x y : List Token) → Each R (x ++ y) → Each R x × Each R y
 parted R [] y h = (tt, h)
 parted R (t ∷ x) y h = let p = parted R x y h.1 in ((h.0, p.0), p.1)
 

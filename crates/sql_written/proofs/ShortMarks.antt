@@ -66,7 +66,7 @@ never_both true true h e = cc
 never_both true false h e = refl
 never_both false c h e = cc
 
-name_is_no_text : (k : Kind) → is_name k ≡ true → is k kinds.Text ≡ false
+pub name_is_no_text : (k : Kind) → is_name k ≡ true → is k kinds.Text ≡ false
 name_is_no_text k n = never_both (is_name k) (is k kinds.Text) (each_kind (λ j. not (is_name j && is j kinds.Text)) refl k) n
 
 either_name : (z : List ℕ) (f : Bool) → is_plain z ≡ f → length z ≤ MOST_NAME_BYTES → ShortMark (cond f (mark (word_kind z) z) (mark kinds.QuotedName (quoted 34 z)))

@@ -22,7 +22,7 @@ mod spelling;
 mod write;
 
 pub use laws::{no_fewer_parentheses, parses_can_be_written, reads_back};
-pub use spelling::{is_plain, write_name, write_number, write_quoted};
+pub use spelling::{is_plain, write_name, write_name_if, write_number, write_quoted};
 pub use write::{write_expression, write_tree};
 
 #[cfg(test)]

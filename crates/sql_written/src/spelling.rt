@@ -1,12 +1,13 @@
 ghost use Rattle.std.specs.List.{prefix_len};
-ghost use Rattle.std.specs.Prelude.{◌≡◌, ◌++◌, ◌∷◌, [], IfOk, OnOk};
+ghost use Rattle.std.specs.Prelude.{◌≡◌, ◌++◌, ◌∷◌, [], if◌then◌else◌, OnOk};
+ghost use Rattle.sql_tokens.specs.Words.{word_kind as kind_of};
 ghost use Rattle.sql_tokens.specs.Written as quotes;
-ghost use Rattle.sql_written.specs.Marks.{bytes_of, text_of};
+ghost use Rattle.sql_written.specs.Marks.{bytes_of, mark, text_of};
 ghost use Rattle.sql_written.specs.Spelling as spelled;
 
 use pg_values::NoMemory;
 use sql_expressions::{Leaf, Operator};
-use sql_tokens::{Class, belongs, is_name, word_kind};
+use sql_tokens::{Class, Kind, belongs, is_name, word_kind};
 
 /// Whether a name without quotes goes on with the byte, and says it as it is.
 fn is_kept(b: u8) -> bool
@@ -69,15 +70,22 @@ pub fn write_quoted(quote: u8, text: &[u8], out: &mut Vec<u8>) -> Result<(), NoM
     Ok(())
 }
 
-/// Appends a name, between quotes only where it must be.
-pub fn write_name(name: &[u8], out: &mut Vec<u8>) -> Result<(), NoMemory>
-    ensures { OnOk result (out.new.items ≡ out.old.items ++ bytes_of (spelled.name name.now)) }
+/// Appends a name, between quotes unless it may stand without.
+pub fn write_name_if(plain: bool, name: &[u8], out: &mut Vec<u8>) -> Result<(), NoMemory>
+    ensures { OnOk result (out.new.items ≡ out.old.items ++ bytes_of (if plain then mark (kind_of name.now) name.now else mark Kind.QuotedName (quotes.quoted 34 name.now))) }
 {
-    if is_plain(name) {
+    if plain {
         out.extend_from_slice(name)?;
         return Ok(());
     }
     write_quoted(b'"', name, out)
+}
+
+/// Appends a name, between quotes only where it must be.
+pub fn write_name(name: &[u8], out: &mut Vec<u8>) -> Result<(), NoMemory>
+    ensures { OnOk result (out.new.items ≡ out.old.items ++ bytes_of (spelled.name name.now)) }
+{
+    write_name_if(is_plain(name), name, out)
 }
 
 /// Appends a whole number.

@@ -38,6 +38,7 @@ use Rattle.sql_written.specs.Marks.{Mark, blank}
 use Rattle.sql_written.specs.Spelling as spelled
 use Rattle.sql_written.specs.Writable.{IsName, IsWritable as IsExpression}
 use Rattle.sql_written.specs.Written as written
+use Rattle.sql_written.proofs.Least.{implied}
 use Rattle.sql_written.proofs.MarksApart.{Ends}
 use Rattle.sql_written.proofs.LeafTexts.{only}
 use Rattle.sql_written.proofs.Said.{Are, token}
@@ -62,11 +63,7 @@ list_back (and_more t ts) = ap (and_more t) (list_back ts)
 
 -- MINVALUE and MAXVALUE may be names
 end_named : (k : Kind) → (is k kinds.Minvalue || is k kinds.Maxvalue) ≡ true → is_name k ≡ true
-end_named k h = follows (is k kinds.Minvalue || is k kinds.Maxvalue) (is_name k) (each_kind (λ j. not (is j kinds.Minvalue || is j kinds.Maxvalue) || is_name j) refl k) h
-  where
-    follows : (b c : Bool) → (not b || c) ≡ true → b ≡ true → c ≡ true
-    follows true c h e = h
-    follows false c h e = cc
+end_named k h = implied (is k kinds.Minvalue || is k kinds.Maxvalue) (is_name k) (each_kind (λ j. not (is j kinds.Minvalue || is j kinds.Maxvalue) || is_name j) refl k) h
 
 module _ (text : List ℕ) where
   -- BEGIN

@@ -13,6 +13,7 @@ use Rattle.sql_expressions.proofs.Limited.{Each as EachToken}
 use Rattle.sql_lists.specs.Lists.{snoc, only as alone}
 use Rattle.sql_written.specs.Parentheses.{opened}
 use Rattle.sql_written.proofs.Least.{opened_of, opened_one}
+use Rattle.sql_written.proofs.LeastTexts.{parted}
 use Rattle.sql_written.proofs.LevelTexts.{Of, row_texts}
 use Rattle.statements_written.specs.Lists.{Each, SomeAre}
 
@@ -32,10 +33,6 @@ free x = 0
 abbrev pub total : {A : Type 0} → (A → ℕ) → List A → ℕ
 total cost [] = 0
 total cost (x ∷ xs) = cost x + total cost xs
-
-parted : (R : Token → Type 0) (x y : List Token) → EachToken R (x ++ y) → EachToken R x × EachToken R y
-parted R [] y h = (tt, h)
-parted R (t ∷ x) y h = let p = parted R x y h.1 in ((h.0, p.0), p.1)
 
 pub parts_of : (R : Token → Type 0) (ts x y : List Token) → ts ≡ x ++ y → EachToken R ts → EachToken R x × EachToken R y
 parts_of R ts x y e h = parted R x y (subst (EachToken R) e h)

@@ -26,18 +26,17 @@ use Rattle.sql_written.specs.Written.{marks}
 use Rattle.sql_written.proofs.Costs.{opened_by, opened_marks}
 use Rattle.sql_written.proofs.Fewest.{opens_least}
 use Rattle.sql_written.proofs.GivesWritable.{gives_writable, name_fits, string_fits, word_name}
+use Rattle.sql_written.proofs.Least.{implied}
+use Rattle.sql_written.proofs.ShortMarks.{name_is_no_text, never_both}
 use Rattle.sql_written.proofs.TokensSay.{is_spelled, Tells, token_tells}
 use Rattle.statements_written.specs.WritableCommands.{IsSetting}
 use Rattle.statements_written.proofs.Gives.{Gives, Own, free, one, valued}
-use Rattle.statements_written.proofs.Leaves.{first_of, never_both, second_of}
+use Rattle.statements_written.proofs.Leaves.{first_of, second_of}
 
 not_long : (b c : Bool) → (b && not c) ≡ false → (c ≡ true → b ≡ false) → b ≡ false
 not_long true true h g = g refl
 not_long true false h g = cc
 not_long false c h g = refl
-
-name_no_text : (k : Kind) → is_name k ≡ true → is k kinds.Text ≡ false
-name_no_text k n = never_both (is_name k) (is k kinds.Text) (each_kind (λ j. not (is_name j && is j kinds.Text)) refl k) n
 
 text_no_name : (k : Kind) → is k kinds.Text ≡ true → is_name k ≡ false
 text_no_name k n = never_both (is k kinds.Text) (is_name k) (each_kind (λ j. not (is j kinds.Text && is_name j)) refl k) n
@@ -49,10 +48,6 @@ is_own_word k j = not (is j k && (is j kinds.Name || is j kinds.QuotedName))
 -- a word that is no name but says a setting
 abbrev is_other_word : Kind → Bool
 is_other_word k = not (is_name k) && (is k kinds.On || (is k kinds.True || is k kinds.False))
-
-implied : (b c : Bool) → (not b || c) ≡ true → b ≡ true → c ≡ true
-implied true c h e = h
-implied false c h e = cc
 
 other_spelled : (k : Kind) → is_other_word k ≡ true → is_spelled k ≡ true
 other_spelled k h = implied (is_other_word k) (is_spelled k) (each_kind (λ j. not (is_other_word j) || is_spelled j) refl k) h
@@ -81,7 +76,7 @@ other_name_of k z quoted o t =
 module _ (text : List ℕ) where
   -- names
   short_name : (t : Token) → a_name t ≡ true → is_long_name text t ≡ false → IsShort text t
-  short_name t n h = let e : is t.kind kinds.Text ≡ false = name_no_text t.kind n in (h, rw e refl)
+  short_name t n h = let e : is t.kind kinds.Text ≡ false = name_is_no_text t.kind n in (h, rw e refl)
 
   name_of : (t : Token) → Own text t → a_name t ≡ true → is_long_name text t ≡ false → IsName (name_in text t)
   name_of t o n h = name_fits text t (o, short_name t n h) n

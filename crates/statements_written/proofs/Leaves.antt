@@ -11,7 +11,6 @@ use Rattle.sql_tokens.specs.declared.kind.Kind.{Kind}
 use Rattle.sql_tokens.specs.declared.kind.Kind.TheVariants as kinds
 use Rattle.sql_tokens.specs.declared.numbers.TheConstants.{NO_BIGINT}
 use Rattle.sql_tokens.specs.declared.token.Token.{Token}
-use Rattle.sql_tokens.proofs.EachKind.{each_kind}
 use Rattle.sql_expressions.specs.Grammar.{any, deep_expression, expression}
 use Rattle.sql_expressions.specs.Levels.{Deep}
 use Rattle.sql_expressions.specs.Limits.{IsShort}
@@ -35,7 +34,7 @@ use Rattle.sql_written.proofs.LevelTexts.{climb, loosest}
 use Rattle.sql_written.proofs.MarkTokens.{StandsApart, next, next_append}
 use Rattle.sql_written.proofs.MarksApart.{Ends, name_apart, name_first, number_apart, number_back, number_first, plain_apart, plain_first, plain_is, quoted_apart, string_apart}
 use Rattle.sql_written.proofs.Said.{Are, name_said, plain_said, quoted_said, token}
-use Rattle.sql_written.proofs.ShortMarks.{short, short_tokens}
+use Rattle.sql_written.proofs.ShortMarks.{name_is_no_text, short, short_tokens}
 use Rattle.sql_written.proofs.TreeApart.{apart as tree_apart, begins}
 use Rattle.sql_written.proofs.Utf8.{quoted_utf8}
 use Rattle.statements_written.specs.Words.{name_unless}
@@ -81,11 +80,6 @@ either_token text z c true q w p o ts h =
     (word_kind z, h.0, h.1, only text (word_kind z) z ts h, name_token text z c (word_kind z) z h.0 h.1 n.named (o refl) (plain_said z n) w.1 h.4)
 either_token text z c false q w p o ts h =
     (kinds.QuotedName, h.0, h.1, only text kinds.QuotedName (quoted 34 z) ts h, name_token text z c kinds.QuotedName (quoted 34 z) h.0 h.1 refl q (quoted_said 34 z refl) w.1 h.4)
-
-pub never_both : (b c : Bool) → not (b && c) ≡ true → b ≡ true → c ≡ false
-never_both true true h e = cc
-never_both true false h e = refl
-never_both false c h e = cc
 
 module _ (text : List ℕ) where
   -- a name by each rule of names
@@ -176,9 +170,6 @@ module _ (text : List ℕ) where
   }
 
   -- a name alone is the column of that name
-  pub name_no_text : (k : Kind) → is_name k ≡ true → is k kinds.Text ≡ false
-  name_no_text k n = never_both (is_name k) (is k kinds.Text) (each_kind (λ j. not (is_name j && is j kinds.Text)) refl k) n
-
   column_free : (k : Kind) (i j : ℕ) (z : List ℕ) → (name text).free (token k i j ∷ []) (k, z) → (deep_expression text).free (token k i j ∷ []) (leaf (Column z), 0)
   column_free k i j z n =
       let ts = token k i j ∷ [] in
@@ -188,7 +179,7 @@ module _ (text : List ℕ) where
   column_read z c k i j n =
       let t = token k i j in
       let free : (name text).free (t ∷ []) (k, z) = (t, inr (refl, rw (n.named, n.short) refl), ap (λ (y : List ℕ). (k, y)) (sym n.says)) in
-      let no_text = name_no_text k n.named in
+      let no_text = name_is_no_text k n.named in
       let short : IsShort text t = (rw (n.named, n.short) refl, rw no_text refl) in
       all text (t ∷ []) (leaf (Column z)) (0, column_free k i j z free, omega arith, all_of_each (IsShort text) (t ∷ []) (short, tt))
 

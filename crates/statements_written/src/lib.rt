@@ -1,4 +1,13 @@
-//! Writes statements of SQL back as text.
+//! Writes statements of SQL back as text: what a careful person would write.
+//!
+//! `specs/Commands.antt` and `specs/Queries.antt` say what is written of each statement, as a list of
+//! marks: words in capitals, names, constants, signs, and the blanks between them. What is said by
+//! leaving it out is left out. `specs/Words.antt` has the words, and names that stand in quotes because
+//! the word would be read as another thing. `specs/Writable.antt` says which statements can be written.
+//!
+//! `blocks_can_be_written` says that these are all that a parse gives, `statements_read_back` that what is
+//! written of one is a block of that statement alone, and `no_fewer_parentheses` that no block of it alone
+//! opens fewer.
 #![tactic(auto)]
 
 mod laws;

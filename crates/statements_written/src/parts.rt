@@ -93,10 +93,7 @@ pub(crate) fn write_names(names: &[PgText], out: &mut Vec<u8>) -> Result<(), NoM
 }
 
 /// Parts in parentheses.
-pub(crate) fn write_enclosed<P: Part>(
-    parts: &[P::Item],
-    out: &mut Vec<u8>,
-) -> Result<(), NoMemory>
+pub(crate) fn write_enclosed<P: Part>(parts: &[P::Item], out: &mut Vec<u8>) -> Result<(), NoMemory>
     ensures { OnOk result (out.new.items ≡ out.old.items ++ text_of (lists.enclosed (lists.parts P.marks (map P.tree parts.now)))) }
 {
     out.push(b'(')?;

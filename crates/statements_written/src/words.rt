@@ -1,33 +1,19 @@
-ghost use Rattle.std.specs.Prelude.{◌≡◌, ◌++◌, ◌∷◌, [], if◌then◌else◌, OnOk};
-ghost use Rattle.sql_tokens.specs.Words.{is, word_kind as kind_of};
-ghost use Rattle.sql_tokens.specs.Written.{quoted};
-ghost use Rattle.sql_written.specs.Marks.{bytes_of, mark, text_of};
-ghost use Rattle.sql_written.specs.Spelling as spelled;
+ghost use Rattle.std.specs.Prelude.{◌≡◌, ◌++◌, OnOk};
+ghost use Rattle.sql_written.specs.Marks.{bytes_of};
 ghost use Rattle.statements_written.specs.Commands as commands;
 ghost use Rattle.statements_written.specs.Queries as queries;
 ghost use Rattle.statements_written.specs.Words.{name_unless};
 
 use pg_values::NoMemory;
 use sql_tokens::{Kind, same_kind, word_kind};
-use sql_written::{is_plain, write_quoted};
-
-/// Appends a name, in quotes unless it is plain.
-fn write_if_plain(name: &[u8], plain: bool, out: &mut Vec<u8>) -> Result<(), NoMemory>
-    ensures { OnOk result (out.new.items ≡ out.old.items ++ bytes_of (if plain then mark (kind_of name.now) name.now else mark Kind.QuotedName (quoted 34 name.now))) }
-{
-    if plain {
-        out.extend_from_slice(name)?;
-        return Ok(());
-    }
-    write_quoted(b'"', name, out)
-}
+use sql_written::{is_plain, write_name_if};
 
 /// Appends the name of a setting.
 pub(crate) fn write_setting_name(name: &[u8], out: &mut Vec<u8>) -> Result<(), NoMemory>
     ensures { OnOk result (out.new.items ≡ out.old.items ++ bytes_of (commands.setting_name name.now)) }
 {
     let plain = is_plain(name) && !same_kind(word_kind(name), Kind::Local);
-    write_if_plain(name, plain, out)
+    write_name_if(plain, name, out)
 }
 
 /// Appends the name of a prepared statement.
@@ -35,7 +21,7 @@ pub(crate) fn write_prepared_name(name: &[u8], out: &mut Vec<u8>) -> Result<(), 
     ensures { OnOk result (out.new.items ≡ out.old.items ++ bytes_of (name_unless queries.is_transaction name.now)) }
 {
     let plain = is_plain(name) && !same_kind(word_kind(name), Kind::Transaction);
-    write_if_plain(name, plain, out)
+    write_name_if(plain, name, out)
 }
 
 fn is_end(kind: Kind) -> bool
@@ -49,5 +35,5 @@ pub(crate) fn write_edge_name(name: &[u8], out: &mut Vec<u8>) -> Result<(), NoMe
     ensures { OnOk result (out.new.items ≡ out.old.items ++ bytes_of (name_unless commands.is_end name.now)) }
 {
     let plain = is_plain(name) && !is_end(word_kind(name));
-    write_if_plain(name, plain, out)
+    write_name_if(plain, name, out)
 }
