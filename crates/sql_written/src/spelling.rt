@@ -60,7 +60,8 @@ fn write_doubled(quote: u8, text: &[u8], out: &mut Vec<u8>) -> Result<(), NoMemo
     Ok(())
 }
 
-/// Appends a text between quotes, with each quote in it twice.
+/// Appends a text between quotes, with each quote in it twice. Here and below, where memory runs out, a
+/// part of it may be there.
 pub fn write_quoted(quote: u8, text: &[u8], out: &mut Vec<u8>) -> Result<(), NoMemory>
     ensures { OnOk result (out.new.items ≡ out.old.items ++ quotes.quoted quote text.now) }
 {
