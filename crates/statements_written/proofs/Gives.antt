@@ -120,6 +120,14 @@ module _ {text : List ℕ} where
       Gives text (value_texts (λ (x : Token × A). x.1) (both_texts (one_texts (a kinds.OpenParenthesis)) (value_texts (λ (x : A × Token). x.0) (both_texts P (one_texts (a kinds.CloseParenthesis)))))) (λ (x : A). suc (cost x)) W
   enclosed {cost = cost} {W = W} g = valued (λ x. x.1) (λ x. suc (cost x)) W (λ x. omega arith) (λ x w. w.1) (both opening (before kinds.CloseParenthesis g))
 
+  pub behind_opening : {A : Type 0} {P : Of A} {cost : A → ℕ} {W : A → Type 0} → Gives text P cost W →
+      Gives text (value_texts (λ (x : Token × A). x.1) (both_texts (one_texts (a kinds.OpenParenthesis)) P)) (λ (x : A). suc (cost x)) W
+  behind_opening {cost = cost} {W = W} g = valued (λ x. x.1) (λ x. suc (cost x)) W (λ x. omega arith) (λ x w. w.1) (both opening g)
+
+  -- any text, of which nothing is said
+  pub anything : {A : Type 0} {P : Of A} → Gives text P free (λ (x : A). Unit {0})
+  anything = record { fewest = λ ts x h. omega arith; fits = λ ts x e h. tt }
+
   -- lists
   module _ {A : Type 0} {P : Of A} {cost : A → ℕ} {W : A → Type 0} (g : Gives text P cost W) where
     rows_fewest : (l : List A) (xs : List (Token × A)) (ts : List Token) (y : List A) → all_rows always snoc (λ (l : List A). both_texts (one_texts (a kinds.Comma)) P) l xs ts y → total cost y ≤ total cost l + opened ts

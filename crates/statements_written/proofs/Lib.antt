@@ -1,6 +1,7 @@
 pub mod CommandTexts
 pub mod EachWord
 pub mod Gives
+pub mod GivesCommands
 pub mod GivesLeaves
 pub mod Leaves
 pub mod Opens
