@@ -115,14 +115,14 @@ module _ {text : List ℕ} where
   pub before : {A : Type 0} {P : Of A} {cost : A → ℕ} {W : A → Type 0} (k : Kind) → Gives text P cost W → Gives text (value_texts (λ (x : A × Token). x.0) (both_texts P (one_texts (a k)))) cost W
   before {cost = cost} {W = W} k g = valued (λ x. x.0) cost W (λ x. omega arith) (λ x w. w.0) (both g (one (a k)))
 
-  -- in parentheses
-  pub enclosed : {A : Type 0} {P : Of A} {cost : A → ℕ} {W : A → Type 0} → Gives text P cost W →
-      Gives text (value_texts (λ (x : Token × A). x.1) (both_texts (one_texts (a kinds.OpenParenthesis)) (value_texts (λ (x : A × Token). x.0) (both_texts P (one_texts (a kinds.CloseParenthesis)))))) (λ (x : A). suc (cost x)) W
-  enclosed {cost = cost} {W = W} g = valued (λ x. x.1) (λ x. suc (cost x)) W (λ x. omega arith) (λ x w. w.1) (both opening (before kinds.CloseParenthesis g))
-
+  -- behind an opening parenthesis, and in parentheses
   pub behind_opening : {A : Type 0} {P : Of A} {cost : A → ℕ} {W : A → Type 0} → Gives text P cost W →
       Gives text (value_texts (λ (x : Token × A). x.1) (both_texts (one_texts (a kinds.OpenParenthesis)) P)) (λ (x : A). suc (cost x)) W
   behind_opening {cost = cost} {W = W} g = valued (λ x. x.1) (λ x. suc (cost x)) W (λ x. omega arith) (λ x w. w.1) (both opening g)
+
+  pub enclosed : {A : Type 0} {P : Of A} {cost : A → ℕ} {W : A → Type 0} → Gives text P cost W →
+      Gives text (value_texts (λ (x : Token × A). x.1) (both_texts (one_texts (a kinds.OpenParenthesis)) (value_texts (λ (x : A × Token). x.0) (both_texts P (one_texts (a kinds.CloseParenthesis)))))) (λ (x : A). suc (cost x)) W
+  enclosed g = behind_opening (before kinds.CloseParenthesis g)
 
   -- any text, of which nothing is said
   pub anything : {A : Type 0} {P : Of A} → Gives text P free (λ (x : A). Unit {0})
