@@ -63,6 +63,13 @@ module _ {text : List ℕ} where
     fits = λ ts y e h. subst V (sym h.2) (has h.0 (g.fits ts h.0 e h.1));
   }
 
+  -- less is said of the same texts
+  pub weakened : {A : Type 0} {P : Of A} {cost : A → ℕ} {W : A → Type 0} (other : A → ℕ) (V : A → Type 0) → ((x : A) → other x ≤ cost x) → ((x : A) → W x → V x) → Gives text P cost W → Gives text P other V
+  weakened {cost = cost} other V less has g = record {
+    fewest = λ ts x h. at_most (other x) (cost x) (opened ts) (less x) (g.fewest ts x h);
+    fits = λ ts x e h. has x (g.fits ts x e h);
+  }
+
   -- one of two
   module _ {A : Type 0} {P Q : Of A} {cost : A → ℕ} {W : A → Type 0} (g : Gives text P cost W) (h : Gives text Q cost W) where
     either_fewest : (ts : List Token) (x : A) → either_texts P Q ts x → cost x ≤ opened ts

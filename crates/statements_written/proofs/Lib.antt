@@ -1,8 +1,10 @@
 pub mod CommandTexts
 pub mod EachWord
 pub mod Gives
+pub mod GivesBlocks
 pub mod GivesCommands
 pub mod GivesLeaves
+pub mod GivesQueries
 pub mod Leaves
 pub mod Opens
 pub mod QueryTexts

@@ -6,13 +6,26 @@ ghost use Rattle.sql_syntax.specs.Grammar.{block};
 ghost use Rattle.sql_syntax.specs.Trees.{StatementTree, statement_tree};
 ghost use Rattle.sql_syntax.specs.declared.statement.Statement.{Statement as OneStatement};
 ghost use Rattle.sql_tokens.specs.Tokens.{tokens_of};
-ghost use Rattle.std.specs.Prelude.{◌≡◌, ◌∷◌, [], List, MatchResult, Result, map};
+ghost use Rattle.sql_tokens.specs.declared.token.Token.{Token as OneToken};
+ghost use Rattle.sql_written.specs.Parentheses.{opened};
+ghost use Rattle.std.specs.Prelude.{◌≡◌, ◌≤◌, ◌∷◌, [], ℕ, List, MatchResult, Result, map};
+ghost use Rattle.statements_written.specs.Lists.{Each};
 ghost use Rattle.statements_written.specs.Statements.{written};
 ghost use Rattle.statements_written.specs.Writable.{IsWritable};
+
+/// What a parse of a block gives can be written. The call does nothing.
+pub fn blocks_can_be_written()
+    ensures { (text : List ℕ) (trees : List StatementTree) → (block text).texts (tokens_of text) trees → Each IsWritable trees }
+{}
 
 /// What is written of a statement is a block of that statement alone and of no others, within the
 /// limits. So a parser answers it, unless its memory runs out. The call does nothing.
 pub fn statements_read_back()
     ensures text { (tree : StatementTree) → IsWritable tree → IsOnly (block (written tree)).texts (block (written tree)).free (tokens_of (written tree)) (tree ∷ []) }
     ensures parsed { (tree : StatementTree) (result : Result (List OneStatement) OneRefusal) → IsWritable tree → ParsesBlock (λ xs. map statement_tree xs) (written tree) result → MatchResult result (λ xs. map statement_tree xs ≡ tree ∷ []) (λ e. e ≡ refusals.NoMemory) }
+{}
+
+/// No block of a statement alone opens fewer parentheses than what is written of it. The call does nothing.
+pub fn no_fewer_parentheses()
+    ensures { (tree : StatementTree) (text : List ℕ) (tokens : List OneToken) → IsWritable tree → (block text).texts tokens (tree ∷ []) → opened (tokens_of (written tree)) ≤ opened tokens }
 {}

@@ -14,4 +14,4 @@ mod laws;
 mod parts;
 mod words;
 
-pub use laws::statements_read_back;
+pub use laws::{blocks_can_be_written, no_fewer_parentheses, statements_read_back};
