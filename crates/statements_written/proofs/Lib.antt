@@ -10,4 +10,5 @@ pub mod Opens
 pub mod QueryTexts
 pub mod ReadsBack
 pub mod Spells
+pub mod WriteCommands
 pub mod WriteParts

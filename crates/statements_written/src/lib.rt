@@ -10,6 +10,7 @@
 //! opens fewer.
 #![tactic(auto)]
 
+mod commands;
 mod laws;
 mod parts;
 mod words;
