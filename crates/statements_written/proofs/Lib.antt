@@ -12,3 +12,4 @@ pub mod ReadsBack
 pub mod Spells
 pub mod WriteCommands
 pub mod WriteParts
+pub mod WriteQueries

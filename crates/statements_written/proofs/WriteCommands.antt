@@ -1,5 +1,5 @@
 -- What is appended one after another is the text of a command.
-use Rattle.std.proofs.Common.{◌≡◌, ℕ, Bool, true, false, List, [], ◌∷◌, ◌++◌, Result, refl, sym, ap, ◌∙◌, subst, append-nil}
+use Rattle.std.proofs.Common.{◌≡◌, ℕ, Bool, true, false, List, [], ◌∷◌, ◌++◌, Result, refl, ap, ◌∙◌, subst}
 use Rattle.std.specs.Prelude.{OnOk}
 use Rattle.sql_commands.specs.Trees.{CommandTree, deallocates, drops}
 use Rattle.sql_tokens.specs.declared.kind.Kind.TheVariants as kinds
@@ -9,9 +9,7 @@ use Rattle.sql_written.proofs.WriteSteps.{behind, on_ok}
 use Rattle.statements_written.specs.Commands.{command_marks, exists_marks}
 use Rattle.statements_written.specs.Lists.{names}
 use Rattle.statements_written.specs.Words.{word}
-
-one_mark : (m : Mark) (o0 o1 : List ℕ) → o1 ≡ o0 ++ bytes_of m → o1 ≡ o0 ++ text_of (m ∷ [])
-one_mark m o0 o1 h = h ∙ ap (λ z. o0 ++ z) (sym (append-nil (bytes_of m)))
+use Rattle.statements_written.proofs.WriteParts.{one_mark}
 
 exists_first : (b : Bool) (ms : List Mark) → exists_marks b [] ++ ms ≡ exists_marks b ms
 exists_first true ms = refl

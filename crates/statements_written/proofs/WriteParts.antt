@@ -1,8 +1,8 @@
 -- What is appended part by part is the text of a list.
-use Rattle.std.proofs.Common.{add-one, drop-cons, take, ◌-◌, ◌≡◌, ℕ, suc, ◌+◌, ◌<◌, ◌≤◌, List, [], ◌∷◌, ◌++◌, map, length, drop, get_or, refl, sym, ap, ◌∙◌, subst, arith}
+use Rattle.std.proofs.Common.{add-one, drop-cons, take, ◌-◌, ◌≡◌, ℕ, suc, ◌+◌, ◌<◌, ◌≤◌, List, [], ◌∷◌, ◌++◌, map, length, drop, get_or, refl, sym, ap, ◌∙◌, subst, append-nil, arith}
 use Rattle.std.proofs.lemmas.Grind.{common_steps}
 use Rattle.sql_expressions.specs.Tree.{Tree, listed}
-use Rattle.sql_written.specs.Marks.{Mark, blank, text_of}
+use Rattle.sql_written.specs.Marks.{Mark, blank, bytes_of, text_of}
 use Rattle.sql_written.specs.Spelling as spelled
 use Rattle.sql_written.proofs.WriteSteps.{behind}
 use Rattle.statements_written.specs.Lists.{list_of, more_parts, parts}
@@ -11,8 +11,11 @@ pub list_there : (ts : List Tree) → list_of (listed ts) ≡ ts
 list_there [] = refl
 list_there (t ∷ ts) = ap (λ us. t ∷ us) (list_there ts)
 
+pub one_mark : (m : Mark) (o0 o1 : List ℕ) → o1 ≡ o0 ++ bytes_of m → o1 ≡ o0 ++ text_of (m ∷ [])
+one_mark m o0 o1 h = h ∙ ap (λ z. o0 ++ z) (sym (append-nil (bytes_of m)))
+
 module _ {X A : Type 0} (tree : X → A) (marks : A → List Mark) where
-  step_of : (xs : List X) (i : ℕ) (x : X) → i < length xs → x ≡ get_or xs i x → map tree (drop i xs) ≡ tree x ∷ map tree (drop (i + 1) xs)
+  pub step_of : (xs : List X) (i : ℕ) (x : X) → i < length xs → x ≡ get_or xs i x → map tree (drop i xs) ≡ tree x ∷ map tree (drop (i + 1) xs)
   step_of xs i x h e =
       ap (λ l. map tree l) (drop-cons xs i x h)
       ∙ (ap (λ y. tree y ∷ map tree (drop (suc i) xs)) (sym e) ∙ ap (λ n. tree x ∷ map tree (drop n xs)) (sym (add-one i)))
@@ -25,7 +28,7 @@ module _ {X A : Type 0} (tree : X → A) (marks : A → List Mark) where
       let j : o2 ≡ o0 ++ text_of ms = behind (spelled.comma ∷ blank ∷ []) (marks (tree x)) o0 o1 o2 h k in
       behind ms rest o0 o2 (o2 ++ text_of rest) j refl ∙ (ap (λ (ys : List A). o0 ++ text_of (more_parts marks ys)) (sym (step_of xs i x l e)) ∙ w)
 
-  split_of : (xs : List X) (x : X) → 1 ≤ length xs → x ≡ get_or xs 0 x → map tree xs ≡ tree x ∷ map tree (take (length xs - 1) (drop 1 xs))
+  pub split_of : (xs : List X) (x : X) → 1 ≤ length xs → x ≡ get_or xs 0 x → map tree xs ≡ tree x ∷ map tree (take (length xs - 1) (drop 1 xs))
   split_of [] x h e = absurd (omega arith)
   split_of (y ∷ ys) x h e =
       let n : suc (length ys) - 1 ≡ length ys = omega arith in

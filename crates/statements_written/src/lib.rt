@@ -13,6 +13,13 @@
 mod commands;
 mod laws;
 mod parts;
+mod queries;
+mod query_parts;
 mod words;
+mod write;
 
 pub use laws::{blocks_can_be_written, no_fewer_parentheses, statements_read_back};
+pub use write::write_statement;
+
+#[cfg(test)]
+mod tests;

@@ -1,0 +1,24 @@
+use Rattle.std.proofs.Common.{◌++◌, List, map}
+use Rattle.sql_tokens.specs.declared.kind.Kind.TheVariants as kinds
+use Rattle.sql_queries.specs.Trees.{item_tree, joined_tree, key_tree, maybe_tree}
+use Rattle.sql_queries.specs.declared.parts.FromItem.{FromItem}
+use Rattle.sql_queries.specs.declared.parts.SelectItem.{SelectItem}
+use Rattle.sql_queries.specs.declared.parts.SortKey.{SortKey}
+use Rattle.sql_written.specs.Marks.{text_of}
+use Rattle.sql_written.proofs.WriteSteps.{on_ok}
+use Rattle.statements_written.specs.Lists.{parts}
+use Rattle.statements_written.specs.Queries.{clause, from_marks, item_marks, order_marks}
+use Rattle.statements_written.proofs.WriteQueries.{same, select_text}
+use Rattle.statements_written.proofs.queries.write_select.Goals as goal
+
+pub returns : goal.returns
+returns c =
+    let s = c.args.select.now in
+    let limits = clause kinds.Limit (maybe_tree s.limit) ++ clause kinds.Offset (maybe_tree s.offset) in
+    on_ok c.write_order_and_limits.result
+    (select_text (parts item_marks (map item_tree s.items.items)) (from_marks (map joined_tree s.from.items)) (clause kinds.Where (maybe_tree s.condition)) (order_marks (map key_tree s.order.items) ++ limits) _ _ _ _ _ _
+    c.in_ok-extend_from_slice.ensures.items
+    (same (λ (xs : List SelectItem). text_of (parts item_marks (map item_tree xs))) _ _ _ _ c.deref.ensures.value c.in_ok-write_items.ensures)
+    (same (λ (xs : List FromItem). text_of (from_marks (map joined_tree xs))) _ _ _ _ c.deref-2.ensures.value c.in_ok-write_from.ensures)
+    c.in_ok-write_where.ensures)
+    (on_ok c.write_order_and_limits.result (same (λ (xs : List SortKey). text_of (order_marks (map key_tree xs) ++ limits)) _ _ _ _ c.deref-3.ensures.value) c.write_order_and_limits.ensures)
