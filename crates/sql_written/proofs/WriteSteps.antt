@@ -115,18 +115,26 @@ more_step sign place t us ts p o0 o1 o2 all e i h k w =
     a ∙ (ap (λ ms. o0 ++ text_of ms) (append_assoc sign (placed p t) (more sign place ts))
     ∙ (ap (λ n. o0 ++ text_of (sign ++ (placed n t ++ more sign place ts))) i ∙ (ap (λ vs. o0 ++ text_of (more sign place vs)) (sym e) ∙ w)))
 
+-- slices, part by part
+module _ {X A : Type 0} (f : X → A) where
+  pub slice_step : (xs : List X) (i : ℕ) (x : X) → i < length xs → x ≡ get_or xs i x → map f (drop i xs) ≡ f x ∷ map f (drop (i + 1) xs)
+  slice_step xs i x h e =
+      ap (λ l. map f l) (drop-cons xs i x h)
+      ∙ (ap (λ y. f y ∷ map f (drop (suc i) xs)) (sym e) ∙ ap (λ n. f x ∷ map f (drop n xs)) (sym (add-one i)))
+
+  pub slice_split : (xs : List X) (x : X) → 1 ≤ length xs → x ≡ get_or xs 0 x → map f xs ≡ f x ∷ map f (take (length xs - 1) (drop 1 xs))
+  slice_split [] x h e = absurd (omega arith)
+  slice_split (y ∷ ys) x h e =
+      let n : suc (length ys) - 1 ≡ length ys = omega arith in
+      let all : take (length ys) ys ≡ ys = grind (arith, common_steps) in
+      ap (λ z. f z ∷ map f ys) (sym e) ∙ ap (λ l. f x ∷ map f l) (sym (ap (λ m. take m ys) n ∙ all))
+
 -- slices of expressions
 pub parts_step : (parts : List Expr) (i : ℕ) (x : Expr) → i < length parts → x ≡ get_or parts i x → listed (map tree (drop i parts)) ≡ and_more (tree x) (listed (map tree (drop (i + 1) parts)))
-parts_step parts i x h e =
-    ap (λ l. listed (map tree l)) (drop-cons parts i x h)
-    ∙ (ap (λ y. and_more (tree y) (listed (map tree (drop (suc i) parts)))) (sym e) ∙ ap (λ n. and_more (tree x) (listed (map tree (drop n parts)))) (sym (add-one i)))
+parts_step parts i x h e = ap listed (slice_step tree parts i x h e)
 
 pub parts_split : (parts : List Expr) (x : Expr) → 1 ≤ length parts → x ≡ get_or parts 0 x → listed (map tree parts) ≡ and_more (tree x) (listed (map tree (take (length parts - 1) (drop 1 parts))))
-parts_split [] x h e = absurd (omega arith)
-parts_split (y ∷ ys) x h e =
-    let n : suc (length ys) - 1 ≡ length ys = omega arith in
-    let all : take (length ys) ys ≡ ys = grind (arith, common_steps) in
-    ap (λ z. and_more (tree z) (listed (map tree ys))) (sym e) ∙ ap (λ l. and_more (tree x) (listed (map tree l))) (sym (ap (λ m. take m ys) n ∙ all))
+parts_split parts x h e = ap listed (slice_split tree parts x h e)
 
 pub part_less : (parts : List Expr) (i : ℕ) (x : Expr) → i < length parts → x ≡ get_or parts i x → weight (tree x) ≤ weights (listed (map tree parts))
 part_less [] i x h e = absurd (omega arith)

@@ -7,11 +7,11 @@ use Rattle.sql_queries.specs.Trees.{Joined, joined_tree, RowTree, prepares}
 use Rattle.sql_queries.specs.declared.parts.FromItem.{FromItem}
 use Rattle.sql_written.specs.Marks.{Mark, blank, bytes_of, text_of}
 use Rattle.sql_written.specs.Spelling as spelled
-use Rattle.sql_written.proofs.WriteSteps.{behind}
+use Rattle.sql_written.proofs.WriteSteps.{behind, slice_split, slice_step}
 use Rattle.statements_written.specs.Lists.{enclosed, values}
 use Rattle.statements_written.specs.Queries.{argument_marks, from_marks, is_transaction, joined_marks, kinds_marks, more_tables, query_marks, row_statement_marks, table_marks}
 use Rattle.statements_written.specs.Words.{name_unless, word}
-use Rattle.statements_written.proofs.WriteParts.{one_mark, split_of, step_of}
+use Rattle.statements_written.proofs.WriteParts.{one_mark}
 
 -- the same of two that are equal
 pub same : {A : Type 0} (f : A → List ℕ) (x y : A) (o0 o1 : List ℕ) → x ≡ y → o1 ≡ o0 ++ f x → o1 ≡ o0 ++ f y
@@ -22,13 +22,13 @@ pub tables_step : (xs : List FromItem) (i : ℕ) (x : FromItem) (o0 o1 all : Lis
     o0 ++ text_of (more_tables (map joined_tree (drop i xs))) ≡ all → o1 ++ text_of (more_tables (map joined_tree (drop (i + 1) xs))) ≡ all
 tables_step xs i x o0 o1 all l e h w =
     let rest = more_tables (map joined_tree (drop (i + 1) xs)) in
-    behind (joined_marks (joined_tree x)) rest o0 o1 (o1 ++ text_of rest) h refl ∙ (ap (λ (ys : List Joined). o0 ++ text_of (more_tables ys)) (sym (step_of joined_tree joined_marks xs i x l e)) ∙ w)
+    behind (joined_marks (joined_tree x)) rest o0 o1 (o1 ++ text_of rest) h refl ∙ (ap (λ (ys : List Joined). o0 ++ text_of (more_tables ys)) (sym (slice_step joined_tree xs i x l e)) ∙ w)
 
 pub from_text : (xs : List FromItem) (x : FromItem) (o0 o1 o2 o3 : List ℕ) → 1 ≤ length xs → x ≡ get_or xs 0 x → o1 ≡ o0 ++ text_of (blank ∷ word kinds.From ∷ blank ∷ []) → o2 ≡ o1 ++ text_of (table_marks x.table) →
     o3 ≡ o2 ++ text_of (more_tables (map joined_tree (take (length xs - 1) (drop 1 xs)))) → o3 ≡ o0 ++ text_of (from_marks (map joined_tree xs))
 from_text xs x o0 o1 o2 o3 l e h1 h2 h3 =
     let rest = more_tables (map joined_tree (take (length xs - 1) (drop 1 xs))) in
-    subst (λ (ys : List Joined). o3 ≡ o0 ++ text_of (from_marks ys)) (sym (split_of joined_tree joined_marks xs x l e))
+    subst (λ (ys : List Joined). o3 ≡ o0 ++ text_of (from_marks ys)) (sym (slice_split joined_tree xs x l e))
     (behind (blank ∷ word kinds.From ∷ blank ∷ []) (table_marks x.table ++ rest) o0 o1 o3 h1 (behind (table_marks x.table) rest o1 o2 o3 h2 h3))
 
 -- three one behind the other
