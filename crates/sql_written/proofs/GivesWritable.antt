@@ -49,11 +49,11 @@ pub not_longer : (n : ℕ) (b : Bool) (most : ℕ) → b ≡ true → (b && nat_
 not_longer n true most e h = grind (arith, h)
 not_longer n false most e h = cc
 
-one_true : (b c : Bool) → b ≡ true → (b || c) ≡ true
+pub one_true : (b c : Bool) → b ≡ true → (b || c) ≡ true
 one_true true c h = refl
 one_true false c h = cc
 
-no_fault : (k : Kind) → is_name k ≡ true → is k kinds.Fault ≡ false
+pub no_fault : (k : Kind) → is_name k ≡ true → is k kinds.Fault ≡ false
 no_fault k n = never_both (is_name k) (is k kinds.Fault) (each_kind (λ j. not (is_name j && is j kinds.Fault)) refl k) n
 
 no_fault_text : (k : Kind) → is k kinds.Text ≡ true → is k kinds.Fault ≡ false

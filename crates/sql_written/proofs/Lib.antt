@@ -9,6 +9,7 @@ pub mod LeastTexts
 pub mod LevelTexts
 pub mod MarkTokens
 pub mod MarksApart
+pub mod Needed
 pub mod Quoted
 pub mod ReadsBack
 pub mod Said

@@ -7,12 +7,17 @@ ghost use Rattle.sql_expressions.specs.Tree.{Tree};
 ghost use Rattle.sql_expressions.specs.declared.expr.Expr.{Expr as OneExpr};
 ghost use Rattle.sql_expressions.specs.declared.refused.ParseRefused.{ParseRefused as OneRefusal};
 ghost use Rattle.sql_expressions.specs.declared.refused.ParseRefused.TheVariants as refusals;
+ghost use Rattle.sql_expressions.specs.Words.{a, a_name};
+ghost use Rattle.sql_tokens.specs.Contents.{name_in};
 ghost use Rattle.sql_tokens.specs.Tokens.{tokens_of};
+ghost use Rattle.sql_tokens.specs.declared.kind.Kind.TheVariants.{QuotedName};
 ghost use Rattle.sql_tokens.specs.declared.token.Token.{Token as OneToken};
+ghost use Rattle.sql_written.specs.Marks.{mark};
 ghost use Rattle.sql_written.specs.Parentheses.{opened};
+ghost use Rattle.sql_written.specs.Spelling as spelled;
 ghost use Rattle.sql_written.specs.Writable.{IsWritable};
 ghost use Rattle.sql_written.specs.Written.{written};
-ghost use Rattle.std.specs.Prelude.{◌≡◌, ◌≤◌, ℕ, List, MatchResult, Result};
+ghost use Rattle.std.specs.Prelude.{◌≡◌, ◌≤◌, ℕ, false, true, Contains, List, MatchResult, Result};
 
 /// What a parse gives can be written: the whole of a text, or some of its tokens. The call does nothing.
 pub fn parses_can_be_written()
@@ -30,4 +35,10 @@ pub fn reads_back()
 /// No text of a tree opens fewer parentheses than what is written of it. The call does nothing.
 pub fn no_fewer_parentheses()
     ensures { (tree : Tree) (text : List ℕ) (tokens : List OneToken) → IsWritable tree → (grammar.expression text).texts tokens tree → opened (tokens_of (written tree)) ≤ opened tokens }
+{}
+
+/// A name is written in quotes only where it must: not if a token without quotes, of any text, says it.
+/// The call does nothing.
+pub fn quotes_are_needed()
+    ensures { (text : List ℕ) (token : OneToken) → Contains (tokens_of text) token → a_name token ≡ true → a QuotedName token ≡ false → spelled.name (name_in text token) ≡ mark token.kind (name_in text token) }
 {}

@@ -11,8 +11,8 @@
 //! written.
 //!
 //! `parses_can_be_written` says that these are all that a parse gives, `reads_back` that the text of
-//! such a tree is read as that tree and no other, and `no_fewer_parentheses` that no text of the tree
-//! opens fewer.
+//! such a tree is read as that tree and no other, `no_fewer_parentheses` that no text of the tree opens
+//! fewer, and `quotes_are_needed` that a name in quotes is said by no token without.
 #![tactic(auto)]
 
 mod laws;
@@ -21,7 +21,7 @@ mod row;
 mod spelling;
 mod write;
 
-pub use laws::{no_fewer_parentheses, parses_can_be_written, reads_back};
+pub use laws::{no_fewer_parentheses, parses_can_be_written, quotes_are_needed, reads_back};
 pub use spelling::{is_plain, write_name, write_name_if, write_number, write_quoted};
 pub use write::{write_expression, write_tree};
 

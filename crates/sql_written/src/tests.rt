@@ -1,6 +1,8 @@
 //! Texts here are worked by hand from the grammar.
 
-use crate::{no_fewer_parentheses, parses_can_be_written, reads_back, write_expression};
+use crate::{
+    no_fewer_parentheses, parses_can_be_written, quotes_are_needed, reads_back, write_expression,
+};
 use pg_values::NoMemory;
 use sql_expressions::parse_expression;
 use std::alloc::Global;
@@ -115,6 +117,7 @@ fn expressions_are_written_with_what_they_need(rt: HostRuntime) -> Result<(), Fa
     reads_back();
     parses_can_be_written();
     no_fewer_parentheses();
+    quotes_are_needed();
     let alloc = rt.alloc();
     for line in WRITTEN.split(|b| *b == b'\n') {
         let (text, want) = sides(line);

@@ -1,16 +1,22 @@
 ghost use Rattle.grammar_rules.specs.Parses.{IsOnly};
 ghost use Rattle.sql_expressions.specs.declared.refused.ParseRefused.{ParseRefused as OneRefusal};
 ghost use Rattle.sql_expressions.specs.declared.refused.ParseRefused.TheVariants as refusals;
+ghost use Rattle.sql_expressions.specs.Words.{a, a_name};
 ghost use Rattle.sql_syntax.specs.Block.{ParsesBlock};
 ghost use Rattle.sql_syntax.specs.Grammar.{block};
 ghost use Rattle.sql_syntax.specs.Trees.{StatementTree, statement_tree};
 ghost use Rattle.sql_syntax.specs.declared.statement.Statement.{Statement as OneStatement};
+ghost use Rattle.sql_tokens.specs.Contents.{name_in};
 ghost use Rattle.sql_tokens.specs.Tokens.{tokens_of};
+ghost use Rattle.sql_tokens.specs.declared.kind.Kind.{Kind as OneKind};
+ghost use Rattle.sql_tokens.specs.declared.kind.Kind.TheVariants.{QuotedName};
 ghost use Rattle.sql_tokens.specs.declared.token.Token.{Token as OneToken};
+ghost use Rattle.sql_written.specs.Marks.{mark};
 ghost use Rattle.sql_written.specs.Parentheses.{opened};
-ghost use Rattle.std.specs.Prelude.{◌≡◌, ◌≤◌, ◌∷◌, [], ℕ, List, MatchResult, Result, map};
+ghost use Rattle.std.specs.Prelude.{◌≡◌, ◌≤◌, ◌∷◌, [], ℕ, Bool, false, true, Contains, List, MatchResult, Result, map};
 ghost use Rattle.statements_written.specs.Lists.{Each};
 ghost use Rattle.statements_written.specs.Statements.{written};
+ghost use Rattle.statements_written.specs.Words.{name_unless};
 ghost use Rattle.statements_written.specs.Writable.{IsWritable};
 
 /// What a parse of a block gives can be written. The call does nothing.
@@ -28,4 +34,10 @@ pub fn statements_read_back()
 /// No block of a statement alone opens fewer parentheses than what is written of it. The call does nothing.
 pub fn no_fewer_parentheses()
     ensures { (tree : StatementTree) (text : List ℕ) (tokens : List OneToken) → IsWritable tree → (block text).texts tokens (tree ∷ []) → opened (tokens_of (written tree)) ≤ opened tokens }
+{}
+
+/// A name stands in quotes only where it must, also where some words mean another thing: not if a token
+/// without quotes that is none of them, of any text, says it. The call does nothing.
+pub fn quotes_are_needed()
+    ensures { (text : List ℕ) (token : OneToken) (other : OneKind → Bool) → Contains (tokens_of text) token → a_name token ≡ true → a QuotedName token ≡ false → other token.kind ≡ false → name_unless other (name_in text token) ≡ mark token.kind (name_in text token) }
 {}

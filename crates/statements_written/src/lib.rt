@@ -6,8 +6,8 @@
 //! the word would be read as another thing. `specs/Writable.antt` says which statements can be written.
 //!
 //! `blocks_can_be_written` says that these are all that a parse gives, `statements_read_back` that what is
-//! written of one is a block of that statement alone, and `no_fewer_parentheses` that no block of it alone
-//! opens fewer.
+//! written of one is a block of that statement alone, `no_fewer_parentheses` that no block of it alone opens
+//! fewer, and `quotes_are_needed` that a name in quotes needs them.
 #![tactic(auto)]
 
 mod commands;
@@ -18,7 +18,9 @@ mod query_parts;
 mod words;
 mod write;
 
-pub use laws::{blocks_can_be_written, no_fewer_parentheses, statements_read_back};
+pub use laws::{
+    blocks_can_be_written, no_fewer_parentheses, quotes_are_needed, statements_read_back,
+};
 pub use write::write_statement;
 
 #[cfg(test)]

@@ -1,6 +1,9 @@
 //! Texts here are worked by hand from the grammar.
 
-use crate::{blocks_can_be_written, no_fewer_parentheses, statements_read_back, write_statement};
+use crate::{
+    blocks_can_be_written, no_fewer_parentheses, quotes_are_needed, statements_read_back,
+    write_statement,
+};
 use pg_values::NoMemory;
 use sql_syntax::parse_block;
 use std::alloc::Global;
@@ -164,6 +167,7 @@ fn statements_are_written_as_by_hand(rt: HostRuntime) -> Result<(), Fail> {
     statements_read_back();
     blocks_can_be_written();
     no_fewer_parentheses();
+    quotes_are_needed();
     let alloc = rt.alloc();
     assert_eq!(rt; WRITTEN.split(|b| *b == b'\n').count(), 129);
     for line in WRITTEN.split(|b| *b == b'\n') {
