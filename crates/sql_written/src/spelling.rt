@@ -60,8 +60,8 @@ fn write_doubled(quote: u8, text: &[u8], out: &mut Vec<u8>) -> Result<(), NoMemo
     Ok(())
 }
 
-/// Appends a text between quotes, with each quote in it twice. Here and below, where memory runs out, a
-/// part of it may be there.
+/// Appends a text between quotes, with each quote in it twice: where memory runs out, a part of it may
+/// be there.
 pub fn write_quoted(quote: u8, text: &[u8], out: &mut Vec<u8>) -> Result<(), NoMemory>
     ensures { OnOk result (out.new.items ≡ out.old.items ++ quotes.quoted quote text.now) }
 {
@@ -71,7 +71,8 @@ pub fn write_quoted(quote: u8, text: &[u8], out: &mut Vec<u8>) -> Result<(), NoM
     Ok(())
 }
 
-/// Appends a name, between quotes unless it may stand without.
+/// Appends a name, between quotes unless it may stand without: where memory runs out, a part of it may
+/// be there.
 pub fn write_name_if(plain: bool, name: &[u8], out: &mut Vec<u8>) -> Result<(), NoMemory>
     ensures { OnOk result (out.new.items ≡ out.old.items ++ bytes_of (if plain then mark (kind_of name.now) name.now else mark Kind.QuotedName (quotes.quoted 34 name.now))) }
 {
@@ -82,14 +83,15 @@ pub fn write_name_if(plain: bool, name: &[u8], out: &mut Vec<u8>) -> Result<(), 
     write_quoted(b'"', name, out)
 }
 
-/// Appends a name, between quotes only where it must be.
+/// Appends a name, between quotes only where it must be: where memory runs out, a part of it may be
+/// there.
 pub fn write_name(name: &[u8], out: &mut Vec<u8>) -> Result<(), NoMemory>
     ensures { OnOk result (out.new.items ≡ out.old.items ++ bytes_of (spelled.name name.now)) }
 {
     write_name_if(is_plain(name), name, out)
 }
 
-/// Appends a whole number.
+/// Appends a whole number: where memory runs out, a part of it may be there.
 pub fn write_number(n: u64, out: &mut Vec<u8>) -> Result<(), NoMemory>
     ensures { OnOk result (out.new.items ≡ out.old.items ++ bytes_of (spelled.number n)) }
 {

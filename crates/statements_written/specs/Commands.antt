@@ -1,4 +1,4 @@
--- What is written of each command (VI. SQL Commands). What is said by leaving it out is left out.
+-- What is written of each command (VI. SQL Commands). What is said by leaving it out is left out, but for TABLE behind LOCK.
 use Rattle.std.specs.Prelude.{ℕ, Bool, true, false, ◌||◌, if◌then◌else◌, List, [], ◌∷◌, ◌++◌, Option, Some, None, codes}
 use Rattle.std.specs.Str.{bytes_eq}
 use Rattle.sql_tokens.specs.Words.{is}
