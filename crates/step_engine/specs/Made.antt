@@ -4,6 +4,7 @@ use Rattle.pg_values.specs.declared.value.Value.{Value}
 use Rattle.first_syntax.specs.declared.statement.Statement.{Statement}
 use Rattle.first_syntax.specs.declared.statement.CreateTable.{CreateTable}
 use Rattle.first_syntax.specs.declared.statement.Insert.{Insert}
+use Rattle.step_engine.specs.declared.table.TheConstants.{STATEMENT_LIMIT}
 use Rattle.step_engine.specs.Setup.{Setup, IsName, IsWellFormed}
 use Rattle.step_engine.specs.Statements.{setup_statements}
 use Rattle.step_engine.specs.Rows.{stored}
@@ -13,7 +14,7 @@ pub record GoTogether (create : CreateTable) (partitions : List Statement) (inse
   pub key : create.key ≡ create.column
   pub same_table : insert.table ≡ create.table
   pub some : 0 < length partitions
-  pub statements : length partitions + 2 ≤ 1024
+  pub statements : length partitions + 2 ≤ STATEMENT_LIMIT
   pub table : IsName create.table
   pub column : IsName create.column
 

@@ -2,7 +2,8 @@
 use Rattle.std.specs.Prelude.{◌⊎◌, ℕ, List, codes}
 use Rattle.std.specs.declared.option.Option.{Option}
 use Rattle.std.specs.Io.KnownBytes.{Appends, Keeps}
-use Rattle.step_engine.specs.Input.{AppendsPrefix, ConsumesPast, Gave}
+use Rattle.step_engine.specs.Input.{AppendsPrefix, ConsumesWithin, ConsumesPast, Gave}
+use Rattle.step_engine.specs.declared.input.TheConstants.{INPUT_LIMIT}
 use Rattle.step_engine.specs.declared.top.Ended.{Ended}
 use Rattle.step_engine.specs.declared.top.Ended.TheVariants.{Done, ScriptRefused, Usage, TooLarge, ReadFault, WriteFault, NoMemory}
 use Rattle.step_engine.specs.Script.{Script, IsScript}
@@ -70,9 +71,9 @@ abbrev pub IsCut : (left_old left_new out_old out_new err_old err_new : Option (
 IsCut left_old left_new out_old out_new err_old err_new =
     (GaveInput left_old left_new (λ input. IsBegun input out_old out_new) × Keeps err_old err_new)
     ⊎ (GaveInput left_old left_new IsNoScript × CutIn refused_line out_old out_new err_old err_new)
-    ⊎ CutIn usage_line out_old out_new err_old err_new
-    ⊎ (ConsumesPast left_old left_new 4194304 × CutIn too_large_line out_old out_new err_old err_new)
-    ⊎ CutIn read_line out_old out_new err_old err_new
+    ⊎ (Keeps left_old left_new × CutIn usage_line out_old out_new err_old err_new)
+    ⊎ (ConsumesPast left_old left_new INPUT_LIMIT × CutIn too_large_line out_old out_new err_old err_new)
+    ⊎ (ConsumesWithin left_old left_new INPUT_LIMIT × CutIn read_line out_old out_new err_old err_new)
 
 -- memory ran out: `out` has the first bytes of the run, or nothing; `err` has nothing
 abbrev pub IsStopped : (left_old left_new out_old out_new err_old err_new : Option (List ℕ)) → Type 0

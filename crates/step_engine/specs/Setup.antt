@@ -8,6 +8,8 @@ use Rattle.part_bounds.specs.declared.partition_bound.Bound.{Bound}
 use Rattle.part_bounds.specs.IntBounds.{int_range}
 use Rattle.part_bounds.specs.Bounds.{overlaps, in_plain_order}
 use Rattle.part_bounds.specs.Accepts.{accepts}
+use Rattle.step_engine.specs.declared.partitions.TheConstants.{NAME_LIMIT}
+use Rattle.step_engine.specs.declared.table.TheConstants.{STATEMENT_LIMIT}
 
 -- a partition: its name, and the numbers of FOR VALUES FROM (from) TO (to)
 pub record Partition : Type 0 where
@@ -39,9 +41,9 @@ children s = in_plain_order (map bound_of s.partitions)
 abbrev pub FitsInteger : ℕ → Type 0
 FitsInteger n = n < 2 ^ 31
 
--- a name has at most 63 bytes
+-- a name is within the limit
 abbrev pub IsName : List ℕ → Type 0
-IsName name = length name ≤ 63
+IsName name = length name ≤ NAME_LIMIT
 
 -- an integer that some bound accepts
 pub record CanInsert (bounds : List Bound) (n : ℕ) : Type 0 where
@@ -60,10 +62,10 @@ pub record ArePartitions (table : List ℕ) (partitions : List Partition) : Type
   pub names : AllPairs (λ a b. a ≢ b) (table ∷ map (λ p. p.name) partitions)
   pub apart : AllPairs (λ p q. overlaps (bound_of q) (bound_of p) ≡ false) partitions
 
--- at most 1,024 statements, one partition at least, and inserted numbers that each lie in a bound
+-- statements within the limit, one partition at least, and inserted numbers that each lie in a bound
 pub record IsWellFormed (s : Setup) : Type 0 where
   pub some : 0 < length s.partitions
-  pub statements : length s.partitions + 2 ≤ 1024
+  pub statements : length s.partitions + 2 ≤ STATEMENT_LIMIT
   pub table : IsName s.table
   pub column : IsName s.column
   pub partitions : ArePartitions s.table s.partitions

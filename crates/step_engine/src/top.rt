@@ -1,7 +1,7 @@
 ghost use Rattle.std.specs.Prelude.{◌≡◌, ◌≢◌, ◌⊎◌, ◌<◌, ◌≤◌, [], length, IfSome};
 ghost use Rattle.std.specs.Io.KnownBytes.{Appends, Keeps};
 ghost use Rattle.pg_values.specs.Faults.{Rose};
-ghost use Rattle.step_engine.specs.Input.{AppendsPrefix, ConsumesPast};
+ghost use Rattle.step_engine.specs.Input.{AppendsPrefix, ConsumesWithin, ConsumesPast};
 ghost use Rattle.step_engine.specs.Script.{Script, IsScript};
 ghost use Rattle.step_engine.specs.Outcomes.{usage_line, too_large_line, read_line, refused_line, IsPrinted, IsNoScript, RunEnds, GaveInput, IsCut, IsStopped};
 
@@ -24,7 +24,7 @@ pub enum Ended {
     Usage,
     /// More than the limit of bytes came.
     TooLarge,
-    /// A read failed.
+    /// A read failed before more than the limit of bytes came.
     ReadFault,
     /// A write failed.
     WriteFault,
@@ -93,11 +93,11 @@ pub fn partscript_run<S: Source, K: Sink, E: Sink>(
     // There were words, and nothing was read.
     ensures usage { result ≡ Ended.Usage → (words.now ≢ []) × Keeps (S.left input.old) (S.left input.new) × Keeps (K.taken out.old) (K.taken out.new) × Appends (E.taken err.old) (E.taken err.new) usage_line }
 
-    // More bytes than the limit came.
+    // A byte past the limit came, and nothing behind it was read.
     ensures too_large { result ≡ Ended.TooLarge → ConsumesPast (S.left input.old) (S.left input.new) INPUT_LIMIT × Keeps (K.taken out.old) (K.taken out.new) × Appends (E.taken err.old) (E.taken err.new) too_large_line }
 
-    // A read, or a write, failed in this call.
-    ensures read { result ≡ Ended.ReadFault → Rose (S.faults input.old) (S.faults input.new) × Keeps (K.taken out.old) (K.taken out.new) × Appends (E.taken err.old) (E.taken err.new) read_line }
+    // A read failed in this call, where at most the limit had come; or a write failed.
+    ensures read { result ≡ Ended.ReadFault → Rose (S.faults input.old) (S.faults input.new) × ConsumesWithin (S.left input.old) (S.left input.new) INPUT_LIMIT × Keeps (K.taken out.old) (K.taken out.new) × Appends (E.taken err.old) (E.taken err.new) read_line }
     ensures write { result ≡ Ended.WriteFault → Rose (K.faults out.old) (K.faults out.new) ⊎ Rose (E.faults err.old) (E.faults err.new) }
 
     // And in no call that answers otherwise: a failed read is answered, and a failed write ends
