@@ -5,11 +5,13 @@
 #![tactic(auto)]
 
 mod adapters;
+mod behind_name;
 
 ghost use Rattle.std.specs.Prelude.{◌≡◌};
 ghost use Rattle.partscript.specs.Status as spec;
 
 use adapters::{InputSource, OutputSink};
+use behind_name::BehindName;
 use pg_values::NoMemory;
 use std::env;
 use std::io::ErrorKind;
@@ -32,13 +34,14 @@ fn status(ended: Ended) -> u8
     }
 }
 
-/// The words after the program's name. A word that is no UTF-8 is a word all the same: it stands
-/// there empty.
+/// The words after the program's name. Where one of them is no UTF-8 there is one empty word: no
+/// call of the program has such a word.
 fn words_of<R: Env + AllocGlobal>(rt: &R) -> Result<Vec<String>, NoMemory> {
+    let behind = (BehindName::new(rt), rt.alloc());
     let mut words = Vec::new(rt.alloc());
-    match env::args(rt) {
+    match env::args(&behind) {
         Ok(all) => {
-            for word in all.skip(1) {
+            for word in all {
                 words.push(word)?;
             }
         }
