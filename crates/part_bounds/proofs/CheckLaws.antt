@@ -24,6 +24,15 @@ pub kept : (t : Bool) (f : Fault) → unless t f ≡ [] → t ≡ true
 kept true f h = refl
 kept false f h = cc
 
+-- where no rule is broken, neither the first nor the rest is
+pub none_left : (fs rest : List Fault) → fs ++ rest ≡ [] → fs ≡ []
+none_left [] rest h = refl
+none_left (f ∷ fs) rest h = cc
+
+pub none_behind : (fs rest : List Fault) → fs ++ rest ≡ [] → rest ≡ []
+none_behind [] rest h = h
+none_behind (f ∷ fs) rest h = cc
+
 -- the fault of the first rules is that of all
 pub here : {T U : Type 0} (e : Refusal) (fs rest : List Fault) (u : U) (v : T) → IsAnswer {T = U} (Err e) (or_first fs u) → IsAnswer {T = T} (Err e) (or_first (fs ++ rest) v)
 here (Sql f) [] rest u v h = cc

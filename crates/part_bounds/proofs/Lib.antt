@@ -1,6 +1,8 @@
 pub mod CheckLaws
 pub mod Choice
 pub mod IntBoundLaws
+pub mod LevelGiven
+pub mod LevelKeys
 pub mod LevelLaws
 pub mod ListedLaws
 pub mod OnceLaws
@@ -14,3 +16,4 @@ pub mod Residues
 pub mod TotalOrder
 pub mod Walk
 pub mod WithinLaws
+pub mod WordLaws

@@ -15,7 +15,7 @@ use Rattle.part_bounds.specs.Bounds.{is_below}
 use Rattle.part_bounds.specs.RawBounds.{edges_for, values_for, only_kind, faults_in, read_in, point_for, each_once}
 use Rattle.part_bounds.specs.BoundFaults.{null_in_range, empty_range, wrong_count}
 use Rattle.part_bounds.specs.Checks.{or_first, unless, count_faults, has_null_edge, word_faults, range_faults, list_faults}
-use Rattle.part_bounds.specs.Levels.{IsPointOf}
+use Rattle.part_bounds.specs.Levels.{HasEdges}
 use Rattle.part_bounds.proofs.CheckLaws.{none_found, answered, kept, last, all_kept}
 use Rattle.part_bounds.proofs.RawLaws.{point_is}
 
@@ -31,9 +31,9 @@ no_null false false f h = (refl, refl)
 
 -- what was read is a point of the key columns
 pub read_is : (columns : List KeyColumn) (edges : List RawEdge) (p : List Edge) → length edges ≡ length columns
-    → or_first (faults_in (edges_for columns edges)) (point_for columns edges) ≡ Ok p → has_null_edge edges ≡ false → IsPointOf columns p
+    → or_first (faults_in (edges_for columns edges)) (point_for columns edges) ≡ Ok p → has_null_edge edges ≡ false → HasEdges columns p
 read_is columns edges p long h n =
-    subst (IsPointOf columns) (answered (faults_in (edges_for columns edges)) (point_for columns edges) p h)
+    subst (HasEdges columns) (answered (faults_in (edges_for columns edges)) (point_for columns edges) p h)
     (point_is columns edges long (none_found (faults_in (edges_for columns edges)) (point_for columns edges) p h) n)
 
 -- where each rule is kept the range is the one that is meant

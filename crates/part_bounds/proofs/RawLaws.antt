@@ -31,7 +31,7 @@ use Rattle.part_bounds.specs.Points.{is_null, EdgesFit, PointsFit, EdgeOfKind}
 use Rattle.part_bounds.specs.Listed.{ValuesFit, ValueOfKind}
 use Rattle.part_bounds.specs.RawBounds.{given_to, value_for, edge_at, edge_for, edges_for, values_for, faults_in, read_in, point_for}
 use Rattle.part_bounds.specs.Checks.{is_null_value, is_null_edge, has_null_edge}
-use Rattle.part_bounds.specs.Levels.{IsOf, IsEdgeOf, IsPointOf}
+use Rattle.part_bounds.specs.Levels.{IsOf, IsEdgeOf, HasEdges}
 
 -- ---- the walk over the entries
 
@@ -221,7 +221,7 @@ edges_compare (At v) Min kind h k = tt
 edges_compare (At v) Max kind h k = tt
 
 -- two points of the same key columns can be compared
-pub points_compare : (columns : List KeyColumn) (p q : List Edge) → IsPointOf columns p → IsPointOf columns q → PointsFit p q
+pub points_compare : (columns : List KeyColumn) (p q : List Edge) → HasEdges columns p → HasEdges columns q → PointsFit p q
 points_compare [] p q h k = rw (h, k) (tt, tt)
 points_compare (c ∷ columns) [] q h k = absurd h
 points_compare (c ∷ columns) (x ∷ p) [] h k = absurd k
@@ -232,7 +232,7 @@ edge_not_null Min kind h = tt
 edge_not_null (At v) kind h = not_null v h.0
 edge_not_null Max kind h = tt
 
-pub point_not_null : (columns : List KeyColumn) (p : List Edge) → IsPointOf columns p → All (EdgeOfKind IsNotNull) p
+pub point_not_null : (columns : List KeyColumn) (p : List Edge) → HasEdges columns p → All (EdgeOfKind IsNotNull) p
 point_not_null [] p h = rw h (All-cons (EdgeOfKind IsNotNull) Min [] tt (All-nil (EdgeOfKind IsNotNull)))
 point_not_null (c ∷ columns) [] h = absurd h
 point_not_null (c ∷ columns) (x ∷ p) h = All-cons (EdgeOfKind IsNotNull) x p (edge_not_null x c.kind h.0) (point_not_null columns p h.1)
@@ -248,23 +248,23 @@ edge_kind kind (RawAt raw) x h n = by (value_for kind raw) refl h
     by (Ok v) e g = let same : At v ≡ x = cc in subst (IsEdgeOf kind) same (value_kind kind raw v e n)
     by (Err f) e g = cc
 
-or_left : (s t : Bool) → s || t ≡ false → s ≡ false
+pub or_left : (s t : Bool) → s || t ≡ false → s ≡ false
 or_left false t h = refl
 or_left true t h = h
 
-or_right : (s t : Bool) → s || t ≡ false → t ≡ false
+pub or_right : (s t : Bool) → s || t ≡ false → t ≡ false
 or_right false t h = h
 or_right true t h = cc
 
 -- without a fault and without null it is one of the key columns
-pub point_is : (columns : List KeyColumn) (edges : List RawEdge) → length edges ≡ length columns → faults_in (edges_for columns edges) ≡ [] → has_null_edge edges ≡ false → IsPointOf columns (point_for columns edges)
+pub point_is : (columns : List KeyColumn) (edges : List RawEdge) → length edges ≡ length columns → faults_in (edges_for columns edges) ≡ [] → has_null_edge edges ≡ false → HasEdges columns (point_for columns edges)
 point_is [] edges long none n = refl
 point_is (c ∷ columns) [] long none n = absurd (omega (arith, long))
 point_is (c ∷ columns) (e ∷ edges) long none n =
     by (edge_for c.kind e) refl none (λ k. point_is columns edges (omega (arith, long)) k (or_right (is_null_edge e) (has_null_edge edges) n))
   where
-    by : (r : Result Edge Fault) → edge_for c.kind e ≡ r → faults_in (r ∷ edges_for columns edges) ≡ [] → (faults_in (edges_for columns edges) ≡ [] → IsPointOf columns (point_for columns edges))
-        → IsPointOf (c ∷ columns) (read_in (r ∷ edges_for columns edges) ++ Min ∷ [])
+    by : (r : Result Edge Fault) → edge_for c.kind e ≡ r → faults_in (r ∷ edges_for columns edges) ≡ [] → (faults_in (edges_for columns edges) ≡ [] → HasEdges columns (point_for columns edges))
+        → HasEdges (c ∷ columns) (read_in (r ∷ edges_for columns edges) ++ Min ∷ [])
     by (Ok x) is k rest = (edge_kind c.kind e x is (or_left (is_null_edge e) (has_null_edge edges) n), rest k)
     by (Err f) is k rest = cc
 

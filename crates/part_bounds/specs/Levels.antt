@@ -1,19 +1,25 @@
--- The bounds of one level: of its strategy, and each value of its key column's kind.
-use Rattle.std.specs.Prelude.{◌≡◌, ◌≤◌, ◌<◌, true, false, List, [], ◌∷◌, All, length, Ok}
+-- The bounds of one level, such as a check gives for it, and the keys that they can be asked of (CREATE TABLE, PARTITION OF).
+use Rattle.std.specs.Prelude.{◌≡◌, ◌≤◌, ◌<◌, ◌↔◌, true, false, List, [], ◌∷◌, All, length, map, take, Ok}
+use Rattle.std.specs.List.{AllPairs, AllZip, slice_index_or}
 use Rattle.pg_values.specs.declared.value.Kind.{Kind}
 use Rattle.pg_values.specs.declared.value.Value.{Value}
+use Rattle.pg_values.specs.declared.value.Value.TheVariants.{Null}
+use Rattle.pg_values.specs.Order.{AreComparable}
 use Rattle.pg_values.specs.KeyKinds.{IsNotNull}
 use Rattle.value_rules.specs.Reads.{kind_of}
 use Rattle.part_bounds.specs.declared.level.Strategy.{Strategy}
 use Rattle.part_bounds.specs.declared.level.Strategy.TheVariants.{Range as ByRange, List as ByList, Hash as ByHash}
 use Rattle.part_bounds.specs.declared.level.KeyColumn.{KeyColumn}
+use Rattle.part_bounds.specs.declared.level.Level.{Level}
 use Rattle.part_bounds.specs.declared.partition_bound.Bound.{Bound}
 use Rattle.part_bounds.specs.declared.partition_bound.Bound.TheVariants.{Range, List as Listed, Hash, Default}
 use Rattle.part_bounds.specs.declared.point.Edge.{Edge}
 use Rattle.part_bounds.specs.declared.point.Edge.TheVariants.{Min, At, Max}
-use Rattle.part_bounds.specs.Points.{is_null}
-use Rattle.part_bounds.specs.Bounds.{is_below, is_filled, BoundOfKind, BoundsFit}
+use Rattle.part_bounds.specs.Points.{is_null, picked}
+use Rattle.part_bounds.specs.Listed.{is_same}
+use Rattle.part_bounds.specs.Bounds.{is_below, is_filled, BoundOfKind, BoundsFit, CanCompare}
 use Rattle.part_bounds.specs.Moduli.{moduli_suit}
+use Rattle.part_bounds.specs.Accepts.{FitsBound, FitsSet}
 use Rattle.part_bounds.specs.declared.raw_bound.RawBound.{RawBound}
 use Rattle.part_bounds.specs.RawBounds.{only_kind}
 use Rattle.part_bounds.specs.Checks.{checked}
@@ -29,14 +35,27 @@ IsEdgeOf kind (At v) = (is_null v ≡ false) × (kind_of v ≡ kind)
 IsEdgeOf kind Max = Unit {0}
 
 -- an edge for each key column, filled up with MIN
-abbrev pub IsPointOf : List KeyColumn → List Edge → Type 0
-IsPointOf [] p = p ≡ Min ∷ []
-IsPointOf (c ∷ columns) [] = ⊥
-IsPointOf (c ∷ columns) (e ∷ p) = IsEdgeOf c.kind e × IsPointOf columns p
+abbrev pub HasEdges : List KeyColumn → List Edge → Type 0
+HasEdges [] p = p ≡ Min ∷ []
+HasEdges (c ∷ columns) [] = ⊥
+HasEdges (c ∷ columns) (e ∷ p) = IsEdgeOf c.kind e × HasEdges columns p
 
--- the values of a list are of the one key column's kind
-abbrev pub AreOf : List KeyColumn → List Value → Type 0
-AreOf columns values = (length columns ≡ 1) × All (IsOf (only_kind columns)) values
+-- behind MINVALUE stands MINVALUE alone, and behind MAXVALUE MAXVALUE
+abbrev pub Repeats : Edge → Edge → Type 0
+Repeats Min later = later ≡ Min
+Repeats (At v) later = Unit {0}
+Repeats Max later = later ≡ Max
+
+-- a point as FROM or TO gives it
+pub record IsPointOf (columns : List KeyColumn) (p : List Edge) : Type 0 where
+  pub edges : HasEdges columns p
+  pub words : AllPairs Repeats (take (length columns) p)
+
+-- values of the one key column's kind, each once
+pub record AreOf (columns : List KeyColumn) (values : List Value) : Type 0 where
+  pub one : length columns ≡ 1
+  pub kind : All (IsOf (only_kind columns)) values
+  pub once : AllPairs (λ v w. is_same v w ≡ false) values
 
 -- a bound of the level, not empty
 abbrev pub IsBoundAt : Strategy → List KeyColumn → Bound → Type 0
@@ -53,14 +72,48 @@ IsBoundAt ByHash columns (Listed values) = ⊥
 IsBoundAt ByHash columns (Hash modulus remainder) = (remainder < modulus) × (modulus ≤ 2147483647)
 IsBoundAt ByHash columns Default = ⊥
 
--- what `checked` gives for a level is a bound of that level
-abbrev pub CheckedIsOfItsLevel : Type 0
-CheckedIsOfItsLevel = (strategy : Strategy) (columns : List KeyColumn) (raw : RawBound) (b : Bound) → (strategy ≡ ByList → length columns ≡ 1) → checked strategy columns raw ≡ Ok b → IsBoundAt strategy columns b
+-- a bound such as a check gives for the level
+abbrev pub IsOfLevel : Level → Bound → Type 0
+IsOfLevel level b = IsBoundAt level.strategy level.columns b
+
+-- null, or comparable with the values of the kind
+abbrev pub ComparesWith : Kind → Value → Type 0
+ComparesWith kind v = (w : Value) → is_null v ≡ false → is_null w ≡ false → kind_of w ≡ kind → AreComparable w v
+
+-- a key of the level: for each key column a value that is null or comparable with the column's
+abbrev pub IsKeyOfLevel : Level → List Value → Type 0
+IsKeyOfLevel level key = AllZip (λ c v. ComparesWith c.kind v) level.columns key
+
+-- ---- laws
+
+-- bounds of a level are those that a check gives for it
+abbrev pub LevelBoundsAreChecked : Type 0
+LevelBoundsAreChecked = (level : Level) (b : Bound) → IsOfLevel level b ↔ ((raw : RawBound) × (checked level.strategy level.columns raw ≡ Ok b))
 
 -- two bounds of one level can stand side by side, unless a modulus does not suit the other
 abbrev pub LevelBoundsFit : Type 0
-LevelBoundsFit = (strategy : Strategy) (columns : List KeyColumn) (a b : Bound) → IsBoundAt strategy columns a → IsBoundAt strategy columns b → moduli_suit a b ≡ true → BoundsFit a b
+LevelBoundsFit = (level : Level) (a b : Bound) → IsOfLevel level a → IsOfLevel level b → moduli_suit a b ≡ true → BoundsFit a b
+
+-- and their values can be compared, whatever the moduli
+abbrev pub LevelBoundsCompare : Type 0
+LevelBoundsCompare = (level : Level) (a b : Bound) → IsOfLevel level a → IsOfLevel level b → CanCompare a b
 
 -- its values are none of them null in a range, and can be compared with one another in a list
 abbrev pub LevelBoundsHaveAKind : Type 0
-LevelBoundsHaveAKind = (strategy : Strategy) (columns : List KeyColumn) (b : Bound) → IsBoundAt strategy columns b → BoundOfKind IsNotNull b
+LevelBoundsHaveAKind = (level : Level) (b : Bound) → IsOfLevel level b → BoundOfKind IsNotNull b
+
+-- it is not empty
+abbrev pub LevelBoundsAreFilled : Type 0
+LevelBoundsAreFilled = (level : Level) (b : Bound) → IsOfLevel level b → is_filled b ≡ true
+
+-- each bound of a level can be asked of each key of the level
+abbrev pub LevelKeysFit : Type 0
+LevelKeysFit = (level : Level) (b : Bound) (key : List Value) → IsOfLevel level b → IsKeyOfLevel level key → FitsBound key b
+
+-- and so can all bounds of a set
+abbrev pub LevelKeysFitSets : Type 0
+LevelKeysFitSets = (level : Level) (bounds : List Bound) (key : List Value) → All (IsOfLevel level) bounds → IsKeyOfLevel level key → FitsSet bounds key
+
+-- a row whose values at the places of the key columns are of their kinds, or null, gives a key of the level
+abbrev pub RowsGiveKeys : Type 0
+RowsGiveKeys = (level : Level) (row : List Value) → All (λ c. IsOf c.kind (slice_index_or row c.position Null)) level.columns → IsKeyOfLevel level (picked row (map (λ c. c.position) level.columns))

@@ -5,7 +5,7 @@
 //! MINVALUE and MAXVALUE with another entry behind them; a remainder that no number leaves; a
 //! default of a hash table; an empty range.
 
-ghost use Rattle.std.specs.Prelude.{◌≡◌, ◌<◌, ◌||◌, not, [], All, length};
+ghost use Rattle.std.specs.Prelude.{◌≡◌, ◌<◌, ◌||◌, not, [], All, IfOk, length};
 ghost use Rattle.pg_values.specs.Refusals.{IsAnswer};
 ghost use Rattle.pg_values.specs.KeyKinds.{IsNotNull};
 ghost use Rattle.part_bounds.specs.declared.partition_bound.Bound.TheVariants.{Range, List as Listed, Hash};
@@ -15,6 +15,7 @@ ghost use Rattle.part_bounds.specs.RawBounds.{values_for, only_kind, read_in, ea
 ghost use Rattle.part_bounds.specs.Checks as checks;
 ghost use Rattle.part_bounds.specs.Checks.{or_first, unless, count_faults, has_null_edge, repeat_faults, word_faults, range_faults, list_faults, is_remainder, checked};
 ghost use Rattle.part_bounds.specs.BoundFaults as faults;
+ghost use Rattle.part_bounds.specs.Levels.{IsOfLevel};
 
 use crate::bound_fault::{
     bad_remainder, does_not_suit, empty_range, no_hash_default, not_repeated, null_in_range,
@@ -189,9 +190,7 @@ fn check_default(alloc: Global, strategy: Strategy) -> Result<Bound, Refusal>
     }
 }
 
-/// The bound that is meant by what is written, or the first rule that it breaks. Its values are of
-/// the kinds of the key columns; a value that a list has twice is kept at its first place.
-pub fn check_bound(alloc: Global, level: &Level, raw: &RawBound) -> Result<Bound, Refusal>
+fn check_at(alloc: Global, level: &Level, raw: &RawBound) -> Result<Bound, Refusal>
     ensures { IsAnswer result (checked level.now.strategy level.now.columns raw.now) }
 {
     let columns = level.columns.as_slice();
@@ -208,4 +207,13 @@ pub fn check_bound(alloc: Global, level: &Level, raw: &RawBound) -> Result<Bound
         (strategy, RawBound::Default) => check_default(alloc, strategy),
         (strategy, _) => Err(Refusal::Sql(does_not_suit(alloc, strategy)?)),
     }
+}
+
+/// The bound that is meant by what is written, or the first rule that it breaks. Its values are of
+/// the kinds of the key columns; a value that a list has twice is kept at its first place.
+pub fn check_bound(alloc: Global, level: &Level, raw: &RawBound) -> Result<Bound, Refusal>
+    ensures answer { IsAnswer result (checked level.now.strategy level.now.columns raw.now) }
+    ensures of_level { IfOk result (λ b. IsOfLevel level.now b) }
+{
+    check_at(alloc, level, raw)
 }

@@ -1,5 +1,5 @@
 ghost use Rattle.part_bounds.specs.Laws.{AddedInEitherOrder, NoCommonKey, AtMostOneAccepts, DefaultAcceptsTheRest, OverlapIsSharedResidue, PlainOrderKeeps, PlainOrderIsSorted};
-ghost use Rattle.part_bounds.specs.Levels.{CheckedIsOfItsLevel, LevelBoundsFit, LevelBoundsHaveAKind};
+ghost use Rattle.part_bounds.specs.Levels.{LevelBoundsAreChecked, LevelBoundsFit, LevelBoundsCompare, LevelBoundsHaveAKind, LevelBoundsAreFilled, LevelKeysFit, LevelKeysFitSets, RowsGiveKeys};
 ghost use Rattle.part_bounds.specs.Within.{WithinAccepts};
 
 /// Two bounds of one level that do not overlap accept no key in common.
@@ -44,9 +44,10 @@ pub fn within_accepts()
     ensures { WithinAccepts }
 {}
 
-/// What `check_bound` gives for a level is a bound of that level.
-pub fn checked_is_of_its_level()
-    ensures { CheckedIsOfItsLevel }
+/// The bounds of a level are those that `check_bound` gives for it: each of them for some bound as it
+/// is written, and no other.
+pub fn level_bounds_are_checked()
+    ensures { LevelBoundsAreChecked }
 {}
 
 /// Two bounds of one level can stand side by side, unless a modulus does not suit the other.
@@ -54,7 +55,27 @@ pub fn level_bounds_fit()
     ensures { LevelBoundsFit }
 {}
 
-/// A set whose key kind admits every value but null can hold the bounds of any level.
+/// The values of two bounds of one level can be compared, whatever the moduli: `within` can be asked of
+/// them.
+pub fn level_bounds_compare()
+    ensures { LevelBoundsCompare }
+{}
+
+/// A set whose key kind admits every value but null can hold the bounds of any level, none of which is
+/// empty.
 pub fn level_bounds_have_a_kind()
-    ensures { LevelBoundsHaveAKind }
+    ensures kind { LevelBoundsHaveAKind }
+    ensures filled { LevelBoundsAreFilled }
+{}
+
+/// The bounds of a level can be asked of a key of that level, one by one and as a set.
+pub fn level_keys_fit()
+    ensures each { LevelKeysFit }
+    ensures set { LevelKeysFitSets }
+{}
+
+/// A row whose values at the places of the key columns are of their kinds, or null, gives a key of the
+/// level.
+pub fn rows_give_keys()
+    ensures { RowsGiveKeys }
 {}

@@ -41,9 +41,10 @@ pub use check::check_bound;
 pub use inside::within;
 pub use key::{Key, RowKey, row_hash};
 pub use laws::{
-    added_in_either_order, at_most_one_accepts, checked_is_of_its_level, default_accepts_the_rest,
-    level_bounds_fit, level_bounds_have_a_kind, no_common_key, overlap_is_shared_residue,
-    plain_order_is_sorted, plain_order_keeps, within_accepts,
+    added_in_either_order, at_most_one_accepts, default_accepts_the_rest, level_bounds_are_checked,
+    level_bounds_compare, level_bounds_fit, level_bounds_have_a_kind, level_keys_fit,
+    no_common_key, overlap_is_shared_residue, plain_order_is_sorted, plain_order_keeps,
+    rows_give_keys, within_accepts,
 };
 pub use level::{KeyColumn, KeyColumns, Level, Strategy};
 pub use partition_bound::{Bound, copy_bound, range_bound};

@@ -1,7 +1,7 @@
 use Rattle.std.proofs.Common.{◌||◌, not, length}
 use Rattle.part_bounds.specs.BoundFaults.{null_in_range}
 use Rattle.part_bounds.specs.Checks.{has_null_edge, unless}
-use Rattle.part_bounds.specs.Levels.{IsPointOf}
+use Rattle.part_bounds.specs.Levels.{HasEdges}
 use Rattle.part_bounds.proofs.CheckLaws.{none_found}
 use Rattle.part_bounds.proofs.RangeLaws.{count_is, no_null, read_is}
 use Rattle.part_bounds.proofs.RawLaws.{points_compare, point_not_null}
@@ -15,6 +15,6 @@ check_filled-requires c =
     let from = c.in_ok-from.from in
     let to = c.in_ok-to.to in
     let nulls = no_null (has_null_edge lower) (has_null_edge upper) null_in_range (none_found (unless (not (has_null_edge lower || has_null_edge upper)) null_in_range) tt tt c.in_ok-check_nulls.ensures) in
-    let p : IsPointOf columns from = read_is columns lower from (count_is (length lower) (length columns) tt tt c.in_ok-check_count.ensures) c.in_ok-from.ensures nulls.0 in
-    let q : IsPointOf columns to = read_is columns upper to (count_is (length upper) (length columns) tt tt c.in_ok-check_count-2.ensures) c.in_ok-to.ensures nulls.1 in
+    let p : HasEdges columns from = read_is columns lower from (count_is (length lower) (length columns) tt tt c.in_ok-check_count.ensures) c.in_ok-from.ensures nulls.0 in
+    let q : HasEdges columns to = read_is columns upper to (count_is (length upper) (length columns) tt tt c.in_ok-check_count-2.ensures) c.in_ok-to.ensures nulls.1 in
     record { fit = points_compare columns from to p q; of_kind = point_not_null columns from p }
