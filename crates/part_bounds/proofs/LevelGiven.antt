@@ -16,6 +16,7 @@ use Rattle.part_bounds.specs.declared.raw_bound.RawEdge.TheVariants.{Min as RawM
 use Rattle.part_bounds.specs.declared.raw_bound.RawBound.{RawBound}
 use Rattle.part_bounds.specs.declared.raw_bound.RawBound.TheVariants.{Range as RawRange, List as RawList, Hash as RawHash, Default as RawDefault}
 use Rattle.part_bounds.specs.declared.partition_bound.Bound.{Bound}
+use Rattle.part_bounds.specs.declared.partition_bound.TheConstants.{MOST_MODULUS}
 use Rattle.part_bounds.specs.declared.partition_bound.Bound.TheVariants.{Range, List as Listed, Hash, Default}
 use Rattle.part_bounds.specs.declared.point.Edge.{Edge}
 use Rattle.part_bounds.specs.declared.point.Edge.TheVariants.{Min, At, Max}
@@ -150,9 +151,9 @@ list_given columns (v ∷ values) h some =
     let is : each_once (read_in (values_for kind raw)) ≡ v ∷ values = ap each_once p.1 ∙ own_once (v ∷ values) h.once in
     (RawList raw, answers (faults_in (values_for kind raw)) (Listed (each_once (read_in (values_for kind raw)))) (Listed (v ∷ values)) p.0 (ap Listed is))
 
-hash_given : (columns : List KeyColumn) (m r : ℕ) → r < m → m ≤ 2147483647 → (raw : RawBound) × (checked ByHash columns raw ≡ Ok (Hash m r))
+hash_given : (columns : List KeyColumn) (m r : ℕ) → r < m → m ≤ MOST_MODULUS → (raw : RawBound) × (checked ByHash columns raw ≡ Ok (Hash m r))
 hash_given columns m r below most =
-    let fits : is_remainder m r ≡ true = rw (le-leb m 2147483647 most, lt-ltb r m below) refl in
+    let fits : is_remainder m r ≡ true = rw (le-leb m MOST_MODULUS most, lt-ltb r m below) refl in
     (RawHash m r, answers (unless (is_remainder m r) bad_remainder) (Hash m r) (Hash m r) (holds (is_remainder m r) fits bad_remainder) refl)
 
 given_at : (strategy : Strategy) (columns : List KeyColumn) (b : Bound) → IsBoundAt strategy columns b → (raw : RawBound) × (checked strategy columns raw ≡ Ok b)

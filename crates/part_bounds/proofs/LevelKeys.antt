@@ -60,7 +60,7 @@ pub level_keys_sets : LevelKeysFitSets
 level_keys_sets level bounds key all k i d lt = level_keys level (get_or bounds i d) key (all i d lt) k
 
 -- what is null or of the kind compares with the kind
-compares : (kind : Kind) (v : Value) → IsOf kind v → ComparesWith kind v
+pub compares : (kind : Kind) (v : Value) → IsOf kind v → ComparesWith kind v
 compares kind v h w n m e = kinds_compare w v kind (m, e) (n, h n)
 
 row_suits : (row : List Value) (columns : List KeyColumn) → All (λ c. IsOf c.kind (slice_index_or row c.position Null)) columns → Suit columns (picked row (map (λ c. c.position) columns))

@@ -19,6 +19,7 @@ use Rattle.part_bounds.specs.declared.raw_bound.RawEdge.{RawEdge}
 use Rattle.part_bounds.specs.declared.raw_bound.RawBound.{RawBound}
 use Rattle.part_bounds.specs.declared.raw_bound.RawBound.TheVariants.{Range as RawRange, List as RawList, Hash as RawHash, Default as RawDefault}
 use Rattle.part_bounds.specs.declared.partition_bound.Bound.{Bound}
+use Rattle.part_bounds.specs.declared.partition_bound.TheConstants.{MOST_MODULUS}
 use Rattle.part_bounds.specs.declared.partition_bound.Bound.TheVariants.{Range, List as Listed, Hash, Default}
 use Rattle.part_bounds.specs.Listed.{is_same, ListsFit, ValueOfKind}
 use Rattle.part_bounds.specs.Bounds.{is_below, is_filled, are_siblings, BoundOfKind, BoundsFit, CanCompare}
@@ -213,7 +214,7 @@ both true false h = cc
 both false t h = cc
 
 remainder_at : (columns : List KeyColumn) (m r : ℕ) → is_remainder m r ≡ true → IsBoundAt ByHash columns (Hash m r)
-remainder_at columns m r h = let p = both (nat_le m 2147483647) (nat_lt r m) h in (ltb-true r m p.1, leb-true m 2147483647 p.0)
+remainder_at columns m r h = let p = both (nat_le m MOST_MODULUS) (nat_lt r m) h in (ltb-true r m p.1, leb-true m MOST_MODULUS p.0)
 
 -- what is checked is a bound of its level
 checked_at : (strategy : Strategy) (columns : List KeyColumn) (raw : RawBound) (b : Bound) → (strategy ≡ ByList → length columns ≡ 1) → checked strategy columns raw ≡ Ok b → IsBoundAt strategy columns b

@@ -6,7 +6,6 @@ pub mod LevelKeys
 pub mod LevelLaws
 pub mod ListedLaws
 pub mod OnceLaws
-pub mod OneKindLaws
 pub mod OverlapLaws
 pub mod PlainOrder
 pub mod PointOrder

@@ -3,7 +3,7 @@ use Rattle.std.specs.Prelude.{ℕ, List, [], ◌∷◌, codes}
 use Rattle.std.specs.Fmt.{decimal}
 use Rattle.pg_values.specs.declared.value.Kind.{Kind}
 use Rattle.pg_values.specs.declared.fault.Fault.{Fault}
-use Rattle.value_rules.specs.Reads.{state, kind_word}
+use Rattle.value_rules.specs.FaultTexts.{fault_of, kind_word}
 use Rattle.part_bounds.specs.declared.level.Strategy.{Strategy}
 use Rattle.part_bounds.specs.declared.level.Strategy.TheVariants.{Range as ByRange, List as ByList, Hash as ByHash}
 
@@ -12,16 +12,8 @@ strategy_word ByRange = codes "RANGE"
 strategy_word ByList = codes "LIST"
 strategy_word ByHash = codes "HASH"
 
--- a fault of this state with its text and the words of its holes
-abbrev pub fault_of : List ℕ → List (List ℕ) → Fault
-fault_of code args = record { code = state code; args = args }
-
 abbrev pub wrong_kind : Kind → Kind → Fault
 wrong_kind given wanted = fault_of (codes "42804") (codes "<kind> where <kind> is wanted" ∷ kind_word given ∷ kind_word wanted ∷ [])
-
--- the only text of its state
-abbrev pub out_of_range : Fault
-out_of_range = fault_of (codes "22003") []
 
 abbrev pub does_not_suit : Strategy → Fault
 does_not_suit strategy = fault_of (codes "42P16") (codes "the bound does not suit <strategy>" ∷ strategy_word strategy ∷ [])

@@ -12,6 +12,7 @@ use Rattle.part_bounds.specs.declared.raw_bound.RawEdge.TheVariants.{Min as RawM
 use Rattle.part_bounds.specs.declared.raw_bound.RawBound.{RawBound}
 use Rattle.part_bounds.specs.declared.raw_bound.RawBound.TheVariants.{Range as RawRange, List as RawList, Hash as RawHash, Default as RawDefault}
 use Rattle.part_bounds.specs.declared.partition_bound.Bound.{Bound}
+use Rattle.part_bounds.specs.declared.partition_bound.TheConstants.{MOST_MODULUS}
 use Rattle.part_bounds.specs.declared.partition_bound.Bound.TheVariants.{Range, List as Listed, Hash, Default}
 use Rattle.part_bounds.specs.Points.{is_null}
 use Rattle.part_bounds.specs.Bounds.{is_below}
@@ -79,7 +80,7 @@ list_faults columns [] = wrong_count 0 1 ∷ []
 list_faults columns (x ∷ values) = faults_in (values_for (only_kind columns) (x ∷ values))
 
 abbrev pub is_remainder : ℕ → ℕ → Bool
-is_remainder modulus remainder = nat_le modulus 2147483647 && nat_lt remainder modulus
+is_remainder modulus remainder = nat_le modulus MOST_MODULUS && nat_lt remainder modulus
 
 -- the faults of a bound, the first one first
 abbrev pub faults : Strategy → List KeyColumn → RawBound → List Fault

@@ -12,6 +12,7 @@ use Rattle.part_bounds.specs.declared.level.Strategy.TheVariants.{Range as ByRan
 use Rattle.part_bounds.specs.declared.level.KeyColumn.{KeyColumn}
 use Rattle.part_bounds.specs.declared.level.Level.{Level}
 use Rattle.part_bounds.specs.declared.partition_bound.Bound.{Bound}
+use Rattle.part_bounds.specs.declared.partition_bound.TheConstants.{MOST_MODULUS}
 use Rattle.part_bounds.specs.declared.partition_bound.Bound.TheVariants.{Range, List as Listed, Hash, Default}
 use Rattle.part_bounds.specs.declared.point.Edge.{Edge}
 use Rattle.part_bounds.specs.declared.point.Edge.TheVariants.{Min, At, Max}
@@ -69,7 +70,7 @@ IsBoundAt ByList columns (Hash modulus remainder) = ⊥
 IsBoundAt ByList columns Default = Unit {0}
 IsBoundAt ByHash columns (Range l u) = ⊥
 IsBoundAt ByHash columns (Listed values) = ⊥
-IsBoundAt ByHash columns (Hash modulus remainder) = (remainder < modulus) × (modulus ≤ 2147483647)
+IsBoundAt ByHash columns (Hash modulus remainder) = (remainder < modulus) × (modulus ≤ MOST_MODULUS)
 IsBoundAt ByHash columns Default = ⊥
 
 -- a bound such as a check gives for the level

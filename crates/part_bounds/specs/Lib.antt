@@ -7,7 +7,6 @@ pub mod Laws
 pub mod Levels
 pub mod Listed
 pub mod Moduli
-pub mod OneKind
 pub mod Points
 pub mod RawBounds
 pub mod Within

@@ -16,7 +16,8 @@ use Rattle.part_bounds.specs.declared.raw_bound.RawEdge.TheVariants.{Min as RawM
 use Rattle.part_bounds.specs.declared.point.Edge.{Edge}
 use Rattle.part_bounds.specs.declared.point.Edge.TheVariants.{Min, At, Max}
 use Rattle.part_bounds.specs.Listed.{is_same}
-use Rattle.part_bounds.specs.BoundFaults.{wrong_kind, out_of_range}
+use Rattle.value_rules.specs.FaultTexts.{out_of_range}
+use Rattle.part_bounds.specs.BoundFaults.{wrong_kind}
 
 -- a column of the kind gets the value that assignment gives it, or the value does not go there
 abbrev pub given_to : Kind → Kind → Result Value CoerceFault → Result Value Fault

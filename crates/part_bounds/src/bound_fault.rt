@@ -6,42 +6,19 @@
 //! `the bound has 1 values for 2`. Where the SQLSTATE has one text the arguments are the words
 //! alone.
 
-ghost use Rattle.std.specs.Prelude.{◌≡◌, ◌∷◌, [], IfOk, codes};
+ghost use Rattle.std.specs.Prelude.{◌≡◌, IfOk, codes};
 ghost use Rattle.std.specs.Fmt.{decimal};
-ghost use Rattle.value_rules.specs.Reads as reads;
+ghost use Rattle.value_rules.specs.FaultTexts.{fault_of};
 ghost use Rattle.part_bounds.specs.BoundFaults as faults;
 
 use crate::Strategy;
 use pg_values::{Args, Fault, Kind, NoMemory, PgText, SqlState};
 use std::alloc::Global;
-
-fn one_text(alloc: Global, text: &[u8]) -> Result<Args, NoMemory>
-    ensures { IfOk result (λ args. args ≡ text.now ∷ []) }
-{
-    let mut args = Args::new(alloc);
-    args.push(PgText::from_bytes(alloc, text)?)?;
-    Ok(args)
-}
-
-fn two_texts(alloc: Global, text: &[u8], word: &[u8]) -> Result<Args, NoMemory>
-    ensures { IfOk result (λ args. args ≡ text.now ∷ word.now ∷ []) }
-{
-    let mut args = one_text(alloc, text)?;
-    args.push(PgText::from_bytes(alloc, word)?)?;
-    Ok(args)
-}
-
-fn three_texts(alloc: Global, text: &[u8], word: &[u8], other: &[u8]) -> Result<Args, NoMemory>
-    ensures { IfOk result (λ args. args ≡ text.now ∷ word.now ∷ other.now ∷ []) }
-{
-    let mut args = two_texts(alloc, text, word)?;
-    args.push(PgText::from_bytes(alloc, other)?)?;
-    Ok(args)
-}
+use value_rules::{kind_word, one_text, three_texts, two_texts};
 
 // A bound of the wrong form.
 fn form_fault(args: Args) -> Fault
-    ensures { result ≡ faults.fault_of (codes "42P16") args }
+    ensures { result ≡ fault_of (codes "42P16") args }
 {
     Fault {
         code: SqlState { bytes: *b"42P16" },
@@ -56,18 +33,6 @@ fn strategy_word(strategy: Strategy) -> &'static [u8]
         Strategy::Range => b"RANGE",
         Strategy::List => b"LIST",
         Strategy::Hash => b"HASH",
-    }
-}
-
-fn kind_word(kind: Kind) -> &'static [u8]
-    ensures { result.now ≡ reads.kind_word kind }
-{
-    match kind {
-        Kind::Int4 => b"integer",
-        Kind::Int8 => b"bigint",
-        Kind::Text => b"text",
-        Kind::Day => b"date",
-        Kind::Truth => b"boolean",
     }
 }
 
@@ -88,16 +53,6 @@ pub(crate) fn wrong_kind(alloc: Global, given: Kind, wanted: Kind) -> Result<Fau
         code: SqlState { bytes: *b"42804" },
         args: three_texts(alloc, text, kind_word(given), kind_word(wanted))?,
     })
-}
-
-/// `number out of range`
-pub(crate) fn out_of_range(alloc: Global) -> Fault
-    ensures { result ≡ faults.out_of_range }
-{
-    Fault {
-        code: SqlState { bytes: *b"22003" },
-        args: Args::new(alloc),
-    }
 }
 
 /// `the bound does not suit <strategy>`

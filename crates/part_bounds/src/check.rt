@@ -24,7 +24,7 @@ use crate::bound_fault::{
 use crate::key::is_null;
 use crate::point::cmp_points;
 use crate::raw_value::{read_list, read_point};
-use crate::{Bound, KeyColumn, Level, Point, RawBound, RawEdge, RawValue, Strategy};
+use crate::{Bound, KeyColumn, Level, MOST_MODULUS, Point, RawBound, RawEdge, RawValue, Strategy};
 use pg_values::{Refusal, ValueKey};
 use std::alloc::Global;
 
@@ -169,7 +169,7 @@ fn check_list(alloc: Global, columns: &[KeyColumn], values: &[RawValue]) -> Resu
 fn check_remainder(alloc: Global, modulus: u64, remainder: u64) -> Result<Bound, Refusal>
     ensures { IsAnswer result (or_first (unless (is_remainder modulus remainder) faults.bad_remainder) (Hash modulus remainder)) }
 {
-    if modulus <= 2_147_483_647 && remainder < modulus {
+    if modulus <= MOST_MODULUS as u64 && remainder < modulus {
         Ok(Bound::Hash {
             modulus: modulus as u32,
             remainder: remainder as u32,

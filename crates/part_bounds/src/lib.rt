@@ -32,7 +32,9 @@ mod raw_bound;
 mod raw_value;
 mod search;
 #[cfg(test)]
-mod tests;
+mod set_tests;
+#[cfg(test)]
+mod written;
 
 pub use bound_set::{
     BoundSet, add_bound, bound, default_child, len, make_set, modulus_fault, stands_in_plain_order,
@@ -47,7 +49,7 @@ pub use laws::{
     rows_give_keys, within_accepts,
 };
 pub use level::{KeyColumn, KeyColumns, Level, Strategy};
-pub use partition_bound::{Bound, copy_bound, range_bound};
+pub use partition_bound::{Bound, MOST_MODULUS, copy_bound, range_bound};
 pub use point::{Edge, Point};
 pub use raw_bound::{RawBound, RawEdge, RawEdges, RawValue, RawValues};
 pub use search::{

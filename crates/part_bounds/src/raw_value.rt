@@ -10,28 +10,14 @@ ghost use Rattle.part_bounds.specs.Listed.{lists, ValuesFit, ValueOfKind};
 ghost use Rattle.part_bounds.specs.RawBounds.{given_to, value_for, edge_for, edges_for, values_for, faults_in, read_in, each_once};
 ghost use Rattle.part_bounds.specs.Checks.{or_first};
 
-use crate::bound_fault::{copy_fault, out_of_range, wrong_kind};
+use crate::bound_fault::{copy_fault, wrong_kind};
 use crate::listed::count_lists;
 use crate::{Edge, KeyColumn, Point, RawEdge, RawValue};
 use pg_values::{Kind, NoMemory, Refusal, Row, Steps, Value, ValueKey, copy_value};
 use std::alloc::Global;
 use std::marker::Brand;
 use std::sync::ledger::{Blank, Ledger};
-use value_rules::{CoerceFault, coerce, read_value};
-
-// The kind of a value.
-fn kind_of(value: &Value) -> Kind
-    ensures { result ≡ reads.kind_of value.now }
-{
-    match value {
-        Value::Null => Kind::Text,
-        Value::Int4(_) => Kind::Int4,
-        Value::Int8(_) => Kind::Int8,
-        Value::Text(_) => Kind::Text,
-        Value::Day(_) => Kind::Day,
-        Value::Truth(_) => Kind::Truth,
-    }
-}
+use value_rules::{CoerceFault, coerce, kind_of, out_of_range, read_value};
 
 // What assigning the value to a column of the kind gives.
 fn assign(alloc: Global, kind: Kind, value: &Value) -> Result<Value, Refusal>

@@ -12,7 +12,7 @@ use Rattle.pg_values.specs.Days.{IsDay}
 use Rattle.value_rules.specs.declared.reading.ReadFault.{ReadFault}
 use Rattle.value_rules.specs.declared.reading.ReadFault.TheVariants.{Form, NumberRange, DateForm, DateRange}
 use Rattle.pg_values.specs.declared.fault.Fault.{Fault}
-use Rattle.pg_values.specs.declared.fault.SqlState.{SqlState}
+use Rattle.value_rules.specs.FaultTexts.{kind_word, fault_of, out_of_range}
 
 abbrev pub is_digit : ℕ → Bool
 is_digit b = nat_le 48 b && nat_le b 57
@@ -79,23 +79,12 @@ reading KText s = Ok (Text s)
 reading KDay s = date_of s
 reading KTruth s = truth_of s
 
--- the name of a kind
-abbrev pub kind_word : Kind → List ℕ
-kind_word KInt4 = codes "integer"
-kind_word KInt8 = codes "bigint"
-kind_word KText = codes "text"
-kind_word KDay = codes "date"
-kind_word KTruth = codes "boolean"
-
-abbrev pub state : List ℕ → SqlState
-state s = record { bytes = s }
-
 -- the fault with its state: a wrong form names the text, and that of a number or a truth value the kind too
 abbrev pub read_fault : Kind → List ℕ → ReadFault → Fault
-read_fault kind s Form = record { code = state (codes "22P02"); args = s ∷ kind_word kind ∷ [] }
-read_fault kind s NumberRange = record { code = state (codes "22003"); args = [] }
-read_fault kind s DateForm = record { code = state (codes "22007"); args = s ∷ [] }
-read_fault kind s DateRange = record { code = state (codes "22008"); args = [] }
+read_fault kind s Form = fault_of (codes "22P02") (s ∷ kind_word kind ∷ [])
+read_fault kind s NumberRange = out_of_range
+read_fault kind s DateForm = fault_of (codes "22007") (s ∷ [])
+read_fault kind s DateRange = fault_of (codes "22008") []
 
 abbrev pub told : Kind → List ℕ → Result Value ReadFault → Result Value Fault
 told kind s (Ok v) = Ok v

@@ -6,7 +6,7 @@ use pg_values::Value;
 fn integer(z: i128) -> Option<Value>
     ensures { result ≡ fitted false z }
 {
-    if z >= -2_147_483_648 && z <= 2_147_483_647 {
+    if z >= i32::MIN as i128 && z <= i32::MAX as i128 {
         Some(Value::Int4(z as i32))
     } else {
         None
@@ -16,7 +16,7 @@ fn integer(z: i128) -> Option<Value>
 fn bigint(z: i128) -> Option<Value>
     ensures { result ≡ fitted true z }
 {
-    if z >= -9_223_372_036_854_775_808 && z <= 9_223_372_036_854_775_807 {
+    if z >= i64::MIN as i128 && z <= i64::MAX as i128 {
         Some(Value::Int8(z as i64))
     } else {
         None

@@ -7,13 +7,14 @@
 ghost use Rattle.std.specs.Prelude.{◌≡◌, ◌≢◌, ◌<◌, ◌+◌, ◌∷◌, [], length, min, true, IfOk};
 ghost use Rattle.std.specs.Option.{option_map};
 ghost use Rattle.std.specs.Str.{str_eq_ignore_ascii_case};
-ghost use Rattle.value_rules.specs.Reads.{is_digit, number_of, signed, integer_of, in_range, truth_of, two_at, digits_at, is_date_form, day_of, date_of, reading, kind_word, read_fault, reads};
+ghost use Rattle.value_rules.specs.Reads.{is_digit, number_of, signed, integer_of, in_range, truth_of, two_at, digits_at, is_date_form, day_of, date_of, reading, read_fault, reads};
 ghost use Rattle.value_rules.specs.Ranges as spec;
 ghost use Rattle.value_rules.specs.Ranges.{or_fault};
 ghost use Rattle.value_rules.specs.declared.reading.ReadFault.TheVariants.{NumberRange};
 ghost use Rattle.pg_values.specs.declared.value.Kind.TheVariants.{Text as KText};
 ghost use Rattle.pg_values.specs.Refusals.{IsAnswer};
 
+use crate::fault_texts::{kind_word, one_text, out_of_range, two_texts};
 use crate::range::fitted;
 use jiff_core::civil::Date;
 use pg_values::{Args, Fault, Kind, NoMemory, PgText, Refusal, SqlState, Value};
@@ -172,35 +173,6 @@ fn read_plain(kind: Kind, text: &[u8]) -> Result<Value, ReadFault>
     }
 }
 
-// The name of a kind.
-fn kind_word(kind: Kind) -> &'static [u8]
-    ensures { result.now ≡ kind_word kind }
-{
-    match kind {
-        Kind::Int4 => b"integer",
-        Kind::Int8 => b"bigint",
-        Kind::Text => b"text",
-        Kind::Day => b"date",
-        Kind::Truth => b"boolean",
-    }
-}
-
-fn one_text(alloc: Global, text: &[u8]) -> Result<Args, NoMemory>
-    ensures { IfOk result (λ args. args ≡ text.now ∷ []) }
-{
-    let mut args = Args::new(alloc);
-    args.push(PgText::from_bytes(alloc, text)?)?;
-    Ok(args)
-}
-
-fn two_texts(alloc: Global, text: &[u8], other: &[u8]) -> Result<Args, NoMemory>
-    ensures { IfOk result (λ args. args ≡ text.now ∷ other.now ∷ []) }
-{
-    let mut args = one_text(alloc, text)?;
-    args.push(PgText::from_bytes(alloc, other)?)?;
-    Ok(args)
-}
-
 fn read_fault(alloc: Global, kind: Kind, text: &[u8], fault: ReadFault) -> Result<Fault, NoMemory>
     ensures { IfOk result (λ f. f ≡ read_fault kind text.now fault) }
 {
@@ -209,10 +181,7 @@ fn read_fault(alloc: Global, kind: Kind, text: &[u8], fault: ReadFault) -> Resul
             code: SqlState { bytes: *b"22P02" },
             args: two_texts(alloc, text, kind_word(kind))?,
         }),
-        ReadFault::NumberRange => Ok(Fault {
-            code: SqlState { bytes: *b"22003" },
-            args: Args::new(alloc),
-        }),
+        ReadFault::NumberRange => Ok(out_of_range(alloc)),
         ReadFault::DateForm => Ok(Fault {
             code: SqlState { bytes: *b"22007" },
             args: one_text(alloc, text)?,
