@@ -5,7 +5,7 @@ use Rattle.grammar_rules.specs.Rows.{second_of}
 use Rattle.grammar_rules.proofs.Laws.{Law, Within}
 use Rattle.grammar_rules.proofs.Chain.{none}
 use Rattle.grammar_rules.proofs.Build.{token, empty, valued, wide, seq, then_by, alt, opt, after_token, before_token, more}
-use Rattle.sql_tokens.specs.Contents.{name_in}
+use Rattle.sql_tokens.specs.Contents.{bytes_of, name_in}
 use Rattle.sql_tokens.specs.Words as words
 use Rattle.sql_tokens.specs.declared.kind.Kind.TheVariants as word
 use Rattle.sql_tokens.specs.declared.token.Token.{Token}
@@ -19,10 +19,10 @@ use Rattle.sql_commands.specs.Trees.{resets, deallocates, deallocates_all, other
 use Rattle.sql_lists.proofs.ListLaws.{means_law, maybe_law, in_law, commas_law, plain_name_law, number_law, other_name_law}
 use Rattle.sql_lists.specs.Lists as lists
 use Rattle.sql_commands.specs.Grammar as grammar
-use Rattle.sql_commands.specs.declared.commands.Isolation.TheVariants as isolation
-use Rattle.sql_commands.specs.declared.commands.SettingValue.TheVariants as setting
-use Rattle.sql_commands.specs.declared.commands.LockMode.{LockMode}
-use Rattle.sql_commands.specs.declared.commands.LockMode.TheVariants as mode
+use Rattle.sql_commands.specs.declared.transaction.Isolation.TheVariants as isolation
+use Rattle.sql_commands.specs.declared.setting.SettingValue.TheVariants as setting
+use Rattle.sql_commands.specs.declared.lock.LockMode.{LockMode}
+use Rattle.sql_commands.specs.declared.lock.LockMode.TheVariants as mode
 use Rattle.sql_commands.proofs.NameFirst.{dropped_texts, dropped_free, prepared_texts, prepared_free, read_as_law}
 use Rattle.sql_commands.proofs.TextLaws.{by_text_law}
 
@@ -34,10 +34,17 @@ begin_words_law =
     (means_law None (after_token (a word.Start) (sample word.Start) refl (token (a word.Transaction) (sample word.Transaction) refl))) (apart _ _ (λ t. refl) refl))
     (within _ _ (λ t. refl) refl) (within _ _ (λ t. refl) refl)
 
+committed_law : Law grammar.committed_or_not (lists.one_of word.Committed word.Uncommitted) false none
+committed_law =
+    wide
+    (alt (a word.Committed) (means_law isolation.ReadCommitted (token (a word.Committed) (sample word.Committed) refl)) (λ k h. h)
+    (means_law isolation.ReadUncommitted (token (a word.Uncommitted) (sample word.Uncommitted) refl)) (apart _ _ (λ t. refl) refl))
+    (within _ _ (λ t. refl) refl) (within _ _ (λ t. refl) refl)
+
 level_law : Law grammar.level (lists.one_of word.Read word.Repeatable) false none
 level_law =
     wide
-    (alt (a word.Read) (means_law isolation.ReadCommitted (after_token (a word.Read) (sample word.Read) refl (token grammar.is_committed (sample word.Committed) refl))) (λ k h. h)
+    (alt (a word.Read) (after_token (a word.Read) (sample word.Read) refl committed_law) (λ k h. h)
     (means_law isolation.RepeatableRead (after_token (a word.Repeatable) (sample word.Repeatable) refl (token (a word.Read) (sample word.Read) refl))) (apart _ _ (λ t. refl) refl))
     (within _ _ (λ t. refl) refl) (within _ _ (λ t. refl) refl)
 
@@ -46,7 +53,7 @@ isolation_level_law =
     wide (opt (after_token (a word.Isolation) (sample word.Isolation) refl (after_token (a word.Level) (sample word.Level) refl level_law)))
     (λ k h. h) (within _ _ (λ t. refl) refl)
 
--- what may go on behind a command
+-- what may go on behind BEGIN
 abbrev pub after_begin : Class Token
 after_begin t = grammar.is_noise t || a word.Isolation t
 
@@ -64,7 +71,8 @@ setting_value_law text =
     wide
     (alt grammar.is_setting_word
     (valued (λ (t : Token). setting.Word (name_in text t)) (no_longer_law grammar.is_setting_word (is_long_name text) (λ t h. name_is_word t (first_true (a_name t) _ h)) (sample word.Name) refl)) (λ k h. h)
-    (alt (a word.Text) (valued setting.Text (string_law text)) (λ k h. h) (valued setting.Number (number_law text)) (apart _ _ (λ t. refl) refl))
+    (alt (a word.Text) (valued setting.Text (string_law text)) (λ k h. h)
+    (valued (λ (t : Token). setting.Number (grammar.without_zeros (bytes_of text t))) (token (a word.Number) (sample word.Number) refl)) (apart _ _ (λ t. refl) refl))
     (apart _ _ (λ t. refl) refl))
     (within _ _ (λ t. refl) refl) (within _ _ (λ t. refl) refl)
   where
@@ -273,16 +281,12 @@ deallocate_law text =
     (alt (a word.All) all_law (λ k h. h) (valued second_of (then_by (name_law text) (λ x. behind_law_by text x.1 (words.is x.0 word.Prepare)) (λ k h. refl))) (apart _ _ (λ t. refl) refl))))
     (λ k h. h) (within _ _ (λ t. refl) refl)
 
--- what begins a command, and what may go on behind one
-abbrev pub begins_command : Class Token
-begins_command t =
-    grammar.begins_begin t || (grammar.is_finish t || (grammar.begins_set t || (a word.Create t || (a word.Drop t || (a word.Alter t || (a word.Lock t || a word.Deallocate t))))))
-
+-- what may go on behind a command
 abbrev pub after_command : Class Token
 after_command t =
     after_begin t || (a word.Partition t || (exists_or_comma t || (grammar.is_behavior t || (grammar.is_detachment t || (a word.In t || all_or_name t)))))
 
-pub command_law : (text : List ℕ) → Law (grammar.command text) begins_command false after_command
+pub command_law : (text : List ℕ) → Law (grammar.command text) grammar.begins_command false after_command
 command_law text =
     wide
     (alt grammar.begins_begin begin_law (λ k h. h)

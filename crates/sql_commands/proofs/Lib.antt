@@ -1,3 +1,4 @@
 pub mod CommandLaws
 pub mod NameFirst
 pub mod TextLaws
+pub mod ZeroLaws

@@ -1,2 +1,10 @@
+pub mod Alter
+pub mod Bound
+pub mod Create
+pub mod Deallocate
+pub mod Drop
 pub mod Grammar
+pub mod Lock
+pub mod Setting
+pub mod Transaction
 pub mod Trees

@@ -5,12 +5,12 @@ use Rattle.sql_commands.specs.declared.bound.BoundText.{BoundText}
 use Rattle.sql_commands.specs.declared.bound.BoundText.TheVariants as bounds
 use Rattle.sql_commands.specs.declared.bound.EdgeText.{EdgeText}
 use Rattle.sql_commands.specs.declared.bound.EdgeText.TheVariants as edges
-use Rattle.sql_commands.specs.declared.commands.Command.{Command}
-use Rattle.sql_commands.specs.declared.commands.Command.TheVariants as commands
-use Rattle.sql_commands.specs.declared.commands.Detachment.{Detachment}
-use Rattle.sql_commands.specs.declared.commands.Isolation.{Isolation}
-use Rattle.sql_commands.specs.declared.commands.LockMode.{LockMode}
-use Rattle.sql_commands.specs.declared.commands.SettingValue.{SettingValue}
+use Rattle.sql_commands.specs.declared.tree.Command.{Command}
+use Rattle.sql_commands.specs.declared.tree.Command.TheVariants as commands
+use Rattle.sql_commands.specs.declared.alter.Detachment.{Detachment}
+use Rattle.sql_commands.specs.declared.transaction.Isolation.{Isolation}
+use Rattle.sql_commands.specs.declared.lock.LockMode.{LockMode}
+use Rattle.sql_commands.specs.declared.setting.SettingValue.{SettingValue}
 use Rattle.sql_commands.specs.declared.lists.ColumnDefinition.{ColumnDefinition}
 use Rattle.sql_commands.specs.declared.lists.EdgeList.{EdgeList}
 use Rattle.sql_commands.specs.declared.lists.LockedTable.{LockedTable}

@@ -1,7 +1,7 @@
 ghost use Rattle.std.specs.Prelude.{◌≡◌, map, take};
 ghost use Rattle.grammar_rules.specs.Gives.{Gives};
 ghost use Rattle.sql_expressions.specs.Tree.{tree};
-ghost use Rattle.sql_commands.specs.Grammar as grammar;
+ghost use Rattle.sql_commands.specs.Bound as grammar;
 ghost use Rattle.sql_commands.specs.Trees.{bound_tree, edge_tree};
 
 use crate::EdgeList;
@@ -64,7 +64,7 @@ fn edge<'a>(
 struct EachEdge;
 
 impl Part for EachEdge {
-    ghost use Rattle.sql_commands.specs.Grammar as grammar;
+    ghost use Rattle.sql_commands.specs.Bound as grammar;
     ghost use Rattle.sql_commands.specs.Trees.{Edge as OneEdge, edge_tree};
 
     type Item = EdgeText;

@@ -1,15 +1,23 @@
 ghost use Rattle.grammar_rules.specs.Gives.{Gives};
-ghost use Rattle.sql_commands.specs.Grammar as grammar;
+ghost use Rattle.sql_commands.specs.Create as grammar;
 ghost use Rattle.sql_commands.specs.Trees.{command_tree};
 
 use crate::bound::bound;
-use crate::{ColumnDefinition, ColumnList, Command, Partitioning, Strategy};
+use crate::{ColumnDefinition, ColumnList, Command, Partitioning};
 use grammar_rules::{Refused, split};
 use pg_values::PgText;
 use sql_expressions::{comes, word};
 use sql_lists::{NameList, Part, commas, names, plain_name};
 use sql_tokens::{Kind, Token, same_kind};
 use std::alloc::Global;
+
+/// The strategy of PARTITION BY.
+#[derive(Clone, Copy, Debug, PartialEq, Eq)]
+pub enum Strategy {
+    Range,
+    List,
+    Hash,
+}
 
 /// Whether a column may not be null.
 fn null_or_not(tokens: &[Token]) -> Result<(bool, &[Token]), Refused>
@@ -48,7 +56,7 @@ fn column<'a>(
 struct EachColumn;
 
 impl Part for EachColumn {
-    ghost use Rattle.sql_commands.specs.Grammar as grammar;
+    ghost use Rattle.sql_commands.specs.Create as grammar;
     ghost use Rattle.sql_commands.specs.declared.lists.ColumnDefinition.{ColumnDefinition as OneColumn};
 
     type Item = ColumnDefinition;
@@ -68,7 +76,7 @@ impl Part for EachColumn {
     }
 }
 
-fn strategy(tokens: &[Token]) -> Result<(Strategy, &[Token]), Refused>
+fn strategy_word(tokens: &[Token]) -> Result<(Strategy, &[Token]), Refused>
     ensures { Gives (λ x. (x.0, x.1.now)) result (grammar.strategy_rule.read tokens.now) }
 {
     match split(tokens) {
@@ -97,7 +105,7 @@ fn by<'a>(
 {
     let (_, rest) = word(tokens, Kind::Partition)?;
     let (_, rest) = word(rest, Kind::By)?;
-    let (strategy, rest) = strategy(rest)?;
+    let (strategy, rest) = strategy_word(rest)?;
     let (_, rest) = word(rest, Kind::OpenParenthesis)?;
     let (names, rest) = names(alloc, text, rest)?;
     let (_, rest) = word(rest, Kind::CloseParenthesis)?;

@@ -1,5 +1,5 @@
 ghost use Rattle.grammar_rules.specs.Gives.{Gives};
-ghost use Rattle.sql_commands.specs.Grammar as grammar;
+ghost use Rattle.sql_commands.specs.Drop as grammar;
 ghost use Rattle.sql_commands.specs.Trees.{command_tree};
 
 use crate::Command;

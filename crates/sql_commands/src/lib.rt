@@ -1,7 +1,8 @@
 //! Reads the statements of SQL that read and change no rows: transactions, settings, tables and their
 //! partitions, locks, and the end of prepared statements.
 //!
-//! `specs/Grammar.antt` has a line for each production, as PostgreSQL's "VI. SQL Commands" writes them.
+//! `specs/Grammar.antt` has the grammar, and the file of a statement beside it a line for each of its
+//! productions, as PostgreSQL's "VI. SQL Commands" writes them.
 //! The next token decides how a text goes on. In three places it does not by itself, since words stand
 //! there that may be names: IF behind DROP TABLE, PREPARE behind DEALLOCATE, and MINVALUE and MAXVALUE in
 //! the bounds of a range. There a name is read first, and the token behind it decides. The grammar has
@@ -11,21 +12,29 @@
 //! Names are folded, and nothing is looked up.
 #![tactic(auto)]
 
+mod alter;
 mod bound;
 mod commands;
 mod create;
+mod deallocate;
 mod drop;
 mod lists;
 mod lock;
-mod session;
-mod tables;
+mod setting;
+mod transaction;
+mod tree;
 
+pub use alter::Detachment;
 pub use bound::{BoundText, EdgeText};
-pub use commands::{Command, Detachment, Isolation, LockMode, SettingValue, Strategy};
+pub use commands::{command, command_comes, no_two_commands, parse_command, whole_command};
+pub use create::Strategy;
 pub use lists::{
     ColumnDefinition, ColumnList, EdgeList, LockedTable, LockedTableList, Partitioning,
 };
-pub use tables::{command, no_two_commands, parse_command, whole_command};
+pub use lock::LockMode;
+pub use setting::SettingValue;
+pub use transaction::Isolation;
+pub use tree::Command;
 
 #[cfg(test)]
 mod tests;

@@ -1,13 +1,26 @@
 ghost use Rattle.grammar_rules.specs.Gives.{Gives};
-ghost use Rattle.sql_commands.specs.Grammar as grammar;
+ghost use Rattle.sql_commands.specs.Lock as grammar;
 ghost use Rattle.sql_commands.specs.Trees.{command_tree};
 
-use crate::{Command, LockMode, LockedTable, LockedTableList};
+use crate::{Command, LockedTable, LockedTableList};
 use grammar_rules::Refused;
 use sql_expressions::{comes, word};
 use sql_lists::{Part, commas, maybe_word, one_of, plain_name};
 use sql_tokens::{Kind, Token, same_kind};
 use std::alloc::Global;
+
+/// The modes of table locks, from the weakest.
+#[derive(Clone, Copy, Debug, PartialEq, Eq)]
+pub enum LockMode {
+    AccessShare,
+    RowShare,
+    RowExclusive,
+    ShareUpdateExclusive,
+    Share,
+    ShareRowExclusive,
+    Exclusive,
+    AccessExclusive,
+}
 
 fn locked<'a>(
     alloc: Global,
@@ -25,7 +38,7 @@ fn locked<'a>(
 struct EachTable;
 
 impl Part for EachTable {
-    ghost use Rattle.sql_commands.specs.Grammar as grammar;
+    ghost use Rattle.sql_commands.specs.Lock as grammar;
     ghost use Rattle.sql_commands.specs.declared.lists.LockedTable.{LockedTable as OneTable};
 
     type Item = LockedTable;

@@ -1,10 +1,10 @@
 use Rattle.std.proofs.Common.{false, ap, sym, ◌∙◌}
 use Rattle.sql_expressions.specs.Parsed.{refusal_of}
 use Rattle.sql_expressions.proofs.ParseLaws.{read_as, refused_as}
-use Rattle.sql_commands.specs.Grammar.{command}
+use Rattle.sql_commands.specs.Grammar.{begins_command, command}
 use Rattle.sql_commands.specs.Trees.{command_tree}
-use Rattle.sql_commands.proofs.CommandLaws.{after_command, begins_command, command_law}
-use Rattle.sql_commands.proofs.tables.parse_command.Goals as goal
+use Rattle.sql_commands.proofs.CommandLaws.{after_command, command_law}
+use Rattle.sql_commands.proofs.commands.parse_command.Goals as goal
 
 pub returns-in-Ok : goal.returns-in-Ok
 returns-in-Ok c =

@@ -1,0 +1,52 @@
+-- LOCK (VI. SQL Commands).
+use Rattle.std.specs.Prelude.{ℕ, true, false, if◌then◌else◌, List, Option, Some, None}
+use Rattle.grammar_rules.specs.Reading.{Class, Rule, one, nothing, as_value, either}
+use Rattle.sql_tokens.specs.declared.kind.Kind.TheVariants as word
+use Rattle.sql_tokens.specs.declared.token.Token.{Token}
+use Rattle.sql_expressions.specs.Words.{a, ◌>>◌, ◌<<◌, ◌&◌, name}
+use Rattle.sql_lists.specs.Lists.{one_of, means, maybe, commas, plain_name}
+use Rattle.sql_commands.specs.Trees.{CommandTree, locks}
+use Rattle.sql_commands.specs.declared.lock.LockMode.{LockMode}
+use Rattle.sql_commands.specs.declared.lock.LockMode.TheVariants as mode
+use Rattle.sql_commands.specs.declared.lists.LockedTable.{LockedTable}
+
+-- lock = "LOCK" [ "TABLE" ] [ "ONLY" ] name { "," [ "ONLY" ] name } [ "IN" mode "MODE" ]
+abbrev pub locked_value : Option Token × List ℕ → LockedTable
+locked_value (None, n) = record { only = false; name = n }
+locked_value (Some t, n) = record { only = true; name = n }
+
+abbrev pub locked : List ℕ → Rule Token LockedTable
+locked text = as_value locked_value (maybe (a word.Only) & plain_name text)
+
+-- behind SHARE: [ "UPDATE" "EXCLUSIVE" | "ROW" "EXCLUSIVE" ]
+abbrev pub behind_share : Rule Token LockMode
+behind_share =
+    either (a word.Update) (means mode.ShareUpdateExclusive (word.Update >> one (a word.Exclusive)))
+    (either (a word.Row) (means mode.ShareRowExclusive (word.Row >> one (a word.Exclusive))) (nothing mode.Share))
+
+-- "SHARE" | "EXCLUSIVE"
+abbrev pub is_share_or_exclusive : Class Token
+is_share_or_exclusive = one_of word.Share word.Exclusive
+
+abbrev pub shared_or : LockMode → LockMode → Token → LockMode
+shared_or share exclusive t = if a word.Share t then share else exclusive
+
+abbrev pub share_or_exclusive : LockMode → LockMode → Rule Token LockMode
+share_or_exclusive share exclusive = as_value (shared_or share exclusive) (one is_share_or_exclusive)
+
+-- mode: one of the eight
+abbrev pub lock_mode : Rule Token LockMode
+lock_mode =
+    either (a word.Access) (word.Access >> share_or_exclusive mode.AccessShare mode.AccessExclusive)
+    (either (a word.Row) (word.Row >> share_or_exclusive mode.RowShare mode.RowExclusive)
+    (either (a word.Share) (word.Share >> behind_share)
+    (means mode.Exclusive (one (a word.Exclusive)))))
+
+abbrev pub maybe_mode : Rule Token LockMode
+maybe_mode = either (a word.In) (word.In >> lock_mode << word.Mode) (nothing mode.AccessExclusive)
+
+abbrev pub lock_value : Option Token × (List LockedTable × LockMode) → CommandTree
+lock_value x = locks x.1.0 x.1.1
+
+abbrev pub lock : List ℕ → Rule Token CommandTree
+lock text = as_value lock_value (word.Lock >> maybe (a word.Table) & commas (locked text) & maybe_mode)

@@ -1,0 +1,54 @@
+-- How transactions begin and end (VI. SQL Commands: BEGIN, COMMIT, ROLLBACK).
+use Rattle.std.specs.Prelude.{◌||◌, if◌then◌else◌, Option, None}
+use Rattle.grammar_rules.specs.Reading.{Class, Rule, one, as_value, either, optional}
+use Rattle.sql_tokens.specs.declared.kind.Kind.TheVariants as word
+use Rattle.sql_tokens.specs.declared.token.Token.{Token}
+use Rattle.sql_expressions.specs.Words.{a, ◌>>◌, ◌&◌}
+use Rattle.sql_lists.specs.Lists.{one_of, means, maybe}
+use Rattle.sql_commands.specs.Trees.{CommandTree, begins, commits, rolls_back}
+use Rattle.sql_commands.specs.declared.transaction.Isolation.{Isolation}
+use Rattle.sql_commands.specs.declared.transaction.Isolation.TheVariants as isolation
+
+-- [ "WORK" | "TRANSACTION" ]
+abbrev pub is_noise : Class Token
+is_noise = one_of word.Work word.Transaction
+
+abbrev pub noise : Rule Token (Option Token)
+noise = maybe is_noise
+
+-- "READ" ( "COMMITTED" | "UNCOMMITTED" ) | "REPEATABLE" "READ"
+abbrev pub committed_or_not : Rule Token Isolation
+committed_or_not = either (a word.Committed) (means isolation.ReadCommitted (one (a word.Committed))) (means isolation.ReadUncommitted (one (a word.Uncommitted)))
+
+abbrev pub level : Rule Token Isolation
+level = either (a word.Read) (word.Read >> committed_or_not) (means isolation.RepeatableRead (word.Repeatable >> one (a word.Read)))
+
+-- [ "ISOLATION" "LEVEL" level ]
+abbrev pub isolation_level : Rule Token (Option Isolation)
+isolation_level = optional (a word.Isolation) (word.Isolation >> word.Level >> level)
+
+-- begin = ( "BEGIN" [ "WORK" | "TRANSACTION" ] | "START" "TRANSACTION" ) isolation_level
+abbrev pub begins_begin : Class Token
+begins_begin = one_of word.Begin word.Start
+
+abbrev pub begin_words : Rule Token (Option Token)
+begin_words = either (a word.Begin) (word.Begin >> noise) (means None (word.Start >> one (a word.Transaction)))
+
+abbrev pub begin : Rule Token CommandTree
+begin = as_value (λ (x : Option Token × Option Isolation). begins x.1) (begin_words & isolation_level)
+
+-- finish = ( "COMMIT" | "END" | "ROLLBACK" | "ABORT" ) [ "WORK" | "TRANSACTION" ]
+abbrev pub is_commit : Class Token
+is_commit = one_of word.Commit word.End
+
+abbrev pub is_rollback : Class Token
+is_rollback = one_of word.Rollback word.Abort
+
+abbrev pub is_finish : Class Token
+is_finish t = is_commit t || is_rollback t
+
+abbrev pub finished : Token × Option Token → CommandTree
+finished x = if is_commit x.0 then commits else rolls_back
+
+abbrev pub finish : Rule Token CommandTree
+finish = as_value finished (one is_finish & noise)

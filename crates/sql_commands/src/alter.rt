@@ -1,0 +1,83 @@
+ghost use Rattle.std.specs.Prelude.{◌≡◌};
+ghost use Rattle.grammar_rules.specs.Gives.{Gives};
+ghost use Rattle.sql_commands.specs.Alter as grammar;
+ghost use Rattle.sql_commands.specs.Trees.{command_tree};
+
+use crate::Command;
+use crate::bound::bound;
+use grammar_rules::Refused;
+use pg_values::PgText;
+use sql_expressions::{comes, word};
+use sql_lists::{maybe_one_of, plain_name};
+use sql_tokens::{Kind, Token, same_kind};
+use std::alloc::Global;
+
+/// How a partition is detached.
+#[derive(Clone, Copy, Debug, PartialEq, Eq)]
+pub enum Detachment {
+    AtOnce,
+    Concurrently,
+    Finalize,
+}
+
+fn attach<'a>(
+    alloc: Global,
+    text: &[u8],
+    parent: PgText,
+    tokens: &'a [Token],
+) -> Result<(Command, &'a [Token]), Refused>
+    ensures { Gives (λ x. (command_tree x.0, x.1.now)) result ((grammar.attach text.now parent).read tokens.now) }
+{
+    let (_, rest) = word(tokens, Kind::Attach)?;
+    let (_, rest) = word(rest, Kind::Partition)?;
+    let (name, rest) = plain_name(alloc, text, rest)?;
+    let (bound, rest) = bound(alloc, text, rest)?;
+    Ok((Command::Attach(parent, name, bound), rest))
+}
+
+fn detachment_of(how: Option<Token>) -> Detachment
+    ensures { result ≡ grammar.detachment_of how }
+{
+    match how {
+        None => Detachment::AtOnce,
+        Some(token) => {
+            if same_kind(token.kind, Kind::Concurrently) {
+                Detachment::Concurrently
+            } else {
+                Detachment::Finalize
+            }
+        }
+    }
+}
+
+fn detach<'a>(
+    alloc: Global,
+    text: &[u8],
+    parent: PgText,
+    tokens: &'a [Token],
+) -> Result<(Command, &'a [Token]), Refused>
+    ensures { Gives (λ x. (command_tree x.0, x.1.now)) result ((grammar.detach text.now parent).read tokens.now) }
+{
+    let (_, rest) = word(tokens, Kind::Detach)?;
+    let (_, rest) = word(rest, Kind::Partition)?;
+    let (name, rest) = plain_name(alloc, text, rest)?;
+    let (how, rest) = maybe_one_of(rest, Kind::Concurrently, Kind::Finalize)?;
+    Ok((Command::Detach(parent, name, detachment_of(how)), rest))
+}
+
+pub(crate) fn alter<'a>(
+    alloc: Global,
+    text: &[u8],
+    tokens: &'a [Token],
+) -> Result<(Command, &'a [Token]), Refused>
+    ensures { Gives (λ x. (command_tree x.0, x.1.now)) result ((grammar.alter text.now).read tokens.now) }
+{
+    let (_, rest) = word(tokens, Kind::Alter)?;
+    let (_, rest) = word(rest, Kind::Table)?;
+    let (parent, rest) = plain_name(alloc, text, rest)?;
+    if comes(rest, Kind::Attach) {
+        attach(alloc, text, parent, rest)
+    } else {
+        detach(alloc, text, parent, rest)
+    }
+}

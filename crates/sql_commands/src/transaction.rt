@@ -1,0 +1,117 @@
+ghost use Rattle.std.specs.Prelude.{◌≡◌};
+ghost use Rattle.grammar_rules.specs.Gives.{Gives};
+ghost use Rattle.grammar_rules.specs.Reading.{begins_in, read_one};
+ghost use Rattle.sql_commands.specs.Transaction as grammar;
+ghost use Rattle.sql_commands.specs.Trees.{command_tree};
+
+use crate::Command;
+use grammar_rules::{Refused, split};
+use sql_expressions::{comes, word};
+use sql_lists::{maybe_one_of, one_of_comes};
+use sql_tokens::{Kind, Token, same_kind};
+
+/// The isolation level of a transaction as it is written. READ UNCOMMITTED behaves as READ COMMITTED,
+/// but a statement that sets the one does not set the other.
+#[derive(Clone, Copy, Debug, PartialEq, Eq)]
+pub enum Isolation {
+    ReadCommitted,
+    ReadUncommitted,
+    RepeatableRead,
+}
+
+/// What stands behind READ.
+fn committed_or_not(tokens: &[Token]) -> Result<(Isolation, &[Token]), Refused>
+    ensures { Gives (λ x. (x.0, x.1.now)) result (grammar.committed_or_not.read tokens.now) }
+{
+    if comes(tokens, Kind::Committed) {
+        let (_, rest) = word(tokens, Kind::Committed)?;
+        return Ok((Isolation::ReadCommitted, rest));
+    }
+    let (_, rest) = word(tokens, Kind::Uncommitted)?;
+    Ok((Isolation::ReadUncommitted, rest))
+}
+
+fn level(tokens: &[Token]) -> Result<(Isolation, &[Token]), Refused>
+    ensures { Gives (λ x. (x.0, x.1.now)) result (grammar.level.read tokens.now) }
+{
+    if comes(tokens, Kind::Read) {
+        let (_, rest) = word(tokens, Kind::Read)?;
+        return committed_or_not(rest);
+    }
+    let (_, rest) = word(tokens, Kind::Repeatable)?;
+    let (_, rest) = word(rest, Kind::Read)?;
+    Ok((Isolation::RepeatableRead, rest))
+}
+
+fn isolation_level(tokens: &[Token]) -> Result<(Option<Isolation>, &[Token]), Refused>
+    ensures { Gives (λ x. (x.0, x.1.now)) result (grammar.isolation_level.read tokens.now) }
+{
+    if !comes(tokens, Kind::Isolation) {
+        return Ok((None, tokens));
+    }
+    let (_, rest) = word(tokens, Kind::Isolation)?;
+    let (_, rest) = word(rest, Kind::Level)?;
+    let (level, rest) = level(rest)?;
+    Ok((Some(level), rest))
+}
+
+/// The words that begin a transaction.
+fn begin_words(tokens: &[Token]) -> Result<(Option<Token>, &[Token]), Refused>
+    ensures { Gives (λ x. (x.0, x.1.now)) result (grammar.begin_words.read tokens.now) }
+{
+    if comes(tokens, Kind::Begin) {
+        let (_, rest) = word(tokens, Kind::Begin)?;
+        return maybe_one_of(rest, Kind::Work, Kind::Transaction);
+    }
+    let (_, rest) = word(tokens, Kind::Start)?;
+    let (_, rest) = word(rest, Kind::Transaction)?;
+    Ok((None, rest))
+}
+
+pub(crate) fn begin(tokens: &[Token]) -> Result<(Command, &[Token]), Refused>
+    ensures { Gives (λ x. (command_tree x.0, x.1.now)) result (grammar.begin.read tokens.now) }
+{
+    let (_, rest) = begin_words(tokens)?;
+    let (isolation, rest) = isolation_level(rest)?;
+    Ok((Command::Begin(isolation), rest))
+}
+
+/// Whether a word that ends a transaction comes next.
+pub(crate) fn finish_comes(tokens: &[Token]) -> bool
+    ensures { result ≡ begins_in grammar.is_finish tokens.now }
+{
+    one_of_comes(tokens, Kind::Commit, Kind::End)
+        || one_of_comes(tokens, Kind::Rollback, Kind::Abort)
+}
+
+/// A word that ends a transaction.
+fn finish_word(tokens: &[Token]) -> Result<(Token, &[Token]), Refused>
+    ensures { Gives (λ x. (x.0, x.1.now)) result (read_one grammar.is_finish tokens.now) }
+{
+    match split(tokens) {
+        None => Err(Refused::Syntax(0)),
+        Some((first, rest)) => {
+            if same_kind(first.kind, Kind::Commit)
+                || same_kind(first.kind, Kind::End)
+                || same_kind(first.kind, Kind::Rollback)
+                || same_kind(first.kind, Kind::Abort)
+            {
+                Ok((first, rest))
+            } else {
+                Err(Refused::Syntax(tokens.len()))
+            }
+        }
+    }
+}
+
+pub(crate) fn finish(tokens: &[Token]) -> Result<(Command, &[Token]), Refused>
+    ensures { Gives (λ x. (command_tree x.0, x.1.now)) result (grammar.finish.read tokens.now) }
+{
+    let (first, rest) = finish_word(tokens)?;
+    let (_, rest) = maybe_one_of(rest, Kind::Work, Kind::Transaction)?;
+    if same_kind(first.kind, Kind::Commit) || same_kind(first.kind, Kind::End) {
+        Ok((Command::Commit, rest))
+    } else {
+        Ok((Command::Rollback, rest))
+    }
+}
