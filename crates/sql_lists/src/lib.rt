@@ -4,11 +4,13 @@
 //! Each function answers as the reader of its rule in `specs/Lists.antt` does.
 #![tactic(auto)]
 
+mod list_of;
 mod name_list;
 mod parts;
 mod value_list;
 mod words;
 
+pub use list_of::ListOf;
 pub use name_list::{NameList, names, with_more_names};
 pub use parts::{Begun, Part, commas, many, more_parts};
 pub use value_list::values;

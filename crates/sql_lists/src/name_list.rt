@@ -2,40 +2,14 @@ ghost use Rattle.std.specs.Prelude.{◌≡◌, ◌∷◌, []};
 ghost use Rattle.grammar_rules.specs.Gives.{Gives};
 ghost use Rattle.sql_lists.specs.Lists as lists;
 
-use crate::{Part, commas, more_parts, plain_name};
+use crate::{ListOf, Part, commas, more_parts, plain_name};
 use grammar_rules::Refused;
 use pg_values::PgText;
 use sql_tokens::Token;
 use std::alloc::Global;
-use std::marker::Model;
 
 /// Names in order, seen as the list of their bytes.
-#[derive(Debug, Drop)]
-pub struct NameList {
-    names: Vec<PgText>,
-}
-
-impl Model for NameList {
-    ghost use Rattle.std.specs.Prelude.{List, ℕ};
-
-    ghost Value = { List (List ℕ) };
-
-    ghost view = { λ l. l.names.items };
-}
-
-impl NameList {
-    pub fn from_vec(names: Vec<PgText>) -> Self
-        ensures { result ≡ names.items }
-    {
-        NameList { names }
-    }
-
-    pub fn as_slice(&self) -> &[PgText]
-        ensures { result.now ≡ self.now }
-    {
-        &self.names
-    }
-}
+pub type NameList = ListOf<PgText>;
 
 struct Name;
 
