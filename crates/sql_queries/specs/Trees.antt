@@ -64,12 +64,12 @@ abbrev pub setting : Assignment → Setting
 setting s = (s.column, tree s.value)
 
 abbrev pub select_tree : Select → SelectTree
-select_tree s = selected (map item_tree s.items.items) (map joined_tree s.from.items) (maybe_tree s.condition) (map key_tree s.order.items) (maybe_tree s.limit) (maybe_tree s.offset)
+select_tree s = selected (map item_tree s.items) (map joined_tree s.from) (maybe_tree s.condition) (map key_tree s.order) (maybe_tree s.limit) (maybe_tree s.offset)
 
 abbrev pub row_tree : RowStatement → RowTree
 row_tree (statements.Select s) = selects (select_tree s)
-row_tree (statements.Insert s) = inserts s.table s.columns (map trees s.rows.items)
-row_tree (statements.Update s) = updates s.table (map setting s.assignments.items) (maybe_tree s.condition)
+row_tree (statements.Insert s) = inserts s.table s.columns (map trees s.rows)
+row_tree (statements.Update s) = updates s.table (map setting s.assignments) (maybe_tree s.condition)
 row_tree (statements.Delete s) = deletes s.table (maybe_tree s.condition)
 
 abbrev pub query_tree : Query → QueryTree

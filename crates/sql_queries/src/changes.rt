@@ -12,7 +12,7 @@ use grammar_rules::Refused;
 use pg_values::PgText;
 use sql_expressions::{Expr, ExprList, comes, expression, word};
 use sql_lists::{
-    NameList, Part, commas, more_parts, name_but, names, other_name, plain_name, values,
+    ListOf, NameList, Part, commas, more_parts, name_but, names, other_name, plain_name, values,
 };
 use sql_tokens::{Kind, Token, name_of};
 use std::alloc::Global;
@@ -86,7 +86,7 @@ pub(crate) fn insert<'a>(
     let insert = Insert {
         table,
         columns,
-        rows,
+        rows: ListOf::from_vec(rows),
     };
     Ok((RowStatement::Insert(insert), rest))
 }
@@ -304,7 +304,7 @@ pub(crate) fn update<'a>(
     };
     let update = Update {
         table,
-        assignments: settings.assignments,
+        assignments: ListOf::from_vec(settings.assignments),
         condition,
     };
     Ok((RowStatement::Update(update), rest))

@@ -8,7 +8,7 @@ use crate::items::EachItem;
 use crate::{Select, SortKey};
 use grammar_rules::Refused;
 use sql_expressions::{Expr, comes, expression, word};
-use sql_lists::{Part, commas, maybe_one_of, one_of};
+use sql_lists::{ListOf, Part, commas, maybe_one_of, one_of};
 use sql_tokens::{Kind, Token, same_kind};
 use std::alloc::Global;
 
@@ -160,10 +160,10 @@ pub(crate) fn select<'a>(
     let (limit, rest) = limit(alloc, text, rest)?;
     let (offset, rest) = offset(alloc, text, rest)?;
     let select = Select {
-        items,
-        from,
+        items: ListOf::from_vec(items),
+        from: ListOf::from_vec(from),
         condition,
-        order,
+        order: ListOf::from_vec(order),
         limit,
         offset,
     };

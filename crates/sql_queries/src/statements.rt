@@ -1,15 +1,15 @@
 use crate::{Assignment, FromItem, NamedTable, SelectItem, SortKey};
 use pg_values::PgText;
 use sql_expressions::{Expr, ExprList};
-use sql_lists::NameList;
+use sql_lists::{ListOf, NameList};
 
 /// A SELECT. LIMIT ALL is no limit.
 #[derive(Debug, Drop)]
 pub struct Select {
-    pub items: Vec<SelectItem>,
-    pub from: Vec<FromItem>,
+    pub items: ListOf<SelectItem>,
+    pub from: ListOf<FromItem>,
     pub condition: Option<Expr>,
-    pub order: Vec<SortKey>,
+    pub order: ListOf<SortKey>,
     pub limit: Option<Expr>,
     pub offset: Option<Expr>,
 }
@@ -19,14 +19,14 @@ pub struct Select {
 pub struct Insert {
     pub table: PgText,
     pub columns: Option<NameList>,
-    pub rows: Vec<ExprList>,
+    pub rows: ListOf<ExprList>,
 }
 
 /// An UPDATE.
 #[derive(Debug, Drop)]
 pub struct Update {
     pub table: NamedTable,
-    pub assignments: Vec<Assignment>,
+    pub assignments: ListOf<Assignment>,
     pub condition: Option<Expr>,
 }
 
