@@ -6,7 +6,7 @@ use Rattle.sql_tokens.specs.declared.kind.Kind.TheVariants as word
 use Rattle.sql_tokens.specs.declared.token.Token.{Token}
 use Rattle.sql_expressions.specs.Levels.{if_room}
 use Rattle.sql_expressions.specs.Words.{a}
-use Rattle.sql_commands.specs.Grammar.{command, begins_begin, begins_set, is_finish}
+use Rattle.sql_commands.specs.Grammar.{command, begins_command}
 use Rattle.sql_lists.specs.Lists.{one_of}
 use Rattle.sql_queries.specs.Grammar.{query, begins_row_statement}
 use Rattle.sql_syntax.specs.Trees.{StatementTree, commands, queries}
@@ -15,12 +15,6 @@ use Rattle.sql_syntax.specs.declared.parse.TheConstants.{MOST_STATEMENTS}
 -- the first word of a statement
 abbrev pub begins_query : Class Token
 begins_query t = begins_row_statement t || (a word.Prepare t || one_of word.Execute word.Explain t)
-
-abbrev pub begins_other_command : Class Token
-begins_other_command t = a word.Create t || (a word.Drop t || (a word.Alter t || (a word.Lock t || a word.Deallocate t)))
-
-abbrev pub begins_command : Class Token
-begins_command t = begins_begin t || (is_finish t || (begins_set t || begins_other_command t))
 
 abbrev pub begins_statement : Class Token
 begins_statement t = begins_query t || begins_command t

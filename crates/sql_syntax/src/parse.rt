@@ -1,5 +1,4 @@
-ghost use Rattle.std.specs.Prelude.{◌≡◌, ◌⊎◌, ℕ, IfOk, List, map};
-ghost use Rattle.sql_expressions.specs.Parsed as parsed;
+ghost use Rattle.std.specs.Prelude.{◌≡◌, ◌⊎◌, ◌≤◌, ℕ, IfOk, List, length, map};
 ghost use Rattle.sql_expressions.specs.declared.refused.ParseRefused.{ParseRefused as OneRefusal};
 ghost use Rattle.sql_expressions.specs.declared.refused.ParseRefused.TheVariants as refusals;
 ghost use Rattle.sql_syntax.specs.Block as block;
@@ -10,18 +9,20 @@ use crate::statements::{all_statements, statement_comes};
 use grammar_rules::Refused;
 use pg_ids::Which;
 use pg_values::NoMemory;
-use sql_expressions::{ParseRefused, refusal};
-use sql_tokens::{Token, read_tokens};
+use sql_expressions::{ParseRefused, comes, refusal};
+use sql_tokens::{Kind, Token, read_tokens};
 use std::alloc::Global;
 
 /// A block has at most so many statements.
 pub const MOST_STATEMENTS: usize = 1024;
 
-/// The token from which on `left` tokens are left.
-fn token_at(tokens: &[Token], left: usize) -> Option<Token>
-    ensures { result ≡ parsed.token_at tokens.now left }
+/// Whether a statement begins at a token: with its first word, at the front of the block or directly
+/// behind a semicolon.
+fn statement_begins(tokens: &[Token], at: usize) -> bool
+    requires { at ≤ length tokens.now }
+    ensures { result ≡ block.statement_begins tokens.now at }
 {
-    tokens.get(tokens.len().saturating_sub(left)).copied()
+    statement_comes(&tokens[at..]) && (at == 0 || comes(&tokens[at - 1..], Kind::Semicolon))
 }
 
 /// The refusal of a block where its last tokens do not fit.
@@ -34,11 +35,9 @@ fn refusal_of_block(
     ensures { IfOk result (λ e. e ≡ block.refusal_of text.now tokens.now refused) }
 {
     if let Refused::Limit(left) = refused {
-        if let Some(token) = token_at(tokens, left) {
-            if statement_comes(&[token]) {
-                let which = Which::Statements;
-                return Ok(ParseRefused::TooMany { which });
-            }
+        if statement_begins(tokens, tokens.len().saturating_sub(left)) {
+            let which = Which::Statements;
+            return Ok(ParseRefused::TooMany { which });
         }
     }
     refusal(alloc, text, tokens, refused)

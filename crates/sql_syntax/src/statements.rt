@@ -3,7 +3,6 @@ ghost use Rattle.grammar_rules.specs.Gives.{Gives};
 ghost use Rattle.grammar_rules.specs.Reading.{begins_in, read_whole};
 ghost use Rattle.grammar_rules.specs.Rows.{always, read_row, read_step};
 ghost use Rattle.sql_expressions.specs.Words.{a};
-ghost use Rattle.sql_commands.specs.Grammar.{is_finish};
 ghost use Rattle.sql_syntax.specs.Grammar as grammar;
 ghost use Rattle.sql_syntax.specs.Trees.{statement_tree};
 ghost use Rattle.sql_syntax.specs.Views.{maybe_tree};
@@ -11,7 +10,7 @@ ghost use Rattle.sql_syntax.specs.Views.{maybe_tree};
 use crate::{MOST_STATEMENTS, Statement};
 use grammar_rules::{Refused, split};
 use pg_values::NoMemory;
-use sql_commands::command;
+use sql_commands::{command, command_comes};
 use sql_expressions::{comes, word};
 use sql_lists::one_of_comes;
 use sql_queries::query;
@@ -26,32 +25,6 @@ fn query_comes(tokens: &[Token]) -> bool
         || one_of_comes(tokens, Kind::Update, Kind::Delete)
         || comes(tokens, Kind::Prepare)
         || one_of_comes(tokens, Kind::Execute, Kind::Explain)
-}
-
-fn finish_comes(tokens: &[Token]) -> bool
-    ensures { result ≡ begins_in is_finish tokens.now }
-{
-    one_of_comes(tokens, Kind::Commit, Kind::End)
-        || one_of_comes(tokens, Kind::Rollback, Kind::Abort)
-}
-
-fn other_command_comes(tokens: &[Token]) -> bool
-    ensures { result ≡ begins_in grammar.begins_other_command tokens.now }
-{
-    comes(tokens, Kind::Create)
-        || comes(tokens, Kind::Drop)
-        || comes(tokens, Kind::Alter)
-        || comes(tokens, Kind::Lock)
-        || comes(tokens, Kind::Deallocate)
-}
-
-fn command_comes(tokens: &[Token]) -> bool
-    ensures { result ≡ begins_in grammar.begins_command tokens.now }
-{
-    one_of_comes(tokens, Kind::Begin, Kind::Start)
-        || finish_comes(tokens)
-        || one_of_comes(tokens, Kind::Set, Kind::Reset)
-        || other_command_comes(tokens)
 }
 
 /// Whether a statement comes next.
