@@ -10,6 +10,7 @@ pub mod LevelTexts
 pub mod MarkTokens
 pub mod MarksApart
 pub mod Needed
+pub mod NumbersSay
 pub mod Quoted
 pub mod ReadsBack
 pub mod Said

@@ -25,6 +25,7 @@ use Rattle.sql_written.specs.Spelling as spelled
 use Rattle.sql_written.specs.Spelling.{is_kept, is_plain}
 use Rattle.sql_written.specs.Writable.{IsName, IsText}
 use Rattle.sql_written.proofs.Fronts.{EndsNumber, is_ascii, ascii_utf8, name_front, number_front, parameter_front, piece_of, quoted_name_front, string_front}
+use Rattle.sql_written.proofs.NumbersSay.{AreDigits}
 use Rattle.sql_written.proofs.Utf8.{quoted_utf8}
 use Rattle.sql_written.proofs.MarkTokens.{IsPiece, StandsApart, next}
 
@@ -221,15 +222,34 @@ first_digit : (b : ℕ) (z : List ℕ) (f : Bool) → belongs class.Digit b ≡ 
 first_digit b z true i e = i
 first_digit b z false i e = let none : 0 ≡ suc (length z) = rw i at e in absurd (omega arith)
 
-digits_apart : (z : List ℕ) (m n : ℕ) → OfDigits m z → is_utf8 z ≡ true → EndsNumber n → IsPiece kinds.Number z n
-digits_apart [] m n o u h = let none : 0 < 0 = o.some in absurd (omega arith)
-digits_apart (b ∷ z) m n o u h = record {
+low_digit : (b : ℕ) → belongs class.Digit b ≡ true → nat_lt b 128 ≡ true
+low_digit b h = grind (arith, h)
+
+digits_ascii : (z : List ℕ) → prefix_len (belongs class.Digit) z ≡ length z → is_ascii z ≡ true
+digits_ascii [] e = refl
+digits_ascii (b ∷ z) e = go (belongs class.Digit b) refl (λ i. digits_ascii z i)
+  where
+    go : (f : Bool) → belongs class.Digit b ≡ f → (prefix_len (belongs class.Digit) z ≡ length z → is_ascii z ≡ true) → is_ascii (b ∷ z) ≡ true
+    go true i on =
+        let one : 1 + prefix_len (belongs class.Digit) z ≡ suc (length z) = rw i at e in
+        let same : prefix_len (belongs class.Digit) z ≡ length z = omega arith in
+        rw (low_digit b i) (on same)
+    go false i on = let none : 0 ≡ suc (length z) = rw i at e in absurd (omega arith)
+
+pub digits_apart : (z : List ℕ) (n : ℕ) → AreDigits z → EndsNumber n → IsPiece kinds.Number z n
+digits_apart [] n o h = let none : 0 < 0 = o.some in absurd (omega arith)
+digits_apart (b ∷ z) n o h = record {
   some = omega arith;
-  read = λ rest i. piece_of kinds.Number (b ∷ z) rest u (number_front b z rest (first_digit b z (belongs class.Digit b) refl o.digits) o.digits (subst EndsNumber (sym i) h));
+  read = λ rest i.
+      piece_of kinds.Number (b ∷ z) rest (ascii_utf8 (b ∷ z) (digits_ascii (b ∷ z) o.digits))
+      (number_front b z rest (first_digit b z (belongs class.Digit b) refl o.digits) o.digits (subst EndsNumber (sym i) h));
 }
 
+decimal_is : (n : ℕ) → n < 2 ^ 64 → AreDigits (decimal n)
+decimal_is n h = let o = decimal_digits n h in record { some = o.some; digits = o.digits }
+
 pub number_apart : (m n : ℕ) → m ≤ NO_BIGINT → EndsNumber n → StandsApart (spelled.number m) n
-number_apart m n w h = digits_apart (decimal m) m n (decimal_digits m (omega arith)) (decimal_utf8 m (omega arith)) h
+number_apart m n w h = digits_apart (decimal m) n (decimal_is m (omega arith)) h
 
 pub number_back : (n : ℕ) → n ≤ NO_BIGINT → number_of_digits (decimal n) ≡ n
 number_back n h =
@@ -323,9 +343,9 @@ digit_blank b h = grind (arith, h)
 digit_minus : (b : ℕ) → belongs class.Digit b ≡ true → (b == 45) ≡ false
 digit_minus b h = grind (arith, h)
 
-digits_first : (z : List ℕ) (m n : ℕ) → OfDigits m z → (belongs class.Blank (next z n) ≡ false) × ((next z n == 45) ≡ false)
-digits_first [] m n o = let none : 0 < 0 = o.some in absurd (omega arith)
-digits_first (b ∷ z) m n o = let d = first_digit b z (belongs class.Digit b) refl o.digits in (digit_blank b d, digit_minus b d)
+pub digits_first : (z : List ℕ) (n : ℕ) → AreDigits z → (belongs class.Blank (next z n) ≡ false) × ((next z n == 45) ≡ false)
+digits_first [] n o = let none : 0 < 0 = o.some in absurd (omega arith)
+digits_first (b ∷ z) n o = let d = first_digit b z (belongs class.Digit b) refl o.digits in (digit_blank b d, digit_minus b d)
 
 pub number_first : (m n : ℕ) → m ≤ NO_BIGINT → (belongs class.Blank (next (decimal m) n) ≡ false) × ((next (decimal m) n == 45) ≡ false)
-number_first m n h = digits_first (decimal m) m n (decimal_digits m (omega arith))
+number_first m n h = digits_first (decimal m) n (decimal_is m (omega arith))

@@ -75,7 +75,7 @@ quoted_said q z e = ap (undoubled q false) (inside_quoted q z) ∙ undoubled-dou
 
 -- no word is a quoted name, a string or a parameter
 abbrev is_constant : Kind → Bool
-is_constant k = is k kinds.QuotedName || (is k kinds.Text || is k kinds.Parameter)
+is_constant k = is k kinds.QuotedName || (is k kinds.Text || (is k kinds.Parameter || is k kinds.Number))
 
 abbrev words_alone : List (List ℕ × Kind) → Bool
 words_alone [] = true
@@ -120,19 +120,26 @@ no_constant : (word : List ℕ) → is_constant (word_kind word) ≡ false
 unfolding word_kind
 no_constant word = look_up_word (words_of (length word)) word (words_alone_of (length word))
 
-three_false : (a b c : Bool) → (a || (b || c)) ≡ false → (a ≡ false) × (b ≡ false) × (c ≡ false)
-three_false true b c h = cc
-three_false false true c h = cc
-three_false false false c h = (refl, refl, h)
+four_false : (a b c d : Bool) → (a || (b || (c || d))) ≡ false → (a ≡ false) × (b ≡ false) × (c ≡ false) × (d ≡ false)
+four_false true b c d h = cc
+four_false false true c d h = cc
+four_false false false true d h = cc
+four_false false false false d h = (refl, refl, refl, h)
+
+none_of : (word : List ℕ) → (is (word_kind word) kinds.QuotedName ≡ false) × (is (word_kind word) kinds.Text ≡ false) × (is (word_kind word) kinds.Parameter ≡ false) × (is (word_kind word) kinds.Number ≡ false)
+none_of word = four_false (is (word_kind word) kinds.QuotedName) (is (word_kind word) kinds.Text) (is (word_kind word) kinds.Parameter) (is (word_kind word) kinds.Number) (no_constant word)
 
 pub word_unquoted : (word : List ℕ) → is (word_kind word) kinds.QuotedName ≡ false
-word_unquoted word = (three_false (is (word_kind word) kinds.QuotedName) (is (word_kind word) kinds.Text) (is (word_kind word) kinds.Parameter) (no_constant word)).0
+word_unquoted word = (none_of word).0
 
 pub word_no_text : (word : List ℕ) → is (word_kind word) kinds.Text ≡ false
-word_no_text word = (three_false (is (word_kind word) kinds.QuotedName) (is (word_kind word) kinds.Text) (is (word_kind word) kinds.Parameter) (no_constant word)).1
+word_no_text word = (none_of word).1
 
 pub word_no_parameter : (word : List ℕ) → is (word_kind word) kinds.Parameter ≡ false
-word_no_parameter word = (three_false (is (word_kind word) kinds.QuotedName) (is (word_kind word) kinds.Text) (is (word_kind word) kinds.Parameter) (no_constant word)).2
+word_no_parameter word = (none_of word).2
+
+pub word_no_number : (word : List ℕ) → is (word_kind word) kinds.Number ≡ false
+word_no_number word = (none_of word).3
 
 -- a plain name is folded to itself
 lower_kept : (b : ℕ) → is_kept b ≡ true → to_ascii_lowercase b ≡ b

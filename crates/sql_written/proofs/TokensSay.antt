@@ -21,8 +21,9 @@ use Rattle.sql_tokens.specs.declared.piece.Piece.{Piece}
 use Rattle.sql_tokens.specs.declared.piece.Piece.TheVariants.{Gap, Lexeme, Broken}
 use Rattle.sql_tokens.specs.declared.token.Token.{Token}
 use Rattle.sql_expressions.proofs.Limited.{Each, append, all_of_each}
+use Rattle.sql_written.proofs.NumbersSay.{AreDigits, digits_there, front_of}
 use Rattle.sql_written.proofs.Quoted.{IsQuoted, quoted_long, quoted_there}
-use Rattle.sql_written.proofs.Said.{word_no_parameter, word_no_text, word_unquoted}
+use Rattle.sql_written.proofs.Said.{word_no_number, word_no_parameter, word_no_text, word_unquoted}
 
 pub record IsWord (z : List ℕ) : Type 0 where
   pub start : belongs class.NameStart (slice_index z 0) ≡ true
@@ -38,6 +39,7 @@ pub record Says (k : Kind) (z : List ℕ) : Type 0 where
   pub name : is k kinds.QuotedName ≡ true → IsQuoted 34 z × (2 < length z)
   pub string : is k kinds.Text ≡ true → IsQuoted 39 z
   pub parameter : is k kinds.Parameter ≡ true → number_of_digits z ≤ MOST_PARAMETER
+  pub number : is k kinds.Number ≡ true → AreDigits z
 
 abbrev SaysPiece : List ℕ → Piece → Type 0
 SaysPiece z (Gap n) = Unit {0}
@@ -48,30 +50,18 @@ pick : (z : List ℕ) (b : Bool) (p q : Piece) → (b ≡ true → SaysPiece z p
 pick z true p q h g = h refl
 pick z false p q h g = g refl
 
-other : (k : Kind) (z : List ℕ) → is_spelled k ≡ false → is k kinds.QuotedName ≡ false → is k kinds.Text ≡ false → is k kinds.Parameter ≡ false → Says k z
-other k z a b c d = record {
+other : (k : Kind) (z : List ℕ) → is_spelled k ≡ false → is k kinds.QuotedName ≡ false → is k kinds.Text ≡ false → is k kinds.Parameter ≡ false → is k kinds.Number ≡ false → Says k z
+other k z a b c d f = record {
   word = λ e i. let f : true ≡ false = sym e ∙ a in cc;
   name = λ e. let f : true ≡ false = sym e ∙ b in cc;
   string = λ e. let f : true ≡ false = sym e ∙ c in cc;
   parameter = λ e. let f : true ≡ false = sym e ∙ d in cc;
+  number = λ e. let g : true ≡ false = sym e ∙ f in cc;
 }
 
 -- words
 part_of_start : (b : ℕ) → belongs class.NameStart b ≡ true → belongs class.NamePart b ≡ true
 part_of_start b h = grind (arith, h)
-
-front_one : (p : ℕ → Bool) (b : ℕ) (z : List ℕ) (f : Bool) → p b ≡ f → prefix_len p (take (prefix_len p z) z) ≡ length (take (prefix_len p z) z) → prefix_len p (take (prefix_len p (b ∷ z)) (b ∷ z)) ≡ length (take (prefix_len p (b ∷ z)) (b ∷ z))
-front_one p b z true e h =
-    let n : prefix_len p (b ∷ z) ≡ suc (prefix_len p z) = rw e (omega arith) in
-    let same : prefix_len p (b ∷ take (prefix_len p z) z) ≡ suc (length (take (prefix_len p z) z)) = rw e (omega (arith, h)) in
-    subst (λ m. prefix_len p (take m (b ∷ z)) ≡ length (take m (b ∷ z))) (sym n) same
-front_one p b z false e h =
-    let n : prefix_len p (b ∷ z) ≡ 0 = rw e refl in
-    subst (λ m. prefix_len p (take m (b ∷ z)) ≡ length (take m (b ∷ z))) (sym n) refl
-
-front_of : (p : ℕ → Bool) (z : List ℕ) → prefix_len p (take (prefix_len p z) z) ≡ length (take (prefix_len p z) z)
-front_of p [] = refl
-front_of p (b ∷ z) = front_one p b z (p b) refl (front_of p z)
 
 first_of : (p : ℕ → Bool) (z : List ℕ) → p (slice_index z 0) ≡ true → slice_index (take (prefix_len p z) z) 0 ≡ slice_index z 0
 first_of p [] h = refl
@@ -93,6 +83,7 @@ word_says z h =
       name = λ e. let f : true ≡ false = sym e ∙ word_unquoted w in cc;
       string = λ e. let f : true ≡ false = sym e ∙ word_no_text w in cc;
       parameter = λ e. let f : true ≡ false = sym e ∙ word_no_parameter w in cc;
+      number = λ e. let f : true ≡ false = sym e ∙ word_no_number w in cc;
     }
 
 -- between quotes
@@ -102,6 +93,7 @@ text_says z q = record {
   name = λ e. let f : true ≡ false = sym e in cc;
   string = λ e. q;
   parameter = λ e. let f : true ≡ false = sym e in cc;
+  number = λ e. let f : true ≡ false = sym e in cc;
 }
 
 name_says : (z : List ℕ) → IsQuoted 34 z → 2 < length z → Says kinds.QuotedName z
@@ -110,6 +102,7 @@ name_says z q some = record {
   name = λ e. (q, some);
   string = λ e. let f : true ≡ false = sym e in cc;
   parameter = λ e. let f : true ≡ false = sym e in cc;
+  number = λ e. let f : true ≡ false = sym e in cc;
 }
 
 closed_text : (w : List ℕ) (o : Option ℕ) → closing 39 false 1 w ≡ o → SaysPiece (39 ∷ w) (closed_string o)
@@ -140,19 +133,28 @@ quoted_says [] h = cc
 quoted_says (b ∷ w) h = subst (λ c. SaysPiece (c ∷ w) (closed_name (closing 34 false 1 w))) (sym (eqb-true b 34 h)) (closed_quoted w (closing 34 false 1 w) refl)
 
 -- numbers and parameters
-piece_of : (z : List ℕ) (k : Kind) (n : ℕ) → is_spelled k ≡ false → is k kinds.QuotedName ≡ false → is k kinds.Text ≡ false → is k kinds.Parameter ≡ false → SaysPiece z (Lexeme k n)
-piece_of z k n a b c d = other k (take n z) a b c d
+piece_of : (z : List ℕ) (k : Kind) (n : ℕ) → is_spelled k ≡ false → is k kinds.QuotedName ≡ false → is k kinds.Text ≡ false → is k kinds.Parameter ≡ false → is k kinds.Number ≡ false → SaysPiece z (Lexeme k n)
+piece_of z k n a b c d f = other k (take n z) a b c d f
 
-number_kind : (z : List ℕ) (end : ℕ) (b : Bool) → SaysPiece z (Lexeme (cond b kinds.Number kinds.Decimal) end)
-number_kind z end true = piece_of z kinds.Number end refl refl refl refl
-number_kind z end false = piece_of z kinds.Decimal end refl refl refl refl
+number_of : (z : List ℕ) → AreDigits z → Says kinds.Number z
+number_of z d = record {
+  word = λ e i. let f : true ≡ false = sym e in cc;
+  name = λ e. let f : true ≡ false = sym e in cc;
+  string = λ e. let f : true ≡ false = sym e in cc;
+  parameter = λ e. let f : true ≡ false = sym e in cc;
+  number = λ e. d;
+}
 
-number_says : (z : List ℕ) → SaysPiece z (number z)
+number_kind : (z : List ℕ) (end : ℕ) (b : Bool) → (b ≡ true → AreDigits (take end z)) → SaysPiece z (Lexeme (cond b kinds.Number kinds.Decimal) end)
+number_kind z end true d = number_of (take end z) (d refl)
+number_kind z end false d = piece_of z kinds.Decimal end refl refl refl refl refl
+
+number_says : (z : List ℕ) → begins_number z ≡ true → SaysPiece z (number z)
 unfolding number
-number_says z =
+number_says z h =
     let whole = past class.Digit z 0 in
     let end = past_exponent z (past_fraction z whole) in
-    pick z (belongs class.NameStart (slice_index z end)) Broken (Lexeme (kind_of whole end) end) (λ e. tt) (λ e. number_kind z end (end == whole))
+    pick z (belongs class.NameStart (slice_index z end)) Broken (Lexeme (kind_of whole end) end) (λ e. tt) (λ e. number_kind z end (end == whole) (λ i. digits_there z h i))
 
 few : (n : ℕ) → nat_lt MOST_PARAMETER n ≡ false → n ≤ MOST_PARAMETER
 few n h = grind (arith, h)
@@ -167,6 +169,7 @@ parameter_of z h = record {
   name = λ e. let f : true ≡ false = sym e in cc;
   string = λ e. let f : true ≡ false = sym e in cc;
   parameter = λ e. h;
+  number = λ e. let f : true ≡ false = sym e in cc;
 }
 
 parameter_says : (z : List ℕ) → SaysPiece z (parameter z)
@@ -184,39 +187,39 @@ closed_says z (Some n) = tt
 
 minus_says : (z : List ℕ) → SaysPiece z (minus z)
 unfolding minus
-minus_says z = pick z (slice_index z 1 == 45) _ _ (λ e. tt) (λ e. piece_of z kinds.Minus 1 refl refl refl refl)
+minus_says z = pick z (slice_index z 1 == 45) _ _ (λ e. tt) (λ e. piece_of z kinds.Minus 1 refl refl refl refl refl)
 
 slash_says : (z : List ℕ) → SaysPiece z (slash z)
 unfolding slash
-slash_says z = pick z (slice_index z 1 == 42) _ _ (λ e. closed_says z (comment_end 0 false 2 (drop 2 z))) (λ e. piece_of z kinds.Slash 1 refl refl refl refl)
+slash_says z = pick z (slice_index z 1 == 42) _ _ (λ e. closed_says z (comment_end 0 false 2 (drop 2 z))) (λ e. piece_of z kinds.Slash 1 refl refl refl refl refl)
 
 less_says : (z : List ℕ) (next : ℕ) → SaysPiece z (less next)
 less_says z next =
-    pick z (next == 61) _ _ (λ e. piece_of z kinds.LessEqual 2 refl refl refl refl)
-    (λ e. pick z (next == 62) _ _ (λ i. piece_of z kinds.NotEqual 2 refl refl refl refl) (λ i. piece_of z kinds.Less 1 refl refl refl refl))
+    pick z (next == 61) _ _ (λ e. piece_of z kinds.LessEqual 2 refl refl refl refl refl)
+    (λ e. pick z (next == 62) _ _ (λ i. piece_of z kinds.NotEqual 2 refl refl refl refl refl) (λ i. piece_of z kinds.Less 1 refl refl refl refl refl))
 
 greater_says : (z : List ℕ) (next : ℕ) → SaysPiece z (greater next)
-greater_says z next = pick z (next == 61) _ _ (λ e. piece_of z kinds.GreaterEqual 2 refl refl refl refl) (λ e. piece_of z kinds.Greater 1 refl refl refl refl)
+greater_says z next = pick z (next == 61) _ _ (λ e. piece_of z kinds.GreaterEqual 2 refl refl refl refl refl) (λ e. piece_of z kinds.Greater 1 refl refl refl refl refl)
 
 single_says : (z : List ℕ) (b : ℕ) → SaysPiece z (single b)
 single_says z b =
-    pick z (b == 40) _ _ (λ e. piece_of z kinds.OpenParenthesis 1 refl refl refl refl) (λ e.
-    pick z (b == 41) _ _ (λ e. piece_of z kinds.CloseParenthesis 1 refl refl refl refl) (λ e.
-    pick z (b == 44) _ _ (λ e. piece_of z kinds.Comma 1 refl refl refl refl) (λ e.
-    pick z (b == 59) _ _ (λ e. piece_of z kinds.Semicolon 1 refl refl refl refl) (λ e.
-    pick z (b == 46) _ _ (λ e. piece_of z kinds.Dot 1 refl refl refl refl) (λ e.
-    pick z (b == 61) _ _ (λ e. piece_of z kinds.Equal 1 refl refl refl refl) (λ e.
-    pick z (b == 43) _ _ (λ e. piece_of z kinds.Plus 1 refl refl refl refl) (λ e.
-    pick z (b == 42) _ _ (λ e. piece_of z kinds.Star 1 refl refl refl refl) (λ e.
-    pick z (b == 37) _ _ (λ e. piece_of z kinds.Percent 1 refl refl refl refl) (λ e. tt)))))))))
+    pick z (b == 40) _ _ (λ e. piece_of z kinds.OpenParenthesis 1 refl refl refl refl refl) (λ e.
+    pick z (b == 41) _ _ (λ e. piece_of z kinds.CloseParenthesis 1 refl refl refl refl refl) (λ e.
+    pick z (b == 44) _ _ (λ e. piece_of z kinds.Comma 1 refl refl refl refl refl) (λ e.
+    pick z (b == 59) _ _ (λ e. piece_of z kinds.Semicolon 1 refl refl refl refl refl) (λ e.
+    pick z (b == 46) _ _ (λ e. piece_of z kinds.Dot 1 refl refl refl refl refl) (λ e.
+    pick z (b == 61) _ _ (λ e. piece_of z kinds.Equal 1 refl refl refl refl refl) (λ e.
+    pick z (b == 43) _ _ (λ e. piece_of z kinds.Plus 1 refl refl refl refl refl) (λ e.
+    pick z (b == 42) _ _ (λ e. piece_of z kinds.Star 1 refl refl refl refl refl) (λ e.
+    pick z (b == 37) _ _ (λ e. piece_of z kinds.Percent 1 refl refl refl refl refl) (λ e. tt)))))))))
 
 sign_says : (z : List ℕ) (b next : ℕ) → SaysPiece z (sign b next)
 unfolding sign
 sign_says z b next =
     pick z (b == 60) _ _ (λ e. less_says z next) (λ e.
     pick z (b == 62) _ _ (λ e. greater_says z next) (λ e.
-    pick z (b == 33 && next == 61) _ _ (λ e. piece_of z kinds.NotEqual 2 refl refl refl refl) (λ e.
-    pick z (b == 58 && next == 58) _ _ (λ e. piece_of z kinds.TypeCast 2 refl refl refl refl) (λ e. single_says z b))))
+    pick z (b == 33 && next == 61) _ _ (λ e. piece_of z kinds.NotEqual 2 refl refl refl refl refl) (λ e.
+    pick z (b == 58 && next == 58) _ _ (λ e. piece_of z kinds.TypeCast 2 refl refl refl refl refl) (λ e. single_says z b))))
 
 mark_says : (z : List ℕ) → SaysPiece z (mark z)
 unfolding mark
@@ -233,7 +236,7 @@ unfolding front
 front_says z =
     pick z (belongs class.Blank (slice_index z 0)) _ _ (λ e. tt) (λ e.
     pick z (begins_name z) _ _ (λ i. word_says z i) (λ i.
-    pick z (begins_number z) _ _ (λ j. number_says z) (λ j. mark_says z)))
+    pick z (begins_number z) _ _ (λ j. number_says z j) (λ j. mark_says z)))
 
 -- with bytes that are UTF-8
 abbrev TellsPiece : List ℕ → Piece → Type 0

@@ -1,5 +1,5 @@
 ghost use Rattle.std.specs.List.{prefix_len};
-ghost use Rattle.std.specs.Prelude.{◌≡◌, ◌++◌, ◌∷◌, [], if◌then◌else◌, OnOk};
+ghost use Rattle.std.specs.Prelude.{◌≡◌, ◌++◌, ◌∷◌, [], if◌then◌else◌, IfOk, OnErr, OnOk};
 ghost use Rattle.sql_tokens.specs.Words.{word_kind as kind_of};
 ghost use Rattle.sql_tokens.specs.Written as quotes;
 ghost use Rattle.sql_written.specs.Marks.{bytes_of, mark, text_of};
@@ -8,6 +8,7 @@ ghost use Rattle.sql_written.specs.Spelling as spelled;
 use pg_values::NoMemory;
 use sql_expressions::{Leaf, Operator};
 use sql_tokens::{Class, Kind, belongs, is_name, word_kind};
+use std::alloc::Global;
 
 /// Whether a name without quotes goes on with the byte, and says it as it is.
 fn is_kept(b: u8) -> bool
@@ -60,21 +61,31 @@ fn write_doubled(quote: u8, text: &[u8], out: &mut Vec<u8>) -> Result<(), NoMemo
     Ok(())
 }
 
-/// Appends a text between quotes, with each quote in it twice: where memory runs out, a part of it may
-/// be there.
-pub fn write_quoted(quote: u8, text: &[u8], out: &mut Vec<u8>) -> Result<(), NoMemory>
-    ensures { OnOk result (out.new.items ≡ out.old.items ++ quotes.quoted quote text.now) }
+fn quoted(alloc: Global, quote: u8, text: &[u8]) -> Result<Vec<u8>, NoMemory>
+    ensures { IfOk result (λ z. z.items ≡ quotes.quoted quote text.now) }
 {
-    out.push(quote)?;
-    write_doubled(quote, text, out)?;
-    out.push(quote)?;
+    let mut quoted = Vec::new(alloc);
+    quoted.push(quote)?;
+    write_doubled(quote, text, &mut quoted)?;
+    quoted.push(quote)?;
+    Ok(quoted)
+}
+
+/// Appends a text between quotes, with each quote in it twice: all of it or, where memory runs out,
+/// nothing.
+pub fn write_quoted(quote: u8, text: &[u8], out: &mut Vec<u8>) -> Result<(), NoMemory>
+    ensures ok { OnOk result (out.new.items ≡ out.old.items ++ quotes.quoted quote text.now) }
+    ensures err { OnErr result (out.new.items ≡ out.old.items) }
+{
+    let text = quoted(*out.allocator(), quote, text)?;
+    out.extend_from_slice(&text)?;
     Ok(())
 }
 
-/// Appends a name, between quotes unless it may stand without: where memory runs out, a part of it may
-/// be there.
+/// Appends a name, between quotes unless it may stand without: all of it or nothing.
 pub fn write_name_if(plain: bool, name: &[u8], out: &mut Vec<u8>) -> Result<(), NoMemory>
-    ensures { OnOk result (out.new.items ≡ out.old.items ++ bytes_of (if plain then mark (kind_of name.now) name.now else mark Kind.QuotedName (quotes.quoted 34 name.now))) }
+    ensures ok { OnOk result (out.new.items ≡ out.old.items ++ bytes_of (if plain then mark (kind_of name.now) name.now else mark Kind.QuotedName (quotes.quoted 34 name.now))) }
+    ensures err { OnErr result (out.new.items ≡ out.old.items) }
 {
     if plain {
         out.extend_from_slice(name)?;
@@ -83,17 +94,18 @@ pub fn write_name_if(plain: bool, name: &[u8], out: &mut Vec<u8>) -> Result<(), 
     write_quoted(b'"', name, out)
 }
 
-/// Appends a name, between quotes only where it must be: where memory runs out, a part of it may be
-/// there.
+/// Appends a name, between quotes only where it must be: all of it or nothing.
 pub fn write_name(name: &[u8], out: &mut Vec<u8>) -> Result<(), NoMemory>
-    ensures { OnOk result (out.new.items ≡ out.old.items ++ bytes_of (spelled.name name.now)) }
+    ensures ok { OnOk result (out.new.items ≡ out.old.items ++ bytes_of (spelled.name name.now)) }
+    ensures err { OnErr result (out.new.items ≡ out.old.items) }
 {
     write_name_if(is_plain(name), name, out)
 }
 
-/// Appends a whole number: where memory runs out, a part of it may be there.
+/// Appends a whole number: all of it or nothing.
 pub fn write_number(n: u64, out: &mut Vec<u8>) -> Result<(), NoMemory>
-    ensures { OnOk result (out.new.items ≡ out.old.items ++ bytes_of (spelled.number n)) }
+    ensures ok { OnOk result (out.new.items ≡ out.old.items ++ bytes_of (spelled.number n)) }
+    ensures err { OnErr result (out.new.items ≡ out.old.items) }
 {
     let mut digits = itoa::Buffer::new();
     out.extend_from_slice(digits.format(n).as_bytes())?;

@@ -113,9 +113,9 @@ fn write_list(list: &ExprList, out: &mut Vec<u8>) -> Result<(), NoMemory>
     Ok(())
 }
 
-/// Appends an expression: where memory runs out, a part of it may be there.
+/// Where memory runs out, a part of the expression may be there.
 #[cycle(write)]
-pub fn write_tree(e: &Expr, out: &mut Vec<u8>) -> Result<(), NoMemory>
+fn write_tree(e: &Expr, out: &mut Vec<u8>) -> Result<(), NoMemory>
     ensures { OnOk result (out.new.items ≡ out.old.items ++ text_of (shown.marks (tree e.now))) }
 {
     match e {
