@@ -20,110 +20,110 @@ abbrev part_rank : Joint → ℕ
 part_rank joints.Or = 14
 part_rank joints.And = 11
 
-abbrev pub decreases-right_operand : goal.decreases-right_operand
-decreases-right_operand l = 32 * l.budget
+abbrev pub decreases-sums::right_operand : goal.decreases-sums::right_operand
+decreases-sums::right_operand l = 32 * l.budget
 
-abbrev pub decreases-right_part : goal.decreases-right_part
-decreases-right_part l = 32 * l.budget
+abbrev pub decreases-conjunctions::right_part : goal.decreases-conjunctions::right_part
+decreases-conjunctions::right_part l = 32 * l.budget
 
-abbrev pub decreases-named : goal.decreases-named
-decreases-named l = 32 * l.budget + 1
+abbrev pub decreases-operands::named : goal.decreases-operands::named
+decreases-operands::named l = 32 * l.budget + 1
 
-abbrev pub decreases-operand_step : goal.decreases-operand_step
-decreases-operand_step l = 32 * l.budget + 1
+abbrev pub decreases-sums::operand_step : goal.decreases-sums::operand_step
+decreases-sums::operand_step l = 32 * l.budget + 1
 
-abbrev pub decreases-part_step : goal.decreases-part_step
-decreases-part_step l = 32 * l.budget + 1
+abbrev pub decreases-conjunctions::part_step : goal.decreases-conjunctions::part_step
+decreases-conjunctions::part_step l = 32 * l.budget + 1
 
-abbrev pub decreases-unary : goal.decreases-unary
-decreases-unary l = 32 * l.budget + 2
+abbrev pub decreases-operands::unary : goal.decreases-operands::unary
+decreases-operands::unary l = 32 * l.budget + 2
 
-abbrev pub decreases-more_operands : goal.decreases-more_operands
-decreases-more_operands l = 32 * l.budget + 2
+abbrev pub decreases-sums::more_operands : goal.decreases-sums::more_operands
+decreases-sums::more_operands l = 32 * l.budget + 2
 
-abbrev pub decreases-more_parts : goal.decreases-more_parts
-decreases-more_parts l = 32 * l.budget + 2
+abbrev pub decreases-conjunctions::more_parts : goal.decreases-conjunctions::more_parts
+decreases-conjunctions::more_parts l = 32 * l.budget + 2
 
-abbrev pub decreases-operand : goal.decreases-operand
-decreases-operand l = 32 * l.budget + rank l.row
+abbrev pub decreases-sums::operand : goal.decreases-sums::operand
+decreases-sums::operand l = 32 * l.budget + rank l.row
 
-abbrev pub decreases-row_of_operators : goal.decreases-row_of_operators
-decreases-row_of_operators l = 32 * l.budget + rank l.row + 1
+abbrev pub decreases-sums::row_of_operators : goal.decreases-sums::row_of_operators
+decreases-sums::row_of_operators l = 32 * l.budget + rank l.row + 1
 
-abbrev pub decreases-test : goal.decreases-test
-decreases-test l = 32 * l.budget + 7
+abbrev pub decreases-comparisons::test : goal.decreases-comparisons::test
+decreases-comparisons::test l = 32 * l.budget + 7
 
-abbrev pub decreases-comparison : goal.decreases-comparison
-decreases-comparison l = 32 * l.budget + 8
+abbrev pub decreases-comparisons::comparison : goal.decreases-comparisons::comparison
+decreases-comparisons::comparison l = 32 * l.budget + 8
 
-abbrev pub decreases-nullity : goal.decreases-nullity
-decreases-nullity l = 32 * l.budget + 9
+abbrev pub decreases-negations::nullity : goal.decreases-negations::nullity
+decreases-negations::nullity l = 32 * l.budget + 9
 
-abbrev pub decreases-negation : goal.decreases-negation
-decreases-negation l = 32 * l.budget + 10
+abbrev pub decreases-negations::negation : goal.decreases-negations::negation
+decreases-negations::negation l = 32 * l.budget + 10
 
-abbrev pub decreases-part : goal.decreases-part
-decreases-part l = 32 * l.budget + part_rank l.joint
+abbrev pub decreases-conjunctions::part : goal.decreases-conjunctions::part
+decreases-conjunctions::part l = 32 * l.budget + part_rank l.joint
 
-abbrev pub decreases-more_of_row : goal.decreases-more_of_row
-decreases-more_of_row l = 32 * l.budget + 3
+abbrev pub decreases-conjunctions::more_of_row : goal.decreases-conjunctions::more_of_row
+decreases-conjunctions::more_of_row l = 32 * l.budget + 3
 
-abbrev pub decreases-row_of_parts : goal.decreases-row_of_parts
-decreases-row_of_parts l = 32 * l.budget + part_rank l.joint + 2
+abbrev pub decreases-conjunctions::row_of_parts : goal.decreases-conjunctions::row_of_parts
+decreases-conjunctions::row_of_parts l = 32 * l.budget + part_rank l.joint + 2
 
-abbrev pub decreases-disjunction : goal.decreases-disjunction
-decreases-disjunction l = 32 * l.budget + 17
+abbrev pub decreases-conjunctions::disjunction : goal.decreases-conjunctions::disjunction
+decreases-conjunctions::disjunction l = 32 * l.budget + 17
 
 -- what is read with one less of the depth that is left
-abbrev pub decreases-inverted_by : goal.decreases-inverted_by
-decreases-inverted_by l = 32 * l.below + 18
+abbrev pub decreases-negations::inverted_by : goal.decreases-negations::inverted_by
+decreases-negations::inverted_by l = 32 * l.below + 18
 
-abbrev pub decreases-compared : goal.decreases-compared
-decreases-compared l = 32 * l.below + 18
+abbrev pub decreases-comparisons::compared : goal.decreases-comparisons::compared
+decreases-comparisons::compared l = 32 * l.below + 18
 
-abbrev pub decreases-nested : goal.decreases-nested
-decreases-nested l = 32 * l.below + 18
+abbrev pub decreases-operands::nested : goal.decreases-operands::nested
+decreases-operands::nested l = 32 * l.below + 18
 
-abbrev pub decreases-item_step : goal.decreases-item_step
-decreases-item_step l = 32 * l.below + 18
+abbrev pub decreases-calls::item_step : goal.decreases-calls::item_step
+decreases-calls::item_step l = 32 * l.below + 18
 
-abbrev pub decreases-more_items : goal.decreases-more_items
-decreases-more_items l = 32 * l.below + 19
+abbrev pub decreases-calls::more_items : goal.decreases-calls::more_items
+decreases-calls::more_items l = 32 * l.below + 19
 
-abbrev pub decreases-list : goal.decreases-list
-decreases-list l = 32 * l.below + 20
+abbrev pub decreases-calls::list : goal.decreases-calls::list
+decreases-calls::list l = 32 * l.below + 20
 
-abbrev pub decreases-arguments : goal.decreases-arguments
-decreases-arguments l = 32 * l.below + 21
+abbrev pub decreases-calls::arguments : goal.decreases-calls::arguments
+decreases-calls::arguments l = 32 * l.below + 21
 
-abbrev pub decreases-called : goal.decreases-called
-decreases-called l = 32 * l.below + 22
+abbrev pub decreases-calls::called : goal.decreases-calls::called
+decreases-calls::called l = 32 * l.below + 22
 
-abbrev pub decreases-in_or_between : goal.decreases-in_or_between
-decreases-in_or_between l = 32 * l.below + 21
+abbrev pub decreases-comparisons::in_or_between : goal.decreases-comparisons::in_or_between
+decreases-comparisons::in_or_between l = 32 * l.below + 21
 
-abbrev pub decreases-tested : goal.decreases-tested
-decreases-tested l = 32 * l.below + 22
+abbrev pub decreases-comparisons::tested : goal.decreases-comparisons::tested
+decreases-comparisons::tested l = 32 * l.below + 22
 
 -- the rest of the row is read from where the loop stands
-abbrev pub invariant-more_items-loop : goal.invariant-more_items-loop
-invariant-more_items-loop l = record {
+abbrev pub invariant-calls::more_items-loop : goal.invariant-calls::more_items-loop
+invariant-calls::more_items-loop l = record {
   reads :
       read_row (words.a kinds.Comma) always levels.add_part (λ _. (grammar.rules l.text l.below).expression.read) (l.end - l.counter) (views.parts l.done) l.rest
       ≡ read_row (words.a kinds.Comma) always levels.add_part (λ _. (grammar.rules l.text l.below).expression.read) (length l.fn.tokens) (views.parts l.fn.first) l.fn.tokens;
   within : l.done.depth ≤ l.below;
 }
 
-abbrev pub invariant-more_operands-loop : goal.invariant-more_operands-loop
-invariant-more_operands-loop l = record {
+abbrev pub invariant-sums::more_operands-loop : goal.invariant-sums::more_operands-loop
+invariant-sums::more_operands-loop l = record {
   reads :
       read_row (views.sign_of l.row) (levels.has_room (grammar.below l.budget)) levels.join (λ _. (views.operand_of l.row (grammar.under_depth l.text l.budget)).read) (l.end - l.counter) (views.deep l.left) l.rest
       ≡ read_row (views.sign_of l.row) (levels.has_room (grammar.below l.budget)) levels.join (λ _. (views.operand_of l.row (grammar.under_depth l.text l.budget)).read) (length l.fn.tokens) (views.deep l.fn.first) l.fn.tokens;
   within : l.left.depth ≤ l.budget;
 }
 
-abbrev pub invariant-more_parts-loop : goal.invariant-more_parts-loop
-invariant-more_parts-loop l = record {
+abbrev pub invariant-conjunctions::more_parts-loop : goal.invariant-conjunctions::more_parts-loop
+invariant-conjunctions::more_parts-loop l = record {
   reads :
       read_row (views.joint_sign l.joint) (levels.parts_room (grammar.below l.budget)) levels.add_part (λ _. (views.part_of l.joint (grammar.under_depth l.text l.budget)).read) (l.end - l.counter) (views.parts l.done) l.rest
       ≡ read_row (views.joint_sign l.joint) (levels.parts_room (grammar.below l.budget)) levels.add_part (λ _. (views.part_of l.joint (grammar.under_depth l.text l.budget)).read) (length l.fn.tokens) (views.parts l.fn.first) l.fn.tokens;

@@ -5,7 +5,7 @@ use Rattle.sql_expressions.specs.Grammar as grammar
 use Rattle.sql_expressions.specs.Levels as levels
 use Rattle.sql_expressions.specs.Views as views
 use Rattle.sql_expressions.specs.Words as words
-use Rattle.sql_expressions.proofs.levels.more_nulls.Given as goal
+use Rattle.sql_expressions.proofs.levels.negations.more_nulls.Given as goal
 
 -- the rest of the row is read from where the loop stands
 abbrev pub invariant-loop : goal.invariant-loop

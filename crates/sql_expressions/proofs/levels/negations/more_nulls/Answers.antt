@@ -2,7 +2,7 @@ use Rattle.std.proofs.Common.{◌-◌, ◌+◌, length, arith, sym, subst, ◌�
 use Rattle.std.proofs.lemmas.Result.{err_from_is_err_and}
 use Rattle.grammar_rules.specs.Gives.{Refuses}
 use Rattle.grammar_rules.proofs.Steps.{row_more, row_done, row_end, row_fails}
-use Rattle.sql_expressions.proofs.levels.more_nulls.Goals as goal
+use Rattle.sql_expressions.proofs.levels.negations.more_nulls.Goals as goal
 
 pub returns-in_err-more-clause-reads : goal.returns-in_err-more-clause-reads
 returns-in_err-more-clause-reads c =

@@ -1,0 +1,116 @@
+ghost use Rattle.std.specs.Prelude.{◌<◌, ◌≤◌, IfOk, length};
+ghost use Rattle.grammar_rules.specs.Gives.{Gives};
+ghost use Rattle.grammar_rules.specs.Rows.{read_row, read_step};
+ghost use Rattle.sql_expressions.specs.Grammar as grammar;
+ghost use Rattle.sql_expressions.specs.Levels as levels;
+ghost use Rattle.sql_expressions.specs.Views as views;
+
+use crate::deep::{Deep, binary};
+use crate::levels::operands::unary;
+use crate::signs::{Row, operator_of, sign, sign_comes};
+use grammar_rules::Refused;
+use sql_tokens::Token;
+use std::alloc::Global;
+
+#[cycle(levels)]
+fn operand<'a>(
+    alloc: Global,
+    text: &[u8],
+    row: Row,
+    tokens: &'a [Token],
+    budget: u8,
+) -> Result<(Deep, &'a [Token]), Refused>
+    ensures reads { Gives (λ x. (views.deep x.0, x.1.now)) result ((views.operand_of row (grammar.rules text.now budget)).read tokens.now) }
+    ensures within { IfOk result (λ x. x.0.depth ≤ budget) }
+{
+    match row {
+        Row::Sum => row_of_operators(alloc, text, Row::Product, tokens, budget),
+        Row::Product => unary(alloc, text, tokens, budget),
+    }
+}
+
+/// The operand behind a sign.
+#[cycle(levels)]
+fn right_operand<'a>(
+    alloc: Global,
+    text: &[u8],
+    row: Row,
+    tokens: &'a [Token],
+    budget: u8,
+) -> Result<(Deep, &'a [Token]), Refused>
+    requires { 0 < budget }
+    ensures reads { Gives (λ x. (views.deep x.0, x.1.now)) result ((views.operand_of row (grammar.under_depth text.now budget)).read tokens.now) }
+    ensures within { IfOk result (λ x. x.0.depth < budget) }
+{
+    operand(alloc, text, row, tokens, budget - 1)
+}
+
+#[cycle(levels)]
+pub(crate) fn row_of_operators<'a>(
+    alloc: Global,
+    text: &[u8],
+    row: Row,
+    tokens: &'a [Token],
+    budget: u8,
+) -> Result<(Deep, &'a [Token]), Refused>
+    ensures reads { Gives (λ x. (views.deep x.0, x.1.now)) result ((views.row_at text.now row budget).read tokens.now) }
+    ensures within { IfOk result (λ x. x.0.depth ≤ budget) }
+{
+    let (first, rest) = operand(alloc, text, row, tokens, budget)?;
+    if !sign_comes(row, rest) {
+        return Ok((first, rest));
+    }
+    more_operands(alloc, text, row, first, rest, budget)
+}
+
+#[cycle(levels)]
+#[tactic(auto, unfolding(grammar_rules::specs::Rows::read_step))]
+fn operand_step<'a>(
+    alloc: Global,
+    text: &[u8],
+    row: Row,
+    left: Deep,
+    tokens: &'a [Token],
+    budget: u8,
+) -> Result<(bool, Deep, &'a [Token]), Refused>
+    requires { left.depth ≤ budget }
+    ensures reads { Gives (λ x. ((x.0, views.deep x.1), x.2.now)) result (read_step (views.sign_of row) (levels.has_room (grammar.below budget)) levels.join (λ _. (views.operand_of row (grammar.under_depth text.now budget)).read) (views.deep left) tokens.now) }
+    ensures within { IfOk result (λ x. x.1.depth ≤ budget) }
+{
+    if !sign_comes(row, tokens) {
+        return Ok((false, left, tokens));
+    }
+    if left.depth >= budget {
+        return Err(Refused::Limit(tokens.len()));
+    }
+    let (sign, rest) = sign(tokens)?;
+    let (right, rest) = right_operand(alloc, text, row, rest, budget)?;
+    let joined = binary(alloc, operator_of(sign), left, right)?;
+    Ok((true, joined, rest))
+}
+
+#[cycle(levels)]
+fn more_operands<'a>(
+    alloc: Global,
+    text: &[u8],
+    row: Row,
+    first: Deep,
+    tokens: &'a [Token],
+    budget: u8,
+) -> Result<(Deep, &'a [Token]), Refused>
+    requires { first.depth ≤ budget }
+    ensures reads { Gives (λ x. (views.deep x.0, x.1.now)) result (read_row (views.sign_of row) (levels.has_room (grammar.below budget)) levels.join (λ _. (views.operand_of row (grammar.under_depth text.now budget)).read) (length tokens.now) (views.deep first) tokens.now) }
+    ensures within { IfOk result (λ x. x.0.depth ≤ budget) }
+{
+    let mut left = first;
+    let mut rest = tokens;
+    for _ in 0..tokens.len() {
+        let (more, joined, after) = operand_step(alloc, text, row, left, rest, budget)?;
+        if !more {
+            return Ok((joined, after));
+        }
+        left = joined;
+        rest = after;
+    }
+    Ok((left, rest))
+}
