@@ -1,4 +1,3 @@
 pub mod Settled
-pub mod Shows
 pub mod Undone
 pub mod Views

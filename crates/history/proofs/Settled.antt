@@ -6,7 +6,7 @@ use Rattle.history.specs.declared.transaction.Fate.TheVariants.{Running}
 use Rattle.history.specs.declared.version.End.{End}
 use Rattle.history.specs.Transactions.{TxEvents, TxEvent, TxBegan, TxCommitted, TxAborted, fate, was_aborted, IsSound, IsPast}
 use Rattle.history.specs.Rows.{RowEvents, LeafAdded, RowBorn, RowEnded, end_in, last_end, counted}
-use Rattle.history.specs.History.{History, TxChange, SnapshotChange, RowChange, tx_events, row_events, end_of, stands, AreRowsSound}
+use Rattle.history.specs.History.{History, TxChange, RowChange, tx_events, row_events, end_of, stands, AreRowsSound}
 
 -- a transaction that has ended keeps its fate
 pub settled : (later past : TxEvents) (tx : ℕ) → IsSound (later ++ past) → fate past tx ≢ Running → fate (later ++ past) tx ≡ fate past tx
@@ -51,11 +51,11 @@ stands_free h k st = none_from (end_of h k) (and_parts _ (is_none (end_of h k)) 
 last_counts : (h : History) (txs : TxEvents) (k : ℕ) → AbortsStay (tx_events h) txs → AreRowsSound h → end_in txs (row_events h) k ≡ counted txs (last_end (row_events h) k)
 last_counts [] txs k stay sound = refl
 last_counts (TxChange e ∷ h) txs k stay sound = last_counts h txs k (aborts_before e (tx_events h) txs stay) sound
-last_counts (SnapshotChange e ∷ h) txs k stay sound = last_counts h txs k stay sound
 last_counts (RowChange (LeafAdded l) ∷ h) txs k stay sound = last_counts h txs k stay sound.1
 last_counts (RowChange (RowBorn v) ∷ h) txs k stay sound = last_counts h txs k stay sound.1
 last_counts (RowChange (RowEnded id e) ∷ h) txs k stay sound =
     grind (arith, common_steps, last_counts h txs k stay sound.1, none_stays (tx_events h) txs (row_events h) k stay, stands_free h id sound.0)
+last_counts (_ ∷ h) txs k stay sound = last_counts h txs k stay sound
 
 pub end_of-last : (h : History) (k : ℕ) → AreRowsSound h → end_of h k ≡ counted (tx_events h) (last_end (row_events h) k)
 end_of-last h k sound = last_counts h (tx_events h) k (λ t a. a) sound

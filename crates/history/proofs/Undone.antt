@@ -7,24 +7,20 @@ use Rattle.std.proofs.lemmas.List.Elements.{filter_agree, filter-append}
 use Rattle.history.specs.declared.version.Version.{Version}
 use Rattle.history.specs.Transactions.{TxEvents, fate, is_committed, was_aborted, IsSound, IsPast}
 use Rattle.history.specs.Snapshots.{TakenSnapshot, sees}
-use Rattle.history.specs.Rows.{RowBorn, RowEnded, LeafAdded, end_in}
-use Rattle.history.specs.History.{History, TxChange, SnapshotChange, RowChange, tx_events, row_events, versions, is_seen}
+use Rattle.history.specs.Rows.{RowBorn, RowEnded, end_in}
+use Rattle.history.specs.History.{History, TxChange, RowChange, tx_events, row_events, versions, is_seen}
 use Rattle.history.specs.Laws.{without, AbortUndoes}
 use Rattle.history.proofs.Settled.{settled_past}
 
 same_txs : (t : ℕ) (h : History) → tx_events (without t h) ≡ tx_events h
 same_txs t [] = refl
 same_txs t (TxChange e ∷ h) = ap (λ txs. e ∷ txs) (same_txs t h)
-same_txs t (SnapshotChange e ∷ h) = same_txs t h
-same_txs t (RowChange (LeafAdded l) ∷ h) = same_txs t h
 same_txs t (RowChange (RowBorn v) ∷ h) = elim (cases_Bool (v.by.number == t)) [ inl e ↦ rw e (same_txs t h) | inr e ↦ rw e (same_txs t h) ]
 same_txs t (RowChange (RowEnded k e) ∷ h) = elim (cases_Bool (e.by.number == t)) [ inl q ↦ rw q (same_txs t h) | inr q ↦ rw q (same_txs t h) ]
+same_txs t (_ ∷ h) = same_txs t h
 
 same_ends : (txs : TxEvents) (t k : ℕ) (h : History) → was_aborted txs t ≡ true → end_in txs (row_events (without t h)) k ≡ end_in txs (row_events h) k
 same_ends txs t k [] over = refl
-same_ends txs t k (TxChange e ∷ h) over = same_ends txs t k h over
-same_ends txs t k (SnapshotChange e ∷ h) over = same_ends txs t k h over
-same_ends txs t k (RowChange (LeafAdded l) ∷ h) over = same_ends txs t k h over
 same_ends txs t k (RowChange (RowBorn v) ∷ h) over = elim (cases_Bool (v.by.number == t)) [ inl e ↦ rw e (same_ends txs t k h over) | inr e ↦ rw e (same_ends txs t k h over) ]
 same_ends txs t k (RowChange (RowEnded id e) ∷ h) over = elim (cases_Bool (e.by.number == t)) [
   | inl q ↦
@@ -33,13 +29,11 @@ same_ends txs t k (RowChange (RowEnded id e) ∷ h) over = elim (cases_Bool (e.b
       rw q (same_ends txs t k h over ∙ grind (arith, common_steps))
   | inr q ↦ rw (q, same_ends txs t k h over) refl
 ]
+same_ends txs t k (_ ∷ h) over = same_ends txs t k h over
 
 -- a filter that nothing of the transaction passes
 same_births : (p : Version → Bool) (t : ℕ) (h : History) → ((v : Version) → v.by.number ≡ t → p v ≡ false) → filter p (versions (without t h)) ≡ filter p (versions h)
 same_births p t [] none = refl
-same_births p t (TxChange e ∷ h) none = same_births p t h none
-same_births p t (SnapshotChange e ∷ h) none = same_births p t h none
-same_births p t (RowChange (LeafAdded l) ∷ h) none = same_births p t h none
 same_births p t (RowChange (RowBorn v) ∷ h) none = elim (cases_Bool (v.by.number == t)) [
   | inl e ↦
       let same : v.by.number ≡ t = grind (arith, nat_tests) in
@@ -48,6 +42,7 @@ same_births p t (RowChange (RowBorn v) ∷ h) none = elim (cases_Bool (v.by.numb
   | inr e ↦ rw e (filter-append p (versions (without t h)) (v ∷ []) ∙ ap (λ vs. vs ++ filter p (v ∷ [])) (same_births p t h none) ∙ sym (filter-append p (versions h) (v ∷ [])))
 ]
 same_births p t (RowChange (RowEnded k e) ∷ h) none = elim (cases_Bool (e.by.number == t)) [ inl q ↦ rw q (same_births p t h none) | inr q ↦ rw q (same_births p t h none) ]
+same_births p t (_ ∷ h) none = same_births p t h none
 
 aborted-not_committed : (h past : TxEvents) (t : ℕ) → IsSound h → IsPast past h → was_aborted h t ≡ true → is_committed (fate past t) ≡ false
 aborted-not_committed h past t sound past_of over = grind (arith, common_steps, settled_past h past t sound past_of)

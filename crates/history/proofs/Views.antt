@@ -11,8 +11,8 @@ use Rattle.history.specs.declared.version.Version.{Version}
 use Rattle.history.specs.declared.version.End.{End}
 use Rattle.history.specs.Transactions.{TxEvents, TxBegan, TxCommitted, TxAborted, fate, is_committed, IsSound, IsPast}
 use Rattle.history.specs.Snapshots.{TakenSnapshot, sees}
-use Rattle.history.specs.Rows.{RowBorn, RowEnded, LeafAdded}
-use Rattle.history.specs.History.{History, TxChange, SnapshotChange, RowChange, tx_events, versions, end_of, sees_end, is_seen}
+use Rattle.history.specs.Rows.{RowBorn}
+use Rattle.history.specs.History.{History, RowChange, tx_events, versions, end_of, sees_end, is_seen}
 use Rattle.history.specs.Laws.{CommittedStaysSeen, AlikeSeeAlike, SeenBeforeItsEnd}
 use Rattle.history.proofs.Settled.{settled_past}
 
@@ -40,11 +40,8 @@ committed_later past h t sound past_of e = settled_past h past t sound past_of (
 -- versions that were born stay in the list
 born_stays : (later earlier : History) (v : Version) → Contains (versions earlier) v → Contains (versions (later ++ earlier)) v
 born_stays [] earlier v at = at
-born_stays (TxChange e ∷ later) earlier v at = born_stays later earlier v at
-born_stays (SnapshotChange e ∷ later) earlier v at = born_stays later earlier v at
-born_stays (RowChange (LeafAdded l) ∷ later) earlier v at = born_stays later earlier v at
 born_stays (RowChange (RowBorn w) ∷ later) earlier v at = Contains-append_left (versions (later ++ earlier)) (w ∷ []) v (born_stays later earlier v at)
-born_stays (RowChange (RowEnded k e) ∷ later) earlier v at = born_stays later earlier v at
+born_stays (_ ∷ later) earlier v at = born_stays later earlier v at
 
 false≢true : (b : Bool) → b ≡ true → b ≡ false → ⊥
 false≢true b p q = cc

@@ -21,20 +21,17 @@ History = List Event
 abbrev pub tx_events : History → TxEvents
 tx_events [] = []
 tx_events (TxChange e ∷ h) = e ∷ tx_events h
-tx_events (SnapshotChange e ∷ h) = tx_events h
-tx_events (RowChange e ∷ h) = tx_events h
+tx_events (_ ∷ h) = tx_events h
 
 abbrev pub snapshot_events : History → SnapshotEvents
 snapshot_events [] = []
-snapshot_events (TxChange e ∷ h) = snapshot_events h
 snapshot_events (SnapshotChange e ∷ h) = e ∷ snapshot_events h
-snapshot_events (RowChange e ∷ h) = snapshot_events h
+snapshot_events (_ ∷ h) = snapshot_events h
 
 abbrev pub row_events : History → RowEvents
 row_events [] = []
-row_events (TxChange e ∷ h) = row_events h
-row_events (SnapshotChange e ∷ h) = row_events h
 row_events (RowChange e ∷ h) = e ∷ row_events h
+row_events (_ ∷ h) = row_events h
 
 -- all versions, in order of birth
 abbrev pub versions : History → List Version
@@ -104,6 +101,5 @@ IsRowSound (RowEnded k e) h = stands h k ≡ true
 
 abbrev pub AreRowsSound : History → Type 0
 AreRowsSound [] = Unit {0}
-AreRowsSound (TxChange e ∷ h) = AreRowsSound h
-AreRowsSound (SnapshotChange e ∷ h) = AreRowsSound h
 AreRowsSound (RowChange e ∷ h) = IsRowSound e h × AreRowsSound h
+AreRowsSound (_ ∷ h) = AreRowsSound h

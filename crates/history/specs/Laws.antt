@@ -5,9 +5,8 @@ use Rattle.history.specs.declared.version.Version.{Version}
 use Rattle.history.specs.declared.version.End.{End}
 use Rattle.history.specs.Transactions.{fate, was_aborted, is_committed, IsSound, IsPast}
 use Rattle.history.specs.Snapshots.{TakenSnapshot}
-use Rattle.history.specs.Rows.{LeafAdded, RowBorn, RowEnded}
-use Rattle.history.specs.History.{Event, History, TxChange, SnapshotChange, RowChange, tx_events, versions, end_of, sees_end, is_seen, seen}
-use Rattle.history.specs.Legal.{IsLegal, IsLooking, MayShow}
+use Rattle.history.specs.Rows.{RowBorn, RowEnded}
+use Rattle.history.specs.History.{Event, History, RowChange, tx_events, versions, end_of, sees_end, is_seen, seen}
 
 -- a version of a transaction that had committed is shown to each snapshot taken since, until that sees an
 -- end of it
@@ -22,11 +21,9 @@ AlikeSeeAlike = (h : History) (leaf : ℕ) (a b : TakenSnapshot) → a.tx ≡ b.
 
 -- the event is of a row version and was made by the transaction
 abbrev pub is_row_change_by : ℕ → Event → Bool
-is_row_change_by t (TxChange e) = false
-is_row_change_by t (SnapshotChange e) = false
-is_row_change_by t (RowChange (LeafAdded l)) = false
 is_row_change_by t (RowChange (RowBorn v)) = v.by.number == t
 is_row_change_by t (RowChange (RowEnded k e)) = e.by.number == t
+is_row_change_by t _ = false
 
 -- the history without what the transaction did to row versions
 abbrev pub without : ℕ → History → History
@@ -42,11 +39,3 @@ AbortUndoes = (h : History) (leaf t : ℕ) (s : TakenSnapshot) → IsSound (tx_e
 abbrev pub SeenBeforeItsEnd : Type 0
 SeenBeforeItsEnd = (h : History) (v : Version) (e : End) (early late : TakenSnapshot) → IsSound (tx_events h) → IsPast early.past late.past → IsPast late.past (tx_events h)
     → end_of h v.id.number ≡ Some e → is_seen h late v ≡ true → is_committed (fate early.past e.by.number) ≡ false
-
--- an event shows no version that could not be shown before it: only a birth enlarges what may be shown
-abbrev pub OnlyBirthsEnlarge : Type 0
-OnlyBirthsEnlarge = (e : Event) (h : History) (v : Version) → IsLegal (e ∷ h) → MayShow (e ∷ h) v → MayShow h v
-
--- what an open snapshot, or one that is taken now, sees may be shown
-abbrev pub SeenMayShow : Type 0
-SeenMayShow = (h : History) (s : TakenSnapshot) (v : Version) → IsLegal h → IsLooking h s → is_seen h s v ≡ true → MayShow h v

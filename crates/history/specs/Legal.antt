@@ -1,11 +1,9 @@
--- Which event may come after a history, and which versions may be seen from then on.
-use Rattle.std.specs.Prelude.{◌≡◌, ℕ, false, [], ◌∷◌, ◌⊎◌, Option, Some, None}
-use Rattle.history.specs.declared.transaction.Fate.TheVariants.{Running, Committed}
-use Rattle.history.specs.declared.version.Version.{Version}
-use Rattle.history.specs.declared.version.End.{End}
-use Rattle.history.specs.Transactions.{TxEvents, fate, was_aborted, IsSound}
+-- Which event may come after a history.
+use Rattle.std.specs.Prelude.{◌≡◌, ℕ, [], ◌∷◌, ◌⊎◌, Option, Some, None}
+use Rattle.history.specs.declared.transaction.Fate.TheVariants.{Running}
+use Rattle.history.specs.Transactions.{TxEvents, fate, IsSound}
 use Rattle.history.specs.Snapshots.{TakenSnapshot, SnapshotHeld, SnapshotDropped, held_by}
-use Rattle.history.specs.History.{Event, History, TxChange, SnapshotChange, RowChange, tx_events, snapshot_events, end_of, IsRowSound}
+use Rattle.history.specs.History.{Event, History, TxChange, SnapshotChange, RowChange, tx_events, snapshot_events, IsRowSound}
 
 -- a session holds a snapshot that is taken now, or one of the same place as the one that it holds
 abbrev pub IsTimely : Option TakenSnapshot → TxEvents → TakenSnapshot → Type 0
@@ -26,12 +24,3 @@ IsLegal (e ∷ h) = May e h × IsLegal h
 -- a snapshot of a transaction that runs, which some session holds or could take now
 abbrev pub IsLooking : History → TakenSnapshot → Type 0
 IsLooking h s = (fate (tx_events h) s.tx ≡ Running) × ((s.past ≡ tx_events h) ⊎ ((r : ℕ) × (held_by (snapshot_events h) r ≡ Some s)))
-
--- the end is committed, and was so at the place of each open snapshot
-abbrev pub IsOver : History → Option End → Type 0
-IsOver h None = ⊥
-IsOver h (Some e) = (fate (tx_events h) e.by.number ≡ Committed) × ((r : ℕ) (s : TakenSnapshot) → held_by (snapshot_events h) r ≡ Some s → fate s.past e.by.number ≡ Committed)
-
--- somebody may see the version, now or after an abort
-abbrev pub MayShow : History → Version → Type 0
-MayShow h v = (was_aborted (tx_events h) v.by.number ≡ false) × (IsOver h (end_of h v.id.number) → ⊥)

@@ -1,4 +1,4 @@
-ghost use Rattle.history.specs.Laws.{CommittedStaysSeen, AlikeSeeAlike, AbortUndoes, SeenBeforeItsEnd, OnlyBirthsEnlarge, SeenMayShow};
+ghost use Rattle.history.specs.Laws.{CommittedStaysSeen, AlikeSeeAlike, AbortUndoes, SeenBeforeItsEnd};
 
 /// What was committed stays seen by every later snapshot, until that sees an end of it.
 pub fn committed_stays_seen()
@@ -18,14 +18,4 @@ pub fn abort_undoes()
 /// The snapshots that see a version stand on one side of its end.
 pub fn seen_before_its_end()
     ensures { SeenBeforeItsEnd }
-{}
-
-/// Only births enlarge the set of versions that somebody may see, now or after an abort.
-pub fn only_births_enlarge()
-    ensures { OnlyBirthsEnlarge }
-{}
-
-/// What a snapshot sees is in that set.
-pub fn seen_may_show()
-    ensures { SeenMayShow }
 {}

@@ -14,9 +14,6 @@ mod laws;
 mod transaction;
 mod version;
 
-pub use laws::{
-    abort_undoes, alike_see_alike, committed_stays_seen, only_births_enlarge, seen_before_its_end,
-    seen_may_show,
-};
+pub use laws::{abort_undoes, alike_see_alike, committed_stays_seen, seen_before_its_end};
 pub use transaction::{Fate, TxId};
 pub use version::{End, Ending, Version};
