@@ -1,3 +1,5 @@
+pub mod Open
 pub mod Settled
+pub mod Stays
 pub mod Undone
 pub mod Views

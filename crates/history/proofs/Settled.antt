@@ -6,7 +6,8 @@ use Rattle.history.specs.declared.transaction.Fate.TheVariants.{Running}
 use Rattle.history.specs.declared.version.End.{End}
 use Rattle.history.specs.Transactions.{TxEvents, TxEvent, TxBegan, TxCommitted, TxAborted, fate, was_aborted, IsSound, IsPast}
 use Rattle.history.specs.Rows.{RowEvents, LeafAdded, RowBorn, RowEnded, end_in, last_end, counted}
-use Rattle.history.specs.History.{History, TxChange, RowChange, tx_events, row_events, end_of, stands, AreRowsSound}
+use Rattle.history.specs.History.{History, TxChange, RowChange, tx_events, row_events, end_of, stands}
+use Rattle.history.specs.RowsSound.{AreRowsSound}
 
 -- a transaction that has ended keeps its fate
 pub settled : (later past : TxEvents) (tx : ℕ) → IsSound (later ++ past) → fate past tx ≢ Running → fate (later ++ past) tx ≡ fate past tx
@@ -54,7 +55,7 @@ last_counts (TxChange e ∷ h) txs k stay sound = last_counts h txs k (aborts_be
 last_counts (RowChange (LeafAdded l) ∷ h) txs k stay sound = last_counts h txs k stay sound.1
 last_counts (RowChange (RowBorn v) ∷ h) txs k stay sound = last_counts h txs k stay sound.1
 last_counts (RowChange (RowEnded id e) ∷ h) txs k stay sound =
-    grind (arith, common_steps, last_counts h txs k stay sound.1, none_stays (tx_events h) txs (row_events h) k stay, stands_free h id sound.0)
+    grind (arith, common_steps, last_counts h txs k stay sound.1, none_stays (tx_events h) txs (row_events h) k stay, stands_free h id sound.0.standing)
 last_counts (_ ∷ h) txs k stay sound = last_counts h txs k stay sound
 
 pub end_of-last : (h : History) (k : ℕ) → AreRowsSound h → end_of h k ≡ counted (tx_events h) (last_end (row_events h) k)

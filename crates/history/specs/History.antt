@@ -1,5 +1,5 @@
 -- The history of a run, the newest event first, and what a snapshot shows of it (the manual, 13.2).
-use Rattle.std.specs.Prelude.{◌≡◌, ℕ, ◌==◌, ◌&&◌, not, Bool, true, false, List, [], ◌∷◌, Option, Some, None, is_none, filter, length, nat_lt, unwrap_or}
+use Rattle.std.specs.Prelude.{ℕ, ◌==◌, ◌&&◌, not, Bool, false, List, [], ◌∷◌, Option, Some, None, is_none, filter, length, nat_lt, unwrap_or}
 use Rattle.history.specs.declared.transaction.Fate.{Fate}
 use Rattle.history.specs.declared.transaction.Fate.TheVariants.{Running, Committed, Aborted}
 use Rattle.history.specs.declared.version.Version.{Version}
@@ -7,7 +7,7 @@ use Rattle.history.specs.declared.version.End.{End}
 use Rattle.history.specs.declared.version.Ending.{Ending}
 use Rattle.history.specs.Transactions.{TxEvent, TxEvents, fate, open_of}
 use Rattle.history.specs.Snapshots.{SnapshotEvent, SnapshotEvents, TakenSnapshot, sees, held_by}
-use Rattle.history.specs.Rows.{RowEvent, RowEvents, LeafAdded, RowBorn, RowEnded, births, end_in, leaf_count}
+use Rattle.history.specs.Rows.{RowEvent, RowEvents, births, end_in}
 
 -- an event of each store
 pub data Event : Type 0 where
@@ -91,15 +91,3 @@ outcome_in txs (Some e) = outcome_by (fate txs e.by.number) e
 
 abbrev pub outcome : History → ℕ → Outcome
 outcome h k = outcome_in (tx_events h) (end_of h k)
-
--- the event of rows may come after the history: a leaf has the next number, a version the next number and
--- a leaf that is there, and is ended only while it stands
-abbrev pub IsRowSound : RowEvent → History → Type 0
-IsRowSound (LeafAdded l) h = l ≡ leaf_count (row_events h)
-IsRowSound (RowBorn v) h = (v.id.number ≡ next_version h) × (nat_lt v.leaf.number (leaf_count (row_events h)) ≡ true)
-IsRowSound (RowEnded k e) h = stands h k ≡ true
-
-abbrev pub AreRowsSound : History → Type 0
-AreRowsSound [] = Unit {0}
-AreRowsSound (RowChange e ∷ h) = IsRowSound e h × AreRowsSound h
-AreRowsSound (_ ∷ h) = AreRowsSound h

@@ -1,5 +1,5 @@
 -- What happened to transactions (the manual, 13.2). The newest event stands first.
-use Rattle.std.specs.Prelude.{◌≡◌, ℕ, ◌+◌, ◌==◌, ◌||◌, Bool, true, false, if◌then◌else◌, List, [], ◌∷◌, ◌++◌, Option, Some, None}
+use Rattle.std.specs.Prelude.{◌≡◌, ℕ, ◌+◌, ◌<◌, ◌==◌, ◌||◌, Bool, true, false, if◌then◌else◌, List, [], ◌∷◌, ◌++◌, Option, Some, None}
 use Rattle.history.specs.declared.transaction.Fate.{Fate}
 use Rattle.history.specs.declared.transaction.Fate.TheVariants.{Running, Committed, Aborted}
 
@@ -53,6 +53,15 @@ abbrev pub is_committed : Fate → Bool
 is_committed Running = false
 is_committed Committed = true
 is_committed Aborted = false
+
+-- the transaction has begun and has not ended
+pub record IsRunning (h : TxEvents) (tx : ℕ) : Type 0 where
+  pub begun : tx < next_tx h
+  pub runs : fate h tx ≡ Running
+
+-- what a transaction itself sees now of what another one, or itself, did
+abbrev pub sees_now : TxEvents → ℕ → ℕ → Bool
+sees_now h me tx = is_committed (fate h tx) || (tx == me)
 
 -- a transaction begins with the next number in a session without an open one, and ends there while it runs
 abbrev pub IsSound : TxEvents → Type 0

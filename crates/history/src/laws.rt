@@ -1,4 +1,4 @@
-ghost use Rattle.history.specs.Laws.{CommittedStaysSeen, AlikeSeeAlike, AbortUndoes, SeenBeforeItsEnd};
+ghost use Rattle.history.specs.Laws.{CommittedStaysSeen, AlikeSeeAlike, AbortUndoes, SeenBeforeItsEnd, OthersChangeNothing, HeldWasTaken};
 
 /// What was committed stays seen by every later snapshot, until that sees an end of it.
 pub fn committed_stays_seen()
@@ -18,4 +18,15 @@ pub fn abort_undoes()
 /// The snapshots that see a version stand on one side of its end.
 pub fn seen_before_its_end()
     ensures { SeenBeforeItsEnd }
+{}
+
+/// What a snapshot sees of a leaf stays the same under every event but the abort of its own transaction
+/// and changes by that one's earlier commands.
+pub fn others_change_nothing()
+    ensures { OthersChangeNothing }
+{}
+
+/// A snapshot that is held was taken at some place of the history.
+pub fn held_was_taken()
+    ensures { HeldWasTaken }
 {}

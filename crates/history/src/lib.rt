@@ -14,6 +14,9 @@ mod laws;
 mod transaction;
 mod version;
 
-pub use laws::{abort_undoes, alike_see_alike, committed_stays_seen, seen_before_its_end};
+pub use laws::{
+    abort_undoes, alike_see_alike, committed_stays_seen, held_was_taken, others_change_nothing,
+    seen_before_its_end,
+};
 pub use transaction::{Fate, TxId};
 pub use version::{End, Ending, Version};
