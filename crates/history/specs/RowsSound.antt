@@ -9,13 +9,13 @@ use Rattle.history.specs.Transactions.{IsRunning, sees_now}
 use Rattle.history.specs.Rows.{RowEvent, LeafAdded, RowBorn, RowEnded, leaf_count}
 use Rattle.history.specs.History.{History, RowChange, tx_events, row_events, versions, next_version, stands}
 
--- what the end of a version names is there, among those versions and so many leaves: the leaf that it moved
+-- what the end of version k names is there, among those versions and so many leaves: the leaf that it moved
 -- to; the version that replaces it, which has a greater number, is in the same leaf and was made by who
 -- ended this one
-abbrev pub IsEndingKnown : List Version → ℕ → Version → TxId → Ending → Type 0
-IsEndingKnown vs leaves v by Deleted = Unit {0}
-IsEndingKnown vs leaves v by (MovedTo leaf) = leaf.number < leaves
-IsEndingKnown vs leaves v by (ReplacedBy id) = (w : Version) × (slice_get vs id.number ≡ Some w) × (v.id.number < id.number) × (w.leaf ≡ v.leaf) × (w.by ≡ by)
+abbrev pub IsEndingKnown : List Version → ℕ → ℕ → Version → TxId → Ending → Type 0
+IsEndingKnown vs leaves k v by Deleted = Unit {0}
+IsEndingKnown vs leaves k v by (MovedTo leaf) = leaf.number < leaves
+IsEndingKnown vs leaves k v by (ReplacedBy id) = (w : Version) × (slice_get vs id.number ≡ Some w) × (k < id.number) × (w.leaf ≡ v.leaf) × (w.by ≡ by)
 
 -- a version has the next number and a leaf that is there, and is made by a transaction that runs
 pub record IsBirthSound (v : Version) (h : History) : Type 0 where
@@ -31,7 +31,7 @@ pub record IsEndSound (k : ℕ) (e : End) (h : History) : Type 0 where
   pub there : slice_get (versions h) k ≡ Some version
   pub by : IsRunning (tx_events h) e.by.number
   pub seen : sees_now (tx_events h) e.by.number version.by.number ≡ true
-  pub known : IsEndingKnown (versions h) (leaf_count (row_events h)) version e.by e.how
+  pub known : IsEndingKnown (versions h) (leaf_count (row_events h)) k version e.by e.how
 
 -- the event may come after the history; a leaf has the next number
 abbrev pub IsRowSound : RowEvent → History → Type 0

@@ -1,29 +1,37 @@
 -- A store after an event.
-use Rattle.std.proofs.Common.{◌≡◌, ◌≢◌, ℕ, ◌+◌, ◌<◌, ◌==◌, nat_lt, zero, suc, arith, ap, sym, ◌∙◌, refl, subst, List, [], ◌∷◌, ◌++◌, Option, Some, None, is_none, true, false, Bool, if◌then◌else◌, inl, inr, length, slice_index_or, slice_set, length-append}
+use Rattle.std.proofs.Common.{◌≡◌, ◌≢◌, ℕ, ◌+◌, ◌<◌, ◌==◌, nat_lt, zero, suc, arith, ap, sym, ◌∙◌, refl, subst, List, [], ◌∷◌, ◌++◌, Option, Some, None, is_none, ◌||◌, slice_get, map, true, false, Bool, if◌then◌else◌, inl, inr, length, slice_index_or, slice_set, length-append}
 use Rattle.std.proofs.lemmas.Grind.{common_steps, elements}
 use Rattle.std.proofs.lemmas.List.{map-append, length-map}
+use Rattle.std.proofs.lemmas.Option.{slice_get_within}
 use Rattle.std.proofs.lemmas.Bool.{cases_Bool, lt-ltb, ltb-true, and_parts}
 use Rattle.std.proofs.lemmas.Bool.Decides.{nat_tests}
 use Rattle.pg_values.specs.declared.value.Value.{Value}
 use Rattle.pg_ids.specs.declared.ids.LeafId.{LeafId}
 use Rattle.pg_ids.specs.declared.ids.RowId.{RowId}
 use Rattle.history.specs.declared.transaction.TxId.{TxId}
+use Rattle.history.specs.declared.transaction.Fate.{Fate}
 use Rattle.history.specs.declared.transaction.Fate.TheVariants.{Running, Committed, Aborted}
 use Rattle.history.specs.declared.version.Version.{Version}
 use Rattle.history.specs.declared.version.End.{End}
-use Rattle.history.specs.declared.version.Ending.TheVariants.{ReplacedBy}
-use Rattle.history.specs.Transactions.{TxEvents, fate, was_aborted}
+use Rattle.history.specs.declared.version.Ending.{Ending}
+use Rattle.history.specs.declared.version.Ending.TheVariants.{MovedTo, ReplacedBy}
+use Rattle.history.specs.Transactions.{TxEvents, fate, was_aborted, is_committed, IsRunning, sees_now}
 use Rattle.history.specs.Rows.{LeafAdded, RowBorn, RowEnded, counted}
-use Rattle.history.specs.History.{History, RowChange, tx_events, versions, next_version, end_of, stands, Outcome, outcome, outcome_in, outcome_by}
+use Rattle.history.specs.History.{History, RowChange, tx_events, versions, next_version, end_of, stands, Outcome, EndedFor, outcome, outcome_in, outcome_by}
+use Rattle.history.specs.RowsSound.{IsEndingKnown, IsEndSound}
+use Rattle.history.proofs.Open.{open_runs}
 use Rattle.history.proofs.Settled.{end_of-last}
 use Rattle.tx_table.specs.Kept.{KeptTable}
-use Rattle.tx_table.specs.Stands.{TableStands}
+use Rattle.tx_table.specs.Stands.{TableStands, IsOpen, sees_now_by}
 use Rattle.row_store.specs.declared.stored.Stored.{Stored}
+use Rattle.row_store.specs.declared.newest.Newest.{Newest}
+use Rattle.row_store.specs.declared.newest.Newest.TheVariants.{Stands, EndedBy, Gone, Moved, Replaced}
 use Rattle.row_store.specs.declared.TheConstants.{BYTES_LIMIT}
-use Rattle.row_store.specs.Kept.{KeptRows, IsBirth, blank, version_of, after_birth, after_end}
+use Rattle.row_store.specs.Kept.{KeptRows, IsBirth, IsReplacement, IsEndKept, AreListed, stored_at, blank, version_of, after_birth, after_end}
 use Rattle.row_store.specs.Limits.{row_bytes, versions_bytes}
 use Rattle.row_store.specs.Stands.{StoreStands, newborn, outcome_kept, stands_kept, counts}
-use Rattle.row_store.proofs.Listing.{same_versions, length_set}
+use Rattle.row_store.specs.Told.{outcome_told, ending_of, IsToldKnown, IsLeafThere}
+use Rattle.row_store.proofs.Listing.{same_versions, length_set, at_before, at_last}
 
 pub count_is : (kept : KeptRows) (h : History) → StoreStands kept h → length kept.stored ≡ next_version h
 count_is kept h st = sym (length-map kept.stored version_of) ∙ ap length st.births
@@ -39,8 +47,8 @@ bytes-behind : (vs : List Version) (v : Version) → versions_bytes (vs ++ v ∷
 bytes-behind [] v = omega arith
 bytes-behind (w ∷ vs) v = omega (arith, bytes-behind vs v)
 
-pub born_stands : (kept : KeptRows) (h : History) (leaf : LeafId) (row : List Value) (by : TxId) (cmd room : ℕ) → leaf.number < kept.leaves → room + row_bytes row ≡ kept.room → StoreStands kept h → StoreStands (after_birth kept (record { id = record { number = length kept.stored }; leaf = leaf; row = row; by = by; cmd = cmd }) room) (RowChange (RowBorn (newborn h leaf row by cmd)) ∷ h)
-born_stands kept h leaf row by cmd room lt enough st =
+pub born_stands : (kept : KeptRows) (h : History) (leaf : LeafId) (row : List Value) (by : TxId) (cmd room : ℕ) → leaf.number < kept.leaves → IsRunning (tx_events h) by.number → room + row_bytes row ≡ kept.room → StoreStands kept h → StoreStands (after_birth kept (record { id = record { number = length kept.stored }; leaf = leaf; row = row; by = by; cmd = cmd }) room) (RowChange (RowBorn (newborn h leaf row by cmd)) ∷ h)
+born_stands kept h leaf row by cmd room lt runs enough st =
     let n = count_is kept h st in
     let v : Version = newborn h leaf row by cmd in
     let w : Version = record { id = record { number = length kept.stored }; leaf = leaf; row = row; by = by; cmd = cmd } in
@@ -48,7 +56,7 @@ born_stands kept h leaf row by cmd room lt enough st =
     let same : w ≡ v = ap numbered n in
     let bytes = bytes-behind (versions h) v in
     record {
-      sound = ((refl, lt-ltb leaf.number _ (rw (← st.leaves) lt)), st.sound);
+      sound = (record { number = refl; leaf = rw (← st.leaves) lt; by = runs }, st.sound);
       births = map-append version_of kept.stored _ ∙ ap (λ vs. vs ++ w ∷ []) st.births ∙ ap (λ (x : Version). versions h ++ x ∷ []) same;
       ends = λ k. ended_behind kept.stored _ k refl ∙ st.ends k;
       leaves = st.leaves;
@@ -69,14 +77,53 @@ choose : (b : Bool) (o p q : Option End) → p ≡ q → (if b then o else p) �
 choose true o p q e = refl
 choose false o p q e = e
 
-pub ended_stands : (kept : KeptRows) (h : History) (k : ℕ) (e : End) → k < length kept.stored → stands h k ≡ true → StoreStands kept h → StoreStands (after_end kept k e) (RowChange (RowEnded k e) ∷ h)
-ended_stands kept h k e lt standing st = record {
-  sound = (standing, st.sound);
+pub ended_stands : (kept : KeptRows) (h : History) (k : ℕ) (e : End) → k < length kept.stored → IsEndSound k e h → StoreStands kept h → StoreStands (after_end kept k e) (RowChange (RowEnded k e) ∷ h)
+ended_stands kept h k e lt sound st = record {
+  sound = (sound, st.sound);
   births = same_versions kept.stored k _ lt refl ∙ st.births;
   ends = λ j. ended_at kept.stored k j _ lt (k == j) refl ∙ choose (k == j) (Some e) _ _ (st.ends j);
   leaves = st.leaves;
   room = st.room;
 }
+
+-- who is open runs
+pub by_runs : (table : KeptTable) (h : History) (tx : ℕ) → IsOpen table tx → TableStands table h → IsRunning (tx_events h) tx
+by_runs table h tx (s, at) st = open_runs (tx_events h) s tx st.sound (sym (st.current s) ∙ at)
+
+sees_now_is : (table : KeptTable) (h : History) (me tx : ℕ) → TableStands table h → sees_now_by table me tx ≡ true → sees_now (tx_events h) me tx ≡ true
+sees_now_is table h me tx st e = ap (λ f. is_committed f || (tx == me)) (sym (st.fates tx)) ∙ e
+
+got_at : (xs : List Stored) (k : ℕ) → k < length xs → slice_get (map version_of xs) k ≡ Some (slice_index_or xs k blank).version
+got_at [] k lt = absurd (omega arith)
+got_at (x ∷ xs) zero lt = refl
+got_at (x ∷ xs) (suc k) lt = got_at xs k (omega (arith, lt))
+
+-- an end that the code gives may come
+pub end_sound : (table : KeptTable) (kept : KeptRows) (h : History) (k : ℕ) (e : End) → k < length kept.stored → stands h k ≡ true → IsOpen table e.by.number → sees_now_by table e.by.number (slice_index_or kept.stored k blank).version.by.number ≡ true → IsEndingKnown (map version_of kept.stored) kept.leaves k (slice_index_or kept.stored k blank).version e.by e.how → TableStands table h → StoreStands kept h → IsEndSound k e h
+end_sound table kept h k e lt standing by seen known txs st =
+    let P : List Version → Type 0 = λ vs. slice_get vs k ≡ Some (slice_index_or kept.stored k blank).version in
+    let Q : List Version → ℕ → Type 0 = λ vs n. IsEndingKnown vs n k (slice_index_or kept.stored k blank).version e.by e.how in
+    let at : P (versions h) = subst P st.births (got_at kept.stored k lt) in
+    let there : Q (versions h) kept.leaves = subst (λ vs. Q vs kept.leaves) st.births known in
+    record {
+      standing = standing;
+      version = (slice_index_or kept.stored k blank).version;
+      there = at;
+      by = by_runs table h e.by.number by txs;
+      seen = sees_now_is table h e.by.number _ txs seen;
+      known = subst (λ n. Q (versions h) n) st.leaves there;
+    }
+
+-- a version that was just born is there, as the one that replaces another one
+pub replacing_known : (old new : KeptRows) (k : ℕ) (v : Version) → k < length old.stored → v.leaf ≡ (slice_index_or old.stored k blank).version.leaf → v.id.number ≡ length old.stored → IsBirth old new v → IsEndingKnown (map version_of new.stored) new.leaves k (slice_index_or new.stored k blank).version v.by (ReplacedBy v.id)
+replacing_known old new k v lt leaf number (room, birth, bytes) =
+    let x : Stored = record { version = v; ended = None } in
+    let P : KeptRows → Type 0 = λ y. IsEndingKnown (map version_of y.stored) y.leaves k (slice_index_or y.stored k blank).version v.by (ReplacedBy v.id) in
+    let n : length (old.stored ++ x ∷ []) ≡ length old.stored + 1 = length-append old.stored (x ∷ []) in
+    let last : slice_index_or (old.stored ++ x ∷ []) v.id.number blank ≡ x = at_last old.stored x v.id.number number in
+    let got : slice_get (map version_of (old.stored ++ x ∷ [])) v.id.number ≡ Some v = got_at (old.stored ++ x ∷ []) v.id.number (omega (arith, n, number)) ∙ ap (λ (y : Stored). Some y.version) last in
+    let same : v.leaf ≡ (slice_index_or (old.stored ++ x ∷ []) k blank).version.leaf = leaf ∙ ap (λ (y : Stored). y.version.leaf) (sym (at_before old.stored x k lt)) in
+    subst P (sym birth) (v, got, omega (arith, lt, number), same, refl)
 
 pub leaf_stands : (kept : KeptRows) (h : History) → StoreStands kept h → StoreStands (record { stored = kept.stored; leaves = kept.leaves + 1; room = kept.room }) (RowChange (LeafAdded kept.leaves) ∷ h)
 leaf_stands kept h st = record {
@@ -133,18 +180,31 @@ stands_behind h k v st =
     let more : nat_lt k (length (versions h ++ v ∷ [])) ≡ true = lt-ltb k _ (omega (arith, below, length-append (versions h) (v ∷ []))) in
     rw (more, b.1) refl
 
-pub replaced_stands : (kept middle new : KeptRows) (h : History) (k : ℕ) (leaf : LeafId) (row : List Value) (by : TxId) (cmd : ℕ) → IsBirth kept middle (record { id = record { number = length kept.stored }; leaf = leaf; row = row; by = by; cmd = cmd }) → new ≡ after_end middle k (record { by = by; cmd = cmd; how = ReplacedBy (record { number = length kept.stored }) }) → leaf.number < kept.leaves → k < length kept.stored → stands h k ≡ true → StoreStands kept h → StoreStands new (RowChange (RowEnded k (record { by = by; cmd = cmd; how = ReplacedBy (newborn h leaf row by cmd).id })) ∷ RowChange (RowBorn (newborn h leaf row by cmd)) ∷ h)
-replaced_stands kept middle new h k leaf row by cmd (room, birth, bytes) ended lt known standing st =
+pub born_added : (table : KeptTable) (old new : KeptRows) (h : History) (leaf : LeafId) (row : List Value) (by : TxId) (cmd : ℕ) → leaf.number < old.leaves → IsOpen table by.number → IsBirth old new (record { id = record { number = length old.stored }; leaf = leaf; row = row; by = by; cmd = cmd }) → TableStands table h → StoreStands old h → StoreStands new (RowChange (RowBorn (newborn h leaf row by cmd)) ∷ h)
+born_added table old new h leaf row by cmd lt open_by (room, birth, bytes) txs st =
+    let S : KeptRows → Type 0 = λ x. StoreStands x (RowChange (RowBorn (newborn h leaf row by cmd)) ∷ h) in
+    subst S (sym birth) (born_stands old h leaf row by cmd room lt (by_runs table h by.number open_by txs) bytes st)
+
+pub replaced_stands : (table : KeptTable) (kept middle new : KeptRows) (h : History) (k : ℕ) (leaf : LeafId) (row : List Value) (by : TxId) (cmd : ℕ) → IsBirth kept middle (record { id = record { number = length kept.stored }; leaf = leaf; row = row; by = by; cmd = cmd }) → new ≡ after_end middle k (record { by = by; cmd = cmd; how = ReplacedBy (record { number = length kept.stored }) }) → leaf.number < kept.leaves → leaf ≡ (slice_index_or kept.stored k blank).version.leaf → k < length kept.stored → stands h k ≡ true → IsOpen table by.number → sees_now_by table by.number (slice_index_or kept.stored k blank).version.by.number ≡ true → TableStands table h → StoreStands kept h → StoreStands new (RowChange (RowEnded k (record { by = by; cmd = cmd; how = ReplacedBy (newborn h leaf row by cmd).id })) ∷ RowChange (RowBorn (newborn h leaf row by cmd)) ∷ h)
+replaced_stands table kept middle new h k leaf row by cmd birth ended lt same_leaf known standing open_by seen txs st =
     let v : Version = newborn h leaf row by cmd in
+    let w : Version = record { id = record { number = length kept.stored }; leaf = leaf; row = row; by = by; cmd = cmd } in
+    let x : Stored = record { version = w; ended = None } in
     let n = count_is kept h st in
-    let S : KeptRows → Type 0 = λ x. StoreStands x (RowChange (RowBorn v) ∷ h) in
-    let born : S middle = subst S (sym birth) (born_stands kept h leaf row by cmd room lt bytes st) in
-    let more : k < length middle.stored = rw birth (omega (arith, known, length-append kept.stored ((record { version = (record { id = record { number = length kept.stored }; leaf = leaf; row = row; by = by; cmd = cmd }); ended = None }) ∷ []))) in
-    let e : End = record { by = by; cmd = cmd; how = ReplacedBy v.id } in
-    let over = ended_stands middle (RowChange (RowBorn v) ∷ h) k e more (stands_behind h k v standing) born in
+    let born : StoreStands middle (RowChange (RowBorn v) ∷ h) = born_added table kept middle h leaf row by cmd lt open_by birth txs st in
+    let stored : middle.stored ≡ kept.stored ++ x ∷ [] = ap (λ (y : KeptRows). y.stored) birth.1 in
+    let more : k < length middle.stored = rw stored (omega (arith, known, length-append kept.stored (x ∷ []))) in
     let how : ℕ → End = λ m. record { by = by; cmd = cmd; how = ReplacedBy (record { number = m }) } in
-    let same : new ≡ after_end middle k e = ended ∙ ap (λ (x : End). after_end middle k x) (ap how n) in
-    let T : KeptRows → Type 0 = λ x. StoreStands x (RowChange (RowEnded k e) ∷ RowChange (RowBorn v) ∷ h) in
+    let e : End = how (next_version h) in
+    let same_end : how (length kept.stored) ≡ e = ap how n in
+    let at : slice_index_or middle.stored k blank ≡ slice_index_or kept.stored k blank = ap (λ xs. slice_index_or xs k blank) stored ∙ at_before kept.stored x k known in
+    let S : Stored → Type 0 = λ y. sees_now_by table by.number y.version.by.number ≡ true in
+    let K : End → Type 0 = λ y. IsEndingKnown (map version_of middle.stored) middle.leaves k (slice_index_or middle.stored k blank).version y.by y.how in
+    let there : K e = subst K same_end (replacing_known kept middle k w known same_leaf refl birth) in
+    let sound : IsEndSound k e (RowChange (RowBorn v) ∷ h) = end_sound table middle (RowChange (RowBorn v) ∷ h) k e more (stands_behind h k v standing) open_by (subst S (sym at) seen) there txs born in
+    let over = ended_stands middle (RowChange (RowBorn v) ∷ h) k e more sound born in
+    let same : new ≡ after_end middle k e = ended ∙ ap (λ (y : End). after_end middle k y) same_end in
+    let T : KeptRows → Type 0 = λ y. StoreStands y (RowChange (RowEnded k e) ∷ RowChange (RowBorn v) ∷ h) in
     subst T (sym same) over
 
 -- a lone element, whatever stands past the end
@@ -152,11 +212,6 @@ pub at_any : (xs : List Stored) (k : ℕ) (x : Stored) → k < length xs → x �
 at_any [] k x lt e = absurd (omega arith)
 at_any (y ∷ ys) zero x lt e = e
 at_any (y ∷ ys) (suc k) x lt e = at_any ys k x (omega (arith, lt)) e
-
-pub born_added : (old new : KeptRows) (h : History) (leaf : LeafId) (row : List Value) (by : TxId) (cmd : ℕ) → leaf.number < old.leaves → IsBirth old new (record { id = record { number = length old.stored }; leaf = leaf; row = row; by = by; cmd = cmd }) → StoreStands old h → StoreStands new (RowChange (RowBorn (newborn h leaf row by cmd)) ∷ h)
-born_added old new h leaf row by cmd lt (room, birth, bytes) st =
-    let S : KeptRows → Type 0 = λ x. StoreStands x (RowChange (RowBorn (newborn h leaf row by cmd)) ∷ h) in
-    subst S (sym birth) (born_stands old h leaf row by cmd room lt bytes st)
 
 pub newest_is : (table : KeptTable) (V : List Stored) (n room : ℕ) (value : KeptRows) (k : ℕ) (x : Stored) (h : History) (o : Outcome) → (record { stored = V; leaves = n; room = room }) ≡ value → k < length value.stored → x ≡ slice_index_or V k x → TableStands table h → StoreStands value h → o ≡ outcome_kept table x.ended → o ≡ outcome h k
 newest_is table V n room value k x h o view known at txs st told =
@@ -176,8 +231,8 @@ newest_stands table V n room value k x h b view known at txs st told =
     told ∙ ap (λ (y : Stored). stands_kept table y.ended) same ∙ standing_is table kept h k lt txs (subst S (sym view) st)
 
 -- the store after a birth, by what the code wrote
-pub put_added : (V W : List Stored) (ls ms : List (List RowId)) (room0 room n : ℕ) (value : KeptRows) (h : History) (leaf : LeafId) (row values : List Value) (by : TxId) (cmd : ℕ) → (record { stored = V; leaves = length ls; room = room0 }) ≡ value → n ≡ length V → W ≡ V ++ (record { version = (record { id = record { number = n }; leaf = leaf; row = row; by = by; cmd = cmd }); ended = None }) ∷ [] → ms ≡ slice_set ls leaf.number (slice_index_or ls leaf.number [] ++ (record { number = n }) ∷ []) → leaf.number < value.leaves → values ≡ row → room + row_bytes values ≡ room0 → StoreStands value h → StoreStands (record { stored = W; leaves = length ms; room = room }) (RowChange (RowBorn (newborn h leaf row by cmd)) ∷ h)
-put_added V W ls ms room0 room n value h leaf row values by cmd view count versions lists known same bytes st =
+pub put_added : (table : KeptTable) (V W : List Stored) (ls ms : List (List RowId)) (room0 room n : ℕ) (value : KeptRows) (h : History) (leaf : LeafId) (row values : List Value) (by : TxId) (cmd : ℕ) → (record { stored = V; leaves = length ls; room = room0 }) ≡ value → n ≡ length V → W ≡ V ++ (record { version = (record { id = record { number = n }; leaf = leaf; row = row; by = by; cmd = cmd }); ended = None }) ∷ [] → ms ≡ slice_set ls leaf.number (slice_index_or ls leaf.number [] ++ (record { number = n }) ∷ []) → leaf.number < value.leaves → IsOpen table by.number → values ≡ row → room + row_bytes values ≡ room0 → TableStands table h → StoreStands value h → StoreStands (record { stored = W; leaves = length ms; room = room }) (RowChange (RowBorn (newborn h leaf row by cmd)) ∷ h)
+put_added table V W ls ms room0 room n value h leaf row values by cmd view count versions lists known open_by same bytes txs st =
     let S : KeptRows → Type 0 = λ y. StoreStands y h in
     let K : KeptRows → Type 0 = λ y. leaf.number < y.leaves in
     let kept : KeptRows = record { stored = V; leaves = length ls; room = room0 } in
@@ -186,12 +241,90 @@ put_added V W ls ms room0 room n value h leaf row values by cmd view count versi
     let T : KeptRows → Type 0 = λ y. StoreStands y (RowChange (RowBorn (newborn h leaf row by cmd)) ∷ h) in
     let size : length ms ≡ length ls = ap length lists ∙ length_set ls leaf.number (slice_index_or ls leaf.number [] ++ (record { number = n }) ∷ []) in
     let enough : room + row_bytes row ≡ room0 = ap (λ (r : List Value). room + row_bytes r) (sym same) ∙ bytes in
-    let born : T (made (birth (length V)) (length ls)) = born_stands kept h leaf row by cmd room (subst K (sym view) known) enough (subst S (sym view) st) in
+    let born : T (made (birth (length V)) (length ls)) = born_stands kept h leaf row by cmd room (subst K (sym view) known) (by_runs table h by.number open_by txs) enough (subst S (sym view) st) in
     subst T (sym (ap (λ xs. made xs (length ms)) (versions ∙ ap birth count) ∙ ap (made (birth (length V))) size)) born
 
-pub replaced_added : (kept middle new : KeptRows) (h : History) (k m : ℕ) (leaf at : LeafId) (row : List Value) (by : TxId) (cmd : ℕ) → leaf ≡ at → m ≡ length kept.stored → IsBirth kept middle (record { id = record { number = length kept.stored }; leaf = leaf; row = row; by = by; cmd = cmd }) → new ≡ after_end middle k (record { by = by; cmd = cmd; how = ReplacedBy (record { number = m }) }) → leaf.number < kept.leaves → k < length kept.stored → stands h k ≡ true → StoreStands kept h → StoreStands new (RowChange (RowEnded k (record { by = by; cmd = cmd; how = ReplacedBy (newborn h at row by cmd).id })) ∷ RowChange (RowBorn (newborn h at row by cmd)) ∷ h)
-replaced_added kept middle new h k m leaf at row by cmd same count birth ended lt known standing st =
+pub replaced_added : (table : KeptTable) (kept middle new : KeptRows) (h : History) (k m : ℕ) (leaf at : LeafId) (row : List Value) (by : TxId) (cmd : ℕ) → leaf ≡ at → at ≡ (slice_index_or kept.stored k blank).version.leaf → m ≡ length kept.stored → IsBirth kept middle (record { id = record { number = length kept.stored }; leaf = leaf; row = row; by = by; cmd = cmd }) → new ≡ after_end middle k (record { by = by; cmd = cmd; how = ReplacedBy (record { number = m }) }) → leaf.number < kept.leaves → k < length kept.stored → stands h k ≡ true → IsOpen table by.number → sees_now_by table by.number (slice_index_or kept.stored k blank).version.by.number ≡ true → TableStands table h → StoreStands kept h → StoreStands new (RowChange (RowEnded k (record { by = by; cmd = cmd; how = ReplacedBy (newborn h at row by cmd).id })) ∷ RowChange (RowBorn (newborn h at row by cmd)) ∷ h)
+replaced_added table kept middle new h k m leaf at row by cmd same here count birth ended lt known standing open_by seen txs st =
     let how : ℕ → End = λ i. record { by = by; cmd = cmd; how = ReplacedBy (record { number = i }) } in
     let over : new ≡ after_end middle k (how (length kept.stored)) = ended ∙ ap (λ (x : End). after_end middle k x) (ap how count) in
     let T : LeafId → Type 0 = λ l. StoreStands new (RowChange (RowEnded k (record { by = by; cmd = cmd; how = ReplacedBy (newborn h l row by cmd).id })) ∷ RowChange (RowBorn (newborn h l row by cmd)) ∷ h) in
-    subst T same (replaced_stands kept middle new h k leaf row by cmd birth over lt known standing st)
+    subst T same (replaced_stands table kept middle new h k leaf row by cmd birth over lt (same ∙ here) known standing open_by seen txs st)
+
+-- an outcome for good tells the last end
+ended_for_go : (table : KeptTable) (e : End) (t : ℕ) (how : Ending) (f : Fate) → slice_index_or table.fates e.by.number Running ≡ f → EndedFor t how ≡ outcome_by f e → (slice_index_or table.fates e.by.number Running ≡ Committed) × (e.by.number ≡ t) × (e.how ≡ how)
+ended_for_go table e t how Running at is = absurd (cc)
+ended_for_go table e t how Committed at is = (at, cc, cc)
+ended_for_go table e t how Aborted at is = absurd (cc)
+
+ended_for : (table : KeptTable) (o : Option End) (t : ℕ) (how : Ending) → EndedFor t how ≡ outcome_kept table o → (e : End) × (o ≡ Some e) × (slice_index_or table.fates e.by.number Running ≡ Committed) × (e.by.number ≡ t) × (e.how ≡ how)
+ended_for table None t how is = absurd (cc)
+ended_for table (Some e) t how is =
+    let g = ended_for_go table e t how (slice_index_or table.fates e.by.number Running) refl is in
+    (e, refl, g.0, g.1, g.2)
+
+named : (stored : List Stored) (leaves k : ℕ) (v : Version) (o : Option End) (e : End) (how : Ending) → o ≡ Some e → e.how ≡ how → IsEndKept stored leaves k v o → IsEndingKnown (map version_of stored) leaves k v e.by how
+named stored leaves k v None e how is same known = absurd (cc)
+named stored leaves k v (Some x) e how is same known =
+    let one : x ≡ e = cc in
+    let P : End → Type 0 = λ y. IsEndingKnown (map version_of stored) leaves k v y.by y.how in
+    let Q : Ending → Type 0 = λ y. IsEndingKnown (map version_of stored) leaves k v e.by y in
+    subst Q same (subst P one known)
+
+-- what is told of a version is there
+pub told_known : (table : KeptTable) (kept : KeptRows) (id : RowId) (o : Option End) (told : Newest) → outcome_told told ≡ outcome_kept table o → IsEndKept kept.stored kept.leaves id.number (stored_at kept.stored id).version o → IsToldKnown table kept id told
+told_known table kept id o (Stands row) is known = tt
+told_known table kept id o (EndedBy tx) is known = tt
+told_known table kept id o (Gone tx) is known = tt
+told_known table kept id o (Moved tx leaf) is known =
+    let e = ended_for table o tx.number (MovedTo leaf) is in
+    named kept.stored kept.leaves id.number (stored_at kept.stored id).version o e.0 (MovedTo leaf) e.1 e.4 known
+told_known table kept id o (Replaced tx new) is known =
+    let e = ended_for table o tx.number (ReplacedBy new) is in
+    let n = named kept.stored kept.leaves id.number (stored_at kept.stored id).version o e.0 (ReplacedBy new) e.1 e.4 known in
+    let there : new.number < length kept.stored = omega (arith, slice_get_within (map version_of kept.stored) new.number n.0 n.1, length-map kept.stored version_of) in
+    let at : Some (stored_at kept.stored new).version ≡ Some n.0 = sym (got_at kept.stored new.number there) ∙ n.1 in
+    let one : (stored_at kept.stored new).version ≡ n.0 = cc in
+    let who : ℕ → TxId = λ m. record { number = m } in
+    let mine : e.0.by ≡ tx = ap who e.3 in
+    (n.2, there, ap (λ (v : Version). v.leaf) one ∙ n.3, ap (λ (v : Version). v.by) one ∙ n.4 ∙ mine, ap (λ m. slice_index_or table.fates m Running) (sym e.3) ∙ e.2)
+
+pub newest_known : (table : KeptTable) (V : List Stored) (n room : ℕ) (value : KeptRows) (ls : List (List RowId)) (id : RowId) (x : Stored) (told : Newest) → (record { stored = V; leaves = n; room = room }) ≡ value → n ≡ length ls → AreListed V ls → id.number < length value.stored → x ≡ slice_index_or V id.number x → outcome_told told ≡ outcome_kept table x.ended → IsToldKnown table value id told
+newest_known table V n room value ls id x told view count all known at is =
+    let K : KeptRows → Type 0 = λ y. id.number < length y.stored in
+    let lt = subst K (sym view) known in
+    let same = at_any V id.number x lt at in
+    let P : KeptRows → Type 0 = λ y. IsToldKnown table y id told in
+    let E : ℕ → Type 0 = λ m. IsEndKept V m id.number (stored_at V id).version (stored_at V id).ended in
+    let kept : E n = subst E (sym count) (all.ends id.number lt) in
+    subst P view (told_known table (record { stored = V; leaves = n; room = room }) id (stored_at V id).ended told (is ∙ ap (λ (y : Stored). outcome_kept table y.ended) same) kept)
+
+-- the end that the code sets is kept
+pub set_known : (V : List Stored) (n room : ℕ) (value : KeptRows) (k : ℕ) (x y : Stored) (e : End) → (record { stored = V; leaves = n; room = room }) ≡ value → y ≡ record { version = x.version; ended = Some e } → x ≡ slice_index_or V k blank → IsEndingKnown (map version_of value.stored) value.leaves k (slice_index_or value.stored k blank).version e.by e.how → IsEndKept V n k y.version y.ended
+set_known V n room value k x y e view set at known =
+    let K : KeptRows → Type 0 = λ r. IsEndingKnown (map version_of r.stored) r.leaves k (slice_index_or r.stored k blank).version e.by e.how in
+    let P : Stored → Type 0 = λ z. IsEndKept V n k z.version (Some e) in
+    let Q : Stored → Type 0 = λ z. IsEndKept V n k z.version z.ended in
+    let kept : P (slice_index_or V k blank) = subst K (sym view) known in
+    subst Q (sym set) (subst P (sym at) kept)
+
+pub leaf_known : (vs : List Version) (leaves k : ℕ) (v : Version) (by : TxId) (moved_to : Option LeafId) (how : Ending) → how ≡ ending_of moved_to → IsLeafThere leaves moved_to → IsEndingKnown vs leaves k v by how
+leaf_known vs leaves k v by None how is there =
+    let P : Ending → Type 0 = λ y. IsEndingKnown vs leaves k v by y in
+    subst P (sym is) tt
+leaf_known vs leaves k v by (Some leaf) how is there =
+    let P : Ending → Type 0 = λ y. IsEndingKnown vs leaves k v by y in
+    subst P (sym is) there
+
+-- the version that was put may replace the other one
+pub put_known : (old new : KeptRows) (k m : ℕ) (leaf : LeafId) (row : List Value) (by : TxId) (cmd : ℕ) → k < length old.stored → leaf ≡ (slice_index_or old.stored k blank).version.leaf → m ≡ length old.stored → IsBirth old new (record { id = record { number = length old.stored }; leaf = leaf; row = row; by = by; cmd = cmd }) → IsEndingKnown (map version_of new.stored) new.leaves k (slice_index_or new.stored k blank).version by (ReplacedBy (record { number = m }))
+put_known old new k m leaf row by cmd lt same count birth =
+    let P : ℕ → Type 0 = λ i. IsEndingKnown (map version_of new.stored) new.leaves k (slice_index_or new.stored k blank).version by (ReplacedBy (record { number = i })) in
+    subst P (sym count) (replacing_known old new k (record { id = record { number = length old.stored }; leaf = leaf; row = row; by = by; cmd = cmd }) lt same refl birth)
+
+pub replaced_kept : (old middle new : KeptRows) (k m : ℕ) (leaf at : LeafId) (row : List Value) (by : TxId) (cmd : ℕ) → leaf ≡ at → m ≡ length old.stored → IsBirth old middle (record { id = record { number = length old.stored }; leaf = leaf; row = row; by = by; cmd = cmd }) → new ≡ after_end middle k (record { by = by; cmd = cmd; how = ReplacedBy (record { number = m }) }) → IsReplacement old new (record { id = record { number = length old.stored }; leaf = at; row = row; by = by; cmd = cmd }) k (record { by = by; cmd = cmd; how = ReplacedBy (record { number = length old.stored }) })
+replaced_kept old middle new k m leaf at row by cmd same count (room, birth, bytes) ended =
+    let how : ℕ → End = λ i. record { by = by; cmd = cmd; how = ReplacedBy (record { number = i }) } in
+    let v : LeafId → Version = λ l. record { id = record { number = length old.stored }; leaf = l; row = row; by = by; cmd = cmd } in
+    let made : KeptRows → KeptRows = λ y. after_end y k (how (length old.stored)) in
+    (room, ended ∙ ap (λ (x : End). after_end middle k x) (ap how count) ∙ ap made (birth ∙ ap (λ (y : Version). after_birth old y room) (ap v same)), bytes)

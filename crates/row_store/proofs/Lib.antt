@@ -1,4 +1,5 @@
 pub mod Bytes
 pub mod Changes
 pub mod Listing
+pub mod Seen
 pub mod Shown

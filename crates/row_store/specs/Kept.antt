@@ -1,9 +1,10 @@
 -- What the row store and a trail keep.
-use Rattle.std.specs.Prelude.{◌≡◌, ℕ, ◌+◌, ◌<◌, ◌==◌, Bool, List, [], Some, None, map, filter, length, slice_index_or, slice_set, ◌∷◌, ◌++◌}
+use Rattle.std.specs.Prelude.{◌≡◌, ℕ, ◌+◌, ◌<◌, ◌==◌, Bool, List, [], Option, Some, None, map, filter, length, slice_index_or, slice_set, ◌∷◌, ◌++◌}
 use Rattle.pg_ids.specs.declared.ids.LeafId.{LeafId}
 use Rattle.pg_ids.specs.declared.ids.RowId.{RowId}
 use Rattle.history.specs.declared.version.Version.{Version}
 use Rattle.history.specs.declared.version.End.{End}
+use Rattle.history.specs.RowsSound.{IsEndingKnown}
 use Rattle.row_store.specs.declared.stored.Stored.{Stored}
 use Rattle.row_store.specs.Limits.{row_bytes}
 
@@ -42,12 +43,18 @@ ids_in l xs = map id_of (filter (in_leaf l) xs)
 abbrev pub stored_at : List Stored → RowId → Stored
 stored_at xs id = slice_index_or xs id.number blank
 
--- what is always so of a store: each leaf lists its versions, and each version has a leaf that is there and
--- its place for a number
+-- what the last end of a version names is there
+abbrev pub IsEndKept : List Stored → ℕ → ℕ → Version → Option End → Type 0
+IsEndKept stored leaves k v None = Unit {0}
+IsEndKept stored leaves k v (Some e) = IsEndingKnown (map version_of stored) leaves k v e.by e.how
+
+-- what is always so of a store: each leaf lists its versions; each version has a leaf that is there and its
+-- place for a number, and what its end names is there
 pub record AreListed (stored : List Stored) (leaves : List (List RowId)) : Type 0 where
   pub lists : (l : ℕ) → l < length leaves → slice_index_or leaves l [] ≡ ids_in l stored
   pub leaf : (k : ℕ) → k < length stored → (slice_index_or stored k blank).version.leaf.number < length leaves
   pub numbered : (k : ℕ) → k < length stored → (slice_index_or stored k blank).version.id.number ≡ k
+  pub ends : (k : ℕ) → k < length stored → IsEndKept stored (length leaves) k (slice_index_or stored k blank).version (slice_index_or stored k blank).ended
 
 -- each of the numbers is that of a version
 abbrev pub AreBelow : List RowId → List Stored → Type 0
@@ -64,3 +71,7 @@ IsBirth old new v = (room : ℕ) × (new ≡ after_birth old v room) × (room + 
 -- a store after a version was ended
 abbrev pub after_end : KeptRows → ℕ → End → KeptRows
 after_end kept k e = record { stored = slice_set kept.stored k (record { version = (slice_index_or kept.stored k blank).version; ended = Some e }); leaves = kept.leaves; room = kept.room }
+
+-- the store has one more version, room for less, and another version ended; nothing else has changed
+abbrev pub IsReplacement : KeptRows → KeptRows → Version → ℕ → End → Type 0
+IsReplacement old new v k e = (room : ℕ) × (new ≡ after_end (after_birth old v room) k e) × (room + row_bytes v.row ≡ old.room)

@@ -9,7 +9,8 @@ use Rattle.history.specs.declared.transaction.Fate.TheVariants.{Running, Committ
 use Rattle.history.specs.declared.version.Version.{Version}
 use Rattle.history.specs.declared.version.End.{End}
 use Rattle.history.specs.Rows.{last_end, leaf_count}
-use Rattle.history.specs.History.{History, row_events, versions, AreRowsSound, next_version, Outcome, Standing, outcome_by}
+use Rattle.history.specs.History.{History, row_events, versions, next_version, Outcome, Standing, outcome_by}
+use Rattle.history.specs.RowsSound.{AreRowsSound}
 use Rattle.tx_table.specs.Kept.{KeptTable, KeptSnapshot}
 use Rattle.tx_table.specs.Stands.{sees_by}
 use Rattle.row_store.specs.declared.stored.Stored.{Stored}

@@ -10,9 +10,10 @@ use Rattle.history.specs.declared.transaction.Fate.{Fate}
 use Rattle.history.specs.declared.transaction.Fate.TheVariants.{Running, Committed, Aborted}
 use Rattle.history.specs.Transactions.{TxEvents, TxEvent, IsPast, is_committed, fate, open_of, session_of, TxBegan, TxCommitted, TxAborted}
 use Rattle.history.specs.Snapshots.{SnapshotEvents, TakenSnapshot, SnapshotHeld, SnapshotDropped, held_by, sees}
-use Rattle.history.specs.History.{fresh, held_or_fresh}
-use Rattle.tx_table.specs.Kept.{KeptTable, KeptSnapshot, somes}
-use Rattle.tx_table.specs.Stands.{IsKept, OpenIs, StandsFor, SnapshotStands, HeldStands, sees_by, after_end}
+use Rattle.history.specs.History.{History, tx_events, snapshot_events, fresh, held_or_fresh}
+use Rattle.history.specs.Legal.{IsTimely, IsHoldSound}
+use Rattle.tx_table.specs.Kept.{KeptTable, KeptSnapshot, somes, taken_now, given_kept}
+use Rattle.tx_table.specs.Stands.{IsKept, OpenIs, TableStands, IsAgain, MayBeHeld, NumberIsSet, StandsFor, SnapshotStands, HeldStands, sees_by, after_end}
 
 -- a session without an open transaction has none after its place was cleared
 cleared : (xs : List (Option ℕ)) (s r tx : ℕ) → slice_index_or (slice_set xs s None) r None ≡ Some tx → (r ≢ s) × (slice_index_or xs r None ≡ Some tx)
@@ -197,6 +198,50 @@ fresh_stands k txs snaps s tx kept at st =
       ran = λ t any. let r = listed_at k.current t any in sym (st.fates t) ∙ (kept.each r.0 t r.1).runs;
       ended = λ t lt none runs. false≢true _ (at_listed k.current _ t (kept.all t lt (st.fates t ∙ runs))) none;
     }
+
+-- a command number may be set
+pub number_is_set : NumberIsSet
+number_is_set snap s cmd st = record { own = st.own; number = refl; session = st.session; later = st.later; ran = st.ran; ended = st.ended }
+
+-- a session may hold what is taken now
+timely_now : (o : Option TakenSnapshot) (txs : TxEvents) (s : TakenSnapshot) → s.past ≡ txs → IsTimely o txs s
+timely_now None txs s e = e
+timely_now (Some old) txs s e = inl e
+
+again : (o : Option KeptSnapshot) (p : Option TakenSnapshot) (txs : TxEvents) (snap : KeptSnapshot) → HeldStands o p txs → IsAgain o snap → (s : TakenSnapshot) × (IsPast s.past txs) × SnapshotStands snap s × (snap.tx ≡ s.tx) × IsTimely p txs s
+again None p txs snap st is = absurd is
+again (Some k) None txs snap st is = absurd st
+again (Some k) (Some t) txs snap st is =
+    let s : TakenSnapshot = record { past = t.past; tx = t.tx; cmd = snap.cmd } in
+    let P : KeptSnapshot → Type 0 = λ y. SnapshotStands y s in
+    let stands : SnapshotStands snap s = subst P (sym is) (number_is_set k t snap.cmd st.0) in
+    (s, st.1, stands, stands.own, inr (refl, refl))
+
+pub hold_sound : (k : KeptTable) (h : History) (session : ℕ) (snap : KeptSnapshot) → IsKept k → MayBeHeld k session snap → TableStands k h → (s : TakenSnapshot) × IsPast s.past (tx_events h) × SnapshotStands snap s × IsHoldSound session s h
+hold_sound k h session snap kept may st = elim may.timely [
+  | inl now ↦
+      let txs : TxEvents = tx_events h in
+      let s : TakenSnapshot = record { past = txs; tx = snap.tx; cmd = snap.cmd } in
+      let open_now : open_of txs session ≡ Some snap.tx = sym (st.current session) ∙ may.own in
+      let f = fresh_stands k txs (snapshot_events h) session snap.tx kept may.own st in
+      let same : fresh txs session ≡ record { past = txs; tx = snap.tx; cmd = 0 } = rw open_now refl in
+      let Q : TakenSnapshot → Type 0 = λ t. SnapshotStands (taken_now k session snap.tx) t in
+      let P : KeptSnapshot → Type 0 = λ y. SnapshotStands y s in
+      let stands : SnapshotStands snap s = subst P (sym now) (number_is_set (taken_now k session snap.tx) (record { past = txs; tx = snap.tx; cmd = 0 }) snap.cmd (subst Q same f)) in
+      (s, ([], refl), stands, record { own = open_now; timely = timely_now (held_by (snapshot_events h) session) txs s refl })
+  | inr held ↦
+      let a = again _ (held_by (snapshot_events h) session) (tx_events h) snap (st.held session) held in
+      (a.0, a.1, a.2, record { own = sym (st.current session) ∙ may.own ∙ ap (λ t. Some t) a.3; timely = a.4 })
+]
+
+-- the snapshot that is given, by what is kept
+pub given_one : (o : Option KeptSnapshot) (k : KeptTable) (s : ℕ) (x : KeptSnapshot) → o ≡ Some x → x ≡ given_kept o k s
+given_one None k s x e = absurd (cc)
+given_one (Some y) k s x e = cc
+
+pub given_none : (o : Option KeptSnapshot) (k : KeptTable) (s : ℕ) (x : KeptSnapshot) → o ≡ None → x ≡ given_kept None k s → x ≡ given_kept o k s
+given_none None k s x e is = is
+given_none (Some y) k s x e is = absurd (cc)
 
 pub given_held : (k : KeptSnapshot) (o : Option KeptSnapshot) (p : Option TakenSnapshot) (txs : TxEvents) (s : ℕ) → o ≡ Some k → HeldStands o p txs → SnapshotStands k (held_or_fresh p txs s)
 given_held k None p txs s e st = absurd (cc)

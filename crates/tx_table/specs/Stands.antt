@@ -1,12 +1,12 @@
 -- When a snapshot, or a table, stands for what happened.
-use Rattle.std.specs.Prelude.{◌≡◌, ℕ, ◌≤◌, ◌<◌, ◌≢◌, ◌==◌, ◌&&◌, ◌||◌, not, nat_lt, Bool, true, false, Option, Some, None, length, slice_index_or, slice_set}
+use Rattle.std.specs.Prelude.{◌≡◌, ℕ, ◌≤◌, ◌<◌, ◌≢◌, ◌==◌, ◌&&◌, ◌||◌, not, nat_lt, Bool, true, false, ◌⊎◌, Option, Some, None, length, slice_index_or, slice_set}
 use Rattle.std.specs.List.{list_any}
 use Rattle.history.specs.declared.transaction.Fate.{Fate}
 use Rattle.history.specs.declared.transaction.Fate.TheVariants.{Running}
 use Rattle.history.specs.Transactions.{TxEvents, fate, open_of, next_tx, session_of, IsSound, IsPast, is_committed}
 use Rattle.history.specs.Snapshots.{SnapshotEvents, TakenSnapshot, held_by}
 use Rattle.history.specs.History.{History, tx_events, snapshot_events}
-use Rattle.tx_table.specs.Kept.{KeptTable, KeptSnapshot}
+use Rattle.tx_table.specs.Kept.{KeptTable, KeptSnapshot, taken_now, with_number}
 
 -- what is kept tells, of each transaction, whether it ran at the snapshot's place
 pub record SnapshotStands (kept : KeptSnapshot) (s : TakenSnapshot) : Type 0 where
@@ -39,6 +39,25 @@ TableStands kept h = StandsFor kept (tx_events h) (snapshot_events h)
 -- the transaction is open in some session
 abbrev pub IsOpen : KeptTable → ℕ → Type 0
 IsOpen kept tx = (s : ℕ) × (slice_index_or kept.current s None ≡ Some tx)
+
+-- the snapshot is the held one, with whatever command number
+abbrev pub IsAgain : Option KeptSnapshot → KeptSnapshot → Type 0
+IsAgain None snap = ⊥
+IsAgain (Some old) snap = snap ≡ with_number snap.cmd old
+
+-- the session may hold the snapshot: it is of its open transaction, and was taken at this moment or is the
+-- one that it holds
+pub record MayBeHeld (kept : KeptTable) (session : ℕ) (snap : KeptSnapshot) : Type 0 where
+  pub own : slice_index_or kept.current session None ≡ Some snap.tx
+  pub timely : (snap ≡ with_number snap.cmd (taken_now kept session snap.tx)) ⊎ IsAgain (slice_index_or kept.held session None) snap
+
+-- the transaction sees now what the other one did, told from what is kept
+abbrev pub sees_now_by : KeptTable → ℕ → ℕ → Bool
+sees_now_by kept me tx = is_committed (slice_index_or kept.fates tx Running) || (tx == me)
+
+-- a snapshot with its command number set stands for the same place with that number
+abbrev pub NumberIsSet : Type 0
+NumberIsSet = (snap : KeptSnapshot) (s : TakenSnapshot) (cmd : ℕ) → SnapshotStands snap s → SnapshotStands (with_number cmd snap) (record { past = s.past; tx = s.tx; cmd = cmd })
 
 -- whether the snapshot sees what a command of the transaction did, told from what is kept
 abbrev pub sees_by : KeptTable → KeptSnapshot → ℕ → ℕ → Bool

@@ -16,5 +16,5 @@ mod table;
 #[cfg(test)]
 mod tests;
 
-pub use snapshot::Snapshot;
+pub use snapshot::{Snapshot, number_is_set};
 pub use table::TxTable;

@@ -1,4 +1,5 @@
 ghost use Rattle.std.specs.Prelude.{◌≡◌, ◌≤◌, IfOk, length};
+ghost use Rattle.tx_table.specs.Stands.{NumberIsSet};
 
 use history::TxId;
 use pg_values::NoMemory;
@@ -42,3 +43,8 @@ impl Snapshot {
         })
     }
 }
+
+/// A snapshot whose `cmd` was set stands for the same place, with that command number.
+pub fn number_is_set()
+    ensures { NumberIsSet }
+{}

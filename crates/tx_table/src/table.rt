@@ -1,11 +1,12 @@
-ghost use Rattle.std.specs.Prelude.{◌≡◌, ◌≢◌, ◌==◌, ℕ, ◌≤◌, ◌<◌, [], ◌∷◌, Some, None, IsSome, IfOk, OnErr, length, slice_index_or, option_copied, option_map};
+ghost use Rattle.std.specs.Prelude.{◌≡◌, ◌≢◌, ◌==◌, ℕ, ◌≤◌, ◌<◌, [], ◌∷◌, Some, None, IsSome, IfOk, OnErr, length, slice_index_or, slice_set, option_copied, option_map};
 ghost use Rattle.std.specs.List.{list_any};
 ghost use Rattle.history.specs.Transactions.{TxBegan, TxCommitted, TxAborted, fate, session_of, open_of, next_tx, IsPast};
+ghost use Rattle.history.specs.Legal.{IsHoldSound};
 ghost use Rattle.history.specs.Snapshots.{SnapshotHeld, SnapshotDropped, TakenSnapshot, held_by, sees};
 ghost use Rattle.history.specs.History.{History, TxChange, SnapshotChange, tx_events, snapshot_events, given, fresh};
-ghost use Rattle.history.specs.declared.transaction.Fate.TheVariants.{Running};
-ghost use Rattle.tx_table.specs.Kept.{somes};
-ghost use Rattle.tx_table.specs.Stands.{TableStands, SnapshotStands, HeldStands, IsOpen, OpenIs, sees_by, after_end};
+ghost use Rattle.history.specs.declared.transaction.Fate.TheVariants.{Running, Committed, Aborted};
+ghost use Rattle.tx_table.specs.Kept.{somes, taken_now, given_kept, after_hold};
+ghost use Rattle.tx_table.specs.Stands.{TableStands, SnapshotStands, HeldStands, IsOpen, OpenIs, MayBeHeld, sees_by, after_end};
 
 use crate::Snapshot;
 use history::{Fate, TxId};
@@ -73,6 +74,7 @@ impl TxTable {
         ensures added { IfOk result (λ tx. (h : History) →
             TableStands self.old h → TableStands self.new (TxChange (TxBegan session tx.number) ∷ h)) }
         ensures number { IfOk result (λ tx. (h : History) → TableStands self.old h → tx.number ≡ next_tx (tx_events h)) }
+        ensures open { IfOk result (λ tx. self.new.current ≡ slice_set self.old.current session (Some tx.number)) }
         ensures sessions { length self.new.current ≡ length self.old.current }
         ensures err { OnErr result (self.new ≡ self.old) }
     {
@@ -92,6 +94,7 @@ impl TxTable {
         requires { IsOpen self.old tx.number }
         ensures added { (h : History) → TableStands self.old h →
             TableStands self.new (TxChange (TxCommitted (session_of (tx_events h) tx.number) tx.number) ∷ h) }
+        ensures kept { self.new ≡ after_end self.old tx.number Committed }
         ensures sessions { length self.new.current ≡ length self.old.current }
     {
         self.end(tx, Fate::Committed);
@@ -102,6 +105,7 @@ impl TxTable {
         requires { IsOpen self.old tx.number }
         ensures added { (h : History) → TableStands self.old h →
             TableStands self.new (TxChange (TxAborted (session_of (tx_events h) tx.number) tx.number) ∷ h) }
+        ensures kept { self.new ≡ after_end self.old tx.number Aborted }
         ensures sessions { length self.new.current ≡ length self.old.current }
     {
         self.end(tx, Fate::Aborted);
@@ -124,8 +128,9 @@ impl TxTable {
     /// transaction and with the command number 0.
     pub fn snapshot(&self, alloc: Global, session: u32) -> Result<Snapshot, NoMemory>
         requires { IsSome (slice_index_or self.now.current session None) }
-        ensures { IfOk result (λ snap. (h : History) →
+        ensures stands { IfOk result (λ snap. (h : History) →
             TableStands self.now h → SnapshotStands snap (given h session)) }
+        ensures kept { IfOk result (λ snap. snap ≡ given_kept (slice_index_or self.now.held session None) self.now session) }
     {
         match self.held(session) {
             Some(snap) => snap.copy(alloc),
@@ -135,8 +140,9 @@ impl TxTable {
 
     fn new_snapshot(&self, alloc: Global, session: u32) -> Result<Snapshot, NoMemory>
         requires { IsSome (slice_index_or self.now.current session None) }
-        ensures { IfOk result (λ snap. (h : History) →
+        ensures stands { IfOk result (λ snap. (h : History) →
             TableStands self.now h → SnapshotStands snap (fresh (tx_events h) session)) }
+        ensures kept { IfOk result (λ snap. snap ≡ given_kept None self.now session) }
     {
         let own = open_in(&self.current, session).unwrap();
         Ok(Snapshot {
@@ -187,12 +193,16 @@ impl TxTable {
         }
     }
 
-    /// Holds a snapshot for the session, and gives up the one that it held.
+    /// Holds a snapshot of the session's open transaction, and gives up the one that it held. The
+    /// snapshot was taken since a transaction last began or ended, or is the one that is held, with
+    /// whatever command number.
     pub fn hold(&mut self, session: u32, snap: Snapshot)
-        requires { session < length self.old.current }
+        requires { MayBeHeld self.old session snap }
         ensures added { (h : History) (s : TakenSnapshot) → TableStands self.old h → IsPast s.past (tx_events h) →
             SnapshotStands snap s → TableStands self.new (SnapshotChange (SnapshotHeld session s) ∷ h) }
-        ensures sessions { length self.new.current ≡ length self.old.current }
+        ensures sound { (h : History) → TableStands self.old h →
+            (s : TakenSnapshot) × IsPast s.past (tx_events h) × SnapshotStands snap s × IsHoldSound session s h }
+        ensures kept { self.new ≡ after_hold self.old session (Some snap) }
     {
         self.held[session as usize] = Some(snap);
     }
@@ -202,7 +212,7 @@ impl TxTable {
         requires { session < length self.old.current }
         ensures added { (h : History) → TableStands self.old h →
             TableStands self.new (SnapshotChange (SnapshotDropped session) ∷ h) }
-        ensures sessions { length self.new.current ≡ length self.old.current }
+        ensures kept { self.new ≡ after_hold self.old session None }
     {
         self.held[session as usize] = None;
     }

@@ -6,8 +6,8 @@ use Rattle.tx_table.specs.Stands.{TableStands}
 use Rattle.tx_table.proofs.Tables.{fresh_stands, somes_short}
 use Rattle.tx_table.proofs.table.TxTable.new_snapshot.Goals as goal
 
-pub returns : goal.returns
-returns c h st =
+pub returns-clause-stands : goal.returns-clause-stands
+returns-clause-stands c h st =
     let S : KeptTable → Type 0 = λ k. TableStands k h in
     let at : slice_index_or c.self.inside.current.items c.args.session None ≡ Some c.unwrap-own.result =
     sym (ap (λ xs. slice_index_or xs c.args.session None) c.deref.ensures.value) ∙ sym c.open_in.ensures ∙ c.unwrap-own.ensures in
