@@ -79,7 +79,8 @@ impl World {
             Some(end) => self.fate(end.by) == Fate::Aborted,
             None => true,
         };
-        if stands {
+        let made_by = self.versions[number].by;
+        if stands && (self.fate(made_by) == Fate::Committed || made_by == by) {
             self.versions[number].ended = Some(End { by, cmd });
         }
     }

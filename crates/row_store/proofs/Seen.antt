@@ -1,5 +1,5 @@
 -- Who may end what a scan lends.
-use Rattle.std.proofs.Common.{◌≡◌, ℕ, ◌<◌, ◌==◌, ◌&&◌, ◌||◌, not, nat_lt, zero, suc, arith, ap, sym, ◌∙◌, refl, List, [], ◌∷◌, Option, Some, None, map, filter, true, false, Bool, inl, inr, length, slice_index_or, subst, All}
+use Rattle.std.proofs.Common.{◌≡◌, ℕ, ◌<◌, ◌==◌, ◌&&◌, ◌||◌, not, nat_lt, zero, suc, arith, sym, refl, List, [], ◌∷◌, map, filter, true, false, Bool, inl, inr, length, slice_index_or, subst, All}
 use Rattle.std.proofs.lemmas.Bool.{cases_Bool}
 use Rattle.std.specs.List.{list_any}
 use Rattle.history.specs.declared.transaction.Fate.TheVariants.{Running}
@@ -9,7 +9,7 @@ use Rattle.pg_ids.specs.declared.ids.RowId.{RowId}
 use Rattle.tx_table.specs.Kept.{KeptTable, KeptSnapshot}
 use Rattle.tx_table.specs.Stands.{sees_now_by}
 use Rattle.row_store.specs.declared.stored.Stored.{Stored}
-use Rattle.row_store.specs.Kept.{KeptRows, no_id, blank, stored_at, AreListed, AreBelow}
+use Rattle.row_store.specs.Kept.{KeptRows, blank, stored_at, AreListed, AreBelow}
 use Rattle.row_store.specs.Stands.{sees_end_by, shows_by, shown_stored}
 
 -- what is shown was made by the snapshot's transaction or is committed
