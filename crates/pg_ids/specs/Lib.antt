@@ -1,4 +1,5 @@
 pub mod Lists
+pub mod Modes
 pub mod Numbers
 pub mod Sets
 pub mod Words

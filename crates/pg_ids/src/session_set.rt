@@ -1,7 +1,7 @@
-ghost use Rattle.std.specs.Prelude.{◌≡◌, ◌<◌, ◌==◌, ◌||◌, ℕ, false};
+ghost use Rattle.std.specs.Prelude.{◌≡◌, ◌<◌, ◌≤◌, ◌^◌, ◌==◌, ◌&&◌, ◌||◌, not, ℕ, Bool, true, false, IfSome, None};
 ghost use Rattle.std.specs.Prelude.{nat_eq};
 ghost use Rattle.std.specs.List.{list_any};
-ghost use Rattle.pg_ids.specs.Sets.{has, sessions};
+ghost use Rattle.pg_ids.specs.Sets.{has, sessions, empty, without, union, weight, nobody};
 
 /// A set of sessions, as the bits of two machine words.
 #[derive(Clone, Copy, Debug, PartialEq, Eq)]
@@ -12,9 +12,19 @@ pub struct SessionSet {
 impl SessionSet {
     /// No session.
     pub fn empty() -> Self
-        ensures { (k : ℕ) → has result k ≡ false }
+        ensures has { (k : ℕ) → has result k ≡ false }
+        ensures is { result ≡ empty }
     {
         SessionSet { bits: 0 }
+    }
+
+    /// Whether no session is in it.
+    pub fn is_empty(self) -> bool
+        ensures is { (p : ℕ → Bool) → ((k : ℕ) → has self k ≡ p k) → result ≡ nobody p }
+        ensures none { result ≡ true → (k : ℕ) → has self k ≡ false }
+        ensures some { result ≡ false → (k : ℕ) × (k < 128) × (has self k ≡ true) }
+    {
+        self.bits == 0
     }
 
     fn has_bit(self, session: u32) -> bool
@@ -38,6 +48,57 @@ impl SessionSet {
     {
         SessionSet {
             bits: self.bits | (1 << session),
+        }
+    }
+
+    /// The set without the session.
+    pub fn without(self, session: u32) -> Self
+        requires { session < 128 }
+        ensures has { (k : ℕ) → has result k ≡ (not (k == session) && has self k) }
+        ensures is { result ≡ without self session }
+    {
+        SessionSet {
+            bits: self.bits & !(1 << session),
+        }
+    }
+
+    /// The sessions that are in one of the two sets, or in both.
+    pub fn union(self, other: Self) -> Self
+        ensures has { (k : ℕ) → has result k ≡ (has self k || has other k) }
+        ensures is { result ≡ union self other }
+        ensures fits { weight result < 2 ^ 128 }
+    {
+        SessionSet {
+            bits: self.bits | other.bits,
+        }
+    }
+
+    /// The sessions that are in both sets.
+    pub fn meet(self, other: Self) -> Self
+        ensures { (k : ℕ) → has result k ≡ (has self k && has other k) }
+    {
+        SessionSet {
+            bits: self.bits & other.bits,
+        }
+    }
+
+    /// Whether the other set has all its sessions.
+    pub fn is_within(self, other: Self) -> bool
+        ensures all { result ≡ true → (k : ℕ) → has self k ≡ true → has other k ≡ true }
+        ensures more { result ≡ false → weight other < weight (union other self) }
+    {
+        (other.bits | self.bits) == other.bits
+    }
+
+    /// The session with the least number.
+    pub fn least(self) -> Option<u32>
+        ensures found { IfSome result (λ k. (k < 128) × (has self k ≡ true) × ((j : ℕ) → j < k → has self j ≡ false)) }
+        ensures none { result ≡ None → (k : ℕ) → has self k ≡ false }
+    {
+        if self.bits == 0 {
+            None
+        } else {
+            Some(self.bits.trailing_zeros())
         }
     }
 }

@@ -1,0 +1,25 @@
+-- Modes, one by one.
+use Rattle.std.proofs.Common.{◌≡◌, refl}
+use Rattle.pg_ids.specs.declared.lock_mode.LockMode.{LockMode}
+use Rattle.pg_ids.specs.declared.lock_mode.LockMode.TheVariants.{AccessShare, RowShare, RowExclusive, ShareUpdateExclusive, Share, ShareRowExclusive, Exclusive, AccessExclusive}
+use Rattle.pg_ids.specs.Modes.{conflicts}
+
+each : (P : LockMode → Type 0) → P AccessShare → P RowShare → P RowExclusive → P ShareUpdateExclusive → P Share → P ShareRowExclusive → P Exclusive → P AccessExclusive → (m : LockMode) → P m
+each P a b c d e f g h AccessShare = a
+each P a b c d e f g h RowShare = b
+each P a b c d e f g h RowExclusive = c
+each P a b c d e f g h ShareUpdateExclusive = d
+each P a b c d e f g h Share = e
+each P a b c d e f g h ShareRowExclusive = f
+each P a b c d e f g h Exclusive = g
+each P a b c d e f g h AccessExclusive = h
+
+pub both_ways : (a b : LockMode) → conflicts a b ≡ conflicts b a
+both_ways AccessShare = each (λ b. conflicts AccessShare b ≡ conflicts b AccessShare) refl refl refl refl refl refl refl refl
+both_ways RowShare = each (λ b. conflicts RowShare b ≡ conflicts b RowShare) refl refl refl refl refl refl refl refl
+both_ways RowExclusive = each (λ b. conflicts RowExclusive b ≡ conflicts b RowExclusive) refl refl refl refl refl refl refl refl
+both_ways ShareUpdateExclusive = each (λ b. conflicts ShareUpdateExclusive b ≡ conflicts b ShareUpdateExclusive) refl refl refl refl refl refl refl refl
+both_ways Share = each (λ b. conflicts Share b ≡ conflicts b Share) refl refl refl refl refl refl refl refl
+both_ways ShareRowExclusive = each (λ b. conflicts ShareRowExclusive b ≡ conflicts b ShareRowExclusive) refl refl refl refl refl refl refl refl
+both_ways Exclusive = each (λ b. conflicts Exclusive b ≡ conflicts b Exclusive) refl refl refl refl refl refl refl refl
+both_ways AccessExclusive = each (λ b. conflicts AccessExclusive b ≡ conflicts b AccessExclusive) refl refl refl refl refl refl refl refl
