@@ -8,12 +8,14 @@ use Rattle.history.specs.declared.version.Ending.{Ending}
 use Rattle.history.specs.Transactions.{TxEvent, TxEvents, fate, open_of}
 use Rattle.history.specs.Snapshots.{SnapshotEvent, SnapshotEvents, TakenSnapshot, sees, held_by}
 use Rattle.history.specs.Rows.{RowEvent, RowEvents, births, end_in}
+use Rattle.history.specs.Locks.{LockEvent, LockEvents}
 
 -- an event of each store
 pub data Event : Type 0 where
   TxChange : TxEvent → Event
   SnapshotChange : SnapshotEvent → Event
   RowChange : RowEvent → Event
+  LockChange : LockEvent → Event
 
 abbrev pub History : Type 0
 History = List Event
@@ -32,6 +34,11 @@ abbrev pub row_events : History → RowEvents
 row_events [] = []
 row_events (RowChange e ∷ h) = e ∷ row_events h
 row_events (_ ∷ h) = row_events h
+
+abbrev pub lock_events : History → LockEvents
+lock_events [] = []
+lock_events (LockChange e ∷ h) = e ∷ lock_events h
+lock_events (_ ∷ h) = lock_events h
 
 -- all versions, in order of birth
 abbrev pub versions : History → List Version

@@ -3,8 +3,9 @@ use Rattle.std.specs.Prelude.{◌≡◌, ℕ, ◌<◌, ◌≤◌, [], ◌∷◌,
 use Rattle.history.specs.Transactions.{TxEvents, open_of, IsSound}
 use Rattle.history.specs.Snapshots.{TakenSnapshot, SnapshotEvent, SnapshotHeld, SnapshotDropped, held_by}
 use Rattle.history.specs.Rows.{RowEvents, LeafAdded, RowBorn, RowEnded}
-use Rattle.history.specs.History.{Event, History, TxChange, SnapshotChange, RowChange, tx_events, snapshot_events, row_events}
+use Rattle.history.specs.History.{Event, History, TxChange, SnapshotChange, RowChange, LockChange, tx_events, snapshot_events, row_events, lock_events}
 use Rattle.history.specs.RowsSound.{IsRowSound}
+use Rattle.history.specs.LocksSound.{IsLockSound}
 
 -- a session holds a snapshot that is taken now, or one of the transaction and the place of the one that it
 -- holds
@@ -34,6 +35,7 @@ abbrev pub May : Event → History → Type 0
 May (TxChange e) h = IsSound (e ∷ tx_events h)
 May (SnapshotChange e) h = MayHold e h
 May (RowChange e) h = IsRowSound e h
+May (LockChange e) h = IsLockSound e (lock_events h)
 
 -- the transaction and the number of the command that the event names
 abbrev pub command_of : Event → Option (ℕ × ℕ)

@@ -1,7 +1,10 @@
 pub mod History
 pub mod Laws
 pub mod Legal
+pub mod Locks
+pub mod LocksSound
 pub mod Rows
 pub mod RowsSound
 pub mod Snapshots
 pub mod Transactions
+pub mod Waits
