@@ -1,9 +1,9 @@
 //! What happened in a run, as plain data for contracts, and the words that code shares with it.
 //!
 //! A history is the list of all events of a run so far, the newest first. No code keeps one: the
-//! transaction table, the row store and the lock table keep what they need, and their contracts say that this
-//! stands for a history, before a call and after it. What became of a transaction (`fate`), what a
-//! snapshot sees (`sees`), which versions of a leaf it shows (`seen`), which snapshots are open
+//! transaction table, the row store and the lock table keep what they need, and their contracts say
+//! that this stands for a history, before a call and after it. What became of a transaction (`fate`),
+//! what a snapshot sees (`sees`), which versions of a leaf it shows (`seen`), which snapshots are open
 //! (`held_by`), who holds which locks (`holds`) and who waits for whom (`waits_for`) are definitions
 //! over that list, in `specs/`.
 //!

@@ -4,8 +4,8 @@ use Rattle.std.specs.Int.{bit_at, w128, trailing_zeros}
 use Rattle.std.proofs.lemmas.Grind.{common_steps}
 use Rattle.std.proofs.lemmas.Bool.{cases_lt, cases_Bool, and_parts}
 use Rattle.std.proofs.lemmas.Bool.Decides.{nat_tests}
-use Rattle.std.proofs.lemmas.Nat.{le_or_l, or_lt}
-use Rattle.std.proofs.lemmas.Nat.Bits.{bit_at_or, bit_at_and, bit_at-lt, bit_at_above, bit_at_set_same, bit_at_set_other, bit_at_clear_same, bit_at_clear_other, bit_at-trailing_zeros, bit_at-zero}
+use Rattle.std.proofs.lemmas.Nat.{le_or_l, or_lt, and_le_l}
+use Rattle.std.proofs.lemmas.Nat.Bits.{bit_at_not, bit_at_or, bit_at_and, bit_at-lt, bit_at_above, bit_at_set_same, bit_at_set_other, bit_at_clear_same, bit_at_clear_other, bit_at-trailing_zeros, bit_at-zero}
 use Rattle.pg_ids.specs.Sets.{none_below, nobody}
 
 pub set_has : (n k j : ℕ) → k < 128 → (bit_at (bit_or n (1 * 2 ^ k % 2 ^ 128)) j == 1) ≡ ((j == k) || (bit_at n j == 1))
@@ -82,12 +82,9 @@ empty_is (suc n) p fits same =
 pub has_below : (n k : ℕ) → n < 2 ^ 128 → (bit_at n k == 1) ≡ true → k < 128
 has_below n k fits e = elim (cases_lt k 128) [ inl low ↦ low | inr high ↦ absurd (grind (arith, common_steps, nat_tests, bit_at_above n 128 k fits high)) ]
 
-pub or_fits : (a b : ℕ) → a < 2 ^ 128 → b < 2 ^ 128 → bit_or a b < 2 ^ 128
-or_fits a b fits fits' = or_lt 128 a b fits fits'
+-- bits that are set in a and not in b
+pub minus_has : (a b j : ℕ) → j < 128 → b < 2 ^ 128 → (bit_at (bit_and a (2 ^ 128 - 1 - b)) j == 1) ≡ ((bit_at a j == 1) && not (bit_at b j == 1))
+minus_has a b j lt fits = grind (arith, common_steps, nat_tests, bit_at_and a (2 ^ 128 - 1 - b) j, bit_at_not w128 b j fits lt, bit_at-lt a j, bit_at-lt b j)
 
--- what is put into a set makes its number greater
-pub or_more : (a b : ℕ) → bit_or a b ≢ a → a < bit_or a b
-or_more a b ne = let le = le_or_l a b in omega (arith, le, ne)
-
-pub or_same : (a b j : ℕ) → bit_or a b ≡ a → (bit_at b j == 1) ≡ true → (bit_at a j == 1) ≡ true
-or_same a b j e t = let both = sym (or_has a b j) ∙ ap (λ n. bit_at n j == 1) e in grind (arith, common_steps, both, t)
+pub minus_fits : (a b : ℕ) → a < 2 ^ 128 → bit_and a b < 2 ^ 128
+minus_fits a b fits = let le = and_le_l a b in omega (arith, le)

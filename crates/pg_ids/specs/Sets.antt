@@ -1,7 +1,7 @@
 -- The sessions of a set.
 use Rattle.std.specs.Prelude.{ℕ, zero, suc, ◌-◌, ◌*◌, ◌^◌, ◌%◌, ◌==◌, ◌&&◌, not, Bool, true, List, [], ◌∷◌, ◌++◌, if◌then◌else◌}
 use Rattle.std.specs.Int.{bit_at}
-use Rattle.std.specs.Int.RustNames.{bit_and, bit_or}
+use Rattle.std.specs.Int.RustNames.{bit_and}
 use Rattle.pg_ids.specs.declared.session_set.SessionSet.{SessionSet}
 
 -- session k is in the set
@@ -24,14 +24,6 @@ empty = record { bits = 0 }
 -- the set without one session
 abbrev pub without : SessionSet → ℕ → SessionSet
 without s k = record { bits = bit_and s.bits (2 ^ 128 - 1 - 1 * 2 ^ k % 2 ^ 128) }
-
--- the sessions of both sets
-abbrev pub union : SessionSet → SessionSet → SessionSet
-union a b = record { bits = bit_or a.bits b.bits }
-
--- a number that is greater for a set with more sessions
-abbrev pub weight : SessionSet → ℕ
-weight s = s.bits
 
 -- none of the sessions below n passes the test
 abbrev pub none_below : ℕ → (ℕ → Bool) → Bool

@@ -1,4 +1,4 @@
-ghost use Rattle.std.specs.Prelude.{◌≡◌};
+ghost use Rattle.std.specs.Prelude.{◌≡◌, ◌<◌};
 ghost use Rattle.pg_ids.specs.Modes.{rank, conflicting, conflicts, every_mode};
 
 /// A mode of locks on tables, from the weakest to the strongest.
@@ -33,7 +33,8 @@ impl LockMode {
 
     /// Its place among the modes.
     pub fn rank(self) -> usize
-        ensures { result ≡ rank self }
+        ensures is { result ≡ rank self }
+        ensures small { result < 8 }
     {
         self as usize
     }

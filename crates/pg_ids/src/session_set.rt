@@ -1,7 +1,7 @@
 ghost use Rattle.std.specs.Prelude.{◌≡◌, ◌<◌, ◌≤◌, ◌^◌, ◌==◌, ◌&&◌, ◌||◌, not, ℕ, Bool, true, false, IfSome, None};
 ghost use Rattle.std.specs.Prelude.{nat_eq};
 ghost use Rattle.std.specs.List.{list_any};
-ghost use Rattle.pg_ids.specs.Sets.{has, sessions, empty, without, union, weight, nobody};
+ghost use Rattle.pg_ids.specs.Sets.{has, sessions, empty, without, nobody};
 
 /// A set of sessions, as the bits of two machine words.
 #[derive(Clone, Copy, Debug, PartialEq, Eq)]
@@ -64,9 +64,7 @@ impl SessionSet {
 
     /// The sessions that are in one of the two sets, or in both.
     pub fn union(self, other: Self) -> Self
-        ensures has { (k : ℕ) → has result k ≡ (has self k || has other k) }
-        ensures is { result ≡ union self other }
-        ensures fits { weight result < 2 ^ 128 }
+        ensures { (k : ℕ) → has result k ≡ (has self k || has other k) }
     {
         SessionSet {
             bits: self.bits | other.bits,
@@ -85,9 +83,9 @@ impl SessionSet {
     /// Whether the other set has all its sessions.
     pub fn is_within(self, other: Self) -> bool
         ensures all { result ≡ true → (k : ℕ) → has self k ≡ true → has other k ≡ true }
-        ensures more { result ≡ false → weight other < weight (union other self) }
+        ensures some { result ≡ false → (k : ℕ) × (k < 128) × (has self k ≡ true) × (has other k ≡ false) }
     {
-        (other.bits | self.bits) == other.bits
+        self.bits & !other.bits == 0
     }
 
     /// The session with the least number.

@@ -1,0 +1,200 @@
+ghost use Rattle.std.specs.Prelude.{◌≡◌, ◌≢◌, ℕ, ◌≤◌, ◌<◌, false, [], ◌∷◌, Some, None, IfOk, IfSome, length, slice_index_or};
+ghost use Rattle.pg_ids.specs.Sets.{has};
+ghost use Rattle.history.specs.declared.wait.Wanted.TheVariants.{Lock, Others};
+ghost use Rattle.history.specs.Locks.{LocksGivenUp, SnapshotGone, WaitResumed, WaitWithdrawn, wanted, holds, holds_any, after_end, after_snapshot};
+ghost use Rattle.history.specs.Waits.{ready};
+ghost use Rattle.history.specs.History.{History, LockChange, lock_events};
+ghost use Rattle.lock_table.specs.Answers.{IsAnswer, after, left_waiting};
+ghost use Rattle.lock_table.specs.Stands.{TableStands, SameSize, IsIdle, OthersWait, IsKnown, names};
+
+use crate::causes::{causes, first_ready, holding, want_of};
+use crate::changes::{clear_ends, clear_held, clear_snapshots, grant, put};
+use crate::cycle::{least_cycle, rows_of};
+use crate::Asked;
+use history::{WaitOn, Wanted};
+use pg_ids::{LockMode, SessionList, SessionSet, TableNo};
+use pg_values::NoMemory;
+use std::alloc::Global;
+use std::marker::Model;
+
+/// Who holds which locks, and who waits for what.
+#[derive(Drop)]
+pub struct LockTable {
+    tables: u32,
+    held: Vec<SessionSet>,
+    wants: Vec<Option<Wanted>>,
+    queue: Vec<u32>,
+}
+
+impl Model for LockTable {
+    ghost use Rattle.std.specs.Prelude.{length, ◌≤◌, vec_capacity};
+    ghost use Rattle.lock_table.specs.Kept.{KeptLocks};
+    ghost use Rattle.lock_table.specs.Stands.{IsKept, kept_of};
+
+    ghost Value = { KeptLocks };
+
+    ghost view = { λ t. kept_of t.tables t.held.items t.wants.items t.queue.items };
+
+    ghost invariant = { λ t. (IsKept (kept_of t.tables t.held.items t.wants.items t.queue.items)) × (length t.wants.items ≤ vec_capacity t.queue) };
+}
+
+impl LockTable {
+    /// A table for so many sessions and tables, with no lock and no wait.
+    pub fn new(alloc: Global, sessions: u32, tables: u32) -> Result<Self, NoMemory>
+        requires { sessions ≤ 65 }
+        ensures stands { IfOk result (λ t. TableStands t []) }
+        ensures sessions { IfOk result (λ t. length t.wants ≡ sessions) }
+        ensures tables { IfOk result (λ t. t.tables ≡ tables) }
+    {
+        Ok(LockTable {
+            tables,
+            held: vec![in alloc; SessionSet::empty(); 8 * tables as usize]?,
+            wants: vec![in alloc; None; sessions as usize]?,
+            queue: Vec::with_capacity(alloc, sessions as usize)?,
+        })
+    }
+
+    /// How many sessions there are.
+    pub fn sessions(&self) -> u32
+        ensures { result ≡ length self.now.wants }
+    {
+        self.wants.len() as u32
+    }
+
+    /// How many tables there are.
+    pub fn tables(&self) -> u32
+        ensures { result ≡ self.now.tables }
+    {
+        self.tables
+    }
+
+    /// What the session waits for.
+    pub fn wanted(&self, session: u32) -> Option<Wanted>
+        ensures is { (h : History) → TableStands self.now h → result ≡ wanted (lock_events h) session }
+        ensures kept { result ≡ slice_index_or self.now.wants session None }
+    {
+        want_of(&self.wants, session)
+    }
+
+    /// Who holds any lock on the table.
+    pub fn holders(&self, table: TableNo) -> SessionSet
+        ensures { (h : History) → TableStands self.now h → (y : ℕ) → has result y ≡ holds_any (lock_events h) y table.number }
+    {
+        holding(&self.held, table.number, LockMode::every())
+    }
+
+    /// The oldest wait whose causes have gone.
+    pub fn ready(&self) -> Option<u32>
+        ensures is { (h : History) → TableStands self.now h → result ≡ ready (lock_events h) }
+        ensures known { IfSome result (λ s. s < length self.now.wants) }
+        ensures waits { IfSome result (λ s. slice_index_or self.now.wants s None ≢ None) }
+    {
+        first_ready(&self.held, &self.wants, &self.queue)
+    }
+
+    /// A session that does not wait asks for a lock.
+    pub fn request(&mut self, session: u32, table: TableNo, mode: LockMode) -> Asked
+        requires session { session < length self.old.wants }
+        requires table { table.number < self.old.tables }
+        requires idle { IsIdle self.old session }
+        ensures answer { (h : History) → TableStands self.old h → IsAnswer (lock_events h) session (Lock table mode) result }
+        ensures added { (h : History) → TableStands self.old h → TableStands self.new (after session (Lock table mode) result h) }
+        ensures refused { (cycle : SessionList) → result ≡ Asked.Deadlock cycle → self.new ≡ self.old }
+        ensures waits { slice_index_or self.new.wants session None ≡ left_waiting (Lock table mode) result }
+        ensures others { OthersWait session self.old self.new }
+        ensures size { SameSize self.old self.new }
+    {
+        self.ask(session, Wanted::Lock { table, mode })
+    }
+
+    /// A session that does not wait asks to go on when other sessions have given something up.
+    pub fn wait_on(&mut self, session: u32, what: WaitOn) -> Asked
+        requires session { session < length self.old.wants }
+        requires idle { IsIdle self.old session }
+        requires others { names what session ≡ false }
+        ensures answer { (h : History) → TableStands self.old h → IsAnswer (lock_events h) session (Others what) result }
+        ensures added { (h : History) → TableStands self.old h → TableStands self.new (after session (Others what) result h) }
+        ensures refused { (cycle : SessionList) → result ≡ Asked.Deadlock cycle → self.new ≡ self.old }
+        ensures waits { slice_index_or self.new.wants session None ≡ left_waiting (Others what) result }
+        ensures others { OthersWait session self.old self.new }
+        ensures size { SameSize self.old self.new }
+    {
+        self.ask(session, Wanted::Others(what))
+    }
+
+    fn ask(&mut self, session: u32, want: Wanted) -> Asked
+        requires session { session < length self.old.wants }
+        requires idle { IsIdle self.old session }
+        requires known { IsKnown self.old.tables (Some want) }
+        ensures answer { (h : History) → TableStands self.old h → IsAnswer (lock_events h) session want result }
+        ensures added { (h : History) → TableStands self.old h → TableStands self.new (after session want result h) }
+        ensures refused { (cycle : SessionList) → result ≡ Asked.Deadlock cycle → self.new ≡ self.old }
+        ensures waits { slice_index_or self.new.wants session None ≡ left_waiting want result }
+        ensures others { OthersWait session self.old self.new }
+        ensures size { SameSize self.old self.new }
+    {
+        let behind = causes(&self.held, &self.wants, &self.queue, session, want);
+        if behind.is_empty() {
+            grant(&mut self.held, session, Some(want));
+            return Asked::Granted;
+        }
+        self.wants[session as usize] = Some(want);
+        self.queue.push(session).unwrap();
+        let rows = rows_of(&self.held, &self.wants, &self.queue);
+        match least_cycle(&rows, session) {
+            Some(cycle) => {
+                self.wants[session as usize] = None;
+                self.queue.pop();
+                Asked::Deadlock { cycle }
+            }
+            None => Asked::Waits { behind },
+        }
+    }
+
+    /// The session's wait is withdrawn.
+    pub fn withdraw(&mut self, session: u32)
+        requires { session < length self.old.wants }
+        ensures added { (h : History) → TableStands self.old h → TableStands self.new (LockChange (WaitWithdrawn session) ∷ h) }
+        ensures waits { IsIdle self.new session }
+        ensures others { OthersWait session self.old self.new }
+        ensures size { SameSize self.old self.new }
+    {
+        self.wants[session as usize] = None;
+        self.queue.retain(|y| *y != session);
+    }
+
+    /// The wait of the session that is ready is over, and it holds the lock that it waited for.
+    pub fn resume(&mut self, session: u32)
+        requires session { session < length self.old.wants }
+        requires ready { (h : History) → TableStands self.old h → ready (lock_events h) ≡ Some session }
+        ensures added { (h : History) → TableStands self.old h → TableStands self.new (LockChange (WaitResumed session) ∷ h) }
+        ensures waits { IsIdle self.new session }
+        ensures others { OthersWait session self.old self.new }
+        ensures size { SameSize self.old self.new }
+    {
+        grant(&mut self.held, session, want_of(&self.wants, session));
+        self.wants[session as usize] = None;
+        self.queue.retain(|y| *y != session);
+    }
+
+    /// The session's transaction has ended: it gives up its locks, and nobody waits for its end.
+    pub fn release_all(&mut self, session: u32)
+        requires { session < length self.old.wants }
+        ensures added { (h : History) → TableStands self.old h → TableStands self.new (LockChange (LocksGivenUp session) ∷ h) }
+        ensures waits { (s : ℕ) → slice_index_or self.new.wants s None ≡ after_end session (slice_index_or self.old.wants s None) }
+        ensures size { SameSize self.old self.new }
+    {
+        clear_held(&mut self.held, session);
+        clear_ends(&mut self.wants, session);
+    }
+
+    /// The session's snapshot has gone: nobody waits for it.
+    pub fn snapshot_gone(&mut self, session: u32)
+        requires { session < length self.old.wants }
+        ensures added { (h : History) → TableStands self.old h → TableStands self.new (LockChange (SnapshotGone session) ∷ h) }
+        ensures waits { (s : ℕ) → slice_index_or self.new.wants s None ≡ after_snapshot session (slice_index_or self.old.wants s None) }
+        ensures size { SameSize self.old self.new }
+    {
+        clear_snapshots(&mut self.wants, session);
+    }
+}
