@@ -7,8 +7,8 @@ use Rattle.std.proofs.lemmas.Nat.Bits.{bit_at-zero}
 use Rattle.pg_ids.specs.Sets.{has, empty, nobody}
 use Rattle.pg_ids.specs.declared.session_set.SessionSet.{SessionSet}
 use Rattle.pg_ids.proofs.Bits.{nobody_is, somebody_is, nobody_none, has_below}
-use Rattle.lock_table.specs.Graph.{edge, leads}
-use Rattle.lock_table.proofs.Ways.{IsShortest, IsFreeOfCycles, IsLeastNext, IsLeastWay}
+use Rattle.lock_table.specs.Graph.{edge, leads, IsShortest}
+use Rattle.lock_table.proofs.Ways.{IsFreeOfCycles, IsLeastNext, IsLeastWay}
 
 pub no_edge : (g : List SessionSet) (x y : ℕ) → length g ≤ x → edge g x y ≡ false
 no_edge g x y le = grind (arith, common_steps, elements, nat_tests, bit_at-zero y)

@@ -1,5 +1,11 @@
 pub mod Chains
+pub mod Holders
+pub mod Lists
 pub mod Queues
+pub mod Readiness
+pub mod Rows
 pub mod Searches
+pub mod Tables
+pub mod Told
 pub mod Walks
 pub mod Ways

@@ -9,9 +9,9 @@ use Rattle.pg_ids.specs.Numbers.{AreBelow65}
 use Rattle.pg_ids.specs.Sets.{has, empty}
 use Rattle.pg_ids.specs.declared.session_set.SessionSet.{SessionSet}
 use Rattle.pg_ids.proofs.Distinct.{distinct-none, distinct-behind, below-behind, room_behind}
-use Rattle.lock_table.specs.Graph.{edge, leads}
+use Rattle.lock_table.specs.Graph.{edge, leads, IsShortest}
 use Rattle.lock_table.proofs.Chains.{leads_below, near_more, only_more, not_more}
-use Rattle.lock_table.proofs.Ways.{IsShortest, IsSearched}
+use Rattle.lock_table.proofs.Ways.{IsSearched}
 
 pub searched_first : (g : List SessionSet) (s : ℕ) (level reached : SessionSet) (levels : List SessionSet) → length levels ≡ 65 → ((x : ℕ) → has level x ≡ (x == s)) → ((x : ℕ) → has reached x ≡ false) → IsSearched g s 0 level reached levels
 searched_first g s level reached levels len is none = record {

@@ -1,15 +1,16 @@
 -- A way along the shortest cycle, session by session.
-use Rattle.std.proofs.Common.{◌≡◌, ◌≢◌, ℕ, zero, suc, ◌+◌, ◌-◌, ◌<◌, ◌≤◌, ◌==◌, ◌&&◌, ◌||◌, Bool, true, false, List, [], ◌∷◌, ◌++◌, length, nat_lt, nat_eq, inl, inr, refl, sym, ap, ◌∙◌, subst, arith, append_assoc}
+use Rattle.std.proofs.Common.{◌≡◌, ◌≢◌, ℕ, zero, suc, ◌+◌, ◌-◌, ◌<◌, ◌≤◌, ◌==◌, ◌&&◌, ◌||◌, Bool, true, false, List, [], ◌∷◌, ◌++◌, length, nat_lt, nat_eq, slice_index_or, inl, inr, refl, sym, ap, ◌∙◌, subst, arith, append_assoc}
 use Rattle.std.specs.List.{list_any}
 use Rattle.std.proofs.lemmas.Grind.{common_steps}
 use Rattle.std.proofs.lemmas.Bool.{cases_lt, cases_Bool, cases_eq}
 use Rattle.std.proofs.lemmas.Bool.Decides.{nat_tests}
 use Rattle.std.proofs.lemmas.List.Folds.{list_any-append}
 use Rattle.pg_ids.specs.declared.session_set.SessionSet.{SessionSet}
+use Rattle.pg_ids.specs.Sets.{has, empty}
 use Rattle.history.specs.Waits.{IsChain, IsCycle, IsLeastCycle, precedes}
-use Rattle.lock_table.specs.Graph.{edge, leads}
+use Rattle.lock_table.specs.Graph.{edge, leads, IsShortest, AreLevels}
 use Rattle.lock_table.proofs.Chains.{chain, first_wait, leads_below, leads_more, way_more, way_none}
-use Rattle.lock_table.proofs.Ways.{IsShortest, IsFreeOfCycles, IsLeastNext, IsLeastWay, IsBegun}
+use Rattle.lock_table.proofs.Ways.{IsFreeOfCycles, IsLeastNext, IsLeastWay, IsBegun}
 
 in_one : (z s : ℕ) → list_any (nat_eq z) (s ∷ []) ≡ true → z ≡ s
 in_one z s t = grind (arith, common_steps, nat_tests)
@@ -86,7 +87,8 @@ pub chain_leads : (g : List SessionSet) (s x : ℕ) (ys : List ℕ) → length g
 chain_leads g s x [] few low c = chain g s 0 x s c (grind (arith, common_steps, nat_tests)) (omega arith)
 chain_leads g s x (y ∷ ys) few low c =
     let rest = chain_leads g s y ys few low c.1 in
-    chain g s (length ys + 1) x y c.0 rest (omega (arith, leads_below g s (length ys) y few rest))
+    let n : length ys + 1 + 1 ≡ length (y ∷ ys) + 1 = omega arith in
+    subst (λ j. leads g s j x ≡ true) n (chain g s (length ys + 1) x y c.0 rest (omega (arith, leads_below g s (length ys) y few rest)))
 
 least_of : (g : List SessionSet) (s k x : ℕ) (tail other : List ℕ) → length g ≤ 65 → s < 65 → IsLeastWay g s (suc k) x (tail ++ s ∷ []) → IsChain (edge g) s x other → length other ≡ k → precedes other tail ≡ false
 least_of g s k x tail [] few low w c e = refl
@@ -151,3 +153,21 @@ begun_last g s count left at list e few low short b =
 
 pub no_cycle_of : (g : List SessionSet) (s : ℕ) → length g ≤ 65 → s < 65 → IsFreeOfCycles g s → (cycle : List ℕ) → IsCycle (edge g) s cycle → ⊥
 no_cycle_of g s few low free cycle c = let f = free (length cycle) (cycle_some g s cycle c) in let t = cycle_leads g s cycle few low c in cc
+
+-- who is in the next level, and is the least there
+pub level_on : (g : List SessionSet) (s count left y : ℕ) (levels : List SessionSet) (set : SessionSet) → AreLevels g s levels count → set ≡ slice_index_or levels (left - 1) empty → 0 < left → left ≤ count → has set y ≡ leads g s (left - 1 + 1) y
+level_on g s count left y levels set each is pos le = ap (λ l. has l y) is ∙ each (left - 1) y (omega arith)
+
+pub level_least : (g : List SessionSet) (s count left at z : ℕ) (levels : List SessionSet) (set : SessionSet) → AreLevels g s levels count → set ≡ slice_index_or levels (left - 1) empty → 0 < left → left ≤ count
+    → (edge g at z && has set z) ≡ false → (edge g at z && leads g s (left - 1 + 1) z) ≡ false
+level_least g s count left at z levels set each is pos le f = ap (λ b. edge g at z && b) (sym (level_on g s count left z levels set each is pos le)) ∙ f
+
+-- some session is next
+pub level_none : (g : List SessionSet) (s count left at : ℕ) (levels : List SessionSet) (set : SessionSet) → AreLevels g s levels count → set ≡ slice_index_or levels (left - 1) empty → 0 < left → left ≤ count
+    → leads g s (left + 1) at ≡ true → ((z : ℕ) → (edge g at z && has set z) ≡ false) → ⊥
+level_none g s count left at levels set each is pos le on none =
+    let n : left ≡ left - 1 + 1 = omega arith in
+    let f = first_wait g s left at on in
+    let in_set : has set f.0 ≡ true = level_on g s count left f.0 levels set each is pos le ∙ subst (λ j. leads g s j f.0 ≡ true) n f.3 in
+    let t : (edge g at f.0 && has set f.0) ≡ true = rw (f.2, in_set) refl in
+    let u = none f.0 in cc

@@ -4,13 +4,7 @@ use Rattle.std.specs.List.{list_any, IsDistinct}
 use Rattle.pg_ids.specs.Numbers.{AreBelow65}
 use Rattle.pg_ids.specs.Sets.{has, empty}
 use Rattle.pg_ids.specs.declared.session_set.SessionSet.{SessionSet}
-use Rattle.lock_table.specs.Graph.{edge, leads}
-
--- the shortest cycle through s has k waits
-pub record IsShortest (g : List SessionSet) (s k : ℕ) : Type 0 where
-  pub some : 0 < k
-  pub closed : leads g s k s ≡ true
-  pub least : (i : ℕ) → 0 < i → i < k → leads g s i s ≡ false
+use Rattle.lock_table.specs.Graph.{edge, leads, AreLevels}
 
 -- no cycle goes through s
 abbrev pub IsFreeOfCycles : List SessionSet → ℕ → Type 0
@@ -44,7 +38,7 @@ pub record IsSearched (g : List SessionSet) (s k : ℕ) (level reached : Session
   pub len : length levels ≡ 65
   pub room : k ≤ 65
   pub is : (x : ℕ) → has level x ≡ leads g s k x
-  pub each : (i x : ℕ) → i < k → has (slice_index_or levels i empty) x ≡ leads g s (i + 1) x
+  pub each : AreLevels g s levels k
   pub near : (i x : ℕ) → 0 < i → i ≤ k → leads g s i x ≡ true → has reached x ≡ true
   pub only : (x : ℕ) → has reached x ≡ true → (i : ℕ) × (0 < i) × (i ≤ k) × (leads g s i x ≡ true)
   pub not_yet : (i : ℕ) → 0 < i → i ≤ k → leads g s i s ≡ false

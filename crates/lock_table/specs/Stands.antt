@@ -1,5 +1,5 @@
 -- When a lock table stands for what happened.
-use Rattle.std.specs.Prelude.{◌≡◌, ◌≢◌, ℕ, ◌*◌, ◌≤◌, ◌<◌, List, Option, Some, None, length, slice_index_or, is_some, nat_eq, Bool}
+use Rattle.std.specs.Prelude.{◌≡◌, ◌≢◌, ℕ, ◌+◌, ◌*◌, ◌≤◌, ◌<◌, List, [], ◌∷◌, ◌++◌, Option, Some, None, length, slice_index_or, slice_set, is_some, nat_eq, Bool}
 use Rattle.std.specs.List.{list_any, AllPairs}
 use Rattle.pg_ids.specs.Sets.{has}
 use Rattle.pg_ids.specs.declared.ids.TableNo.{TableNo}
@@ -9,7 +9,7 @@ use Rattle.history.specs.declared.wait.WaitOn.{WaitOn}
 use Rattle.history.specs.declared.wait.WaitOn.TheVariants.{Ends, Snapshots}
 use Rattle.history.specs.declared.wait.Wanted.{Wanted}
 use Rattle.history.specs.declared.wait.Wanted.TheVariants.{Lock, Others}
-use Rattle.history.specs.Locks.{LockEvents, holds, wanted, queue}
+use Rattle.history.specs.Locks.{LockEvents, holds, wanted, queue, removed}
 use Rattle.history.specs.LocksSound.{AreLocksSound}
 use Rattle.history.specs.History.{History, lock_events}
 use Rattle.lock_table.specs.Kept.{KeptLocks, held_at}
@@ -32,6 +32,10 @@ TableStands kept h = StandsFor kept (lock_events h)
 abbrev pub IsKnown : ℕ → Option Wanted → Type 0
 IsKnown n w = (table : TableNo) (m : LockMode) → w ≡ Some (Lock table m) → table.number < n
 
+-- there is a place for the lock that is waited for
+abbrev pub IsPlaced : ℕ → Option Wanted → Type 0
+IsPlaced n w = (table : TableNo) (m : LockMode) → w ≡ Some (Lock table m) → 8 * table.number + 7 < n
+
 -- what is always so of a lock table: there is a place for each mode of each table, and each who waits is
 -- queued once
 pub record IsKept (kept : KeptLocks) : Type 0 where
@@ -43,6 +47,14 @@ pub record IsKept (kept : KeptLocks) : Type 0 where
 
 abbrev pub kept_of : ℕ → List SessionSet → List (Option Wanted) → List ℕ → KeptLocks
 kept_of tables held wants waiting = record { tables = tables; held = held; wants = wants; queue = waiting }
+
+-- what is kept after the session's wait began
+abbrev pub waiting : KeptLocks → ℕ → Wanted → KeptLocks
+waiting k s w = kept_of k.tables k.held (slice_set k.wants s (Some w)) (k.queue ++ s ∷ [])
+
+-- and after it was over
+abbrev pub over : KeptLocks → ℕ → KeptLocks
+over k s = kept_of k.tables k.held (slice_set k.wants s None) (removed s k.queue)
 
 -- the session is among those that are waited for
 abbrev pub names : WaitOn → ℕ → Bool

@@ -1,16 +1,17 @@
-ghost use Rattle.std.specs.Prelude.{◌≡◌, ℕ, ◌+◌, ◌*◌, ◌≤◌, ◌<◌, ◌==◌, ◌&&◌, ◌||◌, true, List, Option, None, IfSome, length, slice_index_or, nat_eq};
+ghost use Rattle.std.specs.Prelude.{◌≡◌, ℕ, ◌+◌, ◌*◌, ◌≤◌, ◌<◌, ◌==◌, ◌&&◌, ◌||◌, true, List, Option, Some, None, IfSome, length, slice_index_or, nat_eq};
 ghost use Rattle.std.specs.List.{list_any};
 ghost use Rattle.pg_ids.specs.Modes.{rank};
-ghost use Rattle.pg_ids.specs.Sets.{has};
+ghost use Rattle.pg_ids.specs.Sets.{has, empty};
 ghost use Rattle.pg_ids.specs.declared.session_set.SessionSet.{SessionSet};
 ghost use Rattle.history.specs.declared.wait.Wanted.{Wanted};
-ghost use Rattle.history.specs.Locks.{LockEvents, wanted, holds_one_of};
+ghost use Rattle.history.specs.declared.wait.Wanted.TheVariants.{Lock};
+ghost use Rattle.history.specs.Locks.{LockEvents, wanted, holds_one_of, holds_against};
 ghost use Rattle.history.specs.Waits.{wants_against, stands_against, is_cause, waits_for, ready};
 ghost use Rattle.lock_table.specs.Kept.{held_at};
 ghost use Rattle.lock_table.specs.Stands.{Tells};
 
 use history::{WaitOn, Wanted};
-use pg_ids::{LockMode, SessionSet};
+use pg_ids::{LockMode, SessionSet, TableNo};
 
 // The place of those who hold the mode on the table.
 pub(crate) fn place(table: u32, mode: LockMode) -> usize
@@ -19,14 +20,21 @@ pub(crate) fn place(table: u32, mode: LockMode) -> usize
     8 * table as usize + mode.rank()
 }
 
-// Who holds the mode on the table.
-pub(crate) fn set_at(held: &[SessionSet], table: u32, mode: LockMode) -> SessionSet
-    ensures { result ≡ held_at held.now table mode }
+// The set at the place, and past the end the empty one.
+pub(crate) fn nth_set(sets: &[SessionSet], place: usize) -> SessionSet
+    ensures { result ≡ slice_index_or sets.now place empty }
 {
-    match held.get(place(table, mode)) {
+    match sets.get(place) {
         Some(set) => *set,
         None => SessionSet::empty(),
     }
+}
+
+// Who holds the mode on the table.
+fn set_at(held: &[SessionSet], table: u32, mode: LockMode) -> SessionSet
+    ensures { result ≡ held_at held.now table mode }
+{
+    nth_set(held, place(table, mode))
 }
 
 // Who holds one of the modes on the table.
@@ -41,6 +49,14 @@ pub(crate) fn holding(held: &[SessionSet], table: u32, modes: &[LockMode]) -> Se
     found
 }
 
+// Who holds a mode on the table that conflicts with this one.
+fn against(held: &[SessionSet], table: u32, mode: LockMode) -> SessionSet
+    ensures { (h : LockEvents) (ws : List (Option Wanted)) (q : List ℕ) → Tells held.now ws q h →
+        (y : ℕ) → has result y ≡ holds_against h y table mode }
+{
+    holding(held, table, mode.conflicting())
+}
+
 // What the session waits for.
 pub(crate) fn want_of(waits: &[Option<Wanted>], session: u32) -> Option<Wanted>
     ensures { result ≡ slice_index_or waits.now session None }
@@ -49,6 +65,22 @@ pub(crate) fn want_of(waits: &[Option<Wanted>], session: u32) -> Option<Wanted>
         Some(want) => *want,
         None => None,
     }
+}
+
+// Whether a wait for a mode on some table stands before the request of x.
+fn is_first(
+    held: &[SessionSet],
+    x: u32,
+    table: u32,
+    mode: LockMode,
+    other: TableNo,
+    waited: LockMode,
+) -> bool
+    ensures { (h : LockEvents) (ws : List (Option Wanted)) (q : List ℕ) → Tells held.now ws q h →
+        result ≡ wants_against h x table mode (Some (Lock other waited)) }
+{
+    other.number == table
+        && (waited.conflicts(mode) && !against(held, table, waited).has(x))
 }
 
 // Whether the wait stands before the request of x for the mode.
@@ -66,11 +98,7 @@ fn is_against(
         Some(Wanted::Lock {
             table: other,
             mode: waited,
-        }) => {
-            other.number == table
-                && waited.conflicts(mode)
-                && !holding(held, table, waited.conflicting()).has(x)
-        }
+        }) => is_first(held, x, table, mode, other, waited),
         Some(Wanted::Others(_)) => false,
         None => false,
     }
@@ -129,7 +157,7 @@ fn standing(
     requires few { length waits.now ≤ 65 }
     ensures { (h : LockEvents) → Tells held.now waits.now queue.now h → (y : ℕ) → has result y ≡ stands_against h x table mode y }
 {
-    let mut found = holding(held, table, mode.conflicting());
+    let mut found = against(held, table, mode);
     for y in queue {
         if *y == x {
             return found.without(x);

@@ -4,7 +4,7 @@ ghost use Rattle.pg_ids.specs.Sets.{has};
 ghost use Rattle.pg_ids.specs.declared.lock_mode.LockMode.{LockMode as Mode};
 ghost use Rattle.history.specs.Locks.{is_lock, after_end, after_snapshot};
 ghost use Rattle.lock_table.specs.Kept.{held_at};
-ghost use Rattle.lock_table.specs.Stands.{IsKnown};
+ghost use Rattle.lock_table.specs.Stands.{IsPlaced};
 
 use crate::causes::place;
 use history::{WaitOn, Wanted};
@@ -24,10 +24,8 @@ pub(crate) fn put(held: &mut Vec<SessionSet>, session: u32, table: u32, mode: Lo
 
 // The session gets the lock that it waited for.
 pub(crate) fn grant(held: &mut Vec<SessionSet>, session: u32, want: Option<Wanted>)
-    ghost tables: { ℕ }
     requires session { session < 128 }
-    requires places { length held.old.items ≡ 8 * tables }
-    requires known { IsKnown tables want }
+    requires known { IsPlaced (length held.old.items) want }
     ensures holds { (s t : ℕ) (m : Mode) → has (held_at held.new.items t m) s
         ≡ (((session == s) && is_lock t m want) || has (held_at held.old.items t m) s) }
     ensures len { length held.new.items ≡ length held.old.items }

@@ -1,14 +1,21 @@
-ghost use Rattle.std.specs.Prelude.{◌≡◌, ℕ, ◌≤◌, ◌<◌, ◌==◌, ◌&&◌, ◌||◌, not, Bool, true, false, List, IfSome, None, length};
+ghost use Rattle.std.specs.Prelude.{◌≡◌, ℕ, ◌+◌, ◌≤◌, ◌<◌, ◌==◌, ◌&&◌, ◌||◌, not, Bool, true, false, List, IfSome, None, length};
 ghost use Rattle.pg_ids.specs.Lists.{listed};
 ghost use Rattle.pg_ids.specs.Sets.{has, nobody};
 ghost use Rattle.history.specs.Locks.{LockEvents};
 ghost use Rattle.history.specs.Waits.{waits_for, IsCycle, IsLeastCycle};
-ghost use Rattle.lock_table.specs.Graph.{edge, leads};
+ghost use Rattle.lock_table.specs.Graph.{edge, leads, IsShortest, AreLevels};
 ghost use Rattle.lock_table.specs.Stands.{Tells};
 
-use crate::causes::wait_causes;
+use crate::causes::{nth_set, wait_causes};
 use history::Wanted;
 use pg_ids::{SessionList, SessionSet};
+
+// A set for each session, with nobody in it.
+fn no_sets() -> [SessionSet; 65]
+    ensures { length result ≡ 65 }
+{
+    [SessionSet::empty(); 65]
+}
 
 // Row x has those for whom x waits.
 pub(crate) fn rows_of(held: &[SessionSet], waits: &[Option<Wanted>], queue: &[u32]) -> [SessionSet; 65]
@@ -16,7 +23,7 @@ pub(crate) fn rows_of(held: &[SessionSet], waits: &[Option<Wanted>], queue: &[u3
     ensures is { (h : LockEvents) → Tells held.now waits.now queue.now h → (x y : ℕ) → edge result x y ≡ waits_for h x y }
     ensures len { length result ≡ 65 }
 {
-    let mut rows = [SessionSet::empty(); 65];
+    let mut rows = no_sets();
     for x in 0..65u32 {
         rows[x as usize] = wait_causes(held, waits, queue, x);
     }
@@ -26,10 +33,7 @@ pub(crate) fn rows_of(held: &[SessionSet], waits: &[Option<Wanted>], queue: &[u3
 fn row_of(rows: &[SessionSet], x: u32) -> SessionSet
     ensures { (y : ℕ) → has result y ≡ edge rows.now x y }
 {
-    match rows.get(x as usize) {
-        Some(row) => *row,
-        None => SessionSet::empty(),
-    }
+    nth_set(rows, x as usize)
 }
 
 // With x where it waits for somebody in the set.
@@ -66,14 +70,20 @@ fn least_next(rows: &[SessionSet], x: u32, set: SessionSet) -> Option<u32>
 }
 
 // The cycle from s on, where so many levels of sessions, each one wait further from s, lead back to it.
-fn walk(rows: &[SessionSet], s: u32, levels: &[SessionSet; 65], count: usize) -> SessionList
+fn walk(rows: &[SessionSet], s: u32, levels: &[SessionSet], count: usize) -> SessionList
+    requires few { length rows.now ≤ 65 }
+    requires s { s < 65 }
+    requires count { count ≤ length levels.now }
+    requires each { AreLevels rows.now s levels.now count }
+    requires shortest { IsShortest rows.now s (count + 1) }
+    ensures { IsLeastCycle (edge rows.now) s (listed result) }
 {
     let mut list = SessionList::empty().with(s);
     let mut at = s;
     let mut left = count;
     while left > 0 {
         left -= 1;
-        match least_next(rows, at, levels[left]) {
+        match least_next(rows, at, nth_set(levels, left)) {
             Some(y) => {
                 list = list.with(y);
                 at = y;
@@ -91,7 +101,7 @@ pub(crate) fn least_cycle(rows: &[SessionSet], s: u32) -> Option<SessionList>
     ensures found { IfSome result (λ cycle. IsLeastCycle (edge rows.now) s (listed cycle)) }
     ensures none { result ≡ None → (cycle : List ℕ) → IsCycle (edge rows.now) s cycle → ⊥ }
 {
-    let mut levels = [SessionSet::empty(); 65];
+    let mut levels = no_sets();
     let mut count = 0;
     let mut reached = SessionSet::empty();
     let mut level = SessionSet::empty().with(s);

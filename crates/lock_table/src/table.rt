@@ -1,14 +1,18 @@
-ghost use Rattle.std.specs.Prelude.{◌≡◌, ◌≢◌, ℕ, ◌≤◌, ◌<◌, false, [], ◌∷◌, Some, None, IfOk, IfSome, length, slice_index_or};
+ghost use Rattle.std.specs.Prelude.{◌≡◌, ◌≢◌, ℕ, ◌≤◌, ◌<◌, ◌==◌, ◌&&◌, ◌||◌, false, List, [], ◌∷◌, Some, None, IfOk, IfSome, length, slice_index_or, nat_eq};
+ghost use Rattle.std.specs.List.{list_any};
+ghost use Rattle.pg_ids.specs.Lists.{listed};
 ghost use Rattle.pg_ids.specs.Sets.{has};
 ghost use Rattle.history.specs.declared.wait.Wanted.TheVariants.{Lock, Others};
-ghost use Rattle.history.specs.Locks.{LocksGivenUp, SnapshotGone, WaitResumed, WaitWithdrawn, wanted, holds, holds_any, after_end, after_snapshot};
-ghost use Rattle.history.specs.Waits.{ready};
+ghost use Rattle.pg_ids.specs.declared.lock_mode.LockMode.{LockMode as Mode};
+ghost use Rattle.history.specs.Locks.{LockEvents, LocksGivenUp, SnapshotGone, WaitResumed, WaitWithdrawn, wanted, is_lock, holds_any, after_end, after_snapshot};
+ghost use Rattle.history.specs.Waits.{is_cause, waits_for, ready, IsCycle, IsLeastCycle};
 ghost use Rattle.history.specs.History.{History, LockChange, lock_events};
+ghost use Rattle.lock_table.specs.Kept.{held_at};
 ghost use Rattle.lock_table.specs.Answers.{IsAnswer, after, left_waiting};
-ghost use Rattle.lock_table.specs.Stands.{TableStands, SameSize, IsIdle, OthersWait, IsKnown, names};
+ghost use Rattle.lock_table.specs.Stands.{TableStands, Tells, SameSize, IsIdle, OthersWait, IsKnown, names, kept_of, waiting, over};
 
 use crate::causes::{causes, first_ready, holding, want_of};
-use crate::changes::{clear_ends, clear_held, clear_snapshots, grant, put};
+use crate::changes::{clear_ends, clear_held, clear_snapshots, grant};
 use crate::cycle::{least_cycle, rows_of};
 use crate::Asked;
 use history::{WaitOn, Wanted};
@@ -72,6 +76,7 @@ impl LockTable {
     pub fn wanted(&self, session: u32) -> Option<Wanted>
         ensures is { (h : History) → TableStands self.now h → result ≡ wanted (lock_events h) session }
         ensures kept { result ≡ slice_index_or self.now.wants session None }
+        ensures known { IsKnown self.now.tables result }
     {
         want_of(&self.wants, session)
     }
@@ -133,22 +138,68 @@ impl LockTable {
         ensures others { OthersWait session self.old self.new }
         ensures size { SameSize self.old self.new }
     {
-        let behind = causes(&self.held, &self.wants, &self.queue, session, want);
+        let behind = self.causes_of(session, want);
         if behind.is_empty() {
-            grant(&mut self.held, session, Some(want));
+            self.give(session, Some(want));
             return Asked::Granted;
         }
-        self.wants[session as usize] = Some(want);
-        self.queue.push(session).unwrap();
-        let rows = rows_of(&self.held, &self.wants, &self.queue);
-        match least_cycle(&rows, session) {
+        self.begin_wait(session, want);
+        match self.cycle_through(session) {
             Some(cycle) => {
-                self.wants[session as usize] = None;
-                self.queue.pop();
+                self.end_wait(session);
                 Asked::Deadlock { cycle }
             }
             None => Asked::Waits { behind },
         }
+    }
+
+    fn causes_of(&self, session: u32, want: Wanted) -> SessionSet
+        requires { session < length self.now.wants }
+        ensures { (h : LockEvents) → Tells self.now.held self.now.wants self.now.queue h → (y : ℕ) → has result y ≡ is_cause h session want y }
+    {
+        causes(&self.held, &self.wants, &self.queue, session, want)
+    }
+
+    // The least cycle through the session, which waits.
+    fn cycle_through(&self, session: u32) -> Option<SessionList>
+        requires { session < length self.now.wants }
+        ensures found { IfSome result (λ cycle. (h : LockEvents) → Tells self.now.held self.now.wants self.now.queue h → IsLeastCycle (waits_for h) session (listed cycle)) }
+        ensures none { result ≡ None → (h : LockEvents) → Tells self.now.held self.now.wants self.now.queue h → (cycle : List ℕ) → IsCycle (waits_for h) session cycle → ⊥ }
+    {
+        let rows = rows_of(&self.held, &self.wants, &self.queue);
+        least_cycle(&rows, session)
+    }
+
+    // The session gets the lock that it wants, if it wants one.
+    fn give(&mut self, session: u32, want: Option<Wanted>)
+        requires session { session < length self.old.wants }
+        requires known { IsKnown self.old.tables want }
+        ensures holds { (s t : ℕ) (m : Mode) → has (held_at self.new.held t m) s
+            ≡ (((session == s) && is_lock t m want) || has (held_at self.old.held t m) s) }
+        ensures same { self.new ≡ kept_of self.old.tables self.new.held self.old.wants self.old.queue }
+        ensures low { session < 65 }
+    {
+        grant(&mut self.held, session, want);
+    }
+
+    fn begin_wait(&mut self, session: u32, want: Wanted)
+        requires session { session < length self.old.wants }
+        requires idle { IsIdle self.old session }
+        requires known { IsKnown self.old.tables (Some want) }
+        ensures kept { self.new ≡ waiting self.old session want }
+        ensures new { list_any (nat_eq session) self.old.queue ≡ false }
+        ensures low { session < 65 }
+    {
+        self.wants[session as usize] = Some(want);
+        self.queue.push(session).unwrap();
+    }
+
+    fn end_wait(&mut self, session: u32)
+        requires { session < length self.old.wants }
+        ensures { self.new ≡ over self.old session }
+    {
+        self.wants[session as usize] = None;
+        self.queue.retain(|y| *y != session);
     }
 
     /// The session's wait is withdrawn.
@@ -159,8 +210,7 @@ impl LockTable {
         ensures others { OthersWait session self.old self.new }
         ensures size { SameSize self.old self.new }
     {
-        self.wants[session as usize] = None;
-        self.queue.retain(|y| *y != session);
+        self.end_wait(session);
     }
 
     /// The wait of the session that is ready is over, and it holds the lock that it waited for.
@@ -172,9 +222,9 @@ impl LockTable {
         ensures others { OthersWait session self.old self.new }
         ensures size { SameSize self.old self.new }
     {
-        grant(&mut self.held, session, want_of(&self.wants, session));
-        self.wants[session as usize] = None;
-        self.queue.retain(|y| *y != session);
+        let want = self.wanted(session);
+        self.give(session, want);
+        self.end_wait(session);
     }
 
     /// The session's transaction has ended: it gives up its locks, and nobody waits for its end.

@@ -1,0 +1,182 @@
+#!/usr/bin/env python3
+"""Locks and waits, straight from their definitions, and schedules for the lock table to be compared with.
+
+A history is the list of all events so far. Who holds what, who waits for what and who is ready are
+looked up in that list, event by event, as `crates/history/specs/Locks.antt` and `Waits.antt` define
+them; the cycle is picked from all cycles. Nothing here is kept from one question to the next.
+
+    checks/locks/model.py FOLDER     writes FOLDER/stdin, the schedules, and FOLDER/stdout, the answers
+"""
+import os
+import random
+import sys
+
+MODES = ["AS", "RS", "RE", "SUE", "S", "SRE", "E", "AE"]
+CONFLICTS = {
+    "AS": ["AE"],
+    "RS": ["E", "AE"],
+    "RE": ["S", "SRE", "E", "AE"],
+    "SUE": ["SUE", "S", "SRE", "E", "AE"],
+    "S": ["RE", "SUE", "SRE", "E", "AE"],
+    "SRE": ["RE", "SUE", "S", "SRE", "E", "AE"],
+    "E": ["RS", "RE", "SUE", "S", "SRE", "E", "AE"],
+    "AE": MODES,
+}
+SCHEDULES, STEPS, SESSIONS, TABLES = 3200, 18, 6, 4
+
+
+def wanted(history, x):
+    """What x waits for, and whom of those it waits for has gone since."""
+    want, gone = None, set()
+    for event in history:
+        if event[0] in ("began", "resumed", "withdrawn") and event[1] == x:
+            want, gone = (event[2] if event[0] == "began" else None), set()
+        elif want and (event[0], want[0]) in (("given up", "ends"), ("gone", "snapshots")):
+            gone.add(event[1])
+    if want and want[0] != "lock":
+        return (want[0], want[1] - gone)
+    return want
+
+
+def holds(history, x, table, mode):
+    held = False
+    for at, event in enumerate(history):
+        if event[1] != x:
+            continue
+        if event[0] == "got":
+            held = held or event[2:] == (table, mode)
+        elif event[0] == "given up":
+            held = False
+        elif event[0] == "resumed":
+            held = held or wanted(history[:at], x) == ("lock", table, mode)
+    return held
+
+
+def queue(history):
+    waiting = []
+    for event in history:
+        if event[0] == "began":
+            waiting.append(event[1])
+        elif event[0] in ("resumed", "withdrawn"):
+            waiting = [x for x in waiting if x != event[1]]
+    return waiting
+
+
+def holds_against(history, x, table, mode):
+    return any(holds(history, x, table, other) for other in CONFLICTS[mode])
+
+
+def is_cause(history, x, want, y):
+    """Whether y is a cause that x has to wait for what it wants."""
+    if want[0] != "lock":
+        return y in want[1]
+    _, table, mode = want
+    if holds(history, x, table, mode) or y == x:
+        return False
+    if holds_against(history, y, table, mode):
+        return True
+    waiting = queue(history)
+    earlier = waiting[: waiting.index(x)] if x in waiting else waiting
+    other = wanted(history, y)
+    return (
+        y in earlier
+        and other[0] == "lock"
+        and other[1] == table
+        and other[2] in CONFLICTS[mode]
+        and not holds_against(history, x, table, other[2])
+    )
+
+
+def waits_for(history, x, y):
+    want = wanted(history, x)
+    return want is not None and is_cause(history, x, want, y)
+
+
+def ready(history):
+    for x in queue(history):
+        if not any(waits_for(history, x, y) for y in range(SESSIONS)):
+            return x
+    return None
+
+
+def cycles(edges, path):
+    """All cycles that go on from the path and come back to its first session, none of them twice through one."""
+    for y in sorted(edges[path[-1]]):
+        if y == path[0]:
+            yield path
+        elif y not in path:
+            yield from cycles(edges, path + [y])
+
+
+def ask(history, x, want):
+    """The answer, its event or none, and how many shortest cycles there are."""
+    behind = {y for y in range(SESSIONS) if is_cause(history, x, want, y)}
+    if not behind:
+        event = ("got", x, want[1], want[2]) if want[0] == "lock" else None
+        return "g", event, 0
+    after = history + [("began", x, want)]
+    edges = [{y for y in range(SESSIONS) if waits_for(after, z, y)} for z in range(SESSIONS)]
+    found = list(cycles(edges, [x]))
+    if found:
+        told = min(found, key=lambda cycle: (len(cycle), cycle))
+        several = sum(len(cycle) == len(told) for cycle in found)
+        return "d" + "".join(map(str, told)), None, several
+    return "w" + "".join(map(str, sorted(behind))), after[-1], 0
+
+
+def schedule(rng):
+    """A line of steps, the line of their answers, and the numbers of shortest cycles that were met."""
+    history, steps, answers, met = [], [], [], []
+    tables = rng.randint(1, TABLES)
+    modes = rng.choice([MODES, MODES, MODES[:4], MODES[3:], ["AS", "AE"], ["RE", "S", "AE"]])
+    while len(steps) < STEPS:
+        kind = rng.choices("restnxcg", weights=[60, 5, 5, 0, 12, 8, 5, 5])[0]
+        x = rng.randrange(SESSIONS)
+        idle = wanted(history, x) is None
+        answer, event = "", None
+        if kind in "res" and idle:
+            if kind == "r":
+                table, mode = rng.randrange(tables), rng.choice(modes)
+                step = f"r{x}{table}{MODES.index(mode)}"
+                want = ("lock", table, mode)
+            else:
+                others = {y for y in range(SESSIONS) if y != x and rng.random() < 0.3}
+                step = kind + str(x) + "".join(map(str, sorted(others))) + "."
+                want = ("ends" if kind == "e" else "snapshots", others)
+            answer, event, several = ask(history, x, want)
+            if several:
+                met.append(several)
+        elif kind == "n":
+            step = "n"
+            first = ready(history)
+            answer = "-" if first is None else str(first)
+            event = None if first is None else ("resumed", first)
+        elif kind in "xcg":
+            step = kind + str(x)
+            event = ({"x": "given up", "c": "withdrawn", "g": "gone"}[kind], x)
+        else:
+            continue
+        steps.append(step)
+        if event:
+            history.append(event)
+        if answer:
+            answers.append(answer)
+    for table in range(TABLES):
+        holders = [x for x in range(SESSIONS) if any(holds(history, x, table, mode) for mode in MODES)]
+        answers.append("h" + "".join(map(str, holders)))
+    return "".join(steps), " ".join(answers), met
+
+
+def main():
+    folder = sys.argv[1]
+    rng = random.Random(16)
+    lines = [schedule(rng) for _ in range(SCHEDULES)]
+    for name, part in (("stdin", 0), ("stdout", 1)):
+        with open(os.path.join(folder, name), "w", encoding="ascii") as out:
+            out.write("".join(line[part] + "\n" for line in lines))
+    met = [several for line in lines for several in line[2]]
+    print(f"{SCHEDULES} schedules, {sum(bool(line[2]) for line in lines)} with a cycle, {len(met)} cycles,", end=" ")
+    print(f"{sum(several > 1 for several in met)} of them one of several shortest")
+
+
+main()
