@@ -22,7 +22,7 @@ CONFLICTS = {
     "E": ["RS", "RE", "SUE", "S", "SRE", "E", "AE"],
     "AE": MODES,
 }
-SCHEDULES, STEPS, SESSIONS, TABLES = 3200, 18, 6, 4
+SCHEDULES, STEPS, SESSIONS, TABLES = 3000, 18, 6, 4
 
 
 def wanted(history, x):

@@ -83,8 +83,28 @@ fn is_first(
         && (waited.conflicts(mode) && !against(held, table, waited).has(x))
 }
 
-// Whether the wait stands before the request of x for the mode.
+// Whether a wait stands before the request of x for the mode.
 fn is_against(
+    held: &[SessionSet],
+    x: u32,
+    table: u32,
+    mode: LockMode,
+    want: Wanted,
+) -> bool
+    ensures { (h : LockEvents) (ws : List (Option Wanted)) (q : List ℕ) → Tells held.now ws q h →
+        result ≡ wants_against h x table mode (Some want) }
+{
+    match want {
+        Wanted::Lock {
+            table: other,
+            mode: waited,
+        } => is_first(held, x, table, mode, other, waited),
+        Wanted::Others(_) => false,
+    }
+}
+
+// The same of a session that may wait.
+fn is_any_against(
     held: &[SessionSet],
     x: u32,
     table: u32,
@@ -95,11 +115,7 @@ fn is_against(
         result ≡ wants_against h x table mode want }
 {
     match want {
-        Some(Wanted::Lock {
-            table: other,
-            mode: waited,
-        }) => is_first(held, x, table, mode, other, waited),
-        Some(Wanted::Others(_)) => false,
+        Some(want) => is_against(held, x, table, mode, want),
         None => false,
     }
 }
@@ -118,7 +134,7 @@ fn stands_before(
     ensures known { result ≡ true → y < length waits.now }
 {
     match waits.get(y as usize) {
-        Some(want) => is_against(held, x, table, mode, *want),
+        Some(want) => is_any_against(held, x, table, mode, *want),
         None => false,
     }
 }

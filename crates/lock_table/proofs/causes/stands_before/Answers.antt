@@ -7,4 +7,4 @@ use Rattle.lock_table.proofs.causes.stands_before.Goals as goal
 pub returns-in-Some-clause-is : goal.returns-in-Some-clause-is
 returns-in-Some-clause-is c h q st =
     let w : c.in-Some.want.now ≡ wanted h c.args.y = grind (arith, common_steps, elements, st.wants c.args.y) in
-    c.is_against.ensures h c.args.waits.now q st ∙ ap (wants_against h c.args.x c.args.table c.args.mode) w
+    c.is_any_against.ensures h c.args.waits.now q st ∙ ap (wants_against h c.args.x c.args.table c.args.mode) w
