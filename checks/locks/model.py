@@ -8,7 +8,6 @@ them; the cycle is picked from all cycles. Nothing here is kept from one questio
     checks/locks/model.py FOLDER     writes FOLDER/stdin, the schedules, and FOLDER/stdout, the answers
 """
 import os
-import random
 import sys
 
 MODES = ["AS", "RS", "RE", "SUE", "S", "SRE", "E", "AE"]
@@ -23,6 +22,22 @@ CONFLICTS = {
     "AE": MODES,
 }
 SCHEDULES, STEPS, SESSIONS, TABLES = 3000, 18, 6, 4
+# How often each kind of step is drawn, in a hundred.
+KINDS = "r" * 60 + "e" * 5 + "s" * 5 + "n" * 12 + "x" * 8 + "c" * 5 + "g" * 5
+
+
+class Numbers:
+    """A fixed row of numbers, the same on every machine."""
+
+    def __init__(self):
+        self.state = 16
+
+    def below(self, count):
+        self.state = (self.state * 6364136223846793005 + 1442695040888963407) % 2**64
+        return (self.state >> 33) % count
+
+    def of(self, choices):
+        return choices[self.below(len(choices))]
 
 
 def wanted(history, x):
@@ -124,23 +139,23 @@ def ask(history, x, want):
     return "w" + "".join(map(str, sorted(behind))), after[-1], 0
 
 
-def schedule(rng):
+def schedule(numbers):
     """A line of steps, the line of their answers, and the numbers of shortest cycles that were met."""
     history, steps, answers, met = [], [], [], []
-    tables = rng.randint(1, TABLES)
-    modes = rng.choice([MODES, MODES, MODES[:4], MODES[3:], ["AS", "AE"], ["RE", "S", "AE"]])
+    tables = 1 + numbers.below(TABLES)
+    modes = numbers.of([MODES, MODES, MODES[:4], MODES[3:], ["AS", "AE"], ["RE", "S", "AE"]])
     while len(steps) < STEPS:
-        kind = rng.choices("restnxcg", weights=[60, 5, 5, 0, 12, 8, 5, 5])[0]
-        x = rng.randrange(SESSIONS)
+        kind = numbers.of(KINDS)
+        x = numbers.below(SESSIONS)
         idle = wanted(history, x) is None
         answer, event = "", None
         if kind in "res" and idle:
             if kind == "r":
-                table, mode = rng.randrange(tables), rng.choice(modes)
+                table, mode = numbers.below(tables), numbers.of(modes)
                 step = f"r{x}{table}{MODES.index(mode)}"
                 want = ("lock", table, mode)
             else:
-                others = {y for y in range(SESSIONS) if y != x and rng.random() < 0.3}
+                others = {y for y in range(SESSIONS) if y != x and numbers.below(10) < 3}
                 step = kind + str(x) + "".join(map(str, sorted(others))) + "."
                 want = ("ends" if kind == "e" else "snapshots", others)
             answer, event, several = ask(history, x, want)
@@ -169,8 +184,8 @@ def schedule(rng):
 
 def main():
     folder = sys.argv[1]
-    rng = random.Random(16)
-    lines = [schedule(rng) for _ in range(SCHEDULES)]
+    numbers = Numbers()
+    lines = [schedule(numbers) for _ in range(SCHEDULES)]
     for name, part in (("stdin", 0), ("stdout", 1)):
         with open(os.path.join(folder, name), "w", encoding="ascii") as out:
             out.write("".join(line[part] + "\n" for line in lines))

@@ -20,6 +20,7 @@ const SESSIONS: u32 = 6;
 const TABLES: u32 = 4;
 
 // A step, as far as it was read.
+#[derive(Clone, Copy)]
 struct Step {
     kind: u8,
     digits: [u32; 8],

@@ -69,17 +69,17 @@ before_removed (z ∷ zs) s x y here t = elim (cases_eq s z) [
         | inr apart ↦ grind (arith, common_steps, nat_tests, rest)
       ]
   | inr stays ↦ elim (cases_eq z x) [
-      | inl same ↦ absurd (grind (arith, common_steps, nat_tests, t))
-      | inr apart ↦
-          let here' : list_any (nat_eq x) (removed s zs) ≡ true = grind (arith, common_steps, nat_tests, here) in
-          elim (cases_eq y z) [
-            | inl first ↦ grind (arith, common_steps, nat_tests)
-            | inr later ↦
-                let t' : list_any (nat_eq y) (before x (removed s zs)) ≡ true = grind (arith, common_steps, nat_tests, t) in
-                let rest = before_removed zs s x y here' t' in
-                grind (arith, common_steps, nat_tests, rest)
-          ]
-    ]
+    | inl same ↦ absurd (grind (arith, common_steps, nat_tests, t))
+    | inr apart ↦
+        let here' : list_any (nat_eq x) (removed s zs) ≡ true = grind (arith, common_steps, nat_tests, here) in
+        elim (cases_eq y z) [
+          | inl first ↦ grind (arith, common_steps, nat_tests)
+          | inr later ↦
+              let t' : list_any (nat_eq y) (before x (removed s zs)) ≡ true = grind (arith, common_steps, nat_tests, t) in
+              let rest = before_removed zs s x y here' t' in
+              grind (arith, common_steps, nat_tests, rest)
+        ]
+  ]
 ]
 
 pub keeps_place : (e : LockEvent) (h : LockEvents) (x y : ℕ) → list_any (nat_eq x) (queue h) ≡ true → list_any (nat_eq x) (queue (e ∷ h)) ≡ true → list_any (nat_eq y) (before x (queue (e ∷ h))) ≡ true → list_any (nat_eq y) (before x (queue h)) ≡ true

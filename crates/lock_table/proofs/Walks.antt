@@ -50,10 +50,10 @@ begun_more g s count old left at y list new e few short b wait on least is =
       within = let w = b.within in omega arith;
       on = on;
       reach = λ d i sum h.
-        let w = b.within in
-        let r = b.reach (d - 1) (i + 1) (omega arith) (chain g s i at y wait h low) in
-        let n : d - 1 + (i + 1) ≡ d + i = omega arith in
-        subst (λ j. leads g s j s ≡ true) n r;
+          let w = b.within in
+          let r = b.reach (d - 1) (i + 1) (omega arith) (chain g s i at y wait h low) in
+          let n : d - 1 + (i + 1) ≡ d + i = omega arith in
+          subst (λ j. leads g s j s ≡ true) n r;
       apart = λ z i t pos lt. elim (cases_Bool (list_any (nat_eq z) list)) [
         | inl here ↦ b.apart z i here pos (omega arith)
         | inr not_here ↦
@@ -100,11 +100,11 @@ least_of g s (suc k) x (y ∷ ys) (o ∷ os) few low w c e =
     elim (cases_lt o y) [
       | inl lt ↦ absurd (let f = w.0.least o lt in let t : (edge g x o && leads g s (suc k) o) ≡ true = rw (c.0, on) refl in cc)
       | inr ge ↦ elim (cases_eq o y) [
-          | inl same ↦
-              let rest = least_of g s k y ys os few low w.1 (subst (λ z. IsChain (edge g) s z os) same c.1) (omega arith) in
-              grind (arith, common_steps, nat_tests, rest)
-          | inr apart ↦ grind (arith, common_steps, nat_tests)
-        ]
+        | inl same ↦
+            let rest = least_of g s k y ys os few low w.1 (subst (λ z. IsChain (edge g) s z os) same c.1) (omega arith) in
+            grind (arith, common_steps, nat_tests, rest)
+        | inr apart ↦ grind (arith, common_steps, nat_tests)
+      ]
     ]
 
 cycle_leads : (g : List SessionSet) (s : ℕ) (other : List ℕ) → length g ≤ 65 → s < 65 → IsCycle (edge g) s other → leads g s (length other) s ≡ true

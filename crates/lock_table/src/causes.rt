@@ -79,18 +79,11 @@ fn is_first(
     ensures { (h : LockEvents) (ws : List (Option Wanted)) (q : List ℕ) → Tells held.now ws q h →
         result ≡ wants_against h x table mode (Some (Lock other waited)) }
 {
-    other.number == table
-        && (waited.conflicts(mode) && !against(held, table, waited).has(x))
+    other.number == table && (waited.conflicts(mode) && !against(held, table, waited).has(x))
 }
 
 // Whether a wait stands before the request of x for the mode.
-fn is_against(
-    held: &[SessionSet],
-    x: u32,
-    table: u32,
-    mode: LockMode,
-    want: Wanted,
-) -> bool
+fn is_against(held: &[SessionSet], x: u32, table: u32, mode: LockMode, want: Wanted) -> bool
     ensures { (h : LockEvents) (ws : List (Option Wanted)) (q : List ℕ) → Tells held.now ws q h →
         result ≡ wants_against h x table mode (Some want) }
 {

@@ -18,7 +18,11 @@ fn no_sets() -> [SessionSet; 65]
 }
 
 // Row x has those for whom x waits.
-pub(crate) fn rows_of(held: &[SessionSet], waits: &[Option<Wanted>], queue: &[u32]) -> [SessionSet; 65]
+pub(crate) fn rows_of(
+    held: &[SessionSet],
+    waits: &[Option<Wanted>],
+    queue: &[u32],
+) -> [SessionSet; 65]
     requires { length waits.now ≤ 65 }
     ensures is { (h : LockEvents) → Tells held.now waits.now queue.now h → (x y : ℕ) → edge result x y ≡ waits_for h x y }
     ensures len { length result ≡ 65 }

@@ -11,10 +11,10 @@ ghost use Rattle.lock_table.specs.Kept.{held_at};
 ghost use Rattle.lock_table.specs.Answers.{IsAnswer, after, left_waiting};
 ghost use Rattle.lock_table.specs.Stands.{TableStands, Tells, SameSize, IsIdle, OthersWait, IsKnown, names, kept_of, waiting, over};
 
+use crate::Asked;
 use crate::causes::{causes, first_ready, holding, want_of};
 use crate::changes::{clear_ends, clear_held, clear_snapshots, grant};
 use crate::cycle::{least_cycle, rows_of};
-use crate::Asked;
 use history::{WaitOn, Wanted};
 use pg_ids::{LockMode, SessionList, SessionSet, TableNo};
 use pg_values::NoMemory;
