@@ -31,7 +31,7 @@ pub(crate) fn nth_set(sets: &[SessionSet], place: usize) -> SessionSet
 }
 
 // Who holds the mode on the table.
-fn set_at(held: &[SessionSet], table: u32, mode: LockMode) -> SessionSet
+pub(crate) fn set_at(held: &[SessionSet], table: u32, mode: LockMode) -> SessionSet
     ensures { result ≡ held_at held.now table mode }
 {
     nth_set(held, place(table, mode))

@@ -4,7 +4,7 @@ ghost use Rattle.pg_ids.specs.Lists.{listed};
 ghost use Rattle.pg_ids.specs.Sets.{has};
 ghost use Rattle.history.specs.declared.wait.Wanted.TheVariants.{Lock, Others};
 ghost use Rattle.pg_ids.specs.declared.lock_mode.LockMode.{LockMode as Mode};
-ghost use Rattle.history.specs.Locks.{LockEvents, LocksGivenUp, SnapshotGone, WaitResumed, WaitWithdrawn, wanted, is_lock, holds_any, after_end, after_snapshot};
+ghost use Rattle.history.specs.Locks.{LockEvents, LocksGivenUp, SnapshotGone, WaitResumed, WaitWithdrawn, wanted, is_lock, holds, holds_any, after_end, after_snapshot};
 ghost use Rattle.history.specs.Waits.{is_cause, waits_for, ready, IsCycle, IsLeastCycle};
 ghost use Rattle.history.specs.History.{History, LockChange, lock_events};
 ghost use Rattle.lock_table.specs.Kept.{held_at};
@@ -12,7 +12,7 @@ ghost use Rattle.lock_table.specs.Answers.{IsAnswer, after, left_waiting};
 ghost use Rattle.lock_table.specs.Stands.{TableStands, Tells, SameSize, IsIdle, OthersWait, IsKnown, names, kept_of, waiting, over};
 
 use crate::Asked;
-use crate::causes::{causes, first_ready, holding, want_of};
+use crate::causes::{causes, first_ready, holding, set_at, want_of};
 use crate::changes::{clear_ends, clear_held, clear_snapshots, grant};
 use crate::cycle::{least_cycle, rows_of};
 use history::{WaitOn, Wanted};
@@ -88,6 +88,14 @@ impl LockTable {
         holding(&self.held, table.number, LockMode::every())
     }
 
+    /// Whether the session holds the mode on the table.
+    pub fn holds(&self, session: u32, table: TableNo, mode: LockMode) -> bool
+        ensures is { (h : History) → TableStands self.now h → result ≡ holds (lock_events h) session table.number mode }
+        ensures kept { result ≡ has (held_at self.now.held table.number mode) session }
+    {
+        set_at(&self.held, table.number, mode).has(session)
+    }
+
     /// The oldest wait whose causes have gone.
     pub fn ready(&self) -> Option<u32>
         ensures is { (h : History) → TableStands self.now h → result ≡ ready (lock_events h) }
@@ -97,7 +105,8 @@ impl LockTable {
         first_ready(&self.held, &self.wants, &self.queue)
     }
 
-    /// A session that does not wait asks for a lock.
+    /// A session that does not wait asks for a lock. It looks at the sets of that table and once at the
+    /// queue; only where it has to wait, a cycle is looked for, in some steps for each two sessions.
     pub fn request(&mut self, session: u32, table: TableNo, mode: LockMode) -> Asked
         requires session { session < length self.old.wants }
         requires table { table.number < self.old.tables }
