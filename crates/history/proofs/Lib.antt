@@ -1,5 +1,6 @@
 pub mod Open
 pub mod Settled
 pub mod Stays
+pub mod Stamps
 pub mod Undone
 pub mod Views

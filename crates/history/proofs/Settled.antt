@@ -35,7 +35,7 @@ none_stays old new (LeafAdded l ∷ rows) k stay none = none_stays old new rows 
 none_stays old new (RowBorn v ∷ rows) k stay none = none_stays old new rows k stay none
 none_stays old new (RowEnded id e ∷ rows) k stay none = grind (arith, common_steps, none_stays old new rows k stay, stay e.by.number)
 
-aborts_before : (e : TxEvent) (old new : TxEvents) → AbortsStay (e ∷ old) new → AbortsStay old new
+pub aborts_before : (e : TxEvent) (old new : TxEvents) → AbortsStay (e ∷ old) new → AbortsStay old new
 aborts_before (TxBegan s t) old new stay = stay
 aborts_before (TxCommitted s t) old new stay = stay
 aborts_before (TxAborted s t) old new stay = λ x h. grind (arith, common_steps, stay x)

@@ -7,6 +7,7 @@ use Rattle.history.specs.declared.version.End.{End}
 use Rattle.history.specs.declared.version.Ending.{Ending}
 use Rattle.history.specs.Transactions.{TxEvent, TxEvents, fate, open_of}
 use Rattle.history.specs.Snapshots.{SnapshotEvent, SnapshotEvents, TakenSnapshot, sees, held_by}
+use Rattle.history.specs.Catalogue.{CatalogueEvent, CatalogueEvents}
 use Rattle.history.specs.Rows.{RowEvent, RowEvents, births, end_in}
 use Rattle.history.specs.Locks.{LockEvent, LockEvents}
 
@@ -16,6 +17,7 @@ pub data Event : Type 0 where
   SnapshotChange : SnapshotEvent → Event
   RowChange : RowEvent → Event
   LockChange : LockEvent → Event
+  CatalogueChange : CatalogueEvent → Event
 
 abbrev pub History : Type 0
 History = List Event
@@ -39,6 +41,11 @@ abbrev pub lock_events : History → LockEvents
 lock_events [] = []
 lock_events (LockChange e ∷ h) = e ∷ lock_events h
 lock_events (_ ∷ h) = lock_events h
+
+abbrev pub catalogue_events : History → CatalogueEvents
+catalogue_events [] = []
+catalogue_events (CatalogueChange e ∷ h) = e ∷ catalogue_events h
+catalogue_events (_ ∷ h) = catalogue_events h
 
 -- all versions, in order of birth
 abbrev pub versions : History → List Version

@@ -3,9 +3,11 @@ use Rattle.std.specs.Prelude.{◌≡◌, ℕ, ◌<◌, ◌≤◌, [], ◌∷◌,
 use Rattle.history.specs.Transactions.{TxEvents, open_of, IsSound}
 use Rattle.history.specs.Snapshots.{TakenSnapshot, SnapshotEvent, SnapshotHeld, SnapshotDropped, held_by}
 use Rattle.history.specs.Rows.{RowEvents, LeafAdded, RowBorn, RowEnded}
-use Rattle.history.specs.History.{Event, History, TxChange, SnapshotChange, RowChange, LockChange, tx_events, snapshot_events, row_events, lock_events}
+use Rattle.history.specs.History.{Event, History, TxChange, SnapshotChange, RowChange, LockChange, CatalogueChange, tx_events, snapshot_events, row_events, lock_events}
 use Rattle.history.specs.RowsSound.{IsRowSound}
 use Rattle.history.specs.LocksSound.{IsLockSound}
+use Rattle.history.specs.Catalogue.{catalogue_command}
+use Rattle.history.specs.Places.{IsCatalogueSound}
 
 -- a session holds a snapshot that is taken now, or one of the transaction and the place of the one that it
 -- holds
@@ -36,12 +38,14 @@ May (TxChange e) h = IsSound (e ∷ tx_events h)
 May (SnapshotChange e) h = MayHold e h
 May (RowChange e) h = IsRowSound e h
 May (LockChange e) h = IsLockSound e (lock_events h)
+May (CatalogueChange e) h = IsCatalogueSound e h
 
 -- the transaction and the number of the command that the event names
 abbrev pub command_of : Event → Option (ℕ × ℕ)
 command_of (SnapshotChange (SnapshotHeld r s)) = Some (s.tx, s.cmd)
 command_of (RowChange (RowBorn v)) = Some (v.by.number, v.cmd)
 command_of (RowChange (RowEnded k e)) = Some (e.by.number, e.cmd)
+command_of (CatalogueChange e) = catalogue_command e
 command_of _ = None
 
 -- the one command is not of the other's transaction, or has no greater number

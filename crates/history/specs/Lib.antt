@@ -1,8 +1,11 @@
+pub mod Catalogue
 pub mod History
 pub mod Laws
 pub mod Legal
 pub mod Locks
 pub mod LocksSound
+pub mod Places
+pub mod Presence
 pub mod Rows
 pub mod RowsSound
 pub mod Snapshots

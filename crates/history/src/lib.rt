@@ -11,11 +11,13 @@
 //! constructor of `Event` for each; another kind of event changes no definition of the others.
 #![tactic(auto)]
 
+mod catalogue;
 mod laws;
 mod transaction;
 mod version;
 mod wait;
 
+pub use catalogue::{Check, Column, Columns, Entry, EntryId, KeptCheck, Stamp, Table, TableShape};
 pub use laws::{
     abort_undoes, alike_see_alike, committed_stays_seen, held_was_taken, others_change_nothing,
     seen_before_its_end,

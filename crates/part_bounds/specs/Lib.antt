@@ -7,6 +7,7 @@ pub mod Laws
 pub mod Levels
 pub mod Listed
 pub mod Moduli
+pub mod Ordered
 pub mod Points
 pub mod RawBounds
 pub mod Within

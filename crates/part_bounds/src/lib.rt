@@ -26,6 +26,7 @@ mod laws;
 mod level;
 mod listed;
 mod moduli;
+mod ordered;
 mod partition_bound;
 mod point;
 mod raw_bound;
@@ -49,6 +50,7 @@ pub use laws::{
     rows_give_keys, within_accepts,
 };
 pub use level::{KeyColumn, KeyColumns, Level, Strategy};
+pub use ordered::{comes_after, set_in_order};
 pub use partition_bound::{Bound, MOST_MODULUS, copy_bound, range_bound};
 pub use point::{Edge, Point};
 pub use raw_bound::{RawBound, RawEdge, RawEdges, RawValue, RawValues};

@@ -1,0 +1,4 @@
+use Rattle.part_bounds.proofs.ordered.set_in_order.Goals as goal
+
+pub invariant_of-result : goal.invariant_of-result
+invariant_of-result g c = (λ k d lt. c.requires.of_kind k d lt c.args.kind, c.requires.ordered)
