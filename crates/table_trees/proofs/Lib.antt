@@ -1,0 +1,5 @@
+pub mod Keys
+pub mod Levels
+pub mod OneLeaf
+pub mod Order
+pub mod Seen

@@ -1,0 +1,5 @@
+pub mod Histories
+pub mod Laws
+pub mod Seen
+pub mod Siblings
+pub mod Trees
