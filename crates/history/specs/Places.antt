@@ -1,10 +1,9 @@
 -- Which event of the catalogue may come after a history (the manual, CREATE TABLE, and ALTER TABLE, ATTACH PARTITION).
 use Rattle.std.specs.Prelude.{◌≡◌, ℕ, ◌<◌, true, List, [], ◌∷◌, Some, None, All, length, map, slice_get, slice_index_or}
 use Rattle.std.specs.List.{AllZip}
-use Rattle.part_bounds.specs.declared.level.Level.{Level as OneLevel}
 use Rattle.part_bounds.specs.declared.level.KeyColumn.{KeyColumn}
 use Rattle.part_bounds.specs.declared.partition_bound.Bound.{Bound}
-use Rattle.part_bounds.specs.Levels.{IsBoundAt}
+use Rattle.part_bounds.specs.Levels.{IsOfLevel}
 use Rattle.history.specs.declared.catalogue.Column.{Column}
 use Rattle.history.specs.declared.catalogue.TableShape.{TableShape}
 use Rattle.history.specs.declared.catalogue.TableShape.TheVariants.{Leaf, Level}
@@ -29,9 +28,6 @@ KeysLieIn columns (Leaf leaf) = Unit {0}
 KeysLieIn columns (Level level) = All (LiesIn columns) level.columns
 
 -- the bound is such as a check gives for the level
-abbrev pub IsOfLevel : OneLevel → Bound → Type 0
-IsOfLevel level b = IsBoundAt level.strategy level.columns b
-
 abbrev pub TakesBound : TableShape → Bound → Type 0
 TakesBound (Leaf leaf) b = ⊥
 TakesBound (Level level) b = IsOfLevel level b

@@ -8,10 +8,10 @@ use Rattle.part_bounds.specs.declared.partition_bound.Bound.{Bound}
 use Rattle.part_bounds.specs.declared.level.Level.{Level}
 use Rattle.part_bounds.specs.Points.{picked}
 use Rattle.part_bounds.specs.Bounds.{IsInPlainOrder}
-use Rattle.part_bounds.specs.Levels.{IsOf}
+use Rattle.part_bounds.specs.Levels.{IsOf, IsOfLevel}
 use Rattle.part_bounds.specs.Accepts.{accepts_among, FitsSet}
 use Rattle.history.specs.declared.catalogue.Column.{Column}
-use Rattle.history.specs.Places.{IsOfLevel, LiesIn}
+use Rattle.history.specs.Places.{LiesIn}
 use Rattle.table_trees.specs.declared.node.Node.{Node}
 use Rattle.table_trees.specs.declared.tree.NoPartition.{NoPartition}
 

@@ -10,6 +10,7 @@
 //! of events gives a session is defined in `specs/Histories.antt`.
 #![tactic(auto)]
 
+mod height;
 mod laws;
 mod leaves;
 mod level_key;
@@ -17,7 +18,8 @@ mod node;
 mod path_part;
 mod tree;
 
-pub use laws::one_leaf;
+pub use height::height_up_to;
+pub use laws::{one_leaf, rows_fit};
 pub use leaves::push_leaves;
 pub use level_key::{LevelKey, copy_level};
 pub use node::Node;
