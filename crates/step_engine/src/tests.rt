@@ -90,220 +90,53 @@ fn no_fault(most: usize) -> Around<'static>
     }
 }
 
-/// The text with one piece of it changed; an empty text where the piece is not there.
-fn changed(alloc: Global, text: &str, old: &str, new: &str) -> Result<String, NoMemory> {
-    let Some((before, behind)) = text.split_once(old) else {
-        return Ok(String::new(alloc));
-    };
-    Ok(format!(in alloc; "{before}{new}{behind}")?)
-}
-
 #[test]
 fn a_script_is_run_and_a_wrong_one_refused(rt: HostRuntime) {
     let alloc = rt.alloc();
-    for most in [1usize, 7, 100_000] {
-        let ran = call(alloc, THREE_ROWS.as_bytes(), &no_fault(most)).expect(&rt, "memory");
-        assert!(rt; ran.is(Ended::Done, PRINTED, ""));
-        let script = changed(alloc, THREE_ROWS, "FROM (10) TO (20)", "FROM (5) TO (15)").expect(
-            &rt, "memory",
-        );
-        let refused = call(alloc, script.as_bytes(), &no_fault(most)).expect(&rt, "memory");
-        assert!(rt; refused.is(Ended::ScriptRefused, "", REFUSED));
-    }
-}
-
-#[test]
-fn one_change_puts_a_script_out_of_the_form(rt: HostRuntime) {
-    let alloc = rt.alloc();
-    let changes = [
-        ("setup", ""),
-        ("setup", "Setup"),
-        ("setup", "teardown"),
-        ("setup\n{", "setup\n{}\nsetup\n{"),
-        ("setup\n{", "setup\n"),
-        ("session s1", "session"),
-        ("session s1", "session step"),
-        ("session s1", "session s1 s2"),
-        ("session s1", "session 's1'"),
-        ("step q", "step"),
-        ("step q", "step \"q"),
-        ("step q", "step r"),
-        ("step q", "step q step q"),
-        ("permutation q", "permutation"),
-        ("permutation q", "permutation r"),
-        ("permutation q", "permutation q q"),
-        ("permutation q", "permutation q(*)"),
-        ("permutation q", "permutation q permutation q"),
-        ("permutation q", "# permutation q"),
-        ("10; }", "10; "),
-        ("CREATE TABLE t", "CREATE TABEL t"),
-        ("CREATE TABLE t", "CREATE TABLE all"),
-        ("CREATE TABLE t", "CREATE TABLE p0"),
-        ("CREATE TABLE t", "CREATE TABLE \"\""),
-        ("(a int)", "(a \"int\")"),
-        ("(a int)", "(a integer)"),
-        ("(a int)", "(a int, b int)"),
-        ("RANGE (a)", "RANGE (b)"),
-        ("RANGE (a)", "LIST (a)"),
-        ("(a);", "(a)"),
-        ("p1 PARTITION", "p0 PARTITION"),
-        ("p1 PARTITION", "P0 PARTITION"),
-        ("OF t FOR", "OF u FOR"),
-        ("FROM (0)", "FROM (10)"),
-        ("FROM (0)", "FROM (11)"),
-        ("FROM (0)", "FROM (MINVALUE)"),
-        ("TO (10)", "TO (11)"),
-        ("TO (20)", "TO (2147483648)"),
-        ("INSERT INTO t", "INSERT INTO p0"),
-        ("VALUES (9)", "VALUES (-9)"),
-        ("VALUES (9)", "VALUES (9, 9)"),
-        ("(19);", "(20);"),
-        ("(19);", "(19)"),
-        ("(19);", "(19);;"),
-        ("(19);", "(19); INSERT INTO t VALUES (1);"),
-        ("INSERT", "/* INSERT"),
-        ("SELECT *", "SELECT a"),
-        ("FROM t WHERE", "FROM p0 WHERE"),
-        ("WHERE a", "WHERE b"),
-        ("a = 10", "a > 10"),
-        ("a = 10", "a = '10'"),
-        ("a = 10", "a = 1e1"),
-        ("a = 10", "a = 2147483648"),
-        ("a = 10;", "a = 10"),
-    ];
-    for (old, new) in changes {
-        let script = changed(alloc, THREE_ROWS, old, new).expect(&rt, "memory");
-        assert!(rt; !script.is_empty(), "no {old}");
-        let refused = call(alloc, script.as_bytes(), &no_fault(1000)).expect(&rt, "memory");
-        assert!(rt;
-            refused.is(Ended::ScriptRefused, "", REFUSED),
-            "{old} {new}"
-        );
-    }
-    for script in ["", "\u{feff}", "{}"] {
-        let refused = call(alloc, script.as_bytes(), &no_fault(1000)).expect(&rt, "memory");
-        assert!(rt; refused.is(Ended::ScriptRefused, "", REFUSED), "{script}");
-    }
-    let refused = call(alloc, b"setup \xff", &no_fault(1000)).expect(&rt, "memory");
+    let ran = call(alloc, THREE_ROWS.as_bytes(), &no_fault(7)).expect(&rt, "memory");
+    assert!(rt; ran.is(Ended::Done, PRINTED, ""));
+    let refused = call(alloc, b"setup {}", &no_fault(7)).expect(&rt, "memory");
     assert!(rt; refused.is(Ended::ScriptRefused, "", REFUSED));
 }
 
 #[test]
-fn other_scripts_of_the_form_are_run(rt: HostRuntime) {
-    let alloc = rt.alloc();
-    let changes = [
-        ("permutation q", "permutation \"q\" # the end"),
-        ("setup\n{", "# a comment\nsetup\r\n{ -- another\n"),
-        (
-            "CREATE TABLE t (a int)",
-            "create /* a /* b */ c */ table T (A INT)",
-        ),
-        ("p1 PARTITION", "\"P0\" PARTITION"),
-        ("FROM (0)", "FROM (000)"),
-    ];
-    for (old, new) in changes {
-        let script = changed(alloc, THREE_ROWS, old, new).expect(&rt, "memory");
-        let ran = call(alloc, script.as_bytes(), &no_fault(1000)).expect(&rt, "memory");
-        assert!(rt; ran.is(Ended::Done, PRINTED, ""), "{old} {new}");
-    }
-}
-
-#[test]
-fn each_fault_ends_the_call_with_a_prefix(rt: HostRuntime) {
-    let alloc = rt.alloc();
-    let script = THREE_ROWS.as_bytes();
-    let last = script.len().div_ceil(40) as u64;
-    for k in 0..=last {
-        let failed = call(
-            alloc,
-            script,
-            &Around {
-                read_fails: &[k],
-                ..no_fault(40)
-            },
-        )
-        .expect(&rt, "memory");
-        assert!(rt;
-            failed.is(Ended::ReadFault, "", "read failed\n"),
-            "read {k}"
-        );
-    }
-    for k in 0..PRINTED.len() as u64 {
-        let taken = &PRINTED.as_bytes()[..k as usize];
-        let failed = call(
-            alloc,
-            script,
-            &Around {
-                out_fails: &[k],
-                ..no_fault(1)
-            },
-        )
-        .expect(&rt, "memory");
-        assert!(rt;
-            failed.ended == Ended::WriteFault && failed.out.bytes() == taken,
-            "write {k}"
-        );
-        let failed = call(
-            alloc,
-            script,
-            &Around {
-                out_takes_nothing: &[k],
-                ..no_fault(1)
-            },
-        )
-        .expect(&rt, "memory");
-        assert!(rt;
-            failed.ended == Ended::WriteFault && failed.out.bytes() == taken,
-            "write {k}"
-        );
-    }
-    for k in 0..REFUSED.len() as u64 {
-        let failed = call(
-            alloc,
-            b"",
-            &Around {
-                err_fails: &[k],
-                ..no_fault(1)
-            },
-        )
-        .expect(&rt, "memory");
-        assert!(rt;
-            failed.ended == Ended::WriteFault
-                && failed.out.bytes().is_empty()
-                && failed.err.bytes() == &REFUSED.as_bytes()[..k as usize],
-            "line {k}"
-        );
-    }
-    let failed = call(
-        alloc,
-        script,
-        &Around {
-            read_fails: &[0],
-            err_fails: &[0],
-            ..no_fault(1)
-        },
-    )
-    .expect(&rt, "memory");
-    assert!(rt; failed.is(Ended::WriteFault, "", ""));
-}
-
-#[test]
-fn words_and_long_inputs_are_refused(rt: HostRuntime) {
-    let alloc = rt.alloc();
-    let usage = call(
-        alloc,
-        THREE_ROWS.as_bytes(),
-        &Around {
-            with_a_word: true,
-            ..no_fault(1)
-        },
-    )
-    .expect(&rt, "memory");
+fn a_word_is_refused(rt: HostRuntime) {
+    let mut around = no_fault(7);
+    around.with_a_word = true;
+    let usage = call(rt.alloc(), THREE_ROWS.as_bytes(), &around).expect(&rt, "memory");
     assert!(rt; usage.is(Ended::Usage, "", "usage: partscript\n"));
+}
+
+#[test]
+fn a_failed_write_ends_the_call(rt: HostRuntime) {
+    let alloc = rt.alloc();
+    let mut around = no_fault(7);
+    around.out_fails = &[5];
+    let failed = call(alloc, THREE_ROWS.as_bytes(), &around).expect(&rt, "memory");
+    assert!(rt; failed.is(Ended::WriteFault, "Parsed test spec with 1 sessions\n", ""));
+    around = no_fault(7);
+    around.out_takes_nothing = &[1];
+    let failed = call(alloc, THREE_ROWS.as_bytes(), &around).expect(&rt, "memory");
+    assert!(rt; failed.is(Ended::WriteFault, "Parsed ", ""));
+    around = no_fault(7);
+    around.err_fails = &[1];
+    let failed = call(alloc, b"", &around).expect(&rt, "memory");
+    assert!(rt; failed.is(Ended::WriteFault, "", "script "));
+}
+
+// The last read that is made is the one that brings the first byte past the limit.
+#[test]
+fn a_long_input_is_refused_and_a_failed_read_within_it(rt: HostRuntime) {
+    let alloc = rt.alloc();
     let mut long = vec![in alloc; b' '; INPUT_LIMIT].expect(&rt, "memory");
-    let refused = call(alloc, &long, &no_fault(100_000)).expect(&rt, "memory");
+    let refused = call(alloc, &long, &no_fault(4096)).expect(&rt, "memory");
     assert!(rt; refused.is(Ended::ScriptRefused, "", REFUSED));
     long.push(b' ').expect(&rt, "memory");
-    let large = call(alloc, &long, &no_fault(100_000)).expect(&rt, "memory");
+    let mut around = no_fault(4096);
+    around.read_fails = &[1025];
+    let large = call(alloc, &long, &around).expect(&rt, "memory");
     assert!(rt; large.is(Ended::TooLarge, "", "input over 4194304 bytes\n"));
+    around.read_fails = &[1024];
+    let failed = call(alloc, &long, &around).expect(&rt, "memory");
+    assert!(rt; failed.is(Ended::ReadFault, "", "read failed\n"));
 }
