@@ -53,31 +53,17 @@ fn one_column(rt: HostRuntime) -> Result<(), Fail> {
 }
 
 #[test]
-fn a_column_that_stands_left(rt: HostRuntime) -> Result<(), Fail> {
-    let got = table(rt.alloc(), &[("pg_cancel_backend", Kind::Truth)], &[&["t"]])?;
-    let want = b">pg_cancel_backend\n-----------------\nt\n(1 row)\n\n";
-    assert!(rt; got.as_slice() == want.as_slice());
-    Ok(())
-}
-
-#[test]
-fn null_in_the_last_column(rt: HostRuntime) -> Result<(), Fail> {
-    let columns = [("tableoid", Kind::Text), ("a", Kind::Int4)];
-    let got = table(rt.alloc(), &columns, &[&["d", ""]])?;
-    assert!(rt; got.as_slice() == b">tableoid|a\n--------+-\nd       |\n(1 row)\n\n".as_slice());
-    Ok(())
-}
-
-#[test]
 fn columns_of_several_kinds(rt: HostRuntime) -> Result<(), Fail> {
     let left = [
         ("größe", Kind::Int8),
         ("day", Kind::Day),
+        ("is_it", Kind::Truth),
         ("name", Kind::Text),
     ];
-    let got = table(rt.alloc(), &left, &[&["-5", "19782", "ä|é"], &["", "", ""]])?;
+    let lines: [&[&str]; 2] = [&["-5", "19782", "t", "ä|é"], &["", "", "", ""]];
+    let got = table(rt.alloc(), &left, &lines)?;
     let want =
-        ">größe|day       |name\n-----+----------+----\n   -5|2024-02-29|ä|é\n     |          |\n(2 rows)\n\n";
+        ">größe|day       |is_it|name\n-----+----------+-----+----\n   -5|2024-02-29|t    |ä|é\n     |          |     |\n(2 rows)\n\n";
     assert!(rt; got.as_slice() == want.as_bytes());
     let right = [("a", Kind::Int4), ("ä", Kind::Text), ("b", Kind::Int8)];
     let got = table(
