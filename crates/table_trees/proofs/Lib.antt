@@ -1,6 +1,9 @@
+pub mod Defaults
 pub mod Keys
 pub mod Levels
 pub mod OneLeaf
 pub mod Order
 pub mod RowsFit
 pub mod Seen
+pub mod Sound
+pub mod Suited

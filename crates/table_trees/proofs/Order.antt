@@ -207,3 +207,16 @@ part_pairs p (e ∷ es) h =
 
 pub siblings_kept : (p : Entry → Bool) (entries : List Entry) → AreSiblings entries → AreSiblings (filter p entries)
 siblings_kept p entries h = part_pairs p entries h
+
+abbrev IsBelow : ℕ → Entry → Type 0
+IsBelow t e = e.parent.number ≡ t
+
+under_filter : (t : ℕ) (es : List Entry) → All (IsBelow t) (filter (is_under t) es)
+under_filter t [] = All-nil (IsBelow t)
+under_filter t (e ∷ es) = elim (cases_Bool (is_under t e)) [
+  | inl y ↦ let is : e.parent.number ≡ t = grind (arith, nat_tests, y) in rw y (All-cons (IsBelow t) e (filter (is_under t) es) is (under_filter t es))
+  | inr n ↦ rw n (under_filter t es)
+]
+
+pub under_children : (entries : List Entry) (t : ℕ) → All (λ e. e.parent.number ≡ t) (children entries t)
+under_children entries t = all_of_all_placed (IsBelow t) [] (filter (is_under t) entries) (All-nil (IsBelow t)) (under_filter t entries)
