@@ -29,8 +29,8 @@ fn date_reads_back(day: i32)
     };
 }
 
-/// What `write_value` writes of a value that is not null is read again as that value. The call does nothing: its
-/// contract is the law.
+/// What `write_value` writes of a value that is not null is read again as that value. The call does
+/// nothing: its contract is the law.
 pub fn reads_back(v: &Value)
     requires some { v.now ≢ Null }
     requires date { IsCalendarDay v.now }
