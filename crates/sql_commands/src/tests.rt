@@ -1,4 +1,4 @@
-//! Trees and places here are worked by hand from the grammar. `sql_cases` has a longer table of texts.
+//! Trees and places here are worked by hand from the grammar. `sql_format` has a longer table of texts.
 
 use crate::{Command, no_two_commands, parse_command, whole_command};
 use grammar_rules::Refused;

@@ -1,4 +1,4 @@
-//! Answers here are worked by hand from the grammar. `sql_cases` has a long table of blocks.
+//! Answers here are worked by hand from the grammar. `sql_format` has a long table of blocks.
 
 use crate::{MOST_STATEMENTS, Statement, no_two_blocks, parse_block, refused_blocks_stop_there};
 use pg_ids::Which;

@@ -1,4 +1,4 @@
-//! Texts here are worked by hand from the grammar. `sql_cases` has a longer table of them.
+//! Texts here are worked by hand from the grammar. `sql_format` has a longer table of them.
 
 use crate::{
     no_fewer_parentheses, parses_can_be_written, quotes_are_needed, reads_back, write_expression,

@@ -6,7 +6,7 @@ use Rattle.std.specs.Str.{bytes_eq}
 use Rattle.std.proofs.lemmas.Slice.Eq.{bytes_eq-Decides}
 use Rattle.grammar_rules.specs.Reading.{one_texts, nothing_texts, both_texts, value_texts}
 use Rattle.grammar_rules.specs.Rows.{second_of}
-use Rattle.sql_tokens.specs.Contents.{name_in}
+use Rattle.sql_tokens.specs.Contents.{bytes_of, name_in}
 use Rattle.sql_tokens.specs.Words.{is, is_name}
 use Rattle.sql_tokens.specs.declared.kind.Kind.{Kind}
 use Rattle.sql_tokens.specs.declared.kind.Kind.TheVariants as kinds
@@ -21,36 +21,38 @@ use Rattle.sql_expressions.specs.declared.words.TheConstants.{MOST_NAME_BYTES}
 use Rattle.sql_lists.specs.Lists.{commas, maybe, name_word, plain_name}
 use Rattle.sql_commands.specs.Grammar as grammar
 use Rattle.sql_commands.specs.Trees.{Edge, min, max, at, Bound, range, listed, hash, other, CommandTree, begins, commits, rolls_back, sets, resets, makes_table, makes_partition, drops, attaches, detaches, locks, deallocates, deallocates_all}
-use Rattle.sql_commands.specs.declared.commands.Detachment.{Detachment}
-use Rattle.sql_commands.specs.declared.commands.Detachment.TheVariants as detachment
-use Rattle.sql_commands.specs.declared.commands.Isolation.{Isolation}
-use Rattle.sql_commands.specs.declared.commands.Isolation.TheVariants as isolation
-use Rattle.sql_commands.specs.declared.commands.LockMode.{LockMode}
-use Rattle.sql_commands.specs.declared.commands.LockMode.TheVariants as mode
-use Rattle.sql_commands.specs.declared.commands.SettingValue.{SettingValue}
-use Rattle.sql_commands.specs.declared.commands.SettingValue.TheVariants as setting
-use Rattle.sql_commands.specs.declared.commands.Strategy.{Strategy}
-use Rattle.sql_commands.specs.declared.commands.Strategy.TheVariants as strategy
+use Rattle.sql_commands.specs.declared.alter.Detachment.{Detachment}
+use Rattle.sql_commands.specs.declared.alter.Detachment.TheVariants as detachment
+use Rattle.sql_commands.specs.declared.transaction.Isolation.{Isolation}
+use Rattle.sql_commands.specs.declared.transaction.Isolation.TheVariants as isolation
+use Rattle.sql_commands.specs.declared.lock.LockMode.{LockMode}
+use Rattle.sql_commands.specs.declared.lock.LockMode.TheVariants as mode
+use Rattle.sql_commands.specs.declared.setting.SettingValue.{SettingValue}
+use Rattle.sql_commands.specs.declared.setting.SettingValue.TheVariants as setting
+use Rattle.sql_commands.specs.declared.create.Strategy.{Strategy}
+use Rattle.sql_commands.specs.declared.create.Strategy.TheVariants as strategy
 use Rattle.sql_commands.specs.declared.lists.ColumnDefinition.{ColumnDefinition}
 use Rattle.sql_commands.specs.declared.lists.LockedTable.{LockedTable}
 use Rattle.sql_commands.specs.declared.lists.Partitioning.{Partitioning}
-use Rattle.sql_written.specs.Marks.{Mark, blank}
+use Rattle.sql_written.specs.Marks.{Mark, blank, mark}
 use Rattle.sql_written.specs.Spelling as spelled
 use Rattle.sql_written.specs.Writable.{IsName, IsWritable as IsExpression}
 use Rattle.sql_written.specs.Written as written
 use Rattle.sql_written.proofs.Least.{implied}
-use Rattle.sql_written.proofs.MarksApart.{Ends}
+use Rattle.sql_written.proofs.MarkTokens.{next_append}
+use Rattle.sql_written.proofs.MarksApart.{Ends, digits_apart, digits_first}
 use Rattle.sql_written.proofs.LeafTexts.{only}
 use Rattle.sql_written.proofs.Said.{Are, token}
 use Rattle.statements_written.specs.Commands.{bound_marks, column_marks, command_marks, detachment_marks, edge_marks, edges as edges_marks, exists_marks, hash_marks, is_end, isolation_marks, level_marks, locked_marks, maybe_by, by_marks, mode_marks, null_marks, only_marks, said_mode, setting_marks, setting_word, strategy_word, value_marks}
 use Rattle.statements_written.specs.Lists.{Maybe, SomeAre, enclosed, list_of, name_marks, names, parts, values}
 use Rattle.statements_written.specs.Words.{name_unless, word}
-use Rattle.statements_written.specs.WritableCommands.{AreValues, IsBound, IsColumn, IsCommand, IsEdge, IsLocked, IsPartitioning, IsSetting}
+use Rattle.statements_written.specs.WritableCommands.{AreValues, IsBound, IsColumn, IsCommand, IsEdge, IsLocked, IsNumeral, IsPartitioning, IsSetting}
 use Rattle.statements_written.proofs.EachWord.{is_written}
 use Rattle.statements_written.proofs.Leaves.{NameToken, column_alone, column_read, name_there, number_spells, other_name_spells, plain_name_spells, string_spells, tree_read, tree_spells, unless_apart, unless_first, unless_token}
+use Rattle.statements_written.proofs.Numerals.{digits_of}
 use Rattle.statements_written.proofs.Spells.{Begins, Exactly, Spells, behind, behind_comma, behind_opening, both, closes, enclosing, ended, exactly, followed, left, listed as list_spells, missing, missing_first, none, one_of, right, spaced, valued}
 
-equal_bytes : (x y : List ℕ) → bytes_eq x y ≡ true → x ≡ y
+pub equal_bytes : (x y : List ℕ) → bytes_eq x y ≡ true → x ≡ y
 equal_bytes x y e = (bytes_eq-Decides x y).0 e
 
 either_false : (b c : Bool) → (b || c) ≡ false → (b ≡ false) × (c ≡ false)
@@ -69,7 +71,9 @@ module _ (text : List ℕ) where
   -- BEGIN
   level_spells : (l : Isolation) → Exactly Begins text grammar.level.texts (level_marks l) l
   level_spells isolation.ReadCommitted =
-      left _ (exactly isolation.ReadCommitted (valued (λ t. isolation.ReadCommitted) (behind kinds.Read refl (spaced (one_of kinds.Committed refl grammar.is_committed (λ i j. refl))))) (λ i. refl))
+      left _ (exactly isolation.ReadCommitted (behind kinds.Read refl (spaced (left _ (valued (λ t. isolation.ReadCommitted) (one_of kinds.Committed refl (a kinds.Committed) (λ i j. refl)))))) (λ i. refl))
+  level_spells isolation.ReadUncommitted =
+      left _ (exactly isolation.ReadUncommitted (behind kinds.Read refl (spaced (right _ (valued (λ t. isolation.ReadUncommitted) (one_of kinds.Uncommitted refl (a kinds.Uncommitted) (λ i j. refl)))))) (λ i. refl))
   level_spells isolation.RepeatableRead =
       right _ (exactly isolation.RepeatableRead (valued (λ t. isolation.RepeatableRead) (behind kinds.Repeatable refl (spaced (one_of kinds.Read refl (a kinds.Read) (λ i j. refl))))) (λ i. refl))
 
@@ -133,10 +137,20 @@ module _ (text : List ℕ) where
       (or_name z (codes "true") (bytes_eq z (codes "true")) kinds.True _ refl (λ i j. refl) true_said refl
       (or_name z (codes "false") (bytes_eq z (codes "false")) kinds.False _ refl (λ i j. refl) false_said refl (name_word_spells z w)))
 
+  numeral_spells : (z : List ℕ) → IsNumeral z → Exactly Begins text (grammar.setting_number text).texts (mark kinds.Number z ∷ []) (setting.Number z)
+  numeral_spells z w = record {
+    reads = λ ts h.
+        let t = token kinds.Number h.0 h.1 in
+        let said : grammar.without_zeros (bytes_of text t) ≡ z = ap grammar.without_zeros h.4 ∙ w.2 in
+        (tt, (t, (only text kinds.Number z ts h, refl), ap setting.Number (sym said)));
+    apart = λ n e. (digits_apart z n (digits_of z w) e.number, tt);
+    first = λ n e. subst (λ b. Begins b) (sym (next_append z [] n)) (digits_first z n (digits_of z w)).0;
+  }
+
   value_spells : (v : SettingValue) → IsSetting v → Exactly Begins text (grammar.setting_value text).texts (setting_marks v) v
   value_spells (setting.Word z) w = left _ (word_spells z w)
   value_spells (setting.Text z) w = right _ (left _ (exactly (setting.Text z) (valued setting.Text (string_spells text z w)) (λ i. refl)))
-  value_spells (setting.Number n) w = right _ (right _ (exactly (setting.Number n) (valued setting.Number (number_spells text n w)) (λ i. refl)))
+  value_spells (setting.Number z) w = right _ (right _ (numeral_spells z w))
 
   set_spells : (z : List ℕ) (v : SettingValue) → IsName z → IsSetting v → Exactly Begins text (grammar.set text).texts (command_marks (sets z v)) (sets z v)
   set_spells z v n w =

@@ -88,6 +88,7 @@ word_is kinds.Share h = record { start = refl; parts = refl; ascii = refl; kind 
 word_is kinds.Table h = record { start = refl; parts = refl; ascii = refl; kind = refl; self = refl }
 word_is kinds.To h = record { start = refl; parts = refl; ascii = refl; kind = refl; self = refl }
 word_is kinds.True h = record { start = refl; parts = refl; ascii = refl; kind = refl; self = refl }
+word_is kinds.Uncommitted h = record { start = refl; parts = refl; ascii = refl; kind = refl; self = refl }
 word_is kinds.Update h = record { start = refl; parts = refl; ascii = refl; kind = refl; self = refl }
 word_is kinds.Values h = record { start = refl; parts = refl; ascii = refl; kind = refl; self = refl }
 word_is kinds.Where h = record { start = refl; parts = refl; ascii = refl; kind = refl; self = refl }

@@ -11,16 +11,16 @@ use Rattle.sql_expressions.specs.declared.leaf.Leaf.TheVariants.{Number, Text, D
 use Rattle.sql_lists.specs.Lists.{commas as commas_of, plain_name}
 use Rattle.sql_commands.specs.Grammar as grammar
 use Rattle.sql_commands.specs.Trees.{Edge, min, max, at, Bound, range, other, CommandTree, begins, commits, rolls_back, sets, resets, makes_table, makes_partition, drops, attaches, detaches, locks, deallocates, deallocates_all}
-use Rattle.sql_commands.specs.declared.commands.Detachment.{Detachment}
-use Rattle.sql_commands.specs.declared.commands.Detachment.TheVariants as detachment
-use Rattle.sql_commands.specs.declared.commands.Isolation.{Isolation}
-use Rattle.sql_commands.specs.declared.commands.Isolation.TheVariants as isolation
-use Rattle.sql_commands.specs.declared.commands.LockMode.{LockMode}
-use Rattle.sql_commands.specs.declared.commands.LockMode.TheVariants as mode
-use Rattle.sql_commands.specs.declared.commands.SettingValue.{SettingValue}
-use Rattle.sql_commands.specs.declared.commands.SettingValue.TheVariants as setting
-use Rattle.sql_commands.specs.declared.commands.Strategy.{Strategy}
-use Rattle.sql_commands.specs.declared.commands.Strategy.TheVariants as strategy
+use Rattle.sql_commands.specs.declared.alter.Detachment.{Detachment}
+use Rattle.sql_commands.specs.declared.alter.Detachment.TheVariants as detachment
+use Rattle.sql_commands.specs.declared.transaction.Isolation.{Isolation}
+use Rattle.sql_commands.specs.declared.transaction.Isolation.TheVariants as isolation
+use Rattle.sql_commands.specs.declared.lock.LockMode.{LockMode}
+use Rattle.sql_commands.specs.declared.lock.LockMode.TheVariants as mode
+use Rattle.sql_commands.specs.declared.setting.SettingValue.{SettingValue}
+use Rattle.sql_commands.specs.declared.setting.SettingValue.TheVariants as setting
+use Rattle.sql_commands.specs.declared.create.Strategy.{Strategy}
+use Rattle.sql_commands.specs.declared.create.Strategy.TheVariants as strategy
 use Rattle.sql_commands.specs.declared.lists.ColumnDefinition.{ColumnDefinition}
 use Rattle.sql_commands.specs.declared.lists.LockedTable.{LockedTable}
 use Rattle.sql_commands.specs.declared.lists.Partitioning.{Partitioning}
@@ -35,13 +35,14 @@ use Rattle.statements_written.specs.Lists.{Maybe, SomeAre, enclosed as in_parent
 use Rattle.statements_written.specs.Words.{word}
 use Rattle.statements_written.specs.WritableCommands.{IsBound, IsColumn, IsCommand, IsEdge, IsLocked, IsPartitioning, IsSetting}
 use Rattle.statements_written.proofs.Gives.{Gives, anything, before, behind, behind_opening, both, commas, either, enclosed, follow, free, nothing, one, total, valued}
-use Rattle.statements_written.proofs.GivesLeaves.{expression_gives, number_gives, other_name_gives, plain_name_gives, setting_word_gives, string_gives}
+use Rattle.statements_written.proofs.GivesLeaves.{expression_gives, number_gives, other_name_gives, plain_name_gives, setting_number_gives, setting_word_gives, string_gives}
 use Rattle.statements_written.proofs.Opens.{opened_enclosed, opened_names, opened_parts, opened_unless, opened_values}
 use Rattle.statements_written.proofs.WriteParts.{list_there}
 
 -- what opens nothing
 level_free : (l : Isolation) → opened_by (level_marks l) ≡ 0
 level_free isolation.ReadCommitted = refl
+level_free isolation.ReadUncommitted = refl
 level_free isolation.RepeatableRead = refl
 
 isolation_free : (o : Option Isolation) → opened_by (isolation_marks o) ≡ 0
@@ -66,7 +67,7 @@ setting_free (setting.Word z) =
     (word_or (bytes_eq z (codes "true")) (word kinds.True) _ refl
     (word_or (bytes_eq z (codes "false")) (word kinds.False) (spelled.name z) refl (opened_name z [])))
 setting_free (setting.Text z) = refl
-setting_free (setting.Number n) = refl
+setting_free (setting.Number z) = refl
 
 strategy_free : (s : Strategy) (ms : List Mark) → opened_by (strategy_word s ∷ ms) ≡ opened_by ms
 strategy_free strategy.Range ms = omega arith
@@ -181,7 +182,7 @@ module _ (text : List ℕ) where
   value_gives : Gives text (grammar.setting_value text).texts free IsSetting
   value_gives =
       either (setting_word_gives text)
-      (either (valued setting.Text free IsSetting (λ z. omega arith) (λ z w. w) (string_gives text)) (valued setting.Number free IsSetting (λ n. omega arith) (λ n w. w) (number_gives text)))
+      (either (valued setting.Text free IsSetting (λ z. omega arith) (λ z w. w) (string_gives text)) (setting_number_gives text))
 
   set_opened : (z : List ℕ) (v : SettingValue) → command_cost (sets z v) ≡ 0
   set_opened z v = omega (arith, opened_unless is_local z (blank ∷ word kinds.To ∷ blank ∷ setting_marks v), setting_free v)

@@ -19,8 +19,8 @@ use Rattle.sql_expressions.specs.declared.words.TheConstants.{MOST_NAME_BYTES}
 use Rattle.sql_expressions.proofs.Limited.{all_of_each}
 use Rattle.sql_expressions.proofs.TextWords.{long_is_name, word_is_short}
 use Rattle.sql_lists.specs.Lists.{is_long_but, is_other_name, name_but, number, other_name, plain_name, said}
-use Rattle.sql_commands.specs.Grammar.{is_setting_word, setting_word}
-use Rattle.sql_commands.specs.declared.commands.SettingValue.TheVariants as setting
+use Rattle.sql_commands.specs.Setting.{is_setting_word, setting_number, setting_word, without_zeros}
+use Rattle.sql_commands.specs.declared.setting.SettingValue.TheVariants as setting
 use Rattle.sql_written.specs.Writable.{IsName, IsText, IsWritable as IsExpression}
 use Rattle.sql_written.specs.Written.{marks}
 use Rattle.sql_written.proofs.Costs.{opened_by, opened_marks}
@@ -32,6 +32,7 @@ use Rattle.sql_written.proofs.TokensSay.{is_spelled, Tells, token_tells}
 use Rattle.statements_written.specs.WritableCommands.{IsSetting}
 use Rattle.statements_written.proofs.Gives.{Gives, Own, free, one, valued}
 use Rattle.statements_written.proofs.Leaves.{first_of, second_of}
+use Rattle.statements_written.proofs.Numerals.{numeral}
 
 not_long : (b c : Bool) → (b && not c) ≡ false → (c ≡ true → b ≡ false) → b ≡ false
 not_long true true h g = g refl
@@ -137,6 +138,15 @@ module _ (text : List ℕ) where
   pub setting_word_gives : Gives text (setting_word text).texts free IsSetting
   setting_word_gives =
       valued (λ (t : Token). setting.Word (name_in text t)) free IsSetting (λ t. omega arith) (λ t w. either_word t (a_name t) refl w.0 w.1) (one (λ t. is_setting_word t && not (is_long_name text t)))
+
+  -- the numbers of settings
+  number_no_fault : (k : Kind) → is k kinds.Number ≡ true → is k kinds.Fault ≡ false
+  number_no_fault k h = never_both (is k kinds.Number) (is k kinds.Fault) (each_kind (λ j. not (is j kinds.Number && is j kinds.Fault)) refl k) h
+
+  pub setting_number_gives : Gives text (setting_number text).texts free IsSetting
+  setting_number_gives =
+      valued (λ (t : Token). setting.Number (without_zeros (bytes_of text t))) free IsSetting (λ t. omega arith)
+      (λ t w. numeral (bytes_of text t) ((token_tells text t w.0 (number_no_fault t.kind w.1)).says.number w.1)) (one (a kinds.Number))
 
   -- expressions
   pub expression_gives : Gives text (expression text).texts (λ (e : Tree). opened_by (marks e)) IsExpression

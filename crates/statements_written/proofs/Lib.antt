@@ -1,3 +1,4 @@
+pub mod Bare
 pub mod CommandTexts
 pub mod EachWord
 pub mod Gives
@@ -6,6 +7,7 @@ pub mod GivesCommands
 pub mod GivesLeaves
 pub mod GivesQueries
 pub mod Leaves
+pub mod Numerals
 pub mod Opens
 pub mod QueryTexts
 pub mod ReadsBack

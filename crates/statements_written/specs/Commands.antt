@@ -7,20 +7,20 @@ use Rattle.sql_tokens.specs.declared.kind.Kind.TheVariants as kinds
 use Rattle.sql_expressions.specs.Tree.{Tree, leaf}
 use Rattle.sql_expressions.specs.declared.leaf.Leaf.TheVariants.{Column}
 use Rattle.sql_commands.specs.Trees.{Edge, min, max, at, Bound, range, listed, hash, other, CommandTree, begins, commits, rolls_back, sets, resets, makes_table, makes_partition, drops, attaches, detaches, locks, deallocates, deallocates_all}
-use Rattle.sql_commands.specs.declared.commands.Detachment.{Detachment}
-use Rattle.sql_commands.specs.declared.commands.Detachment.TheVariants as detachment
-use Rattle.sql_commands.specs.declared.commands.Isolation.{Isolation}
-use Rattle.sql_commands.specs.declared.commands.Isolation.TheVariants as isolation
-use Rattle.sql_commands.specs.declared.commands.LockMode.{LockMode}
-use Rattle.sql_commands.specs.declared.commands.LockMode.TheVariants as mode
-use Rattle.sql_commands.specs.declared.commands.SettingValue.{SettingValue}
-use Rattle.sql_commands.specs.declared.commands.SettingValue.TheVariants as setting
-use Rattle.sql_commands.specs.declared.commands.Strategy.{Strategy}
-use Rattle.sql_commands.specs.declared.commands.Strategy.TheVariants as strategy
+use Rattle.sql_commands.specs.declared.alter.Detachment.{Detachment}
+use Rattle.sql_commands.specs.declared.alter.Detachment.TheVariants as detachment
+use Rattle.sql_commands.specs.declared.transaction.Isolation.{Isolation}
+use Rattle.sql_commands.specs.declared.transaction.Isolation.TheVariants as isolation
+use Rattle.sql_commands.specs.declared.lock.LockMode.{LockMode}
+use Rattle.sql_commands.specs.declared.lock.LockMode.TheVariants as mode
+use Rattle.sql_commands.specs.declared.setting.SettingValue.{SettingValue}
+use Rattle.sql_commands.specs.declared.setting.SettingValue.TheVariants as setting
+use Rattle.sql_commands.specs.declared.create.Strategy.{Strategy}
+use Rattle.sql_commands.specs.declared.create.Strategy.TheVariants as strategy
 use Rattle.sql_commands.specs.declared.lists.ColumnDefinition.{ColumnDefinition}
 use Rattle.sql_commands.specs.declared.lists.LockedTable.{LockedTable}
 use Rattle.sql_commands.specs.declared.lists.Partitioning.{Partitioning}
-use Rattle.sql_written.specs.Marks.{Mark, blank}
+use Rattle.sql_written.specs.Marks.{Mark, blank, mark}
 use Rattle.sql_written.specs.Spelling as spelled
 use Rattle.sql_written.specs.Written as written
 use Rattle.statements_written.specs.Lists.{enclosed, name_marks, names, parts, values}
@@ -29,6 +29,7 @@ use Rattle.statements_written.specs.Words.{name_unless, word}
 -- BEGIN
 abbrev pub level_marks : Isolation → List Mark
 level_marks isolation.ReadCommitted = word kinds.Read ∷ blank ∷ word kinds.Committed ∷ []
+level_marks isolation.ReadUncommitted = word kinds.Read ∷ blank ∷ word kinds.Uncommitted ∷ []
 level_marks isolation.RepeatableRead = word kinds.Repeatable ∷ blank ∷ word kinds.Read ∷ []
 
 abbrev pub isolation_marks : Option Isolation → List Mark
@@ -52,7 +53,7 @@ setting_word z =
 abbrev pub setting_marks : SettingValue → List Mark
 setting_marks (setting.Word z) = setting_word z ∷ []
 setting_marks (setting.Text z) = spelled.string z ∷ []
-setting_marks (setting.Number n) = spelled.number n ∷ []
+setting_marks (setting.Number z) = mark kinds.Number z ∷ []
 
 -- PARTITION BY
 abbrev pub strategy_word : Strategy → Mark
@@ -79,8 +80,11 @@ column_marks c = spelled.name c.name ∷ blank ∷ spelled.name c.kind ∷ null_
 abbrev pub is_end : Kind → Bool
 is_end k = is k kinds.Minvalue || is k kinds.Maxvalue
 
+abbrev pub edge_name : List ℕ → Mark
+edge_name z = name_unless is_end z
+
 abbrev pub value_marks : Tree → List Mark
-value_marks (leaf (Column z)) = name_unless is_end z ∷ []
+value_marks (leaf (Column z)) = edge_name z ∷ []
 value_marks e = written.marks e
 
 abbrev pub edge_marks : Edge → List Mark

@@ -1,3 +1,4 @@
+pub mod Bare
 pub mod Commands
 pub mod Lists
 pub mod Queries

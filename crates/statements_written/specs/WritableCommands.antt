@@ -1,10 +1,14 @@
 -- The commands that a parse can give: each name, string, number and expression can be written, and each list has a part.
-use Rattle.std.specs.Prelude.{◌≤◌}
+use Rattle.std.specs.List.{prefix_len}
+use Rattle.std.specs.Prelude.{◌≡◌, ◌<◌, ◌≤◌, ℕ, List, length}
+use Rattle.sql_tokens.specs.Bytes.{belongs}
+use Rattle.sql_tokens.specs.declared.bytes.Class.TheVariants as class
 use Rattle.sql_tokens.specs.declared.numbers.TheConstants.{NO_BIGINT}
 use Rattle.sql_expressions.specs.Tree.{Trees}
+use Rattle.sql_commands.specs.Setting.{without_zeros}
 use Rattle.sql_commands.specs.Trees.{Edge, min, max, at, Bound, range, listed, hash, other, CommandTree, begins, commits, rolls_back, sets, resets, makes_table, makes_partition, drops, attaches, detaches, locks, deallocates, deallocates_all}
-use Rattle.sql_commands.specs.declared.commands.SettingValue.{SettingValue}
-use Rattle.sql_commands.specs.declared.commands.SettingValue.TheVariants as setting
+use Rattle.sql_commands.specs.declared.setting.SettingValue.{SettingValue}
+use Rattle.sql_commands.specs.declared.setting.SettingValue.TheVariants as setting
 use Rattle.sql_commands.specs.declared.lists.ColumnDefinition.{ColumnDefinition}
 use Rattle.sql_commands.specs.declared.lists.LockedTable.{LockedTable}
 use Rattle.sql_commands.specs.declared.lists.Partitioning.{Partitioning}
@@ -14,11 +18,15 @@ use Rattle.statements_written.specs.Lists.{Maybe, SomeAre, list_of}
 abbrev pub AreValues : Trees → Type 0
 AreValues ts = SomeAre IsExpression (list_of ts)
 
+-- one digit or more, without zeros before them
+abbrev pub IsNumeral : List ℕ → Type 0
+IsNumeral z = (0 < length z) × (prefix_len (belongs class.Digit) z ≡ length z) × (without_zeros z ≡ z)
+
 -- commands
 abbrev pub IsSetting : SettingValue → Type 0
 IsSetting (setting.Word z) = IsName z
 IsSetting (setting.Text z) = IsText z
-IsSetting (setting.Number n) = n ≤ NO_BIGINT
+IsSetting (setting.Number z) = IsNumeral z
 
 abbrev pub IsPartitioning : Partitioning → Type 0
 IsPartitioning p = SomeAre IsName p.columns

@@ -17,7 +17,7 @@ use sql_commands::{
 };
 use sql_expressions::{Expr, Leaf};
 use sql_lists::NameList;
-use sql_written::{write_name, write_number, write_quoted, write_tree};
+use sql_written::{write_expression, write_name, write_number, write_quoted};
 
 fn write_isolation(level: Option<Isolation>, out: &mut Vec<u8>) -> Result<(), NoMemory>
     ensures { OnOk result (out.new.items ≡ out.old.items ++ text_of (shown.isolation_marks level)) }
@@ -26,6 +26,9 @@ fn write_isolation(level: Option<Isolation>, out: &mut Vec<u8>) -> Result<(), No
         None => {}
         Some(Isolation::ReadCommitted) => {
             out.extend_from_slice(b" ISOLATION LEVEL READ COMMITTED")?;
+        }
+        Some(Isolation::ReadUncommitted) => {
+            out.extend_from_slice(b" ISOLATION LEVEL READ UNCOMMITTED")?;
         }
         Some(Isolation::RepeatableRead) => {
             out.extend_from_slice(b" ISOLATION LEVEL REPEATABLE READ")?;
@@ -59,7 +62,10 @@ fn write_setting(value: &SettingValue, out: &mut Vec<u8>) -> Result<(), NoMemory
     match value {
         SettingValue::Word(word) => write_setting_word(word.as_bytes(), out),
         SettingValue::Text(text) => write_quoted(b'\'', text.as_bytes(), out),
-        SettingValue::Number(n) => write_number(*n, out),
+        SettingValue::Number(digits) => {
+            out.extend_from_slice(digits.as_bytes())?;
+            Ok(())
+        }
     }
 }
 
@@ -131,7 +137,7 @@ fn write_value(value: &Expr, out: &mut Vec<u8>) -> Result<(), NoMemory>
     if let Expr::Leaf(Leaf::Column(name)) = value {
         return write_edge_name(name.as_bytes(), out);
     }
-    write_tree(value, out)
+    write_expression(*out.allocator(), value, out)
 }
 
 struct EachEdge;

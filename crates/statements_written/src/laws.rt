@@ -1,20 +1,26 @@
 ghost use Rattle.grammar_rules.specs.Parses.{IsOnly};
 ghost use Rattle.sql_expressions.specs.declared.refused.ParseRefused.{ParseRefused as OneRefusal};
 ghost use Rattle.sql_expressions.specs.declared.refused.ParseRefused.TheVariants as refusals;
-ghost use Rattle.sql_expressions.specs.Words.{a, a_name};
+ghost use Rattle.sql_commands.specs.Grammar as grammar;
+ghost use Rattle.sql_commands.specs.Trees.{at};
+ghost use Rattle.sql_commands.specs.declared.setting.SettingValue.TheVariants.{Word};
+ghost use Rattle.sql_expressions.specs.Tree.{leaf};
+ghost use Rattle.sql_expressions.specs.declared.leaf.Leaf.TheVariants.{Column};
+ghost use Rattle.sql_lists.specs.Lists.{other_name, plain_name};
 ghost use Rattle.sql_syntax.specs.Block.{ParsesBlock};
 ghost use Rattle.sql_syntax.specs.Grammar.{block};
 ghost use Rattle.sql_syntax.specs.Trees.{StatementTree, statement_tree};
 ghost use Rattle.sql_syntax.specs.declared.statement.Statement.{Statement as OneStatement};
-ghost use Rattle.sql_tokens.specs.Contents.{name_in};
 ghost use Rattle.sql_tokens.specs.Tokens.{tokens_of};
-ghost use Rattle.sql_tokens.specs.declared.kind.Kind.{Kind as OneKind};
-ghost use Rattle.sql_tokens.specs.declared.kind.Kind.TheVariants.{QuotedName};
+ghost use Rattle.sql_tokens.specs.declared.kind.Kind.TheVariants.{Local, Transaction};
 ghost use Rattle.sql_tokens.specs.declared.token.Token.{Token as OneToken};
-ghost use Rattle.sql_written.specs.Marks.{mark};
 ghost use Rattle.sql_written.specs.Parentheses.{opened};
-ghost use Rattle.std.specs.Prelude.{◌≡◌, ◌≤◌, ◌∷◌, [], ℕ, Bool, false, true, Contains, List, MatchResult, Result, map};
+ghost use Rattle.sql_written.specs.Spelling as spelled;
+ghost use Rattle.std.specs.Prelude.{◌≡◌, ◌≤◌, ◌∷◌, [], ℕ, List, MatchResult, Result, map};
+ghost use Rattle.statements_written.specs.Bare.{BareWhereItMay};
+ghost use Rattle.statements_written.specs.Commands as commands;
 ghost use Rattle.statements_written.specs.Lists.{Each};
+ghost use Rattle.statements_written.specs.Queries as queries;
 ghost use Rattle.statements_written.specs.Statements.{written};
 ghost use Rattle.statements_written.specs.Words.{name_unless};
 ghost use Rattle.statements_written.specs.Writable.{IsWritable};
@@ -36,8 +42,13 @@ pub fn no_fewer_parentheses()
     ensures { (tree : StatementTree) (text : List ℕ) (tokens : List OneToken) → IsWritable tree → (block text).texts tokens (tree ∷ []) → opened (tokens_of (written tree)) ≤ opened tokens }
 {}
 
-/// A name stands in quotes only where it must, also where some words mean another thing: not if a token
-/// without quotes that is none of them, of any text, says it. The call does nothing.
+/// A name stands in quotes only where it must: not if a token without quotes, of any text, says it at the
+/// same place. So behind SET only LOCAL keeps its quotes, behind PREPARE only TRANSACTION, at the edge of a
+/// range only MINVALUE and MAXVALUE, beside what is no name without quotes anywhere. The call does nothing.
 pub fn quotes_are_needed()
-    ensures { (text : List ℕ) (token : OneToken) (other : OneKind → Bool) → Contains (tokens_of text) token → a_name token ≡ true → a QuotedName token ≡ false → other token.kind ≡ false → name_unless other (name_in text token) ≡ mark token.kind (name_in text token) }
+    ensures anywhere { BareWhereItMay plain_name (λ name. name) spelled.name }
+    ensures setting { BareWhereItMay (λ text. other_name text Local) (λ name. name) commands.setting_name }
+    ensures value { BareWhereItMay grammar.setting_word Word commands.setting_word }
+    ensures edge { BareWhereItMay grammar.edge (λ name. at (leaf (Column name))) commands.edge_name }
+    ensures prepared { BareWhereItMay (λ text. other_name text Transaction) (λ name. name) (name_unless queries.is_transaction) }
 {}

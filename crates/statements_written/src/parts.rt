@@ -5,7 +5,7 @@ ghost use Rattle.statements_written.specs.Lists as lists;
 
 use pg_values::{NoMemory, PgText};
 use sql_expressions::{Expr, ExprList};
-use sql_written::{write_name, write_tree};
+use sql_written::{write_expression, write_name};
 
 /// What stands between commas: it is written as its marks say.
 pub(crate) trait Part {
@@ -81,7 +81,7 @@ impl Part for Value {
     ghost marks = { shown.marks };
 
     fn write(part: &Expr, out: &mut Vec<u8>) -> Result<(), NoMemory> {
-        write_tree(part, out)
+        write_expression(*out.allocator(), part, out)
     }
 }
 

@@ -37,10 +37,10 @@ fn write_select(select: &Select, out: &mut Vec<u8>) -> Result<(), NoMemory>
     ensures { OnOk result (out.new.items ≡ out.old.items ++ text_of (shown.select_marks (select_tree select.now))) }
 {
     out.extend_from_slice(b"SELECT ")?;
-    write_items(&select.items, out)?;
-    write_from(&select.from, out)?;
+    write_items(select.items.as_slice(), out)?;
+    write_from(select.from.as_slice(), out)?;
     write_where(&select.condition, out)?;
-    write_order_and_limits(&select.order, &select.limit, &select.offset, out)
+    write_order_and_limits(select.order.as_slice(), &select.limit, &select.offset, out)
 }
 
 fn write_columns(columns: &Option<NameList>, out: &mut Vec<u8>) -> Result<(), NoMemory>
@@ -60,7 +60,7 @@ fn write_insert(insert: &Insert, out: &mut Vec<u8>) -> Result<(), NoMemory>
     write_name(insert.table.as_bytes(), out)?;
     write_columns(&insert.columns, out)?;
     out.extend_from_slice(b" VALUES ")?;
-    write_rows(&insert.rows, out)
+    write_rows(insert.rows.as_slice(), out)
 }
 
 fn write_update(update: &Update, out: &mut Vec<u8>) -> Result<(), NoMemory>
@@ -69,7 +69,7 @@ fn write_update(update: &Update, out: &mut Vec<u8>) -> Result<(), NoMemory>
     out.extend_from_slice(b"UPDATE ")?;
     write_table(&update.table, out)?;
     out.extend_from_slice(b" SET ")?;
-    write_assignments(&update.assignments, out)?;
+    write_assignments(update.assignments.as_slice(), out)?;
     write_where(&update.condition, out)
 }
 

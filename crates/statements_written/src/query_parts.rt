@@ -11,7 +11,7 @@ use pg_values::{NoMemory, PgText};
 use sql_expressions::{Expr, ExprList};
 use sql_queries::{Assignment, FromItem, NamedTable, SelectItem, SortKey};
 use sql_tokens::Kind;
-use sql_written::{write_name, write_tree};
+use sql_written::{write_expression, write_name};
 
 fn write_alias(alias: &Option<PgText>, out: &mut Vec<u8>) -> Result<(), NoMemory>
     ensures { OnOk result (out.new.items ≡ out.old.items ++ text_of (shown.alias_marks alias.now)) }
@@ -34,7 +34,7 @@ pub(crate) fn write_table(table: &NamedTable, out: &mut Vec<u8>) -> Result<(), N
 fn write_output(value: &Expr, alias: &Option<PgText>, out: &mut Vec<u8>) -> Result<(), NoMemory>
     ensures { OnOk result (out.new.items ≡ out.old.items ++ text_of (shown.item_marks (one_column (tree value.now, alias.now)))) }
 {
-    write_tree(value, out)?;
+    write_expression(*out.allocator(), value, out)?;
     write_alias(alias, out)
 }
 
@@ -82,7 +82,7 @@ fn write_joined(item: &FromItem, out: &mut Vec<u8>) -> Result<(), NoMemory>
             out.extend_from_slice(b" JOIN ")?;
             write_table(&item.table, out)?;
             out.extend_from_slice(b" ON ")?;
-            write_tree(condition, out)
+            write_expression(*out.allocator(), condition, out)
         }
     }
 }
@@ -115,7 +115,7 @@ pub(crate) fn write_where(condition: &Option<Expr>, out: &mut Vec<u8>) -> Result
 {
     if let Some(e) = condition {
         out.extend_from_slice(b" WHERE ")?;
-        write_tree(e, out)?;
+        write_expression(*out.allocator(), e, out)?;
     }
     Ok(())
 }
@@ -126,7 +126,7 @@ pub(crate) fn write_limit(limit: &Option<Expr>, out: &mut Vec<u8>) -> Result<(),
 {
     if let Some(e) = limit {
         out.extend_from_slice(b" LIMIT ")?;
-        write_tree(e, out)?;
+        write_expression(*out.allocator(), e, out)?;
     }
     Ok(())
 }
@@ -137,7 +137,7 @@ pub(crate) fn write_offset(offset: &Option<Expr>, out: &mut Vec<u8>) -> Result<(
 {
     if let Some(e) = offset {
         out.extend_from_slice(b" OFFSET ")?;
-        write_tree(e, out)?;
+        write_expression(*out.allocator(), e, out)?;
     }
     Ok(())
 }
@@ -178,7 +178,7 @@ impl Part for EachKey {
     ghost marks = { shown.key_marks };
 
     fn write(part: &SortKey, out: &mut Vec<u8>) -> Result<(), NoMemory> {
-        write_tree(&part.value, out)?;
+        write_expression(*out.allocator(), &part.value, out)?;
         write_direction(part.descending, out)?;
         write_nulls(part.descending, part.nulls_first, out)
     }
@@ -212,7 +212,7 @@ impl Part for EachAssignment {
     fn write(part: &Assignment, out: &mut Vec<u8>) -> Result<(), NoMemory> {
         write_name(part.column.as_bytes(), out)?;
         out.extend_from_slice(b" = ")?;
-        write_tree(&part.value, out)
+        write_expression(*out.allocator(), &part.value, out)
     }
 }
 

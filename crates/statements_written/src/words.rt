@@ -32,7 +32,7 @@ fn is_end(kind: Kind) -> bool
 
 /// Appends a column that stands alone as an edge of a range.
 pub(crate) fn write_edge_name(name: &[u8], out: &mut Vec<u8>) -> Result<(), NoMemory>
-    ensures { OnOk result (out.new.items ≡ out.old.items ++ bytes_of (name_unless commands.is_end name.now)) }
+    ensures { OnOk result (out.new.items ≡ out.old.items ++ bytes_of (commands.edge_name name.now)) }
 {
     let plain = is_plain(name) && !is_end(word_kind(name));
     write_name_if(plain, name, out)

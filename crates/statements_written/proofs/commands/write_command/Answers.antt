@@ -29,4 +29,4 @@ returns-in_ok-extend_from_slice-in-Deallocate c =
     let z = c.as_bytes-in-Deallocate.result.now in
     let h = sym (ap command_tree c.in-Deallocate.is) in
     let e : deallocates z ≡ command_tree c.args.command.now = cc (h, c.as_bytes-in-Deallocate.ensures) in
-    deallocate_text c.write_name-in-Deallocate.result z (command_tree c.args.command.now) _ _ _ e c.in_ok-extend_from_slice-in-Deallocate.ensures.items c.write_name-in-Deallocate.ensures
+    deallocate_text c.write_name-in-Deallocate.result z (command_tree c.args.command.now) _ _ _ e c.in_ok-extend_from_slice-in-Deallocate.ensures.items c.write_name-in-Deallocate.ensures.ok

@@ -5,5 +5,5 @@ use Rattle.statements_written.proofs.commands.write_create.Goals as goal
 
 pub returns : goal.returns
 returns c =
-    create_text c.write_by.result c.args.name.now (enclosed (parts column_marks c.args.columns.now)) (maybe_by c.args.by.now) _ _ _ _ _ _ c.in_ok-extend_from_slice.ensures.items c.in_ok-write_name.ensures c.in_ok-push.ensures.items
+    create_text c.write_by.result c.args.name.now (enclosed (parts column_marks c.args.columns.now)) (maybe_by c.args.by.now) _ _ _ _ _ _ c.in_ok-extend_from_slice.ensures.items c.in_ok-write_name.ensures.ok c.in_ok-push.ensures.items
     c.in_ok-write_columns.ensures c.write_by.ensures

@@ -13,7 +13,7 @@ pub returns : goal.returns
 returns c =
     let s = c.args.insert.now in
     on_ok c.write_rows.result
-    (λ k. insert_text s.table (columns_marks s.columns) (parts row_marks (map trees s.rows.items)) _ _ _ _ _ _ c.in_ok-extend_from_slice.ensures.items
-    (same (λ (z : List ℕ). bytes_of (spelled.name z)) _ _ _ _ c.as_bytes.ensures c.in_ok-write_name.ensures)
+    (λ k. insert_text s.table (columns_marks s.columns) (parts row_marks (map trees s.rows)) _ _ _ _ _ _ c.in_ok-extend_from_slice.ensures.items
+    (same (λ (z : List ℕ). bytes_of (spelled.name z)) _ _ _ _ c.as_bytes.ensures c.in_ok-write_name.ensures.ok)
     c.in_ok-write_columns.ensures c.in_ok-extend_from_slice-2.ensures.items
-    (same (λ (xs : List ExprList). text_of (parts row_marks (map trees xs))) _ _ _ _ c.deref.ensures.value k)) c.write_rows.ensures
+    (same (λ (xs : List ExprList). text_of (parts row_marks (map trees xs))) _ _ _ _ c.as_slice.ensures k)) c.write_rows.ensures

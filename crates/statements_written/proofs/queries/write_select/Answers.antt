@@ -16,9 +16,9 @@ returns c =
     let s = c.args.select.now in
     let limits = clause kinds.Limit (maybe_tree s.limit) ++ clause kinds.Offset (maybe_tree s.offset) in
     on_ok c.write_order_and_limits.result
-    (select_text (parts item_marks (map item_tree s.items.items)) (from_marks (map joined_tree s.from.items)) (clause kinds.Where (maybe_tree s.condition)) (order_marks (map key_tree s.order.items) ++ limits) _ _ _ _ _ _
+    (select_text (parts item_marks (map item_tree s.items)) (from_marks (map joined_tree s.from)) (clause kinds.Where (maybe_tree s.condition)) (order_marks (map key_tree s.order) ++ limits) _ _ _ _ _ _
     c.in_ok-extend_from_slice.ensures.items
-    (same (λ (xs : List SelectItem). text_of (parts item_marks (map item_tree xs))) _ _ _ _ c.deref.ensures.value c.in_ok-write_items.ensures)
-    (same (λ (xs : List FromItem). text_of (from_marks (map joined_tree xs))) _ _ _ _ c.deref-2.ensures.value c.in_ok-write_from.ensures)
+    (same (λ (xs : List SelectItem). text_of (parts item_marks (map item_tree xs))) _ _ _ _ c.as_slice.ensures c.in_ok-write_items.ensures)
+    (same (λ (xs : List FromItem). text_of (from_marks (map joined_tree xs))) _ _ _ _ c.as_slice-2.ensures c.in_ok-write_from.ensures)
     c.in_ok-write_where.ensures)
-    (on_ok c.write_order_and_limits.result (same (λ (xs : List SortKey). text_of (order_marks (map key_tree xs) ++ limits)) _ _ _ _ c.deref-3.ensures.value) c.write_order_and_limits.ensures)
+    (on_ok c.write_order_and_limits.result (same (λ (xs : List SortKey). text_of (order_marks (map key_tree xs) ++ limits)) _ _ _ _ c.as_slice-3.ensures) c.write_order_and_limits.ensures)

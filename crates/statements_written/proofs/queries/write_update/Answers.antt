@@ -13,5 +13,5 @@ pub returns : goal.returns
 returns c =
     let s = c.args.update.now in
     on_ok c.write_where.result
-    (λ k. update_text (table_marks s.table) (parts setting_marks (map setting s.assignments.items)) (clause kinds.Where (maybe_tree s.condition)) _ _ _ _ _ _ c.in_ok-extend_from_slice.ensures.items c.in_ok-write_table.ensures
-    c.in_ok-extend_from_slice-2.ensures.items (same (λ (xs : List Assignment). text_of (parts setting_marks (map setting xs))) _ _ _ _ c.deref.ensures.value c.in_ok-write_assignments.ensures) k) c.write_where.ensures
+    (λ k. update_text (table_marks s.table) (parts setting_marks (map setting s.assignments)) (clause kinds.Where (maybe_tree s.condition)) _ _ _ _ _ _ c.in_ok-extend_from_slice.ensures.items c.in_ok-write_table.ensures
+    c.in_ok-extend_from_slice-2.ensures.items (same (λ (xs : List Assignment). text_of (parts setting_marks (map setting xs))) _ _ _ _ c.as_slice.ensures c.in_ok-write_assignments.ensures) k) c.write_where.ensures

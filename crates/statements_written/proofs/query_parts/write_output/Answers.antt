@@ -6,4 +6,4 @@ use Rattle.statements_written.proofs.query_parts.write_output.Goals as goal
 
 pub returns : goal.returns
 returns c =
-    on_ok c.write_alias.result (λ k. behind (marks (tree c.args.value.now)) (alias_marks c.args.alias.now) _ _ _ c.in_ok-write_tree.ensures k) c.write_alias.ensures
+    on_ok c.write_alias.result (λ k. behind (marks (tree c.args.value.now)) (alias_marks c.args.alias.now) _ _ _ c.in_ok-write_expression.ensures.ok k) c.write_alias.ensures

@@ -8,4 +8,4 @@ use Rattle.statements_written.proofs.query_parts.EachKeyPart.write.Goals as goal
 pub returns : goal.returns
 returns c =
     let k = c.args.part.now in
-    on_ok c.write_nulls.result (λ n. three_texts (marks (tree k.value)) (direction_marks k.descending) (nulls_marks k.descending k.nulls_first) _ _ _ _ c.in_ok-write_tree.ensures c.in_ok-write_direction.ensures n) c.write_nulls.ensures
+    on_ok c.write_nulls.result (λ n. three_texts (marks (tree k.value)) (direction_marks k.descending) (nulls_marks k.descending k.nulls_first) _ _ _ _ c.in_ok-write_expression.ensures.ok c.in_ok-write_direction.ensures n) c.write_nulls.ensures
