@@ -1,0 +1,6 @@
+pub mod Columns
+pub mod Laws
+pub mod Rewriting
+pub mod Trees
+pub mod Truths
+pub mod Tuples
