@@ -19,7 +19,7 @@ pub enum CompareOp {
 #[derive(Clone, Copy, Debug, PartialEq, Eq)]
 pub struct ColumnId {
     pub item: u32,
-    pub position: u32,
+    pub position: usize,
 }
 
 /// What is compared. A parameter is named by the place of its argument, so `$1` is `Param(0)`.
@@ -27,7 +27,7 @@ pub struct ColumnId {
 pub enum Operand {
     Column(ColumnId),
     Lit(Value),
-    Param(u32),
+    Param(usize),
 }
 
 /// A condition over a tuple of rows and the arguments.

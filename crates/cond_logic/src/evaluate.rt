@@ -53,11 +53,11 @@ fn operand<'b>(binding: &'b Binding<'_>, operand: &'b Operand) -> Option<&'b Val
 {
     match operand {
         Operand::Column(column) => match binding.row(column.item) {
-            Some(row) => row.as_slice().get(column.position as usize),
+            Some(row) => row.as_slice().get(column.position),
             None => None,
         },
         Operand::Lit(value) => Some(value),
-        Operand::Param(place) => binding.args().get(*place as usize),
+        Operand::Param(place) => binding.args().get(*place),
     }
 }
 

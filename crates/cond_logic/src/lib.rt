@@ -19,6 +19,7 @@ mod evaluate;
 mod laws;
 mod parameters;
 mod pushing;
+mod scalar;
 mod truth;
 
 pub use binding::Binding;
@@ -31,6 +32,7 @@ pub use laws::{
 };
 pub use parameters::bind_params;
 pub use pushing::push_not;
+pub use scalar::Scalar;
 pub use truth::Truth3;
 
 #[cfg(test)]

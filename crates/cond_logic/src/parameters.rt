@@ -7,10 +7,10 @@ use crate::{Cond, CondList, Operand};
 use pg_values::{NoMemory, Value, copy_value};
 use std::alloc::Global;
 
-fn argument(alloc: Global, args: &[Value], place: u32) -> Result<Operand, NoMemory>
+fn argument(alloc: Global, args: &[Value], place: usize) -> Result<Operand, NoMemory>
     ensures { IfOk result (λ x. x ≡ operand_with args.now (operands.Param place)) }
 {
-    match args.get(place as usize) {
+    match args.get(place) {
         Some(value) => Ok(Operand::Lit(copy_value(alloc, value)?)),
         None => Ok(Operand::Param(place)),
     }

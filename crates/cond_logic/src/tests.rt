@@ -5,7 +5,7 @@ use crate::{
 use pg_values::{NoMemory, Row, Value};
 use std::alloc::Global;
 
-fn column(item: u32, position: u32) -> Operand {
+fn column(item: u32, position: usize) -> Operand {
     Operand::Column(ColumnId { item, position })
 }
 
