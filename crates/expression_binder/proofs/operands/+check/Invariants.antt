@@ -1,0 +1,15 @@
+use Rattle.std.proofs.Common.{◌≡◌, ◌+◌, ◌*◌, map, drop}
+use Rattle.sql_expressions.specs.Tree.{listed, tree}
+use Rattle.expression_binder.specs.Operands.{operands_faults}
+use Rattle.expression_binder.proofs.Trees.{weight, weights}
+use Rattle.expression_binder.proofs.operands.+check.Given as goal
+
+abbrev pub decreases-check_operand : goal.decreases-check_operand
+decreases-check_operand l = 2 * weight (tree l.e.now)
+
+abbrev pub decreases-check_operands : goal.decreases-check_operands
+decreases-check_operands l = 2 * weights (listed (map tree l.parts.now)) + 1
+
+-- no part so far has a fault
+abbrev pub invariant-check_operands-loop-part : goal.invariant-check_operands-loop-part
+invariant-check_operands-loop-part l = operands_faults l.names (listed (map tree (drop l.part-index l.parts))) ≡ operands_faults l.names (listed (map tree l.parts))

@@ -1,0 +1,32 @@
+//! What the expressions of a statement mean, or the first reason why they mean nothing.
+//!
+//! Names are looked up in a scope: the FROM items that may be named at a place, and the parameters of a
+//! prepared statement. Each operand gets a kind. A string literal has none of its own and takes that of
+//! its place, as null does. Constant expressions are computed once.
+//!
+//! An expression is judged twice, each time in text order and from its parts outwards: first its names
+//! and kinds (`check_operand`, `check_condition`), then the values of its constants (`bind_scalar`,
+//! `bind_condition`), because every fault of a name or a kind in a statement comes before any fault of a
+//! constant. The definitions are two lists of faults and a meaning that is total; the answer is the first
+//! fault of the list, else the meaning.
+#![tactic(auto)]
+
+mod conditions;
+mod constants;
+mod faults;
+mod kinds;
+mod look_up;
+mod meanings;
+mod operands;
+mod scalars;
+mod scope;
+mod typed;
+
+pub use conditions::check_condition;
+pub use kinds::{check_assigned, check_count, check_counting, kind_alone};
+pub use look_up::{Hit, Lookup};
+pub use meanings::bind_condition;
+pub use operands::{check_operand, typed_of};
+pub use scalars::{bind_constant, bind_scalar, store};
+pub use scope::{Allowed, Names, Param, ScopeColumn, ScopeItem};
+pub use typed::{Given, Typed};
