@@ -30,3 +30,6 @@ pub use operands::{check_operand, typed_of};
 pub use scalars::{bind_constant, bind_scalar, store};
 pub use scope::{Allowed, Names, Param, ScopeColumn, ScopeItem};
 pub use typed::{Given, Typed};
+
+#[cfg(test)]
+mod tests;
