@@ -22,8 +22,8 @@ use Rattle.sql_expressions.specs.declared.leaf.Operator.TheVariants as op
 use Rattle.sql_expressions.specs.Tree.{Tree, Trees, no_more, and_more, leaf, call, call_of_all, negated, binary, in_list, between, is_null, inverted, all_of, any_of}
 use Rattle.cond_logic.specs.Scalars.{ScalarTree, column, literal, table_name, computes, cancels}
 use Rattle.expression_binder.specs.declared.scope.Param.{Param}
-use Rattle.expression_binder.specs.declared.look_up.Lookup.{Lookup}
-use Rattle.expression_binder.specs.declared.look_up.Lookup.TheVariants.{Missing, One, Several}
+use Rattle.expression_binder.specs.declared.naming.Lookup.{Lookup}
+use Rattle.expression_binder.specs.declared.naming.Lookup.TheVariants.{Missing, One, Several}
 use Rattle.expression_binder.specs.Faults.{out_of_range, date_range, zero_divisor, no_operator, wrong_kind}
 use Rattle.expression_binder.specs.Kinds.{kind_beside}
 use Rattle.expression_binder.specs.Operands.{typed, zero_typed, is_pid}

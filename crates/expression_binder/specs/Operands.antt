@@ -10,8 +10,8 @@ use Rattle.sql_expressions.specs.declared.leaf.Operator.TheVariants as op
 use Rattle.sql_expressions.specs.Tree.{Tree, Trees, no_more, and_more, leaf, call, call_of_all, negated, binary, in_list, between, is_null, inverted, all_of, any_of}
 use Rattle.expression_binder.specs.declared.scope.Allowed.{Allowed}
 use Rattle.expression_binder.specs.declared.scope.Param.{Param}
-use Rattle.expression_binder.specs.declared.look_up.Lookup.{Lookup}
-use Rattle.expression_binder.specs.declared.look_up.Lookup.TheVariants.{Missing, One, Several}
+use Rattle.expression_binder.specs.declared.naming.Lookup.{Lookup}
+use Rattle.expression_binder.specs.declared.naming.Lookup.TheVariants.{Missing, One, Several}
 use Rattle.expression_binder.specs.declared.typed.Given.{Given}
 use Rattle.expression_binder.specs.declared.typed.Given.TheVariants.{Of, Quoted, Nothing}
 use Rattle.expression_binder.specs.declared.typed.Typed.{Typed}

@@ -5,9 +5,9 @@ use Rattle.pg_values.specs.declared.value.Kind.TheVariants.{Text as KText}
 use Rattle.expression_binder.specs.declared.scope.ScopeColumn.{ScopeColumn}
 use Rattle.expression_binder.specs.declared.scope.Param.{Param}
 use Rattle.expression_binder.specs.declared.scope.Allowed.{Allowed}
-use Rattle.expression_binder.specs.declared.look_up.Hit.{Hit}
-use Rattle.expression_binder.specs.declared.look_up.Lookup.{Lookup}
-use Rattle.expression_binder.specs.declared.look_up.Lookup.TheVariants.{Missing, One, Several}
+use Rattle.expression_binder.specs.declared.naming.Hit.{Hit}
+use Rattle.expression_binder.specs.declared.naming.Lookup.{Lookup}
+use Rattle.expression_binder.specs.declared.naming.Lookup.TheVariants.{Missing, One, Several}
 
 -- a FROM item
 pub record Item : Type 0 where

@@ -9,7 +9,7 @@ ghost use Rattle.value_rules.specs.Arithmetic as arithmetic;
 ghost use Rattle.cond_logic.specs.Scalars as scalars;
 
 use crate::faults::{date_range, no_operator, out_of_range, zero_divisor};
-use crate::look_up::{item_called, look_up, look_up_in, param};
+use crate::naming::{item_called, look_up, look_up_in, param};
 use crate::{Lookup, Names, Param, ScopeItem};
 use cond_logic::Scalar;
 use pg_values::{Fault, Kind, NoMemory, Refusal, Value, copy_value};
@@ -132,7 +132,8 @@ fn join(alloc: Global, operator: Operator, x: Scalar, y: Scalar) -> Result<Scala
     Ok(Scalar::Arith(arith_of(operator), left, right))
 }
 
-fn as_literal(x: &Scalar) -> Option<&Value>
+/// The value of a constant.
+pub fn as_literal(x: &Scalar) -> Option<&Value>
     ensures { option_now result ≡ constants.as_literal (scalar_tree x.now) }
 {
     match x {

@@ -7,7 +7,8 @@ use pg_values::{Args, Fault, Kind, NoMemory, PgText, SqlState};
 use sql_expressions::Operator;
 use std::alloc::Global;
 
-fn one_text(alloc: Global, text: &[u8]) -> Result<Args, NoMemory>
+/// The one text that fills a fault's holes.
+pub fn one_text(alloc: Global, text: &[u8]) -> Result<Args, NoMemory>
     ensures { IfOk result (λ args. args ≡ text.now ∷ []) }
 {
     let mut args = Args::new(alloc);
@@ -15,7 +16,8 @@ fn one_text(alloc: Global, text: &[u8]) -> Result<Args, NoMemory>
     Ok(args)
 }
 
-fn two_texts(alloc: Global, text: &[u8], word: &[u8]) -> Result<Args, NoMemory>
+/// A text with a hole, and what fills it.
+pub fn two_texts(alloc: Global, text: &[u8], word: &[u8]) -> Result<Args, NoMemory>
     ensures { IfOk result (λ args. args ≡ text.now ∷ word.now ∷ []) }
 {
     let mut args = one_text(alloc, text)?;
@@ -69,7 +71,7 @@ fn digits(alloc: Global, count: usize) -> Result<PgText, NoMemory>
 }
 
 /// `no table <t>`
-pub(crate) fn no_table(alloc: Global, name: &[u8]) -> Result<Fault, NoMemory>
+pub fn no_table(alloc: Global, name: &[u8]) -> Result<Fault, NoMemory>
     ensures { IfOk result (λ f. f ≡ faults.no_table name.now) }
 {
     Ok(Fault {
@@ -79,7 +81,7 @@ pub(crate) fn no_table(alloc: Global, name: &[u8]) -> Result<Fault, NoMemory>
 }
 
 /// `no column <c>`
-pub(crate) fn no_column(alloc: Global, name: &[u8]) -> Result<Fault, NoMemory>
+pub fn no_column(alloc: Global, name: &[u8]) -> Result<Fault, NoMemory>
     ensures { IfOk result (λ f. f ≡ faults.no_column name.now) }
 {
     Ok(Fault {
@@ -89,7 +91,7 @@ pub(crate) fn no_column(alloc: Global, name: &[u8]) -> Result<Fault, NoMemory>
 }
 
 /// `column <c> is ambiguous`
-pub(crate) fn ambiguous(alloc: Global, name: &[u8]) -> Result<Fault, NoMemory>
+pub fn ambiguous(alloc: Global, name: &[u8]) -> Result<Fault, NoMemory>
     ensures { IfOk result (λ f. f ≡ faults.ambiguous name.now) }
 {
     Ok(Fault {
@@ -149,7 +151,7 @@ pub(crate) fn wrong_kind(alloc: Global, given: Kind, wanted: Kind) -> Result<Fau
 }
 
 /// `<word> is not in this profile`
-pub(crate) fn left_out(alloc: Global, word: &[u8]) -> Result<Fault, NoMemory>
+pub fn left_out(alloc: Global, word: &[u8]) -> Result<Fault, NoMemory>
     ensures { IfOk result (λ f. f ≡ faults.left_out word.now) }
 {
     Ok(Fault {
@@ -176,7 +178,7 @@ pub(crate) fn wrong_count(alloc: Global, given: usize, wanted: usize) -> Result<
 }
 
 /// `number out of range`
-pub(crate) fn out_of_range(alloc: Global) -> Fault
+pub fn out_of_range(alloc: Global) -> Fault
     ensures { result ≡ faults.out_of_range }
 {
     Fault {

@@ -14,7 +14,7 @@ ghost use Rattle.expression_binder.specs.Meanings.{constant_faults, constants_fa
 use crate::Names;
 use crate::conditions::{from_op, in_op, to_op};
 use crate::kinds::{kind_alone, side_kind};
-use crate::look_up::param;
+use crate::naming::param;
 use crate::operands::typed_of;
 use crate::scalars::bind_scalar;
 use cond_logic::{CompareOp, Cond, CondList, Operand, Scalar, Truth3};

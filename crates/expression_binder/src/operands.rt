@@ -11,13 +11,14 @@ ghost use Rattle.expression_binder.specs.Lent.{option_now};
 
 use crate::faults::{ambiguous, left_out, no_column, no_function, no_parameter, no_table, sign};
 use crate::kinds::{check_join, fixed, joined, number_kind};
-use crate::look_up::{item_called, look_up, look_up_in, param};
+use crate::naming::{item_called, look_up, look_up_in, param};
 use crate::{Allowed, Given, Lookup, Names, Param, ScopeItem, Typed};
 use pg_values::{Kind, NoMemory, PgText, Refusal};
 use sql_expressions::{Expr, Leaf, Operator};
 use std::alloc::Global;
 
-fn check_look_up(alloc: Global, name: &[u8], found: Lookup) -> Result<(), Refusal>
+/// A name stands for one column: refused with 42703 or 42702.
+pub fn check_look_up(alloc: Global, name: &[u8], found: Lookup) -> Result<(), Refusal>
     ensures { IsAnswer result (or_first (operands.look_up_faults name.now found) tt) }
 {
     match found {
@@ -60,7 +61,8 @@ fn check_row_table(alloc: Global, items: &[ScopeItem]) -> Result<(), Refusal>
     }
 }
 
-fn check_item(alloc: Global, items: &[ScopeItem], table: &[u8]) -> Result<(), Refusal>
+/// There is an item of that name: refused with 42P01.
+pub fn check_item(alloc: Global, items: &[ScopeItem], table: &[u8]) -> Result<(), Refusal>
     ensures { IsAnswer result (or_first (operands.item_faults table.now (scopes.item_called items.now table.now)) tt) }
 {
     match item_called(items, table) {

@@ -1,5 +1,5 @@
 use Rattle.std.proofs.Common.{length}
-use Rattle.expression_binder.proofs.look_up.+look_up.Given as goal
+use Rattle.expression_binder.proofs.naming.+look_up.Given as goal
 
 abbrev pub decreases-look_up : goal.decreases-look_up
 decreases-look_up l = length l.items.now

@@ -68,7 +68,7 @@ fn with_hit(found: Lookup, hit: Option<Hit>) -> Lookup
 }
 
 /// The columns of that name among the items.
-pub(crate) fn look_up(items: &[ScopeItem], name: &[u8]) -> Lookup
+pub fn look_up(items: &[ScopeItem], name: &[u8]) -> Lookup
     ensures { result ≡ scopes.look_up items.now name.now }
 {
     match items.split_first() {
@@ -78,7 +78,7 @@ pub(crate) fn look_up(items: &[ScopeItem], name: &[u8]) -> Lookup
 }
 
 /// The item of that name.
-pub(crate) fn item_called<'a>(items: &'a [ScopeItem], name: &[u8]) -> Option<&'a ScopeItem>
+pub fn item_called<'a>(items: &'a [ScopeItem], name: &[u8]) -> Option<&'a ScopeItem>
     ensures { option_now result ≡ scopes.item_called items.now name.now }
 {
     match items.split_first() {
@@ -94,7 +94,7 @@ pub(crate) fn item_called<'a>(items: &'a [ScopeItem], name: &[u8]) -> Option<&'a
 }
 
 /// The column of that name in the item of that name.
-pub(crate) fn look_up_in(items: &[ScopeItem], table: &[u8], name: &[u8]) -> Lookup
+pub fn look_up_in(items: &[ScopeItem], table: &[u8], name: &[u8]) -> Lookup
     ensures { result ≡ scopes.look_up_in (scopes.item_called items.now table.now) name.now }
 {
     match item_called(items, table) {
