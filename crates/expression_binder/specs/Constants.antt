@@ -24,7 +24,8 @@ use Rattle.cond_logic.specs.Scalars.{ScalarTree, column, literal, table_name, co
 use Rattle.expression_binder.specs.declared.scope.Param.{Param}
 use Rattle.expression_binder.specs.declared.naming.Lookup.{Lookup}
 use Rattle.expression_binder.specs.declared.naming.Lookup.TheVariants.{Missing, One, Several}
-use Rattle.expression_binder.specs.Faults.{out_of_range, date_range, zero_divisor, no_operator, wrong_kind}
+use Rattle.value_rules.specs.FaultTexts.{out_of_range}
+use Rattle.expression_binder.specs.Faults.{date_range, zero_divisor, no_operator, wrong_kind}
 use Rattle.expression_binder.specs.Kinds.{kind_beside}
 use Rattle.expression_binder.specs.Operands.{typed, zero_typed, is_pid}
 use Rattle.expression_binder.specs.Scopes.{Item, Scope, look_up, look_up_in, item_called, param}

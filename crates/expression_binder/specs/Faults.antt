@@ -4,12 +4,9 @@ use Rattle.std.specs.Prelude.{ℕ, List, [], ◌∷◌, codes}
 use Rattle.std.specs.Fmt.{decimal}
 use Rattle.pg_values.specs.declared.value.Kind.{Kind}
 use Rattle.pg_values.specs.declared.fault.Fault.{Fault}
-use Rattle.value_rules.specs.Reads.{state, kind_word}
+use Rattle.value_rules.specs.FaultTexts.{kind_word, fault_of}
 use Rattle.sql_expressions.specs.declared.leaf.Operator.{Operator}
 use Rattle.sql_expressions.specs.declared.leaf.Operator.TheVariants as op
-
-abbrev pub fault_of : List ℕ → List (List ℕ) → Fault
-fault_of code args = record { code = state code; args = args }
 
 abbrev pub sign : Operator → List ℕ
 sign op.Add = codes "+"
@@ -59,10 +56,6 @@ left_out word = fault_of (codes "0A000") (word ∷ [])
 -- `<n> values for <m>`
 abbrev pub wrong_count : ℕ → ℕ → Fault
 wrong_count given wanted = fault_of (codes "42601") (codes "<n> values for <m>" ∷ decimal given ∷ decimal wanted ∷ [])
-
--- `number out of range`
-abbrev pub out_of_range : Fault
-out_of_range = fault_of (codes "22003") []
 
 -- `date out of range`
 abbrev pub date_range : Fault

@@ -8,14 +8,14 @@ ghost use Rattle.expression_binder.specs.Scopes as scopes;
 ghost use Rattle.value_rules.specs.Arithmetic as arithmetic;
 ghost use Rattle.cond_logic.specs.Scalars as scalars;
 
-use crate::faults::{date_range, no_operator, out_of_range, zero_divisor};
+use crate::faults::{date_range, no_operator, zero_divisor};
 use crate::naming::{item_called, look_up, look_up_in, param};
 use crate::{Lookup, Names, Param, ScopeItem};
 use cond_logic::Scalar;
 use pg_values::{Fault, Kind, NoMemory, Refusal, Value, copy_value};
 use sql_expressions::{Leaf, Operator};
 use std::alloc::Global;
-use value_rules::{Arith, ArithFault, arith, read_value};
+use value_rules::{Arith, ArithFault, arith, out_of_range, read_value};
 
 pub(crate) fn number_value(alloc: Global, n: u64) -> Result<Value, Refusal>
     ensures { IsAnswer result (constants.number_value n) }

@@ -1,49 +1,11 @@
 ghost use Rattle.std.specs.Prelude.{◌≡◌, ◌∷◌, [], IfOk};
 ghost use Rattle.std.specs.Fmt.{decimal};
-ghost use Rattle.value_rules.specs.Reads as reads;
 ghost use Rattle.expression_binder.specs.Faults as faults;
 
 use pg_values::{Args, Fault, Kind, NoMemory, PgText, SqlState};
 use sql_expressions::Operator;
 use std::alloc::Global;
-
-/// The one text that fills a fault's holes.
-pub fn one_text(alloc: Global, text: &[u8]) -> Result<Args, NoMemory>
-    ensures { IfOk result (λ args. args ≡ text.now ∷ []) }
-{
-    let mut args = Args::new(alloc);
-    args.push(PgText::from_bytes(alloc, text)?)?;
-    Ok(args)
-}
-
-/// A text with a hole, and what fills it.
-pub fn two_texts(alloc: Global, text: &[u8], word: &[u8]) -> Result<Args, NoMemory>
-    ensures { IfOk result (λ args. args ≡ text.now ∷ word.now ∷ []) }
-{
-    let mut args = one_text(alloc, text)?;
-    args.push(PgText::from_bytes(alloc, word)?)?;
-    Ok(args)
-}
-
-fn three_texts(alloc: Global, text: &[u8], word: &[u8], other: &[u8]) -> Result<Args, NoMemory>
-    ensures { IfOk result (λ args. args ≡ text.now ∷ word.now ∷ other.now ∷ []) }
-{
-    let mut args = two_texts(alloc, text, word)?;
-    args.push(PgText::from_bytes(alloc, other)?)?;
-    Ok(args)
-}
-
-pub(crate) fn kind_word(kind: Kind) -> &'static [u8]
-    ensures { result.now ≡ reads.kind_word kind }
-{
-    match kind {
-        Kind::Int4 => b"integer",
-        Kind::Int8 => b"bigint",
-        Kind::Text => b"text",
-        Kind::Day => b"date",
-        Kind::Truth => b"boolean",
-    }
-}
+use value_rules::{kind_word, one_text, three_texts, two_texts};
 
 pub(crate) fn sign(operator: Operator) -> &'static [u8]
     ensures { result.now ≡ faults.sign operator }
@@ -175,16 +137,6 @@ pub(crate) fn wrong_count(alloc: Global, given: usize, wanted: usize) -> Result<
             wanted.as_bytes(),
         )?,
     })
-}
-
-/// `number out of range`
-pub fn out_of_range(alloc: Global) -> Fault
-    ensures { result ≡ faults.out_of_range }
-{
-    Fault {
-        code: SqlState { bytes: *b"22003" },
-        args: Args::new(alloc),
-    }
 }
 
 /// `date out of range`

@@ -126,7 +126,12 @@ fn a_constant_is_computed_and_stored(rt: HostRuntime) -> Result<(), Fail> {
     let e = parse_expression(alloc, b"2147483648 - '3'")?;
     let value = bind_constant(alloc, &names, Kind::Int8, &e)?;
     assert!(rt; matches!(value, Value::Int8(2_147_483_645)));
-    assert!(rt; matches!(store(alloc, Kind::Int4, value), Ok(Value::Int4(2_147_483_645))));
+    assert!(rt;
+        matches!(
+            store(alloc, Kind::Int4, value),
+            Ok(Value::Int4(2_147_483_645))
+        )
+    );
     assert!(rt; store(alloc, Kind::Int4, Value::Int8(2_147_483_648)).is_err());
     Ok(())
 }
