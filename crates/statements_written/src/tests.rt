@@ -31,6 +31,9 @@ fn statements_are_appended(rt: HostRuntime) -> Result<(), Fail> {
     let out = written(alloc, b"commit;select (1)")?;
     assert_eq!(rt; out.as_slice(), b"step s1 { COMMIT; SELECT 1; ".as_slice());
     let out = written(alloc, b"SET enable_hashjoin = 99999999999999999999")?;
-    assert_eq!(rt; out.as_slice(), b"step s1 { SET enable_hashjoin TO 99999999999999999999; ".as_slice());
+    assert_eq!(rt;
+        out.as_slice(),
+        b"step s1 { SET enable_hashjoin TO 99999999999999999999; ".as_slice()
+    );
     Ok(())
 }
