@@ -1,5 +1,14 @@
 pub mod Back
+pub mod Filters
+pub mod Firsts
 pub mod FirstLaws
+pub mod KindLaws
+pub mod LimitLaws
+pub mod NameLaws
+pub mod Newlines
 pub mod Parts
 pub mod QuoteSteps
+pub mod ScriptLaws
+pub mod SpecLaws
+pub mod SpecSteps
 pub mod TokenSteps

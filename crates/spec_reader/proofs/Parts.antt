@@ -157,7 +157,7 @@ to_quote (b ∷ text) rest h e = go (b == 34) refl (to_quote text rest (and_righ
         rw q (more ∙ ap one_more ih)
 
 quoted_piece : (text rest : List ℕ) → IsOneLine text → quoted_len true rest ≡ Some 0 → piece_of (quoted text ++ rest) ≡ token kinds.QuotedName (length (quoted text))
-quoted_piece text rest h e = ap (λ (o : Option ℕ). quoted_to (quoted text ++ rest) o) (to_quote text rest h e)
+quoted_piece text rest h e = ap (λ (o : Option ℕ). quoted_to ((doubled text ++ 34 ∷ []) ++ rest) o) (to_quote text rest h e)
 
 pub name_says : (whole text rest : List ℕ) → IsOneLine text → quoted_len true rest ≡ Some 0 → Says whole (name whole).texts (quoted text ++ rest) text rest
 name_says whole text rest w e at h =

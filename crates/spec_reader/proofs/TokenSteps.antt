@@ -1,6 +1,6 @@
 -- One piece more of a text.
 use Rattle.std.proofs.Common.{◌≡◌, ◌<◌, ◌≤◌, ℕ, zero, suc, ◌+◌, ◌-◌, List, [], ◌∷◌, ◌++◌, length, take, drop, refl, sym, ap, ◌∙◌, arith, append_assoc}
-use Rattle.std.proofs.Common.{Bool, true, false, Some}
+use Rattle.std.proofs.Common.{Bool, true, false, Some, filter}
 use Rattle.std.specs.Str.{IsUtf8, is_utf8}
 use Rattle.std.specs.Str.Lossy.{utf8_valid_len}
 use Rattle.std.proofs.lemmas.List.{drop_all, append-nil, drop-drop, length-drop, take_all}
@@ -9,7 +9,7 @@ use Rattle.spec_reader.specs.declared.kind.Kind.TheVariants as kinds
 use Rattle.spec_reader.specs.declared.piece.Piece.{Piece}
 use Rattle.spec_reader.specs.declared.token.Token.{Token}
 use Rattle.spec_reader.specs.Pieces.{piece_of}
-use Rattle.spec_reader.specs.Tokens.{noted, tokens_from, tokens_of}
+use Rattle.spec_reader.specs.Tokens.{ends_by, noted, tokens_from, tokens_of}
 
 pub tokens_end : (at : ℕ) → tokens_from 0 at [] ≡ []
 unfolding tokens_from
@@ -63,5 +63,5 @@ not_utf8 : (text : List ℕ) (b : Bool) → is_utf8 text ≡ b → (IsUtf8 text 
 not_utf8 text true e h = absurd (h (IsUtf8-from_is_utf8 text e))
 not_utf8 text false e h = e
 
-pub tokens_of_others : (text : List ℕ) → (IsUtf8 text → ⊥) → noted (Some kinds.Fault) (utf8_valid_len text) (length text) ≡ tokens_of text
+pub tokens_of_others : (text : List ℕ) → (IsUtf8 text → ⊥) → filter (ends_by (utf8_valid_len text)) (tokens_from 0 0 text) ++ noted (Some kinds.Fault) (utf8_valid_len text) (length text) ≡ tokens_of text
 tokens_of_others text h = rw (not_utf8 text (is_utf8 text) refl h) refl

@@ -1,8 +1,13 @@
 pub mod Bytes
 pub mod Contents
+pub mod Faults
+pub mod Finds
 pub mod FirstForm
 pub mod Pieces
 pub mod Quotes
+pub mod Scripts
+pub mod Specs
 pub mod Tokens
 pub mod Words
 pub mod Written
+pub mod WrittenScripts

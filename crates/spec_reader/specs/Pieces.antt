@@ -16,34 +16,34 @@ gap n = record { kind = None; len = n }
 abbrev pub token : Kind → ℕ → Piece
 token k n = record { kind = Some k; len = n }
 
--- a fault takes all the rest
-abbrev pub fault : List ℕ → Piece
-fault text = token kinds.Fault (length text)
+-- what begins no token, of so many bytes: by them it is known that none begins there
+abbrev pub fault : ℕ → Piece
+fault n = token kinds.Fault n
 
 -- a keyword or a name
 abbrev pub name : List ℕ → Piece
 name text = let n : ℕ = prefix_len (goes_on runs.Name) text in token (word_kind (take n text)) n
 
--- behind the opening quote, up to the closing one
+-- behind the opening quote, up to the closing one; without one, up to the end of the line
 abbrev pub quoted_to : List ℕ → Option ℕ → Piece
-quoted_to text None = fault text
-quoted_to text (Some n) = token kinds.QuotedName (suc n)
+quoted_to rest None = fault (suc (prefix_len (goes_on runs.Comment) rest))
+quoted_to rest (Some n) = token kinds.QuotedName (suc n)
 
 abbrev pub quoted_name : List ℕ → Piece
-quoted_name [] = fault []
-quoted_name (b ∷ rest) = quoted_to (b ∷ rest) (quoted_len false rest)
+quoted_name [] = fault 0
+quoted_name (b ∷ rest) = quoted_to rest (quoted_len false rest)
 
--- up to the first `}`
+-- up to the first `}`; without one, up to the end
 abbrev pub block : List ℕ → Piece
-block text = let n : ℕ = prefix_len (goes_on runs.Block) text in if nat_lt n (length text) then token kinds.Block (suc n) else fault text
+block text = let n : ℕ = prefix_len (goes_on runs.Block) text in if nat_lt n (length text) then token kinds.Block (suc n) else fault (length text)
 
-abbrev pub sign : ℕ → List ℕ → Piece
-sign b text =
+abbrev pub sign : ℕ → Piece
+sign b =
     if b == 40 then token kinds.OpenParenthesis 1
     else (if b == 41 then token kinds.CloseParenthesis 1
     else (if b == 44 then token kinds.Comma 1
     else (if b == 42 then token kinds.Star 1
-    else fault text)))
+    else fault 1)))
 
 -- by the first byte: a blank, a comment, a name, a number, a quoted name, a block, a sign or a fault
 abbrev pub piece_by : ℕ → List ℕ → Piece
@@ -54,7 +54,7 @@ piece_by b text =
     else (if is_digit b then token kinds.Number (prefix_len (goes_on runs.Digits) text)
     else (if b == 34 then quoted_name text
     else (if b == 123 then block text
-    else sign b text)))))
+    else sign b)))))
 
 abbrev pub piece_of : List ℕ → Piece
 piece_of [] = gap 0

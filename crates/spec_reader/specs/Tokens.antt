@@ -1,5 +1,5 @@
 -- The tokens of a text.
-use Rattle.std.specs.Prelude.{ℕ, zero, suc, ◌+◌, ◌-◌, if◌then◌else◌, List, [], ◌∷◌, ◌++◌, Option, Some, None, length}
+use Rattle.std.specs.Prelude.{ℕ, zero, suc, ◌+◌, ◌-◌, Bool, nat_le, if◌then◌else◌, filter, List, [], ◌∷◌, ◌++◌, Option, Some, None, length}
 use Rattle.std.specs.Str.{is_utf8}
 use Rattle.std.specs.Str.Lossy.{utf8_valid_len}
 use Rattle.spec_reader.specs.declared.kind.Kind.{Kind}
@@ -20,8 +20,12 @@ tokens_from (suc n) at [] = []
 tokens_from zero at (b ∷ rest) = let p : Piece = piece_of (b ∷ rest) in noted p.kind at (at + p.len) ++ tokens_from (p.len - 1) (at + 1) rest
 tokens_from (suc n) at (b ∷ rest) = tokens_from n (at + 1) rest
 
--- all tokens; or, where the text is no UTF-8, a fault at the first byte that is none
+-- Whether a token ends there or before.
+abbrev pub ends_by : ℕ → Token → Bool
+ends_by n t = nat_le t.end n
+
+-- All tokens; or, where the text is no UTF-8, those that end before the first byte that is none, and a fault at it.
 abbrev pub tokens_of : List ℕ → List Token
 tokens_of text =
     if is_utf8 text then tokens_from 0 0 text
-    else noted (Some kinds.Fault) (utf8_valid_len text) (length text)
+    else filter (ends_by (utf8_valid_len text)) (tokens_from 0 0 text) ++ noted (Some kinds.Fault) (utf8_valid_len text) (length text)

@@ -10,6 +10,12 @@ use Rattle.spec_reader.specs.declared.kind.Kind.TheVariants as kinds
 abbrev pub code : Kind → ℕ
 code k = tag_of the_type k
 
+-- every kind, in order
+abbrev pub kinds_list : List Kind
+kinds_list =
+    kinds.Setup ∷ kinds.Teardown ∷ kinds.Session ∷ kinds.Step ∷ kinds.Permutation ∷ kinds.Notices ∷ kinds.Name ∷ kinds.QuotedName ∷
+    kinds.Block ∷ kinds.Number ∷ kinds.OpenParenthesis ∷ kinds.CloseParenthesis ∷ kinds.Comma ∷ kinds.Star ∷ kinds.Fault ∷ []
+
 -- whether two kinds are the same
 abbrev pub is : Kind → Kind → Bool
 is k j = nat_eq (code k) (code j)

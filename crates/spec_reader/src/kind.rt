@@ -23,7 +23,7 @@ pub enum Kind {
     Comma,
     Star,
 
-    /// What is no token, and all behind it. It is the last one.
+    /// What is no token.
     Fault,
 }
 

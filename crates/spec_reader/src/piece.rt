@@ -40,9 +40,10 @@ fn quoted_name(text: &[u8]) -> Piece
     ensures same { result ≡ pieces.quoted_name text.now }
     ensures within { result.len ≤ length text.now }
 {
-    match quoted_len(&text[1..]) {
+    let rest = &text[1..];
+    match quoted_len(rest) {
         Some(n) => token(Kind::QuotedName, n + 1),
-        None => token(Kind::Fault, text.len()),
+        None => token(Kind::Fault, run_len(Run::Comment, rest) + 1),
     }
 }
 
@@ -57,15 +58,15 @@ fn block(text: &[u8]) -> Piece
     }
 }
 
-fn sign(b: u8, text: &[u8]) -> Piece
-    ensures { result ≡ pieces.sign b text.now }
+fn sign(b: u8) -> Piece
+    ensures { result ≡ pieces.sign b }
 {
     match b {
         b'(' => token(Kind::OpenParenthesis, 1),
         b')' => token(Kind::CloseParenthesis, 1),
         b',' => token(Kind::Comma, 1),
         b'*' => token(Kind::Star, 1),
-        _ => token(Kind::Fault, text.len()),
+        _ => token(Kind::Fault, 1),
     }
 }
 
@@ -90,6 +91,6 @@ pub fn piece_of(text: &[u8]) -> Piece
     } else if b == b'{' {
         block(text)
     } else {
-        sign(b, text)
+        sign(b)
     }
 }

@@ -1,7 +1,10 @@
 use crate::kind::Kind;
 use crate::reader::read_tokens;
 use crate::token::Token;
-use crate::{SpecRefused, only_one_first_spec, read_first_form, written_is_read_back};
+use crate::{
+    SpecRefused, no_two_scripts, only_one_first_spec, read_first_form, read_spec,
+    refused_is_no_script, written_is_read_back,
+};
 
 const SCRIPT: &[u8] =
     b"# a script\r\nsetup { CREATE TABLE t (a int); -- {x\n }\r\nsession \"the \"\"first\"\" one\"\n step s$1{}#}\n\tpermutation S_1 # end";
@@ -78,5 +81,23 @@ fn tokens_have_their_kinds_and_places(rt: HostRuntime) {
     let Ok(tokens) = read_tokens(alloc, b"setup \xc3") else {
         panic!(rt; "memory");
     };
-    assert!(rt; tokens.as_slice() == [token(Kind::Fault, 6, 7)].as_slice());
+    assert!(rt;
+        tokens.as_slice() == [token(Kind::Setup, 0, 5), token(Kind::Fault, 6, 7)].as_slice()
+    );
+}
+
+#[test]
+fn a_script_with_sessions_is_read(rt: HostRuntime) {
+    let alloc = rt.alloc();
+    no_two_scripts();
+    refused_is_no_script();
+    let text = b"session s step a { } session t step b { x } permutation a(*, b) b";
+    let Ok(spec) = read_spec(alloc, text) else {
+        panic!(rt; "refused");
+    };
+    assert!(rt; spec.sessions.len() == 2);
+    match spec.permutations.at(0).and_then(|uses| uses.at(0)) {
+        Some(first) => assert!(rt; first.markers.len() == 2),
+        None => assert!(rt; false),
+    }
 }

@@ -1,4 +1,5 @@
-use crate::kind::Kind;
+use crate::kind::{Kind, is_name, same_kind};
+use grammar_words::Lexeme;
 
 /// A token and its places in the text: its first byte, and the byte behind its last.
 #[derive(Clone, Copy, Debug, PartialEq, Eq)]
@@ -6,4 +7,22 @@ pub struct Token {
     pub kind: Kind,
     pub start: usize,
     pub end: usize,
+}
+
+impl Lexeme for Token {
+    ghost use Rattle.spec_reader.specs.Scripts as scripts;
+
+    type Kind = Kind;
+
+    ghost a = { scripts.a };
+
+    ghost a_name = { scripts.a_name };
+
+    fn is(self, kind: Kind) -> bool {
+        same_kind(self.kind, kind)
+    }
+
+    fn is_name(self) -> bool {
+        is_name(self.kind)
+    }
 }

@@ -1,0 +1,101 @@
+-- What a text is read as, or why it is refused.
+use Rattle.std.proofs.Common.{Result, IfOk, ◌≡◌, ℕ, inl, inr, List, [], ◌∷◌, ◌++◌, Option, Some, None, Ok, Err, refl, sym, ◌∙◌, ap, subst}
+use Rattle.std.specs.Prelude.{◌⊎◌}
+use Rattle.grammar_rules.specs.Gives.{Refuses}
+use Rattle.grammar_rules.specs.Parses.{FailsAt, SameNext}
+use Rattle.grammar_rules.specs.Reading.{read_whole}
+use Rattle.grammar_rules.specs.declared.refused.Refused.{Refused}
+use Rattle.grammar_rules.specs.declared.refused.Refused.TheVariants as refused
+use Rattle.grammar_rules.proofs.Whole.{parses, one_value}
+use Rattle.grammar_words.specs.Places.{token_at}
+use Rattle.spec_reader.specs.Faults.{fault}
+use Rattle.spec_reader.specs.Finds.{Found, Finds}
+use Rattle.spec_reader.specs.Scripts.{Says, script}
+use Rattle.spec_reader.specs.Specs.{spec_of, IsScript, IsRefused, ReadsSpec, misfit}
+use Rattle.spec_reader.specs.Tokens.{tokens_of}
+use Rattle.spec_reader.specs.declared.fault.SpecFault.{SpecFault}
+use Rattle.spec_reader.specs.declared.fault.SpecFault.TheVariants as faults
+use Rattle.spec_reader.specs.declared.spec.Spec.{Spec}
+use Rattle.spec_reader.specs.declared.token.Token.{Token}
+use Rattle.spec_reader.specs.declared.written.WrittenSpec.{WrittenSpec}
+use Rattle.spec_reader.proofs.ScriptLaws.{script_law}
+
+abbrev itself : WrittenSpec → WrittenSpec
+itself w = w
+
+module _ (text : List ℕ) where
+  pub only_says : (v w : WrittenSpec) → Says text v → Says text w → w ≡ v
+  only_says v w h k = one_value (script_law text) (tokens_of text) v w h ((script_law text).shape.within (tokens_of text) w k)
+
+  pub only_script : (one other : Spec) → IsScript text one → IsScript text other → other ≡ one
+  only_script one other h k = k.3 ∙ (ap spec_of (only_says h.0 k.0 h.1 k.1) ∙ sym h.3)
+
+  said : (tokens : List Token) (w : WrittenSpec) → tokens ≡ tokens_of text → read_whole (script text) tokens ≡ Ok w → Says text w
+  said tokens w e r = (parses itself (tokens_of text) (Ok w) (script_law text) (subst (λ z. read_whole (script text) z ≡ Ok w) e r)).text
+
+  pub is_script : (tokens : List Token) (w : WrittenSpec) (spec : Spec) → tokens ≡ tokens_of text → read_whole (script text) tokens ≡ Ok w → fault w ≡ None → spec ≡ spec_of w → ReadsSpec text (Ok spec)
+  is_script tokens w spec e r g s =
+      let k : IsScript text spec = (w, said tokens w e r, g, s) in
+      (k, λ other h. only_script spec other k h)
+
+  pub breaks : (tokens : List Token) (w : WrittenSpec) (f : SpecFault) → tokens ≡ tokens_of text → read_whole (script text) tokens ≡ Ok w → Found f (fault w) → IsRefused text f
+  breaks tokens w (faults.BadToken line) e r g = absurd g
+  breaks tokens w (faults.Limit x) e r g = (w, said tokens w e r, g)
+  breaks tokens w (faults.DoubleName x) e r g = (w, said tokens w e r, g)
+  breaks tokens w faults.NoPermutation e r g = (w, said tokens w e r, g)
+  breaks tokens w (faults.UnknownStep x) e r g = (w, said tokens w e r, g)
+  breaks tokens w (faults.UnknownMarker x) e r g = (w, said tokens w e r, g)
+  breaks tokens w faults.NoMemory e r g = tt
+
+  -- what fits in no script without limits fits in none within them
+  narrow : (left : ℕ) → FailsAt (script text).texts (script text).free (tokens_of text) left → FailsAt (script text).texts (script text).texts (tokens_of text) left
+  narrow left h = record {
+    front = h.front;
+    after = h.after;
+    whole = h.whole;
+    left_is = h.left_is;
+    more = h.more;
+    value = h.value;
+    begins = h.begins;
+    no_more = λ more b same w. h.no_more more b same ((script_law text).shape.within (h.front ++ more) b w);
+  }
+
+  stops : (left : ℕ) → FailsAt (script text).texts (script text).texts (tokens_of text) left → IsRefused text (misfit text (tokens_of text) (refused.Syntax left))
+  stops left h = (token_at (tokens_of text) left, (left, h, refl), refl)
+
+  refused_there : (e : Refused) → Refuses e (read_whole (script text) (tokens_of text)) → IsRefused text (misfit text (tokens_of text) e)
+  refused_there refused.NoMemory h = tt
+  refused_there (refused.Syntax left) h = stops left (narrow left (parses itself (tokens_of text) (Err (refused.Syntax left)) (script_law text) h))
+  refused_there (refused.Limit left) h = stops left (parses itself (tokens_of text) (Err (refused.Limit left)) (script_law text) h).0
+
+  pub refused_as : (tokens : List Token) (e : Refused) (f : SpecFault) → tokens ≡ tokens_of text → Refuses e (read_whole (script text) tokens) → f ≡ misfit text tokens e → IsRefused text f
+  refused_as tokens e f i h k =
+      subst (λ z. IsRefused text z) (sym k)
+      (subst (λ z. IsRefused text (misfit text z e)) (sym i) (refused_there e (subst (λ z. Refuses e (read_whole (script text) z)) i h)))
+
+same_next : {T : Type 0} (ts : List T) → SameNext ts ts
+same_next [] = refl
+same_next (t ∷ ts) = (ts, refl)
+
+some_none : (f : SpecFault) (o : Option SpecFault) → o ≡ Some f → o ≡ None → ⊥
+some_none f None h k = cc
+some_none f (Some x) h k = cc
+
+-- What is refused is no script.
+module _ (text : List ℕ) where
+  broken : (f : SpecFault) (w : WrittenSpec) → Says text w → fault w ≡ Some f → (spec : Spec) → IsScript text spec → ⊥
+  broken f w h e spec k = some_none f (fault w) e (ap fault (only_says text k.0 w k.1 h) ∙ k.2)
+
+  pub no_script : (f : SpecFault) → IsRefused text f → (f ≡ faults.NoMemory) ⊎ ((spec : Spec) → IsScript text spec → ⊥)
+  no_script (faults.BadToken line) h = inr (λ spec k. h.1.1.no_more h.1.1.after k.0 (same_next h.1.1.after) (subst (λ z. (script text).texts z k.0) h.1.1.whole k.1))
+  no_script (faults.Limit x) h = inr (broken (faults.Limit x) h.0 h.1 h.2)
+  no_script (faults.DoubleName x) h = inr (broken (faults.DoubleName x) h.0 h.1 h.2)
+  no_script faults.NoPermutation h = inr (broken faults.NoPermutation h.0 h.1 h.2)
+  no_script (faults.UnknownStep x) h = inr (broken (faults.UnknownStep x) h.0 h.1 h.2)
+  no_script (faults.UnknownMarker x) h = inr (broken (faults.UnknownMarker x) h.0 h.1 h.2)
+  no_script faults.NoMemory h = inl refl
+
+-- what the judges found of what was read
+pub judged : (text : List ℕ) (r : Result Spec SpecFault) (tokens : List Token) (w : WrittenSpec) → tokens ≡ tokens_of text → read_whole (script text) tokens ≡ Ok w → Finds r (fault w) → IfOk r (λ spec. spec ≡ spec_of w) → ReadsSpec text r
+judged text (Ok spec) tokens w e h f s = is_script text tokens w spec e h f s
+judged text (Err x) tokens w e h f s = breaks text tokens w x e h f

@@ -1,0 +1,15 @@
+ghost use Rattle.std.specs.Prelude.{◌≡◌, ◌⊎◌, ℕ, List};
+ghost use Rattle.spec_reader.specs.Specs.{IsRefused, IsScript};
+ghost use Rattle.spec_reader.specs.declared.fault.SpecFault.{SpecFault};
+ghost use Rattle.spec_reader.specs.declared.fault.SpecFault.TheVariants.{NoMemory};
+ghost use Rattle.spec_reader.specs.declared.spec.Spec.{Spec};
+
+/// A text is one script at most.
+pub fn no_two_scripts()
+    ensures { (text : List ℕ) (one other : Spec) → IsScript text one → IsScript text other → other ≡ one }
+{}
+
+/// A text that is refused is no script.
+pub fn refused_is_no_script()
+    ensures { (text : List ℕ) (fault : SpecFault) → IsRefused text fault → (fault ≡ NoMemory) ⊎ ((spec : Spec) → IsScript text spec → ⊥) }
+{}
