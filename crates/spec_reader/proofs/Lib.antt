@@ -8,6 +8,7 @@ pub mod NameLaws
 pub mod Newlines
 pub mod Parts
 pub mod QuoteSteps
+pub mod ScriptBack
 pub mod ScriptLaws
 pub mod SpecLaws
 pub mod SpecSteps

@@ -33,11 +33,11 @@ pub record Part {A : Type 0} (whole : List ℕ) (P : List Token → A → Type 0
 abbrev pub Says : {A : Type 0} → List ℕ → (List Token → A → Type 0) → List ℕ → A → List ℕ → Type 0
 Says whole P text a rest = (at : ℕ) → drop at whole ≡ text → Part whole P at text a rest
 
-moved : (whole : List ℕ) (at n : ℕ) (text rest : List ℕ) → drop at whole ≡ text → drop n text ≡ rest → drop (at + n) whole ≡ rest
+pub moved : (whole : List ℕ) (at n : ℕ) (text rest : List ℕ) → drop at whole ≡ text → drop n text ≡ rest → drop (at + n) whole ≡ rest
 moved whole at n text rest h e = sym (drop-drop n at whole) ∙ (ap (λ (x : List ℕ). drop n x) h ∙ e)
 
 -- one token, and a blank
-token_at : (at : ℕ) (text : List ℕ) (k : Kind) (n : ℕ) (rest : List ℕ) → piece_of text ≡ token k n → 0 < length text → 0 < n → drop n text ≡ rest →
+pub token_at : (at : ℕ) (text : List ℕ) (k : Kind) (n : ℕ) (rest : List ℕ) → piece_of text ≡ token k n → 0 < length text → 0 < n → drop n text ≡ rest →
     tokens_from 0 at text ≡ record { kind = k; start = at; end = at + n } ∷ tokens_from 0 (at + n) rest
 token_at at text k n rest e h j d = piece_step at text (token k n) e h j ∙ ap (λ (x : List ℕ). record { kind = k; start = at; end = at + n } ∷ tokens_from 0 (at + n) x) d
 

@@ -7,7 +7,8 @@ use Rattle.grammar_rules.specs.Reading.{read_whole}
 use Rattle.grammar_rules.specs.declared.refused.Refused.{Refused}
 use Rattle.grammar_rules.specs.declared.refused.Refused.TheVariants as refused
 use Rattle.grammar_rules.proofs.Whole.{parses, one_value}
-use Rattle.grammar_words.specs.Places.{token_at}
+use Rattle.grammar_words.specs.Places.{token_at, StopsWith}
+use Rattle.grammar_words.proofs.PlaceLaws.{stops, no_text}
 use Rattle.spec_reader.specs.Faults.{fault}
 use Rattle.spec_reader.specs.Finds.{Found, Finds}
 use Rattle.spec_reader.specs.Scripts.{Says, script}
@@ -47,35 +48,15 @@ module _ (text : List ℕ) where
   breaks tokens w (faults.UnknownMarker x) e r g = (w, said tokens w e r, g)
   breaks tokens w faults.NoMemory e r g = tt
 
-  -- what fits in no script without limits fits in none within them
-  narrow : (left : ℕ) → FailsAt (script text).texts (script text).free (tokens_of text) left → FailsAt (script text).texts (script text).texts (tokens_of text) left
-  narrow left h = record {
-    front = h.front;
-    after = h.after;
-    whole = h.whole;
-    left_is = h.left_is;
-    more = h.more;
-    value = h.value;
-    begins = h.begins;
-    no_more = λ more b same w. h.no_more more b same ((script_law text).shape.within (h.front ++ more) b w);
-  }
-
-  stops : (left : ℕ) → FailsAt (script text).texts (script text).texts (tokens_of text) left → IsRefused text (misfit text (tokens_of text) (refused.Syntax left))
-  stops left h = (token_at (tokens_of text) left, (left, h, refl), refl)
-
-  refused_there : (e : Refused) → Refuses e (read_whole (script text) (tokens_of text)) → IsRefused text (misfit text (tokens_of text) e)
+  refused_there : (e : Refused) → StopsWith (script text) (tokens_of text) e → IsRefused text (misfit text (tokens_of text) e)
   refused_there refused.NoMemory h = tt
-  refused_there (refused.Syntax left) h = stops left (narrow left (parses itself (tokens_of text) (Err (refused.Syntax left)) (script_law text) h))
-  refused_there (refused.Limit left) h = stops left (parses itself (tokens_of text) (Err (refused.Limit left)) (script_law text) h).0
+  refused_there (refused.Syntax left) h = (token_at (tokens_of text) left, h, refl)
+  refused_there (refused.Limit left) h = (token_at (tokens_of text) left, h, refl)
 
   pub refused_as : (tokens : List Token) (e : Refused) (f : SpecFault) → tokens ≡ tokens_of text → Refuses e (read_whole (script text) tokens) → f ≡ misfit text tokens e → IsRefused text f
   refused_as tokens e f i h k =
       subst (λ z. IsRefused text z) (sym k)
-      (subst (λ z. IsRefused text (misfit text z e)) (sym i) (refused_there e (subst (λ z. Refuses e (read_whole (script text) z)) i h)))
-
-same_next : {T : Type 0} (ts : List T) → SameNext ts ts
-same_next [] = refl
-same_next (t ∷ ts) = (ts, refl)
+      (subst (λ z. IsRefused text (misfit text z e)) (sym i) (refused_there e (stops (script_law text) (tokens_of text) e (subst (λ z. Refuses e (read_whole (script text) z)) i h))))
 
 some_none : (f : SpecFault) (o : Option SpecFault) → o ≡ Some f → o ≡ None → ⊥
 some_none f None h k = cc
@@ -87,7 +68,7 @@ module _ (text : List ℕ) where
   broken f w h e spec k = some_none f (fault w) e (ap fault (only_says text k.0 w k.1 h) ∙ k.2)
 
   pub no_script : (f : SpecFault) → IsRefused text f → (f ≡ faults.NoMemory) ⊎ ((spec : Spec) → IsScript text spec → ⊥)
-  no_script (faults.BadToken line) h = inr (λ spec k. h.1.1.no_more h.1.1.after k.0 (same_next h.1.1.after) (subst (λ z. (script text).texts z k.0) h.1.1.whole k.1))
+  no_script (faults.BadToken line) h = inr (λ spec k. no_text (script text) (tokens_of text) h.0 h.1 k.0 k.1)
   no_script (faults.Limit x) h = inr (broken (faults.Limit x) h.0 h.1 h.2)
   no_script (faults.DoubleName x) h = inr (broken (faults.DoubleName x) h.0 h.1 h.2)
   no_script faults.NoPermutation h = inr (broken faults.NoPermutation h.0 h.1 h.2)

@@ -1,5 +1,6 @@
 ghost use Rattle.std.specs.Prelude.{◌≡◌, ◌⊎◌, ℕ, List};
 ghost use Rattle.spec_reader.specs.Specs.{IsRefused, IsScript};
+ghost use Rattle.spec_reader.specs.WrittenScripts.{IsWritableScript, script_text};
 ghost use Rattle.spec_reader.specs.declared.fault.SpecFault.{SpecFault};
 ghost use Rattle.spec_reader.specs.declared.fault.SpecFault.TheVariants.{NoMemory};
 ghost use Rattle.spec_reader.specs.declared.spec.Spec.{Spec};
@@ -12,4 +13,9 @@ pub fn no_two_scripts()
 /// A text that is refused is no script.
 pub fn refused_is_no_script()
     ensures { (text : List ℕ) (fault : SpecFault) → IsRefused text fault → (fault ≡ NoMemory) ⊎ ((spec : Spec) → IsScript text spec → ⊥) }
+{}
+
+/// Whatever can be written, as `script_text` has it, is read back.
+pub fn written_scripts_are_read_back()
+    ensures { (spec : Spec) → IsWritableScript spec → IsScript (script_text spec) spec }
 {}

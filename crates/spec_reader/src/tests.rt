@@ -91,6 +91,7 @@ fn a_script_with_sessions_is_read(rt: HostRuntime) {
     let alloc = rt.alloc();
     no_two_scripts();
     refused_is_no_script();
+    written_scripts_are_read_back();
     let text = b"session s step a { } session t step b { x } permutation a(*, b) b";
     let Ok(spec) = read_spec(alloc, text) else {
         panic!(rt; "refused");
