@@ -3,7 +3,7 @@ use crate::reader::read_tokens;
 use crate::token::Token;
 use crate::{
     SpecRefused, no_two_scripts, only_one_first_spec, read_first_form, read_spec,
-    refused_is_no_script, written_is_read_back,
+    refused_is_no_script, written_is_read_back, written_scripts_are_read_back,
 };
 
 const SCRIPT: &[u8] =
