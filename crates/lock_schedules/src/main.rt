@@ -17,6 +17,7 @@ use std::io::{self, BufRead, BufReader, BufWriter, Write};
 use std::process::ExitCode;
 
 const SESSIONS: u32 = 6;
+
 const TABLES: u32 = 4;
 
 // A step, as far as it was read.

@@ -67,12 +67,13 @@ grown_sound : (columns : List Column) (tables : List Table) (entries : List Entr
     → IsSound columns (grown shape node (map bound_of (children entries t)) (map (λ (e : Entry). f (child_of_entry e)) (children entries t)))
 grown_sound columns tables entries t node f (Leaf leaf) is kinds keys siblings suit each = tt
 grown_sound columns tables entries t node f (Level level) is kinds keys siblings suit each =
-    let below = all_below tables entries t suit in
-    (length-map (children entries t) bound_of ∙ sym (count_is (λ (e : Entry). f (child_of_entry e)) (children entries t)),
-     bounds_suit tables t level (children entries t) is below,
-     siblings_in_order entries t siblings,
-     keys_in columns (table_at tables t).columns level kinds keys,
-     kids_sound columns tables t f (children entries t) kinds each below)
+    let below = all_below tables entries t suit in (
+      length-map (children entries t) bound_of ∙ sym (count_is (λ (e : Entry). f (child_of_entry e)) (children entries t)),
+      bounds_suit tables t level (children entries t) is below,
+      siblings_in_order entries t siblings,
+      keys_in columns (table_at tables t).columns level kinds keys,
+      kids_sound columns tables t f (children entries t) kinds each below,
+    )
 
 bare_sound : (columns : List Column) (tables : List Table) (t : ℕ) (node : Node) (shape : TableShape) → map kind_of_column (table_at tables t).columns ≡ map kind_of_column columns → KeysLieIn (table_at tables t).columns shape → IsSound columns (grown shape node [] [])
 bare_sound columns tables t node (Leaf leaf) kinds keys = tt

@@ -20,7 +20,8 @@ mod tree;
 
 pub use height::height_up_to;
 pub use laws::{
-    default_stands_last, one_leaf, rows_fit, same_marks_same_tree, trees_are_sound, unseen_marks_show,
+    default_stands_last, one_leaf, rows_fit, same_marks_same_tree, trees_are_sound,
+    unseen_marks_show,
 };
 pub use leaves::push_leaves;
 pub use level_key::{LevelKey, copy_level};
