@@ -1,0 +1,275 @@
+#!/usr/bin/env python3
+"""What snapshots see, straight from the definitions, and schedules for the transaction table and the row
+store to be compared with.
+
+A history is the list of all events so far. What became of a transaction, what a session holds, what a
+snapshot sees of a leaf and what became of a version are looked up in that list, event by event, as
+`crates/history/specs` defines them in `Transactions.antt`, `Snapshots.antt`, `Rows.antt` and
+`History.antt`; a snapshot's place is the number of events before it. Nothing here is kept from one
+question to the next. The form of the steps and the answers stands in `crates/version_schedules/src/main.rt`.
+
+    checks/versions/model.py FOLDER     writes FOLDER/stdin, the schedules, and FOLDER/stdout, the answers
+"""
+import os
+import sys
+
+SCHEDULES, STEPS, SESSIONS, LEAVES = 2200, 40, 5, 3
+# How often each kind of step is drawn: for a session with a transaction, for one that holds a snapshot
+# besides, and for one without a transaction.
+BUSY = "p" * 12 + "r" * 16 + "e" * 8 + "m" * 8 + "s" * 14 + "n" * 10 + "h" * 14 + "d" + "c" * 10 + "a" * 9 + "fob"
+HOLDING = "p" * 6 + "r" * 8 + "e" * 5 + "m" * 5 + "s" * 50 + "n" * 10 + "h" + "d" * 3 + "c" * 4 + "a" * 4 + "fob"
+IDLE = "b" * 80 + "dfonspremhca" + "f" * 7
+
+
+class Numbers:
+    """A fixed row of numbers, the same on every machine."""
+
+    def __init__(self):
+        self.state = 13
+
+    def below(self, count):
+        self.state = (self.state * 6364136223846793005 + 1442695040888963407) % 2**64
+        return (self.state >> 33) % count
+
+    def of(self, choices):
+        return choices[self.below(len(choices))]
+
+
+# ---- the definitions
+
+def fate(history, tx):
+    ends = [event[0] for event in history if event[0] in ("committed", "aborted") and event[2] == tx]
+    return "a" if "aborted" in ends else "c" if ends else "r"
+
+
+def owners(history):
+    """The sessions that began the transactions, in order."""
+    return [event[1] for event in history if event[0] == "began"]
+
+
+def open_of(history, session):
+    found = None
+    for event in history:
+        if event[0] in ("began", "committed", "aborted") and event[1] == session:
+            found = event[2] if event[0] == "began" else None
+    return found
+
+
+def held_by(history, session):
+    """The place, the transaction and the command number of the snapshot that the session holds."""
+    found = None
+    for event in history:
+        if event[0] in ("held", "dropped") and event[1] == session:
+            found = event[2] if event[0] == "held" else None
+    return found
+
+
+def given(history, session):
+    return held_by(history, session) or (len(history), open_of(history, session), 0)
+
+
+def sees(history, snapshot, by, cmd):
+    place, tx, number = snapshot
+    return fate(history[:place], by) == "c" or (by == tx and cmd < number)
+
+
+def leaf_count(history):
+    return sum(event[0] == "leaf" for event in history)
+
+
+def versions(history):
+    """The versions in order of birth, as (leaf, value, by, command); their numbers are their places."""
+    return [event[1:] for event in history if event[0] == "born"]
+
+
+def end_of(history, version):
+    """The end that counts, as (by, command, how): the last one whose transaction is not aborted."""
+    found = None
+    for event in history:
+        if event[0] == "ended" and event[1] == version and fate(history, event[2]) != "a":
+            found = event[2:]
+    return found
+
+
+def is_seen(history, snapshot, version):
+    _, _, by, cmd = versions(history)[version]
+    end = end_of(history, version)
+    return sees(history, snapshot, by, cmd) and not (end and sees(history, snapshot, end[0], end[1]))
+
+
+def seen(history, leaf, snapshot):
+    """The numbers and values of the versions of the leaf that the snapshot sees, in order of birth."""
+    return [
+        (version, value)
+        for version, (where, value, _, _) in enumerate(versions(history))
+        if where == leaf and is_seen(history, snapshot, version)
+    ]
+
+
+def outcome(history, version):
+    """A letter, and the numbers that the answer names."""
+    end = end_of(history, version)
+    if end is None:
+        return "=", [versions(history)[version][1]]
+    by, _, how = end
+    return ("e", [by]) if fate(history, by) == "r" else (how[0], [by] + how[1:])
+
+
+# ---- which step may come, what it answers, and its events
+
+def change(history, kind, tx, version, cmd, last):
+    """The answer to a replacement, a deletion or a move, and its events."""
+    if version >= len(versions(history)):
+        return "V", []
+    leaf, _, by, _ = versions(history)[version]
+    if fate(history, by) != "c" and by != tx:
+        return "B", []
+    if end_of(history, version):
+        return "E", []
+    if kind == "r":
+        new = len(versions(history))
+        return "+", [("born", leaf, last, tx, cmd), ("ended", version, tx, cmd, ["r", new])]
+    if kind == "m" and last >= leaf_count(history):
+        return "L", []
+    return "+", [("ended", version, tx, cmd, ["m", last] if kind == "m" else ["g"])]
+
+
+def step(history, kind, session=0, what=0, cmd=0, last=0):
+    """The letter of the answer, the numbers before it, and the new events."""
+    tx = open_of(history, session)
+    if kind == "f":
+        return fate(history, session), (owners(history) + [0])[session:][:1], []
+    if kind == "l":
+        return "l", [leaf_count(history)], [("leaf",)]
+    if kind == "d":
+        return "+", [], [("dropped", session)]
+    if kind == "o":
+        snapshot = held_by(history, session)
+        told = [] if tx is None else [tx]
+        return "o", told + ([] if snapshot is None else ["h", snapshot[2]]), []
+    if kind == "b":
+        new = len(owners(history))
+        return ("b", [new], [("began", session, new)]) if tx is None else ("O", [], [])
+    if tx is None:
+        return "T", [], []
+    if kind in "ca":
+        return "+", [], [("committed" if kind == "c" else "aborted", session, tx)]
+    if kind == "h":
+        if held_by(history, session):
+            return "H", [], []
+        return "+", [], [("held", session, (len(history), tx, cmd))]
+    if kind == "n":
+        if what >= len(versions(history)):
+            return "V", [], []
+        return outcome(history, what) + ([],)
+    if kind in "rem":
+        letter, events = change(history, kind, tx, what, cmd, last)
+        return letter, [], events
+    if what >= leaf_count(history):
+        return "L", [], []
+    if kind == "p":
+        return "+", [], [("born", what, last, tx, cmd)]
+    place, own, _ = given(history, session)
+    shown = seen(history, what, (place, own, cmd))
+    return "s", [number for pair in shown for number in pair], []
+
+
+# ---- schedules
+
+def some_version(numbers, history, is_wanted):
+    """The number of a version, or now and then the next one: the first of five that is wanted, else the last."""
+    for _ in range(5):
+        count = len(versions(history)) + (not numbers.below(8))
+        version = numbers.below(max(1, count))
+        if is_wanted(version):
+            break
+    return version
+
+
+def drawn(numbers, history, sessions, commands):
+    """A step: its kind and its numbers. `commands` has the number of each session's command, which never
+    falls within a transaction and rises before a snapshot is held."""
+    session = numbers.below(sessions)
+    tx = open_of(history, session)
+    kind = numbers.of(IDLE if tx is None else HOLDING if held_by(history, session) else BUSY)
+    if tx is None:
+        commands[session] = 0
+    elif kind == "h" or numbers.below(10) < 6:
+        commands[session] += 1
+    cmd = commands[session]
+    leaf = numbers.below(leaf_count(history) + (not numbers.below(30)))
+    value = numbers.below(10)
+    if kind in "rem":
+        version = some_version(numbers, history, lambda v: change(history, "e", tx, v, cmd, 0)[0] == "+")
+        return [kind, session, version, cmd] + {"r": [value], "e": [], "m": [leaf]}[kind]
+    if kind == "n":
+        return [kind, session, some_version(numbers, history, lambda v: end_of(history, v))]
+    if kind == "s":
+        return [kind, session, leaf, cmd if numbers.below(6) else numbers.below(cmd + 1)]
+    if kind == "f":
+        return [kind, numbers.below(len(owners(history)) + 1)]
+    if kind == "l":
+        return [kind]
+    return [kind, session] + {"h": [0, cmd], "p": [leaf, cmd, value]}.get(kind, [])
+
+
+def written(numbers):
+    return "".join(n if isinstance(n, str) else chr(ord("0") + n) for n in numbers)
+
+
+def schedule(numbers, counts):
+    """A line of steps, and the line of their answers."""
+    history, steps, answers, trail = [], [], [], []
+    sessions = 2 + numbers.below(SESSIONS - 1)
+    leaves = 1 + numbers.below(LEAVES)
+    commands = [0] * sessions
+    todo = [["l"]] * leaves + [["b", 0]]
+    todo += [["p", 0, numbers.below(leaves), 0, numbers.below(10)] for _ in range(numbers.below(4))] + [["c", 0]]
+    length = STEPS - numbers.below(10)
+    while len(steps) < length:
+        now = todo.pop(0) if todo else drawn(numbers, history, sessions, commands)
+        letter, told, events = step(history, *now)
+        if now[0] in "ca" and letter == "+":
+            # what was held is given up, but now and then; others look
+            if held_by(history, now[1]) and numbers.below(5):
+                todo.append(["d", now[1]])
+            other = numbers.below(sessions)
+            if open_of(history, other) is not None and other != now[1]:
+                todo.append(["s", other, numbers.below(leaves), commands[other]])
+        if now[0] == "m" and letter == "+" and numbers.below(4):
+            todo.append(["p", now[1], now[4], now[3], numbers.below(10)])
+        if now[0] == "s" and letter == "s":
+            trail.append(now[2])
+            tally(counts, history, now, told)
+        counts[letter] = counts.get(letter, 0) + 1
+        history += events
+        steps.append(written(now))
+        answers.append(written(told + [letter]) + " ")
+    return "".join(steps), "".join(answers) + written(trail)
+
+
+def tally(counts, history, now, told):
+    """Counts the scans that show something else than other rules would."""
+    _, session, leaf, cmd = now
+    tx = open_of(history, session)
+    fresh = seen(history, leaf, (len(history), tx, cmd))
+    if told != [number for pair in fresh for number in pair]:
+        counts["held"] = counts.get("held", 0) + 1
+    ends = [event for event in history if event[0] == "ended" and fate(history, event[2]) == "a"]
+    if any(event[1] in told[::2] for event in ends):
+        counts["undone"] = counts.get("undone", 0) + 1
+
+
+def main():
+    folder = sys.argv[1]
+    numbers, counts = Numbers(), {}
+    lines = [schedule(numbers, counts) for _ in range(SCHEDULES)]
+    for name, part in (("stdin", 0), ("stdout", 1)):
+        with open(os.path.join(folder, name), "w", encoding="ascii") as out:
+            out.write("".join(line[part] + "\n" for line in lines))
+    print(f"{SCHEDULES} schedules, {counts['s']} scans: {counts['held']} see something else than by a fresh", end=" ")
+    print(f"snapshot, {counts['undone']} a version whose end was undone; answers by their letters:", end=" ")
+    print(", ".join(f"{letter} {counts[letter]}" for letter in sorted(counts) if len(letter) == 1))
+
+
+main()
