@@ -1,0 +1,9 @@
+pub mod Found
+pub mod Grown
+pub mod Keeping
+pub mod Keys
+pub mod Listed
+pub mod Paths
+pub mod Suited
+pub mod Told
+pub mod Trees

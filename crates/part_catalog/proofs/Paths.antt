@@ -1,0 +1,82 @@
+-- The way upwards, over the entries that are flagged.
+use Rattle.std.proofs.Common.{◌≡◌, ℕ, zero, suc, ◌+◌, ◌&&◌, arith, ap, refl, ◌∙◌, Bool, List, [], ◌∷◌, Option, Some, None, filter, map, length, inl, inr}
+use Rattle.std.specs.List.{find, position_or_len}
+use Rattle.std.specs.Option.{option_map}
+use Rattle.std.proofs.lemmas.Bool.{cases_Bool}
+use Rattle.std.proofs.lemmas.List.{length-map}
+use Rattle.history.specs.declared.catalogue.Entry.{Entry}
+use Rattle.table_trees.specs.declared.path_part.PathPart.{PathPart}
+use Rattle.table_trees.specs.Histories.{above, is_over, is_entry, parent_in, upwards, children}
+use Rattle.table_trees.proofs.Order.{children_of_part}
+use Rattle.part_catalog.specs.declared.stored.StoredEntry.{StoredEntry}
+use Rattle.part_catalog.specs.Kept.{entry_in, number_of}
+use Rattle.part_catalog.specs.Stands.{is_flagged, flagged_number, is_number, shown_above}
+use Rattle.part_catalog.specs.Answers.{parent_told, number_told}
+use Rattle.part_catalog.specs.Full.{tables_up}
+use Rattle.part_catalog.proofs.Told.{found_agree, find_filter}
+
+pub above_flagged : (entries : List StoredEntry) (flags : List Bool) (t : ℕ) → option_map entry_in (find (shown_above flags t) entries) ≡ above (filter (is_flagged flags) (map entry_in entries)) t
+above_flagged entries flags t =
+    found_agree (shown_above flags t) (λ e. is_over t e && is_flagged flags e) entries (λ k lt. refl)
+    ∙ find_filter (is_over t) (is_flagged flags) (map entry_in entries)
+
+pub parent_number : (o : Option Entry) → number_told (parent_told o) ≡ parent_in o
+parent_number None = refl
+parent_number (Some e) = refl
+
+-- ---- numbers and entries
+
+filter_numbers : (flags : List Bool) (kids : List Entry) → filter (flagged_number flags) (map number_of kids) ≡ map number_of (filter (is_flagged flags) kids)
+filter_numbers flags [] = refl
+filter_numbers flags (e ∷ kids) = elim (cases_Bool (is_flagged flags e)) [
+  | inl y ↦ rw y (ap (λ ns. e.id.number ∷ ns) (filter_numbers flags kids))
+  | inr n ↦ rw n (filter_numbers flags kids)
+]
+
+position_numbers : (e : Entry) (kids : List Entry) → position_or_len (is_number e.id.number) (map number_of kids) ≡ position_or_len (is_entry e) kids
+position_numbers e [] = refl
+position_numbers e (x ∷ kids) = elim (cases_Bool (is_entry e x)) [
+  | inl y ↦ rw y refl
+  | inr n ↦ rw n (ap (λ i. 1 + i) (position_numbers e kids))
+]
+
+-- the place of an entry among those that are flagged below its table
+pub place_is : (entries : List StoredEntry) (flags : List Bool) (numbers : List ℕ) (t : ℕ) (e : Entry) → numbers ≡ map number_of (children (map entry_in entries) t) → position_or_len (is_number e.id.number) (filter (flagged_number flags) numbers) ≡ position_or_len (is_entry e) (children (filter (is_flagged flags) (map entry_in entries)) t)
+place_is entries flags numbers t e are =
+    ap (λ ns. position_or_len (is_number e.id.number) (filter (flagged_number flags) ns)) are
+    ∙ ap (position_or_len (is_number e.id.number)) (filter_numbers flags (children (map entry_in entries) t))
+    ∙ position_numbers e (filter (is_flagged flags) (children (map entry_in entries) t))
+    ∙ ap (position_or_len (is_entry e)) (children_of_part (is_flagged flags) (map entry_in entries) t)
+
+pub count_is : (entries : List StoredEntry) (flags : List Bool) (numbers : List ℕ) (t : ℕ) → numbers ≡ map number_of (children (map entry_in entries) t) → length (filter (flagged_number flags) numbers) ≡ length (children (filter (is_flagged flags) (map entry_in entries)) t)
+count_is entries flags numbers t are =
+    ap (λ ns. length (filter (flagged_number flags) ns)) are
+    ∙ ap length (filter_numbers flags (children (map entry_in entries) t))
+    ∙ length-map (filter (is_flagged flags) (children (map entry_in entries) t)) number_of
+    ∙ ap length (children_of_part (is_flagged flags) (map entry_in entries) t)
+
+-- ---- one step
+
+pub upwards_none : (n : ℕ) (part : ℕ → PathPart) (up : ℕ → Option Entry) → upwards n part up None ≡ []
+upwards_none zero part up = refl
+upwards_none (suc n) part up = refl
+
+pub upwards_out : (n : ℕ) (part : ℕ → PathPart) (up : ℕ → Option Entry) (o : Option ℕ) → n ≡ 0 → upwards n part up o ≡ []
+upwards_out n part up None is = upwards_none n part up
+upwards_out zero part up (Some t) is = refl
+upwards_out (suc n) part up (Some t) is = absurd (omega arith)
+
+pub upwards_step : (n m : ℕ) (part : ℕ → PathPart) (up : ℕ → Option Entry) (t : ℕ) → n ≡ suc m → upwards n part up (Some t) ≡ part t ∷ upwards m part up (parent_in (up t))
+upwards_step n m part up t is = ap (λ k. upwards k part up (Some t)) is
+
+pub tables_none : (n : ℕ) (up : ℕ → Option Entry) → tables_up n up None ≡ 0
+tables_none zero up = refl
+tables_none (suc n) up = refl
+
+pub tables_out : (n : ℕ) (up : ℕ → Option Entry) (o : Option ℕ) → n ≡ 0 → tables_up n up o ≡ 0
+tables_out n up None is = tables_none n up
+tables_out zero up (Some t) is = refl
+tables_out (suc n) up (Some t) is = absurd (omega arith)
+
+pub tables_step : (n m : ℕ) (up : ℕ → Option Entry) (t : ℕ) → n ≡ suc m → tables_up n up (Some t) ≡ tables_up m up (parent_in (up t)) + 1
+tables_step n m up t is = ap (λ k. tables_up k up (Some t)) is

@@ -1,0 +1,186 @@
+ghost use Rattle.std.specs.Prelude.{◌≡◌, ◌<◌, ◌≤◌, ℕ, [], map, Some, IfOk, IfSome, length, option_map, slice_index_or};
+ghost use Rattle.history.specs.Transactions.{IsPast};
+ghost use Rattle.history.specs.Snapshots.{TakenSnapshot};
+ghost use Rattle.history.specs.Catalogue.{tables_made};
+ghost use Rattle.history.specs.History.{History, tx_events, catalogue_events};
+ghost use Rattle.history.specs.Places.{table_at};
+ghost use Rattle.history.specs.Presence.{entries_present};
+ghost use Rattle.tx_table.specs.Stands.{TableStands, SnapshotStands};
+ghost use Rattle.table_trees.specs.Seen.{seen};
+ghost use Rattle.table_trees.specs.Siblings.{AreSiblings};
+ghost use Rattle.table_trees.specs.Histories.{tree_of, ddl_tree, above, parent_in};
+ghost use Rattle.part_catalog.specs.Stands.{CatalogueStands};
+ghost use Rattle.part_catalog.specs.Answers.{parent_told, child_told, marker_told, pending_entry, AreTogether};
+
+use crate::below::Below;
+use crate::grow::grow;
+use crate::names::Names;
+use crate::see;
+use crate::stored::{StoredEntry, StoredTable};
+use history::{Check, Stamp, Table, TxId};
+use pg_ids::TableNo;
+use pg_values::NoMemory;
+use std::alloc::Global;
+use std::marker::Model;
+use table_trees::Tree;
+use tx_table::{Snapshot, TxTable};
+
+/// All tables, entries and kept CHECKs of a run.
+#[derive(Drop)]
+pub struct Catalog {
+    pub(crate) tables: Vec<StoredTable>,
+    pub(crate) entries: Vec<StoredEntry>,
+    pub(crate) checks: Vec<Check>,
+    pub(crate) below: Vec<Below>,
+    pub(crate) names: Names,
+    pub(crate) alloc: Global,
+}
+
+impl Model for Catalog {
+    ghost use Rattle.part_catalog.specs.Kept.{KeptCatalogue, IsKept};
+
+    ghost Value = { KeptCatalogue };
+
+    ghost view = { λ c. record { tables = c.tables.items; entries = c.entries.items; checks = c.checks.items } };
+
+    ghost invariant = { λ c. IsKept c.tables.items c.entries.items c.below.items c.names };
+}
+
+impl Catalog {
+    /// No table.
+    pub fn new(alloc: Global) -> Result<Self, NoMemory>
+        ensures { IfOk result (λ c. CatalogueStands c []) }
+    {
+        Ok(Catalog {
+            tables: Vec::new(alloc),
+            entries: Vec::new(alloc),
+            checks: Vec::new(alloc),
+            below: Vec::new(alloc),
+            names: Names::new(alloc),
+            alloc,
+        })
+    }
+
+    /// How many tables were made, dropped ones too. Their numbers are below it.
+    pub fn table_count(&self) -> u32
+        ensures kept { result ≡ length self.now.tables }
+        ensures is { (h : History) → CatalogueStands self.now h → result ≡ length (tables_made (catalogue_events h)) }
+    {
+        self.tables.len() as u32
+    }
+
+    /// A table as it was made, by its number: its name, its columns, and whether it holds rows or is
+    /// a level of partitions.
+    pub fn table(&self, table: TableNo) -> &Table
+        requires { table.number < length self.now.tables }
+        ensures { (h : History) → CatalogueStands self.now h → result.now ≡ table_at (tables_made (catalogue_events h)) table.number }
+    {
+        &self.tables[table.number as usize].table
+    }
+
+    /// The name of a table.
+    pub fn name_of(&self, table: TableNo) -> &[u8]
+        requires { table.number < length self.now.tables }
+        ensures { (h : History) → CatalogueStands self.now h → result.now ≡ (table_at (tables_made (catalogue_events h)) table.number).name }
+    {
+        self.table(table).name.as_bytes()
+    }
+
+    /// The tree of a table that a statement of the session reads under its snapshot: the table with
+    /// its present entries, but for the pending ones whose mark the snapshot sees, and so on below.
+    pub fn tree(
+        &self,
+        alloc: Global,
+        txs: &TxTable,
+        table: TableNo,
+        session: u32,
+        snap: &Snapshot,
+    ) -> Result<Tree, NoMemory>
+        requires known { table.number < length self.now.tables }
+        requires siblings { AreTogether txs.now self.now session }
+        ensures { IfOk result (λ t. (h : History) (s : TakenSnapshot) → TableStands txs.now h → CatalogueStands self.now h →
+            IsPast s.past (tx_events h) → SnapshotStands snap.now s → seen t ≡ tree_of h session table.number s) }
+    {
+        let flags = see::shown_flags(alloc, &self.entries, txs, session, snap)?;
+        let tree = grow(
+            alloc,
+            &self.tables,
+            &self.entries,
+            &self.below,
+            &flags,
+            table,
+            table,
+            7,
+        )?;
+        Ok(tree)
+    }
+
+    /// The table with all its present entries, pending ones too, and so on below.
+    pub fn ddl_tree(
+        &self,
+        alloc: Global,
+        txs: &TxTable,
+        table: TableNo,
+        session: u32,
+    ) -> Result<Tree, NoMemory>
+        requires known { table.number < length self.now.tables }
+        requires siblings { AreTogether txs.now self.now session }
+        ensures { IfOk result (λ t. (h : History) → TableStands txs.now h → CatalogueStands self.now h →
+            seen t ≡ ddl_tree h session table.number) }
+    {
+        let flags = see::present_flags(alloc, &self.entries, txs, session)?;
+        let tree = grow(
+            alloc,
+            &self.tables,
+            &self.entries,
+            &self.below,
+            &flags,
+            table,
+            table,
+            7,
+        )?;
+        Ok(tree)
+    }
+
+    /// The table of which a table is a partition.
+    pub fn parent_of(&self, txs: &TxTable, session: u32, child: TableNo) -> Option<TableNo>
+        ensures { (h : History) → TableStands txs.now h → CatalogueStands self.now h →
+            result ≡ parent_told (above (entries_present h session) child.number) }
+    {
+        match see::above(&self.entries, txs, session, child.number) {
+            Some(x) => Some(x.entry.parent),
+            None => None,
+        }
+    }
+
+    /// The pending partition of a table.
+    pub fn pending_of(&self, txs: &TxTable, session: u32, parent: TableNo) -> Option<TableNo>
+        ensures { (h : History) → TableStands txs.now h → CatalogueStands self.now h →
+            result ≡ child_told (pending_entry h session parent.number) }
+    {
+        match see::pending(&self.entries, txs, session, parent.number) {
+            Some(x) => Some(x.entry.child),
+            None => None,
+        }
+    }
+
+    /// The transaction that marked the pending partition of a table.
+    pub fn mark_of(&self, txs: &TxTable, session: u32, parent: TableNo) -> Option<TxId>
+        ensures { (h : History) → TableStands txs.now h → CatalogueStands self.now h →
+            result ≡ marker_told h (pending_entry h session parent.number) }
+    {
+        match see::pending(&self.entries, txs, session, parent.number) {
+            Some(x) => by_of(x.marked),
+            None => None,
+        }
+    }
+}
+
+fn by_of(stamp: Option<Stamp>) -> Option<TxId>
+    ensures { result ≡ option_map (λ s. s.by) stamp }
+{
+    match stamp {
+        Some(stamp) => Some(stamp.by),
+        None => None,
+    }
+}

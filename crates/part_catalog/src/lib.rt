@@ -1,0 +1,37 @@
+//! The catalogue: tables, partition entries and kept CHECKs, as versions.
+//!
+//! In PostgreSQL a table is a row of pg_class and a partition's place a row of pg_inherits, which
+//! transactions make, end and mark as they do other rows. But a statement does not read them under
+//! its isolation level: it sees what is committed, and what its own transaction did. The one
+//! exception is a partition that is being detached concurrently: its entry is marked pending, and a
+//! snapshot that sees the mark leaves the partition out, while an older one keeps it until the
+//! entry's end is committed.
+//!
+//! `Catalog` keeps all tables and all entries ever made, each with its newest end and mark; what an
+//! aborted transaction did stays, and does not count. So no abort has anything to undo. The entries
+//! below a table stand in plain order from the moment they are added, so that a tree is built in
+//! one pass. The contracts say that the catalogue stands for a history of events, before a call and
+//! after it, and what a call answers is a definition over that history.
+#![tactic(auto)]
+
+mod add;
+mod below;
+mod catalog;
+mod change;
+mod grow;
+mod names;
+mod new_table;
+mod see;
+mod stored;
+
+pub use catalog::Catalog;
+pub use new_table::{CatalogRefused, NewTable};
+
+/// How many tables a catalogue takes, dropped ones too.
+pub const TABLE_LIMIT: usize = 4096;
+
+/// How many partitions a table has at most.
+pub const PARTITION_LIMIT: usize = 1024;
+
+/// How many tables stand on a path at most.
+pub const LEVEL_LIMIT: usize = 8;
