@@ -8,11 +8,11 @@ use Rattle.grammar_rules.specs.declared.refused.Refused.{Refused}
 use Rattle.grammar_rules.specs.declared.refused.Refused.TheVariants as refused
 use Rattle.grammar_rules.proofs.Whole.{parses, one_value}
 use Rattle.grammar_words.specs.Places.{token_at, StopsWith}
-use Rattle.grammar_words.proofs.PlaceLaws.{stops, no_text}
+use Rattle.grammar_words.proofs.PlaceLaws.{stops, no_text, one_place}
 use Rattle.spec_reader.specs.Faults.{fault}
 use Rattle.spec_reader.specs.Finds.{Found, Finds}
 use Rattle.spec_reader.specs.Scripts.{Says, script}
-use Rattle.spec_reader.specs.Specs.{spec_of, IsScript, IsRefused, ReadsSpec, misfit}
+use Rattle.spec_reader.specs.Specs.{spec_of, IsScript, IsRefused, Breaks, StopsInLine, ReadsSpec, line_of, misfit}
 use Rattle.spec_reader.specs.Tokens.{tokens_of}
 use Rattle.spec_reader.specs.declared.fault.SpecFault.{SpecFault}
 use Rattle.spec_reader.specs.declared.fault.SpecFault.TheVariants as faults
@@ -80,3 +80,44 @@ module _ (text : List ℕ) where
 pub judged : (text : List ℕ) (r : Result Spec SpecFault) (tokens : List Token) (w : WrittenSpec) → tokens ≡ tokens_of text → read_whole (script text) tokens ≡ Ok w → Finds r (fault w) → IfOk r (λ spec. spec ≡ spec_of w) → ReadsSpec text r
 judged text (Ok spec) tokens w e h f s = is_script text tokens w spec e h f s
 judged text (Err x) tokens w e h f s = breaks text tokens w x e h f
+
+-- A text is refused for one reason.
+module _ (text : List ℕ) where
+  one_line : (line other : ℕ) → StopsInLine text line → StopsInLine text other → line ≡ other
+  one_line line other h k =
+      let e : h.1.0 ≡ k.1.0 = one_place (script text).texts (tokens_of text) h.1.0 k.1.0 h.1.1 k.1.1 in
+      h.2 ∙ (ap (line_of text) (h.1.2 ∙ (ap (token_at (tokens_of text)) e ∙ sym k.1.2)) ∙ sym k.2)
+
+  not_both : {A : Type 0} (line : ℕ) (f : SpecFault) → StopsInLine text line → Breaks text f → A
+  not_both line f h k = absurd (no_text (script text) (tokens_of text) h.0 h.1 k.0 k.1)
+
+  some_eq : (f g : SpecFault) (o : Option SpecFault) → o ≡ Some f → o ≡ Some g → f ≡ g
+  some_eq f g None h k = cc
+  some_eq f g (Some x) h k = cc
+
+  one_fault : (f g : SpecFault) → Breaks text f → Breaks text g → f ≡ g
+  one_fault f g h k = some_eq f g (fault h.0) h.2 (ap fault (only_says text k.0 h.0 k.1 h.1) ∙ k.2)
+
+  -- what is refused, told apart
+  abbrev Told : SpecFault → Type 0
+  Told f = (f ≡ faults.NoMemory) ⊎ (((line : ℕ) × (f ≡ faults.BadToken line) × StopsInLine text line) ⊎ Breaks text f)
+
+  told_apart : (f : SpecFault) → IsRefused text f → Told f
+  told_apart (faults.BadToken line) h = inr (inl (line, refl, h))
+  told_apart (faults.Limit x) h = inr (inr h)
+  told_apart (faults.DoubleName x) h = inr (inr h)
+  told_apart faults.NoPermutation h = inr (inr h)
+  told_apart (faults.UnknownStep x) h = inr (inr h)
+  told_apart (faults.UnknownMarker x) h = inr (inr h)
+  told_apart faults.NoMemory h = inl refl
+
+  same_of : (f g : SpecFault) → Told f → Told g → (f ≡ faults.NoMemory) ⊎ ((g ≡ faults.NoMemory) ⊎ (f ≡ g))
+  same_of f g (inl e) k = inl e
+  same_of f g h (inl e) = inr (inl e)
+  same_of f g (inr (inl h)) (inr (inl k)) = inr (inr (h.1 ∙ (ap (λ (n : ℕ). faults.BadToken n) (one_line h.0 k.0 h.2 k.2) ∙ sym k.1)))
+  same_of f g (inr (inl h)) (inr (inr k)) = not_both h.0 g h.2 k
+  same_of f g (inr (inr h)) (inr (inl k)) = not_both k.0 f k.2 h
+  same_of f g (inr (inr h)) (inr (inr k)) = inr (inr (one_fault f g h k))
+
+  pub one_reason : (f g : SpecFault) → IsRefused text f → IsRefused text g → (f ≡ faults.NoMemory) ⊎ ((g ≡ faults.NoMemory) ⊎ (f ≡ g))
+  one_reason f g h k = same_of f g (told_apart f h) (told_apart g k)

@@ -15,6 +15,11 @@ pub fn refused_is_no_script()
     ensures { (text : List ℕ) (fault : SpecFault) → IsRefused text fault → (fault ≡ NoMemory) ⊎ ((spec : Spec) → IsScript text spec → ⊥) }
 {}
 
+/// A text is refused for one reason.
+pub fn refused_for_one_reason()
+    ensures { (text : List ℕ) (one other : SpecFault) → IsRefused text one → IsRefused text other → (one ≡ NoMemory) ⊎ ((other ≡ NoMemory) ⊎ (one ≡ other)) }
+{}
+
 /// Whatever can be written, as `script_text` has it, is read back.
 pub fn written_scripts_are_read_back()
     ensures { (spec : Spec) → IsWritableScript spec → IsScript (script_text spec) spec }

@@ -45,7 +45,9 @@ pub use first_form::{
     FirstSpec, SpecRefused, only_one_first_spec, read_first_form, written_is_read_back,
 };
 pub use in_order::InOrder;
-pub use laws::{no_two_scripts, refused_is_no_script, written_scripts_are_read_back};
+pub use laws::{
+    no_two_scripts, refused_for_one_reason, refused_is_no_script, written_scripts_are_read_back,
+};
 pub use limits::{
     MOST_MARKERS, MOST_PERMUTATIONS, MOST_SESSIONS, MOST_SETUP_BLOCKS, MOST_STEPS, MOST_USES,
 };

@@ -3,7 +3,8 @@ use crate::reader::read_tokens;
 use crate::token::Token;
 use crate::{
     SpecRefused, no_two_scripts, only_one_first_spec, read_first_form, read_spec,
-    refused_is_no_script, written_is_read_back, written_scripts_are_read_back,
+    refused_for_one_reason, refused_is_no_script, written_is_read_back,
+    written_scripts_are_read_back,
 };
 
 const SCRIPT: &[u8] =
@@ -91,6 +92,7 @@ fn a_script_with_sessions_is_read(rt: HostRuntime) {
     let alloc = rt.alloc();
     no_two_scripts();
     refused_is_no_script();
+    refused_for_one_reason();
     written_scripts_are_read_back();
     let text = b"session s step a { } session t step b { x } permutation a(*, b) b";
     let Ok(spec) = read_spec(alloc, text) else {
