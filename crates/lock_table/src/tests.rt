@@ -62,8 +62,9 @@ fn first_come_first_served(rt: HostRuntime) {
         assert!(rt; is_granted(ask(&mut locks, 1, 0, LockMode::AccessShare)));
         assert!(rt; waits_behind(ask(&mut locks, 64, 0, LockMode::AccessExclusive), 1));
         assert!(rt; waits_behind(ask(&mut locks, 3, 0, LockMode::AccessShare), 64));
-        if locks.wanted(4).is_none() && locks.sessions() > 4 {
-            locks.wait_on(4, WaitOn::Snapshots(SessionSet::empty().with(1)));
+        let readers = SessionSet::empty().with(1);
+        if locks.sessions() > 4 && locks.wanted(4).is_none() && !readers.has(4) {
+            locks.wait_on(4, WaitOn::Snapshots(readers));
         }
         end(&mut locks, 1);
         assert!(rt; locks.ready() == Some(64));
