@@ -45,20 +45,31 @@ fn passed(alloc: Global, text: &[u8]) -> Option<Which> {
     }
 }
 
+/// How many statements a block has.
+fn length(alloc: Global, text: &[u8]) -> Option<usize> {
+    match parse_block(alloc, text) {
+        Ok(list) => Some(list.len()),
+        Err(_) => None,
+    }
+}
+
+/// Where a block stops to be the beginning of one.
+fn stops(alloc: Global, text: &[u8]) -> Option<usize> {
+    match parse_block(alloc, text) {
+        Err(ParseRefused::Syntax { at }) => Some(at),
+        _ => None,
+    }
+}
+
 #[test]
 fn statements_have_their_limit(rt: HostRuntime) -> Result<(), Fail> {
     let alloc = rt.alloc();
     let most = around(alloc, b"", MOST_STATEMENTS, b"COMMIT;", b";;")?;
-    assert!(rt; matches!(parse_block(alloc, &most), Ok(list) if list.len() == MOST_STATEMENTS));
+    assert!(rt; length(alloc, &most) == Some(MOST_STATEMENTS));
     let more = around(alloc, b"", MOST_STATEMENTS, b"COMMIT;", b";; END")?;
     assert!(rt; matches!(passed(alloc, &more), Some(Which::Statements)));
     let other = around(alloc, b"", MOST_STATEMENTS, b"COMMIT;", b";; ENDLESS")?;
-    assert!(rt;
-        matches!(
-            parse_block(alloc, &other),
-            Err(ParseRefused::Syntax { at: 7171 })
-        )
-    );
+    assert!(rt; stops(alloc, &other) == Some(7171));
     Ok(())
 }
 
