@@ -1,0 +1,6 @@
+pub mod Laws
+pub mod Legal
+pub mod Parts
+pub mod Shown
+pub mod Versions
+pub mod Worlds

@@ -1,0 +1,17 @@
+//! Each row that a tree of tables shows lies in the one leaf of it that accepts the row, whatever
+//! sessions do.
+//!
+//! The invariant is stated for worlds: sets of transactions that have each committed one and no
+//! aborted one. What a session has, what is committed alone, and what will be there after any
+//! commits and aborts are such sets, so the ends of transactions only take worlds away. An event
+//! that adds something keeps the invariant in each world of its transaction, by the locks that the
+//! transaction holds: whatever another one has done there, it would have needed a lock that
+//! conflicts with these.
+//!
+//! The laws stand on the definitions of `history` alone: `specs/Parts.antt` has the parts of the
+//! invariant, `specs/Legal.antt` what is locked, tested and scanned before each kind of event.
+#![tactic(auto)]
+
+mod laws;
+
+pub use laws::{legal_keeps_all, one_leaf_accepts};
