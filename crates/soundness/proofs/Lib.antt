@@ -5,6 +5,7 @@ pub mod AddedSiblings
 pub mod All
 pub mod Checks
 pub mod Counted
+pub mod Created
 pub mod Ended
 pub mod Held
 pub mod Locking
@@ -21,4 +22,5 @@ pub mod Tables
 pub mod Trees
 pub mod Txs
 pub mod Under
+pub mod Waiting
 pub mod Worlds

@@ -1,15 +1,20 @@
 -- What holds of every legal history.
-use Rattle.std.specs.Prelude.{◌≡◌, ℕ, true, [], ◌∷◌, ◌⊎◌, Some, All, Contains}
+use Rattle.std.specs.Prelude.{◌≡◌, ℕ, true, false, List, [], ◌∷◌, ◌⊎◌, Some, All, Contains}
+use Rattle.pg_values.specs.declared.value.Value.{Value}
 use Rattle.pg_ids.specs.declared.ids.LeafId.{LeafId}
+use Rattle.history.specs.declared.transaction.Fate.TheVariants.{Running}
+use Rattle.history.specs.declared.catalogue.Entry.{Entry}
+use Rattle.history.specs.Transactions.{TxEvents, fate, IsRunning}
 use Rattle.history.specs.Snapshots.{TakenSnapshot, SnapshotHeld, held_by}
-use Rattle.history.specs.History.{History, tx_events, snapshot_events, catalogue_events, fresh, seen}
+use Rattle.history.specs.Catalogue.{EntryAdded}
+use Rattle.history.specs.History.{Event, History, CatalogueChange, tx_events, snapshot_events, catalogue_events, fresh, seen}
 use Rattle.history.specs.Presence.{counts}
 use Rattle.history.specs.Legal.{MayHold, IsLegal}
 use Rattle.table_trees.specs.Histories.{tree_of}
 use Rattle.table_trees.specs.Trees.{leaves, accepting}
-use Rattle.soundness.specs.Worlds.{IsMade}
-use Rattle.soundness.specs.Legal.{ArePermitted}
-use Rattle.soundness.specs.Parts.{InvariantOf}
+use Rattle.soundness.specs.Worlds.{same_tx, view, IsMade, AcceptAbove}
+use Rattle.soundness.specs.Legal.{MayAdd, MayCreate, ArePermitted}
+use Rattle.soundness.specs.Parts.{WritesIn, InvariantOf}
 
 -- whatever comes, so long as each event is permitted, the invariant holds
 abbrev pub LegalKeepsAll : Type 0
@@ -23,3 +28,17 @@ IsLooking h session s = ((held_by (snapshot_events h) session ≡ Some s) × (co
 abbrev pub OneLeafAccepts : Type 0
 OneLeafAccepts = (h : History) (session table : ℕ) (s : TakenSnapshot) (leaf : LeafId) → IsLegal h → ArePermitted h → IsLooking h session s → IsMade (catalogue_events h) table
     → Contains (leaves (tree_of h session table s)) leaf → All (λ v. accepting v.row (tree_of h session table s) ≡ leaf ∷ []) (seen h leaf.number s)
+
+-- a table that was just made may be added wherever a table with rows might
+abbrev pub CreateIsAdd : Type 0
+CreateIsAdd = (h : History) (e : Entry) → MayCreate h e → MayAdd h e
+
+-- the event is no entry that the transaction itself adds
+abbrev pub IsForeign : TxEvents → ℕ → Event → Type 0
+IsForeign txs t (CatalogueChange (EntryAdded e)) = same_tx txs t e.by.number ≡ false
+IsForeign txs t _ = Unit {0}
+
+-- a leaf that a waiting transaction may write accepts, after whatever others do, what it accepted before
+abbrev pub WaitingAccept : Type 0
+WaitingAccept = (e : Event) (h : History) (t x : ℕ) (row : List Value) → IsLegal (e ∷ h) → ArePermitted (e ∷ h) → IsRunning (tx_events h) t → fate (tx_events (e ∷ h)) t ≡ Running → IsForeign (tx_events h) t e
+    → WritesIn h (view (tx_events h) t) t x → AcceptAbove (catalogue_events h) (view (tx_events h) t) x row → AcceptAbove (catalogue_events (e ∷ h)) (view (tx_events (e ∷ h)) t) x row

@@ -20,7 +20,7 @@ use Rattle.table_trees.specs.Siblings.{CanStandTogether}
 use Rattle.soundness.specs.Versions.{IsVersion}
 use Rattle.soundness.specs.Worlds.{view, table_in, IsMade, HasLeaf, key_at, Present, IsThere, IsPending, Under, Accepts, AcceptAbove}
 use Rattle.soundness.specs.Shown.{IsJudged}
-use Rattle.soundness.specs.Parts.{AreChildren, IsKnown, OwnsIn, WritesIn, GuardsIn}
+use Rattle.soundness.specs.Parts.{AreChildren, IsMaker, IsKnown, OwnsIn, WritesIn, GuardsIn}
 
 -- ---- what the session of a transaction has: entries, tables, and the ways through them
 
@@ -107,6 +107,27 @@ pub record MayAdd (h : History) (e : Entry) : Type 0 where
   pub default_scanned : (d : Entry) (v : Version) (n x : ℕ) → Has h e.by.number d → d.parent.number ≡ e.parent.number → is_default d.bound ≡ true
       → IsVersion (row_events h) v → HasLeaf (catalogue_events h) x v.leaf → Below h e.by.number n d.child.number x → Judges h e.by.number v
       → accepts (key_at (catalogue_events h) e.parent.number v.row) e.bound ≡ false
+
+-- a CREATE .. PARTITION OF: the transaction has just made the child, so nothing has to be scanned but the default beside it
+pub record MayCreate (h : History) (e : Entry) : Type 0 where
+  pub acts : IsRunning (tx_events h) e.by.number
+  pub parent_locked : GuardsNow h e.by.number e.parent.number
+  pub made : IsMaker (catalogue_events h) e.by.number e.child.number
+  pub empty : (v : Version) → IsVersion (row_events h) v → HasLeaf (catalogue_events h) e.child.number v.leaf → ⊥
+  pub alone : (g : Entry) → Has h e.by.number g → (g.parent.number ≢ e.child.number) × (g.child.number ≢ e.child.number)
+  pub another : e.parent.number ≢ e.child.number
+  pub default_locked : (d : Entry) (n x : ℕ) → Has h e.by.number d → d.parent.number ≡ e.parent.number → is_default d.bound ≡ true → Below h e.by.number n d.child.number x
+      → OwnsNow h e.by.number x
+  pub shallow : (n top : ℕ) → Below h e.by.number n top e.parent.number → n + 1 ≡ 8 → ⊥
+  pub roomy : (es : List Entry) → AreChildren (catalogue_events h) (view (tx_events h) e.by.number) e.parent.number es
+      → length es < 1024
+  pub together : (g : Entry) → Has h e.by.number g
+      → CanStandTogether g e
+  pub no_pending : (g : Entry) → Has h e.by.number g → g.parent.number ≡ e.parent.number → HasPending h e.by.number g → is_default e.bound ≡ false
+  pub there : HasTable h e.by.number e.parent.number × HasTable h e.by.number e.child.number
+  pub default_scanned : (d : Entry) (v : Version) (n x : ℕ) → Has h e.by.number d → d.parent.number ≡ e.parent.number → is_default d.bound ≡ true
+      → IsVersion (row_events h) v → HasLeaf (catalogue_events h) x v.leaf → Below h e.by.number n d.child.number x
+      → Judges h e.by.number v → accepts (key_at (catalogue_events h) e.parent.number v.row) e.bound ≡ false
 
 -- a DETACH, or a part of a DROP: the parent is guarded
 pub record MayEndEntry (h : History) (k : ℕ) (s : Stamp) : Type 0 where

@@ -1,4 +1,4 @@
-ghost use Rattle.soundness.specs.Laws.{LegalKeepsAll, OneLeafAccepts};
+ghost use Rattle.soundness.specs.Laws.{LegalKeepsAll, OneLeafAccepts, CreateIsAdd, WaitingAccept};
 
 /// Each kind of event keeps the invariant, where it is permitted.
 pub fn legal_keeps_all()
@@ -9,4 +9,14 @@ pub fn legal_keeps_all()
 /// the tree: for every session, and each snapshot that it has open or could take.
 pub fn one_leaf_accepts()
     ensures { OneLeafAccepts }
+{}
+
+/// A table that was just made may become a partition without a scan of its own.
+pub fn create_is_add()
+    ensures { CreateIsAdd }
+{}
+
+/// A leaf that a waiting statement may write accepts, whatever others do, what it accepted before.
+pub fn waiting_accept()
+    ensures { WaitingAccept }
 {}

@@ -14,4 +14,4 @@
 
 mod laws;
 
-pub use laws::{legal_keeps_all, one_leaf_accepts};
+pub use laws::{create_is_add, legal_keeps_all, one_leaf_accepts, waiting_accept};
