@@ -54,27 +54,27 @@ new_way e cats w n top x is = elim (long_way e cats w n top x is) [
 ]
 
 pub parent_guarded : (h : History) (e : Entry) (w : World) → MayAdd h e → IsWorld (tx_events h) w → w e.by.number ≡ true → GuardsIn h w e.by.number e.parent.number
-parent_guarded h e w may world own = guard_here h w e.by.number e.parent.number world may.acts own may.parent_locked
+parent_guarded h e w may world own = guard_here h w e.by.number e.parent.number world may.place.acts own may.place.parent_locked
 
 -- below the new entry: the session owns all, so nobody else changed anything there
 pub below_view : (h : History) (e : Entry) (w : World) → MayAdd h e → InvariantOf h → IsWorld (tx_events h) w → w e.by.number ≡ true
     → (n x : ℕ) → Under (catalogue_events h) w n e.child.number x → Under (catalogue_events h) (view (tx_events h) e.by.number) n e.child.number x
 below_view h e w may i world own n x is = under_below (catalogue_events h) (catalogue_events h) w (view (tx_events h) e.by.number) e.child.number
     (λ g m p up. elim (split (tx_events h) w e.by.number g.by.number world p.1) [
-      | inl mine ↦ present_own (tx_events h) (catalogue_events h) w e.by.number g world may.acts own p mine
-      | inr other ↦ absurd (clash h w e.by.number g.by.number g.parent.number i world may.acts.runs other.0 other.1 (guarding h w e.by.number g.parent.number (own_here h w e.by.number g.parent.number world may.acts own (may.child_locked m g.parent.number up))) (i.open_entries.added w g world p.0 other.0 p.1))
+      | inl mine ↦ present_own (tx_events h) (catalogue_events h) w e.by.number g world may.place.acts own p mine
+      | inr other ↦ absurd (clash h w e.by.number g.by.number g.parent.number i world may.place.acts.runs other.0 other.1 (guarding h w e.by.number g.parent.number (own_here h w e.by.number g.parent.number world may.place.acts own (may.child_locked m g.parent.number up))) (i.open_entries.added w g world p.0 other.0 p.1))
     ]) n x is
 
 pub below_owned : (h : History) (e : Entry) (w : World) → MayAdd h e → InvariantOf h → IsWorld (tx_events h) w → w e.by.number ≡ true
     → (n x : ℕ) → Under (catalogue_events h) w n e.child.number x → OwnsIn h w e.by.number x
-below_owned h e w may i world own n x is = own_here h w e.by.number x world may.acts own (may.child_locked n x (below_view h e w may i world own n x is))
+below_owned h e w may i world own n x is = own_here h w e.by.number x world may.place.acts own (may.child_locked n x (below_view h e w may i world own n x is))
 
 -- a sibling
 pub sibling_view : (h : History) (e : Entry) (w : World) (g : Entry) → MayAdd h e → InvariantOf h → IsWorld (tx_events h) w → w e.by.number ≡ true
     → Present (catalogue_events h) w g → g.parent.number ≡ e.parent.number → Present (catalogue_events h) (view (tx_events h) e.by.number) g
 sibling_view h e w g may i world own p same = elim (split (tx_events h) w e.by.number g.by.number world p.1) [
-  | inl mine ↦ present_own (tx_events h) (catalogue_events h) w e.by.number g world may.acts own p mine
-  | inr other ↦ absurd (clash h w e.by.number g.by.number e.parent.number i world may.acts.runs other.0 other.1 (parent_guarded h e w may world own) (subst (λ z. GuardsIn h w g.by.number z) same (i.open_entries.added w g world p.0 other.0 p.1)))
+  | inl mine ↦ present_own (tx_events h) (catalogue_events h) w e.by.number g world may.place.acts own p mine
+  | inr other ↦ absurd (clash h w e.by.number g.by.number e.parent.number i world may.place.acts.runs other.0 other.1 (parent_guarded h e w may world own) (subst (λ z. GuardsIn h w g.by.number z) same (i.open_entries.added w g world p.0 other.0 p.1)))
 ]
 
 -- below a default sibling
@@ -84,21 +84,21 @@ default_view h e w d may i world own q same by_default n x is =
     let mine_d = sibling_view h e w d may i world own q same in
     under_below (catalogue_events h) (catalogue_events h) w (view (tx_events h) e.by.number) d.child.number
     (λ g m p up. elim (split (tx_events h) w e.by.number g.by.number world p.1) [
-      | inl mine ↦ present_own (tx_events h) (catalogue_events h) w e.by.number g world may.acts own p mine
-      | inr other ↦ absurd (clash h w e.by.number g.by.number g.parent.number i world may.acts.runs other.0 other.1 (guarding h w e.by.number g.parent.number (own_here h w e.by.number g.parent.number world may.acts own (may.default_locked d m g.parent.number mine_d same by_default up))) (i.open_entries.added w g world p.0 other.0 p.1))
+      | inl mine ↦ present_own (tx_events h) (catalogue_events h) w e.by.number g world may.place.acts own p mine
+      | inr other ↦ absurd (clash h w e.by.number g.by.number g.parent.number i world may.place.acts.runs other.0 other.1 (guarding h w e.by.number g.parent.number (own_here h w e.by.number g.parent.number world may.place.acts own (may.place.default_locked d m g.parent.number mine_d same by_default up))) (i.open_entries.added w g world p.0 other.0 p.1))
     ]) n x is
 
 pub default_owned : (h : History) (e : Entry) (w : World) (d : Entry) → MayAdd h e → InvariantOf h → IsWorld (tx_events h) w → w e.by.number ≡ true
     → Present (catalogue_events h) w d → d.parent.number ≡ e.parent.number → is_default d.bound ≡ true → (n x : ℕ) → Under (catalogue_events h) w n d.child.number x → OwnsIn h w e.by.number x
 default_owned h e w d may i world own q same by_default n x is =
-    own_here h w e.by.number x world may.acts own (may.default_locked d n x (sibling_view h e w d may i world own q same) same by_default (default_view h e w d may i world own q same by_default n x is))
+    own_here h w e.by.number x world may.place.acts own (may.place.default_locked d n x (sibling_view h e w d may i world own q same) same by_default (default_view h e w d may i world own q same by_default n x is))
 
 -- above the new entry: whoever added an entry there would own its parent
 pub above_mine : (h : History) (e : Entry) (w : World) (g : Entry) (m : ℕ) → MayAdd h e → InvariantOf h → IsWorld (tx_events h) w → w e.by.number ≡ true
     → Present (catalogue_events h) w g → Under (catalogue_events h) w m g.child.number e.parent.number → Present (catalogue_events h) (view (tx_events h) e.by.number) g
 above_mine h e w g m may i world own p low = elim (split (tx_events h) w e.by.number g.by.number world p.1) [
-  | inl mine ↦ present_own (tx_events h) (catalogue_events h) w e.by.number g world may.acts own p mine
-  | inr other ↦ absurd (clash h w e.by.number g.by.number e.parent.number i world may.acts.runs other.0 other.1 (parent_guarded h e w may world own) (guarding h w g.by.number e.parent.number (i.open_entries.below w g m e.parent.number world p.0 other.0 p.1 low)))
+  | inl mine ↦ present_own (tx_events h) (catalogue_events h) w e.by.number g world may.place.acts own p mine
+  | inr other ↦ absurd (clash h w e.by.number g.by.number e.parent.number i world may.place.acts.runs other.0 other.1 (parent_guarded h e w may world own) (guarding h w g.by.number e.parent.number (i.open_entries.below w g m e.parent.number world p.0 other.0 p.1 low)))
 ]
 
 pub above_view : (h : History) (e : Entry) (w : World) → MayAdd h e → InvariantOf h → IsWorld (tx_events h) w → w e.by.number ≡ true
@@ -110,8 +110,8 @@ above_view h e w may i world own n top is = under_above (catalogue_events h) (ca
 pub above_sibling : (h : History) (e : Entry) (w : World) (d f : Entry) (m : ℕ) → MayAdd h e → InvariantOf h → IsWorld (tx_events h) w → w e.by.number ≡ true
     → Present (catalogue_events h) w d → is_default d.bound ≡ true → Under (catalogue_events h) w m d.child.number e.parent.number → Present (catalogue_events h) w f → f.parent.number ≡ d.parent.number → Present (catalogue_events h) (view (tx_events h) e.by.number) f
 above_sibling h e w d f m may i world own q by_default low p same = elim (split (tx_events h) w e.by.number f.by.number world p.1) [
-  | inl mine ↦ present_own (tx_events h) (catalogue_events h) w e.by.number f world may.acts own p mine
-  | inr other ↦ absurd (clash h w e.by.number f.by.number e.parent.number i world may.acts.runs other.0 other.1 (parent_guarded h e w may world own) (guarding h w f.by.number e.parent.number (i.open_entries.beside w f d m e.parent.number world p.0 other.0 p.1 q (sym same) by_default low)))
+  | inl mine ↦ present_own (tx_events h) (catalogue_events h) w e.by.number f world may.place.acts own p mine
+  | inr other ↦ absurd (clash h w e.by.number f.by.number e.parent.number i world may.place.acts.runs other.0 other.1 (parent_guarded h e w may world own) (guarding h w f.by.number e.parent.number (i.open_entries.beside w f d m e.parent.number world p.0 other.0 p.1 q (sym same) by_default low)))
 ]
 
 -- the parent is not below the child, in any world of the transaction

@@ -27,18 +27,18 @@ owned_still h e w u top may i world runs owned n x is = elim (new_way e (catalog
       let up = old_way_up h e w may i world through.0 through.1.0 top through.1.1 in
       elim (cases_Bool (same_tx (tx_events h) e.by.number u)) [
         | inl y ↦ owns_same h w e.by.number u x y (below_owned h e w may i world through.0 through.2.0 x through.2.1)
-        | inr n ↦ absurd (clash h w e.by.number u e.parent.number i world may.acts.runs runs n (parent_guarded h e w may world through.0) (guarding h w u e.parent.number (owned through.1.0 e.parent.number up)))
+        | inr n ↦ absurd (clash h w e.by.number u e.parent.number i world may.place.acts.runs runs n (parent_guarded h e w may world through.0) (guarding h w u e.parent.number (owned through.1.0 e.parent.number up)))
       ]
 ]
 
 child_owned : (h : History) (e : Entry) (w : World) → MayAdd h e → InvariantOf h → IsWorld (tx_events h) w → w e.by.number ≡ true → (n x : ℕ) → Under (EntryAdded e ∷ catalogue_events h) w n e.child.number x → OwnsIn h w e.by.number x
-child_owned h e w may i world own n x is = owned_still h e w e.by.number e.child.number may i world may.acts.runs (below_owned h e w may i world own) n x is
+child_owned h e w may i world own n x is = owned_still h e w e.by.number e.child.number may i world may.place.acts.runs (below_owned h e w may i world own) n x is
 
 beside_new : (h : History) (e : Entry) (w : World) (d : Entry) → MayAdd h e → InvariantOf h → IsWorld (tx_events h) w → w e.by.number ≡ true
     → Present (EntryAdded e ∷ catalogue_events h) w d → d.parent.number ≡ e.parent.number → is_default d.bound ≡ true → (n x : ℕ) → Under (EntryAdded e ∷ catalogue_events h) w n d.child.number x → OwnsIn h w e.by.number x
 beside_new h e w d may i world own q same by_default n x is = elim (present_was e (catalogue_events h) w d q) [
   | inl new ↦ child_owned h e w may i world own n x (subst (λ (z : Entry). Under (EntryAdded e ∷ catalogue_events h) w n z.child.number x) (sym new.0) is)
-  | inr old ↦ owned_still h e w e.by.number d.child.number may i world may.acts.runs (default_owned h e w d may i world own old same by_default) n x is
+  | inr old ↦ owned_still h e w e.by.number d.child.number may i world may.place.acts.runs (default_owned h e w d may i world own old same by_default) n x is
 ]
 
 beside_old : (h : History) (e : Entry) (w : World) (g d : Entry) → MayAdd h e → InvariantOf h → IsWorld (tx_events h) w → IsEntry (catalogue_events h) g → fate (tx_events h) g.by.number ≡ Running → w g.by.number ≡ true
@@ -48,7 +48,7 @@ beside_old h e w g d may i world is runs counts q same by_default n x low = elim
     | inl y ↦ owns_same h w e.by.number g.by.number x y (child_owned h e w may i world new.1 n x (subst (λ (z : Entry). Under (EntryAdded e ∷ catalogue_events h) w n z.child.number x) (sym new.0) low))
     | inr y ↦
         let parents : g.parent.number ≡ e.parent.number = sym (ap (λ (z : Entry). z.parent.number) new.0 ∙ same) in
-        absurd (clash h w e.by.number g.by.number e.parent.number i world may.acts.runs runs y (parent_guarded h e w may world new.1) (subst (λ z. GuardsIn h w g.by.number z) parents (i.open_entries.added w g world is runs counts)))
+        absurd (clash h w e.by.number g.by.number e.parent.number i world may.place.acts.runs runs y (parent_guarded h e w may world new.1) (subst (λ z. GuardsIn h w g.by.number z) parents (i.open_entries.added w g world is runs counts)))
   ]
   | inr old ↦ owned_still h e w g.by.number d.child.number may i world runs (λ m y way. i.open_entries.beside w g d m y world is runs counts old same by_default way) n x low
 ]

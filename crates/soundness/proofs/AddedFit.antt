@@ -90,7 +90,7 @@ fit_new : (h : History) (e : Entry) (w : World) (v : Version) (p k : ℕ) → Ma
     → HasLeaf (catalogue_events h) p v.leaf → Under (catalogue_events h) w k e.child.number p → Accepts (EntryAdded e ∷ catalogue_events h) w e v.row
 fit_new h e w v p k may i world own is shows at low =
     let way = below_view h e w may i world own k p low in
-    let j = judged h e.by.number w v p i world may.acts own at (may.child_locked k p way) is shows in
+    let j = judged h e.by.number w v p i world may.place.acts own at (may.child_locked k p way) is shows in
     let key = key_at (catalogue_events h) e.parent.number v.row in
     accepts_map (EntryAdded e ∷ catalogue_events h) (catalogue_events h) w (view (tx_events h) e.by.number) e.parent.number e.bound key
     (λ by_default g q same. elim (present_was e (catalogue_events h) w g q) [
@@ -110,9 +110,9 @@ fit_old h e w v p f n may i world is shows at q low =
           let parents : f.parent.number ≡ e.parent.number = sym (ap (λ (z : Entry). z.parent.number) new.0 ∙ same) in
           let mine = sibling_view h e w f may i world new.1 q parents in
           let way = default_view h e w f may i world new.1 q parents by_default n p low in
-          let owns = may.default_locked f n p mine parents by_default way in
-          let j = judged h e.by.number w v p i world may.acts new.1 at owns is shows in
-          let out = may.default_scanned f v n p mine parents by_default is at way j in
+          let owns = may.place.default_locked f n p mine parents by_default way in
+          let j = judged h e.by.number w v p i world may.place.acts new.1 at owns is shows in
+          let out = may.place.default_scanned f v n p mine parents by_default is at way j in
           let here : accepts key e.bound ≡ false = subst (λ z. accepts (key_at (catalogue_events h) z v.row) e.bound ≡ false) (sym parents) out in
           inr (ap (λ (z : Entry). accepts key z.bound) (sym new.0) ∙ here)
       | inr old ↦ inl old
@@ -124,7 +124,7 @@ fit_through : (h : History) (e : Entry) (w : World) (v : Version) (p : ℕ) (f :
     → HasLeaf (catalogue_events h) p v.leaf → Present (catalogue_events h) w f → Under (catalogue_events h) w m f.child.number e.parent.number → Under (catalogue_events h) w k e.child.number p → Accepts (EntryAdded e ∷ catalogue_events h) w f v.row
 fit_through h e w v p f m k may i world own is shows at q up low =
     let way = below_view h e w may i world own k p low in
-    let j = judged h e.by.number w v p i world may.acts own at (may.child_locked k p way) is shows in
+    let j = judged h e.by.number w v p i world may.place.acts own at (may.child_locked k p way) is shows in
     let mine = above_mine h e w f m may i world own q up in
     let way_up = above_view h e w may i world own m f.child.number up in
     accepts_map (EntryAdded e ∷ catalogue_events h) (catalogue_events h) w (view (tx_events h) e.by.number) f.parent.number f.bound (key_at (catalogue_events h) f.parent.number v.row)

@@ -19,13 +19,13 @@ use Rattle.soundness.proofs.Counted.{few_still}
 use Rattle.soundness.proofs.Added.{IsFresh, parent_guarded, present_was, new_way, sibling_view, not_above, old_way_up, long_way, above_view, below_view}
 
 child_guarded : (h : History) (e : Entry) (w : World) → MayAdd h e → IsWorld (tx_events h) w → w e.by.number ≡ true → GuardsIn h w e.by.number e.child.number
-child_guarded h e w may world own = guarding h w e.by.number e.child.number (own_here h w e.by.number e.child.number world may.acts own (may.child_locked zero e.child.number refl))
+child_guarded h e w may world own = guarding h w e.by.number e.child.number (own_here h w e.by.number e.child.number world may.place.acts own (may.child_locked zero e.child.number refl))
 
 -- nobody else has made the child a partition
 child_free : (h : History) (e : Entry) (w : World) (g : Entry) → MayAdd h e → InvariantOf h → IsWorld (tx_events h) w → w e.by.number ≡ true → Present (catalogue_events h) w g → g.child.number ≡ e.child.number → ⊥
 child_free h e w g may i world own p same = elim (split (tx_events h) w e.by.number g.by.number world p.1) [
-  | inl mine ↦ may.no_partition g (present_own (tx_events h) (catalogue_events h) w e.by.number g world may.acts own p mine) same
-  | inr other ↦ clash h w e.by.number g.by.number e.child.number i world may.acts.runs other.0 other.1 (child_guarded h e w may world own)
+  | inl mine ↦ may.no_partition g (present_own (tx_events h) (catalogue_events h) w e.by.number g world may.place.acts own p mine) same
+  | inr other ↦ clash h w e.by.number g.by.number e.child.number i world may.place.acts.runs other.0 other.1 (child_guarded h e w may world own)
       (guarding h w g.by.number e.child.number (subst (λ z. OwnsIn h w g.by.number z) same (i.open_entries.below w g zero g.child.number world p.0 other.0 p.1 refl)))
 ]
 
@@ -46,7 +46,7 @@ there_up h t w x i world acts own guards (made, by, free) = (
 pending_view : (h : History) (e : Entry) (w : World) (g : Entry) → MayAdd h e → InvariantOf h → IsWorld (tx_events h) w → w e.by.number ≡ true → Present (catalogue_events h) w g → g.parent.number ≡ e.parent.number → IsPending (catalogue_events h) w g → IsPending (catalogue_events h) (view (tx_events h) e.by.number) g
 pending_view h e w g may i world own p same (u, mark, counts) = elim (split (tx_events h) w e.by.number u world counts) [
   | inl mine ↦ (u, mark, mine)
-  | inr other ↦ absurd (clash h w e.by.number u e.parent.number i world may.acts.runs other.0 other.1 (parent_guarded h e w may world own) (subst (λ z. GuardsIn h w u z) same (i.open_entries.marked w g u world p.0 mark other.0 counts)))
+  | inr other ↦ absurd (clash h w e.by.number u e.parent.number i world may.place.acts.runs other.0 other.1 (parent_guarded h e w may world own) (subst (λ z. GuardsIn h w u z) same (i.open_entries.marked w g u world p.0 mark other.0 counts)))
 ]
 
 not_pending : (h : History) (e : Entry) (w : World) (g : Entry) → IsFresh h e → e ≡ g → IsPending (catalogue_events h) w g → ⊥
@@ -57,7 +57,7 @@ number_new h e f g fresh new is same = fresh.numbered g is (sym (ap (λ (z : Ent
 
 -- an older sibling and the new entry can stand together, in either order
 together_old : (h : History) (e : Entry) (w : World) (g : Entry) → MayAdd h e → InvariantOf h → IsWorld (tx_events h) w → w e.by.number ≡ true → Present (catalogue_events h) w g → CanStandTogether g e
-together_old h e w g may i world own p same = may.together g (sibling_view h e w g may i world own p same) same
+together_old h e w g may i world own p same = may.place.together g (sibling_view h e w g may i world own p same) same
 
 together_new : (h : History) (e : Entry) (w : World) (g : Entry) → MayAdd h e → InvariantOf h → IsWorld (tx_events h) w → w e.by.number ≡ true → Present (catalogue_events h) w g → CanStandTogether e g
 together_new h e w g may i world own p same =
@@ -125,8 +125,8 @@ added_siblings h e fresh may i w world =
       there = λ f p. elim (was f p) [
         | inl new ↦
             let both : IsThere (catalogue_events h) w e.parent.number × IsThere (catalogue_events h) w e.child.number = (
-              there_up h e.by.number w e.parent.number i world may.acts new.1 (parent_guarded h e w may world new.1) may.there.0,
-              there_up h e.by.number w e.child.number i world may.acts new.1 (child_guarded h e w may world new.1) may.there.1,
+              there_up h e.by.number w e.parent.number i world may.place.acts new.1 (parent_guarded h e w may world new.1) may.place.there.0,
+              there_up h e.by.number w e.child.number i world may.place.acts new.1 (child_guarded h e w may world new.1) may.place.there.1,
             ) in
             subst (λ (z : Entry). IsThere (catalogue_events h) w z.parent.number × IsThere (catalogue_events h) w z.child.number) new.0 both
         | inr old ↦ s.there f old
@@ -143,7 +143,7 @@ added_siblings h e fresh may i w world =
         | inr before ↦ elim (was d q) [
           | inl new ↦
               let parents = same ∙ sym (parent d new.0) in
-              subst (λ (z : Entry). is_default z.bound ≡ false) new.0 (may.no_pending f (sibling_view h e w f may i world new.1 before parents) parents (pending_view h e w f may i world new.1 before parents pf))
+              subst (λ (z : Entry). is_default z.bound ≡ false) new.0 (may.place.no_pending f (sibling_view h e w f may i world new.1 before parents) parents (pending_view h e w f may i world new.1 before parents pf))
           | inr old ↦ s.no_default f d before old same pf
         ]
       ];

@@ -87,7 +87,7 @@ few_still h e w may i world x es are = elim (cases_Bool (w e.by.number)) [
               (sibling_view h e w (get_or left k d) may i world own (present_other e (catalogue_events h) w (get_or left k d) other p.0) same, same);
           two = AllPairs-filter AreTwo (is_other e.id.number) es are.two;
         } in
-        let room = may.roomy left mine in
+        let room = may.place.roomy left mine in
         let less = one_less e.id.number es are.two in
         omega (arith, room, less)
   ]

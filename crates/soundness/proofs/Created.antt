@@ -14,7 +14,7 @@ nothing_below h e zero x may (g, p, child, rest) = (may.alone g p).0 (sym rest)
 nothing_below h e (suc n) x may (g, p, child, rest) = nothing_below h e n g.parent.number may rest
 
 owns_child : (h : History) (e : Entry) → MayCreate h e → OwnsNow h e.by.number e.child.number
-owns_child h e may = (e.by.number, same_refl (tx_events h) e.by.number, view_own (tx_events h) e.by.number may.acts.runs, inr may.made)
+owns_child h e may = (e.by.number, same_refl (tx_events h) e.by.number, view_own (tx_events h) e.by.number may.place.acts.runs, inr may.made)
 
 owns_below : (h : History) (e : Entry) → MayCreate h e → (n x : ℕ) → Below h e.by.number n e.child.number x → OwnsNow h e.by.number x
 owns_below h e may zero x is = subst (λ z. OwnsNow h e.by.number z) is (owns_child h e may)
@@ -34,17 +34,10 @@ no_row h e v may is (suc n) x at low = nothing_below h e n x may low
 
 pub create_is_add : CreateIsAdd
 create_is_add h e may = record {
-  acts = may.acts;
-  parent_locked = may.parent_locked;
+  place = may.place;
   child_locked = owns_below h e may;
-  default_locked = may.default_locked;
   no_partition = λ g p. (may.alone g p).1;
   not_above = not_above h e may;
   shallow = shallow h e may;
-  roomy = may.roomy;
-  together = may.together;
-  no_pending = may.no_pending;
-  there = may.there;
   scanned = λ v n x is at low judged. absurd (no_row h e v may is n x at low);
-  default_scanned = may.default_scanned;
 }

@@ -32,7 +32,7 @@ other_out Aborted s runs other = absurd (cc)
 
 foreign_present : (h : History) (e : Entry) (t : ℕ) → MayAdd h e → same_tx (tx_events h) t e.by.number ≡ false → (g : Entry) → Present (EntryAdded e ∷ catalogue_events h) (view (tx_events h) t) g → Present (catalogue_events h) (view (tx_events h) t) g
 foreign_present h e t may other g p = elim (present_was e (catalogue_events h) (view (tx_events h) t) g p) [
-  | inl new ↦ absurd (both_ways (view (tx_events h) t e.by.number) new.1 (other_out (fate (tx_events h) e.by.number) (same_tx (tx_events h) t e.by.number) may.acts.runs other))
+  | inl new ↦ absurd (both_ways (view (tx_events h) t e.by.number) new.1 (other_out (fate (tx_events h) e.by.number) (same_tx (tx_events h) t e.by.number) may.place.acts.runs other))
   | inr old ↦ old
 ]
 

@@ -85,49 +85,42 @@ pub record MayDrop (h : History) (x : ℕ) (s : Stamp) : Type 0 where
 
 -- ---- entries
 
--- an ATTACH, or a CREATE .. PARTITION OF. The parent is guarded, and all below the child and below the default beside it
--- is owned. The child is no partition yet and does not stand above the parent; no path gets too long, and the parent has
--- room; the entry can stand together with its siblings, and is no DEFAULT beside a pending one. Each version that a scan judges below the child is
--- accepted by the entry and by those above it, and the entry accepts none that a scan judges below the default.
-pub record MayAdd (h : History) (e : Entry) : Type 0 where
+-- the entry has a place below its parent: both tables are there, the parent is guarded and has room, and all below the
+-- default there is owned. It can stand together with its siblings, is no DEFAULT beside a pending one, and accepts no
+-- version that a scan judges below the default.
+pub record HasPlace (h : History) (e : Entry) : Type 0 where
   pub acts : IsRunning (tx_events h) e.by.number
+  pub there : HasTable h e.by.number e.parent.number × HasTable h e.by.number e.child.number
   pub parent_locked : GuardsNow h e.by.number e.parent.number
-  pub child_locked : (n x : ℕ) → Below h e.by.number n e.child.number x → OwnsNow h e.by.number x
   pub default_locked : (d : Entry) (n x : ℕ) → Has h e.by.number d → d.parent.number ≡ e.parent.number → is_default d.bound ≡ true
       → Below h e.by.number n d.child.number x → OwnsNow h e.by.number x
-  pub no_partition : (g : Entry) → Has h e.by.number g → g.child.number ≢ e.child.number
-  pub not_above : (n : ℕ) → Below h e.by.number n e.child.number e.parent.number → ⊥
-  pub shallow : (n m top x : ℕ) → Below h e.by.number n top e.parent.number → Below h e.by.number m e.child.number x → n + m + 1 ≡ 8 → ⊥
   pub roomy : (es : List Entry) → AreChildren (catalogue_events h) (view (tx_events h) e.by.number) e.parent.number es → length es < 1024
   pub together : (g : Entry) → Has h e.by.number g → CanStandTogether g e
   pub no_pending : (g : Entry) → Has h e.by.number g → g.parent.number ≡ e.parent.number → HasPending h e.by.number g → is_default e.bound ≡ false
-  pub there : HasTable h e.by.number e.parent.number × HasTable h e.by.number e.child.number
-  pub scanned : (v : Version) (n x : ℕ) → IsVersion (row_events h) v → HasLeaf (catalogue_events h) x v.leaf → Below h e.by.number n e.child.number x → Judges h e.by.number v
-      → Takes h e.by.number e v.row × ((f : Entry) (k : ℕ) → Has h e.by.number f → Below h e.by.number k f.child.number e.parent.number → Takes h e.by.number f v.row)
   pub default_scanned : (d : Entry) (v : Version) (n x : ℕ) → Has h e.by.number d → d.parent.number ≡ e.parent.number → is_default d.bound ≡ true
       → IsVersion (row_events h) v → HasLeaf (catalogue_events h) x v.leaf → Below h e.by.number n d.child.number x → Judges h e.by.number v
       → accepts (key_at (catalogue_events h) e.parent.number v.row) e.bound ≡ false
 
--- a CREATE .. PARTITION OF: the transaction has just made the child, so nothing has to be scanned but the default beside it
+-- an ATTACH. All below the child is owned; the child is no partition yet and does not stand above the parent, and no path
+-- gets too long. Each version that a scan judges below the child is accepted by the entry and by those above it.
+pub record MayAdd (h : History) (e : Entry) : Type 0 where
+  pub place : HasPlace h e
+  pub child_locked : (n x : ℕ) → Below h e.by.number n e.child.number x → OwnsNow h e.by.number x
+  pub no_partition : (g : Entry) → Has h e.by.number g → g.child.number ≢ e.child.number
+  pub not_above : (n : ℕ) → Below h e.by.number n e.child.number e.parent.number → ⊥
+  pub shallow : (n m top x : ℕ) → Below h e.by.number n top e.parent.number → Below h e.by.number m e.child.number x → n + m + 1 ≡ 8 → ⊥
+  pub scanned : (v : Version) (n x : ℕ) → IsVersion (row_events h) v → HasLeaf (catalogue_events h) x v.leaf → Below h e.by.number n e.child.number x → Judges h e.by.number v
+      → Takes h e.by.number e v.row × ((f : Entry) (k : ℕ) → Has h e.by.number f → Below h e.by.number k f.child.number e.parent.number → Takes h e.by.number f v.row)
+
+-- a CREATE .. PARTITION OF: the transaction has just made the child, another table than the parent; no entry names it, and
+-- it has no row
 pub record MayCreate (h : History) (e : Entry) : Type 0 where
-  pub acts : IsRunning (tx_events h) e.by.number
-  pub parent_locked : GuardsNow h e.by.number e.parent.number
+  pub place : HasPlace h e
   pub made : IsMaker (catalogue_events h) e.by.number e.child.number
-  pub empty : (v : Version) → IsVersion (row_events h) v → HasLeaf (catalogue_events h) e.child.number v.leaf → ⊥
-  pub alone : (g : Entry) → Has h e.by.number g → (g.parent.number ≢ e.child.number) × (g.child.number ≢ e.child.number)
   pub another : e.parent.number ≢ e.child.number
-  pub default_locked : (d : Entry) (n x : ℕ) → Has h e.by.number d → d.parent.number ≡ e.parent.number → is_default d.bound ≡ true → Below h e.by.number n d.child.number x
-      → OwnsNow h e.by.number x
+  pub alone : (g : Entry) → Has h e.by.number g → (g.parent.number ≢ e.child.number) × (g.child.number ≢ e.child.number)
+  pub empty : (v : Version) → IsVersion (row_events h) v → HasLeaf (catalogue_events h) e.child.number v.leaf → ⊥
   pub shallow : (n top : ℕ) → Below h e.by.number n top e.parent.number → n + 1 ≡ 8 → ⊥
-  pub roomy : (es : List Entry) → AreChildren (catalogue_events h) (view (tx_events h) e.by.number) e.parent.number es
-      → length es < 1024
-  pub together : (g : Entry) → Has h e.by.number g
-      → CanStandTogether g e
-  pub no_pending : (g : Entry) → Has h e.by.number g → g.parent.number ≡ e.parent.number → HasPending h e.by.number g → is_default e.bound ≡ false
-  pub there : HasTable h e.by.number e.parent.number × HasTable h e.by.number e.child.number
-  pub default_scanned : (d : Entry) (v : Version) (n x : ℕ) → Has h e.by.number d → d.parent.number ≡ e.parent.number → is_default d.bound ≡ true
-      → IsVersion (row_events h) v → HasLeaf (catalogue_events h) x v.leaf → Below h e.by.number n d.child.number x
-      → Judges h e.by.number v → accepts (key_at (catalogue_events h) e.parent.number v.row) e.bound ≡ false
 
 -- a DETACH, or a part of a DROP: the parent is guarded
 pub record MayEndEntry (h : History) (k : ℕ) (s : Stamp) : Type 0 where
