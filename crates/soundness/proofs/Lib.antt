@@ -7,6 +7,7 @@ pub mod Checks
 pub mod Counted
 pub mod Created
 pub mod Ended
+pub mod Example
 pub mod Held
 pub mod Locking
 pub mod Looking

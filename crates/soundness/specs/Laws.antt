@@ -1,5 +1,5 @@
 -- What holds of every legal history.
-use Rattle.std.specs.Prelude.{◌≡◌, ℕ, true, false, List, [], ◌∷◌, ◌⊎◌, Some, All, Contains}
+use Rattle.std.specs.Prelude.{◌≡◌, ℕ, true, false, List, [], ◌∷◌, ◌⊎◌, Some, All, Contains, length}
 use Rattle.pg_values.specs.declared.value.Value.{Value}
 use Rattle.pg_ids.specs.declared.ids.LeafId.{LeafId}
 use Rattle.history.specs.declared.transaction.Fate.TheVariants.{Running}
@@ -8,7 +8,7 @@ use Rattle.history.specs.Transactions.{TxEvents, fate, IsRunning}
 use Rattle.history.specs.Snapshots.{TakenSnapshot, SnapshotHeld, held_by}
 use Rattle.history.specs.Catalogue.{EntryAdded}
 use Rattle.history.specs.History.{Event, History, CatalogueChange, tx_events, snapshot_events, catalogue_events, fresh, seen}
-use Rattle.history.specs.Presence.{counts}
+use Rattle.history.specs.Presence.{counts, entries_shown}
 use Rattle.history.specs.Legal.{MayHold, IsLegal}
 use Rattle.table_trees.specs.Histories.{tree_of}
 use Rattle.table_trees.specs.Trees.{leaves, accepting}
@@ -42,3 +42,8 @@ IsForeign txs t _ = Unit {0}
 abbrev pub WaitingAccept : Type 0
 WaitingAccept = (e : Event) (h : History) (t x : ℕ) (row : List Value) → IsLegal (e ∷ h) → ArePermitted (e ∷ h) → IsRunning (tx_events h) t → fate (tx_events (e ∷ h)) t ≡ Running → IsForeign (tx_events h) t e
     → WritesIn h (view (tx_events h) t) t x → AcceptAbove (catalogue_events h) (view (tx_events h) t) x row → AcceptAbove (catalogue_events (e ∷ h)) (view (tx_events (e ∷ h)) t) x row
+
+-- all that is asked above can be met: in some history a row is shown in the leaf of a partition
+abbrev pub ConditionsCanBeMet : Type 0
+ConditionsCanBeMet = (h : History) × (session : ℕ) × (table : ℕ) × (s : TakenSnapshot) × (leaf : LeafId) × IsLegal h × ArePermitted h × IsLooking h session s × IsMade (catalogue_events h) table
+    × Contains (leaves (tree_of h session table s)) leaf × (length (entries_shown h session s) ≡ 1) × (length (seen h leaf.number s) ≡ 1)

@@ -1,4 +1,4 @@
-ghost use Rattle.soundness.specs.Laws.{LegalKeepsAll, OneLeafAccepts, CreateIsAdd, WaitingAccept};
+ghost use Rattle.soundness.specs.Laws.{LegalKeepsAll, OneLeafAccepts, CreateIsAdd, WaitingAccept, ConditionsCanBeMet};
 
 /// Each kind of event keeps the invariant, where it is permitted.
 pub fn legal_keeps_all()
@@ -19,4 +19,9 @@ pub fn create_is_add()
 /// A leaf that a waiting statement may write accepts, whatever others do, what it accepted before.
 pub fn waiting_accept()
     ensures { WaitingAccept }
+{}
+
+/// What is asked of events and snapshots can be met, by a history in which a partition shows a row.
+pub fn conditions_can_be_met()
+    ensures { ConditionsCanBeMet }
 {}

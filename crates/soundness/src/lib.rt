@@ -14,4 +14,6 @@
 
 mod laws;
 
-pub use laws::{create_is_add, legal_keeps_all, one_leaf_accepts, waiting_accept};
+pub use laws::{
+    conditions_can_be_met, create_is_add, legal_keeps_all, one_leaf_accepts, waiting_accept,
+};

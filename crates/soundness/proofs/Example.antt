@@ -1,0 +1,257 @@
+-- The conditions on events can be met: a table that has a row becomes a partition, and another session deletes the row.
+use Rattle.std.proofs.Common.{◌≡◌, ◌≢◌, ℕ, ◌+◌, ◌<◌, ◌≤◌, zero, suc, arith, true, false, List, [], ◌∷◌, inl, inr, refl, sym, subst, Option, Some, None, length}
+use Rattle.std.specs.Prelude.{pos}
+use Rattle.std.specs.List.{Contains}
+use Rattle.std.proofs.lemmas.Grind.{common_steps}
+use Rattle.std.proofs.lemmas.List.Elements.{All-cons, All-nil}
+use Rattle.pg_values.specs.declared.value.Kind.TheVariants.{Int4 as KInt4}
+use Rattle.pg_values.specs.declared.value.Value.TheVariants.{Int4}
+use Rattle.pg_ids.specs.declared.ids.LeafId.{LeafId}
+use Rattle.pg_ids.specs.declared.lock_mode.LockMode.TheVariants.{RowExclusive}
+use Rattle.part_bounds.specs.declared.level.KeyColumn.{KeyColumn}
+use Rattle.part_bounds.specs.declared.level.Strategy.TheVariants.{Range as ByRange}
+use Rattle.part_bounds.specs.declared.point.Edge.TheVariants.{Min, At}
+use Rattle.part_bounds.specs.IntBounds.{int_range}
+use Rattle.part_bounds.specs.Levels.{IsPointOf}
+use Rattle.history.specs.declared.transaction.Fate.TheVariants.{Running, Committed}
+use Rattle.history.specs.declared.version.Version.{Version}
+use Rattle.history.specs.declared.version.End.{End}
+use Rattle.history.specs.declared.version.Ending.TheVariants.{Deleted}
+use Rattle.history.specs.declared.catalogue.Column.{Column}
+use Rattle.history.specs.declared.catalogue.Table.{Table}
+use Rattle.history.specs.declared.catalogue.TableShape.TheVariants.{Leaf, Level}
+use Rattle.history.specs.declared.catalogue.Entry.{Entry}
+use Rattle.history.specs.Transactions.{TxBegan, TxCommitted, fate}
+use Rattle.history.specs.Snapshots.{SnapshotHeld}
+use Rattle.history.specs.Rows.{LeafAdded, RowBorn, RowEnded}
+use Rattle.history.specs.Catalogue.{TableMade, EntryAdded, tables_made}
+use Rattle.history.specs.Locks.{LockGot}
+use Rattle.history.specs.History.{History, TxChange, SnapshotChange, RowChange, CatalogueChange, LockChange, tx_events, catalogue_events, lock_events, fresh}
+use Rattle.history.specs.Places.{LiesIn, Suits}
+use Rattle.history.specs.LocksSound.{IsGotSound}
+use Rattle.history.specs.Legal.{command_of, IsNotAfter, IsInOrder, IsLegal}
+use Rattle.table_trees.specs.Histories.{tree_of}
+use Rattle.table_trees.specs.Trees.{leaves}
+use Rattle.part_bounds.specs.Accepts.{accepts}
+use Rattle.soundness.specs.Worlds.{view, table_in, IsMade, HasLeaf, key_at}
+use Rattle.soundness.specs.Parts.{IsKnown, AreChildren}
+use Rattle.soundness.specs.Legal.{HasTable, MayMake, MayBear, HasPlace, MayAdd, MayEndRow, OwnsNow, WritesNow, Below, ArePermitted}
+use Rattle.soundness.specs.Laws.{ConditionsCanBeMet}
+use Rattle.soundness.proofs.Worlds.{same_refl, view_own}
+
+abbrev number_column : Column
+number_column = record { name = 97 ∷ []; kind = KInt4; not_null = false }
+
+abbrev key_column : KeyColumn
+key_column = record { position = 0; kind = KInt4 }
+
+-- t (a int) PARTITION BY RANGE (a)
+abbrev parent : Table
+parent = record { id = record { number = 0 }; name = 116 ∷ []; columns = number_column ∷ []; shape = Level (record { strategy = ByRange; columns = key_column ∷ []; one_if_list = λ list. refl }); by = record { number = 0 }; cmd = 0 }
+
+-- p (a int), with the row 5
+abbrev child : Table
+child = record { id = record { number = 1 }; name = 112 ∷ []; columns = number_column ∷ []; shape = Leaf (record { number = 0 }); by = record { number = 0 }; cmd = 1 }
+
+abbrev five : Version
+five = record { id = record { number = 0 }; leaf = record { number = 0 }; row = Int4 (pos 5) ∷ []; by = record { number = 0 }; cmd = 2 }
+
+-- p FOR VALUES FROM (0) TO (10)
+abbrev attached : Entry
+attached = record { id = record { number = 0 }; parent = record { number = 0 }; child = record { number = 1 }; bound = int_range (pos 0) (pos 10); by = record { number = 0 }; cmd = 3 }
+
+abbrev deleted : End
+deleted = record { by = record { number = 1 }; cmd = 1; how = Deleted }
+
+-- session 0 makes the tables, inserts the row, attaches and commits
+
+abbrev begun : History
+begun = RowChange (LeafAdded 0) ∷ TxChange (TxBegan 0 0) ∷ []
+
+abbrev with_parent : History
+with_parent = CatalogueChange (TableMade parent) ∷ begun
+
+abbrev with_child : History
+with_child = CatalogueChange (TableMade child) ∷ with_parent
+
+abbrev filled : History
+filled = RowChange (RowBorn five) ∷ with_child
+
+abbrev with_partition : History
+with_partition = CatalogueChange (EntryAdded attached) ∷ filled
+
+-- session 1 takes a snapshot and the lock, deletes the row and commits
+
+abbrev begun_anew : History
+begun_anew = TxChange (TxBegan 1 1) ∷ TxChange (TxCommitted 0 0) ∷ with_partition
+
+abbrev with_snapshot : History
+with_snapshot = SnapshotChange (SnapshotHeld 1 (record { past = tx_events begun_anew; tx = 1; cmd = 1 })) ∷ begun_anew
+
+abbrev with_lock : History
+with_lock = LockChange (LockGot 1 1 RowExclusive) ∷ with_snapshot
+
+abbrev emptied : History
+emptied = RowChange (RowEnded 0 deleted) ∷ with_lock
+
+-- ---- what the history asks
+
+not_after : (o : Option (ℕ × ℕ)) → IsNotAfter o None
+not_after None = tt
+not_after (Some (t, m)) = tt
+
+no_command : (h : History) → IsInOrder None h
+no_command [] = tt
+no_command (e ∷ h) = (not_after (command_of e), no_command h)
+
+point_at : (n : ℕ) → IsPointOf (key_column ∷ []) (At (Int4 (pos n)) ∷ Min ∷ [])
+point_at n = record { edges = ((refl, refl), refl); words = λ i j d lt le. absurd (omega (arith, lt, le)) }
+
+attached_suits : Suits (tables_made (catalogue_events filled)) attached
+attached_suits = record { parent = omega arith; child = omega arith; bound = (point_at 0, point_at 10, refl); columns = ((refl, refl, λ n. n), tt) }
+
+lock_free : IsGotSound 1 1 RowExclusive (lock_events with_snapshot)
+lock_free = record { session = omega arith; idle = refl; free = λ y. grind (arith, common_steps) }
+
+legal_parent : IsLegal with_parent
+legal_parent = (
+  (refl, All-cons (LiesIn (number_column ∷ [])) key_column [] refl (All-nil (LiesIn (number_column ∷ [])))),
+  (tt, (tt, tt)),
+  (refl, no_command (TxChange (TxBegan 0 0) ∷ []), ((refl, refl, tt), tt, tt)),
+)
+
+legal_child : IsLegal with_child
+legal_child = ((refl, tt), (λ e. omega arith, (tt, (tt, tt))), legal_parent)
+
+legal_row : IsLegal filled
+legal_row = (record { number = refl; leaf = omega arith; by = record { begun = omega arith; runs = refl } }, (λ e. omega arith, (λ e. omega arith, (tt, (tt, tt)))), legal_child)
+
+legal_partition : IsLegal with_partition
+legal_partition = ((refl, attached_suits), (λ e. omega arith, (λ e. omega arith, (λ e. omega arith, (tt, (tt, tt))))), legal_row)
+
+legal_anew : IsLegal begun_anew
+legal_anew = ((refl, refl, (refl, refl, (refl, refl, tt))), no_command (TxChange (TxCommitted 0 0) ∷ with_partition), ((refl, refl, (refl, refl, tt)), no_command with_partition, legal_partition))
+
+-- a command of the one transaction and one of the other
+apart : (m n : ℕ) → ◌≡◌ {A = ℕ} 0 1 → m ≤ n
+apart m n e = absurd (omega (arith, e))
+
+legal_snapshot : IsLegal with_snapshot
+legal_snapshot = ((record { own = refl; timely = refl }, (λ e. absurd (omega (arith, e)), tt)), (tt, (tt, (apart 3 1, (apart 2 1, (apart 1 1, (apart 0 1, (tt, (tt, tt)))))))), legal_anew)
+
+is_legal : IsLegal emptied
+is_legal = (
+  record { standing = refl; version = five; there = refl; by = record { begun = omega arith; runs = refl }; seen = refl; known = tt },
+  (tt, (λ e. omega arith, (tt, (tt, (apart 3 1, (apart 2 1, (apart 1 1, (apart 0 1, (tt, (tt, tt)))))))))),
+  (lock_free, no_command with_snapshot, legal_snapshot),
+)
+
+-- ---- what is locked, tested and scanned
+
+may_make_parent : MayMake begun parent
+may_make_parent = record {
+  acts = record { begun = omega arith; runs = refl };
+  empty = λ v is. absurd is;
+  free = λ x there. absurd (omega (arith, there.0));
+  unclaimed = λ x made. absurd (omega (arith, made));
+}
+
+names_differ : parent.name ≢ child.name
+names_differ same = let e : ◌≡◌ {A = ℕ} 116 112 = cc in omega (arith, e)
+
+name_free : (x : ℕ) → HasTable with_parent 0 x → (table_in (catalogue_events with_parent) x).name ≢ child.name
+name_free zero there same = names_differ same
+name_free (suc x) there same = omega (arith, there.0)
+
+name_unclaimed : (x : ℕ) → IsMade (catalogue_events with_parent) x → (table_in (catalogue_events with_parent) x).name ≡ child.name → fate (tx_events with_parent) (table_in (catalogue_events with_parent) x).by.number ≡ Running → (table_in (catalogue_events with_parent) x).by.number ≡ 0
+name_unclaimed zero made same runs = refl
+name_unclaimed (suc x) made same runs = absurd (omega (arith, made))
+
+may_make_child : MayMake with_parent child
+may_make_child = record { acts = record { begun = omega arith; runs = refl }; empty = λ v is. absurd is; free = name_free; unclaimed = name_unclaimed }
+
+owns_child : OwnsNow filled 0 1
+owns_child = (0, same_refl (tx_events filled) 0, view_own (tx_events filled) 0 refl, inr (omega arith, refl))
+
+level_leaf : (l : LeafId) → parent.shape ≡ Leaf l → ⊥
+level_leaf l is = cc
+
+-- the leaf is that of the child
+is_child : (x : ℕ) (l : LeafId) → HasLeaf (catalogue_events with_child) x l → x ≡ 1
+is_child zero l at = absurd (level_leaf l at.1)
+is_child (suc zero) l at = refl
+is_child (suc (suc x)) l at = absurd (omega (arith, at.0))
+
+writes_child : (x : ℕ) → x ≡ 1 → WritesNow with_child 0 x
+writes_child x is = subst (λ z. WritesNow with_child 0 z) (sym is) (0, same_refl (tx_events with_child) 0, view_own (tx_events with_child) 0 refl, inr (inr (omega arith, refl)))
+
+may_bear : MayBear with_child five
+may_bear = record {
+  locked = λ x at. writes_child x (is_child x five.leaf at);
+  routed = λ x at e n p. absurd p.0;
+}
+
+child_owned : (n x : ℕ) → Below filled 0 n 1 x → OwnsNow filled 0 x
+child_owned zero x is = subst (λ z. OwnsNow filled 0 z) is owns_child
+child_owned (suc n) x is = absurd is.1.0
+
+not_below : (n : ℕ) → Below filled 0 n 1 0 → ⊥
+not_below zero is = omega (arith, is)
+not_below (suc n) is = is.1.0
+
+shallow : (n m top x : ℕ) → Below filled 0 n top 0 → Below filled 0 m 1 x → n + m + 1 ≡ 8 → ⊥
+shallow zero zero top x up low long = absurd (omega (arith, long))
+shallow zero (suc m) top x up low long = low.1.0
+shallow (suc n) m top x up low long = up.1.0
+
+room : (es : List Entry) → AreChildren (catalogue_events filled) (view (tx_events filled) 0) 0 es → length es < 1024
+room [] are = omega arith
+room (e ∷ es) are = absurd (are.below 0 e (omega arith)).0.0
+
+has_place : HasPlace filled attached
+has_place = record {
+  acts = record { begun = omega arith; runs = refl };
+  there = ((omega arith, view_own (tx_events filled) 0 refl, λ u d. absurd d), (omega arith, view_own (tx_events filled) 0 refl, λ u d. absurd d));
+  parent_locked = (0, same_refl (tx_events filled) 0, view_own (tx_events filled) 0 refl, inr (inr (omega arith, refl)));
+  default_locked = λ d n x p. absurd p.0;
+  roomy = room;
+  together = λ g p. absurd p.0;
+  no_pending = λ g p. absurd p.0;
+  default_scanned = λ d v n x p. absurd p.0;
+}
+
+may_add : MayAdd filled attached
+may_add = record {
+  place = has_place;
+  child_locked = child_owned;
+  no_partition = λ g p. absurd p.0;
+  not_above = not_below;
+  shallow = shallow;
+  scanned = λ v n x is at low judged. (
+    elim is [
+      | inl new ↦ inl (subst (λ (z : Version). accepts (key_at (catalogue_events filled) 0 z.row) attached.bound ≡ true) new refl)
+      | inr none ↦ absurd none
+    ],
+    λ f k p. absurd p.0,
+  );
+}
+
+is_known : IsKnown (tx_events with_snapshot) (catalogue_events with_snapshot) 1 1
+is_known = (omega arith, λ runs. let both : Committed ≡ Running = runs in absurd (cc))
+
+may_end : MayEndRow with_lock 0 deleted
+may_end = record {
+  locked = λ v x is same at.
+      let here : x ≡ 1 = is_child x v.leaf at in
+      subst (λ z. WritesNow with_lock 1 z) (sym here) (1, same_refl (tx_events with_lock) 1, view_own (tx_events with_lock) 1 refl, inl (1, refl, refl));
+}
+
+are_permitted : ArePermitted emptied
+are_permitted = (may_end, (is_known, (tt, (tt, (tt, (may_add, (may_bear, (may_make_child, (may_make_parent, (tt, (tt, tt)))))))))))
+
+shown_leaf : Contains (leaves (tree_of emptied 0 0 (fresh (tx_events emptied) 0))) five.leaf
+unfolding Rattle.table_trees.specs.Histories.tree_of
+shown_leaf = (0, omega arith, refl)
+
+pub conditions_can_be_met : ConditionsCanBeMet
+conditions_can_be_met = (emptied, 0, 0, fresh (tx_events emptied) 0, five.leaf, is_legal, are_permitted, inr (inr refl), omega arith, shown_leaf, refl, refl)
