@@ -46,6 +46,7 @@ added_keeps h e fresh may i = record {
   locks_apart = record { apart = i.locks_apart.apart; known = i.locks_apart.known; awaited = i.locks_apart.awaited };
   open_versions = record { born = i.open_versions.born; ended = i.open_versions.ended; in_order = i.open_versions.in_order };
   open_entries = added_entries h e fresh may i;
+  tables = record { one_home = i.tables.one_home };
   entries = added_entries_are h e fresh i;
   siblings = added_siblings h e fresh may i;
   fit = added_fit h e may i;
@@ -64,6 +65,7 @@ nothing_yet = record {
     marked = λ w e u world is. absurd is;
     dropped = λ w x u world is. absurd is;
   };
+  tables = record { one_home = λ x y leaf at. absurd (omega (arith, at.0)) };
   entries = record { numbered = λ e f is. absurd is; suited = λ e is. absurd is };
   siblings = λ w world. record {
     one_parent = λ e f p. absurd p.0;

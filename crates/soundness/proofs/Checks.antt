@@ -23,6 +23,7 @@ check_keeps h c i =
         marked = i.open_entries.marked;
         dropped = i.open_entries.dropped;
       };
+      tables = record { one_home = i.tables.one_home };
       entries = record { numbered = i.entries.numbered; suited = i.entries.suited };
       siblings = λ w world. let b = i.siblings w world in record {
         one_parent = b.one_parent;

@@ -33,6 +33,7 @@ ended_keeps h k s may i =
         marked = i.open_entries.marked;
         dropped = i.open_entries.dropped;
       };
+      tables = record { one_home = i.tables.one_home };
       entries = record { numbered = i.entries.numbered; suited = i.entries.suited };
       siblings = λ w world. let b = i.siblings w world in record {
         one_parent = λ e f p q. b.one_parent e f (was w e p) (was w f q);

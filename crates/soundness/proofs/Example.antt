@@ -152,6 +152,7 @@ may_make_parent : MayMake begun parent
 may_make_parent = record {
   acts = record { begun = omega arith; runs = refl };
   empty = λ v is. absurd is;
+  only = λ x leaf at. absurd (omega (arith, at.0));
   free = λ x there. absurd (omega (arith, there.0));
   unclaimed = λ x made. absurd (omega (arith, made));
 }
@@ -167,14 +168,18 @@ name_unclaimed : (x : ℕ) → IsMade (catalogue_events with_parent) x → (tabl
 name_unclaimed zero made same runs = refl
 name_unclaimed (suc x) made same runs = absurd (omega (arith, made))
 
+level_leaf : (l : LeafId) → parent.shape ≡ Leaf l → ⊥
+level_leaf l is = cc
+
+no_leaf : (x : ℕ) (leaf : LeafId) → HasLeaf (catalogue_events with_parent) x leaf → child.shape ≢ Leaf leaf
+no_leaf zero leaf at same = level_leaf leaf at.1
+no_leaf (suc x) leaf at same = omega (arith, at.0)
+
 may_make_child : MayMake with_parent child
-may_make_child = record { acts = record { begun = omega arith; runs = refl }; empty = λ v is. absurd is; free = name_free; unclaimed = name_unclaimed }
+may_make_child = record { acts = record { begun = omega arith; runs = refl }; empty = λ v is. absurd is; only = no_leaf; free = name_free; unclaimed = name_unclaimed }
 
 owns_child : OwnsNow filled 0 1
 owns_child = (0, same_refl (tx_events filled) 0, view_own (tx_events filled) 0 refl, inr (omega arith, refl))
-
-level_leaf : (l : LeafId) → parent.shape ≡ Leaf l → ⊥
-level_leaf l is = cc
 
 -- the leaf is that of the child
 is_child : (x : ℕ) (l : LeafId) → HasLeaf (catalogue_events with_child) x l → x ≡ 1

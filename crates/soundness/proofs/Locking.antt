@@ -69,6 +69,7 @@ locks_keep h new keep apart i =
         marked = λ w e u world is mark runs own. guards w u e.parent.number (i.open_entries.marked w e u world is mark runs own);
         dropped = λ w y u world is runs own. owns w u y (i.open_entries.dropped w y u world is runs own);
       };
+      tables = i.tables;
       entries = i.entries;
       siblings = i.siblings;
       fit = i.fit;

@@ -52,6 +52,7 @@ marked_keeps h k s may i =
         ];
         dropped = i.open_entries.dropped;
       };
+      tables = record { one_home = i.tables.one_home };
       entries = record { numbered = i.entries.numbered; suited = i.entries.suited };
       siblings = λ w world. let b = i.siblings w world in record {
         one_parent = b.one_parent;

@@ -79,6 +79,7 @@ born_keeps h v acts may unended i = record {
     ];
   };
   open_entries = i.open_entries;
+  tables = i.tables;
   entries = i.entries;
   siblings = i.siblings;
   fit = λ w x world is shows. elim is [
@@ -109,6 +110,7 @@ ended_keeps h k x acts known may i = record {
     ];
   };
   open_entries = i.open_entries;
+  tables = i.tables;
   entries = i.entries;
   siblings = i.siblings;
   fit = λ w v world is shows. i.fit w v world is (ended_shows (tx_events h) (snapshot_events h) (row_events h) k x w v shows);
@@ -120,6 +122,7 @@ leaf_keeps h l i = record {
   locks_apart = i.locks_apart;
   open_versions = record { born = i.open_versions.born; ended = i.open_versions.ended; in_order = i.open_versions.in_order };
   open_entries = i.open_entries;
+  tables = i.tables;
   entries = i.entries;
   siblings = i.siblings;
   fit = i.fit;

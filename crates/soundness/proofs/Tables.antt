@@ -9,7 +9,8 @@ use Rattle.history.specs.Transactions.{TxEvents, open_of, fate}
 use Rattle.history.specs.Catalogue.{CatalogueEvents, TableMade, TableDropped, tables_made}
 use Rattle.history.specs.Locks.{LockEvents}
 use Rattle.history.specs.History.{History, tx_events, snapshot_events, row_events, catalogue_events, lock_events}
-use Rattle.soundness.specs.Worlds.{World, same_tx, IsWorld, table_in, Present, IsThere, Under, AcceptsKey, key_at}
+use Rattle.pg_ids.specs.declared.ids.LeafId.{LeafId}
+use Rattle.soundness.specs.Worlds.{World, same_tx, IsWorld, table_in, IsMade, HasLeaf, Present, IsThere, Under, AcceptsKey, key_at}
 use Rattle.soundness.specs.Parts.{IsMaker, IsKnown, OwnsBy, WritesBy, GuardsBy, Owns, Writes, Guards, OwnsIn, WritesIn, GuardsIn, Invariant, InvariantOf}
 use Rattle.soundness.specs.Legal.{MayMake, MayDrop}
 use Rattle.soundness.proofs.Worlds.{both_ways, same_refl, split, outside, present_own}
@@ -95,6 +96,26 @@ named_still h t w may world named x y tx ty same =
       ]
     ]
 
+-- the new table alone has its leaf
+leaf_new : (h : History) (t : Table) (x y : ℕ) (leaf : LeafId) → MayMake h t → t ≡ table_in (TableMade t ∷ catalogue_events h) x → HasLeaf (TableMade t ∷ catalogue_events h) x leaf → HasLeaf (catalogue_events h) y leaf → ⊥
+leaf_new h t x y leaf may is at old = may.only y leaf old (ap (λ (z : Table). z.shape) is ∙ at.1)
+
+leaf_old : (t : Table) (cats : CatalogueEvents) (x : ℕ) (leaf : LeafId) → IsMade cats x → HasLeaf (TableMade t ∷ cats) x leaf → HasLeaf cats x leaf
+leaf_old t cats x leaf made at = (made, ap (λ (z : Table). z.shape) (same_table t cats x made) ∙ at.1)
+
+one_home_still : (h : History) (t : Table) → MayMake h t → ((x y : ℕ) (leaf : LeafId) → HasLeaf (catalogue_events h) x leaf → HasLeaf (catalogue_events h) y leaf → x ≡ y)
+    → (x y : ℕ) (leaf : LeafId) → HasLeaf (TableMade t ∷ catalogue_events h) x leaf → HasLeaf (TableMade t ∷ catalogue_events h) y leaf → x ≡ y
+one_home_still h t may one x y leaf atx aty = elim (made_was t (catalogue_events h) x atx.0) [
+  | inl new ↦ elim (made_was t (catalogue_events h) y aty.0) [
+    | inl also ↦ new.0 ∙ sym also.0
+    | inr old ↦ absurd (leaf_new h t x y leaf may new.1 atx (leaf_old t (catalogue_events h) y leaf old aty))
+  ]
+  | inr before ↦ elim (made_was t (catalogue_events h) y aty.0) [
+    | inl new ↦ absurd (leaf_new h t y x leaf may new.1 aty (leaf_old t (catalogue_events h) x leaf before atx))
+    | inr old ↦ one x y leaf (leaf_old t (catalogue_events h) x leaf before atx) (leaf_old t (catalogue_events h) y leaf old aty)
+  ]
+]
+
 -- ---- a table is made
 
 pub made_keeps : (h : History) (t : Table) → MayMake h t → InvariantOf h → Invariant (tx_events h) (snapshot_events h) (row_events h) (TableMade t ∷ catalogue_events h) (lock_events h)
@@ -129,6 +150,7 @@ made_keeps h t may i =
         marked = λ w e u world is mark runs own. guards w u e.parent.number (i.open_entries.marked w e u world is mark runs own);
         dropped = λ w y u world is runs own. owns w u y (i.open_entries.dropped w y u world is runs own);
       };
+      tables = record { one_home = one_home_still h t may i.tables.one_home };
       entries = record { numbered = i.entries.numbered; suited = λ e is. suits_more t (catalogue_events h) e (i.entries.suited e is) };
       siblings = λ w world. let s = i.siblings w world in record {
         one_parent = s.one_parent;
@@ -199,6 +221,7 @@ dropped_keeps h x s may i =
           | inr old ↦ i.open_entries.dropped w y u world old runs own
         ];
       };
+      tables = record { one_home = i.tables.one_home };
       entries = record { numbered = i.entries.numbered; suited = i.entries.suited };
       siblings = λ w world. let b = i.siblings w world in record {
         one_parent = b.one_parent;

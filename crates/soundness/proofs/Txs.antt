@@ -187,6 +187,7 @@ tx_keeps old new snaps rows cats locks less i =
         marked = λ w e u world is mark runs own. guards w u e.parent.number world runs (i.open_entries.marked w e u (less.worlds w world) is mark (less.runs u runs) own);
         dropped = λ w x u world is runs own. owns w u x world runs (i.open_entries.dropped w x u (less.worlds w world) is (less.runs u runs) own);
       };
+      tables = i.tables;
       entries = i.entries;
       siblings = λ w world. i.siblings w (less.worlds w world);
       fit = λ w v world is shows. i.fit w v (less.worlds w world) is (shows_before old new snaps rows w v less i.begun is shows);

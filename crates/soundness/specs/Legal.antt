@@ -2,6 +2,7 @@
 -- before it. Each condition speaks of what the session has by itself.
 use Rattle.std.specs.Prelude.{◌≡◌, ◌≢◌, ℕ, ◌+◌, ◌<◌, true, false, List, [], ◌∷◌, None, length}
 use Rattle.pg_values.specs.declared.value.Value.{Value}
+use Rattle.pg_ids.specs.declared.ids.LeafId.{LeafId}
 use Rattle.part_bounds.specs.Accepts.{accepts, is_default}
 use Rattle.history.specs.declared.transaction.Fate.TheVariants.{Running}
 use Rattle.history.specs.declared.version.Version.{Version}
@@ -68,11 +69,12 @@ pub record MayEndRow (h : History) (k : ℕ) (y : End) : Type 0 where
 
 -- ---- tables
 
--- the table's leaf is a new one, and its name is free: no table that is there for the session has it, and no open
+-- the table's leaf is a new one, that no table has and no version lies in, and its name is free: no table that is there for the session has it, and no open
 -- transaction of another session made one of that name
 pub record MayMake (h : History) (t : Table) : Type 0 where
   pub acts : IsRunning (tx_events h) t.by.number
   pub empty : (v : Version) → IsVersion (row_events h) v → t.shape ≢ Leaf v.leaf
+  pub only : (x : ℕ) (leaf : LeafId) → HasLeaf (catalogue_events h) x leaf → t.shape ≢ Leaf leaf
   pub free : (x : ℕ) → HasTable h t.by.number x → (table_in (catalogue_events h) x).name ≢ t.name
   pub unclaimed : (x : ℕ) → IsMade (catalogue_events h) x → (table_in (catalogue_events h) x).name ≡ t.name
       → fate (tx_events h) (table_in (catalogue_events h) x).by.number ≡ Running → (table_in (catalogue_events h) x).by.number ≡ t.by.number

@@ -3,6 +3,7 @@ use Rattle.std.specs.Prelude.{◌≡◌, ◌≢◌, ◌<◌, ◌≤◌, ℕ, suc
 use Rattle.std.specs.List.{AllPairs}
 use Rattle.pg_ids.specs.declared.lock_mode.LockMode.{LockMode}
 use Rattle.pg_ids.specs.declared.lock_mode.LockMode.TheVariants.{RowExclusive, ShareUpdateExclusive, AccessExclusive}
+use Rattle.pg_ids.specs.declared.ids.LeafId.{LeafId}
 use Rattle.pg_ids.specs.declared.ids.TableNo.{TableNo}
 use Rattle.pg_ids.specs.Modes.{conflicts}
 use Rattle.part_bounds.specs.Accepts.{is_default}
@@ -93,6 +94,10 @@ pub record OpenEntries (txs : TxEvents) (cats : CatalogueEvents) (locks : LockEv
   pub marked : (w : World) (e : Entry) (u : ℕ) → IsWorld txs w → IsEntry cats e → IsMark cats e.id.number u → fate txs u ≡ Running → w u ≡ true → Guards txs cats locks w u e.parent.number
   pub dropped : (w : World) (x u : ℕ) → IsWorld txs w → IsDropped cats x u → fate txs u ≡ Running → w u ≡ true → Owns txs cats locks w u x
 
+-- a leaf is that of one table
+pub record AreTables (cats : CatalogueEvents) : Type 0 where
+  pub one_home : (x y : ℕ) (leaf : LeafId) → HasLeaf cats x leaf → HasLeaf cats y leaf → x ≡ y
+
 -- entries have numbers of their own, and suit their tables: both are made, the parent takes the bound, and the child has
 -- the parent's columns
 pub record AreEntries (cats : CatalogueEvents) : Type 0 where
@@ -133,6 +138,7 @@ pub record Invariant (txs : TxEvents) (snaps : SnapshotEvents) (rows : RowEvents
   pub locks_apart : LocksApart txs cats locks
   pub open_versions : OpenVersions txs rows cats locks
   pub open_entries : OpenEntries txs cats locks
+  pub tables : AreTables cats
   pub entries : AreEntries cats
   pub siblings : AllSiblings txs cats
   pub fit : AreFit txs snaps rows cats
