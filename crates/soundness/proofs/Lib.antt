@@ -9,11 +9,13 @@ pub mod Created
 pub mod Ended
 pub mod Example
 pub mod Held
+pub mod Listed
 pub mod Locking
 pub mod Looking
 pub mod Made
 pub mod Marked
 pub mod OneLeaf
+pub mod Paths
 pub mod Presence
 pub mod Rows
 pub mod Sees

@@ -108,7 +108,7 @@ all_shown h session s sound cats k d lt =
     let shown = filter_passes (is_shown h session s) (entries_added (catalogue_events h)) k d lt in
     present_in h session (get_or (entries_shown h session s) k d) sound cats is (shown_in h session s (get_or (entries_shown h session s) k d) shown)
 
-all_present : (h : History) (session : ℕ) → IsSound (tx_events h) → AreCatalogueSound h → All (Present (catalogue_events h) (counts (tx_events h) session)) (entries_present h session)
+pub all_present : (h : History) (session : ℕ) → IsSound (tx_events h) → AreCatalogueSound h → All (Present (catalogue_events h) (counts (tx_events h) session)) (entries_present h session)
 all_present h session sound cats k d lt =
     let is = All-filter (is_present h session) (IsEntry (catalogue_events h)) (entries_added (catalogue_events h)) (all_entries (catalogue_events h)) k d lt in
     let present = filter_passes (is_present h session) (entries_added (catalogue_events h)) k d lt in

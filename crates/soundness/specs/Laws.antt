@@ -1,16 +1,18 @@
 -- What holds of every legal history.
-use Rattle.std.specs.Prelude.{◌≡◌, ℕ, true, false, List, [], ◌∷◌, ◌⊎◌, Some, All, Contains, length}
+use Rattle.std.specs.Prelude.{◌≡◌, ℕ, true, false, List, [], ◌∷◌, ◌⊎◌, Some, None, All, Contains, length}
 use Rattle.pg_values.specs.declared.value.Value.{Value}
 use Rattle.pg_ids.specs.declared.ids.LeafId.{LeafId}
 use Rattle.history.specs.declared.transaction.Fate.TheVariants.{Running}
 use Rattle.history.specs.declared.catalogue.Entry.{Entry}
-use Rattle.history.specs.Transactions.{TxEvents, fate, IsRunning}
+use Rattle.history.specs.Transactions.{TxEvents, open_of, fate, IsRunning}
 use Rattle.history.specs.Snapshots.{TakenSnapshot, SnapshotHeld, held_by}
 use Rattle.history.specs.Catalogue.{EntryAdded}
 use Rattle.history.specs.History.{Event, History, CatalogueChange, tx_events, snapshot_events, catalogue_events, fresh, seen}
 use Rattle.history.specs.Presence.{counts, entries_shown}
 use Rattle.history.specs.Legal.{MayHold, IsLegal}
-use Rattle.table_trees.specs.Histories.{tree_of}
+use Rattle.table_trees.specs.Histories.{tree_of, path_of}
+use Rattle.row_router.specs.declared.path.PathTest.TheVariants.{Bounds}
+use Rattle.row_router.specs.Paths.{refused}
 use Rattle.table_trees.specs.Trees.{leaves, accepting}
 use Rattle.soundness.specs.Worlds.{same_tx, view, IsMade, AcceptAbove}
 use Rattle.soundness.specs.Legal.{MayAdd, MayCreate, ArePermitted}
@@ -32,6 +34,11 @@ OneLeafAccepts = (h : History) (session table : ℕ) (s : TakenSnapshot) (leaf :
 -- a table that was just made may be added wherever a table with rows might
 abbrev pub CreateIsAdd : Type 0
 CreateIsAdd = (h : History) (e : Entry) → MayCreate h e → MayAdd h e
+
+-- where no place on a table's path refuses the row, each entry above the table accepts it
+abbrev pub PathAccepts : Type 0
+PathAccepts = (h : History) (session t x : ℕ) (row : List Value) → IsLegal h → ArePermitted h → open_of (tx_events h) session ≡ Some t → refused Bounds row (path_of h session x) ≡ None
+    → AcceptAbove (catalogue_events h) (view (tx_events h) t) x row
 
 -- the event is no entry that the transaction itself adds
 abbrev pub IsForeign : TxEvents → ℕ → Event → Type 0

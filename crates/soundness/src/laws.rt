@@ -1,4 +1,4 @@
-ghost use Rattle.soundness.specs.Laws.{LegalKeepsAll, OneLeafAccepts, CreateIsAdd, WaitingAccept, ConditionsCanBeMet};
+ghost use Rattle.soundness.specs.Laws.{LegalKeepsAll, OneLeafAccepts, CreateIsAdd, PathAccepts, WaitingAccept, ConditionsCanBeMet};
 
 /// Each kind of event keeps the invariant, where it is permitted.
 pub fn legal_keeps_all()
@@ -14,6 +14,11 @@ pub fn one_leaf_accepts()
 /// A table that was just made may become a partition without a scan of its own.
 pub fn create_is_add()
     ensures { CreateIsAdd }
+{}
+
+/// A row that no place on a table's path refuses is accepted by each entry above the table.
+pub fn path_accepts()
+    ensures { PathAccepts }
 {}
 
 /// A leaf that a waiting statement may write accepts, whatever others do, what it accepted before.
