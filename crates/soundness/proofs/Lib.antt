@@ -17,6 +17,7 @@ pub mod Marked
 pub mod OneLeaf
 pub mod Paths
 pub mod Presence
+pub mod Routes
 pub mod Rows
 pub mod Sees
 pub mod Snaps

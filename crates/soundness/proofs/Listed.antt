@@ -8,11 +8,12 @@ use Rattle.part_bounds.specs.Bounds.{comes_after}
 use Rattle.history.specs.declared.catalogue.Entry.{Entry}
 use Rattle.history.specs.declared.catalogue.Stamp.{Stamp}
 use Rattle.history.specs.Transactions.{TxEvents, was_aborted}
-use Rattle.history.specs.Catalogue.{CatalogueEvents, TableMade, TableDropped, EntryAdded, EntryEnded, EntryMarked, CheckKept, entries_added, entry_ends, counted_of, IsEntry, IsEntryEnd}
+use Rattle.history.specs.Catalogue.{CatalogueEvents, TableMade, TableDropped, EntryAdded, EntryEnded, EntryMarked, CheckKept, entries_added, entry_ends, counted_of, IsEntry, IsEntryEnd, marks, IsMark}
 use Rattle.history.specs.History.{History, tx_events, catalogue_events}
-use Rattle.history.specs.Presence.{counts, stamp_counts, is_present, entries_present}
+use Rattle.history.specs.Presence.{counts, stamp_counts, is_present, entries_present, sees_stamp, is_shown, entries_shown}
+use Rattle.history.specs.Snapshots.{TakenSnapshot, sees}
 use Rattle.table_trees.specs.Histories.{placed, all_placed, is_under, children}
-use Rattle.soundness.specs.Worlds.{Present}
+use Rattle.soundness.specs.Worlds.{Present, IsPending}
 
 -- ---- lists
 
@@ -73,11 +74,48 @@ not_ended : (txs : TxEvents) (session : ℕ) (o : Option Stamp) → ((s : Stamp)
 not_ended txs session None none = refl
 not_ended txs session (Some s) none = none s refl
 
-pub present_listed : (h : History) (session : ℕ) (e : Entry) → Present (catalogue_events h) (counts (tx_events h) session) e → Contains (entries_present h session) e
-present_listed h session e p =
+is_present_of : (h : History) (session : ℕ) (e : Entry) → Present (catalogue_events h) (counts (tx_events h) session) e → is_present h session e ≡ true
+is_present_of h session e p =
     let out = not_ended (tx_events h) session (counted_of (tx_events h) (entry_ends (catalogue_events h)) e.id.number) (λ s is. p.2 s.by.number (counted_end (tx_events h) (catalogue_events h) e.id.number s is)) in
-    let present : is_present h session e ≡ true = let born : counts (tx_events h) session e.by.number ≡ true = p.1 in rw (born, out) refl in
-    kept_in (is_present h session) (entries_added (catalogue_events h)) e (entry_listed (catalogue_events h) e p.0) present
+    let born : counts (tx_events h) session e.by.number ≡ true = p.1 in
+    rw (born, out) refl
+
+pub present_listed : (h : History) (session : ℕ) (e : Entry) → Present (catalogue_events h) (counts (tx_events h) session) e → Contains (entries_present h session) e
+present_listed h session e p = kept_in (is_present h session) (entries_added (catalogue_events h)) e (entry_listed (catalogue_events h) e p.0) (is_present_of h session e p)
+
+-- ---- the entries that a snapshot is shown
+
+mark_of_counted : (txs : TxEvents) (cats : CatalogueEvents) (n : ℕ) (x : Stamp) (k : ℕ) (s : Stamp) → (b a : Bool) → (n == k) ≡ b → (if b && not a then Some x else counted_of txs (marks cats) k) ≡ Some s → (counted_of txs (marks cats) k ≡ Some s → IsMark cats k s.by.number)
+    → IsMark (EntryMarked n x ∷ cats) k s.by.number
+mark_of_counted txs cats n x k s true false here is rest =
+    let e : n ≡ k = grind (arith, nat_tests, here) in
+    let same : x ≡ s = cc in
+    inl (e, ap (λ (z : Stamp). z.by.number) same)
+mark_of_counted txs cats n x k s true true here is rest = inr (rest is)
+mark_of_counted txs cats n x k s false a here is rest = inr (rest is)
+
+counted_mark : (txs : TxEvents) (cats : CatalogueEvents) (k : ℕ) (s : Stamp) → counted_of txs (marks cats) k ≡ Some s → IsMark cats k s.by.number
+counted_mark txs [] k s is = absurd (cc)
+counted_mark txs (EntryMarked n x ∷ cats) k s is = mark_of_counted txs cats n x k s (n == k) (was_aborted txs x.by.number) refl is (counted_mark txs cats k s)
+counted_mark txs (EntryAdded e ∷ cats) k s is = counted_mark txs cats k s is
+counted_mark txs (TableMade t ∷ cats) k s is = counted_mark txs cats k s is
+counted_mark txs (TableDropped n x ∷ cats) k s is = counted_mark txs cats k s is
+counted_mark txs (EntryEnded n x ∷ cats) k s is = counted_mark txs cats k s is
+counted_mark txs (CheckKept c ∷ cats) k s is = counted_mark txs cats k s is
+
+not_seen : (txs : TxEvents) (snap : TakenSnapshot) (o : Option Stamp) → ((s : Stamp) → o ≡ Some s → sees txs snap s.by.number s.cmd ≡ true → ⊥) → sees_stamp txs snap o ≡ false
+not_seen txs snap None never = refl
+not_seen txs snap (Some s) never = elim (cases_Bool (sees txs snap s.by.number s.cmd)) [ inl y ↦ absurd (never s refl y) | inr n ↦ n ]
+
+-- a present entry that is not pending is shown, to each snapshot whose sight counts for the session
+pub shown_listed : (h : History) (session : ℕ) (snap : TakenSnapshot) (e : Entry) → ((t c : ℕ) → sees (tx_events h) snap t c ≡ true → counts (tx_events h) session t ≡ true) → (IsPending (catalogue_events h) (counts (tx_events h) session) e → ⊥)
+    → Present (catalogue_events h) (counts (tx_events h) session) e → Contains (entries_shown h session snap) e
+shown_listed h session snap e sight settled p =
+    let marked = counted_of (tx_events h) (marks (catalogue_events h)) e.id.number in
+    let out = not_seen (tx_events h) snap marked (λ s is seen. settled (s.by.number, counted_mark (tx_events h) (catalogue_events h) e.id.number s is, sight s.by.number s.cmd seen)) in
+    let present : is_present h session e ≡ true = is_present_of h session e p in
+    let shown : is_shown h session snap e ≡ true = rw (present, out) refl in
+    kept_in (is_shown h session snap) (entries_added (catalogue_events h)) e (entry_listed (catalogue_events h) e p.0) shown
 
 -- ---- the entries below a table
 

@@ -123,3 +123,16 @@ looking_shows h session s v legal i (inr (inl may)) is seen =
     held_new h session s (counts (tx_events h) session) v (held_by (snapshot_events h) session) refl taken.timely taken i world is k.0 k.1
 looking_shows h session s v legal i (inr (inr same)) is seen =
     fresh_shows h session v (counts (tx_events h) session) legal (counts_world (tx_events h) session (sound_of h legal)) (subst (λ (x : TakenSnapshot). is_seen h x v ≡ true) same seen)
+
+-- ---- what such a snapshot sees counts for the session
+
+pub looking_counts : (h : History) (session : ℕ) (s : TakenSnapshot) (t c : ℕ) → IsLegal h → IsLooking h session s → sees (tx_events h) s t c ≡ true → counts (tx_events h) session t ≡ true
+looking_counts h session s t c legal (inl (at, own)) seen = counts_in (tx_events h) (counts (tx_events h) session) s t c (counts_world (tx_events h) session (sound_of h legal)) own (older h session s legal at) seen
+looking_counts h session s t c legal (inr (inl may)) seen =
+    let taken = taken_of h session s legal may in
+    let old = older_timely h session s (held_by (snapshot_events h) session) refl (λ x at. older h session x legal at) taken.timely in
+    counts_in (tx_events h) (counts (tx_events h) session) s t c (counts_world (tx_events h) session (sound_of h legal)) (own_counts (tx_events h) session s.tx may.0.own) old seen
+looking_counts h session s t c legal (inr (inr same)) seen =
+    let fresh_seen : sees (tx_events h) (fresh (tx_events h) session) t c ≡ true = subst (λ (x : TakenSnapshot). sees (tx_events h) x t c ≡ true) same seen in
+    let done : is_committed (fate (tx_events h) t) ≡ true = sym (fresh_sees (tx_events h) session t c) ∙ fresh_seen in
+    rw done refl

@@ -73,7 +73,7 @@ place_in p (y ∷ xs) x at is = elim (cases_Bool (p y)) [
 
 -- ---- one place
 
-none_among : (key : List Value) (es : List Entry) (f : Entry) → Contains es f → list_any (accepts key) (map bound_of es) ≡ false → accepts key f.bound ≡ false
+pub none_among : (key : List Value) (es : List Entry) (f : Entry) → Contains es f → list_any (accepts key) (map bound_of es) ≡ false → accepts key f.bound ≡ false
 none_among key [] f at none = absurd (none_in f at)
 none_among key (e ∷ es) f at none =
     let first : accepts key e.bound ≡ false = grind (arith, common_steps, none) in
@@ -82,7 +82,7 @@ none_among key (e ∷ es) f at none =
       | inr later ↦ none_among key es f later (rw first at none)
     ]
 
-among_cases : (a b c : Bool) → (a || (b && not c)) ≡ true → (a ≡ true) ⊎ ((b ≡ true) × (c ≡ false))
+pub among_cases : (a b c : Bool) → (a || (b && not c)) ≡ true → (a ≡ true) ⊎ ((b ≡ true) × (c ≡ false))
 among_cases true b c is = inl refl
 among_cases false true false is = inr (refl, refl)
 among_cases false true true is = absurd (cc)
@@ -169,7 +169,7 @@ short c w e n x sound p low = elim (cases_Bool (nat_lt n 7)) [
       absurd (sound.shallow part.0 x part.1)
 ]
 
-path_accepts_in : (h : History) (session x : ℕ) (row : List Value) → IsLegal h → InvariantOf h → refused Bounds row (path_of h session x) ≡ None → AcceptAbove (catalogue_events h) (counts (tx_events h) session) x row
+pub path_accepts_in : (h : History) (session x : ℕ) (row : List Value) → IsLegal h → InvariantOf h → refused Bounds row (path_of h session x) ≡ None → AcceptAbove (catalogue_events h) (counts (tx_events h) session) x row
 unfolding Rattle.table_trees.specs.Histories.path_of
 path_accepts_in h session x row legal i none e n p low =
     let siblings = i.siblings (counts (tx_events h) session) (counts_world (tx_events h) session (sound_of h legal)) in
@@ -187,13 +187,13 @@ agree_by true b c r same runs = refl
 agree_by false true c r same runs = let e = runs refl in rw (sym same, e) refl
 agree_by false false c r same runs = rw (sym same) refl
 
-agree : (txs : TxEvents) (session t k : ℕ) → open_of txs session ≡ Some t → fate txs t ≡ Running → counts txs session k ≡ view txs t k
+pub agree : (txs : TxEvents) (session t k : ℕ) → open_of txs session ≡ Some t → fate txs t ≡ Running → counts txs session k ≡ view txs t k
 unfolding same_tx
 agree txs session t k opened runs =
     let turned : (t == k) ≡ (k == t) = grind (arith, nat_tests) in
     rw opened (agree_by (is_committed (fate txs k)) (t == k) (k == t) (is_running (fate txs k)) turned (λ same. let e : t ≡ k = grind (arith, nat_tests, same) in let r : fate txs k ≡ Running = ap (fate txs) (sym e) ∙ runs in rw r refl))
 
-same_above : (cats : CatalogueEvents) (w k : World) (x : ℕ) (row : List Value) → ((t : ℕ) → w t ≡ k t) → AcceptAbove cats w x row → AcceptAbove cats k x row
+pub same_above : (cats : CatalogueEvents) (w k : World) (x : ℕ) (row : List Value) → ((t : ℕ) → w t ≡ k t) → AcceptAbove cats w x row → AcceptAbove cats k x row
 same_above cats w k x row same accept e n p low =
     let to : (f : Entry) → Present cats k f → Present cats w f = λ f q. (q.0, same f.by.number ∙ q.1, λ u end. same u ∙ q.2 u end) in
     accepts_map cats cats k w e.parent.number e.bound (key_at cats e.parent.number row) (λ by_default f q under. inl (to f q)) (accept e n (to e p) (under_map cats cats k w to n e.child.number x low))

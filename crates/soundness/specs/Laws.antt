@@ -1,5 +1,5 @@
 -- What holds of every legal history.
-use Rattle.std.specs.Prelude.{◌≡◌, ℕ, true, false, List, [], ◌∷◌, ◌⊎◌, Some, None, All, Contains, length}
+use Rattle.std.specs.Prelude.{◌≡◌, ℕ, true, false, List, [], ◌∷◌, ◌⊎◌, Some, None, Ok, All, Contains, length}
 use Rattle.pg_values.specs.declared.value.Value.{Value}
 use Rattle.pg_ids.specs.declared.ids.LeafId.{LeafId}
 use Rattle.history.specs.declared.transaction.Fate.TheVariants.{Running}
@@ -13,8 +13,8 @@ use Rattle.history.specs.Legal.{MayHold, IsLegal}
 use Rattle.table_trees.specs.Histories.{tree_of, path_of}
 use Rattle.row_router.specs.declared.path.PathTest.TheVariants.{Bounds}
 use Rattle.row_router.specs.Paths.{refused}
-use Rattle.table_trees.specs.Trees.{leaves, accepting}
-use Rattle.soundness.specs.Worlds.{same_tx, view, IsMade, AcceptAbove}
+use Rattle.table_trees.specs.Trees.{leaves, accepting, routed}
+use Rattle.soundness.specs.Worlds.{same_tx, view, IsMade, AcceptAbove, HasLeaf}
 use Rattle.soundness.specs.Legal.{MayAdd, MayCreate, ArePermitted}
 use Rattle.soundness.specs.Parts.{WritesIn, InvariantOf}
 
@@ -38,6 +38,13 @@ CreateIsAdd = (h : History) (e : Entry) → MayCreate h e → MayAdd h e
 -- where no place on a table's path refuses the row, each entry above the table accepts it
 abbrev pub PathAccepts : Type 0
 PathAccepts = (h : History) (session t x : ℕ) (row : List Value) → IsLegal h → ArePermitted h → open_of (tx_events h) session ≡ Some t → refused Bounds row (path_of h session x) ≡ None
+    → AcceptAbove (catalogue_events h) (view (tx_events h) t) x row
+
+-- and so it is for each entry above the leaf to which a tree routes the row, where no place on the path of the tree's table
+-- refuses it
+abbrev pub RoutedAccepts : Type 0
+RoutedAccepts = (h : History) (session t table x : ℕ) (s : TakenSnapshot) (leaf : LeafId) (row : List Value) → IsLegal h → ArePermitted h → IsLooking h session s → open_of (tx_events h) session ≡ Some t
+    → IsMade (catalogue_events h) table → refused Bounds row (path_of h session table) ≡ None → routed row (tree_of h session table s) ≡ Ok leaf → HasLeaf (catalogue_events h) x leaf
     → AcceptAbove (catalogue_events h) (view (tx_events h) t) x row
 
 -- the event is no entry that the transaction itself adds

@@ -1,4 +1,4 @@
-ghost use Rattle.soundness.specs.Laws.{LegalKeepsAll, OneLeafAccepts, CreateIsAdd, PathAccepts, WaitingAccept, ConditionsCanBeMet};
+ghost use Rattle.soundness.specs.Laws.{LegalKeepsAll, OneLeafAccepts, CreateIsAdd, PathAccepts, RoutedAccepts, WaitingAccept, ConditionsCanBeMet};
 
 /// Each kind of event keeps the invariant, where it is permitted.
 pub fn legal_keeps_all()
@@ -19,6 +19,12 @@ pub fn create_is_add()
 /// A row that no place on a table's path refuses is accepted by each entry above the table.
 pub fn path_accepts()
     ensures { PathAccepts }
+{}
+
+/// A row that a tree routes to a leaf is accepted by each entry above the leaf, where no place on the
+/// path of the tree's table refuses it.
+pub fn routed_accepts()
+    ensures { RoutedAccepts }
 {}
 
 /// A leaf that a waiting statement may write accepts, whatever others do, what it accepted before.

@@ -15,5 +15,6 @@
 mod laws;
 
 pub use laws::{
-    conditions_can_be_met, create_is_add, legal_keeps_all, one_leaf_accepts, waiting_accept,
+    conditions_can_be_met, create_is_add, legal_keeps_all, one_leaf_accepts, path_accepts,
+    routed_accepts, waiting_accept,
 };
