@@ -8,8 +8,8 @@
 //! transaction holds: whatever another one has done there, it would have needed a lock that
 //! conflicts with these.
 //!
-//! The laws stand on the definitions of `history` alone: `specs/Parts.antt` has the parts of the
-//! invariant, `specs/Legal.antt` what is locked, tested and scanned before each kind of event.
+//! The laws stand on definitions alone: `specs/Parts.antt` has the parts of the invariant,
+//! `specs/Legal.antt` what is locked, tested and scanned before each kind of event.
 #![tactic(auto)]
 
 mod laws;
