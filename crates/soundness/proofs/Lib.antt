@@ -9,6 +9,7 @@ pub mod Created
 pub mod Ended
 pub mod Example
 pub mod Held
+pub mod Leaves
 pub mod Listed
 pub mod Locking
 pub mod Looking

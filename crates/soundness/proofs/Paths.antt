@@ -151,7 +151,7 @@ walk h session row part legal siblings (suc n) (suc fuel) x y lt (e, p, child, r
     walk h session row part legal siblings n fuel e.parent.number y (omega (arith, lt)) rest (subst (λ o. refused Bounds row (upwards fuel part up (parent_in o)) ≡ None) at later)
 
 -- the lower part of a long way
-lower_part : (c : CatalogueEvents) (w : World) (k j top x : ℕ) → Under c w (k + j) top x → (middle : ℕ) × Under c w k middle x
+pub lower_part : (c : CatalogueEvents) (w : World) (k j top x : ℕ) → Under c w (k + j) top x → (middle : ℕ) × Under c w k middle x
 lower_part c w zero j top x is = (x, refl)
 lower_part c w (suc k) j top x is =
     let one : suc k + j ≡ suc (k + j) = omega arith in

@@ -10,12 +10,12 @@ use Rattle.history.specs.Catalogue.{EntryAdded}
 use Rattle.history.specs.History.{Event, History, CatalogueChange, tx_events, snapshot_events, catalogue_events, fresh, seen}
 use Rattle.history.specs.Presence.{counts, entries_shown}
 use Rattle.history.specs.Legal.{MayHold, IsLegal}
-use Rattle.table_trees.specs.Histories.{tree_of, path_of}
+use Rattle.table_trees.specs.Histories.{tree_of, ddl_tree, path_of}
 use Rattle.row_router.specs.declared.path.PathTest.TheVariants.{Bounds}
 use Rattle.row_router.specs.Paths.{refused}
 use Rattle.table_trees.specs.Trees.{leaves, accepting, routed}
 use Rattle.soundness.specs.Worlds.{same_tx, view, IsMade, AcceptAbove, HasLeaf}
-use Rattle.soundness.specs.Legal.{MayAdd, MayCreate, ArePermitted}
+use Rattle.soundness.specs.Legal.{Below, MayAdd, MayCreate, ArePermitted}
 use Rattle.soundness.specs.Parts.{WritesIn, InvariantOf}
 
 -- whatever comes, so long as each event is permitted, the invariant holds
@@ -46,6 +46,11 @@ abbrev pub RoutedAccepts : Type 0
 RoutedAccepts = (h : History) (session t table x : ℕ) (s : TakenSnapshot) (leaf : LeafId) (row : List Value) → IsLegal h → ArePermitted h → IsLooking h session s → open_of (tx_events h) session ≡ Some t
     → IsMade (catalogue_events h) table → refused Bounds row (path_of h session table) ≡ None → routed row (tree_of h session table s) ≡ Ok leaf → HasLeaf (catalogue_events h) x leaf
     → AcceptAbove (catalogue_events h) (view (tx_events h) t) x row
+
+-- each leaf below a table, by the entries that the session has, is one of the table's tree with all pending partitions
+abbrev pub TreeHasAllBelow : Type 0
+TreeHasAllBelow = (h : History) (session t top n x : ℕ) (leaf : LeafId) → IsLegal h → ArePermitted h → open_of (tx_events h) session ≡ Some t
+    → Below h t n top x → HasLeaf (catalogue_events h) x leaf → Contains (leaves (ddl_tree h session top)) leaf
 
 -- the event is no entry that the transaction itself adds
 abbrev pub IsForeign : TxEvents → ℕ → Event → Type 0

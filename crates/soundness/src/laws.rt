@@ -1,4 +1,4 @@
-ghost use Rattle.soundness.specs.Laws.{LegalKeepsAll, OneLeafAccepts, CreateIsAdd, PathAccepts, RoutedAccepts, WaitingAccept, ConditionsCanBeMet};
+ghost use Rattle.soundness.specs.Laws.{LegalKeepsAll, OneLeafAccepts, CreateIsAdd, PathAccepts, RoutedAccepts, TreeHasAllBelow, WaitingAccept, ConditionsCanBeMet};
 
 /// Each kind of event keeps the invariant, where it is permitted.
 pub fn legal_keeps_all()
@@ -25,6 +25,12 @@ pub fn path_accepts()
 /// path of the tree's table refuses it.
 pub fn routed_accepts()
     ensures { RoutedAccepts }
+{}
+
+/// Each leaf below a table, by the entries that a session has, is one of the tree that a statement which
+/// changes tables works on: so a scan of the tree's leaves reads all of them.
+pub fn tree_has_all_below()
+    ensures { TreeHasAllBelow }
 {}
 
 /// A leaf that a waiting statement may write accepts, whatever others do, what it accepted before.

@@ -16,5 +16,5 @@ mod laws;
 
 pub use laws::{
     conditions_can_be_met, create_is_add, legal_keeps_all, one_leaf_accepts, path_accepts,
-    routed_accepts, waiting_accept,
+    routed_accepts, tree_has_all_below, waiting_accept,
 };
