@@ -18,7 +18,7 @@ use Rattle.soundness.proofs.Added.{present_was, sibling_view}
 abbrev is_other : ℕ → Entry → Bool
 is_other k e = not (e.id.number == k)
 
-abbrev AreTwo : Entry → Entry → Type 0
+abbrev pub AreTwo : Entry → Entry → Type 0
 AreTwo e f = e.id.number ≢ f.id.number
 
 -- what all pass stays whole

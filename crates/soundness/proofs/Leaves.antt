@@ -1,8 +1,6 @@
 -- Each leaf below a table, by the entries that a session has, is one of its tree's.
-use Rattle.std.proofs.Common.{◌≡◌, ℕ, zero, suc, ◌+◌, ◌-◌, ◌<◌, ◌≤◌, nat_lt, arith, true, List, [], ◌∷◌, inl, inr, refl, ap, sym, subst, ◌∙◌, Some, map}
+use Rattle.std.proofs.Common.{◌≡◌, ℕ, zero, suc, ◌≤◌, arith, List, [], ◌∷◌, inl, inr, refl, ap, sym, subst, ◌∙◌, map}
 use Rattle.std.specs.List.{Contains}
-use Rattle.std.proofs.lemmas.Bool.{cases_Bool}
-use Rattle.std.proofs.lemmas.Bool.Decides.{nat_tests}
 use Rattle.std.proofs.lemmas.List.Elements.{Contains-append_left, Contains-append_right}
 use Rattle.pg_ids.specs.declared.ids.LeafId.{LeafId}
 use Rattle.history.specs.declared.catalogue.TableShape.{TableShape}
@@ -23,7 +21,7 @@ use Rattle.soundness.proofs.Under.{under_map}
 use Rattle.soundness.proofs.Sound.{sound_of}
 use Rattle.soundness.proofs.Looking.{counts_world}
 use Rattle.soundness.proofs.Listed.{none_in, cases_in, first_in, present_listed, child_listed}
-use Rattle.soundness.proofs.Paths.{lower_part, agree}
+use Rattle.soundness.proofs.Paths.{few_steps, agree}
 use Rattle.soundness.proofs.All.{legal_keeps_all}
 
 -- ---- the same way from the top down
@@ -39,16 +37,6 @@ down_last cats w e p (suc n) top (g, q, parent, rest) = (g, q, parent, down_last
 down_of : (cats : CatalogueEvents) (w : World) (n top x : ℕ) → Under cats w n top x → Down cats w n top x
 down_of cats w zero top x is = is
 down_of cats w (suc n) top x (e, p, child, rest) = subst (λ z. Down cats w (suc n) top z) child (down_last cats w e p n top (down_of cats w n top e.parent.number rest))
-
-few_steps : (cats : CatalogueEvents) (w : World) (n top x : ℕ) → Siblings cats w → Under cats w n top x → n < 8
-few_steps cats w n top x siblings low = elim (cases_Bool (nat_lt n 8)) [
-  | inl y ↦ grind (arith, nat_tests, y)
-  | inr y ↦
-      let ge : 8 ≤ n = grind (arith, nat_tests, y) in
-      let long : n ≡ 8 + (n - 8) = omega (arith, ge) in
-      let part = lower_part cats w 8 (n - 8) top x (subst (λ k. Under cats w k top x) long low) in
-      absurd (siblings.shallow part.0 x part.1)
-]
 
 -- ---- the tree
 

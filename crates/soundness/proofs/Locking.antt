@@ -19,6 +19,7 @@ use Rattle.lock_table.proofs.Holders.{none_conflict}
 use Rattle.soundness.specs.Worlds.{World}
 use Rattle.soundness.specs.Parts.{HoldsBy, IsKnown, LocksApart, OwnsBy, WritesBy, GuardsBy, Owns, Writes, Guards, OwnsIn, WritesIn, GuardsIn, Invariant, InvariantOf}
 use Rattle.soundness.specs.Legal.{IsPermitted}
+use Rattle.soundness.proofs.Snaps.{or_cases}
 
 -- what an open transaction holds, it holds in the other list
 abbrev Keeps : TxEvents → LockEvents → LockEvents → Type 0
@@ -80,10 +81,6 @@ locks_keep h new keep apart i =
 or_right : (a b : Bool) → b ≡ true → (a || b) ≡ true
 or_right a b is = rw is (grind (arith, common_steps))
 
-or_either : (a b : Bool) → (a || b) ≡ true → (a ≡ true) ⊎ (b ≡ true)
-or_either true b is = inl refl
-or_either false b is = inr is
-
 -- a lock that is awaited is one of the given table
 lock_is : (x : ℕ) (m : LockMode) (o : Option Wanted) → is_lock x m o ≡ true → (t : TableNo) × (n : LockMode) × (o ≡ Some (Lock t n)) × (t.number ≡ x)
 lock_is x m None is = absurd (cc)
@@ -119,7 +116,7 @@ known_at h s a x y same at known =
 
 -- what is held after the event is known, where what was held and awaited before it was
 held_known : (e : LockEvent) (h : History) → IsPermitted (LockChange e) h → LocksApart (tx_events h) (catalogue_events h) (lock_events h) → (a x : ℕ) (m : LockMode) → holds (e ∷ lock_events h) a x m ≡ true → IsKnown (tx_events h) (catalogue_events h) a x
-held_known (LockGot s t n) h may apart a x m is = elim (or_either ((s == a) && ((t == x) && same_mode n m)) (holds (lock_events h) a x m) is) [
+held_known (LockGot s t n) h may apart a x m is = elim (or_cases ((s == a) && ((t == x) && same_mode n m)) (holds (lock_events h) a x m) is) [
   | inr old ↦ apart.known a x m old
   | inl new ↦
       let parts = and_parts (s == a) ((t == x) && same_mode n m) new in
@@ -129,7 +126,7 @@ held_known (LockGot s t n) h may apart a x m is = elim (or_either ((s == a) && (
 held_known (LocksGivenUp s) h may apart a x m is = apart.known a x m (and_parts (not (s == a)) (holds (lock_events h) a x m) is).1
 held_known (SnapshotGone s) h may apart a x m is = apart.known a x m is
 held_known (WaitBegan s w) h may apart a x m is = apart.known a x m is
-held_known (WaitResumed s) h may apart a x m is = elim (or_either ((s == a) && is_lock x m (wanted (lock_events h) s)) (holds (lock_events h) a x m) is) [
+held_known (WaitResumed s) h may apart a x m is = elim (or_cases ((s == a) && is_lock x m (wanted (lock_events h) s)) (holds (lock_events h) a x m) is) [
   | inr old ↦ apart.known a x m old
   | inl new ↦
       let parts = and_parts (s == a) (is_lock x m (wanted (lock_events h) s)) new in

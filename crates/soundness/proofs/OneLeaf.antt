@@ -1,5 +1,5 @@
 -- Each row that a snapshot is shown in a leaf of a tree is accepted by that leaf, and by no other one of the tree.
-use Rattle.std.proofs.Common.{◌≡◌, ℕ, zero, suc, ◌==◌, ◌&&◌, arith, true, List, [], ◌∷◌, inl, inr, refl, ap, sym, subst, ◌∙◌, Result, Ok, Err, get_or}
+use Rattle.std.proofs.Common.{◌≡◌, ℕ, zero, suc, ◌==◌, ◌&&◌, arith, true, [], ◌∷◌, inl, inr, refl, ap, sym, subst, ◌∙◌, Result, Ok, Err, get_or}
 use Rattle.std.specs.List.{All, Contains}
 use Rattle.std.proofs.lemmas.Bool.{and_parts}
 use Rattle.std.proofs.lemmas.Bool.Decides.{nat_tests}
@@ -24,12 +24,9 @@ use Rattle.soundness.specs.Parts.{InvariantOf}
 use Rattle.soundness.specs.Laws.{IsLooking, OneLeafAccepts}
 use Rattle.soundness.proofs.Sound.{sound_of, catalogue_sound_of}
 use Rattle.soundness.proofs.Looking.{counts_world, looking_shows}
-use Rattle.soundness.proofs.Presence.{all_shown, present_siblings}
+use Rattle.soundness.proofs.Presence.{all_more, all_shown, present_siblings}
 use Rattle.soundness.proofs.Trees.{accepts_there}
 use Rattle.soundness.proofs.All.{legal_keeps_all}
-
-all_more : (P Q : Version → Type 0) (vs : List Version) → ((v : Version) → P v → Q v) → All P vs → All Q vs
-all_more P Q vs to all k d lt = to (get_or vs k d) (all k d lt)
 
 all_versions : (rows : RowEvents) → All (IsVersion rows) (births rows)
 all_versions [] = All-nil (IsVersion [])

@@ -151,7 +151,7 @@ walk h session row part legal siblings (suc n) (suc fuel) x y lt (e, p, child, r
     walk h session row part legal siblings n fuel e.parent.number y (omega (arith, lt)) rest (subst (λ o. refused Bounds row (upwards fuel part up (parent_in o)) ≡ None) at later)
 
 -- the lower part of a long way
-pub lower_part : (c : CatalogueEvents) (w : World) (k j top x : ℕ) → Under c w (k + j) top x → (middle : ℕ) × Under c w k middle x
+lower_part : (c : CatalogueEvents) (w : World) (k j top x : ℕ) → Under c w (k + j) top x → (middle : ℕ) × Under c w k middle x
 lower_part c w zero j top x is = (x, refl)
 lower_part c w (suc k) j top x is =
     let one : suc k + j ≡ suc (k + j) = omega arith in
@@ -159,21 +159,21 @@ lower_part c w (suc k) j top x is =
     let low = lower_part c w k j top step.0.parent.number step.3 in
     (low.0, (step.0, step.1, step.2, low.1))
 
-short : (c : CatalogueEvents) (w : World) (e : Entry) (n x : ℕ) → Siblings c w → Present c w e → Under c w n e.child.number x → n < 7
-short c w e n x sound p low = elim (cases_Bool (nat_lt n 7)) [
+pub few_steps : (cats : CatalogueEvents) (w : World) (n top x : ℕ) → Siblings cats w → Under cats w n top x → n < 8
+few_steps cats w n top x siblings low = elim (cases_Bool (nat_lt n 8)) [
   | inl y ↦ grind (arith, nat_tests, y)
   | inr y ↦
-      let ge : 7 ≤ n = grind (arith, nat_tests, y) in
-      let long : suc n ≡ 8 + (n - 7) = omega (arith, ge) in
-      let part = lower_part c w 8 (n - 7) e.parent.number x (subst (λ k. Under c w k e.parent.number x) long (under_top c w e p n x low)) in
-      absurd (sound.shallow part.0 x part.1)
+      let ge : 8 ≤ n = grind (arith, nat_tests, y) in
+      let long : n ≡ 8 + (n - 8) = omega (arith, ge) in
+      let part = lower_part cats w 8 (n - 8) top x (subst (λ k. Under cats w k top x) long low) in
+      absurd (siblings.shallow part.0 x part.1)
 ]
 
 pub path_accepts_in : (h : History) (session x : ℕ) (row : List Value) → IsLegal h → InvariantOf h → refused Bounds row (path_of h session x) ≡ None → AcceptAbove (catalogue_events h) (counts (tx_events h) session) x row
 unfolding Rattle.table_trees.specs.Histories.path_of
 path_accepts_in h session x row legal i none e n p low =
     let siblings = i.siblings (counts (tx_events h) session) (counts_world (tx_events h) session (sound_of h legal)) in
-    let lt = short (catalogue_events h) (counts (tx_events h) session) e n x siblings p low in
+    let lt = few_steps (catalogue_events h) (counts (tx_events h) session) (suc n) e.parent.number x siblings (under_top (catalogue_events h) (counts (tx_events h) session) e p n x low) in
     let part : ℕ → PathPart = part_of (tables_made (catalogue_events h)) (entries_present h session) (checks_of h session) in
     let here : refuses Bounds row (part e.child.number) ≡ false = walk h session row part legal siblings n 8 x e.child.number (omega (arith, lt)) low none in
     let at = found_above h session e.child.number e legal siblings p refl in

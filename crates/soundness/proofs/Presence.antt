@@ -1,5 +1,5 @@
 -- What is present for a session, by the words of the history, is present in its world.
-use Rattle.std.proofs.Common.{◌≡◌, ◌≢◌, ℕ, ◌+◌, ◌<◌, ◌==◌, not, arith, true, false, List, [], ◌∷◌, ◌++◌, inl, inr, refl, ap, sym, ◌∙◌, Option, Some, None, length, get_or}
+use Rattle.std.proofs.Common.{◌≡◌, ℕ, ◌+◌, ◌<◌, ◌==◌, not, arith, true, false, List, [], ◌∷◌, ◌++◌, inl, inr, refl, ap, sym, ◌∙◌, Option, Some, None, length, get_or}
 use Rattle.std.specs.List.{All, AllPairs}
 use Rattle.std.proofs.lemmas.Grind.{common_steps}
 use Rattle.std.proofs.lemmas.Bool.{cases_Bool, cases_lt, and_parts}
@@ -20,6 +20,7 @@ use Rattle.history.proofs.Settled.{AbortsStay, aborts_before}
 use Rattle.table_trees.specs.Siblings.{AreSiblings}
 use Rattle.soundness.specs.Worlds.{Present}
 use Rattle.soundness.specs.Parts.{Siblings}
+use Rattle.soundness.proofs.Counted.{AreTwo}
 use Rattle.soundness.proofs.Looking.{alive_by, counts_world}
 
 -- ---- an end of an entry that can count is the one that counts
@@ -90,8 +91,8 @@ present_in h session e sound cats is present =
 pub shown_in : (h : History) (session : ℕ) (s : TakenSnapshot) (e : Entry) → is_shown h session s e ≡ true → is_present h session e ≡ true
 shown_in h session s e shown = (and_parts (is_present h session e) _ shown).0
 
-all_more : (P Q : Entry → Type 0) (es : List Entry) → ((e : Entry) → P e → Q e) → All P es → All Q es
-all_more P Q es to all k d lt = to (get_or es k d) (all k d lt)
+pub all_more : {X : Type 0} (P Q : X → Type 0) (xs : List X) → ((x : X) → P x → Q x) → All P xs → All Q xs
+all_more P Q xs to all k d lt = to (get_or xs k d) (all k d lt)
 
 pub all_entries : (cats : CatalogueEvents) → All (IsEntry cats) (entries_added cats)
 all_entries [] = All-nil (IsEntry [])
@@ -139,9 +140,6 @@ numbered_at (TxChange e ∷ h) sound i d lt = numbered_at h sound i d lt
 numbered_at (SnapshotChange e ∷ h) sound i d lt = numbered_at h sound i d lt
 numbered_at (RowChange e ∷ h) sound i d lt = numbered_at h sound i d lt
 numbered_at (LockChange e ∷ h) sound i d lt = numbered_at h sound i d lt
-
-abbrev AreTwo : Entry → Entry → Type 0
-AreTwo a b = a.id.number ≢ b.id.number
 
 all_two : (h : History) → AreCatalogueSound h → AllPairs AreTwo (entries_added (catalogue_events h))
 all_two h sound i j d lt below same =

@@ -31,7 +31,7 @@ use Rattle.soundness.proofs.Worlds.{both_ways}
 use Rattle.soundness.proofs.Sound.{sound_of, catalogue_sound_of}
 use Rattle.soundness.proofs.Looking.{counts_world, looking_counts}
 use Rattle.soundness.proofs.Presence.{all_shown, present_siblings}
-use Rattle.soundness.proofs.Listed.{none_in, cases_in, first_in, later_in, shown_listed, child_listed}
+use Rattle.soundness.proofs.Listed.{none_in, only_one, first_in, later_in, shown_listed, child_listed}
 use Rattle.soundness.proofs.Paths.{none_among, among_cases, path_accepts_in, agree, same_above}
 use Rattle.soundness.proofs.All.{legal_keeps_all}
 
@@ -87,9 +87,6 @@ record IsShown (cats : CatalogueEvents) (w : World) (entries : List Entry) : Typ
 
 abbrev IsLed : CatalogueEvents → World → List Value → LeafId → ℕ → Type 0
 IsLed cats w row leaf t = (x : ℕ) × (m : ℕ) × Leads cats w row m t x × HasLeaf cats x leaf
-
-only_one : {X : Type 0} (x y : X) → Contains (x ∷ []) y → x ≡ y
-only_one x y at = elim (cases_in x [] y at) [ inl here ↦ here | inr none ↦ absurd (none_in y none) ]
 
 led_leaf : (cats : CatalogueEvents) (w : World) (row : List Value) (leaf own : LeafId) (t : ℕ) → IsMade cats t → (table_in cats t).shape ≡ Leaf own → Contains (own ∷ []) leaf → IsLed cats w row leaf t
 led_leaf cats w row leaf own t made is at = let same = only_one own leaf at in (t, zero, refl, (made, is ∙ ap (λ (l : LeafId). Leaf l) same))

@@ -60,7 +60,7 @@ own_unended txs rows s v x in_order runs is end own = elim (cases_Bool (is_commi
   | inr n ↦ n
 ]
 
-or_cases : (a b : Bool) → (a || b) ≡ true → (a ≡ true) ⊎ (b ≡ true)
+pub or_cases : (a b : Bool) → (a || b) ≡ true → (a ≡ true) ⊎ (b ≡ true)
 or_cases true b is = inl refl
 or_cases false b is = inr is
 

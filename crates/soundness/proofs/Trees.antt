@@ -18,15 +18,9 @@ use Rattle.table_trees.specs.Histories.{tree_within, grown, node_at, children, b
 use Rattle.table_trees.proofs.Order.{all_children, under_children}
 use Rattle.soundness.specs.Worlds.{World, table_in, IsMade, HasLeaf, Present, Under, key_in, key_at, AcceptsKey, AcceptAbove}
 use Rattle.soundness.proofs.Under.{under_top}
+use Rattle.soundness.proofs.Listed.{none_in, only_one}
 
 -- ---- one level
-
-only_one : {X : Type 0} (x y : X) → Contains (x ∷ []) y → x ≡ y
-only_one x y (zero, lt, at) = at
-only_one x y (suc k, lt, at) = absurd (omega (arith, lt))
-
-none_in : {X : Type 0} (y : X) → Contains [] y → ⊥
-none_in y (k, lt, at) = omega (arith, lt)
 
 -- the leaf is one of a child
 abbrev IsOfChild : (ℕ → TableTree) → LeafId → Entry → Type 0
