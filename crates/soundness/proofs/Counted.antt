@@ -15,7 +15,7 @@ use Rattle.soundness.specs.Parts.{AreChildren, InvariantOf}
 use Rattle.soundness.specs.Legal.{MayAdd}
 use Rattle.soundness.proofs.Added.{present_was, sibling_view}
 
-abbrev is_other : ℕ → Entry → Bool
+abbrev pub is_other : ℕ → Entry → Bool
 is_other k e = not (e.id.number == k)
 
 abbrev pub AreTwo : Entry → Entry → Type 0

@@ -26,7 +26,7 @@ use Rattle.soundness.proofs.All.{legal_keeps_all}
 
 -- ---- the same way from the top down
 
-abbrev Down : CatalogueEvents → World → ℕ → ℕ → ℕ → Type 0
+abbrev pub Down : CatalogueEvents → World → ℕ → ℕ → ℕ → Type 0
 Down cats w zero top x = top ≡ x
 Down cats w (suc n) top x = (e : Entry) × Present cats w e × (e.parent.number ≡ top) × Down cats w n e.child.number x
 
@@ -34,7 +34,7 @@ down_last : (cats : CatalogueEvents) (w : World) (e : Entry) → Present cats w 
 down_last cats w e p zero top is = (e, p, sym is, refl)
 down_last cats w e p (suc n) top (g, q, parent, rest) = (g, q, parent, down_last cats w e p n g.child.number rest)
 
-down_of : (cats : CatalogueEvents) (w : World) (n top x : ℕ) → Under cats w n top x → Down cats w n top x
+pub down_of : (cats : CatalogueEvents) (w : World) (n top x : ℕ) → Under cats w n top x → Down cats w n top x
 down_of cats w zero top x is = is
 down_of cats w (suc n) top x (e, p, child, rest) = subst (λ z. Down cats w (suc n) top z) child (down_last cats w e p n top (down_of cats w n top e.parent.number rest))
 

@@ -15,6 +15,7 @@ pub mod Locking
 pub mod Looking
 pub mod Made
 pub mod Marked
+pub mod Measures
 pub mod OneLeaf
 pub mod Paths
 pub mod Presence

@@ -34,7 +34,7 @@ cases_in y xs x (suc k, lt, at) = inr (k, omega (arith, lt), at)
 pub only_one : {X : Type 0} (x y : X) → Contains (x ∷ []) y → x ≡ y
 only_one x y at = elim (cases_in x [] y at) [ inl here ↦ here | inr none ↦ absurd (none_in y none) ]
 
-kept_in : {X : Type 0} (p : X → Bool) (xs : List X) (x : X) → Contains xs x → p x ≡ true → Contains (filter p xs) x
+pub kept_in : {X : Type 0} (p : X → Bool) (xs : List X) (x : X) → Contains xs x → p x ≡ true → Contains (filter p xs) x
 kept_in p [] x at is = absurd (none_in x at)
 kept_in p (y ∷ xs) x at is = elim (cases_in y xs x at) [
   | inl here ↦ let passes : p y ≡ true = ap p here ∙ is in rw passes (zero, omega arith, here)

@@ -127,7 +127,7 @@ accepted h session e row (Level level) legal entries p takes is =
 -- ---- the way up
 
 -- the look-up upwards finds the entry
-found_above : (h : History) (session x : ℕ) (e : Entry) → IsLegal h → Siblings (catalogue_events h) (counts (tx_events h) session) → Present (catalogue_events h) (counts (tx_events h) session) e → e.child.number ≡ x → above (entries_present h session) x ≡ Some e
+pub found_above : (h : History) (session x : ℕ) (e : Entry) → IsLegal h → Siblings (catalogue_events h) (counts (tx_events h) session) → Present (catalogue_events h) (counts (tx_events h) session) e → e.child.number ≡ x → above (entries_present h session) x ≡ Some e
 found_above h session x e legal siblings p child =
     let is : is_over x e ≡ true = grind (arith, nat_tests, child) in
     let its = find_in (is_over x) (entries_present h session) e (present_listed h session e p) is in

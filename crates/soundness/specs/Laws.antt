@@ -1,5 +1,5 @@
 -- What holds of every legal history.
-use Rattle.std.specs.Prelude.{◌≡◌, ℕ, true, false, List, [], ◌∷◌, ◌⊎◌, Some, None, Ok, All, Contains, length}
+use Rattle.std.specs.Prelude.{◌≡◌, ◌<◌, ◌≤◌, ℕ, true, false, List, [], ◌∷◌, ◌⊎◌, Some, None, Ok, All, Contains, length}
 use Rattle.pg_values.specs.declared.value.Value.{Value}
 use Rattle.pg_ids.specs.declared.ids.LeafId.{LeafId}
 use Rattle.history.specs.declared.transaction.Fate.TheVariants.{Running}
@@ -8,15 +8,15 @@ use Rattle.history.specs.Transactions.{TxEvents, open_of, fate, IsRunning}
 use Rattle.history.specs.Snapshots.{TakenSnapshot, SnapshotHeld, held_by}
 use Rattle.history.specs.Catalogue.{EntryAdded}
 use Rattle.history.specs.History.{Event, History, CatalogueChange, tx_events, snapshot_events, catalogue_events, fresh, seen}
-use Rattle.history.specs.Presence.{counts, entries_shown}
+use Rattle.history.specs.Presence.{counts, entries_present, entries_shown}
 use Rattle.history.specs.Legal.{MayHold, IsLegal}
-use Rattle.table_trees.specs.Histories.{tree_of, ddl_tree, path_of}
+use Rattle.table_trees.specs.Histories.{tree_of, ddl_tree, path_of, children}
 use Rattle.row_router.specs.declared.path.PathTest.TheVariants.{Bounds}
 use Rattle.row_router.specs.Paths.{refused}
-use Rattle.table_trees.specs.Trees.{leaves, accepting, routed}
+use Rattle.table_trees.specs.Trees.{leaves, height, accepting, routed}
 use Rattle.soundness.specs.Worlds.{same_tx, view, IsMade, AcceptAbove, HasLeaf}
 use Rattle.soundness.specs.Legal.{Below, MayAdd, MayCreate, ArePermitted}
-use Rattle.soundness.specs.Parts.{WritesIn, InvariantOf}
+use Rattle.soundness.specs.Parts.{AreChildren, WritesIn, InvariantOf}
 
 -- whatever comes, so long as each event is permitted, the invariant holds
 abbrev pub LegalKeepsAll : Type 0
@@ -51,6 +51,16 @@ RoutedAccepts = (h : History) (session t table x : ℕ) (s : TakenSnapshot) (lea
 abbrev pub TreeHasAllBelow : Type 0
 TreeHasAllBelow = (h : History) (session t top n x : ℕ) (leaf : LeafId) → IsLegal h → ArePermitted h → open_of (tx_events h) session ≡ Some t
     → Below h t n top x → HasLeaf (catalogue_events h) x leaf → Contains (leaves (ddl_tree h session top)) leaf
+
+-- a way has fewer steps than the path of its lower end has tables, and than the tree of its upper end is high
+abbrev pub WaysAreShort : Type 0
+WaysAreShort = (h : History) (session t n top x : ℕ) → IsLegal h → ArePermitted h → open_of (tx_events h) session ≡ Some t
+    → Below h t n top x → (n < length (path_of h session x)) × (n < height (ddl_tree h session top))
+
+-- a table has no more children than stand in the list of those that are present for the session
+abbrev pub ChildrenAreCounted : Type 0
+ChildrenAreCounted = (h : History) (session t x : ℕ) (es : List Entry) → IsLegal h → open_of (tx_events h) session ≡ Some t
+    → AreChildren (catalogue_events h) (view (tx_events h) t) x es → length es ≤ length (children (entries_present h session) x)
 
 -- the event is no entry that the transaction itself adds
 abbrev pub IsForeign : TxEvents → ℕ → Event → Type 0

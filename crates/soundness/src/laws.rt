@@ -1,4 +1,4 @@
-ghost use Rattle.soundness.specs.Laws.{LegalKeepsAll, OneLeafAccepts, CreateIsAdd, PathAccepts, RoutedAccepts, TreeHasAllBelow, WaitingAccept, ConditionsCanBeMet};
+ghost use Rattle.soundness.specs.Laws.{LegalKeepsAll, OneLeafAccepts, CreateIsAdd, PathAccepts, RoutedAccepts, TreeHasAllBelow, WaysAreShort, ChildrenAreCounted, WaitingAccept, ConditionsCanBeMet};
 
 /// Each kind of event keeps the invariant, where it is permitted.
 pub fn legal_keeps_all()
@@ -31,6 +31,17 @@ pub fn routed_accepts()
 /// changes tables works on: so a scan of the tree's leaves reads all of them.
 pub fn tree_has_all_below()
     ensures { TreeHasAllBelow }
+{}
+
+/// A way through the entries that a session has is no longer than the path of its lower end and the
+/// tree of its upper end say.
+pub fn ways_are_short()
+    ensures { WaysAreShort }
+{}
+
+/// A table has no more children than the list of those that are present for the session.
+pub fn children_are_counted()
+    ensures { ChildrenAreCounted }
 {}
 
 /// A leaf that a waiting statement may write accepts, whatever others do, what it accepted before.

@@ -15,6 +15,6 @@
 mod laws;
 
 pub use laws::{
-    conditions_can_be_met, create_is_add, legal_keeps_all, one_leaf_accepts, path_accepts,
-    routed_accepts, tree_has_all_below, waiting_accept,
+    children_are_counted, conditions_can_be_met, create_is_add, legal_keeps_all, one_leaf_accepts,
+    path_accepts, routed_accepts, tree_has_all_below, waiting_accept, ways_are_short,
 };
