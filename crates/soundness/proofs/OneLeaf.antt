@@ -21,7 +21,7 @@ use Rattle.history.specs.Places.{table_at}
 use Rattle.soundness.specs.Versions.{IsVersion}
 use Rattle.soundness.specs.Worlds.{IsMade, HasLeaf, AcceptAbove}
 use Rattle.soundness.specs.Parts.{InvariantOf}
-use Rattle.soundness.specs.Laws.{IsLooking, OneLeafAccepts}
+use Rattle.soundness.specs.Laws.{IsLooking, SessionsHaveSiblings, OneLeafAccepts}
 use Rattle.soundness.proofs.Sound.{sound_of, catalogue_sound_of}
 use Rattle.soundness.proofs.Looking.{counts_world, looking_shows}
 use Rattle.soundness.proofs.Presence.{all_more, all_shown, present_siblings}
@@ -51,8 +51,13 @@ leaf_accepts h session table s leaf v legal i looking made at is shown same =
     let accept : (x : ℕ) → HasLeaf (catalogue_events h) x leaf → AcceptAbove (catalogue_events h) (counts (tx_events h) session) x v.row = λ x own. fit x (subst (λ (l : LeafId). HasLeaf (catalogue_events h) x l) (sym same) own) in
     accepts_there (catalogue_events h) (counts (tx_events h) session) v.row leaf (entries_shown h session s) table (all_shown h session s (sound_of h legal) (catalogue_sound_of h legal)) (λ e p. (i.entries.suited e p.0).child) accept made at
 
+pub sessions_have_siblings : SessionsHaveSiblings
+sessions_have_siblings h session legal permitted =
+    let i = legal_keeps_all h legal permitted in
+    present_siblings h session (sound_of h legal) (catalogue_sound_of h legal) (i.siblings (counts (tx_events h) session) (counts_world (tx_events h) session (sound_of h legal)))
+
 pub one_leaf_accepts : OneLeafAccepts
-one_leaf_accepts h session table s leaf legal permitted looking made at k d lt =
+one_leaf_accepts h legal permitted session table s leaf looking made at k d lt =
     let i = legal_keeps_all h legal permitted in
     let v : Version = get_or (seen h leaf.number s) k d in
     let test = filter_passes (λ (v : Version). (v.leaf.number == leaf.number) && is_seen h s v) (versions h) k d lt in
@@ -60,7 +65,6 @@ one_leaf_accepts h session table s leaf legal permitted looking made at k d lt =
     let parts = and_parts (v.leaf.number == leaf.number) (is_seen h s v) test in
     let same : v.leaf.number ≡ leaf.number = grind (arith, nat_tests, parts.0) in
     let accepts = leaf_accepts h session table s leaf v legal i looking made at is parts.1 (same_leaf v.leaf leaf same) in
-    let siblings = present_siblings h session (sound_of h legal) (catalogue_sound_of h legal) (i.siblings (counts (tx_events h) session) (counts_world (tx_events h) session (sound_of h legal))) in
-    let sound = tree_sound h session table s (catalogue_sound_of h legal) siblings in
+    let sound = tree_sound h session table s (catalogue_sound_of h legal) (sessions_have_siblings h session legal permitted) in
     let one = one_leaf (table_at (tables_made (catalogue_events h)) table).columns v.row (tree_of h session table s) sound in
     one ∙ only_found leaf (routed v.row (tree_of h session table s)) (subst (λ l. Contains l leaf) one accepts)

@@ -30,7 +30,8 @@ use Rattle.soundness.specs.Laws.{IsLooking, RoutedAccepts}
 use Rattle.soundness.proofs.Worlds.{both_ways}
 use Rattle.soundness.proofs.Sound.{sound_of, catalogue_sound_of}
 use Rattle.soundness.proofs.Looking.{counts_world, looking_counts}
-use Rattle.soundness.proofs.Presence.{all_shown, present_siblings}
+use Rattle.soundness.proofs.Presence.{all_shown}
+use Rattle.soundness.proofs.OneLeaf.{sessions_have_siblings}
 use Rattle.soundness.proofs.Listed.{none_in, only_one, first_in, later_in, shown_listed, child_listed}
 use Rattle.soundness.proofs.Paths.{none_among, among_cases, path_accepts_in, agree, same_above}
 use Rattle.soundness.proofs.All.{legal_keeps_all}
@@ -146,7 +147,7 @@ pub routed_accepts : RoutedAccepts
 routed_accepts h session t table x s leaf row legal permitted looking opened made path way at =
     let i = legal_keeps_all h legal permitted in
     let siblings = i.siblings (counts (tx_events h) session) (counts_world (tx_events h) session (sound_of h legal)) in
-    let sound = tree_sound h session table s (catalogue_sound_of h legal) (present_siblings h session (sound_of h legal) (catalogue_sound_of h legal) siblings) in
+    let sound = tree_sound h session table s (catalogue_sound_of h legal) (sessions_have_siblings h session legal permitted) in
     let one = one_leaf (table_at (tables_made (catalogue_events h)) table).columns row (tree_of h session table s) sound in
     let there : Contains (accepting row (tree_of h session table s)) leaf = subst (λ l. Contains l leaf) (sym one) (found_there leaf (routed row (tree_of h session table s)) way) in
     let led = routed_leads h session table s leaf row legal i looking made there in

@@ -13,6 +13,7 @@ use Rattle.history.specs.Legal.{MayHold, IsLegal}
 use Rattle.table_trees.specs.Histories.{tree_of, ddl_tree, path_of, children}
 use Rattle.row_router.specs.declared.path.PathTest.TheVariants.{Bounds}
 use Rattle.row_router.specs.Paths.{refused}
+use Rattle.table_trees.specs.Siblings.{AreSiblings}
 use Rattle.table_trees.specs.Trees.{leaves, height, accepting, routed}
 use Rattle.soundness.specs.Worlds.{same_tx, view, IsMade, AcceptAbove, HasLeaf}
 use Rattle.soundness.specs.Legal.{Below, MayAdd, MayCreate, ArePermitted}
@@ -26,10 +27,17 @@ LegalKeepsAll = (h : History) → IsLegal h → ArePermitted h → InvariantOf h
 abbrev pub IsLooking : History → (session : ℕ) → TakenSnapshot → Type 0
 IsLooking h session s = ((held_by (snapshot_events h) session ≡ Some s) × (counts (tx_events h) session s.tx ≡ true)) ⊎ (MayHold (SnapshotHeld session s) h ⊎ (s ≡ fresh (tx_events h) session))
 
--- each row that the snapshot is shown in a leaf of a tree is accepted along the way to that leaf, and by no other leaf
+-- each row that such a snapshot is shown in a leaf of a tree is accepted along the way to that leaf, and by no other leaf
+abbrev pub EachRowInOneLeaf : History → Type 0
+EachRowInOneLeaf h = (session table : ℕ) (s : TakenSnapshot) (leaf : LeafId) → IsLooking h session s → IsMade (catalogue_events h) table → Contains (leaves (tree_of h session table s)) leaf
+    → All (λ v. accepting v.row (tree_of h session table s) ≡ leaf ∷ []) (seen h leaf.number s)
+
 abbrev pub OneLeafAccepts : Type 0
-OneLeafAccepts = (h : History) (session table : ℕ) (s : TakenSnapshot) (leaf : LeafId) → IsLegal h → ArePermitted h → IsLooking h session s → IsMade (catalogue_events h) table
-    → Contains (leaves (tree_of h session table s)) leaf → All (λ v. accepting v.row (tree_of h session table s) ≡ leaf ∷ []) (seen h leaf.number s)
+OneLeafAccepts = (h : History) → IsLegal h → ArePermitted h → EachRowInOneLeaf h
+
+-- the entries that are present for a session can stand together, as is asked where a tree is made
+abbrev pub SessionsHaveSiblings : Type 0
+SessionsHaveSiblings = (h : History) (session : ℕ) → IsLegal h → ArePermitted h → AreSiblings (entries_present h session)
 
 -- a table that was just made may be added wherever a table with rows might
 abbrev pub CreateIsAdd : Type 0

@@ -1,4 +1,4 @@
-ghost use Rattle.soundness.specs.Laws.{LegalKeepsAll, OneLeafAccepts, CreateIsAdd, PathAccepts, RoutedAccepts, TreeHasAllBelow, WaysAreShort, ChildrenAreCounted, WaitingAccept, ConditionsCanBeMet};
+ghost use Rattle.soundness.specs.Laws.{LegalKeepsAll, OneLeafAccepts, SessionsHaveSiblings, CreateIsAdd, PathAccepts, RoutedAccepts, TreeHasAllBelow, WaysAreShort, ChildrenAreCounted, WaitingAccept, ConditionsCanBeMet};
 
 /// Each kind of event keeps the invariant, where it is permitted.
 pub fn legal_keeps_all()
@@ -9,6 +9,12 @@ pub fn legal_keeps_all()
 /// the tree: for every session, and each snapshot that it has open or could take.
 pub fn one_leaf_accepts()
     ensures { OneLeafAccepts }
+{}
+
+/// The entries that are present for a session can stand together: what the catalogue asks where it makes
+/// a tree.
+pub fn sessions_have_siblings()
+    ensures { SessionsHaveSiblings }
 {}
 
 /// A table that was just made may become a partition without a scan of its own.

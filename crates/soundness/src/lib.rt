@@ -16,5 +16,6 @@ mod laws;
 
 pub use laws::{
     children_are_counted, conditions_can_be_met, create_is_add, legal_keeps_all, one_leaf_accepts,
-    path_accepts, routed_accepts, tree_has_all_below, waiting_accept, ways_are_short,
+    path_accepts, routed_accepts, sessions_have_siblings, tree_has_all_below, waiting_accept,
+    ways_are_short,
 };
