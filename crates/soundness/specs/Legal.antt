@@ -69,8 +69,8 @@ pub record MayEndRow (h : History) (k : ℕ) (y : End) : Type 0 where
 
 -- ---- tables
 
--- the table's leaf is a new one, that no table has and no version lies in, and its name is free: no table that is there for the session has it, and no open
--- transaction of another session made one of that name
+-- the table's leaf is a new one, that no table has and no version lies in; and its name is free: no table that is there for
+-- the session has it, and no open transaction of another session made one of that name
 pub record MayMake (h : History) (t : Table) : Type 0 where
   pub acts : IsRunning (tx_events h) t.by.number
   pub empty : (v : Version) → IsVersion (row_events h) v → t.shape ≢ Leaf v.leaf
