@@ -1,5 +1,7 @@
-use crate::write_table;
-use pg_values::{Answer, Kind, KindList, NameList, NoMemory, PgText, Row, RowList, Value};
+use crate::{write_fault, write_fault_text, write_table};
+use pg_values::{
+    Answer, Args, Fault, Kind, KindList, NameList, NoMemory, PgText, Row, RowList, SqlState, Value,
+};
 use std::alloc::Global;
 use std::test::Fail;
 
@@ -74,5 +76,37 @@ fn columns_of_several_kinds(rt: HostRuntime) -> Result<(), Fail> {
     let want =
         ">          a|ä |b\n-----------+--+-\n-2147483648|  |7\n          1|éé|\n(2 rows)\n\n";
     assert!(rt; got.as_slice() == want.as_bytes());
+    Ok(())
+}
+
+fn fault(alloc: Global, code: &[u8; 5], args: &[&str]) -> Result<Fault, NoMemory> {
+    let mut texts = Args::new(alloc);
+    for arg in args {
+        texts.push(PgText::from_bytes(alloc, arg.as_bytes())?)?;
+    }
+    Ok(Fault {
+        code: SqlState { bytes: *code },
+        args: texts,
+    })
+}
+
+#[test]
+fn faults(rt: HostRuntime) -> Result<(), Fail> {
+    let alloc = rt.alloc();
+    let mut out = Vec::from_slice(alloc, b">")?;
+    write_fault(alloc, &fault(alloc, b"23502", &["a", "p<0>"])?, &mut out)?;
+    write_fault(alloc, &fault(alloc, b"40P01", &["s2", "s1"])?, &mut out)?;
+    write_fault_text(
+        alloc,
+        &fault(
+            alloc,
+            b"42P16",
+            &["the bound has <n> values for <m>", "3", "2"],
+        )?,
+        &mut out,
+    )?;
+    let want =
+        ">ERROR:  23502 column a of p<0> is null\nERROR:  40P01 deadlock of s2, s1\n42P16 the bound has 3 values for 2";
+    assert!(rt; out.as_slice() == want.as_bytes());
     Ok(())
 }
