@@ -10,6 +10,10 @@ them; the cycle is picked from all cycles. Nothing here is kept from one questio
 import os
 import sys
 
+sys.dont_write_bytecode = True
+sys.path.insert(0, os.path.dirname(os.path.dirname(os.path.abspath(__file__))))
+from schedules import Numbers, write
+
 MODES = ["AS", "RS", "RE", "SUE", "S", "SRE", "E", "AE"]
 CONFLICTS = {
     "AS": ["AE"],
@@ -24,20 +28,6 @@ CONFLICTS = {
 SCHEDULES, STEPS, SESSIONS, TABLES = 3000, 18, 6, 4
 # How often each kind of step is drawn, in a hundred.
 KINDS = "r" * 60 + "e" * 5 + "s" * 5 + "n" * 12 + "x" * 8 + "c" * 5 + "g" * 5
-
-
-class Numbers:
-    """A fixed row of numbers, the same on every machine."""
-
-    def __init__(self):
-        self.state = 16
-
-    def below(self, count):
-        self.state = (self.state * 6364136223846793005 + 1442695040888963407) % 2**64
-        return (self.state >> 33) % count
-
-    def of(self, choices):
-        return choices[self.below(len(choices))]
 
 
 def wanted(history, x):
@@ -184,11 +174,9 @@ def schedule(numbers):
 
 def main():
     folder = sys.argv[1]
-    numbers = Numbers()
+    numbers = Numbers(16)
     lines = [schedule(numbers) for _ in range(SCHEDULES)]
-    for name, part in (("stdin", 0), ("stdout", 1)):
-        with open(os.path.join(folder, name), "w", encoding="ascii") as out:
-            out.write("".join(line[part] + "\n" for line in lines))
+    write(folder, lines)
     met = [several for line in lines for several in line[2]]
     print(f"{SCHEDULES} schedules, {sum(bool(line[2]) for line in lines)} with a cycle, {len(met)} cycles,", end=" ")
     print(f"{sum(several > 1 for several in met)} of them one of several shortest")

@@ -13,6 +13,10 @@ question to the next. The form of the steps and the answers stands in `crates/ve
 import os
 import sys
 
+sys.dont_write_bytecode = True
+sys.path.insert(0, os.path.dirname(os.path.dirname(os.path.abspath(__file__))))
+from schedules import Numbers, fate, given, held_by, open_of, owners, sees, write, written
+
 SCHEDULES, STEPS, SESSIONS, LEAVES = 2200, 40, 5, 3
 # How often each kind of step is drawn: for a session with a transaction, for one that holds a snapshot
 # besides, and for one without a transaction.
@@ -21,57 +25,7 @@ HOLDING = "p" * 6 + "r" * 8 + "e" * 5 + "m" * 5 + "s" * 50 + "n" * 10 + "h" + "d
 IDLE = "b" * 80 + "dfonspremhca" + "f" * 7
 
 
-class Numbers:
-    """A fixed row of numbers, the same on every machine."""
-
-    def __init__(self):
-        self.state = 13
-
-    def below(self, count):
-        self.state = (self.state * 6364136223846793005 + 1442695040888963407) % 2**64
-        return (self.state >> 33) % count
-
-    def of(self, choices):
-        return choices[self.below(len(choices))]
-
-
 # ---- the definitions
-
-def fate(history, tx):
-    ends = [event[0] for event in history if event[0] in ("committed", "aborted") and event[2] == tx]
-    return "a" if "aborted" in ends else "c" if ends else "r"
-
-
-def owners(history):
-    """The sessions that began the transactions, in order."""
-    return [event[1] for event in history if event[0] == "began"]
-
-
-def open_of(history, session):
-    found = None
-    for event in history:
-        if event[0] in ("began", "committed", "aborted") and event[1] == session:
-            found = event[2] if event[0] == "began" else None
-    return found
-
-
-def held_by(history, session):
-    """The place, the transaction and the command number of the snapshot that the session holds."""
-    found = None
-    for event in history:
-        if event[0] in ("held", "dropped") and event[1] == session:
-            found = event[2] if event[0] == "held" else None
-    return found
-
-
-def given(history, session):
-    return held_by(history, session) or (len(history), open_of(history, session), 0)
-
-
-def sees(history, snapshot, by, cmd):
-    place, tx, number = snapshot
-    return fate(history[:place], by) == "c" or (by == tx and cmd < number)
-
 
 def leaf_count(history):
     return sum(event[0] == "leaf" for event in history)
@@ -213,10 +167,6 @@ def drawn(numbers, history, sessions, commands):
     return [kind, session] + {"h": [0, cmd], "p": [leaf, cmd, value]}.get(kind, [])
 
 
-def written(numbers):
-    return "".join(n if isinstance(n, str) else chr(ord("0") + n) for n in numbers)
-
-
 def schedule(numbers, counts):
     """A line of steps, and the line of their answers."""
     history, steps, answers, trail = [], [], [], []
@@ -262,11 +212,9 @@ def tally(counts, history, now, told):
 
 def main():
     folder = sys.argv[1]
-    numbers, counts = Numbers(), {}
+    numbers, counts = Numbers(13), {}
     lines = [schedule(numbers, counts) for _ in range(SCHEDULES)]
-    for name, part in (("stdin", 0), ("stdout", 1)):
-        with open(os.path.join(folder, name), "w", encoding="ascii") as out:
-            out.write("".join(line[part] + "\n" for line in lines))
+    write(folder, lines)
     print(f"{SCHEDULES} schedules, {counts['s']} scans: {counts['held']} see something else than by a fresh", end=" ")
     print(f"snapshot, {counts['undone']} a version whose end was undone; answers by their letters:", end=" ")
     print(", ".join(f"{letter} {counts[letter]}" for letter in sorted(counts) if len(letter) == 1))

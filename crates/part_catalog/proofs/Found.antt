@@ -1,5 +1,5 @@
 -- A table by its name: the walk from the newest table of the name to the older ones.
-use Rattle.std.proofs.Common.{◌≡◌, ℕ, zero, suc, ◌+◌, ◌<◌, ◌&&◌, ◌++◌, arith, ap, refl, sym, ◌∙◌, Bool, true, false, if◌then◌else◌, List, [], ◌∷◌, Option, Some, None, IfSome, map, length, get_or, inl, inr}
+use Rattle.std.proofs.Common.{◌≡◌, ℕ, zero, suc, ◌+◌, ◌<◌, ◌&&◌, ◌++◌, arith, ap, refl, sym, subst, ◌∙◌, Bool, true, false, if◌then◌else◌, List, [], ◌∷◌, Option, Some, None, IfSome, map, length, get_or, inl, inr}
 use Rattle.std.proofs.lemmas.Grind.{common_steps, elements}
 use Rattle.std.proofs.lemmas.Bool.{cases_Bool, cases_lt}
 use Rattle.std.proofs.lemmas.List.{get_or-map, length-map, length-append}
@@ -62,6 +62,17 @@ next_named tables name j (Some i) at is =
 
 pub next_lower : (tables : List StoredTable) (name : List ℕ) (j i : ℕ) → IsNamed tables name j → Some i ≡ last_below (has_name (map name_in tables) (get_or (map name_in tables) j [])) j → i < j
 next_lower tables name j i at is = (last_is (has_name (map name_in tables) name) j i (sym (is ∙ same_chain tables name j at))).0
+
+-- how many numbers are left to the walk
+abbrev pub steps_left : Option ℕ → ℕ
+steps_left None = 0
+steps_left (Some j) = j + 1
+
+pub walk_shrinks : (tables : List StoredTable) (name : List ℕ) (j : ℕ) (here o : Option ℕ) → here ≡ Some j → IsNamed tables name j → o ≡ last_below (has_name (map name_in tables) (get_or (map name_in tables) j [])) j → steps_left o < steps_left here
+walk_shrinks tables name j here None is at more = subst (λ q. 0 < steps_left q) (sym is) (omega arith)
+walk_shrinks tables name j here (Some i) is at more =
+    let lower : i < j = next_lower tables name j i at more in
+    subst (λ q. i + 1 < steps_left q) (sym is) (omega (arith, lower))
 
 -- ---- tests of a table by its name and by what is kept of it
 

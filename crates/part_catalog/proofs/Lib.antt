@@ -1,3 +1,5 @@
+pub mod Adding
+pub mod Between
 pub mod Found
 pub mod Grown
 pub mod Keeping
@@ -7,3 +9,4 @@ pub mod Paths
 pub mod Suited
 pub mod Told
 pub mod Trees
+pub mod Upwards

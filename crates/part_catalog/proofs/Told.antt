@@ -154,7 +154,7 @@ map_step f done more xs i x y lt at put is told = grind (arith, common_steps, el
 
 -- ---- the mark of a pending entry
 
-find_at : (p : StoredEntry → Bool) (xs : List StoredEntry) (x : StoredEntry) → find p xs ≡ Some x → (k : ℕ) × (k < length xs) × (get_or xs k no_entry ≡ x) × (p x ≡ true)
+pub find_at : (p : StoredEntry → Bool) (xs : List StoredEntry) (x : StoredEntry) → find p xs ≡ Some x → (k : ℕ) × (k < length xs) × (get_or xs k no_entry ≡ x) × (p x ≡ true)
 find_at p [] x is = absurd (cc)
 find_at p (y ∷ ys) x is = elim (cases_Bool (p y)) [
   | inl t ↦ let same : y ≡ x = let e : Some y ≡ Some x = rw t at is in cc in (0, omega arith, same, ap p (sym same) ∙ t)

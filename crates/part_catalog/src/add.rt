@@ -1,19 +1,27 @@
 //! Tables, entries and CHECKs that are added.
 
-ghost use Rattle.std.specs.Prelude.{◌≡◌, ◌<◌, ◌≤◌, ℕ, ◌++◌, ◌∷◌, [], None, IfOk, OnOk, OnErr, MatchResult, length};
-ghost use Rattle.history.specs.Catalogue.{TableMade, CheckKept};
-ghost use Rattle.history.specs.History.{History, CatalogueChange};
+ghost use Rattle.std.specs.Prelude.{◌≡◌, ◌<◌, ◌≤◌, ℕ, ◌++◌, ◌∷◌, [], None, IfOk, OnOk, OnErr, MatchResult, length, slice_index_or};
+ghost use Rattle.std.specs.List.{position_or_len};
+ghost use Rattle.history.specs.Catalogue.{TableMade, EntryAdded, CheckKept};
+ghost use Rattle.history.specs.History.{History, CatalogueChange, tx_events};
 ghost use Rattle.history.specs.Places.{IsCatalogueSound, KeysLieIn};
-ghost use Rattle.part_catalog.specs.Kept.{with_table};
+ghost use Rattle.history.specs.Transactions.{session_of};
+ghost use Rattle.tx_table.specs.Stands.{TableStands};
+ghost use Rattle.part_catalog.specs.Kept.{with_table, with_entry, next_entry, fresh, no_entry, IsBetween};
 ghost use Rattle.part_catalog.specs.Stands.{CatalogueStands};
-ghost use Rattle.part_catalog.specs.Full.{TableRefused};
+ghost use Rattle.part_catalog.specs.Full.{TableRefused, EntryRefused, HasPlace, MayAdd};
+ghost use Rattle.part_catalog.specs.Ordered.{HaveAnOrder};
 
 use crate::below::Below;
-use crate::stored::StoredTable;
-use crate::{Catalog, CatalogRefused, NewTable, TABLE_LIMIT};
-use history::{Check, KeptCheck, Table, TxId};
+use crate::room::{count_shown, levels_up, place_in};
+use crate::stored::{StoredEntry, StoredTable};
+use crate::{Catalog, CatalogRefused, LEVEL_LIMIT, NewTable, PARTITION_LIMIT, TABLE_LIMIT, see};
+use history::{Check, Entry, EntryId, KeptCheck, Table, TxId};
+use part_bounds::Bound;
 use pg_ids::{TableNo, Which};
 use pg_values::NoMemory;
+use table_trees::height_up_to;
+use tx_table::TxTable;
 
 impl Catalog {
     /// Makes a table, under the next number. Its name is one that no table has which is there for the
@@ -64,6 +72,87 @@ impl Catalog {
         let Ok(()) = self.tables.push(StoredTable {
             table,
             dropped: None,
+        })
+        else {
+            unreachable!()
+        };
+        Ok(())
+    }
+
+    /// Adds an entry, under the next number: a table becomes a partition of another, under a bound that
+    /// this one takes. The caller sees that no sibling stands in its way.
+    pub fn add_entry(
+        &mut self,
+        txs: &TxTable,
+        parent: TableNo,
+        child: TableNo,
+        bound: Bound,
+        by: TxId,
+        cmd: u32,
+    ) -> Result<(), CatalogRefused>
+        requires { MayAdd txs.now self.old (next_entry self.old parent child bound by cmd) }
+        ensures added { OnOk result ((h : History) → TableStands txs.now h → CatalogueStands self.old h → CatalogueStands self.new
+            (CatalogueChange (EntryAdded (next_entry self.old parent child bound by cmd)) ∷ h)) }
+        ensures cause { (h : History) → TableStands txs.now h → CatalogueStands self.old h →
+            MatchResult result (λ _. HasPlace h (session_of (tx_events h) by.number) parent.number child.number)
+            (λ e. EntryRefused h (session_of (tx_events h) by.number) parent.number child.number e) }
+        ensures err { OnErr result (self.new ≡ self.old) }
+    {
+        let session = txs.session_of(by);
+        let below = match self.ddl_tree(self.alloc, txs, child, session) {
+            Ok(tree) => tree,
+            Err(NoMemory) => return Err(CatalogRefused::NoMemory),
+        };
+        let flags = match see::present_flags(self.alloc, &self.entries, txs, session) {
+            Ok(flags) => flags,
+            Err(NoMemory) => return Err(CatalogRefused::NoMemory),
+        };
+        if count_shown(self.below[parent.number as usize].numbers(), &flags) >= PARTITION_LIMIT {
+            return Err(CatalogRefused::Full {
+                which: Which::Partitions,
+            });
+        }
+        if levels_up(&self.entries, &flags, parent) + height_up_to(&below, LEVEL_LIMIT + 1)
+            > LEVEL_LIMIT
+        {
+            return Err(CatalogRefused::Full {
+                which: Which::Levels,
+            });
+        }
+        let id = EntryId {
+            number: self.entries.len() as u64,
+        };
+        let entry = Entry {
+            id,
+            parent,
+            child,
+            bound,
+            by,
+            cmd,
+        };
+        match self.push_entry(entry) {
+            Ok(()) => Ok(()),
+            Err(NoMemory) => Err(CatalogRefused::NoMemory),
+        }
+    }
+
+    fn push_entry(&mut self, entry: Entry) -> Result<(), NoMemory>
+        requires numbered { entry.id.number ≡ length self.old.entries }
+        requires between { IsBetween self.old.tables (fresh entry) }
+        requires beside { (k : ℕ) → k < length self.old.entries → (slice_index_or self.old.entries k no_entry).entry.parent ≡ entry.parent →
+            HaveAnOrder (slice_index_or self.old.entries k no_entry).entry.bound entry.bound }
+        ensures ok { OnOk result (self.new ≡ with_entry self.old entry) }
+        ensures err { OnErr result (self.new ≡ self.old) }
+    {
+        let parent = entry.parent.number as usize;
+        let at = place_in(&self.entries, self.below[parent].numbers(), &entry);
+        self.entries.reserve(1)?;
+        let list = &mut self.below[parent];
+        list.insert(at, entry.id.number)?;
+        let Ok(()) = self.entries.push(StoredEntry {
+            entry,
+            ended: None,
+            marked: None,
         })
         else {
             unreachable!()

@@ -18,9 +18,12 @@ mod add;
 mod below;
 mod catalog;
 mod change;
+mod find;
 mod grow;
 mod names;
 mod new_table;
+mod path;
+mod room;
 mod see;
 mod stored;
 
@@ -29,3 +32,9 @@ pub use new_table::{CatalogRefused, NewTable};
 
 /// How many tables a catalogue takes, dropped ones too.
 pub const TABLE_LIMIT: usize = 4096;
+
+/// How many partitions a table has at most.
+pub const PARTITION_LIMIT: usize = 1024;
+
+/// How many tables stand on a path at most.
+pub const LEVEL_LIMIT: usize = 8;

@@ -1,0 +1,87 @@
+use Rattle.std.proofs.Common.{◌≡◌, ◌∙◌, ◌<◌, ℕ, Option, Some, None, IfSome, true, false, ap, sym, subst, arith, length, map, get_or, List, []}
+use Rattle.std.proofs.lemmas.Grind.{common_steps, elements}
+use Rattle.std.proofs.lemmas.List.{length-map}
+use Rattle.std.specs.Option.{option_map}
+use Rattle.history.specs.declared.catalogue.Table.{Table}
+use Rattle.history.specs.Transactions.{session_of}
+use Rattle.history.specs.History.{tx_events}
+use Rattle.part_catalog.specs.declared.stored.StoredTable.{StoredTable}
+use Rattle.part_catalog.specs.Kept.{KeptCatalogue, name_in, no_stored}
+use Rattle.part_catalog.specs.Names.{NamesStand, has_name, last_below}
+use Rattle.part_catalog.specs.Stands.{made_elsewhere_by}
+use Rattle.part_catalog.specs.Found.{made_at, table_number, is_made_elsewhere}
+use Rattle.part_catalog.proofs.Found.{from_here, named_and, IsNamed, newest_named, next_named, walk_begins, walk_goes, walk_ends, walk_shrinks, made_is, taken_told}
+use Rattle.part_catalog.proofs.catalog.Catalog.name_taken_by.Goals as goal
+
+pub loop-next-init : goal.loop-next-init
+loop-next-init c =
+    let K = c.args.self.now.tables in
+    let tables = ap (λ (k : KeptCatalogue). k.tables) c.self.view_is in
+    let names = subst (λ (ts : List StoredTable). NamesStand c.self.inside.names (map name_in ts)) tables c.self.invariant.named in
+    let is = c.newest-next.ensures (map name_in K) names in
+    record {
+      known = newest_named K c.args.name.now c.newest-next.result is;
+      found = λ h txs. walk_begins (made_elsewhere_by (tx_events h) c.args.session) K c.args.name.now c.newest-next.result is;
+    }
+
+pub returns-then-is_made_elsewhere : goal.returns-then-is_made_elsewhere
+returns-then-is_made_elsewhere c h txs st =
+    let K = c.args.self.now.tables in
+    let j = c.in-Some.number in
+    let f = made_elsewhere_by (tx_events h) c.args.session in
+    let tables = ap (λ (k : KeptCatalogue). k.tables) c.self.view_is in
+    let at : IsNamed K c.args.name.now j = subst (λ (o : Option _). IfSome o (IsNamed K c.args.name.now)) c.in-Some.is c.loop-next.invariant.known in
+    let known : j < length c.self.inside.tables.items = omega (arith, at.0, ap (length {A = StoredTable}) tables) in
+    let row : c.index-stored.result.now ≡ get_or c.self.inside.tables.items j no_stored = grind (arith, common_steps, elements, c.index-stored.ensures) in
+    let holds : f (get_or K j no_stored) ≡ true = ap (λ (ts : List StoredTable). f (get_or ts j no_stored)) (sym tables) ∙ ap f (sym row) ∙ sym (c.is_made_elsewhere.ensures h txs) ∙ c.if-is_made_elsewhere.true in
+    let walk : Some j ≡ last_below (is_made_elsewhere h c.args.session c.args.name.now) (table_number h) =
+    sym (walk_ends f K c.args.name.now j at holds)
+    ∙ ap (from_here (named_and f K c.args.name.now)) (sym c.in-Some.is)
+    ∙ c.loop-next.invariant.found h txs
+    ∙ taken_told c.args.self.now h c.args.session c.args.name.now st in
+    let maker : c.session_of.result ≡ session_of (tx_events h) (made_at h j).by.number =
+    c.session_of.ensures h txs
+    ∙ ap (λ (x : StoredTable). session_of (tx_events h) x.table.by.number) row
+    ∙ ap (λ (ts : List StoredTable). session_of (tx_events h) (get_or ts j no_stored).table.by.number) tables
+    ∙ ap (λ (t : Table). session_of (tx_events h) t.by.number) (sym (made_is c.args.self.now h j st at.0)) in
+    ap (λ (n : ℕ). Some n) maker ∙ ap (option_map (λ (k : ℕ). session_of (tx_events h) (made_at h k).by.number)) walk
+
+pub loop-next-smaller : goal.loop-next-smaller
+loop-next-smaller c =
+    let K = c.args.self.now.tables in
+    let j = c.in-Some.number in
+    let tables = ap (λ (k : KeptCatalogue). k.tables) c.self.view_is in
+    let names = subst (λ (ts : List StoredTable). NamesStand c.self.inside.names (map name_in ts)) tables c.self.invariant.named in
+    let at : IsNamed K c.args.name.now j = subst (λ (o : Option _). IfSome o (IsNamed K c.args.name.now)) c.in-Some.is c.loop-next.invariant.known in
+    let more = c.earlier-next.ensures (map name_in K) names (omega (arith, at.0, length-map K name_in)) in
+    walk_shrinks K c.args.name.now j c.loop-next.next c.earlier-next.result c.in-Some.is at more
+
+pub loop-next-preserved : goal.loop-next-preserved
+loop-next-preserved c =
+    let K = c.args.self.now.tables in
+    let j = c.in-Some.number in
+    let tables = ap (λ (k : KeptCatalogue). k.tables) c.self.view_is in
+    let names = subst (λ (ts : List StoredTable). NamesStand c.self.inside.names (map name_in ts)) tables c.self.invariant.named in
+    let at : IsNamed K c.args.name.now j = subst (λ (o : Option _). IfSome o (IsNamed K c.args.name.now)) c.in-Some.is c.loop-next.invariant.known in
+    let more = c.earlier-next.ensures (map name_in K) names (omega (arith, at.0, length-map K name_in)) in
+    let known : j < length c.self.inside.tables.items = omega (arith, at.0, ap (length {A = StoredTable}) tables) in
+    let row : c.index-stored.result.now ≡ get_or c.self.inside.tables.items j no_stored = grind (arith, common_steps, elements, c.index-stored.ensures) in
+    record {
+      known = next_named K c.args.name.now j c.earlier-next.result at more;
+      found = λ h txs.
+          let f = made_elsewhere_by (tx_events h) c.args.session in
+          let fails : f (get_or K j no_stored) ≡ false = ap (λ (ts : List StoredTable). f (get_or ts j no_stored)) (sym tables) ∙ ap f (sym row) ∙ sym (c.is_made_elsewhere.ensures h txs) ∙ c.if-is_made_elsewhere.false in
+          walk_goes f K c.args.name.now j c.earlier-next.result at fails more
+          ∙ ap (from_here (named_and f K c.args.name.now)) (sym c.in-Some.is)
+          ∙ c.loop-next.invariant.found h txs;
+    }
+
+pub returns : goal.returns
+returns c h txs st =
+    let K = c.args.self.now.tables in
+    let f = made_elsewhere_by (tx_events h) c.args.session in
+    let walk : None ≡ last_below (is_made_elsewhere h c.args.session c.args.name.now) (table_number h) =
+    ap (from_here (named_and f K c.args.name.now)) (sym c.in_default.is)
+    ∙ c.loop-next.invariant.found h txs
+    ∙ taken_told c.args.self.now h c.args.session c.args.name.now st in
+    ap (option_map (λ (k : ℕ). session_of (tx_events h) (made_at h k).by.number)) walk

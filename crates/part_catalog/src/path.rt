@@ -1,0 +1,190 @@
+//! The way from a table upwards.
+
+ghost use Rattle.std.specs.Prelude.{◌≡◌, ◌<◌, ◌==◌, ◌&&◌, ℕ, map, filter, find, length, IfOk, IfSome, option_copied};
+ghost use Rattle.std.specs.List.{position_or_len};
+ghost use Rattle.history.specs.History.{History, tx_events};
+ghost use Rattle.history.specs.Presence.{is_check_of};
+ghost use Rattle.tx_table.specs.Stands.{TableStands};
+ghost use Rattle.table_trees.specs.Histories as spec;
+ghost use Rattle.table_trees.specs.Histories.{above, kept_of, path_of};
+ghost use Rattle.part_catalog.specs.Answers.{parent_told, AreTogether};
+ghost use Rattle.part_catalog.specs.Groves.{IsGrove};
+ghost use Rattle.part_catalog.specs.Kept.{table_in, entry_in};
+ghost use Rattle.part_catalog.specs.Stands.{CatalogueStands, is_flagged, shown_above, is_number, flagged_number};
+
+use crate::below::Below;
+use crate::grow::set_below;
+use crate::stored::{StoredEntry, StoredTable};
+use crate::{Catalog, see};
+use history::{Check, KeptCheck, TableShape};
+use part_bounds::copy_bound;
+use pg_ids::TableNo;
+use pg_values::NoMemory;
+use std::alloc::Global;
+use table_trees::{KeptChecks, PathPart, Place, copy_level};
+use tx_table::TxTable;
+
+impl Catalog {
+    /// A table and those above it, upwards: the CHECKs kept for each, and its place where it is a
+    /// partition. Pending entries count.
+    #[tactic(auto, unfolding(table_trees::specs::Histories::path_of))]
+    pub fn path(
+        &self,
+        alloc: Global,
+        txs: &TxTable,
+        table: TableNo,
+        session: u32,
+    ) -> Result<Vec<PathPart>, NoMemory>
+        requires known { table.number < length self.now.tables }
+        requires siblings { AreTogether txs.now self.now session }
+        ensures { IfOk result (λ parts. (h : History) → TableStands txs.now h → CatalogueStands self.now h →
+            parts.items ≡ path_of h session table.number) }
+    {
+        let flags = see::present_flags(alloc, &self.entries, txs, session)?;
+        let mut parts = Vec::new(alloc);
+        let mut next = Some(table);
+        for step in 0..8_usize {
+            let Some(table) = next else {
+                return Ok(parts);
+            };
+            let checks = checks_of(alloc, &self.checks, txs, session, table)?;
+            let place = place_of(
+                alloc,
+                &self.tables,
+                &self.entries,
+                &self.below,
+                &flags,
+                table,
+            )?;
+            parts.push(PathPart {
+                table,
+                checks,
+                place,
+            })?;
+            next = parent_in(&self.entries, &flags, table);
+        }
+        Ok(parts)
+    }
+}
+
+fn copy_kept(alloc: Global, kept: &KeptCheck) -> Result<KeptCheck, NoMemory>
+    ensures { IfOk result (λ copy. copy ≡ kept.now) }
+{
+    let level = copy_level(alloc, &kept.level)?;
+    let bound = copy_bound(alloc, &kept.bound)?;
+    Ok(KeptCheck { level, bound })
+}
+
+// The CHECKs of a table that count for the session.
+fn checks_of(
+    alloc: Global,
+    checks: &[Check],
+    txs: &TxTable,
+    session: u32,
+    table: TableNo,
+) -> Result<KeptChecks, NoMemory>
+    ensures { IfOk result (λ kept. (h : History) → TableStands txs.now h →
+        kept ≡ map kept_of (filter (is_check_of (tx_events h) session table.number) checks.now)) }
+{
+    let mut found = KeptChecks::new(alloc);
+    for check in checks {
+        if check.table.number == table.number && see::counts(txs, session, check.by) {
+            found.push(copy_kept(alloc, &check.kept)?)?;
+        }
+    }
+    Ok(found)
+}
+
+// The first shown entry by which the table is a partition.
+fn above_shown<'c>(
+    entries: &'c [StoredEntry],
+    flags: &[bool],
+    table: TableNo,
+) -> Option<&'c StoredEntry>
+    requires { length flags.now ≡ length entries.now }
+    ensures { option_copied result ≡ find (shown_above flags.now table.number) entries.now }
+{
+    for x in entries {
+        if x.entry.child.number == table.number && is_shown(flags, x) {
+            return Some(x);
+        }
+    }
+    None
+}
+
+fn is_shown(flags: &[bool], x: &StoredEntry) -> bool
+    ensures { result ≡ is_flagged flags.now x.now.entry }
+{
+    match flags.get(x.entry.id.number as usize) {
+        Some(flag) => *flag,
+        None => false,
+    }
+}
+
+pub fn parent_in(entries: &[StoredEntry], flags: &[bool], table: TableNo) -> Option<TableNo>
+    requires { length flags.now ≡ length entries.now }
+    ensures { result ≡ parent_told (above (filter (is_flagged flags.now) (map entry_in entries.now)) table.number) }
+{
+    match above_shown(entries, flags, table) {
+        Some(x) => Some(x.entry.parent),
+        None => None,
+    }
+}
+
+// Which of the shown entries of a list it is: so many stand before it.
+fn place_among(numbers: &[u64], flags: &[bool], number: u64) -> usize
+    ensures { result ≡ position_or_len (is_number number) (filter (flagged_number flags.now) numbers.now) }
+{
+    let mut at = 0;
+    for n in numbers {
+        if is_set(flags, *n) {
+            if *n == number {
+                return at;
+            }
+            at += 1;
+        }
+    }
+    at
+}
+
+pub fn is_set(flags: &[bool], number: u64) -> bool
+    ensures { result ≡ flagged_number flags.now number }
+{
+    match flags.get(number as usize) {
+        Some(flag) => *flag,
+        None => false,
+    }
+}
+
+// The place of a table as a partition.
+fn place_of(
+    alloc: Global,
+    tables: &[StoredTable],
+    entries: &[StoredEntry],
+    below: &[Below],
+    flags: &[bool],
+    table: TableNo,
+) -> Result<Option<Place>, NoMemory>
+    requires { IsGrove tables.now entries.now below.now flags.now }
+    ensures { IfOk result (λ place. place ≡ spec.place_of (map table_in tables.now) (filter (is_flagged flags.now) (map entry_in entries.now))
+        (above (filter (is_flagged flags.now) (map entry_in entries.now)) table.number)) }
+{
+    let Some(x) = above_shown(entries, flags, table) else {
+        return Ok(None);
+    };
+    let parent = x.entry.parent;
+    match &tables[parent.number as usize].table.shape {
+        TableShape::Leaf(_) => Ok(None),
+        TableShape::Level(level) => {
+            let level = copy_level(alloc, level)?;
+            let list = &below[parent.number as usize];
+            let bounds = set_below(alloc, entries, list, flags, parent)?;
+            let child = place_among(list.numbers(), flags, x.entry.id.number);
+            Ok(Some(Place {
+                level,
+                bounds,
+                child,
+            }))
+        }
+    }
+}
