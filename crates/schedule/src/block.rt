@@ -94,13 +94,13 @@ impl<'s> Block<'s> {
         self.step
     }
 
-    pub fn name(&self) -> &'s [u8]
+    pub fn name(&self) -> &[u8]
         ensures { result.now ≡ self.now.name }
     {
         self.name
     }
 
-    pub fn text(&self) -> &'s [u8]
+    pub fn text(&self) -> &[u8]
         ensures { result.now ≡ self.now.text }
     {
         self.text

@@ -8,14 +8,14 @@ use crate::task::{Permutation, Task};
 
 /// A world of the run, in memory.
 #[derive(Drop)]
-pub struct Engine<'s, D: Database> {
+pub struct Engine<'e, 's, D: Database> {
     pub db: D,
     /// Those to come.
-    pub permutations: &'s [Permutation<'s>],
+    pub permutations: &'e [Permutation<'s>],
     /// Those to come in this permutation.
-    pub tasks: &'s [Task<'s>],
+    pub tasks: &'e [Task<'s>],
     /// By session.
-    pub seats: Vec<Seat<'s>>,
+    pub seats: Vec<Seat<'e>>,
     /// Whose report is held back, in the order of their ends.
     pub held: Vec<usize>,
     /// Whose launch was the last.

@@ -33,13 +33,13 @@ fn wait_report(s: usize, seat: &Seat<'_>) -> Report
 }
 
 // The tasks behind the first.
-fn others<'s>(tasks: &'s [Task<'s>]) -> &'s [Task<'s>]
+fn others<'e, 's>(tasks: &'e [Task<'s>]) -> &'e [Task<'s>]
     ensures { result.now ≡ others tasks.now }
 {
     &tasks[tasks.len().min(1)..]
 }
 
-impl<'s, D: Database> Engine<'s, D> {
+impl<'e, 's, D: Database> Engine<'e, 's, D> {
     // The step's end is reported.
     fn tell(&mut self, s: usize) -> Report
         requires known { s < self.old.sessions }
@@ -249,8 +249,8 @@ impl<'s, D: Database> Engine<'s, D> {
     fn launch_block(
         &mut self,
         alloc: Global,
-        block: &'s Block<'s>,
-        others: &'s [Task<'s>],
+        block: &'e Block<'s>,
+        others: &'e [Task<'s>],
     ) -> Result<Report, NoMemory>
         requires known { block.now.session < self.old.sessions }
         requires others { AreKnown self.old.sessions others.now }
@@ -316,8 +316,8 @@ impl<'s, D: Database> Engine<'s, D> {
     fn open_first(
         &mut self,
         alloc: Global,
-        permutation: &'s Permutation<'s>,
-        others: &'s [Permutation<'s>],
+        permutation: &'e Permutation<'s>,
+        others: &'e [Permutation<'s>],
     ) -> Result<Report, NoMemory>
         requires known { AreKnown self.old.sessions permutation.now }
         requires others { All (AreKnown self.old.sessions) others.now }
@@ -341,7 +341,7 @@ impl<'s, D: Database> Engine<'s, D> {
 }
 
 // Nothing was launched.
-pub(crate) fn empty_seats<'s>(alloc: Global, count: usize) -> Result<Vec<Seat<'s>>, NoMemory>
+pub(crate) fn empty_seats<'e>(alloc: Global, count: usize) -> Result<Vec<Seat<'e>>, NoMemory>
     ensures { IfOk result (λ seats. seats.items ≡ replicate count no_seat) }
 {
     let mut seats = Vec::new(alloc);

@@ -10,7 +10,7 @@ use crate::holding::{is_in, tellable};
 use crate::run_end::RunEnd;
 use crate::task::Task;
 
-impl<'s, D: Database> Engine<'s, D> {
+impl<'e, 's, D: Database> Engine<'e, 's, D> {
     /// What happens next.
     pub(crate) fn next(&self) -> Option<Event>
         ensures is { (w : World D.State) → Stands D.Database self.now w → result ≡ next D.rules w }

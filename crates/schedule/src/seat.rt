@@ -15,18 +15,18 @@ fn is_step(kind: Kind) -> bool
 
 /// The block that a session runs, or ran last.
 #[derive(Drop)]
-pub struct Seat<'s> {
+pub struct Seat<'e> {
     kind: Kind,
     step: usize,
-    name: &'s [u8],
-    text: &'s [u8],
+    name: &'e [u8],
+    text: &'e [u8],
     starred: bool,
-    behind: &'s [usize],
+    behind: &'e [usize],
     waited: bool,
     is_open: bool,
 }
 
-impl<'s> Model for Seat<'s> {
+impl<'e> Model for Seat<'e> {
     ghost use Rattle.schedule.specs.Blocks.{Seated};
 
     ghost Value = { Seated };
@@ -34,7 +34,7 @@ impl<'s> Model for Seat<'s> {
     ghost view = { λ s. record { kind = s.kind; step = s.step; name = s.name.now; text = s.text.now; starred = s.starred; behind = s.behind.now; waited = s.waited; is_open = s.is_open } };
 }
 
-impl<'s> Seat<'s> {
+impl<'e> Seat<'e> {
     /// Nothing was launched yet.
     pub fn empty() -> Self
         ensures { result ≡ no_seat }
@@ -52,7 +52,7 @@ impl<'s> Seat<'s> {
     }
 
     /// The block was launched.
-    pub fn new(block: &'s Block<'s>) -> Self
+    pub fn new(block: &'e Block<'_>) -> Self
         ensures { result ≡ seat_of block.now }
     {
         Seat {

@@ -18,12 +18,12 @@ use crate::write::put;
 use pg_values::{NoMemory, Sink};
 use std::alloc::Global;
 
-impl<'s, D: Database> Engine<'s, D> {
+impl<'e, 's, D: Database> Engine<'e, 's, D> {
     /// Before the first permutation.
     pub(crate) fn new(
         alloc: Global,
         db: D,
-        permutations: &'s [Permutation<'s>],
+        permutations: &'e [Permutation<'s>],
     ) -> Result<Self, NoMemory>
         requires known { All (AreKnown (D.count db)) permutations.now }
         ensures { IfOk result (λ e. (v : D.State) → D.stands db v → Stands D.Database e (start D.rules v (D.count db) permutations.now)) }
@@ -111,10 +111,10 @@ impl<'s, D: Database> Engine<'s, D> {
 /// Runs the permutations over fresh databases like this one, and writes what they print as it comes.
 /// A failed write ends the run, and so does a failed setup or a failed teardown of the control
 /// session.
-pub fn run<'s, D: Database, K: Sink>(
+pub fn run<D: Database, K: Sink>(
     alloc: Global,
     db: D,
-    permutations: &'s [Permutation<'s>],
+    permutations: &[Permutation<'_>],
     out: &mut K,
 ) -> Result<RunEnd, RunRefused>
     requires known { All (AreKnown (D.count db)) permutations.now }

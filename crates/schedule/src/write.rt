@@ -52,7 +52,7 @@ fn put_three<K: Sink>(out: &mut K, one: &[u8], other: &[u8], third: &[u8]) -> Re
     put(out, third)
 }
 
-impl<'s, D: Database> Engine<'s, D> {
+impl<'e, 's, D: Database> Engine<'e, 's, D> {
     // Writes the names of the steps of the permutation.
     #[tactic(auto, using(crate::proofs::Pieces::nothing_yet))]
     fn write_opening<K: Sink>(&self, alloc: Global, out: &mut K) -> Result<(), RunRefused>
