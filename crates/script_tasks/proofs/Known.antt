@@ -31,10 +31,10 @@ flat_all P f [] h = none P
 flat_all P f (x ∷ xs) h = rw (flat_map-cons f x xs) (All-append P (f x) (flat_map f xs) (h x) (flat_all P f xs h))
 
 module _ (n : ℕ) where
-  Known : Task → Type 0
+  abbrev Known : Task → Type 0
   Known t = session_of t < n
 
-  IsOf : StepView → Type 0
+  abbrev IsOf : StepView → Type 0
   IsOf s = s.session < n
 
   plain_if_known : (kind : Kind) (session : ℕ) (name : List ℕ) (text : Option (List ℕ)) → session < n → AreKnown n (plain_if kind session name text)
@@ -72,7 +72,10 @@ tasks_known spec uses =
     let launched = flat_all P (use_in steps) uses (λ u. launch_known n steps u (number_of u.step steps) (omega arith) (steps_known spec.sessions)) in
     let teardowns = numbered_all P teardown_in n 1 spec.sessions (omega arith) (λ k s lt. plain_if_known n Teardown k s.name s.teardown lt) in
     let last = plain_if_known n ControlTeardown 0 (codes "control") spec.teardown (omega arith) in
-    let behind = All-append P _ _ (All-append P _ _ (All-append P (Settle ∷ []) _ (one P Settle (omega arith)) teardowns) (range_known n n (omega arith))) last in
+    let ended = numbered teardown_in 1 spec.sessions in
+    let rolled = map RollBack (range_with_len 0 (length spec.sessions + 1)) in
+    let settled = All-append P (Settle ∷ []) ended (one P Settle (omega arith)) teardowns in
+    let behind = All-append P ((Settle ∷ []) ++ ended ++ rolled) (plain_if ControlTeardown 0 (codes "control") spec.teardown) (All-append P ((Settle ∷ []) ++ ended) rolled settled (range_known n n (omega arith))) last in
     All-append P _ _ (All-append P _ _ (All-append P _ _ control setups) launched) behind
 
 pub permutations_known : (spec : Spec) → All (AreKnown (length spec.sessions + 1)) (permutations_of spec)

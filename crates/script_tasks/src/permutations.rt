@@ -60,6 +60,17 @@ fn permutation_of<'s>(
     Ok(tasks)
 }
 
+fn all_permutations<'s>(alloc: Global, script: &'s Spec) -> Result<Vec<Permutation<'s>>, NoMemory>
+    ensures { IfOk result (λ all. all.items ≡ spec.permutations_of script.now) }
+{
+    let steps = steps_of(alloc, script.sessions.as_slice())?;
+    let mut all = Vec::new(alloc);
+    for uses in script.permutations.as_slice() {
+        all.push(permutation_of(alloc, script, &steps, uses.as_slice())?)?;
+    }
+    Ok(all)
+}
+
 /// The permutations of a script. All their tasks are those of its sessions.
 pub fn permutations_of<'s>(
     alloc: Global,
@@ -68,10 +79,6 @@ pub fn permutations_of<'s>(
     ensures tasks { IfOk result (λ all. all.items ≡ spec.permutations_of script.now) }
     ensures known { IfOk result (λ all. All (AreKnown (length script.now.sessions + 1)) all.items) }
 {
-    let steps = steps_of(alloc, script.sessions.as_slice())?;
-    let mut all = Vec::new(alloc);
-    for uses in script.permutations.as_slice() {
-        all.push(permutation_of(alloc, script, &steps, uses.as_slice())?)?;
-    }
+    let all = all_permutations(alloc, script)?;
     Ok(all)
 }

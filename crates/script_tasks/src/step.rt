@@ -1,4 +1,4 @@
-ghost use Rattle.std.specs.Prelude.{◌≡◌, ◌++◌, [], ◌∷◌, OnOk, IfOk};
+ghost use Rattle.std.specs.Prelude.{◌≡◌, ◌<◌, ◌++◌, [], ◌∷◌, length, OnOk, IfOk, IfSome};
 ghost use Rattle.script_tasks.specs.Steps as spec;
 
 use pg_values::NoMemory;
@@ -66,7 +66,6 @@ fn push_steps<'s>(
 }
 
 /// The steps of all sessions.
-#[tactic(auto, using(crate::proofs::Numbered::one_more))]
 pub fn steps_of<'s>(alloc: Global, sessions: &'s [SessionSpec]) -> Result<Vec<Step<'s>>, NoMemory>
     ensures { IfOk result (λ all. all.items ≡ spec.steps_of sessions.now) }
 {
@@ -79,7 +78,8 @@ pub fn steps_of<'s>(alloc: Global, sessions: &'s [SessionSpec]) -> Result<Vec<St
 
 /// The number of the step that is called so.
 pub fn number_of(name: &[u8], steps: &[Step<'_>]) -> Option<usize>
-    ensures { result ≡ spec.number_of name.now steps.now }
+    ensures is { result ≡ spec.number_of name.now steps.now }
+    ensures known { IfSome result (λ k. k < length steps.now) }
 {
     for i in 0..steps.len() {
         if steps[i].name() == name {

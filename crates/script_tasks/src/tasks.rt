@@ -58,7 +58,6 @@ pub(crate) fn push_control_setups<'s>(
 }
 
 /// The setup of each session.
-#[tactic(auto, using(crate::proofs::Numbered::one_more_behind))]
 pub(crate) fn push_setups<'s>(
     alloc: Global,
     sessions: &'s [SessionSpec],
@@ -81,7 +80,6 @@ pub(crate) fn push_setups<'s>(
 }
 
 /// The teardown of each session.
-#[tactic(auto, using(crate::proofs::Numbered::one_more_behind))]
 pub(crate) fn push_teardowns<'s>(
     alloc: Global,
     sessions: &'s [SessionSpec],
@@ -133,11 +131,7 @@ fn is_starred(markers: &[Marker]) -> bool
     false
 }
 
-fn push_behind(
-    steps: &[Step<'_>],
-    marker: &Marker,
-    out: &mut Vec<usize>,
-) -> Result<(), NoMemory>
+fn push_behind(steps: &[Step<'_>], marker: &Marker, out: &mut Vec<usize>) -> Result<(), NoMemory>
     ensures { OnOk result (out.new.items ≡ out.old.items ++ spec.behind_marker steps.now marker.now) }
 {
     if let Marker::After(name) = marker {
@@ -148,11 +142,7 @@ fn push_behind(
     Ok(())
 }
 
-fn behind_of(
-    alloc: Global,
-    steps: &[Step<'_>],
-    markers: &[Marker],
-) -> Result<Vec<usize>, NoMemory>
+fn behind_of(alloc: Global, steps: &[Step<'_>], markers: &[Marker]) -> Result<Vec<usize>, NoMemory>
     ensures { IfOk result (λ behind. behind.items ≡ flat_map (spec.behind_marker steps.now) markers.now) }
 {
     let mut behind = Vec::new(alloc);
