@@ -1,0 +1,9 @@
+pub mod Lists
+pub mod Results
+pub mod Tasks
+pub mod Pieces
+pub mod Runs
+pub mod Weights
+pub mod Comes
+pub mod Ends
+pub mod Keeping

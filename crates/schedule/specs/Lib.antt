@@ -1,0 +1,11 @@
+pub mod Lists
+pub mod Blocks
+pub mod Rules
+pub mod Tasks
+pub mod Lines
+pub mod Run
+pub mod Stands
+pub mod Weight
+pub mod Printed
+pub mod Comes
+pub mod Keeps
