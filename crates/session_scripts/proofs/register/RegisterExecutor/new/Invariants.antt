@@ -1,0 +1,8 @@
+use Rattle.std.proofs.Common.{◌≡◌, false, None, replicate}
+use Rattle.session_scripts.proofs.register.RegisterExecutor.new.Given as goal
+
+abbrev pub invariant-loop : goal.invariant-loop
+invariant-loop l = record {
+  opened : l.opened.items ≡ replicate l.counter false;
+  own : l.own.items ≡ replicate l.counter None;
+}

@@ -1,0 +1,127 @@
+-- A register that sessions read and set, as an executor: the smallest one over which blocks and transactions can be watched.
+use Rattle.std.specs.Prelude.{ℕ, ◌==◌, ◌&&◌, ◌||◌, not, nat_le, nat_lt, Bool, true, false, if◌then◌else◌, List, [], ◌∷◌, ◌++◌, Option, Some, None, Result, Ok, Err, length, replicate, slice_index_or, slice_set, unwrap_or, codes}
+use Rattle.pg_values.specs.declared.fault.Fault.{Fault}
+use Rattle.sessions.specs.Course.{Course}
+use Rattle.sessions.specs.declared.asker.Asker.{Asker}
+use Rattle.sessions.specs.declared.asker.Place.{Place}
+use Rattle.sessions.specs.declared.outcome.Outcome.{Outcome}
+use Rattle.sessions.specs.declared.outcome.Outcome.TheVariants as outcomes
+use Rattle.sessions.specs.declared.phase.Isolation.TheVariants.{RepeatableRead}
+use Rattle.sessions.specs.declared.role.Role.{Role}
+use Rattle.sessions.specs.declared.role.Role.TheVariants as roles
+use Rattle.sessions.specs.declared.settings.Settings.{Settings}
+use Rattle.session_scripts.specs.declared.statement.Statement.{Statement}
+use Rattle.session_scripts.specs.declared.statement.Statement.TheVariants.{Begin, BeginRepeatable, Commit, Rollback, Switch, Put, Show, Fail}
+
+pub record Register : Type 0 where
+  pub value : ℕ
+  pub opened : List Bool  -- whether the session has a transaction open
+  pub own : List (Option ℕ)  -- what it has set there
+
+-- ---- blocks: a letter for each statement
+
+abbrev pub statement_of : ℕ → Option Statement
+statement_of b =
+    if b == 98 then Some Begin
+    else if b == 114 then Some BeginRepeatable
+    else if b == 99 then Some Commit
+    else if b == 107 then Some Rollback
+    else if b == 43 then Some (Switch true)
+    else if b == 45 then Some (Switch false)
+    else if b == 63 then Some Show
+    else if b == 33 then Some Fail
+    else if nat_le 48 b && nat_le b 57 then Some (Put b)
+    else None
+
+abbrev pub no_statement : Fault
+no_statement = record { code = record { bytes = codes "42601" }; args = [] }
+
+abbrev pub before : Statement → Result (List Statement) Fault → Result (List Statement) Fault
+before t (Ok ts) = Ok (t ∷ ts)
+before t (Err f) = Err f
+
+abbrev pub if_statement : Option Statement → Result (List Statement) Fault → Result (List Statement) Fault
+if_statement None rest = Err no_statement
+if_statement (Some t) rest = before t rest
+
+-- at most a thousand of them
+abbrev pub statements_of : List ℕ → Result (List Statement) Fault
+statements_of [] = Ok []
+statements_of (b ∷ bs) = if_statement (statement_of b) (statements_of bs)
+
+abbrev pub parsed : List ℕ → Result (List Statement) Fault
+parsed text = if nat_lt 1000 (length text) then Err no_statement else statements_of text
+
+abbrev pub role_of : Statement → Role
+role_of Begin = roles.Begin None
+role_of BeginRepeatable = roles.Begin (Some RepeatableRead)
+role_of Commit = roles.Commit
+role_of Rollback = roles.Rollback
+role_of (Switch on) = roles.Set
+role_of (Put b) = roles.Query
+role_of Show = roles.Query
+role_of Fail = roles.Query
+
+abbrev pub looks : Statement → Bool
+looks Show = true
+looks _ = false
+
+abbrev pub switched : Settings → Statement → Result Settings Fault
+switched g (Switch on) = Ok (record g { enable_hashjoin = on })
+switched g _ = Ok g
+
+-- ---- transactions
+
+abbrev pub own_of : Register → ℕ → Option ℕ
+own_of v s = slice_index_or v.own s None
+
+abbrev pub seen_by : Register → ℕ → ℕ
+seen_by v s = unwrap_or (own_of v s) v.value
+
+abbrev pub ended : Register → ℕ → ℕ → Register
+ended v s value = record { value = value; opened = slice_set v.opened s false; own = slice_set v.own s None }
+
+-- ---- statements
+
+abbrev pub puts : Register → ℕ → Statement → Register
+puts v s (Put b) = record v { own = slice_set v.own s (Some b) }
+puts v s _ = v
+
+abbrev pub failed : Fault
+failed = record { code = record { bytes = codes "P0001" }; args = [] }
+
+abbrev pub outcome_of : Statement → Outcome
+outcome_of Fail = outcomes.Refused failed
+outcome_of _ = outcomes.Done
+
+-- what is seen, and the setting
+abbrev pub sign_of : Bool → ℕ
+sign_of true = 43
+sign_of false = 45
+
+abbrev pub shown : Register → ℕ → Settings → Statement → List ℕ
+shown v s g Show = seen_by v s ∷ sign_of g.enable_hashjoin ∷ 10 ∷ []
+shown v s g _ = []
+
+abbrev pub course : Course Register Statement
+course = record {
+  fresh = λ v. record { value = 48; opened = replicate (length v.opened) false; own = replicate (length v.opened) None };
+  parsed = parsed;
+  role = role_of;
+  looks = looks;
+  misplaced = λ p t. None;
+  set = switched;
+  began = λ v s. record v { opened = slice_set v.opened s true };
+  committed = λ v s. ended v s (seen_by v s);
+  aborted = λ v s. ended v s v.value;
+  ran = λ v a g t. puts v a.session t;
+  outcome = λ v a g t. outcome_of t;
+  text = λ v a g t. shown v a.session g t;
+  interrupted = λ v. None;
+  ready = λ v. None;
+  resumed = λ v s. v;
+  waits = λ v s. false;
+  oldest = λ v. None;
+  cancelled = λ v s. v;
+  fault_text = λ f. f.code.bytes;
+}

@@ -1,0 +1,5 @@
+pub mod Answered
+pub mod Fronts
+pub mod Results
+pub mod Weights
+pub mod Whole

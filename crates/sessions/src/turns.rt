@@ -1,0 +1,452 @@
+ghost use Rattle.std.specs.Prelude.{◌≡◌, ◌<◌, ◌≤◌, ◌+◌, true, false, Ok, OnOk, OnErr, IfOk, IfSome, MatchOption, Some, None, length, slice_index_or, slice_set, unwrap_or};
+ghost use Rattle.schedule.specs.Rules.{Carries};
+ghost use Rattle.schedule.specs.declared.database.Progress.TheVariants as progress;
+ghost use Rattle.sessions.specs.Makes.{Makes};
+ghost use Rattle.sessions.specs.Seen.{seen};
+ghost use Rattle.sessions.specs.Sessions as spec;
+ghost use Rattle.sessions.specs.Sessions.{has_open};
+ghost use Rattle.sessions.specs.declared.phase.Phase.TheVariants as phases;
+ghost use Rattle.sessions.specs.Weight.{points, weight_of};
+
+use crate::faults::{is_level, isolation_level_after_a_snapshot, the_transaction_has_failed};
+use crate::session::Session;
+use crate::{Executor, Isolation, Outcome, Phase, Role};
+use pg_values::{Fault, NoMemory, Refusal};
+use schedule::Progress;
+use std::alloc::Global;
+
+// What the session has open is aborted.
+fn abort_open<E: Executor>(executor: &mut E, session: usize, x: &Session<E::Statement>)
+    requires known { session < length (E.in_transaction executor.old) }
+    requires transaction { slice_index_or (E.in_transaction executor.old) session false ≡ has_open x.now.phase }
+    requires slack { E.slack executor.old ≤ E.most }
+    ensures stands { Carries E.stands (λ v. spec.aborted_if E.course session (has_open x.now.phase) v) executor.old executor.new }
+    ensures transactions { E.in_transaction executor.new ≡ slice_set (E.in_transaction executor.old) session false }
+    ensures slack { E.slack executor.new ≤ E.most }
+    ensures free { E.waiting executor.old session ≡ false → E.waiting executor.new session ≡ false }
+{
+    if x.has_open() {
+        executor.abort(session);
+    }
+}
+
+// A statement fails.
+fn fail<E: Executor>(
+    executor: &mut E,
+    session: usize,
+    x: &mut Session<E::Statement>,
+    fault: Fault,
+) -> Progress
+    requires known { session < length (E.in_transaction executor.old) }
+    requires transaction { slice_index_or (E.in_transaction executor.old) session false ≡ has_open x.old.phase }
+    requires slack { E.slack executor.old ≤ E.most }
+    ensures makes { Makes E.stands (λ v. spec.fails E.course session v (seen E.tree x.old) fault) executor.old executor.new (seen E.tree x.new) result }
+    ensures ended { result ≡ progress.Ended }
+    ensures transactions { E.in_transaction executor.new ≡ slice_set (E.in_transaction executor.old) session (has_open x.new.phase) }
+    ensures slack { E.slack executor.new ≤ E.most }
+    ensures points { points x.new ≡ 0 }
+{
+    abort_open(executor, session, x);
+    x.fail(fault);
+    Progress::Ended
+}
+
+// A transaction begins.
+fn begin_transaction<E: Executor>(
+    executor: &mut E,
+    session: usize,
+    x: &mut Session<E::Statement>,
+    phase: Phase,
+    level: Isolation,
+) -> Result<(), NoMemory>
+    requires opens { has_open phase ≡ true }
+    requires closed { has_open x.old.phase ≡ false }
+    requires known { session < length (E.in_transaction executor.old) }
+    requires transaction { slice_index_or (E.in_transaction executor.old) session false ≡ has_open x.old.phase }
+    requires free { E.waiting executor.old session ≡ false }
+    requires slack { E.slack executor.old ≤ E.most }
+    ensures stands { OnOk result (Carries E.stands (λ v. E.course.began v session) executor.old executor.new) }
+    ensures becomes { OnOk result (seen E.tree x.new ≡ spec.opened (seen E.tree x.old) phase level) }
+    ensures err { OnErr result (x.new ≡ x.old) }
+    ensures transactions { E.in_transaction executor.new ≡ slice_set (E.in_transaction executor.old) session (has_open x.new.phase) }
+    ensures slack { E.slack executor.new ≤ E.most }
+    ensures free { E.waiting executor.new session ≡ false }
+{
+    executor.begin(session)?;
+    x.begin(phase, level);
+    Ok(())
+}
+
+// BEGIN.
+fn begin<E: Executor>(
+    executor: &mut E,
+    session: usize,
+    x: &mut Session<E::Statement>,
+    level: Option<Isolation>,
+) -> Result<Progress, NoMemory>
+    requires known { session < length (E.in_transaction executor.old) }
+    requires transaction { slice_index_or (E.in_transaction executor.old) session false ≡ has_open x.old.phase }
+    requires free { E.waiting executor.old session ≡ false }
+    requires slack { E.slack executor.old ≤ E.most }
+    ensures makes { IfOk result (λ p. Makes E.stands (λ v. spec.begins E.course session v (seen E.tree x.old) level x.old.phase) executor.old executor.new (seen E.tree x.new) p) }
+    ensures transactions { E.in_transaction executor.new ≡ slice_set (E.in_transaction executor.old) session (has_open x.new.phase) }
+    ensures slack { E.slack executor.new ≤ E.most }
+    ensures goes { IfOk result (λ p. p ≡ progress.Goes) }
+    ensures free { E.waiting executor.new session ≡ false }
+    ensures points { OnOk result (points x.new ≤ points x.old + 1) }
+{
+    match x.phase {
+        Phase::Idle => {
+            let level = level.unwrap_or(Isolation::ReadCommitted);
+            begin_transaction(executor, session, x, Phase::Explicit, level)?;
+        }
+        Phase::Implicit => {
+            x.phase = Phase::Explicit;
+            x.level = level.unwrap_or(x.level);
+        }
+        Phase::Explicit => x.level = level.unwrap_or(x.level),
+        Phase::Failed => {}
+    }
+    Ok(Progress::Goes)
+}
+
+// COMMIT.
+fn commit<E: Executor>(executor: &mut E, session: usize, x: &mut Session<E::Statement>) -> Progress
+    requires known { session < length (E.in_transaction executor.old) }
+    requires transaction { slice_index_or (E.in_transaction executor.old) session false ≡ has_open x.old.phase }
+    requires free { E.waiting executor.old session ≡ false }
+    requires slack { E.slack executor.old ≤ E.most }
+    ensures makes { Makes E.stands (λ v. spec.commits E.course session v (seen E.tree x.old) x.old.phase) executor.old executor.new (seen E.tree x.new) result }
+    ensures transactions { E.in_transaction executor.new ≡ slice_set (E.in_transaction executor.old) session (has_open x.new.phase) }
+    ensures slack { E.slack executor.new ≤ E.most }
+    ensures goes { result ≡ progress.Goes }
+    ensures free { E.waiting executor.new session ≡ false }
+    ensures points { points x.new ≤ points x.old + 1 }
+{
+    if x.has_open() {
+        executor.commit(session);
+    }
+    x.phase = Phase::Idle;
+    Progress::Goes
+}
+
+// ROLLBACK, or the end of the steps.
+pub(crate) fn roll_back<E: Executor>(
+    executor: &mut E,
+    session: usize,
+    x: &mut Session<E::Statement>,
+) -> Progress
+    requires known { session < length (E.in_transaction executor.old) }
+    requires transaction { slice_index_or (E.in_transaction executor.old) session false ≡ has_open x.old.phase }
+    requires slack { E.slack executor.old ≤ E.most }
+    ensures makes { Makes E.stands (λ v. spec.rolls_back E.course session v (seen E.tree x.old)) executor.old executor.new (seen E.tree x.new) result }
+    ensures transactions { E.in_transaction executor.new ≡ slice_set (E.in_transaction executor.old) session (has_open x.new.phase) }
+    ensures slack { E.slack executor.new ≤ E.most }
+    ensures goes { result ≡ progress.Goes }
+    ensures free { E.waiting executor.old session ≡ false → E.waiting executor.new session ≡ false }
+    ensures points { points x.new ≤ points x.old + 1 }
+{
+    abort_open(executor, session, x);
+    x.roll_back();
+    Progress::Goes
+}
+
+// SET or RESET.
+fn set<E: Executor>(
+    alloc: Global,
+    executor: &mut E,
+    session: usize,
+    x: &mut Session<E::Statement>,
+    statement: &E::Statement,
+) -> Result<Progress, NoMemory>
+    requires known { session < length (E.in_transaction executor.old) }
+    requires transaction { slice_index_or (E.in_transaction executor.old) session false ≡ has_open x.old.phase }
+    requires free { E.waiting executor.old session ≡ false }
+    requires slack { E.slack executor.old ≤ E.most }
+    ensures makes { IfOk result (λ p. Makes E.stands (λ v. spec.sets E.course session v (seen E.tree x.old) (E.course.set x.old.settings (E.tree statement.now))) executor.old executor.new (seen E.tree x.new) p) }
+    ensures transactions { E.in_transaction executor.new ≡ slice_set (E.in_transaction executor.old) session (has_open x.new.phase) }
+    ensures slack { E.slack executor.new ≤ E.most }
+    ensures free { OnOk result (result ≡ Ok progress.Goes → E.waiting executor.new session ≡ false) }
+    ensures strides { IfOk result (λ p. p ≡ progress.Waits → ⊥) }
+    ensures points { OnOk result (points x.new ≤ points x.old + 1) }
+{
+    match E::set(alloc, x.settings, statement) {
+        Ok(settings) => {
+            x.settings = settings;
+            Ok(Progress::Goes)
+        }
+        Err(Refusal::Sql(fault)) => Ok(fail(executor, session, x, fault)),
+        Err(Refusal::NoMemory) => Err(NoMemory),
+    }
+}
+
+// The statement goes on by one small event.
+#[tactic(auto, using(crate::proofs::Weights::lower, crate::proofs::Weights::not_higher))]
+fn run<E: Executor>(
+    alloc: Global,
+    executor: &mut E,
+    session: usize,
+    x: &mut Session<E::Statement>,
+    statement: E::Statement,
+) -> Result<Progress, NoMemory>
+    requires opened { has_open x.old.phase ≡ true }
+    requires busy { x.old.in_block ≡ true }
+    requires known { session < length (E.in_transaction executor.old) }
+    requires transaction { slice_index_or (E.in_transaction executor.old) session false ≡ has_open x.old.phase }
+    requires free { E.waiting executor.old session ≡ false }
+    requires slack { E.slack executor.old ≤ E.most }
+    ensures makes { IfOk result (λ p. Makes E.stands (λ v. spec.runs E.course session v (seen E.tree x.old) (E.tree statement)) executor.old executor.new (seen E.tree x.new) p) }
+    ensures transactions { E.in_transaction executor.new ≡ slice_set (E.in_transaction executor.old) session (has_open x.new.phase) }
+    ensures slack { E.slack executor.new ≤ E.most }
+    ensures free { result ≡ Ok progress.Goes → E.waiting executor.new session ≡ false }
+    ensures waits { result ≡ Ok progress.Waits → E.waiting executor.new session ≡ true }
+    ensures weight { OnOk result (weight_of E.most (E.slack executor.new) (points x.new) ≤ weight_of E.most (E.slack executor.old) (points x.old + 2)) }
+    ensures lighter { result ≡ Ok progress.Goes → weight_of E.most (E.slack executor.new) (points x.new) < weight_of E.most (E.slack executor.old) (points x.old + 2) }
+{
+    let asker = x.asker(session);
+    match executor.run(alloc, asker, x.settings, &statement, &mut x.told)? {
+        Outcome::Goes => {
+            x.keep(statement)?;
+            Ok(Progress::Goes)
+        }
+        Outcome::Waits => {
+            x.keep(statement)?;
+            Ok(Progress::Waits)
+        }
+        Outcome::Done => {
+            x.done(E::looks(&statement))?;
+            Ok(Progress::Goes)
+        }
+        Outcome::Refused(fault) => Ok(fail(executor, session, x, fault)),
+    }
+}
+
+// Outside of a transaction a statement makes its block one.
+#[tactic(auto, using(crate::proofs::Weights::lower, crate::proofs::Weights::not_higher))]
+fn open_block<E: Executor>(
+    executor: &mut E,
+    session: usize,
+    x: &mut Session<E::Statement>,
+    statement: E::Statement,
+) -> Result<Progress, NoMemory>
+    requires closed { x.old.phase ≡ phases.Idle }
+    requires busy { x.old.in_block ≡ true }
+    requires known { session < length (E.in_transaction executor.old) }
+    requires transaction { slice_index_or (E.in_transaction executor.old) session false ≡ has_open x.old.phase }
+    requires free { E.waiting executor.old session ≡ false }
+    requires slack { E.slack executor.old ≤ E.most }
+    ensures makes { IfOk result (λ p. Makes E.stands (λ v. spec.opens E.course session v (seen E.tree x.old) (E.tree statement)) executor.old executor.new (seen E.tree x.new) p) }
+    ensures transactions { E.in_transaction executor.new ≡ slice_set (E.in_transaction executor.old) session (has_open x.new.phase) }
+    ensures slack { E.slack executor.new ≤ E.most }
+    ensures free { result ≡ Ok progress.Goes → E.waiting executor.new session ≡ false }
+    ensures waits { result ≡ Ok progress.Waits → E.waiting executor.new session ≡ true }
+    ensures weight { OnOk result (weight_of E.most (E.slack executor.new) (points x.new) ≤ weight_of E.most (E.slack executor.old) (points x.old + 2)) }
+    ensures lighter { result ≡ Ok progress.Goes → weight_of E.most (E.slack executor.new) (points x.new) < weight_of E.most (E.slack executor.old) (points x.old + 2) }
+{
+    begin_transaction(
+        executor,
+        session,
+        x,
+        Phase::Implicit,
+        Isolation::ReadCommitted,
+    )?;
+    x.keep(statement)?;
+    Ok(Progress::Goes)
+}
+
+// A statement that was taken from the front of the block.
+#[tactic(auto, using(crate::proofs::Weights::lower, crate::proofs::Weights::not_higher))]
+fn perform<E: Executor>(
+    alloc: Global,
+    executor: &mut E,
+    session: usize,
+    x: &mut Session<E::Statement>,
+    statement: E::Statement,
+) -> Result<Progress, NoMemory>
+    requires busy { x.old.in_block ≡ true }
+    requires known { session < length (E.in_transaction executor.old) }
+    requires transaction { slice_index_or (E.in_transaction executor.old) session false ≡ has_open x.old.phase }
+    requires free { E.waiting executor.old session ≡ false }
+    requires slack { E.slack executor.old ≤ E.most }
+    ensures makes { IfOk result (λ p. Makes E.stands (λ v. spec.by_role E.course session v (seen E.tree x.old) (E.tree statement) (E.course.role (E.tree statement))) executor.old executor.new (seen E.tree x.new) p) }
+    ensures transactions { E.in_transaction executor.new ≡ slice_set (E.in_transaction executor.old) session (has_open x.new.phase) }
+    ensures slack { E.slack executor.new ≤ E.most }
+    ensures free { result ≡ Ok progress.Goes → E.waiting executor.new session ≡ false }
+    ensures waits { result ≡ Ok progress.Waits → E.waiting executor.new session ≡ true }
+    ensures weight { OnOk result (weight_of E.most (E.slack executor.new) (points x.new) ≤ weight_of E.most (E.slack executor.old) (points x.old + 2)) }
+    ensures lighter { result ≡ Ok progress.Goes → weight_of E.most (E.slack executor.new) (points x.new) < weight_of E.most (E.slack executor.old) (points x.old + 2) }
+{
+    match E::role(&statement) {
+        Role::Begin(level) => begin(executor, session, x, level),
+        Role::Commit => Ok(commit(executor, session, x)),
+        Role::Rollback => Ok(roll_back(executor, session, x)),
+        Role::Set => match x.phase {
+            Phase::Idle => open_block(executor, session, x, statement),
+            Phase::Implicit | Phase::Explicit => set(alloc, executor, session, x, &statement),
+            Phase::Failed => Ok(Progress::Goes),
+        },
+        Role::Query => match x.phase {
+            Phase::Idle => open_block(executor, session, x, statement),
+            Phase::Implicit | Phase::Explicit => run(alloc, executor, session, x, statement),
+            Phase::Failed => Ok(Progress::Goes),
+        },
+    }
+}
+
+fn level_fault<T: Drop>(
+    alloc: Global,
+    x: &Session<T>,
+    level: Option<Isolation>,
+) -> Result<Option<Fault>, NoMemory>
+    ensures { IfOk result (λ f. f ≡ spec.level_fault x.now level) }
+{
+    match level {
+        None => Ok(None),
+        Some(level) => {
+            if x.has_open() && x.looked && !is_level(level, x.level) {
+                Ok(Some(isolation_level_after_a_snapshot(alloc)?))
+            } else {
+                Ok(None)
+            }
+        }
+    }
+}
+
+// Why the statement may not come in the session's state.
+fn state_fault<E: Executor>(
+    alloc: Global,
+    x: &Session<E::Statement>,
+    statement: &E::Statement,
+) -> Result<Option<Fault>, NoMemory>
+    ensures { IfOk result (λ f. f ≡ spec.state_fault E.course (seen E.tree x.now) (E.tree statement.now)) }
+{
+    let role = E::role(statement);
+    if x.phase == Phase::Failed {
+        return Ok(match role {
+            Role::Commit | Role::Rollback => None,
+            Role::Begin(_) | Role::Set | Role::Query => Some(the_transaction_has_failed(alloc)),
+        });
+    }
+    match role {
+        Role::Begin(level) => level_fault(alloc, x, level),
+        Role::Query => E::misplaced(alloc, x.place(), statement),
+        Role::Commit | Role::Rollback | Role::Set => Ok(None),
+    }
+}
+
+// The end of a block.
+#[tactic(auto, using(crate::proofs::Weights::lower, crate::proofs::Weights::not_higher))]
+fn close<E: Executor>(executor: &mut E, session: usize, x: &mut Session<E::Statement>) -> Progress
+    requires busy { x.old.in_block ≡ true }
+    requires known { session < length (E.in_transaction executor.old) }
+    requires transaction { slice_index_or (E.in_transaction executor.old) session false ≡ has_open x.old.phase }
+    requires free { E.waiting executor.old session ≡ false }
+    requires slack { E.slack executor.old ≤ E.most }
+    ensures makes { Makes E.stands (λ v. spec.closes E.course session v (seen E.tree x.old) x.old.phase) executor.old executor.new (seen E.tree x.new) result }
+    ensures ended { result ≡ progress.Ended }
+    ensures transactions { E.in_transaction executor.new ≡ slice_set (E.in_transaction executor.old) session (has_open x.new.phase) }
+    ensures slack { E.slack executor.new ≤ E.most }
+    ensures points { points x.new ≡ 0 }
+{
+    if x.phase == Phase::Implicit {
+        executor.commit(session);
+        x.phase = Phase::Idle;
+    }
+    x.in_block = false;
+    Progress::Ended
+}
+
+// The next statement of the block, taken from its front.
+#[tactic(auto, using(crate::proofs::Fronts::head_map, crate::proofs::Fronts::tail_map))]
+fn take_next<E: Executor>(x: &mut Session<E::Statement>) -> Option<E::Statement>
+    ensures next { MatchOption result (spec.head_of (seen E.tree x.old).rest ≡ None) (λ t. spec.head_of (seen E.tree x.old).rest ≡ Some (E.tree t)) }
+    ensures rest { seen E.tree x.new ≡ record (seen E.tree x.old) { rest = spec.tail (seen E.tree x.old).rest } }
+    ensures points { x.old.in_block ≡ true → IfSome result (λ t. points x.old ≡ points x.new + 2) }
+    ensures others { (x.new.phase ≡ x.old.phase) × (x.new.in_block ≡ x.old.in_block) }
+{
+    x.take_next()
+}
+
+// A statement that was taken from the front of the block, unless the session's state refuses it.
+#[tactic(auto, using(crate::proofs::Weights::lower, crate::proofs::Weights::not_higher))]
+fn meet<E: Executor>(
+    alloc: Global,
+    executor: &mut E,
+    session: usize,
+    x: &mut Session<E::Statement>,
+    statement: E::Statement,
+) -> Result<Progress, NoMemory>
+    requires busy { x.old.in_block ≡ true }
+    requires known { session < length (E.in_transaction executor.old) }
+    requires transaction { slice_index_or (E.in_transaction executor.old) session false ≡ has_open x.old.phase }
+    requires free { E.waiting executor.old session ≡ false }
+    requires slack { E.slack executor.old ≤ E.most }
+    ensures makes { IfOk result (λ p. Makes E.stands (λ v. spec.meets E.course session v (seen E.tree x.old) (E.tree statement)) executor.old executor.new (seen E.tree x.new) p) }
+    ensures transactions { E.in_transaction executor.new ≡ slice_set (E.in_transaction executor.old) session (has_open x.new.phase) }
+    ensures slack { E.slack executor.new ≤ E.most }
+    ensures free { result ≡ Ok progress.Goes → E.waiting executor.new session ≡ false }
+    ensures waits { result ≡ Ok progress.Waits → E.waiting executor.new session ≡ true }
+    ensures weight { OnOk result (weight_of E.most (E.slack executor.new) (points x.new) ≤ weight_of E.most (E.slack executor.old) (points x.old + 2)) }
+    ensures lighter { result ≡ Ok progress.Goes → weight_of E.most (E.slack executor.new) (points x.new) < weight_of E.most (E.slack executor.old) (points x.old + 2) }
+{
+    match state_fault::<E>(alloc, x, &statement)? {
+        Some(fault) => Ok(fail(executor, session, x, fault)),
+        None => perform(alloc, executor, session, x, statement),
+    }
+}
+
+// The next statement of the block, or its end.
+#[tactic(auto, using(crate::proofs::Weights::lower, crate::proofs::Weights::not_higher))]
+fn next<E: Executor>(
+    alloc: Global,
+    executor: &mut E,
+    session: usize,
+    x: &mut Session<E::Statement>,
+) -> Result<Progress, NoMemory>
+    requires busy { x.old.in_block ≡ true }
+    requires known { session < length (E.in_transaction executor.old) }
+    requires transaction { slice_index_or (E.in_transaction executor.old) session false ≡ has_open x.old.phase }
+    requires free { E.waiting executor.old session ≡ false }
+    requires slack { E.slack executor.old ≤ E.most }
+    ensures makes { IfOk result (λ p. Makes E.stands (λ v. spec.by_next E.course session v (seen E.tree x.old) (spec.head_of (seen E.tree x.old).rest)) executor.old executor.new (seen E.tree x.new) p) }
+    ensures transactions { E.in_transaction executor.new ≡ slice_set (E.in_transaction executor.old) session (has_open x.new.phase) }
+    ensures slack { E.slack executor.new ≤ E.most }
+    ensures free { result ≡ Ok progress.Goes → E.waiting executor.new session ≡ false }
+    ensures waits { result ≡ Ok progress.Waits → E.waiting executor.new session ≡ true }
+    ensures weight { OnOk result (weight_of E.most (E.slack executor.new) (points x.new) ≤ weight_of E.most (E.slack executor.old) (points x.old)) }
+    ensures lighter { result ≡ Ok progress.Goes → weight_of E.most (E.slack executor.new) (points x.new) < weight_of E.most (E.slack executor.old) (points x.old) }
+{
+    match take_next::<E>(x) {
+        Some(statement) => meet(alloc, executor, session, x, statement),
+        None => Ok(close(executor, session, x)),
+    }
+}
+
+/// The session goes on by one small event.
+#[tactic(auto, using(crate::proofs::Weights::lower, crate::proofs::Weights::not_higher))]
+pub(crate) fn turn<E: Executor>(
+    alloc: Global,
+    executor: &mut E,
+    session: usize,
+    x: &mut Session<E::Statement>,
+) -> Result<Progress, NoMemory>
+    requires known { session < length (E.in_transaction executor.old) }
+    requires transaction { slice_index_or (E.in_transaction executor.old) session false ≡ has_open x.old.phase }
+    requires free { E.waiting executor.old session ≡ false }
+    requires slack { E.slack executor.old ≤ E.most }
+    ensures makes { IfOk result (λ p. Makes E.stands (λ v. spec.turns E.course session v (seen E.tree x.old)) executor.old executor.new (seen E.tree x.new) p) }
+    ensures transactions { E.in_transaction executor.new ≡ slice_set (E.in_transaction executor.old) session (has_open x.new.phase) }
+    ensures slack { E.slack executor.new ≤ E.most }
+    ensures free { result ≡ Ok progress.Goes → E.waiting executor.new session ≡ false }
+    ensures waits { result ≡ Ok progress.Waits → E.waiting executor.new session ≡ true }
+    ensures weight { OnOk result (weight_of E.most (E.slack executor.new) (points x.new) ≤ weight_of E.most (E.slack executor.old) (points x.old)) }
+    ensures lighter { result ≡ Ok progress.Goes → weight_of E.most (E.slack executor.new) (points x.new) < weight_of E.most (E.slack executor.old) (points x.old) }
+{
+    if !x.in_block {
+        return Ok(Progress::Ended);
+    }
+    match x.why_broken() {
+        Some(fault) => Ok(fail(executor, session, x, fault)),
+        None => next(alloc, executor, session, x),
+    }
+}
