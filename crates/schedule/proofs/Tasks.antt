@@ -1,5 +1,5 @@
 -- The sessions of all tasks.
-use Rattle.std.proofs.Common.{◌≡◌, ◌<◌, ℕ, suc, List, [], ◌∷◌, All, arith, subst}
+use Rattle.std.proofs.Common.{◌≡◌, ℕ, suc, List, [], ◌∷◌, All, arith, subst}
 use Rattle.schedule.specs.Run.{others}
 use Rattle.schedule.specs.Tasks.{AreKnown}
 use Rattle.schedule.specs.declared.task.Task.{Task}

@@ -1,8 +1,8 @@
 -- The lines of a run, in the form of isolationtester. Every line ends in a newline.
-use Rattle.std.specs.Prelude.{ℕ, ◌-◌, List, [], ◌∷◌, ◌++◌, Option, Some, None, Bool, true, false, if◌then◌else◌, codes, decimal}
+use Rattle.std.specs.Prelude.{ℕ, ◌-◌, List, [], ◌++◌, Option, Some, None, if◌then◌else◌, codes, decimal}
 use Rattle.std.specs.List.{flat_map}
 use Rattle.pg_values.specs.declared.fault.Fault.{Fault}
-use Rattle.schedule.specs.Blocks.{BlockView, Seated, is_step}
+use Rattle.schedule.specs.Blocks.{Seated, is_step}
 use Rattle.schedule.specs.Rules.{Rules}
 use Rattle.schedule.specs.declared.task.Task.{Task}
 use Rattle.schedule.specs.declared.task.Task.TheVariants.{Launch, Settle, RollBack}

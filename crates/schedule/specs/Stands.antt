@@ -1,6 +1,5 @@
 -- The engine stands for a world.
-use Rattle.std.specs.Prelude.{◌≡◌, ◌<◌, ℕ, List, [], ◌∷◌, Option, Some, None, false, true, length, ⊤}
-use Rattle.std.specs.Io.KnownBytes.{Appends}
+use Rattle.std.specs.Prelude.{◌≡◌, ◌<◌, ℕ, List, [], ◌∷◌, Some, None, false, true, length, ⊤}
 use Rattle.schedule.specs.Lists.{is_in}
 use Rattle.schedule.specs.Run.{World, Effect}
 use Rattle.schedule.specs.declared.database.Database.{Ghosts}

@@ -54,7 +54,7 @@ fn run_spec(
     fails: Vec<u64>,
     out: &mut Vec<u8>,
 ) -> Result<(), NoMemory> {
-    let db = SmallDb::new(alloc, spec.sessions.len() + 1)?;
+    let db = SmallDb::new(alloc, spec.sessions.as_slice().len() + 1)?;
     let mut sink = ListSink::new(alloc, 65536, fails, Vec::new(alloc), 4096)?;
     let end = run_script(alloc, db, spec, &mut sink);
     out.extend_from_slice(sink.bytes())?;

@@ -16,6 +16,7 @@ mod seat;
 mod statements;
 
 use case::run_case;
+use pg_values::NoMemory;
 use std::io;
 
 fn main(rt: HostRuntime) -> io::Result<()> {
@@ -24,7 +25,10 @@ fn main(rt: HostRuntime) -> io::Result<()> {
     for line in rt.lines(alloc) {
         let line = line?;
         if line.as_str() == "----" {
-            let answer = run_case(alloc, script.as_str())?;
+            let answer = match run_case(alloc, script.as_str()) {
+                Ok(answer) => answer,
+                Err(NoMemory) => Vec::from_slice(alloc, b"== no memory\n")?,
+            };
             let shown = String::from_utf8_lossy(alloc, &answer)?;
             print!(rt; "{}", shown.as_str())?;
             script = String::new(alloc);

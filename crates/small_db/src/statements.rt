@@ -10,8 +10,8 @@ ghost use Rattle.small_db.specs.Weight.{weight, seat_at, of_owner, of_session};
 
 use crate::command::{Command, Stage, command_of};
 use crate::db::SmallDb;
-use schedule::{Progress, leave};
 use pg_values::NoMemory;
+use schedule::{Progress, leave};
 use std::alloc::Global;
 
 // The session holds the lock, or nobody does.

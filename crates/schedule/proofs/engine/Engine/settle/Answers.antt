@@ -1,4 +1,3 @@
-use Rattle.std.proofs.Common.{refl}
 use Rattle.schedule.proofs.Tasks.{rest_known}
 use Rattle.schedule.proofs.engine.Engine.settle.Goals as goal
 
