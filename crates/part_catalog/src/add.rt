@@ -1,7 +1,6 @@
 //! Tables, entries and CHECKs that are added.
 
-ghost use Rattle.std.specs.Prelude.{◌≡◌, ◌<◌, ◌≤◌, ℕ, ◌++◌, ◌∷◌, [], None, IfOk, OnOk, OnErr, MatchResult, length, slice_index_or};
-ghost use Rattle.std.specs.List.{position_or_len};
+ghost use Rattle.std.specs.Prelude.{◌≡◌, ◌<◌, ℕ, ◌∷◌, IfOk, OnOk, OnErr, MatchResult, length, slice_index_or};
 ghost use Rattle.history.specs.Catalogue.{TableMade, EntryAdded, CheckKept};
 ghost use Rattle.history.specs.History.{History, CatalogueChange, tx_events};
 ghost use Rattle.history.specs.Places.{IsCatalogueSound, KeysLieIn};
