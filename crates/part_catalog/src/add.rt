@@ -79,7 +79,7 @@ impl Catalog {
     }
 
     /// Adds an entry, under the next number: a table becomes a partition of another, under a bound that
-    /// this one takes. The caller sees that no sibling stands in its way.
+    /// this one takes. The caller sees that no sibling stands in its way (`siblings_are_kept`).
     pub fn add_entry(
         &mut self,
         txs: &TxTable,
