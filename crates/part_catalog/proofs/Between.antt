@@ -1,5 +1,5 @@
 -- The present entry by which one table is a partition of another.
-use Rattle.std.proofs.Common.{◌≡◌, ℕ, suc, ◌+◌, ◌==◌, ◌&&◌, ◌<◌, ◌≤◌, arith, ap, refl, sym, ◌∙◌, Bool, true, false, cond, ltb, List, [], ◌∷◌, Option, Some, None, length, get_or, inl, inr}
+use Rattle.std.proofs.Common.{◌≡◌, ℕ, suc, ◌+◌, ◌==◌, ◌&&◌, ◌<◌, ◌≤◌, arith, ap, refl, sym, ◌∙◌, Bool, true, false, cond, ltb, List, [], ◌∷◌, Some, None, length, get_or, inl, inr}
 use Rattle.std.specs.List.{find, position, position_or_len}
 use Rattle.std.specs.Option.{option_map}
 use Rattle.std.proofs.lemmas.Bool.{cases_Bool, cases_lt}

@@ -1,5 +1,5 @@
 -- A path as it is made, one table after the other, and the place of a table on it.
-use Rattle.std.proofs.Common.{◌≡◌, ℕ, suc, ◌+◌, ◌-◌, ◌<◌, ◌++◌, append_assoc, arith, ap, refl, sym, subst, ◌∙◌, Bool, true, false, List, [], ◌∷◌, Option, Some, None, IfSome, filter, map, length, get_or, inl, inr}
+use Rattle.std.proofs.Common.{◌≡◌, ℕ, suc, ◌+◌, ◌-◌, ◌<◌, ◌++◌, append_assoc, arith, ap, refl, sym, subst, ◌∙◌, Bool, List, [], ◌∷◌, Option, Some, None, IfSome, filter, map, length, get_or, inl, inr}
 use Rattle.std.specs.List.{All, find, position_or_len}
 use Rattle.std.proofs.lemmas.Bool.{cases_Bool}
 use Rattle.std.proofs.lemmas.List.{get_or-map, length-map}
@@ -11,9 +11,8 @@ use Rattle.part_bounds.specs.declared.level.Level.{Level}
 use Rattle.history.specs.declared.catalogue.Table.{Table}
 use Rattle.history.specs.declared.catalogue.TableShape.TheVariants.{Leaf as LeafShape, Level as LevelShape}
 use Rattle.history.specs.declared.catalogue.Entry.{Entry}
-use Rattle.history.specs.declared.catalogue.Check.{Check}
 use Rattle.history.specs.declared.catalogue.KeptCheck.{KeptCheck}
-use Rattle.history.specs.Catalogue.{tables_made, checks_kept}
+use Rattle.history.specs.Catalogue.{tables_made}
 use Rattle.history.specs.History.{History, tx_events, catalogue_events}
 use Rattle.history.specs.Places.{table_at}
 use Rattle.history.specs.Presence.{entries_present, checks_of, is_check_of}

@@ -3,6 +3,7 @@ pub mod Found
 pub mod Full
 pub mod Groves
 pub mod Kept
+pub mod Laws
 pub mod Names
 pub mod Ordered
 pub mod Stands

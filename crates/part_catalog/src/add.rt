@@ -1,7 +1,6 @@
 //! Tables, entries and CHECKs that are added.
 
-ghost use Rattle.std.specs.Prelude.{◌≡◌, ◌<◌, ◌≤◌, ℕ, ◌++◌, ◌∷◌, [], None, IfOk, OnOk, OnErr, MatchResult, length, slice_index_or};
-ghost use Rattle.std.specs.List.{position_or_len};
+ghost use Rattle.std.specs.Prelude.{◌≡◌, ◌<◌, ℕ, ◌∷◌, IfOk, OnOk, OnErr, MatchResult, length, slice_index_or};
 ghost use Rattle.history.specs.Catalogue.{TableMade, EntryAdded, CheckKept};
 ghost use Rattle.history.specs.History.{History, CatalogueChange, tx_events};
 ghost use Rattle.history.specs.Places.{IsCatalogueSound, KeysLieIn};
@@ -80,7 +79,7 @@ impl Catalog {
     }
 
     /// Adds an entry, under the next number: a table becomes a partition of another, under a bound that
-    /// this one takes. The caller sees that no sibling stands in its way.
+    /// this one takes. The caller sees that no sibling stands in its way (`siblings_are_kept`).
     pub fn add_entry(
         &mut self,
         txs: &TxTable,

@@ -1,6 +1,6 @@
 //! Tables that are dropped, and entries that are ended or marked pending.
 
-ghost use Rattle.std.specs.Prelude.{◌≡◌, ◌<◌, ℕ, ◌∷◌, Some, None, IfSome, length, position};
+ghost use Rattle.std.specs.Prelude.{◌≡◌, ◌<◌, ◌∷◌, Some, None, IfSome, length, position};
 ghost use Rattle.history.specs.Transactions.{session_of};
 ghost use Rattle.history.specs.Catalogue.{TableDropped, EntryEnded, EntryMarked, drops, counted_of};
 ghost use Rattle.history.specs.History.{History, CatalogueChange, tx_events, catalogue_events};

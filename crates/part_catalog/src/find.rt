@@ -1,7 +1,6 @@
 //! Tables by their names.
 
 ghost use Rattle.std.specs.Prelude.{◌≡◌, option_map};
-ghost use Rattle.history.specs.Transactions.{fate, session_of};
 ghost use Rattle.history.specs.History.{History, tx_events};
 ghost use Rattle.tx_table.specs.Stands.{TableStands};
 ghost use Rattle.part_catalog.specs.Stands.{CatalogueStands, made_elsewhere_by};

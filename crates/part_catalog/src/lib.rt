@@ -20,6 +20,7 @@ mod catalog;
 mod change;
 mod find;
 mod grow;
+mod laws;
 mod names;
 mod new_table;
 mod path;
@@ -28,6 +29,7 @@ mod see;
 mod stored;
 
 pub use catalog::Catalog;
+pub use laws::siblings_are_kept;
 pub use new_table::{CatalogRefused, NewTable};
 
 /// How many tables a catalogue takes, dropped ones too.

@@ -1,6 +1,6 @@
 //! The way from a table upwards.
 
-ghost use Rattle.std.specs.Prelude.{◌≡◌, ◌<◌, ◌==◌, ◌&&◌, ℕ, map, filter, find, length, IfOk, IfSome, option_copied};
+ghost use Rattle.std.specs.Prelude.{◌≡◌, ◌<◌, map, filter, find, length, IfOk, option_copied};
 ghost use Rattle.std.specs.List.{position_or_len};
 ghost use Rattle.history.specs.History.{History, tx_events};
 ghost use Rattle.history.specs.Presence.{is_check_of};

@@ -1,9 +1,9 @@
 //! Counts for the limits, and the place of a further entry, over plain lists.
 
-ghost use Rattle.std.specs.Prelude.{◌≡◌, ◌≤◌, ◌<◌, ℕ, map, filter, length, slice_index_or};
+ghost use Rattle.std.specs.Prelude.{◌≡◌, ◌≤◌, map, filter, length};
 ghost use Rattle.std.specs.List.{All, position_or_len};
 ghost use Rattle.table_trees.specs.Histories.{above};
-ghost use Rattle.part_catalog.specs.Kept.{entry_in, no_entry};
+ghost use Rattle.part_catalog.specs.Kept.{entry_in};
 ghost use Rattle.part_catalog.specs.Stands.{is_flagged, flagged_number};
 ghost use Rattle.part_catalog.specs.Full.{tables_above};
 ghost use Rattle.part_catalog.specs.Ordered.{CanPlace, stands_behind};

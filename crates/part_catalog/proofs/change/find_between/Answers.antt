@@ -1,4 +1,4 @@
-use Rattle.std.proofs.Common.{◌≡◌, ◌∙◌, ℕ, ◌<◌, false, Bool, true, sym, arith, length}
+use Rattle.std.proofs.Common.{◌∙◌, Bool, true, sym, arith}
 use Rattle.part_bounds.proofs.Choice.{position_at, position_none, none_more}
 use Rattle.history.specs.History.{tx_events}
 use Rattle.part_catalog.specs.declared.stored.StoredEntry.{StoredEntry}

@@ -1,4 +1,4 @@
-use Rattle.std.proofs.Common.{◌≡◌, ◌∙◌, Some, None, Option, ap, sym, arith, map, filter}
+use Rattle.std.proofs.Common.{◌≡◌, ◌∙◌, Some, None, Option, ap, arith, map, filter}
 use Rattle.std.specs.List.{find, position_or_len}
 use Rattle.std.specs.Option.{option_map}
 use Rattle.history.specs.declared.catalogue.Table.{Table}
@@ -10,7 +10,7 @@ use Rattle.part_catalog.specs.declared.stored.StoredTable.{StoredTable}
 use Rattle.part_catalog.specs.declared.stored.StoredEntry.{StoredEntry}
 use Rattle.part_catalog.specs.Groves.{IsLevel}
 use Rattle.part_catalog.specs.Kept.{table_in, entry_in, number_of}
-use Rattle.part_catalog.specs.Stands.{is_flagged, is_number, flagged_number, shown_above}
+use Rattle.part_catalog.specs.Stands.{is_flagged, shown_above}
 use Rattle.part_catalog.proofs.Grown.{level_of, table_is}
 use Rattle.part_catalog.proofs.Paths.{above_flagged, place_is}
 use Rattle.part_catalog.proofs.Upwards.{found_between, place_none, place_leaf, place_level}

@@ -1,8 +1,7 @@
-use Rattle.std.proofs.Common.{◌≡◌, ◌∙◌, ◌<◌, ◌≤◌, ◌+◌, ◌∷◌, [], ℕ, List, Bool, min, ap, sym, subst, refl, arith, inl, inr, length, map, filter, get_or}
+use Rattle.std.proofs.Common.{◌≡◌, ◌∙◌, ◌<◌, ◌∷◌, [], ℕ, List, min, ap, sym, subst, refl, arith, inl, inr, length, map, filter, get_or}
 use Rattle.std.proofs.lemmas.Grind.{common_steps, elements}
 use Rattle.std.proofs.lemmas.List.{length-map}
 use Rattle.history.specs.declared.catalogue.Table.{Table}
-use Rattle.history.specs.declared.catalogue.Entry.{Entry}
 use Rattle.history.specs.Catalogue.{EntryAdded, tables_made}
 use Rattle.history.specs.History.{CatalogueChange, tx_events, catalogue_events}
 use Rattle.history.specs.Places.{Suits}

@@ -1,15 +1,13 @@
-use Rattle.std.proofs.Common.{◌≡◌, ◌∙◌, ◌<◌, ◌∷◌, Some, None, Option, List, ap, sym, subst, arith, length, map, get_or, slice_set}
+use Rattle.std.proofs.Common.{◌≡◌, ◌∙◌, ◌<◌, ◌∷◌, Some, None, Option, ap, sym, subst, arith, length, get_or, slice_set}
 use Rattle.std.specs.List.{position}
 use Rattle.std.proofs.lemmas.Grind.{common_steps, elements}
-use Rattle.history.specs.declared.catalogue.Entry.{Entry}
 use Rattle.history.specs.declared.catalogue.Stamp.{Stamp}
 use Rattle.history.specs.Catalogue.{EntryMarked, marks, counted_of}
 use Rattle.history.specs.History.{CatalogueChange, tx_events, catalogue_events}
 use Rattle.history.specs.Transactions.{session_of}
 use Rattle.part_catalog.specs.declared.stored.StoredEntry.{StoredEntry}
-use Rattle.part_catalog.specs.Kept.{KeptCatalogue, IsKept, no_entry, with_mark}
+use Rattle.part_catalog.specs.Kept.{KeptCatalogue, IsKept, no_entry}
 use Rattle.part_catalog.specs.Stands.{CatalogueStands, between_by}
-use Rattle.part_catalog.proofs.Told.{AreNumbered}
 use Rattle.part_catalog.proofs.Listed.{kept_same_entries}
 use Rattle.part_catalog.proofs.Keeping.{same_entries, marked_stands}
 use Rattle.part_catalog.proofs.Between.{between_is, none_between}

@@ -1,4 +1,4 @@
-use Rattle.std.proofs.Common.{◌≡◌, ◌∙◌, ◌<◌, ℕ, Option, Some, None, IfSome, true, false, ap, sym, subst, arith, length, map, get_or, List, []}
+use Rattle.std.proofs.Common.{◌≡◌, ◌∙◌, ◌<◌, ℕ, Option, Some, None, IfSome, true, false, ap, sym, subst, arith, length, map, get_or, List}
 use Rattle.std.proofs.lemmas.Grind.{common_steps, elements}
 use Rattle.std.proofs.lemmas.List.{length-map}
 use Rattle.std.specs.Option.{option_map}
@@ -7,7 +7,7 @@ use Rattle.history.specs.Transactions.{session_of}
 use Rattle.history.specs.History.{tx_events}
 use Rattle.part_catalog.specs.declared.stored.StoredTable.{StoredTable}
 use Rattle.part_catalog.specs.Kept.{KeptCatalogue, name_in, no_stored}
-use Rattle.part_catalog.specs.Names.{NamesStand, has_name, last_below}
+use Rattle.part_catalog.specs.Names.{NamesStand, last_below}
 use Rattle.part_catalog.specs.Stands.{made_elsewhere_by}
 use Rattle.part_catalog.specs.Found.{made_at, table_number, is_made_elsewhere}
 use Rattle.part_catalog.proofs.Found.{from_here, named_and, IsNamed, newest_named, next_named, walk_begins, walk_goes, walk_ends, walk_shrinks, made_is, taken_told}

@@ -1,4 +1,4 @@
-use Rattle.std.proofs.Common.{◌≡◌, ◌∙◌, ◌++◌, ◌-◌, ◌+◌, ◌<◌, ◌∷◌, [], IfSome, Option, List, Bool, ap, sym, subst, length, map, filter, get_or}
+use Rattle.std.proofs.Common.{◌≡◌, ◌∙◌, ◌++◌, ◌-◌, ◌+◌, ◌<◌, IfSome, Option, List, Bool, ap, sym, subst, length, map, filter}
 use Rattle.pg_ids.specs.declared.ids.TableNo.{TableNo}
 use Rattle.history.specs.declared.catalogue.Check.{Check}
 use Rattle.history.specs.Catalogue.{tables_made}

@@ -1,5 +1,5 @@
-use Rattle.std.proofs.Common.{◌≡◌, ◌∙◌, ◌<◌, ◌++◌, ◌∷◌, [], ℕ, ap, sym, subst, arith, List, length, map, get_or, slice_set}
-use Rattle.std.specs.List.{insert, position_or_len}
+use Rattle.std.proofs.Common.{◌≡◌, ◌∙◌, ◌<◌, ◌++◌, ◌∷◌, [], ap, sym, subst, arith, List, length, map, get_or, slice_set}
+use Rattle.std.specs.List.{position_or_len}
 use Rattle.std.proofs.lemmas.Grind.{common_steps, elements}
 use Rattle.table_trees.specs.Histories.{children, placed}
 use Rattle.part_catalog.specs.declared.stored.StoredTable.{StoredTable}

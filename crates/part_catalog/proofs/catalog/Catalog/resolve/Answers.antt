@@ -1,10 +1,10 @@
-use Rattle.std.proofs.Common.{◌≡◌, ◌∙◌, ◌<◌, Option, Some, None, IfSome, true, false, ap, sym, subst, arith, length, map, get_or, List, []}
+use Rattle.std.proofs.Common.{◌≡◌, ◌∙◌, ◌<◌, Option, IfSome, true, false, ap, sym, subst, arith, length, map, get_or, List}
 use Rattle.std.proofs.lemmas.Grind.{common_steps, elements}
 use Rattle.std.proofs.lemmas.List.{length-map}
 use Rattle.history.specs.History.{tx_events}
 use Rattle.part_catalog.specs.declared.stored.StoredTable.{StoredTable}
 use Rattle.part_catalog.specs.Kept.{KeptCatalogue, name_in, no_stored}
-use Rattle.part_catalog.specs.Names.{NamesStand, has_name, last_below}
+use Rattle.part_catalog.specs.Names.{NamesStand}
 use Rattle.part_catalog.specs.Stands.{there_by}
 use Rattle.part_catalog.proofs.Found.{from_here, named_and, IsNamed, newest_named, next_named, walk_begins, walk_goes, walk_ends, walk_shrinks, resolved_told}
 use Rattle.part_catalog.proofs.catalog.Catalog.resolve.Goals as goal
