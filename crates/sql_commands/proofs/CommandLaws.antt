@@ -11,12 +11,15 @@ use Rattle.sql_tokens.specs.declared.kind.Kind.TheVariants as word
 use Rattle.sql_tokens.specs.declared.token.Token.{Token}
 use Rattle.sql_expressions.specs.Grammar.{expression}
 use Rattle.sql_expressions.specs.Levels.{begins_expression}
-use Rattle.sql_expressions.specs.Words.{a, a_name, ◌>>◌, either_if, is_long_name}
+use Rattle.grammar_words.specs.Words.{◌>>◌, one_of, means, snoc}
+use Rattle.sql_tokens.specs.Classes.{a, a_name}
+use Rattle.sql_expressions.specs.Words.{either_if, is_long_name}
 use Rattle.sql_expressions.proofs.LevelLaws.{after_expression}
 use Rattle.sql_expressions.proofs.RuleLaws.{expression_law}
 use Rattle.sql_expressions.proofs.WordLaws.{sample, apart, within, no_longer_law, name_law, string_law}
 use Rattle.sql_commands.specs.Trees.{resets, deallocates, deallocates_all, other}
-use Rattle.sql_lists.proofs.ListLaws.{means_law, maybe_law, in_law, commas_law, plain_name_law, number_law, other_name_law}
+use Rattle.grammar_words.proofs.WordLaws.{means_law, maybe_law}
+use Rattle.sql_lists.proofs.ListLaws.{in_law, commas_law, plain_name_law, number_law, other_name_law}
 use Rattle.sql_lists.specs.Lists as lists
 use Rattle.sql_commands.specs.Grammar as grammar
 use Rattle.sql_commands.specs.declared.transaction.Isolation.TheVariants as isolation
@@ -34,14 +37,14 @@ begin_words_law =
     (means_law None (after_token (a word.Start) (sample word.Start) refl (token (a word.Transaction) (sample word.Transaction) refl))) (apart _ _ (λ t. refl) refl))
     (within _ _ (λ t. refl) refl) (within _ _ (λ t. refl) refl)
 
-committed_law : Law grammar.committed_or_not (lists.one_of word.Committed word.Uncommitted) false none
+committed_law : Law grammar.committed_or_not (one_of (a word.Committed) (a word.Uncommitted)) false none
 committed_law =
     wide
     (alt (a word.Committed) (means_law isolation.ReadCommitted (token (a word.Committed) (sample word.Committed) refl)) (λ k h. h)
     (means_law isolation.ReadUncommitted (token (a word.Uncommitted) (sample word.Uncommitted) refl)) (apart _ _ (λ t. refl) refl))
     (within _ _ (λ t. refl) refl) (within _ _ (λ t. refl) refl)
 
-level_law : Law grammar.level (lists.one_of word.Read word.Repeatable) false none
+level_law : Law grammar.level (one_of (a word.Read) (a word.Repeatable)) false none
 level_law =
     wide
     (alt (a word.Read) (after_token (a word.Read) (sample word.Read) refl committed_law) (λ k h. h)
@@ -101,7 +104,7 @@ by_law text =
 maybe_by_law : (text : List ℕ) → Law (grammar.maybe_by text) (a word.Partition) true (a word.Partition)
 maybe_by_law text = wide (opt (by_law text)) (λ k h. h) (λ k h. h)
 
-null_or_not_law : Law grammar.null_or_not (lists.one_of word.Not word.Null) true (lists.one_of word.Not word.Null)
+null_or_not_law : Law grammar.null_or_not (one_of (a word.Not) (a word.Null)) true (one_of (a word.Not) (a word.Null))
 null_or_not_law =
     wide
     (alt (a word.Not) (means_law true (after_token (a word.Not) (sample word.Not) refl (token (a word.Null) (sample word.Null) refl))) (λ k h. h)
@@ -109,7 +112,7 @@ null_or_not_law =
     (apart _ _ (λ t. refl) refl))
     (within _ _ (λ t. refl) refl) (within _ _ (λ t. refl) refl)
 
-column_law : (text : List ℕ) → Law (grammar.column text) a_name false (lists.one_of word.Not word.Null)
+column_law : (text : List ℕ) → Law (grammar.column text) a_name false (one_of (a word.Not) (a word.Null))
 column_law text =
     wide (valued grammar.column_value (seq (plain_name_law text) (seq (plain_name_law text) null_or_not_law (λ k h. refl)) (λ k h. refl)))
     (within _ _ (λ t. refl) refl) (within _ _ (λ t. refl) refl)
@@ -139,7 +142,7 @@ values_bound_law text =
     wide (alt (a word.From) (range_bound_law text) (λ k h. h) (alt (a word.In) (list_bound_law text) (λ k h. h) (hash_bound_law text) (apart _ _ (λ t. refl) refl)) (apart _ _ (λ t. refl) refl))
     (within _ _ (λ t. refl) refl) (within _ _ (λ t. refl) refl)
 
-bound_law : (text : List ℕ) → Law (grammar.bound text) (lists.one_of word.For word.Default) false none
+bound_law : (text : List ℕ) → Law (grammar.bound text) (one_of (a word.For) (a word.Default)) false none
 bound_law text =
     wide
     (alt (a word.For) (after_token (a word.For) (sample word.For) refl (after_token (a word.Values) (sample word.Values) refl (values_bound_law text))) (λ k h. h)
@@ -161,7 +164,7 @@ pub create_law : (text : List ℕ) → Law (grammar.create text) (a word.Create)
 create_law text =
     wide (valued second_of (after_token (a word.Create) (sample word.Create) refl (after_token (a word.Table) (sample word.Table) refl
     (then_by (plain_name_law text)
-    (λ name. wide {f' = lists.one_of word.OpenParenthesis word.Partition} {c' = a word.Partition}
+    (λ name. wide {f' = one_of (a word.OpenParenthesis) (a word.Partition)} {c' = a word.Partition}
     (alt (a word.OpenParenthesis) (columns_law text name) (λ k h. h) (partition_of_law text name) (apart _ _ (λ t. refl) refl)) (within _ _ (λ t. refl) refl) (within _ _ (λ t. refl) refl))
     (λ k h. refl)))))
     (λ k h. h) (within _ _ (λ t. refl) refl)
@@ -171,14 +174,14 @@ abbrev pub exists_or_comma : Class Token
 exists_or_comma t = a word.Exists t || a word.Comma t
 
 dropped_law_by : (text : List ℕ) (b : Bool) (names : List (List ℕ)) →
-    Law (either_if b (a word.Exists) (as_value (grammar.drop_value true) (word.Exists >> lists.commas (lists.plain_name text))) (as_value (grammar.drop_value false) (lists.more_commas (lists.plain_name text) names))) exists_or_comma true exists_or_comma
+    Law (either_if b (a word.Exists) (as_value (grammar.drop_value true) (a word.Exists >> lists.commas (lists.plain_name text))) (as_value (grammar.drop_value false) (lists.more_commas (lists.plain_name text) names))) exists_or_comma true exists_or_comma
 dropped_law_by text true names =
     wide
     (alt (a word.Exists) (valued (grammar.drop_value true) (after_token (a word.Exists) (sample word.Exists) refl (commas_law (plain_name_law text) (λ k h. refl)))) (λ k h. h)
-    (valued (grammar.drop_value false) (more (a word.Comma) (sample word.Comma) refl lists.snoc (plain_name_law text) (λ k h. refl) names)) (apart _ _ (λ t. refl) refl))
+    (valued (grammar.drop_value false) (more (a word.Comma) (sample word.Comma) refl snoc (plain_name_law text) (λ k h. refl) names)) (apart _ _ (λ t. refl) refl))
     (within _ _ (λ t. refl) refl) (within _ _ (λ t. refl) refl)
 dropped_law_by text false names =
-    wide (valued (grammar.drop_value false) (more (a word.Comma) (sample word.Comma) refl lists.snoc (plain_name_law text) (λ k h. refl) names))
+    wide (valued (grammar.drop_value false) (more (a word.Comma) (sample word.Comma) refl snoc (plain_name_law text) (λ k h. refl) names))
     (within _ _ (λ t. refl) refl) (within _ _ (λ t. refl) refl)
 
 dropped_law : (text : List ℕ) → Law (grammar.dropped text) a_name false exists_or_comma
@@ -209,7 +212,7 @@ pub alter_law : (text : List ℕ) → Law (grammar.alter text) (a word.Alter) fa
 alter_law text =
     wide (valued second_of (after_token (a word.Alter) (sample word.Alter) refl (after_token (a word.Table) (sample word.Table) refl
     (then_by (plain_name_law text)
-    (λ parent. wide {f' = lists.one_of word.Attach word.Detach} {c' = grammar.is_detachment}
+    (λ parent. wide {f' = one_of (a word.Attach) (a word.Detach)} {c' = grammar.is_detachment}
     (alt (a word.Attach) (attach_law text parent) (λ k h. h) (detach_law text parent) (apart _ _ (λ t. refl) refl)) (within _ _ (λ t. refl) refl) (within _ _ (λ t. refl) refl))
     (λ k h. refl)))))
     (λ k h. h) (within _ _ (λ t. refl) refl)
@@ -223,7 +226,7 @@ locked_law text =
 share_law : (share exclusive : LockMode) → Law (grammar.share_or_exclusive share exclusive) grammar.is_share_or_exclusive false none
 share_law share exclusive = valued (grammar.shared_or share exclusive) (token grammar.is_share_or_exclusive (sample word.Share) refl)
 
-behind_share_law : Law grammar.behind_share (lists.one_of word.Update word.Row) true (lists.one_of word.Update word.Row)
+behind_share_law : Law grammar.behind_share (one_of (a word.Update) (a word.Row)) true (one_of (a word.Update) (a word.Row))
 behind_share_law =
     wide
     (alt (a word.Update) (means_law mode.ShareUpdateExclusive (after_token (a word.Update) (sample word.Update) refl (token (a word.Exclusive) (sample word.Exclusive) refl))) (λ k h. h)
@@ -234,7 +237,7 @@ behind_share_law =
 abbrev pub begins_mode : Class Token
 begins_mode t = a word.Access t || (a word.Row t || (a word.Share t || a word.Exclusive t))
 
-lock_mode_law : Law grammar.lock_mode begins_mode false (lists.one_of word.Update word.Row)
+lock_mode_law : Law grammar.lock_mode begins_mode false (one_of (a word.Update) (a word.Row))
 lock_mode_law =
     wide
     (alt (a word.Access) (after_token (a word.Access) (sample word.Access) refl (share_law mode.AccessShare mode.AccessExclusive)) (λ k h. h)
@@ -256,7 +259,7 @@ lock_law text =
     (λ k h. h) (within _ _ (λ t. refl) refl)
 
 -- deallocate
-all_law : Law (lists.means deallocates_all (one (a word.All))) (a word.All) false none
+all_law : Law (means deallocates_all (one (a word.All))) (a word.All) false none
 all_law = means_law deallocates_all (token (a word.All) (sample word.All) refl)
 
 abbrev pub all_or_name : Class Token

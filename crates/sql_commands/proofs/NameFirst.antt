@@ -12,7 +12,9 @@ use Rattle.sql_tokens.specs.Words as words
 use Rattle.sql_tokens.specs.declared.kind.Kind.{Kind}
 use Rattle.sql_tokens.specs.declared.kind.Kind.TheVariants as word
 use Rattle.sql_tokens.specs.declared.token.Token.{Token}
-use Rattle.sql_expressions.specs.Words.{a, a_name, ◌>>◌, either_if, is_long_name, named, name}
+use Rattle.grammar_words.specs.Words.{◌>>◌, only, snoc}
+use Rattle.sql_tokens.specs.Classes.{a, a_name}
+use Rattle.sql_expressions.specs.Words.{either_if, is_long_name, named, name}
 use Rattle.sql_expressions.proofs.WordLaws.{within}
 use Rattle.sql_lists.specs.Lists as lists
 use Rattle.sql_commands.specs.Grammar as grammar
@@ -117,10 +119,10 @@ module _ (text : List ℕ) (N : Of (Kind × List ℕ)) (W : Of Token) (w : WordN
   Names = value_texts lists.said N
 
   abbrev Rows : List (List ℕ) → Of (List (List ℕ))
-  Rows l = rows_texts always lists.snoc (λ (x : List (List ℕ)). both_texts (one_texts (a word.Comma)) Names) l
+  Rows l = rows_texts always snoc (λ (x : List (List ℕ)). both_texts (one_texts (a word.Comma)) Names) l
 
   abbrev Commas : Of (List (List ℕ))
-  Commas = value_texts second_of (follow_texts Names (λ c. Rows (lists.only c)))
+  Commas = value_texts second_of (follow_texts Names (λ c. Rows (only c)))
 
   abbrev BehindExists : Of (Bool × List (List ℕ))
   BehindExists = value_texts (grammar.drop_value true) (value_texts (λ (x : Token × List (List ℕ)). x.1) (both_texts (one_texts (a word.Exists)) Commas))
@@ -185,7 +187,7 @@ module _ (text : List ℕ) (N : Of (Kind × List ℕ)) (W : Of Token) (w : WordN
             m.1,
             e ∙ ap (λ r. r ++ v) i.0 ∙ m.2,
             m.3.1,
-            (l x).second m.1 z (k.0.1, subst (λ c. Rows (lists.only c) m.1 k.0.1) m.3.2 m.4, pair_eq z y i.1 k.2),
+            (l x).second m.1 z (k.0.1, subst (λ c. Rows (only c) m.1 k.0.1) m.3.2 m.4, pair_eq z y i.1 k.2),
           ),
           refl,
         )
@@ -257,7 +259,7 @@ module _ (text : List ℕ) where
   prepare_is_name = within (a word.Prepare) a_name (λ t. refl) refl
 
   abbrev behind_exists : Rule Token (Bool × List (List ℕ))
-  behind_exists = as_value (grammar.drop_value true) (word.Exists >> lists.commas (lists.plain_name text))
+  behind_exists = as_value (grammar.drop_value true) (a word.Exists >> lists.commas (lists.plain_name text))
 
   abbrev behind_name : Kind × List ℕ → Rule Token (Bool × List (List ℕ))
   behind_name x = as_value (grammar.drop_value false) (lists.more_commas (lists.plain_name text) (x.1 ∷ []))

@@ -5,8 +5,9 @@ use Rattle.sql_tokens.specs.declared.kind.Kind.TheVariants as word
 use Rattle.sql_tokens.specs.declared.token.Token.{Token}
 use Rattle.sql_expressions.specs.Grammar.{expression}
 use Rattle.sql_expressions.specs.Tree.{Tree, listed as list_of_trees}
-use Rattle.sql_expressions.specs.Words.{a, ◌>>◌, ◌<<◌, ◌&◌}
-use Rattle.sql_lists.specs.Lists.{means, in_parentheses, commas, number}
+use Rattle.grammar_words.specs.Words.{◌>>◌, ◌<<◌, ◌&◌, means}
+use Rattle.sql_tokens.specs.Classes.{a}
+use Rattle.sql_lists.specs.Lists.{in_parentheses, commas, number}
 use Rattle.sql_commands.specs.Trees.{Edge, min, max, at, Bound, range, listed, hash, other}
 
 -- edge = "MINVALUE" | "MAXVALUE" | expr, where an edge that is one of these words alone is that word
@@ -39,22 +40,22 @@ abbrev pub range_value : List Edge × List Edge → Bound
 range_value x = range x.0 x.1
 
 abbrev pub range_bound : List ℕ → Rule Token Bound
-range_bound text = as_value range_value (word.From >> edges text & word.To >> edges text)
+range_bound text = as_value range_value (a word.From >> edges text & a word.To >> edges text)
 
 abbrev pub list_value : List Tree → Bound
 list_value xs = listed (list_of_trees xs)
 
 abbrev pub list_bound : List ℕ → Rule Token Bound
-list_bound text = as_value list_value (word.In >> in_parentheses (commas (expression text)))
+list_bound text = as_value list_value (a word.In >> in_parentheses (commas (expression text)))
 
 abbrev pub hash_value : ℕ × ℕ → Bound
 hash_value x = hash x.0 x.1
 
 abbrev pub hash_bound : List ℕ → Rule Token Bound
-hash_bound text = as_value hash_value (word.With >> word.OpenParenthesis >> word.Modulus >> number text & word.Comma >> word.Remainder >> number text << word.CloseParenthesis)
+hash_bound text = as_value hash_value (a word.With >> a word.OpenParenthesis >> a word.Modulus >> number text & a word.Comma >> a word.Remainder >> number text << a word.CloseParenthesis)
 
 abbrev pub values_bound : List ℕ → Rule Token Bound
 values_bound text = either (a word.From) (range_bound text) (either (a word.In) (list_bound text) (hash_bound text))
 
 abbrev pub bound : List ℕ → Rule Token Bound
-bound text = either (a word.For) (word.For >> word.Values >> values_bound text) (means other (one (a word.Default)))
+bound text = either (a word.For) (a word.For >> a word.Values >> values_bound text) (means other (one (a word.Default)))

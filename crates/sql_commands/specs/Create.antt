@@ -4,8 +4,10 @@ use Rattle.grammar_rules.specs.Reading.{Class, Rule, one, nothing, follow, as_va
 use Rattle.grammar_rules.specs.Rows.{second_of}
 use Rattle.sql_tokens.specs.declared.kind.Kind.TheVariants as word
 use Rattle.sql_tokens.specs.declared.token.Token.{Token}
-use Rattle.sql_expressions.specs.Words.{a, ◌>>◌, ◌&◌, name}
-use Rattle.sql_lists.specs.Lists.{means, in_parentheses, commas, plain_name}
+use Rattle.grammar_words.specs.Words.{◌>>◌, ◌&◌, means}
+use Rattle.sql_tokens.specs.Classes.{a}
+use Rattle.sql_expressions.specs.Words.{name}
+use Rattle.sql_lists.specs.Lists.{in_parentheses, commas, plain_name}
 use Rattle.sql_commands.specs.Trees.{Bound, CommandTree, makes_table, makes_partition}
 use Rattle.sql_commands.specs.declared.create.Strategy.{Strategy}
 use Rattle.sql_commands.specs.declared.create.Strategy.TheVariants as strategy
@@ -27,7 +29,7 @@ abbrev pub partitioning : Strategy × List (List ℕ) → Partitioning
 partitioning x = record { strategy = x.0; columns = x.1 }
 
 abbrev pub by : List ℕ → Rule Token Partitioning
-by text = as_value partitioning (word.Partition >> word.By >> strategy_rule & in_parentheses (commas (plain_name text)))
+by text = as_value partitioning (a word.Partition >> a word.By >> strategy_rule & in_parentheses (commas (plain_name text)))
 
 abbrev pub maybe_by : List ℕ → Rule Token (Option Partitioning)
 maybe_by text = optional (a word.Partition) (by text)
@@ -35,7 +37,7 @@ maybe_by text = optional (a word.Partition) (by text)
 -- column = name name [ "NOT" "NULL" | "NULL" ]
 abbrev pub null_or_not : Rule Token Bool
 null_or_not =
-    either (a word.Not) (means true (word.Not >> one (a word.Null)))
+    either (a word.Not) (means true (a word.Not >> one (a word.Null)))
     (either (a word.Null) (means false (one (a word.Null))) (nothing false))
 
 abbrev pub column_value : List ℕ × (List ℕ × Bool) → ColumnDefinition
@@ -55,10 +57,10 @@ abbrev pub partition_value : List ℕ → List ℕ × (Bound × Option Partition
 partition_value name x = makes_partition name x.0 x.1.0 x.1.1
 
 abbrev pub partition_of : List ℕ → List ℕ → Rule Token CommandTree
-partition_of text name = as_value (partition_value name) (word.Partition >> word.Of >> plain_name text & bound text & maybe_by text)
+partition_of text name = as_value (partition_value name) (a word.Partition >> a word.Of >> plain_name text & bound text & maybe_by text)
 
 abbrev pub made : List ℕ → List ℕ → Rule Token CommandTree
 made text name = either (a word.OpenParenthesis) (columns text name) (partition_of text name)
 
 abbrev pub create : List ℕ → Rule Token CommandTree
-create text = as_value second_of (word.Create >> word.Table >> follow (plain_name text) (made text))
+create text = as_value second_of (a word.Create >> a word.Table >> follow (plain_name text) (made text))

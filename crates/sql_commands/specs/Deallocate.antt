@@ -6,8 +6,10 @@ use Rattle.sql_tokens.specs.Words as words
 use Rattle.sql_tokens.specs.declared.kind.Kind.{Kind}
 use Rattle.sql_tokens.specs.declared.kind.Kind.TheVariants as word
 use Rattle.sql_tokens.specs.declared.token.Token.{Token}
-use Rattle.sql_expressions.specs.Words.{a, ◌>>◌, name}
-use Rattle.sql_lists.specs.Lists.{means, plain_name, name_word, is_other_name, other_name, read_as}
+use Rattle.grammar_words.specs.Words.{◌>>◌, means}
+use Rattle.sql_tokens.specs.Classes.{a}
+use Rattle.sql_expressions.specs.Words.{name}
+use Rattle.sql_lists.specs.Lists.{plain_name, name_word, is_other_name, other_name, read_as}
 use Rattle.sql_commands.specs.Trees.{CommandTree, deallocates, deallocates_all}
 
 -- dealloc = "DEALLOCATE" [ "PREPARE" ] ( name | "ALL" ), where TRANSACTION is no name behind PREPARE
@@ -38,4 +40,4 @@ abbrev pub prepared_by_name : List ℕ → Rule Token CommandTree
 prepared_by_name text = either (a word.All) (means deallocates_all (one (a word.All))) (as_value second_of (follow (name text) (behind_deallocate text)))
 
 abbrev pub deallocate : List ℕ → Rule Token CommandTree
-deallocate text = word.Deallocate >> read_as (prepared text) (prepared_by_name text)
+deallocate text = a word.Deallocate >> read_as (prepared text) (prepared_by_name text)

@@ -6,13 +6,15 @@ use Rattle.sql_tokens.specs.Words as words
 use Rattle.sql_tokens.specs.declared.kind.Kind.{Kind}
 use Rattle.sql_tokens.specs.declared.kind.Kind.TheVariants as word
 use Rattle.sql_tokens.specs.declared.token.Token.{Token}
-use Rattle.sql_expressions.specs.Words.{a, ◌>>◌, ◌&◌, either_if, name}
-use Rattle.sql_lists.specs.Lists.{one_of, means, maybe, commas, more_commas, plain_name, name_word, read_as}
+use Rattle.grammar_words.specs.Words.{◌>>◌, ◌&◌, one_of, means, maybe}
+use Rattle.sql_tokens.specs.Classes.{a}
+use Rattle.sql_expressions.specs.Words.{either_if, name}
+use Rattle.sql_lists.specs.Lists.{commas, more_commas, plain_name, name_word, read_as}
 use Rattle.sql_commands.specs.Trees.{CommandTree, drops}
 
 -- drop = "DROP" "TABLE" [ "IF" "EXISTS" ] name { "," name } [ "CASCADE" | "RESTRICT" ]
 abbrev pub is_behavior : Class Token
-is_behavior = one_of word.Cascade word.Restrict
+is_behavior = one_of (a word.Cascade) (a word.Restrict)
 
 abbrev pub if_exists : List ℕ → Rule Token Bool
 if_exists text = either (a word.If) (means true (name_word text word.If & one (a word.Exists))) (nothing false)
@@ -26,7 +28,7 @@ drop_value if_there names = (if_there, names)
 
 abbrev pub dropped_behind : List ℕ → Kind × List ℕ → Rule Token (Bool × List (List ℕ))
 dropped_behind text x =
-    either_if (words.is x.0 word.If) (a word.Exists) (as_value (drop_value true) (word.Exists >> commas (plain_name text)))
+    either_if (words.is x.0 word.If) (a word.Exists) (as_value (drop_value true) (a word.Exists >> commas (plain_name text)))
     (as_value (drop_value false) (more_commas (plain_name text) (x.1 ∷ [])))
 
 abbrev pub dropped_by_name : List ℕ → Rule Token (Bool × List (List ℕ))
@@ -39,4 +41,4 @@ abbrev pub drop_tree : (Bool × List (List ℕ)) × Option Token → CommandTree
 drop_tree x = drops x.0.0 x.0.1
 
 abbrev pub drop_tables : List ℕ → Rule Token CommandTree
-drop_tables text = as_value drop_tree (word.Drop >> word.Table >> dropped text & maybe is_behavior)
+drop_tables text = as_value drop_tree (a word.Drop >> a word.Table >> dropped text & maybe is_behavior)

@@ -4,7 +4,7 @@ use Rattle.std.specs.Prelude.{ℕ, ◌||◌, List}
 use Rattle.grammar_rules.specs.Reading.{Class, Rule, either}
 use Rattle.sql_tokens.specs.declared.kind.Kind.TheVariants as word
 use Rattle.sql_tokens.specs.declared.token.Token.{Token}
-use Rattle.sql_expressions.specs.Words.{a}
+use Rattle.sql_tokens.specs.Classes.{a}
 use Rattle.sql_commands.specs.Trees.{CommandTree}
 pub use Rattle.sql_commands.specs.Transaction.{is_noise, noise, committed_or_not, level, isolation_level, begins_begin, begin_words, begin, is_commit, is_rollback, is_finish, finished, finish}
 pub use Rattle.sql_commands.specs.Setting.{is_equal_or_to, is_setting_word, setting_word, without_zeros, setting_number, setting_value, set_value, begins_set, set}

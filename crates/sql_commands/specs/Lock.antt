@@ -3,8 +3,10 @@ use Rattle.std.specs.Prelude.{ℕ, true, false, if◌then◌else◌, List, Optio
 use Rattle.grammar_rules.specs.Reading.{Class, Rule, one, nothing, as_value, either}
 use Rattle.sql_tokens.specs.declared.kind.Kind.TheVariants as word
 use Rattle.sql_tokens.specs.declared.token.Token.{Token}
-use Rattle.sql_expressions.specs.Words.{a, ◌>>◌, ◌<<◌, ◌&◌, name}
-use Rattle.sql_lists.specs.Lists.{one_of, means, maybe, commas, plain_name}
+use Rattle.grammar_words.specs.Words.{◌>>◌, ◌<<◌, ◌&◌, one_of, means, maybe}
+use Rattle.sql_tokens.specs.Classes.{a}
+use Rattle.sql_expressions.specs.Words.{name}
+use Rattle.sql_lists.specs.Lists.{commas, plain_name}
 use Rattle.sql_commands.specs.Trees.{CommandTree, locks}
 use Rattle.sql_commands.specs.declared.lock.LockMode.{LockMode}
 use Rattle.sql_commands.specs.declared.lock.LockMode.TheVariants as mode
@@ -21,12 +23,12 @@ locked text = as_value locked_value (maybe (a word.Only) & plain_name text)
 -- behind SHARE: [ "UPDATE" "EXCLUSIVE" | "ROW" "EXCLUSIVE" ]
 abbrev pub behind_share : Rule Token LockMode
 behind_share =
-    either (a word.Update) (means mode.ShareUpdateExclusive (word.Update >> one (a word.Exclusive)))
-    (either (a word.Row) (means mode.ShareRowExclusive (word.Row >> one (a word.Exclusive))) (nothing mode.Share))
+    either (a word.Update) (means mode.ShareUpdateExclusive (a word.Update >> one (a word.Exclusive)))
+    (either (a word.Row) (means mode.ShareRowExclusive (a word.Row >> one (a word.Exclusive))) (nothing mode.Share))
 
 -- "SHARE" | "EXCLUSIVE"
 abbrev pub is_share_or_exclusive : Class Token
-is_share_or_exclusive = one_of word.Share word.Exclusive
+is_share_or_exclusive = one_of (a word.Share) (a word.Exclusive)
 
 abbrev pub shared_or : LockMode → LockMode → Token → LockMode
 shared_or share exclusive t = if a word.Share t then share else exclusive
@@ -37,16 +39,16 @@ share_or_exclusive share exclusive = as_value (shared_or share exclusive) (one i
 -- mode: one of the eight
 abbrev pub lock_mode : Rule Token LockMode
 lock_mode =
-    either (a word.Access) (word.Access >> share_or_exclusive mode.AccessShare mode.AccessExclusive)
-    (either (a word.Row) (word.Row >> share_or_exclusive mode.RowShare mode.RowExclusive)
-    (either (a word.Share) (word.Share >> behind_share)
+    either (a word.Access) (a word.Access >> share_or_exclusive mode.AccessShare mode.AccessExclusive)
+    (either (a word.Row) (a word.Row >> share_or_exclusive mode.RowShare mode.RowExclusive)
+    (either (a word.Share) (a word.Share >> behind_share)
     (means mode.Exclusive (one (a word.Exclusive)))))
 
 abbrev pub maybe_mode : Rule Token LockMode
-maybe_mode = either (a word.In) (word.In >> lock_mode << word.Mode) (nothing mode.AccessExclusive)
+maybe_mode = either (a word.In) (a word.In >> lock_mode << a word.Mode) (nothing mode.AccessExclusive)
 
 abbrev pub lock_value : Option Token × (List LockedTable × LockMode) → CommandTree
 lock_value x = locks x.1.0 x.1.1
 
 abbrev pub lock : List ℕ → Rule Token CommandTree
-lock text = as_value lock_value (word.Lock >> maybe (a word.Table) & commas (locked text) & maybe_mode)
+lock text = as_value lock_value (a word.Lock >> maybe (a word.Table) & commas (locked text) & maybe_mode)

@@ -4,8 +4,10 @@ use Rattle.grammar_rules.specs.Reading.{Class, Rule, one, as_value, either}
 use Rattle.sql_tokens.specs.Contents.{bytes_of, name_in}
 use Rattle.sql_tokens.specs.declared.kind.Kind.TheVariants as word
 use Rattle.sql_tokens.specs.declared.token.Token.{Token}
-use Rattle.sql_expressions.specs.Words.{a, a_name, ◌>>◌, ◌&◌, is_long_name, no_longer, string}
-use Rattle.sql_lists.specs.Lists.{one_of, plain_name, other_name}
+use Rattle.grammar_words.specs.Words.{◌>>◌, ◌&◌, one_of}
+use Rattle.sql_tokens.specs.Classes.{a, a_name}
+use Rattle.sql_expressions.specs.Words.{is_long_name, no_longer, string}
+use Rattle.sql_lists.specs.Lists.{plain_name, other_name}
 use Rattle.sql_commands.specs.Trees.{CommandTree, sets, resets}
 use Rattle.sql_commands.specs.declared.setting.SettingValue.{SettingValue}
 use Rattle.sql_commands.specs.declared.setting.SettingValue.TheVariants as setting
@@ -13,7 +15,7 @@ use Rattle.sql_commands.specs.declared.setting.SettingValue.TheVariants as setti
 -- set = "SET" name ( "=" | "TO" ) ( name | "ON" | "TRUE" | "FALSE" | string | number ) | "RESET" name
 -- where LOCAL is no name behind SET
 abbrev pub is_equal_or_to : Class Token
-is_equal_or_to = one_of word.Equal word.To
+is_equal_or_to = one_of (a word.Equal) (a word.To)
 
 abbrev pub is_setting_word : Class Token
 is_setting_word t = a_name t || (a word.On t || (a word.True t || a word.False t))
@@ -39,9 +41,9 @@ abbrev pub set_value : List ℕ × (Token × SettingValue) → CommandTree
 set_value x = sets x.0 x.1.1
 
 abbrev pub begins_set : Class Token
-begins_set = one_of word.Set word.Reset
+begins_set = one_of (a word.Set) (a word.Reset)
 
 abbrev pub set : List ℕ → Rule Token CommandTree
 set text =
-    either (a word.Set) (as_value set_value (word.Set >> other_name text word.Local & one is_equal_or_to & setting_value text))
-    (as_value resets (word.Reset >> plain_name text))
+    either (a word.Set) (as_value set_value (a word.Set >> other_name text word.Local & one is_equal_or_to & setting_value text))
+    (as_value resets (a word.Reset >> plain_name text))

@@ -3,15 +3,15 @@ use Rattle.std.specs.Prelude.{◌||◌, if◌then◌else◌, Option, None}
 use Rattle.grammar_rules.specs.Reading.{Class, Rule, one, as_value, either, optional}
 use Rattle.sql_tokens.specs.declared.kind.Kind.TheVariants as word
 use Rattle.sql_tokens.specs.declared.token.Token.{Token}
-use Rattle.sql_expressions.specs.Words.{a, ◌>>◌, ◌&◌}
-use Rattle.sql_lists.specs.Lists.{one_of, means, maybe}
+use Rattle.grammar_words.specs.Words.{◌>>◌, ◌&◌, one_of, means, maybe}
+use Rattle.sql_tokens.specs.Classes.{a}
 use Rattle.sql_commands.specs.Trees.{CommandTree, begins, commits, rolls_back}
 use Rattle.sql_commands.specs.declared.transaction.Isolation.{Isolation}
 use Rattle.sql_commands.specs.declared.transaction.Isolation.TheVariants as isolation
 
 -- [ "WORK" | "TRANSACTION" ]
 abbrev pub is_noise : Class Token
-is_noise = one_of word.Work word.Transaction
+is_noise = one_of (a word.Work) (a word.Transaction)
 
 abbrev pub noise : Rule Token (Option Token)
 noise = maybe is_noise
@@ -21,28 +21,28 @@ abbrev pub committed_or_not : Rule Token Isolation
 committed_or_not = either (a word.Committed) (means isolation.ReadCommitted (one (a word.Committed))) (means isolation.ReadUncommitted (one (a word.Uncommitted)))
 
 abbrev pub level : Rule Token Isolation
-level = either (a word.Read) (word.Read >> committed_or_not) (means isolation.RepeatableRead (word.Repeatable >> one (a word.Read)))
+level = either (a word.Read) (a word.Read >> committed_or_not) (means isolation.RepeatableRead (a word.Repeatable >> one (a word.Read)))
 
 -- [ "ISOLATION" "LEVEL" level ]
 abbrev pub isolation_level : Rule Token (Option Isolation)
-isolation_level = optional (a word.Isolation) (word.Isolation >> word.Level >> level)
+isolation_level = optional (a word.Isolation) (a word.Isolation >> a word.Level >> level)
 
 -- begin = ( "BEGIN" [ "WORK" | "TRANSACTION" ] | "START" "TRANSACTION" ) isolation_level
 abbrev pub begins_begin : Class Token
-begins_begin = one_of word.Begin word.Start
+begins_begin = one_of (a word.Begin) (a word.Start)
 
 abbrev pub begin_words : Rule Token (Option Token)
-begin_words = either (a word.Begin) (word.Begin >> noise) (means None (word.Start >> one (a word.Transaction)))
+begin_words = either (a word.Begin) (a word.Begin >> noise) (means None (a word.Start >> one (a word.Transaction)))
 
 abbrev pub begin : Rule Token CommandTree
 begin = as_value (λ (x : Option Token × Option Isolation). begins x.1) (begin_words & isolation_level)
 
 -- finish = ( "COMMIT" | "END" | "ROLLBACK" | "ABORT" ) [ "WORK" | "TRANSACTION" ]
 abbrev pub is_commit : Class Token
-is_commit = one_of word.Commit word.End
+is_commit = one_of (a word.Commit) (a word.End)
 
 abbrev pub is_rollback : Class Token
-is_rollback = one_of word.Rollback word.Abort
+is_rollback = one_of (a word.Rollback) (a word.Abort)
 
 abbrev pub is_finish : Class Token
 is_finish t = is_commit t || is_rollback t

@@ -12,7 +12,6 @@ use Rattle.sql_commands.specs.declared.transaction.Isolation.{Isolation}
 use Rattle.sql_commands.specs.declared.lock.LockMode.{LockMode}
 use Rattle.sql_commands.specs.declared.setting.SettingValue.{SettingValue}
 use Rattle.sql_commands.specs.declared.lists.ColumnDefinition.{ColumnDefinition}
-use Rattle.sql_commands.specs.declared.lists.EdgeList.{EdgeList}
 use Rattle.sql_commands.specs.declared.lists.LockedTable.{LockedTable}
 use Rattle.sql_commands.specs.declared.lists.Partitioning.{Partitioning}
 
@@ -47,8 +46,8 @@ edge_tree edges.MinValue = min
 edge_tree edges.MaxValue = max
 edge_tree (edges.Value e) = at (tree e)
 
-abbrev pub edges_of : EdgeList → List Edge
-edges_of l = map edge_tree l.edges.items
+abbrev pub edges_of : List EdgeText → List Edge
+edges_of = map edge_tree
 
 abbrev pub bound_tree : BoundText → Bound
 bound_tree (bounds.Range from to) = range (edges_of from) (edges_of to)

@@ -6,8 +6,9 @@ ghost use Rattle.sql_commands.specs.Trees.{bound_tree, edge_tree};
 
 use crate::EdgeList;
 use grammar_rules::Refused;
-use sql_expressions::{Expr, ExprList, comes, expression, word};
-use sql_lists::{Part, commas, number, values};
+use grammar_words::{Part, comes, separated, word};
+use sql_expressions::{Expr, ExprList, ExprPart, expression};
+use sql_lists::number;
 use sql_tokens::{Kind, Token, same_kind};
 use std::alloc::Global;
 
@@ -67,6 +68,8 @@ impl Part for EachEdge {
     ghost use Rattle.sql_commands.specs.Bound as grammar;
     ghost use Rattle.sql_commands.specs.Trees.{Edge as OneEdge, edge_tree};
 
+    type Token = Token;
+
     type Item = EdgeText;
 
     ghost Tree = { OneEdge };
@@ -93,7 +96,7 @@ fn point<'a>(
     ensures { Gives (λ x. (map edge_tree x.0.items, x.1.now)) result ((grammar.edges text.now).read tokens.now) }
 {
     let (_, rest) = word(tokens, Kind::OpenParenthesis)?;
-    let (edges, rest) = commas::<EachEdge>(alloc, text, rest)?;
+    let (edges, rest) = separated::<EachEdge>(alloc, text, Kind::Comma, rest)?;
     let (_, rest) = word(rest, Kind::CloseParenthesis)?;
     Ok((edges, rest))
 }
@@ -122,7 +125,7 @@ fn list_bound<'a>(
 {
     let (_, rest) = word(tokens, Kind::In)?;
     let (_, rest) = word(rest, Kind::OpenParenthesis)?;
-    let (values, rest) = values(alloc, text, rest)?;
+    let (values, rest) = separated::<ExprPart>(alloc, text, Kind::Comma, rest)?;
     let (_, rest) = word(rest, Kind::CloseParenthesis)?;
     Ok((BoundText::List(ExprList::from_vec(values)), rest))
 }

@@ -1,10 +1,10 @@
-ghost use Rattle.std.specs.Prelude.{◌≡◌, ℕ, List};
+ghost use Rattle.std.specs.Prelude.{◌≡◌, ℕ, List, Result};
 ghost use Rattle.grammar_rules.specs.Gives.{Gives};
 ghost use Rattle.grammar_rules.specs.Parses.{Parses};
 ghost use Rattle.grammar_rules.specs.Reading.{begins_in, read_whole};
+ghost use Rattle.grammar_rules.specs.declared.refused.Refused.{Refused as OneRefusal};
 ghost use Rattle.sql_commands.specs.Grammar as grammar;
 ghost use Rattle.sql_commands.specs.Trees.{CommandTree, command_tree};
-ghost use Rattle.sql_expressions.specs.Parsed as parsed;
 ghost use Rattle.sql_tokens.specs.declared.token.Token.{Token as OneToken};
 
 use crate::Command;
@@ -15,10 +15,10 @@ use crate::drop::drop_tables;
 use crate::lock::lock;
 use crate::setting::set;
 use crate::transaction::{begin, finish, finish_comes};
-use grammar_rules::{Refused, split};
-use sql_expressions::{ParseRefused, comes, refusal};
+use grammar_rules::Refused;
+use grammar_words::comes;
 use sql_lists::one_of_comes;
-use sql_tokens::{Kind, Token, read_tokens};
+use sql_tokens::{Kind, Token};
 use std::alloc::Global;
 
 fn other_command_comes(tokens: &[Token]) -> bool
@@ -69,34 +69,11 @@ pub fn command<'a>(
     }
 }
 
-#[tactic(auto, unfolding(grammar_rules::specs::Reading::read_whole))]
-fn read_all(alloc: Global, text: &[u8], tokens: &[Token]) -> Result<Command, Refused>
-    ensures { Gives command_tree result (read_whole (grammar.command text.now) tokens.now) }
-{
-    let (read, rest) = command(alloc, text, tokens)?;
-    match split(rest) {
-        None => Ok(read),
-        Some(_) => Err(Refused::Syntax(rest.len())),
-    }
-}
-
-/// Reads tokens that are one command, up to the last. `text` is the text whose tokens they are.
-pub fn whole_command(alloc: Global, text: &[u8], tokens: &[Token]) -> Result<Command, Refused>
-    ensures { Parses (grammar.command text.now) command_tree tokens.now result }
-{
-    read_all(alloc, text, tokens)
-}
-
-/// Reads a text that is one command, without a semicolon.
-pub fn parse_command(alloc: Global, text: &[u8]) -> Result<Command, ParseRefused>
-    ensures { parsed.ParsesText grammar.command command_tree text.now result }
-{
-    let tokens = read_tokens(alloc, text)?;
-    match read_all(alloc, text, &tokens) {
-        Ok(read) => Ok(read),
-        Err(refused) => Err(refusal(alloc, text, &tokens, refused)?),
-    }
-}
+/// Tokens that are read to their end are that command and no other; where they are refused, they stop there
+/// to begin one, or go on there only without limits. The call does nothing.
+pub fn commands_are_read()
+    ensures { (text : List ℕ) (tokens : List OneToken) (read : Result CommandTree OneRefusal) → Gives (λ x. x) read (read_whole (grammar.command text) tokens) → Parses (grammar.command text) (λ x. x) tokens read }
+{}
 
 /// No text is two commands, even where the second is one without limits. The call does nothing.
 pub fn no_two_commands()

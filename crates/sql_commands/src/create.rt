@@ -5,9 +5,9 @@ ghost use Rattle.sql_commands.specs.Trees.{command_tree};
 use crate::bound::bound;
 use crate::{ColumnDefinition, ColumnList, Command, Partitioning};
 use grammar_rules::{Refused, split};
+use grammar_words::{Part, comes, separated, word};
 use pg_values::PgText;
-use sql_expressions::{comes, word};
-use sql_lists::{NameList, Part, commas, names, plain_name};
+use sql_lists::{NameList, names, plain_name};
 use sql_tokens::{Kind, Token, same_kind};
 use std::alloc::Global;
 
@@ -58,6 +58,8 @@ struct EachColumn;
 impl Part for EachColumn {
     ghost use Rattle.sql_commands.specs.Create as grammar;
     ghost use Rattle.sql_commands.specs.declared.lists.ColumnDefinition.{ColumnDefinition as OneColumn};
+
+    type Token = Token;
 
     type Item = ColumnDefinition;
 
@@ -137,7 +139,7 @@ fn own_columns<'a>(
     ensures { Gives (λ x. (command_tree x.0, x.1.now)) result ((grammar.columns text.now name).read tokens.now) }
 {
     let (_, rest) = word(tokens, Kind::OpenParenthesis)?;
-    let (columns, rest) = commas::<EachColumn>(alloc, text, rest)?;
+    let (columns, rest) = separated::<EachColumn>(alloc, text, Kind::Comma, rest)?;
     let (_, rest) = word(rest, Kind::CloseParenthesis)?;
     let (by, rest) = maybe_by(alloc, text, rest)?;
     let columns = ColumnList::from_vec(columns);

@@ -4,8 +4,9 @@ ghost use Rattle.sql_commands.specs.Trees.{command_tree};
 
 use crate::Command;
 use grammar_rules::Refused;
+use grammar_words::{comes, word};
 use pg_values::PgText;
-use sql_expressions::{comes, name, word};
+use sql_expressions::name;
 use sql_lists::{other_name, other_name_comes};
 use sql_tokens::{Kind, Token, same_kind};
 use std::alloc::Global;

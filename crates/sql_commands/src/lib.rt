@@ -26,7 +26,7 @@ mod tree;
 
 pub use alter::Detachment;
 pub use bound::{BoundText, EdgeText};
-pub use commands::{command, command_comes, no_two_commands, parse_command, whole_command};
+pub use commands::{command, command_comes, commands_are_read, no_two_commands};
 pub use create::Strategy;
 pub use lists::{
     ColumnDefinition, ColumnList, EdgeList, LockedTable, LockedTableList, Partitioning,
@@ -35,6 +35,3 @@ pub use lock::LockMode;
 pub use setting::SettingValue;
 pub use transaction::Isolation;
 pub use tree::Command;
-
-#[cfg(test)]
-mod tests;

@@ -4,8 +4,8 @@ ghost use Rattle.sql_commands.specs.Trees.{command_tree};
 
 use crate::{Command, LockedTable, LockedTableList};
 use grammar_rules::Refused;
-use sql_expressions::{comes, word};
-use sql_lists::{Part, commas, maybe_word, one_of, plain_name};
+use grammar_words::{Part, comes, maybe_word, separated, word};
+use sql_lists::{one_of, plain_name};
 use sql_tokens::{Kind, Token, same_kind};
 use std::alloc::Global;
 
@@ -40,6 +40,8 @@ struct EachTable;
 impl Part for EachTable {
     ghost use Rattle.sql_commands.specs.Lock as grammar;
     ghost use Rattle.sql_commands.specs.declared.lists.LockedTable.{LockedTable as OneTable};
+
+    type Token = Token;
 
     type Item = LockedTable;
 
@@ -132,7 +134,7 @@ pub(crate) fn lock<'a>(
 {
     let (_, rest) = word(tokens, Kind::Lock)?;
     let (_, rest) = maybe_word(rest, Kind::Table)?;
-    let (tables, rest) = commas::<EachTable>(alloc, text, rest)?;
+    let (tables, rest) = separated::<EachTable>(alloc, text, Kind::Comma, rest)?;
     let (mode, rest) = maybe_mode(rest)?;
     let tables = LockedTableList::from_vec(tables);
     Ok((Command::Lock(tables, mode), rest))

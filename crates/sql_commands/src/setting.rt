@@ -6,8 +6,9 @@ ghost use Rattle.sql_tokens.specs.Contents as contents;
 
 use crate::Command;
 use grammar_rules::{Refused, split};
+use grammar_words::{comes, word};
 use pg_values::PgText;
-use sql_expressions::{MOST_NAME_BYTES, comes, string, word};
+use sql_expressions::{MOST_NAME_BYTES, string};
 use sql_lists::{one_of, other_name, plain_name};
 use sql_tokens::{Kind, Token, is_name, name_of, same_kind};
 use std::alloc::Global;

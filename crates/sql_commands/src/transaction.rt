@@ -6,7 +6,7 @@ ghost use Rattle.sql_commands.specs.Trees.{command_tree};
 
 use crate::Command;
 use grammar_rules::{Refused, split};
-use sql_expressions::{comes, word};
+use grammar_words::{comes, word};
 use sql_lists::{maybe_one_of, one_of_comes};
 use sql_tokens::{Kind, Token, same_kind};
 

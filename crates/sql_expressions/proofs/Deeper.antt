@@ -12,7 +12,8 @@ use Rattle.sql_tokens.specs.declared.token.Token.{Token}
 use Rattle.sql_expressions.specs.Grammar.{any, below, freed, nullity_at, rules, sum_at, test_at, under_depth}
 use Rattle.sql_expressions.specs.Levels.{Deep, Room, Rules, begins_nested, begins_test, is_comparison, nested, call_of, tested, compared, inverted_by, unary, named_leaf, test, comparison, negation}
 use Rattle.sql_expressions.specs.Views.{comparison_of, named_at, operand_of, part_of, row_at}
-use Rattle.sql_expressions.specs.Words.{a, name}
+use Rattle.sql_tokens.specs.Classes.{a}
+use Rattle.sql_expressions.specs.Words.{name}
 use Rattle.sql_expressions.specs.declared.signs.Joint.{Joint}
 use Rattle.sql_expressions.specs.declared.signs.Row.{Row}
 use Rattle.sql_expressions.specs.declared.signs.Row.TheVariants as rows

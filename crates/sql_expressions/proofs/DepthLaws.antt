@@ -8,7 +8,8 @@ use Rattle.grammar_rules.proofs.Depths as depths
 use Rattle.sql_tokens.specs.declared.kind.Kind.{Kind}
 use Rattle.sql_tokens.specs.declared.kind.Kind.TheVariants as word
 use Rattle.sql_tokens.specs.declared.token.Token.{Token}
-use Rattle.sql_expressions.specs.Words.{a, name, literal, column}
+use Rattle.sql_tokens.specs.Classes.{a}
+use Rattle.sql_expressions.specs.Words.{name, literal, column}
 use Rattle.sql_expressions.specs.Levels as Levels
 use Rattle.sql_expressions.specs.Levels.{Deep, Parts, Rules}
 use Rattle.sql_expressions.specs.Grammar.{endless, Texts, product_over, sum_over, conjunction_over, expression_over, test_over, over, nullity_over, nesting, any}

@@ -9,7 +9,8 @@ use Rattle.grammar_rules.proofs.Build.{token, empty, valued, wide, seq, then_by,
 use Rattle.sql_tokens.specs.declared.kind.Kind.{Kind}
 use Rattle.sql_tokens.specs.declared.kind.Kind.TheVariants as word
 use Rattle.sql_tokens.specs.declared.token.Token.{Token}
-use Rattle.sql_expressions.specs.Words.{a, a_name, a_literal, literal, column}
+use Rattle.sql_tokens.specs.Classes.{a, a_name}
+use Rattle.sql_expressions.specs.Words.{a_literal, literal, column}
 use Rattle.sql_expressions.specs.Levels.{Deep, Room, Rules, flat, under, deeper, itself, join, only_part, add_part, has_room, parts_room, list_of, begins_nested, begins_expression, all_call, call_value, arguments, call_of, behind_name, named_leaf, nested, unary, row, is_product, is_sum, is_comparison, begins_test, in_value, between_value, in_or_between, tested, maybe_tested, test, compared_value, compared, maybe_compared, comparison, said, null_or_not, null_join, nullity, inverted_by, negation, parts, all_value, any_value, conjunction, disjunction}
 use Rattle.sql_expressions.specs.Grammar.{freely}
 use Rattle.sql_expressions.specs.Tree.{negated, inverted}

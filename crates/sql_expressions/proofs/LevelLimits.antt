@@ -11,7 +11,8 @@ use Rattle.sql_expressions.specs.Grammar.{below}
 use Rattle.sql_expressions.specs.Levels.{Deep, Parts, Rules, flat, under, deeper, itself, join, only_part, add_part, row_of, has_room, parts_room, list_of, all_call, call_value, arguments, call_of, behind_name, named_leaf, nested, unary, row, is_comparison, in_value, between_value, in_or_between, tested, maybe_tested, test, compared_value, compared, maybe_compared, comparison, said, null_or_not, null_join, nullity, inverted_by, negation, parts, all_value, any_value, conjunction, disjunction}
 use Rattle.sql_expressions.specs.Limits.{IsShort}
 use Rattle.sql_expressions.specs.Tree.{Tree, negated, inverted, all_of, any_of, listed}
-use Rattle.sql_expressions.specs.Words.{a, ◌>>◌, ◌<<◌, ◌&◌}
+use Rattle.grammar_words.specs.Words.{◌>>◌, ◌<<◌, ◌&◌}
+use Rattle.sql_tokens.specs.Classes.{a}
 use Rattle.sql_expressions.proofs.LevelLaws.{within_any}
 use Rattle.sql_expressions.proofs.Limited.{Of, Joins, Limited, adapt, given, granted, one_limited, nothing_limited, both_limited, follow_limited, value_limited, sign_limited, behind_limited, before_limited, either_limited, room_limited, chain_limited}
 use Rattle.sql_expressions.proofs.TextWords.{may_be_long}
@@ -20,10 +21,10 @@ use Rattle.sql_expressions.proofs.WordLimits.{ShortThere, Always, plain, plain_w
 
 -- the operands of IN and of BETWEEN
 abbrev behind_in : Rules → Rule Token Parts
-behind_in r = word.In >> word.OpenParenthesis >> list_of r.expression << word.CloseParenthesis
+behind_in r = a word.In >> a word.OpenParenthesis >> list_of r.expression << a word.CloseParenthesis
 
 abbrev behind_between : Rules → Rule Token (Deep × Deep)
-behind_between r = word.Between >> r.sum & word.And >> r.sum
+behind_between r = a word.Between >> r.sum & a word.And >> r.sum
 
 -- room is what is below n
 has_below : (n d : ℕ) → d < n → below n d ≡ true

@@ -14,7 +14,8 @@ use Rattle.sql_tokens.specs.declared.token.Token.{Token}
 use Rattle.sql_expressions.specs.Grammar.{Texts, endless, product_over, sum_over, conjunction_over, expression_over, test_over, over, nullity_over, nesting, any}
 use Rattle.sql_expressions.specs.Levels as Levels
 use Rattle.sql_expressions.specs.Levels.{Deep, Parts, Rules}
-use Rattle.sql_expressions.specs.Words.{a, a_name, a_literal, is_long_name, is_long_text, no_longer, name, string, literal, column, either_if}
+use Rattle.sql_tokens.specs.Classes.{a, a_name}
+use Rattle.sql_expressions.specs.Words.{a_literal, is_long_name, is_long_text, no_longer, name, string, literal, column, either_if}
 use Rattle.sql_expressions.specs.Words as Words
 use Rattle.sql_expressions.specs.declared.leaf.Leaf.{Leaf}
 use Rattle.sql_expressions.specs.declared.leaf.Leaf.TheVariants as leaf

@@ -11,7 +11,8 @@ use Rattle.sql_expressions.specs.Levels as Levels
 use Rattle.sql_expressions.specs.Levels.{Rules}
 use Rattle.sql_expressions.specs.Limits.{IsShort}
 use Rattle.sql_expressions.specs.Tree.{Tree}
-use Rattle.sql_expressions.specs.Words.{a, a_name, is_long_name, name, literal}
+use Rattle.sql_tokens.specs.Classes.{a, a_name}
+use Rattle.sql_expressions.specs.Words.{is_long_name, name, literal}
 use Rattle.sql_expressions.specs.Words as Words
 use Rattle.sql_expressions.specs.declared.leaf.Leaf.{Leaf}
 use Rattle.sql_expressions.specs.declared.leaf.Leaf.TheVariants as leaf

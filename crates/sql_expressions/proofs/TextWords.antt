@@ -21,7 +21,8 @@ use Rattle.sql_tokens.specs.declared.numbers.TheConstants.{MOST_PARAMETER}
 use Rattle.sql_tokens.specs.declared.piece.Piece.{Piece}
 use Rattle.sql_tokens.specs.declared.piece.Piece.TheVariants.{Gap, Lexeme, Broken}
 use Rattle.sql_tokens.specs.declared.token.Token.{Token}
-use Rattle.sql_expressions.specs.Words.{a, is_long_name}
+use Rattle.sql_tokens.specs.Classes.{a}
+use Rattle.sql_expressions.specs.Words.{is_long_name}
 use Rattle.sql_expressions.specs.declared.words.TheConstants.{MOST_NAME_BYTES}
 use Rattle.sql_expressions.proofs.Limited.{Each, append, all_of_each}
 

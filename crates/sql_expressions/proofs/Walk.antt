@@ -12,7 +12,7 @@ use Rattle.sql_tokens.specs.Words as words
 use Rattle.sql_tokens.specs.declared.kind.Kind.{Kind}
 use Rattle.sql_tokens.specs.declared.kind.Kind.TheVariants as word
 use Rattle.sql_tokens.specs.declared.token.Token.{Token}
-use Rattle.sql_expressions.specs.Words.{a, a_name}
+use Rattle.sql_tokens.specs.Classes.{a, a_name}
 use Rattle.sql_expressions.proofs.LevelLaws.{begins_leaf, begins_unary}
 use Rattle.sql_expressions.proofs.WordLaws.{sample, within}
 

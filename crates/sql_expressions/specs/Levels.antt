@@ -10,7 +10,9 @@ use Rattle.sql_expressions.specs.declared.leaf.Leaf.{Leaf}
 use Rattle.sql_expressions.specs.declared.leaf.Operator.{Operator}
 use Rattle.sql_expressions.specs.declared.leaf.Operator.TheVariants as operator
 use Rattle.sql_expressions.specs.Tree.{Tree, leaf, call, call_of_all, negated, binary, in_list, between, is_null, inverted, all_of, any_of, listed}
-use Rattle.sql_expressions.specs.Words.{a, a_name, ◌>>◌, ◌<<◌, ◌&◌, name, literal, a_literal, column}
+use Rattle.grammar_words.specs.Words.{◌>>◌, ◌<<◌, ◌&◌}
+use Rattle.sql_tokens.specs.Classes.{a, a_name}
+use Rattle.sql_expressions.specs.Words.{name, literal, a_literal, column}
 
 -- A tree, and how many operators, calls and pairs of parentheses stand over its deepest leaf.
 abbrev pub Deep : Type 0
@@ -94,7 +96,7 @@ arguments expr = either begins_expression (list_of expr) (nothing ([], 0))
 
 abbrev pub call_of : Rule Token Deep → List ℕ → Rule Token Deep
 call_of expr f =
-    word.OpenParenthesis >> either (a word.Star) (as_value (all_call f) (one (a word.Star))) (as_value (call_value f) (arguments expr)) << word.CloseParenthesis
+    a word.OpenParenthesis >> either (a word.Star) (as_value (all_call f) (one (a word.Star))) (as_value (call_value f) (arguments expr)) << a word.CloseParenthesis
 
 -- behind a name: a call, or the rest of a column
 abbrev pub behind_name : List ℕ → Room → Rules → Rules → Kind × List ℕ → Rule Token Deep
@@ -107,8 +109,8 @@ named_leaf text room any below = as_value second_of (follow (name text) (behind_
 -- "-" unary | "(" expr ")"
 abbrev pub nested : Rules → Rule Token Deep
 nested below =
-    either (a word.Minus) (as_value (under negated) (word.Minus >> below.unary))
-    (as_value deeper (word.OpenParenthesis >> below.expression << word.CloseParenthesis))
+    either (a word.Minus) (as_value (under negated) (a word.Minus >> below.unary))
+    (as_value deeper (a word.OpenParenthesis >> below.expression << a word.CloseParenthesis))
 
 abbrev pub unary : List ℕ → Room → Rules → Rules → Rule Token Deep
 unary text room any below =
@@ -158,11 +160,11 @@ between_value is_not x y = (between is_not x.0 y.0.0 y.1.0, suc (max x.1 (max y.
 
 abbrev pub in_or_between : Rules → Bool → Deep → Rule Token Deep
 in_or_between below is_not x =
-    either (a word.In) (as_value (in_value is_not x) (word.In >> word.OpenParenthesis >> list_of below.expression << word.CloseParenthesis))
-    (as_value (between_value is_not x) (word.Between >> below.sum & word.And >> below.sum))
+    either (a word.In) (as_value (in_value is_not x) (a word.In >> a word.OpenParenthesis >> list_of below.expression << a word.CloseParenthesis))
+    (as_value (between_value is_not x) (a word.Between >> below.sum & a word.And >> below.sum))
 
 abbrev pub tested : Rules → Deep → Rule Token Deep
-tested below x = either (a word.Not) (word.Not >> in_or_between below true x) (in_or_between below false x)
+tested below x = either (a word.Not) (a word.Not >> in_or_between below true x) (in_or_between below false x)
 
 abbrev pub maybe_tested : Room → Rules → Rules → Deep → Rule Token Deep
 maybe_tested room any below x = if_room (room x.1) begins_test (tested any x).texts (tested below x) (nothing x)
@@ -188,7 +190,7 @@ abbrev pub said : Bool → Token → Bool
 said b t = b
 
 abbrev pub null_or_not : Rule Token Bool
-null_or_not = either (a word.Not) (as_value (said true) (word.Not >> one (a word.Null))) (as_value (said false) (one (a word.Null)))
+null_or_not = either (a word.Not) (as_value (said true) (a word.Not >> one (a word.Null))) (as_value (said false) (one (a word.Null)))
 
 abbrev pub null_join : Deep → Token → Bool → Deep
 null_join x sign is_not = under (is_null is_not) x
@@ -198,7 +200,7 @@ nullity room comparison = chain_by (a word.Is) (has_room room) itself null_join 
 
 -- "NOT" negation | nullity
 abbrev pub inverted_by : Rules → Rule Token Deep
-inverted_by below = as_value (under inverted) (word.Not >> below.negation)
+inverted_by below = as_value (under inverted) (a word.Not >> below.negation)
 
 abbrev pub negation : Room → Rules → Rules → Rule Token Deep → Rule Token Deep
 negation room any below nullity = if_room (room 0) (a word.Not) (inverted_by any).texts (inverted_by below) nullity

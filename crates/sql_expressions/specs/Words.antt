@@ -1,8 +1,10 @@
 -- Rules of one token or a few: words and signs, names, and expressions without operands (4.1 Lexical Structure; 4.2.1 Column References).
 -- What a name or a number says stands in the text, so rules of names take the text.
 use Rattle.std.specs.Prelude.{ℕ, Bool, true, false, ◌&&◌, ◌||◌, not, if◌then◌else◌, nat_lt, List, length}
-use Rattle.grammar_rules.specs.Reading.{Class, Rule, one, one_texts, nothing, both, follow, as_value, either, behind, before, barred}
+use Rattle.grammar_rules.specs.Reading.{Class, Rule, one, one_texts, nothing, follow, as_value, either, barred}
 use Rattle.grammar_rules.specs.Rows.{second_of}
+use Rattle.grammar_words.specs.Words.{◌>>◌}
+use Rattle.sql_tokens.specs.Classes.{a, a_name}
 use Rattle.sql_tokens.specs.Contents.{name_in, number_in, string_in}
 use Rattle.sql_tokens.specs.Words as words
 use Rattle.sql_tokens.specs.declared.kind.Kind.{Kind}
@@ -11,29 +13,6 @@ use Rattle.sql_tokens.specs.declared.token.Token.{Token}
 use Rattle.sql_expressions.specs.declared.leaf.Leaf.{Leaf}
 use Rattle.sql_expressions.specs.declared.leaf.Leaf.TheVariants as leaf
 use Rattle.sql_expressions.specs.declared.words.TheConstants.{MOST_NAME_BYTES, MOST_TEXT_BYTES}
-
--- a word or a sign
-abbrev pub a : Kind → Class Token
-a k t = words.is t.kind k
-
--- a name, a quoted name, or a word that is not reserved
-abbrev pub a_name : Class Token
-a_name t = words.is_name t.kind
-
--- a word or a sign, then p
-infixr 20 ◌>>◌
-abbrev pub ◌>>◌ : {A : Type 0} → Kind → Rule Token A → Rule Token A
-k >> p = behind (a k) p
-
--- p, then a word or a sign
-infixr 20 ◌<<◌
-abbrev pub ◌<<◌ : {A : Type 0} → Rule Token A → Kind → Rule Token A
-p << k = before (a k) p
-
--- p, then q, with both values
-infixr 20 ◌&◌
-abbrev pub ◌&◌ : {A B : Type 0} → Rule Token A → Rule Token B → Rule Token (A × B)
-p & q = both p q
 
 -- a token whose name or string is too long
 abbrev pub is_long_name : List ℕ → Class Token
@@ -80,7 +59,7 @@ either_if false c p q = q
 
 -- "::" "REGCLASS"
 abbrev pub past_cast : Rule Token Token
-past_cast = word.TypeCast >> one (a word.Regclass)
+past_cast = a word.TypeCast >> one (a word.Regclass)
 
 abbrev pub cast : Leaf → Rule Token Leaf
 cast l = as_value (λ (t : Token). l) past_cast
@@ -90,7 +69,7 @@ abbrev pub column_of : List ℕ → Kind × List ℕ → Rule Token Leaf
 column_of table x = either_if (words.is x.0 word.Tableoid) (a word.TypeCast) (cast (leaf.TableNameOf table)) (nothing (leaf.ColumnOf table x.1))
 
 abbrev pub dotted : List ℕ → List ℕ → Rule Token Leaf
-dotted text table = word.Dot >> as_value second_of (follow (name text) (column_of table))
+dotted text table = a word.Dot >> as_value second_of (follow (name text) (column_of table))
 
 -- behind a name that is no function: "." name, a string behind DATE, a cast behind TABLEOID, or nothing
 abbrev pub column : List ℕ → Kind × List ℕ → Rule Token Leaf

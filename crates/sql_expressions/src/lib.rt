@@ -25,9 +25,6 @@ pub use expr::{Expr, ExprList};
 pub use laws::{no_two_trees, the_limits};
 pub use leaf::{Leaf, Operator};
 pub use levels::expression;
-pub use parse::{parse_expression, refusal, whole_expression};
+pub use parse::{ExprPart, parse_expression, refusal};
 pub use refused::ParseRefused;
-pub use words::{MOST_NAME_BYTES, comes, name, string, word};
-
-#[cfg(test)]
-mod tests;
+pub use words::{MOST_NAME_BYTES, name, string};

@@ -1,7 +1,4 @@
 ghost use Rattle.std.specs.Prelude.{◌≡◌, IfOk};
-ghost use Rattle.grammar_rules.specs.Gives.{Gives};
-ghost use Rattle.grammar_rules.specs.Parses.{Parses};
-ghost use Rattle.grammar_rules.specs.Reading.{read_whole};
 ghost use Rattle.sql_expressions.specs.Grammar as grammar;
 ghost use Rattle.sql_expressions.specs.Parsed as parsed;
 ghost use Rattle.sql_expressions.specs.Tree.{tree};
@@ -9,20 +6,14 @@ ghost use Rattle.sql_expressions.specs.Words as words;
 
 use crate::words::{MOST_NAME_BYTES, MOST_TEXT_BYTES};
 use crate::{Expr, ParseRefused, expression};
-use grammar_rules::{Refused, split};
+use grammar_rules::Refused;
+use grammar_words::{Part, token_at, whole};
 use pg_ids::Which;
 use pg_values::NoMemory;
 use sql_tokens::{
     Kind, Token, called, is_left_out, is_name, name_of, read_tokens, same_kind, string_of,
 };
 use std::alloc::Global;
-
-/// The token from which on `left` tokens are left.
-fn token_at(tokens: &[Token], left: usize) -> Option<Token>
-    ensures { result ≡ parsed.token_at tokens.now left }
-{
-    tokens.get(tokens.len().saturating_sub(left)).copied()
-}
 
 /// A refusal of a token that fits in no text, or of the end.
 fn misfit(alloc: Global, text: &[u8], next: Option<Token>) -> Result<ParseRefused, NoMemory>
@@ -60,7 +51,7 @@ fn is_long_text(alloc: Global, text: &[u8], token: Token) -> Result<bool, NoMemo
 
 /// The limit that a token passes.
 fn passed(alloc: Global, text: &[u8], next: Option<Token>) -> Result<Which, NoMemory>
-    ensures { IfOk result (λ w. w ≡ parsed.passed text.now next) }
+    ensures { IfOk result (λ w. w ≡ parsed.limit_at text.now next) }
 {
     let Some(token) = next else {
         return Ok(Which::NestedExpressions);
@@ -81,7 +72,7 @@ pub fn refusal(
     tokens: &[Token],
     refused: Refused,
 ) -> Result<ParseRefused, NoMemory>
-    ensures { IfOk result (λ e. e ≡ parsed.refusal_of text.now tokens.now refused) }
+    ensures { IfOk result (λ e. e ≡ parsed.refusal_of parsed.passed text.now tokens.now refused) }
 {
     match refused {
         Refused::NoMemory => Ok(ParseRefused::NoMemory),
@@ -93,30 +84,38 @@ pub fn refusal(
     }
 }
 
-#[tactic(auto, unfolding(grammar_rules::specs::Reading::read_whole))]
-fn read_all(alloc: Global, text: &[u8], tokens: &[Token]) -> Result<Expr, Refused>
-    ensures { Gives tree result (read_whole (grammar.expression text.now) tokens.now) }
-{
-    let (read, rest) = expression(alloc, text, tokens)?;
-    match split(rest) {
-        None => Ok(read),
-        Some(_) => Err(Refused::Syntax(rest.len())),
-    }
-}
+/// An expression, as a part of a list or as a whole text.
+pub struct ExprPart;
 
-/// Reads tokens that are one expression, up to the last. `text` is the text whose tokens they are.
-pub fn whole_expression(alloc: Global, text: &[u8], tokens: &[Token]) -> Result<Expr, Refused>
-    ensures { Parses (grammar.expression text.now) tree tokens.now result }
-{
-    read_all(alloc, text, tokens)
+impl Part for ExprPart {
+    ghost use Rattle.sql_expressions.specs.Grammar as grammar;
+    ghost use Rattle.sql_expressions.specs.Tree.{Tree as OneTree, tree as tree_of};
+
+    type Token = Token;
+
+    type Item = Expr;
+
+    ghost Tree = { OneTree };
+
+    ghost tree = { tree_of };
+
+    ghost rule = { grammar.expression };
+
+    fn read<'a>(
+        alloc: Global,
+        text: &[u8],
+        tokens: &'a [Token],
+    ) -> Result<(Expr, &'a [Token]), Refused> {
+        expression(alloc, text, tokens)
+    }
 }
 
 /// Reads a text that is one expression.
 pub fn parse_expression(alloc: Global, text: &[u8]) -> Result<Expr, ParseRefused>
-    ensures { parsed.ParsesText grammar.expression tree text.now result }
+    ensures { parsed.ParsesText parsed.passed grammar.expression tree text.now result }
 {
     let tokens = read_tokens(alloc, text)?;
-    match read_all(alloc, text, &tokens) {
+    match whole::<ExprPart>(alloc, text, &tokens) {
         Ok(read) => Ok(read),
         Err(refused) => Err(refusal(alloc, text, &tokens, refused)?),
     }

@@ -5,8 +5,9 @@ ghost use Rattle.sql_expressions.specs.Levels as levels;
 ghost use Rattle.sql_expressions.specs.Views as views;
 
 use crate::Operator;
-use crate::words::{comes, literal_comes, name_comes};
+use crate::words::literal_comes;
 use grammar_rules::{Refused, split};
+use grammar_words::{comes, name_comes};
 use sql_tokens::{Kind, Token};
 
 /// A row of operators that are taken together from the left.

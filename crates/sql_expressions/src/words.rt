@@ -1,11 +1,11 @@
 ghost use Rattle.std.specs.Prelude.{◌≡◌};
 ghost use Rattle.grammar_rules.specs.Gives.{Gives};
-ghost use Rattle.grammar_rules.specs.Reading.{begins_in, read_one};
-ghost use Rattle.sql_expressions.specs.Levels as levels;
+ghost use Rattle.grammar_rules.specs.Reading.{begins_in};
 ghost use Rattle.sql_expressions.specs.Words as words;
 
 use crate::Leaf;
 use grammar_rules::{Refused, split};
+use grammar_words::{comes, word};
 use pg_values::PgText;
 use sql_tokens::{Kind, Token, is_name, name_of, number_of, same_kind, string_of};
 use std::alloc::Global;
@@ -15,42 +15,6 @@ pub const MOST_NAME_BYTES: usize = 63;
 
 /// The most bytes of a string, between its quotes.
 pub const MOST_TEXT_BYTES: usize = 8192;
-
-/// Whether a token of the kind comes next.
-pub fn comes(tokens: &[Token], kind: Kind) -> bool
-    ensures { result ≡ begins_in (words.a kind) tokens.now }
-{
-    match split(tokens) {
-        None => false,
-        Some((first, _)) => same_kind(first.kind, kind),
-    }
-}
-
-/// A token of the kind.
-pub fn word(tokens: &[Token], kind: Kind) -> Result<(Token, &[Token]), Refused>
-    ensures { Gives (λ x. (x.0, x.1.now)) result (read_one (words.a kind) tokens.now) }
-{
-    match split(tokens) {
-        None => Err(Refused::Syntax(0)),
-        Some((first, rest)) => {
-            if same_kind(first.kind, kind) {
-                Ok((first, rest))
-            } else {
-                Err(Refused::Syntax(tokens.len()))
-            }
-        }
-    }
-}
-
-/// Whether a name comes next.
-pub(crate) fn name_comes(tokens: &[Token]) -> bool
-    ensures { result ≡ begins_in words.a_name tokens.now }
-{
-    match split(tokens) {
-        None => false,
-        Some((first, _)) => is_name(first.kind),
-    }
-}
 
 /// A name that is not too long, with the kind of its token.
 pub fn name<'a>(

@@ -3,26 +3,22 @@ use Rattle.std.proofs.Common.{◌≡◌, ℕ, Bool, true, false, ◌&&◌, not, 
 use Rattle.grammar_rules.specs.Reading.{Class, Rule}
 use Rattle.grammar_rules.proofs.Laws.{Law, Disjoint}
 use Rattle.grammar_rules.proofs.Chain.{none, with}
-use Rattle.grammar_rules.proofs.Build.{token, valued, wide, opt, after_token, before_token, chained}
+use Rattle.grammar_rules.proofs.Build.{token, valued}
+use Rattle.grammar_words.proofs.WordLaws.{between_law, separated_law}
 use Rattle.sql_tokens.specs.Contents.{name_in, number_in}
 use Rattle.sql_tokens.specs.declared.kind.Kind.{Kind}
 use Rattle.sql_tokens.specs.declared.kind.Kind.TheVariants as word
 use Rattle.sql_tokens.specs.declared.token.Token.{Token}
-use Rattle.sql_expressions.specs.Words.{a, a_name, is_long_name}
+use Rattle.sql_tokens.specs.Classes.{a, a_name}
+use Rattle.sql_expressions.specs.Words.{is_long_name}
 use Rattle.sql_expressions.proofs.WordLaws.{sample, no_longer_law, name_law}
 use Rattle.sql_lists.specs.Lists as lists
 
-pub means_law : {A B : Type 0} {p : Rule Token B} {f : Class Token} {n : Bool} {c : Class Token} (x : A) → Law p f n c → Law (lists.means x p) f n c
-means_law {A} {B} x l = valued (λ (y : B). x) l
-
-pub maybe_law : (c : Class Token) (t : Token) → c t ≡ true → Law (lists.maybe c) c true c
-maybe_law c t e = wide (opt (token c t e)) (λ k h. h) (λ k h. h)
-
 pub in_law : {A : Type 0} {p : Rule Token A} {f : Class Token} {c : Class Token} → Law p f false c → Disjoint (a word.CloseParenthesis) c → Law (lists.in_parentheses p) (a word.OpenParenthesis) false none
-in_law l d = after_token _ (sample word.OpenParenthesis) refl (before_token _ (sample word.CloseParenthesis) refl l d)
+in_law l d = between_law (a word.OpenParenthesis) (sample word.OpenParenthesis) refl (a word.CloseParenthesis) (sample word.CloseParenthesis) refl l d
 
 pub commas_law : {A : Type 0} {p : Rule Token A} {f : Class Token} {c : Class Token} → Law p f false c → Disjoint (a word.Comma) c → Law (lists.commas p) f false (with c (a word.Comma))
-commas_law l d = chained (a word.Comma) (sample word.Comma) refl lists.only lists.snoc l d
+commas_law l d = separated_law (a word.Comma) (sample word.Comma) refl l d
 
 pub plain_name_law : (text : List ℕ) → Law (lists.plain_name text) a_name false none
 plain_name_law text = valued lists.said (name_law text)

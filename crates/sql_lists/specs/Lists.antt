@@ -1,43 +1,26 @@
--- Rules that all statements are made of: one word of two, names, numbers, and lists with commas between (4.1 Lexical Structure).
+-- Rules that all statements are made of: names, numbers, parentheses, and lists with commas between (4.1 Lexical Structure).
 -- What a name or a number says stands in the text, so rules of names take the text.
-use Rattle.std.specs.Prelude.{ℕ, ◌&&◌, ◌||◌, not, List, [], ◌∷◌, ◌++◌, Option}
-use Rattle.grammar_rules.specs.Reading.{Class, Rule, one, as_value, optional}
-use Rattle.grammar_rules.specs.Rows.{chain, more_of}
+use Rattle.std.specs.Prelude.{ℕ, ◌&&◌, not, List}
+use Rattle.grammar_rules.specs.Reading.{Class, Rule, one, as_value}
+use Rattle.grammar_words.specs.Words.{between, separated, more_separated}
+use Rattle.sql_tokens.specs.Classes.{a, a_name}
 use Rattle.sql_tokens.specs.Contents.{name_in, number_in}
 use Rattle.sql_tokens.specs.declared.kind.Kind.{Kind}
 use Rattle.sql_tokens.specs.declared.kind.Kind.TheVariants as word
 use Rattle.sql_tokens.specs.declared.token.Token.{Token}
-use Rattle.sql_expressions.specs.Words.{a, a_name, ◌>>◌, ◌<<◌, is_long_name, no_longer, name}
-
--- one of two words
-abbrev pub one_of : Kind → Kind → Class Token
-one_of j k t = a j t || a k t
-
--- a value that the words say by themselves
-abbrev pub means : {A B : Type 0} → A → Rule Token B → Rule Token A
-means {A} {B} a p = as_value (λ (x : B). a) p
-
--- a token of the class, or none
-abbrev pub maybe : Class Token → Rule Token (Option Token)
-maybe c = optional c (one c)
+use Rattle.sql_expressions.specs.Words.{is_long_name, no_longer, name}
 
 -- "(" p ")"
 abbrev pub in_parentheses : {A : Type 0} → Rule Token A → Rule Token A
-in_parentheses p = word.OpenParenthesis >> p << word.CloseParenthesis
+in_parentheses p = between (a word.OpenParenthesis) (a word.CloseParenthesis) p
 
 -- p { "," p }
-abbrev pub only : {A : Type 0} → A → List A
-only x = x ∷ []
-
-abbrev pub snoc : {A : Type 0} → List A → Token → A → List A
-snoc xs sign x = xs ++ x ∷ []
-
 abbrev pub commas : {A : Type 0} → Rule Token A → Rule Token (List A)
-commas p = chain (a word.Comma) only snoc p
+commas p = separated (a word.Comma) p
 
 -- { "," p } behind those that stand there
 abbrev pub more_commas : {A : Type 0} → Rule Token A → List A → Rule Token (List A)
-more_commas p xs = more_of (a word.Comma) snoc p xs
+more_commas p xs = more_separated (a word.Comma) p xs
 
 -- a name alone
 abbrev pub said : Kind × List ℕ → List ℕ

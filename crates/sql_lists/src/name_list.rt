@@ -2,10 +2,11 @@ ghost use Rattle.std.specs.Prelude.{◌≡◌, ◌∷◌, []};
 ghost use Rattle.grammar_rules.specs.Gives.{Gives};
 ghost use Rattle.sql_lists.specs.Lists as lists;
 
-use crate::{ListOf, Part, commas, more_parts, plain_name};
+use crate::{ListOf, plain_name};
 use grammar_rules::Refused;
+use grammar_words::{Part, more_parts, separated};
 use pg_values::PgText;
-use sql_tokens::Token;
+use sql_tokens::{Kind, Token};
 use std::alloc::Global;
 
 /// Names in order, seen as the list of their bytes.
@@ -16,6 +17,8 @@ struct Name;
 impl Part for Name {
     ghost use Rattle.std.specs.Prelude.{List, ℕ};
     ghost use Rattle.sql_lists.specs.Lists as lists;
+
+    type Token = Token;
 
     type Item = PgText;
 
@@ -45,7 +48,7 @@ pub fn with_more_names<'a>(
 {
     let mut names = Vec::new(alloc);
     names.push(name)?;
-    more_parts::<Name>(alloc, text, names, tokens)
+    more_parts::<Name>(alloc, text, Kind::Comma, names, tokens)
 }
 
 /// Names with commas between.
@@ -56,5 +59,5 @@ pub fn names<'a>(
 ) -> Result<(Vec<PgText>, &'a [Token]), Refused>
     ensures { Gives (λ x. (x.0.items, x.1.now)) result ((lists.commas (lists.plain_name text.now)).read tokens.now) }
 {
-    commas::<Name>(alloc, text, tokens)
+    separated::<Name>(alloc, text, Kind::Comma, tokens)
 }

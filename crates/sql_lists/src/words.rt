@@ -1,25 +1,27 @@
 ghost use Rattle.std.specs.Prelude.{◌≡◌};
 ghost use Rattle.grammar_rules.specs.Gives.{Gives};
 ghost use Rattle.grammar_rules.specs.Reading.{begins_in, read_one};
-ghost use Rattle.sql_expressions.specs.Words.{a, a_name};
+ghost use Rattle.grammar_words.specs.Words as words;
+ghost use Rattle.sql_tokens.specs.Classes.{a};
 ghost use Rattle.sql_lists.specs.Lists as lists;
 
 use grammar_rules::{Refused, split};
+use grammar_words::{comes, word};
 use pg_values::PgText;
-use sql_expressions::{MOST_NAME_BYTES, comes, name, word};
+use sql_expressions::{MOST_NAME_BYTES, name};
 use sql_tokens::{Kind, Token, is_name, name_of, number_of, same_kind};
 use std::alloc::Global;
 
 /// Whether one of two words comes next.
 pub fn one_of_comes(tokens: &[Token], one: Kind, other: Kind) -> bool
-    ensures { result ≡ begins_in (lists.one_of one other) tokens.now }
+    ensures { result ≡ begins_in (words.one_of (a one) (a other)) tokens.now }
 {
     comes(tokens, one) || comes(tokens, other)
 }
 
 /// One of two words.
 pub fn one_of(tokens: &[Token], one: Kind, other: Kind) -> Result<(Token, &[Token]), Refused>
-    ensures { Gives (λ x. (x.0, x.1.now)) result (read_one (lists.one_of one other) tokens.now) }
+    ensures { Gives (λ x. (x.0, x.1.now)) result (read_one (words.one_of (a one) (a other)) tokens.now) }
 {
     match split(tokens) {
         None => Err(Refused::Syntax(0)),
@@ -39,34 +41,13 @@ pub fn maybe_one_of(
     one: Kind,
     other: Kind,
 ) -> Result<(Option<Token>, &[Token]), Refused>
-    ensures { Gives (λ x. (x.0, x.1.now)) result ((lists.maybe (lists.one_of one other)).read tokens.now) }
+    ensures { Gives (λ x. (x.0, x.1.now)) result ((words.maybe (words.one_of (a one) (a other))).read tokens.now) }
 {
     if !one_of_comes(tokens, one, other) {
         return Ok((None, tokens));
     }
     let (first, rest) = one_of(tokens, one, other)?;
     Ok((Some(first), rest))
-}
-
-/// A word, or nothing.
-pub fn maybe_word(tokens: &[Token], kind: Kind) -> Result<(Option<Token>, &[Token]), Refused>
-    ensures { Gives (λ x. (x.0, x.1.now)) result ((lists.maybe (a kind)).read tokens.now) }
-{
-    if !comes(tokens, kind) {
-        return Ok((None, tokens));
-    }
-    let (first, rest) = word(tokens, kind)?;
-    Ok((Some(first), rest))
-}
-
-/// Whether a name comes next.
-pub fn name_comes(tokens: &[Token]) -> bool
-    ensures { result ≡ begins_in a_name tokens.now }
-{
-    match split(tokens) {
-        None => false,
-        Some((first, _)) => is_name(first.kind),
-    }
 }
 
 /// A name, whatever word it is.

@@ -8,7 +8,7 @@ use Rattle.sql_tokens.specs.declared.kind.Kind.TheVariants as word
 use Rattle.sql_tokens.specs.declared.token.Token.{Token}
 use Rattle.sql_expressions.specs.Grammar.{expression}
 use Rattle.sql_expressions.specs.Tree.{Tree}
-use Rattle.sql_expressions.specs.Words.{a}
+use Rattle.sql_tokens.specs.Classes.{a}
 use Rattle.sql_queries.specs.Items.{ended, ended_at}
 
 found_there : (text : List ℕ) (n : ℕ) (ts : List Token) (t : Token) (rest : List Token) (r : Reading Token Tree) → drop n ts ≡ t ∷ rest → a word.Between t ≡ true → (expression text).read (take n ts) ≡ r → ended_at text n ts ≡ ended t rest r

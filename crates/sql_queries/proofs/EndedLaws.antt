@@ -6,7 +6,7 @@ use Rattle.sql_tokens.specs.declared.kind.Kind.TheVariants as word
 use Rattle.sql_tokens.specs.declared.token.Token.{Token}
 use Rattle.sql_expressions.specs.Grammar.{expression}
 use Rattle.sql_expressions.specs.Tree.{Tree}
-use Rattle.sql_expressions.specs.Words.{a}
+use Rattle.sql_tokens.specs.Classes.{a}
 use Rattle.sql_queries.specs.Items.{ended, ended_by, ended_at, place_of_word}
 use Rattle.sql_queries.proofs.Splits.{Split, same, longer, shorter, split, rest_begins, append_one}
 use Rattle.sql_queries.proofs.WordBehind.{Place, behind, last}

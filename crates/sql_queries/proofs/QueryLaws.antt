@@ -9,12 +9,13 @@ use Rattle.sql_tokens.specs.declared.kind.Kind.TheVariants as word
 use Rattle.sql_tokens.specs.declared.token.Token.{Token}
 use Rattle.sql_expressions.specs.Levels.{begins_expression}
 use Rattle.sql_expressions.specs.Tree.{Tree, no_more, listed}
-use Rattle.sql_expressions.specs.Words.{a, a_name}
+use Rattle.sql_tokens.specs.Classes.{a, a_name}
 use Rattle.sql_expressions.proofs.LevelLaws.{after_expression}
 use Rattle.sql_expressions.proofs.RuleLaws.{expression_law}
 use Rattle.sql_expressions.proofs.WordLaws.{sample, apart, within}
-use Rattle.sql_lists.specs.Lists.{one_of}
-use Rattle.sql_lists.proofs.ListLaws.{means_law, maybe_law, in_law, commas_law, plain_name_law, other_name_law}
+use Rattle.grammar_words.specs.Words.{one_of}
+use Rattle.grammar_words.proofs.WordLaws.{means_law, maybe_law}
+use Rattle.sql_lists.proofs.ListLaws.{in_law, commas_law, plain_name_law, other_name_law}
 use Rattle.sql_queries.specs.Grammar as grammar
 use Rattle.sql_queries.specs.Trees.{selects, rows, explains_select}
 use Rattle.sql_queries.proofs.ItemLaws.{begins_alias, after_item, item_law}
@@ -215,7 +216,7 @@ option_law =
     (within _ _ (λ t. refl) refl) (within _ _ (λ t. refl) refl)
 
 abbrev begins_options : Class Token
-begins_options = one_of word.Analyze word.OpenParenthesis
+begins_options = one_of (a word.Analyze) (a word.OpenParenthesis)
 
 options_law : Law grammar.options begins_options true begins_options
 options_law =
@@ -228,7 +229,7 @@ options_law =
 abbrev after_explain : Class Token
 after_explain t = after_select t || a word.OpenParenthesis t
 
-explained_law : (text : List ℕ) (analyze : Bool) → Law (grammar.explained text analyze) (one_of word.Select word.Execute) false after_explain
+explained_law : (text : List ℕ) (analyze : Bool) → Law (grammar.explained text analyze) (one_of (a word.Select) (a word.Execute)) false after_explain
 explained_law text analyze =
     wide
     (alt (a word.Select) (valued (explains_select analyze) (select_law text)) (λ k h. h) (valued (grammar.explain_execute_value analyze) (execute_law text)) (apart _ _ (λ t. refl) refl))

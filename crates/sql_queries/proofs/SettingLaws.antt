@@ -10,12 +10,13 @@ use Rattle.sql_tokens.specs.declared.kind.Kind.TheVariants as word
 use Rattle.sql_tokens.specs.declared.token.Token.{Token}
 use Rattle.sql_expressions.specs.Grammar.{expression}
 use Rattle.sql_expressions.specs.Tree.{Tree}
-use Rattle.sql_expressions.specs.Words.{a, a_name, is_long_name}
+use Rattle.sql_tokens.specs.Classes.{a, a_name}
+use Rattle.sql_expressions.specs.Words.{is_long_name}
 use Rattle.sql_expressions.proofs.LevelLaws.{after_expression}
 use Rattle.sql_expressions.proofs.RuleLaws.{expression_law}
 use Rattle.sql_expressions.proofs.WordLaws.{sample, apart, within}
 use Rattle.sql_lists.specs.Lists as lists
-use Rattle.sql_lists.specs.Lists.{only, snoc}
+use Rattle.grammar_words.specs.Words.{only, snoc}
 use Rattle.sql_lists.proofs.ListLaws.{commas_law, plain_name_law, name_but_law, other_name_law}
 use Rattle.sql_queries.specs.Grammar as grammar
 use Rattle.sql_queries.specs.Trees.{Setting}

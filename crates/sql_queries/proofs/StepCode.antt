@@ -6,7 +6,8 @@ use Rattle.grammar_rules.specs.Reading.{Reading, Rule, given, read_one, as_value
 use Rattle.grammar_rules.specs.Rows.{second_of}
 use Rattle.sql_tokens.specs.declared.kind.Kind.{Kind}
 use Rattle.sql_tokens.specs.declared.token.Token.{Token}
-use Rattle.sql_expressions.specs.Words.{a, ◌>>◌}
+use Rattle.grammar_words.specs.Words.{◌>>◌}
+use Rattle.sql_tokens.specs.Classes.{a}
 
 module _ {A B C : Type 0} (g : B → C) (k : Kind) (p : Rule Token A) (q : A → Rule Token B) where
   abbrev all_with : Token → (A × B) × List Token → Reading Token (Token × (A × B))
@@ -40,5 +41,5 @@ module _ {A B C : Type 0} (g : B → C) (k : Kind) (p : Rule Token A) (q : A →
   from (Ok t) = behind t.0 ((follow p q).read t.1)
   from (Err e) = refl
 
-  pub in_steps : {X : Type 0} (view : X → C × List Token) (r : Result X Refused) (ts : List Token) → Gives view r ((as_value g (k >> as_value second_of (follow p q))).read ts) → Gives view r ((as_value (λ (x : A × B). g x.1) (k >> follow p q)).read ts)
+  pub in_steps : {X : Type 0} (view : X → C × List Token) (r : Result X Refused) (ts : List Token) → Gives view r ((as_value g (a k >> as_value second_of (follow p q))).read ts) → Gives view r ((as_value (λ (x : A × B). g x.1) (a k >> follow p q)).read ts)
   in_steps view r ts h = subst (Gives view r) (sym (from (read_one (a k) ts))) h

@@ -8,7 +8,9 @@ use Rattle.sql_tokens.specs.declared.token.Token.{Token}
 use Rattle.sql_expressions.specs.Grammar.{expression}
 use Rattle.sql_expressions.specs.Levels.{begins_nested}
 use Rattle.sql_expressions.specs.Tree.{Tree}
-use Rattle.sql_expressions.specs.Words.{a, a_name, a_literal, ◌>>◌, ◌<<◌, is_long_name}
+use Rattle.grammar_words.specs.Words.{◌>>◌, ◌<<◌}
+use Rattle.sql_tokens.specs.Classes.{a, a_name}
+use Rattle.sql_expressions.specs.Words.{a_literal, is_long_name}
 use Rattle.sql_lists.specs.Lists.{plain_name, name_but}
 
 -- An expression, and its alias.
@@ -17,7 +19,7 @@ Output = Tree × Option (List ℕ)
 
 -- [ [ "AS" ] name ], where no word BETWEEN is too long
 abbrev pub maybe_alias : List ℕ → Rule Token (Option (List ℕ))
-maybe_alias text = either (a word.As) (as_value Some (word.As >> plain_name text)) (optional a_name (name_but text word.Between))
+maybe_alias text = either (a word.As) (as_value Some (a word.As >> plain_name text)) (optional a_name (name_but text word.Between))
 
 -- what an operand of BETWEEN begins with
 abbrev pub begins_operand : Class Token
@@ -75,7 +77,7 @@ pub data Item : Type 0 where
 
 -- name "." "*"
 abbrev pub starred : List ℕ → Rule Token Item
-starred text = as_value columns_of ((plain_name text << word.Dot) << word.Star)
+starred text = as_value columns_of ((plain_name text << a word.Dot) << a word.Star)
 
 -- the three tokens come, and the name is not too long
 abbrev pub is_starred : List ℕ → List Token → Bool

@@ -8,7 +8,8 @@ use Rattle.sql_tokens.specs.declared.kind.Kind.TheVariants as word
 use Rattle.sql_tokens.specs.declared.token.Token.{Token}
 use Rattle.sql_expressions.specs.Grammar.{expression}
 use Rattle.sql_expressions.specs.Tree.{tree}
-use Rattle.sql_expressions.specs.Words.{◌>>◌}
+use Rattle.grammar_words.specs.Words.{◌>>◌}
+use Rattle.sql_tokens.specs.Classes.{a}
 use Rattle.sql_queries.specs.Grammar.{more_settings, unaliased}
 use Rattle.sql_queries.specs.Items.{Output as OutputTree}
 use Rattle.sql_queries.specs.Trees.{Setting}
@@ -27,4 +28,4 @@ abbrev pub value_and_more : List ℕ → Token → Rule Token (List Setting)
 value_and_more text t = as_value second_of (follow (expression text) (more_settings text t))
 
 abbrev pub column_in_steps : List ℕ → Token → Rule Token (Option (List ℕ) × List Setting)
-column_in_steps text t = as_value unaliased (word.Equal >> value_and_more text t)
+column_in_steps text t = as_value unaliased (a word.Equal >> value_and_more text t)

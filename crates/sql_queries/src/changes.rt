@@ -9,11 +9,10 @@ ghost use Rattle.sql_queries.specs.Views.{column_in_steps, value_and_more};
 use crate::from::{condition, named_table};
 use crate::{Assignment, Delete, Insert, NamedTable, RowStatement, Update};
 use grammar_rules::Refused;
+use grammar_words::{Part, comes, more_parts, separated, word};
 use pg_values::PgText;
-use sql_expressions::{Expr, ExprList, comes, expression, word};
-use sql_lists::{
-    ListOf, NameList, Part, commas, more_parts, name_but, names, other_name, plain_name, values,
-};
+use sql_expressions::{Expr, ExprList, ExprPart, expression};
+use sql_lists::{ListOf, NameList, name_but, names, other_name, plain_name};
 use sql_tokens::{Kind, Token, name_of};
 use std::alloc::Global;
 
@@ -42,7 +41,7 @@ fn row<'a>(
     ensures { Gives (λ x. (trees x.0, x.1.now)) result ((grammar.row text.now).read tokens.now) }
 {
     let (_, rest) = word(tokens, Kind::OpenParenthesis)?;
-    let (values, rest) = values(alloc, text, rest)?;
+    let (values, rest) = separated::<ExprPart>(alloc, text, Kind::Comma, rest)?;
     let (_, rest) = word(rest, Kind::CloseParenthesis)?;
     Ok((ExprList::from_vec(values), rest))
 }
@@ -52,6 +51,8 @@ struct EachRow;
 impl Part for EachRow {
     ghost use Rattle.sql_expressions.specs.Tree.{Trees, trees};
     ghost use Rattle.sql_queries.specs.Grammar as grammar;
+
+    type Token = Token;
 
     type Item = ExprList;
 
@@ -82,7 +83,7 @@ pub(crate) fn insert<'a>(
     let (table, rest) = plain_name(alloc, text, rest)?;
     let (columns, rest) = columns(alloc, text, rest)?;
     let (_, rest) = word(rest, Kind::Values)?;
-    let (rows, rest) = commas::<EachRow>(alloc, text, rest)?;
+    let (rows, rest) = separated::<EachRow>(alloc, text, Kind::Comma, rest)?;
     let insert = Insert {
         table,
         columns,
@@ -109,6 +110,8 @@ struct EachAssignment;
 impl Part for EachAssignment {
     ghost use Rattle.sql_queries.specs.Grammar as grammar;
     ghost use Rattle.sql_queries.specs.Trees.{Setting, setting};
+
+    type Token = Token;
 
     type Item = Assignment;
 
@@ -144,7 +147,7 @@ fn behind_alias<'a>(
     ensures { Gives (λ x. ((x.0.alias, map setting x.0.assignments.items), x.1.now)) result ((grammar.behind_alias text.now alias).read tokens.now) }
 {
     let (_, rest) = word(tokens, Kind::Set)?;
-    let (assignments, rest) = commas::<EachAssignment>(alloc, text, rest)?;
+    let (assignments, rest) = separated::<EachAssignment>(alloc, text, Kind::Comma, rest)?;
     let alias = Some(alias);
     Ok((Settings { alias, assignments }, rest))
 }
@@ -160,7 +163,7 @@ fn with_more<'a>(
 {
     let mut first = Vec::new(alloc);
     first.push(one)?;
-    more_parts::<EachAssignment>(alloc, text, first, tokens)
+    more_parts::<EachAssignment>(alloc, text, Kind::Comma, first, tokens)
 }
 
 /// The new values behind the first, which is of the column that a token names.
@@ -229,7 +232,7 @@ fn behind_two<'a>(
     if comes(tokens, Kind::Equal) {
         return column_set(alloc, text, two, tokens);
     }
-    let (assignments, rest) = commas::<EachAssignment>(alloc, text, tokens)?;
+    let (assignments, rest) = separated::<EachAssignment>(alloc, text, Kind::Comma, tokens)?;
     let alias = Some(name_of(alloc, text, one)?);
     Ok((Settings { alias, assignments }, rest))
 }

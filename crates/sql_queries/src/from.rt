@@ -6,9 +6,10 @@ ghost use Rattle.sql_queries.specs.Trees.{joined_tree, maybe_tree};
 
 use crate::{FromItem, NamedTable};
 use grammar_rules::Refused;
+use grammar_words::{Begun, Part, comes, many, name_comes, word};
 use pg_values::PgText;
-use sql_expressions::{Expr, comes, expression, word};
-use sql_lists::{Begun, Part, many, name_comes, plain_name};
+use sql_expressions::{Expr, expression};
+use sql_lists::plain_name;
 use sql_tokens::{Kind, Token};
 use std::alloc::Global;
 
@@ -85,6 +86,8 @@ struct EachJoint;
 impl Part for EachJoint {
     ghost use Rattle.sql_queries.specs.Grammar as grammar;
     ghost use Rattle.sql_queries.specs.Trees.{Joined, joined_tree};
+
+    type Token = Token;
 
     type Item = FromItem;
 

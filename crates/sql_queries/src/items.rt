@@ -9,9 +9,10 @@ ghost use Rattle.sql_queries.specs.Views.{output_tree, stop_of};
 
 use crate::SelectItem;
 use grammar_rules::{Refused, split};
+use grammar_words::{Part, comes, name_comes, word};
 use pg_values::{NoMemory, PgText};
-use sql_expressions::{Expr, MOST_NAME_BYTES, comes, expression, word};
-use sql_lists::{Part, name_but, name_comes, plain_name};
+use sql_expressions::{Expr, MOST_NAME_BYTES, expression};
+use sql_lists::{name_but, plain_name};
 use sql_tokens::{Kind, Token, is_name, name_of, same_kind};
 use std::alloc::Global;
 
@@ -248,6 +249,8 @@ pub(crate) struct EachItem;
 impl Part for EachItem {
     ghost use Rattle.sql_queries.specs.Items.{Item as OneItem, item as item_rule};
     ghost use Rattle.sql_queries.specs.Trees.{item_tree};
+
+    type Token = Token;
 
     type Item = SelectItem;
 

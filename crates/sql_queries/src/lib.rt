@@ -20,8 +20,5 @@ mod selects;
 mod statements;
 
 pub use parts::{Assignment, FromItem, NamedTable, SelectItem, SortKey};
-pub use queries::{no_two_queries, parse_query, query, whole_query};
+pub use queries::{no_two_queries, queries_are_read, query};
 pub use statements::{Delete, Insert, Query, RowStatement, Select, Update};
-
-#[cfg(test)]
-mod tests;

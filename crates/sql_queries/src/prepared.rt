@@ -9,9 +9,10 @@ use crate::changes::{delete, insert, update};
 use crate::selects::select;
 use crate::{Query, RowStatement};
 use grammar_rules::{Refused, split};
+use grammar_words::{Part, comes, separated, word};
 use pg_values::PgText;
-use sql_expressions::{ExprList, comes, word};
-use sql_lists::{NameList, Part, commas, names, other_name, plain_name, values};
+use sql_expressions::{ExprList, ExprPart};
+use sql_lists::{NameList, names, other_name, plain_name};
 use sql_tokens::{Kind, Token, same_kind};
 use std::alloc::Global;
 
@@ -79,7 +80,7 @@ fn arguments<'a>(
         return Ok((ExprList::from_vec(Vec::new(alloc)), tokens));
     }
     let (_, rest) = word(tokens, Kind::OpenParenthesis)?;
-    let (values, rest) = values(alloc, text, rest)?;
+    let (values, rest) = separated::<ExprPart>(alloc, text, Kind::Comma, rest)?;
     let (_, rest) = word(rest, Kind::CloseParenthesis)?;
     Ok((ExprList::from_vec(values), rest))
 }
@@ -147,6 +148,8 @@ impl Part for EachOption {
     ghost use Rattle.std.specs.Prelude.{Bool};
     ghost use Rattle.sql_queries.specs.Grammar as grammar;
 
+    type Token = Token;
+
     type Item = bool;
 
     ghost Tree = { Bool };
@@ -184,7 +187,7 @@ fn options<'a>(
     }
     if comes(tokens, Kind::OpenParenthesis) {
         let (_, rest) = word(tokens, Kind::OpenParenthesis)?;
-        let (options, rest) = commas::<EachOption>(alloc, text, rest)?;
+        let (options, rest) = separated::<EachOption>(alloc, text, Kind::Comma, rest)?;
         let (_, rest) = word(rest, Kind::CloseParenthesis)?;
         return Ok((has_true(&options), rest));
     }

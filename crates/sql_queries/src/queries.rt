@@ -1,17 +1,17 @@
-ghost use Rattle.std.specs.Prelude.{◌≡◌, ℕ, List};
+ghost use Rattle.std.specs.Prelude.{◌≡◌, ℕ, List, Result};
 ghost use Rattle.grammar_rules.specs.Gives.{Gives};
 ghost use Rattle.grammar_rules.specs.Parses.{Parses};
 ghost use Rattle.grammar_rules.specs.Reading.{begins_in, read_whole};
-ghost use Rattle.sql_expressions.specs.Parsed as parsed;
+ghost use Rattle.grammar_rules.specs.declared.refused.Refused.{Refused as OneRefusal};
 ghost use Rattle.sql_tokens.specs.declared.token.Token.{Token as OneToken};
 ghost use Rattle.sql_queries.specs.Grammar as grammar;
 ghost use Rattle.sql_queries.specs.Trees.{QueryTree, query_tree};
 
+use crate::Query;
 use crate::prepared::{execute, explain, prepare, row_statement};
-use crate::{Delete, Insert, Query, RowStatement, Select, Update};
-use grammar_rules::{Refused, split};
-use sql_expressions::{ParseRefused, comes, refusal};
-use sql_tokens::{Kind, Token, read_tokens};
+use grammar_rules::Refused;
+use grammar_words::comes;
+use sql_tokens::{Kind, Token};
 use std::alloc::Global;
 
 fn row_statement_comes(tokens: &[Token]) -> bool
@@ -65,65 +65,11 @@ pub fn query<'a>(
     }
 }
 
-// A query is let go part by part: the proof of a function that lets it go whole would grow too large.
-fn leave_select(_select: Select) {}
-
-fn leave_insert(_insert: Insert) {}
-
-fn leave_update(_update: Update) {}
-
-fn leave_delete(_delete: Delete) {}
-
-fn leave_rows(statement: RowStatement) {
-    match statement {
-        RowStatement::Select(select) => leave_select(select),
-        RowStatement::Insert(insert) => leave_insert(insert),
-        RowStatement::Update(update) => leave_update(update),
-        RowStatement::Delete(delete) => leave_delete(delete),
-    }
-}
-
-fn leave(query: Query) {
-    match query {
-        Query::Rows(statement) => leave_rows(statement),
-        Query::Prepare(_, _, statement) => leave_rows(statement),
-        Query::Execute(_, _) => {}
-        Query::ExplainSelect(_, select) => leave_select(select),
-        Query::ExplainExecute(_, _, _) => {}
-    }
-}
-
-#[tactic(auto, unfolding(grammar_rules::specs::Reading::read_whole))]
-fn read_all(alloc: Global, text: &[u8], tokens: &[Token]) -> Result<Query, Refused>
-    ensures { Gives query_tree result (read_whole (grammar.query text.now) tokens.now) }
-{
-    let (read, rest) = query(alloc, text, tokens)?;
-    match split(rest) {
-        None => Ok(read),
-        Some(_) => {
-            leave(read);
-            Err(Refused::Syntax(rest.len()))
-        }
-    }
-}
-
-/// Reads tokens that are one query, up to the last. `text` is the text whose tokens they are.
-pub fn whole_query(alloc: Global, text: &[u8], tokens: &[Token]) -> Result<Query, Refused>
-    ensures { Parses (grammar.query text.now) query_tree tokens.now result }
-{
-    read_all(alloc, text, tokens)
-}
-
-/// Reads a text that is one query, without a semicolon.
-pub fn parse_query(alloc: Global, text: &[u8]) -> Result<Query, ParseRefused>
-    ensures { parsed.ParsesText grammar.query query_tree text.now result }
-{
-    let tokens = read_tokens(alloc, text)?;
-    match read_all(alloc, text, &tokens) {
-        Ok(read) => Ok(read),
-        Err(refused) => Err(refusal(alloc, text, &tokens, refused)?),
-    }
-}
+/// Tokens that are read to their end are that query and no other; where they are refused, they stop there
+/// to begin one, or go on there only without limits. The call does nothing.
+pub fn queries_are_read()
+    ensures { (text : List ℕ) (tokens : List OneToken) (read : Result QueryTree OneRefusal) → Gives (λ x. x) read (read_whole (grammar.query text) tokens) → Parses (grammar.query text) (λ x. x) tokens read }
+{}
 
 /// No text is two queries, even where the second is one without limits. The call does nothing.
 pub fn no_two_queries()

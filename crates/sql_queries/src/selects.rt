@@ -7,8 +7,9 @@ use crate::from::{condition, from};
 use crate::items::EachItem;
 use crate::{Select, SortKey};
 use grammar_rules::Refused;
-use sql_expressions::{Expr, comes, expression, word};
-use sql_lists::{ListOf, Part, commas, maybe_one_of, one_of};
+use grammar_words::{Part, comes, separated, word};
+use sql_expressions::{Expr, expression};
+use sql_lists::{ListOf, maybe_one_of, one_of};
 use sql_tokens::{Kind, Token, same_kind};
 use std::alloc::Global;
 
@@ -68,6 +69,8 @@ impl Part for EachKey {
     ghost use Rattle.sql_queries.specs.Grammar as grammar;
     ghost use Rattle.sql_queries.specs.Trees.{Key, key_tree};
 
+    type Token = Token;
+
     type Item = SortKey;
 
     ghost Tree = { Key };
@@ -98,7 +101,7 @@ fn order<'a>(
     }
     let (_, rest) = word(tokens, Kind::Order)?;
     let (_, rest) = word(rest, Kind::By)?;
-    commas::<EachKey>(alloc, text, rest)
+    separated::<EachKey>(alloc, text, Kind::Comma, rest)
 }
 
 fn count<'a>(
@@ -153,7 +156,7 @@ pub(crate) fn select<'a>(
     ensures { Gives (λ x. (select_tree x.0, x.1.now)) result ((grammar.select text.now).read tokens.now) }
 {
     let (_, rest) = word(tokens, Kind::Select)?;
-    let (items, rest) = commas::<EachItem>(alloc, text, rest)?;
+    let (items, rest) = separated::<EachItem>(alloc, text, Kind::Comma, rest)?;
     let (from, rest) = from(alloc, text, rest)?;
     let (condition, rest) = condition(alloc, text, rest)?;
     let (order, rest) = order(alloc, text, rest)?;

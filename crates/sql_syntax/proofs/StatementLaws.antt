@@ -1,13 +1,13 @@
 -- Statements and blocks keep the law: one token of look-ahead decides how they are read.
-use Rattle.std.proofs.Common.{◌≡◌, ℕ, Bool, true, false, ◌||◌, List, [], ◌∷◌, length, Option, Some, None, nat_lt, refl}
-use Rattle.grammar_rules.specs.Reading.{Class, Rule, nothing, as_value}
+use Rattle.std.proofs.Common.{ℕ, true, false, ◌||◌, List, length, Some, None, nat_lt, refl}
+use Rattle.grammar_rules.specs.Reading.{Class, nothing}
 use Rattle.grammar_rules.specs.Rows.{always}
 use Rattle.grammar_rules.proofs.Laws.{Law}
-use Rattle.grammar_rules.proofs.Chain.{none, with}
+use Rattle.grammar_rules.proofs.Chain.{none}
 use Rattle.grammar_rules.proofs.Build.{empty, valued, wide, alt, chained_by}
 use Rattle.sql_tokens.specs.declared.kind.Kind.TheVariants as word
 use Rattle.sql_tokens.specs.declared.token.Token.{Token}
-use Rattle.sql_expressions.specs.Words.{a}
+use Rattle.sql_tokens.specs.Classes.{a}
 use Rattle.sql_expressions.proofs.RoomLaws.{Opens, if_room_law}
 use Rattle.sql_expressions.proofs.WordLaws.{sample, apart, within}
 use Rattle.sql_commands.proofs.CommandLaws.{after_command, command_law}
@@ -16,7 +16,6 @@ use Rattle.sql_syntax.specs.Grammar.{begins_statement, begins_query, statement, 
 use Rattle.sql_syntax.specs.Trees.{StatementTree, commands, queries}
 use Rattle.sql_syntax.specs.declared.parse.TheConstants.{MOST_STATEMENTS}
 use Rattle.sql_syntax.proofs.Openings.{starts_statement}
-use Rattle.sql_syntax.proofs.Starts.{Starts}
 
 -- what may go on behind a statement
 abbrev pub after_statement : Class Token
@@ -26,9 +25,12 @@ after_statement t = after_query t || after_command t
 abbrev pub after_maybe : Class Token
 after_maybe t = after_statement t || begins_statement t
 
--- and behind a block
+-- what a block begins with, and what may stand behind it
+abbrev pub begins_block : Class Token
+begins_block t = begins_statement t || a word.Semicolon t
+
 abbrev pub after_block : Class Token
-after_block t = after_maybe t || (begins_statement t || a word.Semicolon t)
+after_block t = after_maybe t || begins_block t
 
 pub statement_law : (text : List ℕ) → Law (statement text) begins_statement false after_statement
 statement_law text =
@@ -51,7 +53,7 @@ maybe_statement_law text n =
     (some_opens text) (λ ts d w. w) (λ ts d w. w) (empty None) (λ t h. refl) (nat_lt n MOST_STATEMENTS) (λ h. some_law text))
     (within _ _ (λ t. refl) refl) (within _ _ (λ t. refl) refl)
 
-pub block_law : (text : List ℕ) → Law (block text) (λ t. begins_statement t || a word.Semicolon t) true after_block
+pub block_law : (text : List ℕ) → Law (block text) begins_block true after_block
 block_law text =
     wide (chained_by (a word.Semicolon) (sample word.Semicolon) refl always first_of join (maybe_statement_law text 0)
     (λ (xs : List StatementTree). maybe_statement_law text (length xs)) (apart _ _ (λ t. refl) refl))

@@ -5,16 +5,16 @@ use Rattle.grammar_rules.specs.Rows.{always, chain_by}
 use Rattle.sql_tokens.specs.declared.kind.Kind.TheVariants as word
 use Rattle.sql_tokens.specs.declared.token.Token.{Token}
 use Rattle.sql_expressions.specs.Levels.{if_room}
-use Rattle.sql_expressions.specs.Words.{a}
+use Rattle.sql_tokens.specs.Classes.{a}
 use Rattle.sql_commands.specs.Grammar.{command, begins_command}
-use Rattle.sql_lists.specs.Lists.{one_of}
+use Rattle.grammar_words.specs.Words.{one_of}
 use Rattle.sql_queries.specs.Grammar.{query, begins_row_statement}
 use Rattle.sql_syntax.specs.Trees.{StatementTree, commands, queries}
 use Rattle.sql_syntax.specs.declared.parse.TheConstants.{MOST_STATEMENTS}
 
 -- the first word of a statement
 abbrev pub begins_query : Class Token
-begins_query t = begins_row_statement t || (a word.Prepare t || one_of word.Execute word.Explain t)
+begins_query t = begins_row_statement t || (a word.Prepare t || one_of (a word.Execute) (a word.Explain) t)
 
 abbrev pub begins_statement : Class Token
 begins_statement t = begins_query t || begins_command t

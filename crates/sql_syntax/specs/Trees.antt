@@ -1,5 +1,4 @@
 -- Statements as trees, without where they lie in memory.
-use Rattle.std.specs.Prelude.{List, map}
 use Rattle.sql_commands.specs.Trees.{CommandTree, command_tree}
 use Rattle.sql_queries.specs.Trees.{QueryTree, query_tree}
 use Rattle.sql_syntax.specs.declared.statement.Statement.{Statement}

@@ -1,15 +1,18 @@
 ghost use Rattle.std.specs.Prelude.{◌≡◌, ◌⊎◌, ◌≤◌, ℕ, IfOk, List, length, map};
+ghost use Rattle.sql_expressions.specs.Parsed as parsed;
 ghost use Rattle.sql_expressions.specs.declared.refused.ParseRefused.{ParseRefused as OneRefusal};
 ghost use Rattle.sql_expressions.specs.declared.refused.ParseRefused.TheVariants as refusals;
 ghost use Rattle.sql_syntax.specs.Block as block;
+ghost use Rattle.sql_syntax.specs.Grammar as grammar;
 ghost use Rattle.sql_syntax.specs.Trees.{StatementTree, statement_tree};
 
 use crate::Statement;
-use crate::statements::{all_statements, statement_comes};
+use crate::statements::{BlockPart, statement_comes};
 use grammar_rules::Refused;
+use grammar_words::{comes, whole};
 use pg_ids::Which;
 use pg_values::NoMemory;
-use sql_expressions::{ParseRefused, comes, refusal};
+use sql_expressions::{ParseRefused, refusal};
 use sql_tokens::{Kind, Token, read_tokens};
 use std::alloc::Global;
 
@@ -32,7 +35,7 @@ fn refusal_of_block(
     tokens: &[Token],
     refused: Refused,
 ) -> Result<ParseRefused, NoMemory>
-    ensures { IfOk result (λ e. e ≡ block.refusal_of text.now tokens.now refused) }
+    ensures { IfOk result (λ e. e ≡ parsed.refusal_of block.passed text.now tokens.now refused) }
 {
     if let Refused::Limit(left) = refused {
         if statement_begins(tokens, tokens.len().saturating_sub(left)) {
@@ -46,10 +49,10 @@ fn refusal_of_block(
 /// Reads a block. An empty statement is none, and a text of nothing but blanks, comments and semicolons
 /// is a block of no statements.
 pub fn parse_block(alloc: Global, text: &[u8]) -> Result<Vec<Statement>, ParseRefused>
-    ensures { block.ParsesBlock (λ v. map statement_tree v.items) text.now result }
+    ensures { parsed.ParsesText block.passed grammar.block (λ v. map statement_tree v.items) text.now result }
 {
     let tokens = read_tokens(alloc, text)?;
-    match all_statements(alloc, text, &tokens) {
+    match whole::<BlockPart>(alloc, text, &tokens) {
         Ok(statements) => Ok(statements),
         Err(refused) => Err(refusal_of_block(alloc, text, &tokens, refused)?),
     }
@@ -64,5 +67,5 @@ pub fn no_two_blocks()
 /// Where a block is refused at a token, there is a block that begins with what stands before the token,
 /// and none within the limits that begins with that and the token. The call does nothing.
 pub fn refused_blocks_stop_there()
-    ensures { (text : List ℕ) (refused : OneRefusal) → block.IsRefused text refused → (refused ≡ refusals.NoMemory) ⊎ block.Stops text }
+    ensures { (text : List ℕ) (refused : OneRefusal) → parsed.IsRefused block.passed grammar.block text refused → (refused ≡ refusals.NoMemory) ⊎ block.Stops text }
 {}

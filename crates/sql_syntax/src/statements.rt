@@ -1,17 +1,17 @@
 ghost use Rattle.std.specs.Prelude.{◌≡◌, IfOk, length, map};
 ghost use Rattle.grammar_rules.specs.Gives.{Gives};
-ghost use Rattle.grammar_rules.specs.Reading.{begins_in, read_whole};
+ghost use Rattle.grammar_rules.specs.Reading.{begins_in};
 ghost use Rattle.grammar_rules.specs.Rows.{always, read_row, read_step};
-ghost use Rattle.sql_expressions.specs.Words.{a};
+ghost use Rattle.sql_tokens.specs.Classes.{a};
 ghost use Rattle.sql_syntax.specs.Grammar as grammar;
 ghost use Rattle.sql_syntax.specs.Trees.{statement_tree};
 ghost use Rattle.sql_syntax.specs.Views.{maybe_tree};
 
 use crate::{MOST_STATEMENTS, Statement};
-use grammar_rules::{Refused, split};
+use grammar_rules::Refused;
+use grammar_words::{Part, comes, word};
 use pg_values::NoMemory;
 use sql_commands::{command, command_comes};
-use sql_expressions::{comes, word};
 use sql_lists::one_of_comes;
 use sql_queries::query;
 use sql_tokens::{Kind, Token};
@@ -133,18 +133,29 @@ fn block<'a>(
     more_statements(alloc, text, list, rest)
 }
 
-/// The statements of all the tokens.
-#[tactic(auto, unfolding(grammar_rules::specs::Reading::read_whole))]
-pub(crate) fn all_statements(
-    alloc: Global,
-    text: &[u8],
-    tokens: &[Token],
-) -> Result<Vec<Statement>, Refused>
-    ensures { Gives (λ v. map statement_tree v.items) result (read_whole (grammar.block text.now) tokens.now) }
-{
-    let (done, rest) = block(alloc, text, tokens)?;
-    match split(rest) {
-        None => Ok(done),
-        Some(_) => Err(Refused::Syntax(rest.len())),
+/// A block, as a whole text.
+pub(crate) struct BlockPart;
+
+impl Part for BlockPart {
+    ghost use Rattle.std.specs.Prelude.{List, map};
+    ghost use Rattle.sql_syntax.specs.Grammar as grammar;
+    ghost use Rattle.sql_syntax.specs.Trees.{StatementTree, statement_tree};
+
+    type Token = Token;
+
+    type Item = Vec<Statement>;
+
+    ghost Tree = { List StatementTree };
+
+    ghost tree = { λ statements. map statement_tree statements.items };
+
+    ghost rule = { grammar.block };
+
+    fn read<'a>(
+        alloc: Global,
+        text: &[u8],
+        tokens: &'a [Token],
+    ) -> Result<(Vec<Statement>, &'a [Token]), Refused> {
+        block(alloc, text, tokens)
     }
 }

@@ -1,4 +1,5 @@
 pub mod Bytes
+pub mod Classes
 pub mod Comments
 pub mod Contents
 pub mod Numbers

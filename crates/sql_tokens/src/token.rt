@@ -1,4 +1,5 @@
-use crate::Kind;
+use crate::{Kind, is_name, same_kind};
+use grammar_words::Lexeme;
 
 /// A token and its places in the text: its first byte, and the byte behind its last.
 ///
@@ -8,4 +9,22 @@ pub struct Token {
     pub kind: Kind,
     pub start: usize,
     pub end: usize,
+}
+
+impl Lexeme for Token {
+    ghost use Rattle.sql_tokens.specs.Classes as classes;
+
+    type Kind = Kind;
+
+    ghost a = { classes.a };
+
+    ghost a_name = { classes.a_name };
+
+    fn is(self, kind: Kind) -> bool {
+        same_kind(self.kind, kind)
+    }
+
+    fn is_name(self) -> bool {
+        is_name(self.kind)
+    }
 }

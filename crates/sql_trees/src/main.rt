@@ -1,8 +1,8 @@
 //! Reads expressions of SQL from standard input, one in each line, and writes the tree of each as one
 //! line, each operator before its operands, or why it is refused.
 //!
-//! In a line, `` `3 ab` `` stands for `ababab`, so that the limits can be reached, and a tree of more than
-//! 1,000 bytes is told by its length.
+//! In a line, `` `3 ab` `` stands for `ababab`, so that the limits can be reached, and `` `10` `` for the byte
+//! 10, which a line cannot hold. A tree of more than 1,000 bytes is told by its length.
 //!
 //! That a text has this tree alone, and where a text is refused, is proved in `sql_expressions`. Here both
 //! are seen: `stdin` has the texts, and `stdout` what was worked by hand from the grammar.

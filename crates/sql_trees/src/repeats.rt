@@ -21,9 +21,13 @@ fn number(digits: &[u8]) -> u64 {
     n
 }
 
-/// Appends a text as often as the number before it says.
+/// Appends a text as often as the number before it says, or the byte of a number that stands alone.
 fn write_repeated(repeated: &[u8], out: &mut Vec<u8>) -> Result<(), NoMemory> {
     let (times, text) = parted(repeated);
+    if text.is_empty() {
+        out.push(number(times).min(255) as u8)?;
+        return Ok(());
+    }
     for _ in 0..number(times) {
         out.extend_from_slice(text)?;
     }

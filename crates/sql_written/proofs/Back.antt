@@ -11,7 +11,8 @@ use Rattle.sql_expressions.specs.Grammar.{any}
 use Rattle.sql_expressions.specs.Levels as level
 use Rattle.sql_expressions.specs.Levels.{Deep, Parts}
 use Rattle.sql_expressions.specs.Tree.{Tree, Trees, no_more, and_more, leaf, call, call_of_all, negated, binary, in_list, between, is_null, inverted, all_of, any_of, listed}
-use Rattle.sql_expressions.specs.Words.{a, name}
+use Rattle.sql_tokens.specs.Classes.{a}
+use Rattle.sql_expressions.specs.Words.{name}
 use Rattle.sql_expressions.specs.declared.leaf.Operator.{Operator}
 use Rattle.sql_expressions.specs.declared.leaf.Operator.TheVariants as operator
 use Rattle.sql_expressions.proofs.DepthLaws.{unary_to}

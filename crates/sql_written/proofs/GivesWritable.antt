@@ -17,7 +17,7 @@ use Rattle.sql_expressions.specs.Grammar.{any, deep_expression, expression}
 use Rattle.sql_expressions.specs.Levels.{Deep}
 use Rattle.sql_expressions.specs.Limits.{IsShort, StandIn}
 use Rattle.sql_expressions.specs.Tree.{Tree}
-use Rattle.sql_expressions.specs.Words.{a, a_name}
+use Rattle.sql_tokens.specs.Classes.{a, a_name}
 use Rattle.sql_expressions.specs.declared.words.TheConstants.{MOST_NAME_BYTES, MOST_TEXT_BYTES}
 use Rattle.sql_expressions.proofs.Limited.{each_of_all}
 use Rattle.sql_expressions.proofs.RuleLimits.{within}

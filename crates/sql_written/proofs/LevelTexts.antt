@@ -11,7 +11,7 @@ use Rattle.sql_expressions.specs.Grammar.{Texts, any, nesting}
 use Rattle.sql_expressions.specs.Levels as level
 use Rattle.sql_expressions.specs.Levels.{Deep, Parts}
 use Rattle.sql_expressions.specs.Tree.{Tree, negated, binary, inverted}
-use Rattle.sql_expressions.specs.Words.{a}
+use Rattle.sql_tokens.specs.Classes.{a}
 use Rattle.sql_expressions.specs.declared.leaf.Operator.{Operator}
 use Rattle.sql_expressions.specs.declared.leaf.Operator.TheVariants as operator
 use Rattle.sql_expressions.proofs.DepthLaws.{unary_to, negation_to}

@@ -16,7 +16,7 @@ use Rattle.sql_tokens.specs.declared.bytes.Class.TheVariants as class
 use Rattle.sql_tokens.specs.declared.kind.Kind.{Kind}
 use Rattle.sql_tokens.specs.declared.kind.Kind.TheVariants as kinds
 use Rattle.sql_tokens.specs.declared.token.Token.{Token}
-use Rattle.sql_expressions.specs.Words.{a, a_name}
+use Rattle.sql_tokens.specs.Classes.{a, a_name}
 use Rattle.sql_written.specs.Marks.{mark}
 use Rattle.sql_written.specs.Spelling as spelled
 use Rattle.sql_written.specs.Spelling.{begins_name, is_kept, is_plain}

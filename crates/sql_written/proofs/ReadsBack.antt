@@ -1,17 +1,19 @@
 -- What is written of a tree that can be written is a text of it within the limits.
-use Rattle.std.proofs.Common.{◌≡◌, ℕ, List, [], ◌∷◌, Result, Ok, Err, refl, subst, sym}
+use Rattle.std.proofs.Common.{◌≡◌, ℕ, false, List, Result, subst, sym}
 use Rattle.std.specs.Prelude.{MatchResult}
-use Rattle.grammar_rules.specs.Parses.{FailsAt, IsOnly, SameNext}
+use Rattle.grammar_rules.specs.Parses.{IsOnly}
 use Rattle.grammar_rules.proofs.Whole.{one_value}
 use Rattle.sql_tokens.specs.Tokens.{tokens_of}
 use Rattle.sql_tokens.specs.declared.token.Token.{Token}
 use Rattle.sql_expressions.specs.Grammar.{any, deep_expression, expression}
-use Rattle.sql_expressions.specs.Levels.{Deep}
-use Rattle.sql_expressions.specs.Parsed.{ParsesText}
+use Rattle.sql_expressions.specs.Levels.{Deep, begins_expression}
+use Rattle.sql_expressions.specs.Parsed.{ParsesText, passed}
 use Rattle.sql_expressions.specs.Tree.{Tree, tree}
 use Rattle.sql_expressions.specs.declared.expr.Expr.{Expr}
 use Rattle.sql_expressions.specs.declared.refused.ParseRefused.{ParseRefused}
-use Rattle.sql_expressions.specs.declared.refused.ParseRefused.TheVariants.{NoMemory, Syntax, Left, TooMany}
+use Rattle.sql_expressions.specs.declared.refused.ParseRefused.TheVariants.{NoMemory}
+use Rattle.sql_expressions.proofs.LevelLaws.{after_expression}
+use Rattle.sql_expressions.proofs.ParseLaws.{read_back}
 use Rattle.sql_expressions.proofs.RuleLaws.{expression_law}
 use Rattle.sql_expressions.proofs.Limited.{all_of_each}
 use Rattle.sql_expressions.proofs.RuleLimits.{all}
@@ -46,16 +48,5 @@ pub only : (e : Tree) → IsWritable e → IsOnly (expression (written e)).texts
 only e w = record { text = reads e w; only = λ b h. one_value (expression_law (written e)) (tokens_of (written e)) e b (reads e w) h }
 
 -- so a parser answers the tree, unless it has no memory
-same_next : (ts : List Token) → SameNext ts ts
-same_next [] = refl
-same_next (t ∷ ts) = (ts, refl)
-
-never_fails : {P Q : List Token → Tree → Type 0} (ts : List Token) (left : ℕ) (e : Tree) → Q ts e → FailsAt P Q ts left → ⊥
-never_fails {Q = Q} ts left e h f = f.no_more f.after e (same_next f.after) (subst (λ x. Q x e) f.whole h)
-
-pub parsed : (e : Tree) → IsWritable e → (r : Result Expr ParseRefused) → ParsesText expression tree (written e) r → MatchResult r (λ x. tree x ≡ e) (λ x. x ≡ NoMemory)
-parsed e w (Ok x) h = (only e w).only (tree x) ((expression_law (written e)).shape.within (tokens_of (written e)) (tree x) h.text)
-parsed e w (Err NoMemory) h = refl
-parsed e w (Err (Syntax at)) h = absurd (never_fails (tokens_of (written e)) h.0 e ((expression_law (written e)).shape.within (tokens_of (written e)) e (reads e w)) h.1)
-parsed e w (Err (Left word)) h = absurd (never_fails (tokens_of (written e)) h.0 e ((expression_law (written e)).shape.within (tokens_of (written e)) e (reads e w)) h.1)
-parsed e w (Err (TooMany which)) h = absurd (never_fails (tokens_of (written e)) h.0 e (reads e w) h.1)
+pub parsed : (e : Tree) → IsWritable e → (r : Result Expr ParseRefused) → ParsesText passed expression tree (written e) r → MatchResult r (λ x. tree x ≡ e) (λ x. x ≡ NoMemory)
+parsed e w r h = read_back passed expression tree (written e) begins_expression false after_expression (expression_law (written e)) e (reads e w) r h

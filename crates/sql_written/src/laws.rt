@@ -1,13 +1,13 @@
 ghost use Rattle.grammar_rules.specs.Parses.{IsOnly};
 ghost use Rattle.sql_expressions.specs.Grammar as grammar;
 ghost use Rattle.sql_expressions.specs.Limits.{StandIn};
-ghost use Rattle.sql_expressions.specs.Parsed.{ParsesText};
+ghost use Rattle.sql_expressions.specs.Parsed.{ParsesText, passed};
 ghost use Rattle.sql_expressions.specs.Tree as expressions;
 ghost use Rattle.sql_expressions.specs.Tree.{Tree};
 ghost use Rattle.sql_expressions.specs.declared.expr.Expr.{Expr as OneExpr};
 ghost use Rattle.sql_expressions.specs.declared.refused.ParseRefused.{ParseRefused as OneRefusal};
 ghost use Rattle.sql_expressions.specs.declared.refused.ParseRefused.TheVariants as refusals;
-ghost use Rattle.sql_expressions.specs.Words.{a, a_name};
+ghost use Rattle.sql_tokens.specs.Classes.{a, a_name};
 ghost use Rattle.sql_tokens.specs.Contents.{name_in};
 ghost use Rattle.sql_tokens.specs.Tokens.{tokens_of};
 ghost use Rattle.sql_tokens.specs.declared.kind.Kind.TheVariants.{QuotedName};
@@ -29,7 +29,7 @@ pub fn parses_can_be_written()
 /// answers the tree, unless its memory runs out. The call does nothing.
 pub fn reads_back()
     ensures text { (tree : Tree) → IsWritable tree → IsOnly (grammar.expression (written tree)).texts (grammar.expression (written tree)).free (tokens_of (written tree)) tree }
-    ensures parsed { (tree : Tree) (result : Result OneExpr OneRefusal) → IsWritable tree → ParsesText grammar.expression expressions.tree (written tree) result → MatchResult result (λ e. expressions.tree e ≡ tree) (λ e. e ≡ refusals.NoMemory) }
+    ensures parsed { (tree : Tree) (result : Result OneExpr OneRefusal) → IsWritable tree → ParsesText passed grammar.expression expressions.tree (written tree) result → MatchResult result (λ e. expressions.tree e ≡ tree) (λ e. e ≡ refusals.NoMemory) }
 {}
 
 /// No text of a tree opens fewer parentheses than what is written of it. The call does nothing.

@@ -24,6 +24,3 @@ mod write;
 pub use laws::{no_fewer_parentheses, parses_can_be_written, quotes_are_needed, reads_back};
 pub use spelling::{is_plain, write_name, write_name_if, write_number, write_quoted};
 pub use write::write_expression;
-
-#[cfg(test)]
-mod tests;

@@ -9,7 +9,7 @@ use Rattle.sql_tokens.specs.declared.kind.Kind.TheVariants as kinds
 use Rattle.sql_tokens.specs.declared.token.Token.{Token}
 use Rattle.sql_expressions.specs.Grammar.{expression}
 use Rattle.sql_expressions.specs.Tree.{Tree, leaf}
-use Rattle.sql_expressions.specs.Words.{a, a_name}
+use Rattle.sql_tokens.specs.Classes.{a, a_name}
 use Rattle.sql_expressions.specs.declared.leaf.Leaf.TheVariants.{Column}
 use Rattle.sql_lists.specs.Lists.{is_long_but, is_other_name, other_name, plain_name}
 use Rattle.sql_commands.specs.Grammar as grammar

@@ -15,10 +15,11 @@ use Rattle.sql_tokens.specs.declared.token.Token.{Token}
 use Rattle.sql_tokens.proofs.EachKind.{each_kind}
 use Rattle.sql_expressions.specs.Grammar.{expression}
 use Rattle.sql_expressions.specs.Tree.{Tree, Trees, no_more, and_more, leaf, listed as list_of_trees}
-use Rattle.sql_expressions.specs.Words.{a, a_name}
+use Rattle.sql_tokens.specs.Classes.{a, a_name}
 use Rattle.sql_expressions.specs.declared.leaf.Leaf.TheVariants.{Column}
 use Rattle.sql_expressions.specs.declared.words.TheConstants.{MOST_NAME_BYTES}
-use Rattle.sql_lists.specs.Lists.{commas, maybe, name_word, plain_name}
+use Rattle.grammar_words.specs.Words.{maybe}
+use Rattle.sql_lists.specs.Lists.{commas, name_word, plain_name}
 use Rattle.sql_commands.specs.Grammar as grammar
 use Rattle.sql_commands.specs.Trees.{Edge, min, max, at, Bound, range, listed, hash, other, CommandTree, begins, commits, rolls_back, sets, resets, makes_table, makes_partition, drops, attaches, detaches, locks, deallocates, deallocates_all}
 use Rattle.sql_commands.specs.declared.alter.Detachment.{Detachment}

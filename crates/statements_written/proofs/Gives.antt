@@ -8,9 +8,9 @@ use Rattle.sql_tokens.specs.Tokens.{tokens_of}
 use Rattle.sql_tokens.specs.declared.kind.Kind.{Kind}
 use Rattle.sql_tokens.specs.declared.kind.Kind.TheVariants as kinds
 use Rattle.sql_tokens.specs.declared.token.Token.{Token}
-use Rattle.sql_expressions.specs.Words.{a}
+use Rattle.sql_tokens.specs.Classes.{a}
 use Rattle.sql_expressions.proofs.Limited.{Each as EachToken}
-use Rattle.sql_lists.specs.Lists.{snoc, only as alone}
+use Rattle.grammar_words.specs.Words.{snoc, only as alone}
 use Rattle.sql_written.specs.Parentheses.{opened}
 use Rattle.sql_written.proofs.Least.{opened_of, opened_one}
 use Rattle.sql_written.proofs.LeastTexts.{parted}

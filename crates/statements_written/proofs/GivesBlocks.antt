@@ -7,7 +7,7 @@ use Rattle.sql_tokens.specs.Tokens.{tokens_of}
 use Rattle.sql_tokens.specs.declared.kind.Kind.TheVariants as kinds
 use Rattle.sql_tokens.specs.declared.token.Token.{Token}
 use Rattle.sql_expressions.specs.Levels.{room_texts}
-use Rattle.sql_expressions.specs.Words.{a}
+use Rattle.sql_tokens.specs.Classes.{a}
 use Rattle.sql_expressions.proofs.Limited.{Each as EachToken, each_of_all}
 use Rattle.sql_syntax.specs.Grammar.{and_maybe, block, first_of, join, maybe_statement, some_statement, statement}
 use Rattle.sql_syntax.specs.Trees.{StatementTree, commands, queries}

@@ -6,7 +6,7 @@ use Rattle.grammar_rules.specs.Rows.{second_of}
 use Rattle.sql_tokens.specs.declared.kind.Kind.TheVariants as kinds
 use Rattle.sql_tokens.specs.declared.token.Token.{Token}
 use Rattle.sql_expressions.specs.Tree.{Tree, leaf, call, call_of_all, negated, binary, in_list, between, is_null, inverted, all_of, any_of, listed as list_of_trees}
-use Rattle.sql_expressions.specs.Words.{a}
+use Rattle.sql_tokens.specs.Classes.{a}
 use Rattle.sql_expressions.specs.declared.leaf.Leaf.TheVariants.{Number, Text, Date, Null, Truth, Parameter, Column, ColumnOf, TableName, TableNameOf}
 use Rattle.sql_lists.specs.Lists.{commas as commas_of, plain_name}
 use Rattle.sql_commands.specs.Grammar as grammar

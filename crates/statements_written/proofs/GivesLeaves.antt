@@ -14,7 +14,8 @@ use Rattle.sql_tokens.proofs.EachKind.{each_kind}
 use Rattle.sql_expressions.specs.Grammar.{expression}
 use Rattle.sql_expressions.specs.Limits.{IsShort}
 use Rattle.sql_expressions.specs.Tree.{Tree}
-use Rattle.sql_expressions.specs.Words.{a, a_name, is_long_name, is_long_text, name, named, string}
+use Rattle.sql_tokens.specs.Classes.{a, a_name}
+use Rattle.sql_expressions.specs.Words.{is_long_name, is_long_text, name, named, string}
 use Rattle.sql_expressions.specs.declared.words.TheConstants.{MOST_NAME_BYTES}
 use Rattle.sql_expressions.proofs.Limited.{all_of_each}
 use Rattle.sql_expressions.proofs.TextWords.{long_is_name, word_is_short}

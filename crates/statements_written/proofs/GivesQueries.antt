@@ -9,9 +9,10 @@ use Rattle.sql_tokens.specs.declared.token.Token.{Token}
 use Rattle.sql_tokens.proofs.EachKind.{each_kind}
 use Rattle.sql_expressions.specs.Grammar.{expression}
 use Rattle.sql_expressions.specs.Tree.{Tree, Trees, no_more, listed as list_of_trees}
-use Rattle.sql_expressions.specs.Words.{a, ◌>>◌}
+use Rattle.grammar_words.specs.Words.{◌>>◌, means}
+use Rattle.sql_tokens.specs.Classes.{a}
 use Rattle.sql_expressions.specs.declared.leaf.Operator.TheVariants.{Equal}
-use Rattle.sql_lists.specs.Lists.{means, plain_name}
+use Rattle.sql_lists.specs.Lists.{plain_name}
 use Rattle.sql_queries.specs.Grammar as grammar
 use Rattle.sql_queries.specs.Items.{Item, columns_of, one_column, all_of_them, item, maybe_alias, output, starred}
 use Rattle.sql_queries.specs.Trees.{Joined, Key, Setting, selected, RowTree, selects, inserts, updates, deletes, QueryTree, rows, prepares, explains_select}
@@ -164,7 +165,7 @@ some_or_none {A = A} W g = either (valued (λ (x : A). Some x) free (Maybe W) (�
 
 module _ (text : List ℕ) where
   -- names of tables and columns
-  as_gives : Gives text (value_texts (λ (y : List ℕ). Some y) (kinds.As >> plain_name text).texts) free (Maybe IsName)
+  as_gives : Gives text (value_texts (λ (y : List ℕ). Some y) (a kinds.As >> plain_name text).texts) free (Maybe IsName)
   as_gives = valued (λ (y : List ℕ). Some y) free (Maybe IsName) (λ y. omega arith) (λ y w. w) (behind kinds.As (plain_name_gives text))
 
   alias_gives : Gives text (grammar.table_alias text).texts free (Maybe IsName)
@@ -192,7 +193,7 @@ module _ (text : List ℕ) where
   item_gives = either (valued all_of_them (opens_of item_marks) IsItem (λ t. omega arith) (λ t w. tt) (one (a kinds.Star))) (either starred_gives output_gives)
 
   -- FROM
-  alone_gives : Gives text (value_texts grammar.alone (kinds.Comma >> grammar.named_table text).texts) (opens_of joined_marks) IsJoined
+  alone_gives : Gives text (value_texts grammar.alone (a kinds.Comma >> grammar.named_table text).texts) (opens_of joined_marks) IsJoined
   alone_gives = valued grammar.alone (opens_of joined_marks) IsJoined (λ t. omega (arith, opened_table t)) (λ t w. (w, tt)) (behind kinds.Comma table_gives)
 
   joined_table_gives : Gives text (grammar.joined_table text).texts (opens_of joined_marks) IsJoined
@@ -213,7 +214,7 @@ module _ (text : List ℕ) where
   some_expression : Gives text (value_texts (λ (e : Tree). Some e) (expression text).texts) clause_cost (Maybe IsExpression)
   some_expression = valued (λ (e : Tree). Some e) clause_cost (Maybe IsExpression) (λ e. omega arith) (λ e w. w) (expression_gives text)
 
-  clause_gives : (k : Kind) → Gives text (optional (a k) (k >> expression text)).texts clause_cost (Maybe IsExpression)
+  clause_gives : (k : Kind) → Gives text (optional (a k) (a k >> expression text)).texts clause_cost (Maybe IsExpression)
   clause_gives k =
       either (valued (λ (e : Tree). Some e) clause_cost (Maybe IsExpression) (λ e. omega arith) (λ e w. w) (behind k (expression_gives text)))
       (nothing None clause_cost (Maybe IsExpression) refl tt)

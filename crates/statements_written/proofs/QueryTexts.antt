@@ -8,8 +8,9 @@ use Rattle.sql_tokens.specs.declared.kind.Kind.TheVariants as kinds
 use Rattle.sql_tokens.specs.declared.token.Token.{Token}
 use Rattle.sql_expressions.specs.Grammar.{expression}
 use Rattle.sql_expressions.specs.Tree.{Tree, Trees, no_more, and_more, listed as list_of_trees}
-use Rattle.sql_expressions.specs.Words.{a, ◌>>◌}
-use Rattle.sql_lists.specs.Lists.{commas, maybe, plain_name}
+use Rattle.grammar_words.specs.Words.{◌>>◌, maybe}
+use Rattle.sql_tokens.specs.Classes.{a}
+use Rattle.sql_lists.specs.Lists.{commas, plain_name}
 use Rattle.sql_queries.specs.Grammar as grammar
 use Rattle.sql_queries.specs.Items.{Item, all_columns, columns_of, one_column, all_of_them, item, maybe_alias, starred}
 use Rattle.sql_queries.specs.Trees.{Joined, Key, Setting, SelectTree, selected, RowTree, selects, inserts, updates, deletes, QueryTree, rows, prepares, executes, explains_select, explains_execute}
@@ -34,7 +35,7 @@ use Rattle.statements_written.proofs.Spells.{Begins, Exactly, Spells, behind, be
 
 module _ (text : List ℕ) where
   -- names of tables and columns
-  as_spells : (z : List ℕ) → IsName z → Exactly Ends text (value_texts (λ (y : List ℕ). Some y) (kinds.As >> plain_name text).texts) (alias_marks (Some z)) (Some z)
+  as_spells : (z : List ℕ) → IsName z → Exactly Ends text (value_texts (λ (y : List ℕ). Some y) (a kinds.As >> plain_name text).texts) (alias_marks (Some z)) (Some z)
   as_spells z n = exactly (Some z) (valued (λ (y : List ℕ). Some y) (spaced (behind kinds.As refl (spaced (plain_name_spells text z n))))) (λ i. refl)
 
   alias_spells : (o : Option (List ℕ)) → Maybe IsName o → Exactly Ends text (grammar.table_alias text).texts (alias_marks o) o
@@ -107,7 +108,7 @@ module _ (text : List ℕ) where
       (λ i. ap (λ (o : Option Tree). (x.0, o) ∷ xs) (sym w.1)))
 
   -- clauses of one expression
-  clause_spells : (k : Kind) → is_written k ≡ true → (o : Option Tree) → Maybe IsExpression o → Exactly Ends text (optional (a k) (k >> expression text)).texts (clause k o) o
+  clause_spells : (k : Kind) → is_written k ≡ true → (o : Option Tree) → Maybe IsExpression o → Exactly Ends text (optional (a k) (a k >> expression text)).texts (clause k o) o
   clause_spells k e None w = right _ (none None)
   clause_spells k e (Some t) w = left _ (exactly (Some t) (valued (λ (x : Tree). Some x) (spaced (behind k e (spaced (tree_spells text t w))))) (λ i. refl))
 
@@ -126,7 +127,7 @@ module _ (text : List ℕ) where
   nulls_spell k e h = left (nothing_texts None) (valued (λ (t : Token). Some t) (spaced (behind kinds.Nulls refl (spaced (one_of k e grammar.is_end h)))))
 
   no_nulls : Exactly Ends text grammar.nulls.texts [] None
-  no_nulls = right (value_texts (λ (t : Token). Some t) (kinds.Nulls >> one grammar.is_end).texts) (none None)
+  no_nulls = right (value_texts (λ (t : Token). Some t) (a kinds.Nulls >> one grammar.is_end).texts) (none None)
 
   key_by : (e : Tree) (d f : Bool) → IsExpression e → Exactly Begins text (grammar.key text).texts (marks e ++ (direction_marks d ++ nulls_marks d f)) (e, (d, f))
   key_by e true true w = exactly (e, (true, true)) (valued grammar.key_value (both (tree_spells text e w) (both desc_spells no_nulls))) (λ i. refl)

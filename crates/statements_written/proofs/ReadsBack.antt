@@ -1,16 +1,18 @@
 -- What is written of a statement that can be written is a block of that statement alone, within the limits.
-use Rattle.std.proofs.Common.{◌≡◌, ℕ, List, [], ◌∷◌, Result, Ok, Err, Some, inl, refl, sym, subst, append-nil}
+use Rattle.std.proofs.Common.{◌≡◌, ℕ, true, List, [], ◌∷◌, Result, Some, inl, refl, sym, subst, append-nil}
 use Rattle.std.specs.Prelude.{MatchResult}
-use Rattle.grammar_rules.specs.Parses.{FailsAt, IsOnly, SameNext}
+use Rattle.grammar_rules.specs.Parses.{IsOnly}
 use Rattle.grammar_rules.proofs.Whole.{one_value}
 use Rattle.sql_tokens.specs.Tokens.{tokens_of}
 use Rattle.sql_tokens.specs.declared.token.Token.{Token}
 use Rattle.sql_expressions.specs.declared.refused.ParseRefused.{ParseRefused}
-use Rattle.sql_expressions.specs.declared.refused.ParseRefused.TheVariants.{NoMemory, Syntax, Left, TooMany}
-use Rattle.sql_syntax.specs.Block.{ParsesBlock}
+use Rattle.sql_expressions.specs.declared.refused.ParseRefused.TheVariants.{NoMemory}
+use Rattle.sql_expressions.specs.Parsed.{ParsesText}
+use Rattle.sql_expressions.proofs.ParseLaws.{read_back}
+use Rattle.sql_syntax.specs.Block.{passed}
 use Rattle.sql_syntax.specs.Grammar.{block, maybe_statement, statement}
 use Rattle.sql_syntax.specs.Trees.{StatementTree, commands, queries}
-use Rattle.sql_syntax.proofs.StatementLaws.{block_law}
+use Rattle.sql_syntax.proofs.StatementLaws.{after_block, begins_block, block_law}
 use Rattle.sql_written.proofs.MarkTokens.{tokens_written}
 use Rattle.sql_written.proofs.MarksApart.{end_ends}
 use Rattle.sql_written.proofs.Said.{Are, are_written}
@@ -44,20 +46,5 @@ pub only : (t : StatementTree) → IsWritable t → IsOnly (block (written t)).t
 only t w = record { text = reads t w; only = λ b h. one_value (block_law (written t)) (tokens_of (written t)) (t ∷ []) b (reads t w) h }
 
 -- so a parser answers that statement alone, unless it has no memory
-same_next : (ts : List Token) → SameNext ts ts
-same_next [] = refl
-same_next (t ∷ ts) = (ts, refl)
-
-never_fails : {P Q : List Token → List StatementTree → Type 0} (ts : List Token) (n : ℕ) (xs : List StatementTree) → Q ts xs → FailsAt P Q ts n → ⊥
-never_fails {Q = Q} ts n xs h f = f.no_more f.after xs (same_next f.after) (subst (λ x. Q x xs) f.whole h)
-
-module _ {X : Type 0} (view : X → List StatementTree) (t : StatementTree) (w : IsWritable t) where
-  freely : (block (written t)).free (tokens_of (written t)) (t ∷ [])
-  freely = (block_law (written t)).shape.within (tokens_of (written t)) (t ∷ []) (reads t w)
-
-  pub parsed : (r : Result X ParseRefused) → ParsesBlock view (written t) r → MatchResult r (λ x. view x ≡ t ∷ []) (λ e. e ≡ NoMemory)
-  parsed (Ok x) h = (only t w).only (view x) ((block_law (written t)).shape.within (tokens_of (written t)) (view x) h.text)
-  parsed (Err NoMemory) h = refl
-  parsed (Err (Syntax at)) h = absurd (never_fails (tokens_of (written t)) h.0 (t ∷ []) freely h.1.0)
-  parsed (Err (Left word)) h = absurd (never_fails (tokens_of (written t)) h.0 (t ∷ []) freely h.1.0)
-  parsed (Err (TooMany which)) h = absurd (never_fails (tokens_of (written t)) h.0 (t ∷ []) (reads t w) h.1.0)
+pub parsed : {X : Type 0} (view : X → List StatementTree) (t : StatementTree) → IsWritable t → (r : Result X ParseRefused) → ParsesText passed block view (written t) r → MatchResult r (λ x. view x ≡ t ∷ []) (λ e. e ≡ NoMemory)
+parsed view t w r h = read_back passed block view (written t) begins_block true after_block (block_law (written t)) (t ∷ []) (reads t w) r h

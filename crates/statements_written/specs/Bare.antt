@@ -4,7 +4,7 @@ use Rattle.grammar_rules.specs.Reading.{Rule}
 use Rattle.sql_tokens.specs.Tokens.{tokens_of}
 use Rattle.sql_tokens.specs.declared.kind.Kind.TheVariants.{QuotedName}
 use Rattle.sql_tokens.specs.declared.token.Token.{Token}
-use Rattle.sql_expressions.specs.Words.{a, a_name}
+use Rattle.sql_tokens.specs.Classes.{a, a_name}
 use Rattle.sql_written.specs.Marks.{Mark, mark}
 
 -- a name of the text, without quotes

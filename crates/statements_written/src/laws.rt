@@ -1,4 +1,5 @@
 ghost use Rattle.grammar_rules.specs.Parses.{IsOnly};
+ghost use Rattle.sql_expressions.specs.Parsed.{ParsesText};
 ghost use Rattle.sql_expressions.specs.declared.refused.ParseRefused.{ParseRefused as OneRefusal};
 ghost use Rattle.sql_expressions.specs.declared.refused.ParseRefused.TheVariants as refusals;
 ghost use Rattle.sql_commands.specs.Grammar as grammar;
@@ -7,7 +8,7 @@ ghost use Rattle.sql_commands.specs.declared.setting.SettingValue.TheVariants.{W
 ghost use Rattle.sql_expressions.specs.Tree.{leaf};
 ghost use Rattle.sql_expressions.specs.declared.leaf.Leaf.TheVariants.{Column};
 ghost use Rattle.sql_lists.specs.Lists.{other_name, plain_name};
-ghost use Rattle.sql_syntax.specs.Block.{ParsesBlock};
+ghost use Rattle.sql_syntax.specs.Block.{passed};
 ghost use Rattle.sql_syntax.specs.Grammar.{block};
 ghost use Rattle.sql_syntax.specs.Trees.{StatementTree, statement_tree};
 ghost use Rattle.sql_syntax.specs.declared.statement.Statement.{Statement as OneStatement};
@@ -34,7 +35,7 @@ pub fn blocks_can_be_written()
 /// limits. So a parser answers it, unless its memory runs out. The call does nothing.
 pub fn statements_read_back()
     ensures text { (tree : StatementTree) → IsWritable tree → IsOnly (block (written tree)).texts (block (written tree)).free (tokens_of (written tree)) (tree ∷ []) }
-    ensures parsed { (tree : StatementTree) (result : Result (List OneStatement) OneRefusal) → IsWritable tree → ParsesBlock (λ xs. map statement_tree xs) (written tree) result → MatchResult result (λ xs. map statement_tree xs ≡ tree ∷ []) (λ e. e ≡ refusals.NoMemory) }
+    ensures parsed { (tree : StatementTree) (result : Result (List OneStatement) OneRefusal) → IsWritable tree → ParsesText passed block (λ xs. map statement_tree xs) (written tree) result → MatchResult result (λ xs. map statement_tree xs ≡ tree ∷ []) (λ e. e ≡ refusals.NoMemory) }
 {}
 
 /// No block of a statement alone opens fewer parentheses than what is written of it. The call does nothing.

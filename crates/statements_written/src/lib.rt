@@ -22,6 +22,3 @@ pub use laws::{
     blocks_can_be_written, no_fewer_parentheses, quotes_are_needed, statements_read_back,
 };
 pub use write::write_statement;
-
-#[cfg(test)]
-mod tests;

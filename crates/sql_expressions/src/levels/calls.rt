@@ -4,14 +4,14 @@ ghost use Rattle.grammar_rules.specs.Rows.{always, read_row, read_step};
 ghost use Rattle.sql_expressions.specs.Grammar as grammar;
 ghost use Rattle.sql_expressions.specs.Levels as levels;
 ghost use Rattle.sql_expressions.specs.Views as views;
-ghost use Rattle.sql_expressions.specs.Words as words;
+ghost use Rattle.sql_tokens.specs.Classes.{a};
 
 use crate::deep::{Deep, Parts, only_part};
 use crate::levels::conjunctions::disjunction;
 use crate::signs::expression_comes;
-use crate::words::{comes, word};
 use crate::{Expr, ExprList};
 use grammar_rules::Refused;
+use grammar_words::{comes, word};
 use pg_values::PgText;
 use sql_tokens::{Kind, Token};
 use std::alloc::Global;
@@ -97,7 +97,7 @@ fn item_step<'a>(
 ) -> Result<(bool, Parts, &'a [Token]), Refused>
     requires budget { below < 255 }
     requires within { list.depth ≤ below }
-    ensures reads { Gives (λ x. ((x.0, views.parts x.1), x.2.now)) result (read_step (words.a Kind.Comma) always levels.add_part (λ _. (grammar.rules text.now below).expression.read) (views.parts list) tokens.now) }
+    ensures reads { Gives (λ x. ((x.0, views.parts x.1), x.2.now)) result (read_step (a Kind.Comma) always levels.add_part (λ _. (grammar.rules text.now below).expression.read) (views.parts list) tokens.now) }
     ensures within { IfOk result (λ x. x.1.depth ≤ below) }
 {
     if !comes(tokens, Kind::Comma) {
@@ -120,7 +120,7 @@ fn more_items<'a>(
 ) -> Result<(Parts, &'a [Token]), Refused>
     requires budget { below < 255 }
     requires within { first.depth ≤ below }
-    ensures reads { Gives (λ x. (views.parts x.0, x.1.now)) result (read_row (words.a Kind.Comma) always levels.add_part (λ _. (grammar.rules text.now below).expression.read) (length tokens.now) (views.parts first) tokens.now) }
+    ensures reads { Gives (λ x. (views.parts x.0, x.1.now)) result (read_row (a Kind.Comma) always levels.add_part (λ _. (grammar.rules text.now below).expression.read) (length tokens.now) (views.parts first) tokens.now) }
     ensures within { IfOk result (λ x. x.0.depth ≤ below) }
 {
     let mut done = first;

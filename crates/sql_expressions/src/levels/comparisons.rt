@@ -9,8 +9,8 @@ use crate::deep::{Deep, between, binary, in_list};
 use crate::levels::calls::list;
 use crate::levels::sums::row_of_operators;
 use crate::signs::{Row, comparison_comes, operator_of, sign, test_comes};
-use crate::words::{comes, word};
 use grammar_rules::Refused;
+use grammar_words::{comes, word};
 use sql_tokens::{Kind, Token};
 use std::alloc::Global;
 

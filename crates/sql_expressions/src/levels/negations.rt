@@ -4,12 +4,12 @@ ghost use Rattle.grammar_rules.specs.Rows.{read_row, read_step};
 ghost use Rattle.sql_expressions.specs.Grammar as grammar;
 ghost use Rattle.sql_expressions.specs.Levels as levels;
 ghost use Rattle.sql_expressions.specs.Views as views;
-ghost use Rattle.sql_expressions.specs.Words as words;
+ghost use Rattle.sql_tokens.specs.Classes.{a};
 
 use crate::deep::{Deep, inverted, is_null};
 use crate::levels::comparisons::comparison;
-use crate::words::{comes, word};
 use grammar_rules::Refused;
+use grammar_words::{comes, word};
 use sql_tokens::{Kind, Token};
 use std::alloc::Global;
 
@@ -34,7 +34,7 @@ fn null_step<'a>(
     budget: u8,
 ) -> Result<(bool, Deep, &'a [Token]), Refused>
     requires { left.depth ≤ budget }
-    ensures reads { Gives (λ x. ((x.0, views.deep x.1), x.2.now)) result (read_step (words.a Kind.Is) (levels.has_room (grammar.below budget)) levels.null_join (λ _. levels.null_or_not.read) (views.deep left) tokens.now) }
+    ensures reads { Gives (λ x. ((x.0, views.deep x.1), x.2.now)) result (read_step (a Kind.Is) (levels.has_room (grammar.below budget)) levels.null_join (λ _. levels.null_or_not.read) (views.deep left) tokens.now) }
     ensures within { IfOk result (λ x. x.1.depth ≤ budget) }
 {
     if !comes(tokens, Kind::Is) {
@@ -55,7 +55,7 @@ fn more_nulls<'a>(
     budget: u8,
 ) -> Result<(Deep, &'a [Token]), Refused>
     requires { first.depth ≤ budget }
-    ensures reads { Gives (λ x. (views.deep x.0, x.1.now)) result (read_row (words.a Kind.Is) (levels.has_room (grammar.below budget)) levels.null_join (λ _. levels.null_or_not.read) (length tokens.now) (views.deep first) tokens.now) }
+    ensures reads { Gives (λ x. (views.deep x.0, x.1.now)) result (read_row (a Kind.Is) (levels.has_room (grammar.below budget)) levels.null_join (λ _. levels.null_or_not.read) (length tokens.now) (views.deep first) tokens.now) }
     ensures within { IfOk result (λ x. x.0.depth ≤ budget) }
 {
     let mut left = first;

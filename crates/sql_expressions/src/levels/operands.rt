@@ -9,8 +9,9 @@ use crate::deep::{Deep, negated};
 use crate::levels::calls::called;
 use crate::levels::conjunctions::disjunction;
 use crate::signs::nested_comes;
-use crate::words::{column, comes, literal, name, name_comes, word};
+use crate::words::{column, literal, name};
 use grammar_rules::Refused;
+use grammar_words::{comes, name_comes, word};
 use sql_tokens::{Kind, Token};
 use std::alloc::Global;
 

@@ -6,11 +6,11 @@ use Rattle.grammar_rules.proofs.Whole.{gives_by}
 use Rattle.sql_expressions.proofs.Alone.{alone, goes_on, single, valued_alone}
 use Rattle.sql_expressions.proofs.Deeper.{chain_gives, comparison_deeper, named_deeper, negation_deeper, operand_deeper, part_deeper, test_deeper, unary_deeper}
 use Rattle.grammar_rules.specs.Rows.{always}
+use Rattle.sql_tokens.specs.Classes.{a}
 use Rattle.sql_tokens.specs.declared.kind.Kind.TheVariants as kinds
 use Rattle.sql_expressions.specs.Grammar as grammar
 use Rattle.sql_expressions.specs.Levels as levels
 use Rattle.sql_expressions.specs.Views as views
-use Rattle.sql_expressions.specs.Words as words
 use Rattle.sql_expressions.proofs.levels.+levels.Goals as goal
 
 -- one less of the depth that is left
@@ -45,7 +45,7 @@ comparisons::comparison-returns-clause-reads t c =
 -- a row, behind its first part
 pub calls::list-returns-clause-reads : goal.calls::list-returns-clause-reads
 calls::list-returns-clause-reads t c =
-    chain_gives _ c.more_items.result (words.a kinds.Comma) always levels.only_part levels.add_part (grammar.rules c.args.text.now c.args.below).expression (λ _. (grammar.rules c.args.text.now c.args.below).expression)
+    chain_gives _ c.more_items.result (a kinds.Comma) always levels.only_part levels.add_part (grammar.rules c.args.text.now c.args.below).expression (λ _. (grammar.rules c.args.text.now c.args.below).expression)
     c.args.tokens.now _ _ _ c.in_ok-first.ensures.reads c.in_ok-first-2.ensures.0 c.more_items.ensures.reads
 
 -- a row whose first part stands alone, and one that goes on
@@ -56,7 +56,7 @@ sums::row_of_operators-returns-then-not-sign_comes-clause-reads t c =
 
 pub negations::nullity-returns-then-not-comes-clause-reads : goal.negations::nullity-returns-then-not-comes-clause-reads
 negations::nullity-returns-then-not-comes-clause-reads t c =
-    alone (words.a kinds.Is) (levels.has_room (grammar.below c.args.budget)) levels.itself levels.null_join (views.comparison_of c.args.text.now c.args.budget)
+    alone (a kinds.Is) (levels.has_room (grammar.below c.args.budget)) levels.itself levels.null_join (views.comparison_of c.args.text.now c.args.budget)
     (λ _. levels.null_or_not) c.args.tokens.now _ _ c.in_ok-first.ensures.reads (sym c.comes.ensures ∙ c.if-not-comes.true)
 
 pub conjunctions::row_of_parts-returns-then-not-joint_comes-clause-reads : goal.conjunctions::row_of_parts-returns-then-not-joint_comes-clause-reads

@@ -1,10 +1,10 @@
 use Rattle.std.proofs.Common.{◌≡◌, ◌≤◌, ℕ, ◌+◌, ◌-◌, ◌*◌, length}
 use Rattle.grammar_rules.specs.Rows.{always, read_row}
+use Rattle.sql_tokens.specs.Classes.{a}
 use Rattle.sql_tokens.specs.declared.kind.Kind.TheVariants as kinds
 use Rattle.sql_expressions.specs.Grammar as grammar
 use Rattle.sql_expressions.specs.Levels as levels
 use Rattle.sql_expressions.specs.Views as views
-use Rattle.sql_expressions.specs.Words as words
 use Rattle.sql_expressions.specs.declared.signs.Joint.{Joint}
 use Rattle.sql_expressions.specs.declared.signs.Joint.TheVariants as joints
 use Rattle.sql_expressions.specs.declared.signs.Row.{Row}
@@ -109,8 +109,8 @@ decreases-comparisons::tested l = 32 * l.below + 22
 abbrev pub invariant-calls::more_items-loop : goal.invariant-calls::more_items-loop
 invariant-calls::more_items-loop l = record {
   reads :
-      read_row (words.a kinds.Comma) always levels.add_part (λ _. (grammar.rules l.text l.below).expression.read) (l.end - l.counter) (views.parts l.done) l.rest
-      ≡ read_row (words.a kinds.Comma) always levels.add_part (λ _. (grammar.rules l.text l.below).expression.read) (length l.fn.tokens) (views.parts l.fn.first) l.fn.tokens;
+      read_row (a kinds.Comma) always levels.add_part (λ _. (grammar.rules l.text l.below).expression.read) (l.end - l.counter) (views.parts l.done) l.rest
+      ≡ read_row (a kinds.Comma) always levels.add_part (λ _. (grammar.rules l.text l.below).expression.read) (length l.fn.tokens) (views.parts l.fn.first) l.fn.tokens;
   within : l.done.depth ≤ l.below;
 }
 

@@ -1,7 +1,7 @@
 use Rattle.std.proofs.Common.{length}
 use Rattle.grammar_rules.specs.Rows.{always}
 use Rattle.sql_tokens.specs.declared.kind.Kind.TheVariants as kinds
-use Rattle.sql_expressions.specs.Words.{a}
+use Rattle.sql_tokens.specs.Classes.{a}
 use Rattle.sql_expressions.proofs.Deeper.{chain_gives}
 use Rattle.sql_syntax.specs.Grammar as grammar
 use Rattle.sql_syntax.proofs.statements.block.Goals as goal

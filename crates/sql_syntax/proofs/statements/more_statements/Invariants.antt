@@ -1,7 +1,7 @@
 use Rattle.std.proofs.Common.{◌≡◌, ◌-◌, length, map}
 use Rattle.grammar_rules.specs.Rows.{always, read_row}
 use Rattle.sql_tokens.specs.declared.kind.Kind.TheVariants as kinds
-use Rattle.sql_expressions.specs.Words.{a}
+use Rattle.sql_tokens.specs.Classes.{a}
 use Rattle.sql_syntax.specs.Grammar as grammar
 use Rattle.sql_syntax.specs.Trees.{statement_tree}
 use Rattle.sql_syntax.proofs.statements.more_statements.Given as goal

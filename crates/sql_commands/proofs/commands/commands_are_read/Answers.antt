@@ -1,0 +1,6 @@
+use Rattle.grammar_rules.proofs.Whole.{parses}
+use Rattle.sql_commands.proofs.CommandLaws.{command_law}
+use Rattle.sql_commands.proofs.commands.commands_are_read.Goals as goal
+
+pub returns : goal.returns
+returns c text tokens read h = parses (λ x. x) tokens read (command_law text) h
