@@ -1,3 +1,4 @@
 pub mod Checked
 pub mod Firsts
+pub mod Lists
 pub mod Trees

@@ -1,5 +1,5 @@
 -- What names stand for at a place of a statement (4.2.1 Column References, 7.2.1.2 Table and Column Aliases).
-use Rattle.std.specs.Prelude.{ℕ, ◌-◌, Bool, ◌==◌, if◌then◌else◌, List, [], ◌∷◌, Option, Some, None, position, slice_get, slice_index_or, map}
+use Rattle.std.specs.Prelude.{ℕ, ◌-◌, Bool, false, ◌==◌, if◌then◌else◌, List, [], ◌∷◌, Option, Some, None, position, slice_get, slice_index_or, map}
 use Rattle.std.specs.Str.{bytes_eq}
 use Rattle.pg_values.specs.declared.value.Kind.TheVariants.{Text as KText}
 use Rattle.expression_binder.specs.declared.scope.ScopeColumn.{ScopeColumn}
@@ -21,6 +21,13 @@ pub record Scope : Type 0 where
   pub params : List Param
   pub session : ℕ
   pub allowed : Allowed
+
+-- a condition has neither arithmetic over columns nor names of tables nor calls
+abbrev pub nothing_more : Allowed
+nothing_more = record { arithmetic = false; table_names = false; calls = false }
+
+abbrev pub condition_scope : List Item → List Param → ℕ → Scope
+condition_scope items params session = record { items = items; params = params; session = session; allowed = nothing_more }
 
 abbrev pub is_called : List ℕ → ScopeColumn → Bool
 is_called name c = bytes_eq c.name name

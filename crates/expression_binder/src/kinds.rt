@@ -29,7 +29,8 @@ pub(crate) fn number_kind(n: u64) -> Kind
     }
 }
 
-pub(crate) fn is_arithmetic(operator: Operator) -> bool
+/// An operator of arithmetic, and none of comparison.
+pub fn is_arithmetic(operator: Operator) -> bool
     ensures { result ≡ kinds.is_arithmetic operator }
 {
     match operator {

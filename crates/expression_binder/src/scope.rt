@@ -1,4 +1,5 @@
 ghost use Rattle.std.specs.Prelude.{◌≡◌};
+ghost use Rattle.expression_binder.specs.Scopes as scopes;
 
 use pg_values::{Kind, PgText, Value};
 use std::marker::Model;
@@ -134,4 +135,22 @@ impl<'a> Names<'a> {
     {
         self.allowed
     }
+}
+
+/// What may stand in a condition.
+pub fn nothing_more() -> Allowed
+    ensures { result ≡ scopes.nothing_more }
+{
+    Allowed {
+        arithmetic: false,
+        table_names: false,
+        calls: false,
+    }
+}
+
+/// The names in a condition over the items.
+pub fn condition_names<'a>(items: &'a [ScopeItem], params: &'a [Param], session: u32) -> Names<'a>
+    ensures { result ≡ scopes.condition_scope items.now params.now session }
+{
+    Names::new(items, params, session, nothing_more())
 }

@@ -1,0 +1,52 @@
+-- An answer that is put together of two.
+use Rattle.std.proofs.Common.{ℕ, ◌≡◌, List, ◌++◌, Option, Ok, ap, subst, ◌∙◌}
+use Rattle.pg_values.specs.declared.fault.Fault.{Fault}
+use Rattle.sql_expressions.specs.Tree.{Tree}
+use Rattle.sql_queries.specs.Items.{Item as Listed}
+use Rattle.sql_queries.specs.Trees.{Joined, Key, selected}
+use Rattle.expression_binder.specs.Firsts.{or_first, fault_in}
+use Rattle.expression_binder.specs.Scopes.{Item, Scope}
+use Rattle.expression_binder.specs.declared.scope.Param.{Param}
+use Rattle.expression_binder.proofs.Firsts.{value_of}
+use Rattle.sql_binder.specs.Counts.{count, or_none}
+use Rattle.sql_binder.specs.From.{all_conditions, condition_constants, condition_meanings}
+use Rattle.sql_binder.specs.Items.{list_constants, list_names, list_outputs}
+use Rattle.sql_binder.specs.Keys.{keys_constants, sort_keys}
+use Rattle.sql_binder.specs.Selects as selects
+use Rattle.sql_binder.specs.Selects.{Front, Tail, list_scope, count_scope}
+use Rattle.sql_binder.specs.States.{negative_limit, negative_offset}
+use Rattle.statement_asks.specs.Asked.{SelectMeant}
+
+both_parts : {A B C : Type 0} (f : A → B → C) (xs ys : List Fault) (a c : A) (b d : B) → or_first xs a ≡ Ok c → or_first ys b ≡ Ok d → or_first (xs ++ ys) (f a b) ≡ Ok (f c d)
+both_parts f xs ys a c b d p q =
+    let m = value_of xs a c p in
+    let n = value_of ys b d q in
+    ap (λ zs. or_first (zs ++ ys) (f a b)) m.0 ∙ (ap (λ zs. or_first zs (f a b)) n.0 ∙ ap Ok (ap (λ x. f x b) m.1 ∙ ap (f c) n.1))
+
+abbrev made : Front → Tail → SelectMeant
+made front tail = record { outputs = front.0; conditions = front.1; order = tail.0; limit = tail.1.0; offset = tail.1.1 }
+
+module _ (items : List Item) (params : List Param) (session : ℕ) (ls : List Listed) (from : List Joined) (cond : Option Tree) (keys : List Key) (limit offset : Option Tree) where
+  abbrev front_faults : Scope → List Fault
+  front_faults n = list_constants n ls ++ condition_constants params session (all_conditions items from cond)
+
+  abbrev front_meant : Scope → Front
+  front_meant n = (list_outputs n ls, condition_meanings params session (all_conditions items from cond))
+
+  abbrev tail_faults : Scope → List Fault
+  tail_faults k = keys_constants keys ++ (fault_in (count negative_limit k limit) ++ fault_in (count negative_offset k offset))
+
+  abbrev tail_meant : Scope → Scope → List (List ℕ) → Tail
+  tail_meant n k names = (sort_keys n names keys, (or_none (count negative_limit k limit), or_none (count negative_offset k offset)))
+
+  pub bound_parts : (n k : Scope) (names : List (List ℕ)) (front : Front) (tail : Tail) → n ≡ list_scope items params session → k ≡ count_scope items params session → names ≡ list_names items ls
+      → or_first (front_faults n) (front_meant n) ≡ Ok front → or_first (tail_faults k) (tail_meant n k names) ≡ Ok tail
+      → or_first (selects.constant_faults items params session (selected ls from cond keys limit offset)) (selects.meaning items params session (selected ls from cond keys limit offset)) ≡ Ok (made front tail)
+  bound_parts n k names front tail a b c p q =
+      let s = list_scope items params session in
+      let j = count_scope items params session in
+      let p1 = subst (λ x. or_first (front_faults x) (front_meant x) ≡ Ok front) a p in
+      let q1 = subst (λ x. or_first (tail_faults k) (tail_meant x k names) ≡ Ok tail) a q in
+      let q2 = subst (λ x. or_first (tail_faults x) (tail_meant s x names) ≡ Ok tail) b q1 in
+      let q3 = subst (λ x. or_first (tail_faults j) (tail_meant s j x) ≡ Ok tail) c q2 in
+      both_parts made (front_faults s) (tail_faults j) (front_meant s) front (tail_meant s j (list_names items ls)) tail p1 q3

@@ -1,0 +1,8 @@
+use Rattle.std.proofs.Common.{◌≡◌, map, drop}
+use Rattle.sql_queries.specs.Trees.{key_tree}
+use Rattle.sql_binder.specs.Keys.{keys_faults}
+use Rattle.sql_binder.proofs.keys.check_keys.Given as goal
+
+-- no key so far has a fault
+abbrev pub invariant-loop-key : goal.invariant-loop-key
+invariant-loop-key l = keys_faults l.names l.outputs (map key_tree (drop l.key-index l.order)) ≡ keys_faults l.names l.outputs (map key_tree l.order)

@@ -1,0 +1,6 @@
+pub mod Counts
+pub mod From
+pub mod Items
+pub mod Keys
+pub mod Selects
+pub mod States

@@ -1,0 +1,283 @@
+ghost use Rattle.std.specs.Prelude.{◌≡◌, ◌++◌, ◌∷◌, [], map, OnOk, codes};
+ghost use Rattle.pg_values.specs.Refusals.{IsAnswer};
+ghost use Rattle.sql_expressions.specs.Tree.{tree, leaf as leaf_tree};
+ghost use Rattle.sql_queries.specs.Trees.{key_tree};
+ghost use Rattle.expression_binder.specs.Conditions.{cond_faults};
+ghost use Rattle.expression_binder.specs.Faults as faults;
+ghost use Rattle.expression_binder.specs.Firsts.{or_first, IsAnswerBy};
+ghost use Rattle.expression_binder.specs.Lent.{option_now};
+ghost use Rattle.expression_binder.specs.Operands.{operand_faults};
+ghost use Rattle.sql_binder.specs.Keys as keys;
+
+use crate::faults::no_output;
+use expression_binder::{
+    Lookup, Names, ScopeItem, ambiguous, check_condition, check_look_up, check_operand,
+    is_arithmetic, item_called, left_out, look_up, look_up_in,
+};
+use pg_values::{NoMemory, PgText, Refusal};
+use sql_expressions::{Expr, Leaf};
+use sql_queries::SortKey as Key;
+use statement_asks::{SortBy, SortKey};
+use std::alloc::Global;
+use value_rules::out_of_range;
+
+/// The output columns that have a name.
+#[derive(Clone, Copy, Debug, PartialEq, Eq)]
+pub enum Named {
+    Missing,
+    One(usize),
+    Several,
+}
+
+fn with_output(found: Named, place: usize, is_called: bool) -> Named
+    ensures { result ≡ keys.with_output is_called place found }
+{
+    if !is_called {
+        return found;
+    }
+    match found {
+        Named::Missing => Named::One(place),
+        Named::One(_) => Named::Several,
+        Named::Several => Named::Several,
+    }
+}
+
+// The last ones first.
+#[tactic(auto, using(crate::proofs::Steps::output_step))]
+fn outputs_named(outputs: &[PgText], name: &[u8]) -> Named
+    ensures { result ≡ keys.outputs_named name.now 0 outputs.now }
+{
+    let mut found = Named::Missing;
+    let mut place = outputs.len();
+    while place > 0 {
+        place -= 1;
+        found = with_output(found, place, outputs[place].as_bytes() == name);
+    }
+    found
+}
+
+fn check_name(
+    alloc: Global,
+    names: &Names<'_>,
+    name: &[u8],
+    outputs: &[PgText],
+) -> Result<(), Refusal>
+    ensures { IsAnswer result (or_first (keys.name_faults names.now name.now (keys.outputs_named name.now 0 outputs.now)) tt) }
+{
+    match outputs_named(outputs, name) {
+        Named::Missing => check_look_up(alloc, name, look_up(names.items(), name)),
+        Named::One(_) => Ok(()),
+        Named::Several => Err(Refusal::Sql(ambiguous(alloc, name)?)),
+    }
+}
+
+fn check_position(alloc: Global, n: u64, count: usize) -> Result<(), Refusal>
+    ensures { IsAnswer result (or_first (keys.position_faults n count) tt) }
+{
+    if !(n <= 9_223_372_036_854_775_807) || (1 <= n && n <= count as u64) {
+        return Ok(());
+    }
+    Err(Refusal::Sql(no_output(alloc, n)?))
+}
+
+fn check_other(alloc: Global, names: &Names<'_>, e: &Expr) -> Result<(), Refusal>
+    ensures { IsAnswer result (or_first (operand_faults names.now (tree e.now) ++ faults.left_out (codes "ORDER") ∷ []) tt) }
+{
+    check_operand(alloc, names, e)?;
+    Err(Refusal::Sql(left_out(alloc, b"ORDER")?))
+}
+
+fn check_as_condition(alloc: Global, names: &Names<'_>, e: &Expr) -> Result<(), Refusal>
+    ensures { IsAnswer result (or_first (cond_faults names.now (tree e.now) ++ faults.left_out (codes "ORDER") ∷ []) tt) }
+{
+    check_condition(alloc, names, e)?;
+    Err(Refusal::Sql(left_out(alloc, b"ORDER")?))
+}
+
+fn check_leaf(
+    alloc: Global,
+    names: &Names<'_>,
+    outputs: &[PgText],
+    e: &Expr,
+    leaf: &Leaf,
+) -> Result<(), Refusal>
+    requires { tree e.now ≡ leaf_tree leaf.now }
+    ensures { IsAnswer result (or_first (keys.key_faults names.now outputs.now (leaf_tree leaf.now)) tt) }
+{
+    match leaf {
+        Leaf::Number(n) => check_position(alloc, *n, outputs.len()),
+        Leaf::Column(name) => check_name(alloc, names, name.as_bytes(), outputs),
+        Leaf::ColumnOf(_, _) => check_operand(alloc, names, e),
+        Leaf::TableName => check_operand(alloc, names, e),
+        Leaf::TableNameOf(_) => check_operand(alloc, names, e),
+        Leaf::Text(_) => check_other(alloc, names, e),
+        Leaf::Date(_) => check_other(alloc, names, e),
+        Leaf::Null => check_other(alloc, names, e),
+        Leaf::Truth(_) => check_other(alloc, names, e),
+        Leaf::Parameter(_) => check_other(alloc, names, e),
+    }
+}
+
+fn check_key(alloc: Global, names: &Names<'_>, outputs: &[PgText], e: &Expr) -> Result<(), Refusal>
+    ensures { IsAnswer result (or_first (keys.key_faults names.now outputs.now (tree e.now)) tt) }
+{
+    match e {
+        Expr::Leaf(leaf) => check_leaf(alloc, names, outputs, e, leaf),
+        Expr::Call(_, _) => check_other(alloc, names, e),
+        Expr::CallOfAll(_) => check_other(alloc, names, e),
+        Expr::Negated(_) => check_other(alloc, names, e),
+        Expr::Binary(operator, _, _) => {
+            if is_arithmetic(*operator) {
+                check_other(alloc, names, e)
+            } else {
+                check_as_condition(alloc, names, e)
+            }
+        }
+        Expr::In(_, _, _) => check_as_condition(alloc, names, e),
+        Expr::Between(_, _, _, _) => check_as_condition(alloc, names, e),
+        Expr::IsNull(_, _) => check_as_condition(alloc, names, e),
+        Expr::Not(_) => check_as_condition(alloc, names, e),
+        Expr::And(_) => check_as_condition(alloc, names, e),
+        Expr::Or(_) => check_as_condition(alloc, names, e),
+    }
+}
+
+/// The first fault of names and kinds in ORDER BY: 42702, 42703, 42P10, or 0A000 for a key that is
+/// computed.
+pub(crate) fn check_keys(
+    alloc: Global,
+    names: &Names<'_>,
+    outputs: &[PgText],
+    order: &[Key],
+) -> Result<(), Refusal>
+    ensures { IsAnswer result (or_first (keys.keys_faults names.now outputs.now (map key_tree order.now)) tt) }
+{
+    for key in order {
+        check_key(alloc, names, outputs, &key.value)?;
+    }
+    Ok(())
+}
+
+fn check_constant(alloc: Global, e: &Expr) -> Result<(), Refusal>
+    ensures { IsAnswer result (or_first (keys.key_constants (tree e.now)) tt) }
+{
+    match e {
+        Expr::Leaf(Leaf::Number(n)) => {
+            if *n <= 9_223_372_036_854_775_807 {
+                return Ok(());
+            }
+            Err(Refusal::Sql(out_of_range(alloc)))
+        }
+        _ => Ok(()),
+    }
+}
+
+fn by_column(found: Lookup) -> SortBy
+    ensures { result ≡ keys.by_column found }
+{
+    match found {
+        Lookup::Missing => SortBy::Output(0),
+        Lookup::One(hit) => SortBy::Column(hit.column),
+        Lookup::Several => SortBy::Output(0),
+    }
+}
+
+fn by_name(names: &Names<'_>, name: &[u8], outputs: &[PgText]) -> SortBy
+    ensures { result ≡ keys.by_name names.now name.now (keys.outputs_named name.now 0 outputs.now) }
+{
+    match outputs_named(outputs, name) {
+        Named::Missing => by_column(look_up(names.items(), name)),
+        Named::One(place) => SortBy::Output(place),
+        Named::Several => SortBy::Output(0),
+    }
+}
+
+fn by_row_table(items: &[ScopeItem]) -> SortBy
+    ensures { result ≡ keys.by_row_table items.now }
+{
+    match items.first() {
+        None => SortBy::Output(0),
+        Some(item) => SortBy::TableName(item.number()),
+    }
+}
+
+fn by_item_table(item: Option<&ScopeItem>) -> SortBy
+    ensures { result ≡ keys.by_item_table (option_now item.entry) }
+{
+    match item {
+        None => SortBy::Output(0),
+        Some(item) => SortBy::TableName(item.number()),
+    }
+}
+
+fn leaf_by(names: &Names<'_>, outputs: &[PgText], leaf: &Leaf) -> SortBy
+    ensures { result ≡ keys.key_by names.now outputs.now (leaf_tree leaf.now) }
+{
+    let items = names.items();
+    match leaf {
+        Leaf::Number(n) => SortBy::Output(n.saturating_sub(1) as usize),
+        Leaf::Column(name) => by_name(names, name.as_bytes(), outputs),
+        Leaf::ColumnOf(table, name) => {
+            by_column(look_up_in(items, table.as_bytes(), name.as_bytes()))
+        }
+        Leaf::TableName => by_row_table(items),
+        Leaf::TableNameOf(table) => by_item_table(item_called(items, table.as_bytes())),
+        Leaf::Text(_) => SortBy::Output(0),
+        Leaf::Date(_) => SortBy::Output(0),
+        Leaf::Null => SortBy::Output(0),
+        Leaf::Truth(_) => SortBy::Output(0),
+        Leaf::Parameter(_) => SortBy::Output(0),
+    }
+}
+
+fn key_by(names: &Names<'_>, outputs: &[PgText], e: &Expr) -> SortBy
+    ensures { result ≡ keys.key_by names.now outputs.now (tree e.now) }
+{
+    match e {
+        Expr::Leaf(leaf) => leaf_by(names, outputs, leaf),
+        Expr::Call(_, _) => SortBy::Output(0),
+        Expr::CallOfAll(_) => SortBy::Output(0),
+        Expr::Negated(_) => SortBy::Output(0),
+        Expr::Binary(_, _, _) => SortBy::Output(0),
+        Expr::In(_, _, _) => SortBy::Output(0),
+        Expr::Between(_, _, _, _) => SortBy::Output(0),
+        Expr::IsNull(_, _) => SortBy::Output(0),
+        Expr::Not(_) => SortBy::Output(0),
+        Expr::And(_) => SortBy::Output(0),
+        Expr::Or(_) => SortBy::Output(0),
+    }
+}
+
+fn sort_key(names: &Names<'_>, outputs: &[PgText], key: &Key) -> SortKey
+    ensures { result ≡ keys.sort_key names.now outputs.now (key_tree key.now) }
+{
+    SortKey {
+        by: key_by(names, outputs, &key.value),
+        descending: key.descending,
+        nulls_first: key.nulls_first,
+    }
+}
+
+fn add(sort: &mut Vec<SortKey>, key: SortKey) -> Result<(), NoMemory>
+    ensures { OnOk result (sort.new.items ≡ sort.old.items ++ key ∷ []) }
+{
+    sort.push(key)?;
+    Ok(())
+}
+
+/// What rows are sorted by, or the first fault of a constant of ORDER BY: 22003.
+pub(crate) fn bind_keys(
+    alloc: Global,
+    names: &Names<'_>,
+    outputs: &[PgText],
+    order: &[Key],
+) -> Result<Vec<SortKey>, Refusal>
+    ensures { IsAnswerBy (λ v. v.items) result (or_first (keys.keys_constants (map key_tree order.now)) (keys.sort_keys names.now outputs.now (map key_tree order.now))) }
+{
+    let mut sort = Vec::new(alloc);
+    for key in order {
+        check_constant(alloc, &key.value)?;
+        add(&mut sort, sort_key(names, outputs, key))?;
+    }
+    Ok(sort)
+}

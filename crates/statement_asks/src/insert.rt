@@ -1,0 +1,8 @@
+use pg_values::RowList;
+
+/// An INSERT: the places of the columns that get values, and in each row a value for each of them.
+#[derive(Debug, Drop)]
+pub struct InsertAsk {
+    pub columns: Vec<usize>,
+    pub rows: RowList,
+}
