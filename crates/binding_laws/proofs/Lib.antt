@@ -1,0 +1,4 @@
+pub mod Conditions
+pub mod Names
+pub mod Operands
+pub mod Values

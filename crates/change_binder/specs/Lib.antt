@@ -1,0 +1,4 @@
+pub mod Arguments
+pub mod Changes
+pub mod Inserts
+pub mod States
