@@ -18,6 +18,3 @@ mod inserts;
 pub use arguments::{Wanted, bind_arguments};
 pub use changes::{bind_delete, bind_update};
 pub use inserts::bind_insert;
-
-#[cfg(test)]
-mod tests;

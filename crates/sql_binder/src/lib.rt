@@ -17,6 +17,3 @@ mod keys;
 mod selects;
 
 pub use selects::bind_select;
-
-#[cfg(test)]
-mod tests;
