@@ -1,0 +1,129 @@
+//! Binds statements of SQL from standard input, one in each line, and writes as one line what each means
+//! by places and values, or the state and the texts with which it is refused.
+//!
+//! There are three tables: `t` with `a` (an integer), `c` (a text), `d` (a date) and `b` (a boolean), `u` with
+//! `a` (an integer), `n` (a bigint) and `e` (a text), and `v` with `k` (a bigint) and `d` (a date). `$1` is the
+//! integer 7, `$2` the text `x`, `$3` a date that is null. The session is number 1.
+//!
+//! EXECUTE is read with three parameters: the first is declared an integer, the second has the place of a date,
+//! and of the third nothing is known.
+//!
+//! A column is written by the place of its FROM item and its own place there, `0.2`, a bigint with an `L`
+//! behind it, and each operator stands before its operands.
+//!
+//! That the first rule that is broken is told is proved in `sql_binder` and `change_binder`. Here the rules
+//! are seen: `stdin` has the statements, and `stdout` what was worked out by hand from them.
+#![tactic(auto)]
+
+mod bound;
+mod tables;
+mod trees;
+
+use bound::{write_change, write_insert, write_params, write_select};
+use change_binder::{Wanted, bind_arguments, bind_delete, bind_insert, bind_update};
+use pg_values::{Fault, Kind, NoMemory, Refusal};
+use sql_binder::bind_select;
+use sql_expressions::ExprList;
+use sql_queries::{Delete, Insert, Query, RowStatement, Select, Update};
+use sql_syntax::{Statement, parse_block};
+use std::alloc::Global;
+use std::io::{self, ErrorKind, Write};
+use tables::{columns_of, item_of, items_of, params};
+
+const SESSION: u32 = 1;
+
+fn select_line(alloc: Global, select: &Select, out: &mut Vec<u8>) -> Result<(), Refusal> {
+    let items = items_of(alloc, select.from.as_slice())?;
+    let bound = bind_select(alloc, select, &items, &params(alloc)?, SESSION)?;
+    Ok(write_select(alloc, &bound, out)?)
+}
+
+fn insert_line(alloc: Global, insert: &Insert, out: &mut Vec<u8>) -> Result<(), Refusal> {
+    let columns = columns_of(alloc, insert.table.as_bytes())?;
+    let bound = bind_insert(alloc, insert, &columns, &params(alloc)?, SESSION)?;
+    Ok(write_insert(alloc, &bound, out)?)
+}
+
+fn update_line(alloc: Global, update: &Update, out: &mut Vec<u8>) -> Result<(), Refusal> {
+    let item = item_of(alloc, &update.table, 0)?;
+    let bound = bind_update(alloc, update, &item, &params(alloc)?, SESSION)?;
+    Ok(write_change(alloc, b"update", &bound, out)?)
+}
+
+fn delete_line(alloc: Global, delete: &Delete, out: &mut Vec<u8>) -> Result<(), Refusal> {
+    let item = item_of(alloc, &delete.table, 0)?;
+    let bound = bind_delete(alloc, delete, &item, &params(alloc)?, SESSION)?;
+    Ok(write_change(alloc, b"delete", &bound, out)?)
+}
+
+fn arguments_line(alloc: Global, arguments: &ExprList, out: &mut Vec<u8>) -> Result<(), Refusal> {
+    let wanted = [
+        Wanted::Declared(Kind::Int4),
+        Wanted::Placed(Kind::Day),
+        Wanted::Free,
+    ];
+    let params = bind_arguments(alloc, arguments, &wanted)?;
+    Ok(write_params(alloc, &params, out)?)
+}
+
+fn write_text(text: &[u8], out: &mut Vec<u8>) -> Result<(), NoMemory> {
+    out.extend_from_slice(text)?;
+    Ok(())
+}
+
+fn bound_line(alloc: Global, query: &Query, out: &mut Vec<u8>) -> Result<(), Refusal> {
+    match query {
+        Query::Rows(RowStatement::Select(select)) => select_line(alloc, select, out),
+        Query::Rows(RowStatement::Insert(insert)) => insert_line(alloc, insert, out),
+        Query::Rows(RowStatement::Update(update)) => update_line(alloc, update, out),
+        Query::Rows(RowStatement::Delete(delete)) => delete_line(alloc, delete, out),
+        Query::Execute(_, arguments) => arguments_line(alloc, arguments, out),
+        _ => Ok(write_text(b"neither a statement on rows nor EXECUTE", out)?),
+    }
+}
+
+fn write_fault(fault: &Fault, out: &mut Vec<u8>) -> Result<(), NoMemory> {
+    out.extend_from_slice(&fault.code.bytes)?;
+    for text in fault.args.as_slice() {
+        out.push(b' ')?;
+        out.extend_from_slice(text.as_bytes())?;
+    }
+    Ok(())
+}
+
+/// The statement that the line is a block of.
+fn query_of(alloc: Global, line: &[u8]) -> Option<Query> {
+    let Ok(mut statements) = parse_block(alloc, line) else {
+        return None;
+    };
+    match statements.pop() {
+        Some(Statement::Query(query)) => Some(query),
+        _ => None,
+    }
+}
+
+fn answer(alloc: Global, line: &[u8]) -> Result<Vec<u8>, NoMemory> {
+    let mut out = Vec::new(alloc);
+    let Some(query) = query_of(alloc, line) else {
+        out.extend_from_slice(b"no statement")?;
+        return Ok(out);
+    };
+    match bound_line(alloc, &query, &mut out) {
+        Ok(()) => {}
+        Err(Refusal::Sql(fault)) => write_fault(&fault, &mut out)?,
+        Err(Refusal::NoMemory) => return Err(NoMemory),
+    }
+    Ok(out)
+}
+
+fn main(rt: HostRuntime) -> io::Result<()> {
+    let mut out = rt.stdout();
+    for line in rt.lines(rt.alloc()) {
+        let Ok(answer) = answer(rt.alloc(), line?.as_bytes()) else {
+            return Err(io::Error::from(ErrorKind::OutOfMemory));
+        };
+        out.write_all(&answer)?;
+        out.write_all(b"\n")?;
+    }
+    Ok(())
+}
