@@ -1,5 +1,5 @@
 -- Blocks that are read letter by letter.
-use Rattle.std.proofs.Common.{◌≡◌, ℕ, List, [], ◌∷◌, ◌++◌, Result, Ok, Err, Option, Some, None, ap, sym, ◌∙◌, append_assoc}
+use Rattle.std.proofs.Common.{◌≡◌, ℕ, List, [], ◌∷◌, ◌++◌, Result, Ok, Err, Some, None, ap, sym, ◌∙◌, append_assoc}
 use Rattle.pg_values.specs.declared.fault.Fault.{Fault}
 use Rattle.session_scripts.specs.Register.{statements_of, statement_of, before, if_statement, no_statement}
 use Rattle.session_scripts.specs.declared.statement.Statement.{Statement}

@@ -7,3 +7,6 @@ pub record Stands (r : RegisterExecutor) (v : Register) : Type 0 where
   pub value : r.value ≡ v.value
   pub opened : r.opened.items ≡ v.opened
   pub own : r.own.items ≡ v.own
+  pub holder : r.holder ≡ v.holder
+  pub queue : r.queue.items ≡ v.queue
+  pub stages : r.stages.items ≡ v.stages

@@ -1,13 +1,15 @@
-//! A register that sessions read and set, and a script that is run over it: what the run prints, beside
+//! A register that sessions read, set and lock, and a script that is run over it: what the run prints, beside
 //! what was worked out by hand.
 //!
 //! A block is a row of statements of one letter each: `b` is BEGIN, `r` BEGIN ISOLATION LEVEL REPEATABLE
 //! READ, `c` COMMIT, `k` ROLLBACK, `+` and `-` are a SET, a digit sets the register, `?` reads it and
-//! prints it with what was SET, `!` fails; any other letter is no SQL.
+//! prints it with what was SET, `*` locks it until the transaction ends, `!` fails; any other letter is no
+//! SQL.
 #![tactic(auto)]
 
 mod executor;
 mod register;
+mod stage;
 mod statement;
 
 use pg_values::{ListSink, NoMemory};
@@ -16,6 +18,7 @@ use schedule::RunEnd;
 use script_tasks::run_script;
 use sessions::Sessions;
 use spec_reader::read_spec;
+pub use stage::Stage;
 pub use statement::Statement;
 use std::alloc::Global;
 use std::io;
@@ -24,7 +27,11 @@ fn run_text(alloc: Global, script: &[u8]) -> Result<Vec<u8>, NoMemory> {
     let Ok(spec) = read_spec(alloc, script) else {
         return Ok(Vec::from_slice(alloc, b"no script\n")?);
     };
-    let register = RegisterExecutor::new(alloc, spec.sessions.len() + 1)?;
+    let sessions = spec.sessions.len() + 1;
+    if sessions > 65 {
+        return Ok(Vec::from_slice(alloc, b"too many sessions\n")?);
+    }
+    let register = RegisterExecutor::new(alloc, sessions)?;
     let sessions = Sessions::new(alloc, register)?;
     let mut out = ListSink::new(alloc, 65536, Vec::new(alloc), Vec::new(alloc), 4096)?;
     let end = run_script(alloc, sessions, &spec, &mut out);

@@ -1,10 +1,18 @@
-ghost use Rattle.std.specs.Prelude.{◌≡◌, length};
+ghost use Rattle.std.specs.Prelude.{◌≡◌, ◌≤◌, ◌<◌, All, length};
 
-/// A register that sessions read and set.
+use crate::Stage;
+
+/// A register that sessions read, set and lock.
 #[derive(Drop)]
 pub struct RegisterExecutor {
     pub value: u8,
     pub opened: Vec<bool>,
     pub own: Vec<Option<u8>>,
-    ghost alike: { length own.items ≡ length opened.items },
+    pub holder: Option<usize>,
+    pub queue: Vec<usize>,
+    pub stages: Vec<Stage>,
+    ghost owned: { length own.items ≡ length opened.items },
+    ghost staged: { length stages.items ≡ length opened.items },
+    ghost few: { length opened.items ≤ 65 },
+    ghost queued: { All (λ s. s < length opened.items) queue.items },
 }

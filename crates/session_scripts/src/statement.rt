@@ -16,6 +16,8 @@ pub enum Statement {
     Put(u8),
     /// The register is read.
     Show,
+    /// The register is locked.
+    Lock,
     Fail,
 }
 
@@ -38,6 +40,8 @@ pub(crate) fn statement_of(byte: u8) -> Option<Statement>
         Some(Statement::Show)
     } else if byte == b'!' {
         Some(Statement::Fail)
+    } else if byte == b'*' {
+        Some(Statement::Lock)
     } else if byte.is_ascii_digit() {
         Some(Statement::Put(byte))
     } else {
@@ -54,6 +58,6 @@ pub(crate) fn role_of(statement: Statement) -> Role
         Statement::Commit => Role::Commit,
         Statement::Rollback => Role::Rollback,
         Statement::Switch(_) => Role::Set,
-        Statement::Put(_) | Statement::Show | Statement::Fail => Role::Query,
+        Statement::Put(_) | Statement::Show | Statement::Lock | Statement::Fail => Role::Query,
     }
 }
