@@ -1,0 +1,4 @@
+pub mod Inserts
+pub mod Selects
+pub mod Settings
+pub mod Statements
