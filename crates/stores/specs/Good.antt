@@ -1,0 +1,30 @@
+-- Which histories a run comes to: each event was legal and permitted when it came.
+use Rattle.std.specs.Prelude.{◌≡◌, ℕ, [], ◌∷◌, Option, Some, None}
+use Rattle.history.specs.Transactions.{TxEvents, TxCommitted, TxAborted, IsRunning}
+use Rattle.history.specs.Snapshots.{held_by}
+use Rattle.history.specs.History.{Event, History, TxChange, tx_events, snapshot_events}
+use Rattle.history.specs.Legal.{May, command_of, IsInOrder}
+use Rattle.soundness.specs.Legal.{IsPermitted}
+
+-- the command is one of a transaction that runs
+abbrev pub IsActing : TxEvents → Option (ℕ × ℕ) → Type 0
+IsActing txs None = Unit {0}
+IsActing txs (Some c) = IsRunning txs c.0
+
+-- a transaction ends only where its session holds no snapshot
+abbrev pub IsReleased : Event → History → Type 0
+IsReleased (TxChange (TxCommitted s t)) h = held_by (snapshot_events h) s ≡ None
+IsReleased (TxChange (TxAborted s t)) h = held_by (snapshot_events h) s ≡ None
+IsReleased _ h = Unit {0}
+
+-- the event may come after the history
+pub record MayCome (e : Event) (h : History) : Type 0 where
+  pub legal : May e h
+  pub in_order : IsInOrder (command_of e) h
+  pub permitted : IsPermitted e h
+  pub acting : IsActing (tx_events h) (command_of e)
+  pub released : IsReleased e h
+
+abbrev pub IsGood : History → Type 0
+IsGood [] = Unit {0}
+IsGood (e ∷ h) = MayCome e h × IsGood h

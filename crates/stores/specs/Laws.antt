@@ -1,0 +1,49 @@
+-- What holds of every good history.
+use Rattle.std.specs.Prelude.{◌≡◌, ◌≤◌, ℕ, ◌++◌, Some, All}
+use Rattle.history.specs.Transactions.{open_of}
+use Rattle.history.specs.Snapshots.{TakenSnapshot, SnapshotHeld, held_by}
+use Rattle.history.specs.History.{History, tx_events, snapshot_events}
+use Rattle.history.specs.Legal.{MayHold, IsInOrder, IsLegal}
+use Rattle.soundness.specs.Legal.{ArePermitted}
+use Rattle.soundness.specs.Laws.{IsLooking}
+use Rattle.part_catalog.specs.Answers.{AreTogether}
+use Rattle.stores.specs.declared.stores.Stores.{Stores}
+use Rattle.stores.specs.Events.{begun, look_of}
+use Rattle.stores.specs.Good.{IsGood}
+use Rattle.stores.specs.Numbers.{IsBefore, IsAt}
+use Rattle.stores.specs.Stand.{Stands}
+
+-- it is legal and permitted: so the invariant of soundness holds of it
+abbrev pub GoodIsLegal : Type 0
+GoodIsLegal = (h : History) → IsGood h → IsLegal h × ArePermitted h
+
+-- a snapshot that is held is of its session's open transaction
+abbrev pub HeldIsOwn : Type 0
+HeldIsOwn = (h : History) (session : ℕ) (s : TakenSnapshot) → IsGood h → held_by (snapshot_events h) session ≡ Some s → open_of (tx_events h) session ≡ Some s.tx
+
+-- a transaction that begins comes to its command 0
+abbrev pub BeginsAtZero : Type 0
+BeginsAtZero = (h : History) (session : ℕ) → IsGood h → IsAt (begun h session ++ h) session 0
+
+-- it comes to a command, or a later one, where what came since was done by others or by earlier commands
+abbrev pub GoesOn : Type 0
+GoesOn = (events h : History) (session cmd next : ℕ) → cmd ≤ next → IsAt h session cmd → open_of (tx_events (events ++ h)) session ≡ open_of (tx_events h) session
+    → ((t : ℕ) → open_of (tx_events h) session ≡ Some t → All (IsBefore t next) events) → IsAt (events ++ h) session next
+
+-- the snapshot under which a command of the transaction reads: it is of that transaction, the session may hold it, and the
+-- laws of soundness speak of what it shows
+pub record IsOpenLook (h : History) (session t : ℕ) (s : TakenSnapshot) : Type 0 where
+  pub own : s.tx ≡ t
+  pub may_be_held : MayHold (SnapshotHeld session s) h
+  pub looking : IsLooking h session s
+
+abbrev pub LooksAreOpen : Type 0
+LooksAreOpen = (h : History) (session t cmd : ℕ) → IsGood h → IsAt h session cmd → open_of (tx_events h) session ≡ Some t → IsOpenLook h session t (look_of h session cmd)
+
+-- and the command has no smaller number than those before it
+abbrev pub CommandsAreInOrder : Type 0
+CommandsAreInOrder = (h : History) (session t cmd : ℕ) → IsAt h session cmd → open_of (tx_events h) session ≡ Some t → IsInOrder (Some (t, cmd)) h
+
+-- the entries that are present for a session stand together: what the catalogue asks where it makes a tree
+abbrev pub TreesAreTogether : Type 0
+TreesAreTogether = (stores : Stores) (h : History) (session : ℕ) → Stands stores h → AreTogether stores.txs stores.catalog session

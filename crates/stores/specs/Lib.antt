@@ -1,0 +1,5 @@
+pub mod Events
+pub mod Good
+pub mod Laws
+pub mod Numbers
+pub mod Stand

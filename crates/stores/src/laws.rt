@@ -1,0 +1,36 @@
+ghost use Rattle.stores.specs.Laws.{GoodIsLegal, HeldIsOwn, BeginsAtZero, GoesOn, LooksAreOpen, CommandsAreInOrder, TreesAreTogether};
+
+/// A good history is legal and permitted, so that the laws of soundness hold of it.
+pub fn good_is_legal()
+    ensures { GoodIsLegal }
+{}
+
+/// A snapshot that is held is of its session's open transaction.
+pub fn held_is_own()
+    ensures { HeldIsOwn }
+{}
+
+/// A transaction that begins comes to its command 0.
+pub fn begins_at_zero()
+    ensures { BeginsAtZero }
+{}
+
+/// A transaction comes to a later command where it did what it did by earlier ones, whatever others do.
+pub fn goes_on()
+    ensures { GoesOn }
+{}
+
+/// The snapshot that a command reads under is one that it may hold, and of which soundness speaks.
+pub fn looks_are_open()
+    ensures { LooksAreOpen }
+{}
+
+/// The command to which a transaction comes has no smaller number than any before it.
+pub fn commands_are_in_order()
+    ensures { CommandsAreInOrder }
+{}
+
+/// The entries that are present for a session stand together.
+pub fn trees_are_together()
+    ensures { TreesAreTogether }
+{}
