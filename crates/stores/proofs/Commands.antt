@@ -1,12 +1,12 @@
 -- The numbers of a transaction's commands, told from its events.
-use Rattle.std.proofs.Common.{◌≡◌, ℕ, ◌<◌, ◌≤◌, ◌+◌, arith, ◌==◌, Bool, true, false, if◌then◌else◌, List, [], ◌∷◌, ◌++◌, refl, sym, ap, ◌∙◌, ◌⊎◌, inl, inr, Option, Some, None, unwrap_or, All}
+use Rattle.std.proofs.Common.{◌≡◌, ℕ, ◌≤◌, arith, ◌==◌, if◌then◌else◌, [], ◌∷◌, ◌++◌, refl, sym, ap, ◌∙◌, inl, inr, Option, Some, None, All}
 use Rattle.std.proofs.lemmas.List.Elements.{All-nil, All-cons, All-head, All-tail, All-append}
-use Rattle.history.specs.Transactions.{TxEvents, TxEvent, TxBegan, TxCommitted, TxAborted, open_of, next_tx, IsRunning}
-use Rattle.history.specs.Snapshots.{SnapshotEvent, TakenSnapshot, SnapshotHeld, SnapshotDropped, held_by}
-use Rattle.history.specs.Rows.{RowEvent, LeafAdded, RowBorn, RowEnded}
-use Rattle.history.specs.Catalogue.{CatalogueEvent, catalogue_command}
-use Rattle.history.specs.History.{Event, History, TxChange, SnapshotChange, RowChange, LockChange, CatalogueChange, tx_events, snapshot_events, row_events, fresh, held_or_fresh, given}
-use Rattle.history.specs.Legal.{IsTimely, IsHoldSound, ChangedBefore, MayHold, command_of, IsNotAfter, IsInOrder}
+use Rattle.history.specs.Transactions.{TxEvents, TxBegan, TxCommitted, TxAborted, open_of, next_tx}
+use Rattle.history.specs.Snapshots.{TakenSnapshot, SnapshotHeld, SnapshotDropped, held_by}
+use Rattle.history.specs.Rows.{LeafAdded, RowBorn, RowEnded}
+use Rattle.history.specs.Catalogue.{catalogue_command}
+use Rattle.history.specs.History.{Event, History, TxChange, SnapshotChange, RowChange, LockChange, CatalogueChange, tx_events, snapshot_events, row_events, held_or_fresh}
+use Rattle.history.specs.Legal.{IsTimely, ChangedBefore, MayHold, command_of, IsNotAfter, IsInOrder}
 use Rattle.stores.specs.Events.{begun, look_of, with_command}
 use Rattle.stores.specs.Good.{IsActing, IsGood}
 use Rattle.stores.specs.Laws.{IsOpenLook}
@@ -121,9 +121,10 @@ look_is_own h session t cmd good own = own_tx (tx_events h) session t (held_by (
 
 pub look_may_be_held : (h : History) (session t cmd : ℕ) → IsGood h → IsAt h session cmd → open_of (tx_events h) session ≡ Some t → MayHold (SnapshotHeld session (look_of h session cmd)) h
 look_may_be_held h session t cmd good at own =
-    let is : (look_of h session cmd).tx ≡ t = look_is_own h session t cmd good own in
-    (record { own = own ∙ ap (λ z. Some z) (sym is); timely = timely (held_by (snapshot_events h) session) (tx_events h) session cmd },
-     rw is (changed_before t cmd h (at t own)))
+    let is : (look_of h session cmd).tx ≡ t = look_is_own h session t cmd good own in (
+      record { own = own ∙ ap (λ z. Some z) (sym is); timely = timely (held_by (snapshot_events h) session) (tx_events h) session cmd },
+      rw is (changed_before t cmd h (at t own)),
+    )
 
 pub looks_are_open : (h : History) (session t cmd : ℕ) → IsGood h → IsAt h session cmd → open_of (tx_events h) session ≡ Some t → IsOpenLook h session t (look_of h session cmd)
 looks_are_open h session t cmd good at own =

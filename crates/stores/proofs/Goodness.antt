@@ -1,13 +1,12 @@
 -- Of good histories: they are legal and permitted, and what is held is of who holds it.
 use Rattle.std.proofs.Common.{◌≡◌, ℕ, arith, ◌==◌, Bool, true, false, if◌then◌else◌, [], ◌∷◌, refl, sym, ap, ◌∙◌, ◌⊎◌, inl, inr, Option, Some, None}
-use Rattle.std.proofs.lemmas.Bool.{cases_Bool}
 use Rattle.std.proofs.lemmas.Bool.Decides.{nat_tests}
-use Rattle.history.specs.Transactions.{TxEvents, TxEvent, TxBegan, TxCommitted, TxAborted, open_of, next_tx, IsSound}
+use Rattle.history.specs.Transactions.{TxEvents, TxBegan, TxCommitted, TxAborted, open_of}
 use Rattle.history.specs.Snapshots.{TakenSnapshot, SnapshotHeld, SnapshotDropped, held_by}
-use Rattle.history.specs.History.{Event, History, TxChange, SnapshotChange, RowChange, LockChange, CatalogueChange, tx_events, snapshot_events}
+use Rattle.history.specs.History.{History, TxChange, SnapshotChange, RowChange, LockChange, CatalogueChange, tx_events, snapshot_events}
 use Rattle.history.specs.Legal.{IsNotAfter, IsInOrder, IsLegal}
 use Rattle.soundness.specs.Legal.{ArePermitted}
-use Rattle.stores.specs.Good.{MayCome, IsGood}
+use Rattle.stores.specs.Good.{IsGood}
 
 pub legal_of : (h : History) → IsGood h → IsLegal h
 legal_of [] good = tt

@@ -1,5 +1,5 @@
 -- What did not change stands for a history with no event of its own.
-use Rattle.std.proofs.Common.{◌≡◌, ℕ, ◌+◌, sym, ap, ◌∙◌, ◌∷◌}
+use Rattle.std.proofs.Common.{◌≡◌, ℕ, ◌+◌, sym, ap, ◌∙◌}
 use Rattle.history.specs.Rows.{RowEvents, births, last_end, leaf_count}
 use Rattle.history.specs.RowsSound.{AreRowsSound}
 use Rattle.history.specs.Catalogue.{CatalogueEvents, tables_made, entries_added, checks_kept, drops, entry_ends, marks, newest_of}

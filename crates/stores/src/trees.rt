@@ -33,12 +33,7 @@ impl Stores {
     }
 
     /// The table with all its present entries, pending ones too, and so on below.
-    pub fn ddl_tree(
-        &self,
-        alloc: Global,
-        table: TableNo,
-        session: u32,
-    ) -> Result<Tree, NoMemory>
+    pub fn ddl_tree(&self, alloc: Global, table: TableNo, session: u32) -> Result<Tree, NoMemory>
         requires known { table.number < length self.now.catalog.tables }
         requires sound { IsSound self.now }
         ensures { IfOk result (λ t. (h : History) → AllStand self.now h → seen t ≡ ddl_tree h session table.number) }
