@@ -2,4 +2,5 @@ pub mod Calls
 pub mod Commands
 pub mod Events
 pub mod Goodness
+pub mod Meanwhile
 pub mod Standing

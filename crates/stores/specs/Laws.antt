@@ -1,14 +1,15 @@
 -- What holds of every good history.
-use Rattle.std.specs.Prelude.{◌≡◌, ◌≤◌, ℕ, ◌++◌, Some, All}
+use Rattle.std.specs.Prelude.{◌≡◌, ◌≢◌, ◌≤◌, ℕ, ◌∷◌, ◌++◌, Some, All}
 use Rattle.history.specs.Transactions.{open_of}
 use Rattle.history.specs.Snapshots.{TakenSnapshot, SnapshotHeld, held_by}
-use Rattle.history.specs.History.{History, tx_events, snapshot_events}
+use Rattle.history.specs.Locks.{LockEvent}
+use Rattle.history.specs.History.{History, LockChange, tx_events, snapshot_events}
 use Rattle.history.specs.Legal.{MayHold, IsInOrder, IsLegal}
 use Rattle.soundness.specs.Legal.{ArePermitted}
 use Rattle.soundness.specs.Laws.{IsLooking}
 use Rattle.part_catalog.specs.Answers.{AreTogether}
 use Rattle.stores.specs.declared.stores.Stores.{Stores}
-use Rattle.stores.specs.Events.{begun, look_of}
+use Rattle.stores.specs.Events.{begun, committed, aborted, let_go, look_of, held}
 use Rattle.stores.specs.Good.{IsGood}
 use Rattle.stores.specs.Numbers.{IsBefore, IsAt}
 use Rattle.stores.specs.Stand.{Stands}
@@ -29,6 +30,24 @@ BeginsAtZero = (h : History) (session : ℕ) → IsGood h → IsAt (begun h sess
 abbrev pub GoesOn : Type 0
 GoesOn = (events h : History) (session cmd next : ℕ) → cmd ≤ next → IsAt h session cmd → open_of (tx_events (events ++ h)) session ≡ open_of (tx_events h) session
     → ((t : ℕ) → open_of (tx_events h) session ≡ Some t → All (IsBefore t next) events) → IsAt (events ++ h) session next
+
+-- it comes to the same command whatever is locked and waited for meanwhile,
+abbrev pub LocksKeepNumbers : Type 0
+LocksKeepNumbers = (e : LockEvent) (h : History) (session cmd : ℕ) → IsAt h session cmd → IsAt (LockChange e ∷ h) session cmd
+
+-- whatever transactions of other sessions begin and end,
+pub record OtherBeginsAndEnds (h : History) (other session cmd : ℕ) : Type 0 where
+  pub begun : IsAt (begun h other ++ h) session cmd
+  pub committed : IsAt (committed h other ++ h) session cmd
+  pub aborted : IsAt (aborted h other ++ h) session cmd
+
+abbrev pub OthersKeepNumbers : Type 0
+OthersKeepNumbers = (h : History) (other session cmd : ℕ) → other ≢ session → IsAt h session cmd → OtherBeginsAndEnds h other session cmd
+
+-- and whatever snapshots are given up and held, its own for no later command
+abbrev pub LooksKeepNumbers : Type 0
+LooksKeepNumbers = (h : History) (holder session tx number cmd : ℕ) → IsGood h → IsAt h session cmd → open_of (tx_events h) holder ≡ Some tx → (holder ≡ session → number ≤ cmd)
+    → IsAt (let_go holder ++ h) session cmd × IsAt (held h holder number ++ h) session cmd
 
 -- the snapshot under which a command of the transaction reads: it is of that transaction, the session may hold it, and the
 -- laws of soundness speak of what it shows

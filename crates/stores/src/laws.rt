@@ -1,4 +1,4 @@
-ghost use Rattle.stores.specs.Laws.{GoodIsLegal, HeldIsOwn, BeginsAtZero, GoesOn, LooksAreOpen, CommandsAreInOrder, TreesAreTogether};
+ghost use Rattle.stores.specs.Laws.{GoodIsLegal, HeldIsOwn, BeginsAtZero, GoesOn, LocksKeepNumbers, OthersKeepNumbers, LooksKeepNumbers, LooksAreOpen, CommandsAreInOrder, TreesAreTogether};
 
 /// A good history is legal and permitted, so that the laws of soundness hold of it.
 pub fn good_is_legal()
@@ -18,6 +18,21 @@ pub fn begins_at_zero()
 /// A transaction comes to a later command where it did what it did by earlier ones, whatever others do.
 pub fn goes_on()
     ensures { GoesOn }
+{}
+
+/// It comes to the same command whatever is locked and waited for meanwhile.
+pub fn locks_keep_numbers()
+    ensures { LocksKeepNumbers }
+{}
+
+/// It comes to the same command whatever transactions of other sessions begin and end meanwhile.
+pub fn others_keep_numbers()
+    ensures { OthersKeepNumbers }
+{}
+
+/// It comes to the same command whatever snapshots are given up and held meanwhile.
+pub fn looks_keep_numbers()
+    ensures { LooksKeepNumbers }
 {}
 
 /// The snapshot that a command reads under is one that it may hold, and of which soundness speaks.
