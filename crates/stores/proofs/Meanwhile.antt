@@ -5,14 +5,14 @@ use Rattle.std.proofs.lemmas.List.Elements.{All-cons}
 use Rattle.history.specs.Transactions.{TxEvent, TxBegan, TxCommitted, TxAborted, next_tx, open_of, session_of, IsSound}
 use Rattle.history.specs.Snapshots.{TakenSnapshot, SnapshotHeld, SnapshotDropped, held_by}
 use Rattle.history.specs.Locks.{LockEvent, LocksGivenUp, SnapshotGone, WaitWithdrawn}
-use Rattle.history.specs.History.{History, TxChange, SnapshotChange, LockChange, tx_events, snapshot_events}
+use Rattle.history.specs.History.{History, TxChange, SnapshotChange, LockChange, tx_events, snapshot_events, fresh, held_or_fresh}
 use Rattle.history.proofs.Open.{open_own}
 use Rattle.soundness.proofs.Sound.{sound_of}
-use Rattle.stores.specs.Events.{tx_in, begun, let_go, withdrawn, ended, committed, aborted, look_of, held_first, held}
+use Rattle.stores.specs.Events.{tx_in, begun, let_go, withdrawn, ended, committed, aborted, with_command, look_of, held_first, held}
 use Rattle.stores.specs.Good.{IsGood}
 use Rattle.stores.specs.Numbers.{IsBefore, IsAt}
 use Rattle.stores.specs.Laws.{OtherBeginsAndEnds}
-use Rattle.stores.proofs.Goodness.{legal_of}
+use Rattle.stores.proofs.Goodness.{legal_of, if_self}
 use Rattle.stores.proofs.Commands.{look_is_own}
 
 pub locks_keep_numbers : (e : LockEvent) (h : History) (session cmd : ℕ) → IsAt h session cmd → IsAt (LockChange e ∷ h) session cmd
@@ -63,3 +63,14 @@ looks_keep_numbers h holder session tx number cmd good at mine before =
       holding_keeps (held_by (snapshot_events h) holder) holder (look_of h holder number) h session cmd
           (λ (t : ℕ) (its : open_of (tx_events h) session ≡ Some t) (same : (look_of h holder number).tx ≡ t). before (one_session h holder session tx t (sound_of h (legal_of h good)) mine its (sym own ∙ same))) at,
     )
+
+-- ---- what the session reads under
+
+held_look : (o : Option TakenSnapshot) (h : History) (s number cmd : ℕ) → held_by (snapshot_events h) s ≡ o → look_of (held_first o s (with_command number (held_or_fresh o (tx_events h) s)) ++ h) s cmd ≡ with_command cmd (held_or_fresh o (tx_events h) s)
+held_look None h s number cmd none =
+    let look : TakenSnapshot = with_command number (fresh (tx_events h) s) in
+    ap (λ (o : Option TakenSnapshot). with_command cmd (held_or_fresh o (tx_events h) s)) (if_self s (Some look) (held_by (snapshot_events h) s))
+held_look (Some old) h s number cmd some = ap (λ (o : Option TakenSnapshot). with_command cmd (held_or_fresh o (tx_events h) s)) some
+
+pub holding_keeps_looks : (h : History) (session number cmd : ℕ) → look_of (held h session number ++ h) session cmd ≡ look_of h session cmd
+holding_keeps_looks h session number cmd = held_look (held_by (snapshot_events h) session) h session number cmd refl

@@ -49,6 +49,10 @@ abbrev pub LooksKeepNumbers : Type 0
 LooksKeepNumbers = (h : History) (holder session tx number cmd : ℕ) → IsGood h → IsAt h session cmd → open_of (tx_events h) holder ≡ Some tx → (holder ≡ session → number ≤ cmd)
     → IsAt (let_go holder ++ h) session cmd × IsAt (held h holder number ++ h) session cmd
 
+-- to hold a snapshot changes nothing of what the session reads under
+abbrev pub HoldingKeepsLooks : Type 0
+HoldingKeepsLooks = (h : History) (session number cmd : ℕ) → look_of (held h session number ++ h) session cmd ≡ look_of h session cmd
+
 -- the snapshot under which a command of the transaction reads: it is of that transaction, the session may hold it, and the
 -- laws of soundness speak of what it shows
 pub record IsOpenLook (h : History) (session t : ℕ) (s : TakenSnapshot) : Type 0 where

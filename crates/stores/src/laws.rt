@@ -1,4 +1,4 @@
-ghost use Rattle.stores.specs.Laws.{GoodIsLegal, HeldIsOwn, BeginsAtZero, GoesOn, LocksKeepNumbers, OthersKeepNumbers, LooksKeepNumbers, LooksAreOpen, CommandsAreInOrder, TreesAreTogether};
+ghost use Rattle.stores.specs.Laws.{GoodIsLegal, HeldIsOwn, BeginsAtZero, GoesOn, LocksKeepNumbers, OthersKeepNumbers, LooksKeepNumbers, HoldingKeepsLooks, LooksAreOpen, CommandsAreInOrder, TreesAreTogether};
 
 /// A good history is legal and permitted, so that the laws of soundness hold of it.
 pub fn good_is_legal()
@@ -33,6 +33,11 @@ pub fn others_keep_numbers()
 /// It comes to the same command whatever snapshots are given up and held meanwhile.
 pub fn looks_keep_numbers()
     ensures { LooksKeepNumbers }
+{}
+
+/// To hold a snapshot changes nothing of what the session reads under.
+pub fn holding_keeps_looks()
+    ensures { HoldingKeepsLooks }
 {}
 
 /// The snapshot that a command reads under is one that it may hold, and of which soundness speaks.
