@@ -1,16 +1,16 @@
 -- A leaf that an INSERT names itself: NOT NULL is told first, then the kept CHECK, then the bound.
 use Rattle.std.proofs.Common.{◌≡◌, ℕ, true, false, List, [], ◌∷◌, ◌++◌, refl, Some}
-use Rattle.std.specs.Prelude.{pos, codes}
-use Rattle.pg_values.specs.declared.value.Kind.TheVariants.{Int4 as KInt4}
+use Rattle.std.specs.Prelude.{codes}
+use Rattle.pg_values.specs.declared.value.Kind.TheVariants.{Text as KText}
 use Rattle.pg_values.specs.declared.value.Value.{Value}
-use Rattle.pg_values.specs.declared.value.Value.TheVariants.{Null, Int4}
+use Rattle.pg_values.specs.declared.value.Value.TheVariants.{Null, Text}
 use Rattle.pg_values.specs.declared.fault.Fault.{Fault}
-use Rattle.part_bounds.specs.declared.level.KeyColumn.{KeyColumn}
 use Rattle.part_bounds.specs.declared.level.Level.{Level as OneLevel}
 use Rattle.part_bounds.specs.declared.level.Strategy.TheVariants.{Range as ByRange}
-use Rattle.part_bounds.specs.IntBounds.{int_range}
+use Rattle.part_bounds.specs.declared.partition_bound.Bound.{Bound}
+use Rattle.part_bounds.specs.declared.partition_bound.Bound.TheVariants.{Range}
+use Rattle.part_bounds.specs.declared.point.Edge.TheVariants.{Min, At}
 use Rattle.value_rules.specs.FaultTexts.{fault_of}
-use Rattle.history.specs.declared.catalogue.Column.{Column}
 use Rattle.history.specs.declared.catalogue.Table.{Table}
 use Rattle.history.specs.declared.catalogue.TableShape.TheVariants.{Leaf}
 use Rattle.table_trees.specs.declared.path_part.PathPart.{PathPart}
@@ -18,26 +18,30 @@ use Rattle.row_change.specs.declared.target.Target.{Target}
 use Rattle.row_change.specs.Placing.{bounds_faults}
 use Rattle.row_change.specs.Storing.{target_faults, own_null_faults, check_faults}
 
-abbrev a_level : OneLevel
-a_level = record { strategy = ByRange; columns = (record { position = 0; kind = KInt4 }) ∷ []; one_if_list = λ list. refl }
+abbrev by_a : OneLevel
+by_a = record { strategy = ByRange; columns = (record { position = 0; kind = KText }) ∷ []; one_if_list = λ list. refl }
 
--- p (a int NOT NULL, b int)
+-- FROM (lower) TO (upper)
+abbrev between : List ℕ → List ℕ → Bound
+between lower upper = Range (At (Text lower) ∷ Min ∷ []) (At (Text upper) ∷ Min ∷ [])
+
+-- p (a text NOT NULL, b text)
 abbrev p : Table
 p = record {
   id = record { number = 0 };
   name = codes "p";
-  columns = (record { name = codes "a"; kind = KInt4; not_null = true }) ∷ (record { name = codes "b"; kind = KInt4; not_null = false }) ∷ [];
+  columns = (record { name = codes "a"; kind = KText; not_null = true }) ∷ (record { name = codes "b"; kind = KText; not_null = false }) ∷ [];
   shape = Leaf (record { number = 0 });
   by = record { number = 0 };
   cmd = 0;
 }
 
--- FOR VALUES FROM (0) TO (10) of a table by RANGE (a), with a CHECK that was kept: FROM (5) TO (20)
+-- FOR VALUES FROM ('c') TO ('m') of a table by RANGE (a), with a CHECK of FROM ('g') TO ('t') that was kept
 abbrev path : List PathPart
 path = (record {
   table = record { number = 0 };
-  checks = (record { level = a_level; bound = int_range (pos 5) (pos 20) }) ∷ [];
-  place = Some (record { level = a_level; bounds = int_range (pos 0) (pos 10) ∷ []; child = 0 });
+  checks = (record { level = by_a; bound = between (codes "g") (codes "t") }) ∷ [];
+  place = Some (record { level = by_a; bounds = between (codes "c") (codes "m") ∷ []; child = 0 });
 }) ∷ []
 
 abbrev null_told : Fault
@@ -64,11 +68,14 @@ named target row n = rw (n.table, n.path, n.is_named) refl
 null_row : (target : Target) → IsNamed target → target_faults (p ∷ []) target (Null ∷ Null ∷ []) ≡ null_told ∷ check_told (codes "(null, null)") ∷ bound_told (codes "(null)") ∷ []
 null_row target n = named target (Null ∷ Null ∷ []) n
 
-far_row : (target : Target) → IsNamed target → target_faults (p ∷ []) target (Int4 (pos 25) ∷ Int4 (pos 7) ∷ []) ≡ check_told (codes "(25, 7)") ∷ bound_told (codes "(25)") ∷ []
-far_row target n = named target (Int4 (pos 25) ∷ Int4 (pos 7) ∷ []) n
+far_row : (target : Target) → IsNamed target → target_faults (p ∷ []) target (Text (codes "z") ∷ Text (codes "b") ∷ []) ≡ check_told (codes "(z, b)") ∷ bound_told (codes "(z)") ∷ []
+far_row target n = named target (Text (codes "z") ∷ Text (codes "b") ∷ []) n
 
-outside_row : (target : Target) → IsNamed target → target_faults (p ∷ []) target (Int4 (pos 12) ∷ Null ∷ []) ≡ bound_told (codes "(12)") ∷ []
-outside_row target n = named target (Int4 (pos 12) ∷ Null ∷ []) n
+checked_row : (target : Target) → IsNamed target → target_faults (p ∷ []) target (Text (codes "d") ∷ Null ∷ []) ≡ check_told (codes "(d, null)") ∷ []
+checked_row target n = named target (Text (codes "d") ∷ Null ∷ []) n
 
-good_row : (target : Target) → IsNamed target → target_faults (p ∷ []) target (Int4 (pos 7) ∷ Null ∷ []) ≡ []
-good_row target n = named target (Int4 (pos 7) ∷ Null ∷ []) n
+outside_row : (target : Target) → IsNamed target → target_faults (p ∷ []) target (Text (codes "p") ∷ Null ∷ []) ≡ bound_told (codes "(p)") ∷ []
+outside_row target n = named target (Text (codes "p") ∷ Null ∷ []) n
+
+good_row : (target : Target) → IsNamed target → target_faults (p ∷ []) target (Text (codes "h") ∷ Null ∷ []) ≡ []
+good_row target n = named target (Text (codes "h") ∷ Null ∷ []) n

@@ -1,5 +1,5 @@
 -- Rows stored one after the other.
-use Rattle.std.proofs.Common.{◌≡◌, ℕ, suc, ◌+◌, ◌<◌, List, [], ◌∷◌, ◌++◌, Result, Ok, Err, length, find, drop, get_or, drop-cons, add-one, refl, sym, ap, subst, ◌∙◌, append_assoc, append-nil}
+use Rattle.std.proofs.Common.{◌≡◌, ℕ, suc, ◌+◌, ◌<◌, List, [], ◌∷◌, ◌++◌, Result, Ok, Err, length, find, drop, get_or, drop-cons, add-one, refl, sym, ap, subst, ◌∙◌, arith, append_assoc, append-nil}
 use Rattle.pg_values.specs.declared.value.Value.{Value}
 use Rattle.pg_values.specs.declared.fault.Fault.{Fault}
 use Rattle.pg_values.specs.declared.fault.Refusal.{Refusal}
@@ -23,12 +23,12 @@ catalogue_stays : (kept : KeptCatalogue) (h : History) (e : RowEvent) → Catalo
 catalogue_stays kept h e st = record { sound = st.sound; tables = st.tables; drops = st.drops; entries = st.entries; ends = st.ends; marks = st.marks; checks = st.checks }
 
 -- so far these events were added, and the rest is to come
-pub record Reached (txs : KeptTable) (catalogue : KeptCatalogue) (kept : KeptRows) (h : History) (whole : Made) (rest : History → Made) : Type 0 where
+pub record Reached (t : KeptTable) (c : KeptCatalogue) (s : KeptRows) (h : History) (made : Made) (rest : History → Made) : Type 0 where
   pub events : History
-  pub txs : TableStands txs (events ++ h)
-  pub catalogue : CatalogueStands catalogue (events ++ h)
-  pub store : StoreStands kept (events ++ h)
-  pub whole : whole ≡ behind events (rest (events ++ h))
+  pub txs : TableStands t (events ++ h)
+  pub catalogue : CatalogueStands c (events ++ h)
+  pub store : StoreStands s (events ++ h)
+  pub whole : made ≡ behind events (rest (events ++ h))
 
 pub begun : (txs : KeptTable) (catalogue : KeptCatalogue) (kept : KeptRows) (h : History) (rest : History → Made) → TableStands txs h → CatalogueStands catalogue h → StoreStands kept h → Reached txs catalogue kept h (rest h) rest
 begun txs catalogue kept h rest t c s = record { events = []; txs = t; catalogue = c; store = s; whole = ap (λ es. record { events = es; told = (rest h).told }) (sym (append-nil (rest h).events)) }
@@ -124,6 +124,10 @@ pub rows_done : (txs : KeptTable) (catalogue : KeptCatalogue) (kept : KeptRows) 
 rows_done txs catalogue kept h whole targets by cmd leaves rows none left =
     done_here txs catalogue kept h whole (λ g. all_stored targets by cmd g leaves rows) (λ g. ap (all_stored targets by cmd g leaves) none ∙ none_left targets by cmd g leaves) left
 
-pub leaves_done : (txs : KeptTable) (catalogue : KeptCatalogue) (kept : KeptRows) (h : History) (whole : Made) (targets : List Target) (by : TxId) (cmd : ℕ) (leaves : List LeafId) (rows : List (List Value)) → leaves ≡ [] → Left txs catalogue kept h whole targets by cmd leaves rows → IsMade (Ok tt) kept h whole
+no_leaf : (targets : List Target) (by : TxId) (cmd : ℕ) (g : History) (leaves : List LeafId) (rows : List (List Value)) → length leaves ≡ 0 → all_stored targets by cmd g leaves rows ≡ record { events = []; told = Ok tt }
+no_leaf targets by cmd g [] rows none = refl
+no_leaf targets by cmd g (l ∷ ls) rows none = absurd (omega (arith, none))
+
+pub leaves_done : (txs : KeptTable) (catalogue : KeptCatalogue) (kept : KeptRows) (h : History) (whole : Made) (targets : List Target) (by : TxId) (cmd : ℕ) (leaves : List LeafId) (rows : List (List Value)) → length leaves ≡ 0 → Left txs catalogue kept h whole targets by cmd leaves rows → IsMade (Ok tt) kept h whole
 leaves_done txs catalogue kept h whole targets by cmd leaves rows none left =
-    done_here txs catalogue kept h whole (λ g. all_stored targets by cmd g leaves rows) (λ g. ap (λ ls. all_stored targets by cmd g ls rows) none) left
+    done_here txs catalogue kept h whole (λ g. all_stored targets by cmd g leaves rows) (λ g. no_leaf targets by cmd g leaves rows none) left

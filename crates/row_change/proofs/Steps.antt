@@ -1,5 +1,5 @@
 -- Steps of loops.
-use Rattle.std.proofs.Common.{◌≡◌, ℕ, ◌+◌, List, [], ◌∷◌, ◌++◌, refl, arith}
+use Rattle.std.proofs.Common.{◌≡◌, ℕ, ◌+◌, List, [], ◌∷◌, ◌++◌, length, refl, arith}
 use Rattle.std.proofs.lemmas.List.FromFn.{map-range_with_len_more}
 use Rattle.pg_values.specs.declared.value.Value.{Value}
 use Rattle.pg_values.specs.declared.value.Value.TheVariants.{Null}
@@ -10,6 +10,7 @@ pub full_row_more : (width : ℕ) (named : List ℕ) (values : List Value) → f
 full_row_more width named values = map-range_with_len_more (value_for named values) 0 width width (omega arith)
 
 -- no value is left for a column
-pub nothing_given : (named : List ℕ) (column : ℕ) → value_for named [] column ≡ Null
-nothing_given [] column = refl
-nothing_given (n ∷ ns) column = refl
+pub nothing_given : (named : List ℕ) (values : List Value) (column : ℕ) → length values ≡ 0 → value_for named values column ≡ Null
+nothing_given [] values column none = refl
+nothing_given (n ∷ ns) [] column none = refl
+nothing_given (n ∷ ns) (v ∷ values) column none = absurd (omega (arith, none))

@@ -5,7 +5,6 @@ use pg_values::{NoMemory, Row, Value, copy_value};
 use std::alloc::Global;
 
 // The value that is given for a column.
-#[tactic(auto, using(crate::proofs::Steps::nothing_given))]
 fn value_for(
     alloc: Global,
     named: &[usize],

@@ -18,8 +18,6 @@ mod placing;
 mod storing;
 mod target;
 mod testing;
-#[cfg(test)]
-mod tests;
 mod texts;
 mod way;
 

@@ -102,8 +102,9 @@ fn store_row(
     put_row(alloc, txs, store, leaf, row, by, cmd)
 }
 
-/// Stores each row in its leaf, made by a transaction that runs: each is tested as its leaf's target says, and
-/// needs room in the store, 54000. A refusal ends it, and leaves the rows before it stored.
+/// Stores each row in its leaf, made by a transaction that runs. The targets are those of all leaves: each row is
+/// tested as its leaf's target says, and needs room in the store, 54000. A refusal ends it, and leaves the rows
+/// before it stored.
 pub fn store_rows(
     alloc: Global,
     catalog: &Catalog,

@@ -94,7 +94,6 @@ fn refused_by_check(
 }
 
 // The nearest table of the path that has a kept CHECK which refuses the row: 23514.
-#[tactic(auto, using(crate::proofs::Ways::refused_is_numbered))]
 fn check_kept(
     alloc: Global,
     catalog: &Catalog,

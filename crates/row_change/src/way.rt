@@ -1,6 +1,6 @@
 //! The tables on the way of a row, and of all rows.
 
-ghost use Rattle.std.specs.Prelude.{◌≡◌, ◌++◌, All, OnOk, OnErr, IfOk, MatchOption};
+ghost use Rattle.std.specs.Prelude.{◌≡◌, ◌++◌, true, false, Some, None, All, OnOk, IfOk, MatchOption};
 ghost use Rattle.table_trees.specs.Trees.{Fits};
 ghost use Rattle.table_trees.specs.Seen.{seen};
 ghost use Rattle.row_change.specs.Ways.{way_below, ways_below, way_to};
