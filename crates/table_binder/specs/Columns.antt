@@ -30,7 +30,7 @@ kind_among name [] = None
 kind_among name (line ∷ lines) = if bytes_eq line.0 name then Some line.1 else kind_among name lines
 
 -- the kind of a type's name
-abbrev pub kind_named : List ℕ → Option Kind
+unfoldable pub kind_named : List ℕ → Option Kind
 kind_named name = kind_among name types
 
 abbrev pub kind_or_text : List ℕ → Kind

@@ -48,6 +48,7 @@ fn kind_among(name: &[u8], lines: &[(&[u8], Kind)]) -> Option<Kind>
 }
 
 /// The kind of a type's name, which is folded already.
+#[tactic(auto, unfolding(crate::specs::Columns::kind_named))]
 pub fn kind_named(name: &[u8]) -> Option<Kind>
     ensures { result ≡ spec.kind_named name.now }
 {
@@ -100,24 +101,18 @@ fn check_columns(alloc: Global, columns: &[ColumnDefinition]) -> Result<(), Refu
     check_names(alloc, columns)
 }
 
-fn kind_of_type(alloc: Global, name: &[u8]) -> Result<Kind, Refusal>
-    ensures { IsAnswer result (or_first (spec.type_fault name.now) (spec.kind_or_text name.now)) }
-{
-    match kind_named(name) {
-        Some(kind) => Ok(kind),
-        None => Err(Refusal::Sql(no_type(alloc, name)?)),
-    }
-}
-
 fn column(alloc: Global, definition: &ColumnDefinition) -> Result<Column, Refusal>
     ensures { IsAnswer result (or_first (spec.type_fault definition.now.kind) (spec.column_of definition.now)) }
 {
-    let kind = kind_of_type(alloc, definition.kind.as_bytes())?;
-    Ok(Column {
-        name: definition.name.copy(alloc)?,
-        kind,
-        not_null: definition.not_null,
-    })
+    let name = definition.name.copy(alloc)?;
+    match kind_named(definition.kind.as_bytes()) {
+        Some(kind) => Ok(Column {
+            name,
+            kind,
+            not_null: definition.not_null,
+        }),
+        None => Err(Refusal::Sql(no_type(alloc, definition.kind.as_bytes())?)),
+    }
 }
 
 fn add(columns: &mut Columns, column: Column) -> Result<(), NoMemory>
