@@ -1,4 +1,4 @@
-ghost use Rattle.std.specs.Prelude.{◌≡◌, map, IfOk};
+ghost use Rattle.std.specs.Prelude.{◌≡◌, ◌++◌, map, IfOk};
 ghost use Rattle.pg_values.specs.Refusals.{IsAnswer};
 ghost use Rattle.sql_expressions.specs.Tree.{tree, listed};
 ghost use Rattle.expression_binder.specs.Firsts.{or_first};
@@ -62,6 +62,14 @@ fn check_values(alloc: Global, parts: &[Expr]) -> Result<(), Refusal>
     Ok(())
 }
 
+#[cycle(check)]
+fn check_both(alloc: Global, x: &Expr, y: &Expr) -> Result<(), Refusal>
+    ensures { IsAnswer result (or_first (spec.value_faults (tree x.now) ++ spec.value_faults (tree y.now)) tt) }
+{
+    check_value(alloc, x)?;
+    check_value(alloc, y)
+}
+
 // The first fault of names and kinds: 0A000 for what has no place in a bound, 42883.
 #[cycle(check)]
 fn check_value(alloc: Global, e: &Expr) -> Result<(), Refusal>
@@ -82,8 +90,7 @@ fn check_value(alloc: Global, e: &Expr) -> Result<(), Refusal>
             check_whole(alloc, e)
         }
         Expr::Binary(_, x, y) => {
-            check_value(alloc, x)?;
-            check_value(alloc, y)?;
+            check_both(alloc, x, y)?;
             check_whole(alloc, e)
         }
         Expr::In(_, x, list) => {
@@ -93,8 +100,7 @@ fn check_value(alloc: Global, e: &Expr) -> Result<(), Refusal>
         }
         Expr::Between(_, x, from, to) => {
             check_value(alloc, x)?;
-            check_value(alloc, from)?;
-            check_value(alloc, to)?;
+            check_both(alloc, from, to)?;
             check_whole(alloc, e)
         }
         Expr::IsNull(_, x) => {

@@ -7,6 +7,9 @@ use Rattle.table_binder.proofs.values.+check.Given as goal
 abbrev pub decreases-check_value : goal.decreases-check_value
 decreases-check_value l = 2 * weight (tree l.e.now)
 
+abbrev pub decreases-check_both : goal.decreases-check_both
+decreases-check_both l = 2 * (weight (tree l.x.now) + weight (tree l.y.now)) + 1
+
 abbrev pub decreases-check_values : goal.decreases-check_values
 decreases-check_values l = 2 * weights (listed (map tree l.parts.now)) + 1
 
