@@ -1,0 +1,7 @@
+pub mod Below
+pub mod Dropped
+pub mod Faults
+pub mod Made
+pub mod Partitions
+pub mod Placing
+pub mod Tables
