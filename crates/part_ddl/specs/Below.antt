@@ -1,5 +1,5 @@
 -- The tables below a table, with all pending partitions (the manual, 5.11.2 Declarative Partitioning).
-use Rattle.std.specs.Prelude.{ℕ, Bool, List, [], ◌∷◌, ◌++◌, Option, find, option_map}
+use Rattle.std.specs.Prelude.{◌≡◌, ℕ, Bool, List, [], ◌∷◌, ◌++◌, Option, find, option_map}
 use Rattle.pg_ids.specs.declared.ids.TableNo.{TableNo}
 use Rattle.part_bounds.specs.Accepts.{is_default}
 use Rattle.history.specs.declared.catalogue.Entry.{Entry}
@@ -36,3 +36,10 @@ has_default_bound e = is_default e.bound
 
 abbrev pub default_of : History → (session table : ℕ) → Option TableNo
 default_of h session table = option_map (λ e. e.child) (find has_default_bound (partitions_of h session table))
+
+-- a tree that is the one of some table in some history
+pub record IsDdlTree (t : TableTree) : Type 0 where
+  pub h : History
+  pub session : ℕ
+  pub table : ℕ
+  pub is : t ≡ ddl_tree h session table

@@ -21,9 +21,9 @@ made_by [] table events = record { events = events; told = Ok table }
 made_by (f ∷ fs) table events = record { events = []; told = Err f }
 
 -- the stores stand for the history with the events
-pub record StandAfter (kept : KeptCatalogue) (rows : KeptRows) (h : History) (made : Made) : Type 0 where
+pub record StandAfter (kept : KeptCatalogue) (store : KeptRows) (h : History) (made : Made) : Type 0 where
   pub catalogue : CatalogueStands kept (made.events ++ h)
-  pub rows : StoreStands rows (made.events ++ h)
+  pub rows : StoreStands store (made.events ++ h)
 
 -- want of memory apart, this is what the answer tells, and the stores stand for the history with the events
 abbrev pub IsMade : Result TableNo Refusal → KeptCatalogue → KeptRows → History → Made → Type 0

@@ -13,6 +13,8 @@ use Rattle.table_trees.specs.Histories.{table_of}
 use Rattle.table_trees.specs.Siblings.{AreSiblings}
 use Rattle.tx_table.specs.Kept.{KeptTable}
 use Rattle.tx_table.specs.Stands.{TableStands}
+use Rattle.row_store.specs.Kept.{KeptRows}
+use Rattle.row_store.specs.Stands.{StoreStands}
 use Rattle.part_catalog.specs.Kept.{KeptCatalogue}
 use Rattle.part_catalog.specs.Stands.{CatalogueStands}
 use Rattle.part_catalog.specs.Found.{made_at, table_number}
@@ -34,11 +36,12 @@ made_partition h name parent b level by cmd = made_by (count_faults h) (next_tab
 -- the stores stand for a history in which the parent takes the bound, nothing stands against a further partition of one
 -- table with this bound, key columns lie among the parent's columns, and the entries that are present for the session of
 -- the transaction are siblings
-pub record MayMake (table : KeptTable) (kept : KeptCatalogue) (parent : ℕ) (b : Bound) (level : Option Level) (by : TxId) : Type 0 where
+pub record MayMake (table : KeptTable) (kept : KeptCatalogue) (store : KeptRows) (parent : ℕ) (b : Bound) (level : Option Level) (by : TxId) : Type 0 where
   pub h : History
   pub txs : TableStands table h
   pub catalogue : CatalogueStands kept h
-  pub parent : parent < table_number h
+  pub rows : StoreStands store h
+  pub known : parent < table_number h
   pub takes : TakesBound (made_at h parent).shape b
   pub keys : KeysFit (made_at h parent).columns level
   pub siblings : AreSiblings (entries_present h (session_of (tx_events h) by.number))

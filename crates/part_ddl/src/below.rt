@@ -1,6 +1,8 @@
-ghost use Rattle.std.specs.Prelude.{◌≡◌, ◌<◌, ◌++◌, IfOk, OnOk, length};
+ghost use Rattle.std.specs.Prelude.{◌≡◌, ◌<◌, ◌++◌, ℕ, IfOk, OnOk, length};
 ghost use Rattle.history.specs.History.{History};
+ghost use Rattle.history.specs.Places.{AreCatalogueSound};
 ghost use Rattle.tx_table.specs.Stands.{TableStands};
+ghost use Rattle.table_trees.specs.Histories.{ddl_tree};
 ghost use Rattle.table_trees.specs.Seen.{seen};
 ghost use Rattle.part_catalog.specs.Answers.{AreTogether};
 ghost use Rattle.part_catalog.specs.Stands.{CatalogueStands};
@@ -19,9 +21,18 @@ pub fn push_tables(tree: &Tree, out: &mut Vec<TableNo>) -> Result<(), NoMemory>
     ensures { OnOk result (out.new.items ≡ out.old.items ++ below.tables_in (seen tree.now)) }
 {
     out.push(tree.node.table)?;
-    push_below(tree, out)
+    match &tree.shape {
+        Shape::Leaf(_) => Ok(()),
+        Shape::Level(_, _, children) => {
+            for child in children.as_slice() {
+                push_tables(child, out)?;
+            }
+            Ok(())
+        }
+    }
 }
 
+// Puts all but its topmost table behind the list.
 fn push_below(tree: &Tree, out: &mut Vec<TableNo>) -> Result<(), NoMemory>
     ensures { OnOk result (out.new.items ≡ out.old.items ++ below.below_top (seen tree.now)) }
 {
@@ -56,6 +67,20 @@ pub fn tables_below(
     Ok(tables)
 }
 
+// The default partition at the top of a tree.
+fn default_in(tree: &Tree) -> Option<TableNo>
+    requires { below.IsDdlTree (seen tree.now) }
+    ensures { (h : History) (session table : ℕ) → AreCatalogueSound h → seen tree.now ≡ ddl_tree h session table → result ≡ below.default_of h session table }
+{
+    match &tree.shape {
+        Shape::Leaf(_) => None,
+        Shape::Level(_, bounds, children) => match default_child(bounds) {
+            Some(at) => Some(children.at(at).node.table),
+            None => None,
+        },
+    }
+}
+
 /// The default partition of a table for the session.
 pub fn default_of(
     alloc: Global,
@@ -70,11 +95,6 @@ pub fn default_of(
         default ≡ below.default_of h session table.number) }
 {
     let tree = catalog.ddl_tree(alloc, txs, table, session)?;
-    match &tree.shape {
-        Shape::Leaf(_) => Ok(None),
-        Shape::Level(_, bounds, children) => match default_child(bounds) {
-            Some(at) => Ok(Some(children.at(at).node.table)),
-            None => Ok(None),
-        },
-    }
+    let default = default_in(&tree);
+    Ok(default)
 }

@@ -29,7 +29,7 @@ fn end_place(catalog: &mut Catalog, txs: &TxTable, table: TableNo, by: TxId, cmd
 
 // Ends the entries of these tables.
 fn end_places(catalog: &mut Catalog, txs: &TxTable, tables: &[TableNo], by: TxId, cmd: u32)
-    requires open { IsOpen txs.now by.number }
+    requires runs { IsOpen txs.now by.number }
     requires ends { MayEndAll txs.now catalog.old by tables.now }
     ensures { (h : History) → TableStands txs.now h → CatalogueStands catalog.old h →
         CatalogueStands catalog.new (places_ended (session_of (tx_events h) by.number) (record { by = by; cmd = cmd }) h tables.now ++ h) }
@@ -61,7 +61,7 @@ pub fn drop_table(
     cmd: u32,
 ) -> Result<(), NoMemory>
     requires known { table.number < length catalog.old.tables }
-    requires open { IsOpen txs.now by.number }
+    requires runs { IsOpen txs.now by.number }
     requires free { MayDrop txs.now catalog.old table.number by }
     ensures ok { OnOk result ((h : History) → TableStands txs.now h → CatalogueStands catalog.old h →
         CatalogueStands catalog.new (drop_events h (session_of (tx_events h) by.number) table.number (record { by = by; cmd = cmd }) ++ h)) }

@@ -16,6 +16,7 @@
 mod below;
 mod dropped;
 mod faults;
+mod laws;
 mod names;
 mod partitions;
 mod placing;
@@ -23,6 +24,7 @@ mod tables;
 
 pub use below::{default_of, tables_below};
 pub use dropped::drop_table;
+pub use laws::passed_have_places;
 pub use names::check_name;
 pub use partitions::make_partition;
 pub use placing::{check_place, parent_level};

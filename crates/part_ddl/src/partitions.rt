@@ -30,7 +30,7 @@ pub fn make_partition(
     by: TxId,
     cmd: u32,
 ) -> Result<TableNo, Refusal>
-    requires { MayMake txs.now catalog.old parent.number bound level by }
+    requires { MayMake txs.now catalog.old rows.old parent.number bound level by }
     ensures { (h : History) → TableStands txs.now h → CatalogueStands catalog.old h → StoreStands rows.old h →
         IsMade result catalog.new rows.new h (made_partition h name parent.number bound level by cmd) }
 {

@@ -1,6 +1,6 @@
 //! Whether a partition may stand below a table.
 
-ghost use Rattle.std.specs.Prelude.{◌≡◌, ◌<◌, ◌≤◌, [], MatchResult, OnOk, Ok, All, true, length, option_map, slice_index_or};
+ghost use Rattle.std.specs.Prelude.{◌≡◌, ◌<◌, ◌≤◌, ◌++◌, [], MatchResult, OnOk, Ok, All, true, length, option_map, slice_index_or};
 ghost use Rattle.pg_values.specs.Refusals.{IsAnswer};
 ghost use Rattle.part_bounds.specs.declared.level.Level.{Level as OneLevel};
 ghost use Rattle.part_bounds.specs.declared.partition_bound.Bound.TheVariants.{Default};
@@ -11,8 +11,8 @@ ghost use Rattle.history.specs.History.{History};
 ghost use Rattle.history.specs.Places.{TakesBound};
 ghost use Rattle.history.specs.Presence.{entries_present};
 ghost use Rattle.tx_table.specs.Stands.{TableStands};
-ghost use Rattle.table_trees.specs.Histories.{above};
-ghost use Rattle.table_trees.specs.Seen.{items_of};
+ghost use Rattle.table_trees.specs.Histories.{above, ddl_tree};
+ghost use Rattle.table_trees.specs.Seen.{items_of, seen};
 ghost use Rattle.part_catalog.specs.Answers.{AreTogether};
 ghost use Rattle.part_catalog.specs.Found.{made_at};
 ghost use Rattle.part_catalog.specs.Full.{tables_above};
@@ -33,7 +33,7 @@ use part_catalog::{Catalog, LEVEL_LIMIT, PARTITION_LIMIT};
 use pg_ids::{TableNo, Which};
 use pg_values::{Refusal, ValueKey};
 use std::alloc::Global;
-use table_trees::{Shape, TreeList};
+use table_trees::{Shape, Tree, TreeList};
 use tx_table::TxTable;
 
 /// The level of a table, below which a partition is to stand; 42809 where the table is not
@@ -71,7 +71,7 @@ fn check_further_default(
     children: &TreeList,
 ) -> Result<(), Refusal>
     requires { length bounds.now ≡ length (items_of children.now) }
-    ensures { IsAnswer result (or_first (placing.default_faults parent.now (option_map (λ n. n.now) pending) (placing.tree_names (items_of children.now)) bounds.now Default) tt) }
+    ensures { IsAnswer result (or_first (placing.default_faults parent.now (option_map (λ n. n.now) pending.entry) (placing.tree_names (items_of children.now)) bounds.now Default) tt) }
 {
     if let Some(at) = default_child(bounds) {
         let name = name_at(children, at);
@@ -92,7 +92,7 @@ fn check_default(
     bound: &Bound,
 ) -> Result<(), Refusal>
     requires { length bounds.now ≡ length (items_of children.now) }
-    ensures { IsAnswer result (or_first (placing.default_faults parent.now (option_map (λ n. n.now) pending) (placing.tree_names (items_of children.now)) bounds.now bound.now) tt) }
+    ensures { IsAnswer result (or_first (placing.default_faults parent.now (option_map (λ n. n.now) pending.entry) (placing.tree_names (items_of children.now)) bounds.now bound.now) tt) }
 {
     match bound {
         Bound::Default => check_further_default(alloc, parent, pending, bounds, children),
@@ -106,11 +106,14 @@ fn check_modulus(alloc: Global, bounds: &BoundSet<ValueKey>, bound: &Bound) -> R
     ensures answer { IsAnswer result (or_first (placing.modulus_faults bounds.now bound.now) tt) }
     ensures fit { OnOk result ((level : OneLevel) → IsOfLevel level bound.now → All (IsOfLevel level) bounds.now → All (λ a. BoundsFit a bound.now) bounds.now) }
 {
-    match (bound, modulus_fault(bounds, bound)) {
-        (Bound::Hash { modulus, .. }, Some(other)) => {
-            Err(Refusal::Sql(modulus_does_not_suit(alloc, *modulus, other)?))
-        }
-        _ => Ok(()),
+    match modulus_fault(bounds, bound) {
+        None => Ok(()),
+        Some(other) => match bound {
+            Bound::Hash { modulus, .. } => {
+                Err(Refusal::Sql(modulus_does_not_suit(alloc, *modulus, other)?))
+            }
+            _ => unreachable!(),
+        },
     }
 }
 
@@ -147,7 +150,7 @@ fn check_beside(
     requires paired { length bounds.now ≡ length (items_of children.now) }
     requires mine { IsOfLevel level.now bound.now }
     requires theirs { All (IsOfLevel level.now) bounds.now }
-    ensures { IsAnswer result (or_first (placing.bound_faults parent.now (option_map (λ n. n.now) pending) (placing.tree_names (items_of children.now)) bounds.now bound.now) tt) }
+    ensures { IsAnswer result (or_first (placing.bound_faults parent.now (option_map (λ n. n.now) pending.entry) (placing.tree_names (items_of children.now)) bounds.now bound.now) tt) }
 {
     level_bounds_have_a_kind();
     let _ = level;
@@ -167,6 +170,26 @@ fn check_room(alloc: Global, partitions: usize, levels: usize) -> Result<(), Ref
         return Err(Refusal::Sql(too_many(alloc, Which::Levels)?));
     }
     Ok(())
+}
+
+// What stands against the bound, the limits among it.
+fn check_level(
+    alloc: Global,
+    parent: &[u8],
+    pending: Option<&[u8]>,
+    level: &Level,
+    bounds: &BoundSet<ValueKey>,
+    children: &TreeList,
+    bound: &Bound,
+    levels: usize,
+) -> Result<(), Refusal>
+    requires paired { length bounds.now ≡ length (items_of children.now) }
+    requires mine { IsOfLevel level.now bound.now }
+    requires theirs { All (IsOfLevel level.now) bounds.now }
+    ensures { IsAnswer result (or_first (placing.bound_faults parent.now (option_map (λ n. n.now) pending.entry) (placing.tree_names (items_of children.now)) bounds.now bound.now ++ placing.room_faults (length (items_of children.now)) levels) tt) }
+{
+    check_beside(alloc, parent, pending, level, bounds, children, bound)?;
+    check_room(alloc, children.len(), levels)
 }
 
 // How many tables stand on the path from a table upwards, up to eight.
@@ -205,6 +228,34 @@ fn pending_name<'c>(
     }
 }
 
+// Whether a partition may stand at the top of a tree.
+fn check_among(
+    alloc: Global,
+    catalog: &Catalog,
+    txs: &TxTable,
+    parent: TableNo,
+    tree: &Tree,
+    bound: &Bound,
+    session: u32,
+) -> Result<(), Refusal>
+    requires known { parent.number < length catalog.now.tables }
+    requires siblings { AreTogether txs.now catalog.now session }
+    requires takes { (h : History) → CatalogueStands catalog.now h → TakesBound (made_at h parent.number).shape bound.now }
+    requires tree { (h : History) → TableStands txs.now h → CatalogueStands catalog.now h → seen tree.now ≡ ddl_tree h session parent.number }
+    ensures { (h : History) → TableStands txs.now h → CatalogueStands catalog.now h →
+        IsAnswer result (or_first (placing.place_faults h session parent.number bound.now 1) tt) }
+{
+    match &tree.shape {
+        Shape::Leaf(_) => unreachable!(),
+        Shape::Level(level, bounds, children) => {
+            let pending = pending_name(catalog, txs, parent, session);
+            let name = catalog.name_of(parent);
+            let levels = levels_up(catalog, txs, parent, session) + 1;
+            check_level(alloc, name, pending, level, bounds, children, bound, levels)
+        }
+    }
+}
+
 /// Whether a table that is not partitioned, or has no partition yet, may stand below another under a
 /// bound of that one's level. It is refused as a second default (42P17), as a default beside a pending
 /// partition (55000), where its modulus does not suit a sibling's or its bound overlaps a sibling's
@@ -224,12 +275,5 @@ pub fn check_place(
         IsAnswer result (or_first (placing.place_faults h session parent.number bound.now 1) tt) }
 {
     let tree = catalog.ddl_tree(alloc, txs, parent, session)?;
-    let Shape::Level(level, bounds, children) = &tree.shape else {
-        unreachable!()
-    };
-    let pending = pending_name(catalog, txs, parent, session);
-    let name = catalog.name_of(parent);
-    check_beside(alloc, name, pending, level, bounds, children, bound)?;
-    let levels = levels_up(catalog, txs, parent, session) + 1;
-    check_room(alloc, children.len(), levels)
+    check_among(alloc, catalog, txs, parent, &tree, bound, session)
 }

@@ -1,5 +1,7 @@
-ghost use Rattle.std.specs.Prelude.{◌≡◌, ◌<◌, ◌≤◌, ℕ, ◌∷◌, ◌++◌, IfOk, length};
+ghost use Rattle.std.specs.Prelude.{◌≡◌, ◌++◌, List, IfOk};
+ghost use Rattle.history.specs.declared.catalogue.Column.{Column as OneColumn};
 ghost use Rattle.history.specs.History.{History};
+ghost use Rattle.history.specs.Places.{KeysLieIn};
 ghost use Rattle.row_store.specs.Stands.{StoreStands};
 ghost use Rattle.part_catalog.specs.Stands.{CatalogueStands};
 ghost use Rattle.part_ddl.specs.Made.{IsMade};
@@ -16,8 +18,9 @@ use std::alloc::Global;
 
 // The level of a partitioned table, or a leaf for the rows of one that is not.
 fn shape_for(rows: &mut RowStore, level: Option<Level>) -> Result<TableShape, NoMemory>
-    ensures { IfOk result (λ shape. (h : History) → StoreStands rows.old h →
+    ensures made { IfOk result (λ shape. (h : History) → StoreStands rows.old h →
         (shape ≡ shape_of h level) × StoreStands rows.new (leaf_events h level ++ h)) }
+    ensures keys { IfOk result (λ shape. (columns : List OneColumn) → KeysFit columns level → KeysLieIn columns shape) }
 {
     match level {
         Some(level) => Ok(TableShape::Level(level)),

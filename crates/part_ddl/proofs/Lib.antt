@@ -1,0 +1,10 @@
+pub mod Among
+pub mod Defaults
+pub mod Ends
+pub mod Free
+pub mod Going
+pub mod Kids
+pub mod Making
+pub mod Numbers
+pub mod Standing
+pub mod Suiting
