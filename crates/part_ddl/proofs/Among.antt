@@ -1,15 +1,13 @@
 -- What stands against a further bound, told from a tree, is what the history tells.
-use Rattle.std.proofs.Common.{◌≡◌, ℕ, ◌+◌, ◌++◌, ap, sym, ◌∙◌, List, Option, length, map}
+use Rattle.std.proofs.Common.{◌≡◌, ℕ, ◌++◌, ap, sym, ◌∙◌, List, Option, length}
 use Rattle.std.proofs.lemmas.List.{length-map}
 use Rattle.part_bounds.specs.declared.level.Level.{Level as OneLevel}
 use Rattle.part_bounds.specs.declared.partition_bound.Bound.{Bound}
 use Rattle.history.specs.History.{History}
-use Rattle.history.specs.Presence.{entries_present}
 use Rattle.table_trees.specs.declared.tree.Tree.{Tree}
-use Rattle.table_trees.specs.Histories.{above, bound_of}
+use Rattle.table_trees.specs.Histories.{bound_of}
 use Rattle.part_catalog.specs.Found.{made_at}
-use Rattle.part_catalog.specs.Full.{tables_above}
-use Rattle.part_ddl.specs.Placing.{tree_names, names_below, bounds_below, pending_name, partitions_of, levels_with, bound_faults, room_faults, place_faults}
+use Rattle.part_ddl.specs.Placing.{names_below, bounds_below, pending_name, partitions_of, levels_with, bound_faults, room_faults, place_faults}
 use Rattle.part_ddl.proofs.Kids.{IsTold}
 
 -- the words of the call are those of the history

@@ -1,5 +1,5 @@
 -- The default partition of a table, found by its place.
-use Rattle.std.proofs.Common.{◌≡◌, ℕ, suc, ◌+◌, ◌<◌, ◌≤◌, arith, ap, refl, sym, subst, ◌∙◌, Bool, true, false, if◌then◌else◌, List, [], ◌∷◌, Option, Some, None, length, map, get_or, inl, inr}
+use Rattle.std.proofs.Common.{◌≡◌, ℕ, suc, ◌+◌, ◌<◌, ◌≤◌, arith, ap, refl, sym, subst, ◌∙◌, true, false, if◌then◌else◌, List, [], ◌∷◌, Some, None, length, map, get_or, inl, inr}
 use Rattle.std.specs.Prelude.{nat_lt}
 use Rattle.std.specs.List.{All, find, position, position_or_len}
 use Rattle.std.specs.Option.{option_map}
@@ -7,7 +7,6 @@ use Rattle.std.proofs.lemmas.Bool.{cases_Bool, cases_lt}
 use Rattle.std.proofs.lemmas.Bool.Decides.{nat_tests}
 use Rattle.std.proofs.lemmas.List.{get_or-map, length-map}
 use Rattle.std.proofs.lemmas.List.Elements.{All-head}
-use Rattle.pg_ids.specs.declared.ids.TableNo.{TableNo}
 use Rattle.pg_ids.specs.declared.ids.LeafId.{LeafId}
 use Rattle.part_bounds.specs.declared.level.Level.{Level as OneLevel}
 use Rattle.part_bounds.specs.declared.partition_bound.Bound.{Bound}
@@ -26,7 +25,7 @@ use Rattle.table_trees.proofs.Suited.{all_suit}
 use Rattle.part_catalog.specs.Found.{made_at}
 use Rattle.part_catalog.specs.Kept.{no_entry}
 use Rattle.part_ddl.specs.Below.{default_of, has_default_bound}
-use Rattle.part_ddl.specs.Placing.{partitions_of, bounds_below}
+use Rattle.part_ddl.specs.Placing.{partitions_of}
 use Rattle.part_ddl.proofs.Kids.{IsTold, tree_table, entry_child}
 
 -- ---- a place and what stands there

@@ -1,7 +1,6 @@
 -- The entry by which a table is a partition, and the history after its end.
-use Rattle.std.proofs.Common.{◌≡◌, ℕ, ◌==◌, ◌&&◌, ◌++◌, not, arith, ap, refl, sym, subst, ◌∙◌, Bool, true, false, if◌then◌else◌, List, [], ◌∷◌, Option, Some, None, filter, inl, inr}
+use Rattle.std.proofs.Common.{◌≡◌, ℕ, ◌==◌, ◌&&◌, ◌++◌, not, arith, ap, refl, sym, subst, ◌∙◌, Bool, true, false, List, [], ◌∷◌, Option, Some, None, filter, inl, inr}
 use Rattle.std.specs.List.{All, find}
-use Rattle.std.proofs.lemmas.Grind.{common_steps}
 use Rattle.std.proofs.lemmas.Bool.{cases_Bool}
 use Rattle.std.proofs.lemmas.Bool.Decides.{nat_tests}
 use Rattle.std.proofs.lemmas.List.Elements.{All-cons, All-head, All-tail, All-nil}
@@ -10,7 +9,7 @@ use Rattle.history.specs.declared.transaction.TxId.{TxId}
 use Rattle.history.specs.declared.transaction.Fate.TheVariants.{Running}
 use Rattle.history.specs.declared.catalogue.Entry.{Entry}
 use Rattle.history.specs.declared.catalogue.Stamp.{Stamp}
-use Rattle.history.specs.Transactions.{TxEvents, fate, open_of, session_of, was_aborted, IsSound}
+use Rattle.history.specs.Transactions.{TxEvents, fate, open_of, session_of, was_aborted}
 use Rattle.history.specs.Catalogue.{EntryEnded, Stamps, entries_added, entry_ends, counted_of}
 use Rattle.history.specs.History.{History, CatalogueChange, tx_events, catalogue_events}
 use Rattle.history.specs.Presence.{counts, stamp_counts, is_present, entries_present}
@@ -18,7 +17,7 @@ use Rattle.history.proofs.Open.{open_runs, open_own}
 use Rattle.table_trees.specs.Histories.{above, is_over}
 use Rattle.tx_table.specs.Kept.{KeptTable}
 use Rattle.tx_table.specs.Stands.{TableStands, IsOpen}
-use Rattle.part_catalog.specs.Answers.{is_between, entry_between, parent_told, IsStanding}
+use Rattle.part_catalog.specs.Answers.{entry_between, parent_told, IsStanding}
 use Rattle.part_catalog.specs.Kept.{KeptCatalogue}
 use Rattle.part_catalog.specs.Stands.{CatalogueStands}
 use Rattle.part_ddl.specs.Dropped.{IsNotEnded, KeepsPlaces, MayEnd, ended, place_ended}

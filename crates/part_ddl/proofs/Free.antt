@@ -1,5 +1,5 @@
 -- Where nothing stands against a further partition.
-use Rattle.std.proofs.Common.{◌≡◌, ℕ, suc, not, if◌then◌else◌, ◌+◌, ◌<◌, ◌≤◌, ◌==◌, ◌&&◌, ◌++◌, arith, ap, refl, sym, subst, ◌∙◌, Bool, true, false, List, [], ◌∷◌, Option, Some, None, filter, map, length, get_or, inl, inr}
+use Rattle.std.proofs.Common.{◌≡◌, ℕ, suc, not, if◌then◌else◌, ◌+◌, ◌<◌, ◌≤◌, ◌==◌, ◌++◌, arith, refl, sym, subst, ◌∙◌, Bool, true, false, List, [], ◌∷◌, Option, Some, None, filter, map, length, get_or, inl, inr}
 use Rattle.std.specs.Prelude.{nat_lt, nat_le}
 use Rattle.std.specs.List.{All, find, position, position_or_len}
 use Rattle.std.specs.Option.{option_map}
@@ -15,7 +15,7 @@ use Rattle.part_bounds.specs.Accepts.{is_default}
 use Rattle.part_bounds.specs.Bounds.{comes_after, overlaps, are_siblings, BoundsFit}
 use Rattle.part_bounds.specs.Checks.{unless}
 use Rattle.part_bounds.specs.Levels.{IsOfLevel}
-use Rattle.part_bounds.specs.Moduli.{bad_modulus, moduli_suit}
+use Rattle.part_bounds.specs.Moduli.{bad_modulus}
 use Rattle.part_bounds.proofs.LevelLaws.{none_tells_fit}
 use Rattle.part_bounds.proofs.OverlapLaws.{overlaps_turned}
 use Rattle.history.specs.declared.catalogue.Entry.{Entry}
@@ -25,17 +25,16 @@ use Rattle.history.specs.declared.catalogue.TableShape.TheVariants.{Leaf, Level}
 use Rattle.history.specs.Catalogue.{tables_made, entries_added}
 use Rattle.history.specs.History.{History, catalogue_events}
 use Rattle.history.specs.Places.{table_at, TakesBound, Suits, AreCatalogueSound}
-use Rattle.history.specs.Presence.{is_present, is_pending, entries_present}
+use Rattle.history.specs.Presence.{is_present, entries_present}
 use Rattle.table_trees.specs.Histories.{placed, all_placed, children, bound_of, is_under}
-use Rattle.table_trees.specs.Siblings.{CanStandTogether}
 use Rattle.table_trees.proofs.Order.{all_children, all_kept, children_of_part, under_children}
 use Rattle.table_trees.proofs.Suited.{all_suit}
 use Rattle.part_catalog.specs.Answers.{is_pending_below, pending_entry}
 use Rattle.part_catalog.specs.Found.{made_at}
 use Rattle.part_ddl.specs.Faults.{bound_overlaps, second_default, too_many}
-use Rattle.part_ddl.specs.Placing.{child_name, partitions_of, names_below, bounds_below, fault_at, pending_faults, default_faults, modulus_told, modulus_faults, overlap_faults, bound_faults, room_faults, pending_name, levels_with, place_faults}
+use Rattle.part_ddl.specs.Placing.{child_name, partitions_of, names_below, bounds_below, fault_at, pending_faults, default_faults, modulus_faults, overlap_faults, bound_faults, room_faults, pending_name, levels_with, place_faults}
 use Rattle.part_ddl.proofs.Suiting.{bad_none}
-use Rattle.part_ddl.specs.Laws.{HasPlace, IsNoDefaultBeside, PassedHavePlaces}
+use Rattle.part_ddl.specs.Laws.{PassedHavePlaces}
 
 -- ---- no fault among several
 

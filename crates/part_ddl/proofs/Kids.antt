@@ -21,14 +21,14 @@ use Rattle.table_trees.specs.declared.tree.Shape.{Shape, Leaf as ShapeLeaf, Leve
 use Rattle.table_trees.specs.declared.tree.Shape.TheOpen.{Shape-F}
 use Rattle.table_trees.specs.declared.tree.Shape.TheFolds.{fold-Shape, fold_out-Tree, fold_out-Shape}
 use Rattle.table_trees.specs.declared.tree.TreeList.{TreeList}
-use Rattle.table_trees.specs.Trees.{TableTree, LeafTable, LevelTable, Trees, End, More, trees_of, IsSound}
+use Rattle.table_trees.specs.Trees.{TableTree, LeafTable, LevelTable, Trees, trees_of, IsSound}
 use Rattle.table_trees.specs.Seen.{seen, seen_step, items_of}
 use Rattle.table_trees.specs.Histories.{ddl_tree, tree_within, grown, node_at, children, bound_of, child_of_entry}
 use Rattle.table_trees.specs.Siblings.{AreSiblings}
 use Rattle.table_trees.proofs.Seen.{seen_level}
 use Rattle.table_trees.proofs.Sound.{ddl_tree_sound}
 use Rattle.part_catalog.specs.Found.{made_at}
-use Rattle.part_ddl.specs.Placing.{partitions_of, child_name, names_below, bounds_below, tree_name, tree_names}
+use Rattle.part_ddl.specs.Placing.{partitions_of, names_below, bounds_below, tree_names}
 
 -- ---- what a tree says of its top
 

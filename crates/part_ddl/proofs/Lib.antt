@@ -1,6 +1,7 @@
 pub mod Among
 pub mod Defaults
 pub mod Ends
+pub mod Forest
 pub mod Free
 pub mod Going
 pub mod Kids

@@ -1,6 +1,6 @@
 -- Tables and entries that are made.
-use Rattle.std.proofs.Common.{◌≡◌, ◌<◌, ◌≤◌, ◌⊎◌, ◌==◌, ℕ, ◌+◌, ◌++◌, arith, ap, refl, sym, subst, ◌∙◌, Bool, true, false, List, [], ◌∷◌, Option, Some, None, filter, length, map, get_or, inl, inr}
-use Rattle.std.specs.Prelude.{nat_lt, Result, Ok, Err}
+use Rattle.std.proofs.Common.{◌≡◌, ◌<◌, ◌≤◌, ℕ, ◌+◌, ◌++◌, arith, ap, refl, sym, subst, ◌∙◌, Bool, true, false, List, [], ◌∷◌, Option, Some, None, filter, length, map, get_or, inl, inr}
+use Rattle.std.specs.Prelude.{nat_lt, Ok, Err}
 use Rattle.std.specs.List.{All, find}
 use Rattle.std.proofs.lemmas.Grind.{common_steps, elements}
 use Rattle.std.proofs.lemmas.Bool.{cases_Bool}
@@ -43,7 +43,7 @@ use Rattle.part_catalog.specs.declared.new_table.CatalogRefused.TheVariants.{Ful
 use Rattle.part_catalog.specs.Kept.{KeptCatalogue, table_in, entry_in, next_entry}
 use Rattle.part_catalog.specs.Stands.{CatalogueStands}
 use Rattle.part_ddl.specs.Faults.{too_many}
-use Rattle.part_ddl.specs.Made.{Made, made_by, StandAfter, IsMade}
+use Rattle.part_ddl.specs.Made.{made_by, IsMade}
 use Rattle.part_ddl.specs.Partitions.{MayMake, new_entry, partition_events, made_partition}
 use Rattle.part_ddl.specs.Tables.{KeysFit, count_faults, next_table, shape_of, leaf_events, new_table, table_events, made_table}
 use Rattle.part_ddl.proofs.Free.{room_of}

@@ -1,6 +1,5 @@
 -- Moduli that suit.
-use Rattle.std.proofs.Common.{◌≡◌, ℕ, refl, sym, ◌∙◌, Bool, true, false, List, [], ◌∷◌, Option, Some, None}
-use Rattle.pg_values.specs.declared.fault.Fault.{Fault}
+use Rattle.std.proofs.Common.{◌≡◌, ℕ, refl, Bool, true, false, List, [], ◌∷◌, Option, Some, None}
 use Rattle.part_bounds.specs.declared.partition_bound.Bound.{Bound}
 use Rattle.part_bounds.specs.declared.partition_bound.Bound.TheVariants.{Range, List as Listed, Hash, Default}
 use Rattle.part_bounds.specs.Moduli.{bad_modulus, moduli_suit}

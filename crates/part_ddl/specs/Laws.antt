@@ -1,5 +1,6 @@
--- What holds where nothing stands against a further partition.
-use Rattle.std.specs.Prelude.{◌≡◌, ◌<◌, ◌≤◌, ℕ, true, false, [], All, length}
+-- What holds where nothing stands against a further partition, and of the tables of a tree.
+use Rattle.std.specs.Prelude.{◌≡◌, ◌≢◌, ◌<◌, ◌≤◌, ℕ, zero, suc, true, false, List, [], All, Contains, length}
+use Rattle.std.specs.List.{AllPairs}
 use Rattle.part_bounds.specs.Accepts.{is_default}
 use Rattle.history.specs.declared.catalogue.Entry.{Entry}
 use Rattle.history.specs.History.{History}
@@ -7,6 +8,8 @@ use Rattle.history.specs.Places.{TakesBound, AreCatalogueSound}
 use Rattle.history.specs.Presence.{entries_present, is_pending}
 use Rattle.table_trees.specs.Siblings.{CanStandTogether}
 use Rattle.part_catalog.specs.Found.{made_at}
+use Rattle.part_ddl.specs.Below.{tables_from}
+use Rattle.part_ddl.specs.Dropped.{AreTwo}
 use Rattle.part_ddl.specs.Placing.{partitions_of, levels_with, place_faults}
 
 -- below one table the further entry is no default beside a pending one
@@ -23,3 +26,21 @@ pub record HasPlace (h : History) (session height : ℕ) (e : Entry) : Type 0 wh
 
 abbrev pub PassedHavePlaces : Type 0
 PassedHavePlaces = (h : History) (session height : ℕ) (e : Entry) → AreCatalogueSound h → TakesBound (made_at h e.parent.number).shape e.bound → place_faults h session e.parent.number e.bound height ≡ [] → HasPlace h session height e
+
+-- ---- a forest
+
+-- so many steps down from the one table to the other, by these entries
+abbrev pub IsWay : List Entry → ℕ → (top x : ℕ) → Type 0
+IsWay entries zero top x = top ≡ x
+IsWay entries (suc n) top x = (e : Entry) × Contains entries e × (e.child.number ≡ x) × IsWay entries n top e.parent.number
+
+abbrev pub HaveTwoChildren : Entry → Entry → Type 0
+HaveTwoChildren a b = a.child.number ≢ b.child.number
+
+-- each table is the child of one of them at most, and none stands above itself
+pub record IsForest (entries : List Entry) : Type 0 where
+  pub one_parent : AllPairs HaveTwoChildren entries
+  pub no_cycle : (n x : ℕ) → IsWay entries (suc n) x x → ⊥
+
+abbrev pub TablesStandOnce : Type 0
+TablesStandOnce = (h : History) (session table : ℕ) → IsForest (entries_present h session) → AllPairs AreTwo (tables_from h session table)

@@ -24,7 +24,7 @@ mod tables;
 
 pub use below::{default_of, tables_below};
 pub use dropped::drop_table;
-pub use laws::passed_have_places;
+pub use laws::{passed_have_places, tables_stand_once};
 pub use names::check_name;
 pub use partitions::make_partition;
 pub use placing::{check_place, parent_level};

@@ -1,4 +1,4 @@
-use Rattle.std.proofs.Common.{◌≡◌, ◌∙◌, ◌<◌, arith, sym, Some, None, length, position}
+use Rattle.std.proofs.Common.{◌≡◌, ◌∙◌, arith, sym, Some, position}
 use Rattle.part_bounds.specs.Accepts.{is_default}
 use Rattle.table_trees.specs.Seen.{items_of}
 use Rattle.table_trees.proofs.Levels.{found_within}

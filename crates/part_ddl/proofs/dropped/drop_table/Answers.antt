@@ -1,10 +1,9 @@
-use Rattle.std.proofs.Common.{◌≡◌, ◌++◌, ◌∙◌, append_assoc, ap, sym, subst, List, []}
+use Rattle.std.proofs.Common.{◌≡◌, ◌++◌, ◌∙◌, append_assoc, ap, sym, subst, List}
 use Rattle.pg_ids.specs.declared.ids.TableNo.{TableNo}
 use Rattle.history.specs.declared.catalogue.Stamp.{Stamp}
 use Rattle.history.specs.History.{History, tx_events}
 use Rattle.history.specs.Transactions.{session_of}
 use Rattle.table_trees.specs.Histories.{ddl_tree}
-use Rattle.table_trees.specs.Trees.{TableTree}
 use Rattle.table_trees.specs.Seen.{seen}
 use Rattle.tx_table.specs.Stands.{TableStands}
 use Rattle.part_catalog.specs.Stands.{CatalogueStands}

@@ -1,5 +1,5 @@
 use Rattle.std.proofs.Common.{◌≡◌, ◌∙◌, Some, ap, sym}
-use Rattle.history.specs.History.{History, tx_events}
+use Rattle.history.specs.History.{tx_events}
 use Rattle.history.specs.Presence.{entries_present}
 use Rattle.history.specs.Transactions.{session_of}
 use Rattle.table_trees.specs.Histories.{above}

@@ -1,6 +1,6 @@
 use Rattle.std.proofs.Common.{◌≡◌, ◌∙◌, ap, subst}
 use Rattle.history.specs.declared.catalogue.Table.{Table}
-use Rattle.history.specs.History.{History, tx_events}
+use Rattle.history.specs.History.{tx_events}
 use Rattle.history.specs.Transactions.{session_of}
 use Rattle.part_catalog.specs.declared.new_table.CatalogRefused.{CatalogRefused}
 use Rattle.part_catalog.specs.Found.{made_at}

@@ -1,4 +1,4 @@
-use Rattle.std.proofs.Common.{◌≡◌, ◌+◌, ℕ, ap, subst, List, Bor, length}
+use Rattle.std.proofs.Common.{◌+◌, ℕ, ap, subst, List, Bor, length}
 use Rattle.std.specs.Option.{option_map}
 use Rattle.pg_values.specs.declared.fault.Fault.{Fault}
 use Rattle.pg_values.specs.Refusals.{IsAnswer}
