@@ -9,11 +9,11 @@
 //! statement makes the cancel.
 #![tactic(auto)]
 
+mod computing;
 mod faults;
-mod scalar_value;
 mod table_names;
 
-pub use scalar_value::{column_value, scalar_value, table_value};
+pub use computing::{column_value, scalar_value, table_value};
 pub use table_names::TableNames;
 
 #[cfg(test)]

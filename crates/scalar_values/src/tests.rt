@@ -21,7 +21,14 @@ fn arith(alloc: Global, op: Arith, x: Scalar, y: Scalar) -> Result<Scalar, Refus
 
 fn is_refused(answer: Result<Value, Refusal>, code: [u8; 5]) -> bool {
     match answer {
-        Err(Refusal::Sql(Fault { code: state, args: _ })) => state.bytes == code,
+        Err(
+            Refusal::Sql(
+                Fault {
+                    code: state,
+                    args: _,
+                },
+            ),
+        ) => state.bytes == code,
         _ => false,
     }
 }
@@ -36,7 +43,10 @@ fn expressions_of_a_row(rt: HostRuntime) -> Result<(), Refusal> {
     row.push(Value::Int4(7))?;
     let binding = Binding::new(&[]).with(0, &row);
     let tables = TableNames::none().with(0, &name);
-    let column = ColumnId { item: 0, position: 1 };
+    let column = ColumnId {
+        item: 0,
+        position: 1,
+    };
     let sum = arith(alloc, Arith::Add, Scalar::Column(column), lit(1))?;
     let value = scalar_value(alloc, &sum, &binding, &tables, 3)?;
     assert!(rt; matches!(value, Value::Int4(8)));
@@ -46,7 +56,12 @@ fn expressions_of_a_row(rt: HostRuntime) -> Result<(), Refusal> {
         _ => assert!(rt; false),
     }
     let by_zero = arith(alloc, Arith::Div, lit(1), lit(0))?;
-    assert!(rt; is_refused(scalar_value(alloc, &by_zero, &binding, &tables, 3), *b"22012"));
+    assert!(rt;
+        is_refused(
+            scalar_value(alloc, &by_zero, &binding, &tables, 3),
+            *b"22012"
+        )
+    );
     let over = arith(alloc, Arith::Add, lit(i32::MAX), lit(1))?;
     // left before right
     let both = arith(alloc, Arith::Mul, over, by_zero)?;

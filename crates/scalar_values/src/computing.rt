@@ -30,11 +30,7 @@ pub fn column_value(
 }
 
 /// The name of the table in which the row of that item lies, as a text; null where there is no row.
-pub fn table_value(
-    alloc: Global,
-    tables: &TableNames<'_>,
-    item: u32,
-) -> Result<Value, NoMemory>
+pub fn table_value(alloc: Global, tables: &TableNames<'_>, item: u32) -> Result<Value, NoMemory>
     ensures { IfOk result (λ v. v ≡ values.as_text (table tables.now item)) }
 {
     match tables.name(item) {

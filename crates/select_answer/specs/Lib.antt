@@ -1,0 +1,7 @@
+pub mod Answer
+pub mod Course
+pub mod Faults
+pub mod Keys
+pub mod Rows
+pub mod Sorted
+pub mod Tuples
