@@ -2,6 +2,7 @@ pub mod Answer
 pub mod Course
 pub mod Faults
 pub mod Keys
+pub mod Laws
 pub mod Rows
 pub mod Sorted
 pub mod Tuples

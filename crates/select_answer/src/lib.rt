@@ -15,12 +15,14 @@ mod answering;
 mod gathered;
 mod keyed_row;
 mod keys;
+mod laws;
 mod leaf;
 mod reading;
 mod row;
 
 pub use answering::run_select;
 pub use keyed_row::KeyedRow;
+pub use laws::rows_are_of_all_tuples;
 
 /// How many tuples an answer has at most, before it is cut.
 pub const TUPLE_LIMIT: usize = 1_000_000;

@@ -1,0 +1,6 @@
+pub mod Bytes
+pub mod Courses
+pub mod Marks
+pub mod Plain
+pub mod Stable
+pub mod Total
