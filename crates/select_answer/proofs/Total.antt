@@ -1,13 +1,11 @@
 -- The order of rows by keys is total.
-use Rattle.std.proofs.Common.{◌≡◌, ℕ, ◌+◌, Bool, true, false, List, [], ◌∷◌, refl}
+use Rattle.std.proofs.Common.{ℕ, ◌+◌, Bool, true, false, List, [], ◌∷◌, refl}
 use Rattle.std.specs.Prelude.{slice_index_or}
 use Rattle.std.specs.Cmp.{IsTotalOrder, IsStrictWeakOrder, on_total, then_total, back_total, nat_cmp_total}
 use Rattle.std.proofs.lemmas.List.Sorted.{ranks_by}
-use Rattle.pg_values.specs.declared.value.Value.{Value}
 use Rattle.pg_values.specs.declared.value.Value.TheVariants.{Null}
 use Rattle.pg_values.specs.KeyKinds.{order_total}
 use Rattle.statement_asks.specs.declared.select.SortKey.{SortKey}
-use Rattle.select_answer.specs.declared.keyed_row.KeyedRow.{KeyedRow}
 use Rattle.select_answer.specs.Keys.{null_rank, directed, value_order, keys_order, row_less, same}
 
 directed_total : (d : Bool) → IsTotalOrder (directed d)
