@@ -1,0 +1,4 @@
+pub mod Causes
+pub mod Cycles
+pub mod Sessions
+pub mod Told
