@@ -25,7 +25,7 @@ snapshot-some s (Some (Others (Ends of))) = refl
 snapshot-some s (Some (Others (Snapshots of))) = refl
 
 -- who waits is a session
-wanter_low : (h : LockEvents) (x : ℕ) → AreLocksSound h → is_some (wanted h x) ≡ true → x < 128
+pub wanter_low : (h : LockEvents) (x : ℕ) → AreLocksSound h → is_some (wanted h x) ≡ true → x < 128
 wanter_low [] x sound t = absurd (cc)
 wanter_low (LockGot s table m ∷ h) x sound t = wanter_low h x sound.1 t
 wanter_low (LocksGivenUp s ∷ h) x sound t = wanter_low h x sound.1 (sym (end-some s (wanted h x)) ∙ t)

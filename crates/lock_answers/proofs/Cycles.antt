@@ -15,7 +15,7 @@ abbrev pub AreWaiters : (ℕ → ℕ → Bool) → Type 0
 AreWaiters waits = (x y : ℕ) → waits x y ≡ true → x < 128
 
 -- where a chain begins somebody waits
-waiter_low : (waits : ℕ → ℕ → Bool) (s x : ℕ) (ys : List ℕ) → AreWaiters waits → IsChain waits s x ys → x < 128
+pub waiter_low : (waits : ℕ → ℕ → Bool) (s x : ℕ) (ys : List ℕ) → AreWaiters waits → IsChain waits s x ys → x < 128
 waiter_low waits s x [] low c = low x s c
 waiter_low waits s x (y ∷ ys) low c = low x y c.0
 
@@ -72,7 +72,7 @@ shorter waits s x z (y ∷ ys) c t = elim (cases_eq x y) [
   | inr apart ↦ let r = shorter waits s x y ys c.1 (grind (arith, common_steps, nat_tests, t)) in (r.0, r.1, omega (arith, r.2))
 ]
 
-off : (x : ℕ) (ys : List ℕ) → list_any (nat_eq x) ys ≡ false → AllByRecursion (λ y. nat_eq x y ≡ false) ys
+pub off : (x : ℕ) (ys : List ℕ) → list_any (nat_eq x) ys ≡ false → AllByRecursion (λ y. nat_eq x y ≡ false) ys
 off x [] f = tt
 off x (y ∷ ys) f = (grind (arith, common_steps, nat_tests, f), off x ys (grind (arith, common_steps, nat_tests, f)))
 
@@ -87,7 +87,7 @@ each_once waits s x (y ∷ ys) c short =
     ] in
     (off x (y ∷ ys) once, rest)
 
-each_low : (waits : ℕ → ℕ → Bool) (s x : ℕ) (ys : List ℕ) → AreWaiters waits → IsChain waits s x ys → (q : ℕ) → list_any (nat_eq q) (x ∷ ys) ≡ true → q < 128
+pub each_low : (waits : ℕ → ℕ → Bool) (s x : ℕ) (ys : List ℕ) → AreWaiters waits → IsChain waits s x ys → (q : ℕ) → list_any (nat_eq q) (x ∷ ys) ≡ true → q < 128
 each_low waits s x [] low c q t =
     let same : q ≡ x = grind (arith, common_steps, nat_tests, t) in
     subst (λ k. k < 128) (sym same) (low x s c)

@@ -54,3 +54,32 @@ same_below (suc n) set p same = rw (same_below n set p same, same n) refl
 pub sessions_are : (set : SessionSet) (p : ℕ → Bool) → ((y : ℕ) → has set y ≡ p y) → sessions set ≡ those p
 unfolding those sessions
 sessions_are set p same = same_below 128 set p same
+
+-- ---- where all is empty, each part is
+
+pub none_first : {X : Type 0} (xs ys : List X) → xs ++ ys ≡ [] → xs ≡ []
+none_first [] ys e = refl
+none_first (x ∷ xs) ys e = absurd (cc)
+
+pub none_last : {X : Type 0} (xs ys : List X) → xs ++ ys ≡ [] → ys ≡ []
+none_last [] ys e = e
+none_last (x ∷ xs) ys e = absurd (cc)
+
+each_below : (n y : ℕ) (p : ℕ → Bool) (f : ℕ → List (List ℕ)) → y < n → p y ≡ true → flat_map f (those_below n p) ≡ [] → f y ≡ []
+each_below zero y p f lt t e = absurd (omega (arith, lt))
+each_below (suc n) y p f lt t e =
+    let last = if p n then n ∷ [] else [] in
+    let e' : flat_map f (those_below n p) ++ flat_map f last ≡ [] = sym (flat_map-append f (those_below n p) last) ∙ e in
+    elim (cases_lt y n) [
+      | inl low ↦ each_below n y p f low t (none_first (flat_map f (those_below n p)) (flat_map f last) e')
+      | inr ge ↦
+          let same : y ≡ n = omega (arith, lt, ge) in
+          let t' : p n ≡ true = ap p (sym same) ∙ t in
+          let none = none_last (flat_map f (those_below n p)) (flat_map f last) e' in
+          let none' : f n ++ [] ≡ [] = rw t' at none in
+          ap f same ∙ none_first (f n) [] none'
+    ]
+
+pub none_each : (p : ℕ → Bool) (f : ℕ → List (List ℕ)) (y : ℕ) → y < 128 → p y ≡ true → flat_map f (those p) ≡ [] → f y ≡ []
+unfolding those
+none_each p f y lt t e = each_below 128 y p f lt t e

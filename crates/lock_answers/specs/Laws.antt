@@ -1,8 +1,8 @@
 -- The lock table's answers are those that the history tells.
-use Rattle.std.specs.Prelude.{◌≡◌, ℕ, ◌<◌, ◌++◌, true}
+use Rattle.std.specs.Prelude.{◌≡◌, ℕ, ◌<◌, ◌++◌, true, None}
 use Rattle.pg_ids.specs.Sets.{has}
 use Rattle.history.specs.declared.wait.Wanted.{Wanted}
-use Rattle.history.specs.Locks.{LockEvents}
+use Rattle.history.specs.Locks.{LockEvents, wanted}
 use Rattle.history.specs.LocksSound.{AreLocksSound}
 use Rattle.history.specs.History.{History, lock_events}
 use Rattle.lock_table.specs.declared.asked.Asked.{Asked}
@@ -27,3 +27,7 @@ HistoryIsTold answer = (h : History) (s : ℕ) (w : Wanted) → AreLocksSound (l
 abbrev pub EventsAreTold : Asked → Type 0
 EventsAreTold answer = (h : History) (s : ℕ) (w : Wanted) → AreLocksSound (lock_events h) → s < 128 → IsAnswer (lock_events h) s w answer
     → lock_events (after s w answer h) ≡ asked_events (lock_events h) s w ++ lock_events h
+
+-- what a session adds that asks, and does not wait, could come
+abbrev pub WhatIsAskedMayCome : Type 0
+WhatIsAskedMayCome = (h : LockEvents) (s : ℕ) (w : Wanted) → AreLocksSound h → s < 128 → wanted h s ≡ None → AreLocksSound (asked_events h s w ++ h)

@@ -1,6 +1,6 @@
 ghost use Rattle.std.specs.Prelude.{◌≡◌, ℕ, ◌<◌, true};
 ghost use Rattle.pg_ids.specs.Sets.{has};
-ghost use Rattle.lock_answers.specs.Laws.{NamesSessions, AnswerIsTold, HistoryIsTold, EventsAreTold};
+ghost use Rattle.lock_answers.specs.Laws.{NamesSessions, AnswerIsTold, HistoryIsTold, EventsAreTold, WhatIsAskedMayCome};
 
 use lock_table::Asked;
 use pg_ids::SessionSet;
@@ -13,6 +13,11 @@ pub fn answer_is_told(answer: &Asked)
 {
     names_sessions(answer);
 }
+
+/// What a session adds to the locks that asks for something, and does not wait, could come.
+pub fn what_is_asked_may_come()
+    ensures { WhatIsAskedMayCome }
+{}
 
 // Whoever an answer names as a cause to wait is a session.
 fn names_sessions(answer: &Asked)

@@ -8,4 +8,4 @@
 
 mod laws;
 
-pub use laws::answer_is_told;
+pub use laws::{answer_is_told, what_is_asked_may_come};
