@@ -1,0 +1,36 @@
+-- What statements do keeps what is asked of the events of a run.
+use Rattle.std.specs.Prelude.{◌≡◌, ℕ, ◌<◌, List, [], ◌∷◌, ◌++◌, None, map}
+use Rattle.pg_ids.specs.declared.ids.TableNo.{TableNo}
+use Rattle.pg_ids.specs.declared.lock_mode.LockMode.{LockMode}
+use Rattle.history.specs.declared.version.Version.{Version}
+use Rattle.history.specs.declared.version.End.{End}
+use Rattle.history.specs.declared.wait.Wanted.{Wanted}
+use Rattle.history.specs.declared.wait.Wanted.TheVariants.{Lock}
+use Rattle.history.specs.Snapshots.{TakenSnapshot}
+use Rattle.history.specs.Rows.{RowBorn, RowEnded}
+use Rattle.history.specs.Locks.{wanted}
+use Rattle.history.specs.History.{Event, History, RowChange, LockChange, tx_events, lock_events, catalogue_events}
+use Rattle.history.specs.Legal.{IsLegal}
+use Rattle.soundness.specs.Legal.{ArePermitted}
+use Rattle.soundness.specs.Parts.{IsKnown}
+use Rattle.lock_answers.specs.Asked.{asked_events}
+use Rattle.legal_statements.specs.Follows.{MayFollow}
+use Rattle.legal_statements.specs.Rows.{IsNewRow, IsOldRow}
+
+-- with events that may follow the history is as it was: legal, and each event permitted
+abbrev pub FollowedIsLegal : Type 0
+FollowedIsLegal = (es : List Event) (h : History) → IsLegal h → ArePermitted h → MayFollow es h → IsLegal (es ++ h) × ArePermitted (es ++ h)
+
+-- whatever comes of asking: a lock, a wait, or nothing
+abbrev pub AskedMayFollow : Type 0
+AskedMayFollow = (h : History) (s : ℕ) (w : Wanted) → IsLegal h → s < 128 → wanted (lock_events h) s ≡ None
+    → ((table : TableNo) (m : LockMode) → w ≡ Lock table m → IsKnown (tx_events h) (catalogue_events h) s table.number)
+    → MayFollow (map LockChange (asked_events (lock_events h) s w)) h
+
+-- a new row version
+abbrev pub NewRowMayFollow : Type 0
+NewRowMayFollow = (h : History) (session table : ℕ) (s : TakenSnapshot) (v : Version) → IsLegal h → ArePermitted h → IsNewRow h session table s v → MayFollow (RowChange (RowBorn v) ∷ []) h
+
+-- the end of one
+abbrev pub OldRowMayFollow : Type 0
+OldRowMayFollow = (h : History) (session k : ℕ) (e : End) → IsLegal h → IsOldRow h session k e → MayFollow (RowChange (RowEnded k e) ∷ []) h

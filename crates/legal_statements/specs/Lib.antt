@@ -1,0 +1,4 @@
+pub mod Follows
+pub mod Laws
+pub mod Locked
+pub mod Rows

@@ -1,0 +1,21 @@
+ghost use Rattle.legal_statements.specs.Laws.{FollowedIsLegal, AskedMayFollow, NewRowMayFollow, OldRowMayFollow};
+
+/// A legal history with permitted events stays one when events come that may follow it.
+pub fn followed_is_legal()
+    ensures { FollowedIsLegal }
+{}
+
+/// What comes of asking for a lock, or for the end of others, may follow.
+pub fn asked_may_follow()
+    ensures { AskedMayFollow }
+{}
+
+/// A row may be stored where the tree of the named table routes it and no place above refuses it.
+pub fn new_row_may_follow()
+    ensures { NewRowMayFollow }
+{}
+
+/// A version may be ended whose leaf the session has locked for writing.
+pub fn old_row_may_follow()
+    ensures { OldRowMayFollow }
+{}
