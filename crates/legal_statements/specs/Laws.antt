@@ -1,7 +1,11 @@
 -- What statements do keeps what is asked of the events of a run.
 use Rattle.std.specs.Prelude.{◌≡◌, ℕ, ◌<◌, List, [], ◌∷◌, ◌++◌, None, map}
+use Rattle.pg_ids.specs.declared.ids.LeafId.{LeafId}
 use Rattle.pg_ids.specs.declared.ids.TableNo.{TableNo}
 use Rattle.pg_ids.specs.declared.lock_mode.LockMode.{LockMode}
+use Rattle.part_bounds.specs.declared.level.Level.{Level}
+use Rattle.history.specs.declared.catalogue.Table.{Table}
+use Rattle.history.specs.declared.catalogue.TableShape.TheVariants.{Level as Levels}
 use Rattle.history.specs.declared.version.Version.{Version}
 use Rattle.history.specs.declared.version.End.{End}
 use Rattle.history.specs.declared.wait.Wanted.{Wanted}
@@ -16,6 +20,7 @@ use Rattle.soundness.specs.Parts.{IsKnown}
 use Rattle.lock_answers.specs.Asked.{asked_events}
 use Rattle.legal_statements.specs.Follows.{MayFollow}
 use Rattle.legal_statements.specs.Rows.{IsNewRow, IsOldRow}
+use Rattle.legal_statements.specs.Tables.{LeavesAreThere, MakesNoLeaf, IsNewTable, IsNextLeaf, leaf_table, level_table}
 
 -- with events that may follow the history is as it was: legal, and each event permitted
 abbrev pub FollowedIsLegal : Type 0
@@ -34,3 +39,16 @@ NewRowMayFollow = (h : History) (session table : ℕ) (s : TakenSnapshot) (v : V
 -- the end of one
 abbrev pub OldRowMayFollow : Type 0
 OldRowMayFollow = (h : History) (session k : ℕ) (e : End) → IsLegal h → IsOldRow h session k e → MayFollow (RowChange (RowEnded k e) ∷ []) h
+
+-- a new table with a leaf, or a partitioned one; the leaf of each table was added then, too
+abbrev pub NewLeafMayFollow : Type 0
+NewLeafMayFollow = (h : History) (session : ℕ) (table : Table) (leaf : LeafId) → IsLegal h → LeavesAreThere h → IsNewTable h session table → IsNextLeaf h table leaf
+    → MayFollow (leaf_table table leaf) h × LeavesAreThere (leaf_table table leaf ++ h)
+
+abbrev pub NewLevelMayFollow : Type 0
+NewLevelMayFollow = (h : History) (session : ℕ) (table : Table) (level : Level) → IsLegal h → LeavesAreThere h → IsNewTable h session table → table.shape ≡ Levels level
+    → MayFollow (level_table table) h × LeavesAreThere (level_table table ++ h)
+
+-- and it stays so whatever else comes
+abbrev pub LeavesStayThere : Type 0
+LeavesStayThere = (e : Event) (h : History) → MakesNoLeaf e → LeavesAreThere h → LeavesAreThere (e ∷ h)

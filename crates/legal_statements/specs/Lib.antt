@@ -2,3 +2,4 @@ pub mod Follows
 pub mod Laws
 pub mod Locked
 pub mod Rows
+pub mod Tables

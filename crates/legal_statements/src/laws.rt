@@ -1,4 +1,4 @@
-ghost use Rattle.legal_statements.specs.Laws.{FollowedIsLegal, AskedMayFollow, NewRowMayFollow, OldRowMayFollow};
+ghost use Rattle.legal_statements.specs.Laws.{FollowedIsLegal, AskedMayFollow, NewRowMayFollow, OldRowMayFollow, NewLeafMayFollow, NewLevelMayFollow, LeavesStayThere};
 
 /// A legal history with permitted events stays one when events come that may follow it.
 pub fn followed_is_legal()
@@ -18,4 +18,19 @@ pub fn new_row_may_follow()
 /// A version may be ended whose leaf the session has locked for writing.
 pub fn old_row_may_follow()
     ensures { OldRowMayFollow }
+{}
+
+/// A table with rows of its own may be made, its leaf before it, where its name is free.
+pub fn new_leaf_may_follow()
+    ensures { NewLeafMayFollow }
+{}
+
+/// So may a partitioned table.
+pub fn new_level_may_follow()
+    ensures { NewLevelMayFollow }
+{}
+
+/// The leaf of each table was added, and stays there whatever comes but new tables.
+pub fn leaves_stay_there()
+    ensures { LeavesStayThere }
 {}
