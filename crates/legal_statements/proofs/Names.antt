@@ -51,7 +51,7 @@ drop_of_counted txs cats n x k s true false here is rest =
 drop_of_counted txs cats n x k s true true here is rest = inr (rest is)
 drop_of_counted txs cats n x k s false a here is rest = inr (rest is)
 
-counted_drop : (txs : TxEvents) (cats : CatalogueEvents) (k : ℕ) (s : Stamp) → counted_of txs (drops cats) k ≡ Some s → IsDropped cats k s.by.number
+pub counted_drop : (txs : TxEvents) (cats : CatalogueEvents) (k : ℕ) (s : Stamp) → counted_of txs (drops cats) k ≡ Some s → IsDropped cats k s.by.number
 counted_drop txs [] k s is = absurd (cc)
 counted_drop txs (TableDropped n x ∷ cats) k s is = drop_of_counted txs cats n x k s (n == k) (was_aborted txs x.by.number) refl is (counted_drop txs cats k s)
 counted_drop txs (EntryAdded e ∷ cats) k s is = counted_drop txs cats k s is

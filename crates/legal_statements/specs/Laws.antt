@@ -1,9 +1,11 @@
 -- What statements do keeps what is asked of the events of a run.
-use Rattle.std.specs.Prelude.{◌≡◌, ℕ, ◌<◌, List, [], ◌∷◌, ◌++◌, None, map}
+use Rattle.std.specs.Prelude.{◌≡◌, ℕ, ◌<◌, List, [], ◌∷◌, ◌++◌, Some, None, map}
 use Rattle.pg_ids.specs.declared.ids.LeafId.{LeafId}
 use Rattle.pg_ids.specs.declared.ids.TableNo.{TableNo}
 use Rattle.pg_ids.specs.declared.lock_mode.LockMode.{LockMode}
 use Rattle.part_bounds.specs.declared.level.Level.{Level}
+use Rattle.history.specs.declared.catalogue.Entry.{Entry}
+use Rattle.history.specs.declared.catalogue.Stamp.{Stamp}
 use Rattle.history.specs.declared.catalogue.Table.{Table}
 use Rattle.history.specs.declared.catalogue.TableShape.TheVariants.{Level as Levels}
 use Rattle.history.specs.declared.version.Version.{Version}
@@ -12,13 +14,17 @@ use Rattle.history.specs.declared.wait.Wanted.{Wanted}
 use Rattle.history.specs.declared.wait.Wanted.TheVariants.{Lock}
 use Rattle.history.specs.Snapshots.{TakenSnapshot}
 use Rattle.history.specs.Rows.{RowBorn, RowEnded}
+use Rattle.history.specs.Transactions.{open_of}
+use Rattle.history.specs.Catalogue.{drops, entry_ends, counted_of}
 use Rattle.history.specs.Locks.{wanted}
 use Rattle.history.specs.History.{Event, History, RowChange, LockChange, tx_events, lock_events, catalogue_events}
 use Rattle.history.specs.Legal.{IsLegal}
-use Rattle.soundness.specs.Legal.{ArePermitted}
+use Rattle.soundness.specs.Legal.{ArePermitted, Has, HasTable}
 use Rattle.soundness.specs.Parts.{IsKnown}
 use Rattle.lock_answers.specs.Asked.{asked_events}
 use Rattle.legal_statements.specs.Follows.{MayFollow}
+use Rattle.legal_statements.specs.Locked.{IsOwned, IsGuarded}
+use Rattle.legal_statements.specs.Drops.{IsDrop, entries_end, tables_go}
 use Rattle.legal_statements.specs.Rows.{IsNewRow, IsOldRow}
 use Rattle.legal_statements.specs.Tables.{LeavesAreThere, MakesNoLeaf, IsNewTable, IsNextLeaf, leaf_table, level_table}
 
@@ -52,3 +58,14 @@ NewLevelMayFollow = (h : History) (session : ℕ) (table : Table) (level : Level
 -- and it stays so whatever else comes
 abbrev pub LeavesStayThere : Type 0
 LeavesStayThere = (e : Event) (h : History) → MakesNoLeaf e → LeavesAreThere h → LeavesAreThere (e ∷ h)
+
+-- what a transaction has, and has locked, no other one has dropped or ended
+abbrev pub NobodyElseDrops : Type 0
+NobodyElseDrops = (h : History) (session t x : ℕ) → IsLegal h → ArePermitted h → open_of (tx_events h) session ≡ Some t → HasTable h t x → IsOwned h session x → counted_of (tx_events h) (drops (catalogue_events h)) x ≡ None
+
+abbrev pub NobodyElseEnds : Type 0
+NobodyElseEnds = (h : History) (session t : ℕ) (e : Entry) → IsLegal h → ArePermitted h → open_of (tx_events h) session ≡ Some t → Has h t e → IsGuarded h session e.parent.number → counted_of (tx_events h) (entry_ends (catalogue_events h)) e.id.number ≡ None
+
+-- entries end, and then tables are dropped; either list may be empty
+abbrev pub DropMayFollow : Type 0
+DropMayFollow = (h : History) (session : ℕ) (s : Stamp) (entries tables : List ℕ) → IsLegal h → ArePermitted h → IsDrop h session s entries tables → MayFollow (tables_go s tables ++ entries_end s entries) h

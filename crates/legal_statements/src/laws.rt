@@ -1,4 +1,4 @@
-ghost use Rattle.legal_statements.specs.Laws.{FollowedIsLegal, AskedMayFollow, NewRowMayFollow, OldRowMayFollow, NewLeafMayFollow, NewLevelMayFollow, LeavesStayThere};
+ghost use Rattle.legal_statements.specs.Laws.{FollowedIsLegal, AskedMayFollow, NewRowMayFollow, OldRowMayFollow, NewLeafMayFollow, NewLevelMayFollow, LeavesStayThere, NobodyElseDrops, NobodyElseEnds, DropMayFollow};
 
 /// A legal history with permitted events stays one when events come that may follow it.
 pub fn followed_is_legal()
@@ -33,4 +33,21 @@ pub fn new_level_may_follow()
 /// The leaf of each table was added, and stays there whatever comes but new tables.
 pub fn leaves_stay_there()
     ensures { LeavesStayThere }
+{}
+
+/// No other transaction has dropped a table that the session's own one has, and has locked with ACCESS
+/// EXCLUSIVE.
+pub fn nobody_else_drops()
+    ensures { NobodyElseDrops }
+{}
+
+/// Nor ended an entry that it has, where it has locked the parent.
+pub fn nobody_else_ends()
+    ensures { NobodyElseEnds }
+{}
+
+/// Entries may end and then tables be dropped, where the session has locked them and no entry of a table
+/// is left.
+pub fn drop_may_follow()
+    ensures { DropMayFollow }
 {}
