@@ -1,8 +1,10 @@
+pub mod Adding
 pub mod Asking
 pub mod Dropping
 pub mod Following
 pub mod Holding
 pub mod Making
+pub mod Marks
 pub mod Names
 pub mod Others
 pub mod Storing

@@ -15,9 +15,9 @@ use Rattle.history.specs.declared.wait.Wanted.TheVariants.{Lock}
 use Rattle.history.specs.Snapshots.{TakenSnapshot}
 use Rattle.history.specs.Rows.{RowBorn, RowEnded}
 use Rattle.history.specs.Transactions.{open_of}
-use Rattle.history.specs.Catalogue.{drops, entry_ends, counted_of}
+use Rattle.history.specs.Catalogue.{EntryAdded, drops, entry_ends, counted_of}
 use Rattle.history.specs.Locks.{wanted}
-use Rattle.history.specs.History.{Event, History, RowChange, LockChange, tx_events, lock_events, catalogue_events}
+use Rattle.history.specs.History.{Event, History, RowChange, CatalogueChange, LockChange, tx_events, lock_events, catalogue_events}
 use Rattle.history.specs.Legal.{IsLegal}
 use Rattle.soundness.specs.Legal.{ArePermitted, Has, HasTable}
 use Rattle.soundness.specs.Parts.{IsKnown}
@@ -25,6 +25,7 @@ use Rattle.lock_answers.specs.Asked.{asked_events}
 use Rattle.legal_statements.specs.Follows.{MayFollow}
 use Rattle.legal_statements.specs.Locked.{IsOwned, IsGuarded}
 use Rattle.legal_statements.specs.Drops.{IsDrop, entries_end, tables_go}
+use Rattle.legal_statements.specs.Entries.{IsNewPartition, IsAttached}
 use Rattle.legal_statements.specs.Rows.{IsNewRow, IsOldRow}
 use Rattle.legal_statements.specs.Tables.{LeavesAreThere, MakesNoLeaf, IsNewTable, IsNextLeaf, leaf_table, level_table}
 
@@ -69,3 +70,10 @@ NobodyElseEnds = (h : History) (session t : ℕ) (e : Entry) → IsLegal h → A
 -- entries end, and then tables are dropped; either list may be empty
 abbrev pub DropMayFollow : Type 0
 DropMayFollow = (h : History) (session : ℕ) (s : Stamp) (entries tables : List ℕ) → IsLegal h → ArePermitted h → IsDrop h session s entries tables → MayFollow (tables_go s tables ++ entries_end s entries) h
+
+-- a new table becomes a partition, or one that was there
+abbrev pub NewPartitionMayFollow : Type 0
+NewPartitionMayFollow = (h : History) (session : ℕ) (e : Entry) → IsLegal h → ArePermitted h → IsNewPartition h session e → MayFollow (CatalogueChange (EntryAdded e) ∷ []) h
+
+abbrev pub AttachMayFollow : Type 0
+AttachMayFollow = (h : History) (session : ℕ) (e : Entry) → IsLegal h → ArePermitted h → IsAttached h session e → MayFollow (CatalogueChange (EntryAdded e) ∷ []) h

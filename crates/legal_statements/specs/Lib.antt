@@ -1,4 +1,5 @@
 pub mod Drops
+pub mod Entries
 pub mod Follows
 pub mod Laws
 pub mod Locked

@@ -1,4 +1,4 @@
-ghost use Rattle.legal_statements.specs.Laws.{FollowedIsLegal, AskedMayFollow, NewRowMayFollow, OldRowMayFollow, NewLeafMayFollow, NewLevelMayFollow, LeavesStayThere, NobodyElseDrops, NobodyElseEnds, DropMayFollow};
+ghost use Rattle.legal_statements.specs.Laws.{FollowedIsLegal, AskedMayFollow, NewRowMayFollow, OldRowMayFollow, NewLeafMayFollow, NewLevelMayFollow, LeavesStayThere, NobodyElseDrops, NobodyElseEnds, DropMayFollow, NewPartitionMayFollow, AttachMayFollow};
 
 /// A legal history with permitted events stays one when events come that may follow it.
 pub fn followed_is_legal()
@@ -50,4 +50,14 @@ pub fn nobody_else_ends()
 /// is left.
 pub fn drop_may_follow()
     ensures { DropMayFollow }
+{}
+
+/// A table that the transaction has just made may become a partition.
+pub fn new_partition_may_follow()
+    ensures { NewPartitionMayFollow }
+{}
+
+/// A table that was there may be attached, where its rows were scanned and nobody else may use it.
+pub fn attach_may_follow()
+    ensures { AttachMayFollow }
 {}
