@@ -33,10 +33,10 @@ present_for h session t e legal own has =
     let same = λ (k : ℕ). agree (tx_events h) session t k own (session_runs h session t legal own).runs in
     (has.0, same e.by.number ∙ has.1, λ u end. same u ∙ has.2 u end)
 
-listed_for : (h : History) (session t : ℕ) (e : Entry) → IsLegal h → open_of (tx_events h) session ≡ Some t → Has h t e → Contains (entries_present h session) e
+pub listed_for : (h : History) (session t : ℕ) (e : Entry) → IsLegal h → open_of (tx_events h) session ≡ Some t → Has h t e → Contains (entries_present h session) e
 listed_for h session t e legal own has = present_listed h session e (present_for h session t e legal own has)
 
-present_test : (h : History) (session : ℕ) (e : Entry) → Contains (entries_present h session) e → is_present h session e ≡ true
+pub present_test : (h : History) (session : ℕ) (e : Entry) → Contains (entries_present h session) e → is_present h session e ≡ true
 present_test h session e at = subst (λ (z : Entry). is_present h session z ≡ true) at.2 (filter_passes (is_present h session) (entries_added (catalogue_events h)) at.0 e at.1)
 
 scanned_for : (h : History) (session t top n x : ℕ) (v : Version) → IsLegal h → ArePermitted h → open_of (tx_events h) session ≡ Some t → IsVersion (row_events h) v → HasLeaf (catalogue_events h) x v.leaf → Below h t n top x → Judges h t v

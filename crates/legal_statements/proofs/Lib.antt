@@ -4,7 +4,9 @@ pub mod Dropping
 pub mod Following
 pub mod Holding
 pub mod Making
+pub mod Marking
 pub mod Marks
 pub mod Names
 pub mod Others
 pub mod Storing
+pub mod There

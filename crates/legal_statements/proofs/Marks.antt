@@ -18,15 +18,15 @@ use Rattle.soundness.proofs.Looking.{alive_by, counts_world}
 use Rattle.soundness.proofs.Paths.{agree}
 use Rattle.legal_statements.proofs.Holding.{session_runs}
 
-none_later : (old new : TxEvents) (ds : Stamps) (k : ℕ) → AbortsStay old new → counted_of old ds k ≡ None → counted_of new ds k ≡ None
+pub none_later : (old new : TxEvents) (ds : Stamps) (k : ℕ) → AbortsStay old new → counted_of old ds k ≡ None → counted_of new ds k ≡ None
 none_later old new [] k stay none = refl
 none_later old new (d ∷ ds) k stay none = grind (arith, common_steps, none_later old new ds k stay, stay d.1.by.number)
 
 -- the stamp that counts is by that transaction
-abbrev CountsBy : TxEvents → Stamps → ℕ → ℕ → Type 0
+abbrev pub CountsBy : TxEvents → Stamps → ℕ → ℕ → Type 0
 CountsBy txs ds k u = (s : Stamp) × (counted_of txs ds k ≡ Some s) × (s.by.number ≡ u)
 
-counts_new : (txs : TxEvents) (ds : Stamps) (n : ℕ) (s : Stamp) (k u : ℕ) → n ≡ k → s.by.number ≡ u → was_aborted txs u ≡ false → CountsBy txs ((n, s) ∷ ds) k u
+pub counts_new : (txs : TxEvents) (ds : Stamps) (n : ℕ) (s : Stamp) (k u : ℕ) → n ≡ k → s.by.number ≡ u → was_aborted txs u ≡ false → CountsBy txs ((n, s) ∷ ds) k u
 counts_new txs ds n s k u same by alive =
     let here : (n == k) ≡ true = grind (arith, nat_tests) in
     let live : was_aborted txs s.by.number ≡ false = ap (was_aborted txs) by ∙ alive in
@@ -35,7 +35,7 @@ counts_new txs ds n s k u same by alive =
 none_or_some : (o : Option Stamp) (s : Stamp) → o ≡ None → o ≡ Some s → ⊥
 none_or_some o s none some = cc
 
-counts_old : (txs : TxEvents) (ds : Stamps) (n : ℕ) (x : Stamp) (k u : ℕ) → counted_of txs ds n ≡ None → CountsBy txs ds k u → CountsBy txs ((n, x) ∷ ds) k u
+pub counts_old : (txs : TxEvents) (ds : Stamps) (n : ℕ) (x : Stamp) (k u : ℕ) → counted_of txs ds n ≡ None → CountsBy txs ds k u → CountsBy txs ((n, x) ∷ ds) k u
 counts_old txs ds n x k u none (s, is, by) =
     let other : (n == k) ≡ false = elim (cases_Bool (n == k)) [
       | inr away ↦ away

@@ -40,22 +40,22 @@ alive_first txs d s true true rest a is more = more is
 alive_first txs d s false b rest a is more = more is
 
 -- whoever did what counts is not aborted
-counted_alive : (txs : TxEvents) (ds : Stamps) (k : ℕ) (s : Stamp) → counted_of txs ds k ≡ Some s → was_aborted txs s.by.number ≡ false
+pub counted_alive : (txs : TxEvents) (ds : Stamps) (k : ℕ) (s : Stamp) → counted_of txs ds k ≡ Some s → was_aborted txs s.by.number ≡ false
 counted_alive txs [] k s is = absurd (cc)
 counted_alive txs (d ∷ ds) k s is = alive_first txs d.1 s (d.0 == k) (was_aborted txs d.1.by.number) (counted_of txs ds k) refl is (counted_alive txs ds k s)
 
-alive_of : (txs : TxEvents) (t : ℕ) → was_aborted txs t ≡ false → alive txs t ≡ true
+pub alive_of : (txs : TxEvents) (t : ℕ) → was_aborted txs t ≡ false → alive txs t ≡ true
 alive_of txs t live = elim (cases_Bool (was_committed txs t)) [
   | inl y ↦ rw (live, y) refl
   | inr n ↦ rw (live, n) refl
 ]
 
 -- nothing counts of which each doer leads to a contradiction
-none_counts : (o : Option Stamp) → ((s : Stamp) → o ≡ Some s → ⊥) → o ≡ None
+pub none_counts : (o : Option Stamp) → ((s : Stamp) → o ≡ Some s → ⊥) → o ≡ None
 none_counts None never = refl
 none_counts (Some s) never = absurd (never s refl)
 
-alive_mine : (h : History) (session t : ℕ) → IsLegal h → open_of (tx_events h) session ≡ Some t → alive (tx_events h) t ≡ true
+pub alive_mine : (h : History) (session t : ℕ) → IsLegal h → open_of (tx_events h) session ≡ Some t → alive (tx_events h) t ≡ true
 alive_mine h session t legal own =
     let runs = (session_runs h session t legal own).runs in rw runs refl
 

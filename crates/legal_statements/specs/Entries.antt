@@ -1,10 +1,11 @@
--- Which tables a statement of a session may make partitions (the manual, CREATE TABLE, PARTITION OF, and ALTER TABLE, ATTACH
--- PARTITION).
+-- Which tables a statement of a session may make partitions, and which partitions it may mark pending (the manual, CREATE
+-- TABLE, PARTITION OF, and ALTER TABLE, ATTACH and DETACH PARTITION).
 use Rattle.std.specs.Prelude.{◌≡◌, ◌≢◌, ℕ, true, false, Some, None, length}
 use Rattle.std.specs.List.{Contains}
 use Rattle.part_bounds.specs.Accepts.{accepts, is_default}
 use Rattle.history.specs.declared.version.Version.{Version}
 use Rattle.history.specs.declared.catalogue.Entry.{Entry}
+use Rattle.history.specs.declared.catalogue.Stamp.{Stamp}
 use Rattle.history.specs.Transactions.{open_of}
 use Rattle.history.specs.Catalogue.{tables_made, entries_added}
 use Rattle.history.specs.Places.{Suits}
@@ -67,3 +68,13 @@ pub record IsAttached (h : History) (session : ℕ) (e : Entry) : Type 0 where
   pub no_partition : above (entries_present h session) e.child.number ≡ None
   pub not_above : (n : ℕ) → Below h e.by.number n e.child.number e.parent.number → ⊥
   pub scanned : (v : Version) → IsScanned h session e.by.number e.child.number v → Takes h e.by.number e v.row × (refused Bounds v.row (path_of h session e.parent.number) ≡ None)
+
+-- a partition that is not pending is marked so; none beside it is pending or the default, and the session may change the
+-- partitions of the parent
+pub record IsNewMark (h : History) (session : ℕ) (e : Entry) (s : Stamp) : Type 0 where
+  pub own : open_of (tx_events h) session ≡ Some s.by.number
+  pub command : IsInOrder (Some (s.by.number, s.cmd)) h
+  pub present : Contains (entries_present h session) e
+  pub guarded : IsGuarded h session e.parent.number
+  pub none_pending : (g : Entry) → Contains (entries_present h session) g → g.parent.number ≡ e.parent.number → is_pending h session g ≡ false
+  pub no_default : (g : Entry) → Contains (entries_present h session) g → g.parent.number ≡ e.parent.number → is_default g.bound ≡ false

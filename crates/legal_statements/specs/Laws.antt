@@ -1,5 +1,6 @@
 -- What statements do keeps what is asked of the events of a run.
-use Rattle.std.specs.Prelude.{◌≡◌, ℕ, ◌<◌, List, [], ◌∷◌, ◌++◌, Some, None, map}
+use Rattle.std.specs.Prelude.{◌≡◌, ℕ, ◌<◌, List, [], ◌∷◌, ◌++◌, Some, None, false, map}
+use Rattle.std.specs.List.{Contains}
 use Rattle.pg_ids.specs.declared.ids.LeafId.{LeafId}
 use Rattle.pg_ids.specs.declared.ids.TableNo.{TableNo}
 use Rattle.pg_ids.specs.declared.lock_mode.LockMode.{LockMode}
@@ -15,17 +16,19 @@ use Rattle.history.specs.declared.wait.Wanted.TheVariants.{Lock}
 use Rattle.history.specs.Snapshots.{TakenSnapshot}
 use Rattle.history.specs.Rows.{RowBorn, RowEnded}
 use Rattle.history.specs.Transactions.{open_of}
-use Rattle.history.specs.Catalogue.{EntryAdded, drops, entry_ends, counted_of}
+use Rattle.history.specs.Catalogue.{EntryAdded, EntryMarked, drops, entry_ends, marks, counted_of}
 use Rattle.history.specs.Locks.{wanted}
 use Rattle.history.specs.History.{Event, History, RowChange, CatalogueChange, LockChange, tx_events, lock_events, catalogue_events}
+use Rattle.history.specs.Presence.{entries_present, is_pending}
 use Rattle.history.specs.Legal.{IsLegal}
 use Rattle.soundness.specs.Legal.{ArePermitted, Has, HasTable}
 use Rattle.soundness.specs.Parts.{IsKnown}
+use Rattle.part_catalog.specs.Found.{resolved}
 use Rattle.lock_answers.specs.Asked.{asked_events}
 use Rattle.legal_statements.specs.Follows.{MayFollow}
 use Rattle.legal_statements.specs.Locked.{IsOwned, IsGuarded}
 use Rattle.legal_statements.specs.Drops.{IsDrop, entries_end, tables_go}
-use Rattle.legal_statements.specs.Entries.{IsNewPartition, IsAttached}
+use Rattle.legal_statements.specs.Entries.{IsNewPartition, IsAttached, IsNewMark}
 use Rattle.legal_statements.specs.Rows.{IsNewRow, IsOldRow}
 use Rattle.legal_statements.specs.Tables.{LeavesAreThere, MakesNoLeaf, IsNewTable, IsNextLeaf, leaf_table, level_table}
 
@@ -77,3 +80,20 @@ NewPartitionMayFollow = (h : History) (session : ℕ) (e : Entry) → IsLegal h 
 
 abbrev pub AttachMayFollow : Type 0
 AttachMayFollow = (h : History) (session : ℕ) (e : Entry) → IsLegal h → ArePermitted h → IsAttached h session e → MayFollow (CatalogueChange (EntryAdded e) ∷ []) h
+
+-- nor marked, where the session does not have it pending
+abbrev pub NobodyElseMarks : Type 0
+NobodyElseMarks = (h : History) (session t : ℕ) (e : Entry) → IsLegal h → ArePermitted h → open_of (tx_events h) session ≡ Some t → Has h t e → is_pending h session e ≡ false → IsGuarded h session e.parent.number
+    → counted_of (tx_events h) (marks (catalogue_events h)) e.id.number ≡ None
+
+-- the first stage of a concurrent DETACH
+abbrev pub MarkMayFollow : Type 0
+MarkMayFollow = (h : History) (session : ℕ) (e : Entry) (s : Stamp) → IsLegal h → ArePermitted h → IsNewMark h session e s → MayFollow (CatalogueChange (EntryMarked e.id.number s) ∷ []) h
+
+-- what the lists of a session and the look-up of a name tell is there for its transaction
+abbrev pub ListedIsThere : Type 0
+ListedIsThere = (h : History) (session t : ℕ) (e : Entry) → IsLegal h → ArePermitted h → open_of (tx_events h) session ≡ Some t → Contains (entries_present h session) e
+    → Has h t e × HasTable h t e.parent.number × HasTable h t e.child.number
+
+abbrev pub NamedIsThere : Type 0
+NamedIsThere = (h : History) (session t x : ℕ) (name : List ℕ) → IsLegal h → open_of (tx_events h) session ≡ Some t → resolved h session name ≡ Some x → HasTable h t x

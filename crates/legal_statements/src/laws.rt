@@ -1,4 +1,4 @@
-ghost use Rattle.legal_statements.specs.Laws.{FollowedIsLegal, AskedMayFollow, NewRowMayFollow, OldRowMayFollow, NewLeafMayFollow, NewLevelMayFollow, LeavesStayThere, NobodyElseDrops, NobodyElseEnds, DropMayFollow, NewPartitionMayFollow, AttachMayFollow};
+ghost use Rattle.legal_statements.specs.Laws.{FollowedIsLegal, AskedMayFollow, NewRowMayFollow, OldRowMayFollow, NewLeafMayFollow, NewLevelMayFollow, LeavesStayThere, NobodyElseDrops, NobodyElseEnds, DropMayFollow, NewPartitionMayFollow, AttachMayFollow, NobodyElseMarks, MarkMayFollow, ListedIsThere, NamedIsThere};
 
 /// A legal history with permitted events stays one when events come that may follow it.
 pub fn followed_is_legal()
@@ -60,4 +60,25 @@ pub fn new_partition_may_follow()
 /// A table that was there may be attached, where its rows were scanned and nobody else may use it.
 pub fn attach_may_follow()
     ensures { AttachMayFollow }
+{}
+
+/// No other transaction has marked a partition that is not pending, where the session has locked its
+/// parent.
+pub fn nobody_else_marks()
+    ensures { NobodyElseMarks }
+{}
+
+/// A partition may be marked pending, beside no default and no other pending one.
+pub fn mark_may_follow()
+    ensures { MarkMayFollow }
+{}
+
+/// An entry in a session's list is there for its transaction, and so are its two tables.
+pub fn listed_is_there()
+    ensures { ListedIsThere }
+{}
+
+/// The table that a name means to a session is there for its transaction.
+pub fn named_is_there()
+    ensures { NamedIsThere }
 {}
