@@ -8,5 +8,7 @@ pub mod Marking
 pub mod Marks
 pub mod Names
 pub mod Others
+pub mod Pairs
 pub mod Storing
 pub mod There
+pub mod Trees

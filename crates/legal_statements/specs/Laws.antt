@@ -26,6 +26,7 @@ use Rattle.soundness.specs.Parts.{IsKnown}
 use Rattle.part_catalog.specs.Found.{resolved}
 use Rattle.lock_answers.specs.Asked.{asked_events}
 use Rattle.legal_statements.specs.Follows.{MayFollow}
+use Rattle.legal_statements.specs.Below.{numbers_from, IsWholeTree}
 use Rattle.legal_statements.specs.Locked.{IsOwned, IsGuarded}
 use Rattle.legal_statements.specs.Drops.{IsDrop, entries_end, tables_go}
 use Rattle.legal_statements.specs.Entries.{IsNewPartition, IsAttached, IsNewMark}
@@ -97,3 +98,7 @@ ListedIsThere = (h : History) (session t : ℕ) (e : Entry) → IsLegal h → Ar
 
 abbrev pub NamedIsThere : Type 0
 NamedIsThere = (h : History) (session t x : ℕ) (name : List ℕ) → IsLegal h → open_of (tx_events h) session ≡ Some t → resolved h session name ≡ Some x → HasTable h t x
+
+-- the tree of a table, with all pending partitions, has the table and all below it, each of them once
+abbrev pub TreeIsWhole : Type 0
+TreeIsWhole = (h : History) (session t top : ℕ) → IsLegal h → ArePermitted h → open_of (tx_events h) session ≡ Some t → IsWholeTree h t top (numbers_from h session top)

@@ -1,3 +1,4 @@
+pub mod Below
 pub mod Drops
 pub mod Entries
 pub mod Follows

@@ -1,4 +1,4 @@
-ghost use Rattle.legal_statements.specs.Laws.{FollowedIsLegal, AskedMayFollow, NewRowMayFollow, OldRowMayFollow, NewLeafMayFollow, NewLevelMayFollow, LeavesStayThere, NobodyElseDrops, NobodyElseEnds, DropMayFollow, NewPartitionMayFollow, AttachMayFollow, NobodyElseMarks, MarkMayFollow, ListedIsThere, NamedIsThere};
+ghost use Rattle.legal_statements.specs.Laws.{FollowedIsLegal, AskedMayFollow, NewRowMayFollow, OldRowMayFollow, NewLeafMayFollow, NewLevelMayFollow, LeavesStayThere, NobodyElseDrops, NobodyElseEnds, DropMayFollow, NewPartitionMayFollow, AttachMayFollow, NobodyElseMarks, MarkMayFollow, ListedIsThere, NamedIsThere, TreeIsWhole};
 
 /// A legal history with permitted events stays one when events come that may follow it.
 pub fn followed_is_legal()
@@ -81,4 +81,9 @@ pub fn listed_is_there()
 /// The table that a name means to a session is there for its transaction.
 pub fn named_is_there()
     ensures { NamedIsThere }
+{}
+
+/// The tree that a statement which changes tables works on has each table below its topmost one, once.
+pub fn tree_is_whole()
+    ensures { TreeIsWhole }
 {}
