@@ -28,7 +28,7 @@ use Rattle.legal_statements.proofs.Holding.{session_runs, owns_of, guards_of}
 use Rattle.legal_statements.proofs.Marks.{pending_for}
 
 -- what is present for the transaction is present for its session
-present_for : (h : History) (session t : ℕ) (e : Entry) → IsLegal h → open_of (tx_events h) session ≡ Some t → Has h t e → Present (catalogue_events h) (counts (tx_events h) session) e
+pub present_for : (h : History) (session t : ℕ) (e : Entry) → IsLegal h → open_of (tx_events h) session ≡ Some t → Has h t e → Present (catalogue_events h) (counts (tx_events h) session) e
 present_for h session t e legal own has =
     let same = λ (k : ℕ). agree (tx_events h) session t k own (session_runs h session t legal own).runs in
     (has.0, same e.by.number ∙ has.1, λ u end. same u ∙ has.2 u end)

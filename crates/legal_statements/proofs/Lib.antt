@@ -12,3 +12,4 @@ pub mod Pairs
 pub mod Storing
 pub mod There
 pub mod Trees
+pub mod Whole

@@ -28,7 +28,7 @@ use Rattle.lock_answers.specs.Asked.{asked_events}
 use Rattle.legal_statements.specs.Follows.{MayFollow}
 use Rattle.legal_statements.specs.Below.{numbers_from, IsWholeTree}
 use Rattle.legal_statements.specs.Locked.{IsOwned, IsGuarded}
-use Rattle.legal_statements.specs.Drops.{IsDrop, entries_end, tables_go}
+use Rattle.legal_statements.specs.Drops.{IsDrop, entries_end, tables_go, IsTableDrop, table_drop}
 use Rattle.legal_statements.specs.Entries.{IsNewPartition, IsAttached, IsNewMark}
 use Rattle.legal_statements.specs.Rows.{IsNewRow, IsOldRow}
 use Rattle.legal_statements.specs.Tables.{LeavesAreThere, MakesNoLeaf, IsNewTable, IsNextLeaf, leaf_table, level_table}
@@ -102,3 +102,7 @@ NamedIsThere = (h : History) (session t x : ℕ) (name : List ℕ) → IsLegal h
 -- the tree of a table, with all pending partitions, has the table and all below it, each of them once
 abbrev pub TreeIsWhole : Type 0
 TreeIsWhole = (h : History) (session t top : ℕ) → IsLegal h → ArePermitted h → open_of (tx_events h) session ≡ Some t → IsWholeTree h t top (numbers_from h session top)
+
+-- so a DROP TABLE of the whole tree may follow
+abbrev pub TableDropMayFollow : Type 0
+TableDropMayFollow = (h : History) (session table : ℕ) (s : Stamp) → IsLegal h → ArePermitted h → IsTableDrop h session table s → MayFollow (table_drop h session table s) h

@@ -1,4 +1,4 @@
-ghost use Rattle.legal_statements.specs.Laws.{FollowedIsLegal, AskedMayFollow, NewRowMayFollow, OldRowMayFollow, NewLeafMayFollow, NewLevelMayFollow, LeavesStayThere, NobodyElseDrops, NobodyElseEnds, DropMayFollow, NewPartitionMayFollow, AttachMayFollow, NobodyElseMarks, MarkMayFollow, ListedIsThere, NamedIsThere, TreeIsWhole};
+ghost use Rattle.legal_statements.specs.Laws.{FollowedIsLegal, AskedMayFollow, NewRowMayFollow, OldRowMayFollow, NewLeafMayFollow, NewLevelMayFollow, LeavesStayThere, NobodyElseDrops, NobodyElseEnds, DropMayFollow, NewPartitionMayFollow, AttachMayFollow, NobodyElseMarks, MarkMayFollow, ListedIsThere, NamedIsThere, TreeIsWhole, TableDropMayFollow};
 
 /// A legal history with permitted events stays one when events come that may follow it.
 pub fn followed_is_legal()
@@ -86,4 +86,9 @@ pub fn named_is_there()
 /// The tree that a statement which changes tables works on has each table below its topmost one, once.
 pub fn tree_is_whole()
     ensures { TreeIsWhole }
+{}
+
+/// A table and all below it may be dropped, once the entries of all of them have ended.
+pub fn table_drop_may_follow()
+    ensures { TableDropMayFollow }
 {}
