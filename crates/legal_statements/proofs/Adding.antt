@@ -25,6 +25,7 @@ use Rattle.part_catalog.specs.Full.{tables_up, tables_above}
 use Rattle.legal_statements.specs.Entries.{IsScanned, IsNewPlace}
 use Rattle.legal_statements.specs.Laws.{NewPartitionMayFollow, AttachMayFollow}
 use Rattle.legal_statements.proofs.Holding.{session_runs, owns_of, guards_of}
+use Rattle.legal_statements.proofs.Trees.{tree_is_whole}
 use Rattle.legal_statements.proofs.Marks.{pending_for}
 
 -- what is present for the transaction is present for its session
@@ -78,7 +79,7 @@ place_of h session e legal permitted new =
       acts = session_runs h session t legal new.own;
       there = (new.parent_there, new.child_there);
       parent_locked = guards_of h session t e.parent.number legal new.own new.guarded;
-      default_locked = λ d n x has of by_default low. owns_of h session t x legal new.own (new.default_owned d n x (record { present = listed_for h session t d legal new.own has; of = of; default = by_default }) low);
+      default_locked = λ d n x has of by_default low. owns_of h session t x legal new.own (new.default_owned d x (record { present = listed_for h session t d legal new.own has; of = of; default = by_default }) ((tree_is_whole h session t d.child.number legal permitted new.own).all n x low));
       roomy = λ es are. let few = children_are_counted h session t e.parent.number es legal new.own are in let room = new.room.partitions in omega (arith, few, room);
       together = λ g has. new.together g (listed_for h session t g legal new.own has);
       no_pending = λ g has of pending. new.no_pending g of (pending_for h session t g legal new.own (present_test h session g (listed_for h session t g legal new.own has)) pending);
@@ -121,15 +122,16 @@ none_above (y ∷ es) x g none at same = elim (cases_Bool (is_over x y)) [
 pub attach_may_follow : AttachMayFollow
 attach_may_follow h session e legal permitted new =
     let t = e.by.number in
-    let place = new.place in (
+    let place = new.place in
+    let tree = tree_is_whole h session t e.child.number legal permitted place.own in (
       record {
         legal = (place.number, place.suits);
         in_order = place.command;
         permitted = record {
           place = place_of h session e legal permitted place;
-          child_locked = λ n x low. owns_of h session t x legal place.own (new.child_owned n x low);
+          child_locked = λ n x low. owns_of h session t x legal place.own (new.child_owned x (tree.all n x low));
           no_partition = λ g has. none_above (entries_present h session) e.child.number g new.no_partition (listed_for h session t g legal place.own has);
-          not_above = new.not_above;
+          not_above = λ n low. new.not_above (tree.all n e.parent.number low);
           shallow = λ n m top x up low far. not_deep h session e legal permitted place n m top x up low far;
           scanned = λ v n x is at low judged.
               let row = new.scanned v (scanned_for h session t e.child.number n x v legal permitted place.own is at low judged) in

@@ -19,8 +19,9 @@ use Rattle.row_router.specs.declared.path.PathTest.TheVariants.{Bounds}
 use Rattle.row_router.specs.Paths.{refused}
 use Rattle.soundness.specs.Versions.{IsVersion}
 use Rattle.soundness.specs.Worlds.{HasLeaf, key_at}
-use Rattle.soundness.specs.Legal.{HasTable, Below, Takes, Judges}
+use Rattle.soundness.specs.Legal.{HasTable, Takes, Judges}
 use Rattle.part_catalog.specs.Full.{HasPlace}
+use Rattle.legal_statements.specs.Below.{numbers_from}
 use Rattle.legal_statements.specs.Locked.{IsOwnTable, IsOwned, IsGuarded}
 
 -- what a scan of a table and all below it judges: the versions in the leaves of its tree, with all pending partitions
@@ -48,7 +49,7 @@ pub record IsNewPlace (h : History) (session : ℕ) (e : Entry) : Type 0 where
   pub room : HasPlace h session e.parent.number e.child.number
   pub together : (g : Entry) → Contains (entries_present h session) g → CanStandTogether g e
   pub no_pending : (g : Entry) → g.parent.number ≡ e.parent.number → is_pending h session g ≡ true → is_default e.bound ≡ false
-  pub default_owned : (d : Entry) (n x : ℕ) → IsDefaultOf h session e.parent.number d → Below h e.by.number n d.child.number x → IsOwned h session x
+  pub default_owned : (d : Entry) (x : ℕ) → IsDefaultOf h session e.parent.number d → Contains (numbers_from h session d.child.number) x → IsOwned h session x
   pub default_scanned : (d : Entry) (v : Version) → IsDefaultOf h session e.parent.number d → IsScanned h session e.by.number d.child.number v
       → accepts (key_at (catalogue_events h) e.parent.number v.row) e.bound ≡ false
 
@@ -64,9 +65,9 @@ pub record IsNewPartition (h : History) (session : ℕ) (e : Entry) : Type 0 whe
 -- it, and each row that a scan judges there is accepted by the new partition and along the path above it
 pub record IsAttached (h : History) (session : ℕ) (e : Entry) : Type 0 where
   pub place : IsNewPlace h session e
-  pub child_owned : (n x : ℕ) → Below h e.by.number n e.child.number x → IsOwned h session x
+  pub child_owned : (x : ℕ) → Contains (numbers_from h session e.child.number) x → IsOwned h session x
   pub no_partition : above (entries_present h session) e.child.number ≡ None
-  pub not_above : (n : ℕ) → Below h e.by.number n e.child.number e.parent.number → ⊥
+  pub not_above : Contains (numbers_from h session e.child.number) e.parent.number → ⊥
   pub scanned : (v : Version) → IsScanned h session e.by.number e.child.number v → Takes h e.by.number e v.row × (refused Bounds v.row (path_of h session e.parent.number) ≡ None)
 
 -- a partition that is not pending is marked so; none beside it is pending or the default, and the session may change the
