@@ -1,0 +1,5 @@
+pub mod Answers
+pub mod Endings
+pub mod Limits
+pub mod Runs
+pub mod Texts

@@ -1,0 +1,39 @@
+-- A text comes to one outcome.
+use Rattle.std.proofs.Common.{◌≡◌, ◌⊎◌, inl, inr, ℕ, List, [], ◌++◌, refl, sym, ap, subst, ◌∙◌}
+use Rattle.schedule.specs.Rules.{Rules}
+use Rattle.spec_reader.specs.Specs.{IsScript}
+use Rattle.spec_reader.specs.declared.fault.SpecFault.{SpecFault}
+use Rattle.spec_reader.specs.declared.fault.SpecFault.TheVariants as faults
+use Rattle.spec_reader.specs.declared.spec.Spec.{Spec}
+use Rattle.spec_reader.proofs.SpecLaws.{only_script, no_script, one_reason}
+use Rattle.script_program.specs.Lines.{fault_line}
+use Rattle.script_program.specs.Outcomes.{Outcome, refusal}
+use Rattle.script_program.specs.Texts.{IsNoScript, RunEnds, RunBegins, TextEnds, Accepted, Refused, TextBegins, Nothing, Running}
+use Rattle.script_program.specs.declared.ended.Ended.TheVariants.{ScriptRefused}
+use Rattle.script_program.proofs.Runs.{one_run, run_begins}
+
+module _ (text : List ℕ) where
+  not_both : (spec : Spec) (fault : SpecFault) → IsScript text spec → IsNoScript text fault → ⊥
+  not_both spec fault is no = elim (no_script text fault no.refused) [ inl memory ↦ no.known memory | inr none ↦ none spec is ]
+
+  same_reason : (f g : SpecFault) → IsNoScript text f → IsNoScript text g → f ≡ g
+  same_reason f g p q = go (one_reason text f g p.refused q.refused)
+    where
+      go : (f ≡ faults.NoMemory) ⊎ ((g ≡ faults.NoMemory) ⊎ (f ≡ g)) → f ≡ g
+      go (inl memory) = absurd (p.known memory)
+      go (inr (inl memory)) = absurd (q.known memory)
+      go (inr (inr same)) = same
+
+  module _ {S : Type 0} (R : Rules S) (opened : Spec → S) where
+    pub script_ends : (spec : Spec) (o : Outcome) → IsScript text spec → TextEnds R opened text o → RunEnds R opened spec o
+    script_ends spec o is (Accepted other also ends) = subst (λ s. RunEnds R opened s o) (sym (only_script text spec other is also)) ends
+    script_ends spec o is (Refused fault no line) = absurd (not_both spec fault is no)
+
+    pub one_text : (a b : Outcome) → TextEnds R opened text a → TextEnds R opened text b → a ≡ b
+    one_text a b (Accepted spec is ends) q = one_run R opened spec a b ends (script_ends spec b is q)
+    one_text a b (Refused fault no line) (Accepted spec is ends) = absurd (not_both spec fault is no)
+    one_text a b (Refused f no line) (Refused g not' line') = line ∙ (ap (λ x. refusal ScriptRefused (fault_line x)) (same_reason f g no not') ∙ sym line')
+
+    pub text_begins : (out : List ℕ) (o : Outcome) → TextBegins R opened text out → TextEnds R opened text o → (rest : List ℕ) × (out ++ rest ≡ o.out)
+    text_begins out o (Nothing none) q = (o.out, ap (λ xs. xs ++ o.out) none)
+    text_begins out o (Running spec is begins) q = run_begins R opened spec out o begins (script_ends spec o is q)
