@@ -4,7 +4,7 @@ use Rattle.std.specs.Io.KnownBytes.{Appends}
 use Rattle.schedule.specs.Lines.{heading}
 use Rattle.schedule.specs.Printed.{AppendsPrefix, IsPrinted, IsPartlyPrinted}
 use Rattle.schedule.specs.Rules.{Rules}
-use Rattle.schedule.specs.Run.{World, Reaches, Here, Runs, start}
+use Rattle.schedule.specs.Run.{World, Runs, start}
 use Rattle.schedule.specs.declared.run_end.RunEnd.{RunEnd}
 use Rattle.schedule.specs.declared.run_end.RunEnd.TheVariants.{All, SetupFailed, TeardownFailed}
 use Rattle.schedule.proofs.Ends as runs
@@ -13,23 +13,23 @@ use Rattle.spec_reader.specs.declared.spec.Spec.{Spec}
 use Rattle.script_program.specs.Outcomes.{Outcome}
 use Rattle.script_program.specs.Texts.{beginning, printed, outcome_of, RunEnds, RunBegins}
 
-module _ {S : Type 0} (R : Rules S) (opened : Spec → S) (spec : Spec) where
+module _ {S : Type 0} (R : Rules S) (v : S) (spec : Spec) where
   -- a run that was written whole, with the bytes on `out`
   pub record Ran (end : RunEnd) (before now : Option (List ℕ)) : Type 0 where
     pub out : List ℕ
-    pub ends : RunEnds R opened spec (outcome_of R spec out end)
-    pub begins : RunBegins R opened spec out
+    pub ends : RunEnds R v spec (outcome_of R spec out end)
+    pub begins : RunBegins R v spec out
     pub written : Appends before now out
 
   -- .. and one that was not
   pub record RanPartly (before now : Option (List ℕ)) : Type 0 where
     pub out : List ℕ
-    pub begins : RunBegins R opened spec out
+    pub begins : RunBegins R v spec out
     pub begun : AppendsPrefix before now out
 
-  pub ran : (n : ℕ) (end : RunEnd) (before now : Option (List ℕ)) → n ≡ length spec.sessions + 1 → IsPrinted R (start R (opened spec) n (permutations_of spec)) (heading n) end before now → Ran end before now
+  pub ran : (n : ℕ) (end : RunEnd) (before now : Option (List ℕ)) → n ≡ length spec.sessions + 1 → IsPrinted R (start R v n (permutations_of spec)) (heading n) end before now → Ran end before now
   ran n end before now same wrote =
-      let p = subst (λ m. IsPrinted R (start R (opened spec) m (permutations_of spec)) (heading m) end before now) same wrote in
+      let p = subst (λ m. IsPrinted R (start R v m (permutations_of spec)) (heading m) end before now) same wrote in
       record {
         out = printed spec p.lines;
         ends = record { lines = p.lines; last = p.last; runs = p.runs; is = ap (outcome_of R spec (printed spec p.lines)) p.ends };
@@ -37,18 +37,14 @@ module _ {S : Type 0} (R : Rules S) (opened : Spec → S) (spec : Spec) where
         written = p.written;
       }
 
-  pub ran_partly : (n : ℕ) (before now : Option (List ℕ)) → n ≡ length spec.sessions + 1 → IsPartlyPrinted R (start R (opened spec) n (permutations_of spec)) (heading n) before now → RanPartly before now
+  pub ran_partly : (n : ℕ) (before now : Option (List ℕ)) → n ≡ length spec.sessions + 1 → IsPartlyPrinted R (start R v n (permutations_of spec)) (heading n) before now → RanPartly before now
   ran_partly n before now same wrote =
-      let p = subst (λ m. IsPartlyPrinted R (start R (opened spec) m (permutations_of spec)) (heading m) before now) same wrote in
+      let p = subst (λ m. IsPartlyPrinted R (start R v m (permutations_of spec)) (heading m) before now) same wrote in
       record { out = printed spec p.lines; begins = record { lines = p.lines; last = p.last; reaches = p.reaches; is = refl }; begun = p.begun }
 
-  -- nothing has happened yet
-  pub at_first : RunBegins R opened spec (printed spec [])
-  at_first = record { lines = []; last = beginning R opened spec; reaches = Here _ _ _ refl refl; is = refl }
-
-  pub one_run : (a b : Outcome) → RunEnds R opened spec a → RunEnds R opened spec b → a ≡ b
+  pub one_run : (a b : Outcome) → RunEnds R v spec a → RunEnds R v spec b → a ≡ b
   one_run a b p q =
-      let same = runs.one_end R (beginning R opened spec) p.lines q.lines p.last q.last p.runs q.runs in
+      let same = runs.one_end R (beginning R v spec) p.lines q.lines p.last q.last p.runs q.runs in
       p.is ∙ (ap (λ lines. outcome_of R spec (printed spec lines) p.last.end) same.0 ∙ (ap (λ (x : World S). outcome_of R spec (printed spec q.lines) x.end) same.1 ∙ sym q.is))
 
   out_is : (out : List ℕ) (end : RunEnd) → (outcome_of R spec out end).out ≡ out
@@ -56,8 +52,8 @@ module _ {S : Type 0} (R : Rules S) (opened : Spec → S) (spec : Spec) where
   out_is out (SetupFailed s fault) = refl
   out_is out (TeardownFailed fault) = refl
 
-  pub run_begins : (out : List ℕ) (o : Outcome) → RunBegins R opened spec out → RunEnds R opened spec o → (rest : List ℕ) × (out ++ rest ≡ o.out)
+  pub run_begins : (out : List ℕ) (o : Outcome) → RunBegins R v spec out → RunEnds R v spec o → (rest : List ℕ) × (out ++ rest ≡ o.out)
   run_begins out o p q =
-      let more = runs.beginning R (beginning R opened spec) p.lines q.lines p.last q.last p.reaches q.runs.reaches q.runs.ends in
+      let more = runs.beginning R (beginning R v spec) p.lines q.lines p.last q.last p.reaches q.runs.reaches q.runs.ends in
       let all : o.out ≡ printed spec q.lines = ap (λ (x : Outcome). x.out) q.is ∙ out_is (printed spec q.lines) q.last.end in
       (more.0, ap (λ xs. xs ++ more.0) p.is ∙ (append_assoc (heading (length spec.sessions + 1)) p.lines more.0 ∙ (ap (printed spec) more.1 ∙ sym all)))

@@ -1,5 +1,5 @@
 -- The lines on `err`.
-use Rattle.std.specs.Prelude.{ℕ, zero, suc, List, [], ◌++◌, Option, Some, None, codes, decimal, slice_get}
+use Rattle.std.specs.Prelude.{ℕ, ◌-◌, ◌==◌, if◌then◌else◌, List, [], ◌++◌, Option, Some, None, codes, decimal, slice_get}
 use Rattle.pg_ids.specs.Words.{which_word}
 use Rattle.pg_values.specs.declared.fault.Fault.{Fault}
 use Rattle.schedule.specs.Rules.{Rules}
@@ -32,8 +32,7 @@ name_of None = []
 name_of (Some session) = session.name
 
 abbrev pub session_name : List SessionSpec → ℕ → List ℕ
-session_name sessions zero = codes "control"
-session_name sessions (suc n) = name_of (slice_get sessions n)
+session_name sessions s = if s == 0 then codes "control" else name_of (slice_get sessions (s - 1))
 
 -- why a run has ended early
 abbrev pub setup_line : {S : Type 0} → Rules S → List SessionSpec → ℕ → Fault → List ℕ

@@ -1,5 +1,5 @@
 -- What comes of a call: its answer, and what its two outputs take.
-use Rattle.std.specs.Prelude.{◌≡◌, ℕ, List, []}
+use Rattle.std.specs.Prelude.{◌≡◌, ◌⊎◌, ℕ, List, [], Option}
 use Rattle.std.specs.Io.KnownBytes.{Appends}
 use Rattle.pg_values.specs.Faults.{Rose}
 use Rattle.pg_values.specs.declared.outside.Sink.{Ghosts}
@@ -27,6 +27,10 @@ TakesFirst {K} g old new bytes = AppendsPrefix (g.taken old) (g.taken new) bytes
 -- It took some first ones of them, and then a write failed.
 abbrev pub Fails : {K : Type 0} (g : Ghosts K) → K → K → List ℕ → Type 0
 Fails {K} g old new bytes = AppendsPrefix (g.taken old) (g.taken new) bytes × Rose (g.faults old) (g.faults new)
+
+-- An outcome's line was written, or cut by a failed write.
+abbrev pub IsTold : {E : Type 0} (g : Ghosts E) → E → E → Outcome → Ended → Type 0
+IsTold {E} g old new o ended = ((ended ≡ o.ended) × Takes g old new o.err) ⊎ ((ended ≡ WriteFault) × Fails g old new o.err)
 
 -- How a call ends. One of its outcomes was written whole; or a write failed or memory ran out before. `so_far` are
 -- bytes that it has come to write on `out` at some point, when nothing is on its way to `err`.

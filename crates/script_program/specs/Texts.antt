@@ -14,11 +14,11 @@ use Rattle.script_program.specs.declared.ended.Ended.TheVariants.{Done, ScriptRe
 use Rattle.script_program.specs.Lines.{fault_line, setup_line, teardown_line}
 use Rattle.script_program.specs.Outcomes.{Outcome, refusal}
 
--- ---- the run of a script, over a database that is opened for it
+-- ---- the run of a script, over fresh databases like v
 
 -- before the first permutation
-abbrev pub beginning : {S : Type 0} → Rules S → (Spec → S) → Spec → World S
-beginning R opened spec = start R (opened spec) (length spec.sessions + 1) (permutations_of spec)
+abbrev pub beginning : {S : Type 0} → Rules S → S → Spec → World S
+beginning R v spec = start R v (length spec.sessions + 1) (permutations_of spec)
 
 -- the first line, and these lines of the run
 abbrev pub printed : Spec → List ℕ → List ℕ
@@ -31,20 +31,20 @@ outcome_of R spec out (SetupFailed s fault) = record { ended = ScriptRefused; ou
 outcome_of R spec out (TeardownFailed fault) = record { ended = ScriptRefused; out = out; err = teardown_line R fault }
 
 -- what the whole run comes to
-pub record RunEnds {S : Type 0} (R : Rules S) (opened : Spec → S) (spec : Spec) (o : Outcome) : Type 0 where
+pub record RunEnds {S : Type 0} (R : Rules S) (v : S) (spec : Spec) (o : Outcome) : Type 0 where
   pub lines : List ℕ
   pub last : World S
-  pub runs : Runs R (beginning R opened spec) lines last
+  pub runs : Runs R (beginning R v spec) lines last
   pub is : o ≡ outcome_of R spec (printed spec lines) last.end
 
 -- what the run has printed at some point
-pub record RunBegins {S : Type 0} (R : Rules S) (opened : Spec → S) (spec : Spec) (out : List ℕ) : Type 0 where
+pub record RunBegins {S : Type 0} (R : Rules S) (v : S) (spec : Spec) (out : List ℕ) : Type 0 where
   pub lines : List ℕ
   pub last : World S
-  pub reaches : Reaches R (beginning R opened spec) lines last
+  pub reaches : Reaches R (beginning R v spec) lines last
   pub is : out ≡ printed spec lines
 
--- ---- a text
+-- ---- a text; `opened` is the database that is opened for a script
 
 -- it is no script, for this reason
 pub record IsNoScript (text : List ℕ) (fault : SpecFault) : Type 0 where
@@ -52,10 +52,10 @@ pub record IsNoScript (text : List ℕ) (fault : SpecFault) : Type 0 where
   pub known : fault ≢ faults.NoMemory
 
 pub data TextEnds {S : Type 0} (R : Rules S) (opened : Spec → S) (text : List ℕ) (o : Outcome) : Type 0 where
-  Accepted : (spec : Spec) → IsScript text spec → RunEnds R opened spec o → TextEnds R opened text o
+  Accepted : (spec : Spec) → IsScript text spec → RunEnds R (opened spec) spec o → TextEnds R opened text o
   Refused : (fault : SpecFault) → IsNoScript text fault → o ≡ refusal ScriptRefused (fault_line fault) → TextEnds R opened text o
 
 -- what `out` has come to at some point: nothing yet, or some lines of the run
 pub data TextBegins {S : Type 0} (R : Rules S) (opened : Spec → S) (text out : List ℕ) : Type 0 where
   Nothing : out ≡ [] → TextBegins R opened text out
-  Running : (spec : Spec) → IsScript text spec → RunBegins R opened spec out → TextBegins R opened text out
+  Running : (spec : Spec) → IsScript text spec → RunBegins R (opened spec) spec out → TextBegins R opened text out

@@ -30,7 +30,7 @@ pub(crate) fn fault_line(alloc: Global, fault: &SpecFault) -> Result<Vec<u8>, No
         SpecFault::DoubleName { name } => {
             between(alloc, b"name ", name.as_bytes(), b" is used twice\n")
         }
-        SpecFault::NoPermutation => between(alloc, b"no permutation line\n", b"", b""),
+        SpecFault::NoPermutation => Ok(Vec::from_slice(alloc, b"no permutation line\n")?),
         SpecFault::UnknownStep { name } => between(alloc, b"unknown step ", name.as_bytes(), b"\n"),
         SpecFault::UnknownMarker { name } => {
             between(alloc, b"unknown marker ", name.as_bytes(), b"\n")

@@ -1,5 +1,5 @@
-ghost use Rattle.std.specs.Prelude.{◌≡◌, ◌⊎◌, ◌≤◌, ◌<◌, OnOk, OnErr, length};
-ghost use Rattle.script_program.specs.Outcomes.{Takes, Fails};
+ghost use Rattle.std.specs.Prelude.{◌≤◌, ◌<◌, OnOk, OnErr, length};
+ghost use Rattle.script_program.specs.Outcomes.{Fails, IsTold, Takes, refusal};
 
 use crate::ended::Ended;
 use pg_values::{Failed, Sink};
@@ -18,7 +18,7 @@ fn write_whole<K: Sink>(sink: &mut K, bytes: &[u8]) -> Result<(), Failed>
 
 /// Writes the line of an answer. A failed write ends the call in its place.
 pub(crate) fn answer<E: Sink>(err: &mut E, line: &[u8], ended: Ended) -> Ended
-    ensures { ((result ≡ ended) × Takes E.Sink err.old err.new line.now) ⊎ ((result ≡ Ended.WriteFault) × Fails E.Sink err.old err.new line.now) }
+    ensures { IsTold E.Sink err.old err.new (refusal ended line.now) result }
 {
     match write_whole(err, line) {
         Ok(()) => ended,

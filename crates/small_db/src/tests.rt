@@ -1,4 +1,4 @@
-use crate::db::SmallDb;
+use crate::opening::OpensSmallDb;
 use pg_values::{BytesSource, ListSink, NoMemory};
 use script_program::{Ended, run_program};
 use std::alloc::Global;
@@ -67,7 +67,7 @@ fn call(
     let mut input = BytesSource::new(text, failing(alloc, read)?, 16);
     let mut out = ListSink::new(alloc, 1000, failing(alloc, write)?, Vec::new(alloc), 7)?;
     let mut err = ListSink::new(alloc, 1000, failing(alloc, err_write)?, Vec::new(alloc), 7)?;
-    let ended = run_program::<SmallDb, _, _, _>(
+    let ended = run_program::<OpensSmallDb, _, _, _>(
         alloc,
         &Vec::new(alloc),
         &mut input,
