@@ -1,5 +1,5 @@
 -- How calls end.
-use Rattle.std.proofs.Common.{◌≡◌, ◌⊎◌, inl, inr, ℕ, List, [], Result, Ok, Err, IfOk, MatchResult, refl, sym, subst, ◌∙◌}
+use Rattle.std.proofs.Common.{◌≡◌, ◌⊎◌, inl, inr, ℕ, List, [], Result, Ok, Err, IfOk, OnOk, MatchResult, rules, refl, sym, subst, ◌∙◌}
 use Rattle.std.proofs.KnownBytes.{Appends-nil}
 use Rattle.pg_values.specs.declared.outside.Sink.{Ghosts}
 use Rattle.schedule.specs.Printed.{AppendsPrefix}
@@ -16,6 +16,10 @@ module _ {K : Type 0} (k : Ghosts K) (sink : K) where
   pub nothing_of : (bytes : List ℕ) → TakesFirst k sink sink bytes
   nothing_of bytes = (nothing_yet (k.taken sink) bytes, refl)
 
+pub always : {T F : Type 0} (r : Result T F) (A : Type 0) → A → OnOk r A
+always (Ok x) A a = a
+always (Err e) A a = search rules
+
 module _ {K E : Type 0} (k : Ghosts K) (e : Ghosts E) (A : Outcome → Type 0) (P : List ℕ → Type 0) (out out' : K) (err err' : E) (r : Ended) where
   -- an outcome has come, and what it has on `out` was written
   pub told : (o : Outcome) → A o → Takes k out out' o.out → IsTold e err err' o r → Ends k e A P out out' err err' r
@@ -23,7 +27,7 @@ module _ {K E : Type 0} (k : Ghosts K) (e : Ghosts E) (A : Outcome → Type 0) (
   told o a t (inr h) = CutOnErr o a h.0 t h.1
 
   -- .. where memory may run out before its line is made
-  pub refused : {T F : Type 0} (line : Result T F) (bytes : T → List ℕ) (o : Outcome) → A o → P o.out → o.ended ≡ ScriptRefused → Takes k out out' o.out → IfOk line (λ l. bytes l ≡ o.err)
+  pub refused : {T F : Type 0} (line : Result T F) (bytes : T → List ℕ) (o : Outcome) → OnOk line (A o) → P o.out → o.ended ≡ ScriptRefused → Takes k out out' o.out → IfOk line (λ l. bytes l ≡ o.err)
       → MatchResult line (λ l. IsTold e err err' (refusal ScriptRefused (bytes l)) r) (λ _. (r ≡ NoMemory) × Takes e err err' []) → Ends k e A P out out' err err' r
   refused (Ok l) bytes o a p is t same h = told o a t (is_told (bytes l) o is same h)
     where

@@ -14,7 +14,7 @@ use Rattle.script_program.proofs.Runs.{one_run, run_begins}
 
 module _ (text : List ℕ) where
   not_both : (spec : Spec) (fault : SpecFault) → IsScript text spec → IsNoScript text fault → ⊥
-  not_both spec fault is no = elim (no_script text fault no.refused) [ inl memory ↦ no.known memory | inr none ↦ none spec is ]
+  not_both spec fault is none = elim (no_script text fault none.refused) [ inl memory ↦ none.known memory | inr never ↦ never spec is ]
 
   same_reason : (f g : SpecFault) → IsNoScript text f → IsNoScript text g → f ≡ g
   same_reason f g p q = go (one_reason text f g p.refused q.refused)
@@ -26,14 +26,14 @@ module _ (text : List ℕ) where
 
   module _ {S : Type 0} (R : Rules S) (opened : Spec → S) where
     pub script_ends : (spec : Spec) (o : Outcome) → IsScript text spec → TextEnds R opened text o → RunEnds R (opened spec) spec o
-    script_ends spec o is (Accepted other also ends) = subst (λ s. RunEnds R (opened s) s o) (sym (only_script text spec other is also)) ends
-    script_ends spec o is (Refused fault no line) = absurd (not_both spec fault is no)
+    script_ends spec o is (Accepted other also ends) = subst (λ s. RunEnds R (opened s) s o) (only_script text spec other is also) ends
+    script_ends spec o is (Refused fault none line) = absurd (not_both spec fault is none)
 
     pub one_text : (a b : Outcome) → TextEnds R opened text a → TextEnds R opened text b → a ≡ b
     one_text a b (Accepted spec is ends) q = one_run R (opened spec) spec a b ends (script_ends spec b is q)
-    one_text a b (Refused fault no line) (Accepted spec is ends) = absurd (not_both spec fault is no)
-    one_text a b (Refused f no line) (Refused g not' line') = line ∙ (ap (λ x. refusal ScriptRefused (fault_line x)) (same_reason f g no not') ∙ sym line')
+    one_text a b (Refused fault none line) (Accepted spec is ends) = absurd (not_both spec fault is none)
+    one_text a b (Refused f none line) (Refused g none' line') = line ∙ (ap (λ x. refusal ScriptRefused (fault_line x)) (same_reason f g none none') ∙ sym line')
 
     pub text_begins : (out : List ℕ) (o : Outcome) → TextBegins R opened text out → TextEnds R opened text o → (rest : List ℕ) × (out ++ rest ≡ o.out)
-    text_begins out o (Nothing none) q = (o.out, ap (λ xs. xs ++ o.out) none)
+    text_begins out o (Nothing empty) q = (o.out, ap (λ xs. xs ++ o.out) empty)
     text_begins out o (Running spec is begins) q = run_begins R (opened spec) spec out o begins (script_ends spec o is q)

@@ -44,7 +44,11 @@ pub record RunBegins {S : Type 0} (R : Rules S) (v : S) (spec : Spec) (out : Lis
   pub reaches : Reaches R (beginning R v spec) lines last
   pub is : out ≡ printed spec lines
 
--- ---- a text; `opened` is the database that is opened for a script
+-- ---- a text
+
+-- a database that is opened for a script stands for this state
+abbrev pub OpensAs : {D S : Type 0} → (Spec → D → Type 0) → (D → S → Type 0) → (Spec → S) → Type 0
+OpensAs {D} {S} opens stands opened = (spec : Spec) (d : D) → opens spec d → stands d (opened spec)
 
 -- it is no script, for this reason
 pub record IsNoScript (text : List ℕ) (fault : SpecFault) : Type 0 where

@@ -1,4 +1,4 @@
-ghost use Rattle.std.specs.Prelude.{◌≡◌, ◌++◌, IfOk};
+ghost use Rattle.std.specs.Prelude.{◌≡◌, ◌≢◌, ◌++◌, IfOk, OnOk};
 ghost use Rattle.script_program.specs.Lines as spec;
 
 use pg_values::{Fault, NoMemory};
@@ -16,9 +16,10 @@ fn between(alloc: Global, before: &[u8], text: &[u8], behind: &[u8]) -> Result<V
     Ok(line)
 }
 
-/// Why a text is no script.
+/// Why a text is no script. Of want of memory no line tells.
 pub(crate) fn fault_line(alloc: Global, fault: &SpecFault) -> Result<Vec<u8>, NoMemory>
-    ensures { IfOk result (λ line. line.items ≡ spec.fault_line fault.now) }
+    ensures line { IfOk result (λ line. line.items ≡ spec.fault_line fault.now) }
+    ensures known { OnOk result (fault.now ≢ SpecFault.NoMemory) }
 {
     match fault {
         SpecFault::BadToken { line } => {
@@ -35,7 +36,7 @@ pub(crate) fn fault_line(alloc: Global, fault: &SpecFault) -> Result<Vec<u8>, No
         SpecFault::UnknownMarker { name } => {
             between(alloc, b"unknown marker ", name.as_bytes(), b"\n")
         }
-        SpecFault::NoMemory => Ok(Vec::new(alloc)),
+        SpecFault::NoMemory => Err(NoMemory),
     }
 }
 

@@ -12,12 +12,12 @@ pub trait Opener {
 
     type Db: Database;
 
-    /// What it stands for before anything has happened.
-    ghost opened: { Spec → Self.Db.State };
+    /// What holds of a database that is opened for a script, before anything has happened in it.
+    ghost opens: { Spec → Self.Db → Type 0 };
 
-    /// A database with the script's sessions and the control session, in which nothing has happened.
+    /// A database with the script's sessions and the control session.
     fn open(alloc: Global, script: &Spec) -> Result<Self::Db, NoMemory>
         requires { length script.now.sessions ≤ MOST_SESSIONS }
-        ensures stands { IfOk result (λ d. Self.Db.stands d (opened script.now)) }
+        ensures opens { IfOk result (opens script.now) }
         ensures count { IfOk result (λ d. Self.Db.count d ≡ length script.now.sessions + 1) };
 }

@@ -1,6 +1,7 @@
 ghost use Rattle.std.specs.Prelude.{◌≡◌, map, string_bytes};
+ghost use Rattle.spec_reader.specs.declared.spec.Spec.{Spec};
 ghost use Rattle.script_program.specs.Program.{Calls, is_call};
-ghost use Rattle.script_program.specs.Texts.{TextBegins, TextEnds};
+ghost use Rattle.script_program.specs.Texts.{OpensAs, TextBegins, TextEnds};
 
 use crate::ended::Ended;
 use crate::input::{ReadRefused, read_whole};
@@ -26,7 +27,7 @@ pub fn run_program<O: Opener, S: Source, K: Sink, E: Sink>(
     out: &mut K,
     err: &mut E,
 ) -> Ended
-    ensures { Calls S.Source K.Sink E.Sink (TextEnds O.Db.rules O.opened) (TextBegins O.Db.rules O.opened) (map string_bytes words.now) input.old input.new out.old out.new err.old err.new result }
+    ensures { (opened : Spec → O.Db.State) → OpensAs O.opens O.Db.stands opened → Calls S.Source K.Sink E.Sink (TextEnds O.Db.rules opened) (TextBegins O.Db.rules opened) (map string_bytes words.now) input.old input.new out.old out.new err.old err.new result }
 {
     if !is_call(words) {
         return answer(err, b"usage: partscript\n", Ended::Usage);

@@ -1,6 +1,7 @@
 ghost use Rattle.std.specs.Prelude.{◌≡◌, ◌+◌, [], length, MatchResult};
+ghost use Rattle.spec_reader.specs.declared.spec.Spec.{Spec};
 ghost use Rattle.script_program.specs.Outcomes.{Ends, IsTold, Takes, refusal};
-ghost use Rattle.script_program.specs.Texts.{RunBegins, RunEnds, TextBegins, TextEnds};
+ghost use Rattle.script_program.specs.Texts.{OpensAs, RunBegins, RunEnds, TextBegins, TextEnds};
 
 use crate::ended::Ended;
 use crate::line::{fault_line, setup_line, teardown_line};
@@ -9,7 +10,7 @@ use crate::output::answer;
 use pg_values::{NoMemory, Sink};
 use schedule::{Database, RunEnd, RunRefused};
 use script_tasks::run_script;
-use spec_reader::{Spec, SpecFault, read_spec};
+use spec_reader::{Spec, read_spec};
 use std::alloc::Global;
 
 // Answers that the script is refused, with this line, if there was memory for it.
@@ -53,14 +54,13 @@ pub(crate) fn run_text<O: Opener, K: Sink, E: Sink>(
     out: &mut K,
     err: &mut E,
 ) -> Ended
-    ensures { Ends K.Sink E.Sink (TextEnds O.Db.rules O.opened text.now) (TextBegins O.Db.rules O.opened text.now) out.old out.new err.old err.new result }
+    ensures { (opened : Spec → O.Db.State) → OpensAs O.opens O.Db.stands opened → Ends K.Sink E.Sink (TextEnds O.Db.rules opened text.now) (TextBegins O.Db.rules opened text.now) out.old out.new err.old err.new result }
 {
     match read_spec(alloc, text) {
         Ok(script) => match O::open(alloc, &script) {
             Ok(db) => run_over(alloc, db, &script, out, err),
             Err(NoMemory) => Ended::NoMemory,
         },
-        Err(SpecFault::NoMemory) => Ended::NoMemory,
         Err(fault) => refuse(err, fault_line(alloc, &fault)),
     }
 }
