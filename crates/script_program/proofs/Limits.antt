@@ -27,7 +27,7 @@ few before [] h none = omega (arith, h)
 few before (s ∷ ss) h none =
     let here = fewer (length before) (not_told _ _ (first_none _ _ (first_none _ _ none))) in
     let one : length (before ++ s ∷ []) ≡ length before + 1 = length-append before (s ∷ []) in
-    let rest = few (before ++ s ∷ []) ss (omega (arith, here, one)) (second_none _ _ none) in
+    let rest : length (before ++ s ∷ []) + length ss ≤ 64 = few (before ++ s ∷ []) ss (omega (arith, here, one)) (second_none (session_limit before s) (first_behind session_limit (before ++ s ∷ []) ss) none) in
     omega (arith, rest, one)
 
 within : (w : WrittenSpec) → fault w ≡ None → length w.sessions ≤ 64

@@ -1,6 +1,6 @@
-use crate::opening::OpensSmallDb;
+use crate::opening::run_small;
 use pg_values::{BytesSource, ListSink, NoMemory};
-use script_program::{Ended, run_program};
+use script_program::Ended;
 use std::alloc::Global;
 
 /// What stands around a call: its words, how long its input is at least, and the reads and writes
@@ -62,7 +62,7 @@ pub fn run_case(alloc: Global, script: &str) -> Result<Vec<u8>, NoMemory> {
     let mut out = ListSink::new(alloc, 65536, around.failing_writes, Vec::new(alloc), 4096)?;
     let mut err = ListSink::new(alloc, 4096, around.failing_err, Vec::new(alloc), 10)?;
     let words = around.words;
-    let ended = run_program::<OpensSmallDb, _, _, _>(alloc, &words, &mut input, &mut out, &mut err);
+    let ended = run_small(alloc, &words, &mut input, &mut out, &mut err);
     let mut answer = Vec::from_slice(alloc, out.bytes())?;
     answer.extend_from_slice(ended_line(ended))?;
     answer.extend_from_slice(err.bytes())?;

@@ -1,6 +1,6 @@
-use crate::opening::OpensSmallDb;
+use crate::opening::run_small;
 use pg_values::{BytesSource, ListSink, NoMemory};
-use script_program::{Ended, run_program};
+use script_program::Ended;
 use std::alloc::Global;
 
 const SCRIPT: &str = "setup { i }
@@ -67,13 +67,7 @@ fn call(
     let mut input = BytesSource::new(text, failing(alloc, read)?, 16);
     let mut out = ListSink::new(alloc, 1000, failing(alloc, write)?, Vec::new(alloc), 7)?;
     let mut err = ListSink::new(alloc, 1000, failing(alloc, err_write)?, Vec::new(alloc), 7)?;
-    let ended = run_program::<OpensSmallDb, _, _, _>(
-        alloc,
-        &Vec::new(alloc),
-        &mut input,
-        &mut out,
-        &mut err,
-    );
+    let ended = run_small(alloc, &Vec::new(alloc), &mut input, &mut out, &mut err);
     Ok(Outcome { ended, out, err })
 }
 
