@@ -1,8 +1,8 @@
 -- A call has one outcome.
-use Rattle.std.proofs.Common.{◌≡◌, Bool, true, false, ℕ, List, [], ◌++◌, refl, sym, subst, ◌∙◌}
+use Rattle.std.proofs.Common.{◌≡◌, ℕ, List, ◌++◌, refl, sym, subst, ◌∙◌}
 use Rattle.script_program.specs.Outcomes.{Outcome}
-use Rattle.script_program.specs.Program.{is_call, Answers, Misused, Swamped, Unreadable, Read, Begins, InReading, Behind}
-use Rattle.script_program.specs.Reading.{Reading, Unread, Partly, Whole, TooLong, Broken}
+use Rattle.script_program.specs.Program.{Answers, Misused, Swamped, Unreadable, Read, Begins, InReading, Behind}
+use Rattle.script_program.specs.Reading.{Reading, Whole}
 
 same_text : (r : Reading) (s t : List ℕ) → r ≡ Whole s → r ≡ Whole t → t ≡ s
 same_text r s t h k = cc

@@ -1,11 +1,10 @@
 -- How calls end.
-use Rattle.std.proofs.Common.{◌≡◌, ◌⊎◌, inl, inr, ℕ, List, [], Result, Ok, Err, IfOk, OnOk, MatchResult, rules, refl, sym, subst, ◌∙◌}
+use Rattle.std.proofs.Common.{◌≡◌, inl, inr, ℕ, List, [], Result, Ok, Err, IfOk, OnOk, MatchResult, rules, refl, sym, subst, ◌∙◌}
 use Rattle.std.proofs.KnownBytes.{Appends-nil}
 use Rattle.pg_values.specs.declared.outside.Sink.{Ghosts}
-use Rattle.schedule.specs.Printed.{AppendsPrefix}
 use Rattle.schedule.proofs.Pieces.{nothing_yet, all_of_it}
 use Rattle.script_program.specs.declared.ended.Ended.{Ended}
-use Rattle.script_program.specs.declared.ended.Ended.TheVariants.{ScriptRefused, WriteFault, NoMemory}
+use Rattle.script_program.specs.declared.ended.Ended.TheVariants.{ScriptRefused, NoMemory}
 use Rattle.script_program.specs.Outcomes.{Outcome, refusal, IsTold, Takes, TakesFirst, Fails, Ends, Written, CutOnOut, CutOnErr, Stopped}
 
 module _ {K : Type 0} (k : Ghosts K) (sink : K) where

@@ -1,11 +1,9 @@
 -- A script has few sessions.
-use Rattle.std.proofs.Common.{◌≡◌, ℕ, ◌+◌, ◌≤◌, ◌<◌, Bool, true, false, nat_le, List, [], ◌∷◌, ◌++◌, Option, Some, None, refl, sym, ap, subst, ◌∙◌, length, length-append, arith}
+use Rattle.std.proofs.Common.{◌≡◌, ℕ, ◌+◌, ◌≤◌, ◌<◌, false, nat_le, List, [], ◌∷◌, ◌++◌, Option, Some, None, refl, sym, subst, length, length-append, arith}
 use Rattle.std.specs.Option.{option_or}
-use Rattle.pg_ids.specs.declared.which.Which.TheVariants as which
-use Rattle.spec_reader.specs.Faults.{told, first_behind, first_told, session_limit, setup_limit, limit, fault}
+use Rattle.spec_reader.specs.Faults.{first_behind, session_limit, fault}
 use Rattle.spec_reader.specs.Specs.{IsScript}
 use Rattle.spec_reader.specs.declared.fault.SpecFault.{SpecFault}
-use Rattle.spec_reader.specs.declared.fault.SpecFault.TheVariants.{Limit}
 use Rattle.spec_reader.specs.declared.spec.SessionSpec.{SessionSpec}
 use Rattle.spec_reader.specs.declared.spec.Spec.{Spec}
 use Rattle.spec_reader.specs.declared.written.WrittenSpec.{WrittenSpec}

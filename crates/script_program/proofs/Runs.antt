@@ -1,10 +1,10 @@
 -- What was written of a script's run.
-use Rattle.std.proofs.Common.{◌≡◌, ℕ, ◌+◌, List, [], ◌++◌, Option, refl, sym, ap, subst, ◌∙◌, length, append_assoc}
+use Rattle.std.proofs.Common.{◌≡◌, ℕ, ◌+◌, List, ◌++◌, Option, refl, sym, ap, subst, ◌∙◌, length, append_assoc}
 use Rattle.std.specs.Io.KnownBytes.{Appends}
 use Rattle.schedule.specs.Lines.{heading}
 use Rattle.schedule.specs.Printed.{AppendsPrefix, IsPrinted, IsPartlyPrinted}
 use Rattle.schedule.specs.Rules.{Rules}
-use Rattle.schedule.specs.Run.{World, Runs, start}
+use Rattle.schedule.specs.Run.{World, start}
 use Rattle.schedule.specs.declared.run_end.RunEnd.{RunEnd}
 use Rattle.schedule.specs.declared.run_end.RunEnd.TheVariants.{All, SetupFailed, TeardownFailed}
 use Rattle.schedule.proofs.Ends as runs

@@ -1,5 +1,5 @@
 -- A text comes to one outcome.
-use Rattle.std.proofs.Common.{◌≡◌, ◌⊎◌, inl, inr, ℕ, List, [], ◌++◌, refl, sym, ap, subst, ◌∙◌}
+use Rattle.std.proofs.Common.{◌≡◌, ◌⊎◌, inl, inr, ℕ, List, ◌++◌, sym, ap, subst, ◌∙◌}
 use Rattle.schedule.specs.Rules.{Rules}
 use Rattle.spec_reader.specs.Specs.{IsScript}
 use Rattle.spec_reader.specs.declared.fault.SpecFault.{SpecFault}
@@ -8,7 +8,7 @@ use Rattle.spec_reader.specs.declared.spec.Spec.{Spec}
 use Rattle.spec_reader.proofs.SpecLaws.{only_script, no_script, one_reason}
 use Rattle.script_program.specs.Lines.{fault_line}
 use Rattle.script_program.specs.Outcomes.{Outcome, refusal}
-use Rattle.script_program.specs.Texts.{IsNoScript, RunEnds, RunBegins, TextEnds, Accepted, Refused, TextBegins, Nothing, Running}
+use Rattle.script_program.specs.Texts.{IsNoScript, RunEnds, TextEnds, Accepted, Refused, TextBegins, Nothing, Running}
 use Rattle.script_program.specs.declared.ended.Ended.TheVariants.{ScriptRefused}
 use Rattle.script_program.proofs.Runs.{one_run, run_begins}
 

@@ -1,5 +1,5 @@
 -- What comes of a call: its answer, and what its two outputs take.
-use Rattle.std.specs.Prelude.{◌≡◌, ◌⊎◌, ℕ, List, [], Option}
+use Rattle.std.specs.Prelude.{◌≡◌, ◌⊎◌, ℕ, List, []}
 use Rattle.std.specs.Io.KnownBytes.{Appends}
 use Rattle.pg_values.specs.Faults.{Rose}
 use Rattle.pg_values.specs.declared.outside.Sink.{Ghosts}
