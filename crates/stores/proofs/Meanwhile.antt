@@ -1,5 +1,5 @@
 -- A transaction comes to the same command, whatever comes meanwhile.
-use Rattle.std.proofs.Common.{◌≡◌, ◌≢◌, ◌≤◌, ℕ, arith, ◌==◌, false, if◌then◌else◌, [], ◌∷◌, ◌++◌, refl, sym, ap, ◌∙◌, Option, Some, None, All}
+use Rattle.std.proofs.Common.{◌≡◌, ◌≢◌, ◌≤◌, ℕ, arith, ◌==◌, false, if◌then◌else◌, ◌∷◌, ◌++◌, refl, sym, ap, ◌∙◌, Option, Some, None}
 use Rattle.std.proofs.lemmas.Bool.Decides.{nat_tests}
 use Rattle.std.proofs.lemmas.List.Elements.{All-cons}
 use Rattle.history.specs.Transactions.{TxEvent, TxBegan, TxCommitted, TxAborted, next_tx, open_of, session_of, IsSound}
@@ -8,7 +8,7 @@ use Rattle.history.specs.Locks.{LockEvent, LocksGivenUp, SnapshotGone, WaitWithd
 use Rattle.history.specs.History.{History, TxChange, SnapshotChange, LockChange, tx_events, snapshot_events, fresh, held_or_fresh}
 use Rattle.history.proofs.Open.{open_own}
 use Rattle.soundness.proofs.Sound.{sound_of}
-use Rattle.stores.specs.Events.{tx_in, begun, let_go, withdrawn, ended, committed, aborted, with_command, look_of, held_first, held}
+use Rattle.stores.specs.Events.{tx_in, let_go, withdrawn, ended, with_command, look_of, held_first, held}
 use Rattle.stores.specs.Good.{IsGood}
 use Rattle.stores.specs.Numbers.{IsBefore, IsAt}
 use Rattle.stores.specs.Laws.{OtherBeginsAndEnds}
