@@ -1,4 +1,5 @@
 pub mod Answers
+pub mod Causes
 pub mod Endings
 pub mod Limits
 pub mod Pieces

@@ -1,4 +1,4 @@
-ghost use Rattle.std.specs.Prelude.{◌≡◌, ◌++◌, ℕ, List};
+ghost use Rattle.std.specs.Prelude.{◌≡◌, ◌≢◌, ◌++◌, ℕ, List};
 ghost use Rattle.spec_reader.specs.Specs.{IsScript};
 ghost use Rattle.spec_reader.specs.declared.spec.Spec.{Spec};
 ghost use Rattle.script_program.specs.Outcomes.{Outcome};
@@ -6,6 +6,7 @@ ghost use Rattle.script_program.specs.Program.{Answers, Begins};
 ghost use Rattle.script_program.specs.Reading.{Reading, Whole};
 ghost use Rattle.script_program.specs.Texts.{RunEnds, TextBegins, TextEnds};
 
+use crate::ended::Ended;
 use schedule::Database;
 
 /// A call has one outcome, by its words and by what it reads of its input.
@@ -21,4 +22,9 @@ pub fn outcomes_begin_so<D: Database>()
 /// Of a script the outcome is that of its run.
 pub fn scripts_are_run<D: Database>()
     ensures { (opened : Spec → D.State) (words : List (List ℕ)) (text : List ℕ) (spec : Spec) (o : Outcome) → IsScript text spec → Answers (TextEnds D.rules opened) words (Whole text) o → RunEnds D.rules (opened spec) spec o }
+{}
+
+/// No outcome is `WriteFault` or `NoMemory`: a call that answers so has not written its outcome.
+pub fn outcomes_are_no_faults<D: Database>()
+    ensures { (opened : Spec → D.State) (words : List (List ℕ)) (r : Reading) (o : Outcome) → Answers (TextEnds D.rules opened) words r o → (o.ended ≢ Ended.WriteFault) × (o.ended ≢ Ended.NoMemory) }
 {}

@@ -22,6 +22,8 @@ mod script_run;
 
 pub use ended::Ended;
 pub use input::INPUT_LIMIT;
-pub use laws::{calls_have_one_outcome, outcomes_begin_so, scripts_are_run};
+pub use laws::{
+    calls_have_one_outcome, outcomes_are_no_faults, outcomes_begin_so, scripts_are_run,
+};
 pub use opener::Opener;
 pub use program::run_program;

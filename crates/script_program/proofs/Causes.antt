@@ -1,0 +1,49 @@
+-- No outcome of a call is a failed write or want of memory.
+use Rattle.std.proofs.Common.{◌≡◌, ◌≢◌, ℕ, List, ap}
+use Rattle.schedule.specs.Rules.{Rules}
+use Rattle.schedule.specs.declared.run_end.RunEnd.{RunEnd}
+use Rattle.schedule.specs.declared.run_end.RunEnd.TheVariants.{All, SetupFailed, TeardownFailed}
+use Rattle.spec_reader.specs.declared.spec.Spec.{Spec}
+use Rattle.script_program.specs.declared.ended.Ended.{Ended}
+use Rattle.script_program.specs.declared.ended.Ended.TheVariants.{Done, ScriptRefused, Usage, TooLarge, ReadFault, WriteFault, NoMemory}
+use Rattle.script_program.specs.Outcomes.{Outcome}
+use Rattle.script_program.specs.Program.{Answers, Misused, Swamped, Unreadable, Read}
+use Rattle.script_program.specs.Reading.{Reading}
+use Rattle.script_program.specs.Texts.{outcome_of, TextEnds, Accepted, Refused}
+
+abbrev pub IsNoFault : Outcome → Type 0
+IsNoFault o = (o.ended ≢ WriteFault) × (o.ended ≢ NoMemory)
+
+done : (o : Outcome) → o.ended ≡ Done → IsNoFault o
+done o is = (λ h. cc, λ h. cc)
+
+refused : (o : Outcome) → o.ended ≡ ScriptRefused → IsNoFault o
+refused o is = (λ h. cc, λ h. cc)
+
+usage : (o : Outcome) → o.ended ≡ Usage → IsNoFault o
+usage o is = (λ h. cc, λ h. cc)
+
+too_large : (o : Outcome) → o.ended ≡ TooLarge → IsNoFault o
+too_large o is = (λ h. cc, λ h. cc)
+
+read_fault : (o : Outcome) → o.ended ≡ ReadFault → IsNoFault o
+read_fault o is = (λ h. cc, λ h. cc)
+
+abbrev answer_of : Outcome → Ended
+answer_of o = o.ended
+
+module _ {S : Type 0} (R : Rules S) where
+  run_is : (spec : Spec) (out : List ℕ) (end : RunEnd) (o : Outcome) → o ≡ outcome_of R spec out end → IsNoFault o
+  run_is spec out All o is = done o (ap answer_of is)
+  run_is spec out (SetupFailed s fault) o is = refused o (ap answer_of is)
+  run_is spec out (TeardownFailed fault) o is = refused o (ap answer_of is)
+
+  text_is : (opened : Spec → S) (text : List ℕ) (o : Outcome) → TextEnds R opened text o → IsNoFault o
+  text_is opened text o (Accepted spec is ends) = run_is spec _ _ o ends.is
+  text_is opened text o (Refused fault none line) = refused o (ap answer_of line)
+
+  pub no_fault : (opened : Spec → S) (words : List (List ℕ)) (r : Reading) (o : Outcome) → Answers (TextEnds R opened) words r o → IsNoFault o
+  no_fault opened words r o (Misused call read is) = usage o (ap answer_of is)
+  no_fault opened words r o (Swamped call read is) = too_large o (ap answer_of is)
+  no_fault opened words r o (Unreadable call read is) = read_fault o (ap answer_of is)
+  no_fault opened words r o (Read text call read ends) = text_is opened text o ends
