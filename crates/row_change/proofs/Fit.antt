@@ -89,6 +89,7 @@ has_found q r p (x ∷ xs) e found is test = elim (cases_Bool (q x)) [
     first_is : (x e : Entry) (o : Option Entry) (b : Bool) → b ≡ true → (if b then Some x else o) ≡ Some e → x ≡ e
     first_is x e o true is found = cc
     first_is x e o false is found = absurd (cc)
+
     not_first : (x e : Entry) (o : Option Entry) (b : Bool) → b ≡ false → (if b then Some x else o) ≡ Some e → o ≡ Some e
     not_first x e o true is found = absurd (cc)
     not_first x e o false is found = found

@@ -54,7 +54,7 @@ refused_is_numbered n what row (p ∷ ps) t known is =
 
 -- ---- what holds of all tables of a tree holds of those on a way
 
-all_root : (P : TableNo → Type 0) (t : TableTree) → AllTables P t → P (root t)
+pub all_root : (P : TableNo → Type 0) (t : TableTree) → AllTables P t → P (root t)
 all_root P (LeafTable node leaf) all = all
 all_root P (LevelTable node level bounds kids) all = all.0
 

@@ -14,6 +14,7 @@ mod full_rows;
 mod keys;
 mod laws;
 mod leaf_list;
+mod leaves_below;
 mod placing;
 mod storing;
 mod target;
@@ -22,8 +23,11 @@ mod texts;
 mod way;
 
 pub use full_rows::full_row;
-pub use laws::{rows_are_of_ways, rows_fit_paths, tables_are_made, ways_lead_to_leaves};
+pub use laws::{
+    rows_are_of_ways, rows_fit_paths, tables_are_made, targets_fit, ways_lead_to_leaves,
+};
 pub use leaf_list::LeafList;
+pub use leaves_below::leaf_targets;
 pub use placing::place_rows;
 pub use storing::store_rows;
 pub use target::Target;

@@ -120,8 +120,9 @@ pub fn store_rows(
     requires targets { All (IsTargetNumbered (length catalog.now.tables)) targets.now }
     requires leaves { All (IsLeafKnown store.old.leaves) leaves.now }
     requires runs { IsOpen txs.now by.number }
-    ensures { (h : History) → TableStands txs.now h → CatalogueStands catalog.now h → StoreStands store.old h →
+    ensures made { (h : History) → TableStands txs.now h → CatalogueStands catalog.now h → StoreStands store.old h →
         IsMade result store.new h (all_stored targets.now by cmd h leaves.now rows.now) }
+    ensures leaves { store.new.leaves ≡ store.old.leaves }
 {
     let mut left = leaves;
     for row in rows {
