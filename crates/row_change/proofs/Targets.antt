@@ -73,6 +73,9 @@ mutual
   way_is_in row table (Some zero) (More k ks) leaf is = way_first (root k) (way_to leaf k) (way_to_one leaf ks) (way_is row k leaf is)
   way_is_in row table (Some (suc i)) (More k ks) leaf is = way_later (root k) (way_to leaf k) (way_to_one leaf ks) (way_is_in row table (Some i) ks leaf is)
 
+pub way_of_routed : (row : List Value) (tree : TableTree) (leaf : LeafId) → Ok leaf ≡ routed row tree → HasWay tree leaf
+way_of_routed row tree leaf is = way_is row tree leaf (sym is)
+
 pub routed_have_ways : RoutedHaveWays
 routed_have_ways row tree leaf is = way_is row tree leaf is
 
@@ -110,8 +113,8 @@ one_more_has tree old new leaves i leaf keeps within is here have k d lt inside 
       subst (HasTarget new) at (here (subst (HasWay tree) (sym at) way))
 ]
 
--- and one target more of the tree
-pub one_more_of : (P : Target → Type 0) (targets : List Target) (t : Target) → P t → All P targets → All P (targets ++ t ∷ [])
+-- and one more of which it holds
+pub one_more_of : {X : Type 0} (P : X → Type 0) (targets : List X) (t : X) → P t → All P targets → All P (targets ++ t ∷ [])
 one_more_of P [] t is all = All-cons P t [] is all
 one_more_of P (x ∷ targets) t is all = All-cons P x (targets ++ t ∷ []) (All-head P x targets all) (one_more_of P targets t is (All-tail P x targets all))
 

@@ -1,4 +1,4 @@
-use Rattle.std.proofs.Common.{◌≡◌, ◌<◌, ◌++◌, ◌∷◌, [], ◌∙◌, ap, arith, sym, subst, List, map, position, length, append_assoc, append-nil}
+use Rattle.std.proofs.Common.{◌<◌, ◌++◌, ◌∷◌, [], ◌∙◌, ap, arith, sym, subst, List, map, position, length, append_assoc, append-nil}
 use Rattle.pg_ids.specs.declared.ids.TableNo.{TableNo}
 use Rattle.part_bounds.specs.declared.level.KeyColumn.{KeyColumn}
 use Rattle.part_bounds.specs.Points.{picked}
