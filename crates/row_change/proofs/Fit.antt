@@ -1,5 +1,5 @@
 -- A row of a table's columns may be asked of the table's path.
-use Rattle.std.proofs.Common.{◌≡◌, ℕ, zero, suc, ◌+◌, ◌<◌, ◌==◌, ◌&&◌, ◌||◌, arith, ap, refl, sym, subst, ◌∙◌, Bool, true, false, if◌then◌else◌, List, [], ◌∷◌, ◌++◌, Option, Some, None, map, filter, length, get_or, inl, inr}
+use Rattle.std.proofs.Common.{◌≡◌, ℕ, ◌<◌, ◌==◌, ◌&&◌, ◌||◌, arith, ap, refl, sym, subst, ◌∙◌, Bool, true, false, if◌then◌else◌, List, [], ◌∷◌, ◌++◌, Option, Some, None, map, filter, length, get_or, inl, inr}
 use Rattle.std.specs.List.{All, list_any, position_or_len}
 use Rattle.std.specs.Prelude.{find}
 use Rattle.std.proofs.lemmas.Bool.{cases_Bool}
@@ -25,7 +25,7 @@ use Rattle.history.specs.Places.{table_at, LiesIn, AreCatalogueSound}
 use Rattle.history.specs.Presence.{entries_present, checks_of, is_check_of, counts}
 use Rattle.table_trees.specs.declared.node.Node.{Node}
 use Rattle.table_trees.specs.Siblings.{AreSiblings}
-use Rattle.table_trees.specs.Trees.{TableTree, LeafTable, LevelTable, Trees, End, More, key_of, IsRowOf, IsSound, Fits}
+use Rattle.table_trees.specs.Trees.{TableTree, LeafTable, LevelTable, End, More, key_of, IsRowOf, IsSound, Fits}
 use Rattle.table_trees.specs.Histories.{placed, all_placed, children, bound_of, child_of_entry, is_under, is_over, above, is_entry, place_among, place_of, kept_of, parent_in, part_of, path_of, node_at, grown, tree_within, tree_of, ddl_tree}
 use Rattle.table_trees.proofs.RowsFit.{rows_fit}
 use Rattle.table_trees.proofs.Sound.{tree_sound, ddl_tree_sound}
@@ -89,6 +89,7 @@ has_found q r p (x ∷ xs) e found is test = elim (cases_Bool (q x)) [
     first_is : (x e : Entry) (o : Option Entry) (b : Bool) → b ≡ true → (if b then Some x else o) ≡ Some e → x ≡ e
     first_is x e o true is found = cc
     first_is x e o false is found = absurd (cc)
+
     not_first : (x e : Entry) (o : Option Entry) (b : Bool) → b ≡ false → (if b then Some x else o) ≡ Some e → o ≡ Some e
     not_first x e o true is found = absurd (cc)
     not_first x e o false is found = found

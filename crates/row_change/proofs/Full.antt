@@ -1,5 +1,5 @@
 -- Room in the store, told of the history.
-use Rattle.std.proofs.Common.{◌≡◌, ℕ, ◌+◌, ◌<◌, ◌≤◌, nat_le, Bool, true, false, List, [], ◌∷◌, ◌++◌, Result, Ok, Err, length, refl, sym, ap, subst, ◌∙◌, arith, if◌then◌else◌}
+use Rattle.std.proofs.Common.{◌≡◌, ℕ, ◌+◌, ◌<◌, ◌≤◌, nat_le, Bool, List, [], ◌∷◌, Ok, Err, length, refl, sym, ap, subst, ◌∙◌, arith, if◌then◌else◌}
 use Rattle.std.proofs.lemmas.Bool.{le-leb, lt-leb}
 use Rattle.pg_values.specs.declared.value.Value.{Value}
 use Rattle.pg_values.specs.declared.fault.Fault.{Fault}
@@ -44,4 +44,4 @@ has_room kept new h row event st room added =
 pub is_full : (kept new : KeptRows) (h : History) (row : List Value) (event : Event) (which : Which) (f : Fault) → StoreStands kept h → IsFull kept row which → f ≡ too_many which → new ≡ kept → IsMade (Err (Sql f)) new h (made_by (full_faults h row) (event ∷ []))
 is_full kept new h row event which f st full is same =
     subst (λ fs. IsMade (Err (Sql f)) new h (made_by fs (event ∷ []))) (sym (its_fault kept h row which st full))
-      (ap Err (sym is), subst (λ (k : KeptRows). StoreStands k h) (sym same) st)
+    (ap Err (sym is), subst (λ (k : KeptRows). StoreStands k h) (sym same) st)

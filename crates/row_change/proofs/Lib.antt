@@ -6,5 +6,6 @@ pub mod Made
 pub mod Placed
 pub mod Rows
 pub mod Steps
+pub mod Targets
 pub mod Walk
 pub mod Ways

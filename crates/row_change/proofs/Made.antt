@@ -1,12 +1,11 @@
 -- The tables of a path and of a tree of a history are made, and a row of one table's columns is one of each.
-use Rattle.std.proofs.Common.{◌≡◌, ℕ, zero, suc, ◌+◌, ◌<◌, ◌==◌, arith, ap, refl, sym, subst, ◌∙◌, Bool, true, false, List, [], ◌∷◌, Option, Some, None, map, filter, length, inl, inr}
+use Rattle.std.proofs.Common.{◌≡◌, ℕ, zero, suc, ◌<◌, arith, refl, sym, subst, Bool, true, List, [], ◌∷◌, Option, Some, None, map, length, inl, inr}
 use Rattle.std.specs.List.{All}
 use Rattle.std.specs.Prelude.{find}
 use Rattle.std.proofs.lemmas.Bool.{cases_Bool}
 use Rattle.std.proofs.lemmas.Bool.Decides.{nat_tests}
 use Rattle.std.proofs.lemmas.List.Elements.{All-cons, All-head, All-tail, All-nil}
 use Rattle.pg_values.specs.declared.value.Value.{Value}
-use Rattle.pg_ids.specs.declared.ids.LeafId.{LeafId}
 use Rattle.pg_ids.specs.declared.ids.TableNo.{TableNo}
 use Rattle.part_bounds.specs.declared.partition_bound.Bound.{Bound}
 use Rattle.part_bounds.specs.Levels.{IsOf}
@@ -18,15 +17,15 @@ use Rattle.history.specs.declared.catalogue.Entry.{Entry}
 use Rattle.history.specs.Snapshots.{TakenSnapshot}
 use Rattle.history.specs.Catalogue.{tables_made, entries_added}
 use Rattle.history.specs.History.{History, catalogue_events}
-use Rattle.history.specs.Places.{table_at, IsColumnOf, HasColumnsOf, Suits, AreCatalogueSound}
+use Rattle.history.specs.Places.{table_at, HasColumnsOf, Suits, AreCatalogueSound}
 use Rattle.history.specs.Presence.{is_present, is_shown, entries_present, entries_shown, checks_of}
 use Rattle.table_trees.specs.declared.node.Node.{Node}
 use Rattle.table_trees.specs.declared.path_part.PathPart.{PathPart}
-use Rattle.table_trees.specs.Trees.{TableTree, Trees, trees_of, IsRowOf}
+use Rattle.table_trees.specs.Trees.{TableTree, trees_of, IsRowOf}
 use Rattle.table_trees.specs.Histories.{tree_within, tree_of, ddl_tree, path_of, node_at, grown, children, bound_of, child_of_entry, is_over, above, parent_in, part_of, upwards, table_of}
 use Rattle.table_trees.proofs.Order.{all_children, all_kept, under_children}
 use Rattle.table_trees.proofs.Suited.{all_suit}
-use Rattle.row_change.specs.Placing.{IsNumbered, IsPartNumbered}
+use Rattle.row_change.specs.Placing.{IsPartNumbered}
 use Rattle.row_change.specs.Ways.{AllTables, AllTablesOf}
 use Rattle.row_change.specs.Laws.{IsMade, IsRowIn, PathsAreMade, TreesAreMade, RowsAreOfWays}
 use Rattle.row_change.proofs.Ways.{all_below, all_to}

@@ -74,7 +74,7 @@ stopped_here txs catalogue kept new h whole rest next fs event f is made r =
     let none = no_event (fs g) (RowChange e ∷ []) f m.0 in
     let es = (made_by (fs g) (RowChange e ∷ [])).events in
     let rest_is : rest g ≡ record { events = []; told = Err f } =
-        is g ∙ (ap (λ t. made_after t es (next (es ++ g))) m.0 ∙ ap (λ (l : History). record { events = l; told = Err f }) none) in
+    is g ∙ (ap (λ t. made_after t es (next (es ++ g))) m.0 ∙ ap (λ (l : History). record { events = l; told = Err f }) none) in
     let whole_is : whole ≡ record { events = r.events; told = Err f } = r.whole ∙ ap (behind r.events) rest_is in
     subst (IsMade (Err (Sql f)) new h) (sym whole_is) (refl, subst (λ (l : History). StoreStands new (l ++ g)) none m.1)
 
@@ -104,7 +104,7 @@ pub row_stored : (txs : KeptTable) (catalogue : KeptCatalogue) (kept new : KeptR
 unfolding faults_of
 row_stored txs catalogue kept new h whole targets by cmd leaves others leaf rows i row within is front made left =
     one_more txs catalogue kept new h whole (λ g. all_stored targets by cmd g leaves (drop i rows)) (λ g. all_stored targets by cmd g others (drop (i + 1) rows)) (faults_of targets leaf row) (λ g. RowBorn (newborn g leaf row by cmd))
-      (λ g. ap (λ ls. all_stored targets by cmd g ls (drop i rows)) front ∙ ap (all_stored targets by cmd g (leaf ∷ others)) (first_row rows i row within is)) made left
+    (λ g. ap (λ ls. all_stored targets by cmd g ls (drop i rows)) front ∙ ap (all_stored targets by cmd g (leaf ∷ others)) (first_row rows i row within is)) made left
 
 -- or refused
 pub row_refused : (txs : KeptTable) (catalogue : KeptCatalogue) (kept new : KeptRows) (h : History) (whole : Made) (targets : List Target) (by : TxId) (cmd : ℕ) (leaves others : List LeafId) (leaf : LeafId) (rows : List (List Value)) (i : ℕ) (row : List Value) (refusal : Refusal)
@@ -112,7 +112,7 @@ pub row_refused : (txs : KeptTable) (catalogue : KeptCatalogue) (kept new : Kept
 unfolding faults_of
 row_refused txs catalogue kept new h whole targets by cmd leaves others leaf rows i row (Sql f) within is front made left =
     stopped_here txs catalogue kept new h whole (λ g. all_stored targets by cmd g leaves (drop i rows)) (λ g. all_stored targets by cmd g others (drop (i + 1) rows)) (faults_of targets leaf row) (λ g. RowBorn (newborn g leaf row by cmd)) f
-      (λ g. ap (λ ls. all_stored targets by cmd g ls (drop i rows)) front ∙ ap (all_stored targets by cmd g (leaf ∷ others)) (first_row rows i row within is)) made left
+    (λ g. ap (λ ls. all_stored targets by cmd g ls (drop i rows)) front ∙ ap (all_stored targets by cmd g (leaf ∷ others)) (first_row rows i row within is)) made left
 row_refused txs catalogue kept new h whole targets by cmd leaves others leaf rows i row NoMemory within is front made left = tt
 
 none_left : (targets : List Target) (by : TxId) (cmd : ℕ) (g : History) (leaves : List LeafId) → all_stored targets by cmd g leaves [] ≡ record { events = []; told = Ok tt }

@@ -1,5 +1,5 @@
 -- One step on a way.
-use Rattle.std.proofs.Common.{◌≡◌, ℕ, zero, suc, ◌<◌, arith, ap, refl, sym, subst, ◌∙◌, List, [], ◌∷◌, Option, Some, None, map, length, get_or}
+use Rattle.std.proofs.Common.{◌≡◌, ℕ, zero, suc, ◌<◌, arith, ap, refl, sym, ◌∙◌, List, [], ◌∷◌, Some, None, map, length, get_or}
 use Rattle.pg_values.specs.declared.value.Value.{Value}
 use Rattle.part_bounds.specs.declared.partition_bound.Bound.{Bound}
 use Rattle.part_bounds.specs.declared.level.Level.{Level}

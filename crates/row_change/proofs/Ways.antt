@@ -1,5 +1,5 @@
 -- The tables of trees and of paths.
-use Rattle.std.proofs.Common.{◌≡◌, ℕ, zero, suc, ◌<◌, ◌==◌, if◌then◌else◌, Bool, true, false, List, [], ◌∷◌, Option, Some, None, Result, Ok, Err, ap, subst, inl, inr}
+use Rattle.std.proofs.Common.{◌≡◌, ℕ, zero, suc, ◌<◌, ◌==◌, if◌then◌else◌, Bool, true, false, List, [], ◌∷◌, Option, Some, None, Result, Ok, Err, subst, inl, inr}
 use Rattle.std.specs.List.{All}
 use Rattle.std.proofs.lemmas.Bool.{cases_Bool}
 use Rattle.std.proofs.lemmas.List.Elements.{All-cons, All-head, All-tail, All-nil}
@@ -54,7 +54,7 @@ refused_is_numbered n what row (p ∷ ps) t known is =
 
 -- ---- what holds of all tables of a tree holds of those on a way
 
-all_root : (P : TableNo → Type 0) (t : TableTree) → AllTables P t → P (root t)
+pub all_root : (P : TableNo → Type 0) (t : TableTree) → AllTables P t → P (root t)
 all_root P (LeafTable node leaf) all = all
 all_root P (LevelTable node level bounds kids) all = all.0
 

@@ -4,4 +4,5 @@ pub mod Placing
 pub mod Refusals
 pub mod RowTexts
 pub mod Storing
+pub mod Targets
 pub mod Ways

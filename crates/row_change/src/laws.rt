@@ -1,4 +1,5 @@
 ghost use Rattle.row_change.specs.Laws.{PathsFit, RowsCanBePlaced, PathsAreMade, TreesAreMade, RowsAreOfWays, WaysLeadToLeaves};
+ghost use Rattle.row_change.specs.Targets.{RoutedHaveWays, TargetsFit};
 
 /// Where the entries that are present for a session are siblings, a row of a table's columns may be asked of
 /// the table's path; and of its tree and its path, as a row that is placed is.
@@ -18,7 +19,15 @@ pub fn rows_are_of_ways()
     ensures { RowsAreOfWays }
 {}
 
-/// Where no two tables of a tree have one leaf, the way of a row is the way to its leaf.
+/// There is a way to the leaf of a row, and where no two tables of a tree have one leaf, it is the way of the
+/// row.
 pub fn ways_lead_to_leaves()
-    ensures { WaysLeadToLeaves }
+    ensures some { RoutedHaveWays }
+    ensures same { WaysLeadToLeaves }
+{}
+
+/// A row of a table's columns may be asked of the path of each target below the table, and its tables are
+/// made.
+pub fn targets_fit()
+    ensures { TargetsFit }
 {}

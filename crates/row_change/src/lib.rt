@@ -1,12 +1,17 @@
-//! The rows of an INSERT, each whole and with its leaf.
+//! The rows of an INSERT: each whole, placed, tested and stored.
 //!
 //! A row of an INSERT has values for the named columns; `full_row` makes the row of the table of them. In a
 //! partitioned table PostgreSQL routes a row at the moment at which it stores it. Here all rows are placed
 //! first (`place_rows`): the bounds of the named table and of the tables above it are asked, then the row
-//! goes down to the leaf that accepts it. So the leaves are known, and can be locked, before a row is stored.
+//! goes down to the leaf that accepts it. So the leaves, and the tables on the ways to them (`all_ways`), are
+//! known, and can be locked, before a row is stored. The answer is the leaf of each row, or the first refusal
+//! in the order of the rows.
 //!
-//! The answer is the leaf of each row, or the first refusal in the order of the rows. Names, and the keys
-//! that a refusal tells, are those that a history gives the tables.
+//! Then `store_rows` takes row after row: it is tested for NOT NULL, for the kept CHECKs along the path of its
+//! leaf and, where the statement names the leaf itself, for the bounds, and stored. What is known of a leaf is
+//! its `Target`. The first refusal ends it, and the caller takes back what was stored before.
+//!
+//! Names, and the keys that a refusal tells, are those that a history gives the tables.
 #![tactic(auto)]
 
 mod faults;
@@ -14,6 +19,7 @@ mod full_rows;
 mod keys;
 mod laws;
 mod leaf_list;
+mod leaves_below;
 mod placing;
 mod storing;
 mod target;
@@ -22,8 +28,11 @@ mod texts;
 mod way;
 
 pub use full_rows::full_row;
-pub use laws::{rows_are_of_ways, rows_fit_paths, tables_are_made, ways_lead_to_leaves};
+pub use laws::{
+    rows_are_of_ways, rows_fit_paths, tables_are_made, targets_fit, ways_lead_to_leaves,
+};
 pub use leaf_list::LeafList;
+pub use leaves_below::leaf_targets;
 pub use placing::place_rows;
 pub use storing::store_rows;
 pub use target::Target;

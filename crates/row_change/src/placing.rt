@@ -15,6 +15,7 @@ ghost use Rattle.part_catalog.specs.Stands.{CatalogueStands};
 ghost use Rattle.row_change.specs.Placing as placing;
 ghost use Rattle.row_change.specs.Placing.{name_at, all_placed, bounds_faults, way_told, CanBePlaced, IsNumbered, IsPartNumbered};
 ghost use Rattle.row_change.specs.Refusals as refusals;
+ghost use Rattle.row_change.specs.Targets.{HasWay};
 
 use crate::LeafList;
 use crate::faults::{does_not_accept, no_partition};
@@ -82,7 +83,7 @@ fn lost_at(alloc: Global, catalog: &Catalog, table: TableNo, row: &Row) -> Resul
     no_partition(alloc, catalog.name_of(table), key.as_slice())
 }
 
-#[tactic(auto, using(crate::proofs::Ways::lost_is_numbered))]
+#[tactic(auto, using(crate::proofs::Targets::way_of_routed))]
 fn leaf_of<L: Ledger>(
     alloc: Global,
     catalog: &Catalog,
@@ -92,8 +93,9 @@ fn leaf_of<L: Ledger>(
 ) -> Result<LeafId, Refusal>
     requires fits { Fits row.now (seen tree.now) }
     requires known { IsNumbered (length catalog.now.tables) (seen tree.now) }
-    ensures { (h : History) → CatalogueStands catalog.now h →
+    ensures told { (h : History) → CatalogueStands catalog.now h →
         IsAnswer result (way_told (tables_made (catalogue_events h)) row.now (routed row.now (seen tree.now))) }
+    ensures way { IfOk result (λ leaf. HasWay (seen tree.now) leaf) }
 {
     match route(tree, row, steps) {
         Ok(leaf) => Ok(leaf),
@@ -114,8 +116,9 @@ fn place_row<L: Ledger>(
     requires fits { CanBePlaced (seen tree.now) path.now row.now }
     requires path { All (IsPartNumbered (length catalog.now.tables)) path.now }
     requires known { IsNumbered (length catalog.now.tables) (seen tree.now) }
-    ensures { (h : History) → CatalogueStands catalog.now h →
+    ensures told { (h : History) → CatalogueStands catalog.now h →
         IsAnswer result (placing.placed (tables_made (catalogue_events h)) (seen tree.now) path.now row.now) }
+    ensures way { IfOk result (λ leaf. HasWay (seen tree.now) leaf) }
 {
     check_bounds(alloc, catalog, path, row)?;
     leaf_of(alloc, catalog, tree, row, steps)
@@ -123,7 +126,7 @@ fn place_row<L: Ledger>(
 
 /// The leaf of each row below the table of the tree, or the first refusal: 23514. Each row is asked of the
 /// bounds along the path, which is that of the table, before it goes down.
-#[tactic(auto, using(crate::proofs::Placed::next_placed, crate::proofs::Placed::none_placed, crate::proofs::Placed::refused_here, crate::proofs::Placed::all_have))]
+#[tactic(auto, using(crate::proofs::Placed::next_placed, crate::proofs::Placed::none_placed, crate::proofs::Placed::refused_here, crate::proofs::Placed::all_have, crate::proofs::Targets::one_more_of))]
 pub fn place_rows<L: Ledger>(
     alloc: Global,
     catalog: &Catalog,
@@ -135,8 +138,9 @@ pub fn place_rows<L: Ledger>(
     requires fits { All (CanBePlaced (seen tree.now) path.now) rows.now }
     requires path { All (IsPartNumbered (length catalog.now.tables)) path.now }
     requires known { IsNumbered (length catalog.now.tables) (seen tree.now) }
-    ensures { (h : History) → CatalogueStands catalog.now h →
+    ensures told { (h : History) → CatalogueStands catalog.now h →
         IsAnswer result (all_placed (tables_made (catalogue_events h)) (seen tree.now) path.now rows.now) }
+    ensures ways { IfOk result (λ leaves. All (HasWay (seen tree.now)) leaves) }
 {
     let mut leaves = LeafList::new(alloc);
     for row in rows {

@@ -1,6 +1,6 @@
 //! Rows into the store.
 
-ghost use Rattle.std.specs.Prelude.{◌≡◌, ◌<◌, [], ◌∷◌, ◌++◌, All, find, length};
+ghost use Rattle.std.specs.Prelude.{◌≡◌, ◌<◌, [], ◌∷◌, All, find, length};
 ghost use Rattle.pg_values.specs.Refusals.{IsAnswer};
 ghost use Rattle.history.specs.Rows.{RowBorn};
 ghost use Rattle.history.specs.Catalogue.{tables_made};
@@ -11,6 +11,7 @@ ghost use Rattle.part_bounds.specs.Checks.{or_first};
 ghost use Rattle.part_catalog.specs.Stands.{CatalogueStands};
 ghost use Rattle.row_change.specs.Storing as storing;
 ghost use Rattle.row_change.specs.Storing.{all_stored, full_faults, is_into, leaf_faults, made_by, stored, FitsTargets, IsLeafKnown, IsMade, IsTargetNumbered};
+ghost use Rattle.row_change.specs.Targets.{HasTarget};
 
 use crate::Target;
 use crate::faults::too_many;
@@ -18,8 +19,8 @@ use crate::testing::check_row;
 use history::TxId;
 use part_catalog::Catalog;
 use pg_ids::LeafId;
-use pg_values::{NoMemory, Refusal, Row, RowList, copy_row};
-use row_store::{PutCause, PutRefused, RowStore};
+use pg_values::{NoMemory, Refusal, Row, copy_row};
+use row_store::{PutCause, RowStore};
 use std::alloc::Global;
 use tx_table::TxTable;
 
@@ -119,9 +120,11 @@ pub fn store_rows(
     requires fits { All (FitsTargets targets.now) rows.now }
     requires targets { All (IsTargetNumbered (length catalog.now.tables)) targets.now }
     requires leaves { All (IsLeafKnown store.old.leaves) leaves.now }
+    requires told { All (HasTarget targets.now) leaves.now }
     requires runs { IsOpen txs.now by.number }
-    ensures { (h : History) → TableStands txs.now h → CatalogueStands catalog.now h → StoreStands store.old h →
+    ensures made { (h : History) → TableStands txs.now h → CatalogueStands catalog.now h → StoreStands store.old h →
         IsMade result store.new h (all_stored targets.now by cmd h leaves.now rows.now) }
+    ensures leaves { store.new.leaves ≡ store.old.leaves }
 {
     let mut left = leaves;
     for row in rows {

@@ -40,12 +40,7 @@ fn check_null(alloc: Global, leaf: &[u8], column: &Column, value: &Value) -> Res
 }
 
 // The first column that is NOT NULL and has null: 23502.
-fn check_nulls(
-    alloc: Global,
-    leaf: &[u8],
-    columns: &[Column],
-    row: &[Value],
-) -> Result<(), Refusal>
+fn check_nulls(alloc: Global, leaf: &[u8], columns: &[Column], row: &[Value]) -> Result<(), Refusal>
     ensures { IsAnswer result (or_first (null_faults leaf.now columns.now row.now) tt) }
 {
     let mut rest = row;
@@ -94,12 +89,7 @@ fn refused_by_check(
 }
 
 // The nearest table of the path that has a kept CHECK which refuses the row: 23514.
-fn check_kept(
-    alloc: Global,
-    catalog: &Catalog,
-    path: &[PathPart],
-    row: &Row,
-) -> Result<(), Refusal>
+fn check_kept(alloc: Global, catalog: &Catalog, path: &[PathPart], row: &Row) -> Result<(), Refusal>
     requires fits { All (PartFits row.now) path.now }
     requires known { All (IsPartNumbered (length catalog.now.tables)) path.now }
     ensures { (h : History) → CatalogueStands catalog.now h →
@@ -111,12 +101,7 @@ fn check_kept(
     }
 }
 
-fn check_named(
-    alloc: Global,
-    catalog: &Catalog,
-    target: &Target,
-    row: &Row,
-) -> Result<(), Refusal>
+fn check_named(alloc: Global, catalog: &Catalog, target: &Target, row: &Row) -> Result<(), Refusal>
     requires fits { All (PartFits row.now) target.now.path.items }
     requires known { IsTargetNumbered (length catalog.now.tables) target.now }
     ensures { (h : History) → CatalogueStands catalog.now h →

@@ -80,11 +80,7 @@ fn push_way_to(tree: &Tree, leaf: LeafId, out: &mut Vec<TableNo>) -> Result<bool
 
 /// The tables below the tree's own on the way to a leaf, each before those below it; none where no table of
 /// the tree has the leaf.
-pub fn leaf_way(
-    alloc: Global,
-    tree: &Tree,
-    leaf: LeafId,
-) -> Result<Option<Vec<TableNo>>, NoMemory>
+pub fn leaf_way(alloc: Global, tree: &Tree, leaf: LeafId) -> Result<Option<Vec<TableNo>>, NoMemory>
     ensures { IfOk result (λ way. MatchOption way (way_to leaf (seen tree.now) ≡ None) (λ tables. way_to leaf (seen tree.now) ≡ Some tables.items)) }
 {
     let mut tables = Vec::new(alloc);

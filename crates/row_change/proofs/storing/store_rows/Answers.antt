@@ -19,11 +19,11 @@ loop-row-preserved c =
       leaves = leaves;
       known = subst (λ n. All (IsLeafKnown n) c.in-Some.others.now) (sym c.in_ok-store_row-in-Some.ensures.leaves) (All-tail (IsLeafKnown c.loop-row.store.leaves) c.in-Some.leaf.now c.in-Some.others.now known);
       made = λ h txs catalogue store.
-        row_stored c.args.txs.now c.args.catalog.now c.loop-row.store c.store_row.new.store h (all_stored c.args.targets.now c.args.by c.args.cmd h c.args.leaves.now c.args.rows.now) c.args.targets.now c.args.by c.args.cmd c.loop-row.left.now c.in-Some.others.now c.in-Some.leaf.now c.args.rows.now c.loop-row.row-index c.row-item.result
+          row_stored c.args.txs.now c.args.catalog.now c.loop-row.store c.store_row.new.store h (all_stored c.args.targets.now c.args.by c.args.cmd h c.args.leaves.now c.args.rows.now) c.args.targets.now c.args.by c.args.cmd c.loop-row.left.now c.in-Some.others.now c.in-Some.leaf.now c.args.rows.now c.loop-row.row-index c.row-item.result
           c.loop-row-test.true c.row-item.is c.in-Some.ensures.cases.0 c.in_ok-store_row-in-Some.ensures.made (c.loop-row.invariant.made h txs catalogue store);
     }
 
-pub returns : goal.returns
-returns c h txs catalogue store =
+pub returns-clause-made : goal.returns-clause-made
+returns-clause-made c h txs catalogue store =
     let none : drop c.loop-row.row-index c.args.rows.now ≡ [] = grind (arith, common_steps) in
     rows_done c.args.txs.now c.args.catalog.now c.loop-row.store h (all_stored c.args.targets.now c.args.by c.args.cmd h c.args.leaves.now c.args.rows.now) c.args.targets.now c.args.by c.args.cmd c.loop-row.left.now (drop c.loop-row.row-index c.args.rows.now) none (c.loop-row.invariant.made h txs catalogue store)

@@ -1,4 +1,4 @@
-use Rattle.std.proofs.Common.{◌≡◌, ◌<◌, ◌++◌, ◌∷◌, [], ◌∙◌, ap, arith, sym, subst, List, map, position, length, append_assoc, append-nil}
+use Rattle.std.proofs.Common.{◌<◌, ◌++◌, ◌∷◌, [], ◌∙◌, ap, arith, sym, subst, List, map, position, length, append_assoc, append-nil}
 use Rattle.pg_ids.specs.declared.ids.TableNo.{TableNo}
 use Rattle.part_bounds.specs.declared.level.KeyColumn.{KeyColumn}
 use Rattle.part_bounds.specs.Points.{picked}
@@ -40,7 +40,7 @@ loop-node-preserved g c =
     record {
       fits = x.fits;
       way = ap (λ (ts : List TableNo). ts ++ way_below c.args.row.now (seen c.at-node.result.now)) c.in_ok-push-in-Some.ensures.items
-        ∙ (append_assoc c.loop-node.out.items (c.at-node.result.now.node.table ∷ []) (way_below c.args.row.now (seen c.at-node.result.now)) ∙ (ap (λ (ts : List TableNo). c.loop-node.out.items ++ ts) (sym s) ∙ i.way));
+          ∙ (append_assoc c.loop-node.out.items (c.at-node.result.now.node.table ∷ []) (way_below c.args.row.now (seen c.at-node.result.now)) ∙ (ap (λ (ts : List TableNo). c.loop-node.out.items ++ ts) (sym s) ∙ i.way));
     }
 
 pub returns-in-None : goal.returns-in-None

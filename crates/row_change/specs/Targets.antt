@@ -1,0 +1,51 @@
+-- The leaves of rows, and what a statement that names a table of the tree above them knows of each.
+use Rattle.std.specs.Prelude.{◌≡◌, ℕ, true, false, is_some, List, [], ◌∷◌, Some, Ok, All, length}
+use Rattle.std.specs.List.{list_any}
+use Rattle.pg_values.specs.declared.value.Value.{Value}
+use Rattle.pg_ids.specs.declared.ids.LeafId.{LeafId}
+use Rattle.pg_ids.specs.declared.ids.TableNo.{TableNo}
+use Rattle.history.specs.Snapshots.{TakenSnapshot}
+use Rattle.history.specs.Catalogue.{tables_made}
+use Rattle.history.specs.History.{History, catalogue_events}
+use Rattle.history.specs.Places.{AreCatalogueSound}
+use Rattle.history.specs.Presence.{entries_present}
+use Rattle.table_trees.specs.Histories.{tree_of, path_of}
+use Rattle.table_trees.specs.Siblings.{AreSiblings}
+use Rattle.table_trees.specs.Trees.{TableTree, routed}
+use Rattle.row_router.specs.Paths.{PartFits}
+use Rattle.row_change.specs.declared.target.Target.{Target}
+use Rattle.row_change.specs.Laws.{IsRowIn}
+use Rattle.row_change.specs.Storing.{is_into, IsTargetNumbered}
+use Rattle.row_change.specs.Ways.{root, way_to}
+
+-- the last table of a way, and the tree's own where it has none
+abbrev pub last_table : TableNo → List TableNo → TableNo
+last_table t [] = t
+last_table t (x ∷ xs) = last_table x xs
+
+-- the target is of the table that has its leaf
+pub record IsTargetOf (h : History) (session : ℕ) (tree : TableTree) (target : Target) : Type 0 where
+  pub tables : List TableNo
+  pub way : way_to target.leaf tree ≡ Some tables
+  pub table : target.table ≡ last_table (root tree) tables
+  pub path : target.path.items ≡ path_of h session target.table.number
+  pub is_named : target.is_named ≡ false
+
+-- a table of the tree has the leaf
+abbrev pub HasWay : TableTree → LeafId → Type 0
+HasWay tree leaf = is_some (way_to leaf tree) ≡ true
+
+-- the leaf has a target
+abbrev pub HasTarget : List Target → LeafId → Type 0
+HasTarget targets leaf = list_any (is_into leaf) targets ≡ true
+
+-- ---- laws
+
+-- the tree has the leaf to which it routes a row
+abbrev pub RoutedHaveWays : Type 0
+RoutedHaveWays = (row : List Value) (tree : TableTree) (leaf : LeafId) → routed row tree ≡ Ok leaf → HasWay tree leaf
+
+-- a row of the columns of the tree's table may be asked of the path of each such target, whose tables are made
+abbrev pub TargetsFit : Type 0
+TargetsFit = (h : History) (session : ℕ) (t : TableNo) (snap : TakenSnapshot) (row : List Value) (target : Target) → AreCatalogueSound h → AreSiblings (entries_present h session) → IsRowIn h row t → IsTargetOf h session (tree_of h session t.number snap) target
+    → All (PartFits row) target.path.items × IsTargetNumbered (length (tables_made (catalogue_events h))) target
