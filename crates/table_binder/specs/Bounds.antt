@@ -1,5 +1,5 @@
 -- The bound of a partition, or its first fault (CREATE TABLE, FOR VALUES; ALTER TABLE, ATTACH PARTITION).
-use Rattle.std.specs.Prelude.{List, map, Result}
+use Rattle.std.specs.Prelude.{map, Result}
 use Rattle.pg_values.specs.declared.fault.Fault.{Fault}
 use Rattle.part_bounds.specs.declared.level.Level.{Level}
 use Rattle.part_bounds.specs.declared.partition_bound.Bound.{Bound as MeantBound}
