@@ -1,5 +1,5 @@
 -- Entries that are ended one after the other, and tables that are dropped.
-use Rattle.std.proofs.Common.{◌≡◌, ◌≢◌, ℕ, suc, ◌<◌, ◌==◌, ◌++◌, append_assoc, append-nil, arith, ap, refl, sym, subst, ◌∙◌, false, List, [], ◌∷◌, Option, Some, None, length, get_or}
+use Rattle.std.proofs.Common.{◌≡◌, ◌≢◌, ℕ, suc, ◌<◌, ◌==◌, ◌++◌, append_assoc, arith, ap, refl, sym, subst, ◌∙◌, false, List, [], ◌∷◌, Option, Some, None, length, get_or}
 use Rattle.std.specs.List.{All, AllPairs}
 use Rattle.std.proofs.lemmas.Bool.Decides.{nat_tests}
 use Rattle.std.proofs.lemmas.List.{length-map}

@@ -1,6 +1,6 @@
 -- Tables and entries that are made.
-use Rattle.std.proofs.Common.{◌≡◌, ◌<◌, ◌≤◌, ℕ, ◌+◌, ◌++◌, arith, ap, refl, sym, subst, ◌∙◌, Bool, true, false, List, [], ◌∷◌, Option, Some, None, filter, length, map, get_or, inl, inr}
-use Rattle.std.specs.Prelude.{nat_lt, Ok, Err}
+use Rattle.std.proofs.Common.{◌≡◌, ◌<◌, ◌≤◌, ℕ, ◌+◌, ◌++◌, arith, ap, refl, sym, subst, ◌∙◌, Bool, false, List, [], ◌∷◌, Option, Some, None, filter, length, map, get_or, inl, inr}
+use Rattle.std.specs.Prelude.{Ok}
 use Rattle.std.specs.List.{All, find}
 use Rattle.std.proofs.lemmas.Grind.{common_steps, elements}
 use Rattle.std.proofs.lemmas.Bool.{cases_Bool}
@@ -8,11 +8,8 @@ use Rattle.std.proofs.lemmas.Bool.Decides.{nat_tests}
 use Rattle.std.proofs.lemmas.List.{length-map, length-append}
 use Rattle.std.proofs.lemmas.List.Elements.{All-head, All-tail}
 use Rattle.pg_values.specs.declared.fault.Fault.{Fault}
-use Rattle.pg_values.specs.declared.fault.Refusal.{Refusal}
-use Rattle.pg_values.specs.declared.fault.Refusal.TheVariants.{Sql, NoMemory}
 use Rattle.pg_ids.specs.declared.ids.TableNo.{TableNo}
 use Rattle.pg_ids.specs.declared.which.Which.{Which}
-use Rattle.pg_ids.specs.declared.which.Which.TheVariants.{Tables}
 use Rattle.part_bounds.specs.declared.level.Level.{Level as OneLevel}
 use Rattle.part_bounds.specs.declared.partition_bound.Bound.{Bound}
 use Rattle.history.specs.declared.transaction.TxId.{TxId}
@@ -22,8 +19,8 @@ use Rattle.history.specs.declared.catalogue.TableShape.{TableShape}
 use Rattle.history.specs.declared.catalogue.TableShape.TheVariants.{Leaf, Level}
 use Rattle.history.specs.declared.catalogue.Entry.{Entry}
 use Rattle.history.specs.Transactions.{session_of}
-use Rattle.history.specs.Catalogue.{CatalogueEvent, TableMade, EntryAdded, tables_made, entries_added}
-use Rattle.history.specs.History.{History, CatalogueChange, tx_events, catalogue_events}
+use Rattle.history.specs.Catalogue.{tables_made, entries_added}
+use Rattle.history.specs.History.{History, tx_events, catalogue_events}
 use Rattle.history.specs.Places.{table_at, HasColumnsOf, TakesBound, Suits}
 use Rattle.history.specs.Presence.{is_present, entries_present}
 use Rattle.table_trees.specs.declared.node.Node.{Node}
@@ -37,15 +34,14 @@ use Rattle.tx_table.specs.Stands.{TableStands}
 use Rattle.row_store.specs.Kept.{KeptRows}
 use Rattle.row_store.specs.Stands.{StoreStands}
 use Rattle.part_catalog.specs.Answers.{AreTogether, child_told, pending_entry, is_pending_below}
-use Rattle.part_catalog.specs.Found.{made_at, table_number}
+use Rattle.part_catalog.specs.Found.{made_at}
 use Rattle.part_catalog.specs.Full.{partitions, tables_above, levels, EntryRefused, MayAdd}
 use Rattle.part_catalog.specs.declared.new_table.CatalogRefused.TheVariants.{Full}
-use Rattle.part_catalog.specs.Kept.{KeptCatalogue, table_in, entry_in, next_entry}
+use Rattle.part_catalog.specs.Kept.{KeptCatalogue, table_in, next_entry}
 use Rattle.part_catalog.specs.Stands.{CatalogueStands}
-use Rattle.part_ddl.specs.Faults.{too_many}
 use Rattle.part_ddl.specs.Made.{made_by, IsMade}
-use Rattle.part_ddl.specs.Partitions.{MayMake, new_entry, partition_events, made_partition}
-use Rattle.part_ddl.specs.Tables.{KeysFit, count_faults, next_table, shape_of, leaf_events, new_table, table_events, made_table}
+use Rattle.part_ddl.specs.Partitions.{MayMake}
+use Rattle.part_ddl.specs.Tables.{count_faults, next_table, new_table, table_events, made_table}
 use Rattle.part_ddl.proofs.Free.{room_of}
 
 pub table_count : (kept : KeptCatalogue) (h : History) → CatalogueStands kept h → length kept.tables ≡ length (tables_made (catalogue_events h))
