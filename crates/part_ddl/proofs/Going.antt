@@ -1,5 +1,5 @@
 -- Entries that are ended one after the other, and tables that are dropped.
-use Rattle.std.proofs.Common.{◌≡◌, ◌≢◌, ℕ, suc, ◌<◌, ◌==◌, ◌++◌, append_assoc, append-nil, arith, ap, refl, sym, subst, ◌∙◌, false, List, [], ◌∷◌, Option, Some, None, length, get_or}
+use Rattle.std.proofs.Common.{◌≡◌, ◌≢◌, ℕ, suc, ◌<◌, ◌==◌, ◌++◌, append_assoc, arith, ap, refl, sym, subst, ◌∙◌, false, List, [], ◌∷◌, Option, Some, None, length, get_or}
 use Rattle.std.specs.List.{All, AllPairs}
 use Rattle.std.proofs.lemmas.Bool.Decides.{nat_tests}
 use Rattle.std.proofs.lemmas.List.{length-map}
@@ -92,9 +92,6 @@ pub record Ending (table : KeptTable) (kept : KeptCatalogue) (s : ℕ) (st : Sta
   pub owner : (t : ℕ) → session_of (tx_events (events ++ h)) t ≡ session_of (tx_events h) t
   pub told : places_ended s st (events ++ h) rest ++ events ≡ places_ended s st h whole
 
-pub ending_first : (table : KeptTable) (kept : KeptCatalogue) (s : ℕ) (st : Stamp) (h : History) (whole : List TableNo) → TableStands table h → CatalogueStands kept h → Ending table kept s st h whole whole
-ending_first table kept s st h whole txs cat = record { events = []; txs = txs; catalogue = cat; owner = λ t. refl; told = append-nil (places_ended s st h whole) }
-
 pub ending_next : (table : KeptTable) (old new : KeptCatalogue) (by : TxId) (st : Stamp) (h : History) (t : TableNo) (rest whole : List TableNo) → EndsPlace table old new by st t → Ending table old (session_of (tx_events h) by.number) st h (t ∷ rest) whole → Ending table new (session_of (tx_events h) by.number) st h rest whole
 ending_next table old new by st h t rest whole ends e =
     let s = session_of (tx_events h) by.number in
@@ -121,13 +118,6 @@ ending_last table kept s st h whole e = subst (λ (x : History). CatalogueStands
 
 abbrev pub DropsTable : KeptTable → KeptCatalogue → KeptCatalogue → Stamp → TableNo → Type 0
 DropsTable table old new st t = (h : History) → TableStands table h → CatalogueStands old h → CatalogueStands new (CatalogueChange (TableDropped t.number st) ∷ h)
-
--- the first of them is made, and no drop of it counts in any history that the stores stand for
-pub first_made : (table : KeptTable) (kept : KeptCatalogue) (t : TableNo) (rest : List TableNo) → MayDropAll table kept (t ∷ rest) → t.number < length kept.tables
-first_made table kept t rest m =
-    let count : length kept.tables ≡ length (tables_made (catalogue_events m.h)) = sym (length-map kept.tables table_in) ∙ ap length m.catalogue.tables in
-    let lt = All-head (IsBelow (length (tables_made (catalogue_events m.h)))) t rest m.made in
-    omega (arith, lt, count)
 
 pub first_there : (table : KeptTable) (kept : KeptCatalogue) (t : TableNo) (rest : List TableNo) (h : History) → MayDropAll table kept (t ∷ rest) → TableStands table h → CatalogueStands kept h → counted_of (tx_events h) (drops (catalogue_events h)) t.number ≡ None
 first_there table kept t rest h m txs cat = same_dropped table kept h m.h txs m.txs cat m.catalogue t.number ∙ All-head (IsNotDropped m.h) t rest m.there
@@ -156,9 +146,6 @@ pub record Dropping (table : KeptTable) (kept : KeptCatalogue) (st : Stamp) (h :
   pub catalogue : CatalogueStands kept (events ++ h)
   pub told : tables_dropped st rest ++ events ≡ tables_dropped st whole
 
-pub dropping_first : (table : KeptTable) (kept : KeptCatalogue) (st : Stamp) (h : History) (whole : List TableNo) → TableStands table h → CatalogueStands kept h → Dropping table kept st h whole whole
-dropping_first table kept st h whole txs cat = record { events = []; txs = txs; catalogue = cat; told = append-nil (tables_dropped st whole) }
-
 pub dropping_next : (table : KeptTable) (old new : KeptCatalogue) (st : Stamp) (h : History) (t : TableNo) (rest whole : List TableNo) → DropsTable table old new st t → Dropping table old st h (t ∷ rest) whole → Dropping table new st h rest whole
 dropping_next table old new st h t rest whole drops_it d =
     let dropped = CatalogueChange (TableDropped t.number st) in
@@ -169,18 +156,7 @@ dropping_next table old new st h t rest whole drops_it d =
       told = sym (append_assoc (tables_dropped st rest) (dropped ∷ []) d.events) ∙ d.told;
     }
 
-pub dropping_last : (table : KeptTable) (kept : KeptCatalogue) (st : Stamp) (h : History) (whole : List TableNo) → Dropping table kept st h [] whole → CatalogueStands kept (tables_dropped st whole ++ h)
-dropping_last table kept st h whole d = subst (λ (x : History). CatalogueStands kept (x ++ h)) d.told d.catalogue
-
 -- ---- both
-
-pub may_end_all : (table : KeptTable) (kept : KeptCatalogue) (t : ℕ) (by : TxId) (tables : List TableNo) → MayDrop table kept t by → ((h : History) → TableStands table h → CatalogueStands kept h → tables ≡ tables_from h (session_of (tx_events h) by.number) t) → MayEndAll table kept by tables
-may_end_all table kept t by tables m told = record {
-  h = m.h;
-  txs = m.txs;
-  catalogue = m.catalogue;
-  places = subst (All (KeepsPlaces m.h (session_of (tx_events m.h) by.number))) (sym (told m.h m.txs m.catalogue)) m.places;
-}
 
 pub may_drop_all : (table : KeptTable) (old new : KeptCatalogue) (t : ℕ) (by : TxId) (st : Stamp) (tables : List TableNo) → t < length old.tables → MayDrop table old t by → ((h : History) → TableStands table h → CatalogueStands old h → tables ≡ tables_from h (session_of (tx_events h) by.number) t)
     → ((h : History) → TableStands table h → CatalogueStands old h → CatalogueStands new (places_ended (session_of (tx_events h) by.number) st h tables ++ h)) → MayDropAll table new tables

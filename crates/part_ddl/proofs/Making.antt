@@ -1,6 +1,6 @@
 -- Tables and entries that are made.
-use Rattle.std.proofs.Common.{◌≡◌, ◌<◌, ◌≤◌, ℕ, ◌+◌, ◌++◌, arith, ap, refl, sym, subst, ◌∙◌, Bool, true, false, List, [], ◌∷◌, Option, Some, None, filter, length, map, get_or, inl, inr}
-use Rattle.std.specs.Prelude.{nat_lt, Ok, Err}
+use Rattle.std.proofs.Common.{◌≡◌, ◌<◌, ◌≤◌, ℕ, ◌+◌, ◌++◌, arith, ap, refl, sym, subst, ◌∙◌, Bool, false, List, [], ◌∷◌, Option, Some, None, filter, length, map, get_or, inl, inr}
+use Rattle.std.specs.Prelude.{Ok}
 use Rattle.std.specs.List.{All, find}
 use Rattle.std.proofs.lemmas.Grind.{common_steps, elements}
 use Rattle.std.proofs.lemmas.Bool.{cases_Bool}
@@ -8,11 +8,8 @@ use Rattle.std.proofs.lemmas.Bool.Decides.{nat_tests}
 use Rattle.std.proofs.lemmas.List.{length-map, length-append}
 use Rattle.std.proofs.lemmas.List.Elements.{All-head, All-tail}
 use Rattle.pg_values.specs.declared.fault.Fault.{Fault}
-use Rattle.pg_values.specs.declared.fault.Refusal.{Refusal}
-use Rattle.pg_values.specs.declared.fault.Refusal.TheVariants.{Sql, NoMemory}
 use Rattle.pg_ids.specs.declared.ids.TableNo.{TableNo}
 use Rattle.pg_ids.specs.declared.which.Which.{Which}
-use Rattle.pg_ids.specs.declared.which.Which.TheVariants.{Tables}
 use Rattle.part_bounds.specs.declared.level.Level.{Level as OneLevel}
 use Rattle.part_bounds.specs.declared.partition_bound.Bound.{Bound}
 use Rattle.history.specs.declared.transaction.TxId.{TxId}
@@ -22,8 +19,8 @@ use Rattle.history.specs.declared.catalogue.TableShape.{TableShape}
 use Rattle.history.specs.declared.catalogue.TableShape.TheVariants.{Leaf, Level}
 use Rattle.history.specs.declared.catalogue.Entry.{Entry}
 use Rattle.history.specs.Transactions.{session_of}
-use Rattle.history.specs.Catalogue.{CatalogueEvent, TableMade, EntryAdded, tables_made, entries_added}
-use Rattle.history.specs.History.{History, CatalogueChange, tx_events, catalogue_events}
+use Rattle.history.specs.Catalogue.{tables_made, entries_added}
+use Rattle.history.specs.History.{History, tx_events, catalogue_events}
 use Rattle.history.specs.Places.{table_at, HasColumnsOf, TakesBound, Suits}
 use Rattle.history.specs.Presence.{is_present, entries_present}
 use Rattle.table_trees.specs.declared.node.Node.{Node}
@@ -37,22 +34,18 @@ use Rattle.tx_table.specs.Stands.{TableStands}
 use Rattle.row_store.specs.Kept.{KeptRows}
 use Rattle.row_store.specs.Stands.{StoreStands}
 use Rattle.part_catalog.specs.Answers.{AreTogether, child_told, pending_entry, is_pending_below}
-use Rattle.part_catalog.specs.Found.{made_at, table_number}
+use Rattle.part_catalog.specs.Found.{made_at}
 use Rattle.part_catalog.specs.Full.{partitions, tables_above, levels, EntryRefused, MayAdd}
 use Rattle.part_catalog.specs.declared.new_table.CatalogRefused.TheVariants.{Full}
-use Rattle.part_catalog.specs.Kept.{KeptCatalogue, table_in, entry_in, next_entry}
+use Rattle.part_catalog.specs.Kept.{KeptCatalogue, table_in, next_entry}
 use Rattle.part_catalog.specs.Stands.{CatalogueStands}
-use Rattle.part_ddl.specs.Faults.{too_many}
 use Rattle.part_ddl.specs.Made.{made_by, IsMade}
-use Rattle.part_ddl.specs.Partitions.{MayMake, new_entry, partition_events, made_partition}
-use Rattle.part_ddl.specs.Tables.{KeysFit, count_faults, next_table, shape_of, leaf_events, new_table, table_events, made_table}
+use Rattle.part_ddl.specs.Partitions.{MayMake}
+use Rattle.part_ddl.specs.Tables.{count_faults, next_table, new_table, table_events, made_table}
 use Rattle.part_ddl.proofs.Free.{room_of}
 
 pub table_count : (kept : KeptCatalogue) (h : History) → CatalogueStands kept h → length kept.tables ≡ length (tables_made (catalogue_events h))
 table_count kept h st = sym (length-map kept.tables table_in) ∙ ap length st.tables
-
-pub entry_count : (kept : KeptCatalogue) (h : History) → CatalogueStands kept h → length kept.entries ≡ length (entries_added (catalogue_events h))
-entry_count kept h st = sym (length-map kept.entries entry_in) ∙ ap length st.entries
 
 found_suits : (P : Entry → Type 0) (p : Entry → Bool) (xs : List Entry) (x : Entry) → find p xs ≡ Some x → All P xs → P x
 found_suits P p [] x is all = absurd (cc)
@@ -75,53 +68,15 @@ child_made table kept s t child both told =
     (λ e is. (found_suits (Suits tables) (is_pending_below h s t) (entries_added (catalogue_events h)) e is (all_suit h both.catalogue.sound)).child) in
     omega (arith, made, table_count kept h both.catalogue)
 
--- ---- a table
-
-pub rows_on : (rows : KeptRows) (e : CatalogueEvent) (h : History) → StoreStands rows h → StoreStands rows (CatalogueChange e ∷ h)
-rows_on rows e h st = record { sound = st.sound; births = st.births; ends = st.ends; leaves = st.leaves; room = st.room }
-
-pub leaf_on : (kept : KeptCatalogue) (h : History) (level : Option OneLevel) → CatalogueStands kept h → CatalogueStands kept (leaf_events h level ++ h)
-leaf_on kept h None st = record { sound = st.sound; tables = st.tables; drops = st.drops; entries = st.entries; ends = st.ends; marks = st.marks; checks = st.checks }
-leaf_on kept h (Some level) st = st
-
-pub no_faults : (h : History) → table_number h < 4096 → count_faults h ≡ []
-no_faults h lt = let test : nat_lt (table_number h) 4096 ≡ true = grind (arith, nat_tests) in rw test refl
-
-pub a_fault : (h : History) → 4096 ≤ table_number h → count_faults h ≡ too_many Tables ∷ []
-a_fault h le = let test : nat_lt (table_number h) 4096 ≡ false = grind (arith, nat_tests) in rw test refl
-
-pub made_stands : (kept : KeptCatalogue) (rows : KeptRows) (h : History) (faults : List Fault) (t new_no : TableNo) (events : History) → faults ≡ [] → new_no ≡ t → CatalogueStands kept (events ++ h) → StoreStands rows (events ++ h) → IsMade (Ok new_no) kept rows h (made_by faults t events)
-made_stands kept rows h faults t new_no events none same cat st =
-    subst (λ (fs : List Fault). IsMade (Ok new_no) kept rows h (made_by fs t events)) (sym none) (ap Ok (sym same), record { catalogue = cat; rows = st })
-
-pub refused_stands : (kept : KeptCatalogue) (rows : KeptRows) (h : History) (faults : List Fault) (f g : Fault) (t : TableNo) (events : History) → faults ≡ f ∷ [] → g ≡ f → CatalogueStands kept h → StoreStands rows h → IsMade (Err (Sql g)) kept rows h (made_by faults t events)
-refused_stands kept rows h faults f g t events one same cat st =
-    subst (λ (fs : List Fault). IsMade (Err (Sql g)) kept rows h (made_by fs t events)) (sym one) (ap Err (sym same), record { catalogue = cat; rows = st })
-
--- the table that was added, told by what the call asked for
-pub table_stands : (kept : KeptCatalogue) (rows : KeptRows) (h : History) (name : List ℕ) (columns : List Column) (level : Option OneLevel) (by : TxId) (cmd : ℕ) (new_no : TableNo) (shape : TableShape) → new_no.number ≡ table_number h → table_number h < 4096 → shape ≡ shape_of h level
-    → CatalogueStands kept (CatalogueChange (TableMade (record { id = new_no; name = name; columns = columns; shape = shape; by = by; cmd = cmd })) ∷ (leaf_events h level ++ h)) → StoreStands rows (leaf_events h level ++ h)
-    → IsMade (Ok new_no) kept rows h (made_table h name columns level by cmd)
-table_stands kept rows h name columns level by cmd new_no shape number few is cat st =
-    let same : new_no ≡ next_table h = ap table_of number in
-    let one = subst (λ (s : TableShape). CatalogueStands kept (CatalogueChange (TableMade (record { id = new_no; name = name; columns = columns; shape = s; by = by; cmd = cmd })) ∷ (leaf_events h level ++ h))) is cat in
-    let two = subst (λ (n : TableNo). CatalogueStands kept (CatalogueChange (TableMade (record { id = n; name = name; columns = columns; shape = shape_of h level; by = by; cmd = cmd })) ∷ (leaf_events h level ++ h))) same one in
-    made_stands kept rows h (count_faults h) (next_table h) new_no (table_events h name columns level by cmd) (no_faults h few) same two
-    (rows_on rows (TableMade (new_table h name columns level by cmd)) (leaf_events h level ++ h) st)
-
 -- ---- a table that is made as a partition
 
-made_ok : (faults : List Fault) (t new_no : TableNo) (events : History) → (made_by faults t events).told ≡ Ok new_no → (t ≡ new_no) × ((made_by faults t events).events ≡ events)
-made_ok [] t new_no events e = (cc, refl)
-made_ok (f ∷ fs) t new_no events e = absurd (cc)
+made_ok : (faults : List Fault) (t given : TableNo) (events : History) → (made_by faults t events).told ≡ Ok given → (t ≡ given) × ((made_by faults t events).events ≡ events)
+made_ok [] t given events e = (cc, refl)
+made_ok (f ∷ fs) t given events e = absurd (cc)
 
 tables_with : (h : History) (name : List ℕ) (columns : List Column) (level : Option OneLevel) (by : TxId) (cmd : ℕ) → tables_made (catalogue_events (table_events h name columns level by cmd ++ h)) ≡ tables_made (catalogue_events h) ++ new_table h name columns level by cmd ∷ []
 tables_with h name columns None by cmd = refl
 tables_with h name columns (Some level) by cmd = refl
-
-added_with : (h : History) (name : List ℕ) (columns : List Column) (level : Option OneLevel) (by : TxId) (cmd : ℕ) → entries_added (catalogue_events (table_events h name columns level by cmd ++ h)) ≡ entries_added (catalogue_events h)
-added_with h name columns None by cmd = refl
-added_with h name columns (Some level) by cmd = refl
 
 present_with : (h : History) (name : List ℕ) (columns : List Column) (level : Option OneLevel) (by : TxId) (cmd s : ℕ) → entries_present (table_events h name columns level by cmd ++ h) s ≡ entries_present h s
 present_with h name columns None by cmd s = refl
@@ -153,7 +108,7 @@ suits_new tables new e parent child takes columns =
       columns = subst (λ (x : Table). HasColumnsOf x.columns (table_at (tables ++ new ∷ []) e.child.number).columns) old (subst (λ (x : Table). HasColumnsOf cs x.columns) last own);
     }
 
--- ---- the new table has new_no partition
+-- ---- the new table has no partition
 
 none_under : (t : ℕ) (es : List Entry) → All (λ e. e.parent.number < t) es → filter (is_under t) es ≡ []
 none_under t [] h = refl
@@ -177,13 +132,6 @@ lone_height h s t below =
 
 -- ---- the place of the new table
 
-pub parent_made : (table : KeptTable) (kept : KeptCatalogue) (store : KeptRows) (parent : ℕ) (b : Bound) (level : Option OneLevel) (by : TxId) → MayMake table kept store parent b level by → parent < length kept.tables
-parent_made table kept store parent b level by m = omega (arith, m.known, table_count kept m.h m.catalogue)
-
--- the columns are the parent's, as the call read them
-pub keys_fit : (table : KeptTable) (kept : KeptCatalogue) (store : KeptRows) (parent : ℕ) (b : Bound) (level : Option OneLevel) (by : TxId) (columns : List Column) → (m : MayMake table kept store parent b level by) → columns ≡ (made_at m.h parent).columns → KeysFit columns level
-keys_fit table kept store parent b level by columns m is = subst (λ (cs : List Column). KeysFit cs level) (sym is) m.keys
-
 -- what a call that makes the table says
 abbrev pub MakesTable : KeptCatalogue → KeptRows → KeptCatalogue → KeptRows → (name : List ℕ) → List Column → Option OneLevel → TxId → ℕ → TableNo → Type 0
 MakesTable kept store kept2 store2 name columns level by cmd t = (h : History) → CatalogueStands kept h → StoreStands store h → IsMade (Ok t) kept2 store2 h (made_table h name columns level by cmd)
@@ -195,9 +143,9 @@ pub record IsThere (kept : KeptCatalogue) (store : KeptRows) (h : History) (name
   pub catalogue : CatalogueStands kept (table_events h name columns level by cmd ++ h)
   pub rows : StoreStands store (table_events h name columns level by cmd ++ h)
 
-faults_none : (faults : List Fault) (t new_no : TableNo) (events : History) → (made_by faults t events).told ≡ Ok new_no → faults ≡ []
-faults_none [] t new_no events e = refl
-faults_none (f ∷ fs) t new_no events e = absurd (cc)
+faults_none : (faults : List Fault) (t given : TableNo) (events : History) → (made_by faults t events).told ≡ Ok given → faults ≡ []
+faults_none [] t given events e = refl
+faults_none (f ∷ fs) t given events e = absurd (cc)
 
 pub is_there : (kept : KeptCatalogue) (store : KeptRows) (h : History) (name : List ℕ) (columns : List Column) (level : Option OneLevel) (by : TxId) (cmd : ℕ) (t : TableNo) → IsMade (Ok t) kept store h (made_table h name columns level by cmd) → IsThere kept store h name columns level by cmd t
 is_there kept store h name columns level by cmd t m =
@@ -250,34 +198,3 @@ never_full table kept store kept2 store2 name columns parent b level by cmd t wh
     let low : levels g s parent.number t.number ≤ 8 = omega (arith, up, one, room.levels) in
     let full = subst (λ n. EntryRefused g n parent.number t.number (Full which)) (owner_with m.h name columns level by cmd by.number) (refused g (txs_with table m.h name columns level by cmd m.txs) there.catalogue) in
     refused_none g s parent.number t.number which few low full
-
--- ---- and the whole
-
-abbrev record_entry : ℕ → TableNo → TableNo → Bound → TxId → ℕ → Entry
-record_entry n parent t b by cmd = record { id = record { number = n }; parent = parent; child = t; bound = b; by = by; cmd = cmd }
-
-refused_too : (kept : KeptCatalogue) (rows : KeptRows) (h : History) (faults : List Fault) (f : Fault) (t : TableNo) (events more : History) → IsMade (Err (Sql f)) kept rows h (made_by faults t events) → IsMade (Err (Sql f)) kept rows h (made_by faults t more)
-refused_too kept rows h [] f t events more m = let wrong = m.0 in absurd (cc)
-refused_too kept rows h (g ∷ gs) f t events more m = (m.0, record { catalogue = m.1.catalogue; rows = m.1.rows })
-
-same_entry : (kept : KeptCatalogue) (h : History) (parent t : TableNo) (b : Bound) (by : TxId) (cmd : ℕ) → length kept.entries ≡ length (entries_added (catalogue_events h)) → next_table h ≡ t → next_entry kept parent t b by cmd ≡ new_entry h parent.number b by cmd
-same_entry kept h parent t b by cmd count is =
-    ap (λ n. record_entry n parent t b by cmd) count ∙ ap (λ (x : TableNo). record_entry (length (entries_added (catalogue_events h))) parent x b by cmd) (sym is)
-
-pub partition_stands : (table : KeptTable) (kept2 : KeptCatalogue) (store2 : KeptRows) (kept3 : KeptCatalogue) (h : History) (name : List ℕ) (columns : List Column) (parent t : TableNo) (b : Bound) (level : Option OneLevel) (by : TxId) (cmd : ℕ) → TableStands table h → columns ≡ (made_at h parent.number).columns → IsMade (Ok t) kept2 store2 h (made_table h name columns level by cmd)
-    → ((g : History) → TableStands table g → CatalogueStands kept2 g → CatalogueStands kept3 (CatalogueChange (EntryAdded (next_entry kept2 parent t b by cmd)) ∷ g))
-    → IsMade (Ok t) kept3 store2 h (made_partition h name parent.number b level by cmd)
-partition_stands table kept2 store2 kept3 h name columns parent t b level by cmd txs is makes adds =
-    let there = is_there kept2 store2 h name columns level by cmd t makes in
-    let g = table_events h name columns level by cmd ++ h in
-    let count : length kept2.entries ≡ length (entries_added (catalogue_events h)) = entry_count kept2 g there.catalogue ∙ ap (length {A = Entry}) (added_with h name columns level by cmd) in
-    let after : CatalogueStands kept3 (CatalogueChange (EntryAdded (next_entry kept2 parent t b by cmd)) ∷ g) = adds g (txs_with table h name columns level by cmd txs) there.catalogue in
-    let one = subst (λ (e : Entry). CatalogueStands kept3 (CatalogueChange (EntryAdded e) ∷ g)) (same_entry kept2 h parent t b by cmd count there.number) after in
-    let own : List Column → History = λ cs. CatalogueChange (EntryAdded (new_entry h parent.number b by cmd)) ∷ (table_events h name cs level by cmd ++ h) in
-    let cat = subst (λ (cs : List Column). CatalogueStands kept3 (own cs)) is one in
-    let st = subst (λ (cs : List Column). StoreStands store2 (own cs)) is (rows_on store2 (EntryAdded (new_entry h parent.number b by cmd)) g there.rows) in
-    made_stands kept3 store2 h (count_faults h) (next_table h) t (partition_events h name parent.number b level by cmd) there.faults (sym there.number) cat st
-
-pub partition_refused : (kept2 : KeptCatalogue) (store2 : KeptRows) (h : History) (name : List ℕ) (columns : List Column) (parent : ℕ) (b : Bound) (level : Option OneLevel) (by : TxId) (cmd : ℕ) (r : Refusal) → IsMade (Err r) kept2 store2 h (made_table h name columns level by cmd) → IsMade (Err r) kept2 store2 h (made_partition h name parent b level by cmd)
-partition_refused kept2 store2 h name columns parent b level by cmd NoMemory m = tt
-partition_refused kept2 store2 h name columns parent b level by cmd (Sql f) m = refused_too kept2 store2 h (count_faults h) f (next_table h) (table_events h name columns level by cmd) (partition_events h name parent b level by cmd) m

@@ -7,10 +7,10 @@
 //! then.
 //!
 //! No call here waits. Locks are got before (`tables_below` and `default_of` tell on which tables),
-//! and the tests of a statement (`check_name`, `parent_level`, `check_place`) come before the calls
-//! that make or drop something, in the order in which refusals are told. A partition is never moved:
-//! it is made at its place, below a table that takes its bound, beside siblings that it does not
-//! overlap.
+//! and the tests of a statement (`check_name`, `check_count`, `parent_level`, `check_place`) come
+//! before the calls that make or drop something, in the order in which refusals are told. A partition
+//! is never moved: it is made at its place, below a table that takes its bound, beside siblings that it
+//! does not overlap.
 #![tactic(auto)]
 
 mod below;
@@ -28,4 +28,4 @@ pub use laws::{passed_have_places, tables_stand_once};
 pub use names::check_name;
 pub use partitions::make_partition;
 pub use placing::{check_place, parent_level};
-pub use tables::make_table;
+pub use tables::{check_count, make_table};

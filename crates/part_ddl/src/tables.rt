@@ -1,11 +1,13 @@
 ghost use Rattle.std.specs.Prelude.{◌≡◌, ◌++◌, List, IfOk};
+ghost use Rattle.pg_values.specs.Refusals.{IsAnswer};
+ghost use Rattle.part_bounds.specs.Checks.{or_first};
 ghost use Rattle.history.specs.declared.catalogue.Column.{Column as OneColumn};
 ghost use Rattle.history.specs.History.{History};
 ghost use Rattle.history.specs.Places.{KeysLieIn};
 ghost use Rattle.row_store.specs.Stands.{StoreStands};
 ghost use Rattle.part_catalog.specs.Stands.{CatalogueStands};
 ghost use Rattle.part_ddl.specs.Made.{IsMade};
-ghost use Rattle.part_ddl.specs.Tables.{KeysFit, shape_of, leaf_events, made_table};
+ghost use Rattle.part_ddl.specs.Tables.{KeysFit, shape_of, leaf_events, made_table, count_faults};
 
 use crate::faults::too_many;
 use history::{Columns, TableShape, TxId};
@@ -29,6 +31,16 @@ fn shape_for(rows: &mut RowStore, level: Option<Level>) -> Result<TableShape, No
             Ok(TableShape::Leaf(leaf))
         }
     }
+}
+
+/// Whether another table may be made: 54000 where there are 4,096, dropped ones too.
+pub fn check_count(alloc: Global, catalog: &Catalog) -> Result<(), Refusal>
+    ensures { (h : History) → CatalogueStands catalog.now h → IsAnswer result (or_first (count_faults h) tt) }
+{
+    if (catalog.table_count() as usize) < TABLE_LIMIT {
+        return Ok(());
+    }
+    Err(Refusal::Sql(too_many(alloc, Which::Tables)?))
 }
 
 /// Makes a table of its own, with a leaf for its rows unless it is partitioned; 54000 where there are
