@@ -1,0 +1,6 @@
+mod Lower
+mod Numbers
+mod Runs
+mod Steps
+mod Waiting
+mod Weights
