@@ -1,72 +1,73 @@
-use crate::db::SmallDb;
-use pg_values::{Fault, ListSink, NoMemory};
-use schedule::{Database, RunEnd, RunRefused};
-use script_tasks::run_script;
-use spec_reader::{Spec, read_spec};
+use crate::opening::run_small;
+use pg_values::{BytesSource, ListSink, NoMemory};
+use script_program::Ended;
 use std::alloc::Global;
 
-// The write that is to fail, where the script's first line names one.
-fn failing_writes(alloc: Global, script: &str) -> Result<Vec<u64>, NoMemory> {
-    let mut fails = Vec::new(alloc);
-    let (line, _) = script.split_once('\n').unwrap_or((script, ""));
+/// What stands around a call: its words, how long its input is at least, and the reads and writes
+/// that fail.
+#[derive(Drop)]
+struct Around {
+    words: Vec<String>,
+    length: usize,
+    failing_reads: Vec<u64>,
+    failing_writes: Vec<u64>,
+    failing_err: Vec<u64>,
+}
+
+// What the first line of a script says of it.
+fn around_of(alloc: Global, line: &str) -> Result<Around, NoMemory> {
+    let mut around = Around {
+        words: Vec::new(alloc),
+        length: 0,
+        failing_reads: Vec::new(alloc),
+        failing_writes: Vec::new(alloc),
+        failing_err: Vec::new(alloc),
+    };
     if let Some(number) = line.strip_prefix("# fails at write ") {
-        fails.push(number.parse().unwrap_or(0))?;
+        around.failing_writes.push(number.parse().unwrap_or(0))?;
+    } else if let Some(number) = line.strip_prefix("# fails at err ") {
+        around.failing_err.push(number.parse().unwrap_or(0))?;
+    } else if let Some(number) = line.strip_prefix("# fails at read ") {
+        around.failing_reads.push(number.parse().unwrap_or(0))?;
+    } else if let Some(number) = line.strip_prefix("# filled with blanks up to ") {
+        around.length = number.parse().unwrap_or(0);
+    } else if let Some(word) = line.strip_prefix("# with the word ") {
+        around.words.push(String::from_str(alloc, word)?)?;
     }
-    Ok(fails)
+    Ok(around)
 }
 
-// Appends how a run ended.
-fn push_fault(
-    alloc: Global,
-    before: &[u8],
-    fault: &Fault,
-    out: &mut Vec<u8>,
-) -> Result<(), NoMemory> {
-    out.extend_from_slice(before)?;
-    SmallDb::write_fault(alloc, fault, out)?;
-    out.extend_from_slice(b"\n")?;
-    Ok(())
-}
-
-fn push_end(
-    alloc: Global,
-    end: &Result<RunEnd, RunRefused>,
-    out: &mut Vec<u8>,
-) -> Result<(), NoMemory> {
-    match end {
-        Ok(RunEnd::All) => out.extend_from_slice(b"== done\n")?,
-        Ok(RunEnd::SetupFailed { session, fault }) => {
-            let before = format!(in alloc; "== setup of session {session} failed: ")?;
-            push_fault(alloc, before.as_bytes(), fault, out)?;
-        }
-        Ok(RunEnd::TeardownFailed { fault }) => {
-            push_fault(alloc, b"== teardown of control failed: ", fault, out)?;
-        }
-        Err(RunRefused::Write) => out.extend_from_slice(b"\n== write failed\n")?,
-        Err(RunRefused::NoMemory) => out.extend_from_slice(b"== no memory\n")?,
+// How a call ended, in words.
+fn ended_line(ended: Ended) -> &'static [u8] {
+    match ended {
+        Ended::Done => b"== done\n",
+        Ended::ScriptRefused => b"== script refused\n",
+        Ended::Usage => b"== usage\n",
+        Ended::TooLarge => b"== too large\n",
+        Ended::ReadFault => b"== read failed\n",
+        Ended::WriteFault => b"\n== write failed\n",
+        Ended::NoMemory => b"== no memory\n",
     }
-    Ok(())
 }
 
-fn run_spec(
-    alloc: Global,
-    spec: &Spec,
-    fails: Vec<u64>,
-    out: &mut Vec<u8>,
-) -> Result<(), NoMemory> {
-    let db = SmallDb::new(alloc, spec.sessions.as_slice().len() + 1)?;
-    let mut sink = ListSink::new(alloc, 65536, fails, Vec::new(alloc), 4096)?;
-    let end = run_script(alloc, db, spec, &mut sink);
-    out.extend_from_slice(sink.bytes())?;
-    push_end(alloc, &end, out)
-}
-
-/// What a script prints, and how its run ended.
+/// What a call writes to `out`, how it ended, and what it writes to `err`.
 pub fn run_case(alloc: Global, script: &str) -> Result<Vec<u8>, NoMemory> {
-    let mut out = Vec::new(alloc);
-    match read_spec(alloc, script.as_bytes()) {
-        Err(_) => out.extend_from_slice(b"== no script\n")?,
-        Ok(spec) => run_spec(alloc, &spec, failing_writes(alloc, script)?, &mut out)?,
+    let (line, _) = script.split_once('\n').unwrap_or((script, ""));
+    let around = around_of(alloc, line)?;
+    let mut text = Vec::from_slice(alloc, script.as_bytes())?;
+    for _ in text.len()..around.length {
+        text.push(b' ')?;
     }
-    Ok(out)
+    let mut input = BytesSource::new(text, around.failing_reads, 4096);
+    let mut out = ListSink::new(alloc, 65536, around.failing_writes, Vec::new(alloc), 4096)?;
+    let mut err = ListSink::new(alloc, 4096, around.failing_err, Vec::new(alloc), 10)?;
+    let words = around.words;
+    let ended = run_small(alloc, &words, &mut input, &mut out, &mut err);
+    let mut answer = Vec::from_slice(alloc, out.bytes())?;
+    answer.extend_from_slice(ended_line(ended))?;
+    answer.extend_from_slice(err.bytes())?;
+    if ended == Ended::WriteFault && !err.bytes().is_empty() {
+        answer.push(b'\n')?;
+    }
+    Ok(answer)
 }

@@ -1,10 +1,13 @@
-//! A small database of three locks, and scripts that are run over it: what the run of a script prints,
-//! beside what was worked out by hand.
+//! A small database of three locks, and the program over it: what calls with scripts write, beside what was
+//! worked out by hand.
 //!
 //! A block is a row of statements of one byte each: `a`, `b` and `c` take a lock, `;` gives all locks up, `!`
 //! fails, a digit cancels a session's wait, and any other byte is printed. Standard input has scripts,
-//! each ended by a line `----`. A script that begins with `# fails at write 3` is run over an output whose
-//! write 3, counted from 0, fails. Behind what a script prints stands how its run ended.
+//! each ended by a line `----`. The first line of a script may say what stands around its call: a word
+//! (`# with the word --mode`), the length up to which it is filled with blanks (`# filled with blanks up to
+//! 4194305`), or which read, which write to `out` or which write to `err`, counted from 0, fails (`# fails at read
+//! 3`, `# fails at write 3`, `# fails at err 3`). Behind what a call writes to `out` stands how it ended, and then
+//! what it writes to `err`.
 #![tactic(auto)]
 
 mod calls;
@@ -12,6 +15,7 @@ mod case;
 mod command;
 mod db;
 mod laws;
+mod opening;
 mod seat;
 mod statements;
 
@@ -39,3 +43,6 @@ fn main(rt: HostRuntime) -> io::Result<()> {
     }
     Ok(())
 }
+
+#[cfg(test)]
+mod tests;

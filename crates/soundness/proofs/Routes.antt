@@ -1,5 +1,5 @@
 -- A row that is routed to a leaf is accepted by each entry above it, where the path of the named table accepts it.
-use Rattle.std.proofs.Common.{◌≡◌, ℕ, zero, suc, Bool, true, List, [], ◌∷◌, ◌++◌, inl, inr, refl, ap, sym, subst, ◌∙◌, Result, Ok, map}
+use Rattle.std.proofs.Common.{◌≡◌, ℕ, zero, suc, Bool, true, List, [], ◌∷◌, ◌++◌, Some, None, inl, inr, refl, ap, sym, subst, ◌∙◌, Result, Ok, map}
 use Rattle.std.specs.List.{All, Contains, list_any}
 use Rattle.std.proofs.lemmas.Bool.{cases_Bool}
 use Rattle.std.proofs.lemmas.List.Elements.{All-contains, Contains-append_cases}
@@ -10,7 +10,8 @@ use Rattle.part_bounds.specs.Accepts.{accepts, is_default, accepts_among}
 use Rattle.history.specs.declared.catalogue.TableShape.{TableShape}
 use Rattle.history.specs.declared.catalogue.TableShape.TheVariants.{Leaf, Level}
 use Rattle.history.specs.declared.catalogue.Entry.{Entry}
-use Rattle.history.specs.Snapshots.{TakenSnapshot}
+use Rattle.history.specs.Transactions.{open_of}
+use Rattle.history.specs.Snapshots.{TakenSnapshot, sees}
 use Rattle.history.specs.Catalogue.{CatalogueEvents, tables_made}
 use Rattle.history.specs.History.{History, tx_events, catalogue_events}
 use Rattle.history.specs.Places.{table_at}
@@ -20,13 +21,16 @@ use Rattle.history.proofs.Open.{open_runs}
 use Rattle.table_trees.specs.declared.node.Node.{Node}
 use Rattle.table_trees.specs.declared.tree.NoPartition.{NoPartition}
 use Rattle.table_trees.specs.Trees.{TableTree, trees_of, key_of, accepting, accepting_in, routed, found_leaf}
-use Rattle.table_trees.specs.Histories.{tree_of, tree_within, grown, node_at, children, bound_of, child_of_entry}
+use Rattle.table_trees.specs.Histories.{tree_of, path_of, tree_within, grown, node_at, children, bound_of, child_of_entry}
 use Rattle.table_trees.proofs.OneLeaf.{one_leaf}
 use Rattle.table_trees.proofs.Sound.{tree_sound}
 use Rattle.table_trees.proofs.Order.{all_children, under_children}
+use Rattle.row_router.specs.declared.path.PathTest.TheVariants.{Bounds}
+use Rattle.row_router.specs.Paths.{refused}
+use Rattle.soundness.specs.Legal.{ArePermitted}
 use Rattle.soundness.specs.Worlds.{World, table_in, IsMade, HasLeaf, Present, Under, key_in, key_at, AcceptsKey, Accepts, AcceptAbove, view}
 use Rattle.soundness.specs.Parts.{Siblings, InvariantOf}
-use Rattle.soundness.specs.Laws.{IsLooking, RoutedAccepts}
+use Rattle.soundness.specs.Laws.{RoutedAccepts}
 use Rattle.soundness.proofs.Worlds.{both_ways}
 use Rattle.soundness.proofs.Sound.{sound_of, catalogue_sound_of}
 use Rattle.soundness.proofs.Looking.{counts_world, looking_counts}
@@ -126,31 +130,40 @@ led_within (suc n) cats w row leaf entries named t shown made at =
 
 -- ---- the law
 
-are_shown : (h : History) (session : ℕ) (s : TakenSnapshot) → IsLegal h → InvariantOf h → IsLooking h session s → IsShown (catalogue_events h) (counts (tx_events h) session) (entries_shown h session s)
-are_shown h session s legal i looking =
+-- whatever the snapshot sees counts for the session
+abbrev pub SeesWhatCounts : History → ℕ → TakenSnapshot → Type 0
+SeesWhatCounts h session s = (t c : ℕ) → sees (tx_events h) s t c ≡ true → counts (tx_events h) session t ≡ true
+
+are_shown : (h : History) (session : ℕ) (s : TakenSnapshot) → IsLegal h → InvariantOf h → SeesWhatCounts h session s → IsShown (catalogue_events h) (counts (tx_events h) session) (entries_shown h session s)
+are_shown h session s legal i sight =
     let siblings = i.siblings (counts (tx_events h) session) (counts_world (tx_events h) session (sound_of h legal)) in
     record {
       present = all_shown h session s (sound_of h legal) (catalogue_sound_of h legal);
       made = λ e p. (i.entries.suited e p.0).child;
-      beside = λ e f p q same by_default. shown_listed h session s f (λ t c seen. looking_counts h session s t c legal looking seen) (λ pending. both_ways (is_default e.bound) by_default (siblings.no_default f e q p same pending)) q;
+      beside = λ e f p q same by_default. shown_listed h session s f sight (λ pending. both_ways (is_default e.bound) by_default (siblings.no_default f e q p same pending)) q;
     }
 
-routed_leads : (h : History) (session table : ℕ) (s : TakenSnapshot) (leaf : LeafId) (row : List Value) → IsLegal h → InvariantOf h → IsLooking h session s → IsMade (catalogue_events h) table → Contains (accepting row (tree_of h session table s)) leaf
+routed_leads : (h : History) (session table : ℕ) (s : TakenSnapshot) (leaf : LeafId) (row : List Value) → IsLegal h → InvariantOf h → SeesWhatCounts h session s → IsMade (catalogue_events h) table → Contains (accepting row (tree_of h session table s)) leaf
     → IsLed (catalogue_events h) (counts (tx_events h) session) row leaf table
 unfolding Rattle.table_trees.specs.Histories.tree_of
-routed_leads h session table s leaf row legal i looking made at = led_within 7 (catalogue_events h) (counts (tx_events h) session) row leaf (entries_shown h session s) table table (are_shown h session s legal i looking) made at
+routed_leads h session table s leaf row legal i sight made at = led_within 7 (catalogue_events h) (counts (tx_events h) session) row leaf (entries_shown h session s) table table (are_shown h session s legal i sight) made at
 
 found_there : (leaf : LeafId) (r : Result LeafId NoPartition) → r ≡ Ok leaf → Contains (found_leaf r) leaf
 found_there leaf r is = subst (λ (o : Result LeafId NoPartition). Contains (found_leaf o) leaf) (sym is) (first_in leaf [])
 
-pub routed_accepts : RoutedAccepts
-routed_accepts h session t table x s leaf row legal permitted looking opened made path way at =
+-- where the snapshot sees what counts, whether the session could hold it or not
+pub routed_by_sight : (h : History) (session t table x : ℕ) (s : TakenSnapshot) (leaf : LeafId) (row : List Value) → IsLegal h → ArePermitted h → SeesWhatCounts h session s → open_of (tx_events h) session ≡ Some t
+    → IsMade (catalogue_events h) table → refused Bounds row (path_of h session table) ≡ None → routed row (tree_of h session table s) ≡ Ok leaf → HasLeaf (catalogue_events h) x leaf → AcceptAbove (catalogue_events h) (view (tx_events h) t) x row
+routed_by_sight h session t table x s leaf row legal permitted sight opened made path way at =
     let i = legal_keeps_all h legal permitted in
     let siblings = i.siblings (counts (tx_events h) session) (counts_world (tx_events h) session (sound_of h legal)) in
     let sound = tree_sound h session table s (catalogue_sound_of h legal) (sessions_have_siblings h session legal permitted) in
     let one = one_leaf (table_at (tables_made (catalogue_events h)) table).columns row (tree_of h session table s) sound in
     let there : Contains (accepting row (tree_of h session table s)) leaf = subst (λ l. Contains l leaf) (sym one) (found_there leaf (routed row (tree_of h session table s)) way) in
-    let led = routed_leads h session table s leaf row legal i looking made there in
+    let led = routed_leads h session table s leaf row legal i sight made there in
     let above = on_way (catalogue_events h) (counts (tx_events h) session) row siblings led.1 table led.0 led.2 (path_accepts_in h session table row legal i path) in
     let here : AcceptAbove (catalogue_events h) (counts (tx_events h) session) x row = subst (λ z. AcceptAbove (catalogue_events h) (counts (tx_events h) session) z row) (i.tables.one_home led.0 x leaf led.3 at) above in
     same_above (catalogue_events h) (counts (tx_events h) session) (view (tx_events h) t) x row (λ k. agree (tx_events h) session t k opened (open_runs (tx_events h) session t (sound_of h legal) opened).runs) here
+
+pub routed_accepts : RoutedAccepts
+routed_accepts h session t table x s leaf row legal permitted looking opened made path way at = routed_by_sight h session t table x s leaf row legal permitted (λ u c seen. looking_counts h session s u c legal looking seen) opened made path way at

@@ -1,0 +1,15 @@
+pub mod Adding
+pub mod Asking
+pub mod Dropping
+pub mod Following
+pub mod Holding
+pub mod Making
+pub mod Marking
+pub mod Marks
+pub mod Names
+pub mod Others
+pub mod Pairs
+pub mod Storing
+pub mod There
+pub mod Trees
+pub mod Whole

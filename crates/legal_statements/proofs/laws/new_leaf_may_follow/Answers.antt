@@ -1,0 +1,5 @@
+use Rattle.legal_statements.proofs.Making.{new_leaf_may_follow}
+use Rattle.legal_statements.proofs.laws.new_leaf_may_follow.Goals as goal
+
+pub returns : goal.returns
+returns c = new_leaf_may_follow

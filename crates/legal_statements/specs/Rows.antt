@@ -1,0 +1,42 @@
+-- Which row versions a statement of a session may make and end (the manual, INSERT, UPDATE, DELETE and 13.2).
+use Rattle.std.specs.Prelude.{◌≡◌, ℕ, ◌<◌, Some, None, Ok}
+use Rattle.history.specs.declared.version.Version.{Version}
+use Rattle.history.specs.declared.version.End.{End}
+use Rattle.history.specs.Transactions.{IsPast, open_of}
+use Rattle.history.specs.Snapshots.{TakenSnapshot}
+use Rattle.history.specs.Rows.{leaf_count}
+use Rattle.history.specs.RowsSound.{IsEndSound}
+use Rattle.history.specs.History.{History, tx_events, row_events, catalogue_events, next_version}
+use Rattle.history.specs.Legal.{IsInOrder}
+use Rattle.table_trees.specs.Histories.{tree_of, path_of}
+use Rattle.table_trees.specs.Trees.{routed}
+use Rattle.row_router.specs.declared.path.PathTest.TheVariants.{Bounds}
+use Rattle.row_router.specs.Paths.{refused}
+use Rattle.soundness.specs.Worlds.{IsMade, HasLeaf}
+use Rattle.legal_statements.specs.Locked.{IsWritable}
+
+-- a snapshot of the session's open transaction that was taken at some place of the history: what a statement reads under,
+-- however long it waits and whatever it has changed since
+pub record IsOwnLook (h : History) (session : ℕ) (s : TakenSnapshot) : Type 0 where
+  pub own : open_of (tx_events h) session ≡ Some s.tx
+  pub past : IsPast s.past (tx_events h)
+
+-- a row that no place above the named table refuses goes to the leaf to which the table's tree routes it, which the
+-- session may write
+pub record IsNewRow (h : History) (session table : ℕ) (s : TakenSnapshot) (v : Version) : Type 0 where
+  pub look : IsOwnLook h session s
+  pub own : open_of (tx_events h) session ≡ Some v.by.number
+  pub command : IsInOrder (Some (v.by.number, v.cmd)) h
+  pub made : IsMade (catalogue_events h) table
+  pub placed : refused Bounds v.row (path_of h session table) ≡ None
+  pub routed : routed v.row (tree_of h session table s) ≡ Ok v.leaf
+  pub locked : (x : ℕ) → HasLeaf (catalogue_events h) x v.leaf → IsWritable h session x
+  pub number : v.id.number ≡ next_version h
+  pub leaf : v.leaf.number < leaf_count (row_events h)
+
+-- a version in a leaf that the session may write ends, as the history asks
+pub record IsOldRow (h : History) (session k : ℕ) (e : End) : Type 0 where
+  pub own : open_of (tx_events h) session ≡ Some e.by.number
+  pub command : IsInOrder (Some (e.by.number, e.cmd)) h
+  pub sound : IsEndSound k e h
+  pub locked : (x : ℕ) → HasLeaf (catalogue_events h) x sound.version.leaf → IsWritable h session x

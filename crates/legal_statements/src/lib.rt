@@ -1,0 +1,17 @@
+//! What statements do to a run is legal.
+//!
+//! `soundness` says which events may come, in its own words: worlds, ways through entries, what a
+//! transaction owns. Here it is said of what a statement knows: the locks that its session holds, the
+//! trees, paths and lists of what is present for the session, the names that it has looked up. Each
+//! law takes such knowledge and gives that the statement's events may follow the history, so that all
+//! laws of `soundness` hold of what comes out. The laws stand on definitions alone.
+#![tactic(auto)]
+
+mod laws;
+
+pub use laws::{
+    asked_may_follow, attach_may_follow, drop_may_follow, followed_is_legal, leaves_stay_there,
+    listed_is_there, mark_may_follow, named_is_there, new_leaf_may_follow, new_level_may_follow,
+    new_partition_may_follow, new_row_may_follow, nobody_else_drops, nobody_else_ends,
+    nobody_else_marks, old_row_may_follow, table_drop_may_follow, tree_is_whole,
+};

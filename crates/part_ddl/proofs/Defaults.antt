@@ -1,0 +1,115 @@
+-- The default partition of a table, found by its place.
+use Rattle.std.proofs.Common.{◌≡◌, ℕ, suc, ◌+◌, ◌<◌, ◌≤◌, arith, ap, refl, sym, subst, ◌∙◌, true, false, if◌then◌else◌, List, [], ◌∷◌, Some, None, length, map, get_or, inl, inr}
+use Rattle.std.specs.Prelude.{nat_lt}
+use Rattle.std.specs.List.{All, find, position, position_or_len}
+use Rattle.std.specs.Option.{option_map}
+use Rattle.std.proofs.lemmas.Bool.{cases_Bool, cases_lt}
+use Rattle.std.proofs.lemmas.Bool.Decides.{nat_tests}
+use Rattle.std.proofs.lemmas.List.{get_or-map, length-map}
+use Rattle.std.proofs.lemmas.List.Elements.{All-head}
+use Rattle.pg_ids.specs.declared.ids.LeafId.{LeafId}
+use Rattle.part_bounds.specs.declared.level.Level.{Level as OneLevel}
+use Rattle.part_bounds.specs.declared.partition_bound.Bound.{Bound}
+use Rattle.part_bounds.specs.Accepts.{is_default}
+use Rattle.history.specs.declared.catalogue.Entry.{Entry}
+use Rattle.history.specs.declared.catalogue.TableShape.{TableShape}
+use Rattle.history.specs.declared.catalogue.TableShape.TheVariants.{Leaf, Level}
+use Rattle.history.specs.Catalogue.{tables_made, entries_added}
+use Rattle.history.specs.History.{History, catalogue_events}
+use Rattle.history.specs.Places.{table_at, TakesBound, Suits, AreCatalogueSound}
+use Rattle.history.specs.Presence.{is_present, entries_present}
+use Rattle.table_trees.specs.declared.tree.Tree.{Tree}
+use Rattle.table_trees.specs.Histories.{bound_of}
+use Rattle.table_trees.proofs.Order.{all_children, all_kept, under_children}
+use Rattle.table_trees.proofs.Suited.{all_suit}
+use Rattle.part_catalog.specs.Found.{made_at}
+use Rattle.part_catalog.specs.Kept.{no_entry}
+use Rattle.part_ddl.specs.Below.{default_of, has_default_bound}
+use Rattle.part_ddl.specs.Placing.{partitions_of}
+use Rattle.part_ddl.proofs.Kids.{IsTold, tree_table, entry_child}
+
+-- ---- a place and what stands there
+
+pub place_of_first : (n m k : ℕ) → Some k ≡ (if nat_lt n m then Some n else None) → (k ≡ n) × (n < m)
+place_of_first n m k is = elim (cases_lt n m) [
+  | inl lt ↦
+      let test : nat_lt n m ≡ true = grind (arith, nat_tests) in
+      let same : Some k ≡ Some n = rw test at is in
+      (cc, lt)
+  | inr ge ↦
+      let test : nat_lt n m ≡ false = grind (arith, nat_tests) in
+      let same : Some k ≡ None = rw test at is in
+      absurd (cc)
+]
+
+no_place : (n m : ℕ) → None ≡ (if nat_lt n m then Some n else None) → m ≤ n
+no_place n m is = elim (cases_lt n m) [
+  | inl lt ↦
+      let test : nat_lt n m ≡ true = grind (arith, nat_tests) in
+      let same : None ≡ Some n = rw test at is in
+      absurd (cc)
+  | inr ge ↦ omega arith
+]
+
+first_found : (es : List Entry) (d : Entry) → position_or_len is_default (map bound_of es) < length es → find has_default_bound es ≡ Some (get_or es (position_or_len is_default (map bound_of es)) d)
+first_found [] d lt = absurd (omega arith)
+first_found (x ∷ xs) d lt = elim (cases_Bool (is_default x.bound)) [
+  | inl y ↦ rw y refl
+  | inr n ↦
+      let next : 1 + position_or_len is_default (map bound_of xs) ≡ suc (position_or_len is_default (map bound_of xs)) = omega arith in
+      let less : 1 + position_or_len is_default (map bound_of xs) < suc (length xs) = rw n at lt in
+      rw (n, next) (first_found xs d (omega (arith, less)))
+]
+
+none_found : (es : List Entry) → length es ≤ position_or_len is_default (map bound_of es) → find has_default_bound es ≡ None
+none_found [] le = refl
+none_found (x ∷ xs) le = elim (cases_Bool (is_default x.bound)) [
+  | inl y ↦ let less : suc (length xs) ≤ 0 = rw y at le in absurd (omega (arith, less))
+  | inr n ↦
+      let less : suc (length xs) ≤ 1 + position_or_len is_default (map bound_of xs) = rw n at le in
+      rw n (none_found xs (omega (arith, less)))
+]
+
+-- ---- as the code finds it
+
+pub default_is : (h : History) (s p : ℕ) (level : OneLevel) (bs : List Bound) (trees : List Tree) (i : ℕ) (x : Tree) → IsTold h s p level bs trees → Some i ≡ position is_default bs → x ≡ get_or trees i x → Some x.node.table ≡ default_of h s p
+default_is h s p level bs trees i x told at is =
+    let es = partitions_of h s p in
+    let first : Some i ≡ position is_default (map bound_of es) = at ∙ ap (position is_default) told.bounds in
+    let place = place_of_first (position_or_len is_default (map bound_of es)) (length (map bound_of es)) i first in
+    let count : length (map bound_of es) ≡ length es = length-map es bound_of in
+    let within : i < length es = omega (arith, place.0, place.1, count) in
+    let here : i < length trees = omega (arith, within, count, told.paired, ap (length {A = Bound}) told.bounds) in
+    let found : find has_default_bound es ≡ Some (get_or es i no_entry.entry) = first_found es no_entry.entry (omega (arith, place.1, count)) ∙ ap (λ n. Some (get_or es n no_entry.entry)) (sym place.0) in
+    let mine : get_or (map tree_table trees) i no_entry.entry.child ≡ x.node.table = get_or-map tree_table trees i x no_entry.entry.child here ∙ ap tree_table (sym is) in
+    let theirs : get_or (map entry_child es) i no_entry.entry.child ≡ (get_or es i no_entry.entry).child = get_or-map entry_child es i no_entry.entry no_entry.entry.child within in
+    let same : x.node.table ≡ (get_or es i no_entry.entry).child = sym mine ∙ ap (λ ts. get_or ts i no_entry.entry.child) told.tables ∙ theirs in
+    ap Some same ∙ sym (ap (option_map entry_child) found)
+
+pub no_default : (h : History) (s p : ℕ) (level : OneLevel) (bs : List Bound) (trees : List Tree) → IsTold h s p level bs trees → None ≡ position is_default bs → None ≡ default_of h s p
+no_default h s p level bs trees told at =
+    let es = partitions_of h s p in
+    let first : None ≡ position is_default (map bound_of es) = at ∙ ap (position is_default) told.bounds in
+    let count : length (map bound_of es) ≡ length es = length-map es bound_of in
+    let past = no_place (position_or_len is_default (map bound_of es)) (length (map bound_of es)) first in
+    sym (ap (option_map entry_child) (none_found es (omega (arith, past, count))))
+
+pub none_below : (shape : TableShape) (leaf : LeafId) (b : Bound) → shape ≡ Leaf leaf → TakesBound shape b → ⊥
+none_below (Leaf own) leaf b is takes = takes
+none_below (Level level) leaf b is takes = cc
+
+no_partitions : (h : History) (t : ℕ) (leaf : LeafId) (es : List Entry) → (made_at h t).shape ≡ Leaf leaf → All (Suits (tables_made (catalogue_events h))) es → All (λ e. e.parent.number ≡ t) es → es ≡ []
+no_partitions h t leaf [] is suits under = refl
+no_partitions h t leaf (e ∷ es) is suits under =
+    let tables = tables_made (catalogue_events h) in
+    let parent : e.parent.number ≡ t = All-head (λ (x : Entry). x.parent.number ≡ t) e es under in
+    let takes : TakesBound (table_at tables t).shape e.bound = subst (λ n. TakesBound (table_at tables n).shape e.bound) parent (All-head (Suits tables) e es suits).bound in
+    absurd (none_below (made_at h t).shape leaf e.bound is takes)
+
+pub leaf_has_none : (h : History) (s t : ℕ) (leaf : LeafId) → AreCatalogueSound h → (made_at h t).shape ≡ Leaf leaf → None ≡ default_of h s t
+leaf_has_none h s t leaf sound is =
+    let tables = tables_made (catalogue_events h) in
+    let entries = entries_present h s in
+    let suits : All (Suits tables) entries = all_kept (Suits tables) (is_present h s) (entries_added (catalogue_events h)) (all_suit h sound) in
+    let none = no_partitions h t leaf (partitions_of h s t) is (all_children (Suits tables) entries t suits) (under_children entries t) in
+    sym (ap (λ (es : List Entry). option_map entry_child (find has_default_bound es)) none)

@@ -1,0 +1,11 @@
+pub mod Among
+pub mod Defaults
+pub mod Ends
+pub mod Forest
+pub mod Free
+pub mod Going
+pub mod Kids
+pub mod Making
+pub mod Numbers
+pub mod Standing
+pub mod Suiting

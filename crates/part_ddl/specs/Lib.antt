@@ -1,0 +1,8 @@
+pub mod Below
+pub mod Dropped
+pub mod Faults
+pub mod Laws
+pub mod Made
+pub mod Partitions
+pub mod Placing
+pub mod Tables

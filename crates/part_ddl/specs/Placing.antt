@@ -1,0 +1,109 @@
+-- Whether a partition may stand below a table (the manual, CREATE TABLE, PARTITION OF, and 5.11.2 Declarative
+-- Partitioning).
+use Rattle.std.specs.Prelude.{◌≡◌, ℕ, ◌+◌, List, [], ◌∷◌, ◌++◌, Option, Some, None, Result, Ok, Err, length, map, nat_le, nat_lt, option_map, position, slice_index_or}
+use Rattle.pg_values.specs.declared.fault.Fault.{Fault}
+use Rattle.pg_values.specs.declared.fault.Refusal.{Refusal}
+use Rattle.pg_values.specs.declared.fault.Refusal.TheVariants.{Sql, NoMemory}
+use Rattle.pg_ids.specs.declared.which.Which.TheVariants.{Partitions, Levels}
+use Rattle.part_bounds.specs.declared.level.Level.{Level as OneLevel}
+use Rattle.part_bounds.specs.declared.partition_bound.Bound.{Bound}
+use Rattle.part_bounds.specs.declared.partition_bound.Bound.TheVariants.{Hash, Default}
+use Rattle.part_bounds.specs.Accepts.{is_default}
+use Rattle.part_bounds.specs.Bounds.{overlaps}
+use Rattle.part_bounds.specs.Checks.{unless}
+use Rattle.part_bounds.specs.Moduli.{bad_modulus}
+use Rattle.history.specs.declared.catalogue.Entry.{Entry}
+use Rattle.history.specs.declared.catalogue.TableShape.{TableShape}
+use Rattle.history.specs.declared.catalogue.TableShape.TheVariants.{Leaf, Level}
+use Rattle.history.specs.History.{History}
+use Rattle.history.specs.Presence.{entries_present}
+use Rattle.table_trees.specs.declared.tree.Tree.{Tree}
+use Rattle.table_trees.specs.Histories.{above, bound_of, children}
+use Rattle.part_catalog.specs.Answers.{pending_entry}
+use Rattle.part_catalog.specs.Found.{made_at}
+use Rattle.part_catalog.specs.Full.{tables_above}
+use Rattle.part_ddl.specs.Faults.{not_partitioned, second_default, pending_beside, modulus_does_not_suit, bound_overlaps, too_many}
+
+-- ---- the table above
+
+-- its level, where it is partitioned
+abbrev pub level_told : (name : List ℕ) → TableShape → Result OneLevel Fault
+level_told name (Leaf leaf) = Err (not_partitioned name)
+level_told name (Level level) = Ok level
+
+abbrev pub level_at : History → (table : ℕ) → Result OneLevel Fault
+level_at h table = level_told (made_at h table).name (made_at h table).shape
+
+-- want of memory apart, the refusal is this fault
+abbrev pub IsFault : {T : Type 0} → Refusal → Result T Fault → Type 0
+IsFault (Sql f) wanted = wanted ≡ Err f
+IsFault NoMemory wanted = Unit {0}
+
+-- ---- the partitions that stand below it for a session, in plain order
+
+abbrev pub partitions_of : History → (session table : ℕ) → List Entry
+partitions_of h session table = children (entries_present h session) table
+
+abbrev pub child_name : History → Entry → List ℕ
+child_name h e = (made_at h e.child.number).name
+
+abbrev pub names_below : History → (session table : ℕ) → List (List ℕ)
+names_below h session table = map (child_name h) (partitions_of h session table)
+
+abbrev pub bounds_below : History → (session table : ℕ) → List Bound
+bounds_below h session table = map bound_of (partitions_of h session table)
+
+-- ---- what stands against a further bound, told from the names and the bounds of those that are there
+
+-- the fault tells the name at the place that was found
+abbrev pub fault_at : (List ℕ → Fault) → (names : List (List ℕ)) → Option ℕ → List Fault
+fault_at fault names None = []
+fault_at fault names (Some i) = fault (slice_index_or names i []) ∷ []
+
+abbrev pub pending_faults : (parent : List ℕ) → Option (List ℕ) → List Fault
+pending_faults parent None = []
+pending_faults parent (Some p) = pending_beside p parent ∷ []
+
+-- a default stands beside no other default, and beside no pending partition
+abbrev pub default_faults : (parent : List ℕ) → (pending : Option (List ℕ)) → (names : List (List ℕ)) → List Bound → Bound → List Fault
+default_faults parent pending names bounds Default = fault_at (second_default parent) names (position is_default bounds) ++ pending_faults parent pending
+default_faults parent pending names bounds _ = []
+
+abbrev pub modulus_told : Bound → Option ℕ → List Fault
+modulus_told (Hash m r) (Some n) = modulus_does_not_suit m n ∷ []
+modulus_told _ _ = []
+
+abbrev pub modulus_faults : List Bound → Bound → List Fault
+modulus_faults bounds b = modulus_told b (bad_modulus b bounds)
+
+abbrev pub overlap_faults : (names : List (List ℕ)) → List Bound → Bound → List Fault
+overlap_faults names bounds b = fault_at bound_overlaps names (position (overlaps b) bounds)
+
+abbrev pub bound_faults : (parent : List ℕ) → (pending : Option (List ℕ)) → (names : List (List ℕ)) → List Bound → Bound → List Fault
+bound_faults parent pending names bounds b = default_faults parent pending names bounds b ++ (modulus_faults bounds b ++ overlap_faults names bounds b)
+
+-- a table has 1,024 partitions at most, and a path 8 tables
+abbrev pub room_faults : (partitions levels : ℕ) → List Fault
+room_faults partitions levels = unless (nat_lt partitions 1024) (too_many Partitions) ++ unless (nat_le levels 8) (too_many Levels)
+
+-- what a tree tells of the partitions at its top
+abbrev pub tree_name : Tree → List ℕ
+tree_name t = t.node.name
+
+abbrev pub tree_names : List Tree → List (List ℕ)
+tree_names trees = map tree_name trees
+
+-- ---- the same, of a history
+
+abbrev pub pending_name : History → (session table : ℕ) → Option (List ℕ)
+pending_name h session table = option_map (child_name h) (pending_entry h session table)
+
+-- how many tables stand on the longest path once such a partition is there, which is so many tables high
+abbrev pub levels_with : History → (session table height : ℕ) → ℕ
+levels_with h session table height = tables_above (above (entries_present h session)) table + height
+
+-- the faults of a further partition, the first one first
+abbrev pub place_faults : History → (session table : ℕ) → Bound → (height : ℕ) → List Fault
+place_faults h session table b height =
+    bound_faults (made_at h table).name (pending_name h session table) (names_below h session table) (bounds_below h session table) b
+    ++ room_faults (length (partitions_of h session table)) (levels_with h session table height)

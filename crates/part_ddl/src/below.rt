@@ -1,0 +1,100 @@
+ghost use Rattle.std.specs.Prelude.{◌≡◌, ◌<◌, ◌++◌, ℕ, IfOk, OnOk, length};
+ghost use Rattle.history.specs.History.{History};
+ghost use Rattle.history.specs.Places.{AreCatalogueSound};
+ghost use Rattle.tx_table.specs.Stands.{TableStands};
+ghost use Rattle.table_trees.specs.Histories.{ddl_tree};
+ghost use Rattle.table_trees.specs.Seen.{seen};
+ghost use Rattle.part_catalog.specs.Answers.{AreTogether};
+ghost use Rattle.part_catalog.specs.Stands.{CatalogueStands};
+ghost use Rattle.part_ddl.specs.Below as below;
+
+use part_bounds::default_child;
+use part_catalog::Catalog;
+use pg_ids::TableNo;
+use pg_values::NoMemory;
+use std::alloc::Global;
+use table_trees::{Shape, Tree};
+use tx_table::TxTable;
+
+/// Puts the tables of a tree behind the list, in plain order, each before those below it.
+pub fn push_tables(tree: &Tree, out: &mut Vec<TableNo>) -> Result<(), NoMemory>
+    ensures { OnOk result (out.new.items ≡ out.old.items ++ below.tables_in (seen tree.now)) }
+{
+    out.push(tree.node.table)?;
+    match &tree.shape {
+        Shape::Leaf(_) => Ok(()),
+        Shape::Level(_, _, children) => {
+            for child in children.as_slice() {
+                push_tables(child, out)?;
+            }
+            Ok(())
+        }
+    }
+}
+
+// Puts all but its topmost table behind the list.
+fn push_below(tree: &Tree, out: &mut Vec<TableNo>) -> Result<(), NoMemory>
+    ensures { OnOk result (out.new.items ≡ out.old.items ++ below.below_top (seen tree.now)) }
+{
+    match &tree.shape {
+        Shape::Leaf(_) => Ok(()),
+        Shape::Level(_, _, children) => {
+            for child in children.as_slice() {
+                push_tables(child, out)?;
+            }
+            Ok(())
+        }
+    }
+}
+
+/// The tables below a table for the session, pending partitions among them: in plain order, each
+/// before those below it.
+pub fn tables_below(
+    alloc: Global,
+    catalog: &Catalog,
+    txs: &TxTable,
+    table: TableNo,
+    session: u32,
+) -> Result<Vec<TableNo>, NoMemory>
+    requires known { table.number < length catalog.now.tables }
+    requires siblings { AreTogether txs.now catalog.now session }
+    ensures { IfOk result (λ tables. (h : History) → TableStands txs.now h → CatalogueStands catalog.now h →
+        tables.items ≡ below.tables_under h session table.number) }
+{
+    let tree = catalog.ddl_tree(alloc, txs, table, session)?;
+    let mut tables = Vec::new(alloc);
+    push_below(&tree, &mut tables)?;
+    Ok(tables)
+}
+
+// The default partition at the top of a tree.
+fn default_in(tree: &Tree) -> Option<TableNo>
+    requires { below.IsDdlTree (seen tree.now) }
+    ensures { (h : History) (session table : ℕ) → AreCatalogueSound h → seen tree.now ≡ ddl_tree h session table → result ≡ below.default_of h session table }
+{
+    match &tree.shape {
+        Shape::Leaf(_) => None,
+        Shape::Level(_, bounds, children) => match default_child(bounds) {
+            Some(at) => Some(children.at(at).node.table),
+            None => None,
+        },
+    }
+}
+
+/// The default partition of a table for the session.
+pub fn default_of(
+    alloc: Global,
+    catalog: &Catalog,
+    txs: &TxTable,
+    table: TableNo,
+    session: u32,
+) -> Result<Option<TableNo>, NoMemory>
+    requires known { table.number < length catalog.now.tables }
+    requires siblings { AreTogether txs.now catalog.now session }
+    ensures { IfOk result (λ default. (h : History) → TableStands txs.now h → CatalogueStands catalog.now h →
+        default ≡ below.default_of h session table.number) }
+{
+    let tree = catalog.ddl_tree(alloc, txs, table, session)?;
+    let default = default_in(&tree);
+    Ok(default)
+}

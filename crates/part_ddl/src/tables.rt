@@ -1,0 +1,65 @@
+ghost use Rattle.std.specs.Prelude.{◌≡◌, ◌++◌, List, IfOk};
+ghost use Rattle.history.specs.declared.catalogue.Column.{Column as OneColumn};
+ghost use Rattle.history.specs.History.{History};
+ghost use Rattle.history.specs.Places.{KeysLieIn};
+ghost use Rattle.row_store.specs.Stands.{StoreStands};
+ghost use Rattle.part_catalog.specs.Stands.{CatalogueStands};
+ghost use Rattle.part_ddl.specs.Made.{IsMade};
+ghost use Rattle.part_ddl.specs.Tables.{KeysFit, shape_of, leaf_events, made_table};
+
+use crate::faults::too_many;
+use history::{Columns, TableShape, TxId};
+use part_bounds::Level;
+use part_catalog::{Catalog, CatalogRefused, NewTable, TABLE_LIMIT};
+use pg_ids::{TableNo, Which};
+use pg_values::{NoMemory, PgText, Refusal};
+use row_store::RowStore;
+use std::alloc::Global;
+
+// The level of a partitioned table, or a leaf for the rows of one that is not.
+fn shape_for(rows: &mut RowStore, level: Option<Level>) -> Result<TableShape, NoMemory>
+    ensures made { IfOk result (λ shape. (h : History) → StoreStands rows.old h →
+        (shape ≡ shape_of h level) × StoreStands rows.new (leaf_events h level ++ h)) }
+    ensures keys { IfOk result (λ shape. (columns : List OneColumn) → KeysFit columns level → KeysLieIn columns shape) }
+{
+    match level {
+        Some(level) => Ok(TableShape::Level(level)),
+        None => {
+            let leaf = rows.add_leaf()?;
+            Ok(TableShape::Leaf(leaf))
+        }
+    }
+}
+
+/// Makes a table of its own, with a leaf for its rows unless it is partitioned; 54000 where there are
+/// 4,096 tables already. Its name is one that `check_name` has passed, and of which
+/// `Catalog::name_taken_by` tells nobody.
+pub fn make_table(
+    alloc: Global,
+    catalog: &mut Catalog,
+    rows: &mut RowStore,
+    name: PgText,
+    columns: Columns,
+    level: Option<Level>,
+    by: TxId,
+    cmd: u32,
+) -> Result<TableNo, Refusal>
+    requires { KeysFit columns level }
+    ensures { (h : History) → CatalogueStands catalog.old h → StoreStands rows.old h →
+        IsMade result catalog.new rows.new h (made_table h name columns level by cmd) }
+{
+    if catalog.table_count() as usize >= TABLE_LIMIT {
+        return Err(Refusal::Sql(too_many(alloc, Which::Tables)?));
+    }
+    let shape = shape_for(rows, level)?;
+    let table = NewTable {
+        name,
+        columns,
+        shape,
+    };
+    match catalog.add_table(table, by, cmd) {
+        Ok(table) => Ok(table),
+        Err(CatalogRefused::NoMemory) => Err(Refusal::NoMemory),
+        Err(CatalogRefused::Full { .. }) => unreachable!(),
+    }
+}

@@ -1,0 +1,10 @@
+pub mod Example
+pub mod Fit
+pub mod Full
+pub mod Leading
+pub mod Made
+pub mod Placed
+pub mod Rows
+pub mod Steps
+pub mod Walk
+pub mod Ways

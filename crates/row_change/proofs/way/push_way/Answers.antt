@@ -1,0 +1,51 @@
+use Rattle.std.proofs.Common.{◌≡◌, ◌<◌, ◌++◌, ◌∷◌, [], ◌∙◌, ap, arith, sym, subst, List, map, position, length, append_assoc, append-nil}
+use Rattle.pg_ids.specs.declared.ids.TableNo.{TableNo}
+use Rattle.part_bounds.specs.declared.level.KeyColumn.{KeyColumn}
+use Rattle.part_bounds.specs.Points.{picked}
+use Rattle.part_bounds.specs.Accepts.{accepts_among, FitsSet}
+use Rattle.table_trees.specs.Trees.{key_of}
+use Rattle.table_trees.specs.Seen.{seen, items_of}
+use Rattle.table_trees.proofs.Levels.{here, chosen, found_within}
+use Rattle.row_change.specs.Ways.{way_below}
+use Rattle.row_change.proofs.Walk.{way_step, way_end}
+use Rattle.row_change.proofs.way.push_way.Goals as goal
+
+pub find_child-requires : goal.find_child-requires
+find_child-requires g c =
+    let h = here c.loop-node.node.now c.args.row.now c.in-Level.level c.in-Level.bounds c.in-Level.children c.in-Level.is c.loop-node.invariant.fits in
+    subst (λ (cs : List KeyColumn). FitsSet c.in-Level.bounds (picked c.args.row.now (map (λ x. x.position) cs))) (sym c.as_slice-columns.ensures) h.key
+
+pub at-node-requires : goal.at-node-requires
+at-node-requires g c =
+    let found = c.in-Some.ensures ∙ ap (λ (cs : List KeyColumn). position (accepts_among c.in-Level.bounds (picked c.args.row.now (map (λ x. x.position) cs))) c.in-Level.bounds) c.as_slice-columns.ensures in
+    let within = found_within (accepts_among c.in-Level.bounds (key_of c.in-Level.level c.args.row.now)) c.in-Level.bounds c.in-Some.child found in
+    let h = here c.loop-node.node.now c.args.row.now c.in-Level.level c.in-Level.bounds c.in-Level.children c.in-Level.is c.loop-node.invariant.fits in
+    omega (arith, h.paired, within)
+
+pub loop-node-smaller : goal.loop-node-smaller
+loop-node-smaller g c =
+    let found = c.in-Some.ensures ∙ ap (λ (cs : List KeyColumn). position (accepts_among c.in-Level.bounds (picked c.args.row.now (map (λ x. x.position) cs))) c.in-Level.bounds) c.as_slice-columns.ensures in
+    let within = found_within (accepts_among c.in-Level.bounds (key_of c.in-Level.level c.args.row.now)) c.in-Level.bounds c.in-Some.child found in
+    (chosen c.loop-node.node.now c.args.row.now c.in-Level.level c.in-Level.bounds c.in-Level.children c.in-Some.child c.at-node.result.now c.in-Level.is c.loop-node.invariant.fits c.stands_in_plain_order.ensures found within c.at-node.ensures).lower
+
+pub loop-node-preserved : goal.loop-node-preserved
+loop-node-preserved g c =
+    let found = c.in-Some.ensures ∙ ap (λ (cs : List KeyColumn). position (accepts_among c.in-Level.bounds (picked c.args.row.now (map (λ x. x.position) cs))) c.in-Level.bounds) c.as_slice-columns.ensures in
+    let within = found_within (accepts_among c.in-Level.bounds (key_of c.in-Level.level c.args.row.now)) c.in-Level.bounds c.in-Some.child found in
+    let i = c.loop-node.invariant in
+    let h = here c.loop-node.node.now c.args.row.now c.in-Level.level c.in-Level.bounds c.in-Level.children c.in-Level.is i.fits in
+    let lt : c.in-Some.child < length (items_of c.in-Level.children) = omega (arith, h.paired, within) in
+    let x = chosen c.loop-node.node.now c.args.row.now c.in-Level.level c.in-Level.bounds c.in-Level.children c.in-Some.child c.at-node.result.now c.in-Level.is i.fits c.stands_in_plain_order.ensures found within c.at-node.ensures in
+    let s = way_step c.loop-node.node.now c.args.row.now c.in-Level.level c.in-Level.bounds c.in-Level.children c.in-Some.child c.at-node.result.now c.in-Level.is found lt c.at-node.ensures in
+    record {
+      fits = x.fits;
+      way = ap (λ (ts : List TableNo). ts ++ way_below c.args.row.now (seen c.at-node.result.now)) c.in_ok-push-in-Some.ensures.items
+        ∙ (append_assoc c.loop-node.out.items (c.at-node.result.now.node.table ∷ []) (way_below c.args.row.now (seen c.at-node.result.now)) ∙ (ap (λ (ts : List TableNo). c.loop-node.out.items ++ ts) (sym s) ∙ i.way));
+    }
+
+pub returns-in-None : goal.returns-in-None
+returns-in-None g c =
+    let found = c.in-None.ensures ∙ ap (λ (cs : List KeyColumn). position (accepts_among c.in-Level.bounds (picked c.args.row.now (map (λ x. x.position) cs))) c.in-Level.bounds) c.as_slice-columns.ensures in
+    let i = c.loop-node.invariant in
+    let e = way_end c.loop-node.node.now c.args.row.now c.in-Level.level c.in-Level.bounds c.in-Level.children c.in-Level.is found in
+    sym (append-nil c.loop-node.out.items) ∙ (ap (λ (ts : List TableNo). c.loop-node.out.items ++ ts) (sym e) ∙ i.way)

@@ -1,0 +1,15 @@
+use Rattle.std.proofs.Common.{◌≡◌, ◌++◌}
+use Rattle.table_trees.specs.Trees.{Fits, height}
+use Rattle.table_trees.specs.Seen.{seen}
+use Rattle.row_change.specs.Ways.{way_below}
+use Rattle.row_change.proofs.way.push_way.Given as goal
+
+-- the tables so far stand before those that are left
+abbrev pub invariant-loop-node : goal.invariant-loop-node
+invariant-loop-node g l = record {
+  fits : Fits l.row (seen l.node);
+  way : l.out.items ++ way_below l.row (seen l.node) ≡ l.initial.out.items ++ way_below l.row (seen l.fn.tree);
+}
+
+abbrev pub decreases-loop-node : goal.decreases-loop-node
+decreases-loop-node g l = height (seen l.node)

@@ -1,0 +1,147 @@
+//! The leaf of each row.
+
+ghost use Rattle.std.specs.Prelude.{◌≡◌, ◌<◌, All, IfOk, length};
+ghost use Rattle.pg_values.specs.Refusals.{IsAnswer};
+ghost use Rattle.part_bounds.specs.Checks.{or_first};
+ghost use Rattle.history.specs.Catalogue.{tables_made};
+ghost use Rattle.history.specs.History.{History, catalogue_events};
+ghost use Rattle.history.specs.Places.{table_at};
+ghost use Rattle.table_trees.specs.Seen.{seen};
+ghost use Rattle.table_trees.specs.Trees.{routed, Fits};
+ghost use Rattle.row_router.specs.Paths as paths;
+ghost use Rattle.row_router.specs.Paths.{PartFits};
+ghost use Rattle.row_router.specs.declared.path.PathTest.TheVariants.{Bounds};
+ghost use Rattle.part_catalog.specs.Stands.{CatalogueStands};
+ghost use Rattle.row_change.specs.Placing as placing;
+ghost use Rattle.row_change.specs.Placing.{name_at, all_placed, bounds_faults, way_told, CanBePlaced, IsNumbered, IsPartNumbered};
+ghost use Rattle.row_change.specs.Refusals as refusals;
+
+use crate::LeafList;
+use crate::faults::{does_not_accept, no_partition};
+use crate::keys::{key_above, key_in};
+use part_catalog::Catalog;
+use pg_ids::{LeafId, TableNo};
+use pg_values::{Fault, NoMemory, Refusal, Row, Steps};
+use row_router::{PathTest, fits_path, route};
+use std::alloc::Global;
+use std::slice::from_ref;
+use std::sync::ledger::Ledger;
+use table_trees::{PathPart, Tree};
+
+// ---- the bounds above
+
+fn does_refuse(part: &PathPart, row: &Row) -> bool
+    requires { PartFits row.now part.now }
+    ensures { result ≡ paths.refuses Bounds row.now part.now }
+{
+    fits_path(from_ref(part), row, PathTest::Bounds).is_some()
+}
+
+fn refused_by(
+    alloc: Global,
+    catalog: &Catalog,
+    part: &PathPart,
+    row: &Row,
+) -> Result<Fault, NoMemory>
+    requires { IsPartNumbered (length catalog.now.tables) part.now }
+    ensures { IfOk result (λ f. (h : History) → CatalogueStands catalog.now h →
+        f ≡ refusals.does_not_accept (name_at (tables_made (catalogue_events h)) part.now.table) (placing.key_above part.now.place row.now)) }
+{
+    let key = key_above(alloc, &part.place, row.as_slice())?;
+    does_not_accept(alloc, catalog.name_of(part.table), key.as_slice())
+}
+
+/// The nearest table of the path that does not accept the row refuses it: 23514.
+pub fn check_bounds(
+    alloc: Global,
+    catalog: &Catalog,
+    path: &[PathPart],
+    row: &Row,
+) -> Result<(), Refusal>
+    requires fits { All (PartFits row.now) path.now }
+    requires known { All (IsPartNumbered (length catalog.now.tables)) path.now }
+    ensures { (h : History) → CatalogueStands catalog.now h →
+        IsAnswer result (or_first (bounds_faults (tables_made (catalogue_events h)) path.now row.now) tt) }
+{
+    for part in path {
+        if does_refuse(part, row) {
+            return Err(Refusal::Sql(refused_by(alloc, catalog, part, row)?));
+        }
+    }
+    Ok(())
+}
+
+// ---- the way down
+
+fn lost_at(alloc: Global, catalog: &Catalog, table: TableNo, row: &Row) -> Result<Fault, NoMemory>
+    requires { table.number < length catalog.now.tables }
+    ensures { IfOk result (λ f. (h : History) → CatalogueStands catalog.now h →
+        f ≡ refusals.no_partition (name_at (tables_made (catalogue_events h)) table) (placing.key_in (table_at (tables_made (catalogue_events h)) table.number).shape row.now)) }
+{
+    let key = key_in(alloc, &catalog.table(table).shape, row.as_slice())?;
+    no_partition(alloc, catalog.name_of(table), key.as_slice())
+}
+
+#[tactic(auto, using(crate::proofs::Ways::lost_is_numbered))]
+fn leaf_of<L: Ledger>(
+    alloc: Global,
+    catalog: &Catalog,
+    tree: &Tree,
+    row: &Row,
+    steps: &mut Steps<L>,
+) -> Result<LeafId, Refusal>
+    requires fits { Fits row.now (seen tree.now) }
+    requires known { IsNumbered (length catalog.now.tables) (seen tree.now) }
+    ensures { (h : History) → CatalogueStands catalog.now h →
+        IsAnswer result (way_told (tables_made (catalogue_events h)) row.now (routed row.now (seen tree.now))) }
+{
+    match route(tree, row, steps) {
+        Ok(leaf) => Ok(leaf),
+        Err(lost) => Err(Refusal::Sql(lost_at(alloc, catalog, lost.table, row)?)),
+    }
+}
+
+// ---- rows
+
+fn place_row<L: Ledger>(
+    alloc: Global,
+    catalog: &Catalog,
+    tree: &Tree,
+    path: &[PathPart],
+    row: &Row,
+    steps: &mut Steps<L>,
+) -> Result<LeafId, Refusal>
+    requires fits { CanBePlaced (seen tree.now) path.now row.now }
+    requires path { All (IsPartNumbered (length catalog.now.tables)) path.now }
+    requires known { IsNumbered (length catalog.now.tables) (seen tree.now) }
+    ensures { (h : History) → CatalogueStands catalog.now h →
+        IsAnswer result (placing.placed (tables_made (catalogue_events h)) (seen tree.now) path.now row.now) }
+{
+    check_bounds(alloc, catalog, path, row)?;
+    leaf_of(alloc, catalog, tree, row, steps)
+}
+
+/// The leaf of each row below the table of the tree, or the first refusal: 23514. Each row is asked of the
+/// bounds along the path, which is that of the table, before it goes down.
+#[tactic(auto, using(crate::proofs::Placed::next_placed, crate::proofs::Placed::none_placed, crate::proofs::Placed::refused_here, crate::proofs::Placed::all_have))]
+pub fn place_rows<L: Ledger>(
+    alloc: Global,
+    catalog: &Catalog,
+    tree: &Tree,
+    path: &[PathPart],
+    rows: &[Row],
+    steps: &mut Steps<L>,
+) -> Result<LeafList, Refusal>
+    requires fits { All (CanBePlaced (seen tree.now) path.now) rows.now }
+    requires path { All (IsPartNumbered (length catalog.now.tables)) path.now }
+    requires known { IsNumbered (length catalog.now.tables) (seen tree.now) }
+    ensures { (h : History) → CatalogueStands catalog.now h →
+        IsAnswer result (all_placed (tables_made (catalogue_events h)) (seen tree.now) path.now rows.now) }
+{
+    let mut leaves = LeafList::new(alloc);
+    for row in rows {
+        let leaf = place_row(alloc, catalog, tree, path, row, steps)?;
+        leaves.push(leaf)?;
+    }
+    Ok(leaves)
+}

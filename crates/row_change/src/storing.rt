@@ -1,0 +1,137 @@
+//! Rows into the store.
+
+ghost use Rattle.std.specs.Prelude.{◌≡◌, ◌<◌, [], ◌∷◌, ◌++◌, All, find, length};
+ghost use Rattle.pg_values.specs.Refusals.{IsAnswer};
+ghost use Rattle.history.specs.Rows.{RowBorn};
+ghost use Rattle.history.specs.Catalogue.{tables_made};
+ghost use Rattle.history.specs.History.{History, RowChange, catalogue_events};
+ghost use Rattle.tx_table.specs.Stands.{TableStands, IsOpen};
+ghost use Rattle.row_store.specs.Stands.{StoreStands, newborn};
+ghost use Rattle.part_bounds.specs.Checks.{or_first};
+ghost use Rattle.part_catalog.specs.Stands.{CatalogueStands};
+ghost use Rattle.row_change.specs.Storing as storing;
+ghost use Rattle.row_change.specs.Storing.{all_stored, full_faults, is_into, leaf_faults, made_by, stored, FitsTargets, IsLeafKnown, IsMade, IsTargetNumbered};
+
+use crate::Target;
+use crate::faults::too_many;
+use crate::testing::check_row;
+use history::TxId;
+use part_catalog::Catalog;
+use pg_ids::LeafId;
+use pg_values::{NoMemory, Refusal, Row, RowList, copy_row};
+use row_store::{PutCause, PutRefused, RowStore};
+use std::alloc::Global;
+use tx_table::TxTable;
+
+// What the refusal of the store is to the statement.
+fn refused(alloc: Global, cause: PutCause) -> Refusal
+    ensures { storing.IsRefusal result cause }
+{
+    match cause {
+        PutCause::NoMemory => Refusal::NoMemory,
+        PutCause::Full { which } => match too_many(alloc, which) {
+            Ok(fault) => Refusal::Sql(fault),
+            Err(NoMemory) => Refusal::NoMemory,
+        },
+    }
+}
+
+#[tactic(auto, using(crate::proofs::Full::has_room, crate::proofs::Full::is_full))]
+fn put_row(
+    alloc: Global,
+    txs: &TxTable,
+    store: &mut RowStore,
+    leaf: LeafId,
+    row: &Row,
+    by: TxId,
+    cmd: u32,
+) -> Result<(), Refusal>
+    requires known { leaf.number < store.old.leaves }
+    requires runs { IsOpen txs.now by.number }
+    ensures made { (h : History) → TableStands txs.now h → StoreStands store.old h →
+        IsMade result store.new h (made_by (full_faults h row.now) (RowChange (RowBorn (newborn h leaf row.now by cmd)) ∷ [])) }
+    ensures leaves { store.new.leaves ≡ store.old.leaves }
+{
+    match store.put(txs, leaf, copy_row(alloc, row)?, by, cmd) {
+        Ok(()) => Ok(()),
+        Err(back) => Err(refused(alloc, back.cause)),
+    }
+}
+
+// The tests of a row that goes into the leaf.
+fn check_leaf(
+    alloc: Global,
+    catalog: &Catalog,
+    targets: &[Target],
+    leaf: LeafId,
+    row: &Row,
+) -> Result<(), Refusal>
+    requires fits { FitsTargets targets.now row.now }
+    requires known { All (IsTargetNumbered (length catalog.now.tables)) targets.now }
+    ensures { (h : History) → CatalogueStands catalog.now h →
+        IsAnswer result (or_first (leaf_faults (tables_made (catalogue_events h)) (find (is_into leaf) targets.now) row.now) tt) }
+{
+    for target in targets {
+        if target.leaf.number == leaf.number {
+            return check_row(alloc, catalog, target, row);
+        }
+    }
+    Ok(())
+}
+
+fn store_row(
+    alloc: Global,
+    catalog: &Catalog,
+    txs: &TxTable,
+    store: &mut RowStore,
+    targets: &[Target],
+    leaf: LeafId,
+    row: &Row,
+    by: TxId,
+    cmd: u32,
+) -> Result<(), Refusal>
+    requires fits { FitsTargets targets.now row.now }
+    requires targets { All (IsTargetNumbered (length catalog.now.tables)) targets.now }
+    requires leaf { leaf.number < store.old.leaves }
+    requires runs { IsOpen txs.now by.number }
+    ensures made { (h : History) → TableStands txs.now h → CatalogueStands catalog.now h → StoreStands store.old h →
+        IsMade result store.new h (stored h (leaf_faults (tables_made (catalogue_events h)) (find (is_into leaf) targets.now) row.now) leaf row.now by cmd) }
+    ensures leaves { store.new.leaves ≡ store.old.leaves }
+{
+    check_leaf(alloc, catalog, targets, leaf, row)?;
+    put_row(alloc, txs, store, leaf, row, by, cmd)
+}
+
+/// Stores each row in its leaf, made by a transaction that runs. The targets are those of all leaves: each row is
+/// tested as its leaf's target says, and needs room in the store, 54000. A refusal ends it, and leaves the rows
+/// before it stored.
+pub fn store_rows(
+    alloc: Global,
+    catalog: &Catalog,
+    txs: &TxTable,
+    store: &mut RowStore,
+    targets: &[Target],
+    leaves: &[LeafId],
+    rows: &[Row],
+    by: TxId,
+    cmd: u32,
+) -> Result<(), Refusal>
+    requires fits { All (FitsTargets targets.now) rows.now }
+    requires targets { All (IsTargetNumbered (length catalog.now.tables)) targets.now }
+    requires leaves { All (IsLeafKnown store.old.leaves) leaves.now }
+    requires runs { IsOpen txs.now by.number }
+    ensures { (h : History) → TableStands txs.now h → CatalogueStands catalog.now h → StoreStands store.old h →
+        IsMade result store.new h (all_stored targets.now by cmd h leaves.now rows.now) }
+{
+    let mut left = leaves;
+    for row in rows {
+        match left.split_first() {
+            None => return Ok(()),
+            Some((leaf, others)) => {
+                store_row(alloc, catalog, txs, store, targets, *leaf, row, by, cmd)?;
+                left = others;
+            }
+        }
+    }
+    Ok(())
+}

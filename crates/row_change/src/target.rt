@@ -1,0 +1,12 @@
+use pg_ids::{LeafId, TableNo};
+use table_trees::PathPart;
+
+/// A leaf that takes rows: its table, the path from the table upwards, and whether the statement names the
+/// table itself, so that the bounds of the path are asked too.
+#[derive(Drop)]
+pub struct Target {
+    pub leaf: LeafId,
+    pub table: TableNo,
+    pub path: Vec<PathPart>,
+    pub is_named: bool,
+}

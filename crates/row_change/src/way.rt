@@ -1,0 +1,96 @@
+//! The tables on the way of a row, and of all rows.
+
+ghost use Rattle.std.specs.Prelude.{◌≡◌, ◌++◌, true, false, Some, None, All, OnOk, IfOk, MatchOption};
+ghost use Rattle.table_trees.specs.Trees.{Fits};
+ghost use Rattle.table_trees.specs.Seen.{seen};
+ghost use Rattle.row_change.specs.Ways.{way_below, ways_below, way_to};
+
+use part_bounds::{find_child, stands_in_plain_order};
+use pg_ids::{LeafId, TableNo};
+use pg_values::{NoMemory, Row, Steps};
+use std::alloc::Global;
+use std::sync::ledger::Ledger;
+use table_trees::{LevelKey, Shape, Tree};
+
+/// Puts the tables below the tree's own that a row comes to behind the list, each before those below it. The
+/// last is that of the leaf which accepts the row, or the one at which it is lost.
+pub fn push_way<L: Ledger>(
+    tree: &Tree,
+    row: &Row,
+    steps: &mut Steps<L>,
+    out: &mut Vec<TableNo>,
+) -> Result<(), NoMemory>
+    requires { Fits row.now (seen tree.now) }
+    ensures { OnOk result (out.new.items ≡ out.old.items ++ way_below row.now (seen tree.now)) }
+{
+    let mut node = tree;
+    loop {
+        match &node.shape {
+            Shape::Leaf(_) => return Ok(()),
+            Shape::Level(level, bounds, children) => {
+                stands_in_plain_order(bounds);
+                let columns = level.columns.as_slice();
+                match find_child(bounds, &LevelKey { row, columns }, steps) {
+                    Some(child) => {
+                        node = children.at(child);
+                        out.push(node.node.table)?;
+                    }
+                    None => return Ok(()),
+                }
+            }
+        }
+    }
+}
+
+/// The tables on the ways of all rows, in the order of the rows.
+pub fn all_ways<L: Ledger>(
+    alloc: Global,
+    tree: &Tree,
+    rows: &[Row],
+    steps: &mut Steps<L>,
+) -> Result<Vec<TableNo>, NoMemory>
+    requires { All (λ row. Fits row (seen tree.now)) rows.now }
+    ensures { IfOk result (λ tables. tables.items ≡ ways_below (seen tree.now) rows.now) }
+{
+    let mut tables = Vec::new(alloc);
+    for row in rows {
+        push_way(tree, row, steps, &mut tables)?;
+    }
+    Ok(tables)
+}
+
+// Puts the way to a leaf behind the list, where a table of the tree has it.
+fn push_way_to(tree: &Tree, leaf: LeafId, out: &mut Vec<TableNo>) -> Result<bool, NoMemory>
+    ensures { IfOk result (λ found. MatchOption (way_to leaf (seen tree.now)) ((found ≡ false) × (out.new.items ≡ out.old.items)) (λ tables. (found ≡ true) × (out.new.items ≡ out.old.items ++ tables))) }
+{
+    match &tree.shape {
+        Shape::Leaf(own) => Ok(own.number == leaf.number),
+        Shape::Level(_, _, children) => {
+            for child in children.as_slice() {
+                out.push(child.node.table)?;
+                if push_way_to(child, leaf, out)? {
+                    return Ok(true);
+                }
+                out.pop();
+            }
+            Ok(false)
+        }
+    }
+}
+
+/// The tables below the tree's own on the way to a leaf, each before those below it; none where no table of
+/// the tree has the leaf.
+pub fn leaf_way(
+    alloc: Global,
+    tree: &Tree,
+    leaf: LeafId,
+) -> Result<Option<Vec<TableNo>>, NoMemory>
+    ensures { IfOk result (λ way. MatchOption way (way_to leaf (seen tree.now) ≡ None) (λ tables. way_to leaf (seen tree.now) ≡ Some tables.items)) }
+{
+    let mut tables = Vec::new(alloc);
+    if push_way_to(tree, leaf, &mut tables)? {
+        Ok(Some(tables))
+    } else {
+        Ok(None)
+    }
+}

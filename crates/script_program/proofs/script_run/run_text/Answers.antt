@@ -1,0 +1,26 @@
+use Rattle.std.proofs.Common.{[], refl}
+use Rattle.schedule.proofs.Results.{ok_more}
+use Rattle.script_program.specs.declared.ended.Ended.TheVariants.{ScriptRefused}
+use Rattle.script_program.specs.Lines.{fault_line}
+use Rattle.script_program.specs.Outcomes.{Stopped, refusal}
+use Rattle.script_program.specs.Texts.{Accepted, Refused, Nothing, Running}
+use Rattle.script_program.proofs.Endings.{ends_more, nothing, nothing_of, refused}
+use Rattle.script_program.proofs.Limits.{few_sessions}
+use Rattle.script_program.proofs.script_run.run_text.Goals as goal
+
+pub open-requires : goal.open-requires
+open-requires g c = few_sessions c.args.text.now c.in-Ok.script c.in-Ok.ensures.0
+
+pub returns-in-Ok-open : goal.returns-in-Ok-open
+returns-in-Ok-open g c opened stands =
+    ends_more g.K.Sink g.E.Sink _ _ _ _ _ _ _ _ _ (λ o ends. Accepted c.in-Ok.script c.in-Ok.ensures.0 ends) (λ bytes begins. Running c.in-Ok.script c.in-Ok.ensures.0 begins)
+    (c.run_over.ensures (opened c.in-Ok.script) (stands c.in-Ok.script c.in-Ok-open.db c.in-Ok-open.ensures.opens))
+
+pub returns-in-Ok : goal.returns-in-Ok
+returns-in-Ok g c opened stands = Stopped [] (Nothing refl) refl (nothing_of g.K.Sink _ []) (nothing g.E.Sink _)
+
+pub returns : goal.returns
+returns g c opened stands =
+    refused g.K.Sink g.E.Sink _ _ _ _ _ _ _ c.fault_line.result (λ line. line.items) (refusal ScriptRefused (fault_line c.in-Err.fault))
+    (ok_more _ _ _ (λ known. Refused c.in-Err.fault (record { refused = c.in-Err.ensures; known = known }) refl) c.fault_line.ensures.known) (Nothing refl) refl (nothing g.K.Sink _)
+    c.fault_line.ensures.line c.refuse.ensures

@@ -1,0 +1,27 @@
+//! The program over any database: from words and the bytes of an input to what two outputs take.
+//!
+//! `run_program` judges the words, reads the input whole, reads the script and runs it over fresh
+//! databases. The first cause that is found decides the answer, and a failed write ends the call in its
+//! place. Of the database it knows that one is opened for a script (`Opener`).
+//!
+//! What it promises is one relation: `Answers` in `specs/Program.antt` says which outcome a call has by
+//! its words and by what it read, where an outcome is the answer with the bytes on `out` and on `err`.
+//! What comes of a text, that is the run of a script and how it ends, stands apart in
+//! `specs/Texts.antt`. `Ends` in `specs/Outcomes.antt` says what was written where a write failed or
+//! memory ran out before.
+#![tactic(auto)]
+
+mod ended;
+mod input;
+mod laws;
+mod line;
+mod opener;
+mod output;
+mod program;
+mod script_run;
+
+pub use ended::Ended;
+pub use input::INPUT_LIMIT;
+pub use laws::{calls_have_one_outcome, outcomes_begin_so, scripts_are_run};
+pub use opener::Opener;
+pub use program::run_program;

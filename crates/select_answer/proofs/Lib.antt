@@ -1,0 +1,7 @@
+pub mod Bytes
+pub mod Courses
+pub mod Gathering
+pub mod Marks
+pub mod Plain
+pub mod Stable
+pub mod Total

@@ -1,0 +1,8 @@
+pub mod Answer
+pub mod Course
+pub mod Faults
+pub mod Keys
+pub mod Laws
+pub mod Rows
+pub mod Sorted
+pub mod Tuples

@@ -1,0 +1,18 @@
+use Rattle.std.proofs.Common.{◌≡◌, ◌+◌, ◌*◌, map, drop}
+use Rattle.sql_expressions.specs.Tree.{listed, tree}
+use Rattle.expression_binder.proofs.Trees.{weight, weights}
+use Rattle.table_binder.specs.Values.{values_faults}
+use Rattle.table_binder.proofs.values.+check.Given as goal
+
+abbrev pub decreases-check_value : goal.decreases-check_value
+decreases-check_value l = 2 * weight (tree l.e.now)
+
+abbrev pub decreases-check_both : goal.decreases-check_both
+decreases-check_both l = 2 * (weight (tree l.x.now) + weight (tree l.y.now)) + 1
+
+abbrev pub decreases-check_values : goal.decreases-check_values
+decreases-check_values l = 2 * weights (listed (map tree l.parts.now)) + 1
+
+-- no part so far has a fault
+abbrev pub invariant-check_values-loop-part : goal.invariant-check_values-loop-part
+invariant-check_values-loop-part l = values_faults (listed (map tree (drop l.part-index l.parts))) ≡ values_faults (listed (map tree l.parts))

@@ -1,0 +1,152 @@
+ghost use Rattle.std.specs.Prelude.{◌≡◌, ◌++◌, map, IfOk};
+ghost use Rattle.pg_values.specs.Refusals.{IsAnswer};
+ghost use Rattle.sql_expressions.specs.Tree.{tree, listed};
+ghost use Rattle.expression_binder.specs.Firsts.{or_first};
+ghost use Rattle.expression_binder.specs.Operands.{operand_faults};
+ghost use Rattle.table_binder.specs.Values as spec;
+
+use expression_binder::{
+    Names, bind_constant, check_operand, condition_names, kind_alone, left_out, typed_of,
+};
+use part_bounds::RawValue;
+use pg_values::{Fault, NoMemory, Refusal, Value};
+use sql_expressions::{Expr, Leaf};
+use std::alloc::Global;
+
+fn no_names() -> Names<'static>
+    ensures { result ≡ spec.no_names }
+{
+    condition_names(&[], &[], 0)
+}
+
+// `$<n> is not in this profile`
+fn left_out_parameter(alloc: Global, n: u64) -> Result<Fault, NoMemory>
+    ensures { IfOk result (λ f. f ≡ spec.parameter_left_out n) }
+{
+    let name = format!(in alloc; "${n}")?;
+    left_out(alloc, name.as_bytes())
+}
+
+// A leaf names neither a column nor a parameter.
+fn check_name(alloc: Global, leaf: &Leaf) -> Result<(), Refusal>
+    ensures { IsAnswer result (or_first (spec.name_faults leaf.now) tt) }
+{
+    match leaf {
+        Leaf::Parameter(n) => Err(Refusal::Sql(left_out_parameter(alloc, *n)?)),
+        Leaf::Column(name) => Err(Refusal::Sql(left_out(alloc, name.as_bytes())?)),
+        Leaf::ColumnOf(_, name) => Err(Refusal::Sql(left_out(alloc, name.as_bytes())?)),
+        Leaf::Number(_) => Ok(()),
+        Leaf::Text(_) => Ok(()),
+        Leaf::Date(_) => Ok(()),
+        Leaf::Null => Ok(()),
+        Leaf::Truth(_) => Ok(()),
+        Leaf::TableName => Ok(()),
+        Leaf::TableNameOf(_) => Ok(()),
+    }
+}
+
+// The expression as a whole is an operand.
+fn check_whole(alloc: Global, e: &Expr) -> Result<(), Refusal>
+    ensures { IsAnswer result (or_first (operand_faults spec.no_names (tree e.now)) tt) }
+{
+    check_operand(alloc, &no_names(), e)
+}
+
+#[cycle(check)]
+fn check_values(alloc: Global, parts: &[Expr]) -> Result<(), Refusal>
+    ensures { IsAnswer result (or_first (spec.values_faults (listed (map tree parts.now))) tt) }
+{
+    for part in parts {
+        check_value(alloc, part)?;
+    }
+    Ok(())
+}
+
+#[cycle(check)]
+fn check_both(alloc: Global, x: &Expr, y: &Expr) -> Result<(), Refusal>
+    ensures { IsAnswer result (or_first (spec.value_faults (tree x.now) ++ spec.value_faults (tree y.now)) tt) }
+{
+    check_value(alloc, x)?;
+    check_value(alloc, y)
+}
+
+// The first fault of names and kinds: 0A000 for what has no place in a bound, 42883.
+#[cycle(check)]
+fn check_value(alloc: Global, e: &Expr) -> Result<(), Refusal>
+    ensures { IsAnswer result (or_first (spec.value_faults (tree e.now)) tt) }
+{
+    match e {
+        Expr::Leaf(leaf) => {
+            check_name(alloc, leaf)?;
+            check_whole(alloc, e)
+        }
+        Expr::Call(_, arguments) => {
+            check_values(alloc, arguments.as_slice())?;
+            check_whole(alloc, e)
+        }
+        Expr::CallOfAll(_) => check_whole(alloc, e),
+        Expr::Negated(x) => {
+            check_value(alloc, x)?;
+            check_whole(alloc, e)
+        }
+        Expr::Binary(_, x, y) => {
+            check_both(alloc, x, y)?;
+            check_whole(alloc, e)
+        }
+        Expr::In(_, x, list) => {
+            check_value(alloc, x)?;
+            check_values(alloc, list.as_slice())?;
+            check_whole(alloc, e)
+        }
+        Expr::Between(_, x, from, to) => {
+            check_value(alloc, x)?;
+            check_both(alloc, from, to)?;
+            check_whole(alloc, e)
+        }
+        Expr::IsNull(_, x) => {
+            check_value(alloc, x)?;
+            check_whole(alloc, e)
+        }
+        Expr::Not(x) => {
+            check_value(alloc, x)?;
+            check_whole(alloc, e)
+        }
+        Expr::And(list) => {
+            check_values(alloc, list.as_slice())?;
+            check_whole(alloc, e)
+        }
+        Expr::Or(list) => {
+            check_values(alloc, list.as_slice())?;
+            check_whole(alloc, e)
+        }
+    }
+}
+
+// The value of the expression, or its first fault.
+fn compute(alloc: Global, e: &Expr) -> Result<Value, Refusal>
+    ensures { IsAnswer result (spec.computed (tree e.now)) }
+{
+    check_value(alloc, e)?;
+    let names = no_names();
+    bind_constant(alloc, &names, kind_alone(typed_of(&names, e).given), e)
+}
+
+fn given_or_faulty(alloc: Global, e: &Expr) -> Result<RawValue, NoMemory>
+    ensures { IfOk result (λ raw. raw ≡ spec.given_or_faulty (spec.computed (tree e.now))) }
+{
+    match compute(alloc, e) {
+        Ok(value) => Ok(RawValue::Given(value)),
+        Err(Refusal::Sql(fault)) => Ok(RawValue::Faulty(fault)),
+        Err(Refusal::NoMemory) => Err(NoMemory),
+    }
+}
+
+/// An expression of a bound: a string literal by itself, a value, or a fault.
+pub(crate) fn raw_value(alloc: Global, e: &Expr) -> Result<RawValue, NoMemory>
+    ensures { IfOk result (λ raw. raw ≡ spec.raw_value (tree e.now)) }
+{
+    match e {
+        Expr::Leaf(Leaf::Text(text)) => Ok(RawValue::Literal(text.copy(alloc)?)),
+        _ => given_or_faulty(alloc, e),
+    }
+}
