@@ -1,5 +1,5 @@
 mod Lower
-mod Numbers
+pub mod Numbers
 mod Runs
 mod Steps
 mod Waiting

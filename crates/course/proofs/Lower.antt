@@ -1,24 +1,21 @@
 -- Less is left to happen when a wait ends.
-use Rattle.std.proofs.Common.{◌≡◌, ◌≢◌, ℕ, ◌+◌, ◌<◌, ◌≤◌, ◌==◌, ◌&&◌, Bool, true, false, List, [], ◌∷◌, ◌++◌, refl, ap, sym, ◌∙◌, subst, arith, Option, Some, None, is_some, length, slice_index_or, slice_set}
-use Rattle.std.specs.List.{sum_by}
-use Rattle.std.proofs.lemmas.Grind.{common_steps, elements}
+use Rattle.std.proofs.Common.{◌≡◌, ℕ, ◌<◌, ◌≤◌, Bool, true, List, refl, ap, sym, ◌∙◌, arith, Option, Some, None, is_some, length, slice_index_or, slice_set}
+use Rattle.std.proofs.lemmas.Grind.{common_steps}
 use Rattle.std.proofs.lemmas.Bool.{and_parts}
 use Rattle.std.proofs.lemmas.Bool.Decides.{nat_tests}
-use Rattle.pg_ids.specs.Sets.{has}
 use Rattle.pg_ids.specs.declared.ids.TableNo.{TableNo}
 use Rattle.pg_ids.specs.declared.lock_mode.LockMode.{LockMode}
 use Rattle.history.specs.declared.wait.Wanted.TheVariants.{Lock}
 use Rattle.history.specs.Locks.{wanted}
 use Rattle.history.specs.Waits.{ready}
-use Rattle.history.specs.History.{History, lock_events}
-use Rattle.lock_table.specs.Kept.{held_at}
+use Rattle.history.specs.History.{lock_events}
 use Rattle.schedule.specs.Lists.{head_of}
 use Rattle.stores.specs.Events.{resumed, withdrawn}
 use Rattle.stores.specs.Stand.{AddsGood}
 use Rattle.stores.specs.declared.stores.Stores.{Stores}
 use Rattle.course.specs.Attempts.{LocksStay}
-use Rattle.course.specs.Kept.{KeptSeats, AreKept, TellOf, is_ready, due_in, waits_in}
-use Rattle.course.specs.Weight.{of_flag, unheld, slack}
+use Rattle.course.specs.Kept.{KeptSeats, AreKept, is_ready, due_in, waits_in}
+use Rattle.course.specs.Weight.{unheld, slack}
 use Rattle.course.proofs.Steps.{seats}
 use Rattle.course.proofs.Waiting.{lacks_wanted, ready_waits, first_waits, lock_of, got_it, still_holds}
 use Rattle.course.proofs.Weights.{unheld_less, unheld_mono, flag_set_less}
@@ -44,10 +41,10 @@ resumed_lower e stores s q next kept due lt good same known =
     let is : ready (lock_events h) ≡ Some s = sym (tells.ready h old) ∙ both.1 in
     let l = lock_of (wanted (lock_events h) s) (ready_waits (lock_events h) s is) (tells.waits.for_locks s) in
     let less = unheld_less (length e.opened) e.stores.locks.tables e.stores.locks.held stores.locks.held s l.0.number l.1
-        (λ x k n b. new.tells.held x k n ∙ still_holds (lock_events h) s x k n (sym (old.tells.held x k n) ∙ b))
-        lt (known l.0 l.1 (old.tells.wants s ∙ l.2))
-        (old.tells.held s l.0.number l.1 ∙ lacks_wanted (lock_events h) s l.0 l.1 old.sound l.2)
-        (new.tells.held s l.0.number l.1 ∙ got_it (lock_events h) s l.0 l.1 l.2) in
+    (λ x k n b. new.tells.held x k n ∙ still_holds (lock_events h) s x k n (sym (old.tells.held x k n) ∙ b))
+    lt (known l.0 l.1 (old.tells.wants s ∙ l.2))
+    (old.tells.held s l.0.number l.1 ∙ lacks_wanted (lock_events h) s l.0 l.1 old.sound l.2)
+    (new.tells.held s l.0.number l.1 ∙ got_it (lock_events h) s l.0 l.1 l.2) in
     let at : unheld (length e.opened) stores.locks.tables stores.locks.held ≡ unheld (length e.opened) e.stores.locks.tables stores.locks.held = ap (λ n. unheld (length e.opened) n stores.locks.held) same in
     omega (arith, less, at)
 

@@ -1,5 +1,5 @@
 -- The numbers of commands go on, whatever happens to transactions and locks.
-use Rattle.std.proofs.Common.{◌≡◌, ◌≢◌, ℕ, ◌≤◌, ◌==◌, Bool, true, false, if◌then◌else◌, List, [], ◌∷◌, ◌++◌, refl, ap, sym, ◌∙◌, arith, inl, inr, Option, Some, None, All}
+use Rattle.std.proofs.Common.{◌≡◌, ◌+◌, ◌≢◌, ℕ, [], ◌∷◌, ◌++◌, refl, sym, ◌∙◌, arith, inl, inr, None}
 use Rattle.std.proofs.lemmas.Grind.{common_steps}
 use Rattle.std.proofs.lemmas.Bool.{cases_eq}
 use Rattle.std.proofs.lemmas.Bool.Decides.{nat_tests}
@@ -8,7 +8,7 @@ use Rattle.history.specs.Transactions.{TxEvent, TxEvents, TxBegan, TxCommitted, 
 use Rattle.history.specs.Snapshots.{SnapshotDropped}
 use Rattle.history.specs.Locks.{LockEvent, LocksGivenUp, SnapshotGone, WaitWithdrawn}
 use Rattle.history.specs.History.{History, TxChange, SnapshotChange, LockChange, tx_events}
-use Rattle.stores.specs.Events.{begun, ended, tx_in}
+use Rattle.stores.specs.Events.{begun, ended}
 use Rattle.stores.specs.Numbers.{IsBefore, IsAt}
 use Rattle.stores.proofs.Commands.{goes_on}
 
@@ -45,7 +45,11 @@ at_ended e h s r n ends at =
     at_lock (LocksGivenUp s) (TxChange e ∷ three) r n (at_end e three r n ends (at_lock (SnapshotGone s) two r n (at_dropped s one r n (at_lock (WaitWithdrawn s) h r n at))))
 
 pub ends_commit : (txs : TxEvents) (s t r : ℕ) → Ends (TxCommitted s t) txs r
-ends_commit txs s t r = elim (cases_eq s r) [ | inl e ↦ Own (grind (arith, common_steps, nat_tests, e)) | inr e ↦ Other (grind (arith, common_steps, nat_tests, e)) ]
+ends_commit txs s t r = elim (cases_eq s r) [ inl e ↦ Own (grind (arith, common_steps, nat_tests, e)) | inr e ↦ Other (grind (arith, common_steps, nat_tests, e)) ]
 
 pub ends_abort : (txs : TxEvents) (s t r : ℕ) → Ends (TxAborted s t) txs r
-ends_abort txs s t r = elim (cases_eq s r) [ | inl e ↦ Own (grind (arith, common_steps, nat_tests, e)) | inr e ↦ Other (grind (arith, common_steps, nat_tests, e)) ]
+ends_abort txs s t r = elim (cases_eq s r) [ inl e ↦ Own (grind (arith, common_steps, nat_tests, e)) | inr e ↦ Other (grind (arith, common_steps, nat_tests, e)) ]
+
+-- a command later
+pub one_later : (h : History) (s n : ℕ) → IsAt h s n → IsAt h s (n + 1)
+one_later h s n at = goes_on [] h s n (n + 1) (omega arith) at refl (λ t own. All-nil (IsBefore t (n + 1)))

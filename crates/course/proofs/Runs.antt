@@ -1,7 +1,7 @@
 -- What is kept tells of the history after a statement was run.
-use Rattle.std.proofs.Common.{◌≡◌, ◌≢◌, ℕ, zero, suc, ◌+◌, ◌<◌, ◌≤◌, ◌==◌, Bool, true, false, if◌then◌else◌, List, [], ◌∷◌, ◌++◌, refl, ap, sym, ◌∙◌, subst, arith, inl, inr, append-nil, Option, Some, None, Result, Ok, Err, All, IfOk, OnOk, IfSome, is_some, length, slice_index_or, slice_set}
+use Rattle.std.proofs.Common.{◌≡◌, ◌≢◌, ℕ, zero, suc, ◌+◌, ◌<◌, Bool, true, false, List, [], ◌∷◌, ◌++◌, refl, ap, sym, ◌∙◌, subst, arith, inl, inr, append-nil, Option, Some, None, Result, Ok, Err, All, IfOk, OnOk, is_some, length, slice_index_or, slice_set}
 use Rattle.std.proofs.lemmas.Grind.{common_steps, elements}
-use Rattle.std.proofs.lemmas.Bool.{cases_eq, cases_Bool}
+use Rattle.std.proofs.lemmas.Bool.{cases_eq}
 use Rattle.std.proofs.lemmas.Bool.Decides.{nat_tests}
 use Rattle.std.proofs.lemmas.List.Elements.{All-nil, All-cons, All-append}
 use Rattle.pg_values.specs.declared.fault.Fault.{Fault}
@@ -10,24 +10,24 @@ use Rattle.history.specs.declared.wait.Wanted.{Wanted}
 use Rattle.history.specs.declared.wait.Wanted.TheVariants.{Lock, Others}
 use Rattle.pg_ids.specs.declared.ids.TableNo.{TableNo}
 use Rattle.pg_ids.specs.declared.lock_mode.LockMode.{LockMode}
-use Rattle.history.specs.Locks.{wanted, queue}
+use Rattle.history.specs.Locks.{wanted}
 use Rattle.history.specs.Waits.{ready}
-use Rattle.history.specs.History.{Event, History, lock_events}
+use Rattle.history.specs.History.{History, lock_events}
 use Rattle.lock_table.specs.Stands.{IsIdle, TableStands as LocksStand}
 use Rattle.sessions.specs.declared.asker.Asker.{Asker}
 use Rattle.sessions.specs.declared.outcome.Outcome.{Outcome}
 use Rattle.sessions.specs.declared.settings.Settings.{Settings}
 use Rattle.sessions.specs.declared.outcome.Outcome.TheVariants as outcomes
-use Rattle.stores.specs.Numbers.{IsBefore, IsAt}
-use Rattle.stores.specs.Stand.{Stands, IsSameSize}
+use Rattle.stores.specs.Numbers.{IsAt}
+use Rattle.stores.specs.Stand.{IsSameSize}
 use Rattle.stores.specs.declared.stores.Stores.{Stores}
-use Rattle.stores.proofs.Commands.{goes_on}
-use Rattle.course.specs.Made.{Made, Halt, Waits, Refused}
+use Rattle.course.specs.Made.{Made, Waits, Refused}
 use Rattle.course.specs.Attempts.{WentOn, GoesOn, WaitsForLock}
 use Rattle.course.specs.Words.{Words}
 use Rattle.course.specs.Database.{Database, statement_cancelled, unless_cancelled, caller_of, attempt_of, next_command, outcome_told, text_told, goes_on as goes_on_to}
-use Rattle.course.specs.Kept.{KeptSeats, AreSeated, AreWaits, TellOf, AreKept, StandsFor}
+use Rattle.course.specs.Kept.{KeptSeats, AreSeated, TellOf, AreKept, StandsFor}
 use Rattle.course.specs.Ran.{attempt_at, HasRun}
+use Rattle.course.proofs.Numbers.{one_later}
 use Rattle.course.proofs.Steps.{seats}
 
 pub number_own : (xs : List ℕ) (s n : ℕ) → s < length xs → slice_index_or (slice_set xs s n) s 0 ≡ n
@@ -50,9 +50,6 @@ numbered commands new h s n lt is own others r =
       | inl same ↦ subst (λ x. IsAt h x (slice_index_or new x 0)) same (subst (IsAt h s) (sym (ap (λ xs. slice_index_or xs s 0) is ∙ number_own commands s n lt)) own)
       | inr other ↦ subst (IsAt h r) (sym (ap (λ xs. slice_index_or xs r 0) is ∙ number_other commands s r n other)) (others r other)
     ]
-
-one_later : (h : History) (s n : ℕ) → IsAt h s n → IsAt h s (n + 1)
-one_later h s n at = goes_on [] h s n (n + 1) (omega arith) at refl (λ t own. All-nil (IsBefore t (n + 1)))
 
 -- a flag that is taken away
 untold : (cancelled : List Bool) (h : History) (s r : ℕ) → ((r : ℕ) → is_some (wanted (lock_events h) r) ≡ true → slice_index_or cancelled r false ≡ false)
@@ -83,13 +80,13 @@ pub cancelled_ran : (e : KeptSeats) (s cmd next : ℕ) (h : History) (before : L
 cancelled_ran e s cmd next h before f m seated lt whole flag is more fault tells =
     subst (λ b. HasRun (unless_cancelled b m) s e (seats e.stores e.opened (slice_set e.commands s next) (slice_set e.cancelled s false) e.queue e.ready e.whole) before before (outcomes.Refused f) h) (sym flag)
     (record {
-        whole = whole;
-        tells = cancelled_tells e s cmd next h seated lt is more tells;
-        outcome = ap outcomes.Refused fault;
-        text = sym (append-nil before);
-        commands = ap (slice_set e.commands s) (more ∙ ap (λ n. n + 1) is);
-        cancelled = refl;
-      })
+      whole = whole;
+      tells = cancelled_tells e s cmd next h seated lt is more tells;
+      outcome = ap outcomes.Refused fault;
+      text = sym (append-nil before);
+      commands = ap (slice_set e.commands s) (more ∙ ap (λ n. n + 1) is);
+      cancelled = refl;
+    })
 
 -- ---- a statement that was tried
 
@@ -162,14 +159,14 @@ pub done_ran : (e : KeptSeats) (stores : Stores) (s next : ℕ) (ready' : Option
 done_ran e stores s next ready' h before after m seated lt whole flag more tells goes idle readies (text, told, printed, went) =
     let is = told_done m text (slice_index_or e.commands s 0) told in
     as_tried e (seats stores e.opened (slice_set e.commands s next) e.cancelled e.queue ready' e.whole) s before after outcomes.Done h m flag (record {
-        whole = whole;
-        tells = went_tells e stores s (slice_index_or e.commands s 0 + 1) (slice_set e.commands s next) [] e.queue ready' e.whole h (m.events ++ h) seated lt flag tells goes went
-            (waits_for_none stores.locks.wants s idle) (ap (slice_set e.commands s) more) (sym (append-nil e.queue)) readies;
-        outcome = is.0;
-        text = printed ∙ ap (λ t. before ++ t) is.1;
-        commands = ap (slice_set e.commands s) (more ∙ is.2);
-        cancelled = sym (flag_stays e.cancelled s (rw seated.cancelled lt) flag);
-      })
+      whole = whole;
+      tells = went_tells e stores s (slice_index_or e.commands s 0 + 1) (slice_set e.commands s next) [] e.queue ready' e.whole h (m.events ++ h) seated lt flag tells goes went
+          (waits_for_none stores.locks.wants s idle) (ap (slice_set e.commands s) more) (sym (append-nil e.queue)) readies;
+      outcome = is.0;
+      text = printed ∙ ap (λ t. before ++ t) is.1;
+      commands = ap (slice_set e.commands s) (more ∙ is.2);
+      cancelled = sym (flag_stays e.cancelled s (rw seated.cancelled lt) flag);
+    })
 
 pub refused_ran : (e : KeptSeats) (stores : Stores) (s next : ℕ) (ready' : Option ℕ) (h : History) (before after : List ℕ) (m : Made (List ℕ)) (f : Fault) → AreSeated e → s < length e.opened → e.whole ≡ true
     → slice_index_or e.cancelled s false ≡ false → next ≡ slice_index_or e.commands s 0 + 1 → TellOf e h → GoesOn e.stores stores s → IsIdle stores.locks s
@@ -179,14 +176,14 @@ pub refused_ran : (e : KeptSeats) (stores : Stores) (s next : ℕ) (ready' : Opt
 refused_ran e stores s next ready' h before after m f seated lt whole flag more tells goes idle readies (told, printed, went) =
     let is = told_refused m f (slice_index_or e.commands s 0) told in
     as_tried e (seats stores e.opened (slice_set e.commands s next) e.cancelled e.queue ready' e.whole) s before after (outcomes.Refused f) h m flag (record {
-        whole = whole;
-        tells = went_tells e stores s (slice_index_or e.commands s 0 + 1) (slice_set e.commands s next) [] e.queue ready' e.whole h (m.events ++ h) seated lt flag tells goes went
-            (waits_for_none stores.locks.wants s idle) (ap (slice_set e.commands s) more) (sym (append-nil e.queue)) readies;
-        outcome = is.0;
-        text = printed ∙ (sym (append-nil before) ∙ ap (λ t. before ++ t) is.1);
-        commands = ap (slice_set e.commands s) (more ∙ is.2);
-        cancelled = sym (flag_stays e.cancelled s (rw seated.cancelled lt) flag);
-      })
+      whole = whole;
+      tells = went_tells e stores s (slice_index_or e.commands s 0 + 1) (slice_set e.commands s next) [] e.queue ready' e.whole h (m.events ++ h) seated lt flag tells goes went
+          (waits_for_none stores.locks.wants s idle) (ap (slice_set e.commands s) more) (sym (append-nil e.queue)) readies;
+      outcome = is.0;
+      text = printed ∙ (sym (append-nil before) ∙ ap (λ t. before ++ t) is.1);
+      commands = ap (slice_set e.commands s) (more ∙ is.2);
+      cancelled = sym (flag_stays e.cancelled s (rw seated.cancelled lt) flag);
+    })
 
 pub waits_ran : (e : KeptSeats) (stores : Stores) (s : ℕ) (q : List ℕ) (ready' : Option ℕ) (h : History) (before after : List ℕ) (m : Made (List ℕ)) → AreSeated e → s < length e.opened → e.whole ≡ true
     → slice_index_or e.cancelled s false ≡ false → TellOf e h → GoesOn e.stores stores s → WaitsForLock stores s → q ≡ e.queue ++ s ∷ []
@@ -197,14 +194,14 @@ waits_ran e stores s q ready' h before after m seated lt whole flag tells goes w
     let n = slice_index_or e.commands s 0 in
     let is = told_waits m n told in
     as_tried e (seats stores e.opened e.commands e.cancelled q ready' e.whole) s before after outcomes.Waits h m flag (record {
-        whole = whole;
-        tells = went_tells e stores s n e.commands (s ∷ []) q ready' e.whole h (m.events ++ h) seated lt flag tells goes went
-            (waits_for_lock stores.locks.wants s waits.0 waits.1 waits.2) (number_stays e.commands s n (rw seated.commands lt) refl) left readies;
-        outcome = is.0;
-        text = printed ∙ (sym (append-nil before) ∙ ap (λ t. before ++ t) is.1);
-        commands = number_stays e.commands s n (rw seated.commands lt) refl ∙ ap (slice_set e.commands s) is.2;
-        cancelled = sym (flag_stays e.cancelled s (rw seated.cancelled lt) flag);
-      })
+      whole = whole;
+      tells = went_tells e stores s n e.commands (s ∷ []) q ready' e.whole h (m.events ++ h) seated lt flag tells goes went
+          (waits_for_lock stores.locks.wants s waits.0 waits.1 waits.2) (number_stays e.commands s n (rw seated.commands lt) refl) left readies;
+      outcome = is.0;
+      text = printed ∙ (sym (append-nil before) ∙ ap (λ t. before ++ t) is.1);
+      commands = number_stays e.commands s n (rw seated.commands lt) refl ∙ ap (slice_set e.commands s) is.2;
+      cancelled = sym (flag_stays e.cancelled s (rw seated.cancelled lt) flag);
+    })
 
 -- the history that what is kept tells of goes on
 pub ran_kept : (e new : KeptSeats) → AreKept e → e.whole ≡ true → AreSeated new → ((h : History) → TellOf e h → (g : History) × TellOf new g) → AreKept new

@@ -1,5 +1,5 @@
 -- What sessions wait for, whatever happens to transactions and locks.
-use Rattle.std.proofs.Common.{◌≡◌, ◌≢◌, ℕ, ◌==◌, ◌&&◌, ◌||◌, not, Bool, true, false, if◌then◌else◌, List, [], ◌∷◌, ◌++◌, refl, ap, sym, ◌∙◌, subst, arith, inl, inr, Option, Some, None, is_some, nat_eq, filter, find}
+use Rattle.std.proofs.Common.{◌≡◌, ◌≢◌, ℕ, ◌==◌, ◌&&◌, ◌||◌, not, Bool, true, false, if◌then◌else◌, List, [], ◌∷◌, ◌++◌, refl, ap, sym, ◌∙◌, subst, arith, inl, inr, Option, Some, None, is_some, nat_eq, find}
 use Rattle.std.specs.List.{list_any}
 use Rattle.std.proofs.lemmas.Grind.{common_steps}
 use Rattle.std.proofs.lemmas.Bool.{cases_eq, cases_Bool}
@@ -12,7 +12,7 @@ use Rattle.history.specs.declared.wait.WaitOn.{WaitOn}
 use Rattle.history.specs.declared.wait.WaitOn.TheVariants.{Ends, Snapshots}
 use Rattle.history.specs.declared.wait.Wanted.{Wanted}
 use Rattle.history.specs.declared.wait.Wanted.TheVariants.{Lock, Others}
-use Rattle.history.specs.Locks.{LockEvent, LockEvents, LockGot, LocksGivenUp, SnapshotGone, WaitBegan, WaitResumed, WaitWithdrawn, wanted, holds, queue, removed, after_end, after_snapshot, is_lock}
+use Rattle.history.specs.Locks.{LockEvents, LockGot, LocksGivenUp, SnapshotGone, WaitBegan, WaitResumed, WaitWithdrawn, wanted, holds, queue, removed, after_end, after_snapshot}
 use Rattle.history.specs.LocksSound.{AreLocksSound}
 use Rattle.history.specs.Waits.{is_cause, waits_for, ready}
 use Rattle.schedule.specs.Lists.{head_of, without}
@@ -51,10 +51,10 @@ snapshot_some s (Some (Others (Snapshots x))) = refl
 
 -- a wait that is over, one way or the other
 over_others : (s r : ℕ) (w : Option Wanted) (v : WaitOn) → w ≢ Some (Others v) → (if s == r then None else w) ≢ Some (Others v)
-over_others s r w v none e = elim (cases_Bool (s == r)) [ | inl t ↦ absurd (let c = sym (ap (λ b. if b then None else w) t) ∙ e in cc) | inr f ↦ none (sym (ap (λ b. if b then None else w) f) ∙ e) ]
+over_others s r w v none e = elim (cases_Bool (s == r)) [ inl t ↦ absurd (let c = sym (ap (λ b. if b then None else w) t) ∙ e in cc) | inr f ↦ none (sym (ap (λ b. if b then None else w) f) ∙ e) ]
 
 over_some : (s r : ℕ) (w : Option Wanted) → is_some (if s == r then None else w) ≡ true → is_some w ≡ true
-over_some s r w e = elim (cases_Bool (s == r)) [ | inl t ↦ absurd (let c = sym (ap (λ b. is_some (if b then None else w)) t) ∙ e in cc) | inr f ↦ sym (ap (λ b. is_some (if b then None else w)) f) ∙ e ]
+over_some s r w e = elim (cases_Bool (s == r)) [ inl t ↦ absurd (let c = sym (ap (λ b. is_some (if b then None else w)) t) ∙ e in cc) | inr f ↦ sym (ap (λ b. is_some (if b then None else w)) f) ∙ e ]
 
 pub resumed_for_locks : (s : ℕ) (h : LockEvents) → ForLocks h → ForLocks (WaitResumed s ∷ h)
 resumed_for_locks s h locks r v = over_others s r (wanted h r) v (locks r v)
@@ -155,13 +155,13 @@ queued_began q s r other e = grind (arith, common_steps, nat_tests, list_any-app
 queued_apart : (r s : ℕ) (q : List ℕ) → list_any (nat_eq s) (removed r q) ≡ true → r ≢ s
 queued_apart r s [] e = absurd (cc)
 queued_apart r s (x ∷ q) e = λ same. elim (cases_Bool (r == x)) [
-    | inl t ↦ queued_apart r s q (subst (λ b. list_any (nat_eq s) (if not b then x ∷ removed r q else removed r q) ≡ true) t e) same
-    | inr f ↦
+  | inl t ↦ queued_apart r s q (subst (λ b. list_any (nat_eq s) (if not b then x ∷ removed r q else removed r q) ≡ true) t e) same
+  | inr f ↦
       elim (cases_Bool (nat_eq s x)) [
         | inl t ↦ absurd (grind (arith, common_steps, nat_tests, f, t, same))
         | inr g ↦ queued_apart r s q (let c : list_any (nat_eq s) (x ∷ removed r q) ≡ true = subst (λ b. list_any (nat_eq s) (if not b then x ∷ removed r q else removed r q) ≡ true) f e in subst (λ b. (b || list_any (nat_eq s) (removed r q)) ≡ true) g c) same
       ]
-  ]
+]
 
 queued_before : (r s : ℕ) (q : List ℕ) → list_any (nat_eq s) (removed r q) ≡ true → list_any (nat_eq s) q ≡ true
 queued_before r s [] e = e
@@ -169,9 +169,9 @@ queued_before r s (x ∷ q) e =
     elim (cases_Bool (nat_eq s x)) [
       | inl t ↦ rw t refl
       | inr g ↦ rw g (queued_before r s q (elim (cases_Bool (r == x)) [
-          | inl t ↦ subst (λ b. list_any (nat_eq s) (if not b then x ∷ removed r q else removed r q) ≡ true) t e
-          | inr f ↦ let c : list_any (nat_eq s) (x ∷ removed r q) ≡ true = subst (λ b. list_any (nat_eq s) (if not b then x ∷ removed r q else removed r q) ≡ true) f e in subst (λ b. (b || list_any (nat_eq s) (removed r q)) ≡ true) g c
-        ]))
+        | inl t ↦ subst (λ b. list_any (nat_eq s) (if not b then x ∷ removed r q else removed r q) ≡ true) t e
+        | inr f ↦ let c : list_any (nat_eq s) (x ∷ removed r q) ≡ true = subst (λ b. list_any (nat_eq s) (if not b then x ∷ removed r q else removed r q) ≡ true) f e in subst (λ b. (b || list_any (nat_eq s) (removed r q)) ≡ true) g c
+      ]))
     ]
 
 over_kept : (r s : ℕ) (w : Option Wanted) → r ≢ s → is_some w ≡ true → is_some (if r == s then None else w) ≡ true

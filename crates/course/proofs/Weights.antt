@@ -1,8 +1,8 @@
 -- Locks that could still be got, counted.
-use Rattle.std.proofs.Common.{◌≡◌, ◌<◌, ◌≤◌, ℕ, zero, suc, ◌+◌, ◌*◌, Bool, true, false, inl, inr, refl, ap, subst, List, [], ◌∷◌, length, slice_index_or, slice_set, arith}
+use Rattle.std.proofs.Common.{◌≡◌, ◌<◌, ◌≤◌, ℕ, zero, suc, ◌*◌, Bool, true, false, inl, inr, refl, ap, subst, List, length, slice_index_or, slice_set, arith}
 use Rattle.std.specs.List.{sum_by}
-use Rattle.std.proofs.lemmas.Bool.{cases_lt, cases_Bool}
-use Rattle.std.proofs.lemmas.List.Sums.{sum_by-set, sum_by-le, sum_by-le-sum_by, sum_by-cons}
+use Rattle.std.proofs.lemmas.Bool.{cases_lt}
+use Rattle.std.proofs.lemmas.List.Sums.{sum_by-set, sum_by-le, sum_by-le-sum_by}
 use Rattle.pg_ids.specs.Modes.{every_mode}
 use Rattle.pg_ids.specs.Sets.{has}
 use Rattle.pg_ids.specs.declared.lock_mode.LockMode.{LockMode}
@@ -77,8 +77,8 @@ unheld_less n tables old new s t m stay lt low before after =
     (λ t. modes_mono (lacking n new t) (lacking n old t) (λ m. lacking_mono n old new t m stay))
     low
     (modes_less (lacking n new t) (lacking n old t) m (λ m. lacking_mono n old new t m stay)
-      (sum_less n s (λ s. of_flag (has (held_at new t m) s)) (λ s. of_flag (has (held_at old t m) s)) (λ s. flag_mono (has (held_at old t m) s) (has (held_at new t m) s) (stay s t m))
-        lt (rw (before, after) (omega arith))))
+    (sum_less n s (λ s. of_flag (has (held_at new t m) s)) (λ s. of_flag (has (held_at old t m) s)) (λ s. flag_mono (has (held_at old t m) s) (has (held_at new t m) s) (stay s t m))
+    lt (rw (before, after) (omega arith))))
 
 unheld_most : (n tables : ℕ) (held : List SessionSet) → unheld n tables held ≤ tables * (8 * (n * 1))
 unheld_most n tables held =

@@ -1,6 +1,5 @@
 -- What a statement that runs over the stores keeps, and what its answer tells.
-use Rattle.std.specs.Prelude.{◌≡◌, ◌≢◌, ℕ, ◌+◌, ◌≤◌, ◌<◌, true, List, [], ◌∷◌, ◌++◌, Option, Some, None, Result, Ok, Err, IsSome, length, slice_index_or}
-use Rattle.pg_values.specs.declared.fault.Fault.{Fault}
+use Rattle.std.specs.Prelude.{◌≡◌, ◌≤◌, ◌≢◌, ℕ, ◌+◌, ◌<◌, true, List, [], ◌∷◌, ◌++◌, Some, None, Result, Ok, Err, IsSome, length, slice_index_or}
 use Rattle.pg_ids.specs.Sets.{has}
 use Rattle.pg_ids.specs.declared.ids.TableNo.{TableNo}
 use Rattle.pg_ids.specs.declared.lock_mode.LockMode.{LockMode}
@@ -12,7 +11,7 @@ use Rattle.lock_table.specs.Stands.{IsIdle, OthersWait, SameSize}
 use Rattle.stores.specs.Stand.{Stands}
 use Rattle.stores.specs.Numbers.{IsAt}
 use Rattle.stores.specs.declared.stores.Stores.{Stores}
-use Rattle.course.specs.Made.{Made, Halt, Waits, Refused}
+use Rattle.course.specs.Made.{Made, Waits, Refused}
 use Rattle.course.specs.declared.caller.Caller.{Caller}
 use Rattle.course.specs.declared.stop.Stop.{Stop}
 use Rattle.course.specs.declared.stop.Stop.TheVariants as stop
@@ -27,6 +26,7 @@ pub record MayAttempt (stores : Stores) (caller : Caller) : Type 0 where
   pub transaction : IsSome (slice_index_or stores.txs.current caller.session None)
   pub idle : IsIdle stores.locks caller.session
   pub known : caller.session < caller.sessions
+  pub few : caller.sessions ≤ 65
   pub sessions : length stores.locks.wants ≡ caller.sessions
   pub tables : stores.locks.tables ≡ 4096
 

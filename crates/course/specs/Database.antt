@@ -1,5 +1,5 @@
 -- The run of statements over a history: what each call of a session makes of it (the manual, 13.2 and 13.3).
-use Rattle.std.specs.Prelude.{ℕ, ◌+◌, Bool, true, false, if◌then◌else◌, List, [], ◌∷◌, ◌++◌, Option, Some, None, Result, Ok, Err, is_some, replicate, slice_index_or, slice_set, codes}
+use Rattle.std.specs.Prelude.{ℕ, ◌+◌, Bool, true, false, List, [], ◌++◌, None, Result, Ok, Err, is_some, replicate, slice_index_or, slice_set, codes}
 use Rattle.pg_values.specs.declared.fault.Fault.{Fault}
 use Rattle.history.specs.History.{History, lock_events}
 use Rattle.history.specs.Locks.{wanted, queue}

@@ -1,5 +1,5 @@
 -- What a part of a statement makes of a history, and how it ends.
-use Rattle.std.specs.Prelude.{List, [], ◌++◌, Result, Ok, Err}
+use Rattle.std.specs.Prelude.{◌++◌, Result, Ok, Err}
 use Rattle.pg_values.specs.declared.fault.Fault.{Fault}
 use Rattle.history.specs.History.{History}
 

@@ -2,8 +2,8 @@ ghost use Rattle.std.specs.Prelude.{◌≡◌, ◌≤◌, IfOk, length, replicat
 ghost use Rattle.course.specs.Database.{empty};
 ghost use Rattle.course.specs.Kept.{StandsFor};
 
-use crate::seats::Seats;
 use crate::Kinds;
+use crate::seats::Seats;
 use pg_values::{Fault, NoMemory, Refusal};
 use sessions::{Asker, Executor, Outcome, Place, Role, Settings};
 use std::alloc::Global;

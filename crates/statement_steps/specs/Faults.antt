@@ -7,7 +7,7 @@ abbrev pub name_of : List (List ℕ) → ℕ → List ℕ
 name_of names s = slice_index_or names s []
 
 abbrev pub no_table : List ℕ → Fault
-no_table name = record { code = record { bytes = codes "42P01" }; args = name ∷ [] }
+no_table name = record { code = record { bytes = codes "42P01" }; args = codes "no table <t>" ∷ name ∷ [] }
 
 abbrev pub deadlock : List (List ℕ) → List ℕ → Fault
 deadlock names cycle = record { code = record { bytes = codes "40P01" }; args = map (name_of names) cycle }

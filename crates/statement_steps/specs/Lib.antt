@@ -1,3 +1,3 @@
+pub mod Faults
 pub mod Steps
 pub mod Asks
-pub mod Faults

@@ -9,6 +9,7 @@ ghost use Rattle.statement_steps.specs.Steps.{IsStep};
 use crate::SessionNames;
 use crate::faults::deadlock;
 use course::{Caller, Stop};
+use lock_answers::answer_is_told;
 use lock_table::Asked;
 use pg_ids::{LockMode, TableNo};
 use std::alloc::Global;
@@ -29,7 +30,9 @@ pub fn lock_table(
     ensures step { IsStep (λ u. u) result stores.old stores.new caller caller.cmd (asks.locked names.now caller.session table.number mode) }
     ensures rest { stores.new ≡ record stores.old { locks = stores.new.locks } }
 {
-    match stores.request(caller.session, table, mode) {
+    let answer = stores.request(caller.session, table, mode);
+    answer_is_told(&answer);
+    match answer {
         Asked::Granted => Ok(()),
         Asked::Waits { .. } => Err(Stop::Waits),
         Asked::Deadlock { cycle } => Err(Stop::Refused(deadlock(alloc, names, cycle)?)),

@@ -1,4 +1,4 @@
-use Rattle.std.proofs.Common.{◌≡◌, ◌<◌, false, refl, length, ◌∙◌, subst, slice_set, sym}
+use Rattle.std.proofs.Common.{◌<◌, false, refl, length, ◌∙◌, subst, slice_set, sym}
 use Rattle.history.specs.Transactions.{TxAborted}
 use Rattle.history.specs.History.{tx_events}
 use Rattle.stores.specs.Events.{tx_in, aborted}
@@ -20,8 +20,8 @@ adds c = ended_adds (the_view c.self.inside) c.abort.new.self c.args.session (λ
 pub invariant_of-self-2 : goal.invariant_of-self-2
 invariant_of-self-2 c = kept_after (the_view c.self.inside) (after c) (λ h. aborted h c.args.session) c.self.invariant
     (seated_after (the_view c.self.inside) c.abort.new.self _ _ _ _ _ _ c.self.invariant.seated (flags_same _ _ _) refl refl c.abort.ensures.size
-      (c.leave.ensures.known (length c.self.inside.opened.items) c.self.invariant.seated.queue)
-      (known_of (length c.abort.new.self.locks.wants) c.ready-self-inside.result (length c.self.inside.opened.items) (c.abort.ensures.size.waits ∙ c.self.invariant.seated.waits) c.ready-self-inside.ensures.known))
+    (c.leave.ensures.known (length c.self.inside.opened.items) c.self.invariant.seated.queue)
+    (known_of (length c.abort.new.self.locks.wants) c.ready-self-inside.result (length c.self.inside.opened.items) (c.abort.ensures.size.waits ∙ c.self.invariant.seated.waits) c.ready-self-inside.ensures.known))
     (adds c)
 
 pub returns-clause-adds : goal.returns-clause-adds

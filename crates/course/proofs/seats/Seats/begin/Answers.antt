@@ -1,4 +1,4 @@
-use Rattle.std.proofs.Common.{◌≡◌, ◌<◌, true, Some, refl, ap, length, subst, slice_set, sym, slice_index_or, is_some}
+use Rattle.std.proofs.Common.{◌<◌, true, refl, ap, length, subst, slice_set, sym}
 use Rattle.stores.specs.Events.{begun}
 use Rattle.stores.proofs.Commands.{begins_at_zero}
 use Rattle.course.specs.Kept.{KeptSeats, Adds}

@@ -1,6 +1,6 @@
 use Rattle.std.proofs.Common.{◌≡◌, ◌<◌, true, refl, ap, length, ◌∙◌, subst, slice_set, sym}
 use Rattle.stores.specs.Events.{withdrawn}
-use Rattle.course.specs.Kept.{KeptSeats, Adds, due_in, waits_in}
+use Rattle.course.specs.Kept.{KeptSeats, Adds, waits_in}
 use Rattle.course.specs.Weight.{slack}
 use Rattle.course.specs.contracts.seats.Seats.{the_view}
 use Rattle.course.proofs.Lower.{withdrawn_lower}
@@ -17,8 +17,8 @@ adds c = withdrawn_adds (the_view c.self.inside) c.withdraw.new.self c.args.sess
 pub invariant_of-self : goal.invariant_of-self
 invariant_of-self c = kept_after (the_view c.self.inside) (after c) (λ h. withdrawn c.args.session) c.self.invariant
     (seated_after (the_view c.self.inside) c.withdraw.new.self _ _ _ _ _ _ c.self.invariant.seated refl refl (flags_same _ _ _) c.withdraw.ensures.size
-      (c.leave.ensures.known (length c.self.inside.opened.items) c.self.invariant.seated.queue)
-      (known_of (length c.withdraw.new.self.locks.wants) c.ready-self-inside.result (length c.self.inside.opened.items) (c.withdraw.ensures.size.waits ∙ c.self.invariant.seated.waits) c.ready-self-inside.ensures.known))
+    (c.leave.ensures.known (length c.self.inside.opened.items) c.self.invariant.seated.queue)
+    (known_of (length c.withdraw.new.self.locks.wants) c.ready-self-inside.result (length c.self.inside.opened.items) (c.withdraw.ensures.size.waits ∙ c.self.invariant.seated.waits) c.ready-self-inside.ensures.known))
     (adds c)
 
 pub returns-clause-adds : goal.returns-clause-adds
@@ -27,6 +27,6 @@ returns-clause-adds c = subst (λ v. Adds v (after c) (λ h. withdrawn c.args.se
 pub returns-clause-lower : goal.returns-clause-lower
 returns-clause-lower c = subst (λ v. slack (after c) < slack v) c.self.view_is
     (withdrawn_lower (the_view c.self.inside) c.withdraw.new.self c.args.session c.leave.new.held.items c.ready-self-inside.result c.self.invariant
-      (subst (λ v. waits_in v c.args.session ≡ true) (sym c.self.view_is) c.requires.waiting)
-      (subst (λ v. c.args.session < length v.opened) (sym c.self.view_is) c.requires.known)
-      c.withdraw.ensures.good c.withdraw.ensures.size.tables)
+    (subst (λ v. waits_in v c.args.session ≡ true) (sym c.self.view_is) c.requires.waiting)
+    (subst (λ v. c.args.session < length v.opened) (sym c.self.view_is) c.requires.known)
+    c.withdraw.ensures.good c.withdraw.ensures.size.tables)

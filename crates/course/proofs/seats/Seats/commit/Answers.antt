@@ -1,4 +1,4 @@
-use Rattle.std.proofs.Common.{◌≡◌, ◌<◌, false, refl, length, ◌∙◌, subst, slice_set, sym}
+use Rattle.std.proofs.Common.{◌<◌, false, refl, length, ◌∙◌, subst, slice_set, sym}
 use Rattle.history.specs.Transactions.{TxCommitted}
 use Rattle.history.specs.History.{tx_events}
 use Rattle.stores.specs.Events.{tx_in, committed}
@@ -20,8 +20,8 @@ adds c = ended_adds (the_view c.self.inside) c.commit.new.self c.args.session (�
 pub invariant_of-self-2 : goal.invariant_of-self-2
 invariant_of-self-2 c = kept_after (the_view c.self.inside) (after c) (λ h. committed h c.args.session) c.self.invariant
     (seated_after (the_view c.self.inside) c.commit.new.self _ _ _ _ _ _ c.self.invariant.seated (flags_same _ _ _) refl refl c.commit.ensures.size
-      (c.leave.ensures.known (length c.self.inside.opened.items) c.self.invariant.seated.queue)
-      (known_of (length c.commit.new.self.locks.wants) c.ready-self-inside.result (length c.self.inside.opened.items) (c.commit.ensures.size.waits ∙ c.self.invariant.seated.waits) c.ready-self-inside.ensures.known))
+    (c.leave.ensures.known (length c.self.inside.opened.items) c.self.invariant.seated.queue)
+    (known_of (length c.commit.new.self.locks.wants) c.ready-self-inside.result (length c.self.inside.opened.items) (c.commit.ensures.size.waits ∙ c.self.invariant.seated.waits) c.ready-self-inside.ensures.known))
     (adds c)
 
 pub returns-clause-adds : goal.returns-clause-adds

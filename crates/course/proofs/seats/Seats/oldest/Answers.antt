@@ -1,4 +1,4 @@
-use Rattle.std.proofs.Common.{rules, ◌≡◌, true, Some, subst, sym, ap, ◌∙◌}
+use Rattle.std.proofs.Common.{rules, ◌≡◌, true, Some, subst}
 use Rattle.schedule.specs.Lists.{head_of}
 use Rattle.course.specs.Kept.{waits_in}
 use Rattle.course.specs.contracts.seats.Seats.{the_view}
