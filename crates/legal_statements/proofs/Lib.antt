@@ -1,5 +1,6 @@
 pub mod Adding
 pub mod Asking
+pub mod Births
 pub mod Dropping
 pub mod Following
 pub mod Holding
@@ -9,6 +10,7 @@ pub mod Marks
 pub mod Names
 pub mod Others
 pub mod Pairs
+pub mod Stays
 pub mod Storing
 pub mod There
 pub mod Trees
