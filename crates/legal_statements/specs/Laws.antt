@@ -115,3 +115,7 @@ TreesStay = (e : Event) (h : History) (session : ℕ) → LeavesTrees e → Show
 -- new row versions of one command, one after the other
 abbrev pub NewRowsMayFollow : Type 0
 NewRowsMayFollow = (h : History) (session table : ℕ) (s : TakenSnapshot) (tx cmd : ℕ) (vs : List Version) → IsLegal h → ArePermitted h → AreNewRows h session table s tx cmd vs → MayFollow (rows_born vs) h
+
+-- a table that is there may be asked for
+abbrev pub ThereIsKnown : Type 0
+ThereIsKnown = (h : History) (session t x : ℕ) → open_of (tx_events h) session ≡ Some t → HasTable h t x → IsKnown (tx_events h) (catalogue_events h) session x
