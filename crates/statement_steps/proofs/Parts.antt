@@ -1,19 +1,32 @@
 -- Single parts of a statement: nothing done, a refusal, a lock, a snapshot that is kept.
-use Rattle.std.proofs.Common.{◌≡◌, ◌≢◌, ℕ, ◌+◌, ◌<◌, ◌||◌, Bool, true, false, List, [], ◌∷◌, ◌++◌, refl, ap, sym, ◌∙◌, subst, arith, append-nil, Option, Some, None, Result, Ok, Err, map, slice_index_or}
+use Rattle.std.proofs.lemmas.List.{length-map}
+use Rattle.std.proofs.Common.{◌≡◌, ◌≢◌, ℕ, ◌+◌, ◌<◌, ◌||◌, Bool, true, false, List, [], ◌∷◌, ◌++◌, refl, ap, sym, ◌∙◌, subst, arith, append-nil, Option, Some, None, Result, Ok, Err, map, length, slice_index_or}
 use Rattle.pg_ids.specs.declared.ids.TableNo.{TableNo}
 use Rattle.pg_ids.specs.declared.lock_mode.LockMode.{LockMode}
 use Rattle.pg_ids.specs.declared.session_set.SessionSet.{SessionSet}
 use Rattle.pg_ids.specs.declared.session_list.SessionList.{SessionList}
 use Rattle.pg_ids.specs.Lists.{listed}
-use Rattle.pg_ids.specs.Sets.{sessions}
+use Rattle.pg_ids.specs.Sets.{has, sessions}
 use Rattle.pg_values.specs.declared.fault.Fault.{Fault}
 use Rattle.history.specs.declared.wait.Wanted.TheVariants.{Lock}
 use Rattle.history.specs.Locks.{queue, LockGot, WaitBegan}
-use Rattle.history.specs.History.{History, LockChange, lock_events}
+use Rattle.history.specs.Transactions.{open_of}
+use Rattle.history.specs.Snapshots.{TakenSnapshot, held_by}
+use Rattle.history.specs.History.{History, LockChange, tx_events, snapshot_events, catalogue_events, lock_events}
 use Rattle.lock_table.specs.declared.asked.Asked.{Asked}
 use Rattle.lock_table.specs.declared.asked.Asked.TheVariants.{Granted, Waits as IsBehindOthers, Deadlock}
 use Rattle.lock_table.specs.Answers.{IsAnswer, after, left_waiting}
-use Rattle.lock_table.specs.Stands.{OthersWait, SameSize}
+use Rattle.lock_table.specs.Kept.{held_at}
+use Rattle.lock_table.specs.Stands.{IsIdle, OthersWait, SameSize}
+use Rattle.stores.specs.Events.{held, held_first, look_of}
+use Rattle.stores.proofs.Goodness.{legal_of}
+use Rattle.stores.proofs.Meanwhile.{looks_keep_numbers}
+use Rattle.soundness.specs.Parts.{IsKnown}
+use Rattle.legal_statements.specs.Laws.{NamedIsThere}
+use Rattle.part_catalog.specs.Found.{resolved, is_meant, table_number}
+use Rattle.part_catalog.specs.Names.{last_below}
+use Rattle.part_catalog.specs.Kept.{table_in}
+use Rattle.part_catalog.proofs.Found.{last_is}
 use Rattle.stores.specs.Stand.{AllStand, Stands, IsSameSize}
 use Rattle.stores.specs.Numbers.{IsAt}
 use Rattle.stores.specs.declared.stores.Stores.{Stores}
@@ -25,6 +38,7 @@ use Rattle.course.specs.declared.caller.Caller.{Caller}
 use Rattle.course.specs.declared.stop.Stop.{Stop}
 use Rattle.course.specs.declared.stop.Stop.TheVariants as stop
 use Rattle.course.proofs.Numbers.{at_lock, one_later}
+use Rattle.statement_steps.proofs.Known.{some_of, has_known}
 use Rattle.statement_steps.specs.Faults.{deadlock}
 use Rattle.statement_steps.specs.Asks.{told_of, locked}
 use Rattle.statement_steps.specs.Steps.{IsTold, IsHalted, IsStep}
@@ -173,3 +187,49 @@ closing_step names old new caller t m cycle f is_fault may asked = record {
 pub asked_and_out : {X T : Type 0} (see : X → T) (old new : Stores) (caller : Caller) (t : TableNo) (m : LockMode) (answer : Asked) (n : ℕ) (f : History → Made T) → MayAttempt old caller → HasAsked old new caller t m answer
     → IsStep see (Err stop.NoMemory) old new caller n f
 asked_and_out see old new caller t m answer n f may asked = no_memory see old new caller n f (asked_keeps old new caller t m answer may asked)
+
+-- ---- a snapshot that is kept
+
+held_first_locks : (o : Option TakenSnapshot) (s : ℕ) (snap : TakenSnapshot) (h : History) → lock_events (held_first o s snap ++ h) ≡ lock_events h
+held_first_locks None s snap h = refl
+held_first_locks (Some old) s snap h = refl
+
+pub own_tx : (stores : Stores) (caller : Caller) (h : History) → MayAttempt stores caller → Stands stores h → (t : ℕ) × (open_of (tx_events h) caller.session ≡ Some t)
+own_tx stores caller h may stands = let t = some_of (slice_index_or stores.txs.current caller.session None) may.transaction in (t.0, sym (stands.all.txs.current caller.session) ∙ t.1)
+
+pub locks_same : (old new : Stores) (s : ℕ) → new.txs.current ≡ old.txs.current → new.locks ≡ old.locks → GoesOn old new s
+locks_same old new s txs locks = record {
+  transactions = txs;
+  locks = λ r t m e. ap (λ l. has (held_at l.held t m) r) locks ∙ e;
+  others = λ r other. ap (λ l. slice_index_or l.wants r None) locks;
+  size = record { sessions = ap (λ l. length l.wants) locks; tables = ap (λ l. l.tables) locks };
+}
+
+pub held_step : (old new : Stores) (caller : Caller) → MayAttempt old caller → ((h : History) → Stands old h → IsAt h caller.session caller.cmd → Stands new (held h caller.session caller.cmd ++ h))
+    → new.txs.current ≡ old.txs.current → new.locks ≡ old.locks → IsStep (λ (u : Unit {0}). u) (Ok tt) old new caller caller.cmd (λ h. made (held h caller.session caller.cmd) tt)
+held_step old new caller may good txs locks = record {
+  is = λ h stands at.
+      let own = own_tx old caller h may stands in
+      (refl, record {
+          stands = good h stands at;
+          at = (looks_keep_numbers h caller.session caller.session own.0 caller.cmd caller.cmd stands.good at own.1 (λ same. omega arith)).1;
+          others = λ r c other is. (looks_keep_numbers h caller.session r own.0 caller.cmd c stands.good is own.1 (λ same. absurd (other (sym same)))).1;
+          queue = ap queue (held_first_locks (held_by (snapshot_events h) caller.session) caller.session (look_of h caller.session caller.cmd) h) ∙ sym (append-nil (queue (lock_events h)));
+        });
+  keeps = locks_same old new caller.session txs locks;
+  waits = subst (λ l. IsIdle l caller.session) (sym locks) may.idle;
+}
+
+-- ---- a table by its name
+
+pub found_below : (stores : Stores) (h : History) (s k : ℕ) (name : List ℕ) → Stands stores h → resolved h s name ≡ Some k → k < length stores.catalog.tables
+found_below stores h s k name stands e =
+    let low = last_is (is_meant h s name) (table_number h) k e in
+    let count = sym (length-map table_in stores.catalog.tables) ∙ ap length stands.all.catalog.tables in
+    omega (arith, low.0, count)
+
+pub found_known : (stores : Stores) (caller : Caller) (h : History) (k : ℕ) (name : List ℕ) → NamedIsThere → MayAttempt stores caller → Stands stores h → resolved h caller.session name ≡ Some k
+    → IsKnown (tx_events h) (catalogue_events h) caller.session k
+found_known stores caller h k name law may stands e =
+    let own = own_tx stores caller h may stands in
+    has_known h caller.session own.0 k own.1 (law h caller.session own.0 k name (legal_of h stands.good) own.1 e)

@@ -10,6 +10,7 @@ ghost use Rattle.statement_steps.specs.Steps.{IsStep};
 use crate::faults::no_table;
 use crate::lock_table;
 use course::{Caller, Stop};
+use legal_statements::named_is_there;
 use pg_ids::{LockMode, TableNo};
 use pg_values::{NoMemory, PgText};
 use std::alloc::Global;
@@ -67,6 +68,7 @@ pub fn find_table(
     ensures known { IfOk result (λ t. t.number < length stores.now.catalog.tables) }
     ensures there { IfOk result (λ t. (h : History) → Stands stores.now h → IsKnown (tx_events h) (catalogue_events h) caller.session t.number) }
 {
+    named_is_there();
     match stores.catalog.resolve(&stores.txs, caller.session, name) {
         Some(table) => Ok(table),
         None => Err(Stop::Refused(no_table(alloc, name)?)),
