@@ -1,14 +1,17 @@
 pub mod Adding
 pub mod Asking
+pub mod Births
 pub mod Dropping
 pub mod Following
 pub mod Holding
+pub mod Known
 pub mod Making
 pub mod Marking
 pub mod Marks
 pub mod Names
 pub mod Others
 pub mod Pairs
+pub mod Stays
 pub mod Storing
 pub mod There
 pub mod Trees

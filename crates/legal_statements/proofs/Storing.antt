@@ -36,11 +36,11 @@ sees_what_counts h session s legal look t c seen =
 pub new_row_may_follow : NewRowMayFollow
 new_row_may_follow h session table s v legal permitted new = (
   record {
-    legal = record { number = new.number; leaf = new.leaf; by = session_runs h session v.by.number legal new.own };
+    legal = record { number = new.number; leaf = new.stored.leaf; by = session_runs h session v.by.number legal new.own };
     in_order = new.command;
     permitted = record {
-      locked = λ x at. writes_of h session v.by.number x legal new.own (new.locked x at);
-      routed = λ x at. routed_by_sight h session v.by.number table x s v.leaf v.row legal permitted (sees_what_counts h session s legal new.look) new.own new.made new.placed new.routed at;
+      locked = λ x at. writes_of h session v.by.number x legal new.own (new.stored.locked x at);
+      routed = λ x at. routed_by_sight h session v.by.number table x s v.leaf v.row legal permitted (sees_what_counts h session s legal new.look) new.own new.made new.stored.placed new.stored.routed at;
     };
   },
   tt,

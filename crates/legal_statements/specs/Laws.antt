@@ -30,7 +30,8 @@ use Rattle.legal_statements.specs.Below.{numbers_from, IsWholeTree}
 use Rattle.legal_statements.specs.Locked.{IsOwned, IsGuarded}
 use Rattle.legal_statements.specs.Drops.{IsDrop, entries_end, tables_go, IsTableDrop, table_drop}
 use Rattle.legal_statements.specs.Entries.{IsNewPartition, IsAttached, IsNewMark}
-use Rattle.legal_statements.specs.Rows.{IsNewRow, IsOldRow}
+use Rattle.legal_statements.specs.Rows.{IsNewRow, IsOldRow, AreNewRows, rows_born}
+use Rattle.legal_statements.specs.Stays.{LeavesTrees, ShowsTheSame}
 use Rattle.legal_statements.specs.Tables.{LeavesAreThere, MakesNoLeaf, IsNewTable, IsNextLeaf, leaf_table, level_table}
 
 -- with events that may follow the history is as it was: legal, and each event permitted
@@ -106,3 +107,15 @@ TreeIsWhole = (h : History) (session t top : ℕ) → IsLegal h → ArePermitted
 -- so a DROP TABLE of the whole tree may follow
 abbrev pub TableDropMayFollow : Type 0
 TableDropMayFollow = (h : History) (session table : ℕ) (s : Stamp) → IsLegal h → ArePermitted h → IsTableDrop h session table s → MayFollow (table_drop h session table s) h
+
+-- events of rows, locks and snapshots change no tree and no path
+abbrev pub TreesStay : Type 0
+TreesStay = (e : Event) (h : History) (session : ℕ) → LeavesTrees e → ShowsTheSame e h session
+
+-- new row versions of one command, one after the other
+abbrev pub NewRowsMayFollow : Type 0
+NewRowsMayFollow = (h : History) (session table : ℕ) (s : TakenSnapshot) (tx cmd : ℕ) (vs : List Version) → IsLegal h → ArePermitted h → AreNewRows h session table s tx cmd vs → MayFollow (rows_born vs) h
+
+-- a table that is there may be asked for
+abbrev pub ThereIsKnown : Type 0
+ThereIsKnown = (h : History) (session t x : ℕ) → open_of (tx_events h) session ≡ Some t → HasTable h t x → IsKnown (tx_events h) (catalogue_events h) session x

@@ -5,4 +5,5 @@ pub mod Follows
 pub mod Laws
 pub mod Locked
 pub mod Rows
+pub mod Stays
 pub mod Tables

@@ -1,4 +1,4 @@
-ghost use Rattle.legal_statements.specs.Laws.{FollowedIsLegal, AskedMayFollow, NewRowMayFollow, OldRowMayFollow, NewLeafMayFollow, NewLevelMayFollow, LeavesStayThere, NobodyElseDrops, NobodyElseEnds, DropMayFollow, NewPartitionMayFollow, AttachMayFollow, NobodyElseMarks, MarkMayFollow, ListedIsThere, NamedIsThere, TreeIsWhole, TableDropMayFollow};
+ghost use Rattle.legal_statements.specs.Laws.{FollowedIsLegal, AskedMayFollow, NewRowMayFollow, OldRowMayFollow, NewLeafMayFollow, NewLevelMayFollow, LeavesStayThere, NobodyElseDrops, NobodyElseEnds, DropMayFollow, NewPartitionMayFollow, AttachMayFollow, NobodyElseMarks, MarkMayFollow, ListedIsThere, NamedIsThere, TreeIsWhole, TableDropMayFollow, TreesStay, NewRowsMayFollow, ThereIsKnown};
 
 /// A legal history with permitted events stays one when events come that may follow it.
 pub fn followed_is_legal()
@@ -91,4 +91,19 @@ pub fn tree_is_whole()
 /// A table and all below it may be dropped, once the entries of all of them have ended.
 pub fn table_drop_may_follow()
     ensures { TableDropMayFollow }
+{}
+
+/// Events of rows, locks and snapshots change no tree and no path.
+pub fn trees_stay()
+    ensures { TreesStay }
+{}
+
+/// Many rows may be stored by one command, one after the other.
+pub fn new_rows_may_follow()
+    ensures { NewRowsMayFollow }
+{}
+
+/// A session may ask for a lock on a table that is there for its transaction.
+pub fn there_is_known()
+    ensures { ThereIsKnown }
 {}

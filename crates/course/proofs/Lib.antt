@@ -1,0 +1,6 @@
+mod Lower
+pub mod Numbers
+mod Runs
+mod Steps
+mod Waiting
+mod Weights

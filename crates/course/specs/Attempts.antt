@@ -1,0 +1,68 @@
+-- What a statement that runs over the stores keeps, and what its answer tells.
+use Rattle.std.specs.Prelude.{◌≡◌, ◌≤◌, ◌≢◌, ℕ, ◌+◌, ◌<◌, true, List, [], ◌∷◌, ◌++◌, Some, None, Result, Ok, Err, IsSome, length, slice_index_or}
+use Rattle.pg_ids.specs.Sets.{has}
+use Rattle.pg_ids.specs.declared.ids.TableNo.{TableNo}
+use Rattle.pg_ids.specs.declared.lock_mode.LockMode.{LockMode}
+use Rattle.history.specs.declared.wait.Wanted.TheVariants.{Lock}
+use Rattle.history.specs.Locks.{queue}
+use Rattle.history.specs.History.{History, lock_events}
+use Rattle.lock_table.specs.Kept.{held_at}
+use Rattle.lock_table.specs.Stands.{IsIdle, OthersWait, SameSize}
+use Rattle.stores.specs.Stand.{Stands}
+use Rattle.stores.specs.Numbers.{IsAt}
+use Rattle.stores.specs.declared.stores.Stores.{Stores}
+use Rattle.course.specs.Made.{Made, Waits, Refused}
+use Rattle.course.specs.declared.caller.Caller.{Caller}
+use Rattle.course.specs.declared.stop.Stop.{Stop}
+use Rattle.course.specs.declared.stop.Stop.TheVariants as stop
+
+-- the stores stand for a history in which the commands of the session's transaction are below that number
+abbrev pub AreSound : Stores → (session cmd : ℕ) → Type 0
+AreSound stores s n = (h : History) × Stands stores h × IsAt h s n
+
+-- the session has a transaction and does not wait, and there is a place for it and for each table
+pub record MayAttempt (stores : Stores) (caller : Caller) : Type 0 where
+  pub sound : AreSound stores caller.session caller.cmd
+  pub transaction : IsSome (slice_index_or stores.txs.current caller.session None)
+  pub idle : IsIdle stores.locks caller.session
+  pub known : caller.session < caller.sessions
+  pub few : caller.sessions ≤ 65
+  pub sessions : length stores.locks.wants ≡ caller.sessions
+  pub tables : stores.locks.tables ≡ 4096
+
+-- the history went on from the earlier one: the session's next command has that number, those of others keep theirs, and
+-- these sessions wait behind those that waited before
+pub record WentOn (earlier : History) (session cmd : ℕ) (waiting : List ℕ) (stores : Stores) (h : History) : Type 0 where
+  pub stands : Stands stores h
+  pub at : IsAt h session cmd
+  pub others : (s n : ℕ) → s ≢ session → IsAt earlier s n → IsAt h s n
+  pub queue : queue (lock_events h) ≡ queue (lock_events earlier) ++ waiting
+
+-- want of memory apart, what came of it is what is told; a statement that is done prints, and counts as a command
+abbrev pub IsAttempt : Result (Unit {0}) Stop → Stores → (before after : List ℕ) → Caller → History → Made (List ℕ) → Type 0
+IsAttempt (Ok u) new before after caller h m = (text : List ℕ) × (m.told ≡ Ok text) × (after ≡ before ++ text) × WentOn h caller.session (caller.cmd + 1) [] new (m.events ++ h)
+IsAttempt (Err stop.Waits) new before after caller h m = (m.told ≡ Err Waits) × (after ≡ before) × WentOn h caller.session caller.cmd (caller.session ∷ []) new (m.events ++ h)
+IsAttempt (Err (stop.Refused f)) new before after caller h m = (m.told ≡ Err (Refused f)) × (after ≡ before) × WentOn h caller.session (caller.cmd + 1) [] new (m.events ++ h)
+IsAttempt (Err stop.NoMemory) new before after caller h m = Unit {0}
+
+-- nobody loses a lock
+abbrev pub LocksStay : (old new : Stores) → Type 0
+LocksStay old new = (s t : ℕ) (m : LockMode) → has (held_at old.locks.held t m) s ≡ true → has (held_at new.locks.held t m) s ≡ true
+
+-- each session keeps its transaction and its locks, the others their waits
+pub record GoesOn (old new : Stores) (session : ℕ) : Type 0 where
+  pub transactions : new.txs.current ≡ old.txs.current
+  pub locks : LocksStay old new
+  pub others : OthersWait session old.locks new.locks
+  pub size : SameSize old.locks new.locks
+
+-- the session waits for a lock
+abbrev pub WaitsForLock : Stores → (session : ℕ) → Type 0
+WaitsForLock stores s = (table : TableNo) × (m : LockMode) × (slice_index_or stores.locks.wants s None ≡ Some (Lock table m))
+
+-- it does just where the answer says so
+abbrev pub IsHalt : Result (Unit {0}) Stop → Stores → (session : ℕ) → Type 0
+IsHalt (Ok u) stores s = IsIdle stores.locks s
+IsHalt (Err stop.Waits) stores s = WaitsForLock stores s
+IsHalt (Err (stop.Refused f)) stores s = IsIdle stores.locks s
+IsHalt (Err stop.NoMemory) stores s = Unit {0}

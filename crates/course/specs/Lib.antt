@@ -1,0 +1,7 @@
+pub mod Made
+pub mod Words
+pub mod Database
+pub mod Attempts
+pub mod Kept
+pub mod Weight
+pub mod Ran

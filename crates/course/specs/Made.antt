@@ -1,0 +1,32 @@
+-- What a part of a statement makes of a history, and how it ends.
+use Rattle.std.specs.Prelude.{◌++◌, Result, Ok, Err}
+use Rattle.pg_values.specs.declared.fault.Fault.{Fault}
+use Rattle.history.specs.History.{History}
+
+-- it stops: it has to wait, and will begin anew; or it is refused
+pub data Halt : Type 0 where
+  Waits : Halt
+  Refused : Fault → Halt
+
+-- the events, the newest first, and what comes of them
+pub record Made (T : Type 0) : Type 0 where
+  pub events : History
+  pub told : Result T Halt
+
+abbrev pub made : {T : Type 0} → History → T → Made T
+made events x = record { events = events; told = Ok x }
+
+abbrev pub halted : {T : Type 0} → History → Halt → Made T
+halted events stop = record { events = events; told = Err stop }
+
+-- a part behind another one, whose events are given
+abbrev pub behind : {T : Type 0} → History → Made T → Made T
+behind events m = record { events = m.events ++ events; told = m.told }
+
+-- a part that goes on from what the one before it gave, and at the history that it left
+abbrev pub then_told : {T U : Type 0} → Result T Halt → History → (T → Made U) → Made U
+then_told (Ok x) events next = behind events (next x)
+then_told (Err stop) events next = halted events stop
+
+abbrev pub and_then : {T U : Type 0} → Made T → (T → Made U) → Made U
+and_then m next = then_told m.told m.events next

@@ -1,0 +1,19 @@
+-- What statements mean, as pure functions of what has happened.
+use Rattle.std.specs.Prelude.{ℕ, Bool, List, Option, Result}
+use Rattle.pg_values.specs.declared.fault.Fault.{Fault}
+use Rattle.history.specs.History.{History}
+use Rattle.sessions.specs.declared.asker.Place.{Place}
+use Rattle.sessions.specs.declared.role.Role.{Role}
+use Rattle.sessions.specs.declared.settings.Settings.{Settings}
+use Rattle.course.specs.Made.{Made}
+use Rattle.course.specs.declared.caller.Caller.{Caller}
+
+-- O are the options of a run, T statements
+pub record Words (O T : Type 0) : Type 0 where
+  pub parsed : List ℕ → Result (List T) Fault  -- the statements of a block
+  pub role : T → Role
+  pub looks : T → Bool  -- it takes a snapshot
+  pub misplaced : Place → T → Option Fault  -- why it may not stand there
+  pub set : Settings → T → Result Settings Fault  -- the settings after a SET or RESET
+  pub attempted : O → Caller → History → Settings → T → Made (List ℕ)  -- from the beginning up to a wait or its end, and what it prints
+  pub fault_text : Fault → List ℕ

@@ -1,0 +1,88 @@
+ghost use Rattle.std.specs.Prelude.{◌≡◌};
+
+use crate::{Caller, Stop};
+use pg_values::{Fault, NoMemory, Refusal};
+use sessions::{Place, Role, Settings};
+use std::alloc::Global;
+use stores::Stores;
+
+/// The statements that there are: how a block is read, and what each does to the stores.
+pub trait Kinds: Sized + Drop {
+    ghost use Rattle.std.specs.Prelude.{◌≡◌, ◌≤◌, ◌<◌, ◌++◌, ℕ, List, IfOk, OnOk, length, map};
+    ghost use Rattle.history.specs.History.{History};
+    ghost use Rattle.sessions.specs.Answers.{IsAnswerBy};
+    ghost use Rattle.stores.specs.Stand.{Stands};
+    ghost use Rattle.stores.specs.Numbers.{IsAt};
+    ghost use Rattle.course.specs.Words.{Words};
+    ghost use Rattle.course.specs.Attempts.{MayAttempt, IsAttempt, IsHalt, GoesOn};
+
+    type Statement: Drop;
+
+    /// What contracts see of a statement.
+    ghost Tree: { Type 0 };
+
+    ghost tree: { Self.Statement → Tree };
+
+    /// What a run is told beside its script.
+    ghost Options: { Type 0 };
+
+    ghost options: { Self → Options };
+
+    /// What statements mean.
+    ghost words: { Words Options Tree };
+
+    /// The most statements of a block.
+    ghost most_statements: { ℕ };
+
+    fn copy(&self, alloc: Global) -> Result<Self, NoMemory>
+        ensures { IfOk result (λ k. options k ≡ options self.now) };
+
+    /// The statements of a block.
+    fn parse(alloc: Global, text: &[u8]) -> Result<Vec<Self::Statement>, Refusal>
+        ensures is { IsAnswerBy (λ ts. map tree ts.items) result (words.parsed text.now) }
+        ensures few { IfOk result (λ ts. length ts.items ≤ most_statements) };
+
+    fn role(statement: &Self::Statement) -> Role
+        ensures { result ≡ words.role (tree statement.now) };
+
+    /// Whether the statement takes a snapshot.
+    fn looks(statement: &Self::Statement) -> bool
+        ensures { result ≡ words.looks (tree statement.now) };
+
+    /// Why the statement may not stand there.
+    fn misplaced(
+        alloc: Global,
+        place: Place,
+        statement: &Self::Statement,
+    ) -> Result<Option<Fault>, NoMemory>
+        ensures { IfOk result (λ f. f ≡ words.misplaced place (tree statement.now)) };
+
+    /// The settings after a SET or a RESET.
+    fn set(
+        alloc: Global,
+        settings: Settings,
+        statement: &Self::Statement,
+    ) -> Result<Settings, Refusal>
+        ensures { IsAnswerBy (λ g. g) result (words.set settings (tree statement.now)) };
+
+    /// A statement from its beginning up to its end or to a wait for a lock: it appends what it prints
+    /// where it is done, and prints nothing else.
+    fn attempt(
+        &self,
+        alloc: Global,
+        stores: &mut Stores,
+        caller: Caller,
+        settings: Settings,
+        statement: &Self::Statement,
+        out: &mut Vec<u8>,
+    ) -> Result<(), Stop>
+        requires { MayAttempt stores.old caller }
+        ensures is { (h : History) → Stands stores.old h → IsAt h caller.session caller.cmd →
+            IsAttempt result stores.new out.old.items out.new.items caller h (words.attempted (options self.now) caller h settings (tree statement.now)) }
+        ensures keeps { GoesOn stores.old stores.new caller.session }
+        ensures waits { IsHalt result stores.new caller.session };
+
+    /// Appends the code and the text of a fault.
+    fn write_fault(alloc: Global, fault: &Fault, out: &mut Vec<u8>) -> Result<(), NoMemory>
+        ensures { OnOk result (out.new.items ≡ out.old.items ++ words.fault_text fault.now) };
+}

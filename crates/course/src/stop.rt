@@ -1,0 +1,25 @@
+use pg_values::{Fault, NoMemory, Refusal};
+
+/// Why a statement does not go on.
+#[derive(Debug, Drop)]
+pub enum Stop {
+    /// It has to wait, and begins anew when its wait is over.
+    Waits,
+    Refused(Fault),
+    NoMemory,
+}
+
+impl From<NoMemory> for Stop {
+    fn from(_: NoMemory) -> Self {
+        Stop::NoMemory
+    }
+}
+
+impl From<Refusal> for Stop {
+    fn from(refusal: Refusal) -> Self {
+        match refusal {
+            Refusal::Sql(fault) => Stop::Refused(fault),
+            Refusal::NoMemory => Stop::NoMemory,
+        }
+    }
+}

@@ -1,0 +1,235 @@
+-- Single parts of a statement: nothing done, a refusal, a lock, a snapshot that is kept.
+use Rattle.std.proofs.lemmas.List.{length-map}
+use Rattle.std.proofs.Common.{◌≡◌, ◌≢◌, ℕ, ◌+◌, ◌<◌, ◌||◌, Bool, true, false, List, [], ◌∷◌, ◌++◌, refl, ap, sym, ◌∙◌, subst, arith, append-nil, Option, Some, None, Result, Ok, Err, map, length, slice_index_or}
+use Rattle.pg_ids.specs.declared.ids.TableNo.{TableNo}
+use Rattle.pg_ids.specs.declared.lock_mode.LockMode.{LockMode}
+use Rattle.pg_ids.specs.declared.session_set.SessionSet.{SessionSet}
+use Rattle.pg_ids.specs.declared.session_list.SessionList.{SessionList}
+use Rattle.pg_ids.specs.Lists.{listed}
+use Rattle.pg_ids.specs.Sets.{has, sessions}
+use Rattle.pg_values.specs.declared.fault.Fault.{Fault}
+use Rattle.history.specs.declared.wait.Wanted.TheVariants.{Lock}
+use Rattle.history.specs.Locks.{queue, LockGot, WaitBegan}
+use Rattle.history.specs.Transactions.{open_of}
+use Rattle.history.specs.Snapshots.{TakenSnapshot, held_by}
+use Rattle.history.specs.History.{History, LockChange, tx_events, snapshot_events, catalogue_events, lock_events}
+use Rattle.lock_table.specs.declared.asked.Asked.{Asked}
+use Rattle.lock_table.specs.declared.asked.Asked.TheVariants.{Granted, Waits as IsBehindOthers, Deadlock}
+use Rattle.lock_table.specs.Answers.{IsAnswer, after, left_waiting}
+use Rattle.lock_table.specs.Kept.{held_at}
+use Rattle.lock_table.specs.Stands.{IsIdle, OthersWait, SameSize}
+use Rattle.stores.specs.Events.{held, held_first, look_of}
+use Rattle.stores.proofs.Goodness.{legal_of}
+use Rattle.stores.proofs.Meanwhile.{looks_keep_numbers}
+use Rattle.soundness.specs.Parts.{IsKnown}
+use Rattle.legal_statements.specs.Laws.{NamedIsThere}
+use Rattle.part_catalog.specs.Found.{resolved, is_meant, table_number}
+use Rattle.part_catalog.specs.Names.{last_below}
+use Rattle.part_catalog.specs.Kept.{table_in}
+use Rattle.part_catalog.proofs.Found.{last_is}
+use Rattle.stores.specs.Stand.{AllStand, Stands, IsSameSize}
+use Rattle.stores.specs.Numbers.{IsAt}
+use Rattle.stores.specs.declared.stores.Stores.{Stores}
+use Rattle.lock_answers.specs.Laws.{AnswerIsTold, HistoryIsTold}
+use Rattle.lock_answers.specs.Asked.{asked, asked_view, asked_events, asked_history, AskedView, AtOnce, WaitsBehind, ClosesCycle}
+use Rattle.course.specs.Made.{Made, Waits, Refused, made, halted}
+use Rattle.course.specs.Attempts.{MayAttempt, WentOn, GoesOn, LocksStay}
+use Rattle.course.specs.declared.caller.Caller.{Caller}
+use Rattle.course.specs.declared.stop.Stop.{Stop}
+use Rattle.course.specs.declared.stop.Stop.TheVariants as stop
+use Rattle.course.proofs.Numbers.{at_lock, one_later}
+use Rattle.statement_steps.proofs.Known.{some_of, has_known}
+use Rattle.statement_steps.specs.Faults.{deadlock}
+use Rattle.statement_steps.specs.Asks.{told_of, locked}
+use Rattle.statement_steps.specs.Steps.{IsTold, IsHalted, IsStep}
+
+-- ---- nothing is done
+
+pub stays : (stores : Stores) (s : ℕ) → GoesOn stores stores s
+stays stores s = record {
+  transactions = refl;
+  locks = λ r t m e. e;
+  others = λ r other. refl;
+  size = record { sessions = refl; tables = refl };
+}
+
+pub still_on : (stores : Stores) (h : History) (s n : ℕ) → Stands stores h → IsAt h s n → WentOn h s n [] stores h
+still_on stores h s n stands at = record { stands = stands; at = at; others = λ r c other is. is; queue = sym (append-nil (queue (lock_events h))) }
+
+pub nothing_done : {X T : Type 0} (see : X → T) (x : X) (stores : Stores) (caller : Caller) (f : History → Made T) → MayAttempt stores caller
+    → ((h : History) → Stands stores h → f h ≡ made [] (see x)) → IsStep see (Ok x) stores stores caller caller.cmd f
+nothing_done see x stores caller f may is = record {
+  is = λ h stands at. subst (IsTold see (Ok x) stores caller caller.cmd h) (sym (is h stands)) (refl, still_on stores h caller.session caller.cmd stands at);
+  keeps = stays stores caller.session;
+  waits = may.idle;
+}
+
+pub refused_here : {X T : Type 0} (see : X → T) (fault : Fault) (stores : Stores) (caller : Caller) (n : ℕ) (f : History → Made T) → MayAttempt stores caller
+    → ((h : History) → Stands stores h → f h ≡ halted [] (Refused fault)) → IsStep see (Err (stop.Refused fault)) stores stores caller n f
+refused_here see fault stores caller n f may is = record {
+  is = λ h stands at. subst (IsTold see (Err (stop.Refused fault)) stores caller n h) (sym (is h stands)) (refl, still_on stores h caller.session (caller.cmd + 1) stands (one_later h caller.session caller.cmd at));
+  keeps = stays stores caller.session;
+  waits = may.idle;
+}
+
+-- memory ran out: nothing but what the caller sees is told
+pub no_memory : {X T : Type 0} (see : X → T) (old new : Stores) (caller : Caller) (n : ℕ) (f : History → Made T) → GoesOn old new caller.session → IsStep see (Err stop.NoMemory) old new caller n f
+no_memory see old new caller n f keeps = record { is = λ h stands at. tt; keeps = keeps; waits = tt }
+
+-- ---- a lock
+
+or_right : (a b : Bool) → b ≡ true → (a || b) ≡ true
+or_right true b e = refl
+or_right false b e = e
+
+-- what is told of an answer
+told_at_once : (names : List (List ℕ)) (events : History) (v : AskedView) → AtOnce ≡ v → told_of names events v ≡ made events tt
+told_at_once names events v e = ap (told_of names events) (sym e)
+
+told_waits : (names : List (List ℕ)) (events : History) (others : List ℕ) (v : AskedView) → WaitsBehind others ≡ v → told_of names events v ≡ halted events Waits
+told_waits names events others v e = ap (told_of names events) (sym e)
+
+told_closes : (names : List (List ℕ)) (events : History) (cycle : List ℕ) (v : AskedView) → ClosesCycle cycle ≡ v → told_of names events v ≡ halted events (Refused (deadlock names cycle))
+told_closes names events cycle v e = ap (told_of names events) (sym e)
+
+-- what the stores say of the request
+pub record HasAsked (old new : Stores) (caller : Caller) (t : TableNo) (m : LockMode) (answer : Asked) : Type 0 where
+  pub good : (h : History) → Stands old h → Stands new (after caller.session (Lock t m) answer h)
+  pub view : (h : History) → Stands old h → asked_view answer ≡ asked (lock_events h) caller.session (Lock t m)
+  pub history : (h : History) → Stands old h → after caller.session (Lock t m) answer h ≡ asked_history h caller.session (Lock t m)
+  pub waits : slice_index_or new.locks.wants caller.session None ≡ left_waiting (Lock t m) answer
+  pub others : OthersWait caller.session old.locks new.locks
+  pub size : SameSize old.locks new.locks
+  pub rest : new ≡ record old { locks = new.locks }
+
+pub has_asked : (old new : Stores) (caller : Caller) (t : TableNo) (m : LockMode) (answer : Asked) → MayAttempt old caller
+    → ((h : History) → Stands old h → Stands new (after caller.session (Lock t m) answer h)) → ((h : History) → AllStand old h → IsAnswer (lock_events h) caller.session (Lock t m) answer)
+    → AnswerIsTold answer → HistoryIsTold answer → slice_index_or new.locks.wants caller.session None ≡ left_waiting (Lock t m) answer → OthersWait caller.session old.locks new.locks → IsSameSize old new
+    → new ≡ record old { locks = new.locks } → HasAsked old new caller t m answer
+has_asked old new caller t m answer may good is view history waits others size rest =
+    let low : caller.session < 128 = omega (arith, may.known, may.few) in
+    record {
+      good = good;
+      view = λ h stands. view (lock_events h) caller.session (Lock t m) stands.all.locks.sound low (is h stands.all);
+      history = λ h stands. history h caller.session (Lock t m) stands.all.locks.sound low (is h stands.all);
+      waits = waits;
+      others = others;
+      size = record { sessions = size.waits; tables = size.tables };
+      rest = rest;
+    }
+
+-- nobody loses a lock by it
+asked_stay : (old new : Stores) (caller : Caller) (t : TableNo) (m : LockMode) (answer : Asked) (h : History) → HasAsked old new caller t m answer → Stands old h → LocksStay old new
+asked_stay old new caller t m Granted h asked stands r k n e =
+    let before = stands.all.locks.tells.held r k n in
+    let now = (asked.good h stands).all.locks.tells.held r k n in
+    now ∙ or_right _ _ (sym before ∙ e)
+asked_stay old new caller t m (IsBehindOthers behind) h asked stands r k n e = (asked.good h stands).all.locks.tells.held r k n ∙ (sym (stands.all.locks.tells.held r k n) ∙ e)
+asked_stay old new caller t m (Deadlock cycle) h asked stands r k n e = (asked.good h stands).all.locks.tells.held r k n ∙ (sym (stands.all.locks.tells.held r k n) ∙ e)
+
+asked_keeps : (old new : Stores) (caller : Caller) (t : TableNo) (m : LockMode) (answer : Asked) → MayAttempt old caller → HasAsked old new caller t m answer → GoesOn old new caller.session
+asked_keeps old new caller t m answer may asked = record {
+  transactions = ap (λ s. s.txs.current) asked.rest;
+  locks = asked_stay old new caller t m answer may.sound.0 asked may.sound.1;
+  others = asked.others;
+  size = asked.size;
+}
+
+pub granted_step : (names : List (List ℕ)) (old new : Stores) (caller : Caller) (t : TableNo) (m : LockMode) → MayAttempt old caller → HasAsked old new caller t m Granted
+    → IsStep (λ (u : Unit {0}). u) (Ok tt) old new caller caller.cmd (locked names caller.session t.number m)
+granted_step names old new caller t m may asked = record {
+  is = λ h stands at.
+      let events = map LockChange (asked_events (lock_events h) caller.session (Lock t m)) in
+      subst (IsTold (λ (u : Unit {0}). u) (Ok tt) new caller caller.cmd h) (sym (told_at_once names events _ (asked.view h stands)))
+        (refl, subst (WentOn h caller.session caller.cmd [] new) (asked.history h stands) (record {
+            stands = asked.good h stands;
+            at = at_lock (LockGot caller.session t.number m) h caller.session caller.cmd at;
+            others = λ r c other is. at_lock (LockGot caller.session t.number m) h r c is;
+            queue = sym (append-nil (queue (lock_events h)));
+          }));
+  keeps = asked_keeps old new caller t m Granted may asked;
+  waits = asked.waits;
+}
+
+pub waiting_step : (names : List (List ℕ)) (old new : Stores) (caller : Caller) (t : TableNo) (m : LockMode) (behind : SessionSet) → MayAttempt old caller → HasAsked old new caller t m (IsBehindOthers behind)
+    → IsStep (λ (u : Unit {0}). u) (Err stop.Waits) old new caller caller.cmd (locked names caller.session t.number m)
+waiting_step names old new caller t m behind may asked = record {
+  is = λ h stands at.
+      let events = map LockChange (asked_events (lock_events h) caller.session (Lock t m)) in
+      subst (IsTold (λ (u : Unit {0}). u) (Err stop.Waits) new caller caller.cmd h) (sym (told_waits names events (sessions behind) _ (asked.view h stands)))
+        (refl, subst (WentOn h caller.session caller.cmd (caller.session ∷ []) new) (asked.history h stands) (record {
+            stands = asked.good h stands;
+            at = at_lock (WaitBegan caller.session (Lock t m)) h caller.session caller.cmd at;
+            others = λ r c other is. at_lock (WaitBegan caller.session (Lock t m)) h r c is;
+            queue = refl;
+          }));
+  keeps = asked_keeps old new caller t m (IsBehindOthers behind) may asked;
+  waits = (t, m, asked.waits);
+}
+
+pub closing_step : (names : List (List ℕ)) (old new : Stores) (caller : Caller) (t : TableNo) (m : LockMode) (cycle : SessionList) (f : Fault) → f ≡ deadlock names (listed cycle) → MayAttempt old caller
+    → HasAsked old new caller t m (Deadlock cycle) → IsStep (λ (u : Unit {0}). u) (Err (stop.Refused f)) old new caller caller.cmd (locked names caller.session t.number m)
+closing_step names old new caller t m cycle f is_fault may asked = record {
+  is = λ h stands at.
+      let events = map LockChange (asked_events (lock_events h) caller.session (Lock t m)) in
+      subst (IsTold (λ (u : Unit {0}). u) (Err (stop.Refused f)) new caller caller.cmd h) (sym (told_closes names events (listed cycle) _ (asked.view h stands)))
+        (ap (λ x. Err (Refused x)) (sym is_fault), subst (WentOn h caller.session (caller.cmd + 1) [] new) (asked.history h stands) (record {
+            stands = asked.good h stands;
+            at = one_later h caller.session caller.cmd at;
+            others = λ r c other is. is;
+            queue = sym (append-nil (queue (lock_events h)));
+          }));
+  keeps = asked_keeps old new caller t m (Deadlock cycle) may asked;
+  waits = asked.waits;
+}
+
+-- memory ran out behind the request
+pub asked_and_out : {X T : Type 0} (see : X → T) (old new : Stores) (caller : Caller) (t : TableNo) (m : LockMode) (answer : Asked) (n : ℕ) (f : History → Made T) → MayAttempt old caller → HasAsked old new caller t m answer
+    → IsStep see (Err stop.NoMemory) old new caller n f
+asked_and_out see old new caller t m answer n f may asked = no_memory see old new caller n f (asked_keeps old new caller t m answer may asked)
+
+-- ---- a snapshot that is kept
+
+held_first_locks : (o : Option TakenSnapshot) (s : ℕ) (snap : TakenSnapshot) (h : History) → lock_events (held_first o s snap ++ h) ≡ lock_events h
+held_first_locks None s snap h = refl
+held_first_locks (Some old) s snap h = refl
+
+pub own_tx : (stores : Stores) (caller : Caller) (h : History) → MayAttempt stores caller → Stands stores h → (t : ℕ) × (open_of (tx_events h) caller.session ≡ Some t)
+own_tx stores caller h may stands = let t = some_of (slice_index_or stores.txs.current caller.session None) may.transaction in (t.0, sym (stands.all.txs.current caller.session) ∙ t.1)
+
+pub locks_same : (old new : Stores) (s : ℕ) → new.txs.current ≡ old.txs.current → new.locks ≡ old.locks → GoesOn old new s
+locks_same old new s txs locks = record {
+  transactions = txs;
+  locks = λ r t m e. ap (λ l. has (held_at l.held t m) r) locks ∙ e;
+  others = λ r other. ap (λ l. slice_index_or l.wants r None) locks;
+  size = record { sessions = ap (λ l. length l.wants) locks; tables = ap (λ l. l.tables) locks };
+}
+
+pub held_step : (old new : Stores) (caller : Caller) → MayAttempt old caller → ((h : History) → Stands old h → IsAt h caller.session caller.cmd → Stands new (held h caller.session caller.cmd ++ h))
+    → new.txs.current ≡ old.txs.current → new.locks ≡ old.locks → IsStep (λ (u : Unit {0}). u) (Ok tt) old new caller caller.cmd (λ h. made (held h caller.session caller.cmd) tt)
+held_step old new caller may good txs locks = record {
+  is = λ h stands at.
+      let own = own_tx old caller h may stands in
+      (refl, record {
+          stands = good h stands at;
+          at = (looks_keep_numbers h caller.session caller.session own.0 caller.cmd caller.cmd stands.good at own.1 (λ same. omega arith)).1;
+          others = λ r c other is. (looks_keep_numbers h caller.session r own.0 caller.cmd c stands.good is own.1 (λ same. absurd (other (sym same)))).1;
+          queue = ap queue (held_first_locks (held_by (snapshot_events h) caller.session) caller.session (look_of h caller.session caller.cmd) h) ∙ sym (append-nil (queue (lock_events h)));
+        });
+  keeps = locks_same old new caller.session txs locks;
+  waits = subst (λ l. IsIdle l caller.session) (sym locks) may.idle;
+}
+
+-- ---- a table by its name
+
+pub found_below : (stores : Stores) (h : History) (s k : ℕ) (name : List ℕ) → Stands stores h → resolved h s name ≡ Some k → k < length stores.catalog.tables
+found_below stores h s k name stands e =
+    let low = last_is (is_meant h s name) (table_number h) k e in
+    let count = sym (length-map table_in stores.catalog.tables) ∙ ap length stands.all.catalog.tables in
+    omega (arith, low.0, count)
+
+pub found_known : (stores : Stores) (caller : Caller) (h : History) (k : ℕ) (name : List ℕ) → NamedIsThere → MayAttempt stores caller → Stands stores h → resolved h caller.session name ≡ Some k
+    → IsKnown (tx_events h) (catalogue_events h) caller.session k
+found_known stores caller h k name law may stands e =
+    let own = own_tx stores caller h may stands in
+    has_known h caller.session own.0 k own.1 (law h caller.session own.0 k name (legal_of h stands.good) own.1 e)

@@ -1,0 +1,92 @@
+-- Parts of a statement, one after another.
+use Rattle.std.proofs.Common.{◌≡◌, ◌≢◌, ℕ, ◌+◌, List, [], ◌∷◌, ◌++◌, refl, ap, sym, ◌∙◌, subst, append_assoc, append-nil, Option, Some, None, Result, Ok, Err, IsSome, true, length, slice_index_or}
+use Rattle.pg_ids.specs.Sets.{has}
+use Rattle.history.specs.Locks.{queue}
+use Rattle.history.specs.History.{History, lock_events}
+use Rattle.lock_table.specs.Kept.{held_at}
+use Rattle.lock_table.specs.Stands.{IsIdle, OthersWait, SameSize}
+use Rattle.stores.specs.Stand.{Stands}
+use Rattle.stores.specs.Numbers.{IsAt}
+use Rattle.stores.specs.declared.stores.Stores.{Stores}
+use Rattle.course.specs.Made.{Made, Halt, Waits, Refused, and_then, then_told, behind}
+use Rattle.course.specs.Attempts.{MayAttempt, AreSound, WentOn, GoesOn, LocksStay}
+use Rattle.course.specs.declared.caller.Caller.{Caller}
+use Rattle.course.specs.declared.stop.Stop.{Stop}
+use Rattle.course.specs.declared.stop.Stop.TheVariants as stop
+use Rattle.statement_steps.specs.Steps.{IsTold, IsHalted, IsStep, follow}
+
+-- ---- histories that go on
+
+pub went_on : (h g k : History) (s n m : ℕ) (waiting : List ℕ) (mid new : Stores) → WentOn h s n [] mid g → WentOn g s m waiting new k → WentOn h s m waiting new k
+went_on h g k s n m waiting mid new first second = record {
+  stands = second.stands;
+  at = second.at;
+  others = λ r c other at. second.others r c other (first.others r c other at);
+  queue = second.queue ∙ ap (λ q. q ++ waiting) (first.queue ∙ append-nil (queue (lock_events h)));
+}
+
+pub goes_on : (old mid new : Stores) (s : ℕ) → GoesOn old mid s → GoesOn mid new s → GoesOn old new s
+goes_on old mid new s first second = record {
+  transactions = second.transactions ∙ first.transactions;
+  locks = λ r t m e. second.locks r t m (first.locks r t m e);
+  others = λ r other. second.others r other ∙ first.others r other;
+  size = record { sessions = second.size.sessions ∙ first.size.sessions; tables = second.size.tables ∙ first.size.tables };
+}
+
+-- ---- one part after another
+
+told_behind : {Y U : Type 0} (view : Y → U) (r : Result Y Stop) (mid new : Stores) (caller : Caller) (n : ℕ) (h : History) (events : History) (m : Made U)
+    → WentOn h caller.session caller.cmd [] mid (events ++ h) → IsTold view r new caller n (events ++ h) m → IsTold view r new caller n h (behind events m)
+told_behind view (Ok x) mid new caller n h events m first told =
+    (told.0, subst (WentOn h caller.session n [] new) (sym (append_assoc m.events events h)) (went_on h (events ++ h) (m.events ++ (events ++ h)) caller.session caller.cmd n [] mid new first told.1))
+told_behind view (Err stop.Waits) mid new caller n h events m first told =
+    (told.0, subst (WentOn h caller.session caller.cmd (caller.session ∷ []) new) (sym (append_assoc m.events events h)) (went_on h (events ++ h) (m.events ++ (events ++ h)) caller.session caller.cmd caller.cmd (caller.session ∷ []) mid new first told.1))
+told_behind view (Err (stop.Refused f)) mid new caller n h events m first told =
+    (told.0, subst (WentOn h caller.session (caller.cmd + 1) [] new) (sym (append_assoc m.events events h)) (went_on h (events ++ h) (m.events ++ (events ++ h)) caller.session caller.cmd (caller.cmd + 1) [] mid new first told.1))
+told_behind view (Err stop.NoMemory) mid new caller n h events m first told = tt
+
+-- what comes first is done, and the next part goes on from what it gave
+pub then_step : {X T Y U : Type 0} (see : X → T) (view : Y → U) (x : X) (r : Result Y Stop) (old mid new : Stores) (caller : Caller) (n : ℕ) (f : History → Made T) (next : T → History → Made U)
+    → IsStep see (Ok x) old mid caller caller.cmd f → IsStep view r mid new caller n (next (see x)) → IsStep view r old new caller n (follow f next)
+then_step {T} {U} see view x r old mid new caller n f next first second = record {
+  is = λ h stands at.
+      let a = first.is h stands at in
+      let told = second.is ((f h).events ++ h) a.1.stands a.1.at in
+      subst (λ t. IsTold view r new caller n h (then_told t (f h).events (λ y. next y ((f h).events ++ h)))) (sym a.0)
+        (told_behind view r mid new caller n h (f h).events (next (see x) ((f h).events ++ h)) a.1 told);
+  keeps = goes_on old mid new caller.session first.keeps second.keeps;
+  waits = second.waits;
+}
+
+-- what comes first stops
+stop_told : {X T Y U : Type 0} (see : X → T) (view : Y → U) (e : Stop) (new : Stores) (caller : Caller) (n k : ℕ) (h : History) (m : Made T) (next : T → Made U)
+    → IsTold see (Err e) new caller k h m → IsTold view (Err e) new caller n h (and_then m next)
+stop_told {U = U} see view stop.Waits new caller n k h m next told = subst (λ t. IsTold view (Err stop.Waits) new caller n h (then_told t m.events next)) (sym told.0) (refl, told.1)
+stop_told see view (stop.Refused f) new caller n k h m next told = subst (λ t. IsTold view (Err (stop.Refused f)) new caller n h (then_told t m.events next)) (sym told.0) (refl, told.1)
+stop_told see view stop.NoMemory new caller n k h m next told = tt
+
+halted_same : (X Y : Type 0) (e : Stop) (stores : Stores) (s : ℕ) → IsHalted {X = X} (Err e) stores s → IsHalted {X = Y} (Err e) stores s
+halted_same X Y stop.Waits stores s waits = waits
+halted_same X Y (stop.Refused f) stores s waits = waits
+halted_same X Y stop.NoMemory stores s waits = waits
+
+pub stop_step : {X T Y U : Type 0} (see : X → T) (view : Y → U) (e : Stop) (old new : Stores) (caller : Caller) (n k : ℕ) (f : History → Made T) (next : T → History → Made U)
+    → IsStep see (Err e) old new caller k f → IsStep view (Err e) old new caller n (follow f next)
+stop_step {X} {T} {Y} {U} see view e old new caller n k f next first = record {
+  is = λ h stands at. stop_told see view e new caller n k h (f h) (λ y. next y ((f h).events ++ h)) (first.is h stands at);
+  keeps = first.keeps;
+  waits = halted_same X Y e new caller.session first.waits;
+}
+
+-- ---- who may go on
+
+pub may_go_on : {X T : Type 0} (see : X → T) (x : X) (old mid : Stores) (caller : Caller) (f : History → Made T) → MayAttempt old caller → IsStep see (Ok x) old mid caller caller.cmd f → MayAttempt mid caller
+may_go_on see x old mid caller f may first = record {
+  sound = let s = may.sound in let a = first.is s.0 s.1 s.2 in ((f s.0).events ++ s.0, a.1.stands, a.1.at);
+  transaction = subst (λ c. IsSome (slice_index_or c caller.session None)) (sym first.keeps.transactions) may.transaction;
+  idle = first.waits;
+  known = may.known;
+  few = may.few;
+  sessions = first.keeps.size.sessions ∙ may.sessions;
+  tables = first.keeps.size.tables ∙ may.tables;
+}

@@ -1,0 +1,7 @@
+use Rattle.std.proofs.Common.{◌≡◌, map, take}
+use Rattle.pg_ids.specs.Lists.{listed}
+use Rattle.statement_steps.specs.Faults as faults
+use Rattle.statement_steps.proofs.faults.names_of.Given as goal
+
+abbrev pub invariant-loop-place : goal.invariant-loop-place
+invariant-loop-place l = l.args ≡ map (faults.name_of l.fn.names) (take l.place (listed l.fn.cycle))

@@ -1,0 +1,58 @@
+-- Tables by their names, and locks on them (the manual, 13.3.1 Table-Level Locks; LOCK).
+use Rattle.std.specs.Prelude.{ℕ, List, [], ◌∷◌, Option, Some, None, Result, Ok, Err, map}
+use Rattle.pg_ids.specs.declared.ids.TableNo.{TableNo}
+use Rattle.pg_ids.specs.declared.lock_mode.LockMode.{LockMode}
+use Rattle.history.specs.declared.wait.Wanted.TheVariants.{Lock}
+use Rattle.history.specs.History.{History, LockChange, lock_events}
+use Rattle.part_catalog.specs.Found.{resolved}
+use Rattle.lock_answers.specs.Asked.{AskedView, AtOnce, WaitsBehind, ClosesCycle, asked, asked_events}
+use Rattle.sessions.specs.declared.phase.Isolation.{Isolation}
+use Rattle.sessions.specs.declared.phase.Isolation.TheVariants.{ReadCommitted, ReadUncommitted, RepeatableRead}
+use Rattle.stores.specs.Events.{held}
+use Rattle.course.specs.Made.{Made, Halt, Waits, Refused, made, halted}
+use Rattle.statement_steps.specs.Faults.{no_table, deadlock}
+use Rattle.statement_steps.specs.Steps.{follow}
+
+-- ---- a lock
+
+abbrev pub told_of : List (List ℕ) → History → AskedView → Made (Unit {0})
+told_of names events AtOnce = made events tt
+told_of names events (WaitsBehind others) = halted events Waits
+told_of names events (ClosesCycle cycle) = halted events (Refused (deadlock names cycle))
+
+-- the session asks for a lock: it gets it, has to wait, or would close a cycle
+abbrev pub locked : List (List ℕ) → (session table : ℕ) → LockMode → History → Made (Unit {0})
+locked names s t m h =
+    told_of names (map LockChange (asked_events (lock_events h) s (Lock (record { number = t }) m))) (asked (lock_events h) s (Lock (record { number = t }) m))
+
+-- one lock after the other
+abbrev pub all_locked : List (List ℕ) → (session : ℕ) → LockMode → List ℕ → History → Made (Unit {0})
+all_locked names s m [] h = made [] tt
+all_locked names s m (t ∷ ts) h = follow (locked names s t m) (λ u. all_locked names s m ts) h
+
+-- ---- a table by its name
+
+abbrev pub meant_or_none : List ℕ → Option ℕ → Made ℕ
+meant_or_none name None = halted [] (Refused (no_table name))
+meant_or_none name (Some t) = made [] t
+
+abbrev pub found : (session : ℕ) → (name : List ℕ) → History → Made ℕ
+found s name h = meant_or_none name (resolved h s name)
+
+abbrev pub number_or : ℕ → Result (Unit {0}) Halt → Result ℕ Halt
+number_or t (Ok u) = Ok t
+number_or t (Err stop) = Err stop
+
+abbrev pub kept_number : ℕ → Made (Unit {0}) → Made ℕ
+kept_number t m = record { events = m.events; told = number_or t m.told }
+
+-- the table of that name, locked
+abbrev pub named : List (List ℕ) → (session : ℕ) → LockMode → (name : List ℕ) → History → Made ℕ
+named names s m name = follow (found s name) (λ t h. kept_number t (locked names s t m h))
+
+-- ---- the snapshot that a transaction at REPEATABLE READ takes before its first statement waits
+
+abbrev pub held_at : Isolation → (session cmd : ℕ) → History → Made (Unit {0})
+held_at ReadCommitted s cmd h = made [] tt
+held_at ReadUncommitted s cmd h = made [] tt
+held_at RepeatableRead s cmd h = made (held h s cmd) tt

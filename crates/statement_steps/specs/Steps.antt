@@ -1,0 +1,38 @@
+-- A part of a statement that runs over the stores: what is told of it, by a function of the history.
+use Rattle.std.specs.Prelude.{◌≡◌, ℕ, ◌+◌, List, [], ◌∷◌, ◌++◌, None, Result, Ok, Err}
+use Rattle.pg_values.specs.declared.fault.Fault.{Fault}
+use Rattle.history.specs.History.{History}
+use Rattle.lock_table.specs.Stands.{IsIdle}
+use Rattle.stores.specs.Stand.{Stands}
+use Rattle.stores.specs.Numbers.{IsAt}
+use Rattle.stores.specs.declared.stores.Stores.{Stores}
+use Rattle.course.specs.Made.{Made, Waits, Refused, and_then}
+use Rattle.course.specs.Attempts.{WentOn, GoesOn, WaitsForLock}
+use Rattle.course.specs.declared.caller.Caller.{Caller}
+use Rattle.course.specs.declared.stop.Stop.{Stop}
+use Rattle.course.specs.declared.stop.Stop.TheVariants as stop
+
+-- want of memory apart, what came of it is what is told, and the stores stand for the history with its events; the next
+-- command has the number n where the part is done
+abbrev pub IsTold : {X T : Type 0} → (X → T) → Result X Stop → Stores → Caller → (n : ℕ) → History → Made T → Type 0
+IsTold view (Ok x) new caller n h m = (m.told ≡ Ok (view x)) × WentOn h caller.session n [] new (m.events ++ h)
+IsTold view (Err stop.Waits) new caller n h m = (m.told ≡ Err Waits) × WentOn h caller.session caller.cmd (caller.session ∷ []) new (m.events ++ h)
+IsTold view (Err (stop.Refused f)) new caller n h m = (m.told ≡ Err (Refused f)) × WentOn h caller.session (caller.cmd + 1) [] new (m.events ++ h)
+IsTold view (Err stop.NoMemory) new caller n h m = Unit {0}
+
+-- the session waits just where the answer says so
+abbrev pub IsHalted : {X : Type 0} → Result X Stop → Stores → (session : ℕ) → Type 0
+IsHalted (Ok x) stores s = IsIdle stores.locks s
+IsHalted (Err stop.Waits) stores s = WaitsForLock stores s
+IsHalted (Err (stop.Refused f)) stores s = IsIdle stores.locks s
+IsHalted (Err stop.NoMemory) stores s = Unit {0}
+
+-- a part is what the function says of each history that the stores stand for
+pub record IsStep {X T : Type 0} (view : X → T) (result : Result X Stop) (old new : Stores) (caller : Caller) (n : ℕ) (f : History → Made T) : Type 0 where
+  pub is : (h : History) → Stands old h → IsAt h caller.session caller.cmd → IsTold view result new caller n h (f h)
+  pub keeps : GoesOn old new caller.session
+  pub waits : IsHalted result new caller.session
+
+-- one part after another, which begins with what the first gave, at the history that it left
+abbrev pub follow : {T U : Type 0} → (History → Made T) → (T → History → Made U) → History → Made U
+follow f next h = and_then (f h) (λ x. next x ((f h).events ++ h))

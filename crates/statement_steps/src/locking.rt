@@ -1,0 +1,61 @@
+ghost use Rattle.std.specs.Prelude.{◌≡◌, ℕ, ◌<◌, ◌≤◌, All, map, length};
+ghost use Rattle.history.specs.History.{History, tx_events, catalogue_events};
+ghost use Rattle.soundness.specs.Parts.{IsKnown};
+ghost use Rattle.stores.specs.Stand.{Stands};
+ghost use Rattle.course.specs.Attempts.{MayAttempt};
+ghost use Rattle.statement_steps.specs.Asks as asks;
+ghost use Rattle.statement_steps.specs.Steps.{IsStep};
+
+use crate::SessionNames;
+use crate::faults::deadlock;
+use course::{Caller, Stop};
+use lock_answers::answer_is_told;
+use lock_table::Asked;
+use pg_ids::{LockMode, TableNo};
+use std::alloc::Global;
+use stores::Stores;
+
+/// The session asks for a lock on a table: it gets it, has to wait, or would close a cycle, 40P01.
+pub fn lock_table(
+    alloc: Global,
+    stores: &mut Stores,
+    names: &SessionNames,
+    caller: Caller,
+    table: TableNo,
+    mode: LockMode,
+) -> Result<(), Stop>
+    requires may { MayAttempt stores.old caller }
+    requires known { table.number < 4096 }
+    requires there { (h : History) → Stands stores.old h → IsKnown (tx_events h) (catalogue_events h) caller.session table.number }
+    ensures step { IsStep (λ u. u) result stores.old stores.new caller caller.cmd (asks.locked names.now caller.session table.number mode) }
+    ensures rest { stores.new ≡ record stores.old { locks = stores.new.locks } }
+{
+    let answer = stores.request(caller.session, table, mode);
+    answer_is_told(&answer);
+    match answer {
+        Asked::Granted => Ok(()),
+        Asked::Waits { .. } => Err(Stop::Waits),
+        Asked::Deadlock { cycle } => Err(Stop::Refused(deadlock(alloc, names, cycle)?)),
+    }
+}
+
+/// It asks for locks in one mode on tables, one after the other.
+pub fn lock_tables(
+    alloc: Global,
+    stores: &mut Stores,
+    names: &SessionNames,
+    caller: Caller,
+    tables: &[TableNo],
+    mode: LockMode,
+) -> Result<(), Stop>
+    requires may { MayAttempt stores.old caller }
+    requires known { All (λ t. t.number < 4096) tables.now }
+    requires there { (h : History) → Stands stores.old h → All (λ t. IsKnown (tx_events h) (catalogue_events h) caller.session t.number) tables.now }
+    ensures step { IsStep (λ u. u) result stores.old stores.new caller caller.cmd (asks.all_locked names.now caller.session mode (map (λ t. t.number) tables.now)) }
+    ensures rest { stores.new ≡ record stores.old { locks = stores.new.locks } }
+{
+    for table in tables {
+        lock_table(alloc, stores, names, caller, *table, mode)?;
+    }
+    Ok(())
+}

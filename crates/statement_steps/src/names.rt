@@ -1,0 +1,96 @@
+ghost use Rattle.std.specs.Prelude.{◌≡◌, ℕ, ◌<◌, ◌++◌, ◌∷◌, [], Some, None, IfOk, OnOk, OnErr, length};
+ghost use Rattle.history.specs.History.{History, tx_events, catalogue_events};
+ghost use Rattle.pg_ids.specs.declared.lock_mode.LockMode.{LockMode};
+ghost use Rattle.soundness.specs.Parts.{IsKnown};
+ghost use Rattle.stores.specs.Stand.{Stands};
+ghost use Rattle.course.specs.Attempts.{MayAttempt};
+ghost use Rattle.statement_steps.specs.Asks as asks;
+ghost use Rattle.statement_steps.specs.Steps.{IsStep};
+
+use crate::faults::no_table;
+use crate::lock_table;
+use course::{Caller, Stop};
+use legal_statements::named_is_there;
+use pg_ids::{LockMode, TableNo};
+use pg_values::{NoMemory, PgText};
+use std::alloc::Global;
+use std::marker::Model;
+use stores::Stores;
+
+/// The names of the sessions by their numbers, the control session's first, seen as their list.
+#[derive(Debug, Drop)]
+pub struct SessionNames {
+    names: Vec<PgText>,
+}
+
+impl Model for SessionNames {
+    ghost use Rattle.std.specs.Prelude.{List, ℕ};
+
+    ghost Value = { List (List ℕ) };
+
+    ghost view = { λ n. n.names.items };
+}
+
+impl SessionNames {
+    pub fn new(alloc: Global) -> Self
+        ensures { result ≡ [] }
+    {
+        SessionNames {
+            names: Vec::new(alloc),
+        }
+    }
+
+    pub fn as_slice(&self) -> &[PgText]
+        ensures { result.now ≡ self.now }
+    {
+        &self.names
+    }
+
+    /// The name of the session with the next number.
+    pub fn push(&mut self, name: PgText) -> Result<(), NoMemory>
+        ensures ok { OnOk result (self.new ≡ self.old ++ name ∷ []) }
+        ensures err { OnErr result (self.new ≡ self.old) }
+    {
+        self.names.push(name)?;
+        Ok(())
+    }
+}
+
+/// The table of a name, or 42P01.
+pub fn find_table(
+    alloc: Global,
+    stores: &Stores,
+    caller: Caller,
+    name: &[u8],
+) -> Result<TableNo, Stop>
+    requires { MayAttempt stores.now caller }
+    ensures step { IsStep (λ t. t.number) result stores.now stores.now caller caller.cmd (asks.found caller.session name.now) }
+    ensures known { IfOk result (λ t. t.number < length stores.now.catalog.tables) }
+    ensures there { IfOk result (λ t. (h : History) → Stands stores.now h → IsKnown (tx_events h) (catalogue_events h) caller.session t.number) }
+{
+    named_is_there();
+    match stores.catalog.resolve(&stores.txs, caller.session, name) {
+        Some(table) => Ok(table),
+        None => Err(Stop::Refused(no_table(alloc, name)?)),
+    }
+}
+
+/// The table of a name, locked in that mode.
+pub fn lock_named(
+    alloc: Global,
+    stores: &mut Stores,
+    names: &SessionNames,
+    caller: Caller,
+    name: &[u8],
+    mode: LockMode,
+) -> Result<TableNo, Stop>
+    requires { MayAttempt stores.old caller }
+    ensures step { IsStep (λ t. t.number) result stores.old stores.new caller caller.cmd (asks.named names.now caller.session mode name.now) }
+    ensures known { IfOk result (λ t. t.number < length stores.new.catalog.tables) }
+    ensures there { IfOk result (λ t. (h : History) → Stands stores.new h → IsKnown (tx_events h) (catalogue_events h) caller.session t.number) }
+    ensures rest { stores.new ≡ record stores.old { locks = stores.new.locks } }
+{
+    let table = find_table(alloc, stores, caller, name)?;
+    lock_table(alloc, stores, names, caller, table, mode)?;
+    Ok(table)
+}
