@@ -1,3 +1,4 @@
 mod Known
-mod Parts
-mod Steps
+mod Left
+pub mod Parts
+pub mod Steps

@@ -1,6 +1,6 @@
 -- Single parts of a statement: nothing done, a refusal, a lock, a snapshot that is kept.
-use Rattle.std.proofs.lemmas.List.{length-map}
-use Rattle.std.proofs.Common.{◌≡◌, ◌≢◌, ℕ, ◌+◌, ◌<◌, ◌||◌, Bool, true, false, List, [], ◌∷◌, ◌++◌, refl, ap, sym, ◌∙◌, subst, arith, append-nil, Option, Some, None, Result, Ok, Err, map, length, slice_index_or}
+use Rattle.std.proofs.lemmas.List.{length-map, get_or-map}
+use Rattle.std.proofs.Common.{◌≡◌, ◌≢◌, ℕ, ◌+◌, ◌<◌, ◌||◌, Bool, true, false, List, [], ◌∷◌, ◌++◌, refl, ap, sym, ◌∙◌, subst, arith, append-nil, Option, Some, None, Result, Ok, Err, IfOk, map, length, slice_index_or}
 use Rattle.pg_ids.specs.declared.ids.TableNo.{TableNo}
 use Rattle.pg_ids.specs.declared.lock_mode.LockMode.{LockMode}
 use Rattle.pg_ids.specs.declared.session_set.SessionSet.{SessionSet}
@@ -8,9 +8,10 @@ use Rattle.pg_ids.specs.declared.session_list.SessionList.{SessionList}
 use Rattle.pg_ids.specs.Lists.{listed}
 use Rattle.pg_ids.specs.Sets.{has, sessions}
 use Rattle.pg_values.specs.declared.fault.Fault.{Fault}
+use Rattle.pg_values.specs.declared.text.NoMemory.{NoMemory}
 use Rattle.history.specs.declared.wait.Wanted.TheVariants.{Lock}
 use Rattle.history.specs.Locks.{queue, LockGot, WaitBegan}
-use Rattle.history.specs.Transactions.{open_of}
+use Rattle.history.specs.Transactions.{open_of, fate}
 use Rattle.history.specs.Snapshots.{TakenSnapshot, held_by}
 use Rattle.history.specs.History.{History, LockChange, tx_events, snapshot_events, catalogue_events, lock_events}
 use Rattle.lock_table.specs.declared.asked.Asked.{Asked}
@@ -21,11 +22,13 @@ use Rattle.lock_table.specs.Stands.{IsIdle, OthersWait, SameSize}
 use Rattle.stores.specs.Events.{held, held_first, look_of}
 use Rattle.stores.proofs.Goodness.{legal_of}
 use Rattle.stores.proofs.Meanwhile.{looks_keep_numbers}
+use Rattle.soundness.specs.Worlds.{table_in as made_table}
 use Rattle.soundness.specs.Parts.{IsKnown}
 use Rattle.legal_statements.specs.Laws.{NamedIsThere}
 use Rattle.part_catalog.specs.Found.{resolved, is_meant, table_number}
 use Rattle.part_catalog.specs.Names.{last_below}
-use Rattle.part_catalog.specs.Kept.{table_in}
+use Rattle.history.specs.Places.{no_table as no_table_made}
+use Rattle.part_catalog.specs.Kept.{table_in, no_stored}
 use Rattle.part_catalog.proofs.Found.{last_is}
 use Rattle.stores.specs.Stand.{AllStand, Stands, IsSameSize}
 use Rattle.stores.specs.Numbers.{IsAt}
@@ -38,9 +41,11 @@ use Rattle.course.specs.declared.caller.Caller.{Caller}
 use Rattle.course.specs.declared.stop.Stop.{Stop}
 use Rattle.course.specs.declared.stop.Stop.TheVariants as stop
 use Rattle.course.proofs.Numbers.{at_lock, one_later}
+use Rattle.statement_steps.proofs.Steps.{halted_same}
 use Rattle.statement_steps.proofs.Known.{some_of, has_known}
-use Rattle.statement_steps.specs.Faults.{deadlock}
-use Rattle.statement_steps.specs.Asks.{told_of, locked}
+use Rattle.statement_steps.specs.Faults.{no_table, deadlock, stop_by}
+use Rattle.statement_steps.specs.Asks.{told_of, locked, found, meant_or_none, number_or, kept_number}
+use Rattle.statement_steps.specs.Known.{maker_of, IsKnownTo}
 use Rattle.statement_steps.specs.Steps.{IsTold, IsHalted, IsStep}
 
 -- ---- nothing is done
@@ -225,7 +230,7 @@ held_step old new caller may good txs locks = record {
 pub found_below : (stores : Stores) (h : History) (s k : ℕ) (name : List ℕ) → Stands stores h → resolved h s name ≡ Some k → k < length stores.catalog.tables
 found_below stores h s k name stands e =
     let low = last_is (is_meant h s name) (table_number h) k e in
-    let count = sym (length-map table_in stores.catalog.tables) ∙ ap length stands.all.catalog.tables in
+    let count = sym (length-map stores.catalog.tables table_in) ∙ ap length stands.all.catalog.tables in
     omega (arith, low.0, count)
 
 pub found_known : (stores : Stores) (caller : Caller) (h : History) (k : ℕ) (name : List ℕ) → NamedIsThere → MayAttempt stores caller → Stands stores h → resolved h caller.session name ≡ Some k
@@ -233,3 +238,58 @@ pub found_known : (stores : Stores) (caller : Caller) (h : History) (k : ℕ) (n
 found_known stores caller h k name law may stands e =
     let own = own_tx stores caller h may stands in
     has_known h caller.session own.0 k own.1 (law h caller.session own.0 k name (legal_of h stands.good) own.1 e)
+
+-- a name that means nothing
+pub none_found : (stores : Stores) (caller : Caller) (name : List ℕ) (r : Result Fault NoMemory) → IfOk r (λ f. f ≡ no_table name) → MayAttempt stores caller
+    → ((h : History) → Stands stores h → resolved h caller.session name ≡ None) → IsStep (λ (t : TableNo). t.number) (Err (stop_by r)) stores stores caller caller.cmd (found caller.session name)
+none_found stores caller name (Ok f) is may none = refused_here (λ (t : TableNo). t.number) f stores caller caller.cmd (found caller.session name) may (λ h stands. ap (meant_or_none name) (none h stands) ∙ ap (λ x. halted [] (Refused x)) (sym is))
+none_found stores caller name (Err e) is may none = no_memory (λ (t : TableNo). t.number) stores stores caller caller.cmd (found caller.session name) (stays stores caller.session)
+
+-- a cycle that would be closed
+pub closed : (names : List (List ℕ)) (old new : Stores) (caller : Caller) (t : TableNo) (m : LockMode) (cycle : SessionList) (r : Result Fault NoMemory) → IfOk r (λ f. f ≡ deadlock names (listed cycle)) → MayAttempt old caller
+    → HasAsked old new caller t m (Deadlock cycle) → IsStep (λ (u : Unit {0}). u) (Err (stop_by r)) old new caller caller.cmd (locked names caller.session t.number m)
+closed names old new caller t m cycle (Ok f) is may asked = closing_step names old new caller t m cycle f is may asked
+closed names old new caller t m cycle (Err e) is may asked = asked_and_out (λ (u : Unit {0}). u) old new caller t m (Deadlock cycle) caller.cmd (locked names caller.session t.number m) may asked
+
+-- ---- what the session knows, told from what is kept
+
+maker_is : (stores : Stores) (h : History) (x : ℕ) → Stands stores h → x < length stores.catalog.tables → (made_table (catalogue_events h) x).by.number ≡ maker_of stores x
+maker_is stores h x stands lt =
+    ap (λ ts. (slice_index_or ts x no_table_made).by.number) (sym stands.all.catalog.tables) ∙ ap (λ t. t.by.number) (get_or-map table_in stores.catalog.tables x no_stored no_table_made lt)
+
+pub known_in : (stores : Stores) (h : History) (s x : ℕ) → Stands stores h → IsKnownTo stores s x → IsKnown (tx_events h) (catalogue_events h) s x
+known_in stores h s x stands known =
+    let by = maker_is stores h x stands known.made in
+    (subst (λ n. x < n) (sym (length-map stores.catalog.tables table_in) ∙ ap length stands.all.catalog.tables) known.made,
+      λ runs. sym (stands.all.txs.current s) ∙ (known.own (stands.all.txs.fates (maker_of stores x) ∙ (ap (fate (tx_events h)) (sym by) ∙ runs)) ∙ ap Some (sym by)))
+
+pub known_by : (stores : Stores) (h : History) (s x : ℕ) → Stands stores h → x < length stores.catalog.tables → IsKnown (tx_events h) (catalogue_events h) s x → IsKnownTo stores s x
+known_by stores h s x stands lt known =
+    let by = maker_is stores h x stands lt in
+    record {
+      made = lt;
+      own = λ runs. stands.all.txs.current s ∙ (known.1 (ap (fate (tx_events h)) by ∙ (sym (stands.all.txs.fates (maker_of stores x)) ∙ runs)) ∙ ap Some by);
+    }
+
+-- ---- a table that is found, and then locked
+
+pub number_done : (t : TableNo) (old new : Stores) (caller : Caller) (k : ℕ) (f : History → Made (Unit {0})) → IsStep (λ (u : Unit {0}). u) (Ok tt) old new caller k f
+    → IsStep (λ (t : TableNo). t.number) (Ok t) old new caller k (λ h. kept_number t.number (f h))
+number_done t old new caller k f first = record {
+  is = λ h stands at. let a = first.is h stands at in (ap (number_or t.number) a.0, a.1);
+  keeps = first.keeps;
+  waits = first.waits;
+}
+
+number_told : (t : TableNo) (e : Stop) (new : Stores) (caller : Caller) (k : ℕ) (h : History) (m : Made (Unit {0})) → IsTold (λ (u : Unit {0}). u) (Err e) new caller k h m → IsTold (λ (t : TableNo). t.number) (Err e) new caller k h (kept_number t.number m)
+number_told t stop.Waits new caller k h m told = (ap (number_or t.number) told.0, told.1)
+number_told t (stop.Refused f) new caller k h m told = (ap (number_or t.number) told.0, told.1)
+number_told t stop.NoMemory new caller k h m told = tt
+
+pub number_stops : (t : TableNo) (e : Stop) (old new : Stores) (caller : Caller) (k : ℕ) (f : History → Made (Unit {0})) → IsStep (λ (u : Unit {0}). u) (Err e) old new caller k f
+    → IsStep (λ (t : TableNo). t.number) (Err e) old new caller k (λ h. kept_number t.number (f h))
+number_stops t e old new caller k f first = record {
+  is = λ h stands at. number_told t e new caller k h (f h) (first.is h stands at);
+  keeps = first.keeps;
+  waits = halted_same (Unit {0}) TableNo e new caller.session first.waits;
+}

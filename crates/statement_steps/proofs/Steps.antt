@@ -65,7 +65,7 @@ stop_told {U = U} see view stop.Waits new caller n k h m next told = subst (λ t
 stop_told see view (stop.Refused f) new caller n k h m next told = subst (λ t. IsTold view (Err (stop.Refused f)) new caller n h (then_told t m.events next)) (sym told.0) (refl, told.1)
 stop_told see view stop.NoMemory new caller n k h m next told = tt
 
-halted_same : (X Y : Type 0) (e : Stop) (stores : Stores) (s : ℕ) → IsHalted {X = X} (Err e) stores s → IsHalted {X = Y} (Err e) stores s
+pub halted_same : (X Y : Type 0) (e : Stop) (stores : Stores) (s : ℕ) → IsHalted {X = X} (Err e) stores s → IsHalted {X = Y} (Err e) stores s
 halted_same X Y stop.Waits stores s waits = waits
 halted_same X Y (stop.Refused f) stores s waits = waits
 halted_same X Y stop.NoMemory stores s waits = waits

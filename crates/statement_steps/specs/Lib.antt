@@ -1,3 +1,4 @@
 pub mod Faults
+pub mod Known
 pub mod Steps
 pub mod Asks

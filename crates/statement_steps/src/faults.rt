@@ -3,10 +3,21 @@ ghost use Rattle.pg_ids.specs.Lists.{listed};
 ghost use Rattle.statement_steps.specs.Faults as faults;
 
 use crate::SessionNames;
+use course::Stop;
 use pg_ids::SessionList;
 use pg_values::{Args, Fault, NoMemory, PgText, SqlState};
 use std::alloc::Global;
 use value_rules::two_texts;
+
+/// Why a statement stops that is refused with a fault, or with none for want of memory.
+pub(crate) fn stop_by(fault: Result<Fault, NoMemory>) -> Stop
+    ensures { result ≡ faults.stop_by fault }
+{
+    match fault {
+        Ok(fault) => Stop::Refused(fault),
+        Err(NoMemory) => Stop::NoMemory,
+    }
+}
 
 pub(crate) fn no_table(alloc: Global, name: &[u8]) -> Result<Fault, NoMemory>
     ensures { IfOk result (λ f. f ≡ faults.no_table name.now) }

@@ -6,6 +6,7 @@ ghost use Rattle.statement_steps.specs.Asks as asks;
 ghost use Rattle.statement_steps.specs.Steps.{IsStep};
 
 use course::{Caller, Stop};
+use pg_values::NoMemory;
 use sessions::Isolation;
 use std::alloc::Global;
 use stores::Stores;
@@ -16,8 +17,10 @@ fn hold(alloc: Global, stores: &mut Stores, caller: Caller) -> Result<(), Stop>
     ensures step { IsStep (λ u. u) result stores.old stores.new caller caller.cmd (λ h. made (held h caller.session caller.cmd) tt) }
     ensures rest { stores.new ≡ record stores.old { txs = stores.new.txs } }
 {
-    stores.hold(alloc, caller.session, caller.cmd)?;
-    Ok(())
+    match stores.hold(alloc, caller.session, caller.cmd) {
+        Ok(()) => Ok(()),
+        Err(NoMemory) => Err(Stop::NoMemory),
+    }
 }
 
 /// A transaction at REPEATABLE READ takes its snapshot before its first statement waits, and keeps it.

@@ -1,13 +1,11 @@
-ghost use Rattle.std.specs.Prelude.{◌≡◌, ℕ, ◌<◌, ◌≤◌, All, map, length};
-ghost use Rattle.history.specs.History.{History, tx_events, catalogue_events};
-ghost use Rattle.soundness.specs.Parts.{IsKnown};
-ghost use Rattle.stores.specs.Stand.{Stands};
+ghost use Rattle.std.specs.Prelude.{◌≡◌, ◌<◌, All, map};
 ghost use Rattle.course.specs.Attempts.{MayAttempt};
 ghost use Rattle.statement_steps.specs.Asks as asks;
+ghost use Rattle.statement_steps.specs.Known.{IsKnownTo};
 ghost use Rattle.statement_steps.specs.Steps.{IsStep};
 
 use crate::SessionNames;
-use crate::faults::deadlock;
+use crate::faults::{deadlock, stop_by};
 use course::{Caller, Stop};
 use lock_answers::answer_is_told;
 use lock_table::Asked;
@@ -26,7 +24,7 @@ pub fn lock_table(
 ) -> Result<(), Stop>
     requires may { MayAttempt stores.old caller }
     requires known { table.number < 4096 }
-    requires there { (h : History) → Stands stores.old h → IsKnown (tx_events h) (catalogue_events h) caller.session table.number }
+    requires there { IsKnownTo stores.old caller.session table.number }
     ensures step { IsStep (λ u. u) result stores.old stores.new caller caller.cmd (asks.locked names.now caller.session table.number mode) }
     ensures rest { stores.new ≡ record stores.old { locks = stores.new.locks } }
 {
@@ -35,7 +33,7 @@ pub fn lock_table(
     match answer {
         Asked::Granted => Ok(()),
         Asked::Waits { .. } => Err(Stop::Waits),
-        Asked::Deadlock { cycle } => Err(Stop::Refused(deadlock(alloc, names, cycle)?)),
+        Asked::Deadlock { cycle } => Err(stop_by(deadlock(alloc, names, cycle))),
     }
 }
 
@@ -50,12 +48,16 @@ pub fn lock_tables(
 ) -> Result<(), Stop>
     requires may { MayAttempt stores.old caller }
     requires known { All (λ t. t.number < 4096) tables.now }
-    requires there { (h : History) → Stands stores.old h → All (λ t. IsKnown (tx_events h) (catalogue_events h) caller.session t.number) tables.now }
+    requires there { All (λ t. IsKnownTo stores.old caller.session t.number) tables.now }
     ensures step { IsStep (λ u. u) result stores.old stores.new caller caller.cmd (asks.all_locked names.now caller.session mode (map (λ t. t.number) tables.now)) }
     ensures rest { stores.new ≡ record stores.old { locks = stores.new.locks } }
 {
-    for table in tables {
-        lock_table(alloc, stores, names, caller, *table, mode)?;
+    let mut left = tables;
+    while let Some((table, others)) = left.split_first() {
+        match lock_table(alloc, stores, names, caller, *table, mode) {
+            Ok(()) => left = others,
+            Err(stop) => return Err(stop),
+        }
     }
     Ok(())
 }

@@ -1,13 +1,11 @@
-ghost use Rattle.std.specs.Prelude.{◌≡◌, ℕ, ◌<◌, ◌++◌, ◌∷◌, [], Some, None, IfOk, OnOk, OnErr, length};
-ghost use Rattle.history.specs.History.{History, tx_events, catalogue_events};
+ghost use Rattle.std.specs.Prelude.{◌≡◌, ◌≤◌, ◌++◌, ◌∷◌, [], Some, None, IfOk, OnOk, OnErr, length};
 ghost use Rattle.pg_ids.specs.declared.lock_mode.LockMode.{LockMode};
-ghost use Rattle.soundness.specs.Parts.{IsKnown};
-ghost use Rattle.stores.specs.Stand.{Stands};
 ghost use Rattle.course.specs.Attempts.{MayAttempt};
 ghost use Rattle.statement_steps.specs.Asks as asks;
+ghost use Rattle.statement_steps.specs.Known.{IsKnownTo};
 ghost use Rattle.statement_steps.specs.Steps.{IsStep};
 
-use crate::faults::no_table;
+use crate::faults::{no_table, stop_by};
 use crate::lock_table;
 use course::{Caller, Stop};
 use legal_statements::named_is_there;
@@ -65,13 +63,12 @@ pub fn find_table(
 ) -> Result<TableNo, Stop>
     requires { MayAttempt stores.now caller }
     ensures step { IsStep (λ t. t.number) result stores.now stores.now caller caller.cmd (asks.found caller.session name.now) }
-    ensures known { IfOk result (λ t. t.number < length stores.now.catalog.tables) }
-    ensures there { IfOk result (λ t. (h : History) → Stands stores.now h → IsKnown (tx_events h) (catalogue_events h) caller.session t.number) }
+    ensures known { IfOk result (λ t. IsKnownTo stores.now caller.session t.number) }
 {
     named_is_there();
     match stores.catalog.resolve(&stores.txs, caller.session, name) {
         Some(table) => Ok(table),
-        None => Err(Stop::Refused(no_table(alloc, name)?)),
+        None => Err(stop_by(no_table(alloc, name))),
     }
 }
 
@@ -84,13 +81,17 @@ pub fn lock_named(
     name: &[u8],
     mode: LockMode,
 ) -> Result<TableNo, Stop>
-    requires { MayAttempt stores.old caller }
+    requires may { MayAttempt stores.old caller }
+    requires few { length stores.old.catalog.tables ≤ 4096 }
     ensures step { IsStep (λ t. t.number) result stores.old stores.new caller caller.cmd (asks.named names.now caller.session mode name.now) }
-    ensures known { IfOk result (λ t. t.number < length stores.new.catalog.tables) }
-    ensures there { IfOk result (λ t. (h : History) → Stands stores.new h → IsKnown (tx_events h) (catalogue_events h) caller.session t.number) }
+    ensures known { IfOk result (λ t. IsKnownTo stores.new caller.session t.number) }
     ensures rest { stores.new ≡ record stores.old { locks = stores.new.locks } }
 {
-    let table = find_table(alloc, stores, caller, name)?;
-    lock_table(alloc, stores, names, caller, table, mode)?;
-    Ok(table)
+    match find_table(alloc, stores, caller, name) {
+        Ok(table) => match lock_table(alloc, stores, names, caller, table, mode) {
+            Ok(()) => Ok(table),
+            Err(stop) => Err(stop),
+        },
+        Err(stop) => Err(stop),
+    }
 }

@@ -1,17 +1,6 @@
-use Rattle.std.proofs.Common.{◌≡◌, sym, subst, ap, rules, Err}
-use Rattle.stores.specs.Events.{held}
-use Rattle.course.specs.Made.{made}
-use Rattle.course.specs.declared.stop.Stop.TheVariants.{NoMemory}
-use Rattle.statement_steps.specs.Steps.{IsStep}
-use Rattle.statement_steps.proofs.Parts.{held_step, no_memory, locks_same}
+use Rattle.std.proofs.Common.{ap}
+use Rattle.statement_steps.proofs.Parts.{held_step}
 use Rattle.statement_steps.proofs.holding.hold.Goals as goal
 
-pub returns-in_err-hold-clause-step : goal.returns-in_err-hold-clause-step
-returns-in_err-hold-clause-step c =
-    let out : c.from_residual.result ≡ Err NoMemory = search rules in
-    subst (λ r. IsStep (λ (u : Unit {0}). u) r c.args.stores.now c.hold.new.self c.args.caller c.args.caller.cmd (λ h. made (held h c.args.caller.session c.args.caller.cmd) tt)) (sym out)
-      (no_memory (λ (u : Unit {0}). u) c.args.stores.now c.hold.new.self c.args.caller c.args.caller.cmd (λ h. made (held h c.args.caller.session c.args.caller.cmd) tt)
-        (locks_same c.args.stores.now c.hold.new.self c.args.caller.session c.hold.ensures.open (ap (λ s. s.locks) c.hold.ensures.rest)))
-
-pub returns-clause-step : goal.returns-clause-step
-returns-clause-step c = held_step c.args.stores.now c.hold.new.self c.args.caller c.requires c.in_ok-hold.ensures.good c.hold.ensures.open (ap (λ s. s.locks) c.hold.ensures.rest)
+pub returns-in-Ok-clause-step : goal.returns-in-Ok-clause-step
+returns-in-Ok-clause-step c = held_step c.args.stores.now c.hold.new.self c.args.caller c.requires c.in-Ok.ensures.good c.hold.ensures.open (ap (λ s. s.locks) c.hold.ensures.rest)

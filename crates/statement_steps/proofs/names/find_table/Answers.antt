@@ -1,21 +1,25 @@
-use Rattle.std.proofs.Common.{rules, ◌≡◌, ℕ, ◌<◌, ◌++◌, ◌∷◌, [], Some, None, IfOk, OnOk, OnErr, length, ◌+◌, ◌-◌, ◌*◌, ◌≤◌, ◌/◌, ◌%◌, Bool, true, false, nat_eq, nat_lt, List, slice_index_or, slice_set, bit_and, bit_or, Fits, w8, w32, w64, Bor, MutBor}
-use Rattle.history.specs.History.{History, tx_events, catalogue_events}
-use Rattle.pg_ids.specs.declared.lock_mode.LockMode.{LockMode}
-use Rattle.soundness.specs.Parts.{IsKnown}
+use Rattle.std.proofs.Common.{◌≡◌, ◌<◌, sym, subst, ap, ◌∙◌, Some, Err, option_map, length}
+use Rattle.history.specs.History.{History}
+use Rattle.part_catalog.specs.Found.{resolved}
 use Rattle.stores.specs.Stand.{Stands}
-use Rattle.course.specs.Attempts.{MayAttempt}
-use Rattle.statement_steps.specs.Asks as asks
+use Rattle.pg_ids.specs.declared.ids.TableNo.{TableNo}
+use Rattle.statement_steps.specs.Asks.{found}
 use Rattle.statement_steps.specs.Steps.{IsStep}
+use Rattle.statement_steps.proofs.Parts.{found_below, found_known, none_found, known_by}
 use Rattle.statement_steps.proofs.names.find_table.Goals as goal
 
--- src/names.rt:74:35
-pub returns-in_err-no_table-in-None-clause-step : goal.returns-in_err-no_table-in-None-clause-step
-returns-in_err-no_table-in-None-clause-step c = ?
+meant : (c : goal.In-Some) (h : History) → Stands c.args.stores.now h → resolved h c.args.caller.session c.args.name.now ≡ Some c.in-Some.table.number
+meant c h stands = sym (c.resolve.ensures h stands.all.txs stands.all.catalog) ∙ ap (option_map (λ (t : TableNo). t.number)) c.in-Some.is
 
--- src/names.rt:60:1
 pub returns-in-Some-clause-known : goal.returns-in-Some-clause-known
-returns-in-Some-clause-known c = ?
+returns-in-Some-clause-known c =
+    let h = c.requires.sound.0 in
+    let stands = c.requires.sound.1 in
+    known_by c.args.stores.now h c.args.caller.session c.in-Some.table.number stands (found_below c.args.stores.now h c.args.caller.session c.in-Some.table.number c.args.name.now stands (meant c h stands))
+      (found_known c.args.stores.now c.args.caller h c.in-Some.table.number c.args.name.now c.named_is_there.ensures c.requires stands (meant c h stands))
 
--- src/names.rt:60:1
-pub returns-in-Some-clause-there : goal.returns-in-Some-clause-there
-returns-in-Some-clause-there c = ?
+pub returns-in-None-clause-step : goal.returns-in-None-clause-step
+returns-in-None-clause-step c =
+    subst (λ r. IsStep (λ (t : TableNo). t.number) (Err r) c.args.stores.now c.args.stores.now c.args.caller c.args.caller.cmd (found c.args.caller.session c.args.name.now)) (sym c.stop_by.ensures)
+      (none_found c.args.stores.now c.args.caller c.args.name.now c.no_table.result c.no_table.ensures c.requires
+        (λ h stands. sym (c.resolve.ensures h stands.all.txs stands.all.catalog) ∙ ap (option_map (λ (t : TableNo). t.number)) c.in-None.is))
