@@ -1,6 +1,6 @@
 -- Single parts of a statement: nothing done, a refusal, a lock, a snapshot that is kept.
 use Rattle.std.proofs.lemmas.List.{length-map, get_or-map}
-use Rattle.std.proofs.Common.{◌≡◌, ◌≢◌, ℕ, ◌+◌, ◌<◌, ◌||◌, Bool, true, false, List, [], ◌∷◌, ◌++◌, refl, ap, sym, ◌∙◌, subst, arith, append-nil, Option, Some, None, Result, Ok, Err, IfOk, map, length, slice_index_or}
+use Rattle.std.proofs.Common.{◌≡◌, ℕ, ◌+◌, ◌<◌, ◌||◌, Bool, true, false, List, [], ◌∷◌, ◌++◌, refl, ap, sym, ◌∙◌, subst, arith, append-nil, Option, Some, None, Result, Ok, Err, IfOk, map, length, slice_index_or}
 use Rattle.pg_ids.specs.declared.ids.TableNo.{TableNo}
 use Rattle.pg_ids.specs.declared.lock_mode.LockMode.{LockMode}
 use Rattle.pg_ids.specs.declared.session_set.SessionSet.{SessionSet}
@@ -26,7 +26,6 @@ use Rattle.soundness.specs.Worlds.{table_in as made_table}
 use Rattle.soundness.specs.Parts.{IsKnown}
 use Rattle.legal_statements.specs.Laws.{NamedIsThere}
 use Rattle.part_catalog.specs.Found.{resolved, is_meant, table_number}
-use Rattle.part_catalog.specs.Names.{last_below}
 use Rattle.history.specs.Places.{no_table as no_table_made}
 use Rattle.part_catalog.specs.Kept.{table_in, no_stored}
 use Rattle.part_catalog.proofs.Found.{last_is}
@@ -46,7 +45,7 @@ use Rattle.statement_steps.proofs.Known.{some_of, has_known}
 use Rattle.statement_steps.specs.Faults.{no_table, deadlock, stop_by}
 use Rattle.statement_steps.specs.Asks.{told_of, locked, found, meant_or_none, number_or, kept_number}
 use Rattle.statement_steps.specs.Known.{maker_of, IsKnownTo}
-use Rattle.statement_steps.specs.Steps.{IsTold, IsHalted, IsStep}
+use Rattle.statement_steps.specs.Steps.{IsTold, IsStep}
 
 -- ---- nothing is done
 
@@ -145,13 +144,15 @@ pub granted_step : (names : List (List ℕ)) (old new : Stores) (caller : Caller
 granted_step names old new caller t m may asked = record {
   is = λ h stands at.
       let events = map LockChange (asked_events (lock_events h) caller.session (Lock t m)) in
-      subst (IsTold (λ (u : Unit {0}). u) (Ok tt) new caller caller.cmd h) (sym (told_at_once names events _ (asked.view h stands)))
-        (refl, subst (WentOn h caller.session caller.cmd [] new) (asked.history h stands) (record {
-            stands = asked.good h stands;
-            at = at_lock (LockGot caller.session t.number m) h caller.session caller.cmd at;
-            others = λ r c other is. at_lock (LockGot caller.session t.number m) h r c is;
-            queue = sym (append-nil (queue (lock_events h)));
-          }));
+      subst (IsTold (λ (u : Unit {0}). u) (Ok tt) new caller caller.cmd h) (sym (told_at_once names events _ (asked.view h stands))) (
+        refl,
+        subst (WentOn h caller.session caller.cmd [] new) (asked.history h stands) (record {
+          stands = asked.good h stands;
+          at = at_lock (LockGot caller.session t.number m) h caller.session caller.cmd at;
+          others = λ r c other is. at_lock (LockGot caller.session t.number m) h r c is;
+          queue = sym (append-nil (queue (lock_events h)));
+        }),
+      );
   keeps = asked_keeps old new caller t m Granted may asked;
   waits = asked.waits;
 }
@@ -161,13 +162,15 @@ pub waiting_step : (names : List (List ℕ)) (old new : Stores) (caller : Caller
 waiting_step names old new caller t m behind may asked = record {
   is = λ h stands at.
       let events = map LockChange (asked_events (lock_events h) caller.session (Lock t m)) in
-      subst (IsTold (λ (u : Unit {0}). u) (Err stop.Waits) new caller caller.cmd h) (sym (told_waits names events (sessions behind) _ (asked.view h stands)))
-        (refl, subst (WentOn h caller.session caller.cmd (caller.session ∷ []) new) (asked.history h stands) (record {
-            stands = asked.good h stands;
-            at = at_lock (WaitBegan caller.session (Lock t m)) h caller.session caller.cmd at;
-            others = λ r c other is. at_lock (WaitBegan caller.session (Lock t m)) h r c is;
-            queue = refl;
-          }));
+      subst (IsTold (λ (u : Unit {0}). u) (Err stop.Waits) new caller caller.cmd h) (sym (told_waits names events (sessions behind) _ (asked.view h stands))) (
+        refl,
+        subst (WentOn h caller.session caller.cmd (caller.session ∷ []) new) (asked.history h stands) (record {
+          stands = asked.good h stands;
+          at = at_lock (WaitBegan caller.session (Lock t m)) h caller.session caller.cmd at;
+          others = λ r c other is. at_lock (WaitBegan caller.session (Lock t m)) h r c is;
+          queue = refl;
+        }),
+      );
   keeps = asked_keeps old new caller t m (IsBehindOthers behind) may asked;
   waits = (t, m, asked.waits);
 }
@@ -177,13 +180,15 @@ pub closing_step : (names : List (List ℕ)) (old new : Stores) (caller : Caller
 closing_step names old new caller t m cycle f is_fault may asked = record {
   is = λ h stands at.
       let events = map LockChange (asked_events (lock_events h) caller.session (Lock t m)) in
-      subst (IsTold (λ (u : Unit {0}). u) (Err (stop.Refused f)) new caller caller.cmd h) (sym (told_closes names events (listed cycle) _ (asked.view h stands)))
-        (ap (λ x. Err (Refused x)) (sym is_fault), subst (WentOn h caller.session (caller.cmd + 1) [] new) (asked.history h stands) (record {
-            stands = asked.good h stands;
-            at = one_later h caller.session caller.cmd at;
-            others = λ r c other is. is;
-            queue = sym (append-nil (queue (lock_events h)));
-          }));
+      subst (IsTold (λ (u : Unit {0}). u) (Err (stop.Refused f)) new caller caller.cmd h) (sym (told_closes names events (listed cycle) _ (asked.view h stands))) (
+        ap (λ x. Err (Refused x)) (sym is_fault),
+        subst (WentOn h caller.session (caller.cmd + 1) [] new) (asked.history h stands) (record {
+          stands = asked.good h stands;
+          at = one_later h caller.session caller.cmd at;
+          others = λ r c other is. is;
+          queue = sym (append-nil (queue (lock_events h)));
+        }),
+      );
   keeps = asked_keeps old new caller t m (Deadlock cycle) may asked;
   waits = asked.waits;
 }
@@ -214,13 +219,15 @@ pub held_step : (old new : Stores) (caller : Caller) → MayAttempt old caller �
     → new.txs.current ≡ old.txs.current → new.locks ≡ old.locks → IsStep (λ (u : Unit {0}). u) (Ok tt) old new caller caller.cmd (λ h. made (held h caller.session caller.cmd) tt)
 held_step old new caller may good txs locks = record {
   is = λ h stands at.
-      let own = own_tx old caller h may stands in
-      (refl, record {
+      let own = own_tx old caller h may stands in (
+        refl,
+        record {
           stands = good h stands at;
           at = (looks_keep_numbers h caller.session caller.session own.0 caller.cmd caller.cmd stands.good at own.1 (λ same. omega arith)).1;
           others = λ r c other is. (looks_keep_numbers h caller.session r own.0 caller.cmd c stands.good is own.1 (λ same. absurd (other (sym same)))).1;
           queue = ap queue (held_first_locks (held_by (snapshot_events h) caller.session) caller.session (look_of h caller.session caller.cmd) h) ∙ sym (append-nil (queue (lock_events h)));
-        });
+        },
+      );
   keeps = locks_same old new caller.session txs locks;
   waits = subst (λ l. IsIdle l caller.session) (sym locks) may.idle;
 }
@@ -259,9 +266,10 @@ maker_is stores h x stands lt =
 
 pub known_in : (stores : Stores) (h : History) (s x : ℕ) → Stands stores h → IsKnownTo stores s x → IsKnown (tx_events h) (catalogue_events h) s x
 known_in stores h s x stands known =
-    let by = maker_is stores h x stands known.made in
-    (subst (λ n. x < n) (sym (length-map stores.catalog.tables table_in) ∙ ap length stands.all.catalog.tables) known.made,
-      λ runs. sym (stands.all.txs.current s) ∙ (known.own (stands.all.txs.fates (maker_of stores x) ∙ (ap (fate (tx_events h)) (sym by) ∙ runs)) ∙ ap Some (sym by)))
+    let by = maker_is stores h x stands known.made in (
+      subst (λ n. x < n) (sym (length-map stores.catalog.tables table_in) ∙ ap length stands.all.catalog.tables) known.made,
+      λ runs. sym (stands.all.txs.current s) ∙ (known.own (stands.all.txs.fates (maker_of stores x) ∙ (ap (fate (tx_events h)) (sym by) ∙ runs)) ∙ ap Some (sym by)),
+    )
 
 pub known_by : (stores : Stores) (h : History) (s x : ℕ) → Stands stores h → x < length stores.catalog.tables → IsKnown (tx_events h) (catalogue_events h) s x → IsKnownTo stores s x
 known_by stores h s x stands lt known =

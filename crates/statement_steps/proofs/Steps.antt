@@ -1,15 +1,10 @@
 -- Parts of a statement, one after another.
-use Rattle.std.proofs.Common.{◌≡◌, ◌≢◌, ℕ, ◌+◌, List, [], ◌∷◌, ◌++◌, refl, ap, sym, ◌∙◌, subst, append_assoc, append-nil, Option, Some, None, Result, Ok, Err, IsSome, true, length, slice_index_or}
-use Rattle.pg_ids.specs.Sets.{has}
+use Rattle.std.proofs.Common.{ℕ, ◌+◌, List, [], ◌∷◌, ◌++◌, refl, ap, sym, ◌∙◌, subst, append_assoc, append-nil, None, Result, Ok, Err, IsSome, slice_index_or}
 use Rattle.history.specs.Locks.{queue}
 use Rattle.history.specs.History.{History, lock_events}
-use Rattle.lock_table.specs.Kept.{held_at}
-use Rattle.lock_table.specs.Stands.{IsIdle, OthersWait, SameSize}
-use Rattle.stores.specs.Stand.{Stands}
-use Rattle.stores.specs.Numbers.{IsAt}
 use Rattle.stores.specs.declared.stores.Stores.{Stores}
-use Rattle.course.specs.Made.{Made, Halt, Waits, Refused, and_then, then_told, behind}
-use Rattle.course.specs.Attempts.{MayAttempt, AreSound, WentOn, GoesOn, LocksStay}
+use Rattle.course.specs.Made.{Made, and_then, then_told, behind}
+use Rattle.course.specs.Attempts.{MayAttempt, WentOn, GoesOn}
 use Rattle.course.specs.declared.caller.Caller.{Caller}
 use Rattle.course.specs.declared.stop.Stop.{Stop}
 use Rattle.course.specs.declared.stop.Stop.TheVariants as stop
@@ -53,7 +48,7 @@ then_step {T} {U} see view x r old mid new caller n f next first second = record
       let a = first.is h stands at in
       let told = second.is ((f h).events ++ h) a.1.stands a.1.at in
       subst (λ t. IsTold view r new caller n h (then_told t (f h).events (λ y. next y ((f h).events ++ h)))) (sym a.0)
-        (told_behind view r mid new caller n h (f h).events (next (see x) ((f h).events ++ h)) a.1 told);
+      (told_behind view r mid new caller n h (f h).events (next (see x) ((f h).events ++ h)) a.1 told);
   keeps = goes_on old mid new caller.session first.keeps second.keeps;
   waits = second.waits;
 }

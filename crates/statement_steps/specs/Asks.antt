@@ -1,6 +1,5 @@
 -- Tables by their names, and locks on them (the manual, 13.3.1 Table-Level Locks; LOCK).
 use Rattle.std.specs.Prelude.{ℕ, List, [], ◌∷◌, Option, Some, None, Result, Ok, Err, map}
-use Rattle.pg_ids.specs.declared.ids.TableNo.{TableNo}
 use Rattle.pg_ids.specs.declared.lock_mode.LockMode.{LockMode}
 use Rattle.history.specs.declared.wait.Wanted.TheVariants.{Lock}
 use Rattle.history.specs.History.{History, LockChange, lock_events}

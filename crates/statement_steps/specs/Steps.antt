@@ -1,6 +1,5 @@
 -- A part of a statement that runs over the stores: what is told of it, by a function of the history.
-use Rattle.std.specs.Prelude.{◌≡◌, ℕ, ◌+◌, List, [], ◌∷◌, ◌++◌, None, Result, Ok, Err}
-use Rattle.pg_values.specs.declared.fault.Fault.{Fault}
+use Rattle.std.specs.Prelude.{◌≡◌, ℕ, ◌+◌, [], ◌∷◌, ◌++◌, Result, Ok, Err}
 use Rattle.history.specs.History.{History}
 use Rattle.lock_table.specs.Stands.{IsIdle}
 use Rattle.stores.specs.Stand.{Stands}

@@ -24,11 +24,7 @@ fn hold(alloc: Global, stores: &mut Stores, caller: Caller) -> Result<(), Stop>
 }
 
 /// A transaction at REPEATABLE READ takes its snapshot before its first statement waits, and keeps it.
-pub fn hold_if_repeatable(
-    alloc: Global,
-    stores: &mut Stores,
-    caller: Caller,
-) -> Result<(), Stop>
+pub fn hold_if_repeatable(alloc: Global, stores: &mut Stores, caller: Caller) -> Result<(), Stop>
     requires { MayAttempt stores.old caller }
     ensures step { IsStep (λ u. u) result stores.old stores.new caller caller.cmd (asks.held_at caller.level caller.session caller.cmd) }
     ensures rest { stores.new ≡ record stores.old { txs = stores.new.txs } }

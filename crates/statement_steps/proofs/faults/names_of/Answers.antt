@@ -1,4 +1,4 @@
-use Rattle.std.proofs.Common.{◌≡◌, ◌∙◌, ap, map, take, length, refl, arith, rules, ◌≤◌}
+use Rattle.std.proofs.Common.{◌∙◌, ap, map, rules}
 use Rattle.std.proofs.lemmas.List.{take_all}
 use Rattle.pg_ids.specs.Lists.{listed}
 use Rattle.statement_steps.specs.Faults as faults

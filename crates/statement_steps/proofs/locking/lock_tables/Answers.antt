@@ -1,4 +1,4 @@
-use Rattle.std.proofs.Common.{rules, ◌≡◌, ◌∷◌, [], sym, subst}
+use Rattle.std.proofs.Common.{rules, ◌≡◌, ◌∷◌, [], subst}
 use Rattle.statement_steps.proofs.Left.{IsLeft, all_left, one_less, stops_there, none_left, no_length}
 use Rattle.statement_steps.proofs.locking.lock_tables.Goals as goal
 
@@ -9,16 +9,16 @@ pub returns-in-Err-clause-step : goal.returns-in-Err-clause-step
 returns-in-Err-clause-step c =
     let whole : c.loop-table.left.now ≡ c.in-Some.table.now ∷ c.in-Some.others.now = search rules in
     stops_there c.args.stores.now c.loop-table.stores c.lock_table.new.stores c.args.caller c.args.names.now c.args.mode c.args.tables.now c.in-Some.table.now c.in-Some.others.now c.in-Err.stop
-      (subst (IsLeft c.args.stores.now c.loop-table.stores c.args.caller c.args.names.now c.args.mode c.args.tables.now) whole c.loop-table.invariant) c.in-Err.ensures.step
+    (subst (IsLeft c.args.stores.now c.loop-table.stores c.args.caller c.args.names.now c.args.mode c.args.tables.now) whole c.loop-table.invariant) c.in-Err.ensures.step
 
 pub loop-table-preserved : goal.loop-table-preserved
 loop-table-preserved c =
     let whole : c.loop-table.left.now ≡ c.in-Some.table.now ∷ c.in-Some.others.now = search rules in
     one_less c.args.stores.now c.loop-table.stores c.lock_table.new.stores c.args.caller c.args.names.now c.args.mode c.args.tables.now c.in-Some.table.now c.in-Some.others.now
-      (subst (IsLeft c.args.stores.now c.loop-table.stores c.args.caller c.args.names.now c.args.mode c.args.tables.now) whole c.loop-table.invariant) c.in-Ok.ensures.step c.lock_table.ensures.rest
+    (subst (IsLeft c.args.stores.now c.loop-table.stores c.args.caller c.args.names.now c.args.mode c.args.tables.now) whole c.loop-table.invariant) c.in-Ok.ensures.step c.lock_table.ensures.rest
 
 pub returns-clause-step : goal.returns-clause-step
 returns-clause-step c =
     let none : c.loop-table.left.now ≡ [] = no_length c.loop-table.left.now c.in_default.ensures.cases in
     none_left c.args.stores.now c.loop-table.stores c.args.caller c.args.names.now c.args.mode c.args.tables.now
-      (subst (IsLeft c.args.stores.now c.loop-table.stores c.args.caller c.args.names.now c.args.mode c.args.tables.now) none c.loop-table.invariant)
+    (subst (IsLeft c.args.stores.now c.loop-table.stores c.args.caller c.args.names.now c.args.mode c.args.tables.now) none c.loop-table.invariant)

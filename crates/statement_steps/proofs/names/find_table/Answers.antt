@@ -1,4 +1,4 @@
-use Rattle.std.proofs.Common.{◌≡◌, ◌<◌, sym, subst, ap, ◌∙◌, Some, Err, option_map, length}
+use Rattle.std.proofs.Common.{◌≡◌, sym, subst, ap, ◌∙◌, Some, Err, option_map}
 use Rattle.history.specs.History.{History}
 use Rattle.part_catalog.specs.Found.{resolved}
 use Rattle.stores.specs.Stand.{Stands}
@@ -16,10 +16,10 @@ returns-in-Some-clause-known c =
     let h = c.requires.sound.0 in
     let stands = c.requires.sound.1 in
     known_by c.args.stores.now h c.args.caller.session c.in-Some.table.number stands (found_below c.args.stores.now h c.args.caller.session c.in-Some.table.number c.args.name.now stands (meant c h stands))
-      (found_known c.args.stores.now c.args.caller h c.in-Some.table.number c.args.name.now c.named_is_there.ensures c.requires stands (meant c h stands))
+    (found_known c.args.stores.now c.args.caller h c.in-Some.table.number c.args.name.now c.named_is_there.ensures c.requires stands (meant c h stands))
 
 pub returns-in-None-clause-step : goal.returns-in-None-clause-step
 returns-in-None-clause-step c =
     subst (λ r. IsStep (λ (t : TableNo). t.number) (Err r) c.args.stores.now c.args.stores.now c.args.caller c.args.caller.cmd (found c.args.caller.session c.args.name.now)) (sym c.stop_by.ensures)
-      (none_found c.args.stores.now c.args.caller c.args.name.now c.no_table.result c.no_table.ensures c.requires
-        (λ h stands. sym (c.resolve.ensures h stands.all.txs stands.all.catalog) ∙ ap (option_map (λ (t : TableNo). t.number)) c.in-None.is))
+    (none_found c.args.stores.now c.args.caller c.args.name.now c.no_table.result c.no_table.ensures c.requires
+    (λ h stands. sym (c.resolve.ensures h stands.all.txs stands.all.catalog) ∙ ap (option_map (λ (t : TableNo). t.number)) c.in-None.is))
