@@ -29,7 +29,21 @@ fn blocks_are_read_or_refused(rt: HostRuntime) -> Result<(), Fail> {
     let alloc = rt.alloc();
     let block = read_block(alloc, b"SELECT 1; COMMIT");
     assert!(rt; matches!(&block, Ok(list) if list.len() == 2));
-    assert!(rt; refused(alloc, b"SELEC 1;", b"42601", &[b"syntax error at byte <n>", b"0"]));
-    assert!(rt; refused(alloc, b"SELECT * FROM t LEFT JOIN t u ON t.a = u.a;", b"0A000", &[b"LEFT"]));
+    assert!(rt;
+        refused(
+            alloc,
+            b"SELEC 1;",
+            b"42601",
+            &[b"syntax error at byte <n>", b"0"]
+        )
+    );
+    assert!(rt;
+        refused(
+            alloc,
+            b"SELECT * FROM t LEFT JOIN t u ON t.a = u.a;",
+            b"0A000",
+            &[b"LEFT"]
+        )
+    );
     Ok(())
 }
