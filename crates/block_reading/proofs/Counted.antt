@@ -1,8 +1,8 @@
 -- A block has at most 1,024 statements.
 use Rattle.std.proofs.Common.{◌≡◌, ◌≤◌, ℕ, ◌+◌, Bool, true, false, List, [], ◌∷◌, ◌++◌, length, Option, Some, None, nat_lt, inl, inr, refl, sym, subst, arith, length-append}
-use Rattle.grammar_rules.specs.Reading.{nothing_texts}
+use Rattle.std.proofs.lemmas.Bool.{ltb-true}
+use Rattle.grammar_rules.specs.Reading.{both_texts, nothing_texts, one_texts}
 use Rattle.grammar_rules.specs.Rows.{always, all_rows, step_to}
-use Rattle.grammar_rules.specs.Reading.{both_texts, one_texts}
 use Rattle.sql_expressions.specs.Levels.{room_texts}
 use Rattle.sql_tokens.specs.Classes.{a}
 use Rattle.sql_tokens.specs.Tokens.{tokens_of}
@@ -23,7 +23,8 @@ module _ (text : List ℕ) where
   one_more xs ts (Some x) h w =
       let r : nat_lt (length xs) MOST_STATEMENTS ≡ true = has_room (nat_lt (length xs) MOST_STATEMENTS) _ ts x w in
       let e = length-append xs (x ∷ []) in
-      arith (r, e)
+      let l = ltb-true (length xs) MOST_STATEMENTS r in
+      omega (arith, l, e)
 
   abbrev Next : List StatementTree → List Token → Token × Option StatementTree → Type 0
   Next xs = both_texts (one_texts (a word.Semicolon)) (maybe_statement text (length xs)).texts
@@ -37,5 +38,5 @@ module _ (text : List ℕ) where
   pub few : (ts : List Token) (all : List StatementTree) → (block text).texts ts all → length all ≤ MOST_STATEMENTS
   few ts all w =
       let v = w.1 in
-      let first = one_more [] v.0 w.0.0 (arith tt) v.3 in
+      let first = one_more [] v.0 w.0.0 (omega arith) v.3 in
       subst (λ (z : List StatementTree). length z ≤ MOST_STATEMENTS) (sym w.2) (more v.4.0 (first_of w.0.0) v.1 w.0.1 first v.4.1)

@@ -39,7 +39,7 @@ no_longer : {T : Type 0} (after after' : List T) (t : T) (z : List T) (n : ℕ) 
 no_longer after after' t z n e i j =
     let k : length after' ≡ suc (length (z ++ after)) = ap length e in
     let l : length (z ++ after) ≡ length z + length after = length-append z after in
-    arith (k, l, i, j)
+    omega (arith, k, l, i, j)
 
 -- what begins nothing without limits goes on in no text without limits
 pub goes_nowhere : {T A : Type 0} {P U : List T → A → Type 0} (ts : List T) (n : ℕ) → FailsAt P U ts n → GoesOn U ts n → ⊥

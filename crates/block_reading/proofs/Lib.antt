@@ -1,3 +1,3 @@
-pub mod Fixed
 pub mod Counted
-pub mod BlockReadings
+pub mod Fixed
+pub mod TextReadings
