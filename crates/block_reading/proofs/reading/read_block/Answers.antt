@@ -19,7 +19,7 @@ pub returns-in-Ok-clause-few : goal.returns-in-Ok-clause-few
 returns-in-Ok-clause-few c =
     let text = c.args.text.now in
     let trees = map statement_tree c.in-Ok.statements.items in
-    subst (λ n. n ≤ MOST_STATEMENTS) (length-map statement_tree c.in-Ok.statements.items) (few text (tokens_of text) trees c.in-Ok.ensures.text)
+    subst (λ n. n ≤ MOST_STATEMENTS) (length-map c.in-Ok.statements.items statement_tree) (few text (tokens_of text) trees c.in-Ok.ensures.text)
 
 pub returns-in_ok-fault-in-Err-clause-is : goal.returns-in_ok-fault-in-Err-clause-is
 returns-in_ok-fault-in-Err-clause-is c =
