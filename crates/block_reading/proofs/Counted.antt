@@ -1,11 +1,10 @@
 -- A block has at most 1,024 statements.
-use Rattle.std.proofs.Common.{◌≡◌, ◌≤◌, ℕ, ◌+◌, Bool, true, false, List, [], ◌∷◌, ◌++◌, length, Option, Some, None, nat_lt, inl, inr, refl, sym, subst, arith, length-append}
+use Rattle.std.proofs.Common.{◌≡◌, ◌≤◌, ℕ, Bool, true, false, List, [], ◌∷◌, length, Option, Some, None, nat_lt, refl, sym, subst, arith, length-append}
 use Rattle.std.proofs.lemmas.Bool.{ltb-true}
 use Rattle.grammar_rules.specs.Reading.{both_texts, nothing_texts, one_texts}
 use Rattle.grammar_rules.specs.Rows.{always, all_rows, step_to}
 use Rattle.sql_expressions.specs.Levels.{room_texts}
 use Rattle.sql_tokens.specs.Classes.{a}
-use Rattle.sql_tokens.specs.Tokens.{tokens_of}
 use Rattle.sql_tokens.specs.declared.kind.Kind.TheVariants as word
 use Rattle.sql_tokens.specs.declared.token.Token.{Token}
 use Rattle.sql_syntax.specs.Grammar.{and_maybe, block, first_of, join, maybe_statement}

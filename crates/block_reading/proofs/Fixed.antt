@@ -4,7 +4,7 @@ use Rattle.grammar_rules.specs.Gives.{Gives}
 use Rattle.grammar_rules.specs.Parses.{SameNext, FailsAt, GoesOn, IsOnly, Parses}
 use Rattle.grammar_rules.specs.Reading.{Class, Rule, Stop, syntax_at, limit_at, read_whole}
 use Rattle.grammar_rules.specs.declared.refused.Refused.{Refused}
-use Rattle.grammar_rules.specs.declared.refused.Refused.TheVariants.{NoMemory, Syntax, Limit}
+use Rattle.grammar_rules.specs.declared.refused.Refused.TheVariants.{Syntax, Limit}
 use Rattle.grammar_rules.proofs.Laws.{Law}
 use Rattle.grammar_rules.proofs.Whole.{parses, reads_text}
 use Rattle.sql_queries.proofs.Splits.{Split, same, longer, shorter, split}

@@ -1,7 +1,7 @@
 -- What is promised of the answer to a text is what is read of it.
-use Rattle.std.proofs.Common.{◌≡◌, ℕ, Bool, true, false, cond, List, Option, Some, None, Result, Ok, Err, refl, sym, ◌∙◌, ap}
+use Rattle.std.proofs.Common.{◌≡◌, ℕ, Bool, true, false, cond, List, Option, Some, None, Ok, Err, refl, sym, ◌∙◌, ap}
 use Rattle.grammar_rules.specs.Parses.{IsOnly}
-use Rattle.grammar_rules.specs.Reading.{Class, Rule, Stop, syntax_at, limit_at, read_whole}
+use Rattle.grammar_rules.specs.Reading.{Class, Rule, syntax_at, read_whole}
 use Rattle.grammar_rules.proofs.Laws.{Law}
 use Rattle.grammar_words.specs.Places.{token_at}
 use Rattle.pg_values.specs.declared.fault.Fault.{Fault}
