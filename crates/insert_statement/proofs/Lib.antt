@@ -1,0 +1,10 @@
+pub mod Births
+pub mod Same
+pub mod Stored
+pub mod Whole
+pub mod Placed
+pub mod Locked
+pub mod OwnLeaf
+pub mod Ways
+pub mod Targets
+pub mod Below

@@ -1,0 +1,139 @@
+-- The leaf of a row is that of a table on its way.
+use Rattle.std.proofs.Common.{◌≡◌, ℕ, zero, suc, ◌+◌, ◌<◌, List, [], ◌∷◌, ◌++◌, ◌⊎◌, inl, inr, refl, ap, sym, ◌∙◌, subst, arith, Option, Some, None, Result, Ok, Err, All, map}
+use Rattle.std.specs.List.{Contains, flat_map}
+use Rattle.std.proofs.lemmas.List.Elements.{Contains-append_left, Contains-append_right}
+use Rattle.pg_values.specs.declared.value.Value.{Value}
+use Rattle.pg_values.specs.declared.fault.Fault.{Fault}
+use Rattle.pg_ids.specs.declared.ids.LeafId.{LeafId}
+use Rattle.pg_ids.specs.declared.ids.TableNo.{TableNo}
+use Rattle.part_bounds.specs.declared.level.Level.{Level as OneLevel}
+use Rattle.part_bounds.specs.declared.partition_bound.Bound.{Bound}
+use Rattle.part_bounds.specs.RawBounds.{faults_in, read_in}
+use Rattle.part_bounds.specs.Checks.{or_first}
+use Rattle.history.specs.declared.catalogue.Entry.{Entry}
+use Rattle.history.specs.declared.catalogue.Table.{Table}
+use Rattle.history.specs.declared.catalogue.TableShape.{TableShape}
+use Rattle.history.specs.declared.catalogue.TableShape.TheVariants.{Leaf, Level}
+use Rattle.history.specs.Snapshots.{TakenSnapshot}
+use Rattle.history.specs.Catalogue.{tables_made}
+use Rattle.history.specs.History.{History, catalogue_events}
+use Rattle.history.specs.Places.{table_at}
+use Rattle.history.specs.Presence.{entries_shown}
+use Rattle.table_trees.specs.declared.node.Node.{Node}
+use Rattle.table_trees.specs.declared.path_part.PathPart.{PathPart}
+use Rattle.table_trees.specs.declared.tree.NoPartition.{NoPartition}
+use Rattle.table_trees.specs.Histories.{tree_of, tree_within, grown, node_at, children, bound_of, child_of_entry, table_of}
+use Rattle.table_trees.specs.Trees.{TableTree, LeafTable, LevelTable, Trees, End, More, trees_of, child_of, routed, routed_in}
+use Rattle.row_change.specs.Placing.{placed, first_or, way_told, bounds_faults, all_placed}
+use Rattle.row_change.specs.Ways.{root, way_below, way_among, ways_below}
+use Rattle.soundness.proofs.Listed.{first_in, later_in}
+use Rattle.insert_statement.specs.Asked.{Each}
+
+-- ---- each table of a tree with its leaf
+
+abbrev mutual
+  pub AtHome : (TableNo → LeafId → Type 0) → TableTree → Type 0
+  AtHome P (LeafTable node leaf) = P node.table leaf
+  AtHome P (LevelTable node level bounds kids) = AllAtHome P kids
+
+  pub AllAtHome : (TableNo → LeafId → Type 0) → Trees → Type 0
+  AllAtHome P End = Unit {0}
+  AllAtHome P (More k ks) = AtHome P k × AllAtHome P ks
+
+grown_home : (P : TableNo → LeafId → Type 0) (shape : TableShape) (node : Node) (bounds : List Bound) (kids : List TableTree) → ((leaf : LeafId) → shape ≡ Leaf leaf → P node.table leaf) → AllAtHome P (trees_of kids) → AtHome P (grown shape node bounds kids)
+grown_home P (Leaf leaf) node bounds kids here below = here leaf refl
+grown_home P (Level level) node bounds kids here below = below
+
+kids_home : (P : TableNo → LeafId → Type 0) (f : ℕ → TableTree) (es : List Entry) → ((t : ℕ) → AtHome P (f t)) → AllAtHome P (trees_of (map (λ (e : Entry). f (child_of_entry e)) es))
+kids_home P f [] each = tt
+kids_home P f (e ∷ es) each = (each (child_of_entry e), kids_home P f es each)
+
+-- its shape is this leaf
+abbrev pub IsHome : List Table → TableNo → LeafId → Type 0
+IsHome tables t leaf = (table_at tables t.number).shape ≡ Leaf leaf
+
+within_home : (tables : List Table) (entries : List Entry) (named n t : ℕ) → AtHome (IsHome tables) (tree_within n tables entries named t)
+within_home tables entries named zero t = grown_home (IsHome tables) (table_at tables t).shape (node_at tables named t) [] [] (λ leaf is. is) tt
+within_home tables entries named (suc n) t =
+    grown_home (IsHome tables) (table_at tables t).shape (node_at tables named t) (map bound_of (children entries t)) (map (λ e. tree_within n tables entries named (child_of_entry e)) (children entries t)) (λ leaf is. is)
+    (kids_home (IsHome tables) (λ c. tree_within n tables entries named c) (children entries t) (λ c. within_home tables entries named n c))
+
+pub tree_home : (h : History) (s t : ℕ) (look : TakenSnapshot) → AtHome (IsHome (tables_made (catalogue_events h))) (tree_of h s t look)
+unfolding tree_of
+tree_home h s t look = within_home (tables_made (catalogue_events h)) (entries_shown h s look) t 7 t
+
+-- ---- the end of a way
+
+abbrev IsOnWay : TableNo → List Value → TableTree → Type 0
+IsOnWay t row tree = (root tree ≡ t) ⊎ Contains (way_below row tree) t
+
+at_first : (k : TableNo) (ts : List TableNo) (t : TableNo) → (k ≡ t) ⊎ Contains ts t → Contains (k ∷ ts) t
+at_first k ts t (inl same) = subst (Contains (k ∷ ts)) same (first_in k ts)
+at_first k ts t (inr later) = later_in k ts t later
+
+mutual
+  way_end : (P : TableNo → LeafId → Type 0) (row : List Value) (tree : TableTree) (leaf : LeafId) → AtHome P tree → routed row tree ≡ Ok leaf → (t : TableNo) × P t leaf × IsOnWay t row tree
+  way_end P row (LeafTable node own) leaf home e = (node.table, subst (P node.table) (let c = e in cc) home, inl refl)
+  way_end P row (LevelTable node level bounds kids) leaf home e =
+      let found = among_end P row node.table (child_of level bounds row) kids leaf home e in
+      (found.0, found.1, inr found.2)
+
+  among_end : (P : TableNo → LeafId → Type 0) (row : List Value) (table : TableNo) (o : Option ℕ) (kids : Trees) (leaf : LeafId) → AllAtHome P kids → routed_in row table o kids ≡ Ok leaf → (t : TableNo) × P t leaf × Contains (way_among row o kids) t
+  among_end P row table None kids leaf home e = absurd (let c = e in cc)
+  among_end P row table (Some i) End leaf home e = absurd (let c = e in cc)
+  among_end P row table (Some zero) (More k ks) leaf home e =
+      let found = way_end P row k leaf home.0 e in
+      (found.0, found.1, at_first (root k) (way_below row k) found.0 found.2)
+  among_end P row table (Some (suc i)) (More k ks) leaf home e = among_end P row table (Some i) ks leaf home.1 e
+
+-- where the table itself is no leaf, it is a table below it
+pub way_ends_below : (tables : List Table) (row : List Value) (tree : TableTree) (leaf : LeafId) (level : OneLevel) → AtHome (IsHome tables) tree → (table_at tables (root tree).number).shape ≡ Level level → routed row tree ≡ Ok leaf
+    → (t : TableNo) × IsHome tables t leaf × Contains (way_below row tree) t
+way_ends_below tables row tree leaf level home shape e =
+    let found = way_end (IsHome tables) row tree leaf home e in
+    elim found.2 [
+      | inl top ↦ absurd (let leaf_shape = subst (λ (t : TableNo). (table_at tables t.number).shape ≡ Leaf leaf) (sym top) found.1 in let c = sym shape ∙ leaf_shape in cc)
+      | inr below ↦ (found.0, found.1, below)
+    ]
+
+pub in_ways : (tree : TableTree) (rows : List (List Value)) (row : List Value) (t : TableNo) → Contains rows row → Contains (way_below row tree) t → Contains (ways_below tree rows) t
+in_ways tree [] row t at on = absurd (let lt = at.1 in omega (arith, lt))
+in_ways tree (r ∷ rs) row t (zero, lt, same) on = Contains-append_left (way_below r tree) (ways_below tree rs) t (subst (λ x. Contains (way_below x tree) t) (sym same) on)
+in_ways tree (r ∷ rs) row t (suc k, lt, same) on = Contains-append_right (way_below r tree) (ways_below tree rs) t (in_ways tree rs row t (k, omega (arith, lt), same) on)
+
+-- ---- each row with its leaf
+
+-- what placing one row tells
+pub record IsPlaced (tables : List Table) (tree : TableTree) (path : List PathPart) (leaf : LeafId) (row : List Value) : Type 0 where
+  pub bounds : bounds_faults tables path row ≡ []
+  pub routed : routed row tree ≡ Ok leaf
+
+told_placed : (tables : List Table) (tree : TableTree) (path : List PathPart) (row : List Value) (leaf : LeafId) (faults : List Fault) (way : Result LeafId NoPartition) → first_or faults (way_told tables row way) ≡ Ok leaf → (faults ≡ []) × (way ≡ Ok leaf)
+told_placed tables tree path row leaf [] (Ok own) e = (refl, let c = e in cc)
+told_placed tables tree path row leaf [] (Err lost) e = absurd (let c = e in cc)
+told_placed tables tree path row leaf (f ∷ fs) way e = absurd (let c = e in cc)
+
+pub is_placed : (tables : List Table) (tree : TableTree) (path : List PathPart) (row : List Value) (leaf : LeafId) → placed tables tree path row ≡ Ok leaf → IsPlaced tables tree path leaf row
+is_placed tables tree path row leaf e =
+    let parts = told_placed tables tree path row leaf (bounds_faults tables path row) (routed row tree) e in
+    record { bounds = parts.0; routed = parts.1 }
+
+by_faults : (fs : List Fault) (read : List LeafId) (own : LeafId) (leaves : List LeafId) → or_first fs (own ∷ read) ≡ Ok leaves → (ls : List LeafId) × (leaves ≡ own ∷ ls) × (or_first fs read ≡ Ok ls)
+by_faults [] read own leaves e = (read, (let c = e in cc), refl)
+by_faults (f ∷ fs) read own leaves e = absurd (let c = e in cc)
+
+first_found : (rest : List (Result LeafId Fault)) (own : LeafId) (leaves : List LeafId) → or_first (faults_in (Ok own ∷ rest)) (read_in (Ok own ∷ rest)) ≡ Ok leaves → (ls : List LeafId) × (leaves ≡ own ∷ ls) × (or_first (faults_in rest) (read_in rest) ≡ Ok ls)
+first_found rest own leaves e = by_faults (faults_in rest) (read_in rest) own leaves e
+
+each_found : (place : List Value → Result LeafId Fault) (P : LeafId → List Value → Type 0) (r : List Value) (rs : List (List Value)) (leaves : List LeafId) (answer : Result LeafId Fault) → place r ≡ answer → ((l : LeafId) → place r ≡ Ok l → P l r)
+    → ((ls : List LeafId) → or_first (faults_in (map place rs)) (read_in (map place rs)) ≡ Ok ls → Each P ls rs) → or_first (faults_in (answer ∷ map place rs)) (read_in (answer ∷ map place rs)) ≡ Ok leaves → Each P leaves (r ∷ rs)
+each_found place P r rs leaves (Ok own) is one rest e =
+    let found = first_found (map place rs) own leaves e in
+    subst (λ ls. Each P ls (r ∷ rs)) (sym found.1) (one own is, rest found.0 found.2)
+each_found place P r rs leaves (Err f) is one rest e = absurd (let c = e in cc)
+
+pub each_placed : (place : List Value → Result LeafId Fault) (P : LeafId → List Value → Type 0) (rows : List (List Value)) (leaves : List LeafId) → ((l : LeafId) (r : List Value) → Contains rows r → place r ≡ Ok l → P l r)
+    → or_first (faults_in (map place rows)) (read_in (map place rows)) ≡ Ok leaves → Each P leaves rows
+each_placed place P [] leaves one e = let none : [] ≡ leaves = (let c = e in cc) in subst (λ ls. Each P ls []) none tt
+each_placed place P (r ∷ rs) leaves one e =
+    each_found place P r rs leaves (place r) refl (λ l is. one l r (first_in r rs) is) (λ ls is. each_placed place P rs ls (λ l x at. one l x (later_in r rs x at)) is) e

@@ -1,0 +1,112 @@
+-- What is asked of the rows of an INSERT before they are stored.
+use Rattle.std.specs.Prelude.{◌≡◌, ℕ, ◌<◌, true, false, List, [], ◌∷◌, None, Ok, All, find, length}
+use Rattle.std.specs.List.{list_any}
+use Rattle.pg_values.specs.declared.value.Value.{Value}
+use Rattle.pg_ids.specs.declared.ids.LeafId.{LeafId}
+use Rattle.pg_ids.specs.declared.ids.TableNo.{TableNo}
+use Rattle.history.specs.Snapshots.{TakenSnapshot}
+use Rattle.history.specs.Rows.{leaf_count}
+use Rattle.history.specs.History.{History, row_events, catalogue_events}
+use Rattle.table_trees.specs.declared.path_part.PathPart.{PathPart}
+use Rattle.table_trees.specs.Histories.{tree_of, path_of}
+use Rattle.table_trees.specs.Trees.{TableTree, routed}
+use Rattle.part_bounds.specs.declared.level.Level.{Level}
+use Rattle.history.specs.declared.catalogue.TableShape.TheVariants.{Level as Levels}
+use Rattle.tx_table.specs.Stands.{TableStands}
+use Rattle.part_catalog.specs.Found.{made_at}
+use Rattle.part_catalog.specs.Kept.{KeptCatalogue}
+use Rattle.part_catalog.specs.Stands.{CatalogueStands}
+use Rattle.row_router.specs.declared.path.PathTest.TheVariants.{Bounds}
+use Rattle.row_router.specs.Paths.{refused}
+use Rattle.row_change.specs.declared.target.Target.{Target}
+use Rattle.row_change.specs.Laws.{IsRowIn}
+use Rattle.row_change.specs.Placing.{all_placed}
+use Rattle.row_change.specs.Storing.{is_into, leaf_faults}
+use Rattle.soundness.specs.Worlds.{IsMade, HasLeaf}
+use Rattle.legal_statements.specs.Locked.{IsWritable}
+use Rattle.legal_statements.specs.Rows.{IsOwnLook}
+use Rattle.stores.specs.Events.{look_of}
+use Rattle.stores.specs.Stand.{AllStand, Stands}
+use Rattle.stores.specs.declared.stores.Stores.{Stores}
+use Rattle.course.specs.Made.{Made}
+use Rattle.pg_values.specs.declared.fault.Refusal.{Refusal}
+use Rattle.pg_values.specs.declared.fault.Refusal.TheVariants.{Sql, NoMemory}
+use Rattle.course.specs.declared.caller.Caller.{Caller}
+use Rattle.course.specs.declared.stop.Stop.{Stop}
+use Rattle.course.specs.declared.stop.Stop.TheVariants.{Refused, NoMemory as OutOfMemory}
+use Rattle.insert_statement.specs.Born.{all_born}
+use Rattle.insert_statement.specs.Inserted.{tables_of, own, holder}
+
+-- the rows are of the table's columns
+abbrev pub AreRowsOf : KeptCatalogue → TableNo → List (List Value) → Type 0
+AreRowsOf catalog t rows = (h : History) → CatalogueStands catalog h → All (λ row. IsRowIn h row t) rows
+
+-- the session may write the rows of these tables
+abbrev pub MayWrite : Stores → (session : ℕ) → List TableNo → Type 0
+MayWrite stores s tables = (h : History) → Stands stores h → All (λ t. IsWritable h s t.number) tables
+
+-- the tree that the session's command reads of a table that is there, and the path above it
+pub record IsTreeFor (stores : Stores) (caller : Caller) (tree : TableTree) (path : List PathPart) (rows : List (List Value)) : Type 0 where
+  pub table : TableNo
+  pub known : table.number < length stores.catalog.tables
+  pub rows_of : AreRowsOf stores.catalog table rows
+  pub is_level : (h : History) → CatalogueStands stores.catalog h → (level : Level) × ((made_at h table.number).shape ≡ Levels level)
+  pub is_tree : (h : History) → TableStands stores.txs h → CatalogueStands stores.catalog h → tree ≡ tree_of h caller.session table.number (look_of h caller.session caller.cmd)
+  pub is_path : (h : History) → TableStands stores.txs h → CatalogueStands stores.catalog h → path ≡ path_of h caller.session table.number
+
+-- by such a tree each row has its leaf
+pub record ArePlaced (stores : Stores) (caller : Caller) (tree : TableTree) (leaves : List LeafId) (rows : List (List Value)) : Type 0 where
+  pub path : List PathPart
+  pub by_tree : IsTreeFor stores caller tree path rows
+  pub placed : (h : History) → CatalogueStands stores.catalog h → all_placed (tables_of h) tree path rows ≡ Ok leaves
+
+-- ---- rows with their leaves
+
+abbrev pub Each : (LeafId → List Value → Type 0) → List LeafId → List (List Value) → Type 0
+Each P [] rows = Unit {0}
+Each P (l ∷ ls) [] = Unit {0}
+Each P (l ∷ ls) (r ∷ rs) = P l r × Each P ls rs
+
+-- where the targets stand for the tables of the leaves
+abbrev pub put : List Target → Caller → List LeafId → List (List Value) → History → Made (Unit {0})
+put targets caller leaves rows h = all_born (own h caller.session) caller.cmd (λ l row. leaf_faults (tables_of h) (find (is_into l) targets) row) leaves rows h
+
+-- the row may go into the leaf, by which it gets a place below the table
+pub record MayGo (h : History) (session table : ℕ) (s : TakenSnapshot) (leaf : LeafId) (row : List Value) : Type 0 where
+  pub placed : refused Bounds row (path_of h session table) ≡ None
+  pub routed : routed row (tree_of h session table s) ≡ Ok leaf
+  pub locked : (x : ℕ) → HasLeaf (catalogue_events h) x leaf → IsWritable h session x
+  pub there : leaf.number < leaf_count (row_events h)
+
+-- each row against which nothing stands may be stored, by what the session reads of some table
+pub record MayPut (h : History) (session : ℕ) (targets : List Target) (leaves : List LeafId) (rows : List (List Value)) : Type 0 where
+  pub table : ℕ
+  pub look : TakenSnapshot
+  pub made : IsMade (catalogue_events h) table
+  pub own_look : IsOwnLook h session look
+  pub go : Each (λ l row. leaf_faults (tables_of h) (find (is_into l) targets) row ≡ [] → MayGo h session table look l row) leaves rows
+
+-- ---- targets
+
+-- the target stands for a table that has the leaf and is named itself
+pub record IsOwnTarget (h : History) (s t : ℕ) (leaf : LeafId) (target : Target) : Type 0 where
+  pub same : target.leaf ≡ leaf
+  pub path : target.path.items ≡ path_of h s t
+  pub named : target.is_named ≡ true
+
+-- the target stands for the table of the tree that has its leaf, which the statement does not name
+pub record IsTargetFor (stores : Stores) (session : ℕ) (tree : TableTree) (target : Target) : Type 0 where
+  pub table : target.table ≡ holder tree target.leaf
+  pub path : (h : History) → AllStand stores h → target.path.items ≡ path_of h session target.table.number
+  pub unnamed : target.is_named ≡ false
+
+-- so does each of them, and each leaf has one
+pub record AreTargets (stores : Stores) (session : ℕ) (tree : TableTree) (leaves : List LeafId) (targets : List Target) : Type 0 where
+  pub each : All (IsTargetFor stores session tree) targets
+  pub all : All (λ l. list_any (is_into l) targets ≡ true) leaves
+
+-- ---- a refusal ends the statement
+
+abbrev pub stopped : Refusal → Stop
+stopped (Sql f) = Refused f
+stopped NoMemory = OutOfMemory

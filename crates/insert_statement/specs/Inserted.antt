@@ -1,0 +1,116 @@
+-- INSERT of a session (the manual, INSERT; 5.11.2 Declarative Partitioning; 13.3.1 Table-Level Locks).
+use Rattle.std.specs.Prelude.{ℕ, true, false, List, [], ◌∷◌, Option, Some, None, Result, Ok, Err, map, length, unwrap_or}
+use Rattle.pg_values.specs.declared.value.Value.{Value}
+use Rattle.pg_values.specs.declared.fault.Fault.{Fault}
+use Rattle.pg_ids.specs.declared.ids.LeafId.{LeafId}
+use Rattle.pg_ids.specs.declared.ids.TableNo.{TableNo}
+use Rattle.pg_ids.specs.declared.lock_mode.LockMode.TheVariants.{RowExclusive}
+use Rattle.history.specs.declared.transaction.TxId.{TxId}
+use Rattle.history.specs.declared.catalogue.Column.{Column}
+use Rattle.history.specs.declared.catalogue.Table.{Table}
+use Rattle.history.specs.declared.catalogue.TableShape.{TableShape}
+use Rattle.history.specs.declared.catalogue.TableShape.TheVariants.{Leaf, Level}
+use Rattle.history.specs.Catalogue.{tables_made}
+use Rattle.history.specs.History.{History, catalogue_events}
+use Rattle.table_trees.specs.declared.path_part.PathPart.{PathPart}
+use Rattle.table_trees.specs.Histories.{tree_of, path_of}
+use Rattle.table_trees.specs.Trees.{TableTree}
+use Rattle.part_catalog.specs.Found.{made_at}
+use Rattle.row_change.specs.FullRows.{full_row}
+use Rattle.row_change.specs.Placing.{all_placed}
+use Rattle.row_change.specs.Ways.{root, way_to, ways_below}
+use Rattle.sql_expressions.specs.Tree.{Trees}
+use Rattle.expression_binder.specs.declared.scope.Param.{Param}
+use Rattle.expression_binder.specs.declared.scope.ScopeColumn.{ScopeColumn}
+use Rattle.statement_asks.specs.Asked.{InsertMeant}
+use Rattle.change_binder.specs.Inserts.{bound_insert}
+use Rattle.stores.specs.Events.{tx_in, look_of}
+use Rattle.course.specs.Made.{Made, Refused, made, halted}
+use Rattle.course.specs.declared.caller.Caller.{Caller}
+use Rattle.statement_steps.specs.Asks.{named, held_at, all_locked}
+use Rattle.statement_steps.specs.Steps.{follow}
+use Rattle.insert_statement.specs.Born.{table_faults, all_born}
+
+abbrev pub answered : {T : Type 0} → Result T Fault → Made T
+answered (Ok x) = made [] x
+answered (Err f) = halted [] (Refused f)
+
+-- the tables that were made, and the session's transaction
+abbrev pub tables_of : History → List Table
+tables_of h = tables_made (catalogue_events h)
+
+abbrev pub own : History → (session : ℕ) → TxId
+own h s = record { number = tx_in h s }
+
+-- ---- the rows of VALUES
+
+abbrev pub scope_column : Column → ScopeColumn
+scope_column c = record { name = c.name; kind = c.kind }
+
+-- with a value for each column of the table
+abbrev pub whole : (width : ℕ) → Result InsertMeant Fault → Result (List (List Value)) Fault
+whole width (Ok m) = Ok (map (full_row width m.columns) m.rows)
+whole width (Err f) = Err f
+
+abbrev pub whole_rows : List Column → List Param → (session : ℕ) → Option (List (List ℕ)) → List Trees → Result (List (List Value)) Fault
+whole_rows columns params s names values = whole (length columns) (bound_insert (map scope_column columns) params s names values)
+
+abbrev pub rows_meant : List Param → (session table : ℕ) → Option (List (List ℕ)) → List Trees → History → Made (List (List Value))
+rows_meant params s t names values h = answered (whole_rows (made_at h t).columns params s names values)
+
+-- ---- into a table with rows of its own
+
+abbrev pub into_leaf : Caller → (table : ℕ) → LeafId → List (List Value) → History → Made (Unit {0})
+into_leaf caller t leaf rows h =
+    all_born (own h caller.session) caller.cmd (λ l row. table_faults (tables_of h) (record { number = t }) (path_of h caller.session t) true row) (map (λ row. leaf) rows) rows h
+
+-- ---- into a partitioned table
+
+abbrev pub last_or : TableNo → List TableNo → TableNo
+last_or t [] = t
+last_or t (x ∷ xs) = last_or x xs
+
+-- the table of the tree whose leaf it is
+abbrev pub holder : TableTree → LeafId → TableNo
+holder tree leaf = last_or (root tree) (unwrap_or (way_to leaf tree) [])
+
+abbrev pub holder_faults : History → (session : ℕ) → TableTree → LeafId → List Value → List Fault
+holder_faults h s tree leaf row = table_faults (tables_of h) (holder tree leaf) (path_of h s (holder tree leaf).number) false row
+
+abbrev pub into_leaves : Caller → TableTree → List LeafId → List (List Value) → History → Made (Unit {0})
+into_leaves caller tree leaves rows h = all_born (own h caller.session) caller.cmd (holder_faults h caller.session tree) leaves rows h
+
+abbrev pub placed_rows : TableTree → List PathPart → List (List Value) → History → Made (List LeafId)
+placed_rows tree path rows h = answered (all_placed (tables_of h) tree path rows)
+
+-- the tables on the ways of the rows are locked before the rows are stored
+abbrev pub locked_into : List (List ℕ) → Caller → TableTree → List LeafId → List (List Value) → History → Made (Unit {0})
+locked_into names caller tree leaves rows =
+    follow (all_locked names caller.session RowExclusive (map (λ t. t.number) (ways_below tree rows))) (λ u. into_leaves caller tree leaves rows)
+
+-- all rows are placed before
+abbrev pub below : List (List ℕ) → Caller → TableTree → List PathPart → List (List Value) → History → Made (Unit {0})
+below names caller tree path rows = follow (placed_rows tree path rows) (λ leaves. locked_into names caller tree leaves rows)
+
+abbrev pub into_partitions : List (List ℕ) → Caller → (table : ℕ) → List (List Value) → History → Made (Unit {0})
+into_partitions names caller t rows h = below names caller (tree_of h caller.session t (look_of h caller.session caller.cmd)) (path_of h caller.session t) rows h
+
+-- ---- the statement
+
+abbrev pub into_shape : List (List ℕ) → Caller → (table : ℕ) → List (List Value) → TableShape → History → Made (Unit {0})
+into_shape names caller t rows (Leaf leaf) = into_leaf caller t leaf rows
+into_shape names caller t rows (Level level) = into_partitions names caller t rows
+
+abbrev pub into : List (List ℕ) → Caller → (table : ℕ) → List (List Value) → History → Made (Unit {0})
+into names caller t rows h = into_shape names caller t rows (made_at h t).shape h
+
+-- the table is locked, the values are computed, and the rows are stored
+abbrev pub gathered : (names : List (List ℕ)) → List Param → Caller → (table : List ℕ) → (columns : Option (List (List ℕ))) → (values : List Trees) → History → Made (Unit {0})
+gathered names params caller table columns values =
+    follow (named names caller.session RowExclusive table) (λ t.
+    follow (rows_meant params caller.session t columns values) (λ rows.
+    into names caller t rows))
+
+-- INSERT INTO table [ (columns) ] VALUES values
+abbrev pub inserted : (names : List (List ℕ)) → List Param → Caller → (table : List ℕ) → (columns : Option (List (List ℕ))) → (values : List Trees) → History → Made (Unit {0})
+inserted names params caller table columns values = follow (held_at caller.level caller.session caller.cmd) (λ u. gathered names params caller table columns values)

@@ -1,0 +1,102 @@
+//! Rows into a table that holds rows itself, which the statement names.
+
+ghost use Rattle.std.specs.Prelude.{◌≡◌, ◌+◌, ◌<◌, ◌∷◌, [], IfOk, OnOk, map, length};
+ghost use Rattle.history.specs.declared.catalogue.TableShape.TheVariants.{Leaf};
+ghost use Rattle.history.specs.History.{History};
+ghost use Rattle.part_catalog.specs.Stands.{CatalogueStands};
+ghost use Rattle.course.specs.Attempts.{MayAttempt};
+ghost use Rattle.statement_steps.specs.Steps.{IsStep};
+ghost use Rattle.part_catalog.specs.Found.{made_at};
+ghost use Rattle.insert_statement.specs.Inserted.{into_leaf};
+ghost use Rattle.stores.specs.Stand.{AllStand, IsSound};
+ghost use Rattle.insert_statement.specs.Asked.{AreRowsOf, IsOwnTarget, MayWrite};
+
+use crate::storing::put_rows;
+use course::{Caller, Stop};
+use pg_ids::{LeafId, TableNo};
+use pg_values::{NoMemory, Row};
+use row_change::{LeafList, Target};
+use std::alloc::Global;
+use std::slice::from_ref;
+use stores::Stores;
+
+// The leaf for each of the rows.
+fn same_leaf(alloc: Global, leaf: LeafId, rows: &[Row]) -> Result<LeafList, NoMemory>
+    ensures { IfOk result (λ leaves. leaves ≡ map (λ row. leaf) rows.now) }
+{
+    let mut leaves = LeafList::new(alloc);
+    for _ in rows {
+        leaves.push(leaf)?;
+    }
+    Ok(leaves)
+}
+
+fn target_of(
+    alloc: Global,
+    stores: &Stores,
+    caller: Caller,
+    table: TableNo,
+    leaf: LeafId,
+) -> Result<Target, NoMemory>
+    requires sound { IsSound stores.now }
+    requires known { table.number < length stores.now.catalog.tables }
+    ensures { IfOk result (λ target. (target.table ≡ table) × ((h : History) → AllStand stores.now h → IsOwnTarget h caller.session table.number leaf target)) }
+{
+    Ok(Target {
+        leaf,
+        table,
+        path: stores.path(alloc, table, caller.session)?,
+        is_named: true,
+    })
+}
+
+fn store_for(
+    alloc: Global,
+    stores: &mut Stores,
+    caller: Caller,
+    target: &Target,
+    leaf: LeafId,
+    rows: &[Row],
+) -> Result<(), Stop>
+    requires may { MayAttempt stores.old caller }
+    requires known { target.now.table.number < length stores.old.catalog.tables }
+    requires leaf { (h : History) → CatalogueStands stores.old.catalog h → (made_at h target.now.table.number).shape ≡ Leaf leaf }
+    requires target { (h : History) → AllStand stores.old h → IsOwnTarget h caller.session target.now.table.number leaf target.now }
+    requires rows { AreRowsOf stores.old.catalog target.now.table rows.now }
+    requires locked { MayWrite stores.old caller.session (target.now.table ∷ []) }
+    ensures { IsStep (λ u. u) result stores.old stores.new caller (caller.cmd + 1) (into_leaf caller target.now.table.number leaf rows.now) }
+{
+    match same_leaf(alloc, leaf, rows) {
+        Ok(leaves) => put_rows(
+            alloc,
+            stores,
+            caller,
+            from_ref(target),
+            leaves.as_slice(),
+            rows,
+        ),
+        Err(NoMemory) => Err(Stop::NoMemory),
+    }
+}
+
+/// Stores the rows in the leaf of the table, each after the tests of the table and of those above it.
+pub(crate) fn store_in_leaf(
+    alloc: Global,
+    stores: &mut Stores,
+    caller: Caller,
+    table: TableNo,
+    leaf: LeafId,
+    rows: &[Row],
+) -> Result<(), Stop>
+    requires may { MayAttempt stores.old caller }
+    requires known { table.number < length stores.old.catalog.tables }
+    requires leaf { (h : History) → CatalogueStands stores.old.catalog h → (made_at h table.number).shape ≡ Leaf leaf }
+    requires rows { AreRowsOf stores.old.catalog table rows.now }
+    requires locked { MayWrite stores.old caller.session (table ∷ []) }
+    ensures { IsStep (λ u. u) result stores.old stores.new caller (caller.cmd + 1) (into_leaf caller table.number leaf rows.now) }
+{
+    match target_of(alloc, stores, caller, table, leaf) {
+        Ok(target) => store_for(alloc, stores, caller, &target, leaf, rows),
+        Err(NoMemory) => Err(Stop::NoMemory),
+    }
+}

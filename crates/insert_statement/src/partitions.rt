@@ -1,0 +1,204 @@
+//! Rows into a partitioned table.
+
+ghost use Rattle.std.specs.Prelude.{◌≡◌, ◌+◌, ◌<◌, ◌≤◌, ◌∷◌, [], All, IfOk, length};
+ghost use Rattle.pg_values.specs.Refusals.{IsAnswer};
+ghost use Rattle.part_bounds.specs.declared.level.Level.{Level as OneLevel};
+ghost use Rattle.history.specs.declared.catalogue.TableShape.TheVariants.{Level};
+ghost use Rattle.history.specs.History.{History};
+ghost use Rattle.part_catalog.specs.Found.{made_at};
+ghost use Rattle.table_trees.specs.Histories.{tree_of, path_of};
+ghost use Rattle.table_trees.specs.Seen.{seen};
+ghost use Rattle.tx_table.specs.Stands.{TableStands};
+ghost use Rattle.stores.specs.Events.{look_of};
+ghost use Rattle.table_trees.specs.Trees.{Fits};
+ghost use Rattle.part_catalog.specs.Stands.{CatalogueStands};
+ghost use Rattle.row_change.specs.Placing.{all_placed, CanBePlaced, IsNumbered, IsPartNumbered};
+ghost use Rattle.row_change.specs.Ways.{ways_below};
+ghost use Rattle.course.specs.Attempts.{MayAttempt};
+ghost use Rattle.statement_steps.specs.Steps.{IsStep};
+ghost use Rattle.insert_statement.specs.Inserted as inserted;
+ghost use Rattle.insert_statement.specs.Inserted.{tables_of};
+ghost use Rattle.insert_statement.specs.Asked.{ArePlaced, AreRowsOf, IsTreeFor, MayWrite};
+
+use crate::stopping::stop_by;
+use crate::storing::put_rows;
+use crate::targets::targets_below;
+use course::{Caller, Stop};
+use part_catalog::Catalog;
+use pg_ids::{LeafId, LockMode, TableNo};
+use pg_values::{NoMemory, Refusal, Row, Steps};
+use row_change::{LeafList, all_ways, place_rows};
+use statement_steps::{SessionNames, lock_tables};
+use std::alloc::Global;
+use std::marker::Brand;
+use std::sync::ledger::{Blank, Ledger};
+use stores::{Stores, trees_are_together};
+use table_trees::{PathPart, Tree};
+
+fn place_from<L: Ledger>(
+    alloc: Global,
+    catalog: &Catalog,
+    tree: &Tree,
+    path: &[PathPart],
+    rows: &[Row],
+    blank: Blank,
+) -> Result<LeafList, Refusal>
+    requires fits { All (CanBePlaced (seen tree.now) path.now) rows.now }
+    requires path { All (IsPartNumbered (length catalog.now.tables)) path.now }
+    requires known { IsNumbered (length catalog.now.tables) (seen tree.now) }
+    requires name { blank.name ≡ L.name }
+    requires parts { blank.parts ≡ L.parts }
+    requires some { 0 < blank.parts }
+    ensures { (h : History) → CatalogueStands catalog.now h → IsAnswer result (all_placed (tables_of h) (seen tree.now) path.now rows.now) }
+{
+    let mut steps = Steps::<L>::new(blank);
+    place_rows(alloc, catalog, tree, path, rows, &mut steps)
+}
+
+// The leaf of each row, or the first refusal.
+fn leaves_of(
+    alloc: Global,
+    catalog: &Catalog,
+    tree: &Tree,
+    path: &[PathPart],
+    rows: &[Row],
+) -> Result<LeafList, Refusal>
+    requires fits { All (CanBePlaced (seen tree.now) path.now) rows.now }
+    requires path { All (IsPartNumbered (length catalog.now.tables)) path.now }
+    requires known { IsNumbered (length catalog.now.tables) (seen tree.now) }
+    ensures { (h : History) → CatalogueStands catalog.now h → IsAnswer result (all_placed (tables_of h) (seen tree.now) path.now rows.now) }
+{
+    place_from::<Brand>(alloc, catalog, tree, path, rows, Blank::new(1))
+}
+
+fn ways_from<L: Ledger>(
+    alloc: Global,
+    tree: &Tree,
+    rows: &[Row],
+    blank: Blank,
+) -> Result<Vec<TableNo>, NoMemory>
+    requires fits { All (λ row. Fits row (seen tree.now)) rows.now }
+    requires name { blank.name ≡ L.name }
+    requires parts { blank.parts ≡ L.parts }
+    requires some { 0 < blank.parts }
+    ensures { IfOk result (λ tables. tables.items ≡ ways_below (seen tree.now) rows.now) }
+{
+    let mut steps = Steps::<L>::new(blank);
+    all_ways(alloc, tree, rows, &mut steps)
+}
+
+// The tables on the ways of the rows.
+fn ways_of(alloc: Global, tree: &Tree, rows: &[Row]) -> Result<Vec<TableNo>, NoMemory>
+    requires { All (λ row. Fits row (seen tree.now)) rows.now }
+    ensures { IfOk result (λ tables. tables.items ≡ ways_below (seen tree.now) rows.now) }
+{
+    ways_from::<Brand>(alloc, tree, rows, Blank::new(1))
+}
+
+// Each row into the leaf where it was placed; the tables on the ways are locked.
+fn store_in_leaves(
+    alloc: Global,
+    stores: &mut Stores,
+    caller: Caller,
+    tree: &Tree,
+    leaves: &[LeafId],
+    rows: &[Row],
+) -> Result<(), Stop>
+    requires may { MayAttempt stores.old caller }
+    requires placed { ArePlaced stores.old caller (seen tree.now) leaves.now rows.now }
+    requires locked { MayWrite stores.old caller.session (ways_below (seen tree.now) rows.now) }
+    ensures { IsStep (λ u. u) result stores.old stores.new caller (caller.cmd + 1) (inserted.into_leaves caller (seen tree.now) leaves.now rows.now) }
+{
+    match targets_below(alloc, stores, caller, tree, leaves) {
+        Ok(targets) => put_rows(alloc, stores, caller, &targets, leaves, rows),
+        Err(NoMemory) => Err(Stop::NoMemory),
+    }
+}
+
+// The tables on the ways of the rows are locked, and the rows stored.
+fn lock_and_store(
+    alloc: Global,
+    stores: &mut Stores,
+    names: &SessionNames,
+    caller: Caller,
+    tree: &Tree,
+    leaves: &[LeafId],
+    rows: &[Row],
+) -> Result<(), Stop>
+    requires may { MayAttempt stores.old caller }
+    requires few { length stores.old.catalog.tables ≤ 4096 }
+    requires placed { ArePlaced stores.old caller (seen tree.now) leaves.now rows.now }
+    ensures { IsStep (λ u. u) result stores.old stores.new caller (caller.cmd + 1) (inserted.locked_into names.now caller (seen tree.now) leaves.now rows.now) }
+{
+    match ways_of(alloc, tree, rows) {
+        Ok(ways) => match lock_tables(alloc, stores, names, caller, &ways, LockMode::RowExclusive) {
+            Ok(()) => store_in_leaves(alloc, stores, caller, tree, leaves, rows),
+            Err(stop) => Err(stop),
+        },
+        Err(NoMemory) => Err(Stop::NoMemory),
+    }
+}
+
+// Places the rows, locks the tables on their ways, and stores them.
+fn store_by_tree(
+    alloc: Global,
+    stores: &mut Stores,
+    names: &SessionNames,
+    caller: Caller,
+    tree: &Tree,
+    path: &[PathPart],
+    rows: &[Row],
+) -> Result<(), Stop>
+    requires may { MayAttempt stores.old caller }
+    requires few { length stores.old.catalog.tables ≤ 4096 }
+    requires tree { IsTreeFor stores.old caller (seen tree.now) path.now rows.now }
+    ensures { IsStep (λ u. u) result stores.old stores.new caller (caller.cmd + 1) (inserted.below names.now caller (seen tree.now) path.now rows.now) }
+{
+    match leaves_of(alloc, &stores.catalog, tree, path, rows) {
+        Ok(leaves) => lock_and_store(alloc, stores, names, caller, tree, leaves.as_slice(), rows),
+        Err(refusal) => Err(stop_by(refusal)),
+    }
+}
+
+// The tree that the session's command reads of a table, and the path above it.
+fn tree_and_path(
+    alloc: Global,
+    stores: &Stores,
+    caller: Caller,
+    table: TableNo,
+) -> Result<(Tree, Vec<PathPart>), NoMemory>
+    requires may { MayAttempt stores.now caller }
+    requires known { table.number < length stores.now.catalog.tables }
+    ensures { IfOk result (λ found. (h : History) → TableStands stores.now.txs h → CatalogueStands stores.now.catalog h →
+        (seen found.0 ≡ tree_of h caller.session table.number (look_of h caller.session caller.cmd)) × (found.1.items ≡ path_of h caller.session table.number)) }
+{
+    trees_are_together();
+    let look = stores.look(alloc, caller.session, caller.cmd)?;
+    let txs = &stores.txs;
+    let catalog = &stores.catalog;
+    let tree = catalog.tree(alloc, txs, table, caller.session, &look)?;
+    let path = catalog.path(alloc, txs, table, caller.session)?;
+    Ok((tree, path))
+}
+
+/// Stores the rows below a partitioned table, by the tree that the session's command reads.
+pub(crate) fn store_below(
+    alloc: Global,
+    stores: &mut Stores,
+    names: &SessionNames,
+    caller: Caller,
+    table: TableNo,
+    rows: &[Row],
+) -> Result<(), Stop>
+    requires may { MayAttempt stores.old caller }
+    requires known { table.number < length stores.old.catalog.tables }
+    requires few { length stores.old.catalog.tables ≤ 4096 }
+    requires level { (h : History) → CatalogueStands stores.old.catalog h → (level : OneLevel) × ((made_at h table.number).shape ≡ Level level) }
+    requires rows { AreRowsOf stores.old.catalog table rows.now }
+    ensures { IsStep (λ u. u) result stores.old stores.new caller (caller.cmd + 1) (inserted.into_partitions names.now caller table.number rows.now) }
+{
+    match tree_and_path(alloc, stores, caller, table) {
+        Ok((tree, path)) => store_by_tree(alloc, stores, names, caller, &tree, &path, rows),
+        Err(NoMemory) => Err(Stop::NoMemory),
+    }
+}

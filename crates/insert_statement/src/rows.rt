@@ -1,0 +1,97 @@
+//! The rows of VALUES, with a value for each column of the table.
+
+ghost use Rattle.std.specs.Prelude.{◌≡◌, ◌<◌, ◌++◌, ◌∷◌, [], IfOk, OnOk, map, length};
+ghost use Rattle.sql_expressions.specs.Tree.{trees};
+ghost use Rattle.pg_values.specs.Refusals.{IsAnswer};
+ghost use Rattle.statement_asks.specs.Asked.{insert_meant};
+ghost use Rattle.row_change.specs.FullRows as full_rows;
+ghost use Rattle.course.specs.Attempts.{MayAttempt};
+ghost use Rattle.statement_steps.specs.Steps.{IsStep};
+ghost use Rattle.insert_statement.specs.Inserted as inserted;
+ghost use Rattle.insert_statement.specs.Asked.{AreRowsOf};
+
+use crate::stopping::stop_by;
+use change_binder::bind_insert;
+use course::{Caller, Stop};
+use expression_binder::{Param, ScopeColumn};
+use history::Column;
+use pg_ids::TableNo;
+use pg_values::{NoMemory, Refusal, Row, RowList};
+use row_change::full_row;
+use sql_queries::Insert;
+use statement_asks::InsertAsk;
+use std::alloc::Global;
+use stores::Stores;
+
+fn scope_column(alloc: Global, column: &Column) -> Result<ScopeColumn, NoMemory>
+    ensures { IfOk result (λ c. c ≡ inserted.scope_column column.now) }
+{
+    Ok(ScopeColumn {
+        name: column.name.copy(alloc)?,
+        kind: column.kind,
+    })
+}
+
+fn scope_columns(alloc: Global, columns: &[Column]) -> Result<Vec<ScopeColumn>, NoMemory>
+    ensures { IfOk result (λ v. v.items ≡ map inserted.scope_column columns.now) }
+{
+    let mut named = Vec::new(alloc);
+    for column in columns {
+        named.push(scope_column(alloc, column)?)?;
+    }
+    Ok(named)
+}
+
+fn add_row(rows: &mut RowList, row: Row) -> Result<(), NoMemory>
+    ensures { OnOk result (rows.new ≡ rows.old ++ row ∷ []) }
+{
+    rows.push(row)?;
+    Ok(())
+}
+
+fn whole_rows(alloc: Global, width: usize, ask: &InsertAsk) -> Result<RowList, NoMemory>
+    ensures { IfOk result (λ rows. rows ≡ map (full_rows.full_row width ask.now.columns.items) ask.now.rows) }
+{
+    let mut rows = RowList::new(alloc);
+    for values in ask.rows.as_slice() {
+        let row = full_row(alloc, width, &ask.columns, values)?;
+        add_row(&mut rows, row)?;
+    }
+    Ok(rows)
+}
+
+// The rows of a table with the columns, or the first fault of the statement.
+fn rows_for(
+    alloc: Global,
+    columns: &[Column],
+    params: &[Param],
+    session: u32,
+    statement: &Insert,
+) -> Result<RowList, Refusal>
+    ensures { IsAnswer result (inserted.whole_rows columns.now params.now session statement.now.columns (map trees statement.now.rows)) }
+{
+    let named = scope_columns(alloc, columns)?;
+    let ask = bind_insert(alloc, statement, &named, params, session)?;
+    Ok(whole_rows(alloc, columns.len(), &ask)?)
+}
+
+/// The rows of the table that an INSERT gives, or its first fault.
+pub(crate) fn rows_meant(
+    alloc: Global,
+    stores: &Stores,
+    params: &[Param],
+    caller: Caller,
+    table: TableNo,
+    statement: &Insert,
+) -> Result<RowList, Stop>
+    requires may { MayAttempt stores.now caller }
+    requires known { table.number < length stores.now.catalog.tables }
+    ensures step { IsStep (λ rows. rows) result stores.now stores.now caller caller.cmd (inserted.rows_meant params.now caller.session table.number statement.now.columns (map trees statement.now.rows)) }
+    ensures of { IfOk result (λ rows. AreRowsOf stores.now.catalog table rows) }
+{
+    let columns = stores.catalog.table(table).columns.as_slice();
+    match rows_for(alloc, columns, params, caller.session, statement) {
+        Ok(rows) => Ok(rows),
+        Err(refusal) => Err(stop_by(refusal)),
+    }
+}

@@ -1,0 +1,105 @@
+ghost use Rattle.std.specs.Prelude.{◌≡◌, ◌+◌, ◌<◌, ◌≤◌, [], ◌∷◌, Some, None, map, length};
+ghost use Rattle.history.specs.declared.catalogue.TableShape.TheVariants.{Leaf, Level};
+ghost use Rattle.part_bounds.specs.declared.level.Level.{Level as OneLevel};
+ghost use Rattle.history.specs.History.{History};
+ghost use Rattle.part_catalog.specs.Stands.{CatalogueStands};
+ghost use Rattle.sql_expressions.specs.Tree.{trees};
+ghost use Rattle.course.specs.Attempts.{MayAttempt};
+ghost use Rattle.statement_steps.specs.Steps.{IsStep};
+ghost use Rattle.insert_statement.specs.Inserted as inserted_spec;
+ghost use Rattle.part_catalog.specs.Found.{made_at};
+ghost use Rattle.insert_statement.specs.Inserted.{inserted};
+ghost use Rattle.insert_statement.specs.Asked.{AreRowsOf, MayWrite};
+
+use crate::leaf::store_in_leaf;
+use crate::partitions::store_below;
+use crate::rows::rows_meant;
+use course::{Caller, Stop};
+use expression_binder::Param;
+use history::TableShape;
+use part_catalog::Catalog;
+use pg_ids::{LeafId, LockMode, TableNo};
+use pg_values::Row;
+use sql_queries::Insert;
+use statement_steps::{SessionNames, hold_if_repeatable, lock_named};
+use std::alloc::Global;
+use stores::Stores;
+
+// The leaf of a table that holds rows itself.
+fn leaf_of(catalog: &Catalog, table: TableNo) -> Option<LeafId>
+    requires { table.number < length catalog.now.tables }
+    ensures leaf { (leaf : LeafId) → result ≡ Some leaf → (h : History) → CatalogueStands catalog.now h → (made_at h table.number).shape ≡ Leaf leaf }
+    ensures level { result ≡ None → (h : History) → CatalogueStands catalog.now h → (level : OneLevel) × ((made_at h table.number).shape ≡ Level level) }
+{
+    match &catalog.table(table).shape {
+        TableShape::Leaf(leaf) => Some(*leaf),
+        TableShape::Level(_) => None,
+    }
+}
+
+// The rows go into the table, which is locked.
+fn store_into(
+    alloc: Global,
+    stores: &mut Stores,
+    names: &SessionNames,
+    caller: Caller,
+    table: TableNo,
+    rows: &[Row],
+) -> Result<(), Stop>
+    requires may { MayAttempt stores.old caller }
+    requires known { table.number < length stores.old.catalog.tables }
+    requires few { length stores.old.catalog.tables ≤ 4096 }
+    requires rows { AreRowsOf stores.old.catalog table rows.now }
+    requires locked { MayWrite stores.old caller.session (table ∷ []) }
+    ensures { IsStep (λ u. u) result stores.old stores.new caller (caller.cmd + 1) (inserted_spec.into names.now caller table.number rows.now) }
+{
+    match leaf_of(&stores.catalog, table) {
+        Some(leaf) => store_in_leaf(alloc, stores, caller, table, leaf, rows),
+        None => store_below(alloc, stores, names, caller, table, rows),
+    }
+}
+
+// The table is locked, and the rows go into it.
+fn insert_into(
+    alloc: Global,
+    stores: &mut Stores,
+    names: &SessionNames,
+    params: &[Param],
+    caller: Caller,
+    statement: &Insert,
+) -> Result<(), Stop>
+    requires may { MayAttempt stores.old caller }
+    requires few { length stores.old.catalog.tables ≤ 4096 }
+    ensures { IsStep (λ u. u) result stores.old stores.new caller (caller.cmd + 1) (inserted_spec.gathered names.now params.now caller statement.now.table statement.now.columns (map trees statement.now.rows)) }
+{
+    let name = statement.table.as_bytes();
+    match lock_named(alloc, stores, names, caller, name, LockMode::RowExclusive) {
+        Ok(table) => match rows_meant(alloc, stores, params, caller, table, statement) {
+            Ok(rows) => store_into(alloc, stores, names, caller, table, rows.as_slice()),
+            Err(stop) => Err(stop),
+        },
+        Err(stop) => Err(stop),
+    }
+}
+
+/// The INSERT of a session, with the arguments of its parameters. The table is found (42P01) and locked in
+/// ROW EXCLUSIVE mode; the values are computed, or the first fault among them is told. Of a partitioned
+/// table each row is placed (23514), the tables on the ways of the rows are locked in the same mode, and
+/// the rows are stored (23502, 23514, 54000).
+pub fn insert(
+    alloc: Global,
+    stores: &mut Stores,
+    names: &SessionNames,
+    params: &[Param],
+    caller: Caller,
+    statement: &Insert,
+) -> Result<(), Stop>
+    requires may { MayAttempt stores.old caller }
+    requires few { length stores.old.catalog.tables ≤ 4096 }
+    ensures { IsStep (λ u. u) result stores.old stores.new caller (caller.cmd + 1) (inserted names.now params.now caller statement.now.table statement.now.columns (map trees statement.now.rows)) }
+{
+    match hold_if_repeatable(alloc, stores, caller) {
+        Ok(()) => insert_into(alloc, stores, names, params, caller, statement),
+        Err(stop) => Err(stop),
+    }
+}

@@ -1,0 +1,15 @@
+ghost use Rattle.std.specs.Prelude.{◌≡◌};
+ghost use Rattle.insert_statement.specs.Asked.{stopped};
+
+use course::Stop;
+use pg_values::Refusal;
+
+/// A refusal ends the statement.
+pub(crate) fn stop_by(refusal: Refusal) -> Stop
+    ensures { result ≡ stopped refusal }
+{
+    match refusal {
+        Refusal::Sql(fault) => Stop::Refused(fault),
+        Refusal::NoMemory => Stop::NoMemory,
+    }
+}

@@ -1,0 +1,48 @@
+ghost use Rattle.std.specs.Prelude.{◌≡◌, ◌+◌, ◌<◌, All, length};
+ghost use Rattle.history.specs.History.{History};
+ghost use Rattle.row_change.specs.Storing.{FitsTargets, IsLeafKnown, IsTargetNumbered};
+ghost use Rattle.stores.specs.Stand.{Stands};
+ghost use Rattle.course.specs.Attempts.{MayAttempt};
+ghost use Rattle.statement_steps.specs.Steps.{IsStep};
+ghost use Rattle.insert_statement.specs.Asked.{MayPut, put};
+
+use crate::stopping::stop_by;
+use course::{Caller, Stop};
+use pg_ids::LeafId;
+use pg_values::Row;
+use row_change::{Target, store_rows};
+use std::alloc::Global;
+use stores::Stores;
+
+/// Stores each row in its leaf, after the tests that its target asks for.
+pub(crate) fn put_rows(
+    alloc: Global,
+    stores: &mut Stores,
+    caller: Caller,
+    targets: &[Target],
+    leaves: &[LeafId],
+    rows: &[Row],
+) -> Result<(), Stop>
+    requires may { MayAttempt stores.old caller }
+    requires fits { All (FitsTargets targets.now) rows.now }
+    requires targets { All (IsTargetNumbered (length stores.old.catalog.tables)) targets.now }
+    requires leaves { All (IsLeafKnown stores.old.rows.leaves) leaves.now }
+    requires put { (h : History) → Stands stores.old h → MayPut h caller.session targets.now leaves.now rows.now }
+    ensures { IsStep (λ u. u) result stores.old stores.new caller (caller.cmd + 1) (put targets.now caller leaves.now rows.now) }
+{
+    let Some(by) = stores.txs.open_of(caller.session) else {
+        unreachable!()
+    };
+    let Stores {
+        txs,
+        rows: store,
+        catalog,
+        ..
+    } = stores;
+    match store_rows(
+        alloc, catalog, txs, store, targets, leaves, rows, by, caller.cmd,
+    ) {
+        Ok(()) => Ok(()),
+        Err(refusal) => Err(stop_by(refusal)),
+    }
+}

@@ -1,0 +1,5 @@
+mod Known
+mod Nodes
+mod Steps
+mod Trees
+mod Whole

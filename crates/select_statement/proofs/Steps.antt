@@ -1,0 +1,84 @@
+-- The parts of a SELECT.
+use Rattle.std.proofs.Common.{◌≡◌, ℕ, ◌+◌, ◌-◌, List, [], refl, ap, sym, subst, Option, Result, Ok, Err}
+use Rattle.pg_values.specs.Refusals.{IsAnswer}
+use Rattle.pg_values.specs.declared.answer.Answer.{Answer}
+use Rattle.pg_values.specs.declared.fault.Fault.{Fault}
+use Rattle.pg_values.specs.declared.fault.Refusal.{Refusal}
+use Rattle.pg_values.specs.declared.fault.Refusal.TheVariants.{Sql, NoMemory}
+use Rattle.pg_values.specs.declared.value.Value.{Value}
+use Rattle.pg_ids.specs.declared.ids.LeafId.{LeafId}
+use Rattle.history.specs.History.{History}
+use Rattle.history.specs.Snapshots.{TakenSnapshot}
+use Rattle.tx_table.specs.Kept.{KeptSnapshot}
+use Rattle.table_trees.specs.Trees.{TableTree}
+use Rattle.expression_binder.specs.Firsts.{IsAnswerBy}
+use Rattle.statement_asks.specs.Asked.{SelectMeant}
+use Rattle.select_answer.specs.Answer.{AreLent, answer_of, select_course}
+use Rattle.select_answer.specs.Tuples.{shown}
+use Rattle.stores.specs.Events.{look_of}
+use Rattle.stores.specs.Stand.{Stands}
+use Rattle.stores.specs.declared.stores.Stores.{Stores}
+use Rattle.course.specs.Made.{Made, Refused, made, halted}
+use Rattle.course.specs.Attempts.{MayAttempt}
+use Rattle.course.specs.declared.caller.Caller.{Caller}
+use Rattle.course.specs.declared.stop.Stop.{Stop}
+use Rattle.course.specs.declared.stop.Stop.TheVariants as stop
+use Rattle.course.proofs.Numbers.{one_later}
+use Rattle.statement_steps.specs.Steps.{IsTold, IsStep}
+use Rattle.statement_steps.proofs.Parts.{stays, still_on, nothing_done, refused_here, no_memory}
+use Rattle.select_statement.specs.Halts.{stop_of}
+use Rattle.select_statement.specs.Lent.{IsLookFor}
+use Rattle.select_statement.specs.Selected.{outcome, answered}
+
+-- ---- a part by which nothing happens
+
+pub outcome_done : {X T : Type 0} (view : X → T) (x : X) (stores : Stores) (caller : Caller) (wanted : Result T Fault) → MayAttempt stores caller → wanted ≡ Ok (view x) → IsStep view (Ok x) stores stores caller caller.cmd (λ h. outcome wanted)
+outcome_done view x stores caller wanted may e = nothing_done view x stores caller (λ h. outcome wanted) may (λ h stands. ap outcome e)
+
+pub outcome_refused : {X T : Type 0} (view : X → T) (r : Refusal) (stores : Stores) (caller : Caller) (wanted : Result T Fault) → MayAttempt stores caller → IsAnswerBy view (Err r) wanted
+    → IsStep view (Err (stop_of r)) stores stores caller caller.cmd (λ h. outcome wanted)
+outcome_refused view (Sql f) stores caller wanted may e = refused_here view f stores caller caller.cmd (λ h. outcome wanted) may (λ h stands. ap outcome e)
+outcome_refused view NoMemory stores caller wanted may e = no_memory view stores stores caller caller.cmd (λ h. outcome wanted) (stays stores caller.session)
+
+-- ---- the answer
+
+-- what a run of the select gives, at each history for which the stores and the snapshot stand
+abbrev pub Answers : Result Answer Refusal → Stores → Caller → SelectMeant → Option TableTree → KeptSnapshot → Type 0
+Answers r stores caller m tree snap = (h : History) (s : TakenSnapshot) → AreLent stores.txs stores.rows snap h s → IsAnswer r (answer_of m (select_course (caller.sessions - 1) [] m (shown h s) tree []))
+
+-- a run for so many sessions, without arguments, that has read nothing before
+pub told_for : (r : Result Answer Refusal) (stores : Stores) (caller : Caller) (m : SelectMeant) (tree : Option TableTree) (snap : KeptSnapshot) (n : ℕ) (args : List Value) (before : List LeafId)
+    → n ≡ caller.sessions - 1 → args ≡ [] → before ≡ [] → ((h : History) (s : TakenSnapshot) → AreLent stores.txs stores.rows snap h s → IsAnswer r (answer_of m (select_course n args m (shown h s) tree before)))
+    → Answers r stores caller m tree snap
+told_for r stores caller m tree snap n args before count none fresh answers h s are =
+    let counted = subst (λ k. IsAnswer r (answer_of m (select_course k args m (shown h s) tree before))) count (answers h s are) in
+    let bare = subst (λ xs. IsAnswer r (answer_of m (select_course (caller.sessions - 1) xs m (shown h s) tree before))) none counted in
+    subst (λ ls. IsAnswer r (answer_of m (select_course (caller.sessions - 1) [] m (shown h s) tree ls))) fresh bare
+
+lent : (stores : Stores) (caller : Caller) (snap : KeptSnapshot) (h : History) → IsLookFor stores caller snap → Stands stores h → AreLent stores.txs stores.rows snap h (look_of h caller.session caller.cmd)
+lent stores caller snap h look stands = record { table = stands.all.txs; rows = stands.all.rows; past = look.past h stands.all.txs; snapshot = look.stands h stands.all.txs }
+
+pub answer_done : (a : Answer) (stores : Stores) (caller : Caller) (m : SelectMeant) (tree : Option TableTree) (snap : KeptSnapshot) → MayAttempt stores caller → IsLookFor stores caller snap → Answers (Ok a) stores caller m tree snap
+    → IsStep (λ (x : Answer). x) (Ok a) stores stores caller (caller.cmd + 1) (answered caller m tree)
+answer_done a stores caller m tree snap may look answers = record {
+  is = λ h stands at.
+      subst (IsTold (λ (x : Answer). x) (Ok a) stores caller (caller.cmd + 1) h) (sym (ap outcome (answers h (look_of h caller.session caller.cmd) (lent stores caller snap h look stands))))
+      (refl, still_on stores h caller.session (caller.cmd + 1) stands (one_later h caller.session caller.cmd at));
+  keeps = stays stores caller.session;
+  waits = may.idle;
+}
+
+pub answer_refused : (r : Refusal) (stores : Stores) (caller : Caller) (m : SelectMeant) (tree : Option TableTree) (snap : KeptSnapshot) → MayAttempt stores caller → IsLookFor stores caller snap → Answers (Err r) stores caller m tree snap
+    → IsStep (λ (x : Answer). x) (Err (stop_of r)) stores stores caller (caller.cmd + 1) (answered caller m tree)
+answer_refused (Sql f) stores caller m tree snap may look answers =
+    refused_here (λ (x : Answer). x) f stores caller (caller.cmd + 1) (answered caller m tree) may (λ h stands. ap outcome (answers h (look_of h caller.session caller.cmd) (lent stores caller snap h look stands)))
+answer_refused NoMemory stores caller m tree snap may look answers = no_memory (λ (x : Answer). x) stores stores caller (caller.cmd + 1) (answered caller m tree) (stays stores caller.session)
+
+-- ---- what is the same at each history
+
+pub same_step : {X T : Type 0} (view : X → T) (r : Result X Stop) (old new : Stores) (caller : Caller) (n : ℕ) (f g : History → Made T) → ((h : History) → Stands old h → f h ≡ g h) → IsStep view r old new caller n g → IsStep view r old new caller n f
+same_step view r old new caller n f g same step = record {
+  is = λ h stands at. subst (IsTold view r new caller n h) (sym (same h stands)) (step.is h stands at);
+  keeps = step.keeps;
+  waits = step.waits;
+}

@@ -1,0 +1,9 @@
+use Rattle.std.proofs.Common.{◌≡◌, ◌++◌, map, drop}
+use Rattle.table_trees.specs.Trees.{trees_of}
+use Rattle.table_trees.specs.Seen.{seen}
+use Rattle.legal_statements.specs.Below.{tables_in, all_tables}
+use Rattle.select_statement.proofs.below.+push_tables.Given as goal
+
+abbrev pub invariant-loop-child : goal.invariant-loop-child
+invariant-loop-child l =
+    l.out.items ++ all_tables (trees_of (map seen (drop l.child-index l.child-items))) ≡ l.fn.out.items ++ tables_in (seen l.fn.tree)

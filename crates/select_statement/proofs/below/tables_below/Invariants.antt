@@ -1,0 +1,10 @@
+use Rattle.std.proofs.Common.{◌≡◌, ◌++◌, map, drop}
+use Rattle.table_trees.specs.Trees.{trees_of}
+use Rattle.table_trees.specs.Seen.{seen}
+use Rattle.legal_statements.specs.Below.{all_tables}
+use Rattle.select_statement.specs.Below.{below}
+use Rattle.select_statement.proofs.below.tables_below.Given as goal
+
+abbrev pub invariant-loop-child : goal.invariant-loop-child
+invariant-loop-child l =
+    l.tables.items ++ all_tables (trees_of (map seen (drop l.child-index l.child-items))) ≡ below (seen l.fn.tree)

@@ -1,0 +1,71 @@
+-- What a SELECT of a session makes of a history (the manual, SELECT; 13.2 and 13.3.1).
+use Rattle.std.specs.Prelude.{ℕ, ◌-◌, List, [], ◌∷◌, Option, Some, None, Result, Ok, Err, codes}
+use Rattle.pg_values.specs.declared.answer.Answer.{Answer}
+use Rattle.pg_values.specs.declared.fault.Fault.{Fault}
+use Rattle.pg_ids.specs.declared.lock_mode.LockMode.TheVariants.{AccessShare}
+use Rattle.history.specs.History.{History}
+use Rattle.table_trees.specs.Trees.{TableTree}
+use Rattle.table_trees.specs.Histories.{tree_of}
+use Rattle.sql_queries.specs.Trees.{Joined, SelectTree}
+use Rattle.expression_binder.specs.Faults.{left_out}
+use Rattle.expression_binder.specs.Scopes.{Item}
+use Rattle.statement_asks.specs.Asked.{SelectMeant}
+use Rattle.sql_binder.specs.From.{item_name}
+use Rattle.sql_binder.specs.Selects.{from_of, bound_select}
+use Rattle.select_answer.specs.Answer.{answer_of, select_course}
+use Rattle.select_answer.specs.Tuples.{shown}
+use Rattle.stores.specs.Events.{look_of}
+use Rattle.course.specs.Made.{Made, Refused, made, halted}
+use Rattle.course.specs.declared.caller.Caller.{Caller}
+use Rattle.statement_steps.specs.Asks.{named, held_at, all_locked}
+use Rattle.statement_steps.specs.Steps.{follow}
+use Rattle.select_statement.specs.Below.{numbers_below}
+use Rattle.select_statement.specs.Items.{item_of}
+
+-- nothing happens by it
+abbrev pub outcome : {T : Type 0} → Result T Fault → Made T
+outcome (Ok x) = made [] x
+outcome (Err f) = halted [] (Refused f)
+
+-- names and kinds are bound, constants evaluated
+abbrev pub meant : Caller → SelectTree → List Item → History → Made SelectMeant
+meant c t items h = outcome (bound_select items [] c.session t)
+
+-- the rows that the command's snapshot shows; session 0 is the control session, which no process id names
+abbrev pub answered : Caller → SelectMeant → Option TableTree → History → Made Answer
+answered c m tree h = outcome (answer_of m (select_course (c.sessions - 1) [] m (shown h (look_of h c.session c.cmd)) tree []))
+
+-- without FROM
+abbrev pub bare : Caller → SelectTree → History → Made Answer
+bare c t = follow (meant c t []) (λ m. answered c m None)
+
+-- the tables under the named one are locked
+abbrev pub locked_below : List (List ℕ) → Caller → TableTree → History → Made (Unit {0})
+locked_below names c tree = all_locked names c.session AccessShare (numbers_below tree)
+
+-- what the names stand for and the tree are known
+abbrev pub over : List (List ℕ) → Caller → SelectTree → List Item → TableTree → History → Made Answer
+over names c t items tree = follow (meant c t items) (λ m. follow (locked_below names c tree) (λ u. answered c m (Some tree)))
+
+abbrev pub of_tree : List (List ℕ) → Caller → SelectTree → (item : List ℕ) → TableTree → History → Made Answer
+of_tree names c t item tree = over names c t (item_of item tree ∷ []) tree
+
+-- of the table of that number: its tree is that of the command's snapshot
+abbrev pub of_table : List (List ℕ) → Caller → SelectTree → (item : List ℕ) → (table : ℕ) → History → Made Answer
+of_table names c t item n h = of_tree names c t item (tree_of h c.session n (look_of h c.session c.cmd)) h
+
+-- of one FROM item, whose table is found and locked first
+abbrev pub of_item : List (List ℕ) → Caller → SelectTree → Joined → History → Made Answer
+of_item names c t j = follow (named names c.session AccessShare j.0.name) (of_table names c t (item_name j))
+
+-- a transaction at REPEATABLE READ takes its snapshot before anything waits
+abbrev pub begins : Caller → History → Made (Unit {0})
+begins c = held_at c.level c.session c.cmd
+
+abbrev pub of_items : List (List ℕ) → Caller → SelectTree → List Joined → History → Made Answer
+of_items names c t [] = follow (begins c) (λ u. bare c t)
+of_items names c t (j ∷ []) = follow (begins c) (λ u. of_item names c t j)
+of_items names c t (j ∷ k ∷ js) = λ h. halted [] (Refused (left_out (codes "SELECT")))
+
+abbrev pub selected : List (List ℕ) → Caller → SelectTree → History → Made Answer
+selected names c t = of_items names c t (from_of t)

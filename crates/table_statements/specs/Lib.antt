@@ -1,0 +1,6 @@
+pub mod Refused
+pub mod Tables
+pub mod Partitions
+pub mod Drops
+pub mod Asked
+pub mod Seen

@@ -1,0 +1,85 @@
+-- CREATE TABLE, PARTITION OF, of a session (the manual, CREATE TABLE; 13.3.1 Table-Level Locks).
+use Rattle.std.specs.Prelude.{ℕ, List, [], ◌∷◌, Option, Some, None, Result, Ok, Err, map, codes}
+use Rattle.pg_values.specs.declared.fault.Fault.{Fault}
+use Rattle.pg_ids.specs.declared.ids.TableNo.{TableNo}
+use Rattle.pg_ids.specs.declared.lock_mode.LockMode.TheVariants.{AccessExclusive}
+use Rattle.part_bounds.specs.declared.level.Level.{Level}
+use Rattle.part_bounds.specs.declared.partition_bound.Bound.{Bound as MeantBound}
+use Rattle.history.specs.History.{History}
+use Rattle.expression_binder.specs.Faults.{left_out}
+use Rattle.sql_commands.specs.Trees.{Bound}
+use Rattle.sql_commands.specs.declared.lists.Partitioning.{Partitioning}
+use Rattle.table_binder.specs.Bounds.{bound_for}
+use Rattle.part_catalog.specs.Found.{made_at}
+use Rattle.part_ddl.specs.Below.{default_of, tables_from}
+use Rattle.part_ddl.specs.Partitions.{partition_events}
+use Rattle.part_ddl.specs.Placing.{level_at, place_faults}
+use Rattle.part_ddl.specs.Tables.{count_faults}
+use Rattle.course.specs.Made.{Made, made}
+use Rattle.course.specs.declared.caller.Caller.{Caller}
+use Rattle.statement_steps.specs.Asks.{named, held_at, all_locked}
+use Rattle.statement_steps.specs.Steps.{follow}
+use Rattle.table_statements.specs.Refused.{next_answer, unless_faults, answered, in_control, free_name}
+use Rattle.table_statements.specs.Tables.{level_by, own}
+
+-- ---- the default partition beside it
+
+abbrev pub numbers_under : History → (session : ℕ) → Option TableNo → List ℕ
+numbers_under h s None = []
+numbers_under h s (Some t) = map (λ x. x.number) (tables_from h s t.number)
+
+-- the default partition of a table and the tables under it are locked
+abbrev pub default_locked : List (List ℕ) → (session table : ℕ) → History → Made (Unit {0})
+default_locked names s t h = all_locked names s AccessExclusive (numbers_under h s (default_of h s t)) h
+
+-- its rows are not scanned: a partition beside it is left out
+abbrev pub beside_default : Option TableNo → List Fault
+beside_default None = []
+beside_default (Some d) = left_out (codes "CREATE") ∷ []
+
+-- ---- the partition
+
+-- its bound, and its own level where it is partitioned
+pub record Place : Type 0 where
+  pub bound : MeantBound
+  pub level : Option Level
+
+abbrev pub place_with : MeantBound → Option Level → Result Place Fault
+place_with bound level = Ok (record { bound = bound; level = level })
+
+-- the bound has a place below the parent
+abbrev pub placed_bound : History → (session parent : ℕ) → Level → Bound → Result MeantBound Fault
+placed_bound h s p level b = next_answer (bound_for level b) (λ bound. unless_faults (place_faults h s p bound 1) (Ok bound))
+
+-- the first refusal: the parent, the name, the count of tables, the bound, its own key, the rows of the default partition
+abbrev pub partition_place : History → (session : ℕ) → (name : List ℕ) → (parent : ℕ) → Bound → Option Partitioning → Result Place Fault
+partition_place h s name p b by =
+    next_answer (level_at h p) (λ level.
+    next_answer (free_name h s name) (λ u.
+    unless_faults (count_faults h) (
+    next_answer (placed_bound h s p level b) (λ bound.
+    next_answer (level_by (made_at h p).columns by) (λ own_level.
+    unless_faults (beside_default (default_of h s p)) (place_with bound own_level))))))
+
+abbrev pub place_found : (session : ℕ) → (name : List ℕ) → (parent : ℕ) → Bound → Option Partitioning → History → Made Place
+place_found s name p b by h = answered (partition_place h s name p b by)
+
+abbrev pub partition_made : Caller → (name : List ℕ) → (parent : ℕ) → Place → History → Made (Unit {0})
+partition_made caller name p place h = made (partition_events h name p place.bound place.level (own h caller.session) caller.cmd) tt
+
+abbrev pub placed_and_made : Caller → (name : List ℕ) → (parent : ℕ) → Bound → Option Partitioning → History → Made (Unit {0})
+placed_and_made caller name p b by = follow (place_found caller.session name p b by) (λ place. partition_made caller name p place)
+
+-- the parent is locked, then its default partition
+abbrev pub made_below : (names : List (List ℕ)) → Caller → (name parent : List ℕ) → Bound → Option Partitioning → History → Made (Unit {0})
+made_below names caller name parent b by =
+    follow (named names caller.session AccessExclusive parent) (λ p.
+    follow (default_locked names caller.session p) (λ u.
+    placed_and_made caller name p b by))
+
+-- CREATE TABLE name PARTITION OF parent bound [ PARTITION BY .. ]
+abbrev pub partitioned : (names : List (List ℕ)) → Caller → (name parent : List ℕ) → Bound → Option Partitioning → History → Made (Unit {0})
+partitioned names caller name parent b by =
+    follow (in_control (codes "CREATE") caller.session) (λ u.
+    follow (held_at caller.level caller.session caller.cmd) (λ v.
+    made_below names caller name parent b by))

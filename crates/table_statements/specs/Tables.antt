@@ -1,0 +1,83 @@
+-- CREATE TABLE of a session (the manual, CREATE TABLE; 5.11.2 Declarative Partitioning).
+use Rattle.std.specs.Prelude.{◌≡◌, ℕ, List, [], ◌∷◌, Option, Some, None, Result, Ok, Err, length, codes}
+use mathlib.Core.Path.{refl, subst}
+use Rattle.pg_values.specs.declared.fault.Fault.{Fault}
+use Rattle.part_bounds.specs.declared.level.KeyColumn.{KeyColumn}
+use Rattle.part_bounds.specs.declared.level.Level.{Level}
+use Rattle.part_bounds.specs.declared.level.Strategy.{Strategy}
+use Rattle.part_bounds.specs.declared.level.Strategy.TheVariants.{Range as ByRange, List as ByList, Hash as ByHash}
+use Rattle.history.specs.declared.catalogue.Column.{Column}
+use Rattle.history.specs.declared.transaction.TxId.{TxId}
+use Rattle.history.specs.History.{History}
+use Rattle.sql_commands.specs.declared.lists.ColumnDefinition.{ColumnDefinition}
+use Rattle.sql_commands.specs.declared.lists.Partitioning.{Partitioning}
+use Rattle.table_binder.specs.Columns.{bound_columns}
+use Rattle.table_binder.specs.Partitionings.{Key, bound_key}
+use Rattle.table_binder.specs.States.{list_takes_one}
+use Rattle.part_ddl.specs.Tables.{count_faults, table_events}
+use Rattle.stores.specs.Events.{tx_in}
+use Rattle.course.specs.Made.{Made, made}
+use Rattle.course.specs.declared.caller.Caller.{Caller}
+use Rattle.statement_steps.specs.Asks.{held_at}
+use Rattle.statement_steps.specs.Steps.{follow}
+use Rattle.table_statements.specs.Refused.{next_answer, unless_faults, answered, in_control, free_name}
+
+-- ---- how a table is partitioned
+
+-- what LIST asks of key columns
+abbrev pub AreOneIfList : List KeyColumn → Strategy → Type 0
+AreOneIfList columns ByRange = Unit {0}
+AreOneIfList columns ByList = length columns ≡ 1
+AreOneIfList columns ByHash = Unit {0}
+
+abbrev pub level_of : Strategy → List KeyColumn → Result Level Fault
+level_of ByRange columns = Ok (record { strategy = ByRange; columns = columns; one_if_list = λ e. subst (AreOneIfList columns) e tt })
+level_of ByHash columns = Ok (record { strategy = ByHash; columns = columns; one_if_list = λ e. subst (AreOneIfList columns) e tt })
+level_of ByList (c ∷ []) = Ok (record { strategy = ByList; columns = c ∷ []; one_if_list = λ e. refl })
+level_of ByList _ = Err list_takes_one
+
+abbrev pub level_with : Key → Result Level Fault
+level_with key = level_of key.strategy key.columns
+
+abbrev pub some_level : Level → Result (Option Level) Fault
+some_level level = Ok (Some level)
+
+-- the level of a table with these columns, where it is partitioned
+abbrev pub level_by : List Column → Option Partitioning → Result (Option Level) Fault
+level_by columns None = Ok None
+level_by columns (Some by) = next_answer (next_answer (bound_key columns by) level_with) some_level
+
+-- ---- the table
+
+abbrev pub own : History → (session : ℕ) → TxId
+own h s = record { number = tx_in h s }
+
+-- what a new table has, or the first refusal: its name, the count of tables, its columns, its key
+pub record Plan : Type 0 where
+  pub columns : List Column
+  pub level : Option Level
+
+abbrev pub plan_with : List Column → Option Level → Result Plan Fault
+plan_with columns level = Ok (record { columns = columns; level = level })
+
+abbrev pub columns_and_key : List ColumnDefinition → Option Partitioning → Result Plan Fault
+columns_and_key definitions by = next_answer (bound_columns definitions) (λ columns. next_answer (level_by columns by) (plan_with columns))
+
+abbrev pub table_plan : History → (session : ℕ) → (name : List ℕ) → List ColumnDefinition → Option Partitioning → Result Plan Fault
+table_plan h s name definitions by = next_answer (free_name h s name) (λ u. unless_faults (count_faults h) (columns_and_key definitions by))
+
+abbrev pub planned : (session : ℕ) → (name : List ℕ) → List ColumnDefinition → Option Partitioning → History → Made Plan
+planned s name definitions by h = answered (table_plan h s name definitions by)
+
+abbrev pub table_made : Caller → (name : List ℕ) → Plan → History → Made (Unit {0})
+table_made caller name plan h = made (table_events h name plan.columns plan.level (own h caller.session) caller.cmd) tt
+
+abbrev pub planned_and_made : Caller → (name : List ℕ) → List ColumnDefinition → Option Partitioning → History → Made (Unit {0})
+planned_and_made caller name columns by = follow (planned caller.session name columns by) (λ plan. table_made caller name plan)
+
+-- CREATE TABLE name ( columns ) [ PARTITION BY .. ]
+abbrev pub created : Caller → (name : List ℕ) → List ColumnDefinition → Option Partitioning → History → Made (Unit {0})
+created caller name columns by =
+    follow (in_control (codes "CREATE") caller.session) (λ u.
+    follow (held_at caller.level caller.session caller.cmd) (λ v.
+    planned_and_made caller name columns by))

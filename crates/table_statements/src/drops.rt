@@ -1,0 +1,243 @@
+ghost use Rattle.std.specs.Prelude.{◌≡◌, ◌+◌, ◌<◌, ◌≤◌, false, ◌++◌, ◌∷◌, [], Option, Some, None, All, IfOk, OnOk, length, map};
+ghost use Rattle.history.specs.History.{History};
+ghost use Rattle.tx_table.specs.Stands.{TableStands};
+ghost use Rattle.part_catalog.specs.Answers.{AreTogether};
+ghost use Rattle.part_catalog.specs.Stands.{CatalogueStands};
+ghost use Rattle.statement_steps.specs.Known.{IsKnownTo};
+ghost use Rattle.course.specs.Attempts.{MayAttempt};
+ghost use Rattle.statement_steps.specs.Steps.{IsStep};
+ghost use Rattle.table_statements.specs.Asked.{MayDropTable, one_or_none, numbers};
+ghost use Rattle.table_statements.specs.Drops as drops;
+ghost use Rattle.table_statements.specs.Drops.{dropped};
+
+use crate::refused::{check_control, stop_by};
+use course::{Caller, Stop};
+use part_catalog::Catalog;
+use part_ddl::{default_of, drop_table, tables_below};
+use pg_ids::{LockMode, TableNo};
+use pg_values::{NoMemory, PgText};
+use statement_steps::{SessionNames, find_table, hold_if_repeatable, lock_tables};
+use std::alloc::Global;
+use stores::{Stores, trees_are_together};
+use tx_table::TxTable;
+
+// The table above, the table and those under it, and the default partition beside it.
+fn tables_to_lock(
+    alloc: Global,
+    catalog: &Catalog,
+    txs: &TxTable,
+    session: u32,
+    table: TableNo,
+) -> Result<Vec<TableNo>, NoMemory>
+    requires known { table.number < length catalog.now.tables }
+    requires siblings { AreTogether txs.now catalog.now session }
+    ensures { IfOk result (λ tables. (h : History) → TableStands txs.now h → CatalogueStands catalog.now h → map (λ t. t.number) tables.items ≡ drops.tables_to_lock h session table.number) }
+{
+    let parent = catalog.parent_of(txs, session, table);
+    let mut tables = Vec::new(alloc);
+    if let Some(parent) = parent {
+        tables.push(parent)?;
+    }
+    tables.push(table)?;
+    for other in &tables_below(alloc, catalog, txs, table, session)? {
+        tables.push(*other)?;
+    }
+    if let Some(parent) = parent {
+        if let Some(default) = default_of(alloc, catalog, txs, parent, session)? {
+            tables.push(default)?;
+        }
+    }
+    Ok(tables)
+}
+
+// What the drop of a table needs is locked.
+fn lock_for(
+    alloc: Global,
+    stores: &mut Stores,
+    names: &SessionNames,
+    caller: Caller,
+    table: TableNo,
+) -> Result<(), Stop>
+    requires may { MayAttempt stores.old caller }
+    requires few { length stores.old.catalog.tables ≤ 4096 }
+    requires known { IsKnownTo stores.old caller.session table.number }
+    ensures step { IsStep (λ u. u) result stores.old stores.new caller caller.cmd (drops.drop_locked names.now caller.session table.number) }
+    ensures drop { IfOk result (λ u. MayDropTable stores.new caller.session table) }
+    ensures rest { stores.new ≡ record stores.old { locks = stores.new.locks } }
+{
+    trees_are_together();
+    match tables_to_lock(alloc, &stores.catalog, &stores.txs, caller.session, table) {
+        Ok(tables) => lock_tables(
+            alloc,
+            stores,
+            names,
+            caller,
+            &tables,
+            LockMode::AccessExclusive,
+        ),
+        Err(NoMemory) => Err(Stop::NoMemory),
+    }
+}
+
+fn push_table(tables: &mut Vec<TableNo>, table: TableNo) -> Result<(), NoMemory>
+    ensures { OnOk result (tables.new.items ≡ tables.old.items ++ table ∷ []) }
+{
+    tables.push(table)?;
+    Ok(())
+}
+
+// A part: a named table, where it is there, and what its drop needs is locked.
+fn lock_to_drop(
+    alloc: Global,
+    stores: &mut Stores,
+    names: &SessionNames,
+    caller: Caller,
+    name: &[u8],
+) -> Result<Option<TableNo>, Stop>
+    requires may { MayAttempt stores.old caller }
+    requires few { length stores.old.catalog.tables ≤ 4096 }
+    ensures step { IsStep one_or_none result stores.old stores.new caller caller.cmd (drops.found_one names.now caller.session false name.now) }
+    ensures drop { IfOk result (λ found. (t : TableNo) → found ≡ Some t → MayDropTable stores.new caller.session t) }
+    ensures rest { stores.new ≡ record stores.old { locks = stores.new.locks } }
+{
+    match find_table(alloc, stores, caller, name) {
+        Ok(table) => match lock_for(alloc, stores, names, caller, table) {
+            Ok(()) => Ok(Some(table)),
+            Err(stop) => Err(stop),
+        },
+        Err(stop) => Err(stop),
+    }
+}
+
+// The same, where an absent one is passed over.
+fn lock_if_there(
+    alloc: Global,
+    stores: &mut Stores,
+    names: &SessionNames,
+    caller: Caller,
+    if_there: bool,
+    name: &[u8],
+) -> Result<Option<TableNo>, Stop>
+    requires may { MayAttempt stores.old caller }
+    requires few { length stores.old.catalog.tables ≤ 4096 }
+    ensures step { IsStep one_or_none result stores.old stores.new caller caller.cmd (drops.found_one names.now caller.session if_there name.now) }
+    ensures drop { IfOk result (λ found. (t : TableNo) → found ≡ Some t → MayDropTable stores.new caller.session t) }
+    ensures rest { stores.new ≡ record stores.old { locks = stores.new.locks } }
+{
+    if if_there {
+        let found = stores.catalog.resolve(&stores.txs, caller.session, name);
+        if found.is_none() {
+            return Ok(None);
+        }
+    }
+    lock_to_drop(alloc, stores, names, caller, name)
+}
+
+// A part: all named tables.
+fn lock_all_to_drop(
+    alloc: Global,
+    stores: &mut Stores,
+    names: &SessionNames,
+    caller: Caller,
+    if_there: bool,
+    tables: &[PgText],
+) -> Result<Vec<TableNo>, Stop>
+    requires may { MayAttempt stores.old caller }
+    requires few { length stores.old.catalog.tables ≤ 4096 }
+    ensures step { IsStep numbers result stores.old stores.new caller caller.cmd (drops.found_all names.now caller.session if_there tables.now) }
+    ensures drop { IfOk result (λ found. All (MayDropTable stores.new caller.session) found.items) }
+{
+    let mut found = Vec::new(alloc);
+    let mut left = tables;
+    while let Some((name, others)) = left.split_first() {
+        match lock_if_there(alloc, stores, names, caller, if_there, name.as_bytes()) {
+            Ok(None) => left = others,
+            Ok(Some(table)) => match push_table(&mut found, table) {
+                Ok(()) => left = others,
+                Err(NoMemory) => return Err(Stop::NoMemory),
+            },
+            Err(stop) => return Err(stop),
+        }
+    }
+    Ok(found)
+}
+
+// Whether it is still the table of its name: it has not gone with another one before.
+fn is_left(catalog: &Catalog, txs: &TxTable, session: u32, table: TableNo) -> bool
+    requires { table.number < length catalog.now.tables }
+    ensures { (h : History) → TableStands txs.now h → CatalogueStands catalog.now h → result ≡ drops.is_left h session table.number }
+{
+    match catalog.resolve(txs, session, catalog.name_of(table)) {
+        None => false,
+        Some(found) => found.number == table.number,
+    }
+}
+
+// The last part: the tables go, one after the other.
+fn drop_all(
+    alloc: Global,
+    stores: &mut Stores,
+    caller: Caller,
+    tables: &[TableNo],
+) -> Result<(), Stop>
+    requires may { MayAttempt stores.old caller }
+    requires drops { All (MayDropTable stores.old caller.session) tables.now }
+    ensures { IsStep (λ u. u) result stores.old stores.new caller (caller.cmd + 1) (drops.dropped_all caller (map (λ t. t.number) tables.now)) }
+{
+    let Some(by) = stores.txs.open_of(caller.session) else {
+        unreachable!()
+    };
+    let Stores { txs, catalog, .. } = stores;
+    for table in tables {
+        if is_left(catalog, txs, caller.session, *table) {
+            match drop_table(alloc, catalog, txs, *table, by, caller.cmd) {
+                Ok(()) => {}
+                Err(NoMemory) => return Err(Stop::NoMemory),
+            }
+        }
+    }
+    Ok(())
+}
+
+// The tables are locked, and go.
+fn lock_and_drop(
+    alloc: Global,
+    stores: &mut Stores,
+    names: &SessionNames,
+    caller: Caller,
+    if_there: bool,
+    tables: &[PgText],
+) -> Result<(), Stop>
+    requires may { MayAttempt stores.old caller }
+    requires few { length stores.old.catalog.tables ≤ 4096 }
+    ensures { IsStep (λ u. u) result stores.old stores.new caller (caller.cmd + 1) (drops.locked_and_dropped names.now caller if_there tables.now) }
+{
+    match lock_all_to_drop(alloc, stores, names, caller, if_there, tables) {
+        Ok(found) => drop_all(alloc, stores, caller, &found),
+        Err(stop) => Err(stop),
+    }
+}
+
+/// DROP TABLE. Each named table is found (42P01; with IF EXISTS an absent one is passed over) and locked in
+/// ACCESS EXCLUSIVE mode with the table above it, those under it and the default partition beside it. Then
+/// they go, each with the tables under it.
+pub fn drop_tables(
+    alloc: Global,
+    stores: &mut Stores,
+    names: &SessionNames,
+    caller: Caller,
+    if_there: bool,
+    tables: &[PgText],
+) -> Result<(), Stop>
+    requires may { MayAttempt stores.old caller }
+    requires few { length stores.old.catalog.tables ≤ 4096 }
+    ensures { IsStep (λ u. u) result stores.old stores.new caller (caller.cmd + 1) (dropped names.now caller if_there tables.now) }
+{
+    match check_control(alloc, b"DROP", caller.session) {
+        Ok(()) => match hold_if_repeatable(alloc, stores, caller) {
+            Ok(()) => lock_and_drop(alloc, stores, names, caller, if_there, tables),
+            Err(stop) => Err(stop),
+        },
+        Err(refusal) => Err(stop_by(refusal)),
+    }
+}

@@ -1,0 +1,286 @@
+ghost use Rattle.std.specs.Prelude.{◌≡◌, ◌+◌, ◌<◌, ◌≤◌, Ok, IfOk, length, map};
+ghost use Rattle.pg_values.specs.Refusals.{IsAnswer};
+ghost use Rattle.history.specs.History.{History};
+ghost use Rattle.history.specs.Places.{TakesBound};
+ghost use Rattle.tx_table.specs.Stands.{TableStands};
+ghost use Rattle.part_catalog.specs.Answers.{AreTogether};
+ghost use Rattle.part_catalog.specs.Found.{made_at};
+ghost use Rattle.part_catalog.specs.Stands.{CatalogueStands};
+ghost use Rattle.expression_binder.specs.Firsts.{IsAnswerBy};
+ghost use Rattle.part_ddl.specs.Below as below;
+ghost use Rattle.legal_statements.specs.Locked.{IsOwned};
+ghost use Rattle.stores.specs.Stand.{Stands};
+ghost use Rattle.sql_commands.specs.Trees.{bound_tree};
+ghost use Rattle.course.specs.Attempts.{MayAttempt};
+ghost use Rattle.statement_steps.specs.Steps.{IsStep};
+ghost use Rattle.table_statements.specs.Refused.{unless_faults};
+ghost use Rattle.table_statements.specs.Partitions as partitions;
+ghost use Rattle.table_statements.specs.Partitions.{partitioned, partition_place};
+ghost use Rattle.table_statements.specs.Asked.{MayBePlaced};
+ghost use Rattle.table_statements.specs.Seen.{seen_place};
+
+use crate::refused::{check_control, check_free, stop_by};
+use crate::tables::{check_count, level_by};
+use course::{Caller, Stop};
+use expression_binder::left_out;
+use part_bounds::{Bound, Level};
+use part_catalog::Catalog;
+use part_ddl::{check_place, default_of, make_partition, parent_level, tables_below};
+use pg_ids::{LockMode, TableNo};
+use pg_values::{NoMemory, PgText, Refusal};
+use sql_commands::{BoundText, Partitioning};
+use statement_steps::{SessionNames, hold_if_repeatable, lock_named, lock_tables};
+use std::alloc::Global;
+use stores::{Stores, trees_are_together};
+use table_binder::bind_bound;
+use tx_table::TxTable;
+
+/// The bound of a partition, and its own level where it is partitioned.
+struct Place {
+    bound: Bound,
+    level: Option<Level>,
+}
+
+// A table and those under it.
+fn tables_from(
+    alloc: Global,
+    catalog: &Catalog,
+    txs: &TxTable,
+    table: TableNo,
+    session: u32,
+) -> Result<Vec<TableNo>, NoMemory>
+    requires known { table.number < length catalog.now.tables }
+    requires siblings { AreTogether txs.now catalog.now session }
+    ensures { IfOk result (λ tables. (h : History) → TableStands txs.now h → CatalogueStands catalog.now h → tables.items ≡ below.tables_from h session table.number) }
+{
+    let mut tables = Vec::new(alloc);
+    tables.push(table)?;
+    let under = tables_below(alloc, catalog, txs, table, session)?;
+    for other in &under {
+        tables.push(*other)?;
+    }
+    Ok(tables)
+}
+
+// The default partition of the parent and the tables under it.
+fn default_tables(
+    alloc: Global,
+    stores: &Stores,
+    caller: Caller,
+    parent: TableNo,
+) -> Result<Vec<TableNo>, NoMemory>
+    requires may { MayAttempt stores.now caller }
+    requires known { parent.number < length stores.now.catalog.tables }
+    ensures { IfOk result (λ tables. (h : History) → TableStands stores.now.txs h → CatalogueStands stores.now.catalog h →
+        map (λ t. t.number) tables.items ≡ partitions.numbers_under h caller.session (below.default_of h caller.session parent.number)) }
+{
+    trees_are_together();
+    let Stores { txs, catalog, .. } = stores;
+    match default_of(alloc, catalog, txs, parent, caller.session)? {
+        None => Ok(Vec::new(alloc)),
+        Some(table) => tables_from(alloc, catalog, txs, table, caller.session),
+    }
+}
+
+// The default partition of the parent and the tables under it are locked.
+fn lock_default(
+    alloc: Global,
+    stores: &mut Stores,
+    names: &SessionNames,
+    caller: Caller,
+    parent: TableNo,
+) -> Result<(), Stop>
+    requires may { MayAttempt stores.old caller }
+    requires few { length stores.old.catalog.tables ≤ 4096 }
+    requires known { parent.number < length stores.old.catalog.tables }
+    ensures step { IsStep (λ u. u) result stores.old stores.new caller caller.cmd (partitions.default_locked names.now caller.session parent.number) }
+    ensures rest { stores.new ≡ record stores.old { locks = stores.new.locks } }
+{
+    match default_tables(alloc, stores, caller, parent) {
+        Ok(tables) => lock_tables(
+            alloc,
+            stores,
+            names,
+            caller,
+            &tables,
+            LockMode::AccessExclusive,
+        ),
+        Err(NoMemory) => Err(Stop::NoMemory),
+    }
+}
+
+// The rows of a default partition are not scanned: a partition beside it is left out.
+fn check_default(
+    alloc: Global,
+    catalog: &Catalog,
+    txs: &TxTable,
+    parent: TableNo,
+    session: u32,
+) -> Result<(), Refusal>
+    requires known { parent.number < length catalog.now.tables }
+    requires siblings { AreTogether txs.now catalog.now session }
+    ensures { (h : History) → TableStands txs.now h → CatalogueStands catalog.now h → IsAnswer result (unless_faults (partitions.beside_default (below.default_of h session parent.number)) (Ok tt)) }
+{
+    match default_of(alloc, catalog, txs, parent, session)? {
+        None => Ok(()),
+        Some(_) => Err(Refusal::Sql(left_out(alloc, b"CREATE")?)),
+    }
+}
+
+// The place of the partition, or the first refusal.
+fn place_of(
+    alloc: Global,
+    catalog: &Catalog,
+    txs: &TxTable,
+    session: u32,
+    name: &[u8],
+    parent: TableNo,
+    bound: &BoundText,
+    by: &Option<Partitioning>,
+) -> Result<Place, Refusal>
+    requires known { parent.number < length catalog.now.tables }
+    requires siblings { AreTogether txs.now catalog.now session }
+    ensures answer { (h : History) → TableStands txs.now h → CatalogueStands catalog.now h →
+        IsAnswerBy seen_place result (partition_place h session name.now parent.number (bound_tree bound.now) by.now) }
+    ensures may { IfOk result (λ place. (h : History) → TableStands txs.now h → CatalogueStands catalog.now h → MayBePlaced h session name.now parent.number place.bound place.level) }
+{
+    let level = parent_level(alloc, catalog, parent)?;
+    check_free(alloc, catalog, txs, session, name)?;
+    check_count(alloc, catalog)?;
+    let bound = bind_bound(alloc, bound, level)?;
+    check_place(alloc, catalog, txs, parent, &bound, session)?;
+    let level = level_by(alloc, catalog.table(parent).columns.as_slice(), by)?;
+    check_default(alloc, catalog, txs, parent, session)?;
+    Ok(Place { bound, level })
+}
+
+// A part: the place of the partition.
+fn place_found(
+    alloc: Global,
+    stores: &Stores,
+    caller: Caller,
+    name: &[u8],
+    parent: TableNo,
+    bound: &BoundText,
+    by: &Option<Partitioning>,
+) -> Result<Place, Stop>
+    requires may { MayAttempt stores.now caller }
+    requires known { parent.number < length stores.now.catalog.tables }
+    ensures step { IsStep seen_place result stores.now stores.now caller caller.cmd (partitions.place_found caller.session name.now parent.number (bound_tree bound.now) by.now) }
+    ensures may { IfOk result (λ place. (h : History) → TableStands stores.now.txs h → CatalogueStands stores.now.catalog h → MayBePlaced h caller.session name.now parent.number place.bound place.level) }
+{
+    trees_are_together();
+    let Stores { txs, catalog, .. } = stores;
+    match place_of(alloc, catalog, txs, caller.session, name, parent, bound, by) {
+        Ok(place) => Ok(place),
+        Err(refusal) => Err(stop_by(refusal)),
+    }
+}
+
+// The last part: the table is made, and gets its place.
+fn make_placed(
+    alloc: Global,
+    stores: &mut Stores,
+    caller: Caller,
+    name: PgText,
+    parent: TableNo,
+    place: Place,
+) -> Result<(), Stop>
+    requires may { MayAttempt stores.old caller }
+    requires known { parent.number < length stores.old.catalog.tables }
+    requires placed { (h : History) → TableStands stores.old.txs h → CatalogueStands stores.old.catalog h → MayBePlaced h caller.session name parent.number place.bound place.level }
+    requires locked { (h : History) → Stands stores.old h → IsOwned h caller.session parent.number }
+    ensures { IsStep (λ u. u) result stores.old stores.new caller (caller.cmd + 1) (partitions.partition_made caller name parent.number (seen_place place)) }
+{
+    let Some(by) = stores.txs.open_of(caller.session) else {
+        unreachable!()
+    };
+    let Place { bound, level } = place;
+    let Stores {
+        txs,
+        rows,
+        catalog,
+        ..
+    } = stores;
+    match make_partition(
+        alloc, catalog, rows, txs, name, parent, bound, level, by, caller.cmd,
+    ) {
+        Ok(_) => Ok(()),
+        Err(refusal) => Err(stop_by(refusal)),
+    }
+}
+
+// The place is found, and the table made there.
+fn place_and_make(
+    alloc: Global,
+    stores: &mut Stores,
+    caller: Caller,
+    name: &PgText,
+    parent: TableNo,
+    bound: &BoundText,
+    by: &Option<Partitioning>,
+) -> Result<(), Stop>
+    requires may { MayAttempt stores.old caller }
+    requires known { parent.number < length stores.old.catalog.tables }
+    requires locked { (h : History) → Stands stores.old h → IsOwned h caller.session parent.number }
+    ensures { IsStep (λ u. u) result stores.old stores.new caller (caller.cmd + 1) (partitions.placed_and_made caller name.now parent.number (bound_tree bound.now) by.now) }
+{
+    match place_found(alloc, stores, caller, name.as_bytes(), parent, bound, by) {
+        Ok(place) => match name.copy(alloc) {
+            Ok(name) => make_placed(alloc, stores, caller, name, parent, place),
+            Err(NoMemory) => Err(Stop::NoMemory),
+        },
+        Err(stop) => Err(stop),
+    }
+}
+
+// The parent is locked, and then its default partition.
+fn create_below(
+    alloc: Global,
+    stores: &mut Stores,
+    names: &SessionNames,
+    caller: Caller,
+    name: &PgText,
+    parent: &PgText,
+    bound: &BoundText,
+    by: &Option<Partitioning>,
+) -> Result<(), Stop>
+    requires may { MayAttempt stores.old caller }
+    requires few { length stores.old.catalog.tables ≤ 4096 }
+    ensures { IsStep (λ u. u) result stores.old stores.new caller (caller.cmd + 1) (partitions.made_below names.now caller name.now parent.now (bound_tree bound.now) by.now) }
+{
+    let mode = LockMode::AccessExclusive;
+    match lock_named(alloc, stores, names, caller, parent.as_bytes(), mode) {
+        Ok(parent) => match lock_default(alloc, stores, names, caller, parent) {
+            Ok(()) => place_and_make(alloc, stores, caller, name, parent, bound, by),
+            Err(stop) => Err(stop),
+        },
+        Err(stop) => Err(stop),
+    }
+}
+
+/// CREATE TABLE, PARTITION OF. The parent is found (42P01) and locked in ACCESS EXCLUSIVE mode, and so are
+/// its default partition and the tables under that one. It is refused where the parent is not partitioned
+/// (42809), with 42P07, 54000 for tables, for its bound, for its own key, and beside a default partition.
+pub fn create_partition(
+    alloc: Global,
+    stores: &mut Stores,
+    names: &SessionNames,
+    caller: Caller,
+    name: &PgText,
+    parent: &PgText,
+    bound: &BoundText,
+    by: &Option<Partitioning>,
+) -> Result<(), Stop>
+    requires may { MayAttempt stores.old caller }
+    requires few { length stores.old.catalog.tables ≤ 4096 }
+    ensures { IsStep (λ u. u) result stores.old stores.new caller (caller.cmd + 1) (partitioned names.now caller name.now parent.now (bound_tree bound.now) by.now) }
+{
+    match check_control(alloc, b"CREATE", caller.session) {
+        Ok(()) => match hold_if_repeatable(alloc, stores, caller) {
+            Ok(()) => create_below(alloc, stores, names, caller, name, parent, bound, by),
+            Err(stop) => Err(stop),
+        },
+        Err(refusal) => Err(stop_by(refusal)),
+    }
+}
