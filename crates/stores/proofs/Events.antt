@@ -27,13 +27,13 @@ use Rattle.stores.proofs.Goodness.{legal_of, none_in_order, if_self}
 use Rattle.stores.proofs.Commands.{look_is_own, look_may_be_held, commands_are_in_order}
 
 pub lock_good : (e : LockEvent) (h : History) → IsLockSound e (lock_events h) → IsPermitted (LockChange e) h → IsGood h → IsGood (LockChange e ∷ h)
-lock_good e h sound permitted good = (record { legal = sound; in_order = none_in_order h; permitted = permitted; acting = tt; released = tt }, good)
+lock_good e h sound permitted good = (record { legal = sound; in_order = none_in_order h; permitted = permitted; acting = tt; released = tt; housed = tt }, good)
 
 pub tx_good : (e : TxEvent) (h : History) → IsSound (e ∷ tx_events h) → IsReleased (TxChange e) h → IsGood h → IsGood (TxChange e ∷ h)
-tx_good e h sound released good = (record { legal = sound; in_order = none_in_order h; permitted = tt; acting = tt; released = released }, good)
+tx_good e h sound released good = (record { legal = sound; in_order = none_in_order h; permitted = tt; acting = tt; released = released; housed = tt }, good)
 
 pub dropped_good : (s : ℕ) (h : History) → IsGood h → IsGood (SnapshotChange (SnapshotDropped s) ∷ h)
-dropped_good s h good = (record { legal = tt; in_order = none_in_order h; permitted = tt; acting = tt; released = tt }, good)
+dropped_good s h good = (record { legal = tt; in_order = none_in_order h; permitted = tt; acting = tt; released = tt; housed = tt }, good)
 
 pub let_go_good : (s : ℕ) (h : History) → IsGood h → IsGood (let_go s ++ h)
 let_go_good s h good = lock_good (SnapshotGone s) (SnapshotChange (SnapshotDropped s) ∷ h) tt tt (dropped_good s h good)
@@ -79,6 +79,7 @@ holding_good s t cmd look h sound own number may order opened good None =
         permitted = tt;
         acting = subst (λ (x : ℕ). IsRunning (tx_events h) x) (sym own) runs;
         released = tt;
+        housed = tt;
       },
       good,
     )

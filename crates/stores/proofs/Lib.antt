@@ -2,5 +2,6 @@ pub mod Calls
 pub mod Commands
 pub mod Events
 pub mod Goodness
+pub mod Housed
 pub mod Meanwhile
 pub mod Standing

@@ -1,8 +1,12 @@
 -- Which histories a run comes to: each event was legal and permitted when it came.
-use Rattle.std.specs.Prelude.{◌≡◌, ℕ, [], ◌∷◌, Option, Some, None}
+use Rattle.std.specs.Prelude.{◌≡◌, ◌<◌, ℕ, [], ◌∷◌, Option, Some, None}
 use Rattle.history.specs.Transactions.{TxEvents, TxCommitted, TxAborted, IsRunning}
 use Rattle.history.specs.Snapshots.{held_by}
-use Rattle.history.specs.History.{Event, History, TxChange, tx_events, snapshot_events}
+use Rattle.history.specs.declared.catalogue.TableShape.{TableShape}
+use Rattle.history.specs.declared.catalogue.TableShape.TheVariants.{Leaf, Level}
+use Rattle.history.specs.Rows.{leaf_count}
+use Rattle.history.specs.Catalogue.{TableMade}
+use Rattle.history.specs.History.{Event, History, TxChange, CatalogueChange, tx_events, snapshot_events, row_events}
 use Rattle.history.specs.Legal.{May, command_of, IsInOrder}
 use Rattle.soundness.specs.Legal.{IsPermitted}
 
@@ -17,6 +21,15 @@ IsReleased (TxChange (TxCommitted s t)) h = held_by (snapshot_events h) s ≡ No
 IsReleased (TxChange (TxAborted s t)) h = held_by (snapshot_events h) s ≡ None
 IsReleased _ h = Unit {0}
 
+-- a table is made only where its leaf was added
+abbrev pub HasLeafOf : TableShape → History → Type 0
+HasLeafOf (Leaf leaf) h = leaf.number < leaf_count (row_events h)
+HasLeafOf (Level level) h = Unit {0}
+
+abbrev pub IsHoused : Event → History → Type 0
+IsHoused (CatalogueChange (TableMade t)) h = HasLeafOf t.shape h
+IsHoused _ h = Unit {0}
+
 -- the event may come after the history
 pub record MayCome (e : Event) (h : History) : Type 0 where
   pub legal : May e h
@@ -24,6 +37,7 @@ pub record MayCome (e : Event) (h : History) : Type 0 where
   pub permitted : IsPermitted e h
   pub acting : IsActing (tx_events h) (command_of e)
   pub released : IsReleased e h
+  pub housed : IsHoused e h
 
 abbrev pub IsGood : History → Type 0
 IsGood [] = Unit {0}

@@ -1,11 +1,14 @@
 -- What holds of every good history.
-use Rattle.std.specs.Prelude.{◌≡◌, ◌≢◌, ◌≤◌, ℕ, ◌∷◌, ◌++◌, Some, All}
+use Rattle.std.specs.Prelude.{◌≡◌, ◌≢◌, ◌≤◌, ◌<◌, ℕ, ◌∷◌, ◌++◌, Some, All}
+use Rattle.pg_ids.specs.declared.ids.LeafId.{LeafId}
 use Rattle.history.specs.Transactions.{open_of}
+use Rattle.history.specs.Rows.{leaf_count}
 use Rattle.history.specs.Snapshots.{TakenSnapshot, SnapshotHeld, held_by}
 use Rattle.history.specs.Locks.{LockEvent}
-use Rattle.history.specs.History.{History, LockChange, tx_events, snapshot_events}
+use Rattle.history.specs.History.{History, LockChange, tx_events, snapshot_events, row_events, catalogue_events}
 use Rattle.history.specs.Legal.{MayHold, IsInOrder, IsLegal}
 use Rattle.soundness.specs.Legal.{ArePermitted}
+use Rattle.soundness.specs.Worlds.{HasLeaf}
 use Rattle.soundness.specs.Laws.{IsLooking}
 use Rattle.part_catalog.specs.Answers.{AreTogether}
 use Rattle.stores.specs.declared.stores.Stores.{Stores}
@@ -70,3 +73,7 @@ CommandsAreInOrder = (h : History) (session t cmd : ℕ) → IsAt h session cmd 
 -- the entries that are present for a session stand together: what the catalogue asks where it makes a tree
 abbrev pub TreesAreTogether : Type 0
 TreesAreTogether = (stores : Stores) (h : History) (session : ℕ) → Stands stores h → AreTogether stores.txs stores.catalog session
+
+-- the leaf of each table was added
+abbrev pub LeavesAreHoused : Type 0
+LeavesAreHoused = (h : History) (x : ℕ) (leaf : LeafId) → IsGood h → HasLeaf (catalogue_events h) x leaf → leaf.number < leaf_count (row_events h)

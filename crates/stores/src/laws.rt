@@ -1,4 +1,4 @@
-ghost use Rattle.stores.specs.Laws.{GoodIsLegal, HeldIsOwn, BeginsAtZero, GoesOn, LocksKeepNumbers, OthersKeepNumbers, LooksKeepNumbers, HoldingKeepsLooks, LooksAreOpen, CommandsAreInOrder, TreesAreTogether};
+ghost use Rattle.stores.specs.Laws.{GoodIsLegal, HeldIsOwn, BeginsAtZero, GoesOn, LocksKeepNumbers, OthersKeepNumbers, LooksKeepNumbers, HoldingKeepsLooks, LooksAreOpen, CommandsAreInOrder, TreesAreTogether, LeavesAreHoused};
 
 /// A good history is legal and permitted, so that the laws of soundness hold of it.
 pub fn good_is_legal()
@@ -53,4 +53,9 @@ pub fn commands_are_in_order()
 /// The entries that are present for a session stand together.
 pub fn trees_are_together()
     ensures { TreesAreTogether }
+{}
+
+/// The leaf of each table was added to the rows before the table was made.
+pub fn leaves_are_housed()
+    ensures { LeavesAreHoused }
 {}
