@@ -2,6 +2,7 @@
 use Rattle.std.specs.Prelude.{◌≡◌, ◌<◌, ℕ, [], ◌∷◌, Option, Some, None}
 use Rattle.history.specs.Transactions.{TxEvents, TxCommitted, TxAborted, IsRunning}
 use Rattle.history.specs.Snapshots.{held_by}
+use Rattle.history.specs.declared.catalogue.Table.{Table}
 use Rattle.history.specs.declared.catalogue.TableShape.{TableShape}
 use Rattle.history.specs.declared.catalogue.TableShape.TheVariants.{Leaf, Level}
 use Rattle.history.specs.Rows.{leaf_count}
@@ -21,13 +22,17 @@ IsReleased (TxChange (TxCommitted s t)) h = held_by (snapshot_events h) s ≡ No
 IsReleased (TxChange (TxAborted s t)) h = held_by (snapshot_events h) s ≡ None
 IsReleased _ h = Unit {0}
 
--- a table is made only where its leaf was added
+-- a table is made only where its leaf was added, and where there is room for it
 abbrev pub HasLeafOf : TableShape → History → Type 0
 HasLeafOf (Leaf leaf) h = leaf.number < leaf_count (row_events h)
 HasLeafOf (Level level) h = Unit {0}
 
+pub record HasRoom (t : Table) (h : History) : Type 0 where
+  pub leaf : HasLeafOf t.shape h
+  pub few : t.id.number < 4096
+
 abbrev pub IsHoused : Event → History → Type 0
-IsHoused (CatalogueChange (TableMade t)) h = HasLeafOf t.shape h
+IsHoused (CatalogueChange (TableMade t)) h = HasRoom t h
 IsHoused _ h = Unit {0}
 
 -- the event may come after the history

@@ -1,5 +1,5 @@
 -- What holds of every good history.
-use Rattle.std.specs.Prelude.{◌≡◌, ◌≢◌, ◌≤◌, ◌<◌, ℕ, ◌∷◌, ◌++◌, Some, All}
+use Rattle.std.specs.Prelude.{◌≡◌, ◌≢◌, ◌≤◌, ◌<◌, ℕ, ◌∷◌, ◌++◌, Some, All, length}
 use Rattle.pg_ids.specs.declared.ids.LeafId.{LeafId}
 use Rattle.history.specs.Transactions.{open_of}
 use Rattle.history.specs.Rows.{leaf_count}
@@ -77,3 +77,7 @@ TreesAreTogether = (stores : Stores) (h : History) (session : ℕ) → Stands st
 -- the leaf of each table was added
 abbrev pub LeavesAreHoused : Type 0
 LeavesAreHoused = (h : History) (x : ℕ) (leaf : LeafId) → IsGood h → HasLeaf (catalogue_events h) x leaf → leaf.number < leaf_count (row_events h)
+
+-- there are 4,096 tables at most, dropped ones too
+abbrev pub TablesAreFew : Type 0
+TablesAreFew = (stores : Stores) (h : History) → Stands stores h → length stores.catalog.tables ≤ 4096

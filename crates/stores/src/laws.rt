@@ -1,4 +1,4 @@
-ghost use Rattle.stores.specs.Laws.{GoodIsLegal, HeldIsOwn, BeginsAtZero, GoesOn, LocksKeepNumbers, OthersKeepNumbers, LooksKeepNumbers, HoldingKeepsLooks, LooksAreOpen, CommandsAreInOrder, TreesAreTogether, LeavesAreHoused};
+ghost use Rattle.stores.specs.Laws.{GoodIsLegal, HeldIsOwn, BeginsAtZero, GoesOn, LocksKeepNumbers, OthersKeepNumbers, LooksKeepNumbers, HoldingKeepsLooks, LooksAreOpen, CommandsAreInOrder, TreesAreTogether, LeavesAreHoused, TablesAreFew};
 
 /// A good history is legal and permitted, so that the laws of soundness hold of it.
 pub fn good_is_legal()
@@ -58,4 +58,9 @@ pub fn trees_are_together()
 /// The leaf of each table was added to the rows before the table was made.
 pub fn leaves_are_housed()
     ensures { LeavesAreHoused }
+{}
+
+/// There are at most 4,096 tables, dropped ones too.
+pub fn tables_are_few()
+    ensures { TablesAreFew }
 {}

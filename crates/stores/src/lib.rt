@@ -24,6 +24,6 @@ mod trees;
 pub use laws::{
     begins_at_zero, commands_are_in_order, goes_on, good_is_legal, held_is_own,
     holding_keeps_looks, leaves_are_housed, locks_keep_numbers, looks_are_open, looks_keep_numbers,
-    others_keep_numbers, trees_are_together,
+    others_keep_numbers, tables_are_few, trees_are_together,
 };
 pub use stores::Stores;
