@@ -1,6 +1,7 @@
 ghost use Rattle.std.specs.Prelude.{◌≡◌, ◌≤◌, IfOk, length, replicate, false};
 ghost use Rattle.course.specs.Database.{empty};
 ghost use Rattle.course.specs.Kept.{StandsFor};
+ghost use Rattle.course.specs.Weight.{slack, most};
 
 use crate::Kinds;
 use crate::seats::Seats;
@@ -21,11 +22,11 @@ impl<K: Kinds> StoreExecutor<K> {
         requires { sessions ≤ 65 }
         ensures stands { IfOk result (λ e. StandsFor (K.options e.kinds) e.seats (empty (K.options kinds) sessions)) }
         ensures opened { IfOk result (λ e. e.seats.opened ≡ replicate sessions false) }
+        ensures slack { IfOk result (λ e. slack e.seats ≤ most) }
     {
-        Ok(StoreExecutor {
-            seats: Seats::new(alloc, sessions)?,
-            kinds,
-        })
+        let seats = Seats::new(alloc, sessions)?;
+        seats.weigh();
+        Ok(StoreExecutor { kinds, seats })
     }
 }
 
@@ -63,9 +64,7 @@ impl<K: Kinds> Executor for StoreExecutor<K> {
     }
 
     fn fresh(&self, alloc: Global) -> Result<Self, NoMemory> {
-        let executor = StoreExecutor::new(alloc, self.kinds.copy(alloc)?, self.seats.count())?;
-        executor.seats.weigh();
-        Ok(executor)
+        StoreExecutor::new(alloc, self.kinds.copy(alloc)?, self.seats.count())
     }
 
     fn parse(alloc: Global, text: &[u8]) -> Result<Vec<K::Statement>, Refusal> {
