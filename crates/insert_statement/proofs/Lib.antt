@@ -6,5 +6,5 @@ pub mod Placed
 pub mod Locked
 pub mod OwnLeaf
 pub mod Ways
-pub mod Targets
+pub mod Found
 pub mod Below

@@ -1,7 +1,7 @@
 -- The exit status of each answer.
 use Rattle.std.specs.Prelude.{ℕ}
-use Rattle.step_engine.specs.declared.top.Ended.{Ended}
-use Rattle.step_engine.specs.declared.top.Ended.TheVariants.{Done, ScriptRefused, Usage, TooLarge, ReadFault, WriteFault, NoMemory}
+use Rattle.script_program.specs.declared.ended.Ended.{Ended}
+use Rattle.script_program.specs.declared.ended.Ended.TheVariants.{Done, ScriptRefused, Usage, TooLarge, ReadFault, WriteFault, NoMemory}
 
 abbrev pub status : Ended → ℕ
 status Done = 0

@@ -17,7 +17,8 @@ use std::env;
 use std::io::ErrorKind;
 use std::process::ExitCode;
 use std::rt::Env;
-use step_engine::{Ended, partscript_run};
+use script_program::Ended;
+use step_engine::partscript_run;
 
 /// The status of each answer.
 fn status(ended: Ended) -> u8

@@ -1,11 +1,1 @@
-pub mod Creating
-pub mod Input
-pub mod Laws
-pub mod Made
-pub mod Outcomes
-pub mod Printed
-pub mod Ready
-pub mod Rows
-pub mod Script
-pub mod Setup
-pub mod Statements
+pub mod Run

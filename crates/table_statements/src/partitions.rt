@@ -36,6 +36,7 @@ use table_binder::bind_bound;
 use tx_table::TxTable;
 
 /// The bound of a partition, and its own level where it is partitioned.
+#[derive(Drop)]
 struct Place {
     bound: Bound,
     level: Option<Level>,

@@ -32,6 +32,7 @@ use tx_table::TxTable;
 use value_rules::one_text;
 
 /// What a new table has.
+#[derive(Drop)]
 pub(crate) struct Plan {
     pub columns: Columns,
     pub level: Option<Level>,

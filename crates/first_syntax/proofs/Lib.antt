@@ -1,4 +1,0 @@
-pub mod BlockLaws
-pub mod GrammarLaws
-pub mod StepLaws
-pub mod PlaceLaws

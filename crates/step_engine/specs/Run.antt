@@ -1,0 +1,29 @@
+-- The run of a script over the stores: what its database is before anything has happened, and what happens in it.
+use Rattle.std.specs.Prelude.{ℕ, ◌+◌, List, ◌∷◌, length, map, replicate, codes}
+use Rattle.schedule.specs.Rules.{Rules}
+use Rattle.spec_reader.specs.declared.spec.Spec.{Spec}
+use Rattle.spec_reader.specs.declared.spec.SessionSpec.{SessionSpec}
+use Rattle.sessions.specs.Sessions.{State, new_session, rules_of}
+use Rattle.course.specs.Database.{Database, course, empty}
+use Rattle.sql_syntax.specs.Trees.{StatementTree}
+use Rattle.store_statements.specs.Words.{statement_words}
+
+abbrev pub RunState : Type 0
+RunState = State (Database (List (List ℕ))) StatementTree
+
+abbrev pub rules : Rules RunState
+rules = rules_of (course statement_words)
+
+-- a script's sessions by their numbers, the control session first
+abbrev pub name_of : SessionSpec → List ℕ
+name_of session = session.name
+
+abbrev pub session_names : Spec → List (List ℕ)
+session_names script = codes "control" ∷ map name_of script.sessions
+
+-- sessions that have done nothing, over stores in which nothing has happened
+abbrev pub opened : Spec → RunState
+opened script = record {
+  executor = empty (session_names script) (length script.sessions + 1);
+  sessions = replicate (length script.sessions + 1) new_session;
+}

@@ -1,0 +1,65 @@
+-- What a statement of a session makes of a history, and what it prints (VI. SQL Commands).
+use Rattle.std.specs.Prelude.{ℕ, List, [], Result, Ok, Err, if◌then◌else◌}
+use Rattle.pg_values.specs.declared.answer.Answer.{Answer}
+use Rattle.history.specs.History.{History}
+use Rattle.expression_binder.specs.Faults.{left_out}
+use Rattle.sql_commands.specs.Trees.{CommandTree, makes_table, makes_partition, drops}
+use Rattle.sql_queries.specs.Trees.{SelectTree, RowTree, QueryTree, selects, inserts, rows}
+use Rattle.sql_syntax.specs.Trees.{StatementTree, commands, queries}
+use Rattle.out_text.specs.Table.{printed_table}
+use Rattle.course.specs.Made.{Made, Halt, Refused, halted}
+use Rattle.course.specs.declared.caller.Caller.{Caller}
+use Rattle.select_statement.specs.Selected.{selected}
+use Rattle.insert_statement.specs.Inserted.{inserted}
+use Rattle.table_statements.specs.Tables.{created}
+use Rattle.table_statements.specs.Partitions.{partitioned}
+use Rattle.table_statements.specs.Drops.{dropped}
+use Rattle.store_statements.specs.LeftOut.{command_word, row_word, query_word, cancel_word, cancels}
+
+-- ---- what is printed
+
+abbrev pub text_told : {T : Type 0} → (T → List ℕ) → Result T Halt → Result (List ℕ) Halt
+text_told text (Ok x) = Ok (text x)
+text_told text (Err stop) = Err stop
+
+abbrev pub text_of : {T : Type 0} → (T → List ℕ) → Made T → Made (List ℕ)
+text_of text m = record { events = m.events; told = text_told text m.told }
+
+abbrev pub nothing : Unit {0} → List ℕ
+nothing u = []
+
+abbrev pub table : Answer → List ℕ
+table a = printed_table a.names a.kinds a.rows
+
+abbrev pub silent : (History → Made (Unit {0})) → History → Made (List ℕ)
+silent f h = text_of nothing (f h)
+
+abbrev pub tabled : (History → Made Answer) → History → Made (List ℕ)
+tabled f h = text_of table (f h)
+
+-- ---- statements; each that has no case of its own is left out
+
+abbrev pub omitted : (word : List ℕ) → History → Made (List ℕ)
+omitted word h = halted [] (Refused (left_out word))
+
+abbrev pub command_attempted : (names : List (List ℕ)) → Caller → CommandTree → History → Made (List ℕ)
+command_attempted names c (makes_table name columns by) = silent (created c name columns by)
+command_attempted names c (makes_partition name parent bound by) = silent (partitioned names c name parent bound by)
+command_attempted names c (drops if_there tables) = silent (dropped names c if_there tables)
+command_attempted names c t = omitted (command_word t)
+
+abbrev pub select_attempted : (names : List (List ℕ)) → Caller → SelectTree → History → Made (List ℕ)
+select_attempted names c s = if cancels s then omitted cancel_word else tabled (selected names c s)
+
+abbrev pub row_attempted : (names : List (List ℕ)) → Caller → RowTree → History → Made (List ℕ)
+row_attempted names c (selects s) = select_attempted names c s
+row_attempted names c (inserts table columns values) = silent (inserted names [] c table columns values)
+row_attempted names c t = omitted (row_word t)
+
+abbrev pub query_attempted : (names : List (List ℕ)) → Caller → QueryTree → History → Made (List ℕ)
+query_attempted names c (rows r) = row_attempted names c r
+query_attempted names c t = omitted (query_word t)
+
+abbrev pub attempted : (names : List (List ℕ)) → Caller → StatementTree → History → Made (List ℕ)
+attempted names c (commands t) = command_attempted names c t
+attempted names c (queries t) = query_attempted names c t

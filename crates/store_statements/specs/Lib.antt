@@ -1,0 +1,4 @@
+pub mod LeftOut
+pub mod Attempted
+pub mod Words
+pub mod Printed

@@ -1,0 +1,169 @@
+ghost use Rattle.std.specs.Prelude.{◌≡◌, ◌≤◌, length};
+ghost use Rattle.sql_commands.specs.Trees.{command_tree};
+ghost use Rattle.sql_queries.specs.Trees.{query_tree, row_tree, select_tree};
+ghost use Rattle.sql_syntax.specs.Trees.{statement_tree};
+ghost use Rattle.course.specs.Attempts.{MayAttempt};
+ghost use Rattle.select_statement.specs.Selected as selected;
+ghost use Rattle.store_statements.specs.Attempted as attempted;
+ghost use Rattle.store_statements.specs.Printed.{IsStatement};
+
+use crate::left_out::{cancels, command_word, query_word};
+use course::{Caller, Stop};
+use expression_binder::left_out;
+use insert_statement::insert;
+use out_text::write_table;
+use pg_values::NoMemory;
+use select_statement::select;
+use sql_commands::Command;
+use sql_queries::{Query, RowStatement, Select};
+use sql_syntax::Statement;
+use statement_steps::SessionNames;
+use std::alloc::Global;
+use stores::{Stores, tables_are_few};
+use table_statements::{create_partition, create_table, drop_tables};
+
+// There is a lock for each table.
+fn check_room(stores: &Stores, caller: Caller)
+    requires { MayAttempt stores.now caller }
+    ensures { length stores.now.catalog.tables ≤ 4096 }
+{
+    tables_are_few();
+}
+
+// It is refused, and told by that word.
+fn omit(
+    alloc: Global,
+    stores: &Stores,
+    caller: Caller,
+    word: &[u8],
+    out: &[u8],
+) -> Result<(), Stop>
+    requires { MayAttempt stores.now caller }
+    ensures { IsStatement result stores.now stores.now out.now out.now caller (attempted.omitted word.now) }
+{
+    match left_out(alloc, word) {
+        Ok(fault) => Err(Stop::Refused(fault)),
+        Err(NoMemory) => Err(Stop::NoMemory),
+    }
+}
+
+fn attempt_command(
+    alloc: Global,
+    stores: &mut Stores,
+    names: &SessionNames,
+    caller: Caller,
+    command: &Command,
+    out: &[u8],
+) -> Result<(), Stop>
+    requires { MayAttempt stores.old caller }
+    ensures { IsStatement result stores.old stores.new out.now out.now caller (attempted.command_attempted names.now caller (command_tree command.now)) }
+{
+    check_room(stores, caller);
+    match command {
+        Command::CreateTable(name, columns, by) => {
+            create_table(alloc, stores, caller, name, columns, by)
+        }
+        Command::CreatePartition(name, parent, bound, by) => {
+            create_partition(alloc, stores, names, caller, name, parent, bound, by)
+        }
+        Command::DropTables(if_there, tables) => {
+            drop_tables(alloc, stores, names, caller, *if_there, tables.as_slice())
+        }
+        _ => omit(alloc, stores, caller, command_word(command), out),
+    }
+}
+
+// The answer is printed as a table.
+fn print_select(
+    alloc: Global,
+    stores: &mut Stores,
+    names: &SessionNames,
+    caller: Caller,
+    statement: &Select,
+    out: &mut Vec<u8>,
+) -> Result<(), Stop>
+    requires { MayAttempt stores.old caller }
+    ensures { IsStatement result stores.old stores.new out.old.items out.new.items caller (attempted.tabled (selected.selected names.now caller (select_tree statement.now))) }
+{
+    check_room(stores, caller);
+    match select(alloc, stores, names, caller, statement) {
+        Ok(answer) => match write_table(alloc, &answer, out) {
+            Ok(()) => Ok(()),
+            Err(NoMemory) => Err(Stop::NoMemory),
+        },
+        Err(stop) => Err(stop),
+    }
+}
+
+fn attempt_select(
+    alloc: Global,
+    stores: &mut Stores,
+    names: &SessionNames,
+    caller: Caller,
+    statement: &Select,
+    out: &mut Vec<u8>,
+) -> Result<(), Stop>
+    requires { MayAttempt stores.old caller }
+    ensures { IsStatement result stores.old stores.new out.old.items out.new.items caller (attempted.select_attempted names.now caller (select_tree statement.now)) }
+{
+    if cancels(statement) {
+        return omit(alloc, stores, caller, b"pg_cancel_backend", out);
+    }
+    print_select(alloc, stores, names, caller, statement, out)
+}
+
+fn attempt_rows(
+    alloc: Global,
+    stores: &mut Stores,
+    names: &SessionNames,
+    caller: Caller,
+    statement: &RowStatement,
+    out: &mut Vec<u8>,
+) -> Result<(), Stop>
+    requires { MayAttempt stores.old caller }
+    ensures { IsStatement result stores.old stores.new out.old.items out.new.items caller (attempted.row_attempted names.now caller (row_tree statement.now)) }
+{
+    check_room(stores, caller);
+    match statement {
+        RowStatement::Select(s) => attempt_select(alloc, stores, names, caller, s, out),
+        RowStatement::Insert(s) => insert(alloc, stores, names, &[], caller, s),
+        RowStatement::Update(_) => omit(alloc, stores, caller, b"UPDATE", out),
+        RowStatement::Delete(_) => omit(alloc, stores, caller, b"DELETE", out),
+    }
+}
+
+fn attempt_query(
+    alloc: Global,
+    stores: &mut Stores,
+    names: &SessionNames,
+    caller: Caller,
+    query: &Query,
+    out: &mut Vec<u8>,
+) -> Result<(), Stop>
+    requires { MayAttempt stores.old caller }
+    ensures { IsStatement result stores.old stores.new out.old.items out.new.items caller (attempted.query_attempted names.now caller (query_tree query.now)) }
+{
+    match query {
+        Query::Rows(s) => attempt_rows(alloc, stores, names, caller, s, out),
+        _ => omit(alloc, stores, caller, query_word(query), out),
+    }
+}
+
+/// A statement from its beginning up to its end or to a wait for a lock. Where it is done it prints its
+/// answer, if it has one.
+pub(crate) fn attempt(
+    alloc: Global,
+    stores: &mut Stores,
+    names: &SessionNames,
+    caller: Caller,
+    statement: &Statement,
+    out: &mut Vec<u8>,
+) -> Result<(), Stop>
+    requires { MayAttempt stores.old caller }
+    ensures { IsStatement result stores.old stores.new out.old.items out.new.items caller (attempted.attempted names.now caller (statement_tree statement.now)) }
+{
+    match statement {
+        Statement::Command(command) => attempt_command(alloc, stores, names, caller, command, out),
+        Statement::Query(query) => attempt_query(alloc, stores, names, caller, query, out),
+    }
+}

@@ -1,0 +1,78 @@
+ghost use Rattle.std.specs.Prelude.{◌≡◌};
+ghost use Rattle.sql_commands.specs.Trees.{command_tree};
+ghost use Rattle.sql_queries.specs.Trees.{query_tree, row_tree, select_tree};
+ghost use Rattle.sql_queries.specs.Trees as trees;
+ghost use Rattle.sql_expressions.specs.Tree.{tree};
+ghost use Rattle.store_statements.specs.LeftOut as left_out;
+
+use sql_commands::Command;
+use sql_expressions::Expr;
+use sql_queries::{Query, RowStatement, Select, SelectItem};
+
+pub(crate) fn command_word(command: &Command) -> &'static [u8]
+    ensures { result.now ≡ left_out.command_word (command_tree command.now) }
+{
+    match command {
+        Command::Begin(_) => b"BEGIN",
+        Command::Commit => b"COMMIT",
+        Command::Rollback => b"ROLLBACK",
+        Command::Set(_, _) => b"SET",
+        Command::Reset(_) => b"RESET",
+        Command::CreateTable(_, _, _) => b"CREATE",
+        Command::CreatePartition(_, _, _, _) => b"CREATE",
+        Command::DropTables(_, _) => b"DROP",
+        Command::Attach(_, _, _) => b"ALTER",
+        Command::Detach(_, _, _) => b"ALTER",
+        Command::Lock(_, _) => b"LOCK",
+        Command::Deallocate(_) => b"DEALLOCATE",
+        Command::DeallocateAll => b"DEALLOCATE",
+    }
+}
+
+fn row_word(statement: &RowStatement) -> &'static [u8]
+    ensures { result.now ≡ left_out.row_word (row_tree statement.now) }
+{
+    match statement {
+        RowStatement::Select(_) => b"SELECT",
+        RowStatement::Insert(_) => b"INSERT",
+        RowStatement::Update(_) => b"UPDATE",
+        RowStatement::Delete(_) => b"DELETE",
+    }
+}
+
+pub(crate) fn query_word(query: &Query) -> &'static [u8]
+    ensures { result.now ≡ left_out.query_word (query_tree query.now) }
+{
+    match query {
+        Query::Rows(statement) => row_word(statement),
+        Query::Prepare(_, _, _) => b"PREPARE",
+        Query::Execute(_, _) => b"EXECUTE",
+        Query::ExplainSelect(_, _) => b"EXPLAIN",
+        Query::ExplainExecute(_, _, _) => b"EXPLAIN",
+    }
+}
+
+fn is_cancel(value: &Expr) -> bool
+    ensures { result ≡ left_out.is_cancel (tree value.now) }
+{
+    match value {
+        Expr::Call(name, _) => name.as_bytes() == b"pg_cancel_backend".as_slice(),
+        _ => false,
+    }
+}
+
+fn item_cancels(item: &SelectItem) -> bool
+    ensures { result ≡ left_out.item_cancels (trees.item_tree item.now) }
+{
+    match item {
+        SelectItem::Output(value, _) => is_cancel(value),
+        _ => false,
+    }
+}
+
+/// Whether the statement cancels those of other sessions.
+pub(crate) fn cancels(select: &Select) -> bool
+    ensures { result ≡ left_out.cancels (select_tree select.now) }
+{
+    select.items.as_slice().iter().any(|item| item_cancels(item))
+}

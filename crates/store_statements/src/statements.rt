@@ -1,0 +1,101 @@
+ghost use Rattle.std.specs.Prelude.{◌≡◌, IfOk};
+
+use crate::attempts::attempt;
+use block_reading::read_block;
+use course::{Caller, Kinds, Stop};
+use out_text::write_fault_text;
+use pg_values::{Fault, NoMemory, Refusal};
+use sessions::{Place, Role, Settings};
+use sql_syntax::Statement;
+use statement_roles::{changed_settings, looks, role_of};
+use statement_steps::SessionNames;
+use std::alloc::Global;
+use stores::Stores;
+
+/// The statements of a run.
+#[derive(Debug, Drop)]
+pub struct Statements {
+    /// The names of its sessions, the control session's first.
+    pub names: SessionNames,
+}
+
+fn copied(alloc: Global, names: &SessionNames) -> Result<SessionNames, NoMemory>
+    ensures { IfOk result (λ copy. copy ≡ names.now) }
+{
+    let mut copy = SessionNames::new(alloc);
+    for name in names.as_slice() {
+        copy.push(name.copy(alloc)?)?;
+    }
+    Ok(copy)
+}
+
+impl Kinds for Statements {
+    ghost use Rattle.std.specs.Prelude.{ℕ, List};
+    ghost use Rattle.sql_syntax.specs.Trees.{StatementTree, statement_tree};
+    ghost use Rattle.sql_syntax.specs.declared.parse.TheConstants.{MOST_STATEMENTS};
+    ghost use Rattle.store_statements.specs.Words.{statement_words};
+
+    type Statement = Statement;
+
+    ghost Tree = { StatementTree };
+
+    ghost tree = { statement_tree };
+
+    ghost Options = { List (List ℕ) };
+
+    ghost options = { λ s. s.names };
+
+    ghost words = { statement_words };
+
+    ghost most_statements = { MOST_STATEMENTS };
+
+    fn copy(&self, alloc: Global) -> Result<Self, NoMemory> {
+        Ok(Statements {
+            names: copied(alloc, &self.names)?,
+        })
+    }
+
+    fn parse(alloc: Global, text: &[u8]) -> Result<Vec<Statement>, Refusal> {
+        read_block(alloc, text)
+    }
+
+    fn role(statement: &Statement) -> Role {
+        role_of(statement)
+    }
+
+    fn looks(statement: &Statement) -> bool {
+        looks(statement)
+    }
+
+    fn misplaced(
+        _alloc: Global,
+        _place: Place,
+        _statement: &Statement,
+    ) -> Result<Option<Fault>, NoMemory> {
+        Ok(None)
+    }
+
+    fn set(
+        alloc: Global,
+        settings: Settings,
+        statement: &Statement,
+    ) -> Result<Settings, Refusal> {
+        changed_settings(alloc, settings, statement)
+    }
+
+    fn attempt(
+        &self,
+        alloc: Global,
+        stores: &mut Stores,
+        caller: Caller,
+        _settings: Settings,
+        statement: &Statement,
+        out: &mut Vec<u8>,
+    ) -> Result<(), Stop> {
+        attempt(alloc, stores, &self.names, caller, statement, out)
+    }
+
+    fn write_fault(alloc: Global, fault: &Fault, out: &mut Vec<u8>) -> Result<(), NoMemory> {
+        write_fault_text(alloc, fault, out)
+    }
+}
