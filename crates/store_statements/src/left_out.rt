@@ -1,4 +1,5 @@
 ghost use Rattle.std.specs.Prelude.{◌≡◌};
+ghost use Rattle.std.specs.List.{list_any};
 ghost use Rattle.sql_commands.specs.Trees.{command_tree};
 ghost use Rattle.sql_queries.specs.Trees.{query_tree, row_tree, select_tree};
 ghost use Rattle.sql_queries.specs.Trees as trees;
@@ -70,9 +71,15 @@ fn item_cancels(item: &SelectItem) -> bool
     }
 }
 
+fn any_cancels(items: &[SelectItem]) -> bool
+    ensures { result ≡ list_any (λ item. left_out.item_cancels (trees.item_tree item)) items.now }
+{
+    items.iter().any(|item| item_cancels(item))
+}
+
 /// Whether the statement cancels those of other sessions.
 pub(crate) fn cancels(select: &Select) -> bool
     ensures { result ≡ left_out.cancels (select_tree select.now) }
 {
-    select.items.as_slice().iter().any(|item| item_cancels(item))
+    any_cancels(select.items.as_slice())
 }
