@@ -1,5 +1,5 @@
 -- What is known of a tree that was read, and what locks leave as it was.
-use Rattle.std.proofs.Common.{◌≡◌, ℕ, ◌<◌, ◌≤◌, ◌==◌, ◌||◌, true, refl, ap, sym, subst, ◌∙◌, arith, Option, Some, None, All, length}
+use Rattle.std.proofs.Common.{◌≡◌, ℕ, ◌<◌, ◌≤◌, ◌||◌, true, ap, sym, subst, ◌∙◌, arith, Option, Some, None, All, length}
 use Rattle.std.proofs.lemmas.Bool.Decides.{nat_tests}
 use Rattle.std.proofs.lemmas.List.{length-map}
 use Rattle.pg_ids.specs.declared.ids.LeafId.{LeafId}
@@ -14,7 +14,7 @@ use Rattle.history.specs.Presence.{is_own, counts, entries_shown}
 use Rattle.tx_table.specs.Kept.{KeptSnapshot}
 use Rattle.table_trees.specs.Trees.{TableTree}
 use Rattle.table_trees.specs.Histories.{tree_of, table_of}
-use Rattle.soundness.specs.Worlds.{IsMade, IsThere, HasLeaf, Present, table_in}
+use Rattle.soundness.specs.Worlds.{IsMade, IsThere, Present, table_in}
 use Rattle.soundness.specs.Parts.{IsKnown}
 use Rattle.soundness.proofs.All.{legal_keeps_all}
 use Rattle.soundness.proofs.Looking.{counts_world}
@@ -28,7 +28,6 @@ use Rattle.stores.proofs.Goodness.{legal_of, permitted_of}
 use Rattle.course.specs.declared.caller.Caller.{Caller}
 use Rattle.statement_steps.specs.Known.{IsKnownTo}
 use Rattle.statement_steps.proofs.Parts.{known_by}
-use Rattle.select_statement.specs.Below.{below}
 use Rattle.select_statement.specs.Lent.{HasLeaves, MayLock, IsTreeFor, IsLookFor}
 use Rattle.select_statement.proofs.Trees.{below_within, leaves_within}
 

@@ -1,5 +1,5 @@
 -- The parts of a SELECT, one after another.
-use Rattle.std.proofs.Common.{◌≡◌, ℕ, ◌+◌, ◌<◌, ◌≤◌, arith, List, [], ◌∷◌, ap, sym, subst, Some, None, Option, Result, Ok, Err, IfOk, All, map, length, codes}
+use Rattle.std.proofs.Common.{◌≡◌, ℕ, ◌+◌, ◌<◌, ◌≤◌, arith, List, [], ◌∷◌, ap, sym, subst, Result, Ok, Err, IfOk, All, map, length, get_or, codes}
 use Rattle.pg_values.specs.declared.answer.Answer.{Answer}
 use Rattle.pg_values.specs.declared.fault.Fault.{Fault}
 use Rattle.pg_values.specs.declared.text.NoMemory.{NoMemory}
@@ -78,6 +78,11 @@ table_step names caller t item n tree r old new is step =
     same_step (λ (a : Answer). a) r old new caller (caller.cmd + 1) (of_table names caller t item n) (of_tree names caller t item tree) (λ h stands. ap (λ x. of_tree names caller t item x h) (sym (is h stands))) step
 
 -- ---- by how many items stand in FROM
+
+pub only_one : {X : Type 0} (xs : List X) (x : X) → length xs ≡ 1 → x ≡ get_or xs 0 x → xs ≡ x ∷ []
+only_one [] x one is = absurd (omega (arith, one))
+only_one (y ∷ []) x one is = ap (λ z. z ∷ []) (sym is)
+only_one (y ∷ (z ∷ zs)) x one is = absurd (omega (arith, one))
 
 pub with_items : (names : List (List ℕ)) (caller : Caller) (t : SelectTree) (from : List Joined) (r : Result Answer Stop) (old new : Stores) → from_of t ≡ from
     → IsStep (λ (a : Answer). a) r old new caller (caller.cmd + 1) (of_items names caller t from) → IsStep (λ (a : Answer). a) r old new caller (caller.cmd + 1) (selected names caller t)

@@ -1,5 +1,5 @@
 -- What is known of a tree and of a snapshot while the stores are those that they were read from, but for locks.
-use Rattle.std.specs.Prelude.{ℕ, ◌<◌, All}
+use Rattle.std.specs.Prelude.{◌<◌, All}
 use Rattle.pg_ids.specs.declared.ids.TableNo.{TableNo}
 use Rattle.history.specs.Transactions.{IsPast}
 use Rattle.history.specs.History.{History, tx_events}

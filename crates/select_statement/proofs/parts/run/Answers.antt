@@ -10,10 +10,10 @@ use Rattle.select_statement.proofs.parts.run.Goals as goal
 pub returns-in-Ok : goal.returns-in-Ok
 returns-in-Ok c =
     answer_done c.in-Ok.answer c.args.stores.now c.args.caller (select_meant c.args.ask.now) (tree_of c.args.from) c.args.snap.now c.requires.may c.requires.look
-      (told_for (Ok c.in-Ok.answer) c.args.stores.now c.args.caller (select_meant c.args.ask.now) (tree_of c.args.from) c.args.snap.now _ _ _ refl refl c.requires.fresh c.in-Ok.ensures.answer)
+    (told_for (Ok c.in-Ok.answer) c.args.stores.now c.args.caller (select_meant c.args.ask.now) (tree_of c.args.from) c.args.snap.now _ _ _ refl refl c.requires.fresh c.in-Ok.ensures.answer)
 
 pub returns-in-Err : goal.returns-in-Err
 returns-in-Err c =
     subst (λ r. IsStep (λ (a : Answer). a) (Err r) c.args.stores.now c.args.stores.now c.args.caller (c.args.caller.cmd + 1) (answered c.args.caller (select_meant c.args.ask.now) (tree_of c.args.from))) (sym c.stop_of.ensures)
-      (answer_refused c.in-Err.refusal c.args.stores.now c.args.caller (select_meant c.args.ask.now) (tree_of c.args.from) c.args.snap.now c.requires.may c.requires.look
-        (told_for (Err c.in-Err.refusal) c.args.stores.now c.args.caller (select_meant c.args.ask.now) (tree_of c.args.from) c.args.snap.now _ _ _ refl refl c.requires.fresh c.in-Err.ensures.answer))
+    (answer_refused c.in-Err.refusal c.args.stores.now c.args.caller (select_meant c.args.ask.now) (tree_of c.args.from) c.args.snap.now c.requires.may c.requires.look
+    (told_for (Err c.in-Err.refusal) c.args.stores.now c.args.caller (select_meant c.args.ask.now) (tree_of c.args.from) c.args.snap.now _ _ _ refl refl c.requires.fresh c.in-Err.ensures.answer))

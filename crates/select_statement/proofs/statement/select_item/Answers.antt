@@ -10,21 +10,22 @@ use Rattle.statement_steps.specs.Steps.{IsStep}
 use Rattle.statement_steps.proofs.Steps.{then_step, stop_step, may_go_on}
 use Rattle.select_statement.specs.Selected.{of_table}
 use Rattle.select_statement.proofs.statement.select_item.Goals as goal
+use Rattle.select_statement.proofs.statement.select_item.Goals.{In-Ok, In-Err}
 
 -- the table of the item's name is found and locked, or not
-finds : (c : goal.In-Ok) → IsStep (λ (t : TableNo). t.number) (Ok c.in-Ok.table) c.args.stores.now c.lock_named.new.stores c.args.caller c.args.caller.cmd (named c.args.names.now c.args.caller.session AccessShare c.args.item.now.table.name)
+finds : (c : In-Ok) → IsStep (λ (t : TableNo). t.number) (Ok c.in-Ok.table) c.args.stores.now c.lock_named.new.stores c.args.caller c.args.caller.cmd (named c.args.names.now c.args.caller.session AccessShare c.args.item.now.table.name)
 finds c =
     subst (λ name. IsStep (λ (t : TableNo). t.number) (Ok c.in-Ok.table) c.args.stores.now c.lock_named.new.stores c.args.caller c.args.caller.cmd (named c.args.names.now c.args.caller.session AccessShare name))
-    c.as_bytes.ensures c.in-Ok.ensures.step
+    c.as_bytes-name.ensures c.in-Ok.ensures.step
 
-stops : (c : goal.In-Err) → IsStep (λ (t : TableNo). t.number) (Err c.in-Err.stop) c.args.stores.now c.lock_named.new.stores c.args.caller c.args.caller.cmd (named c.args.names.now c.args.caller.session AccessShare c.args.item.now.table.name)
+stops : (c : In-Err) → IsStep (λ (t : TableNo). t.number) (Err c.in-Err.stop) c.args.stores.now c.lock_named.new.stores c.args.caller c.args.caller.cmd (named c.args.names.now c.args.caller.session AccessShare c.args.item.now.table.name)
 stops c =
     subst (λ name. IsStep (λ (t : TableNo). t.number) (Err c.in-Err.stop) c.args.stores.now c.lock_named.new.stores c.args.caller c.args.caller.cmd (named c.args.names.now c.args.caller.session AccessShare name))
-    c.as_bytes.ensures c.in-Err.ensures.step
+    c.as_bytes-name.ensures c.in-Err.ensures.step
 
 pub select_table-requires-clause-may : goal.select_table-requires-clause-may
 select_table-requires-clause-may c =
-    may_go_on (λ (t : TableNo). t.number) c.in-Ok.table c.args.stores.now c.lock_named.new.stores c.args.caller (named c.args.names.now c.args.caller.session AccessShare c.args.item.now.table.name) c.requires.may (finds c)
+    may_go_on (λ (t : TableNo). t.number) c.in-Ok.table c.args.stores.now c.lock_named.new.stores c.args.caller (named c.args.names.now c.args.caller.session AccessShare c.args.item.now.table.name) c.requires.may (finds (goal.at.select_table-requires-clause-may c).In-Ok)
 
 pub select_table-requires-clause-few : goal.select_table-requires-clause-few
 select_table-requires-clause-few c = subst (λ (s : Stores). length s.catalog.tables ≤ 4096) (sym c.lock_named.ensures.rest) c.requires.few
@@ -32,7 +33,7 @@ select_table-requires-clause-few c = subst (λ (s : Stores). length s.catalog.ta
 pub returns-in-Ok : goal.returns-in-Ok
 returns-in-Ok c =
     then_step (λ (t : TableNo). t.number) (λ (a : Answer). a) c.in-Ok.table c.select_table.result c.args.stores.now c.lock_named.new.stores c.select_table.new.stores c.args.caller (c.args.caller.cmd + 1)
-    (named c.args.names.now c.args.caller.session AccessShare c.args.item.now.table.name) (of_table c.args.names.now c.args.caller (select_tree c.args.select.now) (item_name (joined_tree c.args.item.now))) (finds c) c.select_table.ensures
+    (named c.args.names.now c.args.caller.session AccessShare c.args.item.now.table.name) (of_table c.args.names.now c.args.caller (select_tree c.args.select.now) (item_name (joined_tree c.args.item.now))) (finds (goal.at.returns-in-Ok c).In-Ok) c.select_table.ensures
 
 pub returns-in-Err : goal.returns-in-Err
 returns-in-Err c =
