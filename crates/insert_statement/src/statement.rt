@@ -5,6 +5,7 @@ ghost use Rattle.history.specs.History.{History};
 ghost use Rattle.part_catalog.specs.Stands.{CatalogueStands};
 ghost use Rattle.sql_expressions.specs.Tree.{trees};
 ghost use Rattle.course.specs.Attempts.{MayAttempt};
+ghost use Rattle.statement_steps.specs.Known.{IsKnownTo};
 ghost use Rattle.statement_steps.specs.Steps.{IsStep};
 ghost use Rattle.insert_statement.specs.Inserted as inserted_spec;
 ghost use Rattle.part_catalog.specs.Found.{made_at};
@@ -47,7 +48,7 @@ fn store_into(
     rows: &[Row],
 ) -> Result<(), Stop>
     requires may { MayAttempt stores.old caller }
-    requires known { table.number < length stores.old.catalog.tables }
+    requires there { IsKnownTo stores.old caller.session table.number }
     requires few { length stores.old.catalog.tables ≤ 4096 }
     requires rows { AreRowsOf stores.old.catalog table rows.now }
     requires locked { MayWrite stores.old caller.session (table ∷ []) }
