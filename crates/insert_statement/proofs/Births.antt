@@ -35,9 +35,6 @@ pub record Births (h : History) (by : TxId) (cmd : ℕ) (P : LeafId → List Val
 no_births : (h : History) (by : TxId) (cmd : ℕ) (P : LeafId → List Value → Type 0) → Births h by cmd P []
 no_births h by cmd P = record { rows = []; is = refl; each = λ v at. absurd (none_in v at); numbered = λ k d lt. absurd (omega (arith, lt)) }
 
-first_or_later : (P : Version → Type 0) (v w : Version) → P v → (v ≡ w) → P w
-first_or_later P v w p same = subst P same p
-
 numbered_next : (h : History) (v : Version) (vs : List Version) → v.id.number ≡ next_version h
     → ((k : ℕ) (d : Version) → k < length vs → (slice_index_or vs k d).id.number ≡ next_version (RowChange (RowBorn v) ∷ h) + k)
     → (k : ℕ) (d : Version) → k < length (v ∷ vs) → (slice_index_or (v ∷ vs) k d).id.number ≡ next_version h + k

@@ -1,5 +1,5 @@
 -- What is asked of the rows of an INSERT before they are stored.
-use Rattle.std.specs.Prelude.{◌≡◌, ℕ, ◌<◌, true, false, List, [], ◌∷◌, None, Ok, All, find, length}
+use Rattle.std.specs.Prelude.{◌≡◌, ℕ, ◌<◌, true, List, [], ◌∷◌, None, Ok, All, find, length}
 use Rattle.pg_values.specs.declared.value.Value.{Value}
 use Rattle.pg_ids.specs.declared.ids.LeafId.{LeafId}
 use Rattle.pg_ids.specs.declared.ids.TableNo.{TableNo}
@@ -21,8 +21,8 @@ use Rattle.row_router.specs.Paths.{refused}
 use Rattle.row_change.specs.declared.target.Target.{Target}
 use Rattle.row_change.specs.Laws.{IsRowIn}
 use Rattle.row_change.specs.Placing.{all_placed}
-use Rattle.row_change.specs.Storing.{is_into, leaf_faults}
-use Rattle.row_change.specs.Targets.{HasWay}
+use Rattle.row_change.specs.Storing.{is_into, leaf_faults, FitsTargets, IsLeafKnown, IsTargetNumbered}
+use Rattle.row_change.specs.Targets.{HasTarget, HasWay}
 use Rattle.soundness.specs.Worlds.{IsMade, HasLeaf}
 use Rattle.legal_statements.specs.Locked.{IsWritable}
 use Rattle.legal_statements.specs.Rows.{IsOwnLook}
@@ -75,9 +75,10 @@ pub record ArePlaced (txs : KeptTable) (catalog : KeptCatalogue) (caller : Calle
 
 -- ---- rows with their leaves
 
+-- so it is of each leaf, of which there are no more than rows, and its row
 abbrev pub Each : (LeafId → List Value → Type 0) → List LeafId → List (List Value) → Type 0
 Each P [] rows = Unit {0}
-Each P (l ∷ ls) [] = Unit {0}
+Each P (l ∷ ls) [] = ⊥
 Each P (l ∷ ls) (r ∷ rs) = P l r × Each P ls rs
 
 -- where the targets stand for the tables of the leaves
@@ -99,13 +100,22 @@ pub record MayPut (h : History) (session : ℕ) (targets : List Target) (leaves 
   pub own_look : IsOwnLook h session look
   pub go : Each (λ l row. leaf_faults (tables_of h) (find (is_into l) targets) row ≡ [] → MayGo h session table look l row) leaves rows
 
+-- the rows may be tested and stored, each leaf having its target
+pub record MayStore (stores : Stores) (session : ℕ) (targets : List Target) (leaves : List LeafId) (rows : List (List Value)) : Type 0 where
+  pub fits : All (FitsTargets targets) rows
+  pub numbered : All (IsTargetNumbered (length stores.catalog.tables)) targets
+  pub told : All (HasTarget targets) leaves
+  pub known : All (IsLeafKnown stores.rows.leaves) leaves
+  pub may : (h : History) → Stands stores h → MayPut h session targets leaves rows
+
 -- ---- the target of a table that is named
 
--- the target stands for a table that has the leaf and is named itself
-pub record IsOwnTarget (h : History) (s t : ℕ) (leaf : LeafId) (target : Target) : Type 0 where
-  pub same : target.leaf ≡ leaf
-  pub path : target.path.items ≡ path_of h s t
-  pub named : target.is_named ≡ true
+-- the target is of the table, which has the leaf
+pub record IsOwnTarget (h : History) (s : ℕ) (t : TableNo) (leaf : LeafId) (target : Target) : Type 0 where
+  pub leaf_is : target.leaf ≡ leaf
+  pub table : target.table ≡ t
+  pub path : target.path.items ≡ path_of h s t.number
+  pub is_named : target.is_named ≡ true
 
 -- ---- a refusal ends the statement
 
