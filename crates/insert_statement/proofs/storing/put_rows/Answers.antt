@@ -4,6 +4,18 @@ use Rattle.insert_statement.specs.Asked.{put}
 use Rattle.insert_statement.proofs.Stored.{put_ok, put_refused}
 use Rattle.insert_statement.proofs.storing.put_rows.Goals as goal
 
+pub store_rows-requires-clause-fits : goal.store_rows-requires-clause-fits
+store_rows-requires-clause-fits c = c.requires.rows.fits
+
+pub store_rows-requires-clause-targets : goal.store_rows-requires-clause-targets
+store_rows-requires-clause-targets c = c.requires.rows.numbered
+
+pub store_rows-requires-clause-leaves : goal.store_rows-requires-clause-leaves
+store_rows-requires-clause-leaves c = c.requires.rows.known
+
+pub store_rows-requires-clause-told : goal.store_rows-requires-clause-told
+store_rows-requires-clause-told c = c.requires.rows.told
+
 pub store_rows-requires-clause-runs : goal.store_rows-requires-clause-runs
 store_rows-requires-clause-runs c = (c.args.caller.session, sym c.in-Some.ensures.kept)
 
