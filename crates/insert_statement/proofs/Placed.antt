@@ -26,7 +26,7 @@ use Rattle.insert_statement.proofs.Tables.{tables_kept}
 -- the rows may be asked of the tree and the path, whose tables are there
 pub record Takes (n : ℕ) (tree : TableTree) (path : List PathPart) (rows : List (List Value)) : Type 0 where
   pub fits : All (CanBePlaced tree path) rows
-  pub path : All (IsPartNumbered n) path
+  pub above : All (IsPartNumbered n) path
   pub known : IsNumbered n tree
 
 pub takes : (stores : Stores) (caller : Caller) (tree : TableTree) (path : List PathPart) (rows : List (List Value)) (h : History) → Stands stores h → IsTreeFor stores.txs stores.catalog caller tree path rows → Takes (length stores.catalog.tables) tree path rows
@@ -44,7 +44,7 @@ takes stores caller tree path rows h stands it =
       fits = λ i d lt. subst (λ tr. CanBePlaced tr path (slice_index_or rows i d)) (sym t)
           (subst (λ pa. CanBePlaced (tree_of h s it.table.number look) pa (slice_index_or rows i d)) (sym p)
           (rows_can_be_placed h s it.table look (slice_index_or rows i d) sound siblings (it.rows_of h stands.all.catalog i d lt)));
-      path = subst (λ pa. All (IsPartNumbered (length stores.catalog.tables)) pa) (sym p) (subst (λ n. All (IsPartNumbered n) (path_of h s it.table.number)) (sym same) (paths_are_made h s it.table sound made));
+      above = subst (λ pa. All (IsPartNumbered (length stores.catalog.tables)) pa) (sym p) (subst (λ n. All (IsPartNumbered n) (path_of h s it.table.number)) (sym same) (paths_are_made h s it.table sound made));
       known = subst (λ tr. IsNumbered (length stores.catalog.tables) tr) (sym t) (subst (λ n. IsNumbered n (tree_of h s it.table.number look)) (sym same) (trees_are_made h s it.table look sound made).0);
     }
 

@@ -14,7 +14,7 @@ pub leaves_of-requires-clause-fits : goal.leaves_of-requires-clause-fits
 leaves_of-requires-clause-fits c = (takes c.args.stores.now c.args.caller (seen c.args.tree.now) c.args.path.now c.args.rows.now c.requires.may.sound.0 c.requires.may.sound.1 c.requires.tree).fits
 
 pub leaves_of-requires-clause-path : goal.leaves_of-requires-clause-path
-leaves_of-requires-clause-path c = (takes c.args.stores.now c.args.caller (seen c.args.tree.now) c.args.path.now c.args.rows.now c.requires.may.sound.0 c.requires.may.sound.1 c.requires.tree).path
+leaves_of-requires-clause-path c = (takes c.args.stores.now c.args.caller (seen c.args.tree.now) c.args.path.now c.args.rows.now c.requires.may.sound.0 c.requires.may.sound.1 c.requires.tree).above
 
 pub leaves_of-requires-clause-known : goal.leaves_of-requires-clause-known
 leaves_of-requires-clause-known c = (takes c.args.stores.now c.args.caller (seen c.args.tree.now) c.args.path.now c.args.rows.now c.requires.may.sound.0 c.requires.may.sound.1 c.requires.tree).known
