@@ -5,7 +5,6 @@ use Rattle.pg_values.specs.declared.value.Value.{Value}
 use Rattle.pg_ids.specs.declared.ids.LeafId.{LeafId}
 use Rattle.pg_ids.specs.declared.ids.TableNo.{TableNo}
 use Rattle.part_bounds.specs.declared.level.Level.{Level as OneLevel}
-use Rattle.history.specs.declared.catalogue.Entry.{Entry}
 use Rattle.history.specs.declared.catalogue.TableShape.TheVariants.{Level}
 use Rattle.history.specs.Snapshots.{TakenSnapshot}
 use Rattle.history.specs.Transactions.{open_of}
@@ -22,7 +21,7 @@ use Rattle.row_change.specs.declared.target.Target.{Target}
 use Rattle.row_change.specs.Placing.{placed}
 use Rattle.row_change.specs.Storing.{IsLeafKnown, is_into, leaf_faults}
 use Rattle.row_change.specs.Targets.{HasTarget, HasWay, IsTargetOf}
-use Rattle.row_change.specs.Ways.{AllTables, root, way_below, ways_below}
+use Rattle.row_change.specs.Ways.{AllTables, root, ways_below}
 use Rattle.row_change.proofs.Ways.{all_below}
 use Rattle.soundness.specs.Worlds.{HasLeaf}
 use Rattle.soundness.proofs.All.{legal_keeps_all}
@@ -39,7 +38,7 @@ use Rattle.course.specs.Attempts.{MayAttempt}
 use Rattle.course.specs.declared.caller.Caller.{Caller}
 use Rattle.statement_steps.proofs.Parts.{own_tx}
 use Rattle.insert_statement.specs.Inserted.{tables_of}
-use Rattle.insert_statement.specs.Asked.{Each, ArePlaced, IsTreeFor, MayGo, MayPut, MayStore, MayWrite}
+use Rattle.insert_statement.specs.Asked.{Each, ArePlaced, MayGo, MayPut, MayStore, MayWrite}
 use Rattle.insert_statement.proofs.OwnLeaf.{none_refuses}
 use Rattle.insert_statement.proofs.Pairs.{each_all, each_with}
 use Rattle.insert_statement.proofs.Placed.{targets_take}

@@ -1,5 +1,5 @@
 -- Rows that are stored are a part of the statement, its last one.
-use Rattle.std.proofs.Common.{◌≡◌, ◌≢◌, ℕ, ◌+◌, ◌<◌, List, [], ◌∷◌, ◌++◌, refl, sym, ap, ◌∙◌, subst, arith, append-nil, Some, Result, Ok, Err, find, option_map, unwrap_or}
+use Rattle.std.proofs.Common.{◌≡◌, ◌≢◌, ℕ, ◌+◌, List, [], ◌++◌, refl, sym, ap, ◌∙◌, subst, arith, append-nil, Some, Result, Ok, Err, find, unwrap_or}
 use Rattle.std.specs.List.{Contains}
 use Rattle.pg_values.specs.declared.value.Value.{Value}
 use Rattle.pg_values.specs.declared.fault.Fault.{Fault}
@@ -31,9 +31,7 @@ use Rattle.stores.proofs.Standing.{catalogue_stands}
 use Rattle.stores.proofs.Commands.{goes_on, commands_are_in_order}
 use Rattle.course.specs.Attempts.{MayAttempt, WentOn, GoesOn}
 use Rattle.course.specs.declared.caller.Caller.{Caller}
-use Rattle.course.specs.declared.stop.Stop.{Stop}
-use Rattle.course.specs.declared.stop.Stop.TheVariants as stop
-use Rattle.statement_steps.specs.Steps.{IsTold, IsStep}
+use Rattle.statement_steps.specs.Steps.{IsStep}
 use Rattle.statement_steps.proofs.Parts.{no_memory}
 use Rattle.insert_statement.specs.Born.{all_born}
 use Rattle.insert_statement.specs.Inserted.{tables_of, own}

@@ -15,7 +15,7 @@ use Rattle.table_trees.specs.Trees.{TableTree}
 use Rattle.row_change.specs.declared.target.Target.{Target}
 use Rattle.row_change.specs.Storing.{is_into, leaf_faults}
 use Rattle.row_change.specs.Targets.{HasTarget, IsTargetOf, last_table}
-use Rattle.row_change.specs.Ways.{root, way_to}
+use Rattle.row_change.specs.Ways.{root}
 use Rattle.course.specs.Made.{Made, Halt, behind, then_told}
 use Rattle.course.specs.declared.caller.Caller.{Caller}
 use Rattle.statement_steps.specs.Steps.{follow}

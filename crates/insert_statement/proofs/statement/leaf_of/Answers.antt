@@ -1,4 +1,4 @@
-use Rattle.std.proofs.Common.{◌≡◌, sym, ap, ◌∙◌}
+use Rattle.std.proofs.Common.{sym, ap, ◌∙◌}
 use Rattle.history.specs.declared.catalogue.Table.{Table}
 use Rattle.insert_statement.proofs.statement.leaf_of.Goals as goal
 

@@ -1,4 +1,4 @@
-use Rattle.std.proofs.Common.{◌+◌, ◌∙◌, sym, subst, ap, Err}
+use Rattle.std.proofs.Common.{◌+◌, sym, subst, Err}
 use Rattle.statement_steps.specs.Steps.{IsStep}
 use Rattle.insert_statement.specs.Asked.{put}
 use Rattle.insert_statement.proofs.Stored.{put_ok, put_refused}
