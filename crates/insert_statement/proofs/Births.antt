@@ -1,5 +1,5 @@
 -- The versions that are born, and what they leave as it was.
-use Rattle.std.proofs.Common.{◌≡◌, ℕ, zero, suc, ◌+◌, ◌<◌, List, [], ◌∷◌, ◌++◌, ◌⊎◌, inl, inr, refl, sym, ap, ◌∙◌, subst, arith, append_assoc, All, length, slice_index_or}
+use Rattle.std.proofs.Common.{◌≡◌, ℕ, zero, suc, ◌+◌, ◌<◌, List, [], ◌∷◌, ◌++◌, inl, inr, refl, sym, ap, subst, arith, append_assoc, All, length, slice_index_or}
 use Rattle.std.specs.List.{Contains}
 use Rattle.std.proofs.lemmas.List.{length-append}
 use Rattle.std.proofs.lemmas.List.Elements.{All-nil, All-cons, All-append}
@@ -10,18 +10,18 @@ use Rattle.history.specs.declared.transaction.TxId.{TxId}
 use Rattle.history.specs.declared.version.Version.{Version}
 use Rattle.history.specs.Transactions.{IsRunning}
 use Rattle.history.specs.Rows.{RowBorn}
-use Rattle.history.specs.History.{Event, History, RowChange, tx_events, snapshot_events, lock_events, catalogue_events, versions, next_version}
+use Rattle.history.specs.History.{History, RowChange, tx_events, snapshot_events, lock_events, catalogue_events, versions, next_version}
 use Rattle.history.specs.Places.{AreCatalogueSound}
 use Rattle.row_store.specs.Stands.{newborn}
 use Rattle.row_change.specs.Storing.{full_faults}
 use Rattle.soundness.proofs.Listed.{none_in, first_in, later_in, cases_in}
 use Rattle.legal_statements.specs.Follows.{MayCome, MayFollow}
 use Rattle.legal_statements.specs.Rows.{rows_born}
-use Rattle.stores.specs.Good.{IsGood, IsActing}
-use Rattle.stores.specs.Numbers.{IsEarlier, IsBefore}
+use Rattle.stores.specs.Good.{IsGood}
+use Rattle.stores.specs.Numbers.{IsBefore}
 use Rattle.course.specs.Made.{Made}
 use Rattle.statement_steps.specs.Steps.{follow}
-use Rattle.insert_statement.specs.Born.{unless_refused, born, all_born}
+use Rattle.insert_statement.specs.Born.{unless_refused, all_born}
 use Rattle.insert_statement.specs.Asked.{Each}
 
 -- ---- which versions the events bear
@@ -34,9 +34,6 @@ pub record Births (h : History) (by : TxId) (cmd : ℕ) (P : LeafId → List Val
 
 no_births : (h : History) (by : TxId) (cmd : ℕ) (P : LeafId → List Value → Type 0) → Births h by cmd P []
 no_births h by cmd P = record { rows = []; is = refl; each = λ v at. absurd (none_in v at); numbered = λ k d lt. absurd (omega (arith, lt)) }
-
-first_or_later : (P : Version → Type 0) (v w : Version) → P v → (v ≡ w) → P w
-first_or_later P v w p same = subst P same p
 
 numbered_next : (h : History) (v : Version) (vs : List Version) → v.id.number ≡ next_version h
     → ((k : ℕ) (d : Version) → k < length vs → (slice_index_or vs k d).id.number ≡ next_version (RowChange (RowBorn v) ∷ h) + k)

@@ -1,5 +1,5 @@
 -- What a session holds behind the locks that it asked for.
-use Rattle.std.proofs.Common.{◌≡◌, ℕ, ◌==◌, ◌&&◌, ◌||◌, Bool, true, false, List, [], ◌∷◌, ◌++◌, inl, inr, refl, ap, sym, ◌∙◌, subst, arith, append_assoc, append-nil, Option, Some, None, Result, Ok, Err, All, map}
+use Rattle.std.proofs.Common.{◌≡◌, ℕ, ◌==◌, ◌&&◌, ◌||◌, Bool, true, false, List, [], ◌∷◌, ◌++◌, inl, refl, sym, ◌∙◌, subst, arith, append_assoc, append-nil, Option, Some, None, Result, Ok, Err, All, map}
 use Rattle.std.proofs.lemmas.Bool.Decides.{nat_tests}
 use Rattle.std.proofs.lemmas.List.Elements.{All-nil, All-cons}
 use Rattle.pg_ids.specs.Modes.{same_mode, rank}
@@ -17,6 +17,7 @@ use Rattle.stores.specs.declared.stores.Stores.{Stores}
 use Rattle.course.specs.Made.{Made, Halt, then_told}
 use Rattle.course.specs.Attempts.{MayAttempt}
 use Rattle.course.specs.declared.caller.Caller.{Caller}
+use Rattle.course.specs.declared.stop.Stop.{Stop}
 use Rattle.statement_steps.specs.Asks.{told_of, locked, all_locked, meant_or_none, kept_number, number_or, named}
 use Rattle.statement_steps.specs.Steps.{IsStep}
 use Rattle.insert_statement.specs.Asked.{MayWrite}
@@ -117,3 +118,8 @@ may_write_named names old new caller name table may step h stands =
     let a = step.is s.0 s.1 s.2 in
     let got = named_told names caller.session RowExclusive name s.0 (resolved s.0 caller.session name) table.number a.0 in
     All-cons (λ t. IsWritable h caller.session t.number) table [] (inl (still_held new _ h caller.session table.number RowExclusive a.1.stands stands got)) (All-nil (λ t. IsWritable h caller.session t.number))
+
+-- by the name as the statement has it
+pub named_step : (names : List (List ℕ)) (caller : Caller) (r : Result TableNo Stop) (old new : Stores) (name other : List ℕ) → name ≡ other
+    → IsStep (λ (t : TableNo). t.number) r old new caller caller.cmd (named names caller.session RowExclusive name) → IsStep (λ (t : TableNo). t.number) r old new caller caller.cmd (named names caller.session RowExclusive other)
+named_step names caller r old new name other same step = subst (λ x. IsStep (λ (t : TableNo). t.number) r old new caller caller.cmd (named names caller.session RowExclusive x)) same step

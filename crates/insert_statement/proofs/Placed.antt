@@ -1,17 +1,19 @@
--- Rows by the tree that the session reads.
-use Rattle.std.proofs.Common.{◌≡◌, ℕ, ◌<◌, List, ap, sym, ◌∙◌, subst, arith, All, length, slice_index_or}
-use Rattle.std.proofs.lemmas.List.{length-map}
+-- What may be asked of rows below a partitioned table, and of the targets of their leaves.
+use Rattle.std.proofs.Common.{◌≡◌, ℕ, ◌<◌, List, sym, subst, arith, All, length, slice_index_or}
 use Rattle.pg_values.specs.declared.value.Value.{Value}
 use Rattle.history.specs.Catalogue.{tables_made}
 use Rattle.history.specs.History.{History, catalogue_events}
+use Rattle.history.specs.Places.{AreCatalogueSound}
 use Rattle.table_trees.specs.declared.path_part.PathPart.{PathPart}
 use Rattle.table_trees.specs.Histories.{tree_of, path_of}
 use Rattle.table_trees.specs.Trees.{TableTree, Fits}
-use Rattle.part_catalog.specs.Kept.{KeptCatalogue, table_in}
-use Rattle.part_catalog.specs.Stands.{CatalogueStands}
+use Rattle.row_change.specs.declared.target.Target.{Target}
 use Rattle.row_change.specs.Placing.{CanBePlaced, IsNumbered, IsPartNumbered}
+use Rattle.row_change.specs.Storing.{FitsTargets, IsTargetNumbered}
+use Rattle.row_change.specs.Targets.{IsTargetOf}
 use Rattle.row_change.proofs.Fit.{rows_can_be_placed}
 use Rattle.row_change.proofs.Made.{paths_are_made, trees_are_made}
+use Rattle.row_change.proofs.Targets.{last_is_made, targets_fit}
 use Rattle.soundness.proofs.OneLeaf.{sessions_have_siblings}
 use Rattle.stores.specs.Events.{look_of}
 use Rattle.stores.specs.Stand.{Stands}
@@ -19,34 +21,59 @@ use Rattle.stores.specs.declared.stores.Stores.{Stores}
 use Rattle.stores.proofs.Goodness.{legal_of, permitted_of}
 use Rattle.course.specs.declared.caller.Caller.{Caller}
 use Rattle.insert_statement.specs.Asked.{IsTreeFor}
-
--- as many tables are kept as were made
-pub tables_kept : (kept : KeptCatalogue) (h : History) → CatalogueStands kept h → length kept.tables ≡ length (tables_made (catalogue_events h))
-tables_kept kept h st = sym (length-map kept.tables table_in) ∙ ap length st.tables
+use Rattle.insert_statement.proofs.Tables.{tables_kept}
 
 -- the rows may be asked of the tree and the path, whose tables are there
 pub record Takes (n : ℕ) (tree : TableTree) (path : List PathPart) (rows : List (List Value)) : Type 0 where
   pub fits : All (CanBePlaced tree path) rows
-  pub path : All (IsPartNumbered n) path
+  pub above : All (IsPartNumbered n) path
   pub known : IsNumbered n tree
 
-pub takes : (stores : Stores) (caller : Caller) (tree : TableTree) (path : List PathPart) (rows : List (List Value)) (h : History) → Stands stores h → IsTreeFor stores caller tree path rows → Takes (length stores.catalog.tables) tree path rows
+pub takes : (stores : Stores) (caller : Caller) (tree : TableTree) (path : List PathPart) (rows : List (List Value)) (h : History) → Stands stores h → IsTreeFor stores.txs stores.catalog caller tree path rows → Takes (length stores.catalog.tables) tree path rows
 takes stores caller tree path rows h stands it =
     let s = caller.session in
     let look = look_of h s caller.cmd in
     let sound = stands.all.catalog.sound in
     let siblings = sessions_have_siblings h s (legal_of h stands.good) (permitted_of h stands.good) in
     let same = tables_kept stores.catalog h stands.all.catalog in
-    let made : it.table.number < length (tables_made (catalogue_events h)) = omega (arith, same, it.known) in
-    let t = it.is_tree h stands.all.txs stands.all.catalog in
-    let p = it.is_path h stands.all.txs stands.all.catalog in
+    let known = it.known in
+    let made : it.table.number < length (tables_made (catalogue_events h)) = omega (arith, same, known) in
+    let t = it.read.is_tree h stands.all.txs stands.all.catalog in
+    let p = it.read.is_path h stands.all.txs stands.all.catalog in
     record {
       fits = λ i d lt. subst (λ tr. CanBePlaced tr path (slice_index_or rows i d)) (sym t)
           (subst (λ pa. CanBePlaced (tree_of h s it.table.number look) pa (slice_index_or rows i d)) (sym p)
           (rows_can_be_placed h s it.table look (slice_index_or rows i d) sound siblings (it.rows_of h stands.all.catalog i d lt)));
-      path = subst (λ pa. All (IsPartNumbered (length stores.catalog.tables)) pa) (sym p) (subst (λ n. All (IsPartNumbered n) (path_of h s it.table.number)) (sym same) (paths_are_made h s it.table sound made));
+      above = subst (λ pa. All (IsPartNumbered (length stores.catalog.tables)) pa) (sym p) (subst (λ n. All (IsPartNumbered n) (path_of h s it.table.number)) (sym same) (paths_are_made h s it.table sound made));
       known = subst (λ tr. IsNumbered (length stores.catalog.tables) tr) (sym t) (subst (λ n. IsNumbered n (tree_of h s it.table.number look)) (sym same) (trees_are_made h s it.table look sound made).0);
     }
 
 pub rows_fit : (n : ℕ) (tree : TableTree) (path : List PathPart) (rows : List (List Value)) → Takes n tree path rows → All (λ row. Fits row tree) rows
 rows_fit n tree path rows it = λ i d lt. (it.fits i d lt).0
+
+-- ---- the targets of their leaves
+
+pub record TargetsTake (n : ℕ) (targets : List Target) (rows : List (List Value)) : Type 0 where
+  pub fits : All (FitsTargets targets) rows
+  pub numbered : All (IsTargetNumbered n) targets
+
+one_numbered : (h : History) (s n : ℕ) (tree : TableTree) (target : Target) → n ≡ length (tables_made (catalogue_events h)) → AreCatalogueSound h → IsNumbered n tree → IsTargetOf h s tree target → IsTargetNumbered n target
+one_numbered h s n tree target same sound known is =
+    let low = last_is_made n tree target.leaf is.tables target.table known is.way is.table in
+    let made : target.table.number < length (tables_made (catalogue_events h)) = omega (arith, same, low) in
+    (low, subst (λ pa. All (IsPartNumbered n) pa) (sym is.path) (subst (λ k. All (IsPartNumbered k) (path_of h s target.table.number)) (sym same) (paths_are_made h s target.table sound made)))
+
+pub targets_take : (stores : Stores) (caller : Caller) (tree : TableTree) (path : List PathPart) (rows : List (List Value)) (targets : List Target) (h : History) → Stands stores h → IsTreeFor stores.txs stores.catalog caller tree path rows → All (IsTargetOf h caller.session tree) targets
+    → TargetsTake (length stores.catalog.tables) targets rows
+targets_take stores caller tree path rows targets h stands it are =
+    let s = caller.session in
+    let look = look_of h s caller.cmd in
+    let sound = stands.all.catalog.sound in
+    let siblings = sessions_have_siblings h s (legal_of h stands.good) (permitted_of h stands.good) in
+    let same = tables_kept stores.catalog h stands.all.catalog in
+    let known = (takes stores caller tree path rows h stands it).known in
+    let t = it.read.is_tree h stands.all.txs stands.all.catalog in
+    record {
+      fits = λ i d lt j e within. (targets_fit h s it.table look (slice_index_or rows i d) (slice_index_or targets j e) sound siblings (it.rows_of h stands.all.catalog i d lt) (subst (λ tr. IsTargetOf h s tr (slice_index_or targets j e)) t (are j e within))).0;
+      numbered = λ j e within. one_numbered h s (length stores.catalog.tables) tree (slice_index_or targets j e) same sound known (are j e within);
+    }

@@ -1,12 +1,12 @@
 -- What the row store is made to do is what the statement means.
-use Rattle.std.proofs.Common.{◌≡◌, ℕ, List, [], ◌∷◌, ◌++◌, refl, sym, ap, ◌∙◌, subst, Result, Ok, Err, find}
+use Rattle.std.proofs.Common.{◌≡◌, ℕ, List, [], ◌∷◌, ◌++◌, refl, ap, ◌∙◌, subst, Result, Ok, Err, find}
 use Rattle.pg_values.specs.declared.value.Value.{Value}
 use Rattle.pg_values.specs.declared.fault.Fault.{Fault}
 use Rattle.pg_ids.specs.declared.ids.LeafId.{LeafId}
 use Rattle.history.specs.declared.transaction.TxId.{TxId}
 use Rattle.history.specs.declared.catalogue.Table.{Table}
 use Rattle.history.specs.Rows.{RowBorn}
-use Rattle.history.specs.History.{Event, History, RowChange, catalogue_events}
+use Rattle.history.specs.History.{Event, History, RowChange}
 use Rattle.row_store.specs.Stands.{newborn}
 use Rattle.row_change.specs.declared.target.Target.{Target}
 use Rattle.row_change.specs.Storing.{Made as RowsMade, made_by, made_after, all_stored, is_into, leaf_faults, full_faults}

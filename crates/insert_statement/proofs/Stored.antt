@@ -1,5 +1,5 @@
 -- Rows that are stored are a part of the statement, its last one.
-use Rattle.std.proofs.Common.{◌≡◌, ◌≢◌, ℕ, ◌+◌, ◌<◌, List, [], ◌∷◌, ◌++◌, refl, sym, ap, ◌∙◌, subst, arith, append-nil, Option, Some, None, Result, Ok, Err, IsSome, find, option_map, slice_index_or, unwrap_or}
+use Rattle.std.proofs.Common.{◌≡◌, ◌≢◌, ℕ, ◌+◌, List, [], ◌++◌, refl, sym, ap, ◌∙◌, subst, arith, append-nil, Some, Result, Ok, Err, find, unwrap_or}
 use Rattle.std.specs.List.{Contains}
 use Rattle.pg_values.specs.declared.value.Value.{Value}
 use Rattle.pg_values.specs.declared.fault.Fault.{Fault}
@@ -11,7 +11,7 @@ use Rattle.history.specs.declared.version.Version.{Version}
 use Rattle.history.specs.Transactions.{TxEvents, IsRunning, IsSound, open_of, session_of}
 use Rattle.history.specs.Snapshots.{TakenSnapshot}
 use Rattle.history.specs.Locks.{queue}
-use Rattle.history.specs.History.{History, tx_events, snapshot_events, lock_events, catalogue_events}
+use Rattle.history.specs.History.{History, tx_events, snapshot_events, lock_events}
 use Rattle.history.proofs.Open.{open_own, open_runs}
 use Rattle.tx_table.specs.Stands.{StandsFor, TableStands}
 use Rattle.lock_table.specs.Stands.{StandsFor as LocksFor}
@@ -23,22 +23,19 @@ use Rattle.row_change.specs.Storing.{all_stored, IsMade, is_into, leaf_faults}
 use Rattle.legal_statements.specs.Rows.{IsStored, AreNewRows, rows_born}
 use Rattle.legal_statements.proofs.Births.{new_rows_may_follow}
 use Rattle.stores.specs.Events.{tx_in}
-use Rattle.stores.specs.Good.{IsGood}
 use Rattle.stores.specs.Numbers.{IsAt}
 use Rattle.stores.specs.Stand.{AllStand, Stands}
 use Rattle.stores.specs.declared.stores.Stores.{Stores}
 use Rattle.stores.proofs.Goodness.{legal_of, permitted_of}
 use Rattle.stores.proofs.Standing.{catalogue_stands}
 use Rattle.stores.proofs.Commands.{goes_on, commands_are_in_order}
-use Rattle.course.specs.Made.{Made, Refused}
 use Rattle.course.specs.Attempts.{MayAttempt, WentOn, GoesOn}
 use Rattle.course.specs.declared.caller.Caller.{Caller}
-use Rattle.course.specs.declared.stop.Stop.{Stop}
-use Rattle.course.specs.declared.stop.Stop.TheVariants as stop
-use Rattle.statement_steps.specs.Steps.{IsTold, IsStep}
+use Rattle.statement_steps.specs.Steps.{IsStep}
+use Rattle.statement_steps.proofs.Parts.{no_memory}
 use Rattle.insert_statement.specs.Born.{all_born}
 use Rattle.insert_statement.specs.Inserted.{tables_of, own}
-use Rattle.insert_statement.specs.Asked.{MayGo, MayPut, put}
+use Rattle.insert_statement.specs.Asked.{MayGo, MayPut, put, stopped}
 use Rattle.insert_statement.proofs.Births.{Births, all_births, Quiet, quiet, good_rows, all_before}
 use Rattle.insert_statement.proofs.Same.{SameMade, same_all, told_as}
 
@@ -89,7 +86,7 @@ born_on : (old : Stores) (rows : KeptRows) (h : History) (s tx cmd : ℕ) (by : 
 born_on old rows h s tx cmd by targets ls rs events may b is stands at mine running store =
     let q = quiet b.rows h in
     let follow = new_rows_may_follow h s may.table may.look tx cmd b.rows (legal_of h stands.good) (permitted_of h stands.good) (new_rows h s tx cmd by targets ls rs events may b is mine at) in
-    let by_it = (λ v in_rows. (b.each v in_rows).0 ∙ is) in
+    let by_it : (v : Version) → Contains b.rows v → v.by.number ≡ tx = λ v in_rows. (b.each v in_rows).0 ∙ is in
     record {
       stands = record { all = stored_stand old rows (rows_born b.rows ++ h) h q store stands.all; good = good_rows b.rows h tx follow by_it running stands.good };
       at = at_later b.rows h s tx cmd mine (λ v in_rows. (b.each v in_rows).1) at;
@@ -117,42 +114,45 @@ rows_keep old rows s = record {
   size = record { sessions = refl; tables = refl };
 }
 
--- the same tables, by the session's own transaction
+-- by the session's own transaction
 pub record IsPut (old : Stores) (rows : KeptRows) (caller : Caller) (targets : List Target) (ls : List LeafId) (rs : List (List Value)) (result : Result (Unit {0}) Refusal) : Type 0 where
   pub by : TxId
-  pub own : (h : History) → TableStands old.txs h → option_map (λ tx. tx.number) (Some by) ≡ open_of (tx_events h) caller.session
+  pub own : (h : History) → TableStands old.txs h → Some by.number ≡ open_of (tx_events h) caller.session
   pub may : (h : History) → Stands old h → MayPut h caller.session targets ls rs
   pub made : (h : History) → TableStands old.txs h → CatalogueStands old.catalog h → StoreStands old.rows h → IsMade result rows h (all_stored targets by caller.cmd h ls rs)
 
 same_put : (caller : Caller) (targets : List Target) (ls : List LeafId) (rs : List (List Value)) (by : TxId) (h : History) → Some by.number ≡ open_of (tx_events h) caller.session → SameMade (all_stored targets by caller.cmd h ls rs) (put targets caller ls rs h)
 same_put caller targets ls rs by h mine =
     let is : by.number ≡ tx_in h caller.session = ap (λ o. unwrap_or o 0) mine in
-    let same : by ≡ own h caller.session = ap (λ n. record { number = n }) is in
+    let id : ℕ → TxId = λ n. record { number = n } in
+    let same : by ≡ own h caller.session = ap id is in
     subst (λ b. SameMade (all_stored targets by caller.cmd h ls rs) (all_born b caller.cmd (λ l row. leaf_faults (tables_of h) (find (is_into l) targets) row) ls rs h)) same (same_all targets by caller.cmd (tables_of h) ls rs h refl)
 
-pub put_ok : (old : Stores) (rows : KeptRows) (caller : Caller) (targets : List Target) (ls : List LeafId) (rs : List (List Value)) (result : Result (Unit {0}) Refusal) → MayAttempt old caller → result ≡ Ok tt → IsPut old rows caller targets ls rs result
+-- what came of it is told, and the stores stand for what was made
+put_told : (old : Stores) (rows : KeptRows) (caller : Caller) (targets : List Target) (ls : List LeafId) (rs : List (List Value)) (told : Result (Unit {0}) Fault) (h : History) (by : TxId) → Some by.number ≡ open_of (tx_events h) caller.session → Stands old h → IsAt h caller.session caller.cmd
+    → MayPut h caller.session targets ls rs → (all_stored targets by caller.cmd h ls rs).told ≡ told → StoreStands rows ((all_stored targets by caller.cmd h ls rs).events ++ h)
+    → ((put targets caller ls rs h).told ≡ told_as told) × WentOn h caller.session (caller.cmd + 1) [] (record old { rows = rows }) ((put targets caller ls rs h).events ++ h)
+put_told old rows caller targets ls rs told h by mine stands at may is store =
+    let same = same_put caller targets ls rs by h mine in
+    (sym same.told ∙ ap told_as is, went old rows caller targets ls rs h by.number stands at (sym mine) may (subst (λ es. StoreStands rows (es ++ h)) same.events store))
+
+pub put_ok : (old : Stores) (rows : KeptRows) (caller : Caller) (targets : List Target) (ls : List LeafId) (rs : List (List Value)) → MayAttempt old caller → IsPut old rows caller targets ls rs (Ok tt)
     → IsStep (λ (u : Unit {0}). u) (Ok tt) old (record old { rows = rows }) caller (caller.cmd + 1) (put targets caller ls rs)
-put_ok old rows caller targets ls rs result may is it = record {
+put_ok old rows caller targets ls rs may it = record {
   is = λ h stands at.
-      let mine = it.own h stands.all.txs in
-      let same = same_put caller targets ls rs it.by h mine in
-      let made = subst (λ r. IsMade r rows h (all_stored targets it.by caller.cmd h ls rs)) is (it.made h stands.all.txs stands.all.catalog stands.all.rows) in
-      (sym same.told ∙ ap told_as made.0, went old rows caller targets ls rs h it.by.number stands at (sym mine) (it.may h stands) (subst (λ es. StoreStands rows (es ++ h)) same.events made.1));
+      let made = it.made h stands.all.txs stands.all.catalog stands.all.rows in
+      put_told old rows caller targets ls rs (Ok tt) h it.by (it.own h stands.all.txs) stands at (it.may h stands) made.0 made.1;
   keeps = rows_keep old rows caller.session;
   waits = may.idle;
 }
 
-pub put_refused : (old : Stores) (rows : KeptRows) (caller : Caller) (targets : List Target) (ls : List LeafId) (rs : List (List Value)) (result : Result (Unit {0}) Refusal) (f : Fault) → MayAttempt old caller → result ≡ Err (Sql f) → IsPut old rows caller targets ls rs result
-    → IsStep (λ (u : Unit {0}). u) (Err (stop.Refused f)) old (record old { rows = rows }) caller (caller.cmd + 1) (put targets caller ls rs)
-put_refused old rows caller targets ls rs result f may is it = record {
+pub put_refused : (old : Stores) (rows : KeptRows) (caller : Caller) (targets : List Target) (ls : List LeafId) (rs : List (List Value)) (refusal : Refusal) → MayAttempt old caller → IsPut old rows caller targets ls rs (Err refusal)
+    → IsStep (λ (u : Unit {0}). u) (Err (stopped refusal)) old (record old { rows = rows }) caller (caller.cmd + 1) (put targets caller ls rs)
+put_refused old rows caller targets ls rs (Sql f) may it = record {
   is = λ h stands at.
-      let mine = it.own h stands.all.txs in
-      let same = same_put caller targets ls rs it.by h mine in
-      let made = subst (λ r. IsMade r rows h (all_stored targets it.by caller.cmd h ls rs)) is (it.made h stands.all.txs stands.all.catalog stands.all.rows) in
-      (sym same.told ∙ ap told_as made.0, went old rows caller targets ls rs h it.by.number stands at (sym mine) (it.may h stands) (subst (λ es. StoreStands rows (es ++ h)) same.events made.1));
+      let made = it.made h stands.all.txs stands.all.catalog stands.all.rows in
+      put_told old rows caller targets ls rs (Err f) h it.by (it.own h stands.all.txs) stands at (it.may h stands) made.0 made.1;
   keeps = rows_keep old rows caller.session;
   waits = may.idle;
 }
-
-pub put_out : (old : Stores) (rows : KeptRows) (caller : Caller) (targets : List Target) (ls : List LeafId) (rs : List (List Value)) → IsStep (λ (u : Unit {0}). u) (Err stop.NoMemory) old (record old { rows = rows }) caller (caller.cmd + 1) (put targets caller ls rs)
-put_out old rows caller targets ls rs = record { is = λ h stands at. tt; keeps = rows_keep old rows caller.session; waits = tt }
+put_refused old rows caller targets ls rs NoMemory may it = no_memory (λ (u : Unit {0}). u) old (record old { rows = rows }) caller (caller.cmd + 1) (put targets caller ls rs) (rows_keep old rows caller.session)

@@ -1,66 +1,29 @@
 -- The leaf of a row is that of a table on its way.
-use Rattle.std.proofs.Common.{◌≡◌, ℕ, zero, suc, ◌+◌, ◌<◌, List, [], ◌∷◌, ◌++◌, ◌⊎◌, inl, inr, refl, ap, sym, ◌∙◌, subst, arith, Option, Some, None, Result, Ok, Err, All, map}
-use Rattle.std.specs.List.{Contains, flat_map}
-use Rattle.std.proofs.lemmas.List.Elements.{Contains-append_left, Contains-append_right}
+use Rattle.std.proofs.Common.{◌≡◌, ℕ, zero, suc, ◌<◌, List, [], ◌∷◌, ◌⊎◌, inl, inr, refl, sym, ◌∙◌, subst, arith, Option, Some, None, Result, Ok, Err, All, map}
+use Rattle.std.specs.List.{Contains}
+use Rattle.std.proofs.lemmas.List.Elements.{All-nil, All-append, Contains-append_left, Contains-append_right}
 use Rattle.pg_values.specs.declared.value.Value.{Value}
 use Rattle.pg_values.specs.declared.fault.Fault.{Fault}
 use Rattle.pg_ids.specs.declared.ids.LeafId.{LeafId}
 use Rattle.pg_ids.specs.declared.ids.TableNo.{TableNo}
 use Rattle.part_bounds.specs.declared.level.Level.{Level as OneLevel}
-use Rattle.part_bounds.specs.declared.partition_bound.Bound.{Bound}
 use Rattle.part_bounds.specs.RawBounds.{faults_in, read_in}
 use Rattle.part_bounds.specs.Checks.{or_first}
-use Rattle.history.specs.declared.catalogue.Entry.{Entry}
 use Rattle.history.specs.declared.catalogue.Table.{Table}
-use Rattle.history.specs.declared.catalogue.TableShape.{TableShape}
 use Rattle.history.specs.declared.catalogue.TableShape.TheVariants.{Leaf, Level}
-use Rattle.history.specs.Snapshots.{TakenSnapshot}
-use Rattle.history.specs.Catalogue.{tables_made}
-use Rattle.history.specs.History.{History, catalogue_events}
 use Rattle.history.specs.Places.{table_at}
-use Rattle.history.specs.Presence.{entries_shown}
-use Rattle.table_trees.specs.declared.node.Node.{Node}
 use Rattle.table_trees.specs.declared.path_part.PathPart.{PathPart}
 use Rattle.table_trees.specs.declared.tree.NoPartition.{NoPartition}
-use Rattle.table_trees.specs.Histories.{tree_of, tree_within, grown, node_at, children, bound_of, child_of_entry, table_of}
-use Rattle.table_trees.specs.Trees.{TableTree, LeafTable, LevelTable, Trees, End, More, trees_of, child_of, routed, routed_in}
-use Rattle.row_change.specs.Placing.{placed, first_or, way_told, bounds_faults, all_placed}
-use Rattle.row_change.specs.Ways.{root, way_below, way_among, ways_below}
-use Rattle.soundness.proofs.Listed.{first_in, later_in}
-use Rattle.insert_statement.specs.Asked.{Each}
-
--- ---- each table of a tree with its leaf
-
-abbrev mutual
-  pub AtHome : (TableNo → LeafId → Type 0) → TableTree → Type 0
-  AtHome P (LeafTable node leaf) = P node.table leaf
-  AtHome P (LevelTable node level bounds kids) = AllAtHome P kids
-
-  pub AllAtHome : (TableNo → LeafId → Type 0) → Trees → Type 0
-  AllAtHome P End = Unit {0}
-  AllAtHome P (More k ks) = AtHome P k × AllAtHome P ks
-
-grown_home : (P : TableNo → LeafId → Type 0) (shape : TableShape) (node : Node) (bounds : List Bound) (kids : List TableTree) → ((leaf : LeafId) → shape ≡ Leaf leaf → P node.table leaf) → AllAtHome P (trees_of kids) → AtHome P (grown shape node bounds kids)
-grown_home P (Leaf leaf) node bounds kids here below = here leaf refl
-grown_home P (Level level) node bounds kids here below = below
-
-kids_home : (P : TableNo → LeafId → Type 0) (f : ℕ → TableTree) (es : List Entry) → ((t : ℕ) → AtHome P (f t)) → AllAtHome P (trees_of (map (λ (e : Entry). f (child_of_entry e)) es))
-kids_home P f [] each = tt
-kids_home P f (e ∷ es) each = (each (child_of_entry e), kids_home P f es each)
-
--- its shape is this leaf
-abbrev pub IsHome : List Table → TableNo → LeafId → Type 0
-IsHome tables t leaf = (table_at tables t.number).shape ≡ Leaf leaf
-
-within_home : (tables : List Table) (entries : List Entry) (named n t : ℕ) → AtHome (IsHome tables) (tree_within n tables entries named t)
-within_home tables entries named zero t = grown_home (IsHome tables) (table_at tables t).shape (node_at tables named t) [] [] (λ leaf is. is) tt
-within_home tables entries named (suc n) t =
-    grown_home (IsHome tables) (table_at tables t).shape (node_at tables named t) (map bound_of (children entries t)) (map (λ e. tree_within n tables entries named (child_of_entry e)) (children entries t)) (λ leaf is. is)
-    (kids_home (IsHome tables) (λ c. tree_within n tables entries named c) (children entries t) (λ c. within_home tables entries named n c))
-
-pub tree_home : (h : History) (s t : ℕ) (look : TakenSnapshot) → AtHome (IsHome (tables_made (catalogue_events h))) (tree_of h s t look)
-unfolding tree_of
-tree_home h s t look = within_home (tables_made (catalogue_events h)) (entries_shown h s look) t 7 t
+use Rattle.table_trees.specs.Trees.{TableTree, LeafTable, LevelTable, Trees, End, More, child_of, routed, routed_in}
+use Rattle.row_change.specs.Placing.{placed, first_or, way_told, bounds_faults}
+use Rattle.row_change.specs.Ways.{AllTables, root, way_below, way_among, ways_below}
+use Rattle.row_change.proofs.Ways.{all_below}
+use Rattle.soundness.proofs.Listed.{none_in, first_in, later_in}
+use Rattle.soundness.proofs.Presence.{all_more}
+use Rattle.stores.specs.declared.stores.Stores.{Stores}
+use Rattle.statement_steps.specs.Known.{IsKnownTo}
+use Rattle.insert_statement.specs.Asked.{Each, MayLock}
+use Rattle.insert_statement.proofs.Trees.{AtHome, AllAtHome, IsHome}
 
 -- ---- the end of a way
 
@@ -97,9 +60,24 @@ way_ends_below tables row tree leaf level home shape e =
     ]
 
 pub in_ways : (tree : TableTree) (rows : List (List Value)) (row : List Value) (t : TableNo) → Contains rows row → Contains (way_below row tree) t → Contains (ways_below tree rows) t
-in_ways tree [] row t at on = absurd (let lt = at.1 in omega (arith, lt))
+in_ways tree [] row t at on = absurd (none_in row at)
 in_ways tree (r ∷ rs) row t (zero, lt, same) on = Contains-append_left (way_below r tree) (ways_below tree rs) t (subst (λ x. Contains (way_below x tree) t) (sym same) on)
 in_ways tree (r ∷ rs) row t (suc k, lt, same) on = Contains-append_right (way_below r tree) (ways_below tree rs) t (in_ways tree rs row t (k, omega (arith, lt), same) on)
+
+-- what holds of all tables of a tree holds of those on the ways
+pub all_on_ways : (P : TableNo → Type 0) (tree : TableTree) (rows : List (List Value)) → AllTables P tree → All P (ways_below tree rows)
+all_on_ways P tree [] all = All-nil P
+all_on_ways P tree (r ∷ rs) all = All-append P (way_below r tree) (ways_below tree rs) (all_below P r tree all) (all_on_ways P tree rs all)
+
+-- the tables on the ways may be locked, where all of the tree may be
+ways_lock : (stores : Stores) (s : ℕ) (tree : TableTree) (rows : List (List Value)) (ways : List TableNo) → ways ≡ ways_below tree rows → AllTables (MayLock stores s) tree → All (MayLock stores s) ways
+ways_lock stores s tree rows ways is all = subst (All (MayLock stores s)) (sym is) (all_on_ways (MayLock stores s) tree rows all)
+
+pub ways_low : (stores : Stores) (s : ℕ) (tree : TableTree) (rows : List (List Value)) (ways : List TableNo) → ways ≡ ways_below tree rows → AllTables (MayLock stores s) tree → All (λ t. t.number < 4096) ways
+ways_low stores s tree rows ways is all = all_more (MayLock stores s) (λ (t : TableNo). t.number < 4096) ways (λ t may. may.0) (ways_lock stores s tree rows ways is all)
+
+pub ways_known : (stores : Stores) (s : ℕ) (tree : TableTree) (rows : List (List Value)) (ways : List TableNo) → ways ≡ ways_below tree rows → AllTables (MayLock stores s) tree → All (λ t. IsKnownTo stores s t.number) ways
+ways_known stores s tree rows ways is all = all_more (MayLock stores s) (λ (t : TableNo). IsKnownTo stores s t.number) ways (λ t may. may.1) (ways_lock stores s tree rows ways is all)
 
 -- ---- each row with its leaf
 

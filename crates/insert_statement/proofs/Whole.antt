@@ -1,15 +1,20 @@
 -- The rows of VALUES are of the table's columns.
-use Rattle.std.proofs.Common.{◌≡◌, ℕ, zero, suc, ◌+◌, ◌<◌, ◌==◌, Bool, true, false, if◌then◌else◌, List, [], ◌∷◌, refl, sym, ap, ◌∙◌, subst, arith, Option, Result, Ok, Err, All, map, length, slice_index_or}
-use Rattle.std.specs.List.{AllZip, range_with_len}
+use Rattle.std.proofs.Common.{◌≡◌, ℕ, zero, suc, ◌+◌, ◌<◌, ◌==◌, Bool, true, false, if◌then◌else◌, List, [], ◌∷◌, refl, sym, subst, arith, Option, Result, Ok, Err, All, map, length, slice_index_or}
+use Rattle.std.specs.List.{range_with_len}
 use Rattle.std.proofs.lemmas.List.Elements.{All-nil, All-cons}
 use Rattle.pg_values.specs.declared.value.Kind.{Kind}
-use Rattle.pg_values.specs.declared.value.Kind.TheVariants.{Text as KText}
 use Rattle.pg_values.specs.declared.value.Value.{Value}
 use Rattle.pg_values.specs.declared.value.Value.TheVariants.{Null, Int4, Int8, Text, Day, Truth}
 use Rattle.pg_values.specs.declared.fault.Fault.{Fault}
+use Rattle.pg_ids.specs.declared.ids.TableNo.{TableNo}
 use Rattle.part_bounds.specs.Levels.{IsOf}
 use Rattle.history.specs.declared.catalogue.Column.{Column}
+use Rattle.history.specs.Catalogue.{tables_made}
+use Rattle.history.specs.History.{History, catalogue_events}
 use Rattle.table_trees.specs.Trees.{IsRowOf}
+use Rattle.part_catalog.specs.Found.{made_at}
+use Rattle.part_catalog.specs.Kept.{KeptCatalogue}
+use Rattle.part_catalog.specs.Stands.{CatalogueStands}
 use Rattle.sql_expressions.specs.Tree.{Trees}
 use Rattle.expression_binder.specs.declared.scope.Param.{Param}
 use Rattle.expression_binder.specs.declared.scope.ScopeColumn.{ScopeColumn}
@@ -20,6 +25,8 @@ use Rattle.ask_laws.specs.Fitting.{RowFits, RowsFit, InsertsFit}
 use Rattle.row_change.specs.FullRows.{value_for, full_row}
 use Rattle.stores.proofs.Goodness.{same_session}
 use Rattle.insert_statement.specs.Inserted.{scope_column, whole, whole_rows}
+use Rattle.insert_statement.specs.Asked.{AreRowsOf}
+use Rattle.insert_statement.proofs.Tables.{tables_kept}
 
 of_kind : (v : Value) (k : Kind) → IsOfKind v k → IsOf k v
 of_kind Null k is none = absurd (cc)
@@ -53,7 +60,10 @@ row_of (c ∷ cs) f n each =
 
 whole_row : (columns : List Column) (named : List ℕ) (vs : List Value) → RowFits (kinds_of (map scope_column columns) named) vs → IsRowOf columns (full_row (length columns) named vs)
 whole_row columns named vs fits =
-    row_of columns (value_for named vs) 0 (λ i d lt. subst (λ k. IsOf k (value_for named vs i)) (kind_is columns i d lt) (of_kind (value_for named vs i) (kind_at (map scope_column columns) i) (value_fits (map scope_column columns) named vs i fits)))
+    row_of columns (value_for named vs) 0 (λ i d lt.
+    let from_0 : i ≡ 0 + i = omega arith in
+    let fit : IsOf (kind_at (map scope_column columns) i) (value_for named vs i) = of_kind (value_for named vs i) (kind_at (map scope_column columns) i) (value_fits (map scope_column columns) named vs i fits) in
+    subst (λ n. IsOf (slice_index_or columns i d).kind (value_for named vs n)) from_0 (subst (λ k. IsOf k (value_for named vs i)) (kind_is columns i d lt) fit))
 
 each_row : (columns : List Column) (named : List ℕ) (rows : List (List Value)) → RowsFit (kinds_of (map scope_column columns) named) rows → All (λ row. IsRowOf columns row) (map (full_row (length columns) named) rows)
 each_row columns named [] fits = All-nil (λ row. IsRowOf columns row)
@@ -67,3 +77,11 @@ from_meant columns (Err f) rows fits is = absurd (let c = is in cc)
 pub rows_are_whole : InsertsFit → (columns : List Column) (params : List Param) (s : ℕ) (names : Option (List (List ℕ))) (values : List Trees) (rows : List (List Value)) → whole_rows columns params s names values ≡ Ok rows → All (λ row. IsRowOf columns row) rows
 rows_are_whole law columns params s names values rows is =
     from_meant columns (bound_insert (map scope_column columns) params s names values) rows (λ m asked. (law (map scope_column columns) params s names values m asked).1) is
+
+-- so they are of the columns of the table that is kept
+pub are_rows_of : InsertsFit → (catalog : KeptCatalogue) (t : TableNo) (columns : List Column) (params : List Param) (s : ℕ) (names : Option (List (List ℕ))) (values : List Trees) (rows : List (List Value)) → t.number < length catalog.tables
+    → ((h : History) → CatalogueStands catalog h → columns ≡ (made_at h t.number).columns) → whole_rows columns params s names values ≡ Ok rows → AreRowsOf catalog t rows
+are_rows_of law catalog t columns params s names values rows known are is h stands i d lt =
+    let kept = tables_kept catalog h stands in
+    let made : t.number < length (tables_made (catalogue_events h)) = omega (arith, kept, known) in
+    (made, subst (λ cs. IsRowOf cs (slice_index_or rows i d)) (are h stands) (rows_are_whole law columns params s names values rows is i d lt))

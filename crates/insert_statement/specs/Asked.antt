@@ -1,6 +1,5 @@
 -- What is asked of the rows of an INSERT before they are stored.
-use Rattle.std.specs.Prelude.{◌≡◌, ℕ, ◌<◌, true, false, List, [], ◌∷◌, None, Ok, All, find, length}
-use Rattle.std.specs.List.{list_any}
+use Rattle.std.specs.Prelude.{◌≡◌, ℕ, ◌<◌, true, List, [], ◌∷◌, None, Ok, All, find, length}
 use Rattle.pg_values.specs.declared.value.Value.{Value}
 use Rattle.pg_ids.specs.declared.ids.LeafId.{LeafId}
 use Rattle.pg_ids.specs.declared.ids.TableNo.{TableNo}
@@ -12,6 +11,7 @@ use Rattle.table_trees.specs.Histories.{tree_of, path_of}
 use Rattle.table_trees.specs.Trees.{TableTree, routed}
 use Rattle.part_bounds.specs.declared.level.Level.{Level}
 use Rattle.history.specs.declared.catalogue.TableShape.TheVariants.{Level as Levels}
+use Rattle.tx_table.specs.Kept.{KeptTable}
 use Rattle.tx_table.specs.Stands.{TableStands}
 use Rattle.part_catalog.specs.Found.{made_at}
 use Rattle.part_catalog.specs.Kept.{KeptCatalogue}
@@ -21,12 +21,13 @@ use Rattle.row_router.specs.Paths.{refused}
 use Rattle.row_change.specs.declared.target.Target.{Target}
 use Rattle.row_change.specs.Laws.{IsRowIn}
 use Rattle.row_change.specs.Placing.{all_placed}
-use Rattle.row_change.specs.Storing.{is_into, leaf_faults}
+use Rattle.row_change.specs.Storing.{is_into, leaf_faults, FitsTargets, IsLeafKnown, IsTargetNumbered}
+use Rattle.row_change.specs.Targets.{HasTarget, HasWay}
 use Rattle.soundness.specs.Worlds.{IsMade, HasLeaf}
 use Rattle.legal_statements.specs.Locked.{IsWritable}
 use Rattle.legal_statements.specs.Rows.{IsOwnLook}
 use Rattle.stores.specs.Events.{look_of}
-use Rattle.stores.specs.Stand.{AllStand, Stands}
+use Rattle.stores.specs.Stand.{Stands}
 use Rattle.stores.specs.declared.stores.Stores.{Stores}
 use Rattle.course.specs.Made.{Made}
 use Rattle.pg_values.specs.declared.fault.Refusal.{Refusal}
@@ -34,8 +35,9 @@ use Rattle.pg_values.specs.declared.fault.Refusal.TheVariants.{Sql, NoMemory}
 use Rattle.course.specs.declared.caller.Caller.{Caller}
 use Rattle.course.specs.declared.stop.Stop.{Stop}
 use Rattle.course.specs.declared.stop.Stop.TheVariants.{Refused, NoMemory as OutOfMemory}
+use Rattle.statement_steps.specs.Known.{IsKnownTo}
 use Rattle.insert_statement.specs.Born.{all_born}
-use Rattle.insert_statement.specs.Inserted.{tables_of, own, holder}
+use Rattle.insert_statement.specs.Inserted.{tables_of, own}
 
 -- the rows are of the table's columns
 abbrev pub AreRowsOf : KeptCatalogue → TableNo → List (List Value) → Type 0
@@ -45,26 +47,38 @@ AreRowsOf catalog t rows = (h : History) → CatalogueStands catalog h → All (
 abbrev pub MayWrite : Stores → (session : ℕ) → List TableNo → Type 0
 MayWrite stores s tables = (h : History) → Stands stores h → All (λ t. IsWritable h s t.number) tables
 
--- the tree that the session's command reads of a table that is there, and the path above it
-pub record IsTreeFor (stores : Stores) (caller : Caller) (tree : TableTree) (path : List PathPart) (rows : List (List Value)) : Type 0 where
+-- the session may lock the table
+abbrev pub MayLock : Stores → (session : ℕ) → TableNo → Type 0
+MayLock stores s t = (t.number < 4096) × IsKnownTo stores s t.number
+
+-- ---- rows below a partitioned table
+
+-- the tree that the session's command reads of a table, and the path above it
+pub record IsReadOf (txs : KeptTable) (catalog : KeptCatalogue) (caller : Caller) (table : TableNo) (tree : TableTree) (path : List PathPart) : Type 0 where
+  pub is_tree : (h : History) → TableStands txs h → CatalogueStands catalog h → tree ≡ tree_of h caller.session table.number (look_of h caller.session caller.cmd)
+  pub is_path : (h : History) → TableStands txs h → CatalogueStands catalog h → path ≡ path_of h caller.session table.number
+
+-- they are those of a partitioned table, and the rows are of its columns
+pub record IsTreeFor (txs : KeptTable) (catalog : KeptCatalogue) (caller : Caller) (tree : TableTree) (path : List PathPart) (rows : List (List Value)) : Type 0 where
   pub table : TableNo
-  pub known : table.number < length stores.catalog.tables
-  pub rows_of : AreRowsOf stores.catalog table rows
-  pub is_level : (h : History) → CatalogueStands stores.catalog h → (level : Level) × ((made_at h table.number).shape ≡ Levels level)
-  pub is_tree : (h : History) → TableStands stores.txs h → CatalogueStands stores.catalog h → tree ≡ tree_of h caller.session table.number (look_of h caller.session caller.cmd)
-  pub is_path : (h : History) → TableStands stores.txs h → CatalogueStands stores.catalog h → path ≡ path_of h caller.session table.number
+  pub known : table.number < length catalog.tables
+  pub rows_of : AreRowsOf catalog table rows
+  pub is_level : (h : History) → CatalogueStands catalog h → (level : Level) × ((made_at h table.number).shape ≡ Levels level)
+  pub read : IsReadOf txs catalog caller table tree path
 
 -- by such a tree each row has its leaf
-pub record ArePlaced (stores : Stores) (caller : Caller) (tree : TableTree) (leaves : List LeafId) (rows : List (List Value)) : Type 0 where
+pub record ArePlaced (txs : KeptTable) (catalog : KeptCatalogue) (caller : Caller) (tree : TableTree) (leaves : List LeafId) (rows : List (List Value)) : Type 0 where
   pub path : List PathPart
-  pub by_tree : IsTreeFor stores caller tree path rows
-  pub placed : (h : History) → CatalogueStands stores.catalog h → all_placed (tables_of h) tree path rows ≡ Ok leaves
+  pub by_tree : IsTreeFor txs catalog caller tree path rows
+  pub placed : (h : History) → CatalogueStands catalog h → all_placed (tables_of h) tree path rows ≡ Ok leaves
+  pub ways : All (HasWay tree) leaves
 
 -- ---- rows with their leaves
 
+-- so it is of each leaf, of which there are no more than rows, and its row
 abbrev pub Each : (LeafId → List Value → Type 0) → List LeafId → List (List Value) → Type 0
 Each P [] rows = Unit {0}
-Each P (l ∷ ls) [] = Unit {0}
+Each P (l ∷ ls) [] = ⊥
 Each P (l ∷ ls) (r ∷ rs) = P l r × Each P ls rs
 
 -- where the targets stand for the tables of the leaves
@@ -86,24 +100,22 @@ pub record MayPut (h : History) (session : ℕ) (targets : List Target) (leaves 
   pub own_look : IsOwnLook h session look
   pub go : Each (λ l row. leaf_faults (tables_of h) (find (is_into l) targets) row ≡ [] → MayGo h session table look l row) leaves rows
 
--- ---- targets
+-- the rows may be tested and stored, each leaf having its target
+pub record MayStore (stores : Stores) (session : ℕ) (targets : List Target) (leaves : List LeafId) (rows : List (List Value)) : Type 0 where
+  pub fits : All (FitsTargets targets) rows
+  pub numbered : All (IsTargetNumbered (length stores.catalog.tables)) targets
+  pub told : All (HasTarget targets) leaves
+  pub known : All (IsLeafKnown stores.rows.leaves) leaves
+  pub may : (h : History) → Stands stores h → MayPut h session targets leaves rows
 
--- the target stands for a table that has the leaf and is named itself
-pub record IsOwnTarget (h : History) (s t : ℕ) (leaf : LeafId) (target : Target) : Type 0 where
-  pub same : target.leaf ≡ leaf
-  pub path : target.path.items ≡ path_of h s t
-  pub named : target.is_named ≡ true
+-- ---- the target of a table that is named
 
--- the target stands for the table of the tree that has its leaf, which the statement does not name
-pub record IsTargetFor (stores : Stores) (session : ℕ) (tree : TableTree) (target : Target) : Type 0 where
-  pub table : target.table ≡ holder tree target.leaf
-  pub path : (h : History) → AllStand stores h → target.path.items ≡ path_of h session target.table.number
-  pub unnamed : target.is_named ≡ false
-
--- so does each of them, and each leaf has one
-pub record AreTargets (stores : Stores) (session : ℕ) (tree : TableTree) (leaves : List LeafId) (targets : List Target) : Type 0 where
-  pub each : All (IsTargetFor stores session tree) targets
-  pub all : All (λ l. list_any (is_into l) targets ≡ true) leaves
+-- the target is of the table, which has the leaf
+pub record IsOwnTarget (h : History) (s : ℕ) (t : TableNo) (leaf : LeafId) (target : Target) : Type 0 where
+  pub leaf_is : target.leaf ≡ leaf
+  pub table : target.table ≡ t
+  pub path : target.path.items ≡ path_of h s t.number
+  pub is_named : target.is_named ≡ true
 
 -- ---- a refusal ends the statement
 

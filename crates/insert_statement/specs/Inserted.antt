@@ -1,5 +1,5 @@
 -- INSERT of a session (the manual, INSERT; 5.11.2 Declarative Partitioning; 13.3.1 Table-Level Locks).
-use Rattle.std.specs.Prelude.{ℕ, true, false, List, [], ◌∷◌, Option, Some, None, Result, Ok, Err, map, length, unwrap_or}
+use Rattle.std.specs.Prelude.{ℕ, true, false, List, [], ◌∷◌, Option, Result, Ok, Err, map, length, unwrap_or}
 use Rattle.pg_values.specs.declared.value.Value.{Value}
 use Rattle.pg_values.specs.declared.fault.Fault.{Fault}
 use Rattle.pg_ids.specs.declared.ids.LeafId.{LeafId}

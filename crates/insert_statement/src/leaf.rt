@@ -40,7 +40,7 @@ fn target_of(
 ) -> Result<Target, NoMemory>
     requires sound { IsSound stores.now }
     requires known { table.number < length stores.now.catalog.tables }
-    ensures { IfOk result (λ target. (target.table ≡ table) × ((h : History) → AllStand stores.now h → IsOwnTarget h caller.session table.number leaf target)) }
+    ensures { IfOk result (λ target. (h : History) → AllStand stores.now h → IsOwnTarget h caller.session table leaf target) }
 {
     Ok(Target {
         leaf,
@@ -54,17 +54,18 @@ fn store_for(
     alloc: Global,
     stores: &mut Stores,
     caller: Caller,
+    table: TableNo,
     target: &Target,
     leaf: LeafId,
     rows: &[Row],
 ) -> Result<(), Stop>
     requires may { MayAttempt stores.old caller }
-    requires known { target.now.table.number < length stores.old.catalog.tables }
-    requires leaf { (h : History) → CatalogueStands stores.old.catalog h → (made_at h target.now.table.number).shape ≡ Leaf leaf }
-    requires target { (h : History) → AllStand stores.old h → IsOwnTarget h caller.session target.now.table.number leaf target.now }
-    requires rows { AreRowsOf stores.old.catalog target.now.table rows.now }
-    requires locked { MayWrite stores.old caller.session (target.now.table ∷ []) }
-    ensures { IsStep (λ u. u) result stores.old stores.new caller (caller.cmd + 1) (into_leaf caller target.now.table.number leaf rows.now) }
+    requires known { table.number < length stores.old.catalog.tables }
+    requires leaf { (h : History) → CatalogueStands stores.old.catalog h → (made_at h table.number).shape ≡ Leaf leaf }
+    requires target { (h : History) → AllStand stores.old h → IsOwnTarget h caller.session table leaf target.now }
+    requires rows { AreRowsOf stores.old.catalog table rows.now }
+    requires locked { MayWrite stores.old caller.session (table ∷ []) }
+    ensures { IsStep (λ u. u) result stores.old stores.new caller (caller.cmd + 1) (into_leaf caller table.number leaf rows.now) }
 {
     match same_leaf(alloc, leaf, rows) {
         Ok(leaves) => put_rows(
@@ -96,7 +97,7 @@ pub(crate) fn store_in_leaf(
     ensures { IsStep (λ u. u) result stores.old stores.new caller (caller.cmd + 1) (into_leaf caller table.number leaf rows.now) }
 {
     match target_of(alloc, stores, caller, table, leaf) {
-        Ok(target) => store_for(alloc, stores, caller, &target, leaf, rows),
+        Ok(target) => store_for(alloc, stores, caller, table, &target, leaf, rows),
         Err(NoMemory) => Err(Stop::NoMemory),
     }
 }

@@ -13,6 +13,5 @@ mod rows;
 mod statement;
 mod stopping;
 mod storing;
-mod targets;
 
 pub use statement::insert;

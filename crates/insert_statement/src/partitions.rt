@@ -1,33 +1,33 @@
 //! Rows into a partitioned table.
 
-ghost use Rattle.std.specs.Prelude.{◌≡◌, ◌+◌, ◌<◌, ◌≤◌, ◌∷◌, [], All, IfOk, length};
+ghost use Rattle.std.specs.Prelude.{◌≡◌, ◌+◌, ◌<◌, ◌≤◌, All, IfOk, length, map};
 ghost use Rattle.pg_values.specs.Refusals.{IsAnswer};
 ghost use Rattle.part_bounds.specs.declared.level.Level.{Level as OneLevel};
+ghost use Rattle.pg_ids.specs.declared.lock_mode.LockMode.TheVariants.{RowExclusive};
 ghost use Rattle.history.specs.declared.catalogue.TableShape.TheVariants.{Level};
 ghost use Rattle.history.specs.History.{History};
 ghost use Rattle.part_catalog.specs.Found.{made_at};
-ghost use Rattle.table_trees.specs.Histories.{tree_of, path_of};
-ghost use Rattle.table_trees.specs.Seen.{seen};
-ghost use Rattle.tx_table.specs.Stands.{TableStands};
-ghost use Rattle.stores.specs.Events.{look_of};
-ghost use Rattle.table_trees.specs.Trees.{Fits};
 ghost use Rattle.part_catalog.specs.Stands.{CatalogueStands};
+ghost use Rattle.table_trees.specs.Seen.{seen};
+ghost use Rattle.table_trees.specs.Trees.{Fits};
 ghost use Rattle.row_change.specs.Placing.{all_placed, CanBePlaced, IsNumbered, IsPartNumbered};
-ghost use Rattle.row_change.specs.Ways.{ways_below};
+ghost use Rattle.row_change.specs.Targets.{HasWay};
+ghost use Rattle.row_change.specs.Ways.{AllTables, ways_below};
 ghost use Rattle.course.specs.Attempts.{MayAttempt};
+ghost use Rattle.statement_steps.specs.Asks.{all_locked};
+ghost use Rattle.statement_steps.specs.Known.{IsKnownTo};
 ghost use Rattle.statement_steps.specs.Steps.{IsStep};
 ghost use Rattle.insert_statement.specs.Inserted as inserted;
 ghost use Rattle.insert_statement.specs.Inserted.{tables_of};
-ghost use Rattle.insert_statement.specs.Asked.{ArePlaced, AreRowsOf, IsTreeFor, MayWrite};
+ghost use Rattle.insert_statement.specs.Asked.{ArePlaced, AreRowsOf, IsReadOf, IsTreeFor, MayLock, MayWrite};
 
 use crate::stopping::stop_by;
 use crate::storing::put_rows;
-use crate::targets::targets_below;
 use course::{Caller, Stop};
 use part_catalog::Catalog;
 use pg_ids::{LeafId, LockMode, TableNo};
 use pg_values::{NoMemory, Refusal, Row, Steps};
-use row_change::{LeafList, all_ways, place_rows};
+use row_change::{LeafList, all_ways, leaf_targets, place_rows};
 use statement_steps::{SessionNames, lock_tables};
 use std::alloc::Global;
 use std::marker::Brand;
@@ -49,7 +49,8 @@ fn place_from<L: Ledger>(
     requires name { blank.name ≡ L.name }
     requires parts { blank.parts ≡ L.parts }
     requires some { 0 < blank.parts }
-    ensures { (h : History) → CatalogueStands catalog.now h → IsAnswer result (all_placed (tables_of h) (seen tree.now) path.now rows.now) }
+    ensures told { (h : History) → CatalogueStands catalog.now h → IsAnswer result (all_placed (tables_of h) (seen tree.now) path.now rows.now) }
+    ensures ways { IfOk result (λ leaves. All (HasWay (seen tree.now)) leaves) }
 {
     let mut steps = Steps::<L>::new(blank);
     place_rows(alloc, catalog, tree, path, rows, &mut steps)
@@ -66,7 +67,8 @@ fn leaves_of(
     requires fits { All (CanBePlaced (seen tree.now) path.now) rows.now }
     requires path { All (IsPartNumbered (length catalog.now.tables)) path.now }
     requires known { IsNumbered (length catalog.now.tables) (seen tree.now) }
-    ensures { (h : History) → CatalogueStands catalog.now h → IsAnswer result (all_placed (tables_of h) (seen tree.now) path.now rows.now) }
+    ensures told { (h : History) → CatalogueStands catalog.now h → IsAnswer result (all_placed (tables_of h) (seen tree.now) path.now rows.now) }
+    ensures ways { IfOk result (λ leaves. All (HasWay (seen tree.now)) leaves) }
 {
     place_from::<Brand>(alloc, catalog, tree, path, rows, Blank::new(1))
 }
@@ -105,12 +107,36 @@ fn store_in_leaves(
     rows: &[Row],
 ) -> Result<(), Stop>
     requires may { MayAttempt stores.old caller }
-    requires placed { ArePlaced stores.old caller (seen tree.now) leaves.now rows.now }
+    requires placed { ArePlaced stores.old.txs stores.old.catalog caller (seen tree.now) leaves.now rows.now }
     requires locked { MayWrite stores.old caller.session (ways_below (seen tree.now) rows.now) }
     ensures { IsStep (λ u. u) result stores.old stores.new caller (caller.cmd + 1) (inserted.into_leaves caller (seen tree.now) leaves.now rows.now) }
 {
-    match targets_below(alloc, stores, caller, tree, leaves) {
+    trees_are_together();
+    let catalog = &stores.catalog;
+    let session = caller.session;
+    match leaf_targets(alloc, catalog, &stores.txs, session, tree, leaves) {
         Ok(targets) => put_rows(alloc, stores, caller, &targets, leaves, rows),
+        Err(NoMemory) => Err(Stop::NoMemory),
+    }
+}
+
+// The tables on the ways of the rows are locked.
+fn lock_ways(
+    alloc: Global,
+    stores: &mut Stores,
+    names: &SessionNames,
+    caller: Caller,
+    tree: &Tree,
+    rows: &[Row],
+) -> Result<(), Stop>
+    requires may { MayAttempt stores.old caller }
+    requires fits { All (λ row. Fits row (seen tree.now)) rows.now }
+    requires tables { AllTables (MayLock stores.old caller.session) (seen tree.now) }
+    ensures step { IsStep (λ u. u) result stores.old stores.new caller caller.cmd (all_locked names.now caller.session RowExclusive (map (λ t. t.number) (ways_below (seen tree.now) rows.now))) }
+    ensures rest { stores.new ≡ record stores.old { locks = stores.new.locks } }
+{
+    match ways_of(alloc, tree, rows) {
+        Ok(ways) => lock_tables(alloc, stores, names, caller, &ways, LockMode::RowExclusive),
         Err(NoMemory) => Err(Stop::NoMemory),
     }
 }
@@ -126,16 +152,13 @@ fn lock_and_store(
     rows: &[Row],
 ) -> Result<(), Stop>
     requires may { MayAttempt stores.old caller }
-    requires few { length stores.old.catalog.tables ≤ 4096 }
-    requires placed { ArePlaced stores.old caller (seen tree.now) leaves.now rows.now }
+    requires tables { AllTables (MayLock stores.old caller.session) (seen tree.now) }
+    requires placed { ArePlaced stores.old.txs stores.old.catalog caller (seen tree.now) leaves.now rows.now }
     ensures { IsStep (λ u. u) result stores.old stores.new caller (caller.cmd + 1) (inserted.locked_into names.now caller (seen tree.now) leaves.now rows.now) }
 {
-    match ways_of(alloc, tree, rows) {
-        Ok(ways) => match lock_tables(alloc, stores, names, caller, &ways, LockMode::RowExclusive) {
-            Ok(()) => store_in_leaves(alloc, stores, caller, tree, leaves, rows),
-            Err(stop) => Err(stop),
-        },
-        Err(NoMemory) => Err(Stop::NoMemory),
+    match lock_ways(alloc, stores, names, caller, tree, rows) {
+        Ok(()) => store_in_leaves(alloc, stores, caller, tree, leaves, rows),
+        Err(stop) => Err(stop),
     }
 }
 
@@ -150,8 +173,8 @@ fn store_by_tree(
     rows: &[Row],
 ) -> Result<(), Stop>
     requires may { MayAttempt stores.old caller }
-    requires few { length stores.old.catalog.tables ≤ 4096 }
-    requires tree { IsTreeFor stores.old caller (seen tree.now) path.now rows.now }
+    requires tables { AllTables (MayLock stores.old caller.session) (seen tree.now) }
+    requires tree { IsTreeFor stores.old.txs stores.old.catalog caller (seen tree.now) path.now rows.now }
     ensures { IsStep (λ u. u) result stores.old stores.new caller (caller.cmd + 1) (inserted.below names.now caller (seen tree.now) path.now rows.now) }
 {
     match leaves_of(alloc, &stores.catalog, tree, path, rows) {
@@ -169,8 +192,7 @@ fn tree_and_path(
 ) -> Result<(Tree, Vec<PathPart>), NoMemory>
     requires may { MayAttempt stores.now caller }
     requires known { table.number < length stores.now.catalog.tables }
-    ensures { IfOk result (λ found. (h : History) → TableStands stores.now.txs h → CatalogueStands stores.now.catalog h →
-        (seen found.0 ≡ tree_of h caller.session table.number (look_of h caller.session caller.cmd)) × (found.1.items ≡ path_of h caller.session table.number)) }
+    ensures { IfOk result (λ found. IsReadOf stores.now.txs stores.now.catalog caller table (seen found.0) found.1.items) }
 {
     trees_are_together();
     let look = stores.look(alloc, caller.session, caller.cmd)?;
@@ -191,7 +213,7 @@ pub(crate) fn store_below(
     rows: &[Row],
 ) -> Result<(), Stop>
     requires may { MayAttempt stores.old caller }
-    requires known { table.number < length stores.old.catalog.tables }
+    requires there { IsKnownTo stores.old caller.session table.number }
     requires few { length stores.old.catalog.tables ≤ 4096 }
     requires level { (h : History) → CatalogueStands stores.old.catalog h → (level : OneLevel) × ((made_at h table.number).shape ≡ Level level) }
     requires rows { AreRowsOf stores.old.catalog table rows.now }

@@ -11,6 +11,7 @@ ghost use Rattle.insert_statement.specs.Inserted as inserted;
 ghost use Rattle.insert_statement.specs.Asked.{AreRowsOf};
 
 use crate::stopping::stop_by;
+use ask_laws::inserts_fit;
 use change_binder::bind_insert;
 use course::{Caller, Stop};
 use expression_binder::{Param, ScopeColumn};
@@ -89,6 +90,7 @@ pub(crate) fn rows_meant(
     ensures step { IsStep (λ rows. rows) result stores.now stores.now caller caller.cmd (inserted.rows_meant params.now caller.session table.number statement.now.columns (map trees statement.now.rows)) }
     ensures of { IfOk result (λ rows. AreRowsOf stores.now.catalog table rows) }
 {
+    inserts_fit();
     let columns = stores.catalog.table(table).columns.as_slice();
     match rows_for(alloc, columns, params, caller.session, statement) {
         Ok(rows) => Ok(rows),

@@ -5,7 +5,8 @@ ghost use Rattle.history.specs.History.{History};
 ghost use Rattle.part_catalog.specs.Stands.{CatalogueStands};
 ghost use Rattle.sql_expressions.specs.Tree.{trees};
 ghost use Rattle.course.specs.Attempts.{MayAttempt};
-ghost use Rattle.statement_steps.specs.Steps.{IsStep};
+ghost use Rattle.statement_steps.specs.Known.{IsKnownTo};
+ghost use Rattle.statement_steps.specs.Steps.{IsStep, follow};
 ghost use Rattle.insert_statement.specs.Inserted as inserted_spec;
 ghost use Rattle.part_catalog.specs.Found.{made_at};
 ghost use Rattle.insert_statement.specs.Inserted.{inserted};
@@ -47,7 +48,7 @@ fn store_into(
     rows: &[Row],
 ) -> Result<(), Stop>
     requires may { MayAttempt stores.old caller }
-    requires known { table.number < length stores.old.catalog.tables }
+    requires there { IsKnownTo stores.old caller.session table.number }
     requires few { length stores.old.catalog.tables ≤ 4096 }
     requires rows { AreRowsOf stores.old.catalog table rows.now }
     requires locked { MayWrite stores.old caller.session (table ∷ []) }
@@ -56,6 +57,29 @@ fn store_into(
     match leaf_of(&stores.catalog, table) {
         Some(leaf) => store_in_leaf(alloc, stores, caller, table, leaf, rows),
         None => store_below(alloc, stores, names, caller, table, rows),
+    }
+}
+
+// The values are computed, and the rows go into the table, which is locked.
+fn insert_rows(
+    alloc: Global,
+    stores: &mut Stores,
+    names: &SessionNames,
+    params: &[Param],
+    caller: Caller,
+    table: TableNo,
+    statement: &Insert,
+) -> Result<(), Stop>
+    requires may { MayAttempt stores.old caller }
+    requires there { IsKnownTo stores.old caller.session table.number }
+    requires few { length stores.old.catalog.tables ≤ 4096 }
+    requires locked { MayWrite stores.old caller.session (table ∷ []) }
+    ensures { IsStep (λ u. u) result stores.old stores.new caller (caller.cmd + 1)
+        (follow (inserted_spec.rows_meant params.now caller.session table.number statement.now.columns (map trees statement.now.rows)) (λ rows. inserted_spec.into names.now caller table.number rows)) }
+{
+    match rows_meant(alloc, stores, params, caller, table, statement) {
+        Ok(rows) => store_into(alloc, stores, names, caller, table, rows.as_slice()),
+        Err(stop) => Err(stop),
     }
 }
 
@@ -74,10 +98,7 @@ fn insert_into(
 {
     let name = statement.table.as_bytes();
     match lock_named(alloc, stores, names, caller, name, LockMode::RowExclusive) {
-        Ok(table) => match rows_meant(alloc, stores, params, caller, table, statement) {
-            Ok(rows) => store_into(alloc, stores, names, caller, table, rows.as_slice()),
-            Err(stop) => Err(stop),
-        },
+        Ok(table) => insert_rows(alloc, stores, names, params, caller, table, statement),
         Err(stop) => Err(stop),
     }
 }

@@ -1,10 +1,7 @@
-ghost use Rattle.std.specs.Prelude.{◌≡◌, ◌+◌, ◌<◌, All, length};
-ghost use Rattle.history.specs.History.{History};
-ghost use Rattle.row_change.specs.Storing.{FitsTargets, IsLeafKnown, IsTargetNumbered};
-ghost use Rattle.stores.specs.Stand.{Stands};
+ghost use Rattle.std.specs.Prelude.{◌+◌};
 ghost use Rattle.course.specs.Attempts.{MayAttempt};
 ghost use Rattle.statement_steps.specs.Steps.{IsStep};
-ghost use Rattle.insert_statement.specs.Asked.{MayPut, put};
+ghost use Rattle.insert_statement.specs.Asked.{MayStore, put};
 
 use crate::stopping::stop_by;
 use course::{Caller, Stop};
@@ -24,10 +21,7 @@ pub(crate) fn put_rows(
     rows: &[Row],
 ) -> Result<(), Stop>
     requires may { MayAttempt stores.old caller }
-    requires fits { All (FitsTargets targets.now) rows.now }
-    requires targets { All (IsTargetNumbered (length stores.old.catalog.tables)) targets.now }
-    requires leaves { All (IsLeafKnown stores.old.rows.leaves) leaves.now }
-    requires put { (h : History) → Stands stores.old h → MayPut h caller.session targets.now leaves.now rows.now }
+    requires rows { MayStore stores.old caller.session targets.now leaves.now rows.now }
     ensures { IsStep (λ u. u) result stores.old stores.new caller (caller.cmd + 1) (put targets.now caller leaves.now rows.now) }
 {
     let Some(by) = stores.txs.open_of(caller.session) else {
