@@ -74,19 +74,19 @@ fault_answer (Sql f) w is = is
 fault_answer NoMemory w is = tt
 
 -- what is left to be told behind each answer
-abbrev after_own_level : History → (s p : ℕ) → MeantBound → Option Level → Result Place Fault
+abbrev pub after_own_level : History → (s p : ℕ) → MeantBound → Option Level → Result Place Fault
 after_own_level h s p bound own_level = unless_faults (beside_default (default_of h s p)) (place_with bound own_level)
 
-abbrev after_bound : History → (s p : ℕ) → Option Partitioning → MeantBound → Result Place Fault
+abbrev pub after_bound : History → (s p : ℕ) → Option Partitioning → MeantBound → Result Place Fault
 after_bound h s p by bound = next_answer (level_by (made_at h p).columns by) (after_own_level h s p bound)
 
-abbrev after_count : History → (s p : ℕ) → Bound → Option Partitioning → Level → Result Place Fault
+abbrev pub after_count : History → (s p : ℕ) → Bound → Option Partitioning → Level → Result Place Fault
 after_count h s p b by level = next_answer (placed_bound h s p level b) (after_bound h s p by)
 
-abbrev after_free : History → (s p : ℕ) → Bound → Option Partitioning → Level → Unit {0} → Result Place Fault
+abbrev pub after_free : History → (s p : ℕ) → Bound → Option Partitioning → Level → Unit {0} → Result Place Fault
 after_free h s p b by level u = unless_faults (count_faults h) (after_count h s p b by level)
 
-abbrev after_level : History → (s : ℕ) → (name : List ℕ) → (p : ℕ) → Bound → Option Partitioning → Level → Result Place Fault
+abbrev pub after_level : History → (s : ℕ) → (name : List ℕ) → (p : ℕ) → Bound → Option Partitioning → Level → Result Place Fault
 after_level h s name p b by level = next_answer (free_name h s name) (after_free h s p b by level)
 
 module _ (r : Result HeldPlace Refusal) (h : History) (s : ℕ) (name : List ℕ) (p : ℕ) (b : Bound) (by : Option Partitioning) where

@@ -1,4 +1,4 @@
-ghost use Rattle.std.specs.Prelude.{◌≡◌, ◌+◌, ◌<◌, ◌≤◌, ◌&&◌, false, ◌++◌, ◌∷◌, [], Some, is_none, All, IfOk, IfSome, OnOk, length, map};
+ghost use Rattle.std.specs.Prelude.{◌≡◌, ◌+◌, ◌<◌, ◌≤◌, ◌&&◌, false, ◌++◌, Some, is_none, All, IfOk, IfSome, OnOk, length, map};
 ghost use Rattle.std.specs.Option.{option_to_list};
 ghost use Rattle.history.specs.History.{History};
 ghost use Rattle.tx_table.specs.Stands.{TableStands};
@@ -116,13 +116,6 @@ fn lock_for(
     }
 }
 
-fn push_table(tables: &mut Vec<TableNo>, table: TableNo) -> Result<(), NoMemory>
-    ensures { OnOk result (tables.new.items ≡ tables.old.items ++ table ∷ []) }
-{
-    tables.push(table)?;
-    Ok(())
-}
-
 // A part: a named table, where it is there, and what its drop needs is locked.
 fn lock_to_drop(
     alloc: Global,
@@ -204,8 +197,7 @@ fn lock_all_to_drop(
     let mut left = tables;
     while let Some((name, others)) = left.split_first() {
         match lock_if_there(alloc, stores, names, caller, if_there, name.as_bytes()) {
-            Ok(None) => left = others,
-            Ok(Some(table)) => match push_table(&mut found, table) {
+            Ok(table) => match push_if_some(&mut found, table) {
                 Ok(()) => left = others,
                 Err(NoMemory) => return Err(Stop::NoMemory),
             },
@@ -239,15 +231,14 @@ fn drop_one(
     ensures rest { stores.new ≡ record stores.old { catalog = stores.new.catalog } }
 {
     named_is_there();
-    listed_is_there();
     tree_is_whole();
     table_drop_may_follow();
     locked_tables_may_go();
     let Stores { txs, catalog, .. } = stores;
-    if is_left(catalog, txs, caller.session, table) {
-        return drop_table(alloc, catalog, txs, table, by, caller.cmd);
+    if !is_left(catalog, txs, caller.session, table) {
+        return Ok(());
     }
-    Ok(())
+    drop_table(alloc, catalog, txs, table, by, caller.cmd)
 }
 
 // The last part: the tables go, one after the other.
@@ -261,7 +252,6 @@ fn drop_all(
     requires drops { All (MayDropTable stores.old caller.session) tables.now }
     ensures { IsStep (λ u. u) result stores.old stores.new caller (caller.cmd + 1) (drops.dropped_all caller (map (λ t. t.number) tables.now)) }
 {
-    listed_is_there();
     tree_is_whole();
     let Some(by) = stores.txs.open_of(caller.session) else {
         unreachable!()

@@ -158,10 +158,10 @@ fn place_of(
     ensures free { IfOk result (λ place. (h : History) → TableStands txs.now h → CatalogueStands catalog.now h → MayBeMade h session name.now) }
     ensures may { IfOk result (λ place. (h : History) → TableStands txs.now h → CatalogueStands catalog.now h → MayBePlaced h session parent.number place.bound place.level) }
 {
-    let level = parent_level(alloc, catalog, parent)?;
+    let above = parent_level(alloc, catalog, parent)?;
     check_free(alloc, catalog, txs, session, name)?;
     check_count(alloc, catalog)?;
-    let bound = bind_bound(alloc, bound, level)?;
+    let bound = bind_bound(alloc, bound, above)?;
     check_place(alloc, catalog, txs, parent, &bound, session)?;
     let level = level_by(alloc, catalog.table(parent).columns.as_slice(), by)?;
     check_default(alloc, catalog, txs, parent, session)?;
