@@ -8,15 +8,19 @@ use Rattle.std.proofs.lemmas.List.{map-append}
 use Rattle.std.proofs.lemmas.List.Elements.{All-nil, All-cons, All-append, All-contains, All-contains_itself, All-filter, Contains-get_or, Contains-append_left, Contains-append_right, filter_passes}
 use Rattle.pg_ids.specs.declared.ids.TableNo.{TableNo}
 use Rattle.pg_ids.specs.declared.lock_mode.LockMode.TheVariants.{AccessExclusive}
+use Rattle.part_bounds.specs.declared.partition_bound.Bound.{Bound}
 use Rattle.history.specs.declared.catalogue.Entry.{Entry}
+use Rattle.history.specs.declared.catalogue.TableShape.{TableShape}
+use Rattle.history.specs.declared.catalogue.TableShape.TheVariants.{Leaf, Level}
 use Rattle.history.specs.Transactions.{open_of}
 use Rattle.history.specs.Catalogue.{tables_made, entries_added}
 use Rattle.history.specs.History.{History, tx_events, catalogue_events}
 use Rattle.history.specs.Legal.{IsLegal}
-use Rattle.history.specs.Places.{AreCatalogueSound, Suits}
+use Rattle.history.specs.Places.{table_at, AreCatalogueSound, Suits}
 use Rattle.history.specs.Presence.{is_present, entries_present}
 use Rattle.table_trees.specs.Trees.{TableTree, LeafTable, LevelTable, Trees, End, More}
-use Rattle.table_trees.specs.Histories.{ddl_tree, children, above, is_over}
+use Rattle.table_trees.specs.declared.node.Node.{Node}
+use Rattle.table_trees.specs.Histories.{table_of, ddl_tree, tree_within, grown, node_at, bound_of, child_of_entry, children, above, is_over}
 use Rattle.table_trees.proofs.Order.{all_children, under_children}
 use Rattle.table_trees.proofs.Suited.{all_suit}
 use Rattle.tx_table.specs.Kept.{KeptTable}
@@ -173,6 +177,18 @@ mutual
 
 pub from_numbers : (h : History) (s top : ℕ) → map (λ (y : TableNo). y.number) (tables_from h s top) ≡ numbers_from h s top
 from_numbers h s top = ap (map number) (same_tables (ddl_tree h s top))
+
+-- a table and those under it
+whole_grown : (shape : TableShape) (node : Node) (bounds : List Bound) (kids : List TableTree) → node.table ∷ ddl.below_top (grown shape node bounds kids) ≡ ddl.tables_in (grown shape node bounds kids)
+whole_grown (Leaf leaf) node bounds kids = refl
+whole_grown (Level level) node bounds kids = refl
+
+pub with_top : (h : History) (s t : ℕ) → table_of t ∷ ddl.tables_under h s t ≡ tables_from h s t
+unfolding ddl_tree
+with_top h s t =
+    let tables = tables_made (catalogue_events h) in
+    let es = children (entries_present h s) t in
+    whole_grown (table_at tables t).shape (node_at tables t t) (map bound_of es) (map (λ e. tree_within 6 tables (entries_present h s) t (child_of_entry e)) es)
 
 -- ---- what the session has at a history
 
