@@ -223,10 +223,6 @@ left_events : (b : Bool) (es : List Event) → b ≡ true → (if b then es else
 left_events true es is = refl
 left_events false es is = absurd (cc)
 
-gone_events : (b : Bool) (es : List Event) → b ≡ false → (if b then es else []) ≡ []
-gone_events true es is = absurd (cc)
-gone_events false es is = refl
-
 pub goes : DropLaws → (old : Stores) (catalog : KeptCatalogue) (caller : Caller) (t : ℕ) (by : TxId) (b : Bool) → ((h : History) → TableStands old.txs h → CatalogueStands old.catalog h → b ≡ is_left h caller.session t) → b ≡ true → DropsIn old catalog caller t by
     → (h : History) → Stands old h → IsGoing h caller by t → Stands (record old { catalog = catalog }) (going_events caller t h ++ h)
 goes laws old catalog caller t by b test passes drops h stands going =
@@ -246,12 +242,6 @@ goes laws old catalog caller t by b test passes drops h stands going =
     } in
     subst (λ (es : List Event). Stands (record old { catalog = catalog }) (es ++ h)) (sym (left_events (is_left h s t) (drop_events h s t st) left))
     (deed_stands old old.rows catalog s by.number caller.cmd (drop_events h s t st) h stands going.own deed)
-
--- it has gone already
-pub goes_not : (old : Stores) (caller : Caller) (t : ℕ) (b : Bool) → ((h : History) → TableStands old.txs h → CatalogueStands old.catalog h → b ≡ is_left h caller.session t) → b ≡ false → (h : History) → Stands old h → Stands old (going_events caller t h ++ h)
-goes_not old caller t b test fails h stands =
-    let gone : is_left h caller.session t ≡ false = sym (test h stands.all.txs stands.all.catalog) ∙ fails in
-    subst (λ (es : List Event). Stands old (es ++ h)) (sym (gone_events (is_left h caller.session t) (drop_events h caller.session t (stamp caller h)) gone)) stands
 
 -- ---- the other tables behind it
 

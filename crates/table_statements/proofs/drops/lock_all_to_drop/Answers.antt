@@ -1,4 +1,4 @@
-use Rattle.std.proofs.Common.{◌≡◌, ◌∷◌, [], List, ℕ, rules, sym, subst, Err}
+use Rattle.std.proofs.Common.{◌≡◌, ◌∷◌, [], List, ℕ, rules, sym, subst, Ok, Err}
 use Rattle.pg_ids.specs.declared.ids.TableNo.{TableNo}
 use Rattle.statement_steps.specs.Steps.{IsStep}
 use Rattle.statement_steps.proofs.Parts.{no_memory}
@@ -10,7 +10,9 @@ use Rattle.table_statements.proofs.drops.lock_all_to_drop.Goals as goal
 use Rattle.table_statements.proofs.drops.lock_all_to_drop.Goals.{In-Some, In_default}
 
 pub loop-name-init : goal.loop-name-init
-loop-name-init c = all_left c.args.stores.now c.args.caller c.args.names.now c.args.if_there c.args.tables.now c.requires.may c.requires.few
+loop-name-init c =
+    subst (λ (ts : List TableNo). IsLeft c.args.stores.now c.args.stores.now c.args.caller c.args.names.now c.args.if_there c.args.tables.now c.args.tables.now ts) (sym c.new-found.ensures.items)
+    (all_left c.args.stores.now c.args.caller c.args.names.now c.args.if_there c.args.tables.now c.requires.may c.requires.few)
 
 -- what is left begins with the name
 at_name : (c : In-Some) → IsLeft c.args.stores.now c.loop-name.stores c.args.caller c.args.names.now c.args.if_there c.args.tables.now (c.in-Some.name.now ∷ c.in-Some.others.now) c.loop-name.found.items
@@ -27,7 +29,7 @@ lock_if_there-requires-clause-few c = c.loop-name.invariant.few
 pub loop-name-preserved : goal.loop-name-preserved
 loop-name-preserved c =
     let left = at_name (goal.at.loop-name-preserved c).In-Some in
-    let step = subst (λ (n : List ℕ). IsStep one_or_none c.lock_if_there.result c.loop-name.stores c.lock_if_there.new.stores c.args.caller c.args.caller.cmd (found_one c.args.names.now c.args.caller.session c.args.if_there n)) c.as_bytes.ensures c.lock_if_there.ensures.step in
+    let step = subst (λ (n : List ℕ). IsStep one_or_none (Ok c.in-Ok.table) c.loop-name.stores c.lock_if_there.new.stores c.args.caller c.args.caller.cmd (found_one c.args.names.now c.args.caller.session c.args.if_there n)) c.as_bytes.ensures c.in-Ok.ensures.step in
     subst (λ (ts : List TableNo). IsLeft c.args.stores.now c.lock_if_there.new.stores c.args.caller c.args.names.now c.args.if_there c.args.tables.now c.in-Some.others.now ts) (sym c.in-Ok-push_if_some.ensures)
     (one_less c.args.stores.now c.loop-name.stores c.lock_if_there.new.stores c.args.caller c.args.names.now c.args.if_there c.args.tables.now c.in-Some.name.now c.in-Some.others.now c.loop-name.found.items c.in-Ok.table
     left step c.lock_if_there.ensures.rest c.in-Ok.ensures.drop)
