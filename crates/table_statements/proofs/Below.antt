@@ -1,13 +1,10 @@
 -- Tables and entries that are there for the session, and which of them it may ask for.
-use Rattle.std.proofs.Common.{◌≡◌, ◌≢◌, ℕ, zero, suc, ◌<◌, ◌≤◌, Bool, true, false, List, [], ◌∷◌, ◌++◌, inl, inr, refl, sym, ap, ◌∙◌, subst, arith, Option, Some, None, All, IfSome, find, filter, map, length, option_map, slice_index_or}
+use Rattle.std.proofs.Common.{◌≡◌, ℕ, zero, suc, ◌<◌, ◌≤◌, Bool, true, List, [], ◌∷◌, ◌++◌, inl, inr, refl, sym, ap, ◌∙◌, subst, arith, Option, Some, None, All, IfSome, find, map, length, option_map, slice_index_or}
 use Rattle.std.specs.List.{Contains}
 use Rattle.std.specs.Option.{option_to_list}
 use Rattle.std.proofs.lemmas.Bool.{cases_Bool}
-use Rattle.std.proofs.lemmas.Bool.Decides.{nat_tests}
-use Rattle.std.proofs.lemmas.List.{map-append}
-use Rattle.std.proofs.lemmas.List.Elements.{All-nil, All-cons, All-append, All-contains, All-contains_itself, All-filter, Contains-get_or, Contains-append_left, Contains-append_right, filter_passes}
+use Rattle.std.proofs.lemmas.List.Elements.{All-nil, All-cons, All-append, All-contains, All-contains_itself, All-filter, Contains-get_or}
 use Rattle.pg_ids.specs.declared.ids.TableNo.{TableNo}
-use Rattle.pg_ids.specs.declared.lock_mode.LockMode.TheVariants.{AccessExclusive}
 use Rattle.part_bounds.specs.declared.partition_bound.Bound.{Bound}
 use Rattle.history.specs.declared.catalogue.Entry.{Entry}
 use Rattle.history.specs.declared.catalogue.TableShape.{TableShape}

@@ -1,5 +1,5 @@
 -- The answers of several tests, one after another.
-use Rattle.std.proofs.Common.{◌≡◌, ℕ, ◌<◌, List, [], ◌∷◌, refl, sym, ap, ◌∙◌, subst, arith, Option, Some, None, Result, Ok, Err, length, option_map}
+use Rattle.std.proofs.Common.{◌≡◌, ℕ, List, [], ◌∷◌, refl, ap, ◌∙◌, arith, Option, Some, None, Result, Ok, Err, length}
 use native.Mathlib.Nat.{ℕ_set}
 use Rattle.pg_values.specs.Refusals.{IsAnswer}
 use Rattle.pg_values.specs.declared.fault.Fault.{Fault}
@@ -30,7 +30,7 @@ use Rattle.table_statements.specs.Refused.{next_answer, unless_faults, free_name
 use Rattle.table_statements.specs.Seen.{seen_place}
 use Rattle.table_statements.specs.declared.partitions.Place.{Place as HeldPlace}
 use Rattle.table_statements.specs.Tables.{Plan, level_of, level_with, some_level, level_by, plan_with, columns_and_key, table_plan}
-use Rattle.table_statements.proofs.Firsts.{by_view, past_ok, past_none, stops_at, both_told, none_told, may_be_made}
+use Rattle.table_statements.proofs.Firsts.{past_ok, past_none, both_told, none_told, may_be_made}
 
 -- ---- the level of a table
 

@@ -1,5 +1,5 @@
 -- What a command of the session's transaction does to the catalogue and to the leaves.
-use Rattle.std.proofs.Common.{◌≡◌, ◌≢◌, ℕ, ◌+◌, ◌<◌, List, [], ◌∷◌, ◌++◌, refl, sym, ap, ◌∙◌, subst, arith, append_assoc, append-nil, Option, Some, None, Result, Ok, Err, All}
+use Rattle.std.proofs.Common.{◌≡◌, ◌≢◌, ℕ, ◌+◌, ◌<◌, List, [], ◌∷◌, ◌++◌, refl, sym, ap, ◌∙◌, subst, arith, append-nil, Option, Some, Ok, Err, All}
 use Rattle.std.proofs.lemmas.List.Elements.{All-nil, All-cons}
 use Rattle.pg_values.specs.declared.fault.Fault.{Fault}
 use Rattle.pg_values.specs.declared.fault.Refusal.{Refusal}
@@ -19,16 +19,15 @@ use Rattle.row_store.specs.Stands.{StoreStands}
 use Rattle.part_catalog.specs.Kept.{KeptCatalogue}
 use Rattle.part_catalog.specs.Stands.{CatalogueStands}
 use Rattle.part_ddl.specs.Made.{made_by, IsMade}
-use Rattle.legal_statements.specs.Follows.{MayCome, MayFollow}
+use Rattle.legal_statements.specs.Follows.{MayFollow}
 use Rattle.stores.specs.Good.{IsActing, IsHoused, IsGood}
 use Rattle.stores.specs.Numbers.{IsEarlier, IsBefore, IsAt}
 use Rattle.stores.specs.Stand.{Stands}
 use Rattle.stores.specs.declared.stores.Stores.{Stores}
 use Rattle.stores.proofs.Commands.{goes_on}
 use Rattle.course.specs.Made.{Made, made}
-use Rattle.course.specs.Attempts.{MayAttempt, WentOn, GoesOn}
+use Rattle.course.specs.Attempts.{MayAttempt, WentOn}
 use Rattle.course.specs.declared.caller.Caller.{Caller}
-use Rattle.course.specs.declared.stop.Stop.TheVariants as stop
 use Rattle.statement_steps.specs.Steps.{IsStep}
 use Rattle.statement_steps.proofs.Parts.{own_tx, locks_same, no_memory}
 use Rattle.table_statements.specs.Asked.{stopped}

@@ -1,7 +1,6 @@
 -- One table goes with those under it.
-use Rattle.std.proofs.Common.{◌≡◌, ◌≢◌, ℕ, zero, suc, ◌+◌, ◌<◌, ◌==◌, Bool, true, false, if◌then◌else◌, List, [], ◌∷◌, ◌++◌, inl, inr, refl, sym, ap, ◌∙◌, subst, arith, append_assoc, append-nil, Option, Some, None, All, map, length, option_map, slice_index_or}
+use Rattle.std.proofs.Common.{◌≡◌, ℕ, zero, suc, ◌<◌, Bool, true, false, if◌then◌else◌, List, [], ◌∷◌, ◌++◌, inl, inr, refl, sym, ap, ◌∙◌, subst, arith, Option, Some, None, length, slice_index_or}
 use Rattle.std.specs.List.{Contains}
-use Rattle.std.proofs.lemmas.Bool.Decides.{nat_tests}
 use Rattle.std.proofs.lemmas.List.Elements.{All-contains, Contains-get_or}
 use Rattle.pg_ids.specs.declared.ids.TableNo.{TableNo}
 use Rattle.pg_ids.specs.declared.lock_mode.LockMode.TheVariants.{AccessExclusive}
@@ -16,28 +15,26 @@ use Rattle.history.specs.History.{Event, History, TxChange, SnapshotChange, RowC
 use Rattle.history.specs.Legal.{IsInOrder, IsLegal}
 use Rattle.history.specs.Presence.{counts, entries_present}
 use Rattle.history.proofs.Open.{open_own}
-use Rattle.table_trees.specs.Histories.{above, is_over}
+use Rattle.table_trees.specs.Histories.{is_over}
 use Rattle.tx_table.specs.Stands.{TableStands, IsOpen}
 use Rattle.row_store.specs.Kept.{KeptRows}
 use Rattle.row_store.specs.Stands.{StoreStands}
-use Rattle.soundness.specs.Legal.{ArePermitted, HasTable, Below}
+use Rattle.soundness.specs.Legal.{HasTable, Below}
 use Rattle.soundness.specs.Worlds.{World, Present, view}
 use Rattle.soundness.proofs.Listed.{present_listed}
 use Rattle.soundness.proofs.Presence.{all_present}
 use Rattle.soundness.proofs.Sound.{catalogue_sound_of, sound_of}
-use Rattle.part_catalog.specs.Found.{made_at, resolved, table_number}
+use Rattle.part_catalog.specs.Found.{made_at, resolved}
 use Rattle.part_catalog.specs.Kept.{KeptCatalogue}
 use Rattle.part_catalog.specs.Stands.{CatalogueStands}
 use Rattle.part_ddl.specs.Below.{tables_from}
 use Rattle.part_ddl.specs.Dropped.{MayDrop, drop_events}
 use Rattle.part_ddl.proofs.Making.{table_count}
 use Rattle.drop_laws.specs.Laws.{LockedTablesMayGo}
-use Rattle.legal_statements.specs.Below.{numbers_from}
-use Rattle.legal_statements.specs.Drops.{IsTableDrop, table_drop}
+use Rattle.legal_statements.specs.Drops.{IsTableDrop}
 use Rattle.legal_statements.specs.Follows.{MayFollow}
 use Rattle.legal_statements.specs.Laws.{NamedIsThere, TreeIsWhole, TableDropMayFollow}
 use Rattle.legal_statements.proofs.Holding.{owns_of, guards_of}
-use Rattle.stores.specs.Events.{tx_in}
 use Rattle.stores.specs.Good.{IsHoused, IsGood}
 use Rattle.stores.specs.Numbers.{IsAt}
 use Rattle.stores.specs.Stand.{Stands}
@@ -47,7 +44,6 @@ use Rattle.stores.proofs.Goodness.{legal_of, permitted_of}
 use Rattle.course.specs.declared.caller.Caller.{Caller}
 use Rattle.table_statements.specs.Asked.{MayDropTable, IsGoing, MayGo}
 use Rattle.table_statements.specs.Drops.{stamp, is_meant_still, is_left, dropped_one}
-use Rattle.table_statements.specs.Tables.{own}
 use Rattle.table_statements.proofs.Below.{found_in, mapped_in, from_numbers}
 use Rattle.table_statements.proofs.Deeds.{Each, IsDone, AreHoused, IsDeed, quiet, in_order_after, deed_stands}
 use Rattle.table_statements.proofs.Ends.{each_gone, drop_same, same_number}

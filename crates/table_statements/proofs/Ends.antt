@@ -14,9 +14,9 @@ use Rattle.history.specs.History.{Event, History, CatalogueChange, tx_events, ca
 use Rattle.history.specs.Places.{AreCatalogueSound}
 use Rattle.history.specs.Presence.{counts, stamp_counts, is_present, entries_present}
 use Rattle.table_trees.specs.Histories.{above, is_over}
-use Rattle.soundness.proofs.Listed.{none_in, first_in, later_in, cases_in}
+use Rattle.soundness.proofs.Listed.{first_in, later_in}
 use Rattle.part_ddl.specs.Below.{tables_from}
-use Rattle.part_ddl.specs.Dropped.{ended, place_ended, places_ended, tables_dropped, gone, drop_events}
+use Rattle.part_ddl.specs.Dropped.{ended, place_ended, places_ended, tables_dropped, drop_events}
 use Rattle.part_ddl.proofs.Standing.{numbered}
 use Rattle.legal_statements.specs.Below.{numbers_from}
 use Rattle.legal_statements.specs.Drops.{entries_end, tables_go, place_over, places_over, table_drop}

@@ -1,6 +1,5 @@
 -- A table that is made.
-use Rattle.std.proofs.Common.{◌≡◌, ℕ, ◌+◌, ◌<◌, List, [], ◌∷◌, ◌++◌, refl, sym, ap, ◌∙◌, subst, arith, Option, Some, None, Result, Ok, Err, option_map, unwrap_or}
-use Rattle.pg_values.specs.declared.fault.Fault.{Fault}
+use Rattle.std.proofs.Common.{◌≡◌, ℕ, ◌+◌, List, [], ◌++◌, refl, sym, ap, ◌∙◌, subst, arith, Option, Some, None, Result, Ok, Err, option_map, unwrap_or}
 use Rattle.pg_values.specs.declared.fault.Refusal.{Refusal}
 use Rattle.pg_ids.specs.declared.ids.TableNo.{TableNo}
 use Rattle.part_bounds.specs.declared.level.Level.{Level as OneLevel}
@@ -8,7 +7,7 @@ use Rattle.history.specs.declared.transaction.TxId.{TxId}
 use Rattle.history.specs.declared.catalogue.Column.{Column}
 use Rattle.history.specs.Transactions.{open_of}
 use Rattle.history.specs.Places.{KeysLieIn}
-use Rattle.history.specs.History.{History, tx_events, row_events, catalogue_events}
+use Rattle.history.specs.History.{History, tx_events}
 use Rattle.tx_table.specs.Stands.{TableStands}
 use Rattle.row_store.specs.Kept.{KeptRows}
 use Rattle.row_store.specs.Stands.{StoreStands}
@@ -23,7 +22,6 @@ use Rattle.stores.specs.Events.{tx_in}
 use Rattle.stores.specs.Good.{IsGood}
 use Rattle.stores.specs.Laws.{LeavesAreHoused}
 use Rattle.stores.specs.Numbers.{IsAt}
-use Rattle.stores.specs.Stand.{Stands}
 use Rattle.stores.specs.declared.stores.Stores.{Stores}
 use Rattle.stores.proofs.Commands.{commands_are_in_order}
 use Rattle.stores.proofs.Goodness.{legal_of}
@@ -31,7 +29,7 @@ use Rattle.course.specs.Attempts.{MayAttempt}
 use Rattle.course.specs.declared.caller.Caller.{Caller}
 use Rattle.statement_steps.specs.Steps.{IsStep}
 use Rattle.table_statements.specs.Asked.{MayBeMade, stopped}
-use Rattle.table_statements.specs.Tables.{Plan, own, table_made}
+use Rattle.table_statements.specs.Tables.{own, table_made}
 use Rattle.table_statements.proofs.Deeds.{Each, IsDone, AreHoused, IsDeed, deed_step, made_stands, not_made}
 use Rattle.table_statements.proofs.Firsts.{few_tables}
 

@@ -1,5 +1,5 @@
 -- Tables that are still to be locked, and those that are still to go, one after another.
-use Rattle.std.proofs.Common.{◌≡◌, ℕ, ◌+◌, ◌<◌, ◌==◌, ◌&&◌, Bool, true, false, if◌then◌else◌, List, [], ◌∷◌, ◌++◌, refl, sym, ap, ◌∙◌, subst, arith, append_assoc, append-nil, Option, Some, None, Result, Ok, Err, All, map, length, slice_index_or}
+use Rattle.std.proofs.Common.{◌≡◌, ℕ, ◌+◌, ◌<◌, ◌&&◌, Bool, true, false, List, [], ◌∷◌, ◌++◌, refl, sym, ap, ◌∙◌, subst, arith, append_assoc, append-nil, Option, Some, None, Result, Ok, Err, All, map, length, slice_index_or}
 use Rattle.std.specs.Prelude.{is_none, Vec, ◌≤◌}
 use Rattle.std.specs.List.{Contains}
 use Rattle.std.specs.Option.{option_to_list}
@@ -12,7 +12,7 @@ use Rattle.history.specs.declared.catalogue.Entry.{Entry}
 use Rattle.history.specs.Transactions.{open_of}
 use Rattle.history.specs.History.{Event, History, tx_events}
 use Rattle.history.specs.Presence.{entries_present}
-use Rattle.table_trees.specs.Histories.{above, is_over}
+use Rattle.table_trees.specs.Histories.{is_over}
 use Rattle.tx_table.specs.Stands.{TableStands}
 use Rattle.lock_table.specs.Kept.{KeptLocks}
 use Rattle.lock_table.specs.Stands.{IsIdle}
@@ -24,26 +24,24 @@ use Rattle.part_catalog.specs.Found.{resolved}
 use Rattle.part_catalog.specs.Stands.{CatalogueStands}
 use Rattle.part_ddl.specs.Below.{tables_from, default_of}
 use Rattle.part_ddl.proofs.Standing.{same_entries}
-use Rattle.legal_statements.specs.Below.{numbers_from}
 use Rattle.legal_statements.specs.Laws.{TreeIsWhole}
 use Rattle.stores.specs.Numbers.{IsAt}
 use Rattle.stores.specs.Stand.{Stands}
 use Rattle.stores.specs.declared.stores.Stores.{Stores}
-use Rattle.course.specs.Made.{Made, Halt, Refused, made, halted, behind, and_then}
+use Rattle.course.specs.Made.{Made, Halt, made, behind, and_then}
 use Rattle.course.specs.Attempts.{MayAttempt, GoesOn, LocksStay}
 use Rattle.course.specs.declared.caller.Caller.{Caller}
 use Rattle.course.specs.declared.stop.Stop.{Stop}
 use Rattle.course.specs.declared.stop.Stop.TheVariants as stop
 use Rattle.statement_steps.specs.Asks.{all_locked, found, meant_or_none}
-use Rattle.statement_steps.specs.Faults.{no_table}
-use Rattle.statement_steps.specs.Steps.{IsTold, IsHalted, IsStep, follow}
+use Rattle.statement_steps.specs.Steps.{IsTold, IsStep, follow}
 use Rattle.statement_steps.proofs.Parts.{stays, nothing_done, locks_same, no_memory}
 use Rattle.statement_steps.proofs.Steps.{goes_on, then_step, stop_step, may_go_on, halted_same}
 use Rattle.table_statements.specs.Asked.{IsLocked, MayDropTable, IsGoing, MayGo, to_lock, family_of, one_or_none, numbers}
 use Rattle.table_statements.specs.Partitions.{numbers_under, default_locked}
-use Rattle.table_statements.specs.Drops.{one_number, parent_in, default_beside, tables_to_lock, drop_locked, locked_one, found_one, found_all, dropped_one, dropped_all}
+use Rattle.table_statements.specs.Drops.{one_number, parent_in, default_beside, tables_to_lock, drop_locked, locked_one, found_one, found_all, dropped_all}
 use Rattle.table_statements.proofs.Below.{here_of, TreeLaws, from_numbers, unmapped_in, found_some}
-use Rattle.table_statements.proofs.Deeds.{Each, IsDone, each_append, quiet, went}
+use Rattle.table_statements.proofs.Deeds.{Each, IsDone, each_append, went}
 use Rattle.table_statements.proofs.Dropping.{IsEnding, going_events, going_ends, going_done, going_on, going_first}
 use Rattle.table_statements.proofs.Ends.{is_same, same_number}
 use Rattle.table_statements.proofs.Firsts.{same_step}

@@ -1,15 +1,13 @@
 -- A table that is made as a partition.
-use Rattle.std.proofs.Common.{◌≡◌, ◌≢◌, ℕ, ◌+◌, ◌<◌, ◌≤◌, ◌==◌, Bool, true, false, List, [], ◌∷◌, ◌++◌, inl, inr, refl, sym, ap, ◌∙◌, subst, arith, Option, Some, None, Result, Ok, Err, All, find, filter, map, length, option_map, slice_index_or}
+use Rattle.std.proofs.Common.{◌≡◌, ℕ, ◌+◌, ◌<◌, true, false, List, [], ◌∷◌, ◌++◌, inl, inr, refl, sym, ap, ◌∙◌, subst, arith, Option, Some, None, Result, Ok, Err, All, filter, map, length, slice_index_or}
 use Rattle.std.specs.List.{Contains}
 use Rattle.std.proofs.lemmas.Grind.{common_steps, elements}
 use Rattle.std.proofs.lemmas.Bool.Decides.{nat_tests}
 use Rattle.std.proofs.lemmas.List.{length-append}
 use Rattle.std.proofs.lemmas.List.Elements.{All-head, All-tail, All-contains, Contains-get_or}
-use Rattle.pg_values.specs.declared.fault.Fault.{Fault}
 use Rattle.pg_values.specs.declared.fault.Refusal.{Refusal}
 use Rattle.pg_ids.specs.declared.ids.TableNo.{TableNo}
 use Rattle.pg_ids.specs.declared.lock_mode.LockMode.TheVariants.{AccessExclusive}
-use Rattle.part_bounds.specs.Accepts.{is_default}
 use Rattle.part_bounds.specs.declared.level.Level.{Level as OneLevel}
 use Rattle.part_bounds.specs.declared.partition_bound.Bound.{Bound}
 use Rattle.part_bounds.specs.Levels.{IsOfLevel}
@@ -21,7 +19,7 @@ use Rattle.history.specs.declared.catalogue.TableShape.{TableShape}
 use Rattle.history.specs.declared.catalogue.TableShape.TheVariants.{Leaf, Level}
 use Rattle.history.specs.Transactions.{open_of, session_of}
 use Rattle.history.specs.Rows.{LeafAdded, leaf_count}
-use Rattle.history.specs.Catalogue.{CatalogueEvents, TableMade, TableDropped, EntryAdded, EntryEnded, EntryMarked, CheckKept, tables_made, entries_added, IsDropped}
+use Rattle.history.specs.Catalogue.{TableMade, TableDropped, EntryAdded, EntryEnded, EntryMarked, CheckKept, tables_made, IsDropped}
 use Rattle.history.specs.Locks.{holds}
 use Rattle.history.specs.History.{History, RowChange, CatalogueChange, TxChange, SnapshotChange, LockChange, tx_events, row_events, catalogue_events, lock_events}
 use Rattle.history.specs.Legal.{IsInOrder, IsLegal}
@@ -37,28 +35,25 @@ use Rattle.row_store.specs.Kept.{KeptRows}
 use Rattle.row_store.specs.Stands.{StoreStands}
 use Rattle.soundness.specs.Legal.{ArePermitted, HasTable}
 use Rattle.soundness.specs.Laws.{SessionsHaveSiblings}
-use Rattle.soundness.specs.Worlds.{view, table_in, IsMade, HasLeaf}
+use Rattle.soundness.specs.Worlds.{view, table_in, IsMade}
 use Rattle.soundness.proofs.Listed.{child_listed}
 use Rattle.soundness.proofs.Made.{made_more, same_table}
-use Rattle.soundness.proofs.Sound.{catalogue_sound_of, sound_of}
+use Rattle.soundness.proofs.Sound.{catalogue_sound_of}
 use Rattle.soundness.proofs.Worlds.{view_own}
-use Rattle.part_catalog.specs.Found.{made_at, resolved, table_number}
-use Rattle.part_catalog.specs.Full.{tables_above, HasPlace}
+use Rattle.part_catalog.specs.Found.{made_at, table_number}
 use Rattle.part_catalog.specs.Kept.{KeptCatalogue}
 use Rattle.part_catalog.specs.Stands.{CatalogueStands}
 use Rattle.part_ddl.specs.Below.{default_of, has_default_bound}
 use Rattle.part_ddl.specs.Laws.{PassedHavePlaces, IsNoDefaultBeside}
 use Rattle.part_ddl.specs.Made.{IsMade as IsMadeBy}
 use Rattle.part_ddl.specs.Partitions.{new_entry, partition_events, made_partition, MayMake}
-use Rattle.part_ddl.specs.Placing.{level_told, level_at, partitions_of, place_faults}
-use Rattle.part_ddl.specs.Tables.{KeysFit, count_faults, next_table, new_table, table_events}
+use Rattle.part_ddl.specs.Placing.{level_told, partitions_of, place_faults}
+use Rattle.part_ddl.specs.Tables.{count_faults, next_table, new_table, table_events}
 use Rattle.part_ddl.proofs.Making.{table_count}
 use Rattle.legal_statements.specs.Entries.{IsDefaultOf, IsNewPlace, IsNewPartition}
 use Rattle.legal_statements.specs.Follows.{MayCome, MayFollow}
 use Rattle.legal_statements.specs.Laws.{NamedIsThere, NewPartitionMayFollow}
-use Rattle.legal_statements.specs.Locked.{IsOwned}
 use Rattle.legal_statements.proofs.Holding.{session_runs}
-use Rattle.stores.specs.Good.{IsGood}
 use Rattle.stores.specs.Numbers.{IsAt}
 use Rattle.stores.specs.Stand.{Stands}
 use Rattle.stores.specs.declared.stores.Stores.{Stores}
@@ -67,12 +62,11 @@ use Rattle.stores.proofs.Goodness.{legal_of, permitted_of}
 use Rattle.course.specs.Attempts.{MayAttempt}
 use Rattle.course.specs.declared.caller.Caller.{Caller}
 use Rattle.statement_steps.specs.Steps.{IsStep}
-use Rattle.statement_steps.proofs.Parts.{own_tx}
 use Rattle.table_statements.specs.Asked.{IsLockedNamed, MayBeMade, MayBePlaced, stopped}
-use Rattle.table_statements.specs.Partitions.{Place, partition_made}
+use Rattle.table_statements.specs.Partitions.{partition_made}
 use Rattle.table_statements.specs.Tables.{own}
 use Rattle.table_statements.proofs.Below.{none_passes, no_default_found, entry_suits}
-use Rattle.table_statements.proofs.Deeds.{Each, IsDone, AreHoused, IsDeed, deed_step, made_stands, not_made}
+use Rattle.table_statements.proofs.Deeds.{Each, IsDone, IsDeed, deed_step, made_stands, not_made}
 use Rattle.table_statements.proofs.Fresh.{TableLaws, IsOwn, is_new, own_number, own_is, table_may, table_done, table_housed}
 use Rattle.table_statements.proofs.Held.{held_at_history}
 

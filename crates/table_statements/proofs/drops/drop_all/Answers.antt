@@ -1,4 +1,4 @@
-use Rattle.std.proofs.Common.{◌≡◌, ◌∷◌, [], List, rules, sym, subst}
+use Rattle.std.proofs.Common.{◌≡◌, ◌∷◌, [], List, rules, subst}
 use Rattle.pg_ids.specs.declared.ids.TableNo.{TableNo}
 use Rattle.table_statements.proofs.Left.{IsGoneSoFar, none_gone, may_go, one_gone, gone_out, all_gone, no_tables}
 use Rattle.table_statements.proofs.drops.drop_all.Goals as goal

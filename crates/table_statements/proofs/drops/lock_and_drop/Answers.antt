@@ -1,9 +1,9 @@
-use Rattle.std.proofs.Common.{◌+◌, List, ℕ, All, sym, subst, ap, map, Ok}
+use Rattle.std.proofs.Common.{◌+◌, List, All, sym, subst, map}
 use Rattle.pg_ids.specs.declared.ids.TableNo.{TableNo}
 use Rattle.statement_steps.specs.Steps.{IsStep}
 use Rattle.statement_steps.proofs.Steps.{then_step, stop_step, may_go_on}
 use Rattle.table_statements.specs.Asked.{numbers, MayDropTable}
-use Rattle.table_statements.specs.Drops.{found_all, dropped_all, locked_and_dropped}
+use Rattle.table_statements.specs.Drops.{found_all, dropped_all}
 use Rattle.table_statements.proofs.drops.lock_and_drop.Goals as goal
 
 pub drop_all-requires-clause-may : goal.drop_all-requires-clause-may

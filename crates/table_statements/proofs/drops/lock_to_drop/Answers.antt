@@ -1,4 +1,4 @@
-use Rattle.std.proofs.Common.{◌≡◌, Some, subst}
+use Rattle.std.proofs.Common.{◌≡◌, subst}
 use Rattle.pg_ids.specs.declared.ids.TableNo.{TableNo}
 use Rattle.table_statements.specs.Asked.{MayDropTable}
 use Rattle.table_statements.proofs.Left.{none_found, not_locked, one_locked}

@@ -1,4 +1,4 @@
-use Rattle.std.proofs.Common.{◌≡◌, ◌+◌, ◌<◌, ◌≤◌, sym, subst, Ok, Err, length}
+use Rattle.std.proofs.Common.{◌+◌, ◌≤◌, sym, subst, Ok, Err, length}
 use Rattle.pg_ids.specs.declared.ids.TableNo.{TableNo}
 use Rattle.pg_ids.specs.declared.lock_mode.LockMode.TheVariants.{AccessExclusive}
 use Rattle.sql_commands.specs.Trees.{bound_tree}
@@ -7,8 +7,7 @@ use Rattle.course.specs.Attempts.{MayAttempt}
 use Rattle.statement_steps.specs.Asks.{named}
 use Rattle.statement_steps.specs.Steps.{IsStep, follow}
 use Rattle.statement_steps.proofs.Steps.{then_step, stop_step, may_go_on}
-use Rattle.table_statements.specs.Asked.{IsLockedNamed}
-use Rattle.table_statements.specs.Partitions.{default_locked, placed_and_made, made_below}
+use Rattle.table_statements.specs.Partitions.{default_locked, placed_and_made}
 use Rattle.table_statements.proofs.Held.{named_locked, still_named}
 use Rattle.table_statements.proofs.partitions.create_below.Goals as goal
 use Rattle.table_statements.proofs.partitions.create_below.Goals.{In-Ok}

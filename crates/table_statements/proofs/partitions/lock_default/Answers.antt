@@ -1,10 +1,8 @@
-use Rattle.std.proofs.Common.{◌≡◌, ◌∙◌, ◌<◌, refl, sym, subst, All, List}
-use Rattle.history.specs.History.{History}
+use Rattle.std.proofs.Common.{◌∙◌, ◌<◌, refl, sym, subst, All, List}
 use Rattle.pg_ids.specs.declared.ids.TableNo.{TableNo}
 use Rattle.statement_steps.specs.Known.{IsKnownTo}
 use Rattle.statement_steps.proofs.Parts.{stays, no_memory}
 use Rattle.part_ddl.specs.Below.{default_of}
-use Rattle.table_statements.specs.Asked.{family_of}
 use Rattle.table_statements.specs.Partitions.{default_locked}
 use Rattle.table_statements.proofs.Below.{here_of, TreeLaws, family_known, all_low}
 use Rattle.table_statements.proofs.Left.{default_step}

@@ -2,7 +2,6 @@ use Rattle.std.proofs.Common.{◌+◌, sym, subst, Err}
 use Rattle.statement_steps.specs.Steps.{IsStep}
 use Rattle.table_statements.specs.Seen.{seen_place}
 use Rattle.table_statements.specs.Partitions as partitions
-use Rattle.table_statements.proofs.Fresh.{TableLaws}
 use Rattle.table_statements.proofs.Placing.{PartitionLaws, may_make, partition_step, partition_not_made}
 use Rattle.table_statements.proofs.partitions.make_placed.Goals as goal
 

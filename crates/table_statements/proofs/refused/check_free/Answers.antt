@@ -1,4 +1,4 @@
-use Rattle.std.proofs.Common.{sym, ◌∙◌, ap, Some}
+use Rattle.std.proofs.Common.{sym, ◌∙◌}
 use Rattle.std.proofs.lemmas.Result.{err_from_is_err_and}
 use Rattle.table_statements.proofs.Firsts.{free_none, free_taken, name_refused}
 use Rattle.table_statements.proofs.refused.check_free.Goals as goal

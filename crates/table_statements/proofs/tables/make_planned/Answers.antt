@@ -2,7 +2,7 @@ use Rattle.std.proofs.Common.{◌+◌, sym, subst, Err}
 use Rattle.statement_steps.specs.Steps.{IsStep}
 use Rattle.table_statements.specs.Seen.{seen_plan}
 use Rattle.table_statements.specs.Tables as tables
-use Rattle.table_statements.proofs.Fresh.{TableLaws, table_step, table_not_made}
+use Rattle.table_statements.proofs.Fresh.{table_step, table_not_made}
 use Rattle.table_statements.proofs.tables.make_planned.Goals as goal
 
 pub returns-in-Ok : goal.returns-in-Ok
