@@ -146,7 +146,7 @@ parent_made table kept s t (Some p) both told =
 
 -- ---- tables by their numbers
 
-abbrev number : TableNo → ℕ
+abbrev pub number : TableNo → ℕ
 number t = t.number
 
 pub mapped_in : (xs : List TableNo) (t : TableNo) → Contains xs t → Contains (map (λ (y : TableNo). y.number) xs) t.number
@@ -254,8 +254,8 @@ default_known laws stores h s t (Some p) x stands here is =
 pub to_lock_known : TreeLaws → (stores : Stores) (h : History) (s t table : ℕ) → Stands stores h → Here h s t → IsKnownTo stores s table → All (λ x. IsKnownTo stores s x.number) (to_lock h s table)
 to_lock_known laws stores h s t table stands here known =
     let up = one_known stores s (parent_in h s table) (λ p is.
-        let e = parent_entry h s table p is in
-        subst (λ (z : TableNo). IsKnownTo stores s z.number) e.2 (parent_known laws stores h s t e.0 stands here e.1)) in
+    let e = parent_entry h s table p is in
+    subst (λ (z : TableNo). IsKnownTo stores s z.number) e.2 (parent_known laws stores h s t e.0 stands here e.1)) in
     let beside = one_known stores s (default_beside h s (parent_in h s table)) (λ d is. default_known laws stores h s t (parent_in h s table) d stands here is) in
     All-append (λ x. IsKnownTo stores s x.number) (option_to_list (parent_in h s table)) (tables_from h s table ++ option_to_list (default_beside h s (parent_in h s table))) up
     (All-append (λ x. IsKnownTo stores s x.number) (tables_from h s table) (option_to_list (default_beside h s (parent_in h s table))) (tree_known laws stores h s t table stands here known) beside)

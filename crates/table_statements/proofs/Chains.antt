@@ -103,7 +103,7 @@ module _ (r : Result HeldPlace Refusal) (h : History) (s : ℕ) (name : List ℕ
       → IsAnswerBy seen_place r (partition_place h s name p b by)
   past_bound level bound e free few meant none is =
       let placed : placed_bound h s p level b ≡ Ok bound =
-          ap (λ (a : Result MeantBound Fault). next_answer a (λ x. unless_faults (place_faults h s p x 1) (Ok x))) meant ∙ ap (λ (fs : List Fault). unless_faults fs (Ok bound)) none in
+      ap (λ (a : Result MeantBound Fault). next_answer a (λ x. unless_faults (place_faults h s p x 1) (Ok x))) meant ∙ ap (λ (fs : List Fault). unless_faults fs (Ok bound)) none in
       past_count level e free few (past_ok seen_place r (placed_bound h s p level b) bound (after_bound h s p by) placed is)
 
 -- the bound is refused, or its place

@@ -16,7 +16,7 @@ use Rattle.history.specs.Legal.{IsInOrder, IsLegal}
 use Rattle.history.specs.Presence.{counts, entries_present}
 use Rattle.history.proofs.Open.{open_own}
 use Rattle.table_trees.specs.Histories.{is_over}
-use Rattle.tx_table.specs.Stands.{TableStands, IsOpen}
+use Rattle.tx_table.specs.Stands.{TableStands}
 use Rattle.row_store.specs.Kept.{KeptRows}
 use Rattle.row_store.specs.Stands.{StoreStands}
 use Rattle.soundness.specs.Legal.{HasTable, Below}
@@ -172,15 +172,6 @@ may_drop laws stores caller t by may left =
           owns_of h s by.number x.number legal going.own (inl (owned_all h caller t by legal going x (Contains-get_or (tables_from h s t) k d lt)));
       above = λ e at is. guards_of h s by.number e.parent.number legal going.own (inr (inl (going.guarded e at is)));
     })
-
-pub made_here : (stores : Stores) (caller : Caller) (t : ℕ) (by : TxId) → MayGo stores caller by t → t < length stores.catalog.tables
-made_here stores caller t by may =
-    let made = may.going.made in
-    let count = table_count stores.catalog may.h may.stands.all.catalog in
-    omega (arith, made, count)
-
-pub is_open : (stores : Stores) (caller : Caller) (t : ℕ) (by : TxId) → MayGo stores caller by t → IsOpen stores.txs by.number
-is_open stores caller t by may = (caller.session, may.stands.all.txs.current caller.session ∙ may.going.own)
 
 -- ---- what the call makes of the stores
 

@@ -20,7 +20,7 @@ use Rattle.part_ddl.specs.Dropped.{ended, place_ended, places_ended, tables_drop
 use Rattle.part_ddl.proofs.Standing.{numbered}
 use Rattle.legal_statements.specs.Below.{numbers_from}
 use Rattle.legal_statements.specs.Drops.{entries_end, tables_go, place_over, places_over, table_drop}
-use Rattle.table_statements.proofs.Below.{found_in, mapped_in, from_numbers}
+use Rattle.table_statements.proofs.Below.{number, found_in, mapped_in, from_numbers}
 use Rattle.table_statements.proofs.Deeds.{Each, each_append}
 
 -- ---- what holds of each event
@@ -120,9 +120,6 @@ above_stays g s st e t x num is other =
 
 -- ---- the ends
 
-abbrev number : TableNo → ℕ
-number t = t.number
-
 -- the same entry stands above each of the tables
 abbrev AreAboveTheSame : History → History → (s : ℕ) → List TableNo → Type 0
 AreAboveTheSame g h s ts = (x : TableNo) → Contains ts x → above (entries_present g s) x.number ≡ above (entries_present h s) x.number
@@ -151,7 +148,7 @@ ends_same h s st [] g num once same = refl
 ends_same h s st (t ∷ ts) g num once same =
     let o = above (entries_present g s) t.number in
     let rest = ends_same h s st ts (ended st o ++ g) (still_numbered g st o num) (pairs-tail (λ a b. a ≢ b) t.number (map number ts) once)
-        (still_above g h s st t ts o num refl (apart t ts once) (λ x at. same x (later_in t ts x at))) in
+    (still_above g h s st t ts o num refl (apart t ts once) (λ x at. same x (later_in t ts x at))) in
     subst (λ (z : Option Entry). places_ended s st g (t ∷ ts) ≡ entries_end st (place_over z ++ places_over h s (map number ts))) (same t (first_in t ts))
     (ends_behind s st g ts (places_over h s (map number ts)) o rest)
 
@@ -161,7 +158,7 @@ drop_same h s t st sound once =
     let ns = numbers_from h s t in
     let is = from_numbers h s t in
     let ends : places_ended s st h ts ≡ entries_end st (places_over h s (map number ts)) =
-        ends_same h s st ts h (numbered h sound) (subst (λ (xs : List ℕ). AllPairs (λ a b. a ≢ b) xs) (sym is) once) (λ x at. refl) in
+    ends_same h s st ts h (numbered h sound) (subst (λ (xs : List ℕ). AllPairs (λ a b. a ≢ b) xs) (sym is) once) (λ x at. refl) in
     ap (λ (es : History). es ++ places_ended s st h ts) (drops_same st ts)
     ∙ (ap (λ (es : History). tables_go st (map number ts) ++ es) ends
     ∙ ap (λ (xs : List ℕ). tables_go st xs ++ entries_end st (places_over h s xs)) is)

@@ -40,7 +40,7 @@ use Rattle.statement_steps.proofs.Steps.{goes_on, then_step, stop_step, may_go_o
 use Rattle.table_statements.specs.Asked.{IsLocked, MayDropTable, IsGoing, MayGo, to_lock, family_of, one_or_none, numbers}
 use Rattle.table_statements.specs.Partitions.{numbers_under, default_locked}
 use Rattle.table_statements.specs.Drops.{one_number, parent_in, default_beside, tables_to_lock, drop_locked, locked_one, found_one, found_all, dropped_all}
-use Rattle.table_statements.proofs.Below.{here_of, TreeLaws, from_numbers, unmapped_in, found_some}
+use Rattle.table_statements.proofs.Below.{number, here_of, TreeLaws, from_numbers, unmapped_in, found_some}
 use Rattle.table_statements.proofs.Deeds.{Each, IsDone, each_append, went}
 use Rattle.table_statements.proofs.Dropping.{IsEnding, going_events, going_ends, going_done, going_on, going_first}
 use Rattle.table_statements.proofs.Ends.{is_same, same_number}
@@ -52,9 +52,6 @@ use Rattle.table_statements.proofs.Fresh.{IsOwn}
 one_is : (o : Option TableNo) → one_number o ≡ map (λ (t : TableNo). t.number) (option_to_list o)
 one_is None = refl
 one_is (Some t) = refl
-
-abbrev number : TableNo → ℕ
-number t = t.number
 
 to_lock_numbers : (h : History) (s t : ℕ) → tables_to_lock h s t ≡ map number (to_lock h s t)
 to_lock_numbers h s t =
@@ -108,7 +105,7 @@ locked_to_drop laws old new caller t tables may rest made are locked =
           let ts = tables_from h s t.number in
           let its = unmapped_in ts x (subst (λ (ns : List ℕ). Contains ns x) (sym (from_numbers h s t.number)) at) in
           let listed : Contains (to_lock h s t.number) its.0 =
-              Contains-append_right (option_to_list up) (ts ++ option_to_list (default_beside h s up)) its.0 (Contains-append_left ts (option_to_list (default_beside h s up)) its.0 its.1) in
+          Contains-append_right (option_to_list up) (ts ++ option_to_list (default_beside h s up)) its.0 (Contains-append_left ts (option_to_list (default_beside h s up)) its.0 its.1) in
           subst (IsLocked new s) its.2 (All-contains (λ (y : TableNo). IsLocked new s y.number) tables its.0 locked (subst (λ (ys : List TableNo). Contains ys its.0) (sym (are h a c)) listed));
       guarded = λ h e txs catalog at child.
           let a : TableStands old.txs h = subst (λ (y : Stores). TableStands y.txs h) rest txs in
@@ -122,7 +119,7 @@ locked_to_drop laws old new caller t tables may rest made are locked =
           let one : top.0 ≡ e = siblings.one_parent top.0 e (has top.0 top.2) (has e there) (same_number top.0.child.number t.number top.3 ∙ sym child) in
           let told : parent_in g s t.number ≡ Some top.0.parent = ap parent_told top.1 in
           let listed : Contains (to_lock g s t.number) top.0.parent =
-              Contains-append_left (option_to_list (parent_in g s t.number)) (tables_from g s t.number ++ option_to_list (default_beside g s (parent_in g s t.number))) top.0.parent (in_option (parent_in g s t.number) top.0.parent told) in
+          Contains-append_left (option_to_list (parent_in g s t.number)) (tables_from g s t.number ++ option_to_list (default_beside g s (parent_in g s t.number))) top.0.parent (in_option (parent_in g s t.number) top.0.parent told) in
           subst (λ (x : Entry). IsLocked new s x.parent.number) one
           (All-contains (λ (y : TableNo). IsLocked new s y.number) tables top.0.parent locked (subst (λ (ys : List TableNo). Contains ys top.0.parent) (sym (are g stands.all.txs stands.all.catalog)) listed));
     }

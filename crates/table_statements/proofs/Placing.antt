@@ -166,7 +166,6 @@ pub record PartitionLaws : Type 0 where
   pub partition : NewPartitionMayFollow
   pub passed : PassedHavePlaces
   pub named : NamedIsThere
-  pub siblings : SessionsHaveSiblings
 
 module _ (laws : PartitionLaws) (m : History) (s cmd parent : ℕ) (b : Bound) (by : TxId) (new : Table) (ready : IsReady m s by.number cmd parent b) (child : IsChild m by cmd parent new) where
   sound : AreCatalogueSound m

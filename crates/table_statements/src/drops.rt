@@ -25,8 +25,8 @@ use part_catalog::Catalog;
 use part_ddl::{default_of, drop_table};
 use pg_ids::{LockMode, TableNo};
 use pg_values::{NoMemory, PgText};
-use statement_steps::{SessionNames, find_table, hold_if_repeatable, lock_tables};
 use soundness::legal_keeps_all;
+use statement_steps::{SessionNames, find_table, hold_if_repeatable, lock_tables};
 use std::alloc::Global;
 use stores::{Stores, trees_are_together};
 use tx_table::TxTable;
@@ -167,13 +167,7 @@ fn lock_if_there(
     ensures drop { IfOk result (λ found. (t : TableNo) → found ≡ Some t → MayDropTable stores.new caller.session t) }
     ensures rest { stores.new ≡ record stores.old { locks = stores.new.locks } }
 {
-    if is_passed_over(
-        &stores.catalog,
-        &stores.txs,
-        caller.session,
-        if_there,
-        name,
-    ) {
+    if is_passed_over(&stores.catalog, &stores.txs, caller.session, if_there, name) {
         return Ok(None);
     }
     lock_to_drop(alloc, stores, names, caller, name)

@@ -20,7 +20,7 @@ use crate::tables::level_by;
 use course::{Caller, Stop};
 use expression_binder::left_out;
 use legal_statements::{
-    followed_is_legal, listed_is_there, named_is_there, new_leaf_may_follow, new_level_may_follow,
+    listed_is_there, named_is_there, new_leaf_may_follow, new_level_may_follow,
     new_partition_may_follow, there_is_known, tree_is_whole,
 };
 use part_bounds::{Bound, Level};
@@ -103,13 +103,7 @@ fn lock_default(
     there_is_known();
     tree_is_whole();
     legal_keeps_all();
-    match default_tables(
-        alloc,
-        &stores.catalog,
-        &stores.txs,
-        parent,
-        caller.session,
-    ) {
+    match default_tables(alloc, &stores.catalog, &stores.txs, parent, caller.session) {
         Ok(tables) => lock_tables(
             alloc,
             stores,
@@ -210,11 +204,9 @@ fn make_placed(
     new_leaf_may_follow();
     new_level_may_follow();
     leaves_are_housed();
-    followed_is_legal();
     new_partition_may_follow();
     passed_have_places();
     named_is_there();
-    listed_is_there();
     sessions_have_siblings();
     let Some(by) = stores.txs.open_of(caller.session) else {
         unreachable!()
