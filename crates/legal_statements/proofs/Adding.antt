@@ -82,7 +82,7 @@ place_of h session e legal permitted new =
       default_locked = λ d n x has of by_default low. owns_of h session t x legal new.own (new.default_owned d x (record { present = listed_for h session t d legal new.own has; of = of; default = by_default }) ((tree_is_whole h session t d.child.number legal permitted new.own).all n x low));
       roomy = λ es are. let few = children_are_counted h session t e.parent.number es legal new.own are in let room = new.room.partitions in omega (arith, few, room);
       together = λ g has. new.together g (listed_for h session t g legal new.own has);
-      no_pending = λ g has of pending. new.no_pending g of (pending_for h session t g legal new.own (present_test h session g (listed_for h session t g legal new.own has)) pending);
+      no_pending = λ g has of pending. new.no_pending g (listed_for h session t g legal new.own has) of (pending_for h session t g legal new.own (present_test h session g (listed_for h session t g legal new.own has)) pending);
       default_scanned = λ d v n x has of by_default is at low judged.
           new.default_scanned d v (record { present = listed_for h session t d legal new.own has; of = of; default = by_default }) (scanned_for h session t d.child.number n x v legal permitted new.own is at low judged);
     }

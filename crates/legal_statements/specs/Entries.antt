@@ -48,7 +48,7 @@ pub record IsNewPlace (h : History) (session : ℕ) (e : Entry) : Type 0 where
   pub guarded : IsGuarded h session e.parent.number
   pub room : HasPlace h session e.parent.number e.child.number
   pub together : (g : Entry) → Contains (entries_present h session) g → CanStandTogether g e
-  pub no_pending : (g : Entry) → g.parent.number ≡ e.parent.number → is_pending h session g ≡ true → is_default e.bound ≡ false
+  pub no_pending : (g : Entry) → Contains (entries_present h session) g → g.parent.number ≡ e.parent.number → is_pending h session g ≡ true → is_default e.bound ≡ false
   pub default_owned : (d : Entry) (x : ℕ) → IsDefaultOf h session e.parent.number d → Contains (numbers_from h session d.child.number) x → IsOwned h session x
   pub default_scanned : (d : Entry) (v : Version) → IsDefaultOf h session e.parent.number d → IsScanned h session e.by.number d.child.number v
       → accepts (key_at (catalogue_events h) e.parent.number v.row) e.bound ≡ false

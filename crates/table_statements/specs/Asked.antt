@@ -1,52 +1,98 @@
 -- What is asked of tables that are made and dropped.
-use Rattle.std.specs.Prelude.{◌≡◌, ℕ, ◌<◌, List, [], ◌∷◌, Option, Some, None, Vec, map, length}
+use Rattle.std.specs.Prelude.{◌≡◌, ℕ, ◌<◌, true, List, [], ◌∷◌, ◌++◌, Option, Some, None, Vec, map, length}
 use Rattle.std.specs.List.{Contains}
+use Rattle.std.specs.Option.{option_to_list}
+use Rattle.pg_ids.specs.Sets.{has}
 use Rattle.pg_ids.specs.declared.ids.TableNo.{TableNo}
+use Rattle.pg_ids.specs.declared.lock_mode.LockMode.TheVariants.{AccessExclusive}
+use Rattle.pg_values.specs.declared.fault.Refusal.{Refusal}
+use Rattle.pg_values.specs.declared.fault.Refusal.TheVariants.{Sql, NoMemory}
 use Rattle.part_bounds.specs.declared.level.Level.{Level}
 use Rattle.part_bounds.specs.declared.partition_bound.Bound.{Bound}
 use Rattle.history.specs.declared.catalogue.Entry.{Entry}
-use Rattle.history.specs.History.{History, tx_events, catalogue_events}
+use Rattle.history.specs.declared.transaction.TxId.{TxId}
+use Rattle.history.specs.History.{History, tx_events, lock_events}
+use Rattle.history.specs.Legal.{IsInOrder}
+use Rattle.history.specs.Locks.{holds}
 use Rattle.history.specs.Places.{TakesBound}
 use Rattle.history.specs.Presence.{entries_present}
-use Rattle.table_trees.specs.Histories.{above}
-use Rattle.part_catalog.specs.Found.{made_at, resolved, taken_by}
-use Rattle.part_ddl.specs.Below.{default_of}
+use Rattle.history.specs.Transactions.{open_of}
+use Rattle.tx_table.specs.Stands.{TableStands}
+use Rattle.lock_table.specs.Kept.{held_at}
+use Rattle.part_catalog.specs.Found.{made_at, resolved, taken_by, table_number}
+use Rattle.part_catalog.specs.Stands.{CatalogueStands}
+use Rattle.part_ddl.specs.Below.{default_of, tables_from}
 use Rattle.part_ddl.specs.Placing.{place_faults}
-use Rattle.part_ddl.specs.Tables.{KeysFit}
-use Rattle.soundness.specs.Parts.{IsKnown}
+use Rattle.part_ddl.specs.Tables.{KeysFit, count_faults}
 use Rattle.legal_statements.specs.Below.{numbers_from}
-use Rattle.legal_statements.specs.Locked.{IsOwned, IsGuarded}
 use Rattle.stores.specs.Stand.{Stands}
 use Rattle.stores.specs.declared.stores.Stores.{Stores}
-use Rattle.pg_values.specs.declared.fault.Refusal.{Refusal}
-use Rattle.pg_values.specs.declared.fault.Refusal.TheVariants.{Sql, NoMemory}
+use Rattle.course.specs.declared.caller.Caller.{Caller}
 use Rattle.course.specs.declared.stop.Stop.{Stop}
 use Rattle.course.specs.declared.stop.Stop.TheVariants.{Refused, NoMemory as OutOfMemory}
+use Rattle.table_statements.specs.Drops.{parent_in, default_beside}
 
--- no table of the name is there for the session, and nobody else has made one
-pub record IsFree (h : History) (session : ℕ) (name : List ℕ) : Type 0 where
-  pub resolved : resolved h session name ≡ None
-  pub taken : taken_by h session name ≡ None
+-- ---- tables that are made
 
--- a new partition of the name has a place below the parent, beside no default partition
-pub record MayBePlaced (h : History) (session : ℕ) (name : List ℕ) (parent : ℕ) (b : Bound) (level : Option Level) : Type 0 where
-  pub free : IsFree h session name
+-- no table of the name is there for the session, nobody else has made one, and there is room for one more
+pub record MayBeMade (h : History) (session : ℕ) (name : List ℕ) : Type 0 where
+  pub free : resolved h session name ≡ None
+  pub unclaimed : taken_by h session name ≡ None
+  pub few : count_faults h ≡ []
+
+-- a new partition has a place below the parent, beside no default partition
+pub record MayBePlaced (h : History) (session parent : ℕ) (b : Bound) (level : Option Level) : Type 0 where
   pub takes : TakesBound (made_at h parent).shape b
   pub place : place_faults h session parent b 1 ≡ []
   pub keys : KeysFit (made_at h parent).columns level
   pub no_default : default_of h session parent ≡ None
 
--- the table is there, and the session has locked all that its drop changes
-pub record IsLockedToDrop (h : History) (session table : ℕ) : Type 0 where
-  pub known : IsKnown (tx_events h) (catalogue_events h) session table
-  pub owned : (x : ℕ) → Contains (numbers_from h session table) x → IsOwned h session x
-  pub guarded : (e : Entry) → above (entries_present h session) table ≡ Some e → IsGuarded h session e.parent.number
+-- ---- tables that are locked
 
+-- the session holds ACCESS EXCLUSIVE on the table
+abbrev pub IsLocked : Stores → (session table : ℕ) → Type 0
+IsLocked stores s x = has (held_at stores.locks.held x AccessExclusive) s ≡ true
+
+-- a name means the table to the session, which has locked it
+pub record IsLockedNamed (stores : Stores) (session table : ℕ) : Type 0 where
+  pub name : List ℕ
+  pub named : (h : History) → TableStands stores.txs h → CatalogueStands stores.catalog h → resolved h session name ≡ Some table
+  pub made : table < length stores.catalog.tables
+  pub locked : IsLocked stores session table
+
+-- the default partition of a table, if there is one, and the tables under it
+abbrev pub family_of : History → (session : ℕ) → Option TableNo → List TableNo
+family_of h s None = []
+family_of h s (Some t) = tables_from h s t.number
+
+-- ---- tables that are dropped
+
+-- the table above, the table and those under it, and the default partition beside it
+abbrev pub to_lock : History → (session table : ℕ) → List TableNo
+to_lock h s t = option_to_list (parent_in h s t) ++ (tables_from h s t ++ option_to_list (default_beside h s (parent_in h s t)))
+
+-- the table and those under it are locked, and the table above it
 pub record MayDropTable (stores : Stores) (session : ℕ) (t : TableNo) : Type 0 where
-  pub known : t.number < length stores.catalog.tables
-  pub locked : (h : History) → Stands stores h → IsLockedToDrop h session t.number
+  pub made : t.number < length stores.catalog.tables
+  pub owned : (h : History) (x : ℕ) → TableStands stores.txs h → CatalogueStands stores.catalog h → Contains (numbers_from h session t.number) x → IsLocked stores session x
+  pub guarded : (h : History) (e : Entry) → TableStands stores.txs h → CatalogueStands stores.catalog h → Contains (entries_present h session) e → e.child.number ≡ t.number → IsLocked stores session e.parent.number
 
--- tables by their numbers
+-- so it is in a history in which the command comes to the drop of the table
+pub record IsGoing (h : History) (caller : Caller) (by : TxId) (table : ℕ) : Type 0 where
+  pub own : open_of (tx_events h) caller.session ≡ Some by.number
+  pub command : IsInOrder (Some (by.number, caller.cmd)) h
+  pub made : table < table_number h
+  pub owned : (x : ℕ) → Contains (numbers_from h caller.session table) x → holds (lock_events h) caller.session x AccessExclusive ≡ true
+  pub guarded : (e : Entry) → Contains (entries_present h caller.session) e → e.child.number ≡ table → holds (lock_events h) caller.session e.parent.number AccessExclusive ≡ true
+
+-- the stores stand for such a history
+pub record MayGo (stores : Stores) (caller : Caller) (by : TxId) (table : ℕ) : Type 0 where
+  pub h : History
+  pub stands : Stands stores h
+  pub going : IsGoing h caller by table
+
+-- ---- what contracts see
+
 abbrev pub one_or_none : Option TableNo → List ℕ
 one_or_none None = []
 one_or_none (Some t) = t.number ∷ []

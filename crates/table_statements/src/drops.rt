@@ -1,25 +1,65 @@
-ghost use Rattle.std.specs.Prelude.{◌≡◌, ◌+◌, ◌<◌, ◌≤◌, false, ◌++◌, ◌∷◌, [], Option, Some, None, All, IfOk, OnOk, length, map};
+ghost use Rattle.std.specs.Prelude.{◌≡◌, ◌+◌, ◌<◌, ◌≤◌, ◌&&◌, false, ◌++◌, Some, is_none, All, IfOk, IfSome, OnOk, length, map};
+ghost use Rattle.std.specs.Option.{option_to_list};
 ghost use Rattle.history.specs.History.{History};
 ghost use Rattle.tx_table.specs.Stands.{TableStands};
 ghost use Rattle.part_catalog.specs.Answers.{AreTogether};
+ghost use Rattle.part_catalog.specs.Found.{resolved};
 ghost use Rattle.part_catalog.specs.Stands.{CatalogueStands};
 ghost use Rattle.statement_steps.specs.Known.{IsKnownTo};
+ghost use Rattle.stores.specs.Stand.{Stands};
 ghost use Rattle.course.specs.Attempts.{MayAttempt};
 ghost use Rattle.statement_steps.specs.Steps.{IsStep};
-ghost use Rattle.table_statements.specs.Asked.{MayDropTable, one_or_none, numbers};
+ghost use Rattle.table_statements.specs.Asked.{IsGoing, MayDropTable, MayGo, one_or_none, numbers, to_lock};
 ghost use Rattle.table_statements.specs.Drops as drops;
 ghost use Rattle.table_statements.specs.Drops.{dropped};
 
+use crate::partitions::tables_from;
 use crate::refused::{check_control, stop_by};
 use course::{Caller, Stop};
+use drop_laws::locked_tables_may_go;
+use history::TxId;
+use legal_statements::{
+    listed_is_there, named_is_there, table_drop_may_follow, there_is_known, tree_is_whole,
+};
 use part_catalog::Catalog;
-use part_ddl::{default_of, drop_table, tables_below};
+use part_ddl::{default_of, drop_table};
 use pg_ids::{LockMode, TableNo};
 use pg_values::{NoMemory, PgText};
+use soundness::legal_keeps_all;
 use statement_steps::{SessionNames, find_table, hold_if_repeatable, lock_tables};
 use std::alloc::Global;
 use stores::{Stores, trees_are_together};
 use tx_table::TxTable;
+
+// The default partition beside a table with that parent.
+fn default_beside(
+    alloc: Global,
+    catalog: &Catalog,
+    txs: &TxTable,
+    parent: Option<TableNo>,
+    session: u32,
+) -> Result<Option<TableNo>, NoMemory>
+    requires known { IfSome parent (λ p. p.number < length catalog.now.tables) }
+    requires siblings { AreTogether txs.now catalog.now session }
+    ensures { IfOk result (λ default. (h : History) → TableStands txs.now h → CatalogueStands catalog.now h → default ≡ drops.default_beside h session parent) }
+{
+    match parent {
+        Some(parent) => default_of(alloc, catalog, txs, parent, session),
+        None => Ok(None),
+    }
+}
+
+fn push_if_some(tables: &mut Vec<TableNo>, table: Option<TableNo>) -> Result<(), NoMemory>
+    ensures { OnOk result (tables.new.items ≡ tables.old.items ++ option_to_list table) }
+{
+    match table {
+        Some(table) => {
+            tables.push(table)?;
+            Ok(())
+        }
+        None => Ok(()),
+    }
+}
 
 // The table above, the table and those under it, and the default partition beside it.
 fn tables_to_lock(
@@ -31,22 +71,15 @@ fn tables_to_lock(
 ) -> Result<Vec<TableNo>, NoMemory>
     requires known { table.number < length catalog.now.tables }
     requires siblings { AreTogether txs.now catalog.now session }
-    ensures { IfOk result (λ tables. (h : History) → TableStands txs.now h → CatalogueStands catalog.now h → map (λ t. t.number) tables.items ≡ drops.tables_to_lock h session table.number) }
+    ensures { IfOk result (λ tables. (h : History) → TableStands txs.now h → CatalogueStands catalog.now h → tables.items ≡ to_lock h session table.number) }
 {
     let parent = catalog.parent_of(txs, session, table);
+    let default = default_beside(alloc, catalog, txs, parent, session)?;
+    let from = tables_from(alloc, catalog, txs, table, session)?;
     let mut tables = Vec::new(alloc);
-    if let Some(parent) = parent {
-        tables.push(parent)?;
-    }
-    tables.push(table)?;
-    for other in &tables_below(alloc, catalog, txs, table, session)? {
-        tables.push(*other)?;
-    }
-    if let Some(parent) = parent {
-        if let Some(default) = default_of(alloc, catalog, txs, parent, session)? {
-            tables.push(default)?;
-        }
-    }
+    push_if_some(&mut tables, parent)?;
+    tables.extend_from_slice(&from)?;
+    push_if_some(&mut tables, default)?;
     Ok(tables)
 }
 
@@ -66,6 +99,10 @@ fn lock_for(
     ensures rest { stores.new ≡ record stores.old { locks = stores.new.locks } }
 {
     trees_are_together();
+    listed_is_there();
+    there_is_known();
+    tree_is_whole();
+    legal_keeps_all();
     match tables_to_lock(alloc, &stores.catalog, &stores.txs, caller.session, table) {
         Ok(tables) => lock_tables(
             alloc,
@@ -77,13 +114,6 @@ fn lock_for(
         ),
         Err(NoMemory) => Err(Stop::NoMemory),
     }
-}
-
-fn push_table(tables: &mut Vec<TableNo>, table: TableNo) -> Result<(), NoMemory>
-    ensures { OnOk result (tables.new.items ≡ tables.old.items ++ table ∷ []) }
-{
-    tables.push(table)?;
-    Ok(())
 }
 
 // A part: a named table, where it is there, and what its drop needs is locked.
@@ -109,6 +139,19 @@ fn lock_to_drop(
     }
 }
 
+// Whether the table is passed over: it is absent, and IF EXISTS is written.
+fn is_passed_over(
+    catalog: &Catalog,
+    txs: &TxTable,
+    session: u32,
+    if_there: bool,
+    name: &[u8],
+) -> bool
+    ensures { (h : History) → TableStands txs.now h → CatalogueStands catalog.now h → result ≡ if_there && is_none (resolved h session name.now) }
+{
+    if_there && catalog.resolve(txs, session, name).is_none()
+}
+
 // The same, where an absent one is passed over.
 fn lock_if_there(
     alloc: Global,
@@ -124,11 +167,8 @@ fn lock_if_there(
     ensures drop { IfOk result (λ found. (t : TableNo) → found ≡ Some t → MayDropTable stores.new caller.session t) }
     ensures rest { stores.new ≡ record stores.old { locks = stores.new.locks } }
 {
-    if if_there {
-        let found = stores.catalog.resolve(&stores.txs, caller.session, name);
-        if found.is_none() {
-            return Ok(None);
-        }
+    if is_passed_over(&stores.catalog, &stores.txs, caller.session, if_there, name) {
+        return Ok(None);
     }
     lock_to_drop(alloc, stores, names, caller, name)
 }
@@ -151,8 +191,7 @@ fn lock_all_to_drop(
     let mut left = tables;
     while let Some((name, others)) = left.split_first() {
         match lock_if_there(alloc, stores, names, caller, if_there, name.as_bytes()) {
-            Ok(None) => left = others,
-            Ok(Some(table)) => match push_table(&mut found, table) {
+            Ok(table) => match push_if_some(&mut found, table) {
                 Ok(()) => left = others,
                 Err(NoMemory) => return Err(Stop::NoMemory),
             },
@@ -173,6 +212,29 @@ fn is_left(catalog: &Catalog, txs: &TxTable, session: u32, table: TableNo) -> bo
     }
 }
 
+// One table goes with those under it, unless it has gone with another one before.
+fn drop_one(
+    alloc: Global,
+    stores: &mut Stores,
+    caller: Caller,
+    by: TxId,
+    table: TableNo,
+) -> Result<(), NoMemory>
+    requires { MayGo stores.old caller by table.number }
+    ensures ok { OnOk result ((h : History) → Stands stores.old h → IsGoing h caller by table.number → Stands stores.new ((drops.dropped_one caller table.number h).events ++ h)) }
+    ensures rest { stores.new ≡ record stores.old { catalog = stores.new.catalog } }
+{
+    named_is_there();
+    tree_is_whole();
+    table_drop_may_follow();
+    locked_tables_may_go();
+    let Stores { txs, catalog, .. } = stores;
+    if !is_left(catalog, txs, caller.session, table) {
+        return Ok(());
+    }
+    drop_table(alloc, catalog, txs, table, by, caller.cmd)
+}
+
 // The last part: the tables go, one after the other.
 fn drop_all(
     alloc: Global,
@@ -184,16 +246,15 @@ fn drop_all(
     requires drops { All (MayDropTable stores.old caller.session) tables.now }
     ensures { IsStep (λ u. u) result stores.old stores.new caller (caller.cmd + 1) (drops.dropped_all caller (map (λ t. t.number) tables.now)) }
 {
+    tree_is_whole();
     let Some(by) = stores.txs.open_of(caller.session) else {
         unreachable!()
     };
-    let Stores { txs, catalog, .. } = stores;
-    for table in tables {
-        if is_left(catalog, txs, caller.session, *table) {
-            match drop_table(alloc, catalog, txs, *table, by, caller.cmd) {
-                Ok(()) => {}
-                Err(NoMemory) => return Err(Stop::NoMemory),
-            }
+    let mut left = tables;
+    while let Some((table, others)) = left.split_first() {
+        match drop_one(alloc, stores, caller, by, *table) {
+            Ok(()) => left = others,
+            Err(NoMemory) => return Err(Stop::NoMemory),
         }
     }
     Ok(())

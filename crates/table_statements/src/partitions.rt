@@ -1,37 +1,41 @@
-ghost use Rattle.std.specs.Prelude.{◌≡◌, ◌+◌, ◌<◌, ◌≤◌, Ok, IfOk, length, map};
+ghost use Rattle.std.specs.Prelude.{◌≡◌, ◌+◌, ◌<◌, ◌≤◌, IfOk, length};
 ghost use Rattle.pg_values.specs.Refusals.{IsAnswer};
+ghost use Rattle.part_bounds.specs.Checks.{or_first};
 ghost use Rattle.history.specs.History.{History};
-ghost use Rattle.history.specs.Places.{TakesBound};
 ghost use Rattle.tx_table.specs.Stands.{TableStands};
 ghost use Rattle.part_catalog.specs.Answers.{AreTogether};
-ghost use Rattle.part_catalog.specs.Found.{made_at};
 ghost use Rattle.part_catalog.specs.Stands.{CatalogueStands};
 ghost use Rattle.expression_binder.specs.Firsts.{IsAnswerBy};
 ghost use Rattle.part_ddl.specs.Below as below;
-ghost use Rattle.legal_statements.specs.Locked.{IsOwned};
-ghost use Rattle.stores.specs.Stand.{Stands};
 ghost use Rattle.sql_commands.specs.Trees.{bound_tree};
 ghost use Rattle.course.specs.Attempts.{MayAttempt};
 ghost use Rattle.statement_steps.specs.Steps.{IsStep};
-ghost use Rattle.table_statements.specs.Refused.{unless_faults};
 ghost use Rattle.table_statements.specs.Partitions as partitions;
 ghost use Rattle.table_statements.specs.Partitions.{partitioned, partition_place};
-ghost use Rattle.table_statements.specs.Asked.{MayBePlaced};
+ghost use Rattle.table_statements.specs.Asked.{IsLockedNamed, MayBeMade, MayBePlaced, family_of};
 ghost use Rattle.table_statements.specs.Seen.{seen_place};
 
 use crate::refused::{check_control, check_free, stop_by};
-use crate::tables::{check_count, level_by};
+use crate::tables::level_by;
 use course::{Caller, Stop};
 use expression_binder::left_out;
+use legal_statements::{
+    listed_is_there, named_is_there, new_leaf_may_follow, new_level_may_follow,
+    new_partition_may_follow, there_is_known, tree_is_whole,
+};
 use part_bounds::{Bound, Level};
 use part_catalog::Catalog;
-use part_ddl::{check_place, default_of, make_partition, parent_level, tables_below};
+use part_ddl::{
+    check_count, check_place, default_of, make_partition, parent_level, passed_have_places,
+    tables_below,
+};
 use pg_ids::{LockMode, TableNo};
 use pg_values::{NoMemory, PgText, Refusal};
+use soundness::{legal_keeps_all, sessions_have_siblings};
 use sql_commands::{BoundText, Partitioning};
 use statement_steps::{SessionNames, hold_if_repeatable, lock_named, lock_tables};
 use std::alloc::Global;
-use stores::{Stores, trees_are_together};
+use stores::{Stores, leaves_are_housed, trees_are_together};
 use table_binder::bind_bound;
 use tx_table::TxTable;
 
@@ -43,7 +47,7 @@ struct Place {
 }
 
 // A table and those under it.
-fn tables_from(
+pub(crate) fn tables_from(
     alloc: Global,
     catalog: &Catalog,
     txs: &TxTable,
@@ -54,32 +58,29 @@ fn tables_from(
     requires siblings { AreTogether txs.now catalog.now session }
     ensures { IfOk result (λ tables. (h : History) → TableStands txs.now h → CatalogueStands catalog.now h → tables.items ≡ below.tables_from h session table.number) }
 {
+    let under = tables_below(alloc, catalog, txs, table, session)?;
     let mut tables = Vec::new(alloc);
     tables.push(table)?;
-    let under = tables_below(alloc, catalog, txs, table, session)?;
-    for other in &under {
-        tables.push(*other)?;
-    }
+    tables.extend_from_slice(&under)?;
     Ok(tables)
 }
 
 // The default partition of the parent and the tables under it.
 fn default_tables(
     alloc: Global,
-    stores: &Stores,
-    caller: Caller,
+    catalog: &Catalog,
+    txs: &TxTable,
     parent: TableNo,
+    session: u32,
 ) -> Result<Vec<TableNo>, NoMemory>
-    requires may { MayAttempt stores.now caller }
-    requires known { parent.number < length stores.now.catalog.tables }
-    ensures { IfOk result (λ tables. (h : History) → TableStands stores.now.txs h → CatalogueStands stores.now.catalog h →
-        map (λ t. t.number) tables.items ≡ partitions.numbers_under h caller.session (below.default_of h caller.session parent.number)) }
+    requires known { parent.number < length catalog.now.tables }
+    requires siblings { AreTogether txs.now catalog.now session }
+    ensures { IfOk result (λ tables. (h : History) → TableStands txs.now h → CatalogueStands catalog.now h →
+        tables.items ≡ family_of h session (below.default_of h session parent.number)) }
 {
-    trees_are_together();
-    let Stores { txs, catalog, .. } = stores;
-    match default_of(alloc, catalog, txs, parent, caller.session)? {
+    match default_of(alloc, catalog, txs, parent, session)? {
         None => Ok(Vec::new(alloc)),
-        Some(table) => tables_from(alloc, catalog, txs, table, caller.session),
+        Some(table) => tables_from(alloc, catalog, txs, table, session),
     }
 }
 
@@ -97,7 +98,12 @@ fn lock_default(
     ensures step { IsStep (λ u. u) result stores.old stores.new caller caller.cmd (partitions.default_locked names.now caller.session parent.number) }
     ensures rest { stores.new ≡ record stores.old { locks = stores.new.locks } }
 {
-    match default_tables(alloc, stores, caller, parent) {
+    trees_are_together();
+    listed_is_there();
+    there_is_known();
+    tree_is_whole();
+    legal_keeps_all();
+    match default_tables(alloc, &stores.catalog, &stores.txs, parent, caller.session) {
         Ok(tables) => lock_tables(
             alloc,
             stores,
@@ -120,7 +126,7 @@ fn check_default(
 ) -> Result<(), Refusal>
     requires known { parent.number < length catalog.now.tables }
     requires siblings { AreTogether txs.now catalog.now session }
-    ensures { (h : History) → TableStands txs.now h → CatalogueStands catalog.now h → IsAnswer result (unless_faults (partitions.beside_default (below.default_of h session parent.number)) (Ok tt)) }
+    ensures { (h : History) → TableStands txs.now h → CatalogueStands catalog.now h → IsAnswer result (or_first (partitions.beside_default (below.default_of h session parent.number)) tt) }
 {
     match default_of(alloc, catalog, txs, parent, session)? {
         None => Ok(()),
@@ -143,12 +149,13 @@ fn place_of(
     requires siblings { AreTogether txs.now catalog.now session }
     ensures answer { (h : History) → TableStands txs.now h → CatalogueStands catalog.now h →
         IsAnswerBy seen_place result (partition_place h session name.now parent.number (bound_tree bound.now) by.now) }
-    ensures may { IfOk result (λ place. (h : History) → TableStands txs.now h → CatalogueStands catalog.now h → MayBePlaced h session name.now parent.number place.bound place.level) }
+    ensures free { IfOk result (λ place. (h : History) → TableStands txs.now h → CatalogueStands catalog.now h → MayBeMade h session name.now) }
+    ensures may { IfOk result (λ place. (h : History) → TableStands txs.now h → CatalogueStands catalog.now h → MayBePlaced h session parent.number place.bound place.level) }
 {
-    let level = parent_level(alloc, catalog, parent)?;
+    let above = parent_level(alloc, catalog, parent)?;
     check_free(alloc, catalog, txs, session, name)?;
     check_count(alloc, catalog)?;
-    let bound = bind_bound(alloc, bound, level)?;
+    let bound = bind_bound(alloc, bound, above)?;
     check_place(alloc, catalog, txs, parent, &bound, session)?;
     let level = level_by(alloc, catalog.table(parent).columns.as_slice(), by)?;
     check_default(alloc, catalog, txs, parent, session)?;
@@ -168,7 +175,8 @@ fn place_found(
     requires may { MayAttempt stores.now caller }
     requires known { parent.number < length stores.now.catalog.tables }
     ensures step { IsStep seen_place result stores.now stores.now caller caller.cmd (partitions.place_found caller.session name.now parent.number (bound_tree bound.now) by.now) }
-    ensures may { IfOk result (λ place. (h : History) → TableStands stores.now.txs h → CatalogueStands stores.now.catalog h → MayBePlaced h caller.session name.now parent.number place.bound place.level) }
+    ensures free { IfOk result (λ place. (h : History) → TableStands stores.now.txs h → CatalogueStands stores.now.catalog h → MayBeMade h caller.session name.now) }
+    ensures may { IfOk result (λ place. (h : History) → TableStands stores.now.txs h → CatalogueStands stores.now.catalog h → MayBePlaced h caller.session parent.number place.bound place.level) }
 {
     trees_are_together();
     let Stores { txs, catalog, .. } = stores;
@@ -188,11 +196,18 @@ fn make_placed(
     place: Place,
 ) -> Result<(), Stop>
     requires may { MayAttempt stores.old caller }
-    requires known { parent.number < length stores.old.catalog.tables }
-    requires placed { (h : History) → TableStands stores.old.txs h → CatalogueStands stores.old.catalog h → MayBePlaced h caller.session name parent.number place.bound place.level }
-    requires locked { (h : History) → Stands stores.old h → IsOwned h caller.session parent.number }
+    requires parent { IsLockedNamed stores.old caller.session parent.number }
+    requires free { (h : History) → TableStands stores.old.txs h → CatalogueStands stores.old.catalog h → MayBeMade h caller.session name }
+    requires placed { (h : History) → TableStands stores.old.txs h → CatalogueStands stores.old.catalog h → MayBePlaced h caller.session parent.number place.bound place.level }
     ensures { IsStep (λ u. u) result stores.old stores.new caller (caller.cmd + 1) (partitions.partition_made caller name parent.number (seen_place place)) }
 {
+    new_leaf_may_follow();
+    new_level_may_follow();
+    leaves_are_housed();
+    new_partition_may_follow();
+    passed_have_places();
+    named_is_there();
+    sessions_have_siblings();
     let Some(by) = stores.txs.open_of(caller.session) else {
         unreachable!()
     };
@@ -222,8 +237,7 @@ fn place_and_make(
     by: &Option<Partitioning>,
 ) -> Result<(), Stop>
     requires may { MayAttempt stores.old caller }
-    requires known { parent.number < length stores.old.catalog.tables }
-    requires locked { (h : History) → Stands stores.old h → IsOwned h caller.session parent.number }
+    requires parent { IsLockedNamed stores.old caller.session parent.number }
     ensures { IsStep (λ u. u) result stores.old stores.new caller (caller.cmd + 1) (partitions.placed_and_made caller name.now parent.number (bound_tree bound.now) by.now) }
 {
     match place_found(alloc, stores, caller, name.as_bytes(), parent, bound, by) {

@@ -37,10 +37,10 @@ pub(crate) fn check_free(
     ensures { (h : History) → TableStands txs.now h → CatalogueStands catalog.now h → IsAnswer result (refused.free_name h session name.now) }
 {
     check_name(alloc, catalog, txs, session, name)?;
-    if catalog.name_taken_by(txs, session, name).is_some() {
-        return Err(Refusal::Sql(left_out(alloc, b"CREATE")?));
+    match catalog.name_taken_by(txs, session, name) {
+        Some(_) => Err(Refusal::Sql(left_out(alloc, b"CREATE")?)),
+        None => Ok(()),
     }
-    Ok(())
 }
 
 /// A refusal ends the statement.

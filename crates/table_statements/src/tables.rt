@@ -4,13 +4,10 @@ ghost use Rattle.history.specs.History.{History};
 ghost use Rattle.tx_table.specs.Stands.{TableStands};
 ghost use Rattle.part_catalog.specs.Stands.{CatalogueStands};
 ghost use Rattle.expression_binder.specs.Firsts.{IsAnswerBy};
-ghost use Rattle.part_ddl.specs.Tables.{KeysFit, count_faults};
+ghost use Rattle.part_ddl.specs.Tables.{KeysFit};
 ghost use Rattle.course.specs.Attempts.{MayAttempt};
 ghost use Rattle.statement_steps.specs.Steps.{IsStep};
-ghost use Rattle.pg_ids.specs.declared.which.Which.TheVariants.{Tables as TablesMeant};
-ghost use Rattle.part_ddl.specs.Faults as faults;
-ghost use Rattle.table_statements.specs.Asked.{IsFree};
-ghost use Rattle.table_statements.specs.Refused.{unless_faults};
+ghost use Rattle.table_statements.specs.Asked.{MayBeMade};
 ghost use Rattle.table_statements.specs.Tables as tables;
 ghost use Rattle.table_statements.specs.Seen.{seen_plan};
 ghost use Rattle.table_statements.specs.Tables.{created, table_plan};
@@ -18,43 +15,23 @@ ghost use Rattle.table_statements.specs.Tables.{created, table_plan};
 use crate::refused::{check_control, check_free, stop_by};
 use course::{Caller, Stop};
 use history::{Column, Columns};
+use legal_statements::{new_leaf_may_follow, new_level_may_follow};
 use part_bounds::Level;
-use part_catalog::{Catalog, TABLE_LIMIT};
-use part_ddl::make_table;
-use pg_ids::Which;
-use pg_values::{Fault, NoMemory, PgText, Refusal, SqlState};
+use part_catalog::Catalog;
+use part_ddl::{check_count, make_table};
+use pg_values::{NoMemory, PgText, Refusal};
 use sql_commands::{ColumnList, Partitioning};
 use statement_steps::hold_if_repeatable;
 use std::alloc::Global;
-use stores::Stores;
+use stores::{Stores, leaves_are_housed};
 use table_binder::{bind_columns, bind_partitioning};
 use tx_table::TxTable;
-use value_rules::one_text;
 
 /// What a new table has.
 #[derive(Drop)]
 pub(crate) struct Plan {
     pub columns: Columns,
     pub level: Option<Level>,
-}
-
-fn too_many_tables(alloc: Global) -> Result<Fault, NoMemory>
-    ensures { IfOk result (λ f. f ≡ faults.too_many TablesMeant) }
-{
-    Ok(Fault {
-        code: SqlState { bytes: *b"54000" },
-        args: one_text(alloc, Which::Tables.word())?,
-    })
-}
-
-/// There are 4,096 tables at most, dropped ones too.
-pub(crate) fn check_count(alloc: Global, catalog: &Catalog) -> Result<(), Refusal>
-    ensures { (h : History) → CatalogueStands catalog.now h → IsAnswer result (unless_faults (count_faults h) (Ok tt)) }
-{
-    if catalog.table_count() as usize >= TABLE_LIMIT {
-        return Err(Refusal::Sql(too_many_tables(alloc)?));
-    }
-    Ok(())
 }
 
 /// The level of a table with these columns, where it is partitioned.
@@ -115,7 +92,7 @@ fn planned(
     requires { MayAttempt stores.now caller }
     ensures step { IsStep seen_plan result stores.now stores.now caller caller.cmd (tables.planned caller.session name.now definitions.now by.now) }
     ensures fit { IfOk result (λ plan. KeysFit plan.columns plan.level) }
-    ensures new { IfOk result (λ plan. (h : History) → TableStands stores.now.txs h → CatalogueStands stores.now.catalog h → IsFree h caller.session name.now) }
+    ensures new { IfOk result (λ plan. (h : History) → TableStands stores.now.txs h → CatalogueStands stores.now.catalog h → MayBeMade h caller.session name.now) }
 {
     let Stores { txs, catalog, .. } = stores;
     match plan_of(alloc, catalog, txs, caller.session, name, definitions, by) {
@@ -134,9 +111,12 @@ fn make_planned(
 ) -> Result<(), Stop>
     requires may { MayAttempt stores.old caller }
     requires fit { KeysFit plan.columns plan.level }
-    requires free { (h : History) → TableStands stores.old.txs h → CatalogueStands stores.old.catalog h → IsFree h caller.session name }
+    requires free { (h : History) → TableStands stores.old.txs h → CatalogueStands stores.old.catalog h → MayBeMade h caller.session name }
     ensures { IsStep (λ u. u) result stores.old stores.new caller (caller.cmd + 1) (tables.table_made caller name (seen_plan plan)) }
 {
+    new_leaf_may_follow();
+    new_level_may_follow();
+    leaves_are_housed();
     let Some(by) = stores.txs.open_of(caller.session) else {
         unreachable!()
     };

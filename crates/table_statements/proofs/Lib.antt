@@ -1,0 +1,11 @@
+mod Chains
+mod Below
+mod Deeds
+mod Dropping
+mod Ends
+mod Firsts
+mod Fresh
+mod Held
+mod Left
+mod Placing
+mod Same
