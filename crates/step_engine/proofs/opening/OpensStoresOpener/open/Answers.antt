@@ -2,7 +2,7 @@ use Rattle.std.proofs.Common.{◌≡◌, ◌+◌, ◌∙◌, ℕ, List, ap, leng
 use Rattle.std.proofs.lemmas.List.{length-replicate}
 use Rattle.course.specs.Database.{empty}
 use Rattle.step_engine.specs.Run.{session_names}
-use Rattle.step_engine.proofs.Opening.{opened_so}
+use Rattle.step_engine.proofs.Opened.{opened_so}
 use Rattle.step_engine.proofs.opening.OpensStoresOpener.open.Goals as goal
 
 pub returns-clause-opens : goal.returns-clause-opens
