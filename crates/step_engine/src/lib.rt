@@ -9,3 +9,5 @@ mod opening;
 
 pub use opening::partscript_run;
 
+#[cfg(test)]
+mod tests;
