@@ -31,13 +31,7 @@ fn check_room(stores: &Stores, caller: Caller)
 }
 
 // It is refused, and told by that word.
-fn omit(
-    alloc: Global,
-    stores: &Stores,
-    caller: Caller,
-    word: &[u8],
-    out: &[u8],
-) -> Result<(), Stop>
+fn omit(alloc: Global, stores: &Stores, caller: Caller, word: &[u8], out: &[u8]) -> Result<(), Stop>
     requires { MayAttempt stores.now caller }
     ensures { IsStatement result stores.now stores.now out.now out.now caller (attempted.omitted word.now) }
 {

@@ -75,11 +75,7 @@ impl Kinds for Statements {
         Ok(None)
     }
 
-    fn set(
-        alloc: Global,
-        settings: Settings,
-        statement: &Statement,
-    ) -> Result<Settings, Refusal> {
+    fn set(alloc: Global, settings: Settings, statement: &Statement) -> Result<Settings, Refusal> {
         changed_settings(alloc, settings, statement)
     }
 
