@@ -13,11 +13,11 @@ ghost use Rattle.partscript.specs.Status as spec;
 use adapters::{InputSource, OutputSink};
 use behind_name::BehindName;
 use pg_values::NoMemory;
+use script_program::Ended;
 use std::env;
 use std::io::ErrorKind;
 use std::process::ExitCode;
 use std::rt::Env;
-use script_program::Ended;
 use step_engine::partscript_run;
 
 /// The status of each answer.
