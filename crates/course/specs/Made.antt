@@ -1,11 +1,12 @@
 -- What a part of a statement makes of a history, and how it ends.
-use Rattle.std.specs.Prelude.{◌++◌, Result, Ok, Err}
+use Rattle.std.specs.Prelude.{◌++◌, Option, Result, Ok, Err}
 use Rattle.pg_values.specs.declared.fault.Fault.{Fault}
 use Rattle.history.specs.History.{History}
+use Rattle.course.specs.declared.rest.Rest.{Rest}
 
--- it stops: it has to wait, and will begin anew; or it is refused
+-- it stops: it has to wait, and will go on where it stood, or else begin anew; or it is refused
 pub data Halt : Type 0 where
-  Waits : Halt
+  Waits : Option Rest → Halt
   Refused : Fault → Halt
 
 -- the events, the newest first, and what comes of them

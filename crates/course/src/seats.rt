@@ -8,26 +8,29 @@ ghost use Rattle.course.specs.Kept.{Adds, TellOf, due_in, waits_in};
 ghost use Rattle.course.specs.Ran.{attempt_at, waits_by, HasRun};
 ghost use Rattle.course.specs.Weight.{slack, most};
 
-use crate::{Caller, Kinds, Stop};
+use crate::{Caller, Kinds, Rest, Stop};
 use pg_values::{Args, Fault, NoMemory, SqlState};
 use schedule::leave;
-use sessions::{Asker, Outcome, Settings};
+use sessions::{Asker, Isolation, Outcome, Settings};
 use std::alloc::Global;
 use std::marker::Model;
 use stores::Stores;
 
 /// The stores, and how far the sessions of a run are.
 ///
-/// `opened` tells which sessions have a transaction, `commands` how many commands of it were tried, and
-/// `cancelled` whose wait was cancelled; `queue` are those that wait, the oldest wait first, and `ready`
-/// the first of them whose causes have gone. Where memory ran out inside of a statement the stores are
-/// not `whole`, and nothing more is run.
+/// `opened` tells which sessions have a transaction, `commands` how many commands of it were tried,
+/// `cancelled` whose wait was cancelled, `rests` where a statement stands that waits in the middle of its
+/// run, and `moved` since whose last step something was given up; `queue` are those that wait, the oldest
+/// wait first, and `ready` the first of them whose causes have gone. Where memory ran out inside of a
+/// statement the stores are not `whole`, and nothing more is run.
 #[derive(Drop)]
 pub struct Seats {
     pub(crate) stores: Stores,
     pub(crate) opened: Vec<bool>,
     pub(crate) commands: Vec<u32>,
     pub(crate) cancelled: Vec<bool>,
+    pub(crate) rests: Vec<Option<Rest>>,
+    pub(crate) moved: Vec<bool>,
     pub(crate) queue: Vec<usize>,
     pub(crate) ready: Option<u32>,
     pub(crate) whole: bool,
@@ -38,9 +41,9 @@ impl Model for Seats {
 
     ghost Value = { KeptSeats };
 
-    ghost view = { λ e. record { stores = e.stores; opened = e.opened.items; commands = e.commands.items; cancelled = e.cancelled.items; queue = e.queue.items; ready = e.ready; whole = e.whole } };
+    ghost view = { λ e. record { stores = e.stores; opened = e.opened.items; commands = e.commands.items; cancelled = e.cancelled.items; rests = e.rests.items; moved = e.moved.items; queue = e.queue.items; ready = e.ready; whole = e.whole } };
 
-    ghost invariant = { λ e. AreKept (record { stores = e.stores; opened = e.opened.items; commands = e.commands.items; cancelled = e.cancelled.items; queue = e.queue.items; ready = e.ready; whole = e.whole }) };
+    ghost invariant = { λ e. AreKept (record { stores = e.stores; opened = e.opened.items; commands = e.commands.items; cancelled = e.cancelled.items; rests = e.rests.items; moved = e.moved.items; queue = e.queue.items; ready = e.ready; whole = e.whole }) };
 }
 
 fn statement_cancelled(alloc: Global) -> Fault
@@ -52,11 +55,28 @@ fn statement_cancelled(alloc: Global) -> Fault
     }
 }
 
+// No statement stands in the middle of its run.
+fn nothing_left(alloc: Global, sessions: usize) -> Result<Vec<Option<Rest>>, NoMemory>
+    ensures { IfOk result (λ rests. rests.items ≡ replicate sessions None) }
+{
+    let mut rests = Vec::new(alloc);
+    for _ in 0..sessions {
+        rests.push(None)?;
+    }
+    Ok(rests)
+}
+
 fn flag_at(flags: &[bool], session: usize) -> bool
     requires { session < length flags.now }
     ensures { result ≡ slice_index_or flags.now session false }
 {
     flags[session]
+}
+
+fn mark_all(flags: &mut [bool])
+    ensures { flags.new ≡ replicate (length flags.old) true }
+{
+    flags.fill(true);
 }
 
 fn number_at(numbers: &[u32], session: usize) -> u32
@@ -75,6 +95,7 @@ impl Seats {
         ensures opened { IfOk result (λ e. e.opened ≡ replicate sessions false) }
         ensures commands { IfOk result (λ e. e.commands ≡ replicate sessions 0) }
         ensures cancelled { IfOk result (λ e. e.cancelled ≡ replicate sessions false) }
+        ensures rests { IfOk result (λ e. e.rests ≡ replicate sessions None) }
     {
         let stores = Stores::new(alloc, sessions as u32, 4096)?;
         let ready = stores.locks.ready();
@@ -83,6 +104,8 @@ impl Seats {
             opened: vec![in alloc; false; sessions]?,
             commands: vec![in alloc; 0; sessions]?,
             cancelled: vec![in alloc; false; sessions]?,
+            rests: nothing_left(alloc, sessions)?,
+            moved: vec![in alloc; false; sessions]?,
             queue: Vec::new(alloc),
             ready,
             whole: true,
@@ -97,6 +120,7 @@ impl Seats {
         ensures opened { OnOk result (self.new.opened ≡ slice_set self.old.opened session true) }
         ensures commands { OnOk result (self.new.commands ≡ slice_set self.old.commands session 0) }
         ensures cancelled { self.new.cancelled ≡ self.old.cancelled }
+        ensures rests { self.new.rests ≡ self.old.rests }
         ensures waits { waits_in self.new session ≡ waits_in self.old session }
         ensures err { OnErr result (self.new ≡ self.old) }
     {
@@ -117,6 +141,7 @@ impl Seats {
         ensures opened { self.new.opened ≡ slice_set self.old.opened session false }
         ensures commands { self.new.commands ≡ self.old.commands }
         ensures cancelled { self.new.cancelled ≡ self.old.cancelled }
+        ensures rests { self.new.rests ≡ self.old.rests }
         ensures idle { waits_in self.new session ≡ false }
     {
         self.opened[session] = false;
@@ -124,6 +149,7 @@ impl Seats {
             return;
         }
         self.stores.commit(session as u32);
+        mark_all(&mut self.moved);
         leave(session, &mut self.queue);
         self.ready = self.stores.locks.ready();
     }
@@ -136,6 +162,7 @@ impl Seats {
         ensures opened { self.new.opened ≡ slice_set self.old.opened session false }
         ensures commands { self.new.commands ≡ self.old.commands }
         ensures cancelled { self.new.cancelled ≡ self.old.cancelled }
+        ensures rests { self.new.rests ≡ self.old.rests }
         ensures idle { waits_in self.new session ≡ false }
     {
         self.opened[session] = false;
@@ -143,11 +170,12 @@ impl Seats {
             return;
         }
         self.stores.abort(session as u32);
+        mark_all(&mut self.moved);
         leave(session, &mut self.queue);
         self.ready = self.stores.locks.ready();
     }
 
-    /// The wait of the session is over, and it holds the lock that it waited for.
+    /// The wait of the session is over, and it holds the lock that it waited for, if it was one.
     pub(crate) fn resume(&mut self, session: usize)
         requires known { session < length self.old.opened }
         requires due { due_in self.old session ≡ true }
@@ -155,11 +183,13 @@ impl Seats {
         ensures opened { self.new.opened ≡ self.old.opened }
         ensures commands { self.new.commands ≡ self.old.commands }
         ensures cancelled { self.new.cancelled ≡ self.old.cancelled }
+        ensures rests { self.new.rests ≡ self.old.rests }
         ensures idle { waits_in self.new session ≡ false }
         ensures lower { slack self.new < slack self.old }
     {
         let _ = self.stores.locks.wanted(session as u32);
         self.stores.resume(session as u32);
+        self.moved[session] = false;
         leave(session, &mut self.queue);
         self.ready = self.stores.locks.ready();
     }
@@ -172,6 +202,7 @@ impl Seats {
         ensures opened { self.new.opened ≡ self.old.opened }
         ensures commands { self.new.commands ≡ self.old.commands }
         ensures cancelled { self.new.cancelled ≡ slice_set self.old.cancelled session true }
+        ensures rests { self.new.rests ≡ self.old.rests }
         ensures idle { waits_in self.new session ≡ false }
         ensures lower { slack self.new < slack self.old }
     {
@@ -231,8 +262,31 @@ impl Seats {
         self.whole && self.stores.locks.wanted(session as u32).is_some()
     }
 
-    /// A statement of the session is run up to its end or to a wait. One whose wait was cancelled is
-    /// refused.
+    // A statement that waited in the middle of its run is done: unless its transaction keeps it, the
+    // snapshot is given up that it has held.
+    fn give_up(&mut self, level: Isolation, session: usize)
+        requires known { session < length self.old.opened }
+        requires whole { self.old.whole ≡ true }
+        requires free { waits_in self.old session ≡ false }
+        ensures adds { Adds self.old self.new (λ h. database.let_go_at level session) }
+        ensures opened { self.new.opened ≡ self.old.opened }
+        ensures commands { self.new.commands ≡ self.old.commands }
+        ensures cancelled { self.new.cancelled ≡ self.old.cancelled }
+        ensures rests { self.new.rests ≡ self.old.rests }
+        ensures idle { waits_in self.new session ≡ false }
+    {
+        match level {
+            Isolation::RepeatableRead => {}
+            Isolation::ReadCommitted | Isolation::ReadUncommitted => {
+                self.stores.let_go(session as u32);
+                mark_all(&mut self.moved);
+                self.ready = self.stores.locks.ready();
+            }
+        }
+    }
+
+    /// A statement of the session is run from its beginning, or from where it stood, up to its end or to a
+    /// wait. One whose wait was cancelled is refused.
     pub(crate) fn run<K: Kinds>(
         &mut self,
         alloc: Global,
@@ -246,7 +300,7 @@ impl Seats {
         requires open { slice_index_or self.old.opened asker.session false ≡ true }
         requires free { waits_in self.old asker.session ≡ false }
         ensures ran { IfOk result (λ o. (h : History) → TellOf self.old h →
-            HasRun (attempt_at K.words (K.options kinds.now) self.old asker h settings (K.tree statement.now)) asker.session self.old self.new out.old.items out.new.items o h) }
+            HasRun (attempt_at K.words (K.options kinds.now) self.old asker h settings (K.tree statement.now)) asker self.old self.new out.old.items out.new.items o h) }
         ensures opened { self.new.opened ≡ self.old.opened }
         ensures waits { IfOk result (λ o. waits_in self.new asker.session ≡ waits_by o) }
         ensures lower { result ≡ Ok outcomes.Waits → slack self.new ≤ slack self.old }
@@ -264,6 +318,7 @@ impl Seats {
         if flag_at(&self.cancelled, session) {
             self.cancelled[session] = false;
             self.commands[session] = next;
+            self.rests[session] = None;
             return Ok(Outcome::Refused(statement_cancelled(alloc)));
         }
         let caller = Caller {
@@ -273,14 +328,20 @@ impl Seats {
             cmd,
             kind: asker.kind,
         };
-        let answer = kinds.attempt(alloc, &mut self.stores, caller, settings, statement, out);
+        let rest = self.rests[session].take();
+        let has_stood = rest.is_some();
+        let answer = kinds.attempt(alloc, &mut self.stores, caller, rest, settings, statement, out);
         self.ready = self.stores.locks.ready();
         match answer {
             Ok(()) => {
                 self.commands[session] = next;
+                if has_stood {
+                    self.give_up(asker.level, session);
+                }
                 Ok(Outcome::Done)
             }
-            Err(Stop::Waits) => {
+            Err(Stop::Waits(rest)) => {
+                self.rests[session] = rest;
                 if self.queue.push(session).is_err() {
                     self.whole = false;
                     return Err(NoMemory);
