@@ -1,18 +1,19 @@
 -- What a statement that runs over the stores keeps, and what its answer tells.
-use Rattle.std.specs.Prelude.{◌≡◌, ◌≤◌, ◌≢◌, ℕ, ◌+◌, ◌<◌, true, List, [], ◌∷◌, ◌++◌, Some, None, Result, Ok, Err, IsSome, length, slice_index_or}
+use Rattle.std.specs.Prelude.{◌≡◌, ◌≤◌, ◌≢◌, ℕ, ◌+◌, ◌<◌, true, List, [], ◌∷◌, ◌++◌, Option, Some, None, All, IfSome, Result, Ok, Err, IsSome, length, slice_index_or}
 use Rattle.pg_ids.specs.Sets.{has}
-use Rattle.pg_ids.specs.declared.ids.TableNo.{TableNo}
 use Rattle.pg_ids.specs.declared.lock_mode.LockMode.{LockMode}
-use Rattle.history.specs.declared.wait.Wanted.TheVariants.{Lock}
+use Rattle.history.specs.declared.wait.Wanted.{Wanted}
+use Rattle.history.specs.declared.wait.Wanted.TheVariants.{Lock, Others}
 use Rattle.history.specs.Locks.{queue}
 use Rattle.history.specs.History.{History, lock_events}
 use Rattle.lock_table.specs.Kept.{held_at}
-use Rattle.lock_table.specs.Stands.{IsIdle, OthersWait, SameSize}
+use Rattle.lock_table.specs.Stands.{IsIdle, OthersWait, SameSize, names}
 use Rattle.stores.specs.Stand.{Stands}
 use Rattle.stores.specs.Numbers.{IsAt}
 use Rattle.stores.specs.declared.stores.Stores.{Stores}
-use Rattle.course.specs.Made.{Made, Waits, Refused}
+use Rattle.course.specs.Made.{Made, Waits, Refused, number_after}
 use Rattle.course.specs.declared.caller.Caller.{Caller}
+use Rattle.course.specs.declared.rest.Rest.{Rest}
 use Rattle.course.specs.declared.stop.Stop.{Stop}
 use Rattle.course.specs.declared.stop.Stop.TheVariants as stop
 
@@ -30,6 +31,10 @@ pub record MayAttempt (stores : Stores) (caller : Caller) : Type 0 where
   pub sessions : length stores.locks.wants ≡ caller.sessions
   pub tables : stores.locks.tables ≡ 4096
 
+-- the row versions that are left are there
+abbrev pub MayGoOn : Stores → Option Rest → Type 0
+MayGoOn stores rest = IfSome rest (λ r. All (λ id. id.number < length stores.rows.stored) r.left)
+
 -- the history went on from the earlier one: the session's next command has that number, those of others keep theirs, and
 -- these sessions wait behind those that waited before
 pub record WentOn (earlier : History) (session cmd : ℕ) (waiting : List ℕ) (stores : Stores) (h : History) : Type 0 where
@@ -41,7 +46,7 @@ pub record WentOn (earlier : History) (session cmd : ℕ) (waiting : List ℕ) (
 -- want of memory apart, what came of it is what is told; a statement that is done prints, and counts as a command
 abbrev pub IsAttempt : Result (Unit {0}) Stop → Stores → (before after : List ℕ) → Caller → History → Made (List ℕ) → Type 0
 IsAttempt (Ok u) new before after caller h m = (text : List ℕ) × (m.told ≡ Ok text) × (after ≡ before ++ text) × WentOn h caller.session (caller.cmd + 1) [] new (m.events ++ h)
-IsAttempt (Err stop.Waits) new before after caller h m = (m.told ≡ Err Waits) × (after ≡ before) × WentOn h caller.session caller.cmd (caller.session ∷ []) new (m.events ++ h)
+IsAttempt (Err (stop.Waits rest)) new before after caller h m = (m.told ≡ Err (Waits rest)) × (after ≡ before) × WentOn h caller.session (number_after rest caller.cmd) (caller.session ∷ []) new (m.events ++ h)
 IsAttempt (Err (stop.Refused f)) new before after caller h m = (m.told ≡ Err (Refused f)) × (after ≡ before) × WentOn h caller.session (caller.cmd + 1) [] new (m.events ++ h)
 IsAttempt (Err stop.NoMemory) new before after caller h m = Unit {0}
 
@@ -56,13 +61,18 @@ pub record GoesOn (old new : Stores) (session : ℕ) : Type 0 where
   pub others : OthersWait session old.locks new.locks
   pub size : SameSize old.locks new.locks
 
--- the session waits for a lock
-abbrev pub WaitsForLock : Stores → (session : ℕ) → Type 0
-WaitsForLock stores s = (table : TableNo) × (m : LockMode) × (slice_index_or stores.locks.wants s None ≡ Some (Lock table m))
+-- somebody is waited for, unless it is a lock that is waited for
+abbrev pub HasCause : Wanted → Type 0
+HasCause (Lock table m) = Unit {0}
+HasCause (Others what) = (s : ℕ) × (names what s ≡ true)
 
--- it does just where the answer says so
+-- the session waits for a lock, or for others
+abbrev pub IsWaiting : Stores → (session : ℕ) → Type 0
+IsWaiting stores s = (w : Wanted) × (slice_index_or stores.locks.wants s None ≡ Some w) × HasCause w
+
+-- it does just where the answer says so, and can go on from where it stands
 abbrev pub IsHalt : Result (Unit {0}) Stop → Stores → (session : ℕ) → Type 0
 IsHalt (Ok u) stores s = IsIdle stores.locks s
-IsHalt (Err stop.Waits) stores s = WaitsForLock stores s
+IsHalt (Err (stop.Waits rest)) stores s = IsWaiting stores s × MayGoOn stores rest
 IsHalt (Err (stop.Refused f)) stores s = IsIdle stores.locks s
 IsHalt (Err stop.NoMemory) stores s = Unit {0}

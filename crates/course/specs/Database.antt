@@ -1,5 +1,5 @@
 -- The run of statements over a history: what each call of a session makes of it (the manual, 13.2 and 13.3).
-use Rattle.std.specs.Prelude.{ℕ, ◌+◌, Bool, true, false, List, [], ◌++◌, None, Result, Ok, Err, is_some, replicate, slice_index_or, slice_set, codes}
+use Rattle.std.specs.Prelude.{ℕ, ◌+◌, Bool, true, false, List, [], ◌++◌, Option, Some, None, Result, Ok, Err, is_some, replicate, slice_index_or, slice_set, codes}
 use Rattle.pg_values.specs.declared.fault.Fault.{Fault}
 use Rattle.history.specs.History.{History, lock_events}
 use Rattle.history.specs.Locks.{wanted, queue}
@@ -9,29 +9,36 @@ use Rattle.sessions.specs.Course.{Course}
 use Rattle.sessions.specs.declared.asker.Asker.{Asker}
 use Rattle.sessions.specs.declared.outcome.Outcome.{Outcome}
 use Rattle.sessions.specs.declared.outcome.Outcome.TheVariants as outcomes
+use Rattle.sessions.specs.declared.phase.Isolation.{Isolation}
+use Rattle.sessions.specs.declared.phase.Isolation.TheVariants.{ReadCommitted, ReadUncommitted, RepeatableRead}
 use Rattle.sessions.specs.declared.settings.Settings.{Settings}
-use Rattle.stores.specs.Events.{begun, committed, aborted, withdrawn, resumed}
-use Rattle.course.specs.Made.{Made, Halt, Waits, Refused, halted}
+use Rattle.stores.specs.Events.{begun, committed, aborted, let_go, withdrawn, resumed}
+use Rattle.course.specs.Made.{Made, Halt, Waits, Refused, number_after, halted}
 use Rattle.course.specs.Words.{Words}
 use Rattle.course.specs.declared.caller.Caller.{Caller}
+use Rattle.course.specs.declared.rest.Rest.{Rest}
 
--- all that has happened; of each session how many commands of its transaction have begun and ended, and whether the
--- wait of its statement was cancelled
+-- all that has happened; of each session how many commands of its transaction have begun and ended, whether the
+-- wait of its statement was cancelled, and where a statement stands that waits in the middle of its run
 pub record Database (O : Type 0) : Type 0 where
   pub options : O
   pub sessions : ℕ
   pub history : History
   pub commands : List ℕ
   pub cancelled : List Bool
+  pub rests : List (Option Rest)
 
 abbrev pub empty : {O : Type 0} → O → ℕ → Database O
-empty o n = record { options = o; sessions = n; history = []; commands = replicate n 0; cancelled = replicate n false }
+empty o n = record { options = o; sessions = n; history = []; commands = replicate n 0; cancelled = replicate n false; rests = replicate n None }
 
 abbrev pub command_of : {O : Type 0} → Database O → ℕ → ℕ
 command_of v s = slice_index_or v.commands s 0
 
 abbrev pub is_cancelled : {O : Type 0} → Database O → ℕ → Bool
 is_cancelled v s = slice_index_or v.cancelled s false
+
+abbrev pub rest_of : {O : Type 0} → Database O → ℕ → Option Rest
+rest_of v s = slice_index_or v.rests s None
 
 -- ---- a statement
 
@@ -41,30 +48,47 @@ statement_cancelled = record { code = record { bytes = codes "57014" }; args = [
 abbrev pub caller_of : (sessions cmd : ℕ) → Asker → Caller
 caller_of n cmd a = record { session = a.session; sessions = n; level = a.level; cmd = cmd; kind = a.kind }
 
--- a statement whose wait was cancelled is refused; else it begins anew
+-- a statement whose wait was cancelled is refused
 abbrev pub unless_cancelled : Bool → Made (List ℕ) → Made (List ℕ)
 unless_cancelled true m = halted [] (Refused statement_cancelled)
 unless_cancelled false m = m
 
 abbrev pub attempt_of : {O T : Type 0} → Words O T → Database O → Asker → Settings → T → Made (List ℕ)
-attempt_of W v a g t = unless_cancelled (is_cancelled v a.session) (W.attempted v.options (caller_of v.sessions (command_of v a.session) a) v.history g t)
+attempt_of W v a g t = unless_cancelled (is_cancelled v a.session) (W.attempted v.options (caller_of v.sessions (command_of v a.session) a) (rest_of v a.session) v.history g t)
 
--- a command that waits is to begin anew under its number
+-- a command that is to begin anew keeps its number
 abbrev pub next_command : Result (List ℕ) Halt → ℕ → ℕ
 next_command (Ok text) n = n + 1
-next_command (Err Waits) n = n
+next_command (Err (Waits rest)) n = number_after rest n
 next_command (Err (Refused f)) n = n + 1
 
-abbrev pub goes_on : {O : Type 0} → Database O → ℕ → Made (List ℕ) → Database O
-goes_on v s m = record v {
-  history = m.events ++ v.history;
-  commands = slice_set v.commands s (next_command m.told (command_of v s));
-  cancelled = slice_set v.cancelled s false;
+abbrev pub rest_told : Result (List ℕ) Halt → Option Rest
+rest_told (Ok text) = None
+rest_told (Err (Waits rest)) = rest
+rest_told (Err (Refused f)) = None
+
+-- a transaction at REPEATABLE READ keeps its snapshot
+abbrev pub let_go_at : Isolation → (session : ℕ) → History
+let_go_at ReadCommitted s = let_go s
+let_go_at ReadUncommitted s = let_go s
+let_go_at RepeatableRead s = []
+
+-- a statement that waited in the middle of its run has held its snapshot, and gives it up where it is done
+abbrev pub given_up : Isolation → (session : ℕ) → Option Rest → Result (List ℕ) Halt → History
+given_up level s (Some rest) (Ok text) = let_go_at level s
+given_up level s rest told = []
+
+abbrev pub goes_on : {O : Type 0} → Database O → Asker → Made (List ℕ) → Database O
+goes_on v a m = record v {
+  history = given_up a.level a.session (rest_of v a.session) m.told ++ (m.events ++ v.history);
+  commands = slice_set v.commands a.session (next_command m.told (command_of v a.session));
+  cancelled = slice_set v.cancelled a.session false;
+  rests = slice_set v.rests a.session (rest_told m.told);
 }
 
 abbrev pub outcome_told : Result (List ℕ) Halt → Outcome
 outcome_told (Ok text) = outcomes.Done
-outcome_told (Err Waits) = outcomes.Waits
+outcome_told (Err (Waits rest)) = outcomes.Waits
 outcome_told (Err (Refused f)) = outcomes.Refused f
 
 abbrev pub text_told : Result (List ℕ) Halt → List ℕ
@@ -88,7 +112,7 @@ course W = record {
   began = λ v s. record (happened v (begun v.history s)) { commands = slice_set v.commands s 0 };
   committed = λ v s. happened v (committed v.history s);
   aborted = λ v s. happened v (aborted v.history s);
-  ran = λ v a g t. goes_on v a.session (attempt_of W v a g t);
+  ran = λ v a g t. goes_on v a (attempt_of W v a g t);
   outcome = λ v a g t. outcome_told (attempt_of W v a g t).told;
   text = λ v a g t. text_told (attempt_of W v a g t).told;
   interrupted = λ v. None;

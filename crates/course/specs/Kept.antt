@@ -1,23 +1,29 @@
 -- What is kept of a run's sessions beside the stores, and when it tells of a history.
-use Rattle.std.specs.Prelude.{◌≡◌, ◌≢◌, ℕ, ◌≤◌, ◌<◌, ◌==◌, ◌&&◌, Bool, true, false, List, ◌++◌, Option, Some, None, All, IfSome, is_some, length, slice_index_or}
+use Rattle.std.specs.Prelude.{◌≡◌, ℕ, ◌≤◌, ◌<◌, ◌==◌, ◌&&◌, Bool, true, false, List, ◌++◌, Option, Some, None, All, IfSome, is_some, length, slice_index_or}
 use Rattle.history.specs.declared.wait.WaitOn.{WaitOn}
-use Rattle.history.specs.declared.wait.Wanted.TheVariants.{Others}
+use Rattle.history.specs.declared.wait.Wanted.{Wanted}
+use Rattle.history.specs.declared.wait.Wanted.TheVariants.{Lock, Others}
 use Rattle.history.specs.Locks.{wanted, queue}
 use Rattle.history.specs.Waits.{ready}
 use Rattle.history.specs.History.{Event, History, lock_events}
-use Rattle.lock_table.specs.Stands.{TableStands as LocksStand}
+use Rattle.lock_table.specs.Stands.{TableStands as LocksStand, names}
 use Rattle.stores.specs.Stand.{Stands}
 use Rattle.stores.specs.Numbers.{IsAt}
 use Rattle.stores.specs.declared.stores.Stores.{Stores}
+use Rattle.course.specs.Attempts.{MayGoOn}
 use Rattle.course.specs.Database.{Database}
+use Rattle.course.specs.declared.rest.Rest.{Rest}
 
--- who has a transaction, how many commands of it were tried, whose wait was cancelled; who waits, the oldest wait first, and
--- which of them can go on; and whether all that was done to the stores is told
+-- who has a transaction, how many commands of it were tried, whose wait was cancelled, and where a statement stands that
+-- waits in the middle of its run; since whose last step something was given up; who waits, the oldest wait first, and which
+-- of them can go on; and whether all that was done to the stores is told
 pub record KeptSeats : Type 0 where
   pub stores : Stores
   pub opened : List Bool
   pub commands : List ℕ
   pub cancelled : List Bool
+  pub rests : List (Option Rest)
+  pub moved : List Bool
   pub queue : List ℕ
   pub ready : Option ℕ
   pub whole : Bool
@@ -27,15 +33,19 @@ pub record AreSeated (kept : KeptSeats) : Type 0 where
   pub few : length kept.opened ≤ 65
   pub commands : length kept.commands ≡ length kept.opened
   pub cancelled : length kept.cancelled ≡ length kept.opened
+  pub rests : length kept.rests ≡ length kept.opened
+  pub moved : length kept.moved ≡ length kept.opened
   pub transactions : length kept.stores.txs.current ≡ length kept.opened
   pub waits : length kept.stores.locks.wants ≡ length kept.opened
   pub tables : kept.stores.locks.tables ≡ 4096
   pub queue : All (λ s. s < length kept.opened) kept.queue
   pub ready : IfSome kept.ready (λ s. s < length kept.opened)
 
--- all that waits, waits for a lock, and its wait was not cancelled
+-- who waits for others has a cause until something is given up, no wait that stands was cancelled, and what is left to
+-- statements is there
 pub record AreWaits (kept : KeptSeats) (h : History) : Type 0 where
-  pub for_locks : (s : ℕ) (w : WaitOn) → wanted (lock_events h) s ≢ Some (Others w)
+  pub caused : (s : ℕ) (w : WaitOn) → slice_index_or kept.stores.locks.wants s None ≡ Some (Others w) → slice_index_or kept.moved s false ≡ false → (y : ℕ) × (names w y ≡ true)
+  pub going_on : (s : ℕ) → MayGoOn kept.stores (slice_index_or kept.rests s None)
   pub standing : (s : ℕ) → is_some (wanted (lock_events h) s) ≡ true → slice_index_or kept.cancelled s false ≡ false
 
 -- what is kept tells of the history
@@ -65,6 +75,12 @@ pub record StandsFor {O : Type 0} (o : O) (kept : KeptSeats) (v : Database O) : 
   pub tells : TellOf kept v.history
   pub commands : kept.commands ≡ v.commands
   pub cancelled : kept.cancelled ≡ v.cancelled
+  pub rests : kept.rests ≡ v.rests
+
+-- whoever is waited for is a session, a number below 128
+abbrev pub AreSessions : Wanted → Type 0
+AreSessions (Lock table m) = Unit {0}
+AreSessions (Others what) = (s : ℕ) → names what s ≡ true → s < 128
 
 -- the session waits
 abbrev pub waits_in : KeptSeats → ℕ → Bool

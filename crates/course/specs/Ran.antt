@@ -1,5 +1,5 @@
 -- What running a statement of a session makes of what is kept.
-use Rattle.std.specs.Prelude.{◌≡◌, ℕ, Bool, true, false, List, ◌++◌, length, slice_index_or, slice_set}
+use Rattle.std.specs.Prelude.{◌≡◌, ℕ, Bool, true, false, List, ◌++◌, None, length, slice_index_or, slice_set}
 use Rattle.history.specs.History.{History}
 use Rattle.sessions.specs.declared.asker.Asker.{Asker}
 use Rattle.sessions.specs.declared.outcome.Outcome.{Outcome}
@@ -7,22 +7,23 @@ use Rattle.sessions.specs.declared.outcome.Outcome.TheVariants.{Goes, Waits, Don
 use Rattle.sessions.specs.declared.settings.Settings.{Settings}
 use Rattle.course.specs.Made.{Made}
 use Rattle.course.specs.Words.{Words}
-use Rattle.course.specs.Database.{caller_of, unless_cancelled, next_command, outcome_told, text_told}
+use Rattle.course.specs.Database.{caller_of, unless_cancelled, next_command, rest_told, given_up, outcome_told, text_told}
 use Rattle.course.specs.Kept.{KeptSeats, TellOf}
 
 -- what the statement means at that history
 abbrev pub attempt_at : {O T : Type 0} → Words O T → O → KeptSeats → Asker → History → Settings → T → Made (List ℕ)
 attempt_at W o kept a h g t =
-    unless_cancelled (slice_index_or kept.cancelled a.session false) (W.attempted o (caller_of (length kept.opened) (slice_index_or kept.commands a.session 0) a) h g t)
+    unless_cancelled (slice_index_or kept.cancelled a.session false) (W.attempted o (caller_of (length kept.opened) (slice_index_or kept.commands a.session 0) a) (slice_index_or kept.rests a.session None) h g t)
 
 -- that has come of it: its events, what it comes to and prints, and whether it counts as a command
-pub record HasRun (m : Made (List ℕ)) (session : ℕ) (old new : KeptSeats) (before after : List ℕ) (o : Outcome) (h : History) : Type 0 where
+pub record HasRun (m : Made (List ℕ)) (a : Asker) (old new : KeptSeats) (before after : List ℕ) (o : Outcome) (h : History) : Type 0 where
   pub whole : new.whole ≡ true
-  pub tells : TellOf new (m.events ++ h)
+  pub tells : TellOf new (given_up a.level a.session (slice_index_or old.rests a.session None) m.told ++ (m.events ++ h))
   pub outcome : o ≡ outcome_told m.told
   pub text : after ≡ before ++ text_told m.told
-  pub commands : new.commands ≡ slice_set old.commands session (next_command m.told (slice_index_or old.commands session 0))
-  pub cancelled : new.cancelled ≡ slice_set old.cancelled session false
+  pub commands : new.commands ≡ slice_set old.commands a.session (next_command m.told (slice_index_or old.commands a.session 0))
+  pub cancelled : new.cancelled ≡ slice_set old.cancelled a.session false
+  pub rests : new.rests ≡ slice_set old.rests a.session (rest_told m.told)
 
 -- the session waits after it
 abbrev pub waits_by : Outcome → Bool

@@ -1,5 +1,5 @@
--- What can still happen before a statement is done, as a number: which locks sessions could still get, and whose waits
--- could still be cancelled.
+-- What can still happen before a statement is done, as a number: which locks sessions could still get, whose waits
+-- could still be cancelled, and which sessions could go on since something was given up.
 use Rattle.std.specs.Prelude.{ℕ, zero, suc, ◌+◌, ◌*◌, Bool, true, false, List, length}
 use Rattle.std.specs.List.{sum_by}
 use Rattle.pg_ids.specs.Modes.{every_mode}
@@ -8,6 +8,10 @@ use Rattle.pg_ids.specs.declared.lock_mode.LockMode.{LockMode}
 use Rattle.pg_ids.specs.declared.session_set.SessionSet.{SessionSet}
 use Rattle.lock_table.specs.Kept.{held_at}
 use Rattle.course.specs.Kept.{KeptSeats}
+
+abbrev pub of_mark : Bool → ℕ
+of_mark true = 1
+of_mark false = 0
 
 abbrev pub of_flag : Bool → ℕ
 of_flag true = 0
@@ -27,8 +31,8 @@ abbrev pub unheld : ℕ → ℕ → List SessionSet → ℕ
 unheld n tables held = sum_below tables (λ t. sum_by (lacking n held t) every_mode)
 
 abbrev pub slack : KeptSeats → ℕ
-slack kept = unheld (length kept.opened) kept.stores.locks.tables kept.stores.locks.held + sum_by of_flag kept.cancelled
+slack kept = unheld (length kept.opened) kept.stores.locks.tables kept.stores.locks.held + (sum_by of_flag kept.cancelled + sum_by of_mark kept.moved)
 
 -- with at most 65 sessions and 4,096 tables of eight modes
 abbrev pub most : ℕ
-most = 4096 * (8 * 65) + 65
+most = 4096 * (8 * 65) + (65 + 65)

@@ -7,6 +7,7 @@ use Rattle.sessions.specs.declared.role.Role.{Role}
 use Rattle.sessions.specs.declared.settings.Settings.{Settings}
 use Rattle.course.specs.Made.{Made}
 use Rattle.course.specs.declared.caller.Caller.{Caller}
+use Rattle.course.specs.declared.rest.Rest.{Rest}
 
 -- O are the options of a run, T statements
 pub record Words (O T : Type 0) : Type 0 where
@@ -15,5 +16,5 @@ pub record Words (O T : Type 0) : Type 0 where
   pub looks : T → Bool  -- it takes a snapshot
   pub misplaced : Place → T → Option Fault  -- why it may not stand there
   pub set : Settings → T → Result Settings Fault  -- the settings after a SET or RESET
-  pub attempted : O → Caller → History → Settings → T → Made (List ℕ)  -- from the beginning up to a wait or its end, and what it prints
+  pub attempted : O → Caller → Option Rest → History → Settings → T → Made (List ℕ)  -- from the beginning, or from where it stood, up to a wait or its end, and what it prints
   pub fault_text : Fault → List ℕ

@@ -1,6 +1,6 @@
 ghost use Rattle.std.specs.Prelude.{◌≡◌};
 
-use crate::{Caller, Stop};
+use crate::{Caller, Rest, Stop};
 use pg_values::{Fault, NoMemory, Refusal};
 use sessions::{Place, Role, Settings};
 use std::alloc::Global;
@@ -14,7 +14,7 @@ pub trait Kinds: Sized + Drop {
     ghost use Rattle.stores.specs.Stand.{Stands};
     ghost use Rattle.stores.specs.Numbers.{IsAt};
     ghost use Rattle.course.specs.Words.{Words};
-    ghost use Rattle.course.specs.Attempts.{MayAttempt, IsAttempt, IsHalt, GoesOn};
+    ghost use Rattle.course.specs.Attempts.{MayAttempt, MayGoOn, IsAttempt, IsHalt, GoesOn};
 
     type Statement: Drop;
 
@@ -65,20 +65,22 @@ pub trait Kinds: Sized + Drop {
     ) -> Result<Settings, Refusal>
         ensures { IsAnswerBy (λ g. g) result (words.set settings (tree statement.now)) };
 
-    /// A statement from its beginning up to its end or to a wait for a lock: it appends what it prints
-    /// where it is done, and prints nothing else.
+    /// A statement from its beginning, or from where it stood, up to its end or to a wait: it appends what
+    /// it prints where it is done, and prints nothing else.
     fn attempt(
         &self,
         alloc: Global,
         stores: &mut Stores,
         caller: Caller,
+        rest: Option<Rest>,
         settings: Settings,
         statement: &Self::Statement,
         out: &mut Vec<u8>,
     ) -> Result<(), Stop>
-        requires { MayAttempt stores.old caller }
+        requires may { MayAttempt stores.old caller }
+        requires rest { MayGoOn stores.old rest }
         ensures is { (h : History) → Stands stores.old h → IsAt h caller.session caller.cmd →
-            IsAttempt result stores.new out.old.items out.new.items caller h (words.attempted (options self.now) caller h settings (tree statement.now)) }
+            IsAttempt result stores.new out.old.items out.new.items caller h (words.attempted (options self.now) caller rest h settings (tree statement.now)) }
         ensures keeps { GoesOn stores.old stores.new caller.session }
         ensures waits { IsHalt result stores.new caller.session };
 

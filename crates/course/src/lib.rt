@@ -1,9 +1,10 @@
 //! Statements of sessions over the stores: an executor that is the same for every kind of statement.
 //!
 //! What has happened is one history: transactions, row versions, tables and locks. A statement is run
-//! from its beginning up to its end or to a wait for a lock, in one go; what it does on the way is put
-//! before the history. Where it had to wait, it begins anew when its wait is over, with the locks that
-//! it has got; where its wait was cancelled, it is refused.
+//! from its beginning up to its end or to a wait, in one go; what it does on the way is put before the
+//! history. Where it had to wait for a lock, it begins anew when its wait is over, with the locks that
+//! it has got; where it had to wait for a row, it goes on where it stood. Where its wait was cancelled, it
+//! is refused.
 //!
 //! Which statements there are is not said here: `Kinds` says how they are read and what each makes of
 //! the stores, and `Words` what that means, as pure functions of the history. `specs/Database.antt`
@@ -13,10 +14,12 @@
 mod caller;
 mod executor;
 mod kinds;
+mod rest;
 mod seats;
 mod stop;
 
 pub use caller::Caller;
 pub use executor::StoreExecutor;
 pub use kinds::Kinds;
+pub use rest::{Rest, RowIds};
 pub use stop::Stop;

@@ -1,33 +1,40 @@
-ghost use Rattle.std.specs.Prelude.{◌≡◌, ◌≤◌, ◌<◌, ◌∷◌, [], true, false, Some, None, Ok, IfOk, IfSome, OnOk, OnErr, length, option_map, replicate, slice_index_or, slice_set};
+ghost use Rattle.std.specs.Prelude.{◌≡◌, ◌≤◌, ◌<◌, ℕ, ◌+◌, ◌∷◌, [], true, false, if◌then◌else◌, Some, None, Ok, IfOk, IfSome, OnOk, OnErr, length, option_map, replicate, slice_index_or, slice_set};
 ghost use Rattle.history.specs.History.{History};
+ghost use Rattle.pg_ids.specs.Sets.{has};
 ghost use Rattle.schedule.specs.Lists.{head_of};
 ghost use Rattle.sessions.specs.declared.outcome.Outcome.TheVariants as outcomes;
-ghost use Rattle.stores.specs.Events.{begun, committed, aborted, withdrawn, resumed};
+ghost use Rattle.stores.specs.Events.{begun, committed, aborted, let_go, withdrawn, resumed};
 ghost use Rattle.course.specs.Database as database;
-ghost use Rattle.course.specs.Kept.{Adds, TellOf, due_in, waits_in};
+ghost use Rattle.course.specs.Made as made;
+ghost use Rattle.course.specs.Kept.{Adds, AreSessions, TellOf, due_in, waits_in};
 ghost use Rattle.course.specs.Ran.{attempt_at, waits_by, HasRun};
 ghost use Rattle.course.specs.Weight.{slack, most};
 
-use crate::{Caller, Kinds, Stop};
+use crate::{Caller, Kinds, Rest, Stop};
+use history::{WaitOn, Wanted};
+use pg_ids::SessionSet;
 use pg_values::{Args, Fault, NoMemory, SqlState};
 use schedule::leave;
-use sessions::{Asker, Outcome, Settings};
+use sessions::{Asker, Isolation, Outcome, Settings};
 use std::alloc::Global;
 use std::marker::Model;
 use stores::Stores;
 
 /// The stores, and how far the sessions of a run are.
 ///
-/// `opened` tells which sessions have a transaction, `commands` how many commands of it were tried, and
-/// `cancelled` whose wait was cancelled; `queue` are those that wait, the oldest wait first, and `ready`
-/// the first of them whose causes have gone. Where memory ran out inside of a statement the stores are
-/// not `whole`, and nothing more is run.
+/// `opened` tells which sessions have a transaction, `commands` how many commands of it were tried,
+/// `cancelled` whose wait was cancelled, `rests` where a statement stands that waits in the middle of its
+/// run, and `moved` since whose last step something was given up; `queue` are those that wait, the oldest
+/// wait first, and `ready` the first of them whose causes have gone. Where memory ran out inside of a
+/// statement the stores are not `whole`, and nothing more is run.
 #[derive(Drop)]
 pub struct Seats {
     pub(crate) stores: Stores,
     pub(crate) opened: Vec<bool>,
     pub(crate) commands: Vec<u32>,
     pub(crate) cancelled: Vec<bool>,
+    pub(crate) rests: Vec<Option<Rest>>,
+    pub(crate) moved: Vec<bool>,
     pub(crate) queue: Vec<usize>,
     pub(crate) ready: Option<u32>,
     pub(crate) whole: bool,
@@ -38,9 +45,9 @@ impl Model for Seats {
 
     ghost Value = { KeptSeats };
 
-    ghost view = { λ e. record { stores = e.stores; opened = e.opened.items; commands = e.commands.items; cancelled = e.cancelled.items; queue = e.queue.items; ready = e.ready; whole = e.whole } };
+    ghost view = { λ e. record { stores = e.stores; opened = e.opened.items; commands = e.commands.items; cancelled = e.cancelled.items; rests = e.rests.items; moved = e.moved.items; queue = e.queue.items; ready = e.ready; whole = e.whole } };
 
-    ghost invariant = { λ e. AreKept (record { stores = e.stores; opened = e.opened.items; commands = e.commands.items; cancelled = e.cancelled.items; queue = e.queue.items; ready = e.ready; whole = e.whole }) };
+    ghost invariant = { λ e. AreKept (record { stores = e.stores; opened = e.opened.items; commands = e.commands.items; cancelled = e.cancelled.items; rests = e.rests.items; moved = e.moved.items; queue = e.queue.items; ready = e.ready; whole = e.whole }) };
 }
 
 fn statement_cancelled(alloc: Global) -> Fault
@@ -52,6 +59,34 @@ fn statement_cancelled(alloc: Global) -> Fault
     }
 }
 
+// No statement stands in the middle of its run.
+fn nothing_left(alloc: Global, sessions: usize) -> Result<Vec<Option<Rest>>, NoMemory>
+    ensures { IfOk result (λ rests. rests.items ≡ replicate sessions None) }
+{
+    let mut rests = Vec::new(alloc);
+    for _ in 0..sessions {
+        rests.push(None)?;
+    }
+    Ok(rests)
+}
+
+// What is left to the session's statement, which is taken.
+fn take_rest(rests: &mut Vec<Option<Rest>>, session: usize) -> Option<Rest>
+    requires { session < length rests.old.items }
+    ensures is { result ≡ slice_index_or rests.old.items session None }
+    ensures taken { rests.new.items ≡ slice_set rests.old.items session None }
+{
+    rests[session].take()
+}
+
+// What is left to it now.
+fn set_rest(rests: &mut Vec<Option<Rest>>, session: usize, rest: Option<Rest>)
+    requires { session < length rests.old.items }
+    ensures { rests.new.items ≡ slice_set rests.old.items session rest }
+{
+    rests[session] = rest;
+}
+
 fn flag_at(flags: &[bool], session: usize) -> bool
     requires { session < length flags.now }
     ensures { result ≡ slice_index_or flags.now session false }
@@ -59,11 +94,44 @@ fn flag_at(flags: &[bool], session: usize) -> bool
     flags[session]
 }
 
+fn mark_all(flags: &mut [bool])
+    ensures { flags.new ≡ replicate (length flags.old) true }
+{
+    flags.fill(true);
+}
+
+// The sessions of a set are numbers below 128.
+fn sessions_are_low(set: SessionSet)
+    ensures { (s : ℕ) → has set s ≡ true → s < 128 }
+{}
+
+// Whoever is waited for is a session.
+fn named_are_sessions(wanted: Option<Wanted>)
+    ensures { IfSome wanted AreSessions }
+{
+    match wanted {
+        Some(Wanted::Others(WaitOn::Ends(of))) => sessions_are_low(of),
+        Some(Wanted::Others(WaitOn::Snapshots(of))) => sessions_are_low(of),
+        Some(Wanted::Lock { .. }) | None => (),
+    }
+}
+
 fn number_at(numbers: &[u32], session: usize) -> u32
     requires { session < length numbers.now }
     ensures { result ≡ slice_index_or numbers.now session 0 }
 {
     numbers[session]
+}
+
+// The number under which a command goes on that waits.
+fn number_after(rest: &Option<Rest>, next: u32, own: u32) -> u32
+    requires { next ≡ own + 1 }
+    ensures { result ≡ made.number_after rest.now own }
+{
+    match rest {
+        Some(_) => next,
+        None => own,
+    }
 }
 
 impl Seats {
@@ -75,6 +143,7 @@ impl Seats {
         ensures opened { IfOk result (λ e. e.opened ≡ replicate sessions false) }
         ensures commands { IfOk result (λ e. e.commands ≡ replicate sessions 0) }
         ensures cancelled { IfOk result (λ e. e.cancelled ≡ replicate sessions false) }
+        ensures rests { IfOk result (λ e. e.rests ≡ replicate sessions None) }
     {
         let stores = Stores::new(alloc, sessions as u32, 4096)?;
         let ready = stores.locks.ready();
@@ -83,6 +152,8 @@ impl Seats {
             opened: vec![in alloc; false; sessions]?,
             commands: vec![in alloc; 0; sessions]?,
             cancelled: vec![in alloc; false; sessions]?,
+            rests: nothing_left(alloc, sessions)?,
+            moved: vec![in alloc; false; sessions]?,
             queue: Vec::new(alloc),
             ready,
             whole: true,
@@ -97,6 +168,7 @@ impl Seats {
         ensures opened { OnOk result (self.new.opened ≡ slice_set self.old.opened session true) }
         ensures commands { OnOk result (self.new.commands ≡ slice_set self.old.commands session 0) }
         ensures cancelled { self.new.cancelled ≡ self.old.cancelled }
+        ensures rests { self.new.rests ≡ self.old.rests }
         ensures waits { waits_in self.new session ≡ waits_in self.old session }
         ensures err { OnErr result (self.new ≡ self.old) }
     {
@@ -117,6 +189,7 @@ impl Seats {
         ensures opened { self.new.opened ≡ slice_set self.old.opened session false }
         ensures commands { self.new.commands ≡ self.old.commands }
         ensures cancelled { self.new.cancelled ≡ self.old.cancelled }
+        ensures rests { self.new.rests ≡ self.old.rests }
         ensures idle { waits_in self.new session ≡ false }
     {
         self.opened[session] = false;
@@ -124,6 +197,7 @@ impl Seats {
             return;
         }
         self.stores.commit(session as u32);
+        mark_all(&mut self.moved);
         leave(session, &mut self.queue);
         self.ready = self.stores.locks.ready();
     }
@@ -136,6 +210,7 @@ impl Seats {
         ensures opened { self.new.opened ≡ slice_set self.old.opened session false }
         ensures commands { self.new.commands ≡ self.old.commands }
         ensures cancelled { self.new.cancelled ≡ self.old.cancelled }
+        ensures rests { self.new.rests ≡ self.old.rests }
         ensures idle { waits_in self.new session ≡ false }
     {
         self.opened[session] = false;
@@ -143,11 +218,12 @@ impl Seats {
             return;
         }
         self.stores.abort(session as u32);
+        mark_all(&mut self.moved);
         leave(session, &mut self.queue);
         self.ready = self.stores.locks.ready();
     }
 
-    /// The wait of the session is over, and it holds the lock that it waited for.
+    /// The wait of the session is over, and it holds the lock that it waited for, if it was one.
     pub(crate) fn resume(&mut self, session: usize)
         requires known { session < length self.old.opened }
         requires due { due_in self.old session ≡ true }
@@ -155,11 +231,13 @@ impl Seats {
         ensures opened { self.new.opened ≡ self.old.opened }
         ensures commands { self.new.commands ≡ self.old.commands }
         ensures cancelled { self.new.cancelled ≡ self.old.cancelled }
+        ensures rests { self.new.rests ≡ self.old.rests }
         ensures idle { waits_in self.new session ≡ false }
         ensures lower { slack self.new < slack self.old }
     {
-        let _ = self.stores.locks.wanted(session as u32);
+        named_are_sessions(self.stores.locks.wanted(session as u32));
         self.stores.resume(session as u32);
+        self.moved[session] = false;
         leave(session, &mut self.queue);
         self.ready = self.stores.locks.ready();
     }
@@ -172,6 +250,7 @@ impl Seats {
         ensures opened { self.new.opened ≡ self.old.opened }
         ensures commands { self.new.commands ≡ self.old.commands }
         ensures cancelled { self.new.cancelled ≡ slice_set self.old.cancelled session true }
+        ensures rests { self.new.rests ≡ self.old.rests }
         ensures idle { waits_in self.new session ≡ false }
         ensures lower { slack self.new < slack self.old }
     {
@@ -231,8 +310,47 @@ impl Seats {
         self.whole && self.stores.locks.wanted(session as u32).is_some()
     }
 
-    /// A statement of the session is run up to its end or to a wait. One whose wait was cancelled is
-    /// refused.
+    // A statement is done. Where it has stood in the middle of its run, the snapshot is given up that it
+    // has held, unless its transaction keeps it.
+    fn give_up(&mut self, level: Isolation, session: usize, has_stood: bool)
+        requires known { session < length self.old.opened }
+        requires whole { self.old.whole ≡ true }
+        requires free { waits_in self.old session ≡ false }
+        ensures adds { Adds self.old self.new (λ h. if has_stood then database.let_go_at level session else []) }
+        ensures opened { self.new.opened ≡ self.old.opened }
+        ensures commands { self.new.commands ≡ self.old.commands }
+        ensures cancelled { self.new.cancelled ≡ self.old.cancelled }
+        ensures rests { self.new.rests ≡ self.old.rests }
+        ensures idle { waits_in self.new session ≡ false }
+    {
+        if !has_stood {
+            return;
+        }
+        match level {
+            Isolation::RepeatableRead => {}
+            Isolation::ReadCommitted => self.let_go(session),
+            Isolation::ReadUncommitted => self.let_go(session),
+        }
+    }
+
+    // The session gives up the snapshot that it holds.
+    fn let_go(&mut self, session: usize)
+        requires known { session < length self.old.opened }
+        requires whole { self.old.whole ≡ true }
+        ensures adds { Adds self.old self.new (λ h. let_go session) }
+        ensures opened { self.new.opened ≡ self.old.opened }
+        ensures commands { self.new.commands ≡ self.old.commands }
+        ensures cancelled { self.new.cancelled ≡ self.old.cancelled }
+        ensures rests { self.new.rests ≡ self.old.rests }
+        ensures waits { waits_in self.new session ≡ waits_in self.old session }
+    {
+        self.stores.let_go(session as u32);
+        mark_all(&mut self.moved);
+        self.ready = self.stores.locks.ready();
+    }
+
+    /// A statement of the session is run from its beginning, or from where it stood, up to its end or to a
+    /// wait. One whose wait was cancelled is refused.
     pub(crate) fn run<K: Kinds>(
         &mut self,
         alloc: Global,
@@ -246,7 +364,7 @@ impl Seats {
         requires open { slice_index_or self.old.opened asker.session false ≡ true }
         requires free { waits_in self.old asker.session ≡ false }
         ensures ran { IfOk result (λ o. (h : History) → TellOf self.old h →
-            HasRun (attempt_at K.words (K.options kinds.now) self.old asker h settings (K.tree statement.now)) asker.session self.old self.new out.old.items out.new.items o h) }
+            HasRun (attempt_at K.words (K.options kinds.now) self.old asker h settings (K.tree statement.now)) asker self.old self.new out.old.items out.new.items o h) }
         ensures opened { self.new.opened ≡ self.old.opened }
         ensures waits { IfOk result (λ o. waits_in self.new asker.session ≡ waits_by o) }
         ensures lower { result ≡ Ok outcomes.Waits → slack self.new ≤ slack self.old }
@@ -264,6 +382,7 @@ impl Seats {
         if flag_at(&self.cancelled, session) {
             self.cancelled[session] = false;
             self.commands[session] = next;
+            self.rests[session] = None;
             return Ok(Outcome::Refused(statement_cancelled(alloc)));
         }
         let caller = Caller {
@@ -273,14 +392,27 @@ impl Seats {
             cmd,
             kind: asker.kind,
         };
-        let answer = kinds.attempt(alloc, &mut self.stores, caller, settings, statement, out);
+        let rest = take_rest(&mut self.rests, session);
+        let has_stood = rest.is_some();
+        let answer = kinds.attempt(
+            alloc,
+            &mut self.stores,
+            caller,
+            rest,
+            settings,
+            statement,
+            out,
+        );
         self.ready = self.stores.locks.ready();
         match answer {
             Ok(()) => {
                 self.commands[session] = next;
+                self.give_up(asker.level, session, has_stood);
                 Ok(Outcome::Done)
             }
-            Err(Stop::Waits) => {
+            Err(Stop::Waits(rest)) => {
+                self.commands[session] = number_after(&rest, next, cmd);
+                set_rest(&mut self.rests, session, rest);
                 if self.queue.push(session).is_err() {
                     self.whole = false;
                     return Err(NoMemory);
