@@ -1,0 +1,4 @@
+mod Below
+mod Counted
+mod Named
+mod Under

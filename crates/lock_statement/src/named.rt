@@ -26,6 +26,14 @@ fn push_if_some(tables: &mut Vec<TableNo>, table: Option<TableNo>) -> Result<(),
     }
 }
 
+// The table, unless ONLY leaves out those under it.
+fn unless_only(table: TableNo, only: bool) -> Option<TableNo>
+    ensures told { one_or_none result ≡ locked.whole only table.number }
+    ensures same { IfSome result (λ t. t ≡ table) }
+{
+    if only { None } else { Some(table) }
+}
+
 // A part: a named table is found and locked, and told where those under it are to be locked too.
 fn lock_one(
     alloc: Global,
@@ -42,7 +50,7 @@ fn lock_one(
     ensures rest { stores.new ≡ record stores.old { locks = stores.new.locks } }
 {
     match lock_named(alloc, stores, names, caller, table.name.as_bytes(), mode) {
-        Ok(found) => Ok(if table.only { None } else { Some(found) }),
+        Ok(found) => Ok(unless_only(found, table.only)),
         Err(stop) => Err(stop),
     }
 }

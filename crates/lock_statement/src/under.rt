@@ -5,14 +5,12 @@ ghost use Rattle.statement_steps.specs.Steps.{IsStep};
 ghost use Rattle.lock_statement.specs.Locked as locked;
 
 use course::{Caller, Stop};
-use legal_statements::{there_is_known, tree_is_whole};
 use part_ddl::tables_below;
 use pg_ids::{LockMode, TableNo};
 use pg_values::NoMemory;
-use soundness::legal_keeps_all;
 use statement_steps::{SessionNames, lock_tables};
 use std::alloc::Global;
-use stores::{Stores, trees_are_together};
+use stores::Stores;
 
 // A part: the tables under one are locked.
 fn lock_below(
@@ -29,10 +27,6 @@ fn lock_below(
     ensures step { IsStep (λ u. u) result stores.old stores.new caller caller.cmd (locked.one_under names.now caller.session mode table.number) }
     ensures rest { stores.new ≡ record stores.old { locks = stores.new.locks } }
 {
-    trees_are_together();
-    there_is_known();
-    tree_is_whole();
-    legal_keeps_all();
     match tables_below(alloc, &stores.catalog, &stores.txs, table, caller.session) {
         Ok(tables) => lock_tables(alloc, stores, names, caller, &tables, mode),
         Err(NoMemory) => Err(Stop::NoMemory),
