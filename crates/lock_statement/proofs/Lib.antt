@@ -1,4 +1,4 @@
 mod Below
 mod Counted
-mod Named
-mod Under
+mod Finding
+mod Locking

@@ -1,4 +1,4 @@
-use Rattle.std.proofs.Common.{◌≡◌, ◌∷◌, [], List, ℕ, rules, sym, subst}
+use Rattle.std.proofs.Common.{◌≡◌, ◌∷◌, [], List, rules, sym, subst}
 use Rattle.std.proofs.lemmas.List.{nil_from_length}
 use Rattle.pg_ids.specs.declared.ids.TableNo.{TableNo}
 use Rattle.sql_commands.specs.declared.lists.LockedTable.{LockedTable}
@@ -6,7 +6,7 @@ use Rattle.statement_steps.proofs.Parts.{no_memory}
 use Rattle.statement_steps.proofs.Steps.{goes_on}
 use Rattle.lock_statement.specs.Locked.{all_named}
 use Rattle.lock_statement.specs.Seen.{numbers}
-use Rattle.lock_statement.proofs.Named.{IsLeft, all_left, one_less, stops_there, all_found, rest_same}
+use Rattle.lock_statement.proofs.Finding.{IsLeft, all_left, one_less, stops_there, all_found, rest_same}
 use Rattle.lock_statement.proofs.named.lock_all.Goals as goal
 use Rattle.lock_statement.proofs.named.lock_all.Goals.{In-Some, In_default}
 

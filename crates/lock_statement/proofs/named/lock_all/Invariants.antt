@@ -1,5 +1,5 @@
 use Rattle.std.proofs.Common.{length}
-use Rattle.lock_statement.proofs.Named.{IsLeft}
+use Rattle.lock_statement.proofs.Finding.{IsLeft}
 use Rattle.lock_statement.proofs.named.lock_all.Given as goal
 
 abbrev pub invariant-loop-table : goal.invariant-loop-table

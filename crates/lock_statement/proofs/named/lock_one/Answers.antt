@@ -2,7 +2,7 @@ use Rattle.std.proofs.Common.{List, ℕ, subst, Ok, Err}
 use Rattle.pg_ids.specs.declared.ids.TableNo.{TableNo}
 use Rattle.statement_steps.specs.Asks.{named}
 use Rattle.statement_steps.specs.Steps.{IsStep}
-use Rattle.lock_statement.proofs.Named.{one_found, one_stops, one_known}
+use Rattle.lock_statement.proofs.Finding.{one_found, one_stops, one_known}
 use Rattle.lock_statement.proofs.named.lock_one.Goals as goal
 
 pub returns-in-Ok-clause-step : goal.returns-in-Ok-clause-step

@@ -10,7 +10,7 @@ use Rattle.statement_steps.proofs.Steps.{then_step, stop_step, may_go_on}
 use Rattle.lock_statement.specs.Locked.{all_named, all_under, locked}
 use Rattle.lock_statement.specs.Seen.{numbers}
 use Rattle.lock_statement.proofs.Counted.{counted}
-use Rattle.lock_statement.proofs.Under.{few_stays}
+use Rattle.lock_statement.proofs.Locking.{few_stays}
 use Rattle.lock_statement.proofs.statement.lock.Goals as goal
 
 pub lock_all_below-requires-clause-may : goal.lock_all_below-requires-clause-may

@@ -1,7 +1,6 @@
-use Rattle.std.proofs.Common.{rules, ◌≡◌, ◌∷◌, [], List, subst}
+use Rattle.std.proofs.Common.{rules, ◌≡◌, ◌∷◌, [], subst}
 use Rattle.std.proofs.lemmas.List.{nil_from_length}
-use Rattle.pg_ids.specs.declared.ids.TableNo.{TableNo}
-use Rattle.lock_statement.proofs.Under.{IsLeft, all_left, next_known, one_less, stops_there, none_left}
+use Rattle.lock_statement.proofs.Locking.{IsLeft, all_left, next_known, one_less, stops_there, none_left}
 use Rattle.lock_statement.proofs.under.lock_all_below.Goals as goal
 use Rattle.lock_statement.proofs.under.lock_all_below.Goals.{In-Some}
 

@@ -1,5 +1,5 @@
 use Rattle.std.proofs.Common.{length}
-use Rattle.lock_statement.proofs.Under.{IsLeft}
+use Rattle.lock_statement.proofs.Locking.{IsLeft}
 use Rattle.lock_statement.proofs.under.lock_all_below.Given as goal
 
 abbrev pub invariant-loop-table : goal.invariant-loop-table

@@ -1,11 +1,11 @@
-use Rattle.std.proofs.Common.{◌≡◌, ◌∙◌, ◌<◌, sym, ap, subst, All, List, map}
+use Rattle.std.proofs.Common.{◌∙◌, ◌<◌, sym, subst, All, List}
 use Rattle.pg_ids.specs.declared.ids.TableNo.{TableNo}
 use Rattle.stores.proofs.Standing.{trees_are_together}
 use Rattle.statement_steps.specs.Known.{IsKnownTo}
 use Rattle.statement_steps.proofs.Parts.{stays, no_memory}
 use Rattle.lock_statement.specs.Locked.{one_under}
 use Rattle.lock_statement.proofs.Below.{under_known, all_low}
-use Rattle.lock_statement.proofs.Under.{under_step}
+use Rattle.lock_statement.proofs.Locking.{under_step}
 use Rattle.lock_statement.proofs.under.lock_below.Goals as goal
 use Rattle.lock_statement.proofs.under.lock_below.Goals.{In-Ok}
 

@@ -1,5 +1,5 @@
 -- Named tables that are still to be found and locked, one after the other.
-use Rattle.std.proofs.Common.{◌≡◌, ℕ, ◌≤◌, Bool, List, [], ◌∷◌, ◌++◌, refl, sym, ap, ◌∙◌, subst, append_assoc, append-nil, Option, Some, None, Result, Ok, Err, IfSome, All, map, length}
+use Rattle.std.proofs.Common.{◌≡◌, ℕ, ◌≤◌, List, [], ◌∷◌, ◌++◌, refl, sym, ap, ◌∙◌, subst, append_assoc, append-nil, Option, Some, None, Ok, Err, IfSome, All, map, length}
 use Rattle.std.specs.Prelude.{Vec}
 use Rattle.std.specs.Option.{option_to_list}
 use Rattle.std.proofs.lemmas.List.{map-append}
@@ -21,7 +21,7 @@ use Rattle.statement_steps.proofs.Parts.{stays, nothing_done}
 use Rattle.statement_steps.proofs.Steps.{goes_on, then_step, stop_step, may_go_on, halted_same}
 use Rattle.lock_statement.specs.Locked.{whole, one_named, all_named}
 use Rattle.lock_statement.specs.Seen.{one_or_none, numbers}
-use Rattle.lock_statement.proofs.Under.{few_stays, known_stay}
+use Rattle.lock_statement.proofs.Locking.{few_stays, known_stay}
 
 -- ---- one of them
 
