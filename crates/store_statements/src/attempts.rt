@@ -11,6 +11,7 @@ use crate::left_out::{cancels, command_word, query_word};
 use course::{Caller, Stop};
 use expression_binder::left_out;
 use insert_statement::insert;
+use lock_statement::lock;
 use out_text::write_table;
 use pg_values::NoMemory;
 use select_statement::select;
@@ -62,6 +63,9 @@ fn attempt_command(
         }
         Command::DropTables(if_there, tables) => {
             drop_tables(alloc, stores, names, caller, *if_there, tables.as_slice())
+        }
+        Command::Lock(tables, mode) => {
+            lock(alloc, stores, names, caller, tables.as_slice(), *mode)
         }
         _ => omit(alloc, stores, caller, command_word(command), out),
     }
