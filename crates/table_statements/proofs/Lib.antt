@@ -1,11 +1,11 @@
 mod Chains
-mod Below
-mod Deeds
+pub mod Below
+pub mod Deeds
 mod Dropping
 mod Ends
-mod Firsts
-mod Fresh
-mod Held
+pub mod Firsts
+pub mod Fresh
+pub mod Held
 mod Left
 mod Placing
 mod Same
