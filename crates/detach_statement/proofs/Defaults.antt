@@ -1,5 +1,5 @@
 -- The default partition of a table, which the session may ask for.
-use Rattle.std.proofs.Common.{◌≡◌, ℕ, ◌≤◌, ◌<◌, subst, arith, Some, length}
+use Rattle.std.proofs.Common.{◌≡◌, ℕ, subst, arith, Some}
 use Rattle.pg_ids.specs.declared.ids.TableNo.{TableNo}
 use Rattle.history.specs.History.{History}
 use Rattle.part_ddl.specs.Below.{default_of}

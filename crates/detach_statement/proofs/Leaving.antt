@@ -1,10 +1,9 @@
 -- The entry by which a table is a partition ends.
-use Rattle.std.proofs.Common.{◌≡◌, ◌≢◌, ℕ, ◌+◌, true, List, [], ◌∷◌, ◌++◌, inl, inr, refl, sym, ap, ◌∙◌, subst, Option, Some, None, Ok}
+use Rattle.std.proofs.Common.{◌≡◌, ◌≢◌, ℕ, ◌+◌, List, [], ◌∷◌, inl, inr, sym, ap, ◌∙◌, subst, Option, Some, None, Ok}
 use Rattle.std.specs.List.{Contains}
 use Rattle.pg_ids.specs.declared.ids.TableNo.{TableNo}
 use Rattle.history.specs.declared.transaction.TxId.{TxId}
 use Rattle.history.specs.declared.catalogue.Entry.{Entry}
-use Rattle.history.specs.declared.catalogue.Stamp.{Stamp}
 use Rattle.history.specs.Transactions.{open_of, session_of}
 use Rattle.history.specs.Catalogue.{EntryEnded, entry_ends, counted_of}
 use Rattle.history.specs.History.{History, CatalogueChange, tx_events, catalogue_events}
@@ -33,7 +32,6 @@ use Rattle.statement_steps.specs.Steps.{IsStep}
 use Rattle.soundness.proofs.Listed.{none_in, only_one}
 use Rattle.table_statements.specs.Asked.{IsLocked}
 use Rattle.table_statements.specs.Drops.{stamp}
-use Rattle.table_statements.specs.Tables.{own}
 use Rattle.table_statements.proofs.Below.{here_of, found_in}
 use Rattle.table_statements.proofs.Deeds.{IsDeed, deed_step}
 use Rattle.table_statements.proofs.Fresh.{IsOwn, own_is, own_number}

@@ -7,13 +7,10 @@ ghost use Rattle.detach_statement.specs.Detached as detached;
 
 use crate::checking::check;
 use course::{Caller, Stop};
-use legal_statements::{
-    drop_may_follow, listed_is_there, nobody_else_ends, there_is_known, tree_is_whole,
-};
+use legal_statements::{drop_may_follow, listed_is_there, nobody_else_ends, there_is_known};
 use part_ddl::default_of;
 use pg_ids::{LockMode, TableNo};
 use pg_values::NoMemory;
-use soundness::legal_keeps_all;
 use statement_steps::{SessionNames, hold_if_repeatable, lock_named, lock_table};
 use std::alloc::Global;
 use stores::{Stores, trees_are_together};
@@ -35,8 +32,6 @@ fn lock_default(
     trees_are_together();
     listed_is_there();
     there_is_known();
-    tree_is_whole();
-    legal_keeps_all();
     match default_of(alloc, &stores.catalog, &stores.txs, parent, caller.session) {
         Ok(None) => Ok(()),
         Ok(Some(default)) => {

@@ -1,11 +1,11 @@
-mod Chains
+pub mod Chains
 pub mod Below
 pub mod Deeds
-mod Dropping
-mod Ends
+pub mod Dropping
+pub mod Ends
 pub mod Firsts
 pub mod Fresh
 pub mod Held
-mod Left
-mod Placing
-mod Same
+pub mod Left
+pub mod Placing
+pub mod Same
