@@ -65,7 +65,14 @@ fn attempt_command(
             drop_tables(alloc, stores, names, caller, *if_there, tables.as_slice())
         }
         Command::Detach(parent, name, Detachment::AtOnce) => {
-            detach(alloc, stores, names, caller, parent.as_bytes(), name.as_bytes())
+            detach(
+                alloc,
+                stores,
+                names,
+                caller,
+                parent.as_bytes(),
+                name.as_bytes(),
+            )
         }
         _ => omit(alloc, stores, caller, command_word(command), out),
     }
