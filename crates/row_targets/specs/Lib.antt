@@ -1,0 +1,5 @@
+pub mod Faults
+pub mod NewRows
+pub mod Steps
+pub mod Targets
+pub mod Verdicts
