@@ -1,0 +1,4 @@
+pub mod Chains
+pub mod NewRows
+pub mod Taken
+pub mod Waiting

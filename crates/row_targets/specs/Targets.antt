@@ -1,6 +1,6 @@
 -- The rows that an UPDATE or a DELETE finds (the manual, 13.2.1 Read Committed Isolation Level; 6.2 Updating Data): those
 -- that its snapshot sees and that its condition takes, in plain order.
-use Rattle.std.specs.Prelude.{◌≡◌, ℕ, ◌<◌, Bool, true, false, List, [], Option, Some, None, map, filter, length}
+use Rattle.std.specs.Prelude.{◌<◌, Bool, true, false, List, [], Option, Some, None, map, filter, length}
 use Rattle.std.specs.List.{flat_map}
 use Rattle.pg_values.specs.declared.value.Value.{Value}
 use Rattle.pg_ids.specs.declared.ids.LeafId.{LeafId}

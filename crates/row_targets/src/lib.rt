@@ -26,3 +26,6 @@ pub use finding::{TargetRow, find_targets};
 pub use settings::new_row;
 pub use updater::Updater;
 pub use verdicts::{Conflict, Verdict};
+
+#[cfg(test)]
+mod tests;
