@@ -1,5 +1,5 @@
 -- What sessions wait for, whatever happens to transactions and locks.
-use Rattle.std.proofs.Common.{◌≡◌, ◌≢◌, ℕ, ◌==◌, ◌&&◌, ◌||◌, not, Bool, true, false, if◌then◌else◌, List, [], ◌∷◌, ◌++◌, refl, ap, sym, ◌∙◌, subst, arith, inl, inr, Option, Some, None, is_some, nat_eq, find}
+use Rattle.std.proofs.Common.{◌≡◌, ◌≢◌, ℕ, ◌<◌, ◌==◌, ◌&&◌, ◌||◌, not, Bool, true, false, if◌then◌else◌, List, [], ◌∷◌, ◌++◌, refl, ap, sym, ◌∙◌, subst, arith, inl, inr, Option, Some, None, is_some, nat_eq, find}
 use Rattle.std.specs.List.{list_any}
 use Rattle.std.proofs.lemmas.Grind.{common_steps}
 use Rattle.std.proofs.lemmas.Bool.{cases_eq, cases_Bool}
@@ -8,34 +8,20 @@ use Rattle.std.proofs.lemmas.List.Folds.{list_any-append}
 use Rattle.pg_ids.specs.Sets.{nobody}
 use Rattle.pg_ids.specs.declared.ids.TableNo.{TableNo}
 use Rattle.pg_ids.specs.declared.lock_mode.LockMode.{LockMode}
+use Rattle.pg_ids.proofs.Bits.{nobody_is}
 use Rattle.history.specs.declared.wait.WaitOn.{WaitOn}
 use Rattle.history.specs.declared.wait.WaitOn.TheVariants.{Ends, Snapshots}
 use Rattle.history.specs.declared.wait.Wanted.{Wanted}
 use Rattle.history.specs.declared.wait.Wanted.TheVariants.{Lock, Others}
 use Rattle.history.specs.Locks.{LockEvents, LockGot, LocksGivenUp, SnapshotGone, WaitBegan, WaitResumed, WaitWithdrawn, wanted, holds, queue, removed, after_end, after_snapshot}
 use Rattle.history.specs.LocksSound.{AreLocksSound}
-use Rattle.history.specs.Waits.{is_cause, waits_for, ready}
+use Rattle.history.specs.Waits.{is_cause, is_cause_of, waits_for, ready}
+use Rattle.lock_table.specs.Stands.{names}
 use Rattle.schedule.specs.Lists.{head_of, without}
-
--- nobody waits for the end of others
-abbrev pub ForLocks : LockEvents → Type 0
-ForLocks h = (s : ℕ) (w : WaitOn) → wanted h s ≢ Some (Others w)
 
 -- each who waits after the events waited before
 abbrev pub Standing : LockEvents → LockEvents → Type 0
 Standing old new = (s : ℕ) → is_some (wanted new s) ≡ true → is_some (wanted old s) ≡ true
-
-end_others : (s : ℕ) (w : Option Wanted) (v : WaitOn) → ((u : WaitOn) → w ≢ Some (Others u)) → after_end s w ≢ Some (Others v)
-end_others s None v none e = absurd (cc)
-end_others s (Some (Lock t m)) v none e = absurd (cc)
-end_others s (Some (Others (Ends x))) v none e = none (Ends x) refl
-end_others s (Some (Others (Snapshots x))) v none e = none (Snapshots x) refl
-
-snapshot_others : (s : ℕ) (w : Option Wanted) (v : WaitOn) → ((u : WaitOn) → w ≢ Some (Others u)) → after_snapshot s w ≢ Some (Others v)
-snapshot_others s None v none e = absurd (cc)
-snapshot_others s (Some (Lock t m)) v none e = absurd (cc)
-snapshot_others s (Some (Others (Ends x))) v none e = none (Ends x) refl
-snapshot_others s (Some (Others (Snapshots x))) v none e = none (Snapshots x) refl
 
 end_some : (s : ℕ) (w : Option Wanted) → is_some (after_end s w) ≡ is_some w
 end_some s None = refl
@@ -43,31 +29,19 @@ end_some s (Some (Lock t m)) = refl
 end_some s (Some (Others (Ends x))) = refl
 end_some s (Some (Others (Snapshots x))) = refl
 
-snapshot_some : (s : ℕ) (w : Option Wanted) → is_some (after_snapshot s w) ≡ is_some w
+pub snapshot_some : (s : ℕ) (w : Option Wanted) → is_some (after_snapshot s w) ≡ is_some w
 snapshot_some s None = refl
 snapshot_some s (Some (Lock t m)) = refl
 snapshot_some s (Some (Others (Ends x))) = refl
 snapshot_some s (Some (Others (Snapshots x))) = refl
 
 -- a wait that is over, one way or the other
-over_others : (s r : ℕ) (w : Option Wanted) (v : WaitOn) → w ≢ Some (Others v) → (if s == r then None else w) ≢ Some (Others v)
-over_others s r w v none e = elim (cases_Bool (s == r)) [ inl t ↦ absurd (let c = sym (ap (λ b. if b then None else w) t) ∙ e in cc) | inr f ↦ none (sym (ap (λ b. if b then None else w) f) ∙ e) ]
-
 over_some : (s r : ℕ) (w : Option Wanted) → is_some (if s == r then None else w) ≡ true → is_some w ≡ true
 over_some s r w e = elim (cases_Bool (s == r)) [ inl t ↦ absurd (let c = sym (ap (λ b. is_some (if b then None else w)) t) ∙ e in cc) | inr f ↦ sym (ap (λ b. is_some (if b then None else w)) f) ∙ e ]
-
-pub resumed_for_locks : (s : ℕ) (h : LockEvents) → ForLocks h → ForLocks (WaitResumed s ∷ h)
-resumed_for_locks s h locks r v = over_others s r (wanted h r) v (locks r v)
-
-pub withdrawn_for_locks : (s : ℕ) (h : LockEvents) → ForLocks h → ForLocks (WaitWithdrawn s ∷ h)
-withdrawn_for_locks s h locks r v = over_others s r (wanted h r) v (locks r v)
 
 -- the locks of a transaction that has ended
 abbrev pub given_up : ℕ → LockEvents → LockEvents
 given_up s h = LocksGivenUp s ∷ (SnapshotGone s ∷ (WaitWithdrawn s ∷ h))
-
-pub given_up_for_locks : (s : ℕ) (h : LockEvents) → ForLocks h → ForLocks (given_up s h)
-given_up_for_locks s h locks r v = end_others s (wanted (SnapshotGone s ∷ (WaitWithdrawn s ∷ h)) r) v (λ u. snapshot_others s (wanted (WaitWithdrawn s ∷ h) r) u (λ x. withdrawn_for_locks s h locks r x))
 
 pub resumed_standing : (s : ℕ) (h : LockEvents) → Standing h (WaitResumed s ∷ h)
 resumed_standing s h r e = over_some s r (wanted h r) e
@@ -75,8 +49,11 @@ resumed_standing s h r e = over_some s r (wanted h r) e
 pub withdrawn_standing : (s : ℕ) (h : LockEvents) → Standing h (WaitWithdrawn s ∷ h)
 withdrawn_standing s h r e = over_some s r (wanted h r) e
 
+pub snapshot_standing : (s : ℕ) (h : LockEvents) → Standing h (SnapshotGone s ∷ h)
+snapshot_standing s h r e = sym (snapshot_some s (wanted h r)) ∙ e
+
 pub given_up_standing : (s : ℕ) (h : LockEvents) → Standing h (given_up s h)
-given_up_standing s h r e = withdrawn_standing s h r (sym (snapshot_some s (wanted (WaitWithdrawn s ∷ h) r)) ∙ (sym (end_some s (wanted (SnapshotGone s ∷ (WaitWithdrawn s ∷ h)) r)) ∙ e))
+given_up_standing s h r e = withdrawn_standing s h r (snapshot_standing s (WaitWithdrawn s ∷ h) r (sym (end_some s (wanted (SnapshotGone s ∷ (WaitWithdrawn s ∷ h)) r)) ∙ e))
 
 -- ---- the queue
 
@@ -208,6 +185,26 @@ found_queued p (x ∷ q) s e =
       | inr f ↦ grind (arith, common_steps, nat_tests, found_queued p q s (sym (found_later p x q f) ∙ e))
     ]
 
+found_passes : (p : ℕ → Bool) (q : List ℕ) (s : ℕ) → find p q ≡ Some s → p s ≡ true
+found_passes p [] s e = absurd (cc)
+found_passes p (x ∷ q) s e =
+    elim (cases_Bool (p x)) [
+      | inl t ↦ let is : Some x ≡ Some s = sym (found_here p x q t) ∙ e in let same : x ≡ s = cc in subst (λ y. p y ≡ true) same t
+      | inr f ↦ found_passes p q s (sym (found_later p x q f) ∙ e)
+    ]
+
+-- who is ready waits for nobody
+pub ready_gone : (h : LockEvents) (s y : ℕ) → ready h ≡ Some s → y < 128 → waits_for h s y ≡ false
+ready_gone h s y e lt = nobody_is (waits_for h s) y lt (found_passes (λ x. nobody (waits_for h x)) (queue h) s e)
+
+-- nor is anybody named for whom it waits
+named_cause : (h : LockEvents) (s y : ℕ) (v : WaitOn) → is_cause h s (Others v) y ≡ names v y
+named_cause h s y (Ends of) = refl
+named_cause h s y (Snapshots of) = refl
+
+pub ready_names : (h : LockEvents) (s y : ℕ) (v : WaitOn) → ready h ≡ Some s → wanted h s ≡ Some (Others v) → y < 128 → names v y ≡ false
+ready_names h s y v e is lt = sym (named_cause h s y v) ∙ (ap (λ w. is_cause_of h s w y) (sym is) ∙ ready_gone h s y e lt)
+
 pub ready_waits : (h : LockEvents) (s : ℕ) → ready h ≡ Some s → is_some (wanted h s) ≡ true
 ready_waits h s e = queued_waits h s (found_queued (λ x. nobody (waits_for h x)) (queue h) s e)
 
@@ -217,12 +214,6 @@ first_waits h s e = queued_waits h s (head_queued (queue h) s e)
 or_true : (b : Bool) → (b || true) ≡ true
 or_true true = refl
 or_true false = refl
-
--- it waits for a lock
-pub lock_of : (w : Option Wanted) → is_some w ≡ true → ((v : WaitOn) → w ≢ Some (Others v)) → (t : TableNo) × (m : LockMode) × (w ≡ Some (Lock t m))
-lock_of None e none = absurd (cc)
-lock_of (Some (Lock t m)) e none = (t, m, refl)
-lock_of (Some (Others v)) e none = absurd (none v refl)
 
 -- whose wait is over holds what it waited for, and the others what they held
 pub got_it : (h : LockEvents) (s : ℕ) (t : TableNo) (m : LockMode) → wanted h s ≡ Some (Lock t m) → holds (WaitResumed s ∷ h) s t.number m ≡ true

@@ -1,5 +1,5 @@
--- Locks that could still be got, counted.
-use Rattle.std.proofs.Common.{◌≡◌, ◌<◌, ◌≤◌, ℕ, zero, suc, ◌*◌, Bool, true, false, inl, inr, refl, ap, subst, List, length, slice_index_or, slice_set, arith}
+-- What can still happen before a statement is done, counted.
+use Rattle.std.proofs.Common.{◌≡◌, ◌<◌, ◌≤◌, ℕ, zero, suc, ◌+◌, ◌*◌, Bool, true, false, inl, inr, refl, ap, subst, List, length, slice_index_or, slice_set, arith}
 use Rattle.std.specs.List.{sum_by}
 use Rattle.std.proofs.lemmas.Bool.{cases_lt}
 use Rattle.std.proofs.lemmas.List.Sums.{sum_by-set, sum_by-le, sum_by-le-sum_by}
@@ -10,7 +10,7 @@ use Rattle.pg_ids.specs.declared.lock_mode.LockMode.TheVariants.{AccessShare, Ro
 use Rattle.pg_ids.specs.declared.session_set.SessionSet.{SessionSet}
 use Rattle.lock_table.specs.Kept.{held_at}
 use Rattle.course.specs.Kept.{KeptSeats, AreSeated}
-use Rattle.course.specs.Weight.{of_flag, sum_below, lacking, unheld, slack, most}
+use Rattle.course.specs.Weight.{of_flag, of_mark, sum_below, lacking, unheld, slack, most}
 
 -- ---- sums over numbers
 
@@ -93,6 +93,18 @@ flag_set_less xs s lt off = let h = sum_by-set of_flag xs s true false lt in let
 flags_most : (xs : List Bool) → sum_by of_flag xs ≤ length xs * 1
 flags_most xs = sum_by-le of_flag 1 xs (λ i d lt. flag_most (slice_index_or xs i d))
 
+-- ---- marks
+
+mark_most : (b : Bool) → of_mark b ≤ 1
+mark_most true = omega arith
+mark_most false = omega arith
+
+pub mark_cleared : (xs : List Bool) (s : ℕ) → s < length xs → sum_by of_mark (slice_set xs s false) + of_mark (slice_index_or xs s false) ≡ sum_by of_mark xs
+mark_cleared xs s lt = let h : sum_by of_mark (slice_set xs s false) + of_mark (slice_index_or xs s false) ≡ sum_by of_mark xs + 0 = sum_by-set of_mark xs s false false lt in omega (arith, h)
+
+marks_most : (xs : List Bool) → sum_by of_mark xs ≤ length xs * 1
+marks_most xs = sum_by-le of_mark 1 xs (λ i d lt. mark_most (slice_index_or xs i d))
+
 -- ---- all together
 
 pub slack_most : (kept : KeptSeats) → AreSeated kept → slack kept ≤ most
@@ -100,5 +112,6 @@ slack_most kept seated =
     let n = length kept.opened in
     let h = unheld_most n kept.stores.locks.tables kept.stores.locks.held in
     let k = flags_most kept.cancelled in
+    let m = marks_most kept.moved in
     let p : kept.stores.locks.tables * (8 * (n * 1)) ≡ 4096 * (8 * (n * 1)) = ap (λ t. t * (8 * (n * 1))) seated.tables in
-    omega (arith, h, k, p, seated.few, seated.cancelled)
+    omega (arith, h, k, m, p, seated.few, seated.cancelled, seated.moved)

@@ -1,7 +1,8 @@
 -- What is kept of a run's sessions beside the stores, and when it tells of a history.
-use Rattle.std.specs.Prelude.{◌≡◌, ◌≢◌, ℕ, ◌≤◌, ◌<◌, ◌==◌, ◌&&◌, Bool, true, false, List, ◌++◌, Option, Some, None, All, IfSome, is_some, length, slice_index_or}
+use Rattle.std.specs.Prelude.{◌≡◌, ℕ, ◌≤◌, ◌<◌, ◌==◌, ◌&&◌, Bool, true, false, List, ◌++◌, Option, Some, None, All, IfSome, is_some, length, slice_index_or}
 use Rattle.history.specs.declared.wait.WaitOn.{WaitOn}
-use Rattle.history.specs.declared.wait.Wanted.TheVariants.{Others}
+use Rattle.history.specs.declared.wait.Wanted.{Wanted}
+use Rattle.history.specs.declared.wait.Wanted.TheVariants.{Lock, Others}
 use Rattle.history.specs.Locks.{wanted, queue}
 use Rattle.history.specs.Waits.{ready}
 use Rattle.history.specs.History.{Event, History, lock_events}
@@ -75,6 +76,11 @@ pub record StandsFor {O : Type 0} (o : O) (kept : KeptSeats) (v : Database O) : 
   pub commands : kept.commands ≡ v.commands
   pub cancelled : kept.cancelled ≡ v.cancelled
   pub rests : kept.rests ≡ v.rests
+
+-- whoever is waited for is a session, a number below 128
+abbrev pub AreSessions : Wanted → Type 0
+AreSessions (Lock table m) = Unit {0}
+AreSessions (Others what) = (s : ℕ) → names what s ≡ true → s < 128
 
 -- the session waits
 abbrev pub waits_in : KeptSeats → ℕ → Bool

@@ -1,14 +1,17 @@
-ghost use Rattle.std.specs.Prelude.{◌≡◌, ◌≤◌, ◌<◌, ◌∷◌, [], true, false, Some, None, Ok, IfOk, IfSome, OnOk, OnErr, length, option_map, replicate, slice_index_or, slice_set};
+ghost use Rattle.std.specs.Prelude.{◌≡◌, ◌≤◌, ◌<◌, ℕ, ◌∷◌, [], true, false, if◌then◌else◌, Some, None, Ok, IfOk, IfSome, OnOk, OnErr, length, option_map, replicate, slice_index_or, slice_set};
 ghost use Rattle.history.specs.History.{History};
+ghost use Rattle.pg_ids.specs.Sets.{has};
 ghost use Rattle.schedule.specs.Lists.{head_of};
 ghost use Rattle.sessions.specs.declared.outcome.Outcome.TheVariants as outcomes;
-ghost use Rattle.stores.specs.Events.{begun, committed, aborted, withdrawn, resumed};
+ghost use Rattle.stores.specs.Events.{begun, committed, aborted, let_go, withdrawn, resumed};
 ghost use Rattle.course.specs.Database as database;
-ghost use Rattle.course.specs.Kept.{Adds, TellOf, due_in, waits_in};
+ghost use Rattle.course.specs.Kept.{Adds, AreSessions, TellOf, due_in, waits_in};
 ghost use Rattle.course.specs.Ran.{attempt_at, waits_by, HasRun};
 ghost use Rattle.course.specs.Weight.{slack, most};
 
 use crate::{Caller, Kinds, Rest, Stop};
+use history::{WaitOn, Wanted};
+use pg_ids::SessionSet;
 use pg_values::{Args, Fault, NoMemory, SqlState};
 use schedule::leave;
 use sessions::{Asker, Isolation, Outcome, Settings};
@@ -66,6 +69,23 @@ fn nothing_left(alloc: Global, sessions: usize) -> Result<Vec<Option<Rest>>, NoM
     Ok(rests)
 }
 
+// What is left to the session's statement, which is taken.
+fn take_rest(rests: &mut Vec<Option<Rest>>, session: usize) -> Option<Rest>
+    requires { session < length rests.old.items }
+    ensures is { result ≡ slice_index_or rests.old.items session None }
+    ensures taken { rests.new.items ≡ slice_set rests.old.items session None }
+{
+    rests[session].take()
+}
+
+// What is left to it now.
+fn set_rest(rests: &mut Vec<Option<Rest>>, session: usize, rest: Option<Rest>)
+    requires { session < length rests.old.items }
+    ensures { rests.new.items ≡ slice_set rests.old.items session rest }
+{
+    rests[session] = rest;
+}
+
 fn flag_at(flags: &[bool], session: usize) -> bool
     requires { session < length flags.now }
     ensures { result ≡ slice_index_or flags.now session false }
@@ -77,6 +97,22 @@ fn mark_all(flags: &mut [bool])
     ensures { flags.new ≡ replicate (length flags.old) true }
 {
     flags.fill(true);
+}
+
+// The sessions of a set are numbers below 128.
+fn sessions_are_low(set: SessionSet)
+    ensures { (s : ℕ) → has set s ≡ true → s < 128 }
+{}
+
+// Whoever is waited for is a session.
+fn named_are_sessions(wanted: Option<Wanted>)
+    ensures { IfSome wanted AreSessions }
+{
+    match wanted {
+        Some(Wanted::Others(WaitOn::Ends(of))) => sessions_are_low(of),
+        Some(Wanted::Others(WaitOn::Snapshots(of))) => sessions_are_low(of),
+        Some(Wanted::Lock { .. }) | None => (),
+    }
 }
 
 fn number_at(numbers: &[u32], session: usize) -> u32
@@ -187,7 +223,7 @@ impl Seats {
         ensures idle { waits_in self.new session ≡ false }
         ensures lower { slack self.new < slack self.old }
     {
-        let _ = self.stores.locks.wanted(session as u32);
+        named_are_sessions(self.stores.locks.wanted(session as u32));
         self.stores.resume(session as u32);
         self.moved[session] = false;
         leave(session, &mut self.queue);
@@ -262,27 +298,43 @@ impl Seats {
         self.whole && self.stores.locks.wanted(session as u32).is_some()
     }
 
-    // A statement that waited in the middle of its run is done: unless its transaction keeps it, the
-    // snapshot is given up that it has held.
-    fn give_up(&mut self, level: Isolation, session: usize)
+    // A statement is done. Where it has stood in the middle of its run, the snapshot is given up that it
+    // has held, unless its transaction keeps it.
+    fn give_up(&mut self, level: Isolation, session: usize, has_stood: bool)
         requires known { session < length self.old.opened }
         requires whole { self.old.whole ≡ true }
         requires free { waits_in self.old session ≡ false }
-        ensures adds { Adds self.old self.new (λ h. database.let_go_at level session) }
+        ensures adds { Adds self.old self.new (λ h. if has_stood then database.let_go_at level session else []) }
         ensures opened { self.new.opened ≡ self.old.opened }
         ensures commands { self.new.commands ≡ self.old.commands }
         ensures cancelled { self.new.cancelled ≡ self.old.cancelled }
         ensures rests { self.new.rests ≡ self.old.rests }
         ensures idle { waits_in self.new session ≡ false }
     {
+        if !has_stood {
+            return;
+        }
         match level {
             Isolation::RepeatableRead => {}
-            Isolation::ReadCommitted | Isolation::ReadUncommitted => {
-                self.stores.let_go(session as u32);
-                mark_all(&mut self.moved);
-                self.ready = self.stores.locks.ready();
-            }
+            Isolation::ReadCommitted => self.let_go(session),
+            Isolation::ReadUncommitted => self.let_go(session),
         }
+    }
+
+    // The session gives up the snapshot that it holds.
+    fn let_go(&mut self, session: usize)
+        requires known { session < length self.old.opened }
+        requires whole { self.old.whole ≡ true }
+        ensures adds { Adds self.old self.new (λ h. let_go session) }
+        ensures opened { self.new.opened ≡ self.old.opened }
+        ensures commands { self.new.commands ≡ self.old.commands }
+        ensures cancelled { self.new.cancelled ≡ self.old.cancelled }
+        ensures rests { self.new.rests ≡ self.old.rests }
+        ensures waits { waits_in self.new session ≡ waits_in self.old session }
+    {
+        self.stores.let_go(session as u32);
+        mark_all(&mut self.moved);
+        self.ready = self.stores.locks.ready();
     }
 
     /// A statement of the session is run from its beginning, or from where it stood, up to its end or to a
@@ -328,20 +380,26 @@ impl Seats {
             cmd,
             kind: asker.kind,
         };
-        let rest = self.rests[session].take();
+        let rest = take_rest(&mut self.rests, session);
         let has_stood = rest.is_some();
-        let answer = kinds.attempt(alloc, &mut self.stores, caller, rest, settings, statement, out);
+        let answer = kinds.attempt(
+            alloc,
+            &mut self.stores,
+            caller,
+            rest,
+            settings,
+            statement,
+            out,
+        );
         self.ready = self.stores.locks.ready();
         match answer {
             Ok(()) => {
                 self.commands[session] = next;
-                if has_stood {
-                    self.give_up(asker.level, session);
-                }
+                self.give_up(asker.level, session, has_stood);
                 Ok(Outcome::Done)
             }
             Err(Stop::Waits(rest)) => {
-                self.rests[session] = rest;
+                set_rest(&mut self.rests, session, rest);
                 if self.queue.push(session).is_err() {
                     self.whole = false;
                     return Err(NoMemory);

@@ -4,19 +4,19 @@ use Rattle.course.specs.Kept.{KeptSeats, Adds, waits_in}
 use Rattle.course.specs.Weight.{slack}
 use Rattle.course.specs.contracts.seats.Seats.{the_view}
 use Rattle.course.proofs.Lower.{withdrawn_lower}
-use Rattle.course.proofs.Steps.{seats, kept_after, seated_after, withdrawn_adds, flags_same, known_of}
+use Rattle.course.proofs.Steps.{seats, kept_after, seated_after, withdrawn_adds, as_long, known_of}
 use Rattle.course.proofs.seats.Seats.cancel.Goals as goal
 
 abbrev after : goal.After-self-2-1 → KeptSeats
-after c = seats c.withdraw.new.self c.self.inside.opened.items c.self.inside.commands.items (slice_set c.self.inside.cancelled.items c.args.session true) c.leave.new.held.items c.ready-self-inside.result c.self.inside.whole
+after c = seats c.withdraw.new.self c.self.inside.opened.items c.self.inside.commands.items (slice_set c.self.inside.cancelled.items c.args.session true) c.self.inside.rests.items c.self.inside.moved.items c.leave.new.held.items c.ready-self-inside.result c.self.inside.whole
 
 adds : (c : goal.After-self-2-1) → Adds (the_view c.self.inside) (after c) (λ h. withdrawn c.args.session)
 adds c = withdrawn_adds (the_view c.self.inside) c.withdraw.new.self c.args.session c.leave.new.held.items c.ready-self-inside.result
-    c.withdraw.ensures.good (ap (λ v. v.txs) c.withdraw.ensures.rest) c.leave.ensures.is c.ready-self-inside.ensures.is
+    c.withdraw.ensures.good (ap (λ v. v.txs) c.withdraw.ensures.rest) (ap (λ v. v.rows) c.withdraw.ensures.rest) c.withdraw.ensures.idle c.withdraw.ensures.others c.leave.ensures.is c.ready-self-inside.ensures.is
 
 pub invariant_of-self : goal.invariant_of-self
 invariant_of-self c = kept_after (the_view c.self.inside) (after c) (λ h. withdrawn c.args.session) c.self.invariant
-    (seated_after (the_view c.self.inside) c.withdraw.new.self _ _ _ _ _ _ c.self.invariant.seated refl refl (flags_same _ _ _) c.withdraw.ensures.size
+    (seated_after (the_view c.self.inside) c.withdraw.new.self _ _ _ _ _ _ _ _ c.self.invariant.seated refl refl (as_long _ _ _) refl refl c.withdraw.ensures.size
     (c.leave.ensures.known (length c.self.inside.opened.items) c.self.invariant.seated.queue)
     (known_of (length c.withdraw.new.self.locks.wants) c.ready-self-inside.result (length c.self.inside.opened.items) (c.withdraw.ensures.size.waits ∙ c.self.invariant.seated.waits) c.ready-self-inside.ensures.known))
     (adds c)
