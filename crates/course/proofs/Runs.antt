@@ -23,7 +23,7 @@ use Rattle.sessions.specs.declared.outcome.Outcome.TheVariants as outcomes
 use Rattle.stores.specs.Numbers.{IsAt}
 use Rattle.stores.specs.Stand.{Stands, IsSameSize}
 use Rattle.stores.specs.declared.stores.Stores.{Stores}
-use Rattle.course.specs.Made.{Made, Halt, Waits, Refused}
+use Rattle.course.specs.Made.{Made, Halt, Waits, Refused, number_after}
 use Rattle.course.specs.Attempts.{MayGoOn, WentOn, IsAttempt, GoesOn, HasCause, IsHalt}
 use Rattle.course.specs.declared.caller.Caller.{Caller}
 use Rattle.course.specs.declared.rest.Rest.{Rest}
@@ -297,25 +297,25 @@ refused_ran e a stores next rests ready' h before after m f it tells more set id
 
 -- ---- it waits
 
-pub waits_tells : (e : KeptSeats) (a : Asker) (stores : Stores) (rest : Option Rest) (rests : List (Option Rest)) (q : List ℕ) (ready' : Option ℕ) (h : History) (before after : List ℕ) (m : Made (List ℕ)) → IsTried e a.session stores ready' → TellOf e h
-    → rests ≡ slice_set e.rests a.session rest → IsHalt (Err (stop.Waits rest)) stores a.session → q ≡ e.queue ++ a.session ∷ [] → IsAttempt (Err (stop.Waits rest)) stores before after (caller_in e a) h m
-    → TellOf (tried e stores e.commands rests q ready') (m.events ++ h)
-waits_tells e a stores rest rests q ready' h before after m it tells set halt left (told, printed, went) =
-    went_tells e stores a.session (slice_index_or e.commands a.session 0) rest e.commands rests (a.session ∷ []) q ready' m.events h it tells went
-    (waiting_caused stores a.session halt.0.0 halt.0.1 halt.0.2) halt.1 (number_stays e a.session stores ready' it) set left
+pub waits_tells : (e : KeptSeats) (a : Asker) (stores : Stores) (n : ℕ) (rest : Option Rest) (rests : List (Option Rest)) (q : List ℕ) (ready' : Option ℕ) (h : History) (before after : List ℕ) (m : Made (List ℕ)) → IsTried e a.session stores ready' → TellOf e h
+    → n ≡ number_after rest (slice_index_or e.commands a.session 0) → rests ≡ slice_set e.rests a.session rest → IsHalt (Err (stop.Waits rest)) stores a.session → q ≡ e.queue ++ a.session ∷ [] → IsAttempt (Err (stop.Waits rest)) stores before after (caller_in e a) h m
+    → TellOf (tried e stores (slice_set e.commands a.session n) rests q ready') (m.events ++ h)
+waits_tells e a stores n rest rests q ready' h before after m it tells number set halt left (told, printed, went) =
+    went_tells e stores a.session (number_after rest (slice_index_or e.commands a.session 0)) rest (slice_set e.commands a.session n) rests (a.session ∷ []) q ready' m.events h it tells went
+    (waiting_caused stores a.session halt.0.0 halt.0.1 halt.0.2) halt.1 (ap (slice_set e.commands a.session) number) set left
 
-pub waits_ran : (e : KeptSeats) (a : Asker) (stores : Stores) (rest : Option Rest) (rests : List (Option Rest)) (q : List ℕ) (ready' : Option ℕ) (h : History) (before after : List ℕ) (m : Made (List ℕ)) → IsTried e a.session stores ready' → TellOf e h
-    → rests ≡ slice_set e.rests a.session rest → IsHalt (Err (stop.Waits rest)) stores a.session → q ≡ e.queue ++ a.session ∷ [] → IsAttempt (Err (stop.Waits rest)) stores before after (caller_in e a) h m
-    → Tried e (tried e stores e.commands rests q ready') a before after outcomes.Waits h m
-waits_ran e a stores rest rests q ready' h before after m it tells set halt left (told, printed, went) =
-    let new = tried e stores e.commands rests q ready' in
+pub waits_ran : (e : KeptSeats) (a : Asker) (stores : Stores) (n : ℕ) (rest : Option Rest) (rests : List (Option Rest)) (q : List ℕ) (ready' : Option ℕ) (h : History) (before after : List ℕ) (m : Made (List ℕ)) → IsTried e a.session stores ready' → TellOf e h
+    → n ≡ number_after rest (slice_index_or e.commands a.session 0) → rests ≡ slice_set e.rests a.session rest → IsHalt (Err (stop.Waits rest)) stores a.session → q ≡ e.queue ++ a.session ∷ [] → IsAttempt (Err (stop.Waits rest)) stores before after (caller_in e a) h m
+    → Tried e (tried e stores (slice_set e.commands a.session n) rests q ready') a before after outcomes.Waits h m
+waits_ran e a stores n rest rests q ready' h before after m it tells number set halt left (told, printed, went) =
+    let new = tried e stores (slice_set e.commands a.session n) rests q ready' in
     as_tried e new a before after outcomes.Waits h m it.flag (record {
       whole = it.whole;
       tells = subst (λ events. TellOf new (events ++ (m.events ++ h))) (sym (not_done a.level a.session (slice_index_or e.rests a.session None) m.told (Waits rest) told))
-          (waits_tells e a stores rest rests q ready' h before after m it tells set halt left (told, printed, went));
+          (waits_tells e a stores n rest rests q ready' h before after m it tells number set halt left (told, printed, went));
       outcome = ap outcome_told (sym told);
       text = printed ∙ (sym (append-nil before) ∙ ap (λ t. before ++ text_told t) (sym told));
-      commands = number_stays e a.session stores ready' it ∙ ap (λ t. slice_set e.commands a.session (next_command t (slice_index_or e.commands a.session 0))) (sym told);
+      commands = ap (slice_set e.commands a.session) number ∙ ap (λ t. slice_set e.commands a.session (next_command t (slice_index_or e.commands a.session 0))) (sym told);
       cancelled = flag_stays e a.session stores ready' it;
       rests = set ∙ ap (λ t. slice_set e.rests a.session (rest_told t)) (sym told);
     })

@@ -11,7 +11,7 @@ use Rattle.lock_table.specs.Stands.{IsIdle, OthersWait, SameSize, names}
 use Rattle.stores.specs.Stand.{Stands}
 use Rattle.stores.specs.Numbers.{IsAt}
 use Rattle.stores.specs.declared.stores.Stores.{Stores}
-use Rattle.course.specs.Made.{Made, Waits, Refused}
+use Rattle.course.specs.Made.{Made, Waits, Refused, number_after}
 use Rattle.course.specs.declared.caller.Caller.{Caller}
 use Rattle.course.specs.declared.rest.Rest.{Rest}
 use Rattle.course.specs.declared.stop.Stop.{Stop}
@@ -46,7 +46,7 @@ pub record WentOn (earlier : History) (session cmd : ℕ) (waiting : List ℕ) (
 -- want of memory apart, what came of it is what is told; a statement that is done prints, and counts as a command
 abbrev pub IsAttempt : Result (Unit {0}) Stop → Stores → (before after : List ℕ) → Caller → History → Made (List ℕ) → Type 0
 IsAttempt (Ok u) new before after caller h m = (text : List ℕ) × (m.told ≡ Ok text) × (after ≡ before ++ text) × WentOn h caller.session (caller.cmd + 1) [] new (m.events ++ h)
-IsAttempt (Err (stop.Waits rest)) new before after caller h m = (m.told ≡ Err (Waits rest)) × (after ≡ before) × WentOn h caller.session caller.cmd (caller.session ∷ []) new (m.events ++ h)
+IsAttempt (Err (stop.Waits rest)) new before after caller h m = (m.told ≡ Err (Waits rest)) × (after ≡ before) × WentOn h caller.session (number_after rest caller.cmd) (caller.session ∷ []) new (m.events ++ h)
 IsAttempt (Err (stop.Refused f)) new before after caller h m = (m.told ≡ Err (Refused f)) × (after ≡ before) × WentOn h caller.session (caller.cmd + 1) [] new (m.events ++ h)
 IsAttempt (Err stop.NoMemory) new before after caller h m = Unit {0}
 

@@ -13,7 +13,7 @@ use Rattle.sessions.specs.declared.phase.Isolation.{Isolation}
 use Rattle.sessions.specs.declared.phase.Isolation.TheVariants.{ReadCommitted, ReadUncommitted, RepeatableRead}
 use Rattle.sessions.specs.declared.settings.Settings.{Settings}
 use Rattle.stores.specs.Events.{begun, committed, aborted, let_go, withdrawn, resumed}
-use Rattle.course.specs.Made.{Made, Halt, Waits, Refused, halted}
+use Rattle.course.specs.Made.{Made, Halt, Waits, Refused, number_after, halted}
 use Rattle.course.specs.Words.{Words}
 use Rattle.course.specs.declared.caller.Caller.{Caller}
 use Rattle.course.specs.declared.rest.Rest.{Rest}
@@ -56,10 +56,10 @@ unless_cancelled false m = m
 abbrev pub attempt_of : {O T : Type 0} → Words O T → Database O → Asker → Settings → T → Made (List ℕ)
 attempt_of W v a g t = unless_cancelled (is_cancelled v a.session) (W.attempted v.options (caller_of v.sessions (command_of v a.session) a) (rest_of v a.session) v.history g t)
 
--- a command that waits goes on under its number
+-- a command that is to begin anew keeps its number
 abbrev pub next_command : Result (List ℕ) Halt → ℕ → ℕ
 next_command (Ok text) n = n + 1
-next_command (Err (Waits rest)) n = n
+next_command (Err (Waits rest)) n = number_after rest n
 next_command (Err (Refused f)) n = n + 1
 
 abbrev pub rest_told : Result (List ℕ) Halt → Option Rest

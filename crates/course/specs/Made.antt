@@ -1,5 +1,5 @@
 -- What a part of a statement makes of a history, and how it ends.
-use Rattle.std.specs.Prelude.{◌++◌, Option, Result, Ok, Err}
+use Rattle.std.specs.Prelude.{ℕ, ◌+◌, ◌++◌, Option, Some, None, Result, Ok, Err}
 use Rattle.pg_values.specs.declared.fault.Fault.{Fault}
 use Rattle.history.specs.History.{History}
 use Rattle.course.specs.declared.rest.Rest.{Rest}
@@ -8,6 +8,12 @@ use Rattle.course.specs.declared.rest.Rest.{Rest}
 pub data Halt : Type 0 where
   Waits : Option Rest → Halt
   Refused : Fault → Halt
+
+-- the number under which a command goes on that waits: in the middle of its run it is the transaction's next one, since what
+-- it did so far it did under its own
+abbrev pub number_after : Option Rest → ℕ → ℕ
+number_after None n = n
+number_after (Some rest) n = n + 1
 
 -- the events, the newest first, and what comes of them
 pub record Made (T : Type 0) : Type 0 where

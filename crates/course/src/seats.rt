@@ -1,10 +1,11 @@
-ghost use Rattle.std.specs.Prelude.{◌≡◌, ◌≤◌, ◌<◌, ℕ, ◌∷◌, [], true, false, if◌then◌else◌, Some, None, Ok, IfOk, IfSome, OnOk, OnErr, length, option_map, replicate, slice_index_or, slice_set};
+ghost use Rattle.std.specs.Prelude.{◌≡◌, ◌≤◌, ◌<◌, ℕ, ◌+◌, ◌∷◌, [], true, false, if◌then◌else◌, Some, None, Ok, IfOk, IfSome, OnOk, OnErr, length, option_map, replicate, slice_index_or, slice_set};
 ghost use Rattle.history.specs.History.{History};
 ghost use Rattle.pg_ids.specs.Sets.{has};
 ghost use Rattle.schedule.specs.Lists.{head_of};
 ghost use Rattle.sessions.specs.declared.outcome.Outcome.TheVariants as outcomes;
 ghost use Rattle.stores.specs.Events.{begun, committed, aborted, let_go, withdrawn, resumed};
 ghost use Rattle.course.specs.Database as database;
+ghost use Rattle.course.specs.Made as made;
 ghost use Rattle.course.specs.Kept.{Adds, AreSessions, TellOf, due_in, waits_in};
 ghost use Rattle.course.specs.Ran.{attempt_at, waits_by, HasRun};
 ghost use Rattle.course.specs.Weight.{slack, most};
@@ -120,6 +121,17 @@ fn number_at(numbers: &[u32], session: usize) -> u32
     ensures { result ≡ slice_index_or numbers.now session 0 }
 {
     numbers[session]
+}
+
+// The number under which a command goes on that waits.
+fn number_after(rest: &Option<Rest>, next: u32, own: u32) -> u32
+    requires { next ≡ own + 1 }
+    ensures { result ≡ made.number_after rest.now own }
+{
+    match rest {
+        Some(_) => next,
+        None => own,
+    }
 }
 
 impl Seats {
@@ -399,6 +411,7 @@ impl Seats {
                 Ok(Outcome::Done)
             }
             Err(Stop::Waits(rest)) => {
+                self.commands[session] = number_after(&rest, next, cmd);
                 set_rest(&mut self.rests, session, rest);
                 if self.queue.push(session).is_err() {
                     self.whole = false;

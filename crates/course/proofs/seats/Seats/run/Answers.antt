@@ -3,6 +3,7 @@ use Rattle.sessions.specs.declared.outcome.Outcome.TheVariants as outcomes
 use Rattle.stores.specs.Numbers.{IsAt}
 use Rattle.course.specs.Attempts.{MayGoOn, IsAttempt, IsHalt}
 use Rattle.course.specs.Database.{caller_of}
+use Rattle.course.specs.Made.{number_after}
 use Rattle.course.specs.Kept.{TellOf}
 use Rattle.course.specs.Ran.{attempt_at, HasRun}
 use Rattle.course.specs.Weight.{slack}
@@ -121,9 +122,9 @@ returns-else-is_err-clause-ran g c h tells =
       readies = c.ready-self-inside.ensures.is;
     } in
     subst (λ v. TellOf v h → HasRun (attempt_at g.K.Kinds.words (g.K.Kinds.options c.args.kinds.now) v c.args.asker h c.args.settings (g.K.Kinds.tree c.args.statement.now)) c.args.asker v
-    (tried (the_view c.self.inside) c.attempt-answer.new.stores c.self.inside.commands.items c.set_rest.new.rests.items c.push.new.self.items c.ready-self-inside.result)
+    (tried (the_view c.self.inside) c.attempt-answer.new.stores (slice_set c.self.inside.commands.items c.args.asker.session c.number_after.result) c.set_rest.new.rests.items c.push.new.self.items c.ready-self-inside.result)
     c.args.out.now.items c.attempt-answer.new.out.items outcomes.Waits h) c.self.view_is
-    (λ told. waits_ran (the_view c.self.inside) c.args.asker c.attempt-answer.new.stores c.in-Err-Waits.rest c.set_rest.new.rests.items c.push.new.self.items c.ready-self-inside.result h c.args.out.now.items c.attempt-answer.new.out.items _ it told (c.set_rest.ensures ∙ (ap (slice_set c.take_rest-rest.new.rests.items c.args.asker.session) c.in-Err-Waits.rest-is ∙ (ap (λ xs. slice_set xs c.args.asker.session c.in-Err-Waits.rest) c.take_rest-rest.ensures.taken ∙ set_twice c.self.inside.rests.items c.args.asker.session None c.in-Err-Waits.rest))) (subst (λ x. IsHalt (Err x) c.attempt-answer.new.stores c.args.asker.session) c.in-Err-Waits.field-0-is c.in-Err-Waits.ensures.waits) pushed (as_meant g.K.Kinds.words (g.K.Kinds.options c.args.kinds.now) (the_view c.self.inside) c.args.asker h c.args.settings (g.K.Kinds.tree c.args.statement.now) c.count-sessions.result c.number_at-cmd.result c.take_rest-rest.result (Err (stop.Waits c.in-Err-Waits.rest)) c.attempt-answer.new.stores c.args.out.now.items c.attempt-answer.new.out.items (c.count-sessions.ensures.is ∙ ap (λ v. length v.opened) (sym c.self.view_is)) number c.take_rest-rest.ensures.is (subst (λ x. IsAttempt (Err x) c.attempt-answer.new.stores c.args.out.now.items c.attempt-answer.new.out.items (record { session = c.args.asker.session; sessions = c.count-sessions.result; level = c.args.asker.level; cmd = c.number_at-cmd.result; kind = c.args.asker.kind }) h (g.K.Kinds.words.attempted (g.K.Kinds.options c.args.kinds.now) (caller_of c.count-sessions.result c.number_at-cmd.result c.args.asker) c.take_rest-rest.result h c.args.settings (g.K.Kinds.tree c.args.statement.now))) c.in-Err-Waits.field-0-is (c.in-Err-Waits.ensures.is h told.stands (subst (IsAt h c.args.asker.session) (sym number) (told.numbered c.args.asker.session))))))
+    (λ told. waits_ran (the_view c.self.inside) c.args.asker c.attempt-answer.new.stores c.number_after.result c.in-Err-Waits.rest c.set_rest.new.rests.items c.push.new.self.items c.ready-self-inside.result h c.args.out.now.items c.attempt-answer.new.out.items _ it told (c.number_after.ensures ∙ (ap (λ r. number_after r c.number_at-cmd.result) c.in-Err-Waits.rest-is ∙ ap (number_after c.in-Err-Waits.rest) number)) (c.set_rest.ensures ∙ (ap (slice_set c.take_rest-rest.new.rests.items c.args.asker.session) c.in-Err-Waits.rest-is ∙ (ap (λ xs. slice_set xs c.args.asker.session c.in-Err-Waits.rest) c.take_rest-rest.ensures.taken ∙ set_twice c.self.inside.rests.items c.args.asker.session None c.in-Err-Waits.rest))) (subst (λ x. IsHalt (Err x) c.attempt-answer.new.stores c.args.asker.session) c.in-Err-Waits.field-0-is c.in-Err-Waits.ensures.waits) pushed (as_meant g.K.Kinds.words (g.K.Kinds.options c.args.kinds.now) (the_view c.self.inside) c.args.asker h c.args.settings (g.K.Kinds.tree c.args.statement.now) c.count-sessions.result c.number_at-cmd.result c.take_rest-rest.result (Err (stop.Waits c.in-Err-Waits.rest)) c.attempt-answer.new.stores c.args.out.now.items c.attempt-answer.new.out.items (c.count-sessions.ensures.is ∙ ap (λ v. length v.opened) (sym c.self.view_is)) number c.take_rest-rest.ensures.is (subst (λ x. IsAttempt (Err x) c.attempt-answer.new.stores c.args.out.now.items c.attempt-answer.new.out.items (record { session = c.args.asker.session; sessions = c.count-sessions.result; level = c.args.asker.level; cmd = c.number_at-cmd.result; kind = c.args.asker.kind }) h (g.K.Kinds.words.attempted (g.K.Kinds.options c.args.kinds.now) (caller_of c.count-sessions.result c.number_at-cmd.result c.args.asker) c.take_rest-rest.result h c.args.settings (g.K.Kinds.tree c.args.statement.now))) c.in-Err-Waits.field-0-is (c.in-Err-Waits.ensures.is h told.stands (subst (IsAt h c.args.asker.session) (sym number) (told.numbered c.args.asker.session))))))
     tells
 
 pub invariant_of-self-else-is_err : goal.invariant_of-self-else-is_err
@@ -138,12 +139,12 @@ invariant_of-self-else-is_err g c =
       goes = c.attempt-answer.ensures.keeps;
       readies = c.ready-self-inside.ensures.is;
     } in
-    ran_kept (the_view c.self.inside) (tried (the_view c.self.inside) c.attempt-answer.new.stores c.self.inside.commands.items c.set_rest.new.rests.items c.push.new.self.items c.ready-self-inside.result) c.self.invariant c.if-not-self.false
-    (seated_after (the_view c.self.inside) c.attempt-answer.new.stores _ _ _ _ _ _ _ _ c.self.invariant.seated refl refl refl (ap length c.set_rest.ensures ∙ (as_long _ _ _ ∙ (ap length c.take_rest-rest.ensures.taken ∙ as_long _ _ _))) refl (goes_size c.self.inside.stores c.attempt-answer.new.stores c.args.asker.session c.attempt-answer.ensures.keeps)
+    ran_kept (the_view c.self.inside) (tried (the_view c.self.inside) c.attempt-answer.new.stores (slice_set c.self.inside.commands.items c.args.asker.session c.number_after.result) c.set_rest.new.rests.items c.push.new.self.items c.ready-self-inside.result) c.self.invariant c.if-not-self.false
+    (seated_after (the_view c.self.inside) c.attempt-answer.new.stores _ _ _ _ _ _ _ _ c.self.invariant.seated refl (as_long _ _ _) refl (ap length c.set_rest.ensures ∙ (as_long _ _ _ ∙ (ap length c.take_rest-rest.ensures.taken ∙ as_long _ _ _))) refl (goes_size c.self.inside.stores c.attempt-answer.new.stores c.args.asker.session c.attempt-answer.ensures.keeps)
     (one_more c.self.inside.queue.items c.push.new.self.items c.args.asker.session (length c.self.inside.opened.items) pushed c.self.invariant.seated.queue (subst (λ v. c.args.asker.session < length v.opened) (sym c.self.view_is) c.requires.known)) (known_of (length c.attempt-answer.new.stores.locks.wants) c.ready-self-inside.result (length c.self.inside.opened.items) (c.attempt-answer.ensures.keeps.size.sessions ∙ c.self.invariant.seated.waits) c.ready-self-inside.ensures.known))
-    (λ h told. (_, waits_tells (the_view c.self.inside) c.args.asker c.attempt-answer.new.stores c.in-Err-Waits.rest c.set_rest.new.rests.items c.push.new.self.items c.ready-self-inside.result h c.args.out.now.items c.attempt-answer.new.out.items _ it told (c.set_rest.ensures ∙ (ap (slice_set c.take_rest-rest.new.rests.items c.args.asker.session) c.in-Err-Waits.rest-is ∙ (ap (λ xs. slice_set xs c.args.asker.session c.in-Err-Waits.rest) c.take_rest-rest.ensures.taken ∙ set_twice c.self.inside.rests.items c.args.asker.session None c.in-Err-Waits.rest))) (subst (λ x. IsHalt (Err x) c.attempt-answer.new.stores c.args.asker.session) c.in-Err-Waits.field-0-is c.in-Err-Waits.ensures.waits) pushed (as_meant g.K.Kinds.words (g.K.Kinds.options c.args.kinds.now) (the_view c.self.inside) c.args.asker h c.args.settings (g.K.Kinds.tree c.args.statement.now) c.count-sessions.result c.number_at-cmd.result c.take_rest-rest.result (Err (stop.Waits c.in-Err-Waits.rest)) c.attempt-answer.new.stores c.args.out.now.items c.attempt-answer.new.out.items (c.count-sessions.ensures.is ∙ ap (λ v. length v.opened) (sym c.self.view_is)) number c.take_rest-rest.ensures.is (subst (λ x. IsAttempt (Err x) c.attempt-answer.new.stores c.args.out.now.items c.attempt-answer.new.out.items (record { session = c.args.asker.session; sessions = c.count-sessions.result; level = c.args.asker.level; cmd = c.number_at-cmd.result; kind = c.args.asker.kind }) h (g.K.Kinds.words.attempted (g.K.Kinds.options c.args.kinds.now) (caller_of c.count-sessions.result c.number_at-cmd.result c.args.asker) c.take_rest-rest.result h c.args.settings (g.K.Kinds.tree c.args.statement.now))) c.in-Err-Waits.field-0-is (c.in-Err-Waits.ensures.is h told.stands (subst (IsAt h c.args.asker.session) (sym number) (told.numbered c.args.asker.session)))))))
+    (λ h told. (_, waits_tells (the_view c.self.inside) c.args.asker c.attempt-answer.new.stores c.number_after.result c.in-Err-Waits.rest c.set_rest.new.rests.items c.push.new.self.items c.ready-self-inside.result h c.args.out.now.items c.attempt-answer.new.out.items _ it told (c.number_after.ensures ∙ (ap (λ r. number_after r c.number_at-cmd.result) c.in-Err-Waits.rest-is ∙ ap (number_after c.in-Err-Waits.rest) number)) (c.set_rest.ensures ∙ (ap (slice_set c.take_rest-rest.new.rests.items c.args.asker.session) c.in-Err-Waits.rest-is ∙ (ap (λ xs. slice_set xs c.args.asker.session c.in-Err-Waits.rest) c.take_rest-rest.ensures.taken ∙ set_twice c.self.inside.rests.items c.args.asker.session None c.in-Err-Waits.rest))) (subst (λ x. IsHalt (Err x) c.attempt-answer.new.stores c.args.asker.session) c.in-Err-Waits.field-0-is c.in-Err-Waits.ensures.waits) pushed (as_meant g.K.Kinds.words (g.K.Kinds.options c.args.kinds.now) (the_view c.self.inside) c.args.asker h c.args.settings (g.K.Kinds.tree c.args.statement.now) c.count-sessions.result c.number_at-cmd.result c.take_rest-rest.result (Err (stop.Waits c.in-Err-Waits.rest)) c.attempt-answer.new.stores c.args.out.now.items c.attempt-answer.new.out.items (c.count-sessions.ensures.is ∙ ap (λ v. length v.opened) (sym c.self.view_is)) number c.take_rest-rest.ensures.is (subst (λ x. IsAttempt (Err x) c.attempt-answer.new.stores c.args.out.now.items c.attempt-answer.new.out.items (record { session = c.args.asker.session; sessions = c.count-sessions.result; level = c.args.asker.level; cmd = c.number_at-cmd.result; kind = c.args.asker.kind }) h (g.K.Kinds.words.attempted (g.K.Kinds.options c.args.kinds.now) (caller_of c.count-sessions.result c.number_at-cmd.result c.args.asker) c.take_rest-rest.result h c.args.settings (g.K.Kinds.tree c.args.statement.now))) c.in-Err-Waits.field-0-is (c.in-Err-Waits.ensures.is h told.stands (subst (IsAt h c.args.asker.session) (sym number) (told.numbered c.args.asker.session)))))))
 
 pub returns-else-is_err-clause-lower : goal.returns-else-is_err-clause-lower
 returns-else-is_err-clause-lower g c is =
-    subst (λ v. slack (tried (the_view c.self.inside) c.attempt-answer.new.stores c.self.inside.commands.items c.set_rest.new.rests.items c.push.new.self.items c.ready-self-inside.result) ≤ slack v) c.self.view_is
-    (tried_lower (the_view c.self.inside) c.attempt-answer.new.stores c.self.inside.commands.items c.set_rest.new.rests.items c.push.new.self.items c.ready-self-inside.result c.self.inside.whole c.attempt-answer.ensures.keeps.locks c.attempt-answer.ensures.keeps.size.tables)
+    subst (λ v. slack (tried (the_view c.self.inside) c.attempt-answer.new.stores (slice_set c.self.inside.commands.items c.args.asker.session c.number_after.result) c.set_rest.new.rests.items c.push.new.self.items c.ready-self-inside.result) ≤ slack v) c.self.view_is
+    (tried_lower (the_view c.self.inside) c.attempt-answer.new.stores (slice_set c.self.inside.commands.items c.args.asker.session c.number_after.result) c.set_rest.new.rests.items c.push.new.self.items c.ready-self-inside.result c.self.inside.whole c.attempt-answer.ensures.keeps.locks c.attempt-answer.ensures.keeps.size.tables)
