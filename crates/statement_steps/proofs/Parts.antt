@@ -2,15 +2,17 @@
 use Rattle.std.proofs.lemmas.List.{length-map, get_or-map}
 use Rattle.std.proofs.Common.{◌≡◌, ℕ, ◌+◌, ◌<◌, ◌||◌, Bool, true, false, List, [], ◌∷◌, ◌++◌, refl, ap, sym, ◌∙◌, subst, arith, append-nil, Option, Some, None, Result, Ok, Err, IfOk, map, length, slice_index_or}
 use Rattle.pg_ids.specs.declared.ids.TableNo.{TableNo}
-use Rattle.pg_ids.specs.declared.lock_mode.LockMode.{LockMode}
 use Rattle.pg_ids.specs.declared.session_set.SessionSet.{SessionSet}
 use Rattle.pg_ids.specs.declared.session_list.SessionList.{SessionList}
 use Rattle.pg_ids.specs.Lists.{listed}
 use Rattle.pg_ids.specs.Sets.{has, sessions}
 use Rattle.pg_values.specs.declared.fault.Fault.{Fault}
 use Rattle.pg_values.specs.declared.text.NoMemory.{NoMemory}
-use Rattle.history.specs.declared.wait.Wanted.TheVariants.{Lock}
-use Rattle.history.specs.Locks.{queue, LockGot, WaitBegan}
+use Rattle.history.specs.declared.wait.WaitOn.TheVariants.{Ends, Snapshots}
+use Rattle.history.specs.declared.wait.Wanted.{Wanted}
+use Rattle.history.specs.declared.wait.Wanted.TheVariants.{Lock, Others}
+use Rattle.history.specs.Locks.{LockEvents, queue, LockGot, WaitBegan}
+use Rattle.history.specs.Waits.{is_cause}
 use Rattle.history.specs.Transactions.{open_of, fate}
 use Rattle.history.specs.Snapshots.{TakenSnapshot, held_by}
 use Rattle.history.specs.History.{History, LockChange, tx_events, snapshot_events, catalogue_events, lock_events}
@@ -35,7 +37,8 @@ use Rattle.stores.specs.declared.stores.Stores.{Stores}
 use Rattle.lock_answers.specs.Laws.{AnswerIsTold, HistoryIsTold}
 use Rattle.lock_answers.specs.Asked.{asked, asked_view, asked_events, asked_history, AskedView, AtOnce, WaitsBehind, ClosesCycle}
 use Rattle.course.specs.Made.{Made, Waits, Refused, made, halted}
-use Rattle.course.specs.Attempts.{MayAttempt, WentOn, GoesOn, LocksStay}
+use Rattle.course.specs.Attempts.{MayAttempt, MayGoOn, WentOn, GoesOn, HasCause, LocksStay}
+use Rattle.course.specs.declared.rest.Rest.{Rest}
 use Rattle.course.specs.declared.caller.Caller.{Caller}
 use Rattle.course.specs.declared.stop.Stop.{Stop}
 use Rattle.course.specs.declared.stop.Stop.TheVariants as stop
@@ -43,7 +46,7 @@ use Rattle.course.proofs.Numbers.{at_lock, one_later}
 use Rattle.statement_steps.proofs.Steps.{halted_same}
 use Rattle.statement_steps.proofs.Known.{some_of, has_known}
 use Rattle.statement_steps.specs.Faults.{no_table, deadlock, stop_by}
-use Rattle.statement_steps.specs.Asks.{told_of, locked, found, meant_or_none, number_or, kept_number}
+use Rattle.statement_steps.specs.Asks.{told_by, found, meant_or_none, number_or, kept_number}
 use Rattle.statement_steps.specs.Known.{maker_of, IsKnownTo}
 use Rattle.statement_steps.specs.Steps.{IsTold, IsStep}
 
@@ -87,35 +90,41 @@ or_right true b e = refl
 or_right false b e = e
 
 -- what is told of an answer
-told_at_once : (names : List (List ℕ)) (events : History) (v : AskedView) → AtOnce ≡ v → told_of names events v ≡ made events tt
-told_at_once names events v e = ap (told_of names events) (sym e)
+told_at_once : (names : List (List ℕ)) (rest : Option Rest) (events : History) (v : AskedView) → AtOnce ≡ v → told_by names rest events v ≡ made events tt
+told_at_once names rest events v e = ap (told_by names rest events) (sym e)
 
-told_waits : (names : List (List ℕ)) (events : History) (others : List ℕ) (v : AskedView) → WaitsBehind others ≡ v → told_of names events v ≡ halted events Waits
-told_waits names events others v e = ap (told_of names events) (sym e)
+told_waits : (names : List (List ℕ)) (rest : Option Rest) (events : History) (others : List ℕ) (v : AskedView) → WaitsBehind others ≡ v → told_by names rest events v ≡ halted events (Waits rest)
+told_waits names rest events others v e = ap (told_by names rest events) (sym e)
 
-told_closes : (names : List (List ℕ)) (events : History) (cycle : List ℕ) (v : AskedView) → ClosesCycle cycle ≡ v → told_of names events v ≡ halted events (Refused (deadlock names cycle))
-told_closes names events cycle v e = ap (told_of names events) (sym e)
+told_closes : (names : List (List ℕ)) (rest : Option Rest) (events : History) (cycle : List ℕ) (v : AskedView) → ClosesCycle cycle ≡ v → told_by names rest events v ≡ halted events (Refused (deadlock names cycle))
+told_closes names rest events cycle v e = ap (told_by names rest events) (sym e)
+
+-- the session asks for a lock, or to go on when others have given something up
+abbrev pub asked_for : List (List ℕ) → (session : ℕ) → Wanted → Option Rest → History → Made (Unit {0})
+asked_for names s w rest h = told_by names rest (map LockChange (asked_events (lock_events h) s w)) (asked (lock_events h) s w)
 
 -- what the stores say of the request
-pub record HasAsked (old new : Stores) (caller : Caller) (t : TableNo) (m : LockMode) (answer : Asked) : Type 0 where
-  pub good : (h : History) → Stands old h → Stands new (after caller.session (Lock t m) answer h)
-  pub view : (h : History) → Stands old h → asked_view answer ≡ asked (lock_events h) caller.session (Lock t m)
-  pub history : (h : History) → Stands old h → after caller.session (Lock t m) answer h ≡ asked_history h caller.session (Lock t m)
-  pub waits : slice_index_or new.locks.wants caller.session None ≡ left_waiting (Lock t m) answer
+pub record HasAsked (old new : Stores) (caller : Caller) (w : Wanted) (answer : Asked) : Type 0 where
+  pub good : (h : History) → Stands old h → Stands new (after caller.session w answer h)
+  pub is : (h : History) → Stands old h → IsAnswer (lock_events h) caller.session w answer
+  pub view : (h : History) → Stands old h → asked_view answer ≡ asked (lock_events h) caller.session w
+  pub history : (h : History) → Stands old h → after caller.session w answer h ≡ asked_history h caller.session w
+  pub waits : slice_index_or new.locks.wants caller.session None ≡ left_waiting w answer
   pub others : OthersWait caller.session old.locks new.locks
   pub size : SameSize old.locks new.locks
   pub rest : new ≡ record old { locks = new.locks }
 
-pub has_asked : (old new : Stores) (caller : Caller) (t : TableNo) (m : LockMode) (answer : Asked) → MayAttempt old caller
-    → ((h : History) → Stands old h → Stands new (after caller.session (Lock t m) answer h)) → ((h : History) → AllStand old h → IsAnswer (lock_events h) caller.session (Lock t m) answer)
-    → AnswerIsTold answer → HistoryIsTold answer → slice_index_or new.locks.wants caller.session None ≡ left_waiting (Lock t m) answer → OthersWait caller.session old.locks new.locks → IsSameSize old new
-    → new ≡ record old { locks = new.locks } → HasAsked old new caller t m answer
-has_asked old new caller t m answer may good is view history waits others size rest =
+pub has_asked : (old new : Stores) (caller : Caller) (w : Wanted) (answer : Asked) → MayAttempt old caller
+    → ((h : History) → Stands old h → Stands new (after caller.session w answer h)) → ((h : History) → AllStand old h → IsAnswer (lock_events h) caller.session w answer)
+    → AnswerIsTold answer → HistoryIsTold answer → slice_index_or new.locks.wants caller.session None ≡ left_waiting w answer → OthersWait caller.session old.locks new.locks → IsSameSize old new
+    → new ≡ record old { locks = new.locks } → HasAsked old new caller w answer
+has_asked old new caller w answer may good is view history waits others size rest =
     let low : caller.session < 128 = omega (arith, may.known, may.few) in
     record {
       good = good;
-      view = λ h stands. view (lock_events h) caller.session (Lock t m) stands.all.locks.sound low (is h stands.all);
-      history = λ h stands. history h caller.session (Lock t m) stands.all.locks.sound low (is h stands.all);
+      is = λ h stands. is h stands.all;
+      view = λ h stands. view (lock_events h) caller.session w stands.all.locks.sound low (is h stands.all);
+      history = λ h stands. history h caller.session w stands.all.locks.sound low (is h stands.all);
       waits = waits;
       others = others;
       size = record { sessions = size.waits; tables = size.tables };
@@ -123,80 +132,102 @@ has_asked old new caller t m answer may good is view history waits others size r
     }
 
 -- nobody loses a lock by it
-asked_stay : (old new : Stores) (caller : Caller) (t : TableNo) (m : LockMode) (answer : Asked) (h : History) → HasAsked old new caller t m answer → Stands old h → LocksStay old new
-asked_stay old new caller t m Granted h asked stands r k n e =
+asked_stay : (old new : Stores) (caller : Caller) (w : Wanted) (answer : Asked) (h : History) → HasAsked old new caller w answer → Stands old h → LocksStay old new
+asked_stay old new caller (Lock t m) Granted h asked stands r k n e =
     let before = stands.all.locks.tells.held r k n in
     let now = (asked.good h stands).all.locks.tells.held r k n in
     now ∙ or_right _ _ (sym before ∙ e)
-asked_stay old new caller t m (IsBehindOthers behind) h asked stands r k n e = (asked.good h stands).all.locks.tells.held r k n ∙ (sym (stands.all.locks.tells.held r k n) ∙ e)
-asked_stay old new caller t m (Deadlock cycle) h asked stands r k n e = (asked.good h stands).all.locks.tells.held r k n ∙ (sym (stands.all.locks.tells.held r k n) ∙ e)
+asked_stay old new caller (Others what) Granted h asked stands r k n e = (asked.good h stands).all.locks.tells.held r k n ∙ (sym (stands.all.locks.tells.held r k n) ∙ e)
+asked_stay old new caller (Lock t m) (IsBehindOthers behind) h asked stands r k n e = (asked.good h stands).all.locks.tells.held r k n ∙ (sym (stands.all.locks.tells.held r k n) ∙ e)
+asked_stay old new caller (Others what) (IsBehindOthers behind) h asked stands r k n e = (asked.good h stands).all.locks.tells.held r k n ∙ (sym (stands.all.locks.tells.held r k n) ∙ e)
+asked_stay old new caller (Lock t m) (Deadlock cycle) h asked stands r k n e = (asked.good h stands).all.locks.tells.held r k n ∙ (sym (stands.all.locks.tells.held r k n) ∙ e)
+asked_stay old new caller (Others what) (Deadlock cycle) h asked stands r k n e = (asked.good h stands).all.locks.tells.held r k n ∙ (sym (stands.all.locks.tells.held r k n) ∙ e)
 
-asked_keeps : (old new : Stores) (caller : Caller) (t : TableNo) (m : LockMode) (answer : Asked) → MayAttempt old caller → HasAsked old new caller t m answer → GoesOn old new caller.session
-asked_keeps old new caller t m answer may asked = record {
+asked_keeps : (old new : Stores) (caller : Caller) (w : Wanted) (answer : Asked) → MayAttempt old caller → HasAsked old new caller w answer → GoesOn old new caller.session
+asked_keeps old new caller w answer may asked = record {
   transactions = ap (λ s. s.txs.current) asked.rest;
-  locks = asked_stay old new caller t m answer may.sound.0 asked may.sound.1;
+  locks = asked_stay old new caller w answer may.sound.0 asked may.sound.1;
   others = asked.others;
   size = asked.size;
 }
 
-pub granted_step : (names : List (List ℕ)) (old new : Stores) (caller : Caller) (t : TableNo) (m : LockMode) → MayAttempt old caller → HasAsked old new caller t m Granted
-    → IsStep (λ (u : Unit {0}). u) (Ok tt) old new caller caller.cmd (locked names caller.session t.number m)
-granted_step names old new caller t m may asked = record {
+-- the history went on by the answer
+asked_on : (w : Wanted) (old new : Stores) (caller : Caller) (answer : Asked) (waiting : List ℕ) (n : ℕ) (h : History) → HasAsked old new caller w answer → Stands old h → IsAt (after caller.session w answer h) caller.session n
+    → ((r c : ℕ) → IsAt h r c → IsAt (after caller.session w answer h) r c) → queue (lock_events (after caller.session w answer h)) ≡ queue (lock_events h) ++ waiting
+    → WentOn h caller.session n waiting new (map LockChange (asked_events (lock_events h) caller.session w) ++ h)
+asked_on w old new caller answer waiting n h asked stands at others queued =
+    subst (WentOn h caller.session n waiting new) (asked.history h stands) (record { stands = asked.good h stands; at = at; others = λ r c other is. others r c is; queue = queued })
+
+granted_at : (w : Wanted) (s : ℕ) (h : History) (r c : ℕ) → IsAt h r c → IsAt (after s w Granted h) r c
+granted_at (Lock t m) s h r c at = at_lock (LockGot s t.number m) h r c at
+granted_at (Others what) s h r c at = at
+
+granted_queue : (w : Wanted) (s : ℕ) (h : History) → queue (lock_events (after s w Granted h)) ≡ queue (lock_events h) ++ []
+granted_queue (Lock t m) s h = sym (append-nil (queue (lock_events h)))
+granted_queue (Others what) s h = sym (append-nil (queue (lock_events h)))
+
+pub granted_step : (names : List (List ℕ)) (old new : Stores) (caller : Caller) (w : Wanted) (rest : Option Rest) → MayAttempt old caller → HasAsked old new caller w Granted
+    → IsStep (λ (u : Unit {0}). u) (Ok tt) old new caller caller.cmd (asked_for names caller.session w rest)
+granted_step names old new caller w rest may asked = record {
   is = λ h stands at.
-      let events = map LockChange (asked_events (lock_events h) caller.session (Lock t m)) in
-      subst (IsTold (λ (u : Unit {0}). u) (Ok tt) new caller caller.cmd h) (sym (told_at_once names events _ (asked.view h stands))) (
-        refl,
-        subst (WentOn h caller.session caller.cmd [] new) (asked.history h stands) (record {
-          stands = asked.good h stands;
-          at = at_lock (LockGot caller.session t.number m) h caller.session caller.cmd at;
-          others = λ r c other is. at_lock (LockGot caller.session t.number m) h r c is;
-          queue = sym (append-nil (queue (lock_events h)));
-        }),
-      );
-  keeps = asked_keeps old new caller t m Granted may asked;
+      let events = map LockChange (asked_events (lock_events h) caller.session w) in
+      subst (IsTold (λ (u : Unit {0}). u) (Ok tt) new caller caller.cmd h) (sym (told_at_once names rest events _ (asked.view h stands)))
+      (refl, asked_on w old new caller Granted [] caller.cmd h asked stands (granted_at w caller.session h caller.session caller.cmd at) (granted_at w caller.session h) (granted_queue w caller.session h));
+  keeps = asked_keeps old new caller w Granted may asked;
   waits = asked.waits;
 }
 
-pub waiting_step : (names : List (List ℕ)) (old new : Stores) (caller : Caller) (t : TableNo) (m : LockMode) (behind : SessionSet) → MayAttempt old caller → HasAsked old new caller t m (IsBehindOthers behind)
-    → IsStep (λ (u : Unit {0}). u) (Err stop.Waits) old new caller caller.cmd (locked names caller.session t.number m)
-waiting_step names old new caller t m behind may asked = record {
+waiting_at : (w : Wanted) (s : ℕ) (behind : SessionSet) (h : History) (r c : ℕ) → IsAt h r c → IsAt (after s w (IsBehindOthers behind) h) r c
+waiting_at (Lock t m) s behind h r c at = at_lock (WaitBegan s (Lock t m)) h r c at
+waiting_at (Others what) s behind h r c at = at_lock (WaitBegan s (Others what)) h r c at
+
+waiting_queue : (w : Wanted) (s : ℕ) (behind : SessionSet) (h : History) → queue (lock_events (after s w (IsBehindOthers behind) h)) ≡ queue (lock_events h) ++ s ∷ []
+waiting_queue (Lock t m) s behind h = refl
+waiting_queue (Others what) s behind h = refl
+
+-- who waits for others has somebody to wait for
+has_cause : (w : Wanted) (s : ℕ) (h : LockEvents) → (y : ℕ) × (is_cause h s w y ≡ true) → HasCause w
+has_cause (Lock t m) s h cause = tt
+has_cause (Others (Ends of)) s h cause = cause
+has_cause (Others (Snapshots of)) s h cause = cause
+
+pub waiting_step : (names : List (List ℕ)) (old new : Stores) (caller : Caller) (w : Wanted) (rest : Option Rest) (behind : SessionSet) → MayAttempt old caller → MayGoOn old rest → HasAsked old new caller w (IsBehindOthers behind)
+    → IsStep (λ (u : Unit {0}). u) (Err (stop.Waits rest)) old new caller caller.cmd (asked_for names caller.session w rest)
+waiting_step names old new caller w rest behind may left asked = record {
   is = λ h stands at.
-      let events = map LockChange (asked_events (lock_events h) caller.session (Lock t m)) in
-      subst (IsTold (λ (u : Unit {0}). u) (Err stop.Waits) new caller caller.cmd h) (sym (told_waits names events (sessions behind) _ (asked.view h stands))) (
-        refl,
-        subst (WentOn h caller.session caller.cmd (caller.session ∷ []) new) (asked.history h stands) (record {
-          stands = asked.good h stands;
-          at = at_lock (WaitBegan caller.session (Lock t m)) h caller.session caller.cmd at;
-          others = λ r c other is. at_lock (WaitBegan caller.session (Lock t m)) h r c is;
-          queue = refl;
-        }),
-      );
-  keeps = asked_keeps old new caller t m (IsBehindOthers behind) may asked;
-  waits = (t, m, asked.waits);
+      let events = map LockChange (asked_events (lock_events h) caller.session w) in
+      subst (IsTold (λ (u : Unit {0}). u) (Err (stop.Waits rest)) new caller caller.cmd h) (sym (told_waits names rest events (sessions behind) _ (asked.view h stands)))
+      (refl, asked_on w old new caller (IsBehindOthers behind) (caller.session ∷ []) caller.cmd h asked stands (waiting_at w caller.session behind h caller.session caller.cmd at) (waiting_at w caller.session behind h) (waiting_queue w caller.session behind h));
+  keeps = asked_keeps old new caller w (IsBehindOthers behind) may asked;
+  waits = ((w, asked.waits, has_cause w caller.session (lock_events may.sound.0) (asked.is may.sound.0 may.sound.1).some), subst (λ s. MayGoOn s rest) (sym asked.rest) left);
 }
 
-pub closing_step : (names : List (List ℕ)) (old new : Stores) (caller : Caller) (t : TableNo) (m : LockMode) (cycle : SessionList) (f : Fault) → f ≡ deadlock names (listed cycle) → MayAttempt old caller
-    → HasAsked old new caller t m (Deadlock cycle) → IsStep (λ (u : Unit {0}). u) (Err (stop.Refused f)) old new caller caller.cmd (locked names caller.session t.number m)
-closing_step names old new caller t m cycle f is_fault may asked = record {
+closing_at : (w : Wanted) (s : ℕ) (cycle : SessionList) (h : History) (r c : ℕ) → IsAt h r c → IsAt (after s w (Deadlock cycle) h) r c
+closing_at (Lock t m) s cycle h r c at = at
+closing_at (Others what) s cycle h r c at = at
+
+closing_queue : (w : Wanted) (s : ℕ) (cycle : SessionList) (h : History) → queue (lock_events (after s w (Deadlock cycle) h)) ≡ queue (lock_events h) ++ []
+closing_queue (Lock t m) s cycle h = sym (append-nil (queue (lock_events h)))
+closing_queue (Others what) s cycle h = sym (append-nil (queue (lock_events h)))
+
+pub closing_step : (names : List (List ℕ)) (old new : Stores) (caller : Caller) (w : Wanted) (rest : Option Rest) (cycle : SessionList) (f : Fault) → f ≡ deadlock names (listed cycle) → MayAttempt old caller
+    → HasAsked old new caller w (Deadlock cycle) → IsStep (λ (u : Unit {0}). u) (Err (stop.Refused f)) old new caller caller.cmd (asked_for names caller.session w rest)
+closing_step names old new caller w rest cycle f is_fault may asked = record {
   is = λ h stands at.
-      let events = map LockChange (asked_events (lock_events h) caller.session (Lock t m)) in
-      subst (IsTold (λ (u : Unit {0}). u) (Err (stop.Refused f)) new caller caller.cmd h) (sym (told_closes names events (listed cycle) _ (asked.view h stands))) (
+      let events = map LockChange (asked_events (lock_events h) caller.session w) in
+      subst (IsTold (λ (u : Unit {0}). u) (Err (stop.Refused f)) new caller caller.cmd h) (sym (told_closes names rest events (listed cycle) _ (asked.view h stands))) (
         ap (λ x. Err (Refused x)) (sym is_fault),
-        subst (WentOn h caller.session (caller.cmd + 1) [] new) (asked.history h stands) (record {
-          stands = asked.good h stands;
-          at = one_later h caller.session caller.cmd at;
-          others = λ r c other is. is;
-          queue = sym (append-nil (queue (lock_events h)));
-        }),
+        asked_on w old new caller (Deadlock cycle) [] (caller.cmd + 1) h asked stands (closing_at w caller.session cycle h caller.session (caller.cmd + 1) (one_later h caller.session caller.cmd at))
+            (closing_at w caller.session cycle h) (closing_queue w caller.session cycle h),
       );
-  keeps = asked_keeps old new caller t m (Deadlock cycle) may asked;
+  keeps = asked_keeps old new caller w (Deadlock cycle) may asked;
   waits = asked.waits;
 }
 
 -- memory ran out behind the request
-pub asked_and_out : {X T : Type 0} (see : X → T) (old new : Stores) (caller : Caller) (t : TableNo) (m : LockMode) (answer : Asked) (n : ℕ) (f : History → Made T) → MayAttempt old caller → HasAsked old new caller t m answer
+pub asked_and_out : {X T : Type 0} (see : X → T) (old new : Stores) (caller : Caller) (w : Wanted) (answer : Asked) (n : ℕ) (f : History → Made T) → MayAttempt old caller → HasAsked old new caller w answer
     → IsStep see (Err stop.NoMemory) old new caller n f
-asked_and_out see old new caller t m answer n f may asked = no_memory see old new caller n f (asked_keeps old new caller t m answer may asked)
+asked_and_out see old new caller w answer n f may asked = no_memory see old new caller n f (asked_keeps old new caller w answer may asked)
 
 -- ---- a snapshot that is kept
 
@@ -253,10 +284,10 @@ none_found stores caller name (Ok f) is may none = refused_here (λ (t : TableNo
 none_found stores caller name (Err e) is may none = no_memory (λ (t : TableNo). t.number) stores stores caller caller.cmd (found caller.session name) (stays stores caller.session)
 
 -- a cycle that would be closed
-pub closed : (names : List (List ℕ)) (old new : Stores) (caller : Caller) (t : TableNo) (m : LockMode) (cycle : SessionList) (r : Result Fault NoMemory) → IfOk r (λ f. f ≡ deadlock names (listed cycle)) → MayAttempt old caller
-    → HasAsked old new caller t m (Deadlock cycle) → IsStep (λ (u : Unit {0}). u) (Err (stop_by r)) old new caller caller.cmd (locked names caller.session t.number m)
-closed names old new caller t m cycle (Ok f) is may asked = closing_step names old new caller t m cycle f is may asked
-closed names old new caller t m cycle (Err e) is may asked = asked_and_out (λ (u : Unit {0}). u) old new caller t m (Deadlock cycle) caller.cmd (locked names caller.session t.number m) may asked
+pub closed : (names : List (List ℕ)) (old new : Stores) (caller : Caller) (w : Wanted) (rest : Option Rest) (cycle : SessionList) (r : Result Fault NoMemory) → IfOk r (λ f. f ≡ deadlock names (listed cycle)) → MayAttempt old caller
+    → HasAsked old new caller w (Deadlock cycle) → IsStep (λ (u : Unit {0}). u) (Err (stop_by r)) old new caller caller.cmd (asked_for names caller.session w rest)
+closed names old new caller w rest cycle (Ok f) is may asked = closing_step names old new caller w rest cycle f is may asked
+closed names old new caller w rest cycle (Err e) is may asked = asked_and_out (λ (u : Unit {0}). u) old new caller w (Deadlock cycle) caller.cmd (asked_for names caller.session w rest) may asked
 
 -- ---- what the session knows, told from what is kept
 
@@ -290,7 +321,7 @@ number_done t old new caller k f first = record {
 }
 
 number_told : (t : TableNo) (e : Stop) (new : Stores) (caller : Caller) (k : ℕ) (h : History) (m : Made (Unit {0})) → IsTold (λ (u : Unit {0}). u) (Err e) new caller k h m → IsTold (λ (t : TableNo). t.number) (Err e) new caller k h (kept_number t.number m)
-number_told t stop.Waits new caller k h m told = (ap (number_or t.number) told.0, told.1)
+number_told t (stop.Waits rest) new caller k h m told = (ap (number_or t.number) told.0, told.1)
 number_told t (stop.Refused f) new caller k h m told = (ap (number_or t.number) told.0, told.1)
 number_told t stop.NoMemory new caller k h m told = tt
 

@@ -34,7 +34,7 @@ told_behind : {Y U : Type 0} (view : Y → U) (r : Result Y Stop) (mid new : Sto
     → WentOn h caller.session caller.cmd [] mid (events ++ h) → IsTold view r new caller n (events ++ h) m → IsTold view r new caller n h (behind events m)
 told_behind view (Ok x) mid new caller n h events m first told =
     (told.0, subst (WentOn h caller.session n [] new) (sym (append_assoc m.events events h)) (went_on h (events ++ h) (m.events ++ (events ++ h)) caller.session caller.cmd n [] mid new first told.1))
-told_behind view (Err stop.Waits) mid new caller n h events m first told =
+told_behind view (Err (stop.Waits rest)) mid new caller n h events m first told =
     (told.0, subst (WentOn h caller.session caller.cmd (caller.session ∷ []) new) (sym (append_assoc m.events events h)) (went_on h (events ++ h) (m.events ++ (events ++ h)) caller.session caller.cmd caller.cmd (caller.session ∷ []) mid new first told.1))
 told_behind view (Err (stop.Refused f)) mid new caller n h events m first told =
     (told.0, subst (WentOn h caller.session (caller.cmd + 1) [] new) (sym (append_assoc m.events events h)) (went_on h (events ++ h) (m.events ++ (events ++ h)) caller.session caller.cmd (caller.cmd + 1) [] mid new first told.1))
@@ -56,12 +56,12 @@ then_step {T} {U} see view x r old mid new caller n f next first second = record
 -- what comes first stops
 stop_told : {X T Y U : Type 0} (see : X → T) (view : Y → U) (e : Stop) (new : Stores) (caller : Caller) (n k : ℕ) (h : History) (m : Made T) (next : T → Made U)
     → IsTold see (Err e) new caller k h m → IsTold view (Err e) new caller n h (and_then m next)
-stop_told {U = U} see view stop.Waits new caller n k h m next told = subst (λ t. IsTold view (Err stop.Waits) new caller n h (then_told t m.events next)) (sym told.0) (refl, told.1)
+stop_told {U = U} see view (stop.Waits rest) new caller n k h m next told = subst (λ t. IsTold view (Err (stop.Waits rest)) new caller n h (then_told t m.events next)) (sym told.0) (refl, told.1)
 stop_told see view (stop.Refused f) new caller n k h m next told = subst (λ t. IsTold view (Err (stop.Refused f)) new caller n h (then_told t m.events next)) (sym told.0) (refl, told.1)
 stop_told see view stop.NoMemory new caller n k h m next told = tt
 
 pub halted_same : (X Y : Type 0) (e : Stop) (stores : Stores) (s : ℕ) → IsHalted {X = X} (Err e) stores s → IsHalted {X = Y} (Err e) stores s
-halted_same X Y stop.Waits stores s waits = waits
+halted_same X Y (stop.Waits rest) stores s waits = waits
 halted_same X Y (stop.Refused f) stores s waits = waits
 halted_same X Y stop.NoMemory stores s waits = waits
 

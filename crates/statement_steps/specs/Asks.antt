@@ -1,7 +1,8 @@
--- Tables by their names, and locks on them (the manual, 13.3.1 Table-Level Locks; LOCK).
+-- Tables by their names, locks on them, and waits for other sessions (the manual, 13.3.1 Table-Level Locks; LOCK).
 use Rattle.std.specs.Prelude.{ℕ, List, [], ◌∷◌, Option, Some, None, Result, Ok, Err, map}
 use Rattle.pg_ids.specs.declared.lock_mode.LockMode.{LockMode}
-use Rattle.history.specs.declared.wait.Wanted.TheVariants.{Lock}
+use Rattle.history.specs.declared.wait.WaitOn.{WaitOn}
+use Rattle.history.specs.declared.wait.Wanted.TheVariants.{Lock, Others}
 use Rattle.history.specs.History.{History, LockChange, lock_events}
 use Rattle.part_catalog.specs.Found.{resolved}
 use Rattle.lock_answers.specs.Asked.{AskedView, AtOnce, WaitsBehind, ClosesCycle, asked, asked_events}
@@ -9,20 +10,30 @@ use Rattle.sessions.specs.declared.phase.Isolation.{Isolation}
 use Rattle.sessions.specs.declared.phase.Isolation.TheVariants.{ReadCommitted, ReadUncommitted, RepeatableRead}
 use Rattle.stores.specs.Events.{held}
 use Rattle.course.specs.Made.{Made, Halt, Waits, Refused, made, halted}
+use Rattle.course.specs.declared.rest.Rest.{Rest}
 use Rattle.statement_steps.specs.Faults.{no_table, deadlock}
 use Rattle.statement_steps.specs.Steps.{follow}
 
--- ---- a lock
+-- ---- a lock, or other sessions
 
+-- what is told of an answer, where a statement that has to wait goes on there
+abbrev pub told_by : List (List ℕ) → Option Rest → History → AskedView → Made (Unit {0})
+told_by names rest events AtOnce = made events tt
+told_by names rest events (WaitsBehind others) = halted events (Waits rest)
+told_by names rest events (ClosesCycle cycle) = halted events (Refused (deadlock names cycle))
+
+-- and where it begins anew
 abbrev pub told_of : List (List ℕ) → History → AskedView → Made (Unit {0})
-told_of names events AtOnce = made events tt
-told_of names events (WaitsBehind others) = halted events Waits
-told_of names events (ClosesCycle cycle) = halted events (Refused (deadlock names cycle))
+told_of names = told_by names None
 
 -- the session asks for a lock: it gets it, has to wait, or would close a cycle
 abbrev pub locked : List (List ℕ) → (session table : ℕ) → LockMode → History → Made (Unit {0})
 locked names s t m h =
     told_of names (map LockChange (asked_events (lock_events h) s (Lock (record { number = t }) m))) (asked (lock_events h) s (Lock (record { number = t }) m))
+
+-- it asks to go on when others have given something up: it need not wait, has to, or would close a cycle
+abbrev pub waited : List (List ℕ) → (session : ℕ) → WaitOn → Option Rest → History → Made (Unit {0})
+waited names s what rest h = told_by names rest (map LockChange (asked_events (lock_events h) s (Others what))) (asked (lock_events h) s (Others what))
 
 -- one lock after the other
 abbrev pub all_locked : List (List ℕ) → (session : ℕ) → LockMode → List ℕ → History → Made (Unit {0})

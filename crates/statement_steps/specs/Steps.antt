@@ -6,7 +6,7 @@ use Rattle.stores.specs.Stand.{Stands}
 use Rattle.stores.specs.Numbers.{IsAt}
 use Rattle.stores.specs.declared.stores.Stores.{Stores}
 use Rattle.course.specs.Made.{Made, Waits, Refused, and_then}
-use Rattle.course.specs.Attempts.{WentOn, GoesOn, WaitsForLock}
+use Rattle.course.specs.Attempts.{MayGoOn, WentOn, GoesOn, IsWaiting}
 use Rattle.course.specs.declared.caller.Caller.{Caller}
 use Rattle.course.specs.declared.stop.Stop.{Stop}
 use Rattle.course.specs.declared.stop.Stop.TheVariants as stop
@@ -15,14 +15,14 @@ use Rattle.course.specs.declared.stop.Stop.TheVariants as stop
 -- command has the number n where the part is done
 abbrev pub IsTold : {X T : Type 0} → (X → T) → Result X Stop → Stores → Caller → (n : ℕ) → History → Made T → Type 0
 IsTold view (Ok x) new caller n h m = (m.told ≡ Ok (view x)) × WentOn h caller.session n [] new (m.events ++ h)
-IsTold view (Err stop.Waits) new caller n h m = (m.told ≡ Err Waits) × WentOn h caller.session caller.cmd (caller.session ∷ []) new (m.events ++ h)
+IsTold view (Err (stop.Waits rest)) new caller n h m = (m.told ≡ Err (Waits rest)) × WentOn h caller.session caller.cmd (caller.session ∷ []) new (m.events ++ h)
 IsTold view (Err (stop.Refused f)) new caller n h m = (m.told ≡ Err (Refused f)) × WentOn h caller.session (caller.cmd + 1) [] new (m.events ++ h)
 IsTold view (Err stop.NoMemory) new caller n h m = Unit {0}
 
--- the session waits just where the answer says so
+-- the session waits just where the answer says so, and can go on from where it stands
 abbrev pub IsHalted : {X : Type 0} → Result X Stop → Stores → (session : ℕ) → Type 0
 IsHalted (Ok x) stores s = IsIdle stores.locks s
-IsHalted (Err stop.Waits) stores s = WaitsForLock stores s
+IsHalted (Err (stop.Waits rest)) stores s = IsWaiting stores s × MayGoOn stores rest
 IsHalted (Err (stop.Refused f)) stores s = IsIdle stores.locks s
 IsHalted (Err stop.NoMemory) stores s = Unit {0}
 

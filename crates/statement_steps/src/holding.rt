@@ -11,8 +11,8 @@ use sessions::Isolation;
 use std::alloc::Global;
 use stores::Stores;
 
-// The snapshot is held from now on, where none is.
-fn hold(alloc: Global, stores: &mut Stores, caller: Caller) -> Result<(), Stop>
+/// The snapshot under which the command reads is held from now on, where none is.
+pub fn hold(alloc: Global, stores: &mut Stores, caller: Caller) -> Result<(), Stop>
     requires { MayAttempt stores.old caller }
     ensures step { IsStep (λ u. u) result stores.old stores.new caller caller.cmd (λ h. made (held h caller.session caller.cmd) tt) }
     ensures rest { stores.new ≡ record stores.old { txs = stores.new.txs } }

@@ -1,5 +1,5 @@
-//! Parts of statements over the stores: tables found by their names and locked, and the snapshot that a
-//! transaction keeps.
+//! Parts of statements over the stores: tables found by their names and locked, waits for other sessions,
+//! and the snapshot that a statement or a transaction keeps.
 //!
 //! What a statement does is put together of parts, one after the other. Each part is said by a function of
 //! the history: the events that it adds, and what it gives to the next part, or why the statement stops
@@ -11,6 +11,6 @@ mod holding;
 mod locking;
 mod names;
 
-pub use holding::hold_if_repeatable;
-pub use locking::{lock_table, lock_tables};
+pub use holding::{hold, hold_if_repeatable};
+pub use locking::{lock_table, lock_tables, wait_for};
 pub use names::{SessionNames, find_table, lock_named};

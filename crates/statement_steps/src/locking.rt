@@ -1,12 +1,14 @@
-ghost use Rattle.std.specs.Prelude.{◌≡◌, ◌<◌, All, map};
-ghost use Rattle.course.specs.Attempts.{MayAttempt};
+ghost use Rattle.std.specs.Prelude.{◌≡◌, ◌<◌, false, All, map};
+ghost use Rattle.lock_table.specs.Stands as stands;
+ghost use Rattle.course.specs.Attempts.{MayAttempt, MayGoOn};
 ghost use Rattle.statement_steps.specs.Asks as asks;
 ghost use Rattle.statement_steps.specs.Known.{IsKnownTo};
 ghost use Rattle.statement_steps.specs.Steps.{IsStep};
 
 use crate::SessionNames;
 use crate::faults::{deadlock, stop_by};
-use course::{Caller, Stop};
+use course::{Caller, Rest, Stop};
+use history::WaitOn;
 use lock_answers::answer_is_told;
 use lock_table::Asked;
 use pg_ids::{LockMode, TableNo};
@@ -32,7 +34,32 @@ pub fn lock_table(
     answer_is_told(&answer);
     match answer {
         Asked::Granted => Ok(()),
-        Asked::Waits { .. } => Err(Stop::Waits),
+        Asked::Waits { .. } => Err(Stop::Waits(None)),
+        Asked::Deadlock { cycle } => Err(stop_by(deadlock(alloc, names, cycle))),
+    }
+}
+
+/// The session asks to go on when others have given something up: it need not wait, has to, and then
+/// goes on where the rest says, or would close a cycle, 40P01.
+pub fn wait_for(
+    alloc: Global,
+    stores: &mut Stores,
+    names: &SessionNames,
+    caller: Caller,
+    what: WaitOn,
+    rest: Option<Rest>,
+) -> Result<(), Stop>
+    requires may { MayAttempt stores.old caller }
+    requires others { stands.names what caller.session ≡ false }
+    requires left { MayGoOn stores.old rest }
+    ensures step { IsStep (λ u. u) result stores.old stores.new caller caller.cmd (asks.waited names.now caller.session what rest) }
+    ensures rest { stores.new ≡ record stores.old { locks = stores.new.locks } }
+{
+    let answer = stores.wait_on(caller.session, what);
+    answer_is_told(&answer);
+    match answer {
+        Asked::Granted => Ok(()),
+        Asked::Waits { .. } => Err(Stop::Waits(rest)),
         Asked::Deadlock { cycle } => Err(stop_by(deadlock(alloc, names, cycle))),
     }
 }

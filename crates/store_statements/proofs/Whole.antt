@@ -20,7 +20,7 @@ silent_is (Ok u) old new caller f before step = record {
   keeps = step.keeps;
   waits = step.waits;
 }
-silent_is (Err stop.Waits) old new caller f before step = record {
+silent_is (Err (stop.Waits rest)) old new caller f before step = record {
   is = λ h stands at. let t = step.is h stands at in (ap (text_told nothing) t.0, refl, t.1);
   keeps = step.keeps;
   waits = step.waits;

@@ -2,7 +2,7 @@ ghost use Rattle.std.specs.Prelude.{◌≡◌, IfOk};
 
 use crate::attempts::attempt;
 use block_reading::read_block;
-use course::{Caller, Kinds, Stop};
+use course::{Caller, Kinds, Rest, Stop};
 use out_text::write_fault_text;
 use pg_values::{Fault, NoMemory, Refusal};
 use sessions::{Place, Role, Settings};
@@ -84,6 +84,7 @@ impl Kinds for Statements {
         alloc: Global,
         stores: &mut Stores,
         caller: Caller,
+        _rest: Option<Rest>,
         _settings: Settings,
         statement: &Statement,
         out: &mut Vec<u8>,

@@ -1,0 +1,28 @@
+use Rattle.std.proofs.Common.{sym, subst, Err}
+use Rattle.history.specs.declared.wait.Wanted.TheVariants.{Others}
+use Rattle.statement_steps.specs.Asks.{waited}
+use Rattle.statement_steps.specs.Steps.{IsStep}
+use Rattle.statement_steps.proofs.Parts.{HasAsked, has_asked, granted_step, waiting_step, closed}
+use Rattle.statement_steps.proofs.locking.wait_for.Goals as goal
+
+pub returns-in-Granted-clause-step : goal.returns-in-Granted-clause-step
+returns-in-Granted-clause-step c =
+    granted_step c.args.names.now c.args.stores.now c.wait_on-answer.new.self c.args.caller (Others c.args.what) c.args.rest c.requires.may
+    (subst (HasAsked c.args.stores.now c.wait_on-answer.new.self c.args.caller (Others c.args.what)) c.in-Granted.is
+    (has_asked c.args.stores.now c.wait_on-answer.new.self c.args.caller (Others c.args.what) c.wait_on-answer.result c.requires.may c.wait_on-answer.ensures.good
+    c.wait_on-answer.ensures.answer c.answer_is_told.ensures.view c.answer_is_told.ensures.history c.wait_on-answer.ensures.waits c.wait_on-answer.ensures.others c.wait_on-answer.ensures.size c.wait_on-answer.ensures.rest))
+
+pub returns-in-Waits-clause-step : goal.returns-in-Waits-clause-step
+returns-in-Waits-clause-step c =
+    waiting_step c.args.names.now c.args.stores.now c.wait_on-answer.new.self c.args.caller (Others c.args.what) c.args.rest c.in-Waits.behind c.requires.may c.requires.left
+    (subst (HasAsked c.args.stores.now c.wait_on-answer.new.self c.args.caller (Others c.args.what)) c.in-Waits.is
+    (has_asked c.args.stores.now c.wait_on-answer.new.self c.args.caller (Others c.args.what) c.wait_on-answer.result c.requires.may c.wait_on-answer.ensures.good
+    c.wait_on-answer.ensures.answer c.answer_is_told.ensures.view c.answer_is_told.ensures.history c.wait_on-answer.ensures.waits c.wait_on-answer.ensures.others c.wait_on-answer.ensures.size c.wait_on-answer.ensures.rest))
+
+pub returns-in-Deadlock-clause-step : goal.returns-in-Deadlock-clause-step
+returns-in-Deadlock-clause-step c =
+    subst (λ r. IsStep (λ (u : Unit {0}). u) (Err r) c.args.stores.now c.wait_on-answer.new.self c.args.caller c.args.caller.cmd (waited c.args.names.now c.args.caller.session c.args.what c.args.rest)) (sym c.stop_by.ensures)
+    (closed c.args.names.now c.args.stores.now c.wait_on-answer.new.self c.args.caller (Others c.args.what) c.args.rest c.in-Deadlock.cycle c.deadlock.result c.deadlock.ensures c.requires.may
+    (subst (HasAsked c.args.stores.now c.wait_on-answer.new.self c.args.caller (Others c.args.what)) c.in-Deadlock.is
+    (has_asked c.args.stores.now c.wait_on-answer.new.self c.args.caller (Others c.args.what) c.wait_on-answer.result c.requires.may c.wait_on-answer.ensures.good
+    c.wait_on-answer.ensures.answer c.answer_is_told.ensures.view c.answer_is_told.ensures.history c.wait_on-answer.ensures.waits c.wait_on-answer.ensures.others c.wait_on-answer.ensures.size c.wait_on-answer.ensures.rest)))
