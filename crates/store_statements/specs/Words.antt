@@ -14,6 +14,6 @@ statement_words = record {
   looks = looks;
   misplaced = λ place t. None;
   set = changed;
-  attempted = λ names c rest h settings t. attempted names c t h;
+  attempted = λ names c rest h settings t. attempted names c rest t h;
   fault_text = fault_text;
 }
