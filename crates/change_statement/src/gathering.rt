@@ -48,7 +48,14 @@ fn lock_below(
     ensures rest { stores.new ≡ record stores.old { locks = stores.new.locks } }
 {
     match tables_below(alloc, tree) {
-        Ok(tables) => lock_tables(alloc, stores, names, caller, &tables, LockMode::RowExclusive),
+        Ok(tables) => lock_tables(
+            alloc,
+            stores,
+            names,
+            caller,
+            &tables,
+            LockMode::RowExclusive,
+        ),
         Err(NoMemory) => Err(Stop::NoMemory),
     }
 }

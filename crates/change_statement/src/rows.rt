@@ -103,14 +103,7 @@ fn delete_row(
         Verdict::Wait(other) => Err(pause(alloc, stores, names, caller, other, left, changed)),
         Verdict::Refuse(conflict) => {
             let tree = &gathered.tree;
-            Err(stop_by(conflict_fault(
-                alloc,
-                &stores.catalog,
-                names,
-                tree,
-                target.leaf,
-                conflict,
-            )))
+            Err(stop_by(conflict_fault(alloc, &stores.catalog, names, tree, target.leaf, conflict)))
         }
     }
 }
@@ -133,7 +126,9 @@ fn delete_rows(
     let mut left = targets;
     let mut changed = changed;
     while let Some((target, others)) = left.split_first() {
-        match delete_row(alloc, stores, names, caller, gathered, left, *target, changed) {
+        match delete_row(
+            alloc, stores, names, caller, gathered, left, *target, changed,
+        ) {
             Ok(next) => {
                 changed = next;
                 left = others;
@@ -165,7 +160,14 @@ fn find(
 {
     let found = leaves_of(alloc, &gathered.tree)?;
     let snap = stores.look(alloc, caller.session, caller.cmd)?;
-    find_targets(alloc, &stores.rows, &stores.txs, &found, &snap, &gathered.ask.condition)
+    find_targets(
+        alloc,
+        &stores.rows,
+        &stores.txs,
+        &found,
+        &snap,
+        &gathered.ask.condition,
+    )
 }
 
 // Those that the statement has still to look at.

@@ -44,7 +44,14 @@ fn delete_from(
     ensures { IsCommand result stores.old stores.new caller
         (follow (gathered_spec.found names.now params.now caller rest statement.now.table [] (maybe_tree statement.now.condition)) (changed_from (deleting caller) names.now caller rest)) }
 {
-    match gather(alloc, stores, names, params, caller, Change::Delete(statement)) {
+    match gather(
+        alloc,
+        stores,
+        names,
+        params,
+        caller,
+        Change::Delete(statement),
+    ) {
         Ok(gathered) => delete_found(alloc, stores, names, caller, rest, &gathered),
         Err(stop) => Err(stopped_on(stop, rest)),
     }

@@ -39,7 +39,14 @@ fn wait_for_end(
     requires left { All (λ id. id.number < length stores.old.rows.stored) rest.left }
     ensures { IsStep (λ u. u) (Err result) stores.old stores.new caller caller.cmd (changed_spec.waits_for_end names.now caller other rest) }
 {
-    match wait_for(alloc, stores, names, caller, WaitOn::Ends(only(other)), Some(rest)) {
+    match wait_for(
+        alloc,
+        stores,
+        names,
+        caller,
+        WaitOn::Ends(only(other)),
+        Some(rest),
+    ) {
         Ok(()) => unreachable!(),
         Err(stop) => stop,
     }
