@@ -39,7 +39,6 @@ pub waited_kept : (k : KeptLocks) (s : ℕ) (w : Wanted) → IsKept k → s < le
     → IsKept (waiting k s w)
 waited_kept k s w kept lt free table = record {
   few = grind (arith, common_steps, kept.few);
-  places = kept.places;
   apart = all_pairs_push (λ x y. x ≢ y) k.queue s kept.apart (apart k.queue s (kept.each s ∙ ap is_some free));
   each = λ r. grind (arith, common_steps, elements, nat_tests, list_any-append (nat_eq r) k.queue (s ∷ []), kept.each r);
   known = λ r t m e. grind (arith, common_steps, elements, kept.known r t m, table t m);
@@ -56,18 +55,17 @@ has_place k s kept lt free =
 pub over_kept : (k : KeptLocks) (s : ℕ) → IsKept k → s < length k.wants → IsKept (over k s)
 over_kept k s kept lt = record {
   few = grind (arith, common_steps, kept.few);
-  places = kept.places;
   apart = AllPairs-filter (λ x y. x ≢ y) _ k.queue kept.apart;
   each = λ r. any-filter_same (nat_eq r) (λ x. not (s == x)) (not (s == r)) (λ i e. grind (arith, common_steps, nat_tests)) k.queue ∙ grind (arith, common_steps, elements, nat_tests, kept.each r);
   known = λ r t m e. grind (arith, common_steps, elements, kept.known r t m);
 }
 
 -- what a session waits for, and the locks that it gets with it, have their places
-pub known_placed : (k : KeptLocks) (w : Option Wanted) → IsKept k → IsKnown k.tables w → IsPlaced (length k.held) w
-known_placed k w kept known table m e = let lt = known table m e in let n = kept.places in omega arith
+pub known_placed : (n places : ℕ) (w : Option Wanted) → 8 * n ≤ places → IsKnown n w → IsPlaced places w
+known_placed n places w room known table m e = let lt = known table m e in omega arith
 
-pub given_kept : (k : KeptLocks) (held : List SessionSet) → IsKept k → length held ≡ length k.held → IsKept (kept_of k.tables held k.wants k.queue)
-given_kept k held kept len = record { few = kept.few; places = len ∙ kept.places; apart = kept.apart; each = kept.each; known = kept.known }
+pub given_kept : (k : KeptLocks) (held : List SessionSet) → IsKept k → IsKept (kept_of k.tables held k.wants k.queue)
+given_kept k held kept = record { few = kept.few; apart = kept.apart; each = kept.each; known = kept.known }
 
 pub withdrew_stands : (k : KeptLocks) (h : LockEvents) (s : ℕ) → s < length k.wants → StandsFor k h → StandsFor (over k s) (WaitWithdrawn s ∷ h)
 withdrew_stands k h s lt st = record {

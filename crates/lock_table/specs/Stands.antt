@@ -36,11 +36,9 @@ IsKnown n w = (table : TableNo) (m : LockMode) → w ≡ Some (Lock table m) →
 abbrev pub IsPlaced : ℕ → Option Wanted → Type 0
 IsPlaced n w = (table : TableNo) (m : LockMode) → w ≡ Some (Lock table m) → 8 * table.number + 7 < n
 
--- what is always so of a lock table: there is a place for each mode of each table, and each who waits is
--- queued once
+-- what is always so of a lock table: each who waits is queued once, and waits for what there is
 pub record IsKept (kept : KeptLocks) : Type 0 where
   pub few : length kept.wants ≤ 65
-  pub places : length kept.held ≡ 8 * kept.tables
   pub apart : AllPairs (λ x y. x ≢ y) kept.queue
   pub each : (s : ℕ) → list_any (nat_eq s) kept.queue ≡ is_some (slice_index_or kept.wants s None)
   pub known : (s : ℕ) → IsKnown kept.tables (slice_index_or kept.wants s None)

@@ -1,6 +1,6 @@
-ghost use Rattle.std.specs.Prelude.{◌≡◌, ℕ, ◌+◌, ◌*◌, ◌<◌, ◌==◌, ◌&&◌, ◌||◌, not, None, Option, length, slice_index_or};
+ghost use Rattle.std.specs.Prelude.{◌≡◌, ℕ, ◌+◌, ◌*◌, ◌≤◌, ◌<◌, ◌==◌, ◌&&◌, ◌||◌, not, None, Option, length, slice_index_or, vec_capacity};
 ghost use Rattle.pg_ids.specs.Modes.{same_mode};
-ghost use Rattle.pg_ids.specs.Sets.{has};
+ghost use Rattle.pg_ids.specs.Sets.{has, empty};
 ghost use Rattle.pg_ids.specs.declared.lock_mode.LockMode.{LockMode as Mode};
 ghost use Rattle.history.specs.Locks.{is_lock, after_end, after_snapshot};
 ghost use Rattle.lock_table.specs.Kept.{held_at};
@@ -10,25 +10,38 @@ use crate::causes::place;
 use history::{WaitOn, Wanted};
 use pg_ids::{LockMode, SessionSet};
 
+// The sets reach beyond the place, with empty ones where they did not.
+fn reach(held: &mut Vec<SessionSet>, place: usize)
+    requires { place < vec_capacity held.old }
+    ensures beyond { place < length held.new.items }
+    ensures same { (k : ℕ) → slice_index_or held.new.items k empty ≡ slice_index_or held.old.items k empty }
+    ensures room { vec_capacity held.old ≤ vec_capacity held.new }
+{
+    if held.len() <= place {
+        held.resize(place + 1, SessionSet::empty()).unwrap();
+    }
+}
+
 // The session gets the mode on the table.
 pub(crate) fn put(held: &mut Vec<SessionSet>, session: u32, table: u32, mode: LockMode)
     requires session { session < 128 }
-    requires known { 8 * table + 7 < length held.old.items }
+    requires known { 8 * table + 7 < vec_capacity held.old }
     ensures holds { (s t : ℕ) (m : Mode) → has (held_at held.new.items t m) s
         ≡ (((session == s) && ((table == t) && same_mode mode m)) || has (held_at held.old.items t m) s) }
-    ensures len { length held.new.items ≡ length held.old.items }
+    ensures room { vec_capacity held.old ≤ vec_capacity held.new }
 {
     let at = place(table, mode);
+    reach(held, at);
     held[at] = held[at].with(session);
 }
 
 // The session gets the lock that it waited for.
 pub(crate) fn grant(held: &mut Vec<SessionSet>, session: u32, want: Option<Wanted>)
     requires session { session < 128 }
-    requires known { IsPlaced (length held.old.items) want }
+    requires known { IsPlaced (vec_capacity held.old) want }
     ensures holds { (s t : ℕ) (m : Mode) → has (held_at held.new.items t m) s
         ≡ (((session == s) && is_lock t m want) || has (held_at held.old.items t m) s) }
-    ensures len { length held.new.items ≡ length held.old.items }
+    ensures room { vec_capacity held.old ≤ vec_capacity held.new }
 {
     if let Some(Wanted::Lock { table, mode }) = want {
         put(held, session, table.number, mode);
@@ -40,7 +53,7 @@ pub(crate) fn clear_held(held: &mut Vec<SessionSet>, session: u32)
     requires { session < 128 }
     ensures holds { (s t : ℕ) (m : Mode) → has (held_at held.new.items t m) s
         ≡ (not (session == s) && has (held_at held.old.items t m) s) }
-    ensures len { length held.new.items ≡ length held.old.items }
+    ensures room { vec_capacity held.new ≡ vec_capacity held.old }
 {
     for i in 0..held.len() {
         held[i] = held[i].without(session);

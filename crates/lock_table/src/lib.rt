@@ -10,7 +10,9 @@
 //! gone. All three kinds of waits count where a wait would close a cycle: that one is refused, and the
 //! shortest cycle is told, which is found from the asking session backwards, level by level.
 //!
-//! All places are reserved when the table is made, so nothing after that takes memory.
+//! All places are reserved when the table is made, so nothing after that takes memory. The sets reach
+//! only as far as a lock was ever held, and past their end nobody holds one: so the end of a transaction
+//! goes over the tables that were locked, and not over all that there may be.
 #![tactic(auto)]
 
 mod asked;

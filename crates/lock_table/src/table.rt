@@ -31,7 +31,7 @@ pub struct LockTable {
 }
 
 impl Model for LockTable {
-    ghost use Rattle.std.specs.Prelude.{length, ◌≤◌, vec_capacity};
+    ghost use Rattle.std.specs.Prelude.{length, ◌*◌, ◌≤◌, vec_capacity};
     ghost use Rattle.lock_table.specs.Kept.{KeptLocks};
     ghost use Rattle.lock_table.specs.Stands.{IsKept, kept_of};
 
@@ -39,7 +39,7 @@ impl Model for LockTable {
 
     ghost view = { λ t. kept_of t.tables t.held.items t.wants.items t.queue.items };
 
-    ghost invariant = { λ t. (IsKept (kept_of t.tables t.held.items t.wants.items t.queue.items)) × (length t.wants.items ≤ vec_capacity t.queue) };
+    ghost invariant = { λ t. (IsKept (kept_of t.tables t.held.items t.wants.items t.queue.items)) × ((length t.wants.items ≤ vec_capacity t.queue) × (8 * t.tables ≤ vec_capacity t.held)) };
 }
 
 impl LockTable {
@@ -52,7 +52,7 @@ impl LockTable {
     {
         Ok(LockTable {
             tables,
-            held: vec![in alloc; SessionSet::empty(); 8 * tables as usize]?,
+            held: Vec::with_capacity(alloc, 8 * tables as usize)?,
             wants: vec![in alloc; None; sessions as usize]?,
             queue: Vec::with_capacity(alloc, sessions as usize)?,
         })

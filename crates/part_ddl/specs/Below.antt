@@ -6,6 +6,10 @@ use Rattle.history.specs.declared.catalogue.Entry.{Entry}
 use Rattle.history.specs.History.{History}
 use Rattle.table_trees.specs.Trees.{TableTree, LeafTable, LevelTable, Trees, End, More}
 use Rattle.table_trees.specs.Histories.{ddl_tree}
+use Rattle.tx_table.specs.Kept.{KeptTable}
+use Rattle.tx_table.specs.Stands.{TableStands}
+use Rattle.part_catalog.specs.Kept.{KeptCatalogue}
+use Rattle.part_catalog.specs.Stands.{CatalogueStands}
 use Rattle.part_ddl.specs.Placing.{partitions_of}
 
 -- the tables of a tree in plain order, each before those below it
@@ -36,6 +40,10 @@ has_default_bound e = is_default e.bound
 
 abbrev pub default_of : History → (session table : ℕ) → Option TableNo
 default_of h session table = option_map (λ e. e.child) (find has_default_bound (partitions_of h session table))
+
+-- a tree is the one of the table for the session, in each history for which the two stand
+abbrev pub IsTreeOf : KeptTable → KeptCatalogue → (session table : ℕ) → TableTree → Type 0
+IsTreeOf txs kept session table t = (h : History) → TableStands txs h → CatalogueStands kept h → t ≡ ddl_tree h session table
 
 -- a tree that is the one of some table in some history
 pub record IsDdlTree (t : TableTree) : Type 0 where

@@ -67,8 +67,8 @@ pub fn tables_below(
     Ok(tables)
 }
 
-// The default partition at the top of a tree.
-fn default_in(tree: &Tree) -> Option<TableNo>
+/// The default partition of a table, told from the table's tree.
+pub fn default_in(tree: &Tree) -> Option<TableNo>
     requires { below.IsDdlTree (seen tree.now) }
     ensures { (h : History) (session table : ℕ) → AreCatalogueSound h → seen tree.now ≡ ddl_tree h session table → result ≡ below.default_of h session table }
 {

@@ -22,7 +22,7 @@ mod partitions;
 mod placing;
 mod tables;
 
-pub use below::{default_of, tables_below};
+pub use below::{default_in, default_of, tables_below};
 pub use dropped::drop_table;
 pub use laws::{passed_have_places, tables_stand_once};
 pub use names::check_name;

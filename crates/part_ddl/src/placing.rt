@@ -11,12 +11,13 @@ ghost use Rattle.history.specs.History.{History};
 ghost use Rattle.history.specs.Places.{TakesBound};
 ghost use Rattle.history.specs.Presence.{entries_present};
 ghost use Rattle.tx_table.specs.Stands.{TableStands};
-ghost use Rattle.table_trees.specs.Histories.{above, ddl_tree};
+ghost use Rattle.table_trees.specs.Histories.{above};
 ghost use Rattle.table_trees.specs.Seen.{items_of, seen};
 ghost use Rattle.part_catalog.specs.Answers.{AreTogether};
 ghost use Rattle.part_catalog.specs.Found.{made_at};
 ghost use Rattle.part_catalog.specs.Full.{tables_above};
 ghost use Rattle.part_catalog.specs.Stands.{CatalogueStands};
+ghost use Rattle.part_ddl.specs.Below.{IsTreeOf};
 ghost use Rattle.part_ddl.specs.Placing as placing;
 ghost use Rattle.part_ddl.specs.Placing.{IsFault};
 
@@ -228,8 +229,11 @@ fn pending_name<'c>(
     }
 }
 
-// Whether a partition may stand at the top of a tree.
-fn check_among(
+/// Whether a table that is not partitioned, or has no partition yet, may stand below another, whose tree is
+/// given, under a bound of that one's level. It is refused as a second default (42P17), as a default beside
+/// a pending partition (55000), where its modulus does not suit a sibling's or its bound overlaps a
+/// sibling's (42P17), pending ones among them, and past 1,024 partitions or 8 tables on a path (54000).
+pub fn check_place(
     alloc: Global,
     catalog: &Catalog,
     txs: &TxTable,
@@ -241,7 +245,7 @@ fn check_among(
     requires known { parent.number < length catalog.now.tables }
     requires siblings { AreTogether txs.now catalog.now session }
     requires takes { (h : History) → CatalogueStands catalog.now h → TakesBound (made_at h parent.number).shape bound.now }
-    requires tree { (h : History) → TableStands txs.now h → CatalogueStands catalog.now h → seen tree.now ≡ ddl_tree h session parent.number }
+    requires tree { IsTreeOf txs.now catalog.now session parent.number (seen tree.now) }
     ensures { (h : History) → TableStands txs.now h → CatalogueStands catalog.now h →
         IsAnswer result (or_first (placing.place_faults h session parent.number bound.now 1) tt) }
 {
@@ -254,26 +258,4 @@ fn check_among(
             check_level(alloc, name, pending, level, bounds, children, bound, levels)
         }
     }
-}
-
-/// Whether a table that is not partitioned, or has no partition yet, may stand below another under a
-/// bound of that one's level. It is refused as a second default (42P17), as a default beside a pending
-/// partition (55000), where its modulus does not suit a sibling's or its bound overlaps a sibling's
-/// (42P17), pending ones among them, and past 1,024 partitions or 8 tables on a path (54000).
-pub fn check_place(
-    alloc: Global,
-    catalog: &Catalog,
-    txs: &TxTable,
-    parent: TableNo,
-    bound: &Bound,
-    session: u32,
-) -> Result<(), Refusal>
-    requires known { parent.number < length catalog.now.tables }
-    requires siblings { AreTogether txs.now catalog.now session }
-    requires takes { (h : History) → CatalogueStands catalog.now h → TakesBound (made_at h parent.number).shape bound.now }
-    ensures { (h : History) → TableStands txs.now h → CatalogueStands catalog.now h →
-        IsAnswer result (or_first (placing.place_faults h session parent.number bound.now 1) tt) }
-{
-    let tree = catalog.ddl_tree(alloc, txs, parent, session)?;
-    check_among(alloc, catalog, txs, parent, &tree, bound, session)
 }

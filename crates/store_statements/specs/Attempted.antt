@@ -3,7 +3,8 @@ use Rattle.std.specs.Prelude.{ℕ, List, [], Option, Result, Ok, Err, if◌then�
 use Rattle.pg_values.specs.declared.answer.Answer.{Answer}
 use Rattle.history.specs.History.{History}
 use Rattle.expression_binder.specs.Faults.{left_out}
-use Rattle.sql_commands.specs.Trees.{CommandTree, makes_table, makes_partition, drops}
+use Rattle.sql_commands.specs.Trees.{CommandTree, makes_table, makes_partition, drops, detaches, locks}
+use Rattle.sql_commands.specs.declared.alter.Detachment.TheVariants.{AtOnce}
 use Rattle.sql_queries.specs.Trees.{SelectTree, RowTree, QueryTree, selects, inserts, deletes, rows}
 use Rattle.sql_syntax.specs.Trees.{StatementTree, commands, queries}
 use Rattle.out_text.specs.Table.{printed_table}
@@ -16,6 +17,8 @@ use Rattle.change_statement.specs.Deleted.{deleted}
 use Rattle.table_statements.specs.Tables.{created}
 use Rattle.table_statements.specs.Partitions.{partitioned}
 use Rattle.table_statements.specs.Drops.{dropped}
+use Rattle.lock_statement.specs.Locked.{locked}
+use Rattle.detach_statement.specs.Detached.{detached}
 use Rattle.store_statements.specs.LeftOut.{command_word, row_word, query_word, cancel_word, cancels}
 
 -- ---- what is printed
@@ -48,6 +51,8 @@ abbrev pub command_attempted : (names : List (List ℕ)) → Caller → CommandT
 command_attempted names c (makes_table name columns by) = silent (created c name columns by)
 command_attempted names c (makes_partition name parent bound by) = silent (partitioned names c name parent bound by)
 command_attempted names c (drops if_there tables) = silent (dropped names c if_there tables)
+command_attempted names c (detaches parent name AtOnce) = silent (detached names c parent name)
+command_attempted names c (locks tables mode) = silent (locked names c.session tables mode)
 command_attempted names c t = omitted (command_word t)
 
 abbrev pub select_attempted : (names : List (List ℕ)) → Caller → SelectTree → History → Made (List ℕ)

@@ -1,18 +1,31 @@
 -- What the statements of a run mean. The run is told the names of its sessions.
-use Rattle.std.specs.Prelude.{ℕ, List, None}
-use Rattle.sql_syntax.specs.Trees.{StatementTree}
+use Rattle.std.specs.Prelude.{ℕ, List, Option, None}
+use Rattle.pg_values.specs.declared.fault.Fault.{Fault}
+use Rattle.sessions.specs.declared.asker.Place.{Place}
+use Rattle.sql_commands.specs.Trees.{CommandTree, locks}
+use Rattle.sql_syntax.specs.Trees.{StatementTree, commands, queries}
 use Rattle.block_reading.specs.Reading.{read_block}
 use Rattle.statement_roles.specs.Roles.{role_of, looks, changed}
 use Rattle.out_text.specs.FaultText.{fault_text}
 use Rattle.course.specs.Words.{Words}
+use Rattle.lock_statement.specs.Places.{lock_misplaced}
 use Rattle.store_statements.specs.Attempted.{attempted}
+
+-- of the statements that are run over the stores LOCK alone cannot stand everywhere
+abbrev pub command_misplaced : Place → CommandTree → Option Fault
+command_misplaced place (locks tables mode) = lock_misplaced place
+command_misplaced place t = None
+
+abbrev pub misplaced : Place → StatementTree → Option Fault
+misplaced place (commands t) = command_misplaced place t
+misplaced place (queries t) = None
 
 abbrev pub statement_words : Words (List (List ℕ)) StatementTree
 statement_words = record {
   parsed = read_block;
   role = role_of;
   looks = looks;
-  misplaced = λ place t. None;
+  misplaced = misplaced;
   set = changed;
   attempted = λ names c rest h settings t. attempted names c rest t h;
   fault_text = fault_text;

@@ -10,12 +10,14 @@ ghost use Rattle.store_statements.specs.Printed.{IsStatement};
 use crate::left_out::{cancels, command_word, query_word};
 use change_statement::delete;
 use course::{Caller, Rest, Stop};
+use detach_statement::detach;
 use expression_binder::left_out;
 use insert_statement::insert;
+use lock_statement::lock;
 use out_text::write_table;
 use pg_values::NoMemory;
 use select_statement::select;
-use sql_commands::Command;
+use sql_commands::{Command, Detachment};
 use sql_queries::{Query, RowStatement, Select};
 use sql_syntax::Statement;
 use statement_steps::SessionNames;
@@ -63,6 +65,19 @@ fn attempt_command(
         }
         Command::DropTables(if_there, tables) => {
             drop_tables(alloc, stores, names, caller, *if_there, tables.as_slice())
+        }
+        Command::Detach(parent, name, Detachment::AtOnce) => {
+            detach(
+                alloc,
+                stores,
+                names,
+                caller,
+                parent.as_bytes(),
+                name.as_bytes(),
+            )
+        }
+        Command::Lock(tables, mode) => {
+            lock(alloc, stores, names, caller, tables.as_slice(), *mode)
         }
         _ => omit(alloc, stores, caller, command_word(command), out),
     }

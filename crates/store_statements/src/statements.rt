@@ -3,9 +3,11 @@ ghost use Rattle.std.specs.Prelude.{◌≡◌, IfOk};
 use crate::attempts::attempt;
 use block_reading::read_block;
 use course::{Caller, Kinds, Rest, Stop};
+use lock_statement::lock_misplaced;
 use out_text::write_fault_text;
 use pg_values::{Fault, NoMemory, Refusal};
 use sessions::{Place, Role, Settings};
+use sql_commands::Command;
 use sql_syntax::Statement;
 use statement_roles::{changed_settings, looks, role_of};
 use statement_steps::SessionNames;
@@ -68,11 +70,14 @@ impl Kinds for Statements {
     }
 
     fn misplaced(
-        _alloc: Global,
-        _place: Place,
-        _statement: &Statement,
+        alloc: Global,
+        place: Place,
+        statement: &Statement,
     ) -> Result<Option<Fault>, NoMemory> {
-        Ok(None)
+        match statement {
+            Statement::Command(Command::Lock(_, _)) => Ok(lock_misplaced(alloc, place)),
+            _ => Ok(None),
+        }
     }
 
     fn set(alloc: Global, settings: Settings, statement: &Statement) -> Result<Settings, Refusal> {

@@ -1,11 +1,11 @@
-mod Chains
-mod Below
-mod Deeds
-mod Dropping
-mod Ends
-mod Firsts
-mod Fresh
-mod Held
-mod Left
-mod Placing
-mod Same
+pub mod Chains
+pub mod Below
+pub mod Deeds
+pub mod Dropping
+pub mod Ends
+pub mod Firsts
+pub mod Fresh
+pub mod Held
+pub mod Left
+pub mod Placing
+pub mod Same

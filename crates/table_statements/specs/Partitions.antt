@@ -70,12 +70,14 @@ partition_made caller name p place h = made (partition_events h name p place.bou
 abbrev pub placed_and_made : Caller → (name : List ℕ) → (parent : ℕ) → Bound → Option Partitioning → History → Made (Unit {0})
 placed_and_made caller name p b by = follow (place_found caller.session name p b by) (λ place. partition_made caller name p place)
 
+-- the default partition of the parent is locked
+abbrev pub made_beside : (names : List (List ℕ)) → Caller → (name : List ℕ) → (parent : ℕ) → Bound → Option Partitioning → History → Made (Unit {0})
+made_beside names caller name p b by = follow (default_locked names caller.session p) (λ u. placed_and_made caller name p b by)
+
 -- the parent is locked, then its default partition
 abbrev pub made_below : (names : List (List ℕ)) → Caller → (name parent : List ℕ) → Bound → Option Partitioning → History → Made (Unit {0})
 made_below names caller name parent b by =
-    follow (named names caller.session AccessExclusive parent) (λ p.
-    follow (default_locked names caller.session p) (λ u.
-    placed_and_made caller name p b by))
+    follow (named names caller.session AccessExclusive parent) (λ p. made_beside names caller name p b by)
 
 -- CREATE TABLE name PARTITION OF parent bound [ PARTITION BY .. ]
 abbrev pub partitioned : (names : List (List ℕ)) → Caller → (name parent : List ℕ) → Bound → Option Partitioning → History → Made (Unit {0})

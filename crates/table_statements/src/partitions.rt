@@ -1,12 +1,16 @@
-ghost use Rattle.std.specs.Prelude.{◌≡◌, ◌+◌, ◌<◌, ◌≤◌, IfOk, length};
+ghost use Rattle.std.specs.Prelude.{◌≡◌, ◌+◌, ◌<◌, ◌≤◌, ℕ, IfOk, length};
 ghost use Rattle.pg_values.specs.Refusals.{IsAnswer};
 ghost use Rattle.part_bounds.specs.Checks.{or_first};
 ghost use Rattle.history.specs.History.{History};
+ghost use Rattle.history.specs.Places.{AreCatalogueSound};
 ghost use Rattle.tx_table.specs.Stands.{TableStands};
+ghost use Rattle.table_trees.specs.Histories.{ddl_tree};
+ghost use Rattle.table_trees.specs.Seen.{seen};
 ghost use Rattle.part_catalog.specs.Answers.{AreTogether};
 ghost use Rattle.part_catalog.specs.Stands.{CatalogueStands};
 ghost use Rattle.expression_binder.specs.Firsts.{IsAnswerBy};
 ghost use Rattle.part_ddl.specs.Below as below;
+ghost use Rattle.part_ddl.specs.Below.{IsTreeOf};
 ghost use Rattle.sql_commands.specs.Trees.{bound_tree};
 ghost use Rattle.course.specs.Attempts.{MayAttempt};
 ghost use Rattle.statement_steps.specs.Steps.{IsStep};
@@ -26,7 +30,7 @@ use legal_statements::{
 use part_bounds::{Bound, Level};
 use part_catalog::Catalog;
 use part_ddl::{
-    check_count, check_place, default_of, make_partition, parent_level, passed_have_places,
+    check_count, check_place, default_in, make_partition, parent_level, passed_have_places,
     tables_below,
 };
 use pg_ids::{LockMode, TableNo};
@@ -37,6 +41,7 @@ use statement_steps::{SessionNames, hold_if_repeatable, lock_named, lock_tables}
 use std::alloc::Global;
 use stores::{Stores, leaves_are_housed, trees_are_together};
 use table_binder::bind_bound;
+use table_trees::Tree;
 use tx_table::TxTable;
 
 /// The bound of a partition, and its own level where it is partitioned.
@@ -65,20 +70,21 @@ pub(crate) fn tables_from(
     Ok(tables)
 }
 
-// The default partition of the parent and the tables under it.
+// The default partition of the parent, whose tree is given, and the tables under it.
 fn default_tables(
     alloc: Global,
     catalog: &Catalog,
     txs: &TxTable,
     parent: TableNo,
+    tree: &Tree,
     session: u32,
 ) -> Result<Vec<TableNo>, NoMemory>
-    requires known { parent.number < length catalog.now.tables }
     requires siblings { AreTogether txs.now catalog.now session }
+    requires tree { IsTreeOf txs.now catalog.now session parent.number (seen tree.now) }
     ensures { IfOk result (λ tables. (h : History) → TableStands txs.now h → CatalogueStands catalog.now h →
         tables.items ≡ family_of h session (below.default_of h session parent.number)) }
 {
-    match default_of(alloc, catalog, txs, parent, session)? {
+    match default_in(tree) {
         None => Ok(Vec::new(alloc)),
         Some(table) => tables_from(alloc, catalog, txs, table, session),
     }
@@ -91,10 +97,11 @@ fn lock_default(
     names: &SessionNames,
     caller: Caller,
     parent: TableNo,
+    tree: &Tree,
 ) -> Result<(), Stop>
     requires may { MayAttempt stores.old caller }
     requires few { length stores.old.catalog.tables ≤ 4096 }
-    requires known { parent.number < length stores.old.catalog.tables }
+    requires tree { IsTreeOf stores.old.txs stores.old.catalog caller.session parent.number (seen tree.now) }
     ensures step { IsStep (λ u. u) result stores.old stores.new caller caller.cmd (partitions.default_locked names.now caller.session parent.number) }
     ensures rest { stores.new ≡ record stores.old { locks = stores.new.locks } }
 {
@@ -103,7 +110,14 @@ fn lock_default(
     there_is_known();
     tree_is_whole();
     legal_keeps_all();
-    match default_tables(alloc, &stores.catalog, &stores.txs, parent, caller.session) {
+    match default_tables(
+        alloc,
+        &stores.catalog,
+        &stores.txs,
+        parent,
+        tree,
+        caller.session,
+    ) {
         Ok(tables) => lock_tables(
             alloc,
             stores,
@@ -117,18 +131,11 @@ fn lock_default(
 }
 
 // The rows of a default partition are not scanned: a partition beside it is left out.
-fn check_default(
-    alloc: Global,
-    catalog: &Catalog,
-    txs: &TxTable,
-    parent: TableNo,
-    session: u32,
-) -> Result<(), Refusal>
-    requires known { parent.number < length catalog.now.tables }
-    requires siblings { AreTogether txs.now catalog.now session }
-    ensures { (h : History) → TableStands txs.now h → CatalogueStands catalog.now h → IsAnswer result (or_first (partitions.beside_default (below.default_of h session parent.number)) tt) }
+fn check_default(alloc: Global, tree: &Tree) -> Result<(), Refusal>
+    requires { below.IsDdlTree (seen tree.now) }
+    ensures { (h : History) (session table : ℕ) → AreCatalogueSound h → seen tree.now ≡ ddl_tree h session table → IsAnswer result (or_first (partitions.beside_default (below.default_of h session table)) tt) }
 {
-    match default_of(alloc, catalog, txs, parent, session)? {
+    match default_in(tree) {
         None => Ok(()),
         Some(_) => Err(Refusal::Sql(left_out(alloc, b"CREATE")?)),
     }
@@ -142,11 +149,13 @@ fn place_of(
     session: u32,
     name: &[u8],
     parent: TableNo,
+    tree: &Tree,
     bound: &BoundText,
     by: &Option<Partitioning>,
 ) -> Result<Place, Refusal>
     requires known { parent.number < length catalog.now.tables }
     requires siblings { AreTogether txs.now catalog.now session }
+    requires tree { IsTreeOf txs.now catalog.now session parent.number (seen tree.now) }
     ensures answer { (h : History) → TableStands txs.now h → CatalogueStands catalog.now h →
         IsAnswerBy seen_place result (partition_place h session name.now parent.number (bound_tree bound.now) by.now) }
     ensures free { IfOk result (λ place. (h : History) → TableStands txs.now h → CatalogueStands catalog.now h → MayBeMade h session name.now) }
@@ -156,9 +165,9 @@ fn place_of(
     check_free(alloc, catalog, txs, session, name)?;
     check_count(alloc, catalog)?;
     let bound = bind_bound(alloc, bound, above)?;
-    check_place(alloc, catalog, txs, parent, &bound, session)?;
+    check_place(alloc, catalog, txs, parent, tree, &bound, session)?;
     let level = level_by(alloc, catalog.table(parent).columns.as_slice(), by)?;
-    check_default(alloc, catalog, txs, parent, session)?;
+    check_default(alloc, tree)?;
     Ok(Place { bound, level })
 }
 
@@ -169,18 +178,30 @@ fn place_found(
     caller: Caller,
     name: &[u8],
     parent: TableNo,
+    tree: &Tree,
     bound: &BoundText,
     by: &Option<Partitioning>,
 ) -> Result<Place, Stop>
     requires may { MayAttempt stores.now caller }
     requires known { parent.number < length stores.now.catalog.tables }
+    requires tree { IsTreeOf stores.now.txs stores.now.catalog caller.session parent.number (seen tree.now) }
     ensures step { IsStep seen_place result stores.now stores.now caller caller.cmd (partitions.place_found caller.session name.now parent.number (bound_tree bound.now) by.now) }
     ensures free { IfOk result (λ place. (h : History) → TableStands stores.now.txs h → CatalogueStands stores.now.catalog h → MayBeMade h caller.session name.now) }
     ensures may { IfOk result (λ place. (h : History) → TableStands stores.now.txs h → CatalogueStands stores.now.catalog h → MayBePlaced h caller.session parent.number place.bound place.level) }
 {
     trees_are_together();
     let Stores { txs, catalog, .. } = stores;
-    match place_of(alloc, catalog, txs, caller.session, name, parent, bound, by) {
+    match place_of(
+        alloc,
+        catalog,
+        txs,
+        caller.session,
+        name,
+        parent,
+        tree,
+        bound,
+        by,
+    ) {
         Ok(place) => Ok(place),
         Err(refusal) => Err(stop_by(refusal)),
     }
@@ -233,14 +254,25 @@ fn place_and_make(
     caller: Caller,
     name: &PgText,
     parent: TableNo,
+    tree: &Tree,
     bound: &BoundText,
     by: &Option<Partitioning>,
 ) -> Result<(), Stop>
     requires may { MayAttempt stores.old caller }
     requires parent { IsLockedNamed stores.old caller.session parent.number }
+    requires tree { IsTreeOf stores.old.txs stores.old.catalog caller.session parent.number (seen tree.now) }
     ensures { IsStep (λ u. u) result stores.old stores.new caller (caller.cmd + 1) (partitions.placed_and_made caller name.now parent.number (bound_tree bound.now) by.now) }
 {
-    match place_found(alloc, stores, caller, name.as_bytes(), parent, bound, by) {
+    match place_found(
+        alloc,
+        stores,
+        caller,
+        name.as_bytes(),
+        parent,
+        tree,
+        bound,
+        by,
+    ) {
         Ok(place) => match name.copy(alloc) {
             Ok(name) => make_placed(alloc, stores, caller, name, parent, place),
             Err(NoMemory) => Err(Stop::NoMemory),
@@ -249,7 +281,57 @@ fn place_and_make(
     }
 }
 
-// The parent is locked, and then its default partition.
+// The default partition of the parent, which is locked, is locked too, and the table made beside it.
+fn create_beside(
+    alloc: Global,
+    stores: &mut Stores,
+    names: &SessionNames,
+    caller: Caller,
+    name: &PgText,
+    parent: TableNo,
+    tree: &Tree,
+    bound: &BoundText,
+    by: &Option<Partitioning>,
+) -> Result<(), Stop>
+    requires may { MayAttempt stores.old caller }
+    requires few { length stores.old.catalog.tables ≤ 4096 }
+    requires parent { IsLockedNamed stores.old caller.session parent.number }
+    requires tree { IsTreeOf stores.old.txs stores.old.catalog caller.session parent.number (seen tree.now) }
+    ensures { IsStep (λ u. u) result stores.old stores.new caller (caller.cmd + 1) (partitions.made_beside names.now caller name.now parent.number (bound_tree bound.now) by.now) }
+{
+    match lock_default(alloc, stores, names, caller, parent, tree) {
+        Ok(()) => place_and_make(alloc, stores, caller, name, parent, tree, bound, by),
+        Err(stop) => Err(stop),
+    }
+}
+
+// The parent's tree is built once for all that is asked of it.
+fn create_in_tree(
+    alloc: Global,
+    stores: &mut Stores,
+    names: &SessionNames,
+    caller: Caller,
+    name: &PgText,
+    parent: TableNo,
+    bound: &BoundText,
+    by: &Option<Partitioning>,
+) -> Result<(), Stop>
+    requires may { MayAttempt stores.old caller }
+    requires few { length stores.old.catalog.tables ≤ 4096 }
+    requires parent { IsLockedNamed stores.old caller.session parent.number }
+    ensures { IsStep (λ u. u) result stores.old stores.new caller (caller.cmd + 1) (partitions.made_beside names.now caller name.now parent.number (bound_tree bound.now) by.now) }
+{
+    trees_are_together();
+    match stores
+        .catalog
+        .ddl_tree(alloc, &stores.txs, parent, caller.session)
+    {
+        Ok(tree) => create_beside(alloc, stores, names, caller, name, parent, &tree, bound, by),
+        Err(NoMemory) => Err(Stop::NoMemory),
+    }
+}
+
+// The parent is found and locked, and the table made below it.
 fn create_below(
     alloc: Global,
     stores: &mut Stores,
@@ -266,10 +348,7 @@ fn create_below(
 {
     let mode = LockMode::AccessExclusive;
     match lock_named(alloc, stores, names, caller, parent.as_bytes(), mode) {
-        Ok(parent) => match lock_default(alloc, stores, names, caller, parent) {
-            Ok(()) => place_and_make(alloc, stores, caller, name, parent, bound, by),
-            Err(stop) => Err(stop),
-        },
+        Ok(parent) => create_in_tree(alloc, stores, names, caller, name, parent, bound, by),
         Err(stop) => Err(stop),
     }
 }

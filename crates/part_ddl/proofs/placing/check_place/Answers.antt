@@ -11,7 +11,7 @@ use Rattle.part_ddl.specs.Placing.{tree_names}
 use Rattle.part_ddl.proofs.Among.{SameWords, place_same, count_told}
 use Rattle.part_ddl.proofs.Defaults.{none_below}
 use Rattle.part_ddl.proofs.Kids.{told, leaf_told, all_of_level}
-use Rattle.part_ddl.proofs.placing.check_among.Goals as goal
+use Rattle.part_ddl.proofs.placing.check_place.Goals as goal
 
 pub unreachable-requires : goal.unreachable-requires
 unreachable-requires c =

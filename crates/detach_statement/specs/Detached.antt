@@ -1,0 +1,79 @@
+-- ALTER TABLE, DETACH PARTITION of a session (the manual, ALTER TABLE; 5.11.2.2 Partition Maintenance; 13.3.1 Table-Level
+-- Locks).
+use Rattle.std.specs.Prelude.{ℕ, ◌==◌, Bool, false, not, List, [], ◌∷◌, Option, Some, None, Result, Ok, codes}
+use Rattle.pg_values.specs.declared.fault.Fault.{Fault}
+use Rattle.pg_ids.specs.declared.ids.TableNo.{TableNo}
+use Rattle.pg_ids.specs.declared.lock_mode.LockMode.TheVariants.{AccessExclusive}
+use Rattle.value_rules.specs.FaultTexts.{fault_of}
+use Rattle.part_bounds.specs.Checks.{unless}
+use Rattle.history.specs.History.{History}
+use Rattle.table_trees.specs.Histories.{table_of}
+use Rattle.part_catalog.specs.Answers.{child_told, pending_entry}
+use Rattle.part_catalog.specs.Found.{made_at}
+use Rattle.part_ddl.specs.Below.{default_of}
+use Rattle.part_ddl.specs.Dropped.{place_ended}
+use Rattle.part_ddl.specs.Faults.{pending_beside}
+use Rattle.part_ddl.specs.Placing.{level_at}
+use Rattle.course.specs.Made.{Made, made}
+use Rattle.course.specs.declared.caller.Caller.{Caller}
+use Rattle.statement_steps.specs.Asks.{locked, named, held_at}
+use Rattle.statement_steps.specs.Steps.{follow}
+use Rattle.table_statements.specs.Drops.{parent_in, stamp}
+use Rattle.table_statements.specs.Refused.{next_answer, unless_faults, answered}
+
+-- ---- the default partition beside it
+
+abbrev pub locked_or_none : List (List ℕ) → (session : ℕ) → Option TableNo → History → Made (Unit {0})
+locked_or_none names s None h = made [] tt
+locked_or_none names s (Some t) h = locked names s t.number AccessExclusive h
+
+abbrev pub default_locked : List (List ℕ) → (session parent : ℕ) → History → Made (Unit {0})
+default_locked names s p h = locked_or_none names s (default_of h s p) h
+
+-- ---- the refusals
+
+-- `<p> is not a partition of <t>`
+abbrev pub not_a_partition : List ℕ → List ℕ → Fault
+not_a_partition p t = fault_of (codes "42P01") (codes "<p> is not a partition of <t>" ∷ p ∷ t ∷ [])
+
+abbrev pub name_at : History → (table : ℕ) → List ℕ
+name_at h t = (made_at h t).name
+
+abbrev pub is_table : Option TableNo → (table : ℕ) → Bool
+is_table None t = false
+is_table (Some found) t = found.number == t
+
+-- the parent is partitioned, the table is a partition of it, and is not its pending one
+abbrev pub detachable : History → (session parent table : ℕ) → Result (Unit {0}) Fault
+detachable h s p t =
+    next_answer (level_at h p) (λ level.
+    unless_faults (unless (is_table (parent_in h s t) p) (not_a_partition (name_at h t) (name_at h p))) (
+    unless_faults (unless (not (is_table (child_told (pending_entry h s p)) t)) (pending_beside (name_at h t) (name_at h p))) (Ok tt)))
+
+abbrev pub checked : (session parent table : ℕ) → History → Made (Unit {0})
+checked s p t h = answered (detachable h s p t)
+
+-- ---- the entry by which the table is a partition ends
+
+abbrev pub place_left : Caller → (table : ℕ) → History → Made (Unit {0})
+place_left caller t h = made (place_ended caller.session (stamp caller h) h (table_of t)) tt
+
+-- ---- the statement
+
+-- where parent and table are locked, the default partition is too; then come the refusals
+abbrev pub table_detached : (names : List (List ℕ)) → Caller → (parent table : ℕ) → History → Made (Unit {0})
+table_detached names caller p t =
+    follow (default_locked names caller.session p) (λ u.
+    follow (checked caller.session p t) (λ v.
+    place_left caller t))
+
+-- the parent is locked, then the table
+abbrev pub locked_and_detached : (names : List (List ℕ)) → Caller → (parent name : List ℕ) → History → Made (Unit {0})
+locked_and_detached names caller parent name =
+    follow (named names caller.session AccessExclusive parent) (λ p.
+    follow (named names caller.session AccessExclusive name) (λ t.
+    table_detached names caller p t))
+
+-- ALTER TABLE parent DETACH PARTITION name
+abbrev pub detached : (names : List (List ℕ)) → Caller → (parent name : List ℕ) → History → Made (Unit {0})
+detached names caller parent name = follow (held_at caller.level caller.session caller.cmd) (λ u. locked_and_detached names caller parent name)

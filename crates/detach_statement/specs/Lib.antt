@@ -1,0 +1,2 @@
+pub mod Detached
+pub mod Asked

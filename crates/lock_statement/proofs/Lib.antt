@@ -1,0 +1,4 @@
+mod Below
+mod Counted
+mod Finding
+mod Locking

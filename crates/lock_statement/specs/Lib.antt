@@ -1,0 +1,4 @@
+pub mod Modes
+pub mod Places
+pub mod Locked
+pub mod Seen

@@ -1,0 +1,12 @@
+use Rattle.std.proofs.Common.{◌+◌}
+use Rattle.sql_commands.specs.Trees.{bound_tree}
+use Rattle.statement_steps.proofs.Parts.{stays, no_memory}
+use Rattle.table_statements.specs.Partitions.{made_beside}
+use Rattle.table_statements.proofs.partitions.create_in_tree.Goals as goal
+
+pub ddl_tree-requires-clause-siblings : goal.ddl_tree-requires-clause-siblings
+ddl_tree-requires-clause-siblings c = c.trees_are_together.ensures c.args.stores.now c.requires.may.sound.0 c.args.caller.session c.requires.may.sound.1
+
+pub returns-in-Err : goal.returns-in-Err
+returns-in-Err c =
+    no_memory (λ (u : Unit {0}). u) c.args.stores.now c.args.stores.now c.args.caller (c.args.caller.cmd + 1) (made_beside c.args.names.now c.args.caller c.args.name.now c.args.parent.number (bound_tree c.args.bound.now) c.args.by.now) (stays c.args.stores.now c.args.caller.session)
