@@ -48,7 +48,7 @@ abbrev pub omitted : (word : List ℕ) → History → Made (List ℕ)
 omitted word h = halted [] (Refused (left_out word))
 
 abbrev pub command_attempted : (names : List (List ℕ)) → Caller → CommandTree → History → Made (List ℕ)
-command_attempted names c (makes_table name columns by) = silent (created c name columns by)
+command_attempted names c (makes_table name columns by) = silent (created names c name columns by)
 command_attempted names c (makes_partition name parent bound by) = silent (partitioned names c name parent bound by)
 command_attempted names c (drops if_there tables) = silent (dropped names c if_there tables)
 command_attempted names c (detaches parent name AtOnce) = silent (detached names c parent name)

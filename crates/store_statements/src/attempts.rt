@@ -58,7 +58,7 @@ fn attempt_command(
     check_room(stores, caller);
     match command {
         Command::CreateTable(name, columns, by) => {
-            create_table(alloc, stores, caller, name, columns, by)
+            create_table(alloc, stores, names, caller, name, columns, by)
         }
         Command::CreatePartition(name, parent, bound, by) => {
             create_partition(alloc, stores, names, caller, name, parent, bound, by)

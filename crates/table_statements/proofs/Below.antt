@@ -85,7 +85,7 @@ none_mapped : {X Y : Type 0} (f : X → Y) (o : Option X) → option_map f o ≡
 none_mapped f None e = refl
 none_mapped f (Some x) e = absurd (let c = e in cc)
 
-mapped_to : {X Y : Type 0} (f : X → Y) (o : Option X) (y : Y) → option_map f o ≡ Some y → (x : X) × (o ≡ Some x) × (f x ≡ y)
+pub mapped_to : {X Y : Type 0} (f : X → Y) (o : Option X) (y : Y) → option_map f o ≡ Some y → (x : X) × (o ≡ Some x) × (f x ≡ y)
 mapped_to f None y e = absurd (let c = e in cc)
 mapped_to f (Some x) y e = (x, refl, let c = e in cc)
 

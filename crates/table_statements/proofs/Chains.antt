@@ -24,13 +24,12 @@ use Rattle.sql_commands.specs.declared.lists.ColumnDefinition.{ColumnDefinition}
 use Rattle.sql_commands.specs.declared.lists.Partitioning.{Partitioning}
 use Rattle.table_binder.specs.Bounds.{bound_for}
 use Rattle.table_binder.specs.Partitionings.{Key, key_of, bound_key}
-use Rattle.table_statements.specs.Asked.{MayBeMade}
 use Rattle.table_statements.specs.Partitions.{Place, place_with, placed_bound, partition_place, beside_default}
-use Rattle.table_statements.specs.Refused.{next_answer, unless_faults, free_name}
+use Rattle.table_statements.specs.Refused.{next_answer, unless_faults}
 use Rattle.table_statements.specs.Seen.{seen_place}
 use Rattle.table_statements.specs.declared.partitions.Place.{Place as HeldPlace}
 use Rattle.table_statements.specs.Tables.{Plan, level_of, level_with, some_level, level_by, plan_with, columns_and_key, table_plan}
-use Rattle.table_statements.proofs.Firsts.{past_ok, past_none, both_told, none_told, may_be_made}
+use Rattle.table_statements.proofs.Firsts.{past_ok, past_none, none_told}
 
 -- ---- the level of a table
 
@@ -62,10 +61,8 @@ plan_told definitions by columns cs level a b =
     ap (λ (x : Result (List Column) Fault). next_answer x (λ columns. next_answer (level_by columns by) (plan_with columns))) a
     ∙ ap (λ (x : Result (Option Level) Fault). next_answer x (plan_with cs)) b
 
-pub plan_may : (h : History) (s : ℕ) (name : List ℕ) (definitions : List ColumnDefinition) (by : Option Partitioning) (p : Plan) → table_plan h s name definitions by ≡ Ok p → MayBeMade h s name
-plan_may h s name definitions by p e =
-    let first = both_told (free_name h s name) (λ u. unless_faults (count_faults h) (columns_and_key definitions by)) p e in
-    may_be_made h s name first.0 first.1 (none_told (count_faults h) (columns_and_key definitions by) p first.2).0
+pub plan_few : (h : History) (definitions : List ColumnDefinition) (by : Option Partitioning) (p : Plan) → table_plan h definitions by ≡ Ok p → count_faults h ≡ []
+plan_few h definitions by p e = (none_told (count_faults h) (columns_and_key definitions by) p e).0
 
 -- ---- the place of a partition
 
@@ -83,28 +80,22 @@ after_bound h s p by bound = next_answer (level_by (made_at h p).columns by) (af
 abbrev pub after_count : History → (s p : ℕ) → Bound → Option Partitioning → Level → Result Place Fault
 after_count h s p b by level = next_answer (placed_bound h s p level b) (after_bound h s p by)
 
-abbrev pub after_free : History → (s p : ℕ) → Bound → Option Partitioning → Level → Unit {0} → Result Place Fault
-after_free h s p b by level u = unless_faults (count_faults h) (after_count h s p b by level)
+abbrev pub after_level : History → (s p : ℕ) → Bound → Option Partitioning → Level → Result Place Fault
+after_level h s p b by level = unless_faults (count_faults h) (after_count h s p b by level)
 
-abbrev pub after_level : History → (s : ℕ) → (name : List ℕ) → (p : ℕ) → Bound → Option Partitioning → Level → Result Place Fault
-after_level h s name p b by level = next_answer (free_name h s name) (after_free h s p b by level)
+module _ (r : Result HeldPlace Refusal) (h : History) (s p : ℕ) (b : Bound) (by : Option Partitioning) where
+  pub past_level : (level : Level) → level_at h p ≡ Ok level → IsAnswerBy seen_place r (after_level h s p b by level) → IsAnswerBy seen_place r (partition_place h s p b by)
+  past_level level e is = past_ok seen_place r (level_at h p) level (after_level h s p b by) e is
 
-module _ (r : Result HeldPlace Refusal) (h : History) (s : ℕ) (name : List ℕ) (p : ℕ) (b : Bound) (by : Option Partitioning) where
-  pub past_level : (level : Level) → level_at h p ≡ Ok level → IsAnswerBy seen_place r (after_level h s name p b by level) → IsAnswerBy seen_place r (partition_place h s name p b by)
-  past_level level e is = past_ok seen_place r (level_at h p) level (after_level h s name p b by) e is
+  pub past_count : (level : Level) → level_at h p ≡ Ok level → count_faults h ≡ [] → IsAnswerBy seen_place r (after_count h s p b by level) → IsAnswerBy seen_place r (partition_place h s p b by)
+  past_count level e few is = past_level level e (past_none seen_place r (count_faults h) (after_count h s p b by level) few is)
 
-  pub past_free : (level : Level) → level_at h p ≡ Ok level → free_name h s name ≡ Ok tt → IsAnswerBy seen_place r (unless_faults (count_faults h) (after_count h s p b by level)) → IsAnswerBy seen_place r (partition_place h s name p b by)
-  past_free level e free is = past_level level e (past_ok seen_place r (free_name h s name) tt (after_free h s p b by level) free is)
-
-  pub past_count : (level : Level) → level_at h p ≡ Ok level → free_name h s name ≡ Ok tt → count_faults h ≡ [] → IsAnswerBy seen_place r (after_count h s p b by level) → IsAnswerBy seen_place r (partition_place h s name p b by)
-  past_count level e free few is = past_free level e free (past_none seen_place r (count_faults h) (after_count h s p b by level) few is)
-
-  pub past_bound : (level : Level) (bound : MeantBound) → level_at h p ≡ Ok level → free_name h s name ≡ Ok tt → count_faults h ≡ [] → bound_for level b ≡ Ok bound → place_faults h s p bound 1 ≡ [] → IsAnswerBy seen_place r (after_bound h s p by bound)
-      → IsAnswerBy seen_place r (partition_place h s name p b by)
-  past_bound level bound e free few meant none is =
+  pub past_bound : (level : Level) (bound : MeantBound) → level_at h p ≡ Ok level → count_faults h ≡ [] → bound_for level b ≡ Ok bound → place_faults h s p bound 1 ≡ [] → IsAnswerBy seen_place r (after_bound h s p by bound)
+      → IsAnswerBy seen_place r (partition_place h s p b by)
+  past_bound level bound e few meant none is =
       let placed : placed_bound h s p level b ≡ Ok bound =
       ap (λ (a : Result MeantBound Fault). next_answer a (λ x. unless_faults (place_faults h s p x 1) (Ok x))) meant ∙ ap (λ (fs : List Fault). unless_faults fs (Ok bound)) none in
-      past_count level e free few (past_ok seen_place r (placed_bound h s p level b) bound (after_bound h s p by) placed is)
+      past_count level e few (past_ok seen_place r (placed_bound h s p level b) bound (after_bound h s p by) placed is)
 
 -- the bound is refused, or its place
 pub bound_refused : (h : History) (s p : ℕ) (level : Level) (b : Bound) (r : Refusal) → IsAnswer {T = MeantBound} (Err r) (bound_for level b) → IsAnswer {T = MeantBound} (Err r) (placed_bound h s p level b)

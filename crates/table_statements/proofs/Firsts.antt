@@ -1,6 +1,6 @@
 -- The first of several refusals, and what an answer makes of a part.
-use Rattle.std.proofs.Common.{◌≡◌, ℕ, ◌<◌, Bool, true, false, List, [], ◌∷◌, refl, sym, ap, subst, ◌∙◌, arith, Option, Some, None, Result, Ok, Err}
-use Rattle.std.specs.Prelude.{is_none, nat_lt, codes}
+use Rattle.std.proofs.Common.{◌≡◌, ℕ, ◌<◌, Bool, true, false, List, [], ◌∷◌, refl, sym, ap, subst, arith, Option, Some, None, Result, Ok, Err}
+use Rattle.std.specs.Prelude.{is_none, nat_lt}
 use Rattle.std.proofs.lemmas.Bool.Decides.{nat_tests}
 use Rattle.pg_values.specs.Refusals.{IsAnswer}
 use Rattle.pg_values.specs.declared.fault.Fault.{Fault}
@@ -9,10 +9,9 @@ use Rattle.pg_values.specs.declared.fault.Refusal.TheVariants.{Sql, NoMemory}
 use Rattle.pg_ids.specs.declared.which.Which.TheVariants.{Tables}
 use Rattle.part_bounds.specs.Checks.{or_first, unless}
 use Rattle.history.specs.History.{History}
-use Rattle.part_catalog.specs.Found.{resolved, taken_by, table_number}
-use Rattle.part_ddl.specs.Faults.{table_is_there, too_many}
-use Rattle.part_ddl.specs.Tables.{name_faults, count_faults}
-use Rattle.expression_binder.specs.Faults.{left_out}
+use Rattle.part_catalog.specs.Found.{table_number}
+use Rattle.part_ddl.specs.Faults.{too_many}
+use Rattle.part_ddl.specs.Tables.{count_faults}
 use Rattle.expression_binder.specs.Firsts.{IsAnswerBy}
 use Rattle.stores.specs.Stand.{Stands}
 use Rattle.stores.specs.declared.stores.Stores.{Stores}
@@ -20,11 +19,10 @@ use Rattle.course.specs.Attempts.{MayAttempt}
 use Rattle.course.specs.Made.{Made}
 use Rattle.course.specs.declared.caller.Caller.{Caller}
 use Rattle.course.specs.declared.stop.Stop.{Stop}
-use Rattle.statement_steps.specs.Steps.{IsTold, IsStep, follow}
+use Rattle.statement_steps.specs.Steps.{IsTold, IsStep}
 use Rattle.statement_steps.proofs.Parts.{stays, nothing_done, refused_here, no_memory}
-use Rattle.statement_steps.proofs.Steps.{stop_step}
-use Rattle.table_statements.specs.Asked.{MayBeMade, stopped}
-use Rattle.table_statements.specs.Refused.{next_answer, unless_faults, answered, control_faults, in_control, taken_faults, free_name}
+use Rattle.table_statements.specs.Asked.{stopped}
+use Rattle.table_statements.specs.Refused.{next_answer, unless_faults, answered}
 
 -- ---- answers
 
@@ -70,39 +68,12 @@ none_told (f ∷ fs) w y e = absurd (let c = e in cc)
 
 -- ---- names
 
-pub free_none : (h : History) (s : ℕ) (name : List ℕ) (u : Unit {0}) → or_first (name_faults h s name) u ≡ Ok u → taken_by h s name ≡ None → free_name h s name ≡ Ok tt
-free_none h s name u first none =
-    ap (λ (fs : List Fault). unless_faults fs (unless_faults (taken_faults (taken_by h s name)) (Ok tt))) (none_first (name_faults h s name) u first)
-    ∙ ap (λ (o : Option ℕ). unless_faults (taken_faults o) (Ok tt)) none
-
-pub free_taken : (h : History) (s : ℕ) (name : List ℕ) (u : Unit {0}) (x : ℕ) (f : Fault) → or_first (name_faults h s name) u ≡ Ok u → taken_by h s name ≡ Some x → f ≡ left_out (codes "CREATE") → free_name h s name ≡ Err f
-free_taken h s name u x f first some is =
-    ap (λ (fs : List Fault). unless_faults fs (unless_faults (taken_faults (taken_by h s name)) (Ok tt))) (none_first (name_faults h s name) u first)
-    ∙ (ap (λ (o : Option ℕ). unless_faults (taken_faults o) (Ok tt)) some
-    ∙ ap Err (sym is))
-
-pub name_refused : (h : History) (s : ℕ) (name : List ℕ) (r : Refusal) → IsAnswer {T = Unit {0}} (Err r) (or_first (name_faults h s name) tt) → IsAnswer {T = Unit {0}} (Err r) (free_name h s name)
-name_refused h s name r e =
-    to_answer (Err r) (free_name h s name) (stops_first (λ (x : Unit {0}). x) r (name_faults h s name) (unless_faults (taken_faults (taken_by h s name)) (Ok tt)) tt e)
-
-none_there : (o : Option ℕ) (f : Fault) → unless (is_none o) f ≡ [] → o ≡ None
+-- no table of the name is there
+pub none_there : (o : Option ℕ) (f : Fault) → unless (is_none o) f ≡ [] → o ≡ None
 none_there None f e = refl
 none_there (Some t) f e = absurd (let c = e in cc)
 
-none_taken : (o : Option ℕ) → taken_faults o ≡ [] → o ≡ None
-none_taken None e = refl
-none_taken (Some s) e = absurd (let c = e in cc)
-
-pub may_be_made : (h : History) (s : ℕ) (name : List ℕ) (u : Unit {0}) → free_name h s name ≡ Ok u → count_faults h ≡ [] → MayBeMade h s name
-may_be_made h s name u e few =
-    let rest = unless_faults (taken_faults (taken_by h s name)) (Ok tt) in
-    let first = none_told (name_faults h s name) rest u e in
-    let second = none_told (taken_faults (taken_by h s name)) (Ok tt) u first.1 in
-    record {
-      free = none_there (resolved h s name) (table_is_there name) first.0;
-      unclaimed = none_taken (taken_by h s name) second.0;
-      few = few;
-    }
+-- ---- the count of tables
 
 below_limit : (n m : ℕ) (f : Fault) (b : Bool) → nat_lt n m ≡ b → unless b f ≡ [] → n < m
 below_limit n m f true is none = grind (arith, nat_tests, is)
@@ -130,14 +101,3 @@ same_step view r old new caller n f g same step = record {
   keeps = step.keeps;
   waits = step.waits;
 }
-
--- ---- the control session alone
-
-pub in_control_step : (word : List ℕ) (stores : Stores) (caller : Caller) (u : Unit {0}) → MayAttempt stores caller → unless_faults (control_faults word caller.session) (Ok u) ≡ Ok u → IsStep (λ (x : Unit {0}). x) (Ok u) stores stores caller caller.cmd (in_control word caller.session)
-in_control_step word stores caller u may is = answered_done (λ (x : Unit {0}). x) u stores caller (λ h. unless_faults (control_faults word caller.session) (Ok tt)) may (λ h stands. is)
-
-pub not_in_control : {U : Type 0} (word : List ℕ) (r : Refusal) (stores : Stores) (caller : Caller) (n : ℕ) (next : Unit {0} → History → Made U) (view : U → U) → MayAttempt stores caller → IsAnswer {T = Unit {0}} (Err r) (unless_faults (control_faults word caller.session) (Ok tt))
-    → IsStep view (Err (stopped r)) stores stores caller n (follow (in_control word caller.session) next)
-not_in_control {U} word r stores caller n next view may is =
-    stop_step (λ (x : Unit {0}). x) view (stopped r) stores stores caller n caller.cmd (in_control word caller.session) next
-    (answered_refused (λ (x : Unit {0}). x) r stores caller caller.cmd (λ h. unless_faults (control_faults word caller.session) (Ok tt)) may (λ h stands. by_view (λ (x : Unit {0}). x) r (unless_faults (control_faults word caller.session) (Ok tt)) is))

@@ -51,8 +51,8 @@ is_new h s name columns level by cmd at mine fit may = record {
   command = commands_are_in_order h s by.number cmd at mine;
   number = refl;
   keys = keys_lie h columns level fit;
-  free = may.free;
-  unclaimed = may.unclaimed;
+  free = may.free.absent;
+  unclaimed = may.free.unclaimed;
 }
 
 leaves_there : LeavesAreHoused → (h : History) → IsGood h → LeavesAreThere h

@@ -1,4 +1,5 @@
 pub mod Chains
+pub mod Taken
 pub mod Below
 pub mod Deeds
 pub mod Dropping

@@ -34,10 +34,14 @@ use Rattle.table_statements.specs.Drops.{parent_in, default_beside}
 
 -- ---- tables that are made
 
--- no table of the name is there for the session, nobody else has made one, and there is room for one more
-pub record MayBeMade (h : History) (session : ℕ) (name : List ℕ) : Type 0 where
-  pub free : resolved h session name ≡ None
+-- no table of the name is there for the session, and no other open transaction has made one
+pub record IsFree (h : History) (session : ℕ) (name : List ℕ) : Type 0 where
+  pub absent : resolved h session name ≡ None
   pub unclaimed : taken_by h session name ≡ None
+
+-- and there is room for one more
+pub record MayBeMade (h : History) (session : ℕ) (name : List ℕ) : Type 0 where
+  pub free : IsFree h session name
   pub few : count_faults h ≡ []
 
 -- a new partition has a place below the parent, beside no default partition

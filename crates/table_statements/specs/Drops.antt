@@ -1,5 +1,5 @@
 -- DROP TABLE of a session (the manual, DROP TABLE; 13.3.1 Table-Level Locks).
-use Rattle.std.specs.Prelude.{ℕ, ◌==◌, Bool, true, false, if◌then◌else◌, List, [], ◌∷◌, ◌++◌, Option, Some, None, map, codes}
+use Rattle.std.specs.Prelude.{ℕ, ◌==◌, Bool, true, false, if◌then◌else◌, List, [], ◌∷◌, ◌++◌, Option, Some, None, map}
 use Rattle.pg_ids.specs.declared.ids.TableNo.{TableNo}
 use Rattle.pg_ids.specs.declared.lock_mode.LockMode.TheVariants.{AccessExclusive}
 use Rattle.history.specs.declared.catalogue.Stamp.{Stamp}
@@ -15,7 +15,6 @@ use Rattle.course.specs.declared.caller.Caller.{Caller}
 use Rattle.statement_steps.specs.Asks.{held_at, all_locked}
 use Rattle.statement_steps.specs.Faults.{no_table}
 use Rattle.statement_steps.specs.Steps.{follow}
-use Rattle.table_statements.specs.Refused.{in_control}
 use Rattle.table_statements.specs.Tables.{own}
 
 -- ---- the locks: the table above, the table and those under it, and the default partition beside it
@@ -80,7 +79,4 @@ locked_and_dropped names caller if_there tables = follow (found_all names caller
 
 -- DROP TABLE [ IF EXISTS ] tables
 abbrev pub dropped : (names : List (List ℕ)) → Caller → (if_there : Bool) → (tables : List (List ℕ)) → History → Made (Unit {0})
-dropped names caller if_there tables =
-    follow (in_control (codes "DROP") caller.session) (λ u.
-    follow (held_at caller.level caller.session caller.cmd) (λ v.
-    locked_and_dropped names caller if_there tables))
+dropped names caller if_there tables = follow (held_at caller.level caller.session caller.cmd) (λ u. locked_and_dropped names caller if_there tables)

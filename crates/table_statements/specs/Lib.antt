@@ -1,4 +1,5 @@
 pub mod Refused
+pub mod Claims
 pub mod Tables
 pub mod Partitions
 pub mod Drops

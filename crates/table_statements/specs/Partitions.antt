@@ -19,7 +19,8 @@ use Rattle.course.specs.Made.{Made, made}
 use Rattle.course.specs.declared.caller.Caller.{Caller}
 use Rattle.statement_steps.specs.Asks.{named, held_at, all_locked}
 use Rattle.statement_steps.specs.Steps.{follow}
-use Rattle.table_statements.specs.Refused.{next_answer, unless_faults, answered, in_control, free_name}
+use Rattle.table_statements.specs.Claims.{name_claimed}
+use Rattle.table_statements.specs.Refused.{next_answer, unless_faults, answered}
 use Rattle.table_statements.specs.Tables.{level_by, own}
 
 -- ---- the default partition beside it
@@ -51,28 +52,40 @@ place_with bound level = Ok (record { bound = bound; level = level })
 abbrev pub placed_bound : History → (session parent : ℕ) → Level → Bound → Result MeantBound Fault
 placed_bound h s p level b = next_answer (bound_for level b) (λ bound. unless_faults (place_faults h s p bound 1) (Ok bound))
 
--- the first refusal: the parent, the name, the count of tables, the bound, its own key, the rows of the default partition
-abbrev pub partition_place : History → (session : ℕ) → (name : List ℕ) → (parent : ℕ) → Bound → Option Partitioning → Result Place Fault
-partition_place h s name p b by =
+-- the first refusal: the parent, the count of tables, the bound, its own key, the rows of the default partition
+abbrev pub partition_place : History → (session parent : ℕ) → Bound → Option Partitioning → Result Place Fault
+partition_place h s p b by =
     next_answer (level_at h p) (λ level.
-    next_answer (free_name h s name) (λ u.
     unless_faults (count_faults h) (
     next_answer (placed_bound h s p level b) (λ bound.
     next_answer (level_by (made_at h p).columns by) (λ own_level.
-    unless_faults (beside_default (default_of h s p)) (place_with bound own_level))))))
+    unless_faults (beside_default (default_of h s p)) (place_with bound own_level)))))
 
-abbrev pub place_found : (session : ℕ) → (name : List ℕ) → (parent : ℕ) → Bound → Option Partitioning → History → Made Place
-place_found s name p b by h = answered (partition_place h s name p b by)
+abbrev pub place_found : (session parent : ℕ) → Bound → Option Partitioning → History → Made Place
+place_found s p b by h = answered (partition_place h s p b by)
 
 abbrev pub partition_made : Caller → (name : List ℕ) → (parent : ℕ) → Place → History → Made (Unit {0})
 partition_made caller name p place h = made (partition_events h name p place.bound place.level (own h caller.session) caller.cmd) tt
 
 abbrev pub placed_and_made : Caller → (name : List ℕ) → (parent : ℕ) → Bound → Option Partitioning → History → Made (Unit {0})
-placed_and_made caller name p b by = follow (place_found caller.session name p b by) (λ place. partition_made caller name p place)
+placed_and_made caller name p b by = follow (place_found caller.session p b by) (λ place. partition_made caller name p place)
+
+-- that the parent is partitioned, and the name, come before its place
+abbrev pub level_there : Level → Result (Unit {0}) Fault
+level_there level = Ok tt
+
+abbrev pub parent_tested : (parent : ℕ) → History → Made (Unit {0})
+parent_tested p h = answered (next_answer (level_at h p) level_there)
+
+abbrev pub claimed_and_placed : (names : List (List ℕ)) → Caller → (name : List ℕ) → (parent : ℕ) → Bound → Option Partitioning → History → Made (Unit {0})
+claimed_and_placed names caller name p b by = follow (name_claimed names caller.session name) (λ u. placed_and_made caller name p b by)
+
+abbrev pub claimed_and_made : (names : List (List ℕ)) → Caller → (name : List ℕ) → (parent : ℕ) → Bound → Option Partitioning → History → Made (Unit {0})
+claimed_and_made names caller name p b by = follow (parent_tested p) (λ u. claimed_and_placed names caller name p b by)
 
 -- the default partition of the parent is locked
 abbrev pub made_beside : (names : List (List ℕ)) → Caller → (name : List ℕ) → (parent : ℕ) → Bound → Option Partitioning → History → Made (Unit {0})
-made_beside names caller name p b by = follow (default_locked names caller.session p) (λ u. placed_and_made caller name p b by)
+made_beside names caller name p b by = follow (default_locked names caller.session p) (λ u. claimed_and_made names caller name p b by)
 
 -- the parent is locked, then its default partition
 abbrev pub made_below : (names : List (List ℕ)) → Caller → (name parent : List ℕ) → Bound → Option Partitioning → History → Made (Unit {0})
@@ -81,7 +94,4 @@ made_below names caller name parent b by =
 
 -- CREATE TABLE name PARTITION OF parent bound [ PARTITION BY .. ]
 abbrev pub partitioned : (names : List (List ℕ)) → Caller → (name parent : List ℕ) → Bound → Option Partitioning → History → Made (Unit {0})
-partitioned names caller name parent b by =
-    follow (in_control (codes "CREATE") caller.session) (λ u.
-    follow (held_at caller.level caller.session caller.cmd) (λ v.
-    made_below names caller name parent b by))
+partitioned names caller name parent b by = follow (held_at caller.level caller.session caller.cmd) (λ u. made_below names caller name parent b by)

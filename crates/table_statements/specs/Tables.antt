@@ -1,5 +1,5 @@
 -- CREATE TABLE of a session (the manual, CREATE TABLE; 5.11.2 Declarative Partitioning).
-use Rattle.std.specs.Prelude.{◌≡◌, ℕ, List, [], ◌∷◌, Option, Some, None, Result, Ok, Err, length, codes}
+use Rattle.std.specs.Prelude.{◌≡◌, ℕ, List, [], ◌∷◌, Option, Some, None, Result, Ok, Err, length}
 use mathlib.Core.Path.{refl, subst}
 use Rattle.pg_values.specs.declared.fault.Fault.{Fault}
 use Rattle.part_bounds.specs.declared.level.KeyColumn.{KeyColumn}
@@ -20,7 +20,8 @@ use Rattle.course.specs.Made.{Made, made}
 use Rattle.course.specs.declared.caller.Caller.{Caller}
 use Rattle.statement_steps.specs.Asks.{held_at}
 use Rattle.statement_steps.specs.Steps.{follow}
-use Rattle.table_statements.specs.Refused.{next_answer, unless_faults, answered, in_control, free_name}
+use Rattle.table_statements.specs.Claims.{name_claimed}
+use Rattle.table_statements.specs.Refused.{next_answer, unless_faults, answered}
 
 -- ---- how a table is partitioned
 
@@ -52,7 +53,7 @@ level_by columns (Some by) = next_answer (next_answer (bound_key columns by) lev
 abbrev pub own : History → (session : ℕ) → TxId
 own h s = record { number = tx_in h s }
 
--- what a new table has, or the first refusal: its name, the count of tables, its columns, its key
+-- what a new table has, or the first refusal: the count of tables, its columns, its key
 pub record Plan : Type 0 where
   pub columns : List Column
   pub level : Option Level
@@ -63,21 +64,22 @@ plan_with columns level = Ok (record { columns = columns; level = level })
 abbrev pub columns_and_key : List ColumnDefinition → Option Partitioning → Result Plan Fault
 columns_and_key definitions by = next_answer (bound_columns definitions) (λ columns. next_answer (level_by columns by) (plan_with columns))
 
-abbrev pub table_plan : History → (session : ℕ) → (name : List ℕ) → List ColumnDefinition → Option Partitioning → Result Plan Fault
-table_plan h s name definitions by = next_answer (free_name h s name) (λ u. unless_faults (count_faults h) (columns_and_key definitions by))
+abbrev pub table_plan : History → List ColumnDefinition → Option Partitioning → Result Plan Fault
+table_plan h definitions by = unless_faults (count_faults h) (columns_and_key definitions by)
 
-abbrev pub planned : (session : ℕ) → (name : List ℕ) → List ColumnDefinition → Option Partitioning → History → Made Plan
-planned s name definitions by h = answered (table_plan h s name definitions by)
+abbrev pub planned : List ColumnDefinition → Option Partitioning → History → Made Plan
+planned definitions by h = answered (table_plan h definitions by)
 
 abbrev pub table_made : Caller → (name : List ℕ) → Plan → History → Made (Unit {0})
 table_made caller name plan h = made (table_events h name plan.columns plan.level (own h caller.session) caller.cmd) tt
 
 abbrev pub planned_and_made : Caller → (name : List ℕ) → List ColumnDefinition → Option Partitioning → History → Made (Unit {0})
-planned_and_made caller name columns by = follow (planned caller.session name columns by) (λ plan. table_made caller name plan)
+planned_and_made caller name columns by = follow (planned columns by) (λ plan. table_made caller name plan)
+
+-- its name comes first
+abbrev pub claimed_and_made : (names : List (List ℕ)) → Caller → (name : List ℕ) → List ColumnDefinition → Option Partitioning → History → Made (Unit {0})
+claimed_and_made names caller name columns by = follow (name_claimed names caller.session name) (λ u. planned_and_made caller name columns by)
 
 -- CREATE TABLE name ( columns ) [ PARTITION BY .. ]
-abbrev pub created : Caller → (name : List ℕ) → List ColumnDefinition → Option Partitioning → History → Made (Unit {0})
-created caller name columns by =
-    follow (in_control (codes "CREATE") caller.session) (λ u.
-    follow (held_at caller.level caller.session caller.cmd) (λ v.
-    planned_and_made caller name columns by))
+abbrev pub created : (names : List (List ℕ)) → Caller → (name : List ℕ) → List ColumnDefinition → Option Partitioning → History → Made (Unit {0})
+created names caller name columns by = follow (held_at caller.level caller.session caller.cmd) (λ u. claimed_and_made names caller name columns by)

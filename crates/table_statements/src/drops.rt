@@ -14,7 +14,6 @@ ghost use Rattle.table_statements.specs.Drops as drops;
 ghost use Rattle.table_statements.specs.Drops.{dropped};
 
 use crate::partitions::tables_from;
-use crate::refused::{check_control, stop_by};
 use course::{Caller, Stop};
 use drop_laws::locked_tables_may_go;
 use history::TxId;
@@ -294,11 +293,8 @@ pub fn drop_tables(
     requires few { length stores.old.catalog.tables ≤ 4096 }
     ensures { IsStep (λ u. u) result stores.old stores.new caller (caller.cmd + 1) (dropped names.now caller if_there tables.now) }
 {
-    match check_control(alloc, b"DROP", caller.session) {
-        Ok(()) => match hold_if_repeatable(alloc, stores, caller) {
-            Ok(()) => lock_and_drop(alloc, stores, names, caller, if_there, tables),
-            Err(stop) => Err(stop),
-        },
-        Err(refusal) => Err(stop_by(refusal)),
+    match hold_if_repeatable(alloc, stores, caller) {
+        Ok(()) => lock_and_drop(alloc, stores, names, caller, if_there, tables),
+        Err(stop) => Err(stop),
     }
 }

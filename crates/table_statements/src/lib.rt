@@ -1,11 +1,12 @@
 //! CREATE TABLE, PARTITION OF and DROP TABLE of a session over the stores.
 //!
 //! Each statement locks what it needs first, tells the first of its refusals, and then changes the
-//! catalogue in one step. They stand in blocks of the control session alone, and are left out (0A000)
-//! elsewhere. A partition beside a default one is left out too, since the rows of that one are not
-//! scanned.
+//! catalogue in one step. A new table's name may have been given to one by another open transaction: then
+//! the statement waits for its end, and begins anew. A partition beside a default one is left out (0A000),
+//! since the rows of that one are not scanned.
 #![tactic(auto)]
 
+mod claims;
 mod drops;
 mod partitions;
 mod refused;

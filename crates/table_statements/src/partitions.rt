@@ -1,4 +1,4 @@
-ghost use Rattle.std.specs.Prelude.{◌≡◌, ◌+◌, ◌<◌, ◌≤◌, ℕ, IfOk, length};
+ghost use Rattle.std.specs.Prelude.{◌≡◌, ◌+◌, ◌<◌, ◌≤◌, ℕ, [], IfOk, length};
 ghost use Rattle.pg_values.specs.Refusals.{IsAnswer};
 ghost use Rattle.part_bounds.specs.Checks.{or_first};
 ghost use Rattle.history.specs.History.{History};
@@ -11,15 +11,17 @@ ghost use Rattle.part_catalog.specs.Stands.{CatalogueStands};
 ghost use Rattle.expression_binder.specs.Firsts.{IsAnswerBy};
 ghost use Rattle.part_ddl.specs.Below as below;
 ghost use Rattle.part_ddl.specs.Below.{IsTreeOf};
+ghost use Rattle.part_ddl.specs.Tables.{count_faults};
 ghost use Rattle.sql_commands.specs.Trees.{bound_tree};
 ghost use Rattle.course.specs.Attempts.{MayAttempt};
 ghost use Rattle.statement_steps.specs.Steps.{IsStep};
 ghost use Rattle.table_statements.specs.Partitions as partitions;
 ghost use Rattle.table_statements.specs.Partitions.{partitioned, partition_place};
-ghost use Rattle.table_statements.specs.Asked.{IsLockedNamed, MayBeMade, MayBePlaced, family_of};
+ghost use Rattle.table_statements.specs.Asked.{IsFree, IsLockedNamed, MayBeMade, MayBePlaced, family_of};
 ghost use Rattle.table_statements.specs.Seen.{seen_place};
 
-use crate::refused::{check_control, check_free, stop_by};
+use crate::claims::claim_name;
+use crate::refused::stop_by;
 use crate::tables::level_by;
 use course::{Caller, Stop};
 use expression_binder::left_out;
@@ -147,7 +149,6 @@ fn place_of(
     catalog: &Catalog,
     txs: &TxTable,
     session: u32,
-    name: &[u8],
     parent: TableNo,
     tree: &Tree,
     bound: &BoundText,
@@ -157,12 +158,11 @@ fn place_of(
     requires siblings { AreTogether txs.now catalog.now session }
     requires tree { IsTreeOf txs.now catalog.now session parent.number (seen tree.now) }
     ensures answer { (h : History) → TableStands txs.now h → CatalogueStands catalog.now h →
-        IsAnswerBy seen_place result (partition_place h session name.now parent.number (bound_tree bound.now) by.now) }
-    ensures free { IfOk result (λ place. (h : History) → TableStands txs.now h → CatalogueStands catalog.now h → MayBeMade h session name.now) }
+        IsAnswerBy seen_place result (partition_place h session parent.number (bound_tree bound.now) by.now) }
+    ensures few { IfOk result (λ place. (h : History) → CatalogueStands catalog.now h → count_faults h ≡ []) }
     ensures may { IfOk result (λ place. (h : History) → TableStands txs.now h → CatalogueStands catalog.now h → MayBePlaced h session parent.number place.bound place.level) }
 {
     let above = parent_level(alloc, catalog, parent)?;
-    check_free(alloc, catalog, txs, session, name)?;
     check_count(alloc, catalog)?;
     let bound = bind_bound(alloc, bound, above)?;
     check_place(alloc, catalog, txs, parent, tree, &bound, session)?;
@@ -176,7 +176,6 @@ fn place_found(
     alloc: Global,
     stores: &Stores,
     caller: Caller,
-    name: &[u8],
     parent: TableNo,
     tree: &Tree,
     bound: &BoundText,
@@ -185,23 +184,13 @@ fn place_found(
     requires may { MayAttempt stores.now caller }
     requires known { parent.number < length stores.now.catalog.tables }
     requires tree { IsTreeOf stores.now.txs stores.now.catalog caller.session parent.number (seen tree.now) }
-    ensures step { IsStep seen_place result stores.now stores.now caller caller.cmd (partitions.place_found caller.session name.now parent.number (bound_tree bound.now) by.now) }
-    ensures free { IfOk result (λ place. (h : History) → TableStands stores.now.txs h → CatalogueStands stores.now.catalog h → MayBeMade h caller.session name.now) }
+    ensures step { IsStep seen_place result stores.now stores.now caller caller.cmd (partitions.place_found caller.session parent.number (bound_tree bound.now) by.now) }
+    ensures few { IfOk result (λ place. (h : History) → CatalogueStands stores.now.catalog h → count_faults h ≡ []) }
     ensures may { IfOk result (λ place. (h : History) → TableStands stores.now.txs h → CatalogueStands stores.now.catalog h → MayBePlaced h caller.session parent.number place.bound place.level) }
 {
     trees_are_together();
     let Stores { txs, catalog, .. } = stores;
-    match place_of(
-        alloc,
-        catalog,
-        txs,
-        caller.session,
-        name,
-        parent,
-        tree,
-        bound,
-        by,
-    ) {
+    match place_of(alloc, catalog, txs, caller.session, parent, tree, bound, by) {
         Ok(place) => Ok(place),
         Err(refusal) => Err(stop_by(refusal)),
     }
@@ -261,22 +250,72 @@ fn place_and_make(
     requires may { MayAttempt stores.old caller }
     requires parent { IsLockedNamed stores.old caller.session parent.number }
     requires tree { IsTreeOf stores.old.txs stores.old.catalog caller.session parent.number (seen tree.now) }
+    requires free { (h : History) → TableStands stores.old.txs h → CatalogueStands stores.old.catalog h → IsFree h caller.session name.now }
     ensures { IsStep (λ u. u) result stores.old stores.new caller (caller.cmd + 1) (partitions.placed_and_made caller name.now parent.number (bound_tree bound.now) by.now) }
 {
-    match place_found(
-        alloc,
-        stores,
-        caller,
-        name.as_bytes(),
-        parent,
-        tree,
-        bound,
-        by,
-    ) {
+    match place_found(alloc, stores, caller, parent, tree, bound, by) {
         Ok(place) => match name.copy(alloc) {
             Ok(name) => make_placed(alloc, stores, caller, name, parent, place),
             Err(NoMemory) => Err(Stop::NoMemory),
         },
+        Err(stop) => Err(stop),
+    }
+}
+
+// A part: the parent is partitioned.
+fn check_parent(alloc: Global, stores: &Stores, caller: Caller, parent: TableNo) -> Result<(), Stop>
+    requires may { MayAttempt stores.now caller }
+    requires known { parent.number < length stores.now.catalog.tables }
+    ensures { IsStep (λ u. u) result stores.now stores.now caller caller.cmd (partitions.parent_tested parent.number) }
+{
+    match parent_level(alloc, &stores.catalog, parent) {
+        Ok(_) => Ok(()),
+        Err(refusal) => Err(stop_by(refusal)),
+    }
+}
+
+// The table gets its name, and is made in its place.
+fn claim_and_place(
+    alloc: Global,
+    stores: &mut Stores,
+    names: &SessionNames,
+    caller: Caller,
+    name: &PgText,
+    parent: TableNo,
+    tree: &Tree,
+    bound: &BoundText,
+    by: &Option<Partitioning>,
+) -> Result<(), Stop>
+    requires may { MayAttempt stores.old caller }
+    requires parent { IsLockedNamed stores.old caller.session parent.number }
+    requires tree { IsTreeOf stores.old.txs stores.old.catalog caller.session parent.number (seen tree.now) }
+    ensures { IsStep (λ u. u) result stores.old stores.new caller (caller.cmd + 1) (partitions.claimed_and_placed names.now caller name.now parent.number (bound_tree bound.now) by.now) }
+{
+    match claim_name(alloc, stores, names, caller, name.as_bytes()) {
+        Ok(()) => place_and_make(alloc, stores, caller, name, parent, tree, bound, by),
+        Err(stop) => Err(stop),
+    }
+}
+
+// So it is where the parent is partitioned.
+fn claim_and_make(
+    alloc: Global,
+    stores: &mut Stores,
+    names: &SessionNames,
+    caller: Caller,
+    name: &PgText,
+    parent: TableNo,
+    tree: &Tree,
+    bound: &BoundText,
+    by: &Option<Partitioning>,
+) -> Result<(), Stop>
+    requires may { MayAttempt stores.old caller }
+    requires parent { IsLockedNamed stores.old caller.session parent.number }
+    requires tree { IsTreeOf stores.old.txs stores.old.catalog caller.session parent.number (seen tree.now) }
+    ensures { IsStep (λ u. u) result stores.old stores.new caller (caller.cmd + 1) (partitions.claimed_and_made names.now caller name.now parent.number (bound_tree bound.now) by.now) }
+{
+    match check_parent(alloc, stores, caller, parent) {
+        Ok(()) => claim_and_place(alloc, stores, names, caller, name, parent, tree, bound, by),
         Err(stop) => Err(stop),
     }
 }
@@ -300,7 +339,7 @@ fn create_beside(
     ensures { IsStep (λ u. u) result stores.old stores.new caller (caller.cmd + 1) (partitions.made_beside names.now caller name.now parent.number (bound_tree bound.now) by.now) }
 {
     match lock_default(alloc, stores, names, caller, parent, tree) {
-        Ok(()) => place_and_make(alloc, stores, caller, name, parent, tree, bound, by),
+        Ok(()) => claim_and_make(alloc, stores, names, caller, name, parent, tree, bound, by),
         Err(stop) => Err(stop),
     }
 }
@@ -355,7 +394,8 @@ fn create_below(
 
 /// CREATE TABLE, PARTITION OF. The parent is found (42P01) and locked in ACCESS EXCLUSIVE mode, and so are
 /// its default partition and the tables under that one. It is refused where the parent is not partitioned
-/// (42809), with 42P07, 54000 for tables, for its bound, for its own key, and beside a default partition.
+/// (42809) and with 42P07, waits where another open transaction has made a table of the name, and is then
+/// refused with 54000 for tables, for its bound, for its own key, and beside a default partition.
 pub fn create_partition(
     alloc: Global,
     stores: &mut Stores,
@@ -370,11 +410,8 @@ pub fn create_partition(
     requires few { length stores.old.catalog.tables ≤ 4096 }
     ensures { IsStep (λ u. u) result stores.old stores.new caller (caller.cmd + 1) (partitioned names.now caller name.now parent.now (bound_tree bound.now) by.now) }
 {
-    match check_control(alloc, b"CREATE", caller.session) {
-        Ok(()) => match hold_if_repeatable(alloc, stores, caller) {
-            Ok(()) => create_below(alloc, stores, names, caller, name, parent, bound, by),
-            Err(stop) => Err(stop),
-        },
-        Err(refusal) => Err(stop_by(refusal)),
+    match hold_if_repeatable(alloc, stores, caller) {
+        Ok(()) => create_below(alloc, stores, names, caller, name, parent, bound, by),
+        Err(stop) => Err(stop),
     }
 }

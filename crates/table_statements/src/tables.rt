@@ -1,18 +1,19 @@
-ghost use Rattle.std.specs.Prelude.{◌≡◌, ◌+◌, Ok, IfOk};
+ghost use Rattle.std.specs.Prelude.{◌≡◌, ◌+◌, [], Ok, IfOk};
 ghost use Rattle.pg_values.specs.Refusals.{IsAnswer};
 ghost use Rattle.history.specs.History.{History};
 ghost use Rattle.tx_table.specs.Stands.{TableStands};
 ghost use Rattle.part_catalog.specs.Stands.{CatalogueStands};
 ghost use Rattle.expression_binder.specs.Firsts.{IsAnswerBy};
-ghost use Rattle.part_ddl.specs.Tables.{KeysFit};
+ghost use Rattle.part_ddl.specs.Tables.{KeysFit, count_faults};
 ghost use Rattle.course.specs.Attempts.{MayAttempt};
 ghost use Rattle.statement_steps.specs.Steps.{IsStep};
-ghost use Rattle.table_statements.specs.Asked.{MayBeMade};
+ghost use Rattle.table_statements.specs.Asked.{IsFree, MayBeMade};
 ghost use Rattle.table_statements.specs.Tables as tables;
 ghost use Rattle.table_statements.specs.Seen.{seen_plan};
 ghost use Rattle.table_statements.specs.Tables.{created, table_plan};
 
-use crate::refused::{check_control, check_free, stop_by};
+use crate::claims::claim_name;
+use crate::refused::stop_by;
 use course::{Caller, Stop};
 use history::{Column, Columns};
 use legal_statements::{new_leaf_may_follow, new_level_may_follow};
@@ -21,11 +22,10 @@ use part_catalog::Catalog;
 use part_ddl::{check_count, make_table};
 use pg_values::{NoMemory, PgText, Refusal};
 use sql_commands::{ColumnList, Partitioning};
-use statement_steps::hold_if_repeatable;
+use statement_steps::{SessionNames, hold_if_repeatable};
 use std::alloc::Global;
 use stores::{Stores, leaves_are_housed};
 use table_binder::{bind_columns, bind_partitioning};
-use tx_table::TxTable;
 
 /// What a new table has.
 #[derive(Drop)]
@@ -66,36 +66,30 @@ fn columns_and_key(
 fn plan_of(
     alloc: Global,
     catalog: &Catalog,
-    txs: &TxTable,
-    session: u32,
-    name: &[u8],
     definitions: &ColumnList,
     by: &Option<Partitioning>,
 ) -> Result<Plan, Refusal>
-    ensures answer { (h : History) → TableStands txs.now h → CatalogueStands catalog.now h → IsAnswerBy seen_plan result (table_plan h session name.now definitions.now by.now) }
+    ensures answer { (h : History) → CatalogueStands catalog.now h → IsAnswerBy seen_plan result (table_plan h definitions.now by.now) }
     ensures fit { IfOk result (λ plan. KeysFit plan.columns plan.level) }
 {
-    check_free(alloc, catalog, txs, session, name)?;
     check_count(alloc, catalog)?;
     columns_and_key(alloc, definitions, by)
 }
 
-// A part: what the table has, and that it may be made.
+// A part: what the table has, and that there is room for it.
 fn planned(
     alloc: Global,
     stores: &Stores,
     caller: Caller,
-    name: &[u8],
     definitions: &ColumnList,
     by: &Option<Partitioning>,
 ) -> Result<Plan, Stop>
     requires { MayAttempt stores.now caller }
-    ensures step { IsStep seen_plan result stores.now stores.now caller caller.cmd (tables.planned caller.session name.now definitions.now by.now) }
+    ensures step { IsStep seen_plan result stores.now stores.now caller caller.cmd (tables.planned definitions.now by.now) }
     ensures fit { IfOk result (λ plan. KeysFit plan.columns plan.level) }
-    ensures new { IfOk result (λ plan. (h : History) → TableStands stores.now.txs h → CatalogueStands stores.now.catalog h → MayBeMade h caller.session name.now) }
+    ensures few { IfOk result (λ plan. (h : History) → CatalogueStands stores.now.catalog h → count_faults h ≡ []) }
 {
-    let Stores { txs, catalog, .. } = stores;
-    match plan_of(alloc, catalog, txs, caller.session, name, definitions, by) {
+    match plan_of(alloc, &stores.catalog, definitions, by) {
         Ok(plan) => Ok(plan),
         Err(refusal) => Err(stop_by(refusal)),
     }
@@ -137,10 +131,11 @@ fn plan_and_make(
     columns: &ColumnList,
     by: &Option<Partitioning>,
 ) -> Result<(), Stop>
-    requires { MayAttempt stores.old caller }
+    requires may { MayAttempt stores.old caller }
+    requires free { (h : History) → TableStands stores.old.txs h → CatalogueStands stores.old.catalog h → IsFree h caller.session name.now }
     ensures { IsStep (λ u. u) result stores.old stores.new caller (caller.cmd + 1) (tables.planned_and_made caller name.now columns.now by.now) }
 {
-    match planned(alloc, stores, caller, name.as_bytes(), columns, by) {
+    match planned(alloc, stores, caller, columns, by) {
         Ok(plan) => match name.copy(alloc) {
             Ok(name) => make_planned(alloc, stores, caller, name, plan),
             Err(NoMemory) => Err(Stop::NoMemory),
@@ -149,24 +144,42 @@ fn plan_and_make(
     }
 }
 
-/// CREATE TABLE with columns of its own. It is refused with 42P07, 54000 for tables and columns, 42701,
-/// 42704, and then for its key: 42P16, 54000, 42703.
-pub fn create_table(
+// It gets its name, and is made.
+fn claim_and_make(
     alloc: Global,
     stores: &mut Stores,
+    names: &SessionNames,
     caller: Caller,
     name: &PgText,
     columns: &ColumnList,
     by: &Option<Partitioning>,
 ) -> Result<(), Stop>
     requires { MayAttempt stores.old caller }
-    ensures { IsStep (λ u. u) result stores.old stores.new caller (caller.cmd + 1) (created caller name.now columns.now by.now) }
+    ensures { IsStep (λ u. u) result stores.old stores.new caller (caller.cmd + 1) (tables.claimed_and_made names.now caller name.now columns.now by.now) }
 {
-    match check_control(alloc, b"CREATE", caller.session) {
-        Ok(()) => match hold_if_repeatable(alloc, stores, caller) {
-            Ok(()) => plan_and_make(alloc, stores, caller, name, columns, by),
-            Err(stop) => Err(stop),
-        },
-        Err(refusal) => Err(stop_by(refusal)),
+    match claim_name(alloc, stores, names, caller, name.as_bytes()) {
+        Ok(()) => plan_and_make(alloc, stores, caller, name, columns, by),
+        Err(stop) => Err(stop),
+    }
+}
+
+/// CREATE TABLE with columns of its own. It is refused with 42P07 where a table of the name is there, waits
+/// where another open transaction has made one, and is then refused with 54000 for tables and columns,
+/// 42701, 42704, and for its key: 42P16, 54000, 42703.
+pub fn create_table(
+    alloc: Global,
+    stores: &mut Stores,
+    names: &SessionNames,
+    caller: Caller,
+    name: &PgText,
+    columns: &ColumnList,
+    by: &Option<Partitioning>,
+) -> Result<(), Stop>
+    requires { MayAttempt stores.old caller }
+    ensures { IsStep (λ u. u) result stores.old stores.new caller (caller.cmd + 1) (created names.now caller name.now columns.now by.now) }
+{
+    match hold_if_repeatable(alloc, stores, caller) {
+        Ok(()) => claim_and_make(alloc, stores, names, caller, name, columns, by),
+        Err(stop) => Err(stop),
     }
 }

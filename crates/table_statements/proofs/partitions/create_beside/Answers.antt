@@ -4,28 +4,28 @@ use Rattle.stores.specs.declared.stores.Stores.{Stores}
 use Rattle.table_trees.specs.Seen.{seen}
 use Rattle.part_ddl.specs.Below.{IsTreeOf}
 use Rattle.statement_steps.proofs.Steps.{then_step, stop_step, may_go_on}
-use Rattle.table_statements.specs.Partitions.{default_locked, placed_and_made}
+use Rattle.table_statements.specs.Partitions.{default_locked, claimed_and_made}
 use Rattle.table_statements.proofs.Held.{still_named}
 use Rattle.table_statements.proofs.partitions.create_beside.Goals as goal
 
-pub place_and_make-requires-clause-may : goal.place_and_make-requires-clause-may
-place_and_make-requires-clause-may c =
+pub claim_and_make-requires-clause-may : goal.claim_and_make-requires-clause-may
+claim_and_make-requires-clause-may c =
     may_go_on (λ (u : Unit {0}). u) tt c.args.stores.now c.lock_default.new.stores c.args.caller (default_locked c.args.names.now c.args.caller.session c.args.parent.number) c.requires.may c.in-Ok.ensures.step
 
-pub place_and_make-requires-clause-parent : goal.place_and_make-requires-clause-parent
-place_and_make-requires-clause-parent c =
+pub claim_and_make-requires-clause-parent : goal.claim_and_make-requires-clause-parent
+claim_and_make-requires-clause-parent c =
     still_named c.args.stores.now c.lock_default.new.stores c.args.caller.session c.args.parent.number c.lock_default.ensures.rest c.in-Ok.ensures.step.keeps.locks c.requires.parent
 
-pub place_and_make-requires-clause-tree : goal.place_and_make-requires-clause-tree
-place_and_make-requires-clause-tree c =
+pub claim_and_make-requires-clause-tree : goal.claim_and_make-requires-clause-tree
+claim_and_make-requires-clause-tree c =
     subst (λ (s : Stores). IsTreeOf s.txs s.catalog c.args.caller.session c.args.parent.number (seen c.args.tree.now)) (sym c.lock_default.ensures.rest) c.requires.tree
 
 pub returns-in-Ok : goal.returns-in-Ok
 returns-in-Ok c =
-    then_step (λ (u : Unit {0}). u) (λ (u : Unit {0}). u) tt c.place_and_make.result c.args.stores.now c.lock_default.new.stores c.place_and_make.new.stores c.args.caller (c.args.caller.cmd + 1)
-    (default_locked c.args.names.now c.args.caller.session c.args.parent.number) (λ u. placed_and_made c.args.caller c.args.name.now c.args.parent.number (bound_tree c.args.bound.now) c.args.by.now) c.in-Ok.ensures.step c.place_and_make.ensures
+    then_step (λ (u : Unit {0}). u) (λ (u : Unit {0}). u) tt c.claim_and_make.result c.args.stores.now c.lock_default.new.stores c.claim_and_make.new.stores c.args.caller (c.args.caller.cmd + 1)
+    (default_locked c.args.names.now c.args.caller.session c.args.parent.number) (λ u. claimed_and_made c.args.names.now c.args.caller c.args.name.now c.args.parent.number (bound_tree c.args.bound.now) c.args.by.now) c.in-Ok.ensures.step c.claim_and_make.ensures
 
 pub returns-in-Err : goal.returns-in-Err
 returns-in-Err c =
     stop_step (λ (u : Unit {0}). u) (λ (u : Unit {0}). u) c.in-Err.stop c.args.stores.now c.lock_default.new.stores c.args.caller (c.args.caller.cmd + 1) c.args.caller.cmd
-    (default_locked c.args.names.now c.args.caller.session c.args.parent.number) (λ u. placed_and_made c.args.caller c.args.name.now c.args.parent.number (bound_tree c.args.bound.now) c.args.by.now) c.in-Err.ensures.step
+    (default_locked c.args.names.now c.args.caller.session c.args.parent.number) (λ u. claimed_and_made c.args.names.now c.args.caller c.args.name.now c.args.parent.number (bound_tree c.args.bound.now) c.args.by.now) c.in-Err.ensures.step

@@ -1,4 +1,4 @@
-use Rattle.std.proofs.Common.{◌+◌, List, ℕ, sym, subst, Ok, Err}
+use Rattle.std.proofs.Common.{◌+◌, List, ℕ, sym, subst}
 use Rattle.history.specs.History.{History}
 use Rattle.tx_table.specs.Stands.{TableStands}
 use Rattle.part_catalog.specs.Stands.{CatalogueStands}
@@ -10,23 +10,16 @@ use Rattle.table_statements.specs.Asked.{MayBeMade}
 use Rattle.table_statements.specs.Seen.{seen_place}
 use Rattle.table_statements.specs.Partitions as partitions
 use Rattle.table_statements.proofs.partitions.place_and_make.Goals as goal
-use Rattle.table_statements.proofs.partitions.place_and_make.Goals.{In-Ok}
-
--- the same of the name
-found_step : (c : In-Ok) → IsStep seen_place (Ok c.in-Ok.place) c.args.stores.now c.args.stores.now c.args.caller c.args.caller.cmd (partitions.place_found c.args.caller.session c.args.name.now c.args.parent.number (bound_tree c.args.bound.now) c.args.by.now)
-found_step c = subst (λ (n : List ℕ). IsStep seen_place (Ok c.in-Ok.place) c.args.stores.now c.args.stores.now c.args.caller c.args.caller.cmd (partitions.place_found c.args.caller.session n c.args.parent.number (bound_tree c.args.bound.now) c.args.by.now)) c.as_bytes.ensures c.in-Ok.ensures.step
-
-may_be : (c : In-Ok) → (h : History) → TableStands c.args.stores.now.txs h → CatalogueStands c.args.stores.now.catalog h → MayBeMade h c.args.caller.session c.args.name.now
-may_be c = subst (λ (n : List ℕ). (h : History) → TableStands c.args.stores.now.txs h → CatalogueStands c.args.stores.now.catalog h → MayBeMade h c.args.caller.session n) c.as_bytes.ensures c.in-Ok.ensures.free
 
 pub make_placed-requires-clause-free : goal.make_placed-requires-clause-free
 make_placed-requires-clause-free c =
-    subst (λ (n : List ℕ). (h : History) → TableStands c.args.stores.now.txs h → CatalogueStands c.args.stores.now.catalog h → MayBeMade h c.args.caller.session n) (sym c.in-Ok-copy.ensures) (may_be (goal.at.make_placed-requires-clause-free c).In-Ok)
+    subst (λ (n : List ℕ). (h : History) → TableStands c.args.stores.now.txs h → CatalogueStands c.args.stores.now.catalog h → MayBeMade h c.args.caller.session n) (sym c.in-Ok-copy.ensures)
+    (λ h txs catalog. record { free = c.requires.free h txs catalog; few = c.in-Ok.ensures.few h catalog })
 
 pub returns-in-Ok-copy : goal.returns-in-Ok-copy
 returns-in-Ok-copy c =
     then_step seen_place (λ (u : Unit {0}). u) c.in-Ok.place c.make_placed.result c.args.stores.now c.args.stores.now c.make_placed.new.stores c.args.caller (c.args.caller.cmd + 1)
-    (partitions.place_found c.args.caller.session c.args.name.now c.args.parent.number (bound_tree c.args.bound.now) c.args.by.now) (λ place. partitions.partition_made c.args.caller c.args.name.now c.args.parent.number place) (found_step (goal.at.returns-in-Ok-copy c).In-Ok)
+    (partitions.place_found c.args.caller.session c.args.parent.number (bound_tree c.args.bound.now) c.args.by.now) (λ place. partitions.partition_made c.args.caller c.args.name.now c.args.parent.number place) c.in-Ok.ensures.step
     (subst (λ (n : List ℕ). IsStep (λ (u : Unit {0}). u) c.make_placed.result c.args.stores.now c.make_placed.new.stores c.args.caller (c.args.caller.cmd + 1) (partitions.partition_made c.args.caller n c.args.parent.number (seen_place c.in-Ok.place))) c.in-Ok-copy.ensures c.make_placed.ensures)
 
 pub returns-in-Err-copy : goal.returns-in-Err-copy
@@ -36,5 +29,4 @@ returns-in-Err-copy c =
 pub returns-in-Err : goal.returns-in-Err
 returns-in-Err c =
     stop_step seen_place (λ (u : Unit {0}). u) c.in-Err.stop c.args.stores.now c.args.stores.now c.args.caller (c.args.caller.cmd + 1) c.args.caller.cmd
-    (partitions.place_found c.args.caller.session c.args.name.now c.args.parent.number (bound_tree c.args.bound.now) c.args.by.now) (λ place. partitions.partition_made c.args.caller c.args.name.now c.args.parent.number place)
-    (subst (λ (n : List ℕ). IsStep seen_place (Err c.in-Err.stop) c.args.stores.now c.args.stores.now c.args.caller c.args.caller.cmd (partitions.place_found c.args.caller.session n c.args.parent.number (bound_tree c.args.bound.now) c.args.by.now)) c.as_bytes.ensures c.in-Err.ensures.step)
+    (partitions.place_found c.args.caller.session c.args.parent.number (bound_tree c.args.bound.now) c.args.by.now) (λ place. partitions.partition_made c.args.caller c.args.name.now c.args.parent.number place) c.in-Err.ensures.step

@@ -1,34 +1,18 @@
-use Rattle.std.proofs.Common.{◌+◌, sym, subst, Err, codes}
+use Rattle.std.proofs.Common.{◌+◌}
 use Rattle.statement_steps.specs.Asks.{held_at}
-use Rattle.statement_steps.specs.Steps.{IsStep, follow}
 use Rattle.statement_steps.proofs.Steps.{then_step, stop_step, may_go_on}
-use Rattle.table_statements.specs.Refused.{in_control}
-use Rattle.table_statements.specs.Tables.{planned_and_made, created}
-use Rattle.table_statements.proofs.Firsts.{in_control_step, not_in_control}
+use Rattle.table_statements.specs.Tables.{claimed_and_made}
 use Rattle.table_statements.proofs.tables.create_table.Goals as goal
 
-pub plan_and_make-requires : goal.plan_and_make-requires
-plan_and_make-requires c = may_go_on (λ (u : Unit {0}). u) tt c.args.stores.now c.hold_if_repeatable.new.stores c.args.caller (held_at c.args.caller.level c.args.caller.session c.args.caller.cmd) c.requires c.in-Ok-hold_if_repeatable.ensures.step
+pub claim_and_make-requires : goal.claim_and_make-requires
+claim_and_make-requires c = may_go_on (λ (u : Unit {0}). u) tt c.args.stores.now c.hold_if_repeatable.new.stores c.args.caller (held_at c.args.caller.level c.args.caller.session c.args.caller.cmd) c.requires c.in-Ok.ensures.step
 
-pub returns-in-Ok-hold_if_repeatable : goal.returns-in-Ok-hold_if_repeatable
-returns-in-Ok-hold_if_repeatable c =
-    let held = held_at c.args.caller.level c.args.caller.session c.args.caller.cmd in
-    let made = planned_and_made c.args.caller c.args.name.now c.args.columns.now c.args.by.now in
-    then_step (λ (u : Unit {0}). u) (λ (u : Unit {0}). u) tt c.plan_and_make.result c.args.stores.now c.args.stores.now c.plan_and_make.new.stores c.args.caller (c.args.caller.cmd + 1)
-    (in_control (codes "CREATE") c.args.caller.session) (λ u. follow held (λ v. made)) (in_control_step (codes "CREATE") c.args.stores.now c.args.caller tt c.requires c.in-Ok.ensures)
-    (then_step (λ (u : Unit {0}). u) (λ (u : Unit {0}). u) tt c.plan_and_make.result c.args.stores.now c.hold_if_repeatable.new.stores c.plan_and_make.new.stores c.args.caller (c.args.caller.cmd + 1) held (λ v. made) c.in-Ok-hold_if_repeatable.ensures.step c.plan_and_make.ensures)
-
-pub returns-in-Err-hold_if_repeatable : goal.returns-in-Err-hold_if_repeatable
-returns-in-Err-hold_if_repeatable c =
-    let held = held_at c.args.caller.level c.args.caller.session c.args.caller.cmd in
-    let made = planned_and_made c.args.caller c.args.name.now c.args.columns.now c.args.by.now in
-    then_step (λ (u : Unit {0}). u) (λ (u : Unit {0}). u) tt (Err c.in-Err-hold_if_repeatable.stop) c.args.stores.now c.args.stores.now c.hold_if_repeatable.new.stores c.args.caller (c.args.caller.cmd + 1)
-    (in_control (codes "CREATE") c.args.caller.session) (λ u. follow held (λ v. made)) (in_control_step (codes "CREATE") c.args.stores.now c.args.caller tt c.requires c.in-Ok.ensures)
-    (stop_step (λ (u : Unit {0}). u) (λ (u : Unit {0}). u) c.in-Err-hold_if_repeatable.stop c.args.stores.now c.hold_if_repeatable.new.stores c.args.caller (c.args.caller.cmd + 1) c.args.caller.cmd held (λ v. made) c.in-Err-hold_if_repeatable.ensures.step)
+pub returns-in-Ok : goal.returns-in-Ok
+returns-in-Ok c =
+    then_step (λ (u : Unit {0}). u) (λ (u : Unit {0}). u) tt c.claim_and_make.result c.args.stores.now c.hold_if_repeatable.new.stores c.claim_and_make.new.stores c.args.caller (c.args.caller.cmd + 1)
+    (held_at c.args.caller.level c.args.caller.session c.args.caller.cmd) (λ u. claimed_and_made c.args.names.now c.args.caller c.args.name.now c.args.columns.now c.args.by.now) c.in-Ok.ensures.step c.claim_and_make.ensures
 
 pub returns-in-Err : goal.returns-in-Err
 returns-in-Err c =
-    let held = held_at c.args.caller.level c.args.caller.session c.args.caller.cmd in
-    let made = planned_and_made c.args.caller c.args.name.now c.args.columns.now c.args.by.now in
-    subst (λ r. IsStep (λ (u : Unit {0}). u) (Err r) c.args.stores.now c.args.stores.now c.args.caller (c.args.caller.cmd + 1) (created c.args.caller c.args.name.now c.args.columns.now c.args.by.now)) (sym c.stop_by.ensures)
-    (not_in_control (codes "CREATE") c.in-Err.refusal c.args.stores.now c.args.caller (c.args.caller.cmd + 1) (λ u. follow held (λ v. made)) (λ (u : Unit {0}). u) c.requires c.in-Err.ensures)
+    stop_step (λ (u : Unit {0}). u) (λ (u : Unit {0}). u) c.in-Err.stop c.args.stores.now c.hold_if_repeatable.new.stores c.args.caller (c.args.caller.cmd + 1) c.args.caller.cmd
+    (held_at c.args.caller.level c.args.caller.session c.args.caller.cmd) (λ u. claimed_and_made c.args.names.now c.args.caller c.args.name.now c.args.columns.now c.args.by.now) c.in-Err.ensures.step

@@ -1,4 +1,4 @@
-use Rattle.std.proofs.Common.{◌+◌, List, ℕ, sym, subst, Ok, Err}
+use Rattle.std.proofs.Common.{◌+◌, List, ℕ, sym, subst}
 use Rattle.history.specs.History.{History}
 use Rattle.tx_table.specs.Stands.{TableStands}
 use Rattle.part_catalog.specs.Stands.{CatalogueStands}
@@ -9,23 +9,16 @@ use Rattle.table_statements.specs.Asked.{MayBeMade}
 use Rattle.table_statements.specs.Seen.{seen_plan}
 use Rattle.table_statements.specs.Tables as tables
 use Rattle.table_statements.proofs.tables.plan_and_make.Goals as goal
-use Rattle.table_statements.proofs.tables.plan_and_make.Goals.{In-Ok}
-
--- the same of the name
-planned_step : (c : In-Ok) → IsStep seen_plan (Ok c.in-Ok.plan) c.args.stores.now c.args.stores.now c.args.caller c.args.caller.cmd (tables.planned c.args.caller.session c.args.name.now c.args.columns.now c.args.by.now)
-planned_step c = subst (λ (n : List ℕ). IsStep seen_plan (Ok c.in-Ok.plan) c.args.stores.now c.args.stores.now c.args.caller c.args.caller.cmd (tables.planned c.args.caller.session n c.args.columns.now c.args.by.now)) c.as_bytes.ensures c.in-Ok.ensures.step
-
-may_be : (c : In-Ok) → (h : History) → TableStands c.args.stores.now.txs h → CatalogueStands c.args.stores.now.catalog h → MayBeMade h c.args.caller.session c.args.name.now
-may_be c = subst (λ (n : List ℕ). (h : History) → TableStands c.args.stores.now.txs h → CatalogueStands c.args.stores.now.catalog h → MayBeMade h c.args.caller.session n) c.as_bytes.ensures c.in-Ok.ensures.new
 
 pub make_planned-requires-clause-free : goal.make_planned-requires-clause-free
 make_planned-requires-clause-free c =
-    subst (λ (n : List ℕ). (h : History) → TableStands c.args.stores.now.txs h → CatalogueStands c.args.stores.now.catalog h → MayBeMade h c.args.caller.session n) (sym c.in-Ok-copy.ensures) (may_be (goal.at.make_planned-requires-clause-free c).In-Ok)
+    subst (λ (n : List ℕ). (h : History) → TableStands c.args.stores.now.txs h → CatalogueStands c.args.stores.now.catalog h → MayBeMade h c.args.caller.session n) (sym c.in-Ok-copy.ensures)
+    (λ h txs catalog. record { free = c.requires.free h txs catalog; few = c.in-Ok.ensures.few h catalog })
 
 pub returns-in-Ok-copy : goal.returns-in-Ok-copy
 returns-in-Ok-copy c =
     then_step seen_plan (λ (u : Unit {0}). u) c.in-Ok.plan c.make_planned.result c.args.stores.now c.args.stores.now c.make_planned.new.stores c.args.caller (c.args.caller.cmd + 1)
-    (tables.planned c.args.caller.session c.args.name.now c.args.columns.now c.args.by.now) (λ plan. tables.table_made c.args.caller c.args.name.now plan) (planned_step (goal.at.returns-in-Ok-copy c).In-Ok)
+    (tables.planned c.args.columns.now c.args.by.now) (λ plan. tables.table_made c.args.caller c.args.name.now plan) c.in-Ok.ensures.step
     (subst (λ (n : List ℕ). IsStep (λ (u : Unit {0}). u) c.make_planned.result c.args.stores.now c.make_planned.new.stores c.args.caller (c.args.caller.cmd + 1) (tables.table_made c.args.caller n (seen_plan c.in-Ok.plan))) c.in-Ok-copy.ensures c.make_planned.ensures)
 
 pub returns-in-Err-copy : goal.returns-in-Err-copy
@@ -35,5 +28,4 @@ returns-in-Err-copy c =
 pub returns-in-Err : goal.returns-in-Err
 returns-in-Err c =
     stop_step seen_plan (λ (u : Unit {0}). u) c.in-Err.stop c.args.stores.now c.args.stores.now c.args.caller (c.args.caller.cmd + 1) c.args.caller.cmd
-    (tables.planned c.args.caller.session c.args.name.now c.args.columns.now c.args.by.now) (λ plan. tables.table_made c.args.caller c.args.name.now plan)
-    (subst (λ (n : List ℕ). IsStep seen_plan (Err c.in-Err.stop) c.args.stores.now c.args.stores.now c.args.caller c.args.caller.cmd (tables.planned c.args.caller.session n c.args.columns.now c.args.by.now)) c.as_bytes.ensures c.in-Err.ensures.step)
+    (tables.planned c.args.columns.now c.args.by.now) (λ plan. tables.table_made c.args.caller c.args.name.now plan) c.in-Err.ensures.step

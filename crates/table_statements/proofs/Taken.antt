@@ -1,0 +1,186 @@
+-- A name that another session has given to a table, and the end of its transaction.
+use Rattle.std.proofs.Common.{◌≡◌, ◌≢◌, ℕ, ◌<◌, ◌^◌, ◌==◌, ◌&&◌, ◌||◌, not, Bool, true, false, if◌then◌else◌, List, [], ◌∷◌, inl, inr, refl, sym, ap, ◌∙◌, subst, arith, Option, Some, None, Result, Ok, Err, IfOk, map}
+use Rattle.std.specs.Int.{bit_at}
+use Rattle.std.specs.Str.{bytes_eq}
+use Rattle.std.proofs.lemmas.Bool.{cases_eq, cases_Bool}
+use Rattle.std.proofs.lemmas.Bool.Decides.{nat_tests}
+use Rattle.std.proofs.lemmas.Grind.{common_steps}
+use Rattle.std.proofs.lemmas.Nat.Bits.{bit_at-pow_same, bit_at-pow_other, bit_at-lt, same_from_bits}
+use Rattle.pg_ids.specs.Sets.{has, nobody}
+use Rattle.pg_ids.specs.declared.session_set.SessionSet.{SessionSet}
+use Rattle.pg_ids.proofs.Bits.{nobody_is}
+use Rattle.history.specs.declared.transaction.Fate.{Fate}
+use Rattle.history.specs.declared.transaction.Fate.TheVariants.{Running, Committed, Aborted}
+use Rattle.history.specs.declared.catalogue.Table.{Table}
+use Rattle.history.specs.declared.wait.Wanted.{Wanted}
+use Rattle.history.specs.declared.wait.Wanted.TheVariants.{Others}
+use Rattle.history.specs.declared.wait.WaitOn.TheVariants.{Ends}
+use Rattle.history.specs.Transactions.{TxEvent, TxEvents, TxBegan, TxCommitted, TxAborted, next_tx, open_of, session_of, fate, was_aborted, was_committed, IsSound}
+use Rattle.history.specs.Catalogue.{TableMade, TableDropped, EntryAdded, EntryEnded, EntryMarked, CheckKept}
+use Rattle.history.specs.History.{History, TxChange, SnapshotChange, RowChange, LockChange, CatalogueChange, tx_events, catalogue_events, lock_events}
+use Rattle.history.specs.Presence.{is_own}
+use Rattle.history.specs.Waits.{is_cause, waits_with}
+use Rattle.soundness.proofs.Made.{made_was, same_table}
+use Rattle.lock_answers.specs.Asked.{AskedView, AtOnce, WaitsBehind, ClosesCycle, asked, asked_events, cycle_or_wait, least_cycle, those}
+use Rattle.part_catalog.specs.Stands.{is_running}
+use Rattle.part_catalog.specs.Names.{last_below}
+use Rattle.part_catalog.specs.Found.{made_at, table_number, is_made_elsewhere, taken_by}
+use Rattle.part_catalog.proofs.Found.{last_is}
+use Rattle.stores.specs.Good.{IsGood}
+use Rattle.statement_steps.specs.Asks.{told_by}
+use Rattle.table_statements.specs.Claims.{only, waits_for_end}
+use Rattle.table_statements.proofs.Below.{mapped_to}
+
+-- ---- the session alone
+
+one_bit : (s k a : ℕ) → a < 2 → (a == 1) ≡ ((k == s) || false) → a ≡ bit_at (2 ^ s) k
+one_bit s k a small is = elim (cases_eq k s) [
+  | inl same ↦ let one : bit_at (2 ^ s) k ≡ 1 = subst (λ n. bit_at (2 ^ s) n ≡ 1) (sym same) (bit_at-pow_same s) in grind (arith, common_steps, nat_tests, one)
+  | inr other ↦ let zero : bit_at (2 ^ s) k ≡ 0 = bit_at-pow_other s k other in grind (arith, common_steps, nat_tests, zero)
+]
+
+-- the set is told by whom it has
+pub only_is : (s : ℕ) (set : SessionSet) → ((k : ℕ) → has set k ≡ ((k == s) || false)) → set ≡ only s
+only_is s set is =
+    let bits : set.bits ≡ 2 ^ s = same_from_bits set.bits (2 ^ s) (λ k. one_bit s k (bit_at set.bits k) (bit_at-lt set.bits k) (is k)) in
+    let of : ℕ → SessionSet = λ b. record { bits = b } in
+    ap of bits
+
+only_has : (s : ℕ) → has (only s) s ≡ true
+only_has s = ap (λ b. b == 1) (bit_at-pow_same s)
+
+pub only_others : (s k : ℕ) → k ≢ s → has (only s) k ≡ false
+only_others s k other = ap (λ b. b == 1) (bit_at-pow_other s k other)
+
+-- ---- it has to wait
+
+at_once : (names : List (List ℕ)) (events : History) (v : AskedView) → (told_by names None events v).told ≡ Ok tt → v ≡ AtOnce
+at_once names events AtOnce told = refl
+at_once names events (WaitsBehind others) told = absurd (let c = told in cc)
+at_once names events (ClosesCycle cycle) told = absurd (let c = told in cc)
+
+free_at_once : (b : Bool) (o : Option (List ℕ)) (others : List ℕ) → (if b then AtOnce else cycle_or_wait o others) ≡ AtOnce → b ≡ true
+free_at_once true o others e = refl
+free_at_once false None others e = absurd (let c = e in cc)
+free_at_once false (Some cycle) others e = absurd (let c = e in cc)
+
+pub has_to_wait : (names : List (List ℕ)) (h : History) (s other : ℕ) → other < 128 → (waits_for_end names s other h).told ≡ Ok tt → ⊥
+has_to_wait names h s other low told =
+    let w : Wanted = Others (Ends (only other)) in
+    let k = lock_events h in
+    let first = at_once names (map LockChange (asked_events k s w)) (asked k s w) told in
+    let none = free_at_once (nobody (is_cause k s w)) (least_cycle (waits_with k s w) s) (those (is_cause k s w)) first in
+    let off : has (only other) other ≡ false = nobody_is (is_cause k s w) other low none in
+    let on = only_has other in
+    cc
+
+-- ---- who runs has its transaction open
+
+-- a transaction that still runs after an end is not the one that ended
+ended_fate : (a b c : Bool) → (if a then Aborted else if b || c then Committed else Running) ≡ Running → ((if a then Aborted else if c then Committed else Running) ≡ Running) × (b ≡ false)
+ended_fate true b c e = absurd (cc)
+ended_fate false true c e = absurd (cc)
+ended_fate false false true e = absurd (cc)
+ended_fate false false false e = (refl, refl)
+
+aborted_fate : (a b c : Bool) → (if b || a then Aborted else if c then Committed else Running) ≡ Running → ((if a then Aborted else if c then Committed else Running) ≡ Running) × (b ≡ false)
+aborted_fate a true c e = absurd (cc)
+aborted_fate true false c e = absurd (cc)
+aborted_fate false false true e = absurd (cc)
+aborted_fate false false false e = (refl, refl)
+
+still_open : (h : TxEvents) (s n t : ℕ) → open_of h s ≡ Some n → open_of h (session_of h t) ≡ Some t → (n == t) ≡ false → (if s == session_of h t then None else open_of h (session_of h t)) ≡ Some t
+still_open h s n t its seat ne = elim (cases_Bool (s == session_of h t)) [
+  | inl here ↦
+      let at : s ≡ session_of h t = grind (arith, nat_tests, here) in
+      let both : Some n ≡ Some t = sym its ∙ ap (open_of h) at ∙ seat in
+      let same : n ≡ t = cc in
+      let differ : n ≢ t = grind (arith, nat_tests, ne) in
+      absurd (differ same)
+  | inr away ↦ rw away seat
+]
+
+began_open : (h : TxEvents) (s n t : ℕ) → open_of h s ≡ None → open_of h (session_of h t) ≡ Some t → (if s == session_of h t then Some n else open_of h (session_of h t)) ≡ Some t
+began_open h s n t none seat = elim (cases_Bool (s == session_of h t)) [
+  | inl here ↦
+      let at : s ≡ session_of h t = grind (arith, nat_tests, here) in
+      let both : None ≡ Some t = sym none ∙ ap (open_of h) at ∙ seat in
+      absurd (cc)
+  | inr away ↦ rw away seat
+]
+
+self_open : (s n t : ℕ) (o : Option ℕ) → (n == t) ≡ true → (if s == s then Some n else o) ≡ Some t
+self_open s n t o same =
+    let at : n ≡ t = grind (arith, nat_tests, same) in
+    let own : (s == s) ≡ true = grind (arith, nat_tests) in
+    rw (own, at) refl
+
+running_open : (h : TxEvents) (t : ℕ) → IsSound h → t < next_tx h → fate h t ≡ Running → open_of h (session_of h t) ≡ Some t
+running_open [] t sound begun runs = absurd (omega (arith, begun))
+running_open (TxBegan s n ∷ h) t sound begun runs = elim (cases_Bool (n == t)) [
+  | inl same ↦ rw same (self_open s n t (open_of h s) same)
+  | inr other ↦
+      let before : t < next_tx h = grind (arith, nat_tests, other, begun, sound.0) in
+      rw other (began_open h s n t sound.1 (running_open h t sound.2 before runs))
+]
+running_open (TxCommitted s n ∷ h) t sound begun runs =
+    let old = ended_fate (was_aborted h t) (n == t) (was_committed h t) runs in
+    still_open h s n t sound.1 (running_open h t sound.2 begun old.0) old.1
+running_open (TxAborted s n ∷ h) t sound begun runs =
+    let old = aborted_fate (was_aborted h t) (n == t) (was_committed h t) runs in
+    still_open h s n t sound.1 (running_open h t sound.2 begun old.0) old.1
+
+-- ---- who made a table has begun
+
+began_before : (e : TxEvent) (h : TxEvents) (t : ℕ) → t < next_tx h → t < next_tx (e ∷ h)
+began_before (TxBegan s n) h t lt = omega (arith, lt)
+began_before (TxCommitted s n) h t lt = lt
+began_before (TxAborted s n) h t lt = lt
+
+maker_began : (h : History) (k : ℕ) → IsGood h → k < table_number h → (made_at h k).by.number < next_tx (tx_events h)
+maker_began [] k good lt = absurd (omega (arith, lt))
+maker_began (TxChange e ∷ h) k good lt = began_before e (tx_events h) (made_at h k).by.number (maker_began h k good.1 lt)
+maker_began (SnapshotChange e ∷ h) k good lt = maker_began h k good.1 lt
+maker_began (RowChange e ∷ h) k good lt = maker_began h k good.1 lt
+maker_began (LockChange e ∷ h) k good lt = maker_began h k good.1 lt
+maker_began (CatalogueChange (TableMade t) ∷ h) k good lt = elim (made_was t (catalogue_events h) k lt) [
+  | inl new ↦ subst (λ (y : Table). y.by.number < next_tx (tx_events h)) new.1 good.0.acting.begun
+  | inr old ↦ subst (λ (y : Table). y.by.number < next_tx (tx_events h)) (same_table t (catalogue_events h) k old) (maker_began h k good.1 old)
+]
+maker_began (CatalogueChange (TableDropped n s) ∷ h) k good lt = maker_began h k good.1 lt
+maker_began (CatalogueChange (EntryAdded e) ∷ h) k good lt = maker_began h k good.1 lt
+maker_began (CatalogueChange (EntryEnded n s) ∷ h) k good lt = maker_began h k good.1 lt
+maker_began (CatalogueChange (EntryMarked n s) ∷ h) k good lt = maker_began h k good.1 lt
+maker_began (CatalogueChange (CheckKept c) ∷ h) k good lt = maker_began h k good.1 lt
+
+-- ---- who has taken a name is another session
+
+is_run : (f : Fate) → is_running f ≡ true → f ≡ Running
+is_run Running e = refl
+is_run Committed e = absurd (let c = e in cc)
+is_run Aborted e = absurd (let c = e in cc)
+
+all_pass : (a b c : Bool) → (a && (b && not c)) ≡ true → (b ≡ true) × (c ≡ false)
+all_pass true true false e = (refl, refl)
+all_pass true true true e = absurd (let c = e in cc)
+all_pass true false c e = absurd (let d = e in cc)
+all_pass false b c e = absurd (let d = e in cc)
+
+not_own : (t : ℕ) → is_own (Some t) t ≡ false → ⊥
+not_own t e = grind (arith, nat_tests, e)
+
+pub taken_by_another : (h : History) (s : ℕ) (name : List ℕ) (x : ℕ) → IsSound (tx_events h) → IsGood h → taken_by h s name ≡ Some x → x ≢ s
+taken_by_another h s name x sound good is same =
+    let found = mapped_to (λ (k : ℕ). session_of (tx_events h) (made_at h k).by.number) (last_below (is_made_elsewhere h s name) (table_number h)) x is in
+    let at = last_is (is_made_elsewhere h s name) (table_number h) found.0 found.1 in
+    let t = (made_at h found.0).by.number in
+    let both = all_pass (bytes_eq name (made_at h found.0).name) (is_running (fate (tx_events h) t)) (is_own (open_of (tx_events h) s) t) at.1 in
+    let opened = running_open (tx_events h) t sound (maker_began h found.0 good at.0) (is_run (fate (tx_events h) t) both.0) in
+    let own : open_of (tx_events h) s ≡ Some t = subst (λ (n : ℕ). open_of (tx_events h) n ≡ Some t) (found.2 ∙ same) opened in
+    not_own t (subst (λ (o : Option ℕ). is_own o t ≡ false) own both.1)
+
+-- ---- what follows where a part is done
+
+pub if_done : {E : Type 0} (r : Result (Unit {0}) E) (P Q : Unit {0} → Type 0) → ((u : Unit {0}) → P u → Q u) → IfOk r P → IfOk r Q
+if_done (Ok u) P Q then_q is = then_q u is
+if_done (Err e) P Q then_q is = tt

@@ -1,0 +1,100 @@
+//! The name of a new table.
+//!
+//! In PostgreSQL a table's name is a key of a unique index of pg_class. Whoever adds a key that another
+//! open transaction has added waits until that one has ended: where it was committed the name is taken, and
+//! where it was aborted the name is free again.
+
+ghost use Rattle.std.specs.Prelude.{◌≡◌, ◌≢◌, ◌<◌, None, Err, IfOk};
+ghost use Rattle.history.specs.History.{History};
+ghost use Rattle.tx_table.specs.Stands.{TableStands};
+ghost use Rattle.part_catalog.specs.Found.{taken_by};
+ghost use Rattle.part_catalog.specs.Stands.{CatalogueStands};
+ghost use Rattle.course.specs.Attempts.{MayAttempt};
+ghost use Rattle.statement_steps.specs.Steps.{IsStep};
+ghost use Rattle.table_statements.specs.Asked.{IsFree};
+ghost use Rattle.table_statements.specs.Claims as claims;
+
+use crate::refused::stop_by;
+use course::{Caller, Stop};
+use history::WaitOn;
+use part_ddl::check_name;
+use pg_ids::SessionSet;
+use pg_values::NoMemory;
+use statement_steps::{SessionNames, wait_for};
+use std::alloc::Global;
+use stores::Stores;
+
+// The session alone. A set has room for 128 sessions.
+fn only(session: u32) -> Result<SessionSet, NoMemory>
+    ensures is { IfOk result (λ set. set ≡ claims.only session) }
+    ensures low { IfOk result (λ set. session < 128) }
+{
+    if session >= 128 {
+        return Err(NoMemory);
+    }
+    Ok(SessionSet::empty().with(session))
+}
+
+// The session waits for the end of the other's transaction. The statement begins anew then.
+fn wait_for_end(
+    alloc: Global,
+    stores: &mut Stores,
+    names: &SessionNames,
+    caller: Caller,
+    other: u32,
+) -> Stop
+    requires may { MayAttempt stores.old caller }
+    requires another { other ≢ caller.session }
+    ensures step { IsStep (λ u. u) (Err result) stores.old stores.new caller caller.cmd (claims.waits_for_end names.now caller.session other) }
+    ensures rest { stores.new ≡ record stores.old { locks = stores.new.locks } }
+{
+    match only(other) {
+        Ok(set) => match wait_for(alloc, stores, names, caller, WaitOn::Ends(set), None) {
+            Ok(()) => unreachable!(),
+            Err(stop) => stop,
+        },
+        Err(NoMemory) => Stop::NoMemory,
+    }
+}
+
+// A part: no other open transaction has given the name to a table, or its end is waited for.
+fn wait_for_name(
+    alloc: Global,
+    stores: &mut Stores,
+    names: &SessionNames,
+    caller: Caller,
+    name: &[u8],
+) -> Result<(), Stop>
+    requires may { MayAttempt stores.old caller }
+    ensures step { IsStep (λ u. u) result stores.old stores.new caller caller.cmd (claims.name_waited names.now caller.session name.now) }
+    ensures unclaimed { IfOk result (λ u. (h : History) → TableStands stores.new.txs h → CatalogueStands stores.new.catalog h → taken_by h caller.session name.now ≡ None) }
+    ensures rest { stores.new ≡ record stores.old { locks = stores.new.locks } }
+{
+    match stores
+        .catalog
+        .name_taken_by(&stores.txs, caller.session, name)
+    {
+        None => Ok(()),
+        Some(other) => Err(wait_for_end(alloc, stores, names, caller, other)),
+    }
+}
+
+/// A part: a new table may get the name. No table has it that is there for the session (42P07), and no other
+/// open transaction has given it to one: else the session waits for the end of that one.
+pub(crate) fn claim_name(
+    alloc: Global,
+    stores: &mut Stores,
+    names: &SessionNames,
+    caller: Caller,
+    name: &[u8],
+) -> Result<(), Stop>
+    requires may { MayAttempt stores.old caller }
+    ensures step { IsStep (λ u. u) result stores.old stores.new caller caller.cmd (claims.name_claimed names.now caller.session name.now) }
+    ensures free { IfOk result (λ u. (h : History) → TableStands stores.new.txs h → CatalogueStands stores.new.catalog h → IsFree h caller.session name.now) }
+    ensures rest { stores.new ≡ record stores.old { locks = stores.new.locks } }
+{
+    match check_name(alloc, &stores.catalog, &stores.txs, caller.session, name) {
+        Ok(()) => wait_for_name(alloc, stores, names, caller, name),
+        Err(refusal) => Err(stop_by(refusal)),
+    }
+}
