@@ -183,8 +183,8 @@ fn store_by_tree(
     }
 }
 
-// The tree that the session's command reads of a table, and the path above it.
-fn tree_and_path(
+/// The tree that the session's command reads of a table, and the path above it.
+pub fn tree_and_path(
     alloc: Global,
     stores: &Stores,
     caller: Caller,

@@ -33,7 +33,8 @@ fn scope_column(alloc: Global, column: &Column) -> Result<ScopeColumn, NoMemory>
     })
 }
 
-fn scope_columns(alloc: Global, columns: &[Column]) -> Result<Vec<ScopeColumn>, NoMemory>
+/// What the names of a statement stand for: the columns of its table.
+pub fn scope_columns(alloc: Global, columns: &[Column]) -> Result<Vec<ScopeColumn>, NoMemory>
     ensures { IfOk result (λ v. v.items ≡ map inserted.scope_column columns.now) }
 {
     let mut named = Vec::new(alloc);

@@ -25,7 +25,7 @@ fn push_tables(tree: &Tree, out: &mut Vec<TableNo>) -> Result<(), NoMemory>
 }
 
 /// The tables under that of the tree, in plain order, each before those below it.
-pub(crate) fn tables_below(alloc: Global, tree: &Tree) -> Result<Vec<TableNo>, NoMemory>
+pub fn tables_below(alloc: Global, tree: &Tree) -> Result<Vec<TableNo>, NoMemory>
     ensures { IfOk result (λ tables. tables.items ≡ below (seen tree.now)) }
 {
     let mut tables = Vec::new(alloc);

@@ -14,4 +14,5 @@ mod items;
 mod parts;
 mod statement;
 
+pub use below::tables_below;
 pub use statement::select;

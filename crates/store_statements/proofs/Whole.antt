@@ -9,6 +9,8 @@ use Rattle.course.specs.declared.caller.Caller.{Caller}
 use Rattle.course.specs.declared.stop.Stop.{Stop}
 use Rattle.course.specs.declared.stop.Stop.TheVariants as stop
 use Rattle.statement_steps.specs.Steps.{IsStep}
+use Rattle.change_statement.specs.Running.{IsCommand}
+use Rattle.change_statement.proofs.Commands.{waits_later}
 use Rattle.store_statements.specs.Attempted.{text_told, nothing, table, silent, tabled}
 use Rattle.store_statements.specs.Printed.{IsStatement}
 
@@ -21,7 +23,7 @@ silent_is (Ok u) old new caller f before step = record {
   waits = step.waits;
 }
 silent_is (Err (stop.Waits rest)) old new caller f before step = record {
-  is = λ h stands at. let t = step.is h stands at in (ap (text_told nothing) t.0, refl, t.1);
+  is = λ h stands at. let t = step.is h stands at in (ap (text_told nothing) t.0, refl, waits_later rest new caller h ((f h).events ++ h) t.1);
   keeps = step.keeps;
   waits = step.waits;
 }
@@ -31,6 +33,25 @@ silent_is (Err (stop.Refused fault)) old new caller f before step = record {
   waits = step.waits;
 }
 silent_is (Err stop.NoMemory) old new caller f before step = record { is = λ h stands at. tt; keeps = step.keeps; waits = tt }
+
+-- and so does a statement that may wait in the middle of its run
+pub command_is : (r : Result (Unit {0}) Stop) (old new : Stores) (caller : Caller) (f : History → Made (Unit {0})) (before : List ℕ) → IsCommand r old new caller f → IsStatement r old new before before caller (silent f)
+command_is (Ok u) old new caller f before step = record {
+  is = λ h stands at. let t = step.is h stands at in ([], ap (text_told nothing) t.0, sym (append-nil before), t.1);
+  keeps = step.keeps;
+  waits = step.waits;
+}
+command_is (Err (stop.Waits rest)) old new caller f before step = record {
+  is = λ h stands at. let t = step.is h stands at in (ap (text_told nothing) t.0, refl, t.1);
+  keeps = step.keeps;
+  waits = step.waits;
+}
+command_is (Err (stop.Refused fault)) old new caller f before step = record {
+  is = λ h stands at. let t = step.is h stands at in (ap (text_told nothing) t.0, refl, t.1);
+  keeps = step.keeps;
+  waits = step.waits;
+}
+command_is (Err stop.NoMemory) old new caller f before step = record { is = λ h stands at. tt; keeps = step.keeps; waits = tt }
 
 -- ---- it prints a table
 

@@ -1,17 +1,19 @@
 -- What a statement of a session makes of a history, and what it prints (VI. SQL Commands).
-use Rattle.std.specs.Prelude.{ℕ, List, [], Result, Ok, Err, if◌then◌else◌}
+use Rattle.std.specs.Prelude.{ℕ, List, [], Option, Result, Ok, Err, if◌then◌else◌}
 use Rattle.pg_values.specs.declared.answer.Answer.{Answer}
 use Rattle.history.specs.History.{History}
 use Rattle.expression_binder.specs.Faults.{left_out}
 use Rattle.sql_commands.specs.Trees.{CommandTree, makes_table, makes_partition, drops, detaches, locks}
 use Rattle.sql_commands.specs.declared.alter.Detachment.TheVariants.{AtOnce}
-use Rattle.sql_queries.specs.Trees.{SelectTree, RowTree, QueryTree, selects, inserts, rows}
+use Rattle.sql_queries.specs.Trees.{SelectTree, RowTree, QueryTree, selects, inserts, deletes, rows}
 use Rattle.sql_syntax.specs.Trees.{StatementTree, commands, queries}
 use Rattle.out_text.specs.Table.{printed_table}
 use Rattle.course.specs.Made.{Made, Halt, Refused, halted}
 use Rattle.course.specs.declared.caller.Caller.{Caller}
+use Rattle.course.specs.declared.rest.Rest.{Rest}
 use Rattle.select_statement.specs.Selected.{selected}
 use Rattle.insert_statement.specs.Inserted.{inserted}
+use Rattle.change_statement.specs.Deleted.{deleted}
 use Rattle.table_statements.specs.Tables.{created}
 use Rattle.table_statements.specs.Partitions.{partitioned}
 use Rattle.table_statements.specs.Drops.{dropped}
@@ -56,15 +58,17 @@ command_attempted names c t = omitted (command_word t)
 abbrev pub select_attempted : (names : List (List ℕ)) → Caller → SelectTree → History → Made (List ℕ)
 select_attempted names c s = if cancels s then omitted cancel_word else tabled (selected names c s)
 
-abbrev pub row_attempted : (names : List (List ℕ)) → Caller → RowTree → History → Made (List ℕ)
-row_attempted names c (selects s) = select_attempted names c s
-row_attempted names c (inserts table columns values) = silent (inserted names [] c table columns values)
-row_attempted names c t = omitted (row_word t)
+abbrev pub row_attempted : (names : List (List ℕ)) → Caller → Option Rest → RowTree → History → Made (List ℕ)
+row_attempted names c rest (selects s) = select_attempted names c s
+row_attempted names c rest (inserts table columns values) = silent (inserted names [] c table columns values)
+row_attempted names c rest (deletes table condition) = silent (deleted names [] c rest table condition)
+row_attempted names c rest t = omitted (row_word t)
 
-abbrev pub query_attempted : (names : List (List ℕ)) → Caller → QueryTree → History → Made (List ℕ)
-query_attempted names c (rows r) = row_attempted names c r
-query_attempted names c t = omitted (query_word t)
+abbrev pub query_attempted : (names : List (List ℕ)) → Caller → Option Rest → QueryTree → History → Made (List ℕ)
+query_attempted names c rest (rows r) = row_attempted names c rest r
+query_attempted names c rest t = omitted (query_word t)
 
-abbrev pub attempted : (names : List (List ℕ)) → Caller → StatementTree → History → Made (List ℕ)
-attempted names c (commands t) = command_attempted names c t
-attempted names c (queries t) = query_attempted names c t
+-- from its beginning, or from where it stood
+abbrev pub attempted : (names : List (List ℕ)) → Caller → Option Rest → StatementTree → History → Made (List ℕ)
+attempted names c rest (commands t) = command_attempted names c t
+attempted names c rest (queries t) = query_attempted names c rest t

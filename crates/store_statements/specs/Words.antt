@@ -27,6 +27,6 @@ statement_words = record {
   looks = looks;
   misplaced = misplaced;
   set = changed;
-  attempted = λ names c rest h settings t. attempted names c t h;
+  attempted = λ names c rest h settings t. attempted names c rest t h;
   fault_text = fault_text;
 }

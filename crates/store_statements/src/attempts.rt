@@ -2,13 +2,14 @@ ghost use Rattle.std.specs.Prelude.{◌≡◌, ◌≤◌, length};
 ghost use Rattle.sql_commands.specs.Trees.{command_tree};
 ghost use Rattle.sql_queries.specs.Trees.{query_tree, row_tree, select_tree};
 ghost use Rattle.sql_syntax.specs.Trees.{statement_tree};
-ghost use Rattle.course.specs.Attempts.{MayAttempt};
+ghost use Rattle.course.specs.Attempts.{MayAttempt, MayGoOn};
 ghost use Rattle.select_statement.specs.Selected as selected;
 ghost use Rattle.store_statements.specs.Attempted as attempted;
 ghost use Rattle.store_statements.specs.Printed.{IsStatement};
 
 use crate::left_out::{cancels, command_word, query_word};
-use course::{Caller, Stop};
+use change_statement::delete;
+use course::{Caller, Rest, Stop};
 use detach_statement::detach;
 use expression_binder::left_out;
 use insert_statement::insert;
@@ -126,18 +127,20 @@ fn attempt_rows(
     stores: &mut Stores,
     names: &SessionNames,
     caller: Caller,
+    rest: Option<Rest>,
     statement: &RowStatement,
     out: &mut Vec<u8>,
 ) -> Result<(), Stop>
-    requires { MayAttempt stores.old caller }
-    ensures { IsStatement result stores.old stores.new out.old.items out.new.items caller (attempted.row_attempted names.now caller (row_tree statement.now)) }
+    requires may { MayAttempt stores.old caller }
+    requires rest { MayGoOn stores.old rest }
+    ensures { IsStatement result stores.old stores.new out.old.items out.new.items caller (attempted.row_attempted names.now caller rest (row_tree statement.now)) }
 {
     check_room(stores, caller);
     match statement {
         RowStatement::Select(s) => attempt_select(alloc, stores, names, caller, s, out),
         RowStatement::Insert(s) => insert(alloc, stores, names, &[], caller, s),
         RowStatement::Update(_) => omit(alloc, stores, caller, b"UPDATE", out),
-        RowStatement::Delete(_) => omit(alloc, stores, caller, b"DELETE", out),
+        RowStatement::Delete(s) => delete(alloc, stores, names, &[], caller, rest, s),
     }
 }
 
@@ -146,33 +149,39 @@ fn attempt_query(
     stores: &mut Stores,
     names: &SessionNames,
     caller: Caller,
+    rest: Option<Rest>,
     query: &Query,
     out: &mut Vec<u8>,
 ) -> Result<(), Stop>
-    requires { MayAttempt stores.old caller }
-    ensures { IsStatement result stores.old stores.new out.old.items out.new.items caller (attempted.query_attempted names.now caller (query_tree query.now)) }
+    requires may { MayAttempt stores.old caller }
+    requires rest { MayGoOn stores.old rest }
+    ensures { IsStatement result stores.old stores.new out.old.items out.new.items caller (attempted.query_attempted names.now caller rest (query_tree query.now)) }
 {
     match query {
-        Query::Rows(s) => attempt_rows(alloc, stores, names, caller, s, out),
+        Query::Rows(s) => attempt_rows(alloc, stores, names, caller, rest, s, out),
         _ => omit(alloc, stores, caller, query_word(query), out),
     }
 }
 
-/// A statement from its beginning up to its end or to a wait for a lock. Where it is done it prints its
-/// answer, if it has one.
+/// A statement from its beginning, or from where it stood, up to its end or to a wait. Where it is done it
+/// prints its answer, if it has one.
 pub(crate) fn attempt(
     alloc: Global,
     stores: &mut Stores,
     names: &SessionNames,
     caller: Caller,
+    rest: Option<Rest>,
     statement: &Statement,
     out: &mut Vec<u8>,
 ) -> Result<(), Stop>
-    requires { MayAttempt stores.old caller }
-    ensures { IsStatement result stores.old stores.new out.old.items out.new.items caller (attempted.attempted names.now caller (statement_tree statement.now)) }
+    requires may { MayAttempt stores.old caller }
+    requires rest { MayGoOn stores.old rest }
+    ensures { IsStatement result stores.old stores.new out.old.items out.new.items caller (attempted.attempted names.now caller rest (statement_tree statement.now)) }
 {
     match statement {
         Statement::Command(command) => attempt_command(alloc, stores, names, caller, command, out),
-        Statement::Query(query) => attempt_query(alloc, stores, names, caller, query, out),
+        Statement::Query(query) => {
+            attempt_query(alloc, stores, names, caller, rest, query, out)
+        },
     }
 }

@@ -89,12 +89,12 @@ impl Kinds for Statements {
         alloc: Global,
         stores: &mut Stores,
         caller: Caller,
-        _rest: Option<Rest>,
+        rest: Option<Rest>,
         _settings: Settings,
         statement: &Statement,
         out: &mut Vec<u8>,
     ) -> Result<(), Stop> {
-        attempt(alloc, stores, &self.names, caller, statement, out)
+        attempt(alloc, stores, &self.names, caller, rest, statement, out)
     }
 
     fn write_fault(alloc: Global, fault: &Fault, out: &mut Vec<u8>) -> Result<(), NoMemory> {

@@ -1,0 +1,162 @@
+-- Row events of a statement in its run, and a version that it ends.
+use Rattle.std.proofs.Common.{◌≡◌, ◌≢◌, ℕ, zero, suc, ◌+◌, ◌<◌, ◌≤◌, true, List, [], ◌∷◌, ◌++◌, refl, ap, sym, ◌∙◌, subst, arith, append-nil, Option, Some, None, Ok, length, map, slice_get, slice_index_or, slice_set, unwrap_or}
+use Rattle.std.proofs.lemmas.List.Elements.{All-cons}
+use Rattle.pg_ids.specs.declared.ids.RowId.{RowId}
+use Rattle.history.specs.declared.transaction.TxId.{TxId}
+use Rattle.history.specs.declared.version.Version.{Version}
+use Rattle.history.specs.declared.version.End.{End}
+use Rattle.history.specs.declared.version.Ending.{Ending}
+use Rattle.history.specs.declared.version.Ending.TheVariants.{Deleted}
+use Rattle.history.specs.Transactions.{TxEvents, IsSound, open_of, session_of}
+use Rattle.history.specs.Rows.{RowEvent, RowEnded}
+use Rattle.history.specs.Locks.{queue}
+use Rattle.history.specs.History.{History, RowChange, tx_events, snapshot_events, lock_events, catalogue_events, versions}
+use Rattle.history.specs.RowsSound.{IsEndingKnown}
+use Rattle.history.specs.Legal.{command_of, IsNotAfter}
+use Rattle.history.proofs.Open.{open_own, open_runs}
+use Rattle.tx_table.specs.Stands.{StandsFor, TableStands}
+use Rattle.lock_table.specs.Stands.{StandsFor as LocksFor}
+use Rattle.row_store.specs.declared.stored.Stored.{Stored}
+use Rattle.row_store.specs.Kept.{KeptRows, blank, version_of, stored_at, after_end}
+use Rattle.row_store.specs.Stands.{StoreStands}
+use Rattle.row_store.proofs.Changes.{end_sound}
+use Rattle.soundness.specs.Worlds.{HasLeaf}
+use Rattle.soundness.proofs.Sound.{sound_of}
+use Rattle.legal_statements.specs.Follows.{MayFollow}
+use Rattle.legal_statements.specs.Rows.{IsOldRow}
+use Rattle.legal_statements.proofs.Storing.{old_row_may_follow}
+use Rattle.stores.specs.Events.{tx_in}
+use Rattle.stores.specs.Good.{IsGood, IsActing}
+use Rattle.stores.specs.Numbers.{IsEarlier, IsBefore, IsAt}
+use Rattle.stores.specs.Stand.{AllStand, Stands}
+use Rattle.stores.specs.declared.stores.Stores.{Stores}
+use Rattle.stores.proofs.Goodness.{legal_of}
+use Rattle.stores.proofs.Standing.{catalogue_stands}
+use Rattle.course.specs.Made.{made}
+use Rattle.course.specs.Attempts.{WentOn, GoesOn}
+use Rattle.course.specs.declared.caller.Caller.{Caller}
+use Rattle.insert_statement.specs.Inserted.{own}
+use Rattle.insert_statement.proofs.Births.{Quiet}
+use Rattle.change_statement.specs.Deleted.{ended}
+use Rattle.change_statement.specs.Running.{IsInRun, IsRunTold, IsRun, KeepsVersions, MayEndIn, MayRun}
+
+-- ---- an event
+
+-- the history after events of the run, and what they leave as it was
+pub record Came (h : History) (caller : Caller) (g : History) : Type 0 where
+  pub good : IsGood g
+  pub run : IsInRun g caller
+  pub others : (r n : ℕ) → r ≢ caller.session → IsAt h r n → IsAt g r n
+  pub quiet : Quiet g h
+
+one_session : (txs : TxEvents) (r s u t : ℕ) → IsSound txs → open_of txs r ≡ Some u → open_of txs s ≡ Some t → u ≡ t → r ≡ s
+one_session txs r s u t sound mine its same = sym (open_own txs r u sound mine) ∙ (ap (session_of txs) same ∙ open_own txs s t sound its)
+
+-- an event of the transaction's command
+pub came_one : (e : RowEvent) (h : History) (caller : Caller) (tx : ℕ) → open_of (tx_events h) caller.session ≡ Some tx → command_of (RowChange e) ≡ Some (tx, caller.cmd) → MayFollow (RowChange e ∷ []) h → IsGood h → IsInRun h caller
+    → Came h caller (RowChange e ∷ h)
+came_one e h caller tx mine command follow good run =
+    let first = follow.0 in
+    let sound = sound_of h (legal_of h good) in
+    record {
+      good = (record { legal = first.legal; in_order = first.in_order; permitted = first.permitted; acting = subst (IsActing (tx_events h)) (sym command) (open_runs (tx_events h) caller.session tx sound mine); released = tt; housed = tt }, good);
+      run = record {
+        at = λ t is. All-cons (IsBefore t (caller.cmd + 1)) (RowChange e) h (subst (IsEarlier t (caller.cmd + 1)) (sym command) (λ same. omega arith)) (run.at t is);
+        order = λ t is. (subst (λ c. IsNotAfter c (Some (t, caller.cmd))) (sym command) (λ same. omega arith), run.order t is);
+      };
+      others = λ r n other at t is. All-cons (IsBefore t n) (RowChange e) h (subst (IsEarlier t n) (sym command) (λ same. absurd (other (one_session (tx_events h) r caller.session t tx sound is mine (sym same))))) (at t is);
+      quiet = record { txs = refl; snapshots = refl; locks = refl; catalogue = refl; sound = λ s. s };
+    }
+
+-- ---- the stores after it
+
+pub rows_after : (old : Stores) (rows : KeptRows) (g h : History) → Quiet g h → StoreStands rows g → AllStand old h → AllStand (record old { rows = rows }) g
+rows_after old rows g h q new st = record {
+  txs = subst (λ t. StandsFor old.txs t (snapshot_events g)) (sym q.txs) (subst (StandsFor old.txs (tx_events h)) (sym q.snapshots) st.txs);
+  rows = new;
+  catalog = catalogue_stands old.catalog h g q.catalogue (q.sound st.catalog.sound) st.catalog;
+  locks = subst (LocksFor old.locks) (sym q.locks) st.locks;
+}
+
+pub came_on : (old : Stores) (rows : KeptRows) (caller : Caller) (h g : History) → Stands old h → Came h caller g → StoreStands rows g → WentOn h caller.session (caller.cmd + 1) [] (record old { rows = rows }) g
+came_on old rows caller h g stands came store = record {
+  stands = record { all = rows_after old rows g h came.quiet store stands.all; good = came.good };
+  at = came.run.at;
+  others = came.others;
+  queue = ap queue came.quiet.locks ∙ sym (append-nil (queue (lock_events h)));
+}
+
+pub rows_keep : (old : Stores) (rows : KeptRows) (s : ℕ) → GoesOn old (record old { rows = rows }) s
+rows_keep old rows s = record {
+  transactions = refl;
+  locks = λ r t m e. e;
+  others = λ r other. refl;
+  size = record { sessions = refl; tables = refl };
+}
+
+-- ---- a version that ends
+
+got_at : (xs : List Stored) (k : ℕ) → k < length xs → slice_get (map version_of xs) k ≡ Some (slice_index_or xs k blank).version
+got_at [] k lt = absurd (omega arith)
+got_at (x ∷ xs) zero lt = refl
+got_at (x ∷ xs) (suc k) lt = got_at xs k (omega (arith, lt))
+
+same_version : (vs : List Version) (k : ℕ) (v w : Version) → slice_get vs k ≡ Some v → slice_get vs k ≡ Some w → v ≡ w
+same_version vs k v w one other = let both : Some v ≡ Some w = sym one ∙ other in cc
+
+-- the session's transaction
+pub own_is : (h : History) (s : ℕ) (by : TxId) → open_of (tx_events h) s ≡ Some by.number → by ≡ own h s
+own_is h s by mine =
+    let number : by.number ≡ tx_in h s = ap (λ o. unwrap_or o 0) (sym mine) in
+    let id : ℕ → TxId = λ n. record { number = n } in
+    ap id number
+
+pub old_row : (stores : Stores) (caller : Caller) (id : RowId) (by : TxId) (how : Ending) (h : History) → MayEndIn stores caller id → slice_index_or stores.txs.current caller.session None ≡ Some by.number
+    → IsEndingKnown (map version_of stores.rows.stored) stores.rows.leaves id.number (stored_at stores.rows.stored id).version by how → Stands stores h → IsInRun h caller → IsOldRow h caller.session id.number (record { by = by; cmd = caller.cmd; how = how })
+old_row stores caller id by how h may mine known stands run =
+    let v = (stored_at stores.rows.stored id).version in
+    let open_in : open_of (tx_events h) caller.session ≡ Some by.number = sym (stands.all.txs.current caller.session) ∙ mine in
+    let sound = end_sound stores.txs stores.rows h id.number (record { by = by; cmd = caller.cmd; how = how }) may.known (may.standing h stands.all.txs stands.all.rows) (caller.session, mine) (may.born by.number mine) known stands.all.txs stands.all.rows in
+    let there : slice_get (versions h) id.number ≡ Some v = subst (λ vs. slice_get vs id.number ≡ Some v) stands.all.rows.births (got_at stores.rows.stored id.number may.known) in
+    let same : v ≡ sound.version = same_version (versions h) id.number v sound.version there sound.there in
+    record {
+      own = open_in;
+      command = run.order by.number open_in;
+      sound = sound;
+      locked = λ x at. may.locked h stands x (subst (λ (w : Version). HasLeaf (catalogue_events h) x w.leaf) (sym same) at);
+    }
+
+-- ---- a row that is deleted
+
+pub ended_run : (old : Stores) (rows : KeptRows) (caller : Caller) (id : RowId) (by : TxId) → MayRun old caller → MayEndIn old caller id → slice_index_or old.txs.current caller.session None ≡ Some by.number
+    → ((h : History) → TableStands old.txs h → StoreStands old.rows h → StoreStands rows (RowChange (RowEnded id.number (record { by = by; cmd = caller.cmd; how = Deleted })) ∷ h))
+    → IsRun (λ (u : Unit {0}). u) (Ok tt) old (record old { rows = rows }) caller (ended caller Deleted id)
+ended_run old rows caller id by may row mine added = record {
+  is = λ h stands run.
+      let e : End = record { by = by; cmd = caller.cmd; how = Deleted } in
+      let open_in : open_of (tx_events h) caller.session ≡ Some by.number = sym (stands.all.txs.current caller.session) ∙ mine in
+      let follow = old_row_may_follow h caller.session id.number e (legal_of h stands.good) (old_row old caller id by Deleted h row mine tt stands run) in
+      let came = came_one (RowEnded id.number e) h caller by.number open_in refl follow stands.good run in
+      subst (λ (b : TxId). IsRunTold (λ (u : Unit {0}). u) (Ok tt) (record old { rows = rows }) caller h (made (RowChange (RowEnded id.number (record { by = b; cmd = caller.cmd; how = Deleted })) ∷ []) tt)) (own_is h caller.session by open_in)
+      (refl, came_on old rows caller h (RowChange (RowEnded id.number e) ∷ h) stands came (added h stands.all.txs stands.all.rows), came.run);
+  keeps = rows_keep old rows caller.session;
+  waits = may.may.idle;
+}
+
+-- ---- versions that stay
+
+version_stays : (xs : List Stored) (k i : ℕ) (y : Stored) → y.version ≡ (slice_index_or xs k blank).version → i < length xs → (slice_index_or (slice_set xs k y) i blank).version ≡ (slice_index_or xs i blank).version
+version_stays [] k i y same lt = absurd (omega (arith, lt))
+version_stays (x ∷ xs) zero zero y same lt = same
+version_stays (x ∷ xs) zero (suc i) y same lt = refl
+version_stays (x ∷ xs) (suc k) zero y same lt = refl
+version_stays (x ∷ xs) (suc k) (suc i) y same lt = version_stays xs k i y same (omega (arith, lt))
+
+pub end_keeps : (old new : KeptRows) (k : ℕ) (e : End) → new ≡ after_end old k e → length new.stored ≡ length old.stored → KeepsVersions old new
+end_keeps old new k e is count = record {
+  more = omega (arith, count);
+  leaves = ap (λ (r : KeptRows). r.leaves) is;
+  same = λ id lt.
+      let y : Stored = record { version = (slice_index_or old.stored k blank).version; ended = Some e } in
+      ap (λ (r : KeptRows). (stored_at r.stored id).version) is ∙ version_stays old.stored k id.number y refl lt;
+}

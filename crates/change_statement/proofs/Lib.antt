@@ -1,0 +1,10 @@
+pub mod Homes
+pub mod Kept
+pub mod Runs
+pub mod Ended
+pub mod Pausing
+pub mod Commands
+pub mod Found
+pub mod Targets
+pub mod EachRow
+pub mod Faults

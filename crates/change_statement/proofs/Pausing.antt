@@ -1,0 +1,128 @@
+-- A statement that waits in the middle of its run.
+use Rattle.std.proofs.Common.{◌≡◌, ◌≢◌, ℕ, ◌+◌, ◌<◌, ◌^◌, ◌==◌, ◌||◌, Bool, true, false, if◌then◌else◌, List, [], ◌∷◌, ◌++◌, refl, ap, sym, ◌∙◌, subst, arith, inl, inr, Option, Some, None, Result, Ok, Err, All, map}
+use Rattle.std.specs.Int.{bit_at}
+use Rattle.std.proofs.lemmas.Bool.{cases_eq, cases_Bool}
+use Rattle.std.proofs.lemmas.Bool.Decides.{nat_tests}
+use Rattle.std.proofs.lemmas.Grind.{common_steps}
+use Rattle.std.proofs.lemmas.Nat.Bits.{bit_at-pow_same, bit_at-pow_other, bit_at-lt, same_from_bits}
+use Rattle.std.proofs.lemmas.List.Elements.{All-nil, All-cons, All-head, All-tail}
+use Rattle.pg_values.specs.declared.fault.Fault.{Fault}
+use Rattle.pg_ids.specs.declared.ids.RowId.{RowId}
+use Rattle.row_targets.specs.declared.finding.TargetRow.{TargetRow}
+use Rattle.pg_ids.specs.Sets.{has, nobody}
+use Rattle.pg_ids.specs.declared.session_set.SessionSet.{SessionSet}
+use Rattle.pg_ids.proofs.Bits.{nobody_is}
+use Rattle.history.specs.declared.wait.Wanted.{Wanted}
+use Rattle.history.specs.declared.wait.Wanted.TheVariants.{Others}
+use Rattle.history.specs.declared.wait.WaitOn.TheVariants.{Ends}
+use Rattle.history.specs.Waits.{is_cause, waits_with}
+use Rattle.history.specs.Locks.{LockEvents}
+use Rattle.history.specs.History.{History, LockChange, lock_events}
+use Rattle.lock_answers.specs.Asked.{AskedView, AtOnce, WaitsBehind, ClosesCycle, asked, events_of, cycle_or_wait, least_cycle, those}
+use Rattle.stores.specs.Events.{held}
+use Rattle.stores.specs.Numbers.{IsAt}
+use Rattle.stores.specs.Stand.{Stands}
+use Rattle.stores.specs.declared.stores.Stores.{Stores}
+use Rattle.stores.proofs.Meanwhile.{looks_keep_numbers}
+use Rattle.course.specs.Made.{Made, Halt, Waits, Refused, behind}
+use Rattle.course.specs.Attempts.{WentOn}
+use Rattle.course.specs.declared.caller.Caller.{Caller}
+use Rattle.course.specs.declared.rest.Rest.{Rest}
+use Rattle.course.specs.declared.stop.Stop.{Stop}
+use Rattle.course.specs.declared.stop.Stop.TheVariants as stop
+use Rattle.statement_steps.specs.Asks.{told_by, waited}
+use Rattle.statement_steps.specs.Steps.{IsTold, IsStep}
+use Rattle.statement_steps.proofs.Parts.{own_tx}
+use Rattle.change_statement.specs.Changed.{only, held_up, paused}
+use Rattle.change_statement.specs.Running.{IsRunTold, IsRun, MayRun, following}
+use Rattle.change_statement.specs.Standing.{id_of}
+
+-- ---- the session alone
+
+one_bit : (s k a : ℕ) → a < 2 → (a == 1) ≡ ((k == s) || false) → a ≡ bit_at (2 ^ s) k
+one_bit s k a small is = elim (cases_eq k s) [
+  | inl same ↦ let one : bit_at (2 ^ s) k ≡ 1 = subst (λ n. bit_at (2 ^ s) n ≡ 1) (sym same) (bit_at-pow_same s) in grind (arith, common_steps, nat_tests, one)
+  | inr other ↦ let zero : bit_at (2 ^ s) k ≡ 0 = bit_at-pow_other s k other in grind (arith, common_steps, nat_tests, zero)
+]
+
+-- the set is told by whom it has
+pub only_is : (s : ℕ) (set : SessionSet) → ((k : ℕ) → has set k ≡ ((k == s) || false)) → set ≡ only s
+only_is s set is =
+    let bits : set.bits ≡ 2 ^ s = same_from_bits set.bits (2 ^ s) (λ k. one_bit s k (bit_at set.bits k) (bit_at-lt set.bits k) (is k)) in
+    let of : ℕ → SessionSet = λ b. record { bits = b } in
+    ap of bits
+
+pub only_has : (s : ℕ) → has (only s) s ≡ true
+only_has s = ap (λ b. b == 1) (bit_at-pow_same s)
+
+pub only_others : (s k : ℕ) → k ≢ s → has (only s) k ≡ false
+only_others s k other = ap (λ b. b == 1) (bit_at-pow_other s k other)
+
+-- ---- it has to wait
+
+-- what is told of no wait
+not_told : (names : List (List ℕ)) (rest : Rest) (events : History) (o : Option (List ℕ)) (others : List ℕ) → (told_by names (Some rest) events (cycle_or_wait o others)).told ≡ Ok tt → ⊥
+not_told names rest events None others told = cc
+not_told names rest events (Some cycle) others told = cc
+
+abbrev if_free : Bool → AskedView → AskedView
+if_free b v = if b then AtOnce else v
+
+by_test : (names : List (List ℕ)) (rest : Rest) (s : ℕ) (w : Wanted) (b : Bool) (v : AskedView) → b ≡ false → (told_by names (Some rest) (map LockChange (events_of s w (if_free b v))) (if_free b v)).told ≡ Ok tt → (o : Option (List ℕ)) → (others : List ℕ) → v ≡ cycle_or_wait o others → ⊥
+by_test names rest s w b v off told o others is = not_told names rest _ o others (subst (λ x. (told_by names (Some rest) (map LockChange (events_of s w x)) x).told ≡ Ok tt) (ap (λ z. if_free z v) off ∙ is) told)
+
+someone : (h : LockEvents) (s other : ℕ) → other < 128 → nobody (is_cause h s (Others (Ends (only other)))) ≡ false
+someone h s other lt = elim (cases_Bool (nobody (is_cause h s (Others (Ends (only other)))))) [
+  | inl none ↦ absurd (let off : has (only other) other ≡ false = nobody_is (is_cause h s (Others (Ends (only other)))) other lt none in let on = only_has other in cc)
+  | inr some ↦ some
+]
+
+pub has_to_wait : (names : List (List ℕ)) (rest : Rest) (h : History) (s other : ℕ) → other < 128 → (waited names s (Ends (only other)) (Some rest) h).told ≡ Ok tt → ⊥
+has_to_wait names rest h s other lt told =
+    let w : Wanted = Others (Ends (only other)) in
+    let k = lock_events h in
+    by_test names rest s w (nobody (is_cause k s w)) (cycle_or_wait (least_cycle (waits_with k s w) s) (those (is_cause k s w))) (someone k s other lt) told (least_cycle (waits_with k s w) s) (those (is_cause k s w)) refl
+
+-- ---- under the next command
+
+-- it would close a cycle: nothing has happened then
+refused_there : (names : List (List ℕ)) (rest : Rest) (s n : ℕ) (w : Wanted) (v : AskedView) (f : Fault) (new : Stores) (events h : History) → (behind events (told_by names (Some rest) (map LockChange (events_of s w v)) v)).told ≡ Err (Refused f) → IsAt (events ++ h) s n
+    → WentOn h s (n + 1) [] new ((behind events (told_by names (Some rest) (map LockChange (events_of s w v)) v)).events ++ h) → WentOn h s n [] new ((behind events (told_by names (Some rest) (map LockChange (events_of s w v)) v)).events ++ h)
+refused_there names rest s n w AtOnce f new events h told at went = absurd (let c = told in cc)
+refused_there names rest s n w (WaitsBehind others) f new events h told at went = absurd (let c = told in cc)
+refused_there names rest s n w (ClosesCycle cycle) f new events h told at went = record { stands = went.stands; at = at; others = went.others; queue = went.queue }
+
+waits_there : (names : List (List ℕ)) (rest : Rest) (s : ℕ) (w : Wanted) (v : AskedView) (events : History) → (behind events (told_by names (Some rest) (map LockChange (events_of s w v)) v)).told ≡ Err (Waits None) → ⊥
+waits_there names rest s w AtOnce events told = let c = told in cc
+waits_there names rest s w (WaitsBehind others) events told = let c = told in cc
+waits_there names rest s w (ClosesCycle cycle) events told = let c = told in cc
+
+paused_told : (names : List (List ℕ)) (e : Stop) (new : Stores) (caller : Caller) (other : ℕ) (rest : Rest) (h : History) → IsAt (held h caller.session (caller.cmd + 1) ++ h) caller.session (caller.cmd + 1)
+    → IsTold (λ (u : Unit {0}). u) (Err e) new (following caller) (caller.cmd + 1) h (held_up names (following caller) other rest h) → IsRunTold (λ (u : Unit {0}). u) (Err e) new caller h (paused names caller other rest h)
+paused_told names (stop.Waits None) new caller other rest h at told =
+    let w : Wanted = Others (Ends (only other)) in
+    let events = held h caller.session (caller.cmd + 1) in
+    absurd (waits_there names rest caller.session w (asked (lock_events (events ++ h)) caller.session w) events told.0)
+paused_told names (stop.Waits (Some left)) new caller other rest h at told = told
+paused_told names (stop.Refused f) new caller other rest h at told =
+    let w : Wanted = Others (Ends (only other)) in
+    let events = held h caller.session (caller.cmd + 1) in
+    (told.0, refused_there names rest caller.session (caller.cmd + 1) w (asked (lock_events (events ++ h)) caller.session w) f new events h told.0 at told.1)
+paused_told names stop.NoMemory new caller other rest h at told = tt
+
+pub paused_run : (names : List (List ℕ)) (e : Stop) (old new : Stores) (caller : Caller) (other : ℕ) (rest : Rest) → MayRun old caller → IsStep (λ (u : Unit {0}). u) (Err e) old new (following caller) (caller.cmd + 1) (held_up names (following caller) other rest)
+    → IsRun (λ (u : Unit {0}). u) (Err e) old new caller (paused names caller other rest)
+paused_run names e old new caller other rest may step = record {
+  is = λ h stands run.
+      let mine = own_tx old (following caller) h may.may stands in
+      let at = (looks_keep_numbers h caller.session caller.session mine.0 (caller.cmd + 1) (caller.cmd + 1) stands.good run.at mine.1 (λ same. omega arith)).1 in
+      paused_told names e new caller other rest h at (step.is h stands run.at);
+  keeps = step.keeps;
+  waits = step.waits;
+}
+
+-- ---- where it stands
+
+pub all_there : (n : ℕ) (ts : List TargetRow) → All (λ t. t.id.number < n) ts → All (λ (id : RowId). id.number < n) (map id_of ts)
+all_there n [] all = All-nil (λ (id : RowId). id.number < n)
+all_there n (t ∷ ts) all = All-cons (λ (id : RowId). id.number < n) t.id (map id_of ts) (All-head (λ (x : TargetRow). x.id.number < n) t ts all) (all_there n ts (All-tail (λ (x : TargetRow). x.id.number < n) t ts all))

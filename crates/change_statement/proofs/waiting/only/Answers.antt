@@ -1,0 +1,6 @@
+use Rattle.std.proofs.Common.{◌≡◌, ◌==◌, ◌||◌, ◌∙◌, ap}
+use Rattle.change_statement.proofs.Pausing.{only_is}
+use Rattle.change_statement.proofs.waiting.only.Goals as goal
+
+pub returns : goal.returns
+returns c = only_is c.args.session c.with.result (λ k. c.with.ensures k ∙ ap (λ b. (k == c.args.session) || b) (c.empty.ensures.has k))

@@ -1,0 +1,93 @@
+-- What becomes of the rows of an UPDATE or a DELETE, one after the other (the manual, 13.2.1 Read Committed Isolation Level;
+-- 13.2.2 Repeatable Read Isolation Level; 13.3.2 Row-Level Locks).
+use Rattle.std.specs.Prelude.{ℕ, ◌+◌, ◌^◌, Bool, true, false, List, [], ◌∷◌, Option, Some}
+use Rattle.pg_values.specs.declared.value.Value.{Value}
+use Rattle.pg_values.specs.declared.fault.Fault.{Fault}
+use Rattle.pg_ids.specs.declared.ids.LeafId.{LeafId}
+use Rattle.pg_ids.specs.declared.ids.RowId.{RowId}
+use Rattle.pg_ids.specs.declared.ids.TableNo.{TableNo}
+use Rattle.pg_ids.specs.declared.session_set.SessionSet.{SessionSet}
+use Rattle.history.specs.declared.wait.WaitOn.TheVariants.{Ends}
+use Rattle.history.specs.History.{History}
+use Rattle.table_trees.specs.Trees.{TableTree, leaves}
+use Rattle.row_change.specs.Placing.{name_at}
+use Rattle.row_targets.specs.Faults.{could_not_serialize, conflict_session}
+use Rattle.row_targets.specs.Targets.{targets}
+use Rattle.row_targets.specs.Verdicts.{UpdaterMeant, Decision, Changes, PassesBy, WaitsFor, Refuses, decided}
+use Rattle.row_targets.specs.declared.finding.TargetRow.{TargetRow}
+use Rattle.row_targets.specs.declared.verdicts.Conflict.{Conflict}
+use Rattle.sessions.specs.declared.phase.Isolation.{Isolation}
+use Rattle.sessions.specs.declared.phase.Isolation.TheVariants.{ReadCommitted, ReadUncommitted, RepeatableRead}
+use Rattle.stores.specs.Events.{tx_in, look_of, held}
+use Rattle.course.specs.Made.{Made, Refused, made, halted}
+use Rattle.course.specs.declared.caller.Caller.{Caller}
+use Rattle.course.specs.declared.rest.Rest.{Rest}
+use Rattle.statement_steps.specs.Asks.{waited}
+use Rattle.statement_steps.specs.Faults.{name_of}
+use Rattle.statement_steps.specs.Steps.{follow}
+use Rattle.insert_statement.specs.Inserted.{tables_of, holder}
+use Rattle.change_statement.specs.Gathered.{Found}
+use Rattle.change_statement.specs.Running.{following}
+use Rattle.change_statement.specs.Standing.{left_of, changed_before, standing}
+
+-- what is made of a version that is changed, of a row with that leaf
+abbrev pub Changing : Type 0
+Changing = LeafId → RowId → (row : List Value) → History → Made (Unit {0})
+
+-- ---- one row
+
+abbrev pub repeats_at : Isolation → Bool
+repeats_at ReadCommitted = false
+repeats_at ReadUncommitted = false
+repeats_at RepeatableRead = true
+
+-- who changes the rows
+abbrev pub updater : Caller → Found → History → UpdaterMeant
+updater c g h = record { session = c.session; tx = tx_in h c.session; repeats = repeats_at c.level; condition = g.asked.condition }
+
+-- the session alone
+abbrev pub only : ℕ → SessionSet
+only s = record { bits = 2 ^ s }
+
+-- the statement waits for the end of the session's transaction
+abbrev pub waits_for_end : List (List ℕ) → Caller → (other : ℕ) → Rest → History → Made (Unit {0})
+waits_for_end names c other rest = waited names c.session (Ends (only other)) (Some rest)
+
+-- it holds the snapshot that it reads under from now on, and waits
+abbrev pub held_now : Caller → History → Made (Unit {0})
+held_now c h = made (held h c.session c.cmd) tt
+
+abbrev pub held_up : List (List ℕ) → Caller → (other : ℕ) → Rest → History → Made (Unit {0})
+held_up names c other rest = follow (held_now c) (λ u. waits_for_end names c other rest)
+
+-- under the transaction's next command, by which it goes on
+abbrev pub paused : List (List ℕ) → Caller → (other : ℕ) → Rest → History → Made (Unit {0})
+paused names c other rest = held_up names (following c) other rest
+
+-- `row of <leaf> was changed by session <s>`, or `moved`, by the names of the leaf's table and of the session
+abbrev pub fault_in : List (List ℕ) → TableNo → Conflict → History → Fault
+fault_in names table conflict h = could_not_serialize conflict (name_at (tables_of h) table) (name_of names (conflict_session conflict))
+
+abbrev pub conflict_fault : List (List ℕ) → TableTree → LeafId → Conflict → History → Fault
+conflict_fault names tree leaf = fault_in names (holder tree leaf)
+
+-- by what is decided; it is told how many rows are changed then
+abbrev pub by_decision : Changing → List (List ℕ) → Caller → Found → LeafId → Rest → Decision → History → Made ℕ
+by_decision change names c g leaf rest (Changes id row) = follow (change leaf id row) (λ u h. made [] (rest.changed + 1))
+by_decision change names c g leaf rest PassesBy = λ h. made [] rest.changed
+by_decision change names c g leaf rest (WaitsFor other) = follow (paused names c other rest) (λ u h. made [] rest.changed)
+by_decision change names c g leaf rest (Refuses conflict) = λ h. halted [] (Refused (conflict_fault names g.tree leaf conflict h))
+
+abbrev pub one_changed : Changing → List (List ℕ) → Caller → Found → TargetRow → Rest → History → Made ℕ
+one_changed change names c g t rest h = by_decision change names c g t.leaf rest (decided h (updater c g h) t.id) h
+
+-- ---- row after row: one is finished before the next
+
+abbrev pub all_changed : Changing → List (List ℕ) → Caller → Found → List TargetRow → (changed : ℕ) → History → Made (Unit {0})
+all_changed change names c g [] n h = made [] tt
+all_changed change names c g (t ∷ ts) n h = follow (one_changed change names c g t (standing (t ∷ ts) n)) (all_changed change names c g ts) h
+
+-- the rows of the tree's leaves that the snapshot sees and that pass, or those of them that are left
+abbrev pub changed_from : Changing → List (List ℕ) → Caller → Option Rest → Found → History → Made (Unit {0})
+changed_from change names c rest g h =
+    all_changed change names c g (left_of rest (targets h (look_of h c.session c.cmd) g.asked.condition (leaves g.tree))) (changed_before rest) h

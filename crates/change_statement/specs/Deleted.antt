@@ -1,0 +1,32 @@
+-- DELETE of a session (the manual, DELETE).
+use Rattle.std.specs.Prelude.{ℕ, List, [], ◌∷◌, Option}
+use Rattle.pg_ids.specs.declared.ids.RowId.{RowId}
+use Rattle.history.specs.declared.version.Ending.{Ending}
+use Rattle.history.specs.declared.version.Ending.TheVariants.{Deleted}
+use Rattle.history.specs.Rows.{RowEnded}
+use Rattle.history.specs.History.{History, RowChange}
+use Rattle.sql_expressions.specs.Tree.{Tree}
+use Rattle.sql_queries.specs.declared.parts.NamedTable.{NamedTable}
+use Rattle.expression_binder.specs.declared.scope.Param.{Param}
+use Rattle.course.specs.Made.{Made, made}
+use Rattle.course.specs.declared.caller.Caller.{Caller}
+use Rattle.course.specs.declared.rest.Rest.{Rest}
+use Rattle.statement_steps.specs.Asks.{held_at}
+use Rattle.statement_steps.specs.Steps.{follow}
+use Rattle.insert_statement.specs.Inserted.{own}
+use Rattle.change_statement.specs.Gathered.{found}
+use Rattle.change_statement.specs.Changed.{Changing, changed_from}
+
+-- the version ends, by the session's transaction
+abbrev pub ended : Caller → Ending → RowId → History → Made (Unit {0})
+ended c how id h = made (RowChange (RowEnded id.number (record { by = own h c.session; cmd = c.cmd; how = how })) ∷ []) tt
+
+abbrev pub deleting : Caller → Changing
+deleting c leaf id row = ended c Deleted id
+
+-- DELETE FROM table [ WHERE condition ], from its beginning, or from where it stood; a transaction at REPEATABLE READ takes its
+-- snapshot before anything waits
+abbrev pub deleted : (names : List (List ℕ)) → List Param → Caller → Option Rest → NamedTable → (condition : Option Tree) → History → Made (Unit {0})
+deleted names params c rest table condition =
+    follow (held_at c.level c.session c.cmd) (λ u.
+    follow (found names params c rest table [] condition) (changed_from (deleting c) names c rest))

@@ -1,0 +1,5 @@
+pub mod Gathered
+pub mod Standing
+pub mod Running
+pub mod Changed
+pub mod Deleted

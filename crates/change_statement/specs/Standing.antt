@@ -1,0 +1,28 @@
+-- The rows that an UPDATE or a DELETE has still to change (the manual, 13.2.1 Read Committed Isolation Level).
+use Rattle.std.specs.Prelude.{ℕ, ◌==◌, if◌then◌else◌, List, [], ◌∷◌, Option, Some, None, map}
+use Rattle.pg_ids.specs.declared.ids.RowId.{RowId}
+use Rattle.row_targets.specs.declared.finding.TargetRow.{TargetRow}
+use Rattle.course.specs.declared.rest.Rest.{Rest}
+
+abbrev pub id_of : TargetRow → RowId
+id_of t = t.id
+
+-- those of the targets that are left; they stand in one order
+abbrev pub those_left : List TargetRow → List RowId → List TargetRow
+those_left [] ids = []
+those_left (t ∷ ts) [] = []
+those_left (t ∷ ts) (id ∷ ids) = if t.id.number == id.number then t ∷ those_left ts ids else those_left ts (id ∷ ids)
+
+-- all of them, or those that were left when the statement had to wait
+abbrev pub left_of : Option Rest → List TargetRow → List TargetRow
+left_of None targets = targets
+left_of (Some rest) targets = those_left targets rest.left
+
+-- how many rows it has changed
+abbrev pub changed_before : Option Rest → ℕ
+changed_before None = 0
+changed_before (Some rest) = rest.changed
+
+-- where it stands
+abbrev pub standing : List TargetRow → (changed : ℕ) → Rest
+standing targets n = record { left = map id_of targets; changed = n }

@@ -1,0 +1,116 @@
+//! What an UPDATE or a DELETE asks for.
+
+ghost use Rattle.std.specs.Prelude.{◌≡◌, ◌<◌, IfOk, length};
+ghost use Rattle.pg_values.specs.Refusals.{IsAnswer};
+ghost use Rattle.expression_binder.specs.Firsts.{IsAnswerBy};
+ghost use Rattle.statement_asks.specs.Asked.{change_meant};
+ghost use Rattle.change_binder.specs.Changes.{bound_change};
+ghost use Rattle.sql_binder.specs.From.{item_name};
+ghost use Rattle.course.specs.Attempts.{MayAttempt};
+ghost use Rattle.statement_steps.specs.Steps.{IsStep};
+ghost use Rattle.insert_statement.specs.Asked.{stopped};
+ghost use Rattle.change_statement.specs.Gathered as gathered;
+
+use change_binder::{bind_delete, bind_update};
+use course::{Caller, Stop};
+use expression_binder::{Param, ScopeItem};
+use history::Column;
+use insert_statement::scope_columns;
+use pg_ids::TableNo;
+use pg_values::{NoMemory, PgText, Refusal};
+use sql_queries::{Delete, NamedTable, Update};
+use statement_asks::ChangeAsk;
+use std::alloc::Global;
+use stores::Stores;
+
+/// A statement that changes rows.
+#[derive(Clone, Copy)]
+pub(crate) enum Change<'a> {
+    Update(&'a Update),
+    Delete(&'a Delete),
+}
+
+/// The table that it names.
+pub(crate) fn table_named(change: Change<'_>) -> &NamedTable
+    ensures { result.now ≡ gathered.table_named change.entry }
+{
+    match change {
+        Change::Update(update) => &update.table,
+        Change::Delete(delete) => &delete.table,
+    }
+}
+
+// The name that the table goes by: an alias hides its own.
+fn name_of(table: &NamedTable) -> &[u8]
+    ensures { result.now ≡ item_name (table.now, None) }
+{
+    match &table.alias {
+        None => table.name.as_bytes(),
+        Some(alias) => alias.as_bytes(),
+    }
+}
+
+fn item_of(alloc: Global, table: &NamedTable, columns: &[Column]) -> Result<ScopeItem, NoMemory>
+    ensures { IfOk result (λ item. item ≡ gathered.item_of table.now columns.now) }
+{
+    let name = PgText::from_bytes(alloc, name_of(table))?;
+    Ok(ScopeItem::new(name, 0, scope_columns(alloc, columns)?))
+}
+
+fn bind_for(
+    alloc: Global,
+    change: Change<'_>,
+    item: &ScopeItem,
+    params: &[Param],
+    session: u32,
+) -> Result<ChangeAsk, Refusal>
+    ensures { IsAnswerBy change_meant result (bound_change item.now params.now session (gathered.settings_of change.entry) (gathered.condition_of change.entry)) }
+{
+    match change {
+        Change::Update(update) => bind_update(alloc, update, item, params, session),
+        Change::Delete(delete) => bind_delete(alloc, delete, item, params, session),
+    }
+}
+
+fn bind_columns(
+    alloc: Global,
+    change: Change<'_>,
+    columns: &[Column],
+    params: &[Param],
+    session: u32,
+) -> Result<ChangeAsk, Refusal>
+    ensures { IsAnswerBy change_meant result (bound_change (gathered.item_of (gathered.table_named change.entry) columns.now) params.now session (gathered.settings_of change.entry) (gathered.condition_of change.entry)) }
+{
+    let item = item_of(alloc, table_named(change), columns)?;
+    bind_for(alloc, change, &item, params, session)
+}
+
+// A refusal ends the statement.
+pub(crate) fn stop_by(refusal: Refusal) -> Stop
+    ensures { result ≡ stopped refusal }
+{
+    match refusal {
+        Refusal::Sql(fault) => Stop::Refused(fault),
+        Refusal::NoMemory => Stop::NoMemory,
+    }
+}
+
+/// Names and kinds are bound over the columns of the table, and constants evaluated.
+pub(crate) fn bind(
+    alloc: Global,
+    stores: &Stores,
+    params: &[Param],
+    caller: Caller,
+    change: Change<'_>,
+    table: TableNo,
+) -> Result<ChangeAsk, Stop>
+    requires may { MayAttempt stores.now caller }
+    requires known { table.number < length stores.now.catalog.tables }
+    ensures { IsStep change_meant result stores.now stores.now caller caller.cmd (gathered.meant params.now caller (gathered.table_named change.entry) (gathered.settings_of change.entry) (gathered.condition_of change.entry) table.number) }
+{
+    let columns = stores.catalog.table(table).columns.as_slice();
+    match bind_columns(alloc, change, columns, params, caller.session) {
+        Ok(ask) => Ok(ask),
+        Err(refusal) => Err(stop_by(refusal)),
+    }
+}

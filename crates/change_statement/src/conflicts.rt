@@ -1,0 +1,84 @@
+//! A row that a transaction which the snapshot does not see has changed or moved: 40001.
+
+ghost use Rattle.std.specs.Prelude.{◌≡◌, ◌<◌, [], IfOk, length, unwrap_or};
+ghost use Rattle.history.specs.History.{History};
+ghost use Rattle.part_catalog.specs.Stands.{CatalogueStands};
+ghost use Rattle.row_change.specs.Ways.{root, way_to, AllTables};
+ghost use Rattle.table_trees.specs.Seen.{seen};
+ghost use Rattle.statement_steps.specs.Faults as faults;
+ghost use Rattle.insert_statement.specs.Inserted as inserted;
+ghost use Rattle.change_statement.specs.Changed as changed;
+
+use part_catalog::Catalog;
+use pg_ids::{LeafId, TableNo};
+use pg_values::{Fault, NoMemory, PgText};
+use row_change::leaf_way;
+use row_targets::{Conflict, could_not_serialize};
+use statement_steps::SessionNames;
+use std::alloc::Global;
+use table_trees::Tree;
+
+fn last_or(first: TableNo, way: &[TableNo]) -> TableNo
+    ensures { result ≡ inserted.last_or first way.now }
+{
+    let mut table = first;
+    for below in way {
+        table = *below;
+    }
+    table
+}
+
+fn root_of(tree: &Tree) -> TableNo
+    ensures { result ≡ root (seen tree.now) }
+{
+    tree.node.table
+}
+
+// The table of the tree that has the leaf.
+fn holder(alloc: Global, tree: &Tree, leaf: LeafId) -> Result<TableNo, NoMemory>
+    ensures { IfOk result (λ table. table ≡ inserted.holder (seen tree.now) leaf) }
+{
+    match leaf_way(alloc, tree, leaf)? {
+        Some(way) => Ok(last_or(root_of(tree), &way)),
+        None => Ok(root_of(tree)),
+    }
+}
+
+fn session_name(alloc: Global, names: &SessionNames, session: u32) -> Result<PgText, NoMemory>
+    ensures { IfOk result (λ name. name ≡ faults.name_of names.now session) }
+{
+    match names.as_slice().get(session as usize) {
+        Some(name) => name.copy(alloc),
+        None => PgText::new(alloc),
+    }
+}
+
+fn fault_for(
+    alloc: Global,
+    catalog: &Catalog,
+    names: &SessionNames,
+    table: TableNo,
+    conflict: Conflict,
+) -> Result<Fault, NoMemory>
+    requires { table.number < length catalog.now.tables }
+    ensures { IfOk result (λ f. (h : History) → CatalogueStands catalog.now h → f ≡ changed.fault_in names.now table conflict h) }
+{
+    let session = session_name(alloc, names, conflict.session())?;
+    could_not_serialize(alloc, conflict, catalog.name_of(table), session.as_bytes())
+}
+
+/// The fault, by the names of the table that has the leaf and of the session that was there before.
+pub(crate) fn conflict_fault(
+    alloc: Global,
+    catalog: &Catalog,
+    names: &SessionNames,
+    tree: &Tree,
+    leaf: LeafId,
+    conflict: Conflict,
+) -> Result<Fault, NoMemory>
+    requires { AllTables (λ t. t.number < length catalog.now.tables) (seen tree.now) }
+    ensures { IfOk result (λ f. (h : History) → CatalogueStands catalog.now h → f ≡ changed.conflict_fault names.now (seen tree.now) leaf conflict h) }
+{
+    let table = holder(alloc, tree, leaf)?;
+    fault_for(alloc, catalog, names, table, conflict)
+}

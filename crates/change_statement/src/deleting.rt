@@ -1,0 +1,27 @@
+//! A row version that is ended.
+
+ghost use Rattle.std.specs.Prelude.{◌≡◌, ◌<◌, true, Ok, length};
+ghost use Rattle.history.specs.declared.version.Ending.TheVariants.{Deleted};
+ghost use Rattle.history.specs.History.{History, stands};
+ghost use Rattle.course.specs.Attempts.{MayAttempt};
+ghost use Rattle.change_statement.specs.Deleted.{ended};
+ghost use Rattle.change_statement.specs.Running.{IsRun, KeepsVersions, MayEndIn, MayRun};
+
+use course::Caller;
+use pg_ids::RowId;
+use stores::Stores;
+
+/// The version ends as deleted.
+pub(crate) fn end_row(stores: &mut Stores, caller: Caller, id: RowId)
+    requires may { MayRun stores.old caller }
+    requires row { MayEndIn stores.old caller id }
+    ensures run { IsRun (λ u. u) (Ok tt) stores.old stores.new caller (ended caller Deleted id) }
+    ensures rest { stores.new ≡ record stores.old { rows = stores.new.rows } }
+    ensures keeps { KeepsVersions stores.old.rows stores.new.rows }
+{
+    let Some(by) = stores.txs.open_of(caller.session) else {
+        unreachable!()
+    };
+    let Stores { txs, rows, .. } = stores;
+    rows.end_version(txs, id, by, caller.cmd, None);
+}

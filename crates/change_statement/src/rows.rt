@@ -1,0 +1,209 @@
+//! The rows of a DELETE, one after the other.
+
+ghost use Rattle.std.specs.Prelude.{◌≡◌, All, IfOk, OnOk, Some, None, slice_index_or};
+ghost use Rattle.history.specs.History.{History};
+ghost use Rattle.tx_table.specs.Stands.{TableStands};
+ghost use Rattle.row_targets.specs.Verdicts.{updater_meant};
+ghost use Rattle.statement_asks.specs.Asked.{change_meant};
+ghost use Rattle.row_targets.specs.Targets.{targets};
+ghost use Rattle.table_trees.specs.Seen.{seen};
+ghost use Rattle.table_trees.specs.Trees.{leaves};
+ghost use Rattle.stores.specs.Events.{look_of};
+ghost use Rattle.stores.specs.Stand.{Stands};
+ghost use Rattle.course.specs.Attempts.{MayAttempt, MayGoOn};
+ghost use Rattle.statement_steps.specs.Faults as faults;
+ghost use Rattle.change_statement.specs.Changed as changed_spec;
+ghost use Rattle.change_statement.specs.Deleted.{deleting};
+ghost use Rattle.change_statement.specs.Gathered.{found_of};
+ghost use Rattle.change_statement.specs.Running.{IsCommand, IsGathered, IsRun, IsTargetIn, KeepsVersions, MayRun};
+ghost use Rattle.change_statement.specs.Standing as standing_spec;
+
+use crate::conflicts::conflict_fault;
+use crate::deleting::end_row;
+use crate::gathering::Gathered;
+use crate::standing::{changed_before, left_of};
+use crate::waiting::pause;
+use course::{Caller, Rest, Stop};
+use pg_ids::LeafId;
+use pg_values::{Fault, NoMemory};
+use row_targets::{TargetRow, Updater, Verdict, decide, find_targets};
+use sessions::Isolation;
+use statement_steps::SessionNames;
+use std::alloc::Global;
+use stores::Stores;
+use table_trees::{Tree, push_leaves};
+
+fn repeats(caller: Caller) -> bool
+    ensures { result ≡ changed_spec.repeats_at caller.level }
+{
+    match caller.level {
+        Isolation::RepeatableRead => true,
+        Isolation::ReadCommitted | Isolation::ReadUncommitted => false,
+    }
+}
+
+// Who changes the rows.
+fn updater<'c>(stores: &Stores, caller: Caller, gathered: &'c Gathered) -> Updater<'c>
+    requires { MayRun stores.now caller }
+    ensures is { (h : History) → TableStands stores.now.txs h → updater_meant result ≡ changed_spec.updater caller (found_of gathered.now) h }
+    ensures own { Some result.tx.number ≡ slice_index_or stores.now.txs.current caller.session None }
+    ensures session { result.session ≡ caller.session }
+{
+    let Some(tx) = stores.txs.open_of(caller.session) else {
+        unreachable!()
+    };
+    Updater {
+        session: caller.session,
+        tx,
+        repeats: repeats(caller),
+        condition: &gathered.ask.condition,
+    }
+}
+
+fn stop_by(fault: Result<Fault, NoMemory>) -> Stop
+    ensures { result ≡ faults.stop_by fault }
+{
+    match fault {
+        Ok(fault) => Stop::Refused(fault),
+        Err(NoMemory) => Stop::NoMemory,
+    }
+}
+
+// The first of the rows that are left: it is deleted or passed over, or the statement stops there.
+fn delete_row(
+    alloc: Global,
+    stores: &mut Stores,
+    names: &SessionNames,
+    caller: Caller,
+    gathered: &Gathered,
+    left: &[TargetRow],
+    target: TargetRow,
+    changed: u64,
+) -> Result<u64, Stop>
+    requires may { MayRun stores.old caller }
+    requires gathered { IsGathered stores.old caller (found_of gathered.now) }
+    requires left { All (IsTargetIn stores.old.rows (found_of gathered.now)) left.now }
+    requires target { IsTargetIn stores.old.rows (found_of gathered.now) target }
+    ensures run { IsRun (λ n. n) result stores.old stores.new caller
+        (changed_spec.one_changed (deleting caller) names.now caller (found_of gathered.now) target (standing_spec.standing left.now changed)) }
+    ensures rest { OnOk result (stores.new ≡ record stores.old { rows = stores.new.rows }) }
+    ensures keeps { OnOk result (KeepsVersions stores.old.rows stores.new.rows) }
+{
+    let Some(next) = changed.checked_add(1) else {
+        return Err(Stop::NoMemory);
+    };
+    let updater = updater(stores, caller, gathered);
+    match decide(&stores.rows, &stores.txs, &updater, target.id) {
+        Verdict::Change(seen) => {
+            let id = seen.id;
+            end_row(stores, caller, id);
+            Ok(next)
+        }
+        Verdict::Pass => Ok(changed),
+        Verdict::Wait(other) => Err(pause(alloc, stores, names, caller, other, left, changed)),
+        Verdict::Refuse(conflict) => {
+            let tree = &gathered.tree;
+            Err(stop_by(conflict_fault(alloc, &stores.catalog, names, tree, target.leaf, conflict)))
+        }
+    }
+}
+
+/// The rows are deleted, one after the other.
+fn delete_rows(
+    alloc: Global,
+    stores: &mut Stores,
+    names: &SessionNames,
+    caller: Caller,
+    gathered: &Gathered,
+    targets: &[TargetRow],
+    changed: u64,
+) -> Result<(), Stop>
+    requires may { MayRun stores.old caller }
+    requires gathered { IsGathered stores.old caller (found_of gathered.now) }
+    requires targets { All (IsTargetIn stores.old.rows (found_of gathered.now)) targets.now }
+    ensures { IsRun (λ u. u) result stores.old stores.new caller (changed_spec.all_changed (deleting caller) names.now caller (found_of gathered.now) targets.now changed) }
+{
+    let mut left = targets;
+    let mut changed = changed;
+    while let Some((target, others)) = left.split_first() {
+        match delete_row(
+            alloc, stores, names, caller, gathered, left, *target, changed,
+        ) {
+            Ok(next) => {
+                changed = next;
+                left = others;
+            }
+            Err(stop) => return Err(stop),
+        }
+    }
+    Ok(())
+}
+
+fn leaves_of(alloc: Global, tree: &Tree) -> Result<Vec<LeafId>, NoMemory>
+    ensures { IfOk result (λ found. found.items ≡ leaves (seen tree.now)) }
+{
+    let mut found = Vec::new(alloc);
+    push_leaves(tree, &mut found)?;
+    Ok(found)
+}
+
+// The rows that the command sees and that pass.
+fn find(
+    alloc: Global,
+    stores: &Stores,
+    caller: Caller,
+    gathered: &Gathered,
+) -> Result<Vec<TargetRow>, NoMemory>
+    requires may { MayAttempt stores.now caller }
+    requires gathered { IsGathered stores.now caller (found_of gathered.now) }
+    ensures { IfOk result (λ found. (h : History) → Stands stores.now h → found.items ≡ targets h (look_of h caller.session caller.cmd) (found_of gathered.now).asked.condition (leaves (found_of gathered.now).tree)) }
+{
+    let found = leaves_of(alloc, &gathered.tree)?;
+    let snap = stores.look(alloc, caller.session, caller.cmd)?;
+    find_targets(
+        alloc,
+        &stores.rows,
+        &stores.txs,
+        &found,
+        &snap,
+        &gathered.ask.condition,
+    )
+}
+
+// Those that the statement has still to look at.
+fn find_left(
+    alloc: Global,
+    stores: &Stores,
+    caller: Caller,
+    rest: &Option<Rest>,
+    gathered: &Gathered,
+) -> Result<Vec<TargetRow>, NoMemory>
+    requires may { MayAttempt stores.now caller }
+    requires gathered { IsGathered stores.now caller (found_of gathered.now) }
+    ensures are { IfOk result (λ found. (h : History) → Stands stores.now h → found.items ≡ standing_spec.left_of rest.now (targets h (look_of h caller.session caller.cmd) (found_of gathered.now).asked.condition (leaves (found_of gathered.now).tree))) }
+    ensures there { IfOk result (λ found. All (IsTargetIn stores.now.rows (found_of gathered.now)) found.items) }
+{
+    left_of(alloc, rest, find(alloc, stores, caller, gathered)?)
+}
+
+/// The rows that the statement finds, or that it has left, are deleted.
+pub(crate) fn delete_found(
+    alloc: Global,
+    stores: &mut Stores,
+    names: &SessionNames,
+    caller: Caller,
+    rest: Option<Rest>,
+    gathered: &Gathered,
+) -> Result<(), Stop>
+    requires may { MayAttempt stores.old caller }
+    requires gathered { IsGathered stores.old caller (found_of gathered.now) }
+    ensures { IsCommand result stores.old stores.new caller (changed_spec.changed_from (deleting caller) names.now caller rest (found_of gathered.now)) }
+{
+    match find_left(alloc, stores, caller, &rest, gathered) {
+        Ok(targets) => {
+            let changed = changed_before(&rest);
+            delete_rows(alloc, stores, names, caller, gathered, &targets, changed)
+        }
+        Err(NoMemory) => Err(Stop::NoMemory),
+    }
+}
