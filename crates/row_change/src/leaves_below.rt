@@ -40,6 +40,7 @@ fn root_of(tree: &Tree) -> TableNo
     tree.node.table
 }
 
+#[tactic(auto, using(crate::proofs::Unchecked::all_asked))]
 fn target_of(
     alloc: Global,
     catalog: &Catalog,
