@@ -1,7 +1,7 @@
 ghost use Rattle.std.specs.Prelude.{◌≡◌, ◌<◌, ◌≤◌, ℕ, [], map, Some, IfOk, IfSome, length, option_map, slice_index_or};
 ghost use Rattle.history.specs.Transactions.{IsPast};
 ghost use Rattle.history.specs.Snapshots.{TakenSnapshot};
-ghost use Rattle.history.specs.Catalogue.{tables_made};
+ghost use Rattle.history.specs.Catalogue.{tables_made, checks_kept};
 ghost use Rattle.history.specs.History.{History, tx_events, catalogue_events};
 ghost use Rattle.history.specs.Places.{table_at};
 ghost use Rattle.history.specs.Presence.{entries_present};
@@ -84,6 +84,14 @@ impl Catalog {
         ensures { (h : History) → CatalogueStands self.now h → result.now ≡ (table_at (tables_made (catalogue_events h)) table.number).name }
     {
         self.table(table).name.as_bytes()
+    }
+
+    /// How many CHECKs were kept, for all tables.
+    pub fn check_count(&self) -> usize
+        ensures kept { result ≡ length self.now.checks }
+        ensures is { (h : History) → CatalogueStands self.now h → result ≡ length (checks_kept (catalogue_events h)) }
+    {
+        self.checks.len()
     }
 
     /// The tree of a table that a statement of the session reads under its snapshot: the table with
