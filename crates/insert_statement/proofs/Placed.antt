@@ -61,7 +61,7 @@ one_numbered : (h : History) (s n : ℕ) (tree : TableTree) (target : Target) �
 one_numbered h s n tree target same sound known is =
     let low = last_is_made n tree target.leaf is.tables target.table known is.way is.table in
     let made : target.table.number < length (tables_made (catalogue_events h)) = omega (arith, same, low) in
-    (low, subst (λ pa. All (IsPartNumbered n) pa) (sym is.path) (subst (λ k. All (IsPartNumbered k) (path_of h s target.table.number)) (sym same) (paths_are_made h s target.table sound made)))
+    (low, is.path.numbered n (subst (λ k. All (IsPartNumbered k) (path_of h s target.table.number)) (sym same) (paths_are_made h s target.table sound made)))
 
 pub targets_take : (stores : Stores) (caller : Caller) (tree : TableTree) (path : List PathPart) (rows : List (List Value)) (targets : List Target) (h : History) → Stands stores h → IsTreeFor stores.txs stores.catalog caller tree path rows → All (IsTargetOf h caller.session tree) targets
     → TargetsTake (length stores.catalog.tables) targets rows

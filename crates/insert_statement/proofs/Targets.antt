@@ -12,8 +12,10 @@ use Rattle.history.specs.declared.transaction.TxId.{TxId}
 use Rattle.history.specs.History.{History}
 use Rattle.table_trees.specs.Histories.{path_of}
 use Rattle.table_trees.specs.Trees.{TableTree}
+use Rattle.row_router.specs.declared.path.PathTest.TheVariants.{Checks}
+use Rattle.row_router.specs.Paths.{refused}
 use Rattle.row_change.specs.declared.target.Target.{Target}
-use Rattle.row_change.specs.Storing.{is_into, leaf_faults}
+use Rattle.row_change.specs.Storing.{is_into, leaf_faults, own_null_faults, check_told}
 use Rattle.row_change.specs.Targets.{HasTarget, IsTargetOf, last_table}
 use Rattle.row_change.specs.Ways.{root}
 use Rattle.course.specs.Made.{Made, Halt, behind, then_told}
@@ -45,6 +47,13 @@ told_by : (tables : List Table) (h : History) (s : ℕ) (t : TableNo) (named : B
 told_by tables h s t named target row table path is =
     ap (λ n. table_faults tables target.table target.path.items n row) is
     ∙ (ap (λ p. table_faults tables target.table p named row) path ∙ ap (λ x. table_faults tables x (path_of h s t.number) named row) table)
+
+-- the same of a table that is not named: of the path only its CHECKs are asked
+told_from_above : (tables : List Table) (h : History) (s : ℕ) (t : TableNo) (target : Target) (row : List Value) → target.table ≡ t → refused Checks row target.path.items ≡ refused Checks row (path_of h s t.number) → target.is_named ≡ false
+    → leaf_faults tables (Some target) row ≡ table_faults tables t (path_of h s t.number) false row
+told_from_above tables h s t target row table refuses is =
+    ap (λ n. table_faults tables target.table target.path.items n row) is
+    ∙ (ap (λ r. own_null_faults tables target.table row ++ (check_told tables row r ++ [])) refuses ∙ ap (λ x. table_faults tables x (path_of h s t.number) false row) table)
 
 -- ---- the one target of a table that is named
 
@@ -98,8 +107,8 @@ one_told : (h : History) (s : ℕ) (tree : TableTree) (leaf : LeafId) (targets :
 one_told h s tree leaf targets row found =
     let t = found.target in
     let table = holder_is h s tree t found.holds in
-    let path : t.path.items ≡ path_of h s (holder tree t.leaf).number = found.holds.path ∙ ap (λ (x : TableNo). path_of h s x.number) table in
-    let told = told_by (tables_of h) h s (holder tree t.leaf) false t row table path found.holds.is_named in
+    let refuses : refused Checks row t.path.items ≡ refused Checks row (path_of h s (holder tree t.leaf).number) = found.holds.path.refuses row ∙ ap (λ (x : TableNo). refused Checks row (path_of h s x.number)) table in
+    let told = told_from_above (tables_of h) h s (holder tree t.leaf) t row table refuses found.holds.is_named in
     ap (λ o. leaf_faults (tables_of h) o row) found.is ∙ (told ∙ ap (λ l. holder_faults h s tree l row) found.same)
 
 pub put_is_meant : (P : LeafId → List Value → Type 0) (h : History) (caller : Caller) (tree : TableTree) (targets : List Target) (leaves : List LeafId) (rows : List (List Value)) → All (IsTargetOf h caller.session tree) targets → All (HasTarget targets) leaves → Each P leaves rows

@@ -7,5 +7,6 @@ pub mod Placed
 pub mod Rows
 pub mod Steps
 pub mod Targets
+pub mod Unchecked
 pub mod Walk
 pub mod Ways

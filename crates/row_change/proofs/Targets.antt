@@ -14,10 +14,8 @@ use Rattle.history.specs.Catalogue.{tables_made}
 use Rattle.history.specs.History.{catalogue_events}
 use Rattle.table_trees.specs.Histories.{tree_of}
 use Rattle.table_trees.specs.Trees.{TableTree, LeafTable, LevelTable, Trees, End, More, child_of, routed, routed_in}
-use Rattle.table_trees.specs.declared.path_part.PathPart.{PathPart}
-use Rattle.row_router.specs.Paths.{PartFits}
 use Rattle.row_change.specs.Laws.{IsRowIn}
-use Rattle.row_change.specs.Placing.{IsNumbered, IsPartNumbered}
+use Rattle.row_change.specs.Placing.{IsNumbered}
 use Rattle.row_change.specs.declared.target.Target.{Target}
 use Rattle.row_change.specs.Storing.{is_into}
 use Rattle.row_change.specs.Targets.{last_table, HasWay, HasTarget, RoutedHaveWays, TargetsFit}
@@ -40,9 +38,9 @@ targets_fit h session t snap row target sound siblings is of =
     let all : AllTables (IsRowIn h row) tree = tree_all h session t snap (IsRowIn h row) (row_links h row) sound is in
     let on : All (IsRowIn h row) of.tables = all_to (IsRowIn h row) target.leaf tree of.tables all of.way in
     let at : IsRowIn h row target.table = subst (IsRowIn h row) (sym of.table) (last_in_tree (IsRowIn h row) tree of.tables all on) in
-    let numbered = IsPartNumbered (length (tables_made (catalogue_events h))) in (
-      subst (λ (ps : List PathPart). All (PartFits row) ps) (sym of.path) (paths_fit h session target.table row sound siblings at),
-      (at.0, subst (λ (ps : List PathPart). All numbered ps) (sym of.path) (paths_are_made h session target.table sound at.0)),
+    let made = length (tables_made (catalogue_events h)) in (
+      of.path.fits row (paths_fit h session target.table row sound siblings at),
+      (at.0, of.path.numbered made (paths_are_made h session target.table sound at.0)),
     )
 
 -- ---- the leaf of a row has a way

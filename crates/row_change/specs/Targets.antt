@@ -10,11 +10,14 @@ use Rattle.history.specs.History.{History, catalogue_events}
 use Rattle.history.specs.Places.{AreCatalogueSound}
 use Rattle.history.specs.Presence.{entries_present}
 use Rattle.table_trees.specs.Histories.{tree_of, path_of}
+use Rattle.table_trees.specs.declared.path_part.PathPart.{PathPart}
 use Rattle.table_trees.specs.Siblings.{AreSiblings}
 use Rattle.table_trees.specs.Trees.{TableTree, routed}
-use Rattle.row_router.specs.Paths.{PartFits}
+use Rattle.row_router.specs.declared.path.PathTest.TheVariants.{Checks}
+use Rattle.row_router.specs.Paths.{refused, PartFits}
 use Rattle.row_change.specs.declared.target.Target.{Target}
 use Rattle.row_change.specs.Laws.{IsRowIn}
+use Rattle.row_change.specs.Placing.{IsPartNumbered}
 use Rattle.row_change.specs.Storing.{is_into, IsTargetNumbered}
 use Rattle.row_change.specs.Ways.{root, way_to}
 
@@ -23,12 +26,19 @@ abbrev pub last_table : TableNo → List TableNo → TableNo
 last_table t [] = t
 last_table t (x ∷ xs) = last_table x xs
 
+-- of a row that comes from above only the CHECKs along a path are asked: these parts refuse it as the path does, and may be
+-- asked where the path may
+pub record HasChecksOf (path parts : List PathPart) : Type 0 where
+  pub refuses : (row : List Value) → refused Checks row parts ≡ refused Checks row path
+  pub fits : (row : List Value) → All (PartFits row) path → All (PartFits row) parts
+  pub numbered : (n : ℕ) → All (IsPartNumbered n) path → All (IsPartNumbered n) parts
+
 -- the target is of the table that has its leaf
 pub record IsTargetOf (h : History) (session : ℕ) (tree : TableTree) (target : Target) : Type 0 where
   pub tables : List TableNo
   pub way : way_to target.leaf tree ≡ Some tables
   pub table : target.table ≡ last_table (root tree) tables
-  pub path : target.path.items ≡ path_of h session target.table.number
+  pub path : HasChecksOf (path_of h session target.table.number) target.path.items
   pub is_named : target.is_named ≡ false
 
 -- a table of the tree has the leaf

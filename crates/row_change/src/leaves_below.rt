@@ -1,17 +1,18 @@
 //! What a statement that names a table knows of the leaves below it.
 
-ghost use Rattle.std.specs.Prelude.{◌≡◌, None, All, IfOk, OnOk, MatchOption, length};
+ghost use Rattle.std.specs.Prelude.{◌≡◌, ◌<◌, None, All, IfOk, OnOk, MatchOption, length};
 ghost use Rattle.std.specs.List.{list_any};
 ghost use Rattle.pg_ids.specs.declared.ids.LeafId.{LeafId};
 ghost use Rattle.history.specs.History.{History};
 ghost use Rattle.tx_table.specs.Stands.{TableStands};
+ghost use Rattle.table_trees.specs.Histories.{path_of};
 ghost use Rattle.table_trees.specs.Seen.{seen};
 ghost use Rattle.part_catalog.specs.Answers.{AreTogether};
 ghost use Rattle.part_catalog.specs.Stands.{CatalogueStands};
 ghost use Rattle.row_change.specs.Placing.{IsNumbered};
 ghost use Rattle.row_change.specs.Storing.{is_into};
 ghost use Rattle.row_change.specs.Targets as targets_spec;
-ghost use Rattle.row_change.specs.Targets.{HasTarget, HasWay, IsTargetOf};
+ghost use Rattle.row_change.specs.Targets.{HasChecksOf, HasTarget, HasWay, IsTargetOf};
 ghost use Rattle.row_change.specs.Ways.{root, way_to};
 
 use crate::Target;
@@ -20,7 +21,7 @@ use part_catalog::Catalog;
 use pg_ids::{LeafId, TableNo};
 use pg_values::NoMemory;
 use std::alloc::Global;
-use table_trees::Tree;
+use table_trees::{PathPart, Tree};
 use tx_table::TxTable;
 
 fn last_table(first: TableNo, way: &[TableNo]) -> TableNo
@@ -40,6 +41,25 @@ fn root_of(tree: &Tree) -> TableNo
     tree.node.table
 }
 
+// The path of a table, as far as rows from above are asked of it: where no CHECK was ever kept, nothing of it is.
+fn path_for(
+    alloc: Global,
+    catalog: &Catalog,
+    txs: &TxTable,
+    session: u32,
+    table: TableNo,
+) -> Result<Vec<PathPart>, NoMemory>
+    requires known { table.number < length catalog.now.tables }
+    requires siblings { AreTogether txs.now catalog.now session }
+    ensures { IfOk result (λ parts. (h : History) → TableStands txs.now h → CatalogueStands catalog.now h → HasChecksOf (path_of h session table.number) parts.items) }
+{
+    if catalog.check_count() == 0 {
+        Ok(Vec::new(alloc))
+    } else {
+        catalog.path(alloc, txs, table, session)
+    }
+}
+
 fn target_of(
     alloc: Global,
     catalog: &Catalog,
@@ -57,7 +77,7 @@ fn target_of(
         return Ok(None);
     };
     let table = last_table(root_of(tree), &way);
-    let path = catalog.path(alloc, txs, table, session)?;
+    let path = path_for(alloc, catalog, txs, session, table)?;
     Ok(Some(Target {
         leaf,
         table,

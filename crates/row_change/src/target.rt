@@ -1,8 +1,8 @@
 use pg_ids::{LeafId, TableNo};
 use table_trees::PathPart;
 
-/// A leaf that takes rows: its table, the path from the table upwards, and whether the statement names the
-/// table itself, so that the bounds of the path are asked too.
+/// A leaf that takes rows: its table, what of the path from the table upwards is asked of a row, and whether
+/// the statement names the table itself, so that the bounds of the path are asked too.
 #[derive(Drop)]
 pub struct Target {
     pub leaf: LeafId,
