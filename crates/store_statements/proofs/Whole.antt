@@ -62,6 +62,19 @@ tabled_is a old new caller f before after printed step = record {
   waits = step.waits;
 }
 
+pub tabled_stops : (e : Stop) (old new : Stores) (caller : Caller) (f : History → Made Answer) (before : List ℕ) → IsStep (λ (x : Answer). x) (Err e) old new caller (caller.cmd + 1) f → IsStatement (Err e) old new before before caller (tabled f)
+tabled_stops (stop.Waits rest) old new caller f before step = record {
+  is = λ h stands at. let t = step.is h stands at in (ap (text_told table) t.0, refl, waits_later rest new caller h ((f h).events ++ h) t.1);
+  keeps = step.keeps;
+  waits = step.waits;
+}
+tabled_stops (stop.Refused fault) old new caller f before step = record {
+  is = λ h stands at. let t = step.is h stands at in (ap (text_told table) t.0, refl, t.1);
+  keeps = step.keeps;
+  waits = step.waits;
+}
+tabled_stops stop.NoMemory old new caller f before step = record { is = λ h stands at. tt; keeps = step.keeps; waits = tt }
+
 -- ---- a list and its images
 
 pub list_any_map : {X Y : Type 0} (p : Y → Bool) (f : X → Y) (xs : List X) → list_any p (map f xs) ≡ list_any (λ x. p (f x)) xs
