@@ -1,5 +1,10 @@
 pub mod CheckLaws
 pub mod Choice
+pub mod Counts
+pub mod Ends
+pub mod FindLaws
+pub mod Halves
+pub mod HashLaws
 pub mod IntBoundLaws
 pub mod LevelGiven
 pub mod LevelKeys
@@ -12,6 +17,9 @@ pub mod PointOrder
 pub mod RangeLaws
 pub mod RawLaws
 pub mod Residues
+pub mod Stable
+pub mod StoredLaws
+pub mod Strategies
 pub mod TotalOrder
 pub mod Walk
 pub mod WithinLaws

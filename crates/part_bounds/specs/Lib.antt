@@ -10,4 +10,6 @@ pub mod Moduli
 pub mod Ordered
 pub mod Points
 pub mod RawBounds
+pub mod Sorted
+pub mod Stored
 pub mod Within

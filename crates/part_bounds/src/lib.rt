@@ -34,6 +34,7 @@ mod raw_value;
 mod search;
 #[cfg(test)]
 mod set_tests;
+mod stored;
 #[cfg(test)]
 mod written;
 
@@ -52,8 +53,9 @@ pub use laws::{
 pub use level::{KeyColumn, KeyColumns, Level, Strategy};
 pub use ordered::{comes_after, set_in_order};
 pub use partition_bound::{Bound, MOST_MODULUS, copy_bound, range_bound};
-pub use point::{Edge, Point};
+pub use point::{Edge, Fill, Point};
 pub use raw_bound::{RawBound, RawEdge, RawEdges, RawValue, RawValues};
 pub use search::{
     accepts, bound_accepts, find_child, find_child_uncounted, overlap, overlap_uncounted,
 };
+pub use stored::{owner_of, points_below, ranges_stand_in_row, touches};

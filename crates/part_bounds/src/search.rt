@@ -1,16 +1,17 @@
-ghost use Rattle.std.specs.Prelude.{true, ◌≡◌, ◌<◌, ◌%◌, ◌==◌, All, length, position, IfSome, slice_get};
+ghost use Rattle.std.specs.Prelude.{true, ◌≡◌, ◌<◌, ◌%◌, ◌==◌, ◌+◌, ◌-◌, ◌*◌, ◌^◌, ◌≤◌, All, length, position, IfSome, slice_get};
 ghost use Rattle.part_bounds.specs.Bounds as bounds_spec;
 ghost use Rattle.part_bounds.specs.Bounds.{BoundOfKind, BoundsFit, greater, is_below, is_filled, lesser};
 ghost use Rattle.part_bounds.specs.Points.{EdgeOfKind, PointsFit};
 ghost use Rattle.part_bounds.specs.Accepts as accepts_spec;
-ghost use Rattle.part_bounds.specs.Accepts.{accepts_among, FitsBound, FitsSet};
+ghost use Rattle.part_bounds.specs.Accepts.{accepts_among, leaves_remainder, FitsBound, FitsSet};
+ghost use Rattle.part_bounds.specs.Stored.{stored, of_ranges, of_hashes, IsRangeLevel, IsHashLevel};
 
 use crate::key::{has_null, row_hash};
 use crate::listed::{count_lists, count_share};
 use crate::moduli::agree;
 use crate::partition_bound::is_default;
 use crate::point::{count_key, count_points};
-use crate::{Bound, BoundSet, Key, Point, default_child};
+use crate::{Bound, BoundSet, Fill, Key, Point, default_child, points_below};
 use pg_values::{KeyKind, Steps};
 use std::marker::Brand;
 use std::sync::ledger::{Blank, Ledger};
@@ -142,8 +143,31 @@ pub fn overlap<K: KeyKind, L: Ledger>(
     None
 }
 
-// The partition whose bound by itself accepts the key.
-fn own_child<K: KeyKind, Q: Key, L: Ledger>(
+// The range that accepts the key, by halves.
+fn range_child<K: KeyKind, Q: Key, L: Ledger>(
+    set: &BoundSet<K>,
+    key: &Q,
+    steps: &mut Steps<L>,
+) -> Option<usize>
+    requires ranges { IsRangeLevel set.now }
+    requires fits { FitsSet set.now (Q.values key.now) }
+    ensures child { result ≡ position (accepts_spec.accepts (Q.values key.now)) set.now }
+    ensures later { steps.old ≤ steps.new }
+    ensures cost { 2 ^ (steps.new - steps.old) ≤ 2 * length (stored set.now) + 2 }
+{
+    let _bounds = &set.bounds;
+    if has_null(key) {
+        return None;
+    }
+    let n = points_below(set, key, key.len(), Fill::Min, true, steps);
+    if n % 2 == 1 {
+        return Some(n / 2);
+    }
+    None
+}
+
+// The partition whose bound by itself accepts the key, one after the other.
+fn scan_child<K: KeyKind, Q: Key, L: Ledger>(
     set: &BoundSet<K>,
     key: &Q,
     steps: &mut Steps<L>,
@@ -160,6 +184,90 @@ fn own_child<K: KeyKind, Q: Key, L: Ledger>(
     None
 }
 
+// Whether the bound has a remainder that the hash leaves.
+fn takes_hash(b: &Bound, hash: u64) -> bool
+    requires { is_filled b.now ≡ true }
+    ensures { result ≡ leaves_remainder hash b.now }
+{
+    match b {
+        Bound::Hash { modulus, remainder } => leaves(hash, *modulus, *remainder),
+        _ => false,
+    }
+}
+
+// The remainder that the key's hash leaves. It compares no values.
+fn hash_child<K: KeyKind, Q: Key>(set: &BoundSet<K>, key: &Q) -> Option<usize>
+    requires { IsHashLevel set.now }
+    ensures { result ≡ position (accepts_spec.accepts (Q.values key.now)) set.now }
+{
+    let hash = row_hash(key);
+    for (i, b) in set.bounds.iter().enumerate() {
+        if takes_hash(b, hash) {
+            return Some(i);
+        }
+    }
+    None
+}
+
+fn is_of_ranges(b: &Bound) -> bool
+    ensures { result ≡ of_ranges b.now }
+{
+    match b {
+        Bound::Range { .. } => true,
+        Bound::Default => true,
+        _ => false,
+    }
+}
+
+fn is_of_hashes(b: &Bound) -> bool
+    ensures { result ≡ of_hashes b.now }
+{
+    matches!(b, Bound::Hash { .. })
+}
+
+// Whether all bounds are ranges, perhaps with a default.
+fn is_range_level<K: KeyKind>(set: &BoundSet<K>) -> bool
+    ensures yes { result ≡ true → IsRangeLevel set.now }
+    ensures no { IsRangeLevel set.now → result ≡ true }
+{
+    if set.bounds.len() == 0 {
+        return true;
+    }
+    is_of_ranges(&set.bounds[0])
+}
+
+// Whether all bounds are moduli with remainders.
+fn is_hash_level<K: KeyKind>(set: &BoundSet<K>) -> bool
+    ensures yes { result ≡ true → IsHashLevel set.now }
+    ensures no { IsHashLevel set.now → result ≡ true }
+{
+    if set.bounds.len() == 0 {
+        return true;
+    }
+    is_of_hashes(&set.bounds[0])
+}
+
+// The partition whose bound by itself accepts the key.
+fn own_child<K: KeyKind, Q: Key, L: Ledger>(
+    set: &BoundSet<K>,
+    key: &Q,
+    steps: &mut Steps<L>,
+) -> Option<usize>
+    requires { FitsSet set.now (Q.values key.now) }
+    ensures child { result ≡ position (accepts_spec.accepts (Q.values key.now)) set.now }
+    ensures later { IsRangeLevel set.now → steps.old ≤ steps.new }
+    ensures cost { IsRangeLevel set.now → 2 ^ (steps.new - steps.old) ≤ 2 * length (stored set.now) + 2 }
+    ensures hash { IsHashLevel set.now → steps.new ≡ steps.old }
+{
+    if is_hash_level(set) {
+        return hash_child(set, key);
+    }
+    if is_range_level(set) {
+        return range_child(set, key, steps);
+    }
+    scan_child(set, key, steps)
+}
+
 /// The partition that accepts the key: the one whose bound does, or else the default.
 pub fn find_child<K: KeyKind, Q: Key, L: Ledger>(
     set: &BoundSet<K>,
@@ -167,7 +275,10 @@ pub fn find_child<K: KeyKind, Q: Key, L: Ledger>(
     steps: &mut Steps<L>,
 ) -> Option<usize>
     requires { FitsSet set.now (Q.values key.now) }
-    ensures { result ≡ position (accepts_among set.now (Q.values key.now)) set.now }
+    ensures child { result ≡ position (accepts_among set.now (Q.values key.now)) set.now }
+    ensures later { IsRangeLevel set.now → steps.old ≤ steps.new }
+    ensures cost { IsRangeLevel set.now → 2 ^ (steps.new - steps.old) ≤ 2 * length (stored set.now) + 2 }
+    ensures hash { IsHashLevel set.now → steps.new ≡ steps.old }
 {
     match own_child(set, key, steps) {
         Some(child) => Some(child),
