@@ -1,5 +1,6 @@
 -- The range that accepts a key, by the number of stored points that are not above the key's point.
-use Rattle.std.proofs.Common.{◌≡◌, ◌⊎◌, inl, inr, ℕ, ◌+◌, ◌-◌, ◌*◌, ◌/◌, ◌%◌, ◌<◌, ◌≤◌, Bool, true, false, not, ◌&&◌, List, [], ◌∷◌, Some, None, length, take, get_or, refl, sym, ap, subst, ◌∙◌, arith}
+use Rattle.std.proofs.Common.{◌≡◌, ◌⊎◌, inl, inr, ℕ, ◌+◌, ◌-◌, ◌*◌, ◌/◌, ◌%◌, ◌<◌, ◌≤◌, Bool, true, false, not, ◌&&◌, ◌||◌, List, [], ◌∷◌, Some, None, map, filter, length, take, get_or, refl, sym, ap, subst, ◌∙◌, arith}
+use Rattle.std.specs.Prelude.{if◌then◌else◌}
 use Rattle.std.specs.List.{All, position}
 use Rattle.std.specs.Ordering.{is_gt, is_le}
 use Rattle.std.specs.declared.cmp.Ordering.{Ordering}
@@ -11,11 +12,12 @@ use Rattle.part_bounds.specs.declared.partition_bound.Bound.{Bound}
 use Rattle.part_bounds.specs.declared.partition_bound.Bound.TheVariants.{Range, List as Listed, Hash, Default}
 use Rattle.part_bounds.specs.declared.point.Edge.{Edge}
 use Rattle.part_bounds.specs.declared.point.Fill.TheVariants.{Min as WithMin}
-use Rattle.part_bounds.specs.Points.{point_order, point_of, EdgesFit, PointsFit}
+use Rattle.part_bounds.specs.Points.{point_order, point_of, is_null, EdgesFit, PointsFit}
+use Rattle.part_bounds.specs.Listed.{only, ValuesFit}
 use Rattle.part_bounds.specs.Accepts.{accepts, has_null, lies_between, FitsBound, FitsSet}
-use Rattle.part_bounds.specs.Stored.{Each, InRow, range_points, stored, width, end_of, passes, of_ranges, IsRangeLevel, FitsEnd, Splits}
+use Rattle.part_bounds.specs.Stored.{Each, InRow, points_in, range_points, stored, width, end_of, passes, TellsEqual, of_ranges, IsRangeLevel, FitsEnd, Splits}
 use Rattle.part_bounds.proofs.Choice.{position_none, position_at}
-use Rattle.part_bounds.proofs.StoredLaws.{ChildAt, RangeAt, child_at, each_of, all_of, stored_row}
+use Rattle.part_bounds.proofs.StoredLaws.{ChildAt, RangeAt, child_at, each_of, each_stored, stored_row}
 
 gt_if : (r : Ordering) → is_le r ≡ false → is_gt r ≡ true
 gt_if Less h = cc
@@ -112,48 +114,79 @@ long_key : (key : List Value) → length (point_of key) ≡ length key + 1
 long_key [] = refl
 long_key (v ∷ key) = let h = long_key key in omega (arith, h)
 
-fits_points : (bounds : List Bound) (key : List Value) → FitsSet bounds key → has_null key ≡ false → Each (λ p. PointsFit p (point_of key)) (range_points bounds)
-fits_points bounds key f null = by bounds (each_of (FitsBound key) bounds f)
+-- what the key can be compared with
+abbrev KeyFits : List Value → List Edge → Type 0
+KeyFits key p = (length p ≡ length key + 1) × PointsFit p (point_of key)
+
+fits_point : (key : List Value) (p : List Edge) → PointsFit p (point_of key) → KeyFits key p
+fits_point key p h = let e = AllZip-long EdgesFit p (point_of key) h in let l = long_key key in (omega (arith, e, l), h)
+
+fits_value : (key : List Value) (v : Value) → length key ≡ 1 → has_null key ≡ false → is_null v ≡ false → ValuesFit v (only key) → KeyFits key (point_of (v ∷ []))
+fits_value [] v one null some fit = absurd (omega (arith, one))
+fits_value (x ∷ []) v one null some fit = (refl, (fit some (by (is_null x) null), (tt, tt)))
   where
-    by : (bounds : List Bound) → Each (FitsBound key) bounds → Each (λ p. PointsFit p (point_of key)) (range_points bounds)
-    by [] h = tt
-    by (Range l u ∷ bounds) h = ((h.0 null).0, ((h.0 null).1, by bounds h.1))
-    by (Default ∷ bounds) h = by bounds h.1
-    by (Listed values ∷ bounds) h = by bounds h.1
-    by (Hash m n ∷ bounds) h = by bounds h.1
+    by : (t : Bool) → t || false ≡ false → t ≡ false
+    by false e = refl
+    by true e = cc
+fits_value (x ∷ (y ∷ key)) v one null some fit = absurd (omega (arith, one))
 
-pub long_point : (bounds : List Bound) (key : List Value) → FitsSet bounds key → has_null key ≡ false → (k : ℕ) (d : List Edge) → k < length (range_points bounds) → length (get_or (range_points bounds) k d) ≡ length key + 1
-long_point bounds key f null k d lt =
-    let e = AllZip-long EdgesFit (get_or (range_points bounds) k d) (point_of key) (all_of (λ p. PointsFit p (point_of key)) (range_points bounds) (fits_points bounds key f null) k d lt) in
-    let l = long_key key in
-    omega (arith, e, l)
+fits_values : (key values : List Value) → length key ≡ 1 → has_null key ≡ false → Each (λ v. ValuesFit v (only key)) values → Each (KeyFits key) (map (λ v. point_of (v ∷ [])) (filter (λ v. not (is_null v)) values))
+fits_values key [] one null fit = tt
+fits_values key (v ∷ values) one null fit = by (is_null v) refl (fits_values key values one null fit.1)
+  where
+    by : (t : Bool) → is_null v ≡ t → Each (KeyFits key) (map (λ v. point_of (v ∷ [])) (filter (λ v. not (is_null v)) values)) → Each (KeyFits key) (map (λ v. point_of (v ∷ [])) (if not t then v ∷ filter (λ v. not (is_null v)) values else filter (λ v. not (is_null v)) values))
+    by true e go = go
+    by false e go = (fits_value key v one null e fit.0, go)
 
--- how many edges a range level has
-width_is : (bounds : List Bound) (key : List Value) → InRow bounds → FitsSet bounds key → has_null key ≡ false → 0 < length (range_points bounds) → width bounds ≡ length key + 1
-width_is bounds key h f null some = ap (λ ps. length (get_or ps 0 [])) (stored_row bounds h) ∙ long_point bounds key f null 0 [] some
+fits_bound : (key : List Value) (b : Bound) → has_null key ≡ false → FitsBound key b → Each (KeyFits key) (points_in b)
+fits_bound key (Range l u) null f = (fits_point key l (f null).0, (fits_point key u (f null).1, tt))
+fits_bound key (Listed values) null f = fits_values key values f.0 null (each_of (λ v. ValuesFit v (only key)) values f.1)
+fits_bound key (Hash m n) null f = tt
+fits_bound key Default null f = tt
 
-fits_each : (bounds : List Bound) (key : List Value) → InRow bounds → FitsSet bounds key → has_null key ≡ false → All (λ p. (length p ≡ width bounds) × PointsFit p (end_of (length p) (length key) WithMin key)) (range_points bounds)
-fits_each bounds key h f null k d lt =
-    let long = long_point bounds key f null k d lt in
-    let first = width_is bounds key h f null (omega (arith, lt)) in
-    (long ∙ sym first, rw (end_key (length (get_or (range_points bounds) k d)) key long) (all_of (λ p. PointsFit p (point_of key)) (range_points bounds) (fits_points bounds key f null) k d lt))
+fits_bounds : (key : List Value) (bounds : List Bound) → has_null key ≡ false → Each (FitsBound key) bounds → Each (λ b. Each (KeyFits key) (points_in b)) bounds
+fits_bounds key [] null f = tt
+fits_bounds key (b ∷ bounds) null f = (fits_bound key b null f.0, fits_bounds key bounds null f.1)
 
-pub fits_key : (bounds : List Bound) (key : List Value) → InRow bounds → FitsSet bounds key → has_null key ≡ false → FitsEnd bounds (length key) WithMin key
-fits_key bounds key h f null = subst (λ ps. All (λ p. (length p ≡ width bounds) × PointsFit p (end_of (length p) (length key) WithMin key)) ps) (sym (stored_row bounds h)) (fits_each bounds key h f null)
+fits_stored : (bounds : List Bound) (key : List Value) → FitsSet bounds key → has_null key ≡ false → All (KeyFits key) (stored bounds)
+fits_stored bounds key f null = each_stored (KeyFits key) bounds (fits_bounds key bounds null (each_of (FitsBound key) bounds f))
+
+-- how many edges the stored points have
+width_is : (bounds : List Bound) (key : List Value) → FitsSet bounds key → has_null key ≡ false → 0 < length (stored bounds) → width bounds ≡ length key + 1
+width_is bounds key f null some = (fits_stored bounds key f null 0 [] some).0
+
+pub fits_key : (bounds : List Bound) (key : List Value) → FitsSet bounds key → has_null key ≡ false → FitsEnd bounds (length key) WithMin key
+fits_key bounds key f null k d lt =
+    let fit = fits_stored bounds key f null k d lt in
+    let first = width_is bounds key f null (omega (arith, lt)) in
+    (fit.0 ∙ sym first, rw (end_key (length (get_or (stored bounds) k d)) key fit.0) fit.1)
+
+end_is : (bounds : List Bound) (key : List Value) → FitsSet bounds key → has_null key ≡ false → 0 < length (stored bounds) → end_of (width bounds) (length key) WithMin key ≡ point_of key
+end_is bounds key f null some = end_key (width bounds) key (width_is bounds key f null some)
 
 -- what splits by the filled key splits by the key's point
-pub splits_key : (bounds : List Bound) (key : List Value) (n : ℕ) → InRow bounds → FitsSet bounds key → has_null key ≡ false → Splits (passes true (end_of (width bounds) (length key) WithMin key)) (stored bounds) n → Splits (passes true (point_of key)) (range_points bounds) n
-splits_key bounds key n h f null given = by (cases_lt 0 (length (range_points bounds)))
+pub splits_key : (bounds : List Bound) (key : List Value) (n : ℕ) → FitsSet bounds key → has_null key ≡ false → Splits (passes true (end_of (width bounds) (length key) WithMin key)) (stored bounds) n → Splits (passes true (point_of key)) (stored bounds) n
+splits_key bounds key n f null s = by (cases_lt 0 (length (stored bounds)))
   where
-    s : Splits (passes true (end_of (width bounds) (length key) WithMin key)) (range_points bounds) n
-    s = subst (λ ps. Splits (passes true (end_of (width bounds) (length key) WithMin key)) ps n) (stored_row bounds h) given
-
-    by : (0 < length (range_points bounds)) ⊎ (length (range_points bounds) ≤ 0) → Splits (passes true (point_of key)) (range_points bounds) n
-    by (inl some) =
-        let first = width_is bounds key h f null some in
-        rw (end_key (width bounds) key first) at s
+    by : (0 < length (stored bounds)) ⊎ (length (stored bounds) ≤ 0) → Splits (passes true (point_of key)) (stored bounds) n
+    by (inl some) = rw (end_is bounds key f null some) at s
     by (inr none) = let w = s.within in record {
       within = w;
       before = λ k d lt. absurd (omega (arith, w, lt, none));
       behind = λ k d from lt. absurd (omega (arith, lt, none));
     }
+
+pub equal_key : (bounds : List Bound) (key : List Value) (n : ℕ) (equal : Bool) → FitsSet bounds key → has_null key ≡ false → n ≤ length (stored bounds)
+    → TellsEqual (stored bounds) (end_of (width bounds) (length key) WithMin key) n equal → TellsEqual (stored bounds) (point_of key) n equal
+equal_key bounds key n equal f null le t = by (cases_lt 0 (length (stored bounds)))
+  where
+    by : (0 < length (stored bounds)) ⊎ (length (stored bounds) ≤ 0) → TellsEqual (stored bounds) (point_of key) n equal
+    by (inl some) = rw (end_is bounds key f null some) at t
+    by (inr none) = record {
+      told = λ e. let some = (t.told e).0 in absurd (omega (arith, some, le, none));
+      other = λ e k d lt. absurd (omega (arith, lt, le, none));
+    }
+
+-- the stored points of a range level
+pub splits_row : (bounds : List Bound) (q : List Edge) (n : ℕ) → InRow bounds → Splits (passes true q) (stored bounds) n → Splits (passes true q) (range_points bounds) n
+splits_row bounds q n h s = subst (λ ps. Splits (passes true q) ps n) (stored_row bounds h) s

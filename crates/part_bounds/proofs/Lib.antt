@@ -9,7 +9,9 @@ pub mod IntBoundLaws
 pub mod LevelGiven
 pub mod LevelKeys
 pub mod LevelLaws
+pub mod ListFind
 pub mod ListedLaws
+pub mod ListingLaws
 pub mod OnceLaws
 pub mod OverlapLaws
 pub mod PlainOrder
@@ -17,6 +19,7 @@ pub mod PointOrder
 pub mod RangeLaws
 pub mod RawLaws
 pub mod Residues
+pub mod SearchLaws
 pub mod Stable
 pub mod StoredLaws
 pub mod Strategies

@@ -1,10 +1,11 @@
 -- A sorted list with the same elements that tie, in the same order, is the stably sorted list.
-use Rattle.std.proofs.Common.{◌≡◌, ℕ, suc, ◌<◌, ◌≤◌, Bool, true, false, not, ◌&&◌, List, [], ◌∷◌, length, get_or, true≢false, refl, sym, ap, ◌∙◌, arith, if◌then◌else◌}
+use Rattle.std.proofs.Common.{◌≡◌, ℕ, suc, ◌<◌, ◌≤◌, Bool, true, false, not, ◌&&◌, ◌||◌, List, [], ◌∷◌, map, length, get_or, true≢false, refl, sym, ap, ◌∙◌, arith, if◌then◌else◌}
 use Rattle.std.specs.Cmp.{IsStrictWeakOrder}
-use Rattle.std.specs.List.{filter}
+use Rattle.std.specs.List.{filter, list_any}
 use Rattle.std.specs.List.Sorted.{IsSortedBy, IsStableBy, ties}
 use Rattle.std.proofs.lemmas.List.Sorted.{sorted_far}
 use Rattle.part_bounds.specs.Sorted.{insert, sorted}
+use Rattle.part_bounds.specs.Stored.{Each}
 
 module _ {X : Type 0} (lt : X → X → Bool) (o : IsStrictWeakOrder lt) where
   -- none of the elements is less than x
@@ -122,7 +123,7 @@ module _ {X : Type 0} (lt : X → X → Bool) (o : IsStrictWeakOrder lt) where
       by true e go = rw go (swap e (ties lt w x) refl (ties lt w y) refl)
       by false e go = refl
 
-  sorted_rising : (xs : List X) → Rising (sorted lt xs)
+  pub sorted_rising : (xs : List X) → Rising (sorted lt xs)
   sorted_rising [] = tt
   sorted_rising (x ∷ xs) = insert_rising x (sorted lt xs) (sorted_rising xs)
 
@@ -141,3 +142,50 @@ module _ {X : Type 0} (lt : X → X → Bool) (o : IsStrictWeakOrder lt) where
   pub sorted_itself : (xs : List X) → Rising xs → sorted lt xs ≡ xs
   sorted_itself [] r = refl
   sorted_itself (x ∷ xs) r = rw (sorted_itself xs r.1) (insert_first x xs r.0)
+
+  -- what holds of each element holds of each of the sorted list
+  each_insert : (Q : X → Type 0) (x : X) (ys : List X) → Q x → Each Q ys → Each Q (insert lt x ys)
+  each_insert Q x [] h e = (h, tt)
+  each_insert Q x (y ∷ ys) h e = by (lt y x) (each_insert Q x ys h e.1)
+    where
+      by : (t : Bool) → Each Q (insert lt x ys) → Each Q (if t then y ∷ insert lt x ys else x ∷ y ∷ ys)
+      by true go = (e.0, go)
+      by false go = (h, e)
+
+  pub each_sorted : (Q : X → Type 0) (xs : List X) → Each Q xs → Each Q (sorted lt xs)
+  each_sorted Q [] e = tt
+  each_sorted Q (x ∷ xs) e = each_insert Q x (sorted lt xs) e.0 (each_sorted Q xs e.1)
+
+  any_insert : (p : X → Bool) (x : X) (ys : List X) → list_any p (insert lt x ys) ≡ (p x || list_any p ys)
+  any_insert p x [] = refl
+  any_insert p x (y ∷ ys) = by (lt y x) (any_insert p x ys)
+    where
+      swap : (a b c : Bool) → a || (b || c) ≡ b || (a || c)
+      swap true true c = refl
+      swap true false c = refl
+      swap false true c = refl
+      swap false false c = refl
+
+      by : (t : Bool) → list_any p (insert lt x ys) ≡ (p x || list_any p ys) → list_any p (if t then y ∷ insert lt x ys else x ∷ y ∷ ys) ≡ (p x || (p y || list_any p ys))
+      by true go = rw go (swap (p y) (p x) (list_any p ys))
+      by false go = refl
+
+  -- and an element that passes is there where one is sorted
+  pub any_sorted : (p : X → Bool) (xs : List X) → list_any p (sorted lt xs) ≡ list_any p xs
+  any_sorted p [] = refl
+  any_sorted p (x ∷ xs) = any_insert p x (sorted lt xs) ∙ ap (λ t. p x || t) (any_sorted p xs)
+
+module _ {X Y : Type 0} (lt : Y → Y → Bool) (f : X → Y) where
+  map_insert : (x : X) (ys : List X) → map f (insert (λ a b. lt (f a) (f b)) x ys) ≡ insert lt (f x) (map f ys)
+  map_insert x [] = refl
+  map_insert x (y ∷ ys) = by (lt (f y) (f x)) (map_insert x ys)
+    where
+      by : (t : Bool) → map f (insert (λ a b. lt (f a) (f b)) x ys) ≡ insert lt (f x) (map f ys)
+          → map f (if t then y ∷ insert (λ a b. lt (f a) (f b)) x ys else x ∷ y ∷ ys) ≡ (if t then f y ∷ insert lt (f x) (map f ys) else f x ∷ f y ∷ map f ys)
+      by true go = ap (λ l. f y ∷ l) go
+      by false go = refl
+
+  -- sorted by what f gives
+  pub map_sorted : (xs : List X) → map f (sorted (λ a b. lt (f a) (f b)) xs) ≡ sorted lt (map f xs)
+  map_sorted [] = refl
+  map_sorted (x ∷ xs) = map_insert x (sorted (λ a b. lt (f a) (f b)) xs) ∙ ap (insert lt (f x)) (map_sorted xs)

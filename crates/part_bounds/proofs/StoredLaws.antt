@@ -2,7 +2,7 @@
 use Rattle.std.proofs.Math.Nat.{eq-or-lt_of_le}
 use Rattle.std.proofs.lemmas.List.{get_or_default}
 use Rattle.std.specs.Prelude.{◌==◌, if◌then◌else◌}
-use Rattle.std.proofs.Common.{◌≡◌, inl, inr, ℕ, zero, suc, ◌+◌, ◌-◌, ◌*◌, ◌/◌, ◌%◌, ◌<◌, ◌≤◌, Bool, true, false, true≢false, not, ◌&&◌, ◌||◌, List, [], ◌∷◌, length, map, get_or, refl, sym, ap, subst, ◌∙◌, arith}
+use Rattle.std.proofs.Common.{◌≡◌, inl, inr, ℕ, zero, suc, ◌+◌, ◌-◌, ◌*◌, ◌/◌, ◌%◌, ◌<◌, ◌≤◌, Bool, true, false, true≢false, not, ◌&&◌, ◌||◌, List, [], ◌∷◌, ◌++◌, length, map, get_or, refl, sym, ap, subst, ◌∙◌, arith}
 use Rattle.std.specs.List.{All, AllPairs}
 use Rattle.std.specs.Ordering.{is_gt, is_lt, is_le}
 use Rattle.std.specs.Cmp.{IsStrictWeakOrder}
@@ -15,14 +15,14 @@ use Rattle.part_bounds.specs.declared.point.Edge.{Edge}
 use Rattle.part_bounds.specs.Points.{point_order, EdgeOfKind}
 use Rattle.part_bounds.specs.Bounds.{is_below, comes_after, overlaps, BoundOfKind, CanCompare, IsInPlainOrder}
 use Rattle.part_bounds.specs.Accepts.{is_default}
-use Rattle.part_bounds.specs.Stored.{Each, InRow, range_points, stored, owners, of_ranges, IsRangeLevel, passes, upper_of, Mark, marks_from, marks, lies_below, in_sibling, begins_up_to, CanBegin, RangesFit, Splits}
+use Rattle.part_bounds.specs.Stored.{Each, InRow, range_points, stored, owners, of_ranges, IsRangeLevel, passes, upper_of, Mark, points_in, marks_from, marks, lies_below, in_sibling, begins_up_to, CanBegin, RangesFit, Splits}
 use Rattle.std.specs.declared.cmp.Ordering.{Ordering}
 use Rattle.std.specs.declared.cmp.Ordering.TheVariants.{Less, Equal, Greater}
 use Rattle.part_bounds.proofs.PointOrder.{point_total}
 use Rattle.part_bounds.proofs.OverlapLaws.{overlap_of_filled}
 use Rattle.part_bounds.proofs.TotalOrder.{turn, le_trans, le_lt, lt-le, lt-gt, le-not_gt, not_gt-le}
 use Rattle.part_bounds.proofs.Halves.{Falls}
-use Rattle.part_bounds.proofs.Stable.{NoneLess, Rising, sorted_itself}
+use Rattle.part_bounds.proofs.Stable.{NoneLess, Rising, sorted_itself, each_sorted}
 
 -- the order of marks by their points
 pub marks_weak : IsStrictWeakOrder lies_below
@@ -105,7 +105,7 @@ no_points [] j e lt = omega arith
 no_points (b ∷ bounds) j e lt = cc
 
 -- from below, a point that is not above the next passes where that one does
-passes_down : (e : Bool) (q p r : List Edge) → is_gt (point_order p r) ≡ false → passes e q r ≡ true → passes e q p ≡ true
+pub passes_down : (e : Bool) (q p r : List Edge) → is_gt (point_order p r) ≡ false → passes e q r ≡ true → passes e q p ≡ true
 passes_down true q p r h k = not_gt-le (point_order p q) (le_trans point_total p r q h (le-not_gt (point_order r q) k))
 passes_down false q p r h k = le_lt point_total p r q h k
 
@@ -515,9 +515,6 @@ stored_row bounds h = ap (λ ms. map (λ m. m.point) ms) (marks_row bounds h) �
 pub owned_row : (bounds : List Bound) → InRow bounds → (i : ℕ) → i < length (stored bounds) → get_or (owners bounds) i 0 ≡ 0 + i / 2
 owned_row bounds h i lt = ap (λ ms. get_or (map (λ m. m.child) ms) i 0) (marks_row bounds h) ∙ owned 0 bounds h i (omega (arith, lt, ap length (stored_row bounds h)))
 
-pub falls_row : (bounds : List Bound) → InRow bounds → (e : Bool) (q : List Edge) → Falls (passes e q) (stored bounds)
-falls_row bounds h e q = subst (λ ps. Falls (passes e q) ps) (sym (stored_row bounds h)) (falls bounds h e q)
-
 pub row_at : (bounds : List Bound) → InRow bounds → (i : ℕ) → get_or (range_points bounds) i [] ≡ get_or (stored bounds) i []
 row_at bounds h i = ap (λ ps. get_or ps i []) (sym (stored_row bounds h))
 
@@ -526,3 +523,24 @@ row_lt bounds h i lt = omega (arith, lt, ap length (stored_row bounds h))
 
 pub kinds_row : (P : Value → Type 0) (bounds : List Bound) → InRow bounds → All (BoundOfKind P) bounds → All (λ p. All (EdgeOfKind P) p) (stored bounds)
 kinds_row P bounds h all = subst (λ ps. All (λ p. All (EdgeOfKind P) p) ps) (sym (stored_row bounds h)) (all_of (λ p. All (EdgeOfKind P) p) (range_points bounds) (of_kinds P bounds all))
+
+-- ---- what holds of the points of each bound holds of the stored ones
+
+each_append : {X : Type 0} (Q : X → Type 0) (xs ys : List X) → Each Q xs → Each Q ys → Each Q (xs ++ ys)
+each_append Q [] ys h k = k
+each_append Q (x ∷ xs) ys h k = (h.0, each_append Q xs ys h.1 k)
+
+each_marked : (P : List Edge → Type 0) (n : ℕ) (ps : List (List Edge)) → Each P ps → Each {X = Mark} (λ m. P m.point) (map (λ p. record { point = p; child = n }) ps)
+each_marked P n [] h = tt
+each_marked P n (p ∷ ps) h = (h.0, each_marked P n ps h.1)
+
+each_marks : (P : List Edge → Type 0) (n : ℕ) (bounds : List Bound) → Each (λ b. Each P (points_in b)) bounds → Each {X = Mark} (λ m. P m.point) (marks_from n bounds)
+each_marks P n [] h = tt
+each_marks P n (b ∷ bounds) h = each_append (λ (m : Mark). P m.point) _ (marks_from (suc n) bounds) (each_marked P n (points_in b) h.0) (each_marks P (suc n) bounds h.1)
+
+each_point : (P : List Edge → Type 0) (ms : List Mark) → Each {X = Mark} (λ m. P m.point) ms → Each P (map (λ m. m.point) ms)
+each_point P [] h = tt
+each_point P (m ∷ ms) h = (h.0, each_point P ms h.1)
+
+pub each_stored : (P : List Edge → Type 0) (bounds : List Bound) → Each (λ b. Each P (points_in b)) bounds → All P (stored bounds)
+each_stored P bounds h = all_of P (stored bounds) (each_point P (marks bounds) (each_sorted lies_below marks_weak (λ (m : Mark). P m.point) (marks_from 0 bounds) (each_marks P 0 bounds h)))

@@ -6,6 +6,7 @@ pub mod IntBounds
 pub mod Laws
 pub mod Levels
 pub mod Listed
+pub mod Listings
 pub mod Moduli
 pub mod Ordered
 pub mod Points

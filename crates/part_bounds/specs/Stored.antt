@@ -3,6 +3,7 @@
 use Rattle.std.specs.Prelude.{◌≡◌, ◌<◌, ◌≤◌, ℕ, suc, ◌-◌, Bool, true, false, not, List, [], ◌∷◌, ◌++◌, map, filter, length, replicate, take, nat_lt, All, if◌then◌else◌}
 use Rattle.std.specs.List.{slice_index_or, list_any, AllPairs}
 use Rattle.std.specs.Ordering.{is_lt, is_le, is_gt}
+use Rattle.std.specs.declared.cmp.Ordering.TheVariants.{Equal}
 use Rattle.pg_values.specs.declared.value.Value.{Value}
 use Rattle.pg_values.specs.declared.value.Value.TheVariants.{Null}
 use Rattle.part_bounds.specs.declared.partition_bound.Bound.{Bound}
@@ -13,7 +14,7 @@ use Rattle.part_bounds.specs.declared.point.Fill.{Fill}
 use Rattle.part_bounds.specs.declared.point.Fill.TheVariants.{Min as WithMin, Max as WithMax}
 use Rattle.part_bounds.specs.Points.{point_order, point_of, is_null, PointsFit}
 use Rattle.part_bounds.specs.Accepts.{lies_between}
-use Rattle.part_bounds.specs.Bounds.{CanCompare, is_below}
+use Rattle.part_bounds.specs.Bounds.{CanCompare, is_below, takes_default}
 use Rattle.part_bounds.specs.Sorted.{sorted}
 
 -- ---- the stored points
@@ -76,6 +77,10 @@ of_hashes _ = false
 abbrev pub IsHashLevel : List Bound → Type 0
 IsHashLevel bounds = All (λ b. of_hashes b ≡ true) bounds
 
+-- ranges or lists, perhaps with a default
+abbrev pub HasPoints : List Bound → Type 0
+HasPoints bounds = All (λ b. takes_default b ≡ true) bounds
+
 -- ---- points that are searched for
 
 -- how many edges the stored points have
@@ -107,6 +112,11 @@ pub record Splits {A : Type 0} (P : A → Bool) (xs : List A) (n : ℕ) : Type 0
   pub within : n ≤ length xs
   pub before : (k : ℕ) (d : A) → k < n → P (slice_index_or xs k d) ≡ true
   pub behind : (k : ℕ) (d : A) → n ≤ k → k < length xs → P (slice_index_or xs k d) ≡ false
+
+-- of the first n points, which are not above q, it is told whether the last is equal to q
+pub record TellsEqual (points : List (List Edge)) (q : List Edge) (n : ℕ) (equal : Bool) : Type 0 where
+  pub told : equal ≡ true → (0 < n) × (point_order (slice_index_or points (n - 1) []) q ≡ Equal)
+  pub other : equal ≡ false → (k : ℕ) (d : List Edge) → k < n → is_lt (point_order (slice_index_or points k d) q) ≡ true
 
 -- ---- ranges in their order
 

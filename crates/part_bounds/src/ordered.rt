@@ -1,7 +1,7 @@
 //! Bounds of one level in plain order, some of which may overlap or not suit one another: the bounds of all partitions
 //! that a table has ever had. A set is made of those that are there.
 
-ghost use Rattle.std.specs.Prelude.{◌≡◌, true, All};
+ghost use Rattle.std.specs.Prelude.{◌≡◌, true, All, IfOk};
 ghost use Rattle.pg_values.specs.KeyKinds.{IsNotNull};
 ghost use Rattle.part_bounds.specs.Bounds as bounds_spec;
 ghost use Rattle.part_bounds.specs.Ordered.{are_alike};
@@ -9,9 +9,11 @@ ghost use Rattle.part_bounds.specs.Bounds.{BoundOfKind, BoundOfKinds, CanCompare
 
 use crate::bound_set::is_behind;
 use crate::listed::cmp_least;
+use crate::listing::listings_of;
 use crate::point::cmp_points;
 use crate::{Bound, BoundSet};
-use pg_values::{KeyKind, ValueKey};
+use pg_values::{KeyKind, NoMemory, ValueKey};
+use std::alloc::Global;
 
 /// Whether the first bound stands behind the second in plain order.
 pub fn comes_after(a: &Bound, b: &Bound) -> bool
@@ -41,11 +43,20 @@ pub fn comes_after(a: &Bound, b: &Bound) -> bool
     }
 }
 
-/// The set of bounds that stand in plain order already. It compares none of them.
-pub fn set_in_order<K: KeyKind>(bounds: Vec<Bound>, kind: K) -> BoundSet<K>
+/// The set of bounds that stand in plain order already. It compares listed values alone.
+pub fn set_in_order<K: KeyKind + Drop>(
+    alloc: Global,
+    bounds: Vec<Bound>,
+    kind: K,
+) -> Result<BoundSet<K>, NoMemory>
     requires of_kind { All (BoundOfKinds K.admits) bounds.items }
     requires ordered { IsInPlainOrder bounds.items }
-    ensures { result ≡ bounds.items }
+    ensures { IfOk result (λ set. set ≡ bounds.items) }
 {
-    BoundSet { kind, bounds }
+    let listings = listings_of(alloc, &bounds)?;
+    Ok(BoundSet {
+        kind,
+        bounds,
+        listings,
+    })
 }

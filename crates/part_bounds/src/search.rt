@@ -4,13 +4,16 @@ ghost use Rattle.part_bounds.specs.Bounds.{BoundOfKind, BoundsFit, greater, is_b
 ghost use Rattle.part_bounds.specs.Points.{EdgeOfKind, PointsFit};
 ghost use Rattle.part_bounds.specs.Accepts as accepts_spec;
 ghost use Rattle.part_bounds.specs.Accepts.{accepts_among, leaves_remainder, FitsBound, FitsSet};
-ghost use Rattle.part_bounds.specs.Stored.{stored, of_ranges, of_hashes, IsRangeLevel, IsHashLevel};
+ghost use Rattle.part_bounds.specs.Stored.{stored, IsRangeLevel, IsListLevel, IsHashLevel};
+ghost use Rattle.part_bounds.specs.Listings as listings;
 
 use crate::key::{has_null, row_hash};
-use crate::listed::{count_lists, count_share};
+use crate::level_kind::{is_hash_level, is_range_level};
+use crate::listed::{count_lists, count_share, lists_null};
 use crate::moduli::agree;
 use crate::partition_bound::is_default;
 use crate::point::{count_key, count_points};
+use crate::stored::search_points;
 use crate::{Bound, BoundSet, Fill, Key, Point, default_child, points_below};
 use pg_values::{KeyKind, Steps};
 use std::marker::Brand;
@@ -166,22 +169,35 @@ fn range_child<K: KeyKind, Q: Key, L: Ledger>(
     None
 }
 
-// The partition whose bound by itself accepts the key, one after the other.
-fn scan_child<K: KeyKind, Q: Key, L: Ledger>(
+// The list that has the key's value: the search by halves learns it from its last point that is not above the value, so
+// it compares nothing more.
+fn list_child<K: KeyKind, Q: Key, L: Ledger>(
     set: &BoundSet<K>,
     key: &Q,
     steps: &mut Steps<L>,
 ) -> Option<usize>
-    requires { FitsSet set.now (Q.values key.now) }
-    ensures { result ≡ position (accepts_spec.accepts (Q.values key.now)) set.now }
+    requires lists { IsListLevel set.now }
+    requires one { length (Q.values key.now) ≡ 1 }
+    requires fits { FitsSet set.now (Q.values key.now) }
+    ensures child { result ≡ position (accepts_spec.accepts (Q.values key.now)) set.now }
+    ensures later { steps.old ≤ steps.new }
+    ensures cost { 2 ^ (steps.new - steps.old) ≤ 2 * length (stored set.now) + 2 }
 {
-    let has_null = has_null(key);
-    for (i, b) in set.bounds.iter().enumerate() {
-        if count_accepts(&set.kind, b, key, has_null, steps) {
-            return Some(i);
-        }
+    if has_null(key) {
+        return null_child(set);
+    }
+    let found = search_points(set, key, key.len(), Fill::Min, true, steps);
+    if found.equal {
+        return Some(set.listings[found.below - 1].child);
     }
     None
+}
+
+// The list that has NULL.
+fn null_child<K: KeyKind>(set: &BoundSet<K>) -> Option<usize>
+    ensures { result ≡ position listings.lists_null set.now }
+{
+    set.bounds.iter().position(|b| lists_null(b))
 }
 
 // Whether the bound has a remainder that the hash leaves.
@@ -209,44 +225,6 @@ fn hash_child<K: KeyKind, Q: Key>(set: &BoundSet<K>, key: &Q) -> Option<usize>
     None
 }
 
-fn is_of_ranges(b: &Bound) -> bool
-    ensures { result ≡ of_ranges b.now }
-{
-    match b {
-        Bound::Range { .. } => true,
-        Bound::Default => true,
-        _ => false,
-    }
-}
-
-fn is_of_hashes(b: &Bound) -> bool
-    ensures { result ≡ of_hashes b.now }
-{
-    matches!(b, Bound::Hash { .. })
-}
-
-// Whether all bounds are ranges, perhaps with a default.
-fn is_range_level<K: KeyKind>(set: &BoundSet<K>) -> bool
-    ensures yes { result ≡ true → IsRangeLevel set.now }
-    ensures no { IsRangeLevel set.now → result ≡ true }
-{
-    if set.bounds.len() == 0 {
-        return true;
-    }
-    is_of_ranges(&set.bounds[0])
-}
-
-// Whether all bounds are moduli with remainders.
-fn is_hash_level<K: KeyKind>(set: &BoundSet<K>) -> bool
-    ensures yes { result ≡ true → IsHashLevel set.now }
-    ensures no { IsHashLevel set.now → result ≡ true }
-{
-    if set.bounds.len() == 0 {
-        return true;
-    }
-    is_of_hashes(&set.bounds[0])
-}
-
 // The partition whose bound by itself accepts the key.
 fn own_child<K: KeyKind, Q: Key, L: Ledger>(
     set: &BoundSet<K>,
@@ -255,8 +233,8 @@ fn own_child<K: KeyKind, Q: Key, L: Ledger>(
 ) -> Option<usize>
     requires { FitsSet set.now (Q.values key.now) }
     ensures child { result ≡ position (accepts_spec.accepts (Q.values key.now)) set.now }
-    ensures later { IsRangeLevel set.now → steps.old ≤ steps.new }
-    ensures cost { IsRangeLevel set.now → 2 ^ (steps.new - steps.old) ≤ 2 * length (stored set.now) + 2 }
+    ensures later { steps.old ≤ steps.new }
+    ensures cost { 2 ^ (steps.new - steps.old) ≤ 2 * length (stored set.now) + 2 }
     ensures hash { IsHashLevel set.now → steps.new ≡ steps.old }
 {
     if is_hash_level(set) {
@@ -265,7 +243,7 @@ fn own_child<K: KeyKind, Q: Key, L: Ledger>(
     if is_range_level(set) {
         return range_child(set, key, steps);
     }
-    scan_child(set, key, steps)
+    list_child(set, key, steps)
 }
 
 /// The partition that accepts the key: the one whose bound does, or else the default.
@@ -276,8 +254,8 @@ pub fn find_child<K: KeyKind, Q: Key, L: Ledger>(
 ) -> Option<usize>
     requires { FitsSet set.now (Q.values key.now) }
     ensures child { result ≡ position (accepts_among set.now (Q.values key.now)) set.now }
-    ensures later { IsRangeLevel set.now → steps.old ≤ steps.new }
-    ensures cost { IsRangeLevel set.now → 2 ^ (steps.new - steps.old) ≤ 2 * length (stored set.now) + 2 }
+    ensures later { steps.old ≤ steps.new }
+    ensures cost { 2 ^ (steps.new - steps.old) ≤ 2 * length (stored set.now) + 2 }
     ensures hash { IsHashLevel set.now → steps.new ≡ steps.old }
 {
     match own_child(set, key, steps) {

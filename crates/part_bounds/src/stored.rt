@@ -1,15 +1,19 @@
-ghost use Rattle.std.specs.Prelude.{◌≡◌, ◌+◌, ◌-◌, ◌*◌, ◌/◌, ◌^◌, ◌<◌, ◌≤◌, [], length, All, false, slice_index_or};
+ghost use Rattle.std.specs.Prelude.{◌≡◌, ◌+◌, ◌-◌, ◌*◌, ◌/◌, ◌^◌, ◌<◌, ◌≤◌, [], length, All, false, slice_index_or, if◌then◌else◌};
 ghost use Rattle.std.specs.List.{count_by};
 ghost use Rattle.part_bounds.specs.Accepts as accepts;
 ghost use Rattle.part_bounds.specs.declared.partition_bound.Bound.TheVariants.{Default as ByDefault};
-ghost use Rattle.part_bounds.specs.Points.{EdgeOfKind};
+ghost use Rattle.part_bounds.specs.Points.{EdgeOfKind, point_order};
+ghost use Rattle.std.specs.Ordering.{is_le as order_is_le, is_lt as order_is_lt};
 ghost use Rattle.part_bounds.specs.Stored as spec;
-ghost use Rattle.part_bounds.specs.Stored.{CanBegin, InRow, stored, range_points, width, end_of, passes, owners, in_sibling, upper_of, IsRangeLevel, RangesFit, FitsEnd, Splits};
+ghost use Rattle.part_bounds.specs.Stored.{CanBegin, InRow, stored, range_points, width, end_of, passes, owners, in_sibling, upper_of, HasPoints, IsRangeLevel, TellsEqual, RangesFit, FitsEnd, Splits};
 
+use crate::level_kind::is_range_level;
+use crate::listing::cmp_listed_end;
 use crate::partition_bound::is_default;
-use crate::point::{Fill, cmp_points, count_end};
+use crate::point::{Fill, cmp_points, count_end, counted};
 use crate::{Bound, BoundSet, Key, Point};
 use pg_values::{KeyKind, Steps};
+use std::cmp::Ordering;
 use std::sync::ledger::Ledger;
 
 // How many bounds are ranges.
@@ -38,25 +42,48 @@ fn stored_point<K: KeyKind>(set: &BoundSet<K>, i: usize) -> &Point
     }
 }
 
-// Whether the stored point of this number is below the point of the key's first values, or not
-// above it. Counted.
-fn lies_before<K: KeyKind, Q: Key, L: Ledger>(
+// How many stored points there are.
+fn point_count<K: KeyKind>(set: &BoundSet<K>) -> usize
+    requires { HasPoints set.now }
+    ensures { result ≡ length (stored set.now) }
+{
+    if is_range_level(set) {
+        2 * range_count(set)
+    } else {
+        set.listings.len()
+    }
+}
+
+// The order of the stored point of this number and the point of the key's first values, filled up. Counted.
+fn count_point<K: KeyKind, Q: Key, L: Ledger>(
     set: &BoundSet<K>,
     i: usize,
     key: &Q,
     n: usize,
     fill: Fill,
-    or_equal: bool,
     steps: &mut Steps<L>,
-) -> bool
-    requires ranges { IsRangeLevel set.now }
+) -> Ordering
+    requires level { HasPoints set.now }
     requires there { n ≤ length (Q.values key.now) }
     requires fits { FitsEnd set.now n fill (Q.values key.now) }
     requires is_point { i < length (stored set.now) }
-    ensures before { result ≡ passes or_equal (end_of (width set.now) n fill (Q.values key.now)) (slice_index_or (stored set.now) i []) }
+    ensures order { result ≡ point_order (slice_index_or (stored set.now) i []) (end_of (width set.now) n fill (Q.values key.now)) }
     ensures cost { steps.new ≡ steps.old + 1 }
 {
-    let order = count_end(&set.kind, stored_point(set, i), key, n, fill, steps);
+    let _bounds = &set.bounds;
+    if is_range_level(set) {
+        count_end(&set.kind, stored_point(set, i), key, n, fill, steps)
+    } else {
+        counted(
+            cmp_listed_end(&set.bounds, set.listings[i], key, n, fill),
+            steps,
+        )
+    }
+}
+
+fn is_before(order: Ordering, or_equal: bool) -> bool
+    ensures { result ≡ if or_equal then order_is_le order else order_is_lt order }
+{
     if or_equal {
         order.is_le()
     } else {
@@ -64,8 +91,48 @@ fn lies_before<K: KeyKind, Q: Key, L: Ledger>(
     }
 }
 
-/// How many stored points of a range level are below the point of the key's first `n` values
-/// filled up with `fill`, and with `or_equal` how many are not above it.
+// What a search finds: how many stored points lie before the point, and whether the last of them is equal to it.
+#[derive(Clone, Copy, Debug)]
+pub(crate) struct Found {
+    pub(crate) below: usize,
+    pub(crate) equal: bool,
+}
+
+// The search by halves for the point of the key's first `n` values, filled up.
+pub(crate) fn search_points<K: KeyKind, Q: Key, L: Ledger>(
+    set: &BoundSet<K>,
+    key: &Q,
+    n: usize,
+    fill: Fill,
+    or_equal: bool,
+    steps: &mut Steps<L>,
+) -> Found
+    requires level { HasPoints set.now }
+    requires there { n ≤ length (Q.values key.now) }
+    requires fits { FitsEnd set.now n fill (Q.values key.now) }
+    ensures points { Splits (passes or_equal (end_of (width set.now) n fill (Q.values key.now))) (stored set.now) result.below }
+    ensures equal { TellsEqual (stored set.now) (end_of (width set.now) n fill (Q.values key.now)) result.below result.equal }
+    ensures later { steps.old ≤ steps.new }
+    ensures cost { 2 ^ (steps.new - steps.old) ≤ 2 * length (stored set.now) + 2 }
+{
+    let mut low = 0;
+    let mut high = point_count(set);
+    let mut equal = false;
+    while low < high {
+        let middle = low + (high - low) / 2;
+        let order = count_point(set, middle, key, n, fill, steps);
+        if is_before(order, or_equal) {
+            low = middle + 1;
+            equal = order.is_eq();
+        } else {
+            high = middle;
+        }
+    }
+    Found { below: low, equal }
+}
+
+/// How many stored points of a level by range or list are below the point of the key's first `n`
+/// values filled up with `fill`, and with `or_equal` how many are not above it.
 pub fn points_below<K: KeyKind, Q: Key, L: Ledger>(
     set: &BoundSet<K>,
     key: &Q,
@@ -74,7 +141,7 @@ pub fn points_below<K: KeyKind, Q: Key, L: Ledger>(
     or_equal: bool,
     steps: &mut Steps<L>,
 ) -> usize
-    requires ranges { IsRangeLevel set.now }
+    requires level { HasPoints set.now }
     requires there { n ≤ length (Q.values key.now) }
     requires fits { FitsEnd set.now n fill (Q.values key.now) }
     ensures points { Splits (passes or_equal (end_of (width set.now) n fill (Q.values key.now))) (stored set.now) result }
@@ -82,28 +149,21 @@ pub fn points_below<K: KeyKind, Q: Key, L: Ledger>(
     ensures later { steps.old ≤ steps.new }
     ensures cost { 2 ^ (steps.new - steps.old) ≤ 2 * length (stored set.now) + 2 }
 {
-    let _bounds = &set.bounds;
-    let mut low = 0;
-    let mut high = 2 * range_count(set);
-    while low < high {
-        let middle = low + (high - low) / 2;
-        if lies_before(set, middle, key, n, fill, or_equal, steps) {
-            low = middle + 1;
-        } else {
-            high = middle;
-        }
-    }
-    low
+    search_points(set, key, n, fill, or_equal, steps).below
 }
 
 /// The child whose bound has the stored point of this number.
 pub fn owner_of<K: KeyKind>(set: &BoundSet<K>, i: usize) -> usize
-    requires ranges { IsRangeLevel set.now }
+    requires level { HasPoints set.now }
     requires there { i < length (stored set.now) }
     ensures { result ≡ slice_index_or (owners set.now) i 0 }
 {
     let _bounds = &set.bounds;
-    i / 2
+    if is_range_level(set) {
+        i / 2
+    } else {
+        set.listings[i].child
+    }
 }
 
 // Whether the bound is a range that begins at the point or below it.
