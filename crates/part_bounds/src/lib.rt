@@ -11,8 +11,14 @@
 //! `BoundSet` holds the bounds of the partitions of one table in plain order, whatever order they
 //! were added in: ranges by lower point, lists by their least value, remainders by modulus, the
 //! default last. No two of its bounds overlap, so at most one accepts a key. Contracts see the set
-//! as the list of its bounds, and `find_child` answers the place of the one that accepts. The
-//! searches count each comparison of two points, or of a listed value, in a `Steps`.
+//! as the list of its bounds, and `find_child` answers the place of the one that accepts.
+//!
+//! The stored points of a level are the lower and the upper point of each range, or the listed
+//! values that are not null, ascending, and each has its child. `find_child` and `points_below`
+//! search them by halves: ranges as they stand, since stored point i is a point of range i / 2, and
+//! lists by a sorted array of the places of their values. A key lies in a range exactly where an
+//! odd number of stored points are not above it. A level by hash compares no values. The searches
+//! count each comparison of two points, or of a listed value, in a `Steps`.
 #![tactic(auto)]
 
 mod bound_fault;

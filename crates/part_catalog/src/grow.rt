@@ -54,7 +54,8 @@ pub fn set_below(
             bounds.push(copy_bound(alloc, &entries[*number as usize].entry.bound)?)?;
         }
     }
-    Ok(set_in_order(bounds, ValueKey))
+    let set = set_in_order(alloc, bounds, ValueKey)?;
+    Ok(set)
 }
 
 /// A table with the shown entries below it, so many levels deep.
@@ -80,7 +81,7 @@ pub fn grow(
             let level = copy_level(alloc, level)?;
             let mut trees = Vec::new(alloc);
             if depth == 0 {
-                let none = set_in_order(Vec::new(alloc), ValueKey);
+                let none = set_in_order(alloc, Vec::new(alloc), ValueKey)?;
                 return Ok(Tree::level(node, level, none, trees));
             }
             let list = &below[table.number as usize];

@@ -68,8 +68,8 @@ loop-number-preserved t c =
           ap (λ (l : List TableTree). l ++ map f (filter (is_flagged F) (drop (i + 1) kids))) kept ∙ skip_step (is_flagged F) f (map seen c.loop-number.trees.items) kids i e all kid.there off c.loop-number.invariant
     ]
 
-pub set_in_order-none-requires-clause-ordered : goal.set_in_order-none-requires-clause-ordered
-set_in_order-none-requires-clause-ordered t c = none_in_order c.new.result.items c.new.ensures.items
+pub set_in_order-requires-clause-ordered : goal.set_in_order-requires-clause-ordered
+set_in_order-requires-clause-ordered t c = none_in_order c.new.result.items c.new.ensures.items
 
 pub returns-then-depth-eq0 : goal.returns-then-depth-eq0
 returns-then-depth-eq0 t c =
@@ -77,7 +77,7 @@ returns-then-depth-eq0 t c =
     let part = filter (is_flagged c.args.flags.now) (map entry_in c.args.entries.now) in
     let here = table_is c.args.tables.now c.args.table.number c.index-tables-table.result c.requires.known c.index-tables-table.is in
     let is : c.index-tables-table.result.table.shape ≡ LevelShape c.in-Level.level = cc in
-    let none : c.set_in_order-none.result ≡ [] = c.set_in_order-none.ensures ∙ c.new.ensures.items in
+    let none : c.in_ok-none-in-Level.none ≡ [] = c.in_ok-none-in-Level.ensures ∙ c.new.ensures.items in
     let bare : map seen c.new-trees.result.items ≡ [] = ap (map seen) c.new-trees.ensures.items in
     c.level.ensures
     ∙ level_made _ _ _ _ _ _ _ _ c.in_ok-node.ensures c.in_ok-level-in-Level.ensures none bare
