@@ -164,7 +164,9 @@ class Permutation:
         if not self.watches:
             return
         history = self.history
-        for session in range(len(history.names)):
+        # (sessions without an open transaction are shown the same)
+        viewers = list(history.open) + [next(iter({*range(len(history.names) + 1)} - {*history.open}))]
+        for session in viewers:
             held = history.held.get(session)
             snapshots = [Snapshot(history.now, history.open.get(session), 2**31)]
             if held:

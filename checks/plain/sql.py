@@ -1,4 +1,5 @@
 """Reads the SQL of a block: a part of what partscript reads, as plain tuples and objects."""
+import functools
 import re
 
 from script import NotRead
@@ -381,6 +382,7 @@ class Reader:
         return name, self.expression()
 
 
+@functools.lru_cache(maxsize=4096)
 def read_block(text):
     reader, found = Reader(text), []
     while reader.at < len(reader.tokens):

@@ -1,0 +1,349 @@
+"""Makes scripts from numbers that are the same on every machine: small partitioned tables, a few sessions whose
+transactions get in one another's way, and permutations of their steps."""
+
+
+class Numbers:
+    """A fixed row of numbers."""
+
+    def __init__(self, first):
+        self.state = (first * 2862933555777941757 + 3037000493) % 2**64
+        for _ in range(3):
+            self.below(2)
+
+    def below(self, count):
+        self.state = (self.state * 6364136223846793005 + 1442695040888963407) % 2**64
+        return (self.state >> 33) % count
+
+    def of(self, choices):
+        return choices[self.below(len(choices))]
+
+    def chance(self, percent):
+        return self.below(100) < percent
+
+    def weighted(self, choices):
+        """One of the choices, each of which stands beside its weight."""
+        at = self.below(sum(weight for _, weight in choices))
+        for choice, weight in choices:
+            at -= weight
+            if at < 0:
+                return choice
+        raise AssertionError
+
+
+# What the statements of a kind are, each with its weight.
+KINDS = {
+    "locks": {"select": 4, "insert": 5, "lock": 7, "delete": 1},
+    "rows": {"select": 4, "insert": 3, "delete": 8},
+    "tables": {"select": 3, "insert": 5, "delete": 2, "create": 1, "partition": 4, "detach": 4, "drop": 2, "lock": 1},
+    "updates": {"select": 3, "insert": 3, "delete": 3, "update": 9},
+    "defaults": {"select": 2, "insert": 5, "delete": 3, "partition": 6, "detach": 3, "drop": 2, "lock": 1},
+    "attaches": {"select": 2, "insert": 5, "delete": 3, "attach": 6, "detach": 5, "partition": 1, "drop": 1},
+    "cancels": {"select": 3, "insert": 4, "delete": 4, "lock": 4, "cancel": 5},
+    "mixed": {
+        "select": 3, "insert": 5, "delete": 3, "update": 5, "attach": 4, "detach": 4, "partition": 3, "create": 1,
+        "drop": 2, "lock": 2, "cancel": 2,
+    },
+}
+MODES = (
+    "ACCESS SHARE", "ROW SHARE", "ROW EXCLUSIVE", "SHARE UPDATE EXCLUSIVE", "SHARE", "SHARE ROW EXCLUSIVE", "EXCLUSIVE",
+    "ACCESS EXCLUSIVE",
+)
+
+
+class Maker:
+    def __init__(self, kind, seed):
+        self.kind, self.numbers = kind, Numbers(seed)
+        self.weights = KINDS[kind]
+        self.setup = []
+        self.tables, self.parents, self.plain = [], {}, []
+
+    # ---- tables
+
+    def value(self):
+        """A value of the key column of the root."""
+        numbers = self.numbers
+        if numbers.chance(4):
+            return "NULL"
+        return str(numbers.below(24 if numbers.chance(90) else 40))
+
+    def second(self):
+        return "NULL" if self.numbers.chance(6) else str(self.numbers.below(4))
+
+    def row(self):
+        return f"({self.value()}, {self.second()})"
+
+    def range_bound(self, is_second):
+        numbers = self.numbers
+        width = 2 if is_second else 10
+        low = numbers.below(3) * width
+        if not is_second and numbers.chance(20):
+            low += 5
+        high = low + (width if numbers.chance(85) else width // 2 if numbers.chance(50) else width * 2)
+        from_, to = str(low), str(high)
+        if numbers.chance(5):
+            from_ = "MINVALUE"
+        if numbers.chance(7):
+            to = "MAXVALUE"
+        return f"FOR VALUES FROM ({from_}) TO ({to})"
+
+    def list_bound(self, is_second):
+        numbers = self.numbers
+        first = numbers.below(3)
+        values = range(first * 8, first * 8 + 8) if not is_second else range(first * 2, first * 2 + 2)
+        values = [str(value) for value in values if not numbers.chance(15)] or ["1"]
+        if numbers.chance(15):
+            values.append("NULL")
+        return f"FOR VALUES IN ({', '.join(values)})"
+
+    def hash_bound(self, is_second):
+        modulus = self.numbers.of((2, 4, 4) if self.numbers.chance(95) else (3, 8))
+        return f"FOR VALUES WITH (MODULUS {modulus}, REMAINDER {self.numbers.below(modulus)})"
+
+    def bound(self, parent):
+        """A bound for a partition of a table; most fit, some overlap a sibling."""
+        strategy, is_second = self.parents.get(parent, ("RANGE", False))
+        if strategy != "HASH" and self.numbers.chance(self.default_chance()):
+            return "DEFAULT"
+        return {"RANGE": self.range_bound, "LIST": self.list_bound, "HASH": self.hash_bound}[strategy](is_second)
+
+    def default_chance(self):
+        return {"defaults": 15, "attaches": 12, "mixed": 12}.get(self.kind, 0)
+
+    def default_of_setup_chance(self):
+        """(beside a default no further partition is made in kinds without it)"""
+        return 0 if self.kind == "tables" else 60 if self.default_chance() else 25
+
+    def by(self, name, strategy, is_second):
+        self.parents[name] = (strategy, is_second)
+        return f" PARTITION BY {strategy} ({'v' if is_second else 'a'})"
+
+    def make_children(self, parent):
+        strategy, is_second = self.parents[parent]
+        numbers = self.numbers
+        prefix = "p" if parent == "t" else parent + "_"
+        bounds = {
+            ("RANGE", False): ["FROM (0) TO (10)", "FROM (10) TO (20)", "FROM (20) TO (30)"],
+            ("RANGE", True): ["FROM (0) TO (2)", "FROM (2) TO (4)"],
+            ("LIST", False): ["IN (" + ", ".join(map(str, range(first, first + 8))) + ")" for first in (0, 8, 16)],
+            ("LIST", True): ["IN (0, 1)", "IN (2, 3, NULL)"],
+            ("HASH", False): [f"WITH (MODULUS {m}, REMAINDER {r})" for m, r in ((2, 0), (4, 1), (4, 3))],
+            ("HASH", True): [f"WITH (MODULUS 2, REMAINDER {r})" for r in (0, 1)],
+        }[strategy, is_second]
+        if len(bounds) > 2 and numbers.chance(40):
+            bounds = bounds[:2]
+        for place, bound in enumerate(bounds):
+            self.make_partition(f"{prefix}{place}", parent, f"FOR VALUES {bound}")
+        if strategy != "HASH" and numbers.chance(self.default_of_setup_chance()):
+            self.make_partition(f"{prefix}d" if parent != "t" else "pd", parent, "DEFAULT")
+
+    def make_partition(self, name, parent, bound):
+        below = ""
+        if parent == "t" and self.numbers.chance(22):
+            below = self.by(name, self.numbers.of(("RANGE", "LIST", "LIST", "HASH")), True)
+        self.tables.append(name)
+        self.setup.append(f"CREATE TABLE {name} PARTITION OF {parent} {bound}{below};")
+        if below:
+            self.make_children(name)
+
+    def make_tables(self):
+        numbers = self.numbers
+        kinds = "a int, v int" if numbers.chance(85) else "a int, v int NOT NULL"
+        self.tables.append("t")
+        self.setup.append(f"CREATE TABLE t ({kinds})" + self.by("t", numbers.of(("RANGE", "RANGE", "LIST", "HASH")), False) + ";")
+        self.make_children("t")
+        for name in ("x", "y"):
+            below = ""
+            if numbers.chance(15):
+                below = self.by(name, "LIST", True)
+            self.plain.append(name)
+            self.setup.append(f"CREATE TABLE {name} ({kinds}){below};")
+            if below:
+                for place, bound in enumerate(("IN (0, 1, NULL)", "IN (2, 3)")):
+                    self.setup.append(f"CREATE TABLE {name}{place} PARTITION OF {name} FOR VALUES {bound};")
+                    self.plain.append(f"{name}{place}")
+        rows = [f"({10 * place + numbers.below(7)}, {numbers.below(4)})" for place in range(2 + numbers.below(4))]
+        rows = [row for row in rows if int(row[1:].split(",")[0]) < 16]
+        self.setup.append(f"INSERT INTO t VALUES {', '.join(rows)};" if self.parents["t"][0] != "HASH"
+                          else f"INSERT INTO t VALUES {rows[0]};")
+        if numbers.chance(60):
+            low = numbers.of((0, 10, 20))
+            self.setup.append(f"INSERT INTO x VALUES ({low + numbers.below(5)}, 1), ({low + numbers.below(5)}, 2);")
+
+    # ---- statements
+
+    def any_table(self):
+        numbers = self.numbers
+        if numbers.chance(50):
+            return "t"
+        if numbers.chance(75):
+            return numbers.of(self.tables)
+        return numbers.of(self.plain + ["n1", "n2"])
+
+    def condition(self):
+        numbers = self.numbers
+        return numbers.of((
+            "", "", f" WHERE a = {numbers.below(16)}", f" WHERE a < {numbers.of((5, 10, 15))}", f" WHERE v = {numbers.below(4)}",
+            f" WHERE v >= {numbers.below(4)}", f" WHERE a >= {numbers.of((3, 10, 12))}",
+            f" WHERE a IN ({numbers.below(12)}, {10 + numbers.below(12)})", " WHERE a IS NULL",
+            f" WHERE a BETWEEN {numbers.below(8)} AND {8 + numbers.below(14)} AND v <> {numbers.below(4)}",
+            f" WHERE a > {numbers.below(16)} OR v IS NULL",
+        ))
+
+    def select(self):
+        numbers = self.numbers
+        items = numbers.of(("tableoid::regclass, a, v", "a, v", "*", "a"))
+        order = numbers.of(("", "", " ORDER BY a", " ORDER BY v DESC, a", " ORDER BY a LIMIT 2"))
+        return f"SELECT {items} FROM {self.any_table()}{self.condition()}{order};"
+
+    def insert(self):
+        numbers = self.numbers
+        rows = ", ".join(self.row() for _ in range(1 if numbers.chance(70) else 2 + numbers.below(2)))
+        if numbers.chance(5):
+            return f"INSERT INTO {self.any_table()} (v, a) VALUES ({self.second()}, {self.value()});"
+        return f"INSERT INTO {self.any_table()} VALUES {rows};"
+
+    def delete(self):
+        return f"DELETE FROM {self.any_table()}{self.condition()};"
+
+    def update(self):
+        numbers = self.numbers
+        change = numbers.of((
+            "v = v + 1", f"v = {self.second()}", f"a = {self.value()}", "a = a + 10", "a = a - 10", "a = a + 1",
+            f"a = {self.value()}, v = {self.second()}", "v = a", "a = v",
+        ))
+        return f"UPDATE {self.any_table()} SET {change}{self.condition()};"
+
+    def lock(self):
+        numbers = self.numbers
+        names = [("ONLY " if numbers.chance(25) else "") + self.any_table() for _ in range(1 if numbers.chance(85) else 2)]
+        mode = f" IN {numbers.of(MODES)} MODE" if numbers.chance(80) else ""
+        return f"LOCK TABLE {', '.join(names)}{mode};"
+
+    def parent(self):
+        numbers = self.numbers
+        if numbers.chance(75) or len(self.parents) == 1:
+            return "t" if numbers.chance(97) else numbers.of(self.tables + self.plain)
+        return numbers.of(sorted(self.parents))
+
+    def create(self):
+        numbers = self.numbers
+        name = numbers.of(("n1", "n2", "n3", "x"))
+        below = self.by(name, "RANGE", False) if numbers.chance(25) else ""
+        return f"CREATE TABLE {name} (a int, v int){below};"
+
+    def partition(self):
+        numbers = self.numbers
+        name, parent = numbers.of(("n1", "n2", "n3", "p2")), self.parent()
+        below = self.by(name, numbers.of(("LIST", "RANGE")), True) if numbers.chance(12) else ""
+        return f"CREATE TABLE {name} PARTITION OF {parent} {self.bound(parent)}{below};"
+
+    def attach(self):
+        numbers = self.numbers
+        name = numbers.of(self.plain + ["x", "y", "n1", "n2"] + self.tables)
+        parent = self.parent()
+        return f"ALTER TABLE {parent} ATTACH PARTITION {name} {self.bound(parent)};"
+
+    def detach(self):
+        numbers = self.numbers
+        name = numbers.of(self.tables[1:] + self.plain + ["n1", "n2"])
+        parent = "t" if "_" not in name else name.split("_")[0]
+        if numbers.chance(6):
+            parent = self.parent()
+        return f"ALTER TABLE {parent} DETACH PARTITION {name};"
+
+    def drop(self):
+        numbers = self.numbers
+        names = [numbers.of(self.tables[1:] + self.plain + ["n1", "n2", "n3"]) for _ in range(1 if numbers.chance(88) else 2)]
+        if numbers.chance(4):
+            names = ["t"]
+        return f"DROP TABLE {'IF EXISTS ' if numbers.chance(15) else ''}{', '.join(names)};"
+
+    def cancel(self):
+        return f"SELECT pg_cancel_backend({self.numbers.below(7)});"
+
+    def statement(self):
+        return getattr(self, self.numbers.weighted(list(self.weights.items())))()
+
+    # ---- sessions
+
+    def steps(self, wanted):
+        """The blocks of a session, in the order in which it runs them."""
+        numbers, found, is_open = self.numbers, [], False
+        while len(found) < wanted or is_open:
+            begin = numbers.of(("BEGIN;", "BEGIN;", "BEGIN ISOLATION LEVEL REPEATABLE READ;"))
+            if is_open and (len(found) >= wanted or numbers.chance(22)):
+                found.append("ROLLBACK;" if numbers.chance(25) else "COMMIT;")
+                is_open = False
+            elif is_open:
+                found.append(self.statement() + (" " + self.statement() if numbers.chance(8) else ""))
+            elif numbers.chance(70):
+                is_open = True
+                found.append(begin + (" " + self.statement() if numbers.chance(60) else ""))
+            elif numbers.chance(10):
+                found.append(f"{self.statement()} {begin} {self.statement()}")
+                is_open = True
+            else:
+                found.append(self.statement() + (" " + self.statement() if numbers.chance(10) else ""))
+        return found
+
+    def marked(self, name, others):
+        numbers = self.numbers
+        if not numbers.chance(4) or not others:
+            return name
+        return name + ("(*)" if numbers.chance(40) else f"({numbers.of(others)})")
+
+    def permutation(self, names):
+        """The sessions' steps, each session's in their order, mixed; a session goes on for a while at times."""
+        numbers, left, uses, session = self.numbers, [list(own) for own in names], [], 0
+        while any(left):
+            if numbers.chance(65) or not left[session]:
+                session = numbers.of([place for place, own in enumerate(left) if own])
+            name = left[session].pop(0)
+            others = [other for place, own in enumerate(names) if place != session for other in own]
+            uses.append(self.marked(name, others))
+        return uses
+
+
+class Made:
+    """Tables, the steps of each session as pairs of name and block, and permutations."""
+
+    def __init__(self, kind, seed, ending):
+        maker = Maker(kind, seed)
+        maker.make_tables()
+        self.setup = maker.setup
+        self.sessions = []
+        for letter in "abcde"[:2 + maker.numbers.below(4)]:
+            blocks = maker.steps(3 + maker.numbers.below(7))
+            self.sessions.append([(f"{letter}{number}{ending}", block) for number, block in enumerate(blocks, 1)])
+        names = [[name for name, _ in steps] for steps in self.sessions]
+        self.permutations = [maker.permutation(names) for _ in range(3)]
+
+
+LOOK = "SELECT tableoid::regclass, * FROM t; SELECT * FROM x;"
+
+
+def script_of(made):
+    """One script of several: the tables of each are made by a step of the session `maker`, and looked at in the end."""
+    lines = []
+    for place in range(5):
+        lines.append(f"session s{place + 1}")
+        steps = [step for one in made if place < len(one.sessions) for step in one.sessions[place]]
+        lines += [f"step {name} {{ {block} }}" for name, block in steps or [(f"none{place}", "")]]
+    lines += ["session z", f"step look {{ {LOOK} }}", "session maker"]
+    for number, one in enumerate(made):
+        lines += [f"step make{number} {{ " + "\n  ".join(one.setup) + " }"]
+    for number, one in enumerate(made):
+        lines += [f"permutation make{number} {' '.join(uses)} look" for uses in one.permutations]
+    return "\n".join(lines) + "\n"
+
+
+def alone(setup, sessions, uses):
+    """A script of one permutation, of the steps that it uses or names."""
+    named = {name for use in uses for name in use.replace("(", " ").replace(")", " ").split()}
+    lines = ["setup {\n  " + "\n  ".join(setup) + "\n}"]
+    for place, steps in enumerate(sessions):
+        lines.append(f"session s{place + 1}")
+        kept = [step for step in steps if step[0] in named]
+        lines += [f"step {name} {{ {block} }}" for name, block in kept or [(f"none{place}", "")]]
+    lines += ["session z", f"step look {{ {LOOK} }}", "permutation " + " ".join(uses)]
+    return "\n".join(lines) + "\n"
