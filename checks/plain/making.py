@@ -62,9 +62,9 @@ class Maker:
     def value(self):
         """A value of the key column of the root."""
         numbers = self.numbers
-        if numbers.chance(4):
+        if numbers.chance(3):
             return "NULL"
-        return str(numbers.below(24 if numbers.chance(90) else 40))
+        return str(numbers.below(20 if numbers.chance(92) else 40))
 
     def second(self):
         return "NULL" if self.numbers.chance(6) else str(self.numbers.below(4))
@@ -173,11 +173,12 @@ class Maker:
 
     def any_table(self):
         numbers = self.numbers
-        if numbers.chance(50):
+        if numbers.chance(55):
             return "t"
-        if numbers.chance(75):
+        if numbers.chance(80):
             return numbers.of(self.tables)
-        return numbers.of(self.plain + ["n1", "n2"])
+        makes = {"partition", "create"} & set(self.weights)
+        return numbers.of(self.plain + (["n1", "n2"] if makes or numbers.chance(5) else []))
 
     def condition(self):
         numbers = self.numbers
@@ -218,6 +219,11 @@ class Maker:
         names = [("ONLY " if numbers.chance(25) else "") + self.any_table() for _ in range(1 if numbers.chance(85) else 2)]
         mode = f" IN {numbers.of(MODES)} MODE" if numbers.chance(80) else ""
         return f"LOCK TABLE {', '.join(names)}{mode};"
+
+    def outside(self):
+        """A statement outside of a transaction, where LOCK is refused."""
+        statement = self.statement()
+        return self.statement() if statement.startswith("LOCK") and self.numbers.chance(95) else statement
 
     def parent(self):
         numbers = self.numbers
@@ -271,19 +277,19 @@ class Maker:
         numbers, found, is_open = self.numbers, [], False
         while len(found) < wanted or is_open:
             begin = numbers.of(("BEGIN;", "BEGIN;", "BEGIN ISOLATION LEVEL REPEATABLE READ;"))
-            if is_open and (len(found) >= wanted or numbers.chance(22)):
+            if is_open and (len(found) >= wanted or numbers.chance(27)):
                 found.append("ROLLBACK;" if numbers.chance(25) else "COMMIT;")
                 is_open = False
             elif is_open:
                 found.append(self.statement() + (" " + self.statement() if numbers.chance(8) else ""))
-            elif numbers.chance(70):
+            elif numbers.chance(80):
                 is_open = True
                 found.append(begin + (" " + self.statement() if numbers.chance(60) else ""))
-            elif numbers.chance(10):
-                found.append(f"{self.statement()} {begin} {self.statement()}")
+            elif numbers.chance(6):
+                found.append(f"{self.outside()} {begin} {self.statement()}")
                 is_open = True
             else:
-                found.append(self.statement() + (" " + self.statement() if numbers.chance(10) else ""))
+                found.append(self.outside() + (" " + self.statement() if numbers.chance(10) else ""))
         return found
 
     def marked(self, name, others):
