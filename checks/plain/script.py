@@ -85,6 +85,8 @@ def read_script(text):
         if session.name in (other.name for other in script.sessions):
             raise NotRead("a session's name is used twice")
         script.sessions.append(session)
+        if len(script.sessions) > 64:
+            raise NotRead("more sessions than there may be")
         if reader.took("word", "setup"):
             session.setup = reader.take("block")
         while reader.took("word", "step"):

@@ -37,9 +37,23 @@ def fold(word):
     return "".join(c.lower() if c.isascii() else c for c in word)
 
 
+def behind_comment(text, at):
+    depth, at = 1, at + 2
+    while depth:
+        sign = text[at:at + 2]
+        if len(sign) < 2:
+            raise NotRead("a comment without an end")
+        depth += {"/*": 1, "*/": -1}.get(sign, 0)
+        at += 2 if sign in ("/*", "*/") else 1
+    return at
+
+
 def tokens(text):
     found, at = [], 0
     while at < len(text):
+        if text.startswith("/*", at):
+            at = behind_comment(text, at)
+            continue
         token = TOKEN.match(text, at)
         if not token:
             raise NotRead(f"a token of SQL at {at}")
