@@ -78,6 +78,7 @@ class History:
     def __init__(self, names):
         self.names = names                  # of the sessions, the control session first
         self.now = 0                        # the place: how many events there were
+        self.changes = 0                    # how many of them change what somebody may see
         self.owners = []                    # the session of each transaction
         self.fates = {}                     # of a transaction that has ended: its place, and whether it was committed
         self.open = {}                      # the open transaction of a session
@@ -97,9 +98,13 @@ class History:
     def end(self, session, is_committed):
         """Ends the transaction of a session: its locks and its snapshot are given up."""
         self.fates[self.open.pop(session)] = (self.now, is_committed)
-        self.now += 1
+        self.changed()
         self.held_locks[session] = []
         self.held.pop(session, None)
+
+    def changed(self):
+        self.now += 1
+        self.changes += 1
 
     def is_running(self, tx):
         return tx not in self.fates
@@ -144,12 +149,12 @@ class History:
         version = Version(len(self.versions), table, values, tx, cmd)
         self.versions.append(version)
         table.versions.append(version)
-        self.now += 1
+        self.changed()
         return version
 
     def end_version(self, version, tx, cmd, how, other=None):
         version.ends.append((tx, cmd, how, other))
-        self.now += 1
+        self.changed()
 
     # ---- tables
 
@@ -178,7 +183,12 @@ class History:
         entry = Entry(parent, child, bound, tx)
         self.entries.append(entry)
         self.entries_of[parent].append(entry)
-        self.now += 1
+        self.changed()
+
+    def end_thing(self, thing, tx):
+        """Ends an entry, or drops a table."""
+        thing.ends.append(tx)
+        self.changed()
 
     def children(self, table, session):
         """The entries that are present below a table, in plain order."""

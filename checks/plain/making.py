@@ -1,5 +1,8 @@
 """Makes scripts from numbers that are the same on every machine: small partitioned tables, a few sessions whose
 transactions get in one another's way, and permutations of their steps."""
+from bounds import key_hash
+from runs import Permutation
+from script import Script, Session, Step, Use
 
 
 class Numbers:
@@ -33,9 +36,9 @@ class Numbers:
 # What the statements of a kind are, each with its weight.
 KINDS = {
     "locks": {"select": 4, "insert": 5, "lock": 7, "delete": 1},
-    "rows": {"select": 4, "insert": 3, "delete": 8},
+    "rows": {"select": 3, "insert": 3, "delete": 10},
     "tables": {"select": 3, "insert": 5, "delete": 2, "create": 1, "partition": 4, "detach": 4, "drop": 2, "lock": 1},
-    "updates": {"select": 3, "insert": 3, "delete": 3, "update": 9},
+    "updates": {"select": 2, "insert": 2, "delete": 3, "update": 10},
     "defaults": {"select": 2, "insert": 5, "delete": 3, "partition": 6, "detach": 3, "drop": 2, "lock": 1},
     "attaches": {"select": 2, "insert": 5, "delete": 3, "attach": 6, "detach": 5, "partition": 1, "drop": 1},
     "cancels": {"select": 3, "insert": 4, "delete": 4, "lock": 4, "cancel": 5},
@@ -55,7 +58,7 @@ class Maker:
         self.kind, self.numbers = kind, Numbers(seed)
         self.weights = KINDS[kind]
         self.setup = []
-        self.tables, self.parents, self.plain = [], {}, []
+        self.tables, self.parents, self.plain, self.keys = [], {}, [], []
 
     # ---- tables
 
@@ -161,10 +164,12 @@ class Maker:
                 for place, bound in enumerate(("IN (0, 1, NULL)", "IN (2, 3)")):
                     self.setup.append(f"CREATE TABLE {name}{place} PARTITION OF {name} FOR VALUES {bound};")
                     self.plain.append(f"{name}{place}")
-        rows = [f"({10 * place + numbers.below(7)}, {numbers.below(4)})" for place in range(2 + numbers.below(4))]
-        rows = [row for row in rows if int(row[1:].split(",")[0]) < 16]
-        self.setup.append(f"INSERT INTO t VALUES {', '.join(rows)};" if self.parents["t"][0] != "HASH"
-                          else f"INSERT INTO t VALUES {rows[0]};")
+        # (keys that some partition accepts, however t is partitioned)
+        keys = (0, 1, 3, 4, 5, 7, 10, 11, 12, 14, 15)
+        if self.parents["t"][0] == "HASH":
+            keys = [key for key in keys if key_hash([key]) % 4 in ((0, 1, 2, 3) if "p2" in self.tables else (0, 1, 2))]
+        self.keys = [numbers.of(keys) for _ in range(3 + numbers.below(4))]
+        self.setup.append("INSERT INTO t VALUES " + ", ".join(f"({key}, {numbers.below(4)})" for key in self.keys) + ";")
         if numbers.chance(60):
             low = numbers.of((0, 10, 20))
             self.setup.append(f"INSERT INTO x VALUES ({low + numbers.below(5)}, 1), ({low + numbers.below(5)}, 2);")
@@ -182,8 +187,10 @@ class Maker:
 
     def condition(self):
         numbers = self.numbers
+        if numbers.chance(60 if self.kind in ("rows", "updates") else 35):
+            return f" WHERE a = {numbers.of(self.keys)}"
         return numbers.of((
-            "", "", f" WHERE a = {numbers.below(16)}", f" WHERE a < {numbers.of((5, 10, 15))}", f" WHERE v = {numbers.below(4)}",
+            "", f" WHERE a = {numbers.below(16)}", f" WHERE a < {numbers.of((5, 10, 15))}", f" WHERE v = {numbers.below(4)}",
             f" WHERE v >= {numbers.below(4)}", f" WHERE a >= {numbers.of((3, 10, 12))}",
             f" WHERE a IN ({numbers.below(12)}, {10 + numbers.below(12)})", " WHERE a IS NULL",
             f" WHERE a BETWEEN {numbers.below(8)} AND {8 + numbers.below(14)} AND v <> {numbers.below(4)}",
@@ -298,15 +305,29 @@ class Maker:
             return name
         return name + ("(*)" if numbers.chance(40) else f"({numbers.of(others)})")
 
-    def permutation(self, names):
-        """The sessions' steps, each session's in their order, mixed; a session goes on for a while at times."""
-        numbers, left, uses, session = self.numbers, [list(own) for own in names], [], 0
+    def permutation(self, setup, sessions, goes_on):
+        """The sessions' steps, each session's in their order, mixed. Where `goes_on`, a session that waits is mostly
+        left waiting, as the rules tell; else a wait is often cancelled by the next step of its session."""
+        numbers, left, uses, session = self.numbers, [list(steps) for steps in sessions], [], 0
+        script = Script()
+        script.setups, script.sessions = [" ".join(setup)], [Session(f"s{place + 1}") for place in range(len(sessions))]
+        run = Permutation(script, [], lambda text: None, False)
+        if goes_on:
+            run.begin()
         while any(left):
             if numbers.chance(65) or not left[session]:
-                session = numbers.of([place for place, own in enumerate(left) if own])
-            name = left[session].pop(0)
-            others = [other for place, own in enumerate(names) if place != session for other in own]
+                choices = [place for place, steps in enumerate(left) if steps]
+                free = [place for place in choices if place + 1 not in run.running]
+                session = numbers.of(free if free and numbers.chance(92) else choices)
+            elif session + 1 in run.running and numbers.chance(92):
+                session = numbers.of([place for place, steps in enumerate(left) if steps])
+                continue
+            name, block = left[session].pop(0)
+            others = [name for place, steps in enumerate(sessions) if place != session for name, _ in steps]
             uses.append(self.marked(name, others))
+            if goes_on:
+                run.launch(Use(Step(name, block, session + 1), False, []))
+                run.settle()
         return uses
 
 
@@ -321,8 +342,7 @@ class Made:
         for letter in "abcde"[:2 + maker.numbers.below(4)]:
             blocks = maker.steps(3 + maker.numbers.below(7))
             self.sessions.append([(f"{letter}{number}{ending}", block) for number, block in enumerate(blocks, 1)])
-        names = [[name for name, _ in steps] for steps in self.sessions]
-        self.permutations = [maker.permutation(names) for _ in range(3)]
+        self.permutations = [maker.permutation(self.setup, self.sessions, place < 2) for place in range(3)]
 
 
 LOOK = "SELECT tableoid::regclass, * FROM t; SELECT * FROM x;"

@@ -34,6 +34,7 @@ class Permutation:
         self.running = {}        # the block of a session that waits: its task, its generator
         self.ended = []          # the tasks that have ended, in this order
         self.tasks = []
+        self.watched = 0
 
     # ---- blocks
 
@@ -128,14 +129,18 @@ class Permutation:
         if refusal:
             raise Failed(f"setup of {name} failed: {refusal.code} {refusal.text}\n")
 
-    def run(self):
+    def begin(self):
         script = self.script
-        self.write("\nstarting permutation: " + " ".join(use.step.name for use in self.uses) + "\n")
         for text in script.setups:
             self.setup(0, text, "control")
         for number, session in enumerate(script.sessions, 1):
             if session.setup is not None:
                 self.setup(number, session.setup, session.name)
+
+    def run(self):
+        script = self.script
+        self.write("\nstarting permutation: " + " ".join(use.step.name for use in self.uses) + "\n")
+        self.begin()
         for use in self.uses:
             self.launch(use)
         self.settle()
@@ -161,9 +166,10 @@ class Permutation:
 
     def watch(self):
         """In each session's trees each row that is seen lies in a leaf that accepts it."""
-        if not self.watches:
-            return
         history = self.history
+        if not self.watches or self.watched == history.changes:
+            return
+        self.watched = history.changes
         # (sessions without an open transaction are shown the same)
         viewers = list(history.open) + [next(iter({*range(len(history.names) + 1)} - {*history.open}))]
         for session in viewers:
