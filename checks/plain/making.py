@@ -35,9 +35,10 @@ class Numbers:
 
 # What the statements of a kind are, each with its weight.
 KINDS = {
-    "locks": {"select": 4, "insert": 5, "lock": 7, "delete": 1},
+    "locks": {"select": 5, "insert": 6, "lock": 6, "delete": 2},
     "rows": {"select": 3, "insert": 3, "delete": 10},
     "tables": {"select": 3, "insert": 5, "delete": 2, "create": 1, "partition": 4, "detach": 4, "drop": 2, "lock": 1},
+    "detaches": {"select": 4, "insert": 6, "delete": 3, "detach": 6, "drop": 3, "create": 1, "lock": 2},
     "updates": {"select": 2, "insert": 2, "delete": 3, "update": 10},
     "defaults": {"select": 2, "insert": 5, "delete": 3, "partition": 6, "detach": 3, "drop": 2, "lock": 1},
     "attaches": {"select": 2, "insert": 5, "delete": 3, "attach": 6, "detach": 5, "partition": 1, "drop": 1},
@@ -224,7 +225,7 @@ class Maker:
     def lock(self):
         numbers = self.numbers
         names = [("ONLY " if numbers.chance(25) else "") + self.any_table() for _ in range(1 if numbers.chance(85) else 2)]
-        mode = f" IN {numbers.of(MODES)} MODE" if numbers.chance(80) else ""
+        mode = f" IN {numbers.of(MODES)} MODE" if numbers.chance(60) else ""
         return f"LOCK TABLE {', '.join(names)}{mode};"
 
     def outside(self):
