@@ -60,6 +60,8 @@ class Maker:
         self.weights = KINDS[kind]
         self.setup = []
         self.tables, self.parents, self.plain, self.keys = [], {}, [], []
+        self.free = self.numbers.of((0, 1, 2, 2)) if self.default_chance() else self.numbers.of((2, 2, None))
+        self.free_bound, self.own_bounds = "", {}
 
     # ---- tables
 
@@ -106,6 +108,8 @@ class Maker:
     def bound(self, parent):
         """A bound for a partition of a table; most fit, some overlap a sibling."""
         strategy, is_second = self.parents.get(parent, ("RANGE", False))
+        if parent == "t" and self.free_bound and self.numbers.chance(50 if self.default_chance() else 15):
+            return self.free_bound
         if strategy != "HASH" and self.numbers.chance(self.default_chance()):
             return "DEFAULT"
         return {"RANGE": self.range_bound, "LIST": self.list_bound, "HASH": self.hash_bound}[strategy](is_second)
@@ -133,9 +137,13 @@ class Maker:
             ("HASH", False): [f"WITH (MODULUS {m}, REMAINDER {r})" for m, r in ((2, 0), (4, 1), (4, 3))],
             ("HASH", True): [f"WITH (MODULUS 2, REMAINDER {r})" for r in (0, 1)],
         }[strategy, is_second]
-        if len(bounds) > 2 and numbers.chance(40):
-            bounds = bounds[:2]
         for place, bound in enumerate(bounds):
+            if parent == "t":
+                # (one place of the root is often left free)
+                if place == self.free:
+                    self.free_bound = f"FOR VALUES {bound}"
+                    continue
+                self.own_bounds[f"p{place}"] = f"FOR VALUES {bound}"
             self.make_partition(f"{prefix}{place}", parent, f"FOR VALUES {bound}")
         if strategy != "HASH" and numbers.chance(self.default_of_setup_chance()):
             self.make_partition(f"{prefix}d" if parent != "t" else "pd", parent, "DEFAULT")
@@ -165,15 +173,23 @@ class Maker:
                 for place, bound in enumerate(("IN (0, 1, NULL)", "IN (2, 3)")):
                     self.setup.append(f"CREATE TABLE {name}{place} PARTITION OF {name} FOR VALUES {bound};")
                     self.plain.append(f"{name}{place}")
-        # (keys that some partition accepts, however t is partitioned)
-        keys = (0, 1, 3, 4, 5, 7, 10, 11, 12, 14, 15)
-        if self.parents["t"][0] == "HASH":
-            keys = [key for key in keys if key_hash([key]) % 4 in ((0, 1, 2, 3) if "p2" in self.tables else (0, 1, 2))]
-        self.keys = [numbers.of(keys) for _ in range(3 + numbers.below(4))]
+        taken = [key for key in range(30) if "pd" in self.tables or self.place_of(key) not in (self.free, None)]
+        self.keys = [numbers.of(taken) for _ in range(3 + numbers.below(4))]
         self.setup.append("INSERT INTO t VALUES " + ", ".join(f"({key}, {numbers.below(4)})" for key in self.keys) + ";")
-        if numbers.chance(60):
-            low = numbers.of((0, 10, 20))
-            self.setup.append(f"INSERT INTO x VALUES ({low + numbers.below(5)}, 1), ({low + numbers.below(5)}, 2);")
+        fitting = [key for key in range(30) if self.place_of(key) == (2 if self.free is None else self.free)]
+        for name in ("x", "y"):
+            if numbers.chance(60):
+                keys = [numbers.of(fitting) if numbers.chance(65) else numbers.below(30) for _ in range(2)]
+                self.keys += keys
+                self.setup.append(f"INSERT INTO {name} VALUES ({keys[0]}, 1), ({keys[1]}, 2);")
+
+    def place_of(self, key):
+        """Which of the three places of the root accepts a key."""
+        strategy = self.parents["t"][0]
+        if strategy == "HASH":
+            return (0, 1, 0, 2)[key_hash([key]) % 4]
+        place = key // (10 if strategy == "RANGE" else 8)
+        return place if place < 3 else None
 
     # ---- statements
 
@@ -185,6 +201,10 @@ class Maker:
             return numbers.of(self.tables)
         makes = {"partition", "create"} & set(self.weights)
         return numbers.of(self.plain + (["n1", "n2"] if makes or numbers.chance(5) else []))
+
+    def changed_table(self):
+        """(rows of the tables that are attached come and go too)"""
+        return self.numbers.of(("x", "y")) if self.default_chance() and self.numbers.chance(30) else self.any_table()
 
     def condition(self):
         numbers = self.numbers
@@ -212,7 +232,7 @@ class Maker:
         return f"INSERT INTO {self.any_table()} VALUES {rows};"
 
     def delete(self):
-        return f"DELETE FROM {self.any_table()}{self.condition()};"
+        return f"DELETE FROM {self.changed_table()}{self.condition()};"
 
     def update(self):
         numbers = self.numbers
@@ -220,7 +240,7 @@ class Maker:
             "v = v + 1", f"v = {self.second()}", f"a = {self.value()}", "a = a + 10", "a = a - 10", "a = a + 1",
             f"a = {self.value()}, v = {self.second()}", "v = a", "a = v",
         ))
-        return f"UPDATE {self.any_table()} SET {change}{self.condition()};"
+        return f"UPDATE {self.changed_table()} SET {change}{self.condition()};"
 
     def lock(self):
         numbers = self.numbers
@@ -253,8 +273,11 @@ class Maker:
 
     def attach(self):
         numbers = self.numbers
-        name = numbers.of(self.plain + ["x", "y", "n1", "n2"] + self.tables)
-        parent = self.parent()
+        if numbers.chance(25):
+            name = numbers.of(sorted(self.own_bounds))
+            return f"ALTER TABLE t ATTACH PARTITION {name} {self.own_bounds[name]};"
+        name = numbers.of(["x", "y"]) if numbers.chance(85) else numbers.of(self.plain + ["n1", "n2"] + self.tables)
+        parent = "t" if numbers.chance(85) else self.parent()
         return f"ALTER TABLE {parent} ATTACH PARTITION {name} {self.bound(parent)};"
 
     def detach(self):
@@ -278,6 +301,17 @@ class Maker:
     def statement(self):
         return getattr(self, self.numbers.weighted(list(self.weights.items())))()
 
+    def chain(self):
+        """Rows that stand against a new partition go, and then it is made: whoever sees them still is waited for."""
+        numbers, width = self.numbers, 8 if self.parents["t"][0] == "LIST" else 10
+        if "attach" not in self.weights or numbers.chance(30):
+            low = width * (self.free or 0)
+            return [f"DELETE FROM t WHERE a BETWEEN {low} AND {low + width - 1};",
+                    f"CREATE TABLE {numbers.of(('n1', 'n2'))} PARTITION OF t {self.free_bound};"]
+        name = numbers.of(("x", "y"))
+        where = f" WHERE a = {numbers.of(self.keys)}" if numbers.chance(50) else ""
+        return [f"DELETE FROM {name}{where};", f"ALTER TABLE t ATTACH PARTITION {name} {self.free_bound};"]
+
     # ---- sessions
 
     def steps(self, wanted):
@@ -285,11 +319,16 @@ class Maker:
         numbers, found, is_open = self.numbers, [], False
         while len(found) < wanted or is_open:
             begin = numbers.of(("BEGIN;", "BEGIN;", "BEGIN ISOLATION LEVEL REPEATABLE READ;"))
+            if self.default_chance() and numbers.chance(50):
+                # (a snapshot that is kept, and locks nothing that others want)
+                begin = "BEGIN ISOLATION LEVEL REPEATABLE READ; SELECT 1;"
             if is_open and (len(found) >= wanted or numbers.chance(27)):
                 found.append("ROLLBACK;" if numbers.chance(25) else "COMMIT;")
                 is_open = False
             elif is_open:
                 found.append(self.statement() + (" " + self.statement() if numbers.chance(8) else ""))
+            elif self.free_bound and self.default_chance() and numbers.chance(22):
+                found += self.chain()
             elif numbers.chance(80):
                 is_open = True
                 found.append(begin + (" " + self.statement() if numbers.chance(60) else ""))
