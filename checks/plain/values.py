@@ -159,8 +159,8 @@ class Scope:
         if name == "pg_backend_pid" and not arguments:
             return Bound("integer", lambda row: self.user, False)
         if name == "pg_cancel_backend" and len(arguments) == 1 and arguments[0].kind in ("integer", None, "literal"):
-            number = self.as_kind(arguments[0], "integer")
-            return Bound("boolean", lambda row: None if number.of(row) is None else self.calls(number.of(row)), False)
+            number, cancel = self.as_kind(arguments[0], "integer"), self.calls
+            return Bound("boolean", lambda row: None if number.of(row) is None else cancel(number.of(row)), False)
         raise Refusal("42883", f"no function {name}")
 
     def arithmetic(self, written):
