@@ -1,0 +1,415 @@
+"""Makes scripts from numbers that are the same on every machine: small partitioned tables, a few sessions whose
+transactions get in one another's way, and permutations of their steps."""
+from bounds import key_hash
+from runs import Permutation
+from script import Script, Session, Step, Use
+
+
+class Numbers:
+    """A fixed row of numbers."""
+
+    def __init__(self, first):
+        self.state = (first * 2862933555777941757 + 3037000493) % 2**64
+        for _ in range(3):
+            self.below(2)
+
+    def below(self, count):
+        self.state = (self.state * 6364136223846793005 + 1442695040888963407) % 2**64
+        return (self.state >> 33) % count
+
+    def of(self, choices):
+        return choices[self.below(len(choices))]
+
+    def chance(self, percent):
+        return self.below(100) < percent
+
+    def weighted(self, choices):
+        """One of the choices, each of which stands beside its weight."""
+        at = self.below(sum(weight for _, weight in choices))
+        for choice, weight in choices:
+            at -= weight
+            if at < 0:
+                return choice
+        raise AssertionError
+
+
+# What the statements of a kind are, each with its weight.
+KINDS = {
+    "locks": {"select": 5, "insert": 6, "lock": 6, "delete": 2},
+    "rows": {"select": 3, "insert": 3, "delete": 10},
+    "tables": {"select": 3, "insert": 5, "delete": 2, "create": 1, "partition": 4, "detach": 4, "drop": 2, "lock": 1},
+    "detaches": {"select": 4, "insert": 6, "delete": 3, "detach": 6, "drop": 3, "create": 1, "lock": 2},
+    "updates": {"select": 2, "insert": 2, "delete": 3, "update": 10},
+    "defaults": {"select": 2, "insert": 5, "delete": 3, "partition": 6, "detach": 3, "drop": 2, "lock": 1},
+    "attaches": {"select": 2, "insert": 5, "delete": 3, "attach": 6, "detach": 5, "partition": 1, "drop": 1},
+    "cancels": {"select": 3, "insert": 4, "delete": 4, "lock": 4, "cancel": 5},
+    "mixed": {
+        "select": 3, "insert": 5, "delete": 3, "update": 5, "attach": 4, "detach": 4, "partition": 3, "create": 1,
+        "drop": 2, "lock": 2, "cancel": 2,
+    },
+}
+MODES = (
+    "ACCESS SHARE", "ROW SHARE", "ROW EXCLUSIVE", "SHARE UPDATE EXCLUSIVE", "SHARE", "SHARE ROW EXCLUSIVE", "EXCLUSIVE",
+    "ACCESS EXCLUSIVE",
+)
+
+
+class Maker:
+    def __init__(self, kind, seed):
+        self.kind, self.numbers = kind, Numbers(seed)
+        self.weights = KINDS[kind]
+        self.setup = []
+        self.tables, self.parents, self.plain, self.keys = [], {}, [], []
+        self.free = self.numbers.of((0, 1, 2, 2)) if self.default_chance() else self.numbers.of((2, 2, None))
+        self.free_bound, self.own_bounds = "", {}
+
+    # ---- tables
+
+    def value(self):
+        """A value of the key column of the root."""
+        numbers = self.numbers
+        if numbers.chance(3):
+            return "NULL"
+        return str(numbers.below(20 if numbers.chance(92) else 40))
+
+    def second(self):
+        return "NULL" if self.numbers.chance(6) else str(self.numbers.below(4))
+
+    def row(self):
+        return f"({self.value()}, {self.second()})"
+
+    def range_bound(self, is_second):
+        numbers = self.numbers
+        width = 2 if is_second else 10
+        low = numbers.below(3) * width
+        if not is_second and numbers.chance(20):
+            low += 5
+        high = low + (width if numbers.chance(85) else width // 2 if numbers.chance(50) else width * 2)
+        from_, to = str(low), str(high)
+        if numbers.chance(5):
+            from_ = "MINVALUE"
+        if numbers.chance(7):
+            to = "MAXVALUE"
+        return f"FOR VALUES FROM ({from_}) TO ({to})"
+
+    def list_bound(self, is_second):
+        numbers = self.numbers
+        first = numbers.below(3)
+        values = range(first * 8, first * 8 + 8) if not is_second else range(first * 2, first * 2 + 2)
+        values = [str(value) for value in values if not numbers.chance(15)] or ["1"]
+        if numbers.chance(15):
+            values.append("NULL")
+        return f"FOR VALUES IN ({', '.join(values)})"
+
+    def hash_bound(self, is_second):
+        modulus = self.numbers.of((2, 4, 4) if self.numbers.chance(95) else (3, 8))
+        return f"FOR VALUES WITH (MODULUS {modulus}, REMAINDER {self.numbers.below(modulus)})"
+
+    def bound(self, parent):
+        """A bound for a partition of a table; most fit, some overlap a sibling."""
+        strategy, is_second = self.parents.get(parent, ("RANGE", False))
+        if parent == "t" and self.free_bound and self.numbers.chance(50 if self.default_chance() else 15):
+            return self.free_bound
+        if strategy != "HASH" and self.numbers.chance(self.default_chance()):
+            return "DEFAULT"
+        return {"RANGE": self.range_bound, "LIST": self.list_bound, "HASH": self.hash_bound}[strategy](is_second)
+
+    def default_chance(self):
+        return {"defaults": 15, "attaches": 12, "mixed": 12}.get(self.kind, 0)
+
+    def default_of_setup_chance(self):
+        """(beside a default no further partition is made in kinds without it)"""
+        return 0 if self.kind == "tables" else 60 if self.default_chance() else 25
+
+    def by(self, name, strategy, is_second):
+        self.parents[name] = (strategy, is_second)
+        return f" PARTITION BY {strategy} ({'v' if is_second else 'a'})"
+
+    def make_children(self, parent):
+        strategy, is_second = self.parents[parent]
+        numbers = self.numbers
+        prefix = "p" if parent == "t" else parent + "_"
+        bounds = {
+            ("RANGE", False): ["FROM (0) TO (10)", "FROM (10) TO (20)", "FROM (20) TO (30)"],
+            ("RANGE", True): ["FROM (0) TO (2)", "FROM (2) TO (4)"],
+            ("LIST", False): ["IN (" + ", ".join(map(str, range(first, first + 8))) + ")" for first in (0, 8, 16)],
+            ("LIST", True): ["IN (0, 1)", "IN (2, 3, NULL)"],
+            ("HASH", False): [f"WITH (MODULUS {m}, REMAINDER {r})" for m, r in ((2, 0), (4, 1), (4, 3))],
+            ("HASH", True): [f"WITH (MODULUS 2, REMAINDER {r})" for r in (0, 1)],
+        }[strategy, is_second]
+        for place, bound in enumerate(bounds):
+            if parent == "t":
+                # (one place of the root is often left free)
+                if place == self.free:
+                    self.free_bound = f"FOR VALUES {bound}"
+                    continue
+                self.own_bounds[f"p{place}"] = f"FOR VALUES {bound}"
+            self.make_partition(f"{prefix}{place}", parent, f"FOR VALUES {bound}")
+        if strategy != "HASH" and numbers.chance(self.default_of_setup_chance()):
+            self.make_partition(f"{prefix}d" if parent != "t" else "pd", parent, "DEFAULT")
+
+    def make_partition(self, name, parent, bound):
+        below = ""
+        if parent == "t" and self.numbers.chance(22):
+            below = self.by(name, self.numbers.of(("RANGE", "LIST", "LIST", "HASH")), True)
+        self.tables.append(name)
+        self.setup.append(f"CREATE TABLE {name} PARTITION OF {parent} {bound}{below};")
+        if below:
+            self.make_children(name)
+
+    def make_tables(self):
+        numbers = self.numbers
+        kinds = "a int, v int" if numbers.chance(85) else "a int, v int NOT NULL"
+        self.tables.append("t")
+        self.setup.append(f"CREATE TABLE t ({kinds})" + self.by("t", numbers.of(("RANGE", "RANGE", "LIST", "HASH")), False) + ";")
+        self.make_children("t")
+        for name in ("x", "y"):
+            below = ""
+            if numbers.chance(15):
+                below = self.by(name, "LIST", True)
+            self.plain.append(name)
+            self.setup.append(f"CREATE TABLE {name} ({kinds}){below};")
+            if below:
+                for place, bound in enumerate(("IN (0, 1, NULL)", "IN (2, 3)")):
+                    self.setup.append(f"CREATE TABLE {name}{place} PARTITION OF {name} FOR VALUES {bound};")
+                    self.plain.append(f"{name}{place}")
+        taken = [key for key in range(30) if "pd" in self.tables or self.place_of(key) not in (self.free, None)]
+        self.keys = [numbers.of(taken) for _ in range(3 + numbers.below(4))]
+        self.setup.append("INSERT INTO t VALUES " + ", ".join(f"({key}, {numbers.below(4)})" for key in self.keys) + ";")
+        fitting = [key for key in range(30) if self.place_of(key) == (2 if self.free is None else self.free)]
+        for name in ("x", "y"):
+            if numbers.chance(60):
+                keys = [numbers.of(fitting) if numbers.chance(65) else numbers.below(30) for _ in range(2)]
+                self.keys += keys
+                self.setup.append(f"INSERT INTO {name} VALUES ({keys[0]}, 1), ({keys[1]}, 2);")
+
+    def place_of(self, key):
+        """Which of the three places of the root accepts a key."""
+        strategy = self.parents["t"][0]
+        if strategy == "HASH":
+            return (0, 1, 0, 2)[key_hash([key]) % 4]
+        place = key // (10 if strategy == "RANGE" else 8)
+        return place if place < 3 else None
+
+    # ---- statements
+
+    def any_table(self):
+        numbers = self.numbers
+        if numbers.chance(55):
+            return "t"
+        if numbers.chance(80):
+            return numbers.of(self.tables)
+        makes = {"partition", "create"} & set(self.weights)
+        return numbers.of(self.plain + (["n1", "n2"] if makes or numbers.chance(5) else []))
+
+    def changed_table(self):
+        """(rows of the tables that are attached come and go too)"""
+        return self.numbers.of(("x", "y")) if self.default_chance() and self.numbers.chance(30) else self.any_table()
+
+    def condition(self):
+        numbers = self.numbers
+        if numbers.chance(60 if self.kind in ("rows", "updates") else 35):
+            return f" WHERE a = {numbers.of(self.keys)}"
+        return numbers.of((
+            "", f" WHERE a = {numbers.below(16)}", f" WHERE a < {numbers.of((5, 10, 15))}", f" WHERE v = {numbers.below(4)}",
+            f" WHERE v >= {numbers.below(4)}", f" WHERE a >= {numbers.of((3, 10, 12))}",
+            f" WHERE a IN ({numbers.below(12)}, {10 + numbers.below(12)})", " WHERE a IS NULL",
+            f" WHERE a BETWEEN {numbers.below(8)} AND {8 + numbers.below(14)} AND v <> {numbers.below(4)}",
+            f" WHERE a > {numbers.below(16)} OR v IS NULL",
+        ))
+
+    def select(self):
+        numbers = self.numbers
+        items = numbers.of(("tableoid::regclass, a, v", "a, v", "*", "a"))
+        order = numbers.of(("", "", " ORDER BY a", " ORDER BY v DESC, a", " ORDER BY a LIMIT 2"))
+        return f"SELECT {items} FROM {self.any_table()}{self.condition()}{order};"
+
+    def insert(self):
+        numbers = self.numbers
+        rows = ", ".join(self.row() for _ in range(1 if numbers.chance(70) else 2 + numbers.below(2)))
+        if numbers.chance(5):
+            return f"INSERT INTO {self.any_table()} (v, a) VALUES ({self.second()}, {self.value()});"
+        return f"INSERT INTO {self.any_table()} VALUES {rows};"
+
+    def delete(self):
+        return f"DELETE FROM {self.changed_table()}{self.condition()};"
+
+    def update(self):
+        numbers = self.numbers
+        change = numbers.of((
+            "v = v + 1", f"v = {self.second()}", f"a = {self.value()}", "a = a + 10", "a = a - 10", "a = a + 1",
+            f"a = {self.value()}, v = {self.second()}", "v = a", "a = v",
+        ))
+        return f"UPDATE {self.changed_table()} SET {change}{self.condition()};"
+
+    def lock(self):
+        numbers = self.numbers
+        names = [("ONLY " if numbers.chance(25) else "") + self.any_table() for _ in range(1 if numbers.chance(85) else 2)]
+        mode = f" IN {numbers.of(MODES)} MODE" if numbers.chance(60) else ""
+        return f"LOCK TABLE {', '.join(names)}{mode};"
+
+    def outside(self):
+        """A statement outside of a transaction, where LOCK is refused."""
+        statement = self.statement()
+        return self.statement() if statement.startswith("LOCK") and self.numbers.chance(95) else statement
+
+    def parent(self):
+        numbers = self.numbers
+        if numbers.chance(75) or len(self.parents) == 1:
+            return "t" if numbers.chance(97) else numbers.of(self.tables + self.plain)
+        return numbers.of(sorted(self.parents))
+
+    def create(self):
+        numbers = self.numbers
+        name = numbers.of(("n1", "n2", "n3", "x"))
+        below = self.by(name, "RANGE", False) if numbers.chance(25) else ""
+        return f"CREATE TABLE {name} (a int, v int){below};"
+
+    def partition(self):
+        numbers = self.numbers
+        name, parent = numbers.of(("n1", "n2", "n3", "p2")), self.parent()
+        below = self.by(name, numbers.of(("LIST", "RANGE")), True) if numbers.chance(12) else ""
+        return f"CREATE TABLE {name} PARTITION OF {parent} {self.bound(parent)}{below};"
+
+    def attach(self):
+        numbers = self.numbers
+        if numbers.chance(25):
+            name = numbers.of(sorted(self.own_bounds))
+            return f"ALTER TABLE t ATTACH PARTITION {name} {self.own_bounds[name]};"
+        name = numbers.of(["x", "y"]) if numbers.chance(85) else numbers.of(self.plain + ["n1", "n2"] + self.tables)
+        parent = "t" if numbers.chance(85) else self.parent()
+        return f"ALTER TABLE {parent} ATTACH PARTITION {name} {self.bound(parent)};"
+
+    def detach(self):
+        numbers = self.numbers
+        name = numbers.of(self.tables[1:] + self.plain + ["n1", "n2"])
+        parent = "t" if "_" not in name else name.split("_")[0]
+        if numbers.chance(6):
+            parent = self.parent()
+        return f"ALTER TABLE {parent} DETACH PARTITION {name};"
+
+    def drop(self):
+        numbers = self.numbers
+        names = [numbers.of(self.tables[1:] + self.plain + ["n1", "n2", "n3"]) for _ in range(1 if numbers.chance(88) else 2)]
+        if numbers.chance(4):
+            names = ["t"]
+        return f"DROP TABLE {'IF EXISTS ' if numbers.chance(15) else ''}{', '.join(names)};"
+
+    def cancel(self):
+        return f"SELECT pg_cancel_backend({self.numbers.below(7)});"
+
+    def statement(self):
+        return getattr(self, self.numbers.weighted(list(self.weights.items())))()
+
+    def chain(self):
+        """Rows that stand against a new partition go, and then it is made: whoever sees them still is waited for."""
+        numbers, width = self.numbers, 8 if self.parents["t"][0] == "LIST" else 10
+        if "attach" not in self.weights or numbers.chance(30):
+            low = width * (self.free or 0)
+            return [f"DELETE FROM t WHERE a BETWEEN {low} AND {low + width - 1};",
+                    f"CREATE TABLE {numbers.of(('n1', 'n2'))} PARTITION OF t {self.free_bound};"]
+        name = numbers.of(("x", "y"))
+        where = f" WHERE a = {numbers.of(self.keys)}" if numbers.chance(50) else ""
+        return [f"DELETE FROM {name}{where};", f"ALTER TABLE t ATTACH PARTITION {name} {self.free_bound};"]
+
+    # ---- sessions
+
+    def steps(self, wanted):
+        """The blocks of a session, in the order in which it runs them."""
+        numbers, found, is_open = self.numbers, [], False
+        while len(found) < wanted or is_open:
+            begin = numbers.of(("BEGIN;", "BEGIN;", "BEGIN ISOLATION LEVEL REPEATABLE READ;"))
+            if self.default_chance() and numbers.chance(50):
+                # (a snapshot that is kept, and locks nothing that others want)
+                begin = "BEGIN ISOLATION LEVEL REPEATABLE READ; SELECT 1;"
+            if is_open and (len(found) >= wanted or numbers.chance(27)):
+                found.append("ROLLBACK;" if numbers.chance(25) else "COMMIT;")
+                is_open = False
+            elif is_open:
+                found.append(self.statement() + (" " + self.statement() if numbers.chance(8) else ""))
+            elif self.free_bound and self.default_chance() and numbers.chance(22):
+                found += self.chain()
+            elif numbers.chance(80):
+                is_open = True
+                found.append(begin + (" " + self.statement() if numbers.chance(60) else ""))
+            elif numbers.chance(6):
+                found.append(f"{self.outside()} {begin} {self.statement()}")
+                is_open = True
+            else:
+                found.append(self.outside() + (" " + self.statement() if numbers.chance(10) else ""))
+        return found
+
+    def marked(self, name, others):
+        numbers = self.numbers
+        if not numbers.chance(4) or not others:
+            return name
+        return name + ("(*)" if numbers.chance(40) else f"({numbers.of(others)})")
+
+    def permutation(self, setup, sessions, goes_on):
+        """The sessions' steps, each session's in their order, mixed. Where `goes_on`, a session that waits is mostly
+        left waiting, as the rules tell; else a wait is often cancelled by the next step of its session."""
+        numbers, left, uses, session = self.numbers, [list(steps) for steps in sessions], [], 0
+        script = Script()
+        script.setups, script.sessions = [" ".join(setup)], [Session(f"s{place + 1}") for place in range(len(sessions))]
+        run = Permutation(script, [], lambda text: None, False)
+        if goes_on:
+            run.begin()
+        while any(left):
+            if numbers.chance(65) or not left[session]:
+                choices = [place for place, steps in enumerate(left) if steps]
+                free = [place for place in choices if place + 1 not in run.running]
+                session = numbers.of(free if free and numbers.chance(92) else choices)
+            elif session + 1 in run.running and numbers.chance(92):
+                session = numbers.of([place for place, steps in enumerate(left) if steps])
+                continue
+            name, block = left[session].pop(0)
+            others = [name for place, steps in enumerate(sessions) if place != session for name, _ in steps]
+            uses.append(self.marked(name, others))
+            if goes_on:
+                run.launch(Use(Step(name, block, session + 1), False, []))
+                run.settle()
+        return uses
+
+
+class Made:
+    """Tables, the steps of each session as pairs of name and block, and permutations."""
+
+    def __init__(self, kind, seed, ending):
+        maker = Maker(kind, seed)
+        maker.make_tables()
+        self.setup = maker.setup
+        self.sessions = []
+        for letter in "abcde"[:2 + maker.numbers.below(4)]:
+            blocks = maker.steps(3 + maker.numbers.below(7))
+            self.sessions.append([(f"{letter}{number}{ending}", block) for number, block in enumerate(blocks, 1)])
+        self.permutations = [maker.permutation(self.setup, self.sessions, place < 2) for place in range(3)]
+
+
+LOOK = "SELECT tableoid::regclass, * FROM t; SELECT * FROM x;"
+
+
+def script_of(made):
+    """One script of several: the tables of each are made by a step of the session `maker`, and looked at in the end."""
+    lines = []
+    for place in range(5):
+        lines.append(f"session s{place + 1}")
+        steps = [step for one in made if place < len(one.sessions) for step in one.sessions[place]]
+        lines += [f"step {name} {{ {block} }}" for name, block in steps or [(f"none{place}", "")]]
+    lines += ["session z", f"step look {{ {LOOK} }}", "session maker"]
+    for number, one in enumerate(made):
+        lines += [f"step make{number} {{ " + "\n  ".join(one.setup) + " }"]
+    for number, one in enumerate(made):
+        lines += [f"permutation make{number} {' '.join(uses)} look" for uses in one.permutations]
+    return "\n".join(lines) + "\n"
+
+
+def alone(setup, sessions, uses):
+    """A script of one permutation, of the steps that it uses or names."""
+    named = {name for use in uses for name in use.replace("(", " ").replace(")", " ").split()}
+    lines = ["setup {\n  " + "\n  ".join(setup) + "\n}"]
+    for place, steps in enumerate(sessions):
+        lines.append(f"session s{place + 1}")
+        kept = [step for step in steps if step[0] in named]
+        lines += [f"step {name} {{ {block} }}" for name, block in kept or [(f"none{place}", "")]]
+    lines += ["session z", f"step look {{ {LOOK} }}", "permutation " + " ".join(uses)]
+    return "\n".join(lines) + "\n"

@@ -1,0 +1,303 @@
+"""Values and expressions: kinds, operators, conditions of three values, and what they are refused with.
+
+A value is None, an int, a str, a bool or a datetime.date.
+"""
+import datetime
+import re
+
+
+class Refusal(Exception):
+    def __init__(self, code, text):
+        super().__init__(code, text)
+        self.code, self.text = code, text
+
+
+KINDS = {
+    "integer": "integer", "int": "integer", "int4": "integer", "bigint": "bigint", "int8": "bigint", "text": "text",
+    "date": "date", "boolean": "boolean", "bool": "boolean",
+}
+NUMBERS = ("integer", "bigint")
+SIZES = {"integer": 2**31, "bigint": 2**63}
+
+
+def sized(number, kind):
+    if not -SIZES[kind] <= number < SIZES[kind]:
+        raise Refusal("22003", "number out of range")
+    return number
+
+
+def read_value(kind, text):
+    if kind == "text":
+        return text
+    if kind in NUMBERS:
+        if not re.fullmatch(r"[+-]?[0-9]+", text):
+            raise Refusal("22P02", f"{text} is no {kind}")
+        return sized(int(text), kind)
+    if kind == "boolean":
+        if text.lower() not in ("t", "f", "true", "false"):
+            raise Refusal("22P02", f"{text} is no boolean")
+        return text.lower() in ("t", "true")
+    if not re.fullmatch(r"[0-9]{4}-[0-9]{2}-[0-9]{2}", text):
+        raise Refusal("22007", f"{text} is no date")
+    try:
+        return datetime.date.fromisoformat(text)
+    except ValueError:
+        raise Refusal("22008", "date out of range") from None
+
+
+def spelled(value):
+    """As it is printed in a table, but for null."""
+    if isinstance(value, bool):
+        return "t" if value else "f"
+    return str(value)
+
+
+def in_parentheses(values):
+    return "(" + ", ".join("null" if value is None else spelled(value) for value in values) + ")"
+
+
+def ordered(value):
+    """What orders values as partscript does: texts by their bytes."""
+    return value.encode() if isinstance(value, str) else value
+
+
+def assigned(value, kind, wanted):
+    """A value of a kind for a column of the kind that is wanted; kinds were judged before."""
+    if value is None or kind == wanted or wanted not in NUMBERS:
+        return value
+    return sized(value, wanted)
+
+
+def judge_assignment(kind, wanted):
+    if kind not in (None, wanted) and not (kind in NUMBERS and wanted in NUMBERS):
+        raise Refusal("42804", f"{kind} where {wanted} is wanted")
+
+
+# ---- expressions
+
+class Bound:
+    """An expression whose names and kinds were judged. `kind` is None for null, "literal" for a string
+    whose place has given it no kind yet; `of` computes the value of a row, a list of values and the
+    name of the leaf that it lies in."""
+
+    def __init__(self, kind, of, is_constant, text=None):
+        self.kind, self.of, self.is_constant, self.text = kind, of, is_constant, text
+
+
+class Scope:
+    """The columns that may be named: (name, kind), in the order of the row; and what expressions over no
+    column have to be computed when the statement starts."""
+
+    def __init__(self, columns, name=None, user=None, calls=None):
+        self.columns, self.name, self.user, self.calls = columns, name, user, calls
+        self.constants = []
+
+    def compute_constants(self):
+        for compute in self.constants:
+            compute()
+
+    def constant(self, bound):
+        if bound.is_constant:
+            self.constants.append(lambda: bound.of(None))
+        return bound
+
+    def as_kind(self, bound, kind):
+        """A string literal as a value of a kind that its place has given."""
+        if bound.kind != "literal":
+            return bound
+        return self.constant(Bound(kind, lambda row: read_value(kind, bound.text), True))
+
+    def check_table(self, table):
+        if table is not None and table != self.name:
+            raise Refusal("42P01", f"no table {table}")
+
+    def operand(self, written):
+        """Judges an operand, whose string literal has no kind yet."""
+        sort = written[0]
+        if sort == "number":
+            number = written[1]
+            kind = "integer" if number < 2**31 else "bigint"
+
+            def of_number(row):
+                return sized(number, "bigint")
+            bound = Bound(kind, of_number, True)
+            return self.constant(bound) if number >= 2**63 else bound
+        if sort == "string":
+            return Bound("literal", lambda row: written[1], True, written[1])
+        if sort == "date":
+            return self.constant(Bound("date", lambda row: read_value("date", written[1]), True))
+        if sort == "null":
+            return Bound(None, lambda row: None, True)
+        if sort in ("true", "false"):
+            return Bound("boolean", lambda row: sort == "true", True)
+        if sort == "parameter":
+            raise Refusal("42P02", f"no parameter {written[1][1:].lstrip('0') or '0'}")
+        if sort == "column":
+            self.check_table(written[1])
+            for place, (name, kind) in enumerate(self.columns):
+                if name == written[2]:
+                    return Bound(kind, lambda row: row[0][place], False)
+            raise Refusal("42703", f"no column {written[2]}")
+        if sort == "regclass":
+            self.check_table(written[1])
+            return Bound("text", lambda row: row[1], False)
+        if sort == "arithmetic":
+            return self.arithmetic(written)
+        if sort == "call":
+            return self.call(written)
+        if sort == "row":
+            return self.operand(written[1])
+        words = {"compare": lambda: written[1], "is null": lambda: "IS", "in": lambda: "IN", "between": lambda: "BETWEEN"}
+        raise Refusal("0A000", f"{words.get(sort, sort.upper)()} is not in this profile")
+
+    def call(self, written):
+        name, arguments = written[1], [self.operand(argument) for argument in written[2]]
+        if name in ("count", "sum", "min", "max"):
+            raise Refusal("0A000", f"{name} is not in this profile")
+        if self.calls is None and name in ("pg_backend_pid", "pg_cancel_backend"):
+            raise Refusal("0A000", f"{name} is not in this profile")
+        if name == "pg_backend_pid" and not arguments:
+            return Bound("integer", lambda row: self.user, False)
+        if name == "pg_cancel_backend" and len(arguments) == 1 and arguments[0].kind in ("integer", None, "literal"):
+            number, cancel = self.as_kind(arguments[0], "integer"), self.calls
+            return Bound("boolean", lambda row: None if number.of(row) is None else cancel(number.of(row)), False)
+        raise Refusal("42883", f"no function {name}")
+
+    def arithmetic(self, written):
+        sign, left, right = written[1], self.operand(written[2]), self.operand(written[3])
+        left, right = self.kinds_of_arithmetic(sign, left, right)
+        kinds = (left.kind, right.kind)
+        kind = self.kind_of_arithmetic(sign, *kinds)
+
+        def compute(row):
+            x, y = left.of(row), right.of(row)
+            if x is None or y is None:
+                return None
+            if sign in "/%" and y == 0:
+                raise Refusal("22012", "division by zero")
+            if sign == "+" and "date" in kinds:
+                return moved(x, y) if kinds[0] == "date" else moved(y, x)
+            if sign == "-" and kinds[0] == "date":
+                return (x - y).days if kinds[1] == "date" else moved(x, -y)
+            number = {"+": lambda: x + y, "-": lambda: x - y, "*": lambda: x * y}.get(sign)
+            if number:
+                return sized(number(), kind)
+            quotient = abs(x) // abs(y) * (1 if (x < 0) == (y < 0) else -1)
+            return sized(quotient, kind) if sign == "/" else x - quotient * y
+        return self.constant(Bound(kind, compute, left.is_constant and right.is_constant))
+
+    def kinds_of_arithmetic(self, sign, left, right):
+        def fits(kind):
+            return kind in NUMBERS or kind == "date" and sign == "-"
+        if left.kind == "literal":
+            left = self.as_kind(left, right.kind if right.kind != "literal" and fits(right.kind) else "text")
+        if right.kind == "literal":
+            right = self.as_kind(right, left.kind if fits(left.kind) else "text")
+        return left, right
+
+    def kind_of_arithmetic(self, sign, left, right):
+        known = [kind for kind in (left, right) if kind is not None]
+        if all(kind in NUMBERS for kind in known):
+            return "bigint" if "bigint" in known else "integer"
+        pairs = {("+", "date", "integer"), ("+", "integer", "date"), ("-", "date", "integer"), ("+", "date", None),
+                 ("+", None, "date"), ("-", "date", None)}
+        if (sign, left, right) in pairs:
+            return "date"
+        if sign == "-" and right == "date" and left in ("date", None):
+            return "integer"
+        raise Refusal("42883", f"no operator {left or 'text'} {sign} {right or 'text'}")
+
+    def value(self, written, kind=None):
+        """An operand at a place that gives a kind to a string literal, text where it gives none."""
+        return self.as_kind(self.operand(written), kind or "text")
+
+    # ---- conditions: True, False or None
+
+    def condition(self, written):
+        sort = written[0]
+        if sort == "row":
+            return self.condition(written[1])
+        if sort in ("and", "or"):
+            parts = [self.condition(part) for part in written[1]]
+            return lambda row: joined(sort, [part(row) for part in parts])
+        if sort == "not":
+            part = self.condition(written[1])
+            return lambda row: None if part(row) is None else not part(row)
+        if sort == "is null":
+            tested = self.in_condition(written[1])
+            if tested.kind == "literal":
+                tested = self.as_kind(tested, "text")
+            return lambda row: (tested.of(row) is None) != written[2]
+        if sort == "compare":
+            return self.comparison(written[1], self.in_condition(written[2]), self.in_condition(written[3]))
+        if sort == "in":
+            tested, sign = self.in_condition(written[1]), "<>" if written[3] else "="
+            parts = [self.comparison(sign, tested, self.in_condition(value)) for value in written[2]]
+            return lambda row: joined("and" if written[3] else "or", [part(row) for part in parts])
+        if sort == "between":
+            tested, low, high = (self.in_condition(part) for part in written[1:4])
+            signs = ("<", ">") if written[4] else (">=", "<=")
+            parts = [self.comparison(signs[0], tested, low), self.comparison(signs[1], tested, high)]
+            return lambda row: joined("or" if written[4] else "and", [part(row) for part in parts])
+        bound = self.in_condition(written)
+        if bound.kind != "boolean":
+            kind = "text" if bound.kind in ("literal", None) else bound.kind
+            raise Refusal("42804", f"{kind} where boolean is wanted")
+        return bound.of
+
+    def in_condition(self, written):
+        bound = self.operand(written)
+        if written[0] == "arithmetic" and not bound.is_constant:
+            raise Refusal("0A000", f"{written[1]} is not in this profile")
+        return bound
+
+    def comparison(self, sign, left, right):
+        if left.kind == "literal":
+            left = self.as_kind(left, right.kind if right.kind not in ("literal", None) else "text")
+        if right.kind == "literal":
+            right = self.as_kind(right, left.kind or "text")
+        kinds = {left.kind, right.kind} - {None}
+        if len(kinds) == 2 and not kinds <= set(NUMBERS):
+            raise Refusal("42883", f"no operator {left.kind} {sign} {right.kind}")
+
+        def decide(row):
+            x, y = ordered(left.of(row)), ordered(right.of(row))
+            if x is None or y is None:
+                return None
+            return {"=": x == y, "<>": x != y, "<": x < y, "<=": x <= y, ">": x > y, ">=": x >= y}[sign]
+        return decide
+
+
+def moved(day, days):
+    try:
+        return day + datetime.timedelta(days=days)
+    except OverflowError:
+        raise Refusal("22008", "date out of range") from None
+
+
+def joined(word, parts):
+    """The least or the greatest of truth values, with False below None below True."""
+    ranks = [1 if part is None else 2 * part for part in parts]
+    return (False, None, True)[min(ranks) if word == "and" else max(ranks)]
+
+
+# ---- tables as they are printed
+
+def table_text(names, kinds, rows):
+    cells = [["" if value is None else spelled(value) for value in row] for row in rows]
+    widths = [max(len(text) for text in [name] + [row[place] for row in cells]) for place, name in enumerate(names)]
+
+    def line(texts, is_heading, values):
+        out = []
+        for place, text in enumerate(texts):
+            is_last = place == len(texts) - 1
+            if is_last and not is_heading and values[place] is None:
+                out.append("")
+            elif kinds[place] in NUMBERS:
+                out.append(text.rjust(widths[place]))
+            else:
+                out.append(text if is_last else text.ljust(widths[place]))
+        return "|".join(out) + "\n"
+    text = line(names, True, names) + "+".join("-" * width for width in widths) + "\n"
+    text += "".join(line(texts, False, row) for texts, row in zip(cells, rows))
+    return text + ("(1 row)\n\n" if len(rows) == 1 else f"({len(rows)} rows)\n\n")
