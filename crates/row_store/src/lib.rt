@@ -10,6 +10,7 @@
 //! statement has read can be told. `newest` tells what became of one version.
 #![tactic(auto)]
 
+mod judge;
 mod leaf;
 mod newest;
 mod refused;
@@ -21,6 +22,7 @@ mod stored;
 mod tests;
 mod trail;
 
+pub use judge::{RowTest, Verdict};
 pub use newest::Newest;
 pub use refused::{PutCause, PutRefused, TrailRefused};
 pub use scan::{Scan, SeenRow};
