@@ -31,7 +31,7 @@ sees_end_is table ks h s (Some e) st past snap =
           rw (c, lives) b
     ]
 
-shows_is : (table : KeptTable) (ks : KeptSnapshot) (h : History) (s : TakenSnapshot) (x : Stored) → TableStands table h → IsPast s.past (tx_events h) → SnapshotStands ks s → shows_by table ks x ≡ (sees (tx_events h) s x.version.by.number x.version.cmd && not (sees_end (tx_events h) s (counted (tx_events h) x.ended)))
+pub shows_is : (table : KeptTable) (ks : KeptSnapshot) (h : History) (s : TakenSnapshot) (x : Stored) → TableStands table h → IsPast s.past (tx_events h) → SnapshotStands ks s → shows_by table ks x ≡ (sees (tx_events h) s x.version.by.number x.version.cmd && not (sees_end (tx_events h) s (counted (tx_events h) x.ended)))
 shows_is table ks h s x st past snap =
     let a = sees_is table ks (tx_events h) (snapshot_events h) s x.version.by.number x.version.cmd st past snap in
     let b = sees_end_is table ks h s x.ended st past snap in
@@ -45,7 +45,7 @@ alike f g (x ∷ xs) same =
     let first : f x ≡ g x = same 0 (omega arith) in
     rw (first, rest) refl
 
-mapped : (T : Version → Bool) (xs : List Stored) → filter T (map version_of xs) ≡ map version_of (filter (λ x. T x.version) xs)
+pub mapped : (T : Version → Bool) (xs : List Stored) → filter T (map version_of xs) ≡ map version_of (filter (λ x. T x.version) xs)
 mapped T [] = refl
 mapped T (x ∷ xs) = elim (cases_Bool (T x.version)) [ inl e ↦ rw (e, mapped T xs) refl | inr e ↦ rw (e, mapped T xs) refl ]
 

@@ -1,5 +1,6 @@
-ghost use Rattle.std.specs.Prelude.{◌≡◌, ◌<◌, ◌==◌, ◌&&◌, not, ℕ, true, false, None, MatchResult, IfOk, IfSome, IsSome, OnErr, length, map, slice_index_or};
+ghost use Rattle.std.specs.Prelude.{◌≡◌, ◌<◌, ◌==◌, ◌&&◌, not, ℕ, true, false, Some, None, MatchResult, IfOk, IfSome, length, map, slice_index_or};
 ghost use Rattle.pg_ids.specs.Sets.{has};
+ghost use Rattle.row_store.specs.declared.stored.Stored.{Stored};
 ghost use Rattle.row_store.specs.Kept.{AreBelow, no_id, stored_at};
 ghost use Rattle.row_store.specs.Judged.{is_live_by, is_held_shown, refuses_by, refusing_by, seeing_by};
 
@@ -48,8 +49,7 @@ pub(crate) fn judge_versions<'s, T: RowTest>(
     requires below { AreBelow ids.now versions.now }
     requires suited { (k : ℕ) → k < length ids.now → T.suits test.now (stored_at versions.now (slice_index_or ids.now k no_id)).version.row }
     ensures refusing { MatchResult result (λ _. refusing_by txs.now session me.number (T.broken test.now) (map (stored_at versions.now) ids.now) ≡ None)
-        (λ row. IfSome (refusing_by txs.now session me.number (T.broken test.now) (map (stored_at versions.now) ids.now)) (λ x. row.now ≡ x.version.row)) }
-    ensures some { OnErr result (IsSome (refusing_by txs.now session me.number (T.broken test.now) (map (stored_at versions.now) ids.now))) }
+        (λ row. (x : Stored) × (refusing_by txs.now session me.number (T.broken test.now) (map (stored_at versions.now) ids.now) ≡ Some x) × (row.now ≡ x.version.row)) }
     ensures seen { IfOk result (λ others. (r : ℕ) → has others r ≡ seeing_by txs.now session (T.broken test.now) (map (stored_at versions.now) ids.now) r) }
 {
     let mut seen = SessionSet::empty();

@@ -11,6 +11,8 @@
 #![tactic(auto)]
 
 mod judge;
+#[cfg(test)]
+mod judge_tests;
 mod leaf;
 mod newest;
 mod refused;
