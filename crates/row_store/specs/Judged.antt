@@ -5,6 +5,7 @@ use Rattle.std.specs.List.{list_any, flat_map, Contains}
 use Rattle.pg_values.specs.declared.value.Value.{Value}
 use Rattle.pg_ids.specs.Sets.{has}
 use Rattle.pg_ids.specs.declared.ids.LeafId.{LeafId}
+use Rattle.pg_ids.specs.declared.session_set.SessionSet.{SessionSet}
 use Rattle.history.specs.declared.transaction.Fate.TheVariants.{Running}
 use Rattle.history.specs.declared.version.Version.{Version}
 use Rattle.history.specs.declared.version.End.{End}
@@ -16,7 +17,7 @@ use Rattle.tx_table.specs.Stands.{sees_now_by}
 use Rattle.row_store.specs.declared.stored.Stored.{Stored}
 use Rattle.row_store.specs.declared.judge.Verdict.{Verdict}
 use Rattle.row_store.specs.declared.judge.Verdict.TheVariants.{Clean, Violator, Seen}
-use Rattle.row_store.specs.Kept.{KeptRows, version_of}
+use Rattle.row_store.specs.Kept.{KeptRows, version_of, in_leaf}
 use Rattle.row_store.specs.Stands.{counts, shows_by}
 
 -- an end of a version counts for a scan by transaction me: it is committed, or me's own, and the version too
@@ -61,6 +62,12 @@ IsVerdict h session me leaves breaks Clean = (refusing h session me leaves break
 IsVerdict h session me leaves breaks (Violator row) = (v : Version) × (refusing h session me leaves breaks ≡ Some v) × (row.now ≡ v.row)
 IsVerdict h session me leaves breaks (Seen others) = (refusing h session me leaves breaks ≡ None) × ((r : ℕ) → has others r ≡ seeing h session leaves breaks r) × ((r : ℕ) × (has others r ≡ true))
 
+-- the verdict where no row refuses: nobody is in the set, or it is told
+abbrev pub IsFound : SessionSet → Verdict → Type 0
+IsFound others Clean = (r : ℕ) → has others r ≡ false
+IsFound others (Violator row) = ⊥
+IsFound others (Seen told) = (told ≡ others) × ((r : ℕ) × (has others r ≡ true))
+
 -- the row of each version in these leaves suits
 abbrev pub AreSuited : KeptRows → List LeafId → (suits : List Value → Type 0) → Type 0
 AreSuited kept leaves suits = (v : Version) → Contains (map version_of kept.stored) v → Contains leaves v.leaf → suits v.row
@@ -83,6 +90,13 @@ is_held_shown table session x = shows_if_held table (slice_index_or table.held s
 
 abbrev pub refuses_by : KeptTable → (session me : ℕ) → Stored → Bool
 refuses_by table session me x = is_live_by table me x || is_held_shown table session x
+
+-- the versions of a list of leaves, leaf by leaf
+abbrev pub kept_in : List Stored → LeafId → List Stored
+kept_in xs leaf = filter (in_leaf leaf.number) xs
+
+abbrev pub all_kept_in : List Stored → List LeafId → List Stored
+all_kept_in xs leaves = flat_map (kept_in xs) leaves
 
 -- of these versions the first that breaks the test and refuses
 abbrev pub refusing_by : KeptTable → (session me : ℕ) → (breaks : List Value → Bool) → List Stored → Option Stored

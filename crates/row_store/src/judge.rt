@@ -1,13 +1,16 @@
-ghost use Rattle.std.specs.Prelude.{◌≡◌, ◌<◌, ◌==◌, ◌&&◌, not, ℕ, true, false, Some, None, MatchResult, IfOk, IfSome, length, map, slice_index_or};
+ghost use Rattle.std.specs.Prelude.{◌≡◌, ◌<◌, ◌==◌, ◌&&◌, not, ℕ, true, false, Some, None, MatchOption, MatchResult, IfOk, IfSome, All, length, map, slice_index_or};
+ghost use Rattle.std.specs.List.{Contains};
 ghost use Rattle.pg_ids.specs.Sets.{has};
+ghost use Rattle.history.specs.declared.version.Version.{Version};
 ghost use Rattle.row_store.specs.declared.stored.Stored.{Stored};
-ghost use Rattle.row_store.specs.Kept.{AreBelow, no_id, stored_at};
-ghost use Rattle.row_store.specs.Judged.{is_live_by, is_held_shown, refuses_by, refusing_by, seeing_by};
+ghost use Rattle.row_store.specs.Kept.{AreBelow, AreListed, no_id, stored_at, version_of};
+ghost use Rattle.row_store.specs.Judged.{IsFound, is_live_by, is_held_shown, refuses_by, all_kept_in, refusing_by, seeing_by};
 
+use crate::leaf::Leaf;
 use crate::scan::{is_shown, version_at};
 use crate::slot::{ShortId, Slot};
 use history::{Fate, TxId};
-use pg_ids::SessionSet;
+use pg_ids::{LeafId, SessionSet};
 use pg_values::Row;
 use tx_table::TxTable;
 
@@ -34,6 +37,46 @@ pub enum Verdict<'s> {
     Clean,
     Violator(&'s Row),
     Seen(SessionSet),
+}
+
+// Judges the versions of the leaves, leaf by leaf: the first that breaks the test and refuses, or the
+// other sessions whose held snapshots see one that breaks it.
+pub(crate) fn judge_leaves<'s, T: RowTest>(
+    versions: &'s [Slot],
+    lists: &[Leaf],
+    leaves: &[LeafId],
+    txs: &TxTable,
+    session: u32,
+    me: TxId,
+    test: &T,
+) -> Result<SessionSet, &'s Row>
+    requires known { All (λ leaf. leaf.number < length lists.now) leaves.now }
+    requires listed { AreListed versions.now lists.now }
+    requires suited { (v : Version) → Contains (map version_of versions.now) v → Contains leaves.now v.leaf → T.suits test.now v.row }
+    ensures refusing { MatchResult result (λ _. refusing_by txs.now session me.number (T.broken test.now) (all_kept_in versions.now leaves.now) ≡ None)
+        (λ row. (x : Stored) × (refusing_by txs.now session me.number (T.broken test.now) (all_kept_in versions.now leaves.now) ≡ Some x) × (row.now ≡ x.version.row)) }
+    ensures seen { IfOk result (λ others. (r : ℕ) → has others r ≡ seeing_by txs.now session (T.broken test.now) (all_kept_in versions.now leaves.now) r) }
+{
+    let mut others = SessionSet::empty();
+    for leaf in leaves {
+        let ids = lists[leaf.number as usize].ids();
+        match judge_versions(versions, ids, txs, session, me, test) {
+            Ok(seen) => others = others.union(seen),
+            Err(row) => return Err(row),
+        }
+    }
+    Ok(others)
+}
+
+// The verdict where no row refuses.
+pub(crate) fn verdict_of<'s>(others: SessionSet) -> Verdict<'s>
+    ensures { IsFound others result }
+{
+    if others.is_empty() {
+        Verdict::Clean
+    } else {
+        Verdict::Seen(others)
+    }
 }
 
 // Judges the versions one after the other: the first that breaks the test and refuses, or the other
@@ -72,8 +115,8 @@ fn judge_version<T: RowTest>(
     test: &T,
 ) -> Option<SessionSet>
     requires { T.suits test.now stored.now.version.row }
-    ensures none { result ≡ None → (T.broken test.now stored.now.version.row && refuses_by txs.now session me.number stored.now) ≡ true }
-    ensures some { IfSome result (λ _. (T.broken test.now stored.now.version.row && refuses_by txs.now session me.number stored.now) ≡ false) }
+    ensures refuses { MatchOption result ((T.broken test.now stored.now.version.row && refuses_by txs.now session me.number stored.now) ≡ true)
+        (λ _. (T.broken test.now stored.now.version.row && refuses_by txs.now session me.number stored.now) ≡ false) }
     ensures seen { IfSome result (λ others. (r : ℕ) → has others r ≡ (not (r == session) && (T.broken test.now stored.now.version.row && is_held_shown txs.now r stored.now))) }
 {
     if !test.breaks(stored.row()) {
