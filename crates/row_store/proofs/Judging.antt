@@ -1,5 +1,6 @@
 -- What is judged by what is kept is what the history says.
-use Rattle.std.proofs.Common.{◌≡◌, ℕ, ◌+◌, ◌<◌, ◌==◌, ◌&&◌, ◌||◌, not, zero, suc, arith, ap, sym, ◌∙◌, refl, List, [], ◌∷◌, ◌++◌, Option, Some, None, map, filter, true, false, Bool, if◌then◌else◌, inl, inr, length, slice_index_or, subst, All, take, drop, get_or, find, option_map, option_or}
+use Rattle.std.proofs.Common.{◌≡◌, ℕ, ◌+◌, ◌<◌, ◌==◌, ◌&&◌, ◌||◌, not, zero, suc, arith, ap, sym, ◌∙◌, refl, List, [], ◌∷◌, ◌++◌, Option, Some, None, map, filter, true, false, Bool, if◌then◌else◌, inl, inr, length, slice_index_or, subst, All, take, drop, get_or, find, option_map, nat_lt, ◌≤◌}
+use Rattle.std.specs.Option.{option_or}
 use Rattle.std.specs.List.{list_any, flat_map, Contains}
 use Rattle.std.proofs.lemmas.Bool.{cases_Bool}
 use Rattle.std.proofs.lemmas.Bool.Decides.{nat_tests}
@@ -25,12 +26,16 @@ use Rattle.tx_table.specs.Stands.{TableStands, SnapshotStands, HeldStands, sees_
 use Rattle.row_store.specs.declared.stored.Stored.{Stored}
 use Rattle.row_store.specs.declared.judge.Verdict.{Verdict}
 use Rattle.row_store.specs.declared.judge.Verdict.TheVariants.{Clean, Violator, Seen}
-use Rattle.row_store.specs.Kept.{KeptRows, blank, no_id, version_of, id_of, in_leaf, ids_in, stored_at, AreListed}
+use Rattle.row_store.specs.Kept.{KeptRows, blank, no_id, version_of, id_of, in_leaf, ids_in, stored_at, AreListed, AreBelow}
 use Rattle.row_store.specs.Stands.{StoreStands, counts, shows_by}
 use Rattle.row_store.specs.Judged.{ends_for, is_live, sees_if_held, is_held_seen, versions_in, all_versions_in, violators, refusing, seeing, ends_for_by, is_live_by, shows_if_held, is_held_shown, refuses_by, kept_in, all_kept_in, refusing_by, seeing_by, IsVerdict, IsFound}
 use Rattle.row_store.proofs.Changes.{counts_running_or_committed}
 use Rattle.row_store.proofs.Listing.{found}
-use Rattle.row_store.proofs.Shown.{shows_is, mapped}
+use Rattle.row_store.proofs.Shown.{shows_is, mapped, ids_below}
+
+-- what stands past the end
+abbrev pub no_leaf : LeafId
+no_leaf = record { number = 0 }
 
 -- ---- one version
 
@@ -105,7 +110,7 @@ find_told table h session me b (x ∷ xs) all =
     elim (cases_Bool (b x.version.row)) [
       | inr holds ↦ rw (holds, rest) refl
       | inl breaks ↦ elim (cases_Bool (is_live h me x.version || is_held_seen h session x.version)) [
-        | inl yes ↦ let kept : refuses_by table session me x ≡ true = same ∙ yes in rw (breaks, yes, kept) refl
+        | inl against ↦ let kept : refuses_by table session me x ≡ true = same ∙ against in rw (breaks, against, kept) refl
         | inr no_one ↦ let kept : refuses_by table session me x ≡ false = same ∙ no_one in rw (breaks, no_one, kept, rest) refl
       ]
     ]
@@ -198,15 +203,15 @@ next_seen table session b V ids i d x old more new r lt at before here both =
 pub next_refuses : (table : KeptTable) (session me : ℕ) (b : List Value → Bool) (V : List Stored) (ids : List RowId) (i : ℕ) (d : RowId) (x : Stored) → i < length ids → x ≡ stored_at V (get_or ids i d)
     → refusing_by table session me b (map (stored_at V) (take i ids)) ≡ None → (b x.version.row && refuses_by table session me x) ≡ true
     → refusing_by table session me b (map (stored_at V) ids) ≡ Some x
-next_refuses table session me b V ids i d x lt at before yes =
+next_refuses table session me b V ids i d x lt at before against =
     let p : Stored → Bool = λ y. b y.version.row && refuses_by table session me y in
-    let yes_at : p (stored_at V (get_or ids i d)) ≡ true = subst (λ y. p y ≡ true) at yes in
+    let yes_at : p (stored_at V (get_or ids i d)) ≡ true = subst (λ y. p y ≡ true) at against in
     let so_far : find p (map (stored_at V) (take (i + 1) ids)) ≡ Some (stored_at V (get_or ids i d)) = ap (find p) (versions_more V ids i d lt) ∙ refusing_next p (map (stored_at V) (take i ids)) (stored_at V (get_or ids i d) ∷ []) (stored_at V (get_or ids i d)) before (one_some p (stored_at V (get_or ids i d)) yes_at) in
     let whole : map (stored_at V) ids ≡ map (stored_at V) (take (i + 1) ids) ++ map (stored_at V) (drop (i + 1) ids) = ap (map (stored_at V)) (sym (take-append-drop (i + 1) ids)) ∙ map-append (stored_at V) (take (i + 1) ids) (drop (i + 1) ids) in
     ap (find p) whole ∙ refusing_stays p _ (map (stored_at V) (drop (i + 1) ids)) _ so_far ∙ ap (λ y. Some y) (sym at)
 
 -- the numbers that a leaf lists are those of its versions
-listed_kept : (V : List Stored) (ls : List (List RowId)) (leaf : LeafId) (ids : List RowId) → AreListed V ls → leaf.number < length ls → ids ≡ slice_index_or ls leaf.number [] → map (stored_at V) ids ≡ kept_in V leaf
+pub listed_kept : (V : List Stored) (ls : List (List RowId)) (leaf : LeafId) (ids : List RowId) → AreListed V ls → leaf.number < length ls → ids ≡ slice_index_or ls leaf.number [] → map (stored_at V) ids ≡ kept_in V leaf
 listed_kept V ls leaf ids all lt at = ap (map (stored_at V)) (at ∙ all.lists leaf.number lt) ∙ found V ls leaf.number all
 
 kept_more : (V : List Stored) (leaves : List LeafId) (i : ℕ) (d : LeafId) → i < length leaves → all_kept_in V (take (i + 1) leaves) ≡ all_kept_in V (take i leaves) ++ kept_in V (get_or leaves i d)
@@ -295,3 +300,58 @@ verdict_is table kept h session me leaves b others (Seen told) numbered txs st n
       λ r. in_told r ∙ seen r ∙ sym (seeing_is table kept h session leaves b r numbered txs st),
       (told_so.1.0, in_told told_so.1.0 ∙ told_so.1.1),
     )
+
+-- the numbers that a leaf lists are those of versions
+pub numbers_below : (V : List Stored) (ls : List (List RowId)) (leaf : LeafId) (ids : List RowId) → AreListed V ls → leaf.number < length ls → ids ≡ slice_index_or ls leaf.number [] → AreBelow ids V
+numbers_below V ls leaf ids all lt at = subst (λ x. AreBelow x V) (sym (at ∙ all.lists leaf.number lt)) (ids_below (length V) leaf.number V (λ k h. rw (all.numbered k h) h))
+
+-- the same, by what the code reads
+pub judged_row : (table : KeptTable) (V W : List Stored) (ls : List (List RowId)) (room : ℕ) (value : KeptRows) (h : History) (session me : ℕ) (leaves : List LeafId) (b : List Value → Bool) (x : Stored) → AreListed V ls → (record { stored = V; leaves = length ls; room = room }) ≡ value → W ≡ V → TableStands table h → StoreStands value h
+    → refusing_by table session me b (all_kept_in W leaves) ≡ Some x → refusing h session me leaves b ≡ Some x.version
+judged_row table V W ls room value h session me leaves b x all view same txs st e =
+    let kept : KeptRows = record { stored = V; leaves = length ls; room = room } in
+    let S : KeptRows → Type 0 = λ k. StoreStands k h in
+    violator_is table kept h session me leaves b x all.numbered txs (subst S (sym view) st) (ap (λ ys. refusing_by table session me b (all_kept_in ys leaves)) (sym same) ∙ e)
+
+pub judged_set : (table : KeptTable) (V W : List Stored) (ls : List (List RowId)) (room : ℕ) (value : KeptRows) (h : History) (session me : ℕ) (leaves : List LeafId) (b : List Value → Bool) (others : SessionSet) (verdict : Verdict) → AreListed V ls → (record { stored = V; leaves = length ls; room = room }) ≡ value → W ≡ V → TableStands table h → StoreStands value h
+    → refusing_by table session me b (all_kept_in W leaves) ≡ None → ((r : ℕ) → has others r ≡ seeing_by table session b (all_kept_in W leaves) r) → IsFound others verdict → IsVerdict h session me leaves b verdict
+judged_set table V W ls room value h session me leaves b others verdict all view same txs st none seen told_so =
+    let kept : KeptRows = record { stored = V; leaves = length ls; room = room } in
+    let S : KeptRows → Type 0 = λ k. StoreStands k h in
+    verdict_is table kept h session me leaves b others verdict all.numbered txs (subst S (sym view) st)
+    (ap (λ ys. refusing_by table session me b (all_kept_in ys leaves)) (sym same) ∙ none) (λ r. seen r ∙ ap (λ ys. seeing_by table session b (all_kept_in ys leaves) r) same) told_so
+
+-- ---- the sessions one after the other
+
+not_next : (k r : ℕ) → (k == r) ≡ false → nat_lt k (r + 1) ≡ nat_lt k r
+not_next k r e = elim (cases_Bool (nat_lt k r)) [
+  | inl t ↦ let more : nat_lt k (r + 1) ≡ true = grind (arith, nat_tests, t) in more ∙ sym t
+  | inr f ↦ let less : nat_lt k (r + 1) ≡ false = grind (arith, nat_tests, f, e) in less ∙ sym f
+]
+
+pub next_session : (P : ℕ → Bool) (r k : ℕ) (a b n : Bool) → n ≡ (a || b) → a ≡ (nat_lt k r && P k) → b ≡ ((k == r) && P r) → n ≡ (nat_lt k (r + 1) && P k)
+next_session P r k a b n en ea eb = elim (cases_Bool (k == r)) [
+  | inl e ↦
+      let same : k ≡ r = grind (arith, nat_tests, e) in
+      let low : nat_lt k r ≡ false = grind (arith, nat_tests) in
+      let next : nat_lt k (r + 1) ≡ true = grind (arith, nat_tests) in
+      en ∙ ap (λ c. c || b) (ea ∙ ap (λ t. t && P k) low) ∙ (eb ∙ ap (λ t. t && P r) e ∙ ap P (sym same)) ∙ sym (ap (λ t. t && P k) next)
+  | inr e ↦
+      let same : nat_lt k (r + 1) ≡ nat_lt k r = not_next k r e in
+      en ∙ ap (λ c. a || c) (eb ∙ ap (λ t. t && P r) e) ∙ or_none a ∙ ea ∙ ap (λ t. t && P k) (sym same)
+]
+
+and_none : (b : Bool) → (b && false) ≡ false
+and_none true = refl
+and_none false = refl
+
+-- no session past the last one holds a snapshot
+pub all_sessions : (table : KeptTable) (session n r k : ℕ) (x : Stored) (b : Bool) → n ≤ r → ((s : ℕ) → n ≤ s → slice_index_or table.held s None ≡ None)
+    → b ≡ (nat_lt k r && (not (k == session) && is_held_shown table k x)) → b ≡ (not (k == session) && is_held_shown table k x)
+all_sessions table session n r k x b high past e = elim (cases_Bool (nat_lt k r)) [
+  | inl below ↦ e ∙ ap (λ c. c && (not (k == session) && is_held_shown table k x)) below
+  | inr above ↦
+      let far : r ≤ k = grind (arith, nat_tests, above) in
+      let none : is_held_shown table k x ≡ false = ap (λ o. shows_if_held table o x) (past k (omega (arith, high, far))) in
+      e ∙ ap (λ c. c && (not (k == session) && is_held_shown table k x)) above ∙ sym (ap (λ c. not (k == session) && c) none ∙ and_none (not (k == session)))
+]

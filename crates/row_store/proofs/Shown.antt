@@ -100,7 +100,7 @@ below_go n l x xs here rest true e zero lt = here
 below_go n l x xs here rest true e (suc k) lt = rest k (omega (arith, lt))
 below_go n l x xs here rest false e k lt = rest k lt
 
-ids_below : (n l : ℕ) (xs : List Stored) → ((k : ℕ) → k < length xs → (slice_index_or xs k blank).version.id.number < n) → (k : ℕ) → k < length (ids_in l xs) → (slice_index_or (ids_in l xs) k no_id).number < n
+pub ids_below : (n l : ℕ) (xs : List Stored) → ((k : ℕ) → k < length xs → (slice_index_or xs k blank).version.id.number < n) → (k : ℕ) → k < length (ids_in l xs) → (slice_index_or (ids_in l xs) k no_id).number < n
 ids_below n l [] below k lt = absurd (omega arith)
 ids_below n l (x ∷ xs) below k lt = below_go n l x xs (below 0 (omega arith)) (ids_below n l xs (λ j h. below (suc j) (omega (arith, h)))) (in_leaf l x) refl k lt
 
