@@ -1,5 +1,5 @@
 -- What is judged by what is kept is what the history says.
-use Rattle.std.proofs.Common.{◌≡◌, ℕ, ◌+◌, ◌<◌, ◌==◌, ◌&&◌, ◌||◌, not, zero, suc, arith, ap, sym, ◌∙◌, refl, List, [], ◌∷◌, ◌++◌, Option, Some, None, map, filter, true, false, Bool, if◌then◌else◌, inl, inr, length, slice_index_or, subst, All, take, drop, get_or, find, option_map, nat_lt, ◌≤◌}
+use Rattle.std.proofs.Common.{◌≡◌, ℕ, ◌+◌, ◌<◌, ◌==◌, ◌&&◌, ◌||◌, not, zero, suc, arith, ap, sym, ◌∙◌, refl, List, [], ◌∷◌, ◌++◌, Option, Some, None, map, filter, true, false, Bool, if◌then◌else◌, inl, inr, length, slice_index_or, subst, take, drop, get_or, find, option_map, nat_lt, ◌≤◌}
 use Rattle.std.specs.Option.{option_or}
 use Rattle.std.specs.List.{list_any, flat_map, Contains}
 use Rattle.std.proofs.lemmas.Bool.{cases_Bool}
@@ -12,23 +12,22 @@ use Rattle.pg_ids.specs.declared.ids.LeafId.{LeafId}
 use Rattle.pg_ids.specs.declared.ids.RowId.{RowId}
 use Rattle.pg_ids.specs.declared.session_set.SessionSet.{SessionSet}
 use Rattle.pg_ids.specs.Sets.{has}
-use Rattle.history.specs.declared.transaction.Fate.{Fate}
 use Rattle.history.specs.declared.transaction.Fate.TheVariants.{Running, Aborted}
 use Rattle.history.specs.declared.version.Version.{Version}
 use Rattle.history.specs.declared.version.End.{End}
-use Rattle.history.specs.Transactions.{TxEvents, was_aborted, is_committed, fate, sees_now, IsPast}
+use Rattle.history.specs.Transactions.{was_aborted, is_committed, fate, sees_now}
 use Rattle.history.specs.Snapshots.{TakenSnapshot, sees, held_by}
 use Rattle.history.specs.Rows.{counted}
-use Rattle.history.specs.History.{History, tx_events, snapshot_events, versions, end_of, sees_end, is_seen}
+use Rattle.history.specs.History.{History, tx_events, snapshot_events, versions, end_of, sees_end}
 use Rattle.history.proofs.Settled.{end_of-last}
 use Rattle.tx_table.specs.Kept.{KeptTable, KeptSnapshot}
-use Rattle.tx_table.specs.Stands.{TableStands, SnapshotStands, HeldStands, sees_now_by}
+use Rattle.tx_table.specs.Stands.{TableStands, HeldStands, sees_now_by}
 use Rattle.row_store.specs.declared.stored.Stored.{Stored}
 use Rattle.row_store.specs.declared.judge.Verdict.{Verdict}
 use Rattle.row_store.specs.declared.judge.Verdict.TheVariants.{Clean, Violator, Seen}
-use Rattle.row_store.specs.Kept.{KeptRows, blank, no_id, version_of, id_of, in_leaf, ids_in, stored_at, AreListed, AreBelow}
-use Rattle.row_store.specs.Stands.{StoreStands, counts, shows_by}
-use Rattle.row_store.specs.Judged.{ends_for, is_live, sees_if_held, is_held_seen, versions_in, all_versions_in, violators, refusing, seeing, ends_for_by, is_live_by, shows_if_held, is_held_shown, refuses_by, kept_in, all_kept_in, refusing_by, seeing_by, IsVerdict, IsFound}
+use Rattle.row_store.specs.Kept.{KeptRows, blank, no_id, version_of, in_leaf, stored_at, AreListed, AreBelow}
+use Rattle.row_store.specs.Stands.{StoreStands, counts}
+use Rattle.row_store.specs.Judged.{ends_for, is_live, sees_if_held, is_held_seen, refusing, seeing, ends_for_by, is_live_by, shows_if_held, is_held_shown, refuses_by, kept_in, all_kept_in, refusing_by, seeing_by, IsVerdict, IsFound}
 use Rattle.row_store.proofs.Changes.{counts_running_or_committed}
 use Rattle.row_store.proofs.Listing.{found}
 use Rattle.row_store.proofs.Shown.{shows_is, mapped, ids_below}
