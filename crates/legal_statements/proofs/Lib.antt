@@ -4,6 +4,7 @@ pub mod Births
 pub mod Dropping
 pub mod Following
 pub mod Holding
+pub mod Judging
 pub mod Known
 pub mod Making
 pub mod Marking

@@ -1,6 +1,7 @@
 -- What statements do keeps what is asked of the events of a run.
-use Rattle.std.specs.Prelude.{◌≡◌, ℕ, ◌<◌, List, [], ◌∷◌, ◌++◌, Some, None, false, map}
+use Rattle.std.specs.Prelude.{◌≡◌, ℕ, ◌<◌, Bool, List, [], ◌∷◌, ◌++◌, Some, None, false, map}
 use Rattle.std.specs.List.{Contains}
+use Rattle.pg_values.specs.declared.value.Value.{Value}
 use Rattle.pg_ids.specs.declared.ids.LeafId.{LeafId}
 use Rattle.pg_ids.specs.declared.ids.TableNo.{TableNo}
 use Rattle.pg_ids.specs.declared.lock_mode.LockMode.{LockMode}
@@ -21,6 +22,9 @@ use Rattle.history.specs.Locks.{wanted}
 use Rattle.history.specs.History.{Event, History, RowChange, CatalogueChange, LockChange, tx_events, lock_events, catalogue_events}
 use Rattle.history.specs.Presence.{entries_present, is_pending}
 use Rattle.history.specs.Legal.{IsLegal}
+use Rattle.table_trees.specs.Histories.{ddl_tree}
+use Rattle.table_trees.specs.Trees.{leaves}
+use Rattle.row_store.specs.Judged.{refusing, seeing}
 use Rattle.soundness.specs.Legal.{ArePermitted, Has, HasTable}
 use Rattle.soundness.specs.Parts.{IsKnown}
 use Rattle.part_catalog.specs.Found.{resolved}
@@ -29,7 +33,7 @@ use Rattle.legal_statements.specs.Follows.{MayFollow}
 use Rattle.legal_statements.specs.Below.{numbers_from, IsWholeTree}
 use Rattle.legal_statements.specs.Locked.{IsOwned, IsGuarded}
 use Rattle.legal_statements.specs.Drops.{IsDrop, entries_end, tables_go, IsTableDrop, table_drop}
-use Rattle.legal_statements.specs.Entries.{IsNewPartition, IsAttached, IsNewMark}
+use Rattle.legal_statements.specs.Entries.{IsScanned, IsNewPartition, IsAttached, IsNewMark}
 use Rattle.legal_statements.specs.Rows.{IsNewRow, IsOldRow, AreNewRows, rows_born}
 use Rattle.legal_statements.specs.Stays.{LeavesTrees, ShowsTheSame}
 use Rattle.legal_statements.specs.Tables.{LeavesAreThere, MakesNoLeaf, IsNewTable, IsNextLeaf, leaf_table, level_table}
@@ -82,6 +86,13 @@ NewPartitionMayFollow = (h : History) (session : ℕ) (e : Entry) → IsLegal h 
 
 abbrev pub AttachMayFollow : Type 0
 AttachMayFollow = (h : History) (session : ℕ) (e : Entry) → IsLegal h → ArePermitted h → IsAttached h session e → MayFollow (CatalogueChange (EntryAdded e) ∷ []) h
+
+-- where no row of a table and all below it refuses, and no other session sees one that breaks the test, no row that a scan
+-- judges there breaks it
+abbrev pub NoneBreaks : Type 0
+NoneBreaks = (h : History) (session t table : ℕ) (breaks : List Value → Bool)
+    → refusing h session t (leaves (ddl_tree h session table)) breaks ≡ None → ((r : ℕ) → seeing h session (leaves (ddl_tree h session table)) breaks r ≡ false)
+    → (v : Version) → IsScanned h session t table v → breaks v.row ≡ false
 
 -- nor marked, where the session does not have it pending
 abbrev pub NobodyElseMarks : Type 0

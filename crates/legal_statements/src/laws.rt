@@ -1,4 +1,4 @@
-ghost use Rattle.legal_statements.specs.Laws.{FollowedIsLegal, AskedMayFollow, NewRowMayFollow, OldRowMayFollow, NewLeafMayFollow, NewLevelMayFollow, LeavesStayThere, NobodyElseDrops, NobodyElseEnds, DropMayFollow, NewPartitionMayFollow, AttachMayFollow, NobodyElseMarks, MarkMayFollow, ListedIsThere, NamedIsThere, TreeIsWhole, TableDropMayFollow, TreesStay, NewRowsMayFollow, ThereIsKnown};
+ghost use Rattle.legal_statements.specs.Laws.{FollowedIsLegal, AskedMayFollow, NewRowMayFollow, OldRowMayFollow, NewLeafMayFollow, NewLevelMayFollow, LeavesStayThere, NobodyElseDrops, NobodyElseEnds, DropMayFollow, NewPartitionMayFollow, AttachMayFollow, NoneBreaks, NobodyElseMarks, MarkMayFollow, ListedIsThere, NamedIsThere, TreeIsWhole, TableDropMayFollow, TreesStay, NewRowsMayFollow, ThereIsKnown};
 
 /// A legal history with permitted events stays one when events come that may follow it.
 pub fn followed_is_legal()
@@ -60,6 +60,12 @@ pub fn new_partition_may_follow()
 /// A table that was there may be attached, where its rows were scanned and nobody else may use it.
 pub fn attach_may_follow()
     ensures { AttachMayFollow }
+{}
+
+/// Where nothing that a scan of a table's leaves finds stands against a test, no row that is judged there
+/// breaks it.
+pub fn none_breaks()
+    ensures { NoneBreaks }
 {}
 
 /// No other transaction has marked a partition that is not pending, where the session has locked its

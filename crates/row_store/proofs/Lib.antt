@@ -1,5 +1,6 @@
 pub mod Bytes
 pub mod Changes
+pub mod Judging
 pub mod Listing
 pub mod Seen
 pub mod Shown

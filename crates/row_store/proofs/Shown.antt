@@ -31,7 +31,7 @@ sees_end_is table ks h s (Some e) st past snap =
           rw (c, lives) b
     ]
 
-shows_is : (table : KeptTable) (ks : KeptSnapshot) (h : History) (s : TakenSnapshot) (x : Stored) → TableStands table h → IsPast s.past (tx_events h) → SnapshotStands ks s → shows_by table ks x ≡ (sees (tx_events h) s x.version.by.number x.version.cmd && not (sees_end (tx_events h) s (counted (tx_events h) x.ended)))
+pub shows_is : (table : KeptTable) (ks : KeptSnapshot) (h : History) (s : TakenSnapshot) (x : Stored) → TableStands table h → IsPast s.past (tx_events h) → SnapshotStands ks s → shows_by table ks x ≡ (sees (tx_events h) s x.version.by.number x.version.cmd && not (sees_end (tx_events h) s (counted (tx_events h) x.ended)))
 shows_is table ks h s x st past snap =
     let a = sees_is table ks (tx_events h) (snapshot_events h) s x.version.by.number x.version.cmd st past snap in
     let b = sees_end_is table ks h s x.ended st past snap in
@@ -45,7 +45,7 @@ alike f g (x ∷ xs) same =
     let first : f x ≡ g x = same 0 (omega arith) in
     rw (first, rest) refl
 
-mapped : (T : Version → Bool) (xs : List Stored) → filter T (map version_of xs) ≡ map version_of (filter (λ x. T x.version) xs)
+pub mapped : (T : Version → Bool) (xs : List Stored) → filter T (map version_of xs) ≡ map version_of (filter (λ x. T x.version) xs)
 mapped T [] = refl
 mapped T (x ∷ xs) = elim (cases_Bool (T x.version)) [ inl e ↦ rw (e, mapped T xs) refl | inr e ↦ rw (e, mapped T xs) refl ]
 
@@ -100,7 +100,7 @@ below_go n l x xs here rest true e zero lt = here
 below_go n l x xs here rest true e (suc k) lt = rest k (omega (arith, lt))
 below_go n l x xs here rest false e k lt = rest k lt
 
-ids_below : (n l : ℕ) (xs : List Stored) → ((k : ℕ) → k < length xs → (slice_index_or xs k blank).version.id.number < n) → (k : ℕ) → k < length (ids_in l xs) → (slice_index_or (ids_in l xs) k no_id).number < n
+pub ids_below : (n l : ℕ) (xs : List Stored) → ((k : ℕ) → k < length xs → (slice_index_or xs k blank).version.id.number < n) → (k : ℕ) → k < length (ids_in l xs) → (slice_index_or (ids_in l xs) k no_id).number < n
 ids_below n l [] below k lt = absurd (omega arith)
 ids_below n l (x ∷ xs) below k lt = below_go n l x xs (below 0 (omega arith)) (ids_below n l xs (λ j h. below (suc j) (omega (arith, h)))) (in_leaf l x) refl k lt
 

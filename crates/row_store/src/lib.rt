@@ -7,9 +7,15 @@
 //! its transaction is not aborted, so an abort changes nothing here, and the version stands again.
 //!
 //! `scan` lends the rows of a leaf that a snapshot sees and writes the leaf into a `Trail`, so what a
-//! statement has read can be told. `newest` tells what became of one version.
+//! statement has read can be told. `newest` tells what became of one version. `judge` goes through all
+//! versions of leaves by a test, as ATTACH PARTITION does by the new bounds: a row that breaks it
+//! refuses where the transaction, or anybody who reads once it is committed, could come to see it;
+//! where only older snapshots of other sessions do, it tells which.
 #![tactic(auto)]
 
+mod judge;
+#[cfg(test)]
+mod judge_tests;
 mod leaf;
 mod newest;
 mod refused;
@@ -21,6 +27,7 @@ mod stored;
 mod tests;
 mod trail;
 
+pub use judge::{RowTest, Verdict};
 pub use newest::Newest;
 pub use refused::{PutCause, PutRefused, TrailRefused};
 pub use scan::{Scan, SeenRow};

@@ -89,7 +89,7 @@ fn next_shown<'s>(
 }
 
 #[inline]
-fn version_at(versions: &[Slot], id: ShortId) -> &Slot
+pub(crate) fn version_at(versions: &[Slot], id: ShortId) -> &Slot
     requires { id.number < length versions.now }
     ensures { result.now ≡ stored_at versions.now id }
 {
@@ -108,7 +108,7 @@ fn lend(stored: &Slot) -> SeenRow<'_>
 
 // Whether a scan with the snapshot shows the version.
 #[inline]
-fn is_shown(txs: &TxTable, snap: &Snapshot, stored: &Slot) -> bool
+pub(crate) fn is_shown(txs: &TxTable, snap: &Snapshot, stored: &Slot) -> bool
     ensures { result ≡ shows_by txs.now snap.now stored.now }
 {
     if !txs.sees(snap, stored.by(), stored.cmd()) {

@@ -8,6 +8,8 @@ use pg_values::{NoMemory, PgText, Row, Value};
 use std::alloc::Global;
 use tx_table::{Snapshot, TxTable, number_is_set};
 
+const FIRST: LeafId = LeafId { number: 0 };
+
 // The caller of another crate sets the public number: the snapshot then stands for the same place with it.
 fn set_number(snap: &mut Snapshot, cmd: u32)
     ensures { (s : TakenSnapshot) → SnapshotStands snap.old s → SnapshotStands snap.new (record { past = s.past; tx = s.tx; cmd = cmd }) }
@@ -17,24 +19,24 @@ fn set_number(snap: &mut Snapshot, cmd: u32)
 }
 
 // A transaction of the session begins.
-fn begin(txs: &mut TxTable, session: u32) -> Result<(), NoMemory> {
+pub(crate) fn begin(txs: &mut TxTable, session: u32) -> Result<(), NoMemory> {
     if session < txs.sessions() && txs.open_of(session).is_none() {
         txs.begin(session)?;
     }
     Ok(())
 }
 
-// The session's transaction stores a row in the first leaf.
-fn put(
+// The session's transaction stores a row in a leaf.
+pub(crate) fn put(
     txs: &TxTable,
     store: &mut RowStore,
+    leaf: LeafId,
     row: Row,
     session: u32,
     cmd: u32,
 ) -> Result<(), PutRefused> {
-    let first = LeafId { number: 0 };
     match txs.open_of(session) {
-        Some(tx) if store.leaf_count() > 0 => store.put(txs, first, row, tx, cmd),
+        Some(tx) if store.leaf_count() > leaf.number as usize => store.put(txs, leaf, row, tx, cmd),
         _ => Ok(()),
     }
 }
@@ -52,7 +54,7 @@ fn shown(
     if trail.reserve(1).is_ok() && store.leaf_count() > 0 && txs.open_of(session).is_some() {
         let mut snap = txs.snapshot(alloc, session)?;
         set_number(&mut snap, cmd);
-        for seen in store.scan(txs, LeafId { number: 0 }, &snap, &mut trail) {
+        for seen in store.scan(txs, FIRST, &snap, &mut trail) {
             digits = (digits % 1_000) * 10 + seen.id.number % 10 + 1;
         }
     }
@@ -60,7 +62,7 @@ fn shown(
 }
 
 // The session's transaction ends a version that it sees, as deleted or as replaced.
-fn change(
+pub(crate) fn change(
     alloc: Global,
     txs: &TxTable,
     store: &mut RowStore,
@@ -85,7 +87,7 @@ fn change(
 }
 
 // The session holds a snapshot that is taken now.
-fn hold(alloc: Global, txs: &mut TxTable, session: u32) -> Result<(), NoMemory> {
+pub(crate) fn hold(alloc: Global, txs: &mut TxTable, session: u32) -> Result<(), NoMemory> {
     if txs.open_of(session).is_some() && txs.held(session).is_none() {
         let snap = txs.snapshot(alloc, session)?;
         txs.hold(session, snap);
@@ -94,7 +96,7 @@ fn hold(alloc: Global, txs: &mut TxTable, session: u32) -> Result<(), NoMemory> 
 }
 
 // The session's transaction ends, and its snapshot is given up.
-fn end(txs: &mut TxTable, session: u32, commits: bool) {
+pub(crate) fn end(txs: &mut TxTable, session: u32, commits: bool) {
     if session < txs.sessions() {
         txs.drop_held(session);
     }
@@ -129,7 +131,7 @@ fn act(
     match step {
         Step::Begin => begin(txs, session)?,
         Step::Hold => hold(alloc, txs, session)?,
-        Step::Put(cmd) => return Ok(put(txs, store, Row::new(alloc), session, cmd).is_ok()),
+        Step::Put(cmd) => return Ok(put(txs, store, FIRST, Row::new(alloc), session, cmd).is_ok()),
         Step::Replace(cmd, number) => {
             return Ok(change(alloc, txs, store, session, cmd, number, false).is_some());
         }
@@ -210,10 +212,10 @@ fn limits_hand_the_row_back(rt: HostRuntime) -> Result<(), NoMemory> {
     text.resize(268_435_456 - 16, 0)?;
     let mut row = Row::new(alloc);
     row.push(Value::Text(PgText::from_vec(alloc, text)?))?;
-    assert!(rt; put(&txs, &mut store, row, 0, 0).is_ok());
+    assert!(rt; put(&txs, &mut store, FIRST, row, 0, 0).is_ok());
     let mut small = Row::new(alloc);
     small.push(Value::Truth(true))?;
-    match put(&txs, &mut store, small, 0, 0) {
+    match put(&txs, &mut store, FIRST, small, 0, 0) {
         Ok(()) => assert!(rt; false),
         Err(refused) => {
             let which = Which::BytesOfRows;

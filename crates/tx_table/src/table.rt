@@ -49,9 +49,11 @@ impl TxTable {
         })
     }
 
-    /// How many sessions there are.
+    /// How many sessions there are. No other one holds a snapshot.
     pub fn sessions(&self) -> u32
-        ensures { result ≡ length self.now.current }
+        ensures is { result ≡ length self.now.current }
+        ensures few { result ≤ 65 }
+        ensures held { (s : ℕ) → result ≤ s → slice_index_or self.now.held s None ≡ None }
     {
         self.current.len() as u32
     }
