@@ -1,11 +1,9 @@
 -- Where nothing that a scan finds stands against a test, no row that it judges breaks it.
-use Rattle.std.proofs.Common.{◌≡◌, ◌≢◌, ℕ, suc, zero, ◌<◌, ◌==◌, ◌&&◌, ◌||◌, not, arith, Bool, true, false, if◌then◌else◌, List, [], ◌∷◌, ◌++◌, Option, Some, None, inl, inr, refl, ap, sym, subst, ◌∙◌, filter, find, length}
-use Rattle.std.specs.List.{Contains, list_any, flat_map}
+use Rattle.std.proofs.Common.{◌≡◌, ◌≢◌, ℕ, suc, zero, ◌==◌, ◌&&◌, ◌||◌, not, arith, Bool, true, false, if◌then◌else◌, List, [], ◌∷◌, ◌++◌, Option, Some, None, inl, inr, refl, ap, sym, subst, ◌∙◌, filter, find}
+use Rattle.std.specs.List.{Contains, list_any}
 use Rattle.std.proofs.lemmas.Bool.{cases_Bool, and_parts}
 use Rattle.std.proofs.lemmas.Bool.Decides.{nat_tests}
-use Rattle.std.proofs.lemmas.Grind.{common_steps}
 use Rattle.std.proofs.lemmas.List.Elements.{Contains-append_left, Contains-append_right, Contains-push}
-use Rattle.pg_values.specs.declared.value.Value.{Value}
 use Rattle.pg_ids.specs.declared.ids.LeafId.{LeafId}
 use Rattle.history.specs.declared.transaction.Fate.{Fate}
 use Rattle.history.specs.declared.transaction.Fate.TheVariants.{Running, Committed, Aborted}
@@ -18,10 +16,9 @@ use Rattle.history.specs.History.{History, tx_events, snapshot_events, row_event
 use Rattle.table_trees.specs.Histories.{ddl_tree}
 use Rattle.table_trees.specs.Trees.{leaves}
 use Rattle.soundness.specs.Versions.{IsVersion, IsEnd}
-use Rattle.soundness.specs.Worlds.{same_tx, is_running, view}
+use Rattle.soundness.specs.Worlds.{same_tx, is_running}
 use Rattle.soundness.specs.Shown.{IsLive, IsSeenBy}
-use Rattle.row_store.specs.Judged.{ends_for, is_live, sees_if_held, is_held_seen, versions_in, all_versions_in, violators, refusing, seeing}
-use Rattle.legal_statements.specs.Entries.{IsScanned}
+use Rattle.row_store.specs.Judged.{ends_for, is_live, is_held_seen, versions_in, all_versions_in, violators}
 use Rattle.legal_statements.specs.Laws.{NoneBreaks}
 
 -- ---- what stands in lists
@@ -42,10 +39,10 @@ later y xs x (k, lt, at) = (suc k, omega (arith, lt), at)
 
 -- what passes stands in the filtered list
 passes : (p : Version → Bool) (xs : List Version) (x : Version) → p x ≡ true → Contains xs x → Contains (filter p xs) x
-passes p [] x yes (k, lt, at) = absurd (omega arith)
-passes p (y ∷ ys) x yes (zero, lt, at) = let yes_y : p y ≡ true = ap p at ∙ yes in rw yes_y (subst (λ z. Contains (y ∷ filter p ys) z) at (first y (filter p ys)))
-passes p (y ∷ ys) x yes (suc k, lt, at) =
-    let rest = passes p ys x yes (k, omega (arith, lt), at) in
+passes p [] x good (k, lt, at) = absurd (omega arith)
+passes p (y ∷ ys) x good (zero, lt, at) = let good_y : p y ≡ true = ap p at ∙ good in rw good_y (subst (λ z. Contains (y ∷ filter p ys) z) at (first y (filter p ys)))
+passes p (y ∷ ys) x good (suc k, lt, at) =
+    let rest = passes p ys x good (k, omega (arith, lt), at) in
     elim (cases_Bool (p y)) [ inl t ↦ rw t (later y (filter p ys) x rest) | inr f ↦ rw f rest ]
 
 -- a version of one of the leaves stands in the list of these
@@ -60,11 +57,11 @@ in_leaves h (l ∷ ls) v (suc k, lt, at) is = Contains-append_right (versions_in
 none_found : (p : Version → Bool) (xs : List Version) (x : Version) → find p xs ≡ None → Contains xs x → p x ≡ false
 none_found p [] x none (k, lt, at) = absurd (omega arith)
 none_found p (y ∷ ys) x none (zero, lt, at) = elim (cases_Bool (p y)) [
-  | inl yes ↦ let some : find p (y ∷ ys) ≡ Some y = rw yes refl in absurd (cc)
+  | inl good ↦ let some : find p (y ∷ ys) ≡ Some y = rw good refl in absurd (cc)
   | inr out ↦ subst (λ z. p z ≡ false) at out
 ]
 none_found p (y ∷ ys) x none (suc k, lt, at) = elim (cases_Bool (p y)) [
-  | inl yes ↦ let some : find p (y ∷ ys) ≡ Some y = rw yes refl in absurd (cc)
+  | inl good ↦ let some : find p (y ∷ ys) ≡ Some y = rw good refl in absurd (cc)
   | inr out ↦ none_found p ys x (subst (λ c. (if c then Some y else find p ys) ≡ None) out none) (k, omega (arith, lt), at)
 ]
 
@@ -72,11 +69,11 @@ none_found p (y ∷ ys) x none (suc k, lt, at) = elim (cases_Bool (p y)) [
 none_any : (p : Version → Bool) (xs : List Version) (x : Version) → list_any p xs ≡ false → Contains xs x → p x ≡ false
 none_any p [] x none (k, lt, at) = absurd (omega arith)
 none_any p (y ∷ ys) x none (zero, lt, at) = elim (cases_Bool (p y)) [
-  | inl yes ↦ let some : list_any p (y ∷ ys) ≡ true = rw yes refl in absurd (cc)
+  | inl good ↦ let some : list_any p (y ∷ ys) ≡ true = rw good refl in absurd (cc)
   | inr out ↦ subst (λ z. p z ≡ false) at out
 ]
 none_any p (y ∷ ys) x none (suc k, lt, at) = elim (cases_Bool (p y)) [
-  | inl yes ↦ let some : list_any p (y ∷ ys) ≡ true = rw yes refl in absurd (cc)
+  | inl good ↦ let some : list_any p (y ∷ ys) ≡ true = rw good refl in absurd (cc)
   | inr out ↦ none_any p ys x (subst (λ c. (c || list_any p ys) ≡ false) out none) (k, omega (arith, lt), at)
 ]
 
@@ -110,13 +107,13 @@ uncommitted Committed apart = absurd (apart refl)
 
 runs : (txs : TxEvents) (t : ℕ) → was_aborted txs t ≡ false → fate txs t ≢ Committed → fate txs t ≡ Running
 runs txs t lives apart = elim (cases_Bool (was_committed txs t)) [
-  | inl yes ↦ let f : fate txs t ≡ Committed = rw (lives, yes) refl in absurd (apart f)
+  | inl good ↦ let f : fate txs t ≡ Committed = rw (lives, good) refl in absurd (apart f)
   | inr out ↦ rw (lives, out) refl
 ]
 
 lasts : (txs : TxEvents) (t : ℕ) → was_aborted txs t ≡ false → fate txs t ≢ Aborted
 lasts txs t lives = elim (cases_Bool (was_committed txs t)) [
-  | inl yes ↦ λ same. let f : fate txs t ≡ Committed = rw (lives, yes) refl in let bad : Committed ≡ Aborted = sym f ∙ same in cc
+  | inl good ↦ λ same. let f : fate txs t ≡ Committed = rw (lives, good) refl in let bad : Committed ≡ Aborted = sym f ∙ same in cc
   | inr out ↦ λ same. let f : fate txs t ≡ Running = rw (lives, out) refl in let bad : Running ≡ Aborted = sym f ∙ same in cc
 ]
 
