@@ -22,6 +22,7 @@ mod leaf_list;
 mod leaves_below;
 mod placing;
 mod storing;
+mod succession;
 mod target;
 mod testing;
 mod texts;
@@ -34,7 +35,8 @@ pub use laws::{
 pub use leaf_list::LeafList;
 pub use leaves_below::leaf_targets;
 pub use placing::place_rows;
-pub use storing::store_rows;
+pub use storing::{check_leaf, store_rows};
+pub use succession::succeed_row;
 pub use target::Target;
 pub use testing::check_row;
 pub use way::{all_ways, leaf_way, push_way};
