@@ -11,6 +11,9 @@
 //! leaf and, where the statement names the leaf itself, for the bounds, and stored. What is known of a leaf is
 //! its `Target`. The first refusal ends it, and the caller takes back what was stored before.
 //!
+//! An UPDATE puts a row in the place of a version (`succeed_row`): it replaces it in its leaf, or a version is born
+//! in another leaf and the row has moved there.
+//!
 //! Names, and the keys that a refusal tells, are those that a history gives the tables.
 #![tactic(auto)]
 
