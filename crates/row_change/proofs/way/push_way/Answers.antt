@@ -17,20 +17,20 @@ find_child-requires g c =
 
 pub at-node-requires : goal.at-node-requires
 at-node-requires g c =
-    let found = c.in-Some.ensures ∙ ap (λ (cs : List KeyColumn). position (accepts_among c.in-Level.bounds (picked c.args.row.now (map (λ x. x.position) cs))) c.in-Level.bounds) c.as_slice-columns.ensures in
+    let found = c.in-Some.ensures.child ∙ ap (λ (cs : List KeyColumn). position (accepts_among c.in-Level.bounds (picked c.args.row.now (map (λ x. x.position) cs))) c.in-Level.bounds) c.as_slice-columns.ensures in
     let within = found_within (accepts_among c.in-Level.bounds (key_of c.in-Level.level c.args.row.now)) c.in-Level.bounds c.in-Some.child found in
     let h = here c.loop-node.node.now c.args.row.now c.in-Level.level c.in-Level.bounds c.in-Level.children c.in-Level.is c.loop-node.invariant.fits in
     omega (arith, h.paired, within)
 
 pub loop-node-smaller : goal.loop-node-smaller
 loop-node-smaller g c =
-    let found = c.in-Some.ensures ∙ ap (λ (cs : List KeyColumn). position (accepts_among c.in-Level.bounds (picked c.args.row.now (map (λ x. x.position) cs))) c.in-Level.bounds) c.as_slice-columns.ensures in
+    let found = c.in-Some.ensures.child ∙ ap (λ (cs : List KeyColumn). position (accepts_among c.in-Level.bounds (picked c.args.row.now (map (λ x. x.position) cs))) c.in-Level.bounds) c.as_slice-columns.ensures in
     let within = found_within (accepts_among c.in-Level.bounds (key_of c.in-Level.level c.args.row.now)) c.in-Level.bounds c.in-Some.child found in
     (chosen c.loop-node.node.now c.args.row.now c.in-Level.level c.in-Level.bounds c.in-Level.children c.in-Some.child c.at-node.result.now c.in-Level.is c.loop-node.invariant.fits c.stands_in_plain_order.ensures found within c.at-node.ensures).lower
 
 pub loop-node-preserved : goal.loop-node-preserved
 loop-node-preserved g c =
-    let found = c.in-Some.ensures ∙ ap (λ (cs : List KeyColumn). position (accepts_among c.in-Level.bounds (picked c.args.row.now (map (λ x. x.position) cs))) c.in-Level.bounds) c.as_slice-columns.ensures in
+    let found = c.in-Some.ensures.child ∙ ap (λ (cs : List KeyColumn). position (accepts_among c.in-Level.bounds (picked c.args.row.now (map (λ x. x.position) cs))) c.in-Level.bounds) c.as_slice-columns.ensures in
     let within = found_within (accepts_among c.in-Level.bounds (key_of c.in-Level.level c.args.row.now)) c.in-Level.bounds c.in-Some.child found in
     let i = c.loop-node.invariant in
     let h = here c.loop-node.node.now c.args.row.now c.in-Level.level c.in-Level.bounds c.in-Level.children c.in-Level.is i.fits in
@@ -45,7 +45,7 @@ loop-node-preserved g c =
 
 pub returns-in-None : goal.returns-in-None
 returns-in-None g c =
-    let found = c.in-None.ensures ∙ ap (λ (cs : List KeyColumn). position (accepts_among c.in-Level.bounds (picked c.args.row.now (map (λ x. x.position) cs))) c.in-Level.bounds) c.as_slice-columns.ensures in
+    let found = c.in-None.ensures.child ∙ ap (λ (cs : List KeyColumn). position (accepts_among c.in-Level.bounds (picked c.args.row.now (map (λ x. x.position) cs))) c.in-Level.bounds) c.as_slice-columns.ensures in
     let i = c.loop-node.invariant in
     let e = way_end c.loop-node.node.now c.args.row.now c.in-Level.level c.in-Level.bounds c.in-Level.children c.in-Level.is found in
     sym (append-nil c.loop-node.out.items) ∙ (ap (λ (ts : List TableNo). c.loop-node.out.items ++ ts) (sym e) ∙ i.way)

@@ -14,20 +14,20 @@ find_child-requires g c =
 
 pub at-node-requires : goal.at-node-requires
 at-node-requires g c =
-    let found = c.in-Some.ensures ∙ ap (λ (cs : List KeyColumn). position (accepts_among c.in-Level.bounds (picked c.args.row.now (map (λ x. x.position) cs))) c.in-Level.bounds) c.as_slice-columns.ensures in
+    let found = c.in-Some.ensures.child ∙ ap (λ (cs : List KeyColumn). position (accepts_among c.in-Level.bounds (picked c.args.row.now (map (λ x. x.position) cs))) c.in-Level.bounds) c.as_slice-columns.ensures in
     let within = found_within (accepts_among c.in-Level.bounds (key_of c.in-Level.level c.args.row.now)) c.in-Level.bounds c.in-Some.child found in
     let h = here c.loop-node.node.now c.args.row.now c.in-Level.level c.in-Level.bounds c.in-Level.children c.in-Level.is c.loop-node.invariant.fits in
     omega (arith, h.paired, within)
 
 pub loop-node-smaller : goal.loop-node-smaller
 loop-node-smaller g c =
-    let found = c.in-Some.ensures ∙ ap (λ (cs : List KeyColumn). position (accepts_among c.in-Level.bounds (picked c.args.row.now (map (λ x. x.position) cs))) c.in-Level.bounds) c.as_slice-columns.ensures in
+    let found = c.in-Some.ensures.child ∙ ap (λ (cs : List KeyColumn). position (accepts_among c.in-Level.bounds (picked c.args.row.now (map (λ x. x.position) cs))) c.in-Level.bounds) c.as_slice-columns.ensures in
     let within = found_within (accepts_among c.in-Level.bounds (key_of c.in-Level.level c.args.row.now)) c.in-Level.bounds c.in-Some.child found in
     (chosen c.loop-node.node.now c.args.row.now c.in-Level.level c.in-Level.bounds c.in-Level.children c.in-Some.child c.at-node.result.now c.in-Level.is c.loop-node.invariant.fits c.stands_in_plain_order.ensures found within c.at-node.ensures).lower
 
 pub loop-node-preserved : goal.loop-node-preserved
 loop-node-preserved g c =
-    let found = c.in-Some.ensures ∙ ap (λ (cs : List KeyColumn). position (accepts_among c.in-Level.bounds (picked c.args.row.now (map (λ x. x.position) cs))) c.in-Level.bounds) c.as_slice-columns.ensures in
+    let found = c.in-Some.ensures.child ∙ ap (λ (cs : List KeyColumn). position (accepts_among c.in-Level.bounds (picked c.args.row.now (map (λ x. x.position) cs))) c.in-Level.bounds) c.as_slice-columns.ensures in
     let within = found_within (accepts_among c.in-Level.bounds (key_of c.in-Level.level c.args.row.now)) c.in-Level.bounds c.in-Some.child found in
     let i = c.loop-node.invariant in
     let x = chosen c.loop-node.node.now c.args.row.now c.in-Level.level c.in-Level.bounds c.in-Level.children c.in-Some.child c.at-node.result.now c.in-Level.is i.fits c.stands_in_plain_order.ensures found within c.at-node.ensures in
@@ -35,6 +35,6 @@ loop-node-preserved g c =
 
 pub returns-in-None-clause-one : goal.returns-in-None-clause-one
 returns-in-None-clause-one g c =
-    let found = c.in-None.ensures ∙ ap (λ (cs : List KeyColumn). position (accepts_among c.in-Level.bounds (picked c.args.row.now (map (λ x. x.position) cs))) c.in-Level.bounds) c.as_slice-columns.ensures in
+    let found = c.in-None.ensures.child ∙ ap (λ (cs : List KeyColumn). position (accepts_among c.in-Level.bounds (picked c.args.row.now (map (λ x. x.position) cs))) c.in-Level.bounds) c.as_slice-columns.ensures in
     let i = c.loop-node.invariant in
     sym i.accept ∙ (none_chosen c.loop-node.node.now c.args.row.now c.in-Level.level c.in-Level.bounds c.in-Level.children c.in-Level.is i.fits c.stands_in_plain_order.ensures found).1
