@@ -12,6 +12,7 @@ use Rattle.tx_table.specs.Stands.{TableStands, sees_now_by}
 use Rattle.row_store.specs.declared.scan.SeenRow.{SeenRow}
 use Rattle.row_store.specs.Kept.{KeptRows, stored_at}
 use Rattle.row_store.specs.Stands.{StoreStands}
+use Rattle.row_change.specs.Succession.{KeepsVersions}
 use Rattle.row_change.specs.Ways.{AllTables, AllTablesOf}
 use Rattle.table_trees.specs.Trees.{TableTree, LeafTable, LevelTable, Trees, End, More, leaves}
 use Rattle.part_catalog.specs.Stands.{CatalogueStands}
@@ -31,11 +32,10 @@ use Rattle.statement_steps.specs.Faults.{stop_by}
 use Rattle.statement_steps.specs.Steps.{follow}
 use Rattle.statement_steps.proofs.Parts.{stays}
 use Rattle.insert_statement.proofs.Tables.{IsMade, tables_kept}
-use Rattle.change_statement.specs.Deleted.{deleting}
 use Rattle.change_statement.specs.Gathered.{Found}
 use Rattle.change_statement.specs.Standing.{left_of, changed_before, standing}
 use Rattle.change_statement.specs.Changed.{Changing, updater, by_decision, one_changed, all_changed, changed_from, paused, conflict_fault}
-use Rattle.change_statement.specs.Running.{IsRun, IsGathered, IsTargetIn, KeepsVersions, MayEndIn, MayRun}
+use Rattle.change_statement.specs.Running.{IsRun, IsGathered, IsTargetIn, MayEndIn, MayRun}
 use Rattle.change_statement.proofs.Runs.{then_run, stop_run, nothing_run, refused_run, no_memory_run, same_run, may_run_on}
 use Rattle.change_statement.proofs.Kept.{OnlyRows, gathered_stays, targets_stay, leaf_is_written, tree_homes}
 
@@ -60,6 +60,12 @@ is_changed change names old new caller g t rest n id row count may is run =
     by_is change names (Ok n) old new caller g t rest (Changes id row) is
     (then_run (λ (u : Unit {0}). u) (λ (m : ℕ). m) tt (Ok n) old new new caller (change t.leaf id row) (λ u h. made [] (rest.changed + 1)) run
     (nothing_run (λ (m : ℕ). m) n new caller (λ h. made [] (rest.changed + 1)) (may_run_on (λ (u : Unit {0}). u) tt old new caller (change t.leaf id row) may run) (λ h stands. ap (λ m. made [] m) (sym count))))
+
+-- it is not changed, and the statement stops
+pub is_stopped : (change : Changing) (names : List (List ℕ)) (e : Stop) (old new : Stores) (caller : Caller) (g : Found) (t : TargetRow) (rest : Rest) (id : RowId) (row : List Value) → IsDecided old caller g t (Changes id row) → IsRun (λ (u : Unit {0}). u) (Err e) old new caller (change t.leaf id row)
+    → IsRun (λ (m : ℕ). m) (Err e) old new caller (one_changed change names caller g t rest)
+is_stopped change names e old new caller g t rest id row is run =
+    by_is change names (Err e) old new caller g t rest (Changes id row) is (stop_run (λ (u : Unit {0}). u) (λ (m : ℕ). m) e old new caller (change t.leaf id row) (λ u h. made [] (rest.changed + 1)) run)
 
 -- a row is passed over
 pub is_passed : (change : Changing) (names : List (List ℕ)) (old : Stores) (caller : Caller) (g : Found) (t : TargetRow) (rest : Rest) (n : ℕ) → n ≡ rest.changed → MayRun old caller → IsDecided old caller g t PassesBy → IsRun (λ (m : ℕ). m) (Ok n) old old caller (one_changed change names caller g t rest)
@@ -120,9 +126,9 @@ there rows g ts all k d lt = (all k d lt).there
 
 -- ---- row after row
 
--- a row that is deleted, the first of those that are left
-abbrev pub IsRowRun : Result ℕ Stop → (old new : Stores) → Caller → Found → List (List ℕ) → TargetRow → List TargetRow → (changed : ℕ) → Type 0
-IsRowRun r old new caller g names t left n = IsRun (λ (m : ℕ). m) r old new caller (one_changed (deleting caller) names caller g t (standing left n))
+-- a row that is changed, the first of those that are left
+abbrev pub IsRowRun : Changing → Result ℕ Stop → (old new : Stores) → Caller → Found → List (List ℕ) → TargetRow → List TargetRow → (changed : ℕ) → Type 0
+IsRowRun change r old new caller g names t left n = IsRun (λ (m : ℕ). m) r old new caller (one_changed change names caller g t (standing left n))
 
 -- what is left makes the whole
 pub record IsLeft (start mid : Stores) (caller : Caller) (g : Found) (change : Changing) (names : List (List ℕ)) (targets left : List TargetRow) (n changed : ℕ) : Type 0 where

@@ -38,7 +38,7 @@ use Rattle.course.specs.declared.caller.Caller.{Caller}
 use Rattle.insert_statement.specs.Inserted.{own}
 use Rattle.insert_statement.proofs.Births.{Quiet}
 use Rattle.change_statement.specs.Deleted.{ended}
-use Rattle.change_statement.specs.Running.{IsInRun, IsRunTold, IsRun, KeepsVersions, MayEndIn, MayRun}
+use Rattle.change_statement.specs.Running.{IsInRun, IsRunTold, IsRun, MayEndIn, MayRun}
 
 -- ---- an event
 
@@ -96,7 +96,7 @@ rows_keep old rows s = record {
 
 -- ---- a version that ends
 
-got_at : (xs : List Stored) (k : ℕ) → k < length xs → slice_get (map version_of xs) k ≡ Some (slice_index_or xs k blank).version
+pub got_at : (xs : List Stored) (k : ℕ) → k < length xs → slice_get (map version_of xs) k ≡ Some (slice_index_or xs k blank).version
 got_at [] k lt = absurd (omega arith)
 got_at (x ∷ xs) zero lt = refl
 got_at (x ∷ xs) (suc k) lt = got_at xs k (omega (arith, lt))
@@ -141,22 +141,4 @@ ended_run old rows caller id by may row mine added = record {
       (refl, came_on old rows caller h (RowChange (RowEnded id.number e) ∷ h) stands came (added h stands.all.txs stands.all.rows), came.run);
   keeps = rows_keep old rows caller.session;
   waits = may.may.idle;
-}
-
--- ---- versions that stay
-
-version_stays : (xs : List Stored) (k i : ℕ) (y : Stored) → y.version ≡ (slice_index_or xs k blank).version → i < length xs → (slice_index_or (slice_set xs k y) i blank).version ≡ (slice_index_or xs i blank).version
-version_stays [] k i y same lt = absurd (omega (arith, lt))
-version_stays (x ∷ xs) zero zero y same lt = same
-version_stays (x ∷ xs) zero (suc i) y same lt = refl
-version_stays (x ∷ xs) (suc k) zero y same lt = refl
-version_stays (x ∷ xs) (suc k) (suc i) y same lt = version_stays xs k i y same (omega (arith, lt))
-
-pub end_keeps : (old new : KeptRows) (k : ℕ) (e : End) → new ≡ after_end old k e → length new.stored ≡ length old.stored → KeepsVersions old new
-end_keeps old new k e is count = record {
-  more = omega (arith, count);
-  leaves = ap (λ (r : KeptRows). r.leaves) is;
-  same = λ id lt.
-      let y : Stored = record { version = (slice_index_or old.stored k blank).version; ended = Some e } in
-      ap (λ (r : KeptRows). (stored_at r.stored id).version) is ∙ version_stays old.stored k id.number y refl lt;
 }

@@ -14,6 +14,7 @@ use Rattle.table_trees.specs.Trees.{leaves}
 use Rattle.table_trees.specs.Histories.{table_of}
 use Rattle.part_catalog.specs.Kept.{KeptCatalogue, table_in}
 use Rattle.row_store.specs.Kept.{KeptRows}
+use Rattle.row_change.specs.Succession.{KeepsVersions}
 use Rattle.row_targets.specs.declared.finding.TargetRow.{TargetRow}
 use Rattle.soundness.specs.Worlds.{HasLeaf}
 use Rattle.soundness.proofs.All.{legal_keeps_all}
@@ -30,7 +31,7 @@ use Rattle.course.specs.declared.caller.Caller.{Caller}
 use Rattle.insert_statement.proofs.Tables.{IsMade, tables_kept, shown_made}
 use Rattle.insert_statement.proofs.Trees.{Are, IsHome, tree_are}
 use Rattle.change_statement.specs.Gathered.{Found}
-use Rattle.change_statement.specs.Running.{IsGathered, IsTargetIn, KeepsVersions, MayRun}
+use Rattle.change_statement.specs.Running.{IsGathered, IsTargetIn, MayRun}
 use Rattle.change_statement.proofs.Homes.{home_of}
 
 -- ---- only rows have changed
@@ -114,7 +115,7 @@ leaf_is_written stores caller g h leaf x stands its among at =
     subst (IsWritable h caller.session) same may
 
 -- each leaf of the tree is there
-leaf_is_there : (stores : Stores) (caller : Caller) (g : Found) (h : History) (leaf : LeafId) → Stands stores h → IsGathered stores caller g → Contains (leaves g.tree) leaf → leaf.number < stores.rows.leaves
+pub leaf_is_there : (stores : Stores) (caller : Caller) (g : Found) (h : History) (leaf : LeafId) → Stands stores h → IsGathered stores caller g → Contains (leaves g.tree) leaf → leaf.number < stores.rows.leaves
 leaf_is_there stores caller g h leaf stands its among =
     let are = tree_homes stores caller g h stands its in
     let home = home_of (IsMade h) (IsHome (tables_made (catalogue_events h))) g.tree leaf are.tables are.home among in

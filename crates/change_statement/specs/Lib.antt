@@ -3,3 +3,5 @@ pub mod Standing
 pub mod Running
 pub mod Changed
 pub mod Deleted
+pub mod Updated
+pub mod Changing

@@ -1,6 +1,8 @@
 -- A statement in the middle of its run: what a part of it makes of a history (the manual, 13.2).
-use Rattle.std.specs.Prelude.{◌≡◌, ℕ, ◌+◌, ◌<◌, ◌≤◌, true, [], ◌∷◌, ◌++◌, Some, None, Result, Ok, Err, length, slice_index_or}
+use Rattle.std.specs.Prelude.{◌≡◌, ℕ, ◌+◌, ◌<◌, ◌≤◌, true, List, [], ◌∷◌, ◌++◌, Some, None, Result, Ok, Err, length, slice_index_or}
 use Rattle.std.specs.List.{Contains}
+use Rattle.pg_values.specs.declared.value.Value.{Value}
+use Rattle.pg_ids.specs.declared.ids.LeafId.{LeafId}
 use Rattle.pg_ids.specs.declared.ids.RowId.{RowId}
 use Rattle.history.specs.Transactions.{open_of}
 use Rattle.history.specs.History.{History, tx_events, catalogue_events, stands}
@@ -10,6 +12,9 @@ use Rattle.tx_table.specs.Stands.{TableStands, sees_now_by}
 use Rattle.row_store.specs.Kept.{KeptRows, stored_at}
 use Rattle.row_store.specs.Stands.{StoreStands}
 use Rattle.soundness.specs.Worlds.{HasLeaf}
+use Rattle.part_catalog.specs.Stands.{CatalogueStands}
+use Rattle.row_change.specs.Placing.{placed}
+use Rattle.row_change.specs.Targets.{HasWay}
 use Rattle.row_targets.specs.declared.finding.TargetRow.{TargetRow}
 use Rattle.legal_statements.specs.Below.{tables_in}
 use Rattle.legal_statements.specs.Locked.{IsWritable}
@@ -24,6 +29,7 @@ use Rattle.course.specs.declared.stop.Stop.TheVariants as stop
 use Rattle.statement_steps.specs.Known.{IsKnownTo}
 use Rattle.statement_steps.specs.Steps.{IsHalted}
 use Rattle.insert_statement.specs.Asked.{IsReadOf, MayWrite}
+use Rattle.insert_statement.specs.Inserted.{tables_of}
 use Rattle.change_statement.specs.Gathered.{Found}
 
 -- ---- its command
@@ -86,15 +92,16 @@ pub record IsTargetIn (rows : KeptRows) (g : Found) (t : TargetRow) : Type 0 whe
   pub leaf : (stored_at rows.stored t.id).version.leaf ≡ t.leaf
   pub among : Contains (leaves g.tree) t.leaf
 
--- the versions that were there are as they were born, and the leaves are there
-pub record KeepsVersions (old new : KeptRows) : Type 0 where
-  pub more : length old.stored ≤ length new.stored
-  pub leaves : new.leaves ≡ old.leaves
-  pub same : (id : RowId) → id.number < length old.stored → (stored_at new.stored id).version ≡ (stored_at old.stored id).version
-
 -- the version is there and stands, the transaction sees its birth, and its leaf is one that the session may write
 pub record MayEndIn (stores : Stores) (caller : Caller) (id : RowId) : Type 0 where
   pub known : id.number < length stores.rows.stored
   pub standing : (h : History) → TableStands stores.txs h → StoreStands stores.rows h → stands h id.number ≡ true
   pub born : (tx : ℕ) → slice_index_or stores.txs.current caller.session None ≡ Some tx → sees_now_by stores.txs tx (stored_at stores.rows.stored id).version.by.number ≡ true
   pub locked : (h : History) → Stands stores h → (x : ℕ) → HasLeaf (catalogue_events h) x (stored_at stores.rows.stored id).version.leaf → IsWritable h caller.session x
+
+-- ---- a new row
+
+-- the row goes to the leaf, which is one of the tree's
+pub record IsPlacedIn (stores : Stores) (g : Found) (leaf : LeafId) (row : List Value) : Type 0 where
+  pub placed : (h : History) → CatalogueStands stores.catalog h → placed (tables_of h) g.tree g.path row ≡ Ok leaf
+  pub way : HasWay g.tree leaf

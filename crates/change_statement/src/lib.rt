@@ -1,4 +1,4 @@
-//! DELETE of a session over the stores.
+//! UPDATE and DELETE of a session over the stores.
 //!
 //! The named table is found and locked, the statement is bound, and the tables under the named one are
 //! locked. Then the rows are taken one after the other, as PostgreSQL does it: one that another open
@@ -14,6 +14,7 @@ mod gathering;
 mod rows;
 mod standing;
 mod statement;
+mod updating;
 mod waiting;
 
-pub use statement::delete;
+pub use statement::{delete, update};

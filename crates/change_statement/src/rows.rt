@@ -1,10 +1,11 @@
-//! The rows of a DELETE, one after the other.
+//! The rows of an UPDATE or a DELETE, one after the other.
 
 ghost use Rattle.std.specs.Prelude.{◌≡◌, All, IfOk, OnOk, Some, None, slice_index_or};
 ghost use Rattle.history.specs.History.{History};
 ghost use Rattle.tx_table.specs.Stands.{TableStands};
 ghost use Rattle.row_targets.specs.Verdicts.{updater_meant};
 ghost use Rattle.statement_asks.specs.Asked.{change_meant};
+ghost use Rattle.row_change.specs.Succession.{KeepsVersions};
 ghost use Rattle.row_targets.specs.Targets.{targets};
 ghost use Rattle.table_trees.specs.Seen.{seen};
 ghost use Rattle.table_trees.specs.Trees.{leaves};
@@ -13,15 +14,17 @@ ghost use Rattle.stores.specs.Stand.{Stands};
 ghost use Rattle.course.specs.Attempts.{MayAttempt, MayGoOn};
 ghost use Rattle.statement_steps.specs.Faults as faults;
 ghost use Rattle.change_statement.specs.Changed as changed_spec;
-ghost use Rattle.change_statement.specs.Deleted.{deleting};
+ghost use Rattle.change_statement.specs.Changing.{changing};
 ghost use Rattle.change_statement.specs.Gathered.{found_of};
-ghost use Rattle.change_statement.specs.Running.{IsCommand, IsGathered, IsRun, IsTargetIn, KeepsVersions, MayRun};
+ghost use Rattle.change_statement.specs.Running.{IsCommand, IsGathered, IsRun, IsTargetIn, MayRun};
 ghost use Rattle.change_statement.specs.Standing as standing_spec;
 
+use crate::asking::{self, Change};
 use crate::conflicts::conflict_fault;
 use crate::deleting::end_row;
 use crate::gathering::Gathered;
 use crate::standing::{changed_before, left_of};
+use crate::updating::{renew, store};
 use crate::waiting::pause;
 use course::{Caller, Rest, Stop};
 use pg_ids::LeafId;
@@ -69,13 +72,14 @@ fn stop_by(fault: Result<Fault, NoMemory>) -> Stop
     }
 }
 
-// The first of the rows that are left: it is deleted or passed over, or the statement stops there.
-fn delete_row(
+// The first of the rows that are left: it is changed or passed over, or the statement stops there.
+fn change_row(
     alloc: Global,
     stores: &mut Stores,
     names: &SessionNames,
     caller: Caller,
     gathered: &Gathered,
+    change: Change<'_>,
     left: &[TargetRow],
     target: TargetRow,
     changed: u64,
@@ -85,7 +89,7 @@ fn delete_row(
     requires left { All (IsTargetIn stores.old.rows (found_of gathered.now)) left.now }
     requires target { IsTargetIn stores.old.rows (found_of gathered.now) target }
     ensures run { IsRun (λ n. n) result stores.old stores.new caller
-        (changed_spec.one_changed (deleting caller) names.now caller (found_of gathered.now) target (standing_spec.standing left.now changed)) }
+        (changed_spec.one_changed (changing change.entry caller (found_of gathered.now)) names.now caller (found_of gathered.now) target (standing_spec.standing left.now changed)) }
     ensures rest { OnOk result (stores.new ≡ record stores.old { rows = stores.new.rows }) }
     ensures keeps { OnOk result (KeepsVersions stores.old.rows stores.new.rows) }
 {
@@ -96,8 +100,21 @@ fn delete_row(
     match decide(&stores.rows, &stores.txs, &updater, target.id) {
         Verdict::Change(seen) => {
             let id = seen.id;
-            end_row(stores, caller, id);
-            Ok(next)
+            match change {
+                Change::Update(_) => match renew(alloc, &stores.catalog, gathered, seen.row) {
+                    Ok(row) => {
+                        match store(alloc, stores, caller, gathered, target.leaf, id, row) {
+                            Ok(()) => Ok(next),
+                            Err(stop) => Err(stop),
+                        }
+                    }
+                    Err(refusal) => Err(asking::stop_by(refusal)),
+                },
+                Change::Delete(_) => {
+                    end_row(stores, caller, id);
+                    Ok(next)
+                }
+            }
         }
         Verdict::Pass => Ok(changed),
         Verdict::Wait(other) => Err(pause(alloc, stores, names, caller, other, left, changed)),
@@ -108,26 +125,27 @@ fn delete_row(
     }
 }
 
-/// The rows are deleted, one after the other.
-fn delete_rows(
+// The rows are changed, one after the other.
+fn change_rows(
     alloc: Global,
     stores: &mut Stores,
     names: &SessionNames,
     caller: Caller,
     gathered: &Gathered,
+    change: Change<'_>,
     targets: &[TargetRow],
     changed: u64,
 ) -> Result<(), Stop>
     requires may { MayRun stores.old caller }
     requires gathered { IsGathered stores.old caller (found_of gathered.now) }
     requires targets { All (IsTargetIn stores.old.rows (found_of gathered.now)) targets.now }
-    ensures { IsRun (λ u. u) result stores.old stores.new caller (changed_spec.all_changed (deleting caller) names.now caller (found_of gathered.now) targets.now changed) }
+    ensures { IsRun (λ u. u) result stores.old stores.new caller (changed_spec.all_changed (changing change.entry caller (found_of gathered.now)) names.now caller (found_of gathered.now) targets.now changed) }
 {
     let mut left = targets;
     let mut changed = changed;
     while let Some((target, others)) = left.split_first() {
-        match delete_row(
-            alloc, stores, names, caller, gathered, left, *target, changed,
+        match change_row(
+            alloc, stores, names, caller, gathered, change, left, *target, changed,
         ) {
             Ok(next) => {
                 changed = next;
@@ -186,23 +204,26 @@ fn find_left(
     left_of(alloc, rest, find(alloc, stores, caller, gathered)?)
 }
 
-/// The rows that the statement finds, or that it has left, are deleted.
-pub(crate) fn delete_found(
+/// The rows that the statement finds, or that it has left, are changed.
+pub(crate) fn change_found(
     alloc: Global,
     stores: &mut Stores,
     names: &SessionNames,
     caller: Caller,
     rest: Option<Rest>,
     gathered: &Gathered,
+    change: Change<'_>,
 ) -> Result<(), Stop>
     requires may { MayAttempt stores.old caller }
     requires gathered { IsGathered stores.old caller (found_of gathered.now) }
-    ensures { IsCommand result stores.old stores.new caller (changed_spec.changed_from (deleting caller) names.now caller rest (found_of gathered.now)) }
+    ensures { IsCommand result stores.old stores.new caller (changed_spec.changed_from (changing change.entry caller (found_of gathered.now)) names.now caller rest (found_of gathered.now)) }
 {
     match find_left(alloc, stores, caller, &rest, gathered) {
         Ok(targets) => {
             let changed = changed_before(&rest);
-            delete_rows(alloc, stores, names, caller, gathered, &targets, changed)
+            change_rows(
+                alloc, stores, names, caller, gathered, change, &targets, changed,
+            )
         }
         Err(NoMemory) => Err(Stop::NoMemory),
     }

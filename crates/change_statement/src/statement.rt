@@ -1,18 +1,20 @@
-ghost use Rattle.std.specs.Prelude.{◌≡◌, ◌≤◌, [], length};
-ghost use Rattle.sql_queries.specs.Trees.{maybe_tree};
+ghost use Rattle.std.specs.Prelude.{◌≡◌, ◌≤◌, length, map};
+ghost use Rattle.sql_queries.specs.Trees.{maybe_tree, setting};
 ghost use Rattle.course.specs.Attempts.{MayAttempt, MayGoOn};
 ghost use Rattle.statement_steps.specs.Steps.{follow};
 ghost use Rattle.change_statement.specs.Changed.{changed_from};
-ghost use Rattle.change_statement.specs.Deleted.{deleted, deleting};
+ghost use Rattle.change_statement.specs.Changing.{changing};
+ghost use Rattle.change_statement.specs.Deleted.{deleted};
 ghost use Rattle.change_statement.specs.Gathered as gathered_spec;
 ghost use Rattle.change_statement.specs.Running.{IsCommand};
+ghost use Rattle.change_statement.specs.Updated.{updated};
 
 use crate::asking::Change;
 use crate::gathering::gather;
-use crate::rows::delete_found;
+use crate::rows::change_found;
 use course::{Caller, Rest, Stop};
 use expression_binder::Param;
-use sql_queries::Delete;
+use sql_queries::{Delete, Update};
 use statement_steps::{SessionNames, hold_if_repeatable};
 use std::alloc::Global;
 use stores::Stores;
@@ -28,31 +30,24 @@ fn stopped_on(stop: Stop, rest: Option<Rest>) -> Stop
     }
 }
 
-// What is asked is gathered, and the rows are deleted.
-fn delete_from(
+// What is asked is gathered, and the rows are changed.
+fn change_from(
     alloc: Global,
     stores: &mut Stores,
     names: &SessionNames,
     params: &[Param],
     caller: Caller,
     rest: Option<Rest>,
-    statement: &Delete,
+    change: Change<'_>,
 ) -> Result<(), Stop>
     requires may { MayAttempt stores.old caller }
     requires rest { MayGoOn stores.old rest }
     requires few { length stores.old.catalog.tables ≤ 4096 }
     ensures { IsCommand result stores.old stores.new caller
-        (follow (gathered_spec.found names.now params.now caller rest statement.now.table [] (maybe_tree statement.now.condition)) (changed_from (deleting caller) names.now caller rest)) }
+        (follow (gathered_spec.found names.now params.now caller rest (gathered_spec.table_named change.entry) (gathered_spec.settings_of change.entry) (gathered_spec.condition_of change.entry)) (λ g. changed_from (changing change.entry caller g) names.now caller rest g)) }
 {
-    match gather(
-        alloc,
-        stores,
-        names,
-        params,
-        caller,
-        Change::Delete(statement),
-    ) {
-        Ok(gathered) => delete_found(alloc, stores, names, caller, rest, &gathered),
+    match gather(alloc, stores, names, params, caller, change) {
+        Ok(gathered) => change_found(alloc, stores, names, caller, rest, &gathered, change),
         Err(stop) => Err(stopped_on(stop, rest)),
     }
 }
@@ -78,7 +73,37 @@ pub fn delete(
     ensures { IsCommand result stores.old stores.new caller (deleted names.now params.now caller rest statement.now.table (maybe_tree statement.now.condition)) }
 {
     match hold_if_repeatable(alloc, stores, caller) {
-        Ok(()) => delete_from(alloc, stores, names, params, caller, rest, statement),
+        Ok(()) => {
+            let change = Change::Delete(statement);
+            change_from(alloc, stores, names, params, caller, rest, change)
+        }
+        Err(stop) => Err(stop),
+    }
+}
+
+/// The UPDATE of a session, likewise. A version that is changed is followed by one with the row that the settings
+/// make of its row: where the bounds of the named table and above take it and a partition below is there for it
+/// (23514), NOT NULL (23502) and the kept CHECKs (23514) of the leaf's table let it in, and there is room for it
+/// (54000). In its own leaf it replaces the version; else the row moves.
+pub fn update(
+    alloc: Global,
+    stores: &mut Stores,
+    names: &SessionNames,
+    params: &[Param],
+    caller: Caller,
+    rest: Option<Rest>,
+    statement: &Update,
+) -> Result<(), Stop>
+    requires may { MayAttempt stores.old caller }
+    requires rest { MayGoOn stores.old rest }
+    requires few { length stores.old.catalog.tables ≤ 4096 }
+    ensures { IsCommand result stores.old stores.new caller (updated names.now params.now caller rest statement.now.table (map setting statement.now.assignments) (maybe_tree statement.now.condition)) }
+{
+    match hold_if_repeatable(alloc, stores, caller) {
+        Ok(()) => {
+            let change = Change::Update(statement);
+            change_from(alloc, stores, names, params, caller, rest, change)
+        }
         Err(stop) => Err(stop),
     }
 }

@@ -57,7 +57,7 @@ pub record TargetsTake (n : ℕ) (targets : List Target) (rows : List (List Valu
   pub fits : All (FitsTargets targets) rows
   pub numbered : All (IsTargetNumbered n) targets
 
-one_numbered : (h : History) (s n : ℕ) (tree : TableTree) (target : Target) → n ≡ length (tables_made (catalogue_events h)) → AreCatalogueSound h → IsNumbered n tree → IsTargetOf h s tree target → IsTargetNumbered n target
+pub one_numbered : (h : History) (s n : ℕ) (tree : TableTree) (target : Target) → n ≡ length (tables_made (catalogue_events h)) → AreCatalogueSound h → IsNumbered n tree → IsTargetOf h s tree target → IsTargetNumbered n target
 one_numbered h s n tree target same sound known is =
     let low = last_is_made n tree target.leaf is.tables target.table known is.way is.table in
     let made : target.table.number < length (tables_made (catalogue_events h)) = omega (arith, same, low) in

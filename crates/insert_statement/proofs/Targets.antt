@@ -91,7 +91,7 @@ found_first : (P : Target → Type 0) (leaf : LeafId) (x : Target) (xs : List Ta
 found_first P leaf x xs true here p later any = record { target = x; is = refl; holds = p; same = same_leaf x.leaf leaf here }
 found_first P leaf x xs false here p later any = later any
 
-found_target : (P : Target → Type 0) (leaf : LeafId) (targets : List Target) → All P targets → HasTarget targets leaf → IsFound P leaf (find (is_into leaf) targets)
+pub found_target : (P : Target → Type 0) (leaf : LeafId) (targets : List Target) → All P targets → HasTarget targets leaf → IsFound P leaf (find (is_into leaf) targets)
 found_target P leaf [] all any = absurd (cc)
 found_target P leaf (x ∷ xs) all any = found_first P leaf x xs (is_into leaf x) refl (All-head P x xs all) (found_target P leaf xs (All-tail P x xs all)) any
 
@@ -102,7 +102,7 @@ last_same t (x ∷ xs) = last_same x xs
 holder_is : (h : History) (s : ℕ) (tree : TableTree) (target : Target) → IsTargetOf h s tree target → target.table ≡ holder tree target.leaf
 holder_is h s tree target is = is.table ∙ (last_same (root tree) is.tables ∙ ap (λ o. last_or (root tree) (unwrap_or o [])) (sym is.way))
 
-one_told : (h : History) (s : ℕ) (tree : TableTree) (leaf : LeafId) (targets : List Target) (row : List Value) → IsFound (IsTargetOf h s tree) leaf (find (is_into leaf) targets)
+pub one_told : (h : History) (s : ℕ) (tree : TableTree) (leaf : LeafId) (targets : List Target) (row : List Value) → IsFound (IsTargetOf h s tree) leaf (find (is_into leaf) targets)
     → leaf_faults (tables_of h) (find (is_into leaf) targets) row ≡ holder_faults h s tree leaf row
 one_told h s tree leaf targets row found =
     let t = found.target in

@@ -14,6 +14,6 @@ mod statement;
 mod stopping;
 mod storing;
 
-pub use partitions::tree_and_path;
+pub use partitions::{leaves_of, tree_and_path};
 pub use rows::scope_columns;
 pub use statement::insert;

@@ -56,8 +56,8 @@ fn place_from<L: Ledger>(
     place_rows(alloc, catalog, tree, path, rows, &mut steps)
 }
 
-// The leaf of each row, or the first refusal.
-fn leaves_of(
+/// The leaf of each row, or the first refusal.
+pub fn leaves_of(
     alloc: Global,
     catalog: &Catalog,
     tree: &Tree,

@@ -1,5 +1,5 @@
 -- Room in the store, told of the history.
-use Rattle.std.proofs.Common.{◌≡◌, ℕ, ◌+◌, ◌<◌, ◌≤◌, nat_le, Bool, List, [], ◌∷◌, Ok, Err, length, refl, sym, ap, subst, ◌∙◌, arith, if◌then◌else◌}
+use Rattle.std.proofs.Common.{◌≡◌, ℕ, ◌+◌, ◌<◌, ◌≤◌, nat_le, Bool, List, [], ◌∷◌, ◌++◌, Ok, Err, length, refl, sym, ap, subst, ◌∙◌, arith, if◌then◌else◌}
 use Rattle.std.proofs.lemmas.Bool.{le-leb, lt-leb}
 use Rattle.pg_values.specs.declared.value.Value.{Value}
 use Rattle.pg_values.specs.declared.fault.Fault.{Fault}
@@ -37,11 +37,19 @@ its_fault kept h row which st (OfBytes is lt more) =
     few kept h row st lt
     ∙ (ap (λ b. unless b (too_many BytesOfRows)) (lt-leb (versions_bytes (versions h) + row_bytes row) BYTES_LIMIT (omega (arith, st.room, more))) ∙ ap (λ w. too_many w ∷ []) (sym is))
 
+-- any events
+pub has_room_for : (kept new : KeptRows) (h : History) (row : List Value) (events : History) → StoreStands kept h → HasRoom kept row → StoreStands new (events ++ h) → IsMade (Ok tt) new h (made_by (full_faults h row) events)
+has_room_for kept new h row events st room added =
+    subst (λ fs. IsMade (Ok tt) new h (made_by fs events)) (sym (no_faults kept h row st room)) (refl, added)
+
+pub is_full_for : (kept new : KeptRows) (h : History) (row : List Value) (events : History) (which : Which) (f : Fault) → StoreStands kept h → IsFull kept row which → f ≡ too_many which → new ≡ kept → IsMade (Err (Sql f)) new h (made_by (full_faults h row) events)
+is_full_for kept new h row events which f st full is same =
+    subst (λ fs. IsMade (Err (Sql f)) new h (made_by fs events)) (sym (its_fault kept h row which st full))
+    (ap Err (sym is), subst (λ (k : KeptRows). StoreStands k h) (sym same) st)
+
+-- one of them
 pub has_room : (kept new : KeptRows) (h : History) (row : List Value) (event : Event) → StoreStands kept h → HasRoom kept row → StoreStands new (event ∷ h) → IsMade (Ok tt) new h (made_by (full_faults h row) (event ∷ []))
-has_room kept new h row event st room added =
-    subst (λ fs. IsMade (Ok tt) new h (made_by fs (event ∷ []))) (sym (no_faults kept h row st room)) (refl, added)
+has_room kept new h row event = has_room_for kept new h row (event ∷ [])
 
 pub is_full : (kept new : KeptRows) (h : History) (row : List Value) (event : Event) (which : Which) (f : Fault) → StoreStands kept h → IsFull kept row which → f ≡ too_many which → new ≡ kept → IsMade (Err (Sql f)) new h (made_by (full_faults h row) (event ∷ []))
-is_full kept new h row event which f st full is same =
-    subst (λ fs. IsMade (Err (Sql f)) new h (made_by fs (event ∷ []))) (sym (its_fault kept h row which st full))
-    (ap Err (sym is), subst (λ (k : KeptRows). StoreStands k h) (sym same) st)
+is_full kept new h row event = is_full_for kept new h row (event ∷ [])

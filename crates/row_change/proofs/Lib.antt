@@ -6,6 +6,7 @@ pub mod Made
 pub mod Placed
 pub mod Rows
 pub mod Steps
+pub mod Successors
 pub mod Targets
 pub mod Unchecked
 pub mod Walk

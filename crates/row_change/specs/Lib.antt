@@ -4,5 +4,6 @@ pub mod Placing
 pub mod Refusals
 pub mod RowTexts
 pub mod Storing
+pub mod Succession
 pub mod Targets
 pub mod Ways

@@ -11,6 +11,9 @@
 //! leaf and, where the statement names the leaf itself, for the bounds, and stored. What is known of a leaf is
 //! its `Target`. The first refusal ends it, and the caller takes back what was stored before.
 //!
+//! An UPDATE puts a row in the place of a version (`succeed_row`): it replaces it in its leaf, or a version is born
+//! in another leaf and the row has moved there.
+//!
 //! Names, and the keys that a refusal tells, are those that a history gives the tables.
 #![tactic(auto)]
 
@@ -22,6 +25,7 @@ mod leaf_list;
 mod leaves_below;
 mod placing;
 mod storing;
+mod succession;
 mod target;
 mod testing;
 mod texts;
@@ -34,7 +38,8 @@ pub use laws::{
 pub use leaf_list::LeafList;
 pub use leaves_below::leaf_targets;
 pub use placing::place_rows;
-pub use storing::store_rows;
+pub use storing::{check_leaf, store_rows};
+pub use succession::succeed_row;
 pub use target::Target;
 pub use testing::check_row;
 pub use way::{all_ways, leaf_way, push_way};

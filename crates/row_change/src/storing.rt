@@ -25,7 +25,7 @@ use std::alloc::Global;
 use tx_table::TxTable;
 
 // What the refusal of the store is to the statement.
-fn refused(alloc: Global, cause: PutCause) -> Refusal
+pub(crate) fn refused(alloc: Global, cause: PutCause) -> Refusal
     ensures { storing.IsRefusal result cause }
 {
     match cause {
@@ -59,8 +59,8 @@ fn put_row(
     }
 }
 
-// The tests of a row that goes into the leaf.
-fn check_leaf(
+/// The tests of a row that goes into the leaf, as its target says.
+pub fn check_leaf(
     alloc: Global,
     catalog: &Catalog,
     targets: &[Target],

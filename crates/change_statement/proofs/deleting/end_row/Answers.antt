@@ -1,6 +1,7 @@
 use Rattle.std.proofs.Common.{sym, refl, ◌≡◌, Ok, subst}
 use Rattle.stores.specs.declared.stores.Stores.{Stores}
-use Rattle.change_statement.proofs.Ended.{ended_run, end_keeps}
+use Rattle.row_change.proofs.Successors.{end_keeps}
+use Rattle.change_statement.proofs.Ended.{ended_run}
 use Rattle.change_statement.proofs.deleting.end_row.Goals as goal
 
 pub returns-clause-run : goal.returns-clause-run
@@ -8,4 +9,4 @@ returns-clause-run c =
     ended_run c.args.stores.now c.end_version.new.self c.args.caller c.args.id c.in-Some.by c.requires.may c.requires.row (sym c.in-Some.ensures.kept) c.end_version.ensures.added
 
 pub returns-clause-keeps : goal.returns-clause-keeps
-returns-clause-keeps c = end_keeps c.args.stores.now.rows c.end_version.new.self c.args.id.number _ c.end_version.ensures.kept c.end_version.ensures.count.0
+returns-clause-keeps c = end_keeps c.args.stores.now.rows c.end_version.new.self c.args.id.number _ c.end_version.ensures.kept

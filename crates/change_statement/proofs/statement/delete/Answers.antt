@@ -11,22 +11,22 @@ use Rattle.change_statement.specs.Gathered.{found}
 use Rattle.change_statement.proofs.Commands.{then_command, stop_command}
 use Rattle.change_statement.proofs.statement.delete.Goals as goal
 
-pub delete_from-requires-clause-may : goal.delete_from-requires-clause-may
-delete_from-requires-clause-may c =
+pub change_from-requires-clause-may : goal.change_from-requires-clause-may
+change_from-requires-clause-may c =
     may_go_on (λ (u : Unit {0}). u) tt c.args.stores.now c.hold_if_repeatable.new.stores c.args.caller (held_at c.args.caller.level c.args.caller.session c.args.caller.cmd) c.requires.may c.in-Ok.ensures.step
 
-pub delete_from-requires-clause-rest : goal.delete_from-requires-clause-rest
-delete_from-requires-clause-rest c = subst (λ (s : Stores). MayGoOn s c.args.rest) (sym c.hold_if_repeatable.ensures.rest) c.requires.rest
+pub change_from-requires-clause-rest : goal.change_from-requires-clause-rest
+change_from-requires-clause-rest c = subst (λ (s : Stores). MayGoOn s c.args.rest) (sym c.hold_if_repeatable.ensures.rest) c.requires.rest
 
-pub delete_from-requires-clause-few : goal.delete_from-requires-clause-few
-delete_from-requires-clause-few c = subst (λ (s : Stores). length s.catalog.tables ≤ 4096) (sym c.hold_if_repeatable.ensures.rest) c.requires.few
+pub change_from-requires-clause-few : goal.change_from-requires-clause-few
+change_from-requires-clause-few c = subst (λ (s : Stores). length s.catalog.tables ≤ 4096) (sym c.hold_if_repeatable.ensures.rest) c.requires.few
 
 pub returns-in-Ok : goal.returns-in-Ok
 returns-in-Ok c =
-    then_command (λ (u : Unit {0}). u) tt c.delete_from.result c.args.stores.now c.hold_if_repeatable.new.stores c.delete_from.new.stores c.args.caller
+    then_command (λ (u : Unit {0}). u) tt c.change_from.result c.args.stores.now c.hold_if_repeatable.new.stores c.change_from.new.stores c.args.caller
     (held_at c.args.caller.level c.args.caller.session c.args.caller.cmd)
     (λ u. follow (found c.args.names.now c.args.params.now c.args.caller c.args.rest c.args.statement.now.table [] (maybe_tree c.args.statement.now.condition)) (changed_from (deleting c.args.caller) c.args.names.now c.args.caller c.args.rest))
-    c.in-Ok.ensures.step c.delete_from.ensures
+    c.in-Ok.ensures.step c.change_from.ensures
 
 pub returns-in-Err : goal.returns-in-Err
 returns-in-Err c =

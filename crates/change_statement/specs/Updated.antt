@@ -1,0 +1,67 @@
+-- UPDATE of a session (the manual, UPDATE; 5.11.2 Declarative Partitioning).
+use Rattle.std.specs.Prelude.{ℕ, List, Option}
+use Rattle.pg_values.specs.declared.value.Value.{Value}
+use Rattle.pg_ids.specs.declared.ids.LeafId.{LeafId}
+use Rattle.pg_ids.specs.declared.ids.RowId.{RowId}
+use Rattle.part_bounds.specs.Checks.{or_first}
+use Rattle.history.specs.declared.transaction.TxId.{TxId}
+use Rattle.history.specs.History.{History}
+use Rattle.part_catalog.specs.Found.{made_at}
+use Rattle.row_store.specs.Stands.{newborn}
+use Rattle.row_change.specs.Placing.{placed}
+use Rattle.row_change.specs.Storing.{full_faults}
+use Rattle.row_change.specs.Succession.{follows}
+use Rattle.row_targets.specs.NewRows.{new_row}
+use Rattle.sql_expressions.specs.Tree.{Tree}
+use Rattle.sql_queries.specs.Trees.{Setting}
+use Rattle.sql_queries.specs.declared.parts.NamedTable.{NamedTable}
+use Rattle.expression_binder.specs.declared.scope.Param.{Param}
+use Rattle.course.specs.Made.{Made}
+use Rattle.course.specs.declared.caller.Caller.{Caller}
+use Rattle.course.specs.declared.rest.Rest.{Rest}
+use Rattle.statement_steps.specs.Asks.{held_at}
+use Rattle.statement_steps.specs.Steps.{follow}
+use Rattle.insert_statement.specs.Born.{unless_refused}
+use Rattle.insert_statement.specs.Inserted.{answered, tables_of, own, holder_faults}
+use Rattle.change_statement.specs.Gathered.{Found, found}
+use Rattle.change_statement.specs.Changed.{Changing, changed_from}
+
+-- ---- the new row
+
+-- with the values that are set in it, of the kinds of the named table's columns
+abbrev pub renewed : Found → List Value → History → Made (List Value)
+renewed g row h = answered (new_row (made_at h g.table.number).columns g.asked.settings row)
+
+-- its leaf: the bounds of the named table and of those above it are asked, then the way below it
+abbrev pub rehoused : Found → List Value → History → Made LeafId
+rehoused g row h = answered (placed (tables_of h) g.tree g.path row)
+
+-- NOT NULL and the kept CHECKs of the table that has the leaf
+abbrev pub tested : Caller → Found → LeafId → List Value → History → Made (Unit {0})
+tested c g leaf row h = answered (or_first (holder_faults h c.session g.tree leaf row) tt)
+
+-- ---- its version
+
+-- where there is room, the version is replaced in its leaf, or its row is moved to another one
+abbrev pub succeeded_by : TxId → Caller → (old : LeafId) → RowId → (new : LeafId) → List Value → History → Made (Unit {0})
+succeeded_by by c old id new row h = unless_refused (full_faults h row) (follows old id (newborn h new row by c.cmd))
+
+abbrev pub succeeded : Caller → (old : LeafId) → RowId → (new : LeafId) → List Value → History → Made (Unit {0})
+succeeded c old id new row h = succeeded_by (own h c.session) c old id new row h
+
+-- ---- the statement
+
+abbrev pub stored_in : Caller → Found → (old : LeafId) → RowId → List Value → (new : LeafId) → History → Made (Unit {0})
+stored_in c g old id row new = follow (tested c g new row) (λ u. succeeded c old id new row)
+
+abbrev pub stored : Caller → Found → (old : LeafId) → RowId → List Value → History → Made (Unit {0})
+stored c g old id row = follow (rehoused g row) (stored_in c g old id row)
+
+abbrev pub updating : Caller → Found → Changing
+updating c g old id row = follow (renewed g row) (stored c g old id)
+
+-- UPDATE table SET settings [ WHERE condition ], from its beginning, or from where it stood
+abbrev pub updated : (names : List (List ℕ)) → List Param → Caller → Option Rest → NamedTable → List Setting → (condition : Option Tree) → History → Made (Unit {0})
+updated names params c rest table settings condition =
+    follow (held_at c.level c.session c.cmd) (λ u.
+    follow (found names params c rest table settings condition) (λ g. changed_from (updating c g) names c rest g))

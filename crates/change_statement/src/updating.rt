@@ -1,0 +1,250 @@
+//! A row version that is followed by another one.
+
+ghost use Rattle.std.specs.Prelude.{◌≡◌, ◌<◌, ◌∷◌, [], true, IfOk, MatchResult, length};
+ghost use Rattle.pg_values.specs.Refusals.{IsAnswer};
+ghost use Rattle.part_bounds.specs.Levels.{IsOf};
+ghost use Rattle.part_bounds.specs.Checks.{or_first};
+ghost use Rattle.history.specs.History.{History};
+ghost use Rattle.table_trees.specs.Seen.{seen};
+ghost use Rattle.table_trees.specs.Trees.{IsRowOf};
+ghost use Rattle.row_store.specs.Kept.{stored_at};
+ghost use Rattle.row_change.specs.Placing.{placed};
+ghost use Rattle.row_change.specs.Succession.{KeepsVersions};
+ghost use Rattle.row_change.specs.Targets.{HasWay};
+ghost use Rattle.part_catalog.specs.Found.{made_at};
+ghost use Rattle.part_catalog.specs.Stands.{CatalogueStands};
+ghost use Rattle.pg_values.specs.declared.fault.Refusal.TheVariants.{NoMemory};
+ghost use Rattle.row_targets.specs.NewRows.{new_row};
+ghost use Rattle.statement_asks.specs.Asked.{change_meant};
+ghost use Rattle.stores.specs.Stand.{Stands};
+ghost use Rattle.insert_statement.specs.Asked.{AreRowsOf};
+ghost use Rattle.insert_statement.specs.Inserted.{holder_faults, tables_of};
+ghost use Rattle.change_statement.specs.Gathered.{found_of};
+ghost use Rattle.change_statement.specs.Running.{IsGathered, IsPlacedIn, IsRun, MayEndIn, MayRun};
+ghost use Rattle.change_statement.specs.Updated as updated;
+
+use crate::asking::stop_by;
+use crate::gathering::Gathered;
+use course::{Caller, Stop};
+use history::Column;
+use insert_statement::leaves_of;
+use part_catalog::Catalog;
+use pg_ids::{LeafId, RowId};
+use pg_values::{Kind, Refusal, Row, Value};
+use row_change::{check_leaf, leaf_targets, succeed_row};
+use row_targets::new_row;
+use std::alloc::Global;
+use std::slice::from_ref;
+use stores::{Stores, trees_are_together};
+use value_rules::kind_of;
+
+// ---- the new row
+
+fn is_of(kind: Kind, value: &Value) -> bool
+    ensures { result ≡ true → IsOf kind value.now }
+{
+    match value {
+        Value::Null => true,
+        _ => kind_of(value) == kind,
+    }
+}
+
+// A value for each of the columns, of its kind.
+fn are_of(columns: &[Column], values: &[Value]) -> bool
+    ensures { result ≡ true → IsRowOf columns.now values.now }
+{
+    let mut left = values;
+    for column in columns {
+        match left.split_first() {
+            None => return false,
+            Some((value, others)) => {
+                if !is_of(column.kind, value) {
+                    return false;
+                }
+                left = others;
+            }
+        }
+    }
+    left.is_empty()
+}
+
+// Rows of the table are of its columns: want of memory is never told for another one.
+fn only_of(columns: &[Column], row: Row) -> Result<Row, Refusal>
+    ensures { MatchResult result (λ new. (new ≡ row) × IsRowOf columns.now new) (λ r. r ≡ NoMemory) }
+{
+    if are_of(columns, row.as_slice()) {
+        Ok(row)
+    } else {
+        Err(Refusal::NoMemory)
+    }
+}
+
+/// The row with the values that the statement sets in it.
+pub(crate) fn renew(
+    alloc: Global,
+    catalog: &Catalog,
+    gathered: &Gathered,
+    row: &Row,
+) -> Result<Row, Refusal>
+    requires { gathered.now.table.number < length catalog.now.tables }
+    ensures is { (h : History) → CatalogueStands catalog.now h → IsAnswer result (new_row (made_at h gathered.now.table.number).columns (change_meant gathered.now.ask).settings row.now) }
+    ensures of { IfOk result (λ new. AreRowsOf catalog.now gathered.now.table (new ∷ [])) }
+{
+    let columns = catalog.table(gathered.table).columns.as_slice();
+    match new_row(alloc, columns, &gathered.ask.settings, row) {
+        Ok(new) => only_of(columns, new),
+        Err(refusal) => Err(refusal),
+    }
+}
+
+// ---- its leaf
+
+// The leaf of the row below the named table.
+fn rehouse(
+    alloc: Global,
+    stores: &Stores,
+    caller: Caller,
+    gathered: &Gathered,
+    row: &Row,
+) -> Result<LeafId, Stop>
+    requires may { MayRun stores.now caller }
+    requires gathered { IsGathered stores.now caller (found_of gathered.now) }
+    requires of { AreRowsOf stores.now.catalog (found_of gathered.now).table (row.now ∷ []) }
+    ensures run { IsRun (λ leaf. leaf) result stores.now stores.now caller (updated.rehoused (found_of gathered.now) row.now) }
+    ensures placed { IfOk result (λ leaf. IsPlacedIn stores.now (found_of gathered.now) leaf row.now) }
+{
+    let tree = &gathered.tree;
+    match leaves_of(alloc, &stores.catalog, tree, &gathered.path, from_ref(row)) {
+        Ok(leaves) => match leaves.as_slice().split_first() {
+            Some((leaf, _)) => Ok(*leaf),
+            None => Err(Stop::NoMemory),
+        },
+        Err(refusal) => Err(stop_by(refusal)),
+    }
+}
+
+fn check(
+    alloc: Global,
+    stores: &Stores,
+    caller: Caller,
+    gathered: &Gathered,
+    leaf: LeafId,
+    row: &Row,
+) -> Result<(), Refusal>
+    requires may { MayRun stores.now caller }
+    requires gathered { IsGathered stores.now caller (found_of gathered.now) }
+    requires of { AreRowsOf stores.now.catalog (found_of gathered.now).table (row.now ∷ []) }
+    requires placed { IsPlacedIn stores.now (found_of gathered.now) leaf row.now }
+    ensures { (h : History) → Stands stores.now h → IsAnswer result (or_first (holder_faults h caller.session (seen gathered.now.tree) leaf row.now) tt) }
+{
+    trees_are_together();
+    let catalog = &stores.catalog;
+    let session = caller.session;
+    let tree = &gathered.tree;
+    let targets = leaf_targets(alloc, catalog, &stores.txs, session, tree, from_ref(&leaf))?;
+    check_leaf(alloc, catalog, &targets, leaf, row)
+}
+
+// Nothing in the table that has the leaf stands against the row.
+fn test(
+    alloc: Global,
+    stores: &Stores,
+    caller: Caller,
+    gathered: &Gathered,
+    leaf: LeafId,
+    row: &Row,
+) -> Result<(), Stop>
+    requires may { MayRun stores.now caller }
+    requires gathered { IsGathered stores.now caller (found_of gathered.now) }
+    requires of { AreRowsOf stores.now.catalog (found_of gathered.now).table (row.now ∷ []) }
+    requires placed { IsPlacedIn stores.now (found_of gathered.now) leaf row.now }
+    ensures { IsRun (λ u. u) result stores.now stores.now caller (updated.tested caller (found_of gathered.now) leaf row.now) }
+{
+    match check(alloc, stores, caller, gathered, leaf, row) {
+        Ok(()) => Ok(()),
+        Err(refusal) => Err(stop_by(refusal)),
+    }
+}
+
+// ---- its version
+
+// The row takes the place of the version.
+fn succeed(
+    alloc: Global,
+    stores: &mut Stores,
+    caller: Caller,
+    gathered: &Gathered,
+    from: LeafId,
+    id: RowId,
+    leaf: LeafId,
+    row: Row,
+) -> Result<(), Stop>
+    requires may { MayRun stores.old caller }
+    requires gathered { IsGathered stores.old caller (found_of gathered.now) }
+    requires version { MayEndIn stores.old caller id }
+    requires own { (stored_at stores.old.rows.stored id).version.leaf ≡ from }
+    requires placed { IsPlacedIn stores.old (found_of gathered.now) leaf row }
+    ensures run { IsRun (λ u. u) result stores.old stores.new caller (updated.succeeded caller from id leaf row) }
+    ensures rest { stores.new ≡ record stores.old { rows = stores.new.rows } }
+    ensures keeps { KeepsVersions stores.old.rows stores.new.rows }
+{
+    let Some(by) = stores.txs.open_of(caller.session) else {
+        unreachable!()
+    };
+    let Stores { txs, rows, .. } = stores;
+    match succeed_row(alloc, txs, rows, from, id, leaf, row, by, caller.cmd) {
+        Ok(()) => Ok(()),
+        Err(refusal) => Err(stop_by(refusal)),
+    }
+}
+
+fn store_in(
+    alloc: Global,
+    stores: &mut Stores,
+    caller: Caller,
+    gathered: &Gathered,
+    from: LeafId,
+    id: RowId,
+    leaf: LeafId,
+    row: Row,
+) -> Result<(), Stop>
+    requires may { MayRun stores.old caller }
+    requires gathered { IsGathered stores.old caller (found_of gathered.now) }
+    requires version { MayEndIn stores.old caller id }
+    requires own { (stored_at stores.old.rows.stored id).version.leaf ≡ from }
+    requires of { AreRowsOf stores.old.catalog (found_of gathered.now).table (row ∷ []) }
+    requires placed { IsPlacedIn stores.old (found_of gathered.now) leaf row }
+    ensures run { IsRun (λ u. u) result stores.old stores.new caller (updated.stored_in caller (found_of gathered.now) from id row leaf) }
+    ensures rest { stores.new ≡ record stores.old { rows = stores.new.rows } }
+    ensures keeps { KeepsVersions stores.old.rows stores.new.rows }
+{
+    match test(alloc, stores, caller, gathered, leaf, &row) {
+        Ok(()) => succeed(alloc, stores, caller, gathered, from, id, leaf, row),
+        Err(stop) => Err(stop),
+    }
+}
+
+/// The row takes the place of the version, in the leaf where it belongs.
+pub(crate) fn store(
+    alloc: Global,
+    stores: &mut Stores,
+    caller: Caller,
+    gathered: &Gathered,
+    from: LeafId,
+    id: RowId,
+    row: Row,
+) -> Result<(), Stop>
+    requires may { MayRun stores.old caller }
+    requires gathered { IsGathered stores.old caller (found_of gathered.now) }
+    requires version { MayEndIn stores.old caller id }
+    requires own { (stored_at stores.old.rows.stored id).version.leaf ≡ from }
+    requires of { AreRowsOf stores.old.catalog (found_of gathered.now).table (row ∷ []) }
+    ensures run { IsRun (λ u. u) result stores.old stores.new caller (updated.stored caller (found_of gathered.now) from id row) }
+    ensures rest { stores.new ≡ record stores.old { rows = stores.new.rows } }
+    ensures keeps { KeepsVersions stores.old.rows stores.new.rows }
+{
+    match rehouse(alloc, stores, caller, gathered, &row) {
+        Ok(leaf) => store_in(alloc, stores, caller, gathered, from, id, leaf, row),
+        Err(stop) => Err(stop),
+    }
+}
