@@ -5,7 +5,7 @@ use Rattle.history.specs.History.{History}
 use Rattle.expression_binder.specs.Faults.{left_out}
 use Rattle.sql_commands.specs.Trees.{CommandTree, makes_table, makes_partition, drops, detaches, locks}
 use Rattle.sql_commands.specs.declared.alter.Detachment.TheVariants.{AtOnce}
-use Rattle.sql_queries.specs.Trees.{SelectTree, RowTree, QueryTree, selects, inserts, deletes, rows}
+use Rattle.sql_queries.specs.Trees.{SelectTree, RowTree, QueryTree, selects, inserts, updates, deletes, rows}
 use Rattle.sql_syntax.specs.Trees.{StatementTree, commands, queries}
 use Rattle.out_text.specs.Table.{printed_table}
 use Rattle.course.specs.Made.{Made, Halt, Refused, halted}
@@ -14,12 +14,13 @@ use Rattle.course.specs.declared.rest.Rest.{Rest}
 use Rattle.select_statement.specs.Selected.{selected}
 use Rattle.insert_statement.specs.Inserted.{inserted}
 use Rattle.change_statement.specs.Deleted.{deleted}
+use Rattle.change_statement.specs.Updated.{updated}
 use Rattle.table_statements.specs.Tables.{created}
 use Rattle.table_statements.specs.Partitions.{partitioned}
 use Rattle.table_statements.specs.Drops.{dropped}
 use Rattle.lock_statement.specs.Locked.{locked}
 use Rattle.detach_statement.specs.Detached.{detached}
-use Rattle.store_statements.specs.LeftOut.{command_word, row_word, query_word, cancel_word, cancels}
+use Rattle.store_statements.specs.LeftOut.{command_word, query_word, cancel_word, cancels}
 
 -- ---- what is printed
 
@@ -61,8 +62,8 @@ select_attempted names c s = if cancels s then omitted cancel_word else tabled (
 abbrev pub row_attempted : (names : List (List ℕ)) → Caller → Option Rest → RowTree → History → Made (List ℕ)
 row_attempted names c rest (selects s) = select_attempted names c s
 row_attempted names c rest (inserts table columns values) = silent (inserted names [] c table columns values)
+row_attempted names c rest (updates table settings condition) = silent (updated names [] c rest table settings condition)
 row_attempted names c rest (deletes table condition) = silent (deleted names [] c rest table condition)
-row_attempted names c rest t = omitted (row_word t)
 
 abbrev pub query_attempted : (names : List (List ℕ)) → Caller → Option Rest → QueryTree → History → Made (List ℕ)
 query_attempted names c rest (rows r) = row_attempted names c rest r

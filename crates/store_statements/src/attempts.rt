@@ -8,7 +8,7 @@ ghost use Rattle.store_statements.specs.Attempted as attempted;
 ghost use Rattle.store_statements.specs.Printed.{IsStatement};
 
 use crate::left_out::{cancels, command_word, query_word};
-use change_statement::delete;
+use change_statement::{delete, update};
 use course::{Caller, Rest, Stop};
 use detach_statement::detach;
 use expression_binder::left_out;
@@ -139,7 +139,7 @@ fn attempt_rows(
     match statement {
         RowStatement::Select(s) => attempt_select(alloc, stores, names, caller, s, out),
         RowStatement::Insert(s) => insert(alloc, stores, names, &[], caller, s),
-        RowStatement::Update(_) => omit(alloc, stores, caller, b"UPDATE", out),
+        RowStatement::Update(s) => update(alloc, stores, names, &[], caller, rest, s),
         RowStatement::Delete(s) => delete(alloc, stores, names, &[], caller, rest, s),
     }
 }
