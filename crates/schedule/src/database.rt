@@ -151,5 +151,6 @@ pub trait Database: Sized + Drop {
     fn write_fault(alloc: Global, fault: &Fault, out: &mut Vec<u8>) -> Result<(), NoMemory>
         ensures { OnOk result (out.new.items ≡ out.old.items ++ rules.fault_text fault.now) };
 
+    /// What each database stands for is good.
     ghost stands_are_good: { (d : Self) (v : State) → stands d v → good v };
 }
