@@ -5,3 +5,4 @@ pub mod Attempts
 pub mod Kept
 pub mod Weight
 pub mod Ran
+pub mod Moments

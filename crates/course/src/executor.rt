@@ -33,6 +33,7 @@ impl<K: Kinds> StoreExecutor<K> {
 impl<K: Kinds> Executor for StoreExecutor<K> {
     ghost use Rattle.course.specs.Database.{Database, course};
     ghost use Rattle.course.specs.Kept.{StandsFor, waits_in, due_in};
+    ghost use Rattle.course.specs.Moments.{AlwaysInOneLeaf, good_rows};
     ghost use Rattle.course.specs.Weight as weights;
 
     type Statement = K::Statement;
@@ -46,6 +47,10 @@ impl<K: Kinds> Executor for StoreExecutor<K> {
     ghost course = { course K.words };
 
     ghost stands = { λ e v. StandsFor (K.options e.kinds) e.seats v };
+
+    ghost good = { λ v. AlwaysInOneLeaf v.history };
+
+    ghost stands_are_good = { λ e v st. good_rows v.history st.tells.stands.good };
 
     ghost in_transaction = { λ e. e.seats.opened };
 

@@ -2,7 +2,7 @@
 use Rattle.std.proofs.Common.{◌≡◌, ℕ, List, [], ◌++◌, Option, Some, None, refl, sym, ap, subst, ◌∙◌, append_assoc, append-nil}
 use Rattle.schedule.specs.Rules.{Rules}
 use Rattle.schedule.specs.declared.event.Event.{Event}
-use Rattle.schedule.specs.Run.{World, effect, next, printed, Reaches, Here, Next, Runs}
+use Rattle.schedule.specs.Run.{World, effect, next, printed, Reaches, Here, Next, Throughout, Runs}
 
 some_is : (a b : Event) (o : Option Event) → o ≡ Some a → o ≡ Some b → b ≡ a
 some_is a b o p q = cc
@@ -29,3 +29,11 @@ module _ {S : Type 0} (R : Rules S) where
       let r = beginning w a b x y p.reaches q.reaches q.ends in
       let e = at_end x r.0 y r.2 p.ends in
       (sym (append-nil a) ∙ ap (λ l. a ++ l) (sym e.0) ∙ r.1, sym e.1)
+
+  -- what is reached lies on the way
+  pub good_at : (Good : S → Type 0) (w : World S) (a : List ℕ) (x : World S) (r : Reaches R w a x) → next R x ≡ None → Throughout Good r → (b : List ℕ) (y : World S) → Reaches R w b y → Good y.db
+  good_at Good w a x (Here w' lines last none same) ends well b y reaches = subst (λ (v : World S). Good v.db) (sym (at_end w b y reaches (ap (next R) (sym same) ∙ ends)).1) well
+  good_at Good w a x (Next w' lines last e rest comes front on) ends well b y (Here w'' lines' last' none same) = subst (λ (v : World S). Good v.db) (sym same) well.0
+  good_at Good w a x (Next w' lines last e rest comes front on) ends well b y (Next w'' lines' last' f rest' comes' front' on') =
+      let same : f ≡ e = some_is e f (next R w) comes comes' in
+      good_at Good (effect R w e).world rest x on ends well.1 rest' y (subst (λ g. Reaches R (effect R w g).world rest' y) same on')

@@ -231,6 +231,15 @@ pub data Reaches {S : Type 0} (R : Rules S) : World S → List ℕ → World S �
   Next : (w : World S) (lines : List ℕ) (last : World S) (e : Event) (rest : List ℕ) → next R w ≡ Some e
       → lines ≡ printed R (effect R w e) ++ rest → Reaches R (effect R w e).world rest last → Reaches R w lines last
 
+-- nothing is asked of a state
+abbrev pub Anything : {S : Type 0} → S → Type 0
+Anything v = Unit {0}
+
+-- each world on the way has a database of which this holds: the first, the last and those between
+abbrev pub Throughout : {S : Type 0} (Good : S → Type 0) {R : Rules S} {w : World S} {lines : List ℕ} {last : World S} → Reaches R w lines last → Type 0
+Throughout Good (Here w lines last none same) = Good w.db
+Throughout Good (Next w lines last e rest comes front on) = Good w.db × Throughout Good on
+
 -- the whole run from a world: its lines, and the world in which nothing comes next
 pub record Runs {S : Type 0} (R : Rules S) (w : World S) (lines : List ℕ) (last : World S) : Type 0 where
   pub reaches : Reaches R w lines last

@@ -31,6 +31,9 @@ pub trait Database: Sized + Drop {
 
     ghost stands: { Self → State → Type 0 };
 
+    /// What holds of each state that a database stands for.
+    ghost good: { State → Type 0 };
+
     /// How many sessions there are.
     ghost count: { Self → ℕ };
 
@@ -147,4 +150,7 @@ pub trait Database: Sized + Drop {
     /// Appends the code and the text of a fault.
     fn write_fault(alloc: Global, fault: &Fault, out: &mut Vec<u8>) -> Result<(), NoMemory>
         ensures { OnOk result (out.new.items ≡ out.old.items ++ rules.fault_text fault.now) };
+
+    /// What each database stands for is good.
+    ghost stands_are_good: { (d : Self) (v : State) → stands d v → good v };
 }

@@ -1,6 +1,6 @@
 ghost use Rattle.std.specs.Prelude.{◌≡◌, ◌<◌, ◌++◌, ℕ, List, None, Some, [], All};
 ghost use Rattle.schedule.specs.Comes.{Comes};
-ghost use Rattle.schedule.specs.Run.{World, Runs, Reaches, start, next};
+ghost use Rattle.schedule.specs.Run.{World, Runs, Reaches, Throughout, start, next};
 ghost use Rattle.schedule.specs.Tasks.{AreKnown};
 ghost use Rattle.schedule.specs.declared.event.Event.{Event};
 ghost use Rattle.schedule.specs.declared.run_end.RunEnd.TheVariants as ends;
@@ -11,6 +11,11 @@ use crate::database::Database;
 /// A run has one end, and one list of lines.
 pub fn runs_have_one_end<D: Database>()
     ensures { (w : World D.State) (a b : List ℕ) (x y : World D.State) → Runs D.rules w a x → Runs D.rules w b y → (a ≡ b) × (x ≡ y) }
+{}
+
+/// Where each world on the way of a run is good, so is each that the run reaches.
+pub fn reached_worlds_are_good<D: Database>()
+    ensures { (w : World D.State) (a : List ℕ) (x : World D.State) (runs : Runs D.rules w a x) → Throughout D.good runs.reaches → (b : List ℕ) (y : World D.State) → Reaches D.rules w b y → D.good y.db }
 {}
 
 /// What has come so far is the beginning of the whole.

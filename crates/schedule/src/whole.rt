@@ -79,7 +79,7 @@ impl<'e, 's, D: Database> Engine<'e, 's, D> {
         requires { MayCome D.Database self.old event }
         ensures leaves { OnOk result (Leaves D.Database (λ w. effect D.rules w event) self.old self.new) }
         ensures writes { OnOk result (WritesOf D.Database (λ w. effect D.rules w event) self.old (K.taken out.old) (K.taken out.new)) }
-        ensures begins { OnErr result (BeginsOf D.Database (λ w. effect D.rules w event) self.old (K.taken out.old) (K.taken out.new)) }
+        ensures begins { OnErr result (BeginsOf D.Database (λ w. effect D.rules w event) self.old self.new (K.taken out.old) (K.taken out.new)) }
         ensures fault { result ≡ Err RunRefused.Write → Rose (K.faults out.old) (K.faults out.new) }
         ensures kept { result ≢ Err RunRefused.Write → K.faults out.new ≡ K.faults out.old }
         ensures falls { OnOk result (Falls D.Database self.old self.new) }
@@ -91,7 +91,7 @@ impl<'e, 's, D: Database> Engine<'e, 's, D> {
     // Makes all happen that is left.
     fn run_to_end<K: Sink>(&mut self, alloc: Global, out: &mut K) -> Result<(), RunRefused>
         ensures done { OnOk result ((w : World D.State) → Stands D.Database self.old w → ArePrinted D.Database w self.new (K.taken out.old) (K.taken out.new)) }
-        ensures cut { OnErr result ((w : World D.State) → Stands D.Database self.old w → ArePartlyPrinted D.rules w (K.taken out.old) (K.taken out.new)) }
+        ensures cut { OnErr result ((w : World D.State) → Stands D.Database self.old w → ArePartlyPrinted D.rules D.good w (K.taken out.old) (K.taken out.new)) }
         ensures fault { result ≡ Err RunRefused.Write → Rose (K.faults out.old) (K.faults out.new) }
         ensures kept { result ≢ Err RunRefused.Write → K.faults out.new ≡ K.faults out.old }
     {
@@ -118,8 +118,8 @@ pub fn run<D: Database, K: Sink>(
     out: &mut K,
 ) -> Result<RunEnd, RunRefused>
     requires known { All (AreKnown (D.count db)) permutations.now }
-    ensures done { IfOk result (λ end. (v : D.State) → D.stands db v → IsPrinted D.rules (start D.rules v (D.count db) permutations.now) (heading (D.count db)) end (K.taken out.old) (K.taken out.new)) }
-    ensures cut { OnErr result ((v : D.State) → D.stands db v → IsPartlyPrinted D.rules (start D.rules v (D.count db) permutations.now) (heading (D.count db)) (K.taken out.old) (K.taken out.new)) }
+    ensures done { IfOk result (λ end. (v : D.State) → D.stands db v → IsPrinted D.rules D.good (start D.rules v (D.count db) permutations.now) (heading (D.count db)) end (K.taken out.old) (K.taken out.new)) }
+    ensures cut { OnErr result ((v : D.State) → D.stands db v → IsPartlyPrinted D.rules D.good (start D.rules v (D.count db) permutations.now) (heading (D.count db)) (K.taken out.old) (K.taken out.new)) }
     ensures fault { result ≡ Err RunRefused.Write → Rose (K.faults out.old) (K.faults out.new) }
     ensures kept { result ≢ Err RunRefused.Write → K.faults out.new ≡ K.faults out.old }
 {

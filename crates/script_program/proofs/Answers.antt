@@ -33,3 +33,14 @@ module _ (ends : List ℕ → Outcome → Type 0) (words : List (List ℕ)) wher
       → (r : Reading) (out : List ℕ) (o : Outcome) → Begins begins words r out → Answers ends words r o → (rest : List ℕ) × (out ++ rest ≡ o.out)
   answer_begins begins more r out o (InReading call h none) q = (o.out, rw none refl)
   answer_begins begins more r out o (Behind text call h does) q = more text out o does (read_ends r text o h q)
+
+-- what comes of a text comes to more
+pub answers_more : (A B : List ℕ → Outcome → Type 0) (words : List (List ℕ)) → ((text : List ℕ) (o : Outcome) → A text o → B text o) → (r : Reading) (o : Outcome) → Answers A words r o → Answers B words r o
+answers_more A B words f r o (Misused call h is) = Misused call h is
+answers_more A B words f r o (Swamped call h is) = Swamped call h is
+answers_more A B words f r o (Unreadable call h is) = Unreadable call h is
+answers_more A B words f r o (Read text call h does) = Read text call h (f text o does)
+
+pub begins_more : (A B : List ℕ → List ℕ → Type 0) (words : List (List ℕ)) → ((text out : List ℕ) → A text out → B text out) → (r : Reading) (out : List ℕ) → Begins A words r out → Begins B words r out
+begins_more A B words f r out (InReading call h none) = InReading call h none
+begins_more A B words f r out (Behind text call h does) = Behind text call h (f text out does)

@@ -32,17 +32,17 @@ read_fault o is = (λ h. cc, λ h. cc)
 abbrev answer_of : Outcome → Ended
 answer_of o = o.ended
 
-module _ {S : Type 0} (R : Rules S) where
+module _ {S : Type 0} (R : Rules S) (Good : S → Type 0) where
   run_is : (spec : Spec) (out : List ℕ) (end : RunEnd) (o : Outcome) → o ≡ outcome_of R spec out end → IsNoFault o
   run_is spec out All o is = done o (ap answer_of is)
   run_is spec out (SetupFailed s fault) o is = refused o (ap answer_of is)
   run_is spec out (TeardownFailed fault) o is = refused o (ap answer_of is)
 
-  text_is : (opened : Spec → S) (text : List ℕ) (o : Outcome) → TextEnds R opened text o → IsNoFault o
+  text_is : (opened : Spec → S) (text : List ℕ) (o : Outcome) → TextEnds R Good opened text o → IsNoFault o
   text_is opened text o (Accepted spec is ends) = run_is spec _ _ o ends.is
   text_is opened text o (Refused fault none line) = refused o (ap answer_of line)
 
-  pub no_fault : (opened : Spec → S) (words : List (List ℕ)) (r : Reading) (o : Outcome) → Answers (TextEnds R opened) words r o → IsNoFault o
+  pub no_fault : (opened : Spec → S) (words : List (List ℕ)) (r : Reading) (o : Outcome) → Answers (TextEnds R Good opened) words r o → IsNoFault o
   no_fault opened words r o (Misused call read is) = usage o (ap answer_of is)
   no_fault opened words r o (Swamped call read is) = too_large o (ap answer_of is)
   no_fault opened words r o (Unreadable call read is) = read_fault o (ap answer_of is)

@@ -2,7 +2,7 @@
 use Rattle.std.specs.Prelude.{◌≡◌, ◌≢◌, ℕ, ◌+◌, List, [], ◌++◌, length}
 use Rattle.schedule.specs.Lines.{heading}
 use Rattle.schedule.specs.Rules.{Rules}
-use Rattle.schedule.specs.Run.{World, Reaches, Runs, start}
+use Rattle.schedule.specs.Run.{World, Reaches, Runs, Throughout, start}
 use Rattle.schedule.specs.declared.run_end.RunEnd.{RunEnd}
 use Rattle.schedule.specs.declared.run_end.RunEnd.TheVariants.{All, SetupFailed, TeardownFailed}
 use Rattle.script_tasks.specs.Tasks.{permutations_of}
@@ -30,18 +30,20 @@ outcome_of R spec out All = record { ended = Done; out = out; err = [] }
 outcome_of R spec out (SetupFailed s fault) = record { ended = ScriptRefused; out = out; err = setup_line R spec.sessions s fault }
 outcome_of R spec out (TeardownFailed fault) = record { ended = ScriptRefused; out = out; err = teardown_line R fault }
 
--- what the whole run comes to
-pub record RunEnds {S : Type 0} (R : Rules S) (v : S) (spec : Spec) (o : Outcome) : Type 0 where
+-- what the whole run comes to, over good worlds
+pub record RunEnds {S : Type 0} (R : Rules S) (Good : S → Type 0) (v : S) (spec : Spec) (o : Outcome) : Type 0 where
   pub lines : List ℕ
   pub last : World S
   pub runs : Runs R (beginning R v spec) lines last
+  pub good : Throughout Good runs.reaches
   pub is : o ≡ outcome_of R spec (printed spec lines) last.end
 
--- what the run has printed at some point
-pub record RunBegins {S : Type 0} (R : Rules S) (v : S) (spec : Spec) (out : List ℕ) : Type 0 where
+-- what the run has printed at some point, over good worlds up to there
+pub record RunBegins {S : Type 0} (R : Rules S) (Good : S → Type 0) (v : S) (spec : Spec) (out : List ℕ) : Type 0 where
   pub lines : List ℕ
   pub last : World S
   pub reaches : Reaches R (beginning R v spec) lines last
+  pub good : Throughout Good reaches
   pub is : out ≡ printed spec lines
 
 -- ---- a text
@@ -55,11 +57,11 @@ pub record IsNoScript (text : List ℕ) (fault : SpecFault) : Type 0 where
   pub refused : IsRefused text fault
   pub known : fault ≢ faults.NoMemory
 
-pub data TextEnds {S : Type 0} (R : Rules S) (opened : Spec → S) (text : List ℕ) (o : Outcome) : Type 0 where
-  Accepted : (spec : Spec) → IsScript text spec → RunEnds R (opened spec) spec o → TextEnds R opened text o
-  Refused : (fault : SpecFault) → IsNoScript text fault → o ≡ refusal ScriptRefused (fault_line fault) → TextEnds R opened text o
+pub data TextEnds {S : Type 0} (R : Rules S) (Good : S → Type 0) (opened : Spec → S) (text : List ℕ) (o : Outcome) : Type 0 where
+  Accepted : (spec : Spec) → IsScript text spec → RunEnds R Good (opened spec) spec o → TextEnds R Good opened text o
+  Refused : (fault : SpecFault) → IsNoScript text fault → o ≡ refusal ScriptRefused (fault_line fault) → TextEnds R Good opened text o
 
 -- what `out` has come to at some point: nothing yet, or some lines of the run
-pub data TextBegins {S : Type 0} (R : Rules S) (opened : Spec → S) (text out : List ℕ) : Type 0 where
-  Nothing : out ≡ [] → TextBegins R opened text out
-  Running : (spec : Spec) → IsScript text spec → RunBegins R (opened spec) spec out → TextBegins R opened text out
+pub data TextBegins {S : Type 0} (R : Rules S) (Good : S → Type 0) (opened : Spec → S) (text out : List ℕ) : Type 0 where
+  Nothing : out ≡ [] → TextBegins R Good opened text out
+  Running : (spec : Spec) → IsScript text spec → RunBegins R Good (opened spec) spec out → TextBegins R Good opened text out

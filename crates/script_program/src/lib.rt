@@ -23,7 +23,8 @@ mod script_run;
 pub use ended::Ended;
 pub use input::INPUT_LIMIT;
 pub use laws::{
-    calls_have_one_outcome, outcomes_are_no_faults, outcomes_begin_so, scripts_are_run,
+    calls_have_one_outcome, good_outcomes_are_outcomes, outcomes_are_no_faults, outcomes_begin_so,
+    scripts_are_run,
 };
 pub use opener::Opener;
 pub use program::run_program;

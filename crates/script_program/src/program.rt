@@ -27,7 +27,7 @@ pub fn run_program<O: Opener, S: Source, K: Sink, E: Sink>(
     out: &mut K,
     err: &mut E,
 ) -> Ended
-    ensures { (opened : Spec → O.Db.State) → OpensAs O.opens O.Db.stands opened → Calls S.Source K.Sink E.Sink (TextEnds O.Db.rules opened) (TextBegins O.Db.rules opened) (map string_bytes words.now) input.old input.new out.old out.new err.old err.new result }
+    ensures { (opened : Spec → O.Db.State) → OpensAs O.opens O.Db.stands opened → Calls S.Source K.Sink E.Sink (TextEnds O.Db.rules O.Db.good opened) (TextBegins O.Db.rules O.Db.good opened) (map string_bytes words.now) input.old input.new out.old out.new err.old err.new result }
 {
     if !is_call(words) {
         return answer(err, b"usage: partscript\n", Ended::Usage);

@@ -33,7 +33,7 @@ fn run_over<D: Database, K: Sink, E: Sink>(
     err: &mut E,
 ) -> Ended
     requires { D.count db ≡ length script.now.sessions + 1 }
-    ensures { (v : D.State) → D.stands db v → Ends K.Sink E.Sink (RunEnds D.rules v script.now) (RunBegins D.rules v script.now) out.old out.new err.old err.new result }
+    ensures { (v : D.State) → D.stands db v → Ends K.Sink E.Sink (RunEnds D.rules D.good v script.now) (RunBegins D.rules D.good v script.now) out.old out.new err.old err.new result }
 {
     match run_script(alloc, db, script, out) {
         Ok(RunEnd::All) => Ended::Done,
@@ -54,7 +54,7 @@ pub(crate) fn run_text<O: Opener, K: Sink, E: Sink>(
     out: &mut K,
     err: &mut E,
 ) -> Ended
-    ensures { (opened : Spec → O.Db.State) → OpensAs O.opens O.Db.stands opened → Ends K.Sink E.Sink (TextEnds O.Db.rules opened text.now) (TextBegins O.Db.rules opened text.now) out.old out.new err.old err.new result }
+    ensures { (opened : Spec → O.Db.State) → OpensAs O.opens O.Db.stands opened → Ends K.Sink E.Sink (TextEnds O.Db.rules O.Db.good opened text.now) (TextBegins O.Db.rules O.Db.good opened text.now) out.old out.new err.old err.new result }
 {
     match read_spec(alloc, text) {
         Ok(script) => match O::open(alloc, &script) {

@@ -20,8 +20,8 @@ pub fn run_script<D: Database, K: Sink>(
     out: &mut K,
 ) -> Result<RunEnd, RunRefused>
     requires sessions { D.count db ≡ length script.now.sessions + 1 }
-    ensures done { IfOk result (λ end. (v : D.State) → D.stands db v → IsPrinted D.rules (start D.rules v (D.count db) (spec.permutations_of script.now)) (heading (D.count db)) end (K.taken out.old) (K.taken out.new)) }
-    ensures cut { OnErr result ((v : D.State) → D.stands db v → IsPartlyPrinted D.rules (start D.rules v (D.count db) (spec.permutations_of script.now)) (heading (D.count db)) (K.taken out.old) (K.taken out.new)) }
+    ensures done { IfOk result (λ end. (v : D.State) → D.stands db v → IsPrinted D.rules D.good (start D.rules v (D.count db) (spec.permutations_of script.now)) (heading (D.count db)) end (K.taken out.old) (K.taken out.new)) }
+    ensures cut { OnErr result ((v : D.State) → D.stands db v → IsPartlyPrinted D.rules D.good (start D.rules v (D.count db) (spec.permutations_of script.now)) (heading (D.count db)) (K.taken out.old) (K.taken out.new)) }
     ensures fault { result ≡ Err RunRefused.Write → Rose (K.faults out.old) (K.faults out.new) }
     ensures kept { result ≢ Err RunRefused.Write → K.faults out.new ≡ K.faults out.old }
 {

@@ -8,6 +8,10 @@ use Rattle.sessions.specs.declared.sessions.Sessions.{Sessions}
 abbrev pub StandsFor : {E T : Type 0} (g : Ghosts E T) → Sessions E T g → State g.State g.Tree → Type 0
 StandsFor {E} {T} g d v = Stands g.stands g.tree d.executor d.sessions.items v
 
+-- what the executor promises of its states
+abbrev pub GoodIn : {E T : Type 0} (g : Ghosts E T) → State g.State g.Tree → Type 0
+GoodIn {E} {T} g v = g.good v.executor
+
 -- how many there are
 abbrev pub count : {E T : Type 0} (g : Ghosts E T) → Sessions E T g → ℕ
 count {E} {T} g d = length d.sessions.items

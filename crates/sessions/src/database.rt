@@ -35,13 +35,17 @@ impl<E: Executor> Sessions<E> {
 impl<E: Executor> Database for Sessions<E> {
     ghost use Rattle.std.specs.Prelude.{ℕ, ◌+◌, ◌*◌};
     ghost use Rattle.sessions.specs.Sessions.{State, rules_of};
-    ghost use Rattle.sessions.specs.Whole.{StandsFor, count, weight_in};
+    ghost use Rattle.sessions.specs.Whole.{GoodIn, StandsFor, count, weight_in};
 
     ghost State = { State E.State E.Tree };
 
     ghost rules = { rules_of E.course };
 
     ghost stands = { StandsFor E.Executor };
+
+    ghost good = { GoodIn E.Executor };
+
+    ghost stands_are_good = { λ d v st. E.stands_are_good d.executor v.executor st.executor };
 
     ghost count = { count E.Executor };
 

@@ -27,6 +27,9 @@ pub trait Executor: Sized + Drop {
 
     ghost stands: { Self → State → Type 0 };
 
+    /// What holds of each state that an executor stands for.
+    ghost good: { State → Type 0 };
+
     /// Whether the session has a transaction open, by session.
     ghost in_transaction: { Self → List Bool };
 
@@ -182,4 +185,7 @@ pub trait Executor: Sized + Drop {
     /// Appends the code and the text of a fault.
     fn write_fault(alloc: Global, fault: &Fault, out: &mut Vec<u8>) -> Result<(), NoMemory>
         ensures { OnOk result (out.new.items ≡ out.old.items ++ course.fault_text fault.now) };
+
+    /// What each executor stands for is good.
+    ghost stands_are_good: { (e : Self) (v : State) → stands e v → good v };
 }

@@ -6,7 +6,7 @@ use Rattle.script_tasks.specs.Tasks.{permutations_of}
 use Rattle.script_tasks.proofs.whole.run_script.Goals as goal
 
 pub returns-in_err-permutations-clause-cut : goal.returns-in_err-permutations-clause-cut
-returns-in_err-permutations-clause-cut g c = if_err c.from_residual.result _ (λ v st. cut_head _ _ _ _ _ (nothing_yet _ _))
+returns-in_err-permutations-clause-cut g c = if_err c.from_residual.result _ (λ v st. cut_head _ _ _ _ _ _ (g.met.D.Database.stands_are_good _ v st) (nothing_yet _ _))
 
 pub returns-clause-done : goal.returns-clause-done
 returns-clause-done g c =
