@@ -1,6 +1,6 @@
 -- A register that sessions read, set and lock, as an executor: the smallest one over which blocks, transactions and waits
 -- can be watched.
-use Rattle.std.specs.Prelude.{ℕ, ◌==◌, ◌&&◌, nat_le, nat_lt, Bool, true, false, if◌then◌else◌, List, [], ◌∷◌, ◌++◌, Option, Some, None, Result, Ok, Err, length, replicate, slice_index_or, slice_set, unwrap_or, codes}
+use Rattle.std.specs.Prelude.{◌≡◌, ℕ, ◌==◌, ◌&&◌, nat_le, nat_lt, Bool, true, false, if◌then◌else◌, List, [], ◌∷◌, ◌++◌, Option, Some, None, Result, Ok, Err, length, replicate, slice_index_or, slice_set, unwrap_or, codes}
 use Rattle.pg_values.specs.declared.fault.Fault.{Fault}
 use Rattle.schedule.specs.Lists.{first, without}
 use Rattle.sessions.specs.Course.{Course}
@@ -22,6 +22,10 @@ pub record Register : Type 0 where
   pub holder : Option ℕ  -- who has the lock
   pub queue : List ℕ  -- who waits for it, the oldest wait first
   pub stages : List Stage
+
+-- there is a place for each session
+abbrev pub AreSeated : Register → Type 0
+AreSeated v = (length v.own ≡ length v.opened) × (length v.stages ≡ length v.opened)
 
 abbrev pub is_waiting : Stage → Bool
 is_waiting Running = false

@@ -163,10 +163,11 @@ impl RegisterExecutor {
 }
 
 impl Executor for RegisterExecutor {
-    ghost use Rattle.session_scripts.specs.Register.{Register, course, waits_at};
+    ghost use Rattle.session_scripts.specs.Register.{AreSeated, Register, course, waits_at};
     ghost use Rattle.session_scripts.specs.Stands.{Stands};
     ghost use Rattle.session_scripts.specs.declared.statement.Statement.{Statement as Tree};
-    ghost use Rattle.std.specs.Prelude.{◌&&◌, is_none};
+    ghost use Rattle.std.specs.Prelude.{◌&&◌, is_none, length};
+    ghost use Rattle.std.proofs.Common.{ap, sym, ◌∙◌};
     ghost use Rattle.session_scripts.specs.Weight.{of_stages};
 
     type Statement = Statement;
@@ -180,6 +181,10 @@ impl Executor for RegisterExecutor {
     ghost course = { course };
 
     ghost stands = { Stands };
+
+    ghost good = { AreSeated };
+
+    ghost stands_are_good = { λ r v st. (ap length (sym st.own) ∙ (r.owned ∙ ap length st.opened), ap length (sym st.stages) ∙ (r.staged ∙ ap length st.opened)) };
 
     ghost in_transaction = { λ r. r.opened.items };
 

@@ -105,6 +105,8 @@ impl SmallDb {
 
 impl Database for SmallDb {
     ghost use Rattle.std.specs.Prelude.{length};
+    ghost use Rattle.std.proofs.Common.{ap, sym, ◌∙◌};
+    ghost use Rattle.small_db.specs.Laws.{ThreeLocks};
     ghost use Rattle.small_db.specs.Small.{Small, rules, is_due, is_waiting};
     ghost use Rattle.small_db.specs.Stands.{Stands};
     ghost use Rattle.small_db.specs.Weight.{weight, seat_at};
@@ -114,6 +116,10 @@ impl Database for SmallDb {
     ghost rules = { rules };
 
     ghost stands = { Stands };
+
+    ghost good = { ThreeLocks };
+
+    ghost stands_are_good = { λ d v st. ap length (sym st.owners) ∙ d.locks };
 
     ghost count = { λ d. length d.seats.items };
 

@@ -1,6 +1,7 @@
 ghost use Rattle.std.specs.Prelude.{map, string_bytes};
 ghost use Rattle.script_program.specs.Program.{Calls};
 ghost use Rattle.script_program.specs.Texts.{TextBegins, TextEnds};
+ghost use Rattle.small_db.specs.Laws.{ThreeLocks};
 ghost use Rattle.small_db.specs.Opening.{opened};
 ghost use Rattle.small_db.specs.Small.{rules};
 
@@ -34,7 +35,7 @@ pub fn run_small<S: Source, K: Sink, E: Sink>(
     out: &mut K,
     err: &mut E,
 ) -> Ended
-    ensures { Calls S.Source K.Sink E.Sink (TextEnds rules opened) (TextBegins rules opened) (map string_bytes words.now) input.old input.new out.old out.new err.old err.new result }
+    ensures { Calls S.Source K.Sink E.Sink (TextEnds rules ThreeLocks opened) (TextBegins rules ThreeLocks opened) (map string_bytes words.now) input.old input.new out.old out.new err.old err.new result }
 {
     run_program::<OpensSmallDb, S, K, E>(alloc, words, input, out, err)
 }

@@ -5,6 +5,7 @@ use Rattle.spec_reader.specs.declared.spec.Spec.{Spec}
 use Rattle.spec_reader.specs.declared.spec.SessionSpec.{SessionSpec}
 use Rattle.sessions.specs.Sessions.{State, new_session, rules_of}
 use Rattle.course.specs.Database.{Database, course, empty}
+use Rattle.course.specs.Moments.{AlwaysInOneLeaf}
 use Rattle.sql_syntax.specs.Trees.{StatementTree}
 use Rattle.store_statements.specs.Words.{statement_words}
 
@@ -13,6 +14,10 @@ RunState = State (Database (List (List ℕ))) StatementTree
 
 abbrev pub rules : Rules RunState
 rules = rules_of (course statement_words)
+
+-- at each moment up to now, each row that a tree shows to a session lies in the one leaf of the tree that accepts it
+abbrev pub RowsInOneLeaf : RunState → Type 0
+RowsInOneLeaf v = AlwaysInOneLeaf v.executor.history
 
 -- a script's sessions by their numbers, the control session first
 abbrev pub name_of : SessionSpec → List ℕ
