@@ -1,0 +1,13 @@
+use Rattle.std.proofs.Common.{◌≡◌, ℕ, ◌<◌, ◌≤◌, ◌||◌}
+use Rattle.std.specs.List.{slice_index_or}
+use Rattle.part_bounds.specs.declared.partition_bound.Bound.TheVariants.{Default}
+use Rattle.prune_steps.specs.Bits.{bit}
+use Rattle.prune_steps.specs.Lists.{is_counted, count_at}
+use Rattle.prune_steps.proofs.counts.add_counted.Given as goal
+
+-- the children so far are asked, the others are as they were
+abbrev pub invariant-loop-k : goal.invariant-loop-k
+invariant-loop-k g l = record {
+  done : (j : ℕ) → j < l.k → j < 1024 → bit l.kept j ≡ (bit l.initial.kept j || is_counted l.inside (count_at l.counts j) (slice_index_or l.set j Default));
+  rest : (j : ℕ) → l.k ≤ j → j < 1024 → bit l.kept j ≡ bit l.initial.kept j;
+}

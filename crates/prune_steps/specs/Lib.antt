@@ -1,0 +1,10 @@
+pub mod Atoms
+pub mod Bits
+pub mod Chains
+pub mod Kept
+pub mod Laws
+pub mod Lists
+pub mod Made
+pub mod Runs
+pub mod Steps
+pub mod Tallies
