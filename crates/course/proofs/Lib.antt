@@ -1,3 +1,4 @@
+mod Cuts
 mod Lower
 pub mod Numbers
 mod Runs

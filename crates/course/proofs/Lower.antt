@@ -18,7 +18,8 @@ use Rattle.stores.specs.Events.{resumed, withdrawn}
 use Rattle.stores.specs.Stand.{Stands, AddsGood}
 use Rattle.stores.specs.declared.stores.Stores.{Stores}
 use Rattle.course.specs.Attempts.{LocksStay}
-use Rattle.course.specs.Kept.{KeptSeats, TellOf, AreKept, is_ready, due_in, waits_in}
+use Rattle.course.specs.Database.{is_ready}
+use Rattle.course.specs.Kept.{KeptSeats, TellOf, AreKept, due_in, waits_in}
 use Rattle.course.specs.Weight.{of_mark, unheld, slack}
 use Rattle.course.specs.declared.rest.Rest.{Rest}
 use Rattle.course.proofs.Steps.{seats}

@@ -30,7 +30,7 @@ use Rattle.course.specs.declared.rest.Rest.{Rest}
 use Rattle.course.specs.declared.stop.Stop.{Stop}
 use Rattle.course.specs.declared.stop.Stop.TheVariants as stop
 use Rattle.course.specs.Words.{Words}
-use Rattle.course.specs.Database.{Database, statement_cancelled, unless_cancelled, caller_of, attempt_of, next_command, rest_told, let_go_at, given_up, outcome_told, text_told, goes_on as goes_on_to}
+use Rattle.course.specs.Database.{Database, statement_cancelled, unless_cancelled, caller_of, attempt_of, next_command, rest_told, let_go_at, given_up, outcome_told, text_told, all_cut, cut_by, goes_on as goes_on_to}
 use Rattle.course.specs.Kept.{KeptSeats, AreSeated, TellOf, AreKept, Adds, StandsFor}
 use Rattle.course.specs.Ran.{attempt_at, HasRun}
 use Rattle.course.proofs.Numbers.{one_later}
@@ -335,8 +335,8 @@ one_more q xs s n is all lt = subst (All (λ r. r < n)) (sym is) (All-append (λ
 abbrev attempt_by : {O T : Type 0} → Words O T → Asker → History → Settings → T → O → ℕ → List ℕ → List Bool → List (Option Rest) → Made (List ℕ)
 attempt_by W a h g t o n commands cancelled rests = unless_cancelled (slice_index_or cancelled a.session false) (W.attempted o (caller_of n (slice_index_or commands a.session 0) a) (slice_index_or rests a.session None) h g t)
 
-same_attempt : {O T : Type 0} (W : Words O T) (o : O) (e : KeptSeats) (a : Asker) (g : Settings) (t : T) (v : Database O) → StandsFor o e v → attempt_at W o e a v.history g t ≡ attempt_of W v a g t
-same_attempt W o e a g t v stands =
+same_attempt : {O T : Type 0} (W : Words O T) (o : O) (e : KeptSeats) (a : Asker) (g : Settings) (t : T) (cut : List ℕ) (v : Database O) → StandsFor o e cut v → attempt_at W o e a v.history g t ≡ attempt_of W v a g t
+same_attempt W o e a g t cut v stands =
     ap (λ x. attempt_by W a v.history g t x (length e.opened) e.commands e.cancelled e.rests) stands.options
     ∙ (ap (λ x. attempt_by W a v.history g t v.options x e.commands e.cancelled e.rests) stands.sessions
     ∙ (ap (λ x. attempt_by W a v.history g t v.options v.sessions x e.cancelled e.rests) stands.commands
@@ -347,11 +347,11 @@ same_attempt W o e a g t v stands =
 abbrev history_by : Asker → History → List (Option Rest) → Made (List ℕ) → History
 history_by a h rests m = given_up a.level a.session (slice_index_or rests a.session None) m.told ++ (m.events ++ h)
 
-pub stands_ran : {O T : Type 0} (W : Words O T) (o : O) (old new : KeptSeats) (a : Asker) (g : Settings) (t : T) (before after : List ℕ) (x : Outcome) (v : Database O)
-    → StandsFor o old v → HasRun (attempt_at W o old a v.history g t) a old new before after x v.history → new.opened ≡ old.opened
-    → StandsFor o new (goes_on_to v a (attempt_of W v a g t))
-stands_ran W o old new a g t before after x v stands ran same =
-    let meant = same_attempt W o old a g t v stands in
+pub stands_ran : {O T : Type 0} (W : Words O T) (o : O) (old new : KeptSeats) (a : Asker) (g : Settings) (t : T) (before after : List ℕ) (x : Outcome) (cut : List ℕ) (v : Database O)
+    → StandsFor o old cut v → HasRun (attempt_at W o old a v.history g t) a old new before after x v.history → new.opened ≡ old.opened
+    → StandsFor o new cut (goes_on_to v a (attempt_of W v a g t))
+stands_ran W o old new a g t before after x cut v stands ran same =
+    let meant = same_attempt W o old a g t cut v stands in
     record {
       whole = ran.whole;
       options = stands.options;
@@ -361,8 +361,27 @@ stands_ran W o old new a g t before after x v stands ran same =
           ∙ ap (λ cs. slice_set cs a.session (next_command (attempt_of W v a g t).told (slice_index_or cs a.session 0))) stands.commands);
       cancelled = ran.cancelled ∙ ap (λ cs. slice_set cs a.session false) stands.cancelled;
       rests = ran.rests ∙ (ap (λ m. slice_set old.rests a.session (rest_told m.told)) meant ∙ ap (λ rs. slice_set rs a.session (rest_told (attempt_of W v a g t).told)) stands.rests);
+      cut = stands.cut;
     }
+
+pub outcome_ran : {O T : Type 0} (W : Words O T) (o : O) (old new : KeptSeats) (a : Asker) (g : Settings) (t : T) (before after : List ℕ) (x : Outcome) (cut : List ℕ) (v : Database O)
+    → StandsFor o old cut v → HasRun (attempt_at W o old a v.history g t) a old new before after x v.history → x ≡ outcome_told (attempt_of W v a g t).told
+outcome_ran W o old new a g t before after x cut v stands ran = ran.outcome ∙ ap (λ m. outcome_told m.told) (same_attempt W o old a g t cut v stands)
+
+pub text_ran : {O T : Type 0} (W : Words O T) (o : O) (old new : KeptSeats) (a : Asker) (g : Settings) (t : T) (before after : List ℕ) (x : Outcome) (cut : List ℕ) (v : Database O)
+    → StandsFor o old cut v → HasRun (attempt_at W o old a v.history g t) a old new before after x v.history → after ≡ before ++ text_told (attempt_of W v a g t).told
+text_ran W o old new a g t before after x cut v stands ran = ran.text ∙ ap (λ m. before ++ text_told m.told) (same_attempt W o old a g t cut v stands)
+
+-- the waits that it cancels have ended before
+pub after_cuts : {O T : Type 0} (W : Words O T) (o p : O) (old mid : KeptSeats) (before cut : List ℕ) (others : List ℕ) (n : ℕ) (a : Asker) (t : T) (v : Database O)
+    → others ≡ W.cancels a.session n t → n ≡ length old.opened → StandsFor o old before v → StandsFor p mid cut (all_cut v others) → StandsFor p mid cut (cut_by W v a t)
+after_cuts W o p old mid before cut others n a t v are count stands ended =
+    subst (λ ss. StandsFor p mid cut (all_cut v ss)) (are ∙ ap (λ k. W.cancels a.session k t) (count ∙ stands.sessions)) ended
 
 pub if_on : {X E : Type 0} (r : Result X E) (P : X → Type 0) (Q : Type 0) → IfOk r P → ((x : X) → P x → Q) → OnOk r Q
 if_on (Ok x) P Q p f = f x p
 if_on (Err e) P Q p f = tt
+
+pub if_ok : {X E : Type 0} (r : Result X E) (P Q : X → Type 0) → IfOk r P → ((x : X) → P x → Q x) → IfOk r Q
+if_ok (Ok x) P Q p f = f x p
+if_ok (Err e) P Q p f = tt

@@ -14,11 +14,11 @@ use Rattle.course.specs.Weight.{of_flag, of_mark, sum_below, lacking, unheld, sl
 
 -- ---- sums over numbers
 
-sum_mono : (n : ℕ) (f g : ℕ → ℕ) → ((i : ℕ) → f i ≤ g i) → sum_below n f ≤ sum_below n g
+pub sum_mono : (n : ℕ) (f g : ℕ → ℕ) → ((i : ℕ) → f i ≤ g i) → sum_below n f ≤ sum_below n g
 sum_mono zero f g le = omega arith
 sum_mono (suc n) f g le = let h = sum_mono n f g le in let k = le n in omega (arith, h, k)
 
-sum_less : (n i : ℕ) (f g : ℕ → ℕ) → ((j : ℕ) → f j ≤ g j) → i < n → f i < g i → sum_below n f < sum_below n g
+pub sum_less : (n i : ℕ) (f g : ℕ → ℕ) → ((j : ℕ) → f j ≤ g j) → i < n → f i < g i → sum_below n f < sum_below n g
 sum_less zero i f g le lt less = absurd (omega (arith, lt))
 sum_less (suc n) i f g le lt less =
     elim (cases_lt i n) [
@@ -26,7 +26,7 @@ sum_less (suc n) i f g le lt less =
       | inr above ↦ let same : i ≡ n = omega (arith, lt, above) in let h = sum_mono n f g le in let k = subst (λ j. f j < g j) same less in omega (arith, h, k)
     ]
 
-sum_most : (n m : ℕ) (f : ℕ → ℕ) → ((i : ℕ) → f i ≤ m) → sum_below n f ≤ n * m
+pub sum_most : (n m : ℕ) (f : ℕ → ℕ) → ((i : ℕ) → f i ≤ m) → sum_below n f ≤ n * m
 sum_most zero m f le = omega arith
 sum_most (suc n) m f le = let h = sum_most n m f le in let k = le n in omega (arith, h, k)
 

@@ -1,10 +1,10 @@
 -- The run of statements over a history: what each call of a session makes of it (the manual, 13.2 and 13.3).
-use Rattle.std.specs.Prelude.{ℕ, ◌+◌, Bool, true, false, List, [], ◌++◌, Option, Some, None, Result, Ok, Err, is_some, replicate, slice_index_or, slice_set, codes}
+use Rattle.std.specs.Prelude.{ℕ, ◌+◌, ◌==◌, Bool, true, false, if◌then◌else◌, List, [], ◌∷◌, ◌++◌, Option, Some, None, Result, Ok, Err, is_some, replicate, slice_index_or, slice_set, codes}
 use Rattle.pg_values.specs.declared.fault.Fault.{Fault}
 use Rattle.history.specs.History.{History, lock_events}
 use Rattle.history.specs.Locks.{wanted, queue}
 use Rattle.history.specs.Waits.{ready}
-use Rattle.schedule.specs.Lists.{head_of}
+use Rattle.schedule.specs.Lists.{first, head_of, without}
 use Rattle.sessions.specs.Course.{Course}
 use Rattle.sessions.specs.declared.asker.Asker.{Asker}
 use Rattle.sessions.specs.declared.outcome.Outcome.{Outcome}
@@ -19,7 +19,8 @@ use Rattle.course.specs.declared.caller.Caller.{Caller}
 use Rattle.course.specs.declared.rest.Rest.{Rest}
 
 -- all that has happened; of each session how many commands of its transaction have begun and ended, whether the
--- wait of its statement was cancelled, and where a statement stands that waits in the middle of its run
+-- wait of its statement was cancelled, and where a statement stands that waits in the middle of its run; and whose
+-- waits statements of others have cancelled, in this order, as long as these have not gone on
 pub record Database (O : Type 0) : Type 0 where
   pub options : O
   pub sessions : ℕ
@@ -27,9 +28,10 @@ pub record Database (O : Type 0) : Type 0 where
   pub commands : List ℕ
   pub cancelled : List Bool
   pub rests : List (Option Rest)
+  pub cut : List ℕ
 
 abbrev pub empty : {O : Type 0} → O → ℕ → Database O
-empty o n = record { options = o; sessions = n; history = []; commands = replicate n 0; cancelled = replicate n false; rests = replicate n None }
+empty o n = record { options = o; sessions = n; history = []; commands = replicate n 0; cancelled = replicate n false; rests = replicate n None; cut = [] }
 
 abbrev pub command_of : {O : Type 0} → Database O → ℕ → ℕ
 command_of v s = slice_index_or v.commands s 0
@@ -100,6 +102,40 @@ text_told (Err stop) = []
 abbrev pub happened : {O : Type 0} → Database O → History → Database O
 happened v events = record v { history = events ++ v.history }
 
+abbrev pub waits : {O : Type 0} → Database O → ℕ → Bool
+waits v s = is_some (wanted (lock_events v.history) s)
+
+-- the session's wait ends, and its statement is to be refused
+abbrev pub cancels : {O : Type 0} → Database O → ℕ → Database O
+cancels v s = record (happened v (withdrawn s)) { cancelled = slice_set v.cancelled s true }
+
+-- ---- a statement cancels the waits of others: before it is attempted, these end at once, one after the other
+
+abbrev pub cuts : {O : Type 0} → Database O → ℕ → Database O
+cuts v s = if waits v s then record (cancels v s) { cut = v.cut ++ s ∷ [] } else v
+
+abbrev pub all_cut : {O : Type 0} → Database O → List ℕ → Database O
+all_cut v [] = v
+all_cut v (s ∷ ss) = all_cut (cuts v s) ss
+
+abbrev pub cut_by : {O T : Type 0} → Words O T → Database O → Asker → T → Database O
+cut_by W v a t = all_cut v (W.cancels a.session v.sessions t)
+
+-- the first of these whose statement is still to be refused
+abbrev pub interrupted : {O : Type 0} → Database O → Option ℕ
+interrupted v = first (is_cancelled v) v.cut
+
+-- ---- a session goes on: the first of these, or one whose wait is over
+
+abbrev pub is_ready : Option ℕ → ℕ → Bool
+is_ready None s = false
+is_ready (Some r) s = r == s
+
+abbrev pub resumes : {O : Type 0} → Database O → ℕ → Database O
+resumes v s = if is_ready (interrupted v) s then record v { cut = without s v.cut } else happened v (resumed s)
+
+-- ---- the calls
+
 -- sessions over a history
 abbrev pub course : {O T : Type 0} → Words O T → Course (Database O) T
 course W = record {
@@ -112,14 +148,14 @@ course W = record {
   began = λ v s. record (happened v (begun v.history s)) { commands = slice_set v.commands s 0 };
   committed = λ v s. happened v (committed v.history s);
   aborted = λ v s. happened v (aborted v.history s);
-  ran = λ v a g t. goes_on v a (attempt_of W v a g t);
-  outcome = λ v a g t. outcome_told (attempt_of W v a g t).told;
-  text = λ v a g t. text_told (attempt_of W v a g t).told;
-  interrupted = λ v. None;
+  ran = λ v a g t. goes_on (cut_by W v a t) a (attempt_of W (cut_by W v a t) a g t);
+  outcome = λ v a g t. outcome_told (attempt_of W (cut_by W v a t) a g t).told;
+  text = λ v a g t. text_told (attempt_of W (cut_by W v a t) a g t).told;
+  interrupted = interrupted;
   ready = λ v. ready (lock_events v.history);
-  resumed = λ v s. happened v (resumed s);
-  waits = λ v s. is_some (wanted (lock_events v.history) s);
+  resumed = resumes;
+  waits = waits;
   oldest = λ v. head_of (queue (lock_events v.history));
-  cancelled = λ v s. record (happened v (withdrawn s)) { cancelled = slice_set v.cancelled s true };
+  cancelled = cancels;
   fault_text = W.fault_text;
 }

@@ -1,17 +1,18 @@
 -- What is kept of a run's sessions beside the stores, and when it tells of a history.
-use Rattle.std.specs.Prelude.{◌≡◌, ℕ, ◌≤◌, ◌<◌, ◌==◌, ◌&&◌, Bool, true, false, List, ◌++◌, Option, Some, None, All, IfSome, is_some, length, slice_index_or}
+use Rattle.std.specs.Prelude.{◌≡◌, ℕ, ◌≤◌, ◌<◌, ◌&&◌, ◌||◌, Bool, true, false, List, ◌++◌, Option, Some, None, All, IfSome, is_some, length, slice_index_or}
 use Rattle.history.specs.declared.wait.WaitOn.{WaitOn}
 use Rattle.history.specs.declared.wait.Wanted.{Wanted}
 use Rattle.history.specs.declared.wait.Wanted.TheVariants.{Lock, Others}
 use Rattle.history.specs.Locks.{wanted, queue}
 use Rattle.history.specs.Waits.{ready}
+use Rattle.schedule.specs.Lists.{first}
 use Rattle.history.specs.History.{Event, History, lock_events}
 use Rattle.lock_table.specs.Stands.{TableStands as LocksStand, names}
 use Rattle.stores.specs.Stand.{Stands}
 use Rattle.stores.specs.Numbers.{IsAt}
 use Rattle.stores.specs.declared.stores.Stores.{Stores}
 use Rattle.course.specs.Attempts.{MayGoOn}
-use Rattle.course.specs.Database.{Database}
+use Rattle.course.specs.Database.{Database, is_ready}
 use Rattle.course.specs.declared.rest.Rest.{Rest}
 
 -- who has a transaction, how many commands of it were tried, whose wait was cancelled, and where a statement stands that
@@ -67,8 +68,8 @@ pub record Adds (old new : KeptSeats) (events : History → List Event) : Type 0
   pub whole : new.whole ≡ old.whole
   pub tells : old.whole ≡ true → (h : History) → TellOf old h → TellOf new (events h ++ h)
 
--- it stands for a database
-pub record StandsFor {O : Type 0} (o : O) (kept : KeptSeats) (v : Database O) : Type 0 where
+-- it stands for a database, with those whose waits statements of others have cancelled
+pub record StandsFor {O : Type 0} (o : O) (kept : KeptSeats) (ended : List ℕ) (v : Database O) : Type 0 where
   pub whole : kept.whole ≡ true
   pub options : o ≡ v.options
   pub sessions : length kept.opened ≡ v.sessions
@@ -76,6 +77,7 @@ pub record StandsFor {O : Type 0} (o : O) (kept : KeptSeats) (v : Database O) : 
   pub commands : kept.commands ≡ v.commands
   pub cancelled : kept.cancelled ≡ v.cancelled
   pub rests : kept.rests ≡ v.rests
+  pub cut : ended ≡ v.cut
 
 -- whoever is waited for is a session, a number below 128
 abbrev pub AreSessions : Wanted → Type 0
@@ -87,9 +89,13 @@ abbrev pub waits_in : KeptSeats → ℕ → Bool
 waits_in kept s = kept.whole && is_some (slice_index_or kept.stores.locks.wants s None)
 
 -- its wait is over
-abbrev pub is_ready : Option ℕ → ℕ → Bool
-is_ready None s = false
-is_ready (Some r) s = r == s
-
 abbrev pub due_in : KeptSeats → ℕ → Bool
 due_in kept s = kept.whole && is_ready kept.ready s
+
+-- the first whose statement is to be refused since a statement of another session has cancelled its wait
+abbrev pub interrupted_in : KeptSeats → (cut : List ℕ) → Option ℕ
+interrupted_in kept cut = first (λ s. slice_index_or kept.cancelled s false) cut
+
+-- it goes on now
+abbrev pub may_go_on : KeptSeats → (cut : List ℕ) → ℕ → Bool
+may_go_on kept cut s = is_ready (interrupted_in kept cut) s || due_in kept s

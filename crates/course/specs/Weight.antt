@@ -7,6 +7,7 @@ use Rattle.pg_ids.specs.Sets.{has}
 use Rattle.pg_ids.specs.declared.lock_mode.LockMode.{LockMode}
 use Rattle.pg_ids.specs.declared.session_set.SessionSet.{SessionSet}
 use Rattle.lock_table.specs.Kept.{held_at}
+use Rattle.schedule.specs.Lists.{is_in}
 use Rattle.course.specs.Kept.{KeptSeats}
 
 abbrev pub of_mark : Bool → ℕ
@@ -36,3 +37,13 @@ slack kept = unheld (length kept.opened) kept.stores.locks.tables kept.stores.lo
 -- with at most 65 sessions and 4,096 tables of eight modes
 abbrev pub most : ℕ
 most = 4096 * (8 * 65) + (65 + 65)
+
+-- and those who could go on since a statement of another session has cancelled their waits
+abbrev pub cut_of : ℕ → (cut : List ℕ) → ℕ
+cut_of n cut = sum_below n (λ s. of_mark (is_in s cut))
+
+abbrev pub left : KeptSeats → (cut : List ℕ) → ℕ
+left kept cut = slack kept + cut_of (length kept.opened) cut
+
+abbrev pub most_left : ℕ
+most_left = most + 65

@@ -16,5 +16,6 @@ pub record Words (O T : Type 0) : Type 0 where
   pub looks : T → Bool  -- it takes a snapshot
   pub misplaced : Place → T → Option Fault  -- why it may not stand there
   pub set : Settings → T → Result Settings Fault  -- the settings after a SET or RESET
+  pub cancels : (session sessions : ℕ) → T → List ℕ  -- the sessions whose waits it cancels, one after the other
   pub attempted : O → Caller → Option Rest → History → Settings → T → Made (List ℕ)  -- from the beginning, or from where it stood, up to a wait or its end, and what it prints
   pub fault_text : Fault → List ℕ

@@ -1,11 +1,13 @@
-ghost use Rattle.std.specs.Prelude.{◌≡◌, ◌≤◌, IfOk, length, replicate, false};
-ghost use Rattle.course.specs.Database.{empty};
-ghost use Rattle.course.specs.Kept.{StandsFor};
-ghost use Rattle.course.specs.Weight.{slack, most};
+ghost use Rattle.std.specs.Prelude.{◌≡◌, ◌≤◌, ◌<◌, ℕ, IfOk, IfSome, OnOk, length, replicate, true, false};
+ghost use Rattle.course.specs.Database as database;
+ghost use Rattle.course.specs.Database.{Database, empty, cuts, all_cut};
+ghost use Rattle.course.specs.Kept.{StandsFor, waits_in, interrupted_in};
+ghost use Rattle.course.specs.Weight.{left, most_left};
 
 use crate::Kinds;
 use crate::seats::Seats;
 use pg_values::{Fault, NoMemory, Refusal};
+use schedule::leave;
 use sessions::{Asker, Executor, Outcome, Place, Role, Settings};
 use std::alloc::Global;
 
@@ -14,25 +16,94 @@ use std::alloc::Global;
 pub struct StoreExecutor<K: Kinds> {
     pub kinds: K,
     pub seats: Seats,
+    /// Whose waits statements of others have cancelled, in this order, as long as these have not gone on.
+    pub cut: Vec<usize>,
 }
 
 impl<K: Kinds> StoreExecutor<K> {
     /// So many sessions in which nothing has happened.
     pub fn new(alloc: Global, kinds: K, sessions: usize) -> Result<Self, NoMemory>
         requires { sessions ≤ 65 }
-        ensures stands { IfOk result (λ e. StandsFor (K.options e.kinds) e.seats (empty (K.options kinds) sessions)) }
+        ensures stands { IfOk result (λ e. StandsFor (K.options e.kinds) e.seats e.cut.items (empty (K.options kinds) sessions)) }
         ensures opened { IfOk result (λ e. e.seats.opened ≡ replicate sessions false) }
-        ensures slack { IfOk result (λ e. slack e.seats ≤ most) }
+        ensures left { IfOk result (λ e. left e.seats e.cut.items ≤ most_left) }
     {
         let seats = Seats::new(alloc, sessions)?;
-        seats.weigh();
-        Ok(StoreExecutor { kinds, seats })
+        let executor = StoreExecutor {
+            kinds,
+            seats,
+            cut: Vec::new(alloc),
+        };
+        executor.weigh();
+        Ok(executor)
     }
+
+    // What can still happen before a statement is done is bounded.
+    fn weigh(&self)
+        ensures { left self.now.seats self.now.cut.items ≤ most_left }
+    {
+        self.seats.weigh();
+    }
+
+    // The wait of the session ends, if it waits, and its statement is to be refused.
+    fn interrupt(&mut self, session: usize) -> Result<(), NoMemory>
+        ensures kinds { self.new.kinds ≡ self.old.kinds }
+        ensures opened { self.new.seats.opened ≡ self.old.seats.opened }
+        ensures stands { OnOk result ((v : Database K.Options) → StandsFor (K.options self.old.kinds) self.old.seats self.old.cut.items v →
+            StandsFor (K.options self.new.kinds) self.new.seats self.new.cut.items (cuts v session)) }
+        ensures others { (s : ℕ) → waits_in self.old.seats s ≡ false → waits_in self.new.seats s ≡ false }
+        ensures lower { left self.new.seats self.new.cut.items ≤ left self.old.seats self.old.cut.items }
+    {
+        if !self.seats.is_waiting(session) {
+            return Ok(());
+        }
+        self.cut.push(session)?;
+        self.seats.cancel(session);
+        Ok(())
+    }
+
+    // Those of these sessions, one after the other.
+    fn interrupt_all(&mut self, sessions: &[usize]) -> Result<(), NoMemory>
+        ensures kinds { self.new.kinds ≡ self.old.kinds }
+        ensures opened { self.new.seats.opened ≡ self.old.seats.opened }
+        ensures stands { OnOk result ((v : Database K.Options) → StandsFor (K.options self.old.kinds) self.old.seats self.old.cut.items v →
+            StandsFor (K.options self.new.kinds) self.new.seats self.new.cut.items (all_cut v sessions.now)) }
+        ensures others { (s : ℕ) → waits_in self.old.seats s ≡ false → waits_in self.new.seats s ≡ false }
+        ensures lower { left self.new.seats self.new.cut.items ≤ left self.old.seats self.old.cut.items }
+    {
+        for session in sessions {
+            self.interrupt(*session)?;
+        }
+        Ok(())
+    }
+}
+
+fn is_ready(ready: Option<usize>, session: usize) -> bool
+    ensures { result ≡ database.is_ready ready session }
+{
+    match ready {
+        Some(first) => first == session,
+        None => false,
+    }
+}
+
+// The first of them whose statement is to be refused.
+fn first_cancelled(seats: &Seats, cut: &[usize]) -> Option<usize>
+    ensures is { result ≡ interrupted_in seats.now cut.now }
+    ensures known { IfSome result (λ s. s < length seats.now.opened) }
+    ensures idle { IfSome result (λ s. waits_in seats.now s ≡ false) }
+{
+    for session in cut {
+        if seats.is_cancelled(*session) {
+            return Some(*session);
+        }
+    }
+    None
 }
 
 impl<K: Kinds> Executor for StoreExecutor<K> {
     ghost use Rattle.course.specs.Database.{Database, course};
-    ghost use Rattle.course.specs.Kept.{StandsFor, waits_in, due_in};
+    ghost use Rattle.course.specs.Kept.{StandsFor, waits_in, may_go_on};
     ghost use Rattle.course.specs.Moments.{AlwaysInOneLeaf, good_rows};
     ghost use Rattle.course.specs.Weight as weights;
 
@@ -46,7 +117,7 @@ impl<K: Kinds> Executor for StoreExecutor<K> {
 
     ghost course = { course K.words };
 
-    ghost stands = { λ e v. StandsFor (K.options e.kinds) e.seats v };
+    ghost stands = { λ e v. StandsFor (K.options e.kinds) e.seats e.cut.items v };
 
     ghost good = { λ v. AlwaysInOneLeaf v.history };
 
@@ -56,11 +127,11 @@ impl<K: Kinds> Executor for StoreExecutor<K> {
 
     ghost waiting = { λ e s. waits_in e.seats s };
 
-    ghost due = { λ e s. due_in e.seats s };
+    ghost due = { λ e s. may_go_on e.seats e.cut.items s };
 
-    ghost slack = { λ e. weights.slack e.seats };
+    ghost slack = { λ e. weights.left e.seats e.cut.items };
 
-    ghost most = { weights.most };
+    ghost most = { weights.most_left };
 
     ghost most_statements = { K.most_statements };
 
@@ -102,18 +173,18 @@ impl<K: Kinds> Executor for StoreExecutor<K> {
 
     fn begin(&mut self, session: usize) -> Result<(), NoMemory> {
         let begun = self.seats.begin(session);
-        self.seats.weigh();
+        self.weigh();
         begun
     }
 
     fn commit(&mut self, session: usize) {
         self.seats.commit(session);
-        self.seats.weigh();
+        self.weigh();
     }
 
     fn abort(&mut self, session: usize) {
         self.seats.abort(session);
-        self.seats.weigh();
+        self.weigh();
     }
 
     fn run(
@@ -124,15 +195,18 @@ impl<K: Kinds> Executor for StoreExecutor<K> {
         statement: &K::Statement,
         out: &mut Vec<u8>,
     ) -> Result<Outcome, NoMemory> {
+        let sessions = self.seats.count() as u32;
+        let others = K::cancels(alloc, asker.session as u32, sessions, statement)?;
+        self.interrupt_all(&others)?;
         let ran = self
             .seats
             .run(alloc, &self.kinds, asker, settings, statement, out);
-        self.seats.weigh();
+        self.weigh();
         ran
     }
 
     fn interrupted(&self) -> Option<usize> {
-        None
+        first_cancelled(&self.seats, &self.cut)
     }
 
     fn ready(&self) -> Option<usize> {
@@ -140,6 +214,11 @@ impl<K: Kinds> Executor for StoreExecutor<K> {
     }
 
     fn resume(&mut self, session: usize) {
+        let first = first_cancelled(&self.seats, &self.cut);
+        if is_ready(first, session) {
+            leave(session, &mut self.cut);
+            return;
+        }
         self.seats.resume(session);
     }
 

@@ -65,6 +65,15 @@ pub trait Kinds: Sized + Drop {
     ) -> Result<Settings, Refusal>
         ensures { IsAnswerBy (λ g. g) result (words.set settings (tree statement.now)) };
 
+    /// The sessions whose waits the statement of that session cancels, one after the other.
+    fn cancels(
+        alloc: Global,
+        session: u32,
+        sessions: u32,
+        statement: &Self::Statement,
+    ) -> Result<Vec<usize>, NoMemory>
+        ensures { IfOk result (λ cut. cut.items ≡ words.cancels session sessions (tree statement.now)) };
+
     /// A statement from its beginning, or from where it stood, up to its end or to a wait: it appends what
     /// it prints where it is done, and prints nothing else.
     fn attempt(

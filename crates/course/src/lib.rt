@@ -4,7 +4,8 @@
 //! from its beginning up to its end or to a wait, in one go; what it does on the way is put before the
 //! history. Where it had to wait for a lock, it begins anew when its wait is over, with the locks that
 //! it has got; where it had to wait for a row, it goes on where it stood. Where its wait was cancelled, it
-//! is refused.
+//! is refused. A statement can cancel the waits of other sessions: these end before it is attempted, and
+//! those sessions go on before any other whose wait is over.
 //!
 //! Which statements there are is not said here: `Kinds` says how they are read and what each makes of
 //! the stores, and `Words` what that means, as pure functions of the history. `specs/Database.antt`
@@ -22,4 +23,5 @@ pub use caller::Caller;
 pub use executor::StoreExecutor;
 pub use kinds::Kinds;
 pub use rest::{Rest, RowIds};
+pub use seats::statement_cancelled;
 pub use stop::Stop;

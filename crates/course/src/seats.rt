@@ -50,7 +50,8 @@ impl Model for Seats {
     ghost invariant = { λ e. AreKept (record { stores = e.stores; opened = e.opened.items; commands = e.commands.items; cancelled = e.cancelled.items; rests = e.rests.items; moved = e.moved.items; queue = e.queue.items; ready = e.ready; whole = e.whole }) };
 }
 
-fn statement_cancelled(alloc: Global) -> Fault
+/// The fault of a statement that was cancelled.
+pub fn statement_cancelled(alloc: Global) -> Fault
     ensures { result ≡ database.statement_cancelled }
 {
     Fault {
@@ -252,12 +253,25 @@ impl Seats {
         ensures cancelled { self.new.cancelled ≡ slice_set self.old.cancelled session true }
         ensures rests { self.new.rests ≡ self.old.rests }
         ensures idle { waits_in self.new session ≡ false }
+        ensures others { (s : ℕ) → waits_in self.old s ≡ false → waits_in self.new s ≡ false }
         ensures lower { slack self.new < slack self.old }
     {
         self.stores.withdraw(session as u32);
         leave(session, &mut self.queue);
         self.cancelled[session] = true;
         self.ready = self.stores.locks.ready();
+    }
+
+    /// Whether the session's statement is to be refused, since its wait was cancelled.
+    pub(crate) fn is_cancelled(&self, session: usize) -> bool
+        ensures is { result ≡ slice_index_or self.now.cancelled session false }
+        ensures known { result ≡ true → session < length self.now.opened }
+        ensures idle { result ≡ true → waits_in self.now session ≡ false }
+    {
+        match self.cancelled.get(session) {
+            Some(flag) => *flag,
+            None => false,
+        }
     }
 
     /// How many sessions there are.
@@ -270,7 +284,8 @@ impl Seats {
 
     /// What can still happen before a statement is done is bounded.
     pub(crate) fn weigh(&self)
-        ensures { slack self.now ≤ most }
+        ensures slack { slack self.now ≤ most }
+        ensures few { length self.now.opened ≤ 65 }
     {
         let _ = self.opened.len();
     }
@@ -308,6 +323,18 @@ impl Seats {
         ensures { result ≡ waits_in self.now session }
     {
         self.whole && self.stores.locks.wanted(session as u32).is_some()
+    }
+
+    /// Whether there is such a session that waits.
+    pub(crate) fn is_waiting(&self, session: usize) -> bool
+        ensures is { result ≡ waits_in self.now session }
+        ensures known { result ≡ true → session < length self.now.opened }
+    {
+        if session < self.opened.len() {
+            self.waits(session)
+        } else {
+            false
+        }
     }
 
     // A statement is done. Where it has stood in the middle of its run, the snapshot is given up that it

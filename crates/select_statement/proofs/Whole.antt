@@ -1,5 +1,5 @@
 -- The parts of a SELECT, one after another.
-use Rattle.std.proofs.Common.{◌≡◌, ℕ, ◌+◌, ◌<◌, ◌≤◌, arith, List, [], ◌∷◌, ap, sym, subst, Result, Ok, Err, IfOk, All, map, length, get_or, codes}
+use Rattle.std.proofs.Common.{◌≡◌, ℕ, ◌+◌, ◌<◌, ◌≤◌, Bool, true, false, arith, List, [], ◌∷◌, ap, sym, subst, Result, Ok, Err, IfOk, All, map, length, get_or, codes}
 use Rattle.pg_values.specs.declared.answer.Answer.{Answer}
 use Rattle.pg_values.specs.declared.fault.Fault.{Fault}
 use Rattle.pg_values.specs.declared.text.NoMemory.{NoMemory}
@@ -20,10 +20,12 @@ use Rattle.stores.specs.Events.{look_of}
 use Rattle.stores.specs.Laws.{LeavesAreHoused}
 use Rattle.stores.specs.Stand.{AllStand, Stands, IsSound}
 use Rattle.stores.specs.declared.stores.Stores.{Stores}
-use Rattle.course.specs.Made.{Refused, halted}
+use Rattle.course.specs.Made.{Made, Refused, halted}
 use Rattle.course.specs.Attempts.{MayAttempt}
+use Rattle.course.specs.Database.{statement_cancelled}
 use Rattle.course.specs.declared.caller.Caller.{Caller}
 use Rattle.course.specs.declared.stop.Stop.{Stop}
+use Rattle.course.specs.declared.stop.Stop.TheVariants as stop
 use Rattle.statement_steps.specs.Asks.{all_locked}
 use Rattle.statement_steps.specs.Faults.{stop_by}
 use Rattle.statement_steps.specs.Known.{IsKnownTo}
@@ -31,7 +33,7 @@ use Rattle.statement_steps.specs.Steps.{IsStep}
 use Rattle.statement_steps.proofs.Parts.{stays, refused_here, no_memory}
 use Rattle.select_statement.specs.Below.{below, number_of}
 use Rattle.select_statement.specs.Lent.{MayLock, IsTreeFor, IsLookFor}
-use Rattle.select_statement.specs.Selected.{locked_below, of_tree, of_table, of_items, selected}
+use Rattle.select_statement.specs.Selected.{locked_below, uncancelled, of_tree, of_table, of_items, selected}
 use Rattle.select_statement.proofs.Known.{tree_for}
 use Rattle.select_statement.proofs.Steps.{same_step}
 
@@ -99,3 +101,15 @@ pub several : (names : List (List ℕ)) (caller : Caller) (t : SelectTree) (from
 several names caller t [] r stores is two fault may = absurd (omega (arith, two))
 several names caller t (j ∷ []) r stores is two fault may = absurd (omega (arith, two))
 several names caller t (j ∷ (k ∷ js)) r stores is two fault may = with_items names caller t (j ∷ (k ∷ js)) (Err (stop_by r)) stores stores is (several_by names caller t j k js r stores fault may)
+
+-- ---- a SELECT that cancels itself
+
+pub itself_refused : (b : Bool) (f : History → Made Answer) (fault : Fault) (stores : Stores) (caller : Caller) → b ≡ true → fault ≡ statement_cancelled → MayAttempt stores caller
+    → IsStep (λ (a : Answer). a) (Err (stop.Refused fault)) stores stores caller (caller.cmd + 1) (uncancelled b f)
+itself_refused true f fault stores caller on is may = refused_here (λ (a : Answer). a) fault stores caller (caller.cmd + 1) (uncancelled true f) may (λ h stands. ap (λ x. halted [] (Refused x)) (sym is))
+itself_refused false f fault stores caller on is may = absurd (cc)
+
+pub others_answered : (b : Bool) (f : History → Made Answer) (r : Result Answer Stop) (stores : Stores) (caller : Caller) → b ≡ false
+    → IsStep (λ (a : Answer). a) r stores stores caller (caller.cmd + 1) f → IsStep (λ (a : Answer). a) r stores stores caller (caller.cmd + 1) (uncancelled b f)
+others_answered true f r stores caller off step = absurd (cc)
+others_answered false f r stores caller off step = step

@@ -1,4 +1,5 @@
 pub mod Below
+pub mod Cancels
 pub mod Halts
 pub mod Items
 pub mod Lent

@@ -1,5 +1,5 @@
 -- What a SELECT of a session makes of a history (the manual, SELECT; 13.2 and 13.3.1).
-use Rattle.std.specs.Prelude.{ℕ, ◌-◌, List, [], ◌∷◌, Option, Some, None, Result, Ok, Err, codes}
+use Rattle.std.specs.Prelude.{ℕ, ◌-◌, Bool, true, false, List, [], ◌∷◌, Option, Some, None, Result, Ok, Err, codes}
 use Rattle.pg_values.specs.declared.answer.Answer.{Answer}
 use Rattle.pg_values.specs.declared.fault.Fault.{Fault}
 use Rattle.pg_ids.specs.declared.lock_mode.LockMode.TheVariants.{AccessShare}
@@ -16,10 +16,12 @@ use Rattle.select_answer.specs.Answer.{answer_of, select_course}
 use Rattle.select_answer.specs.Tuples.{shown}
 use Rattle.stores.specs.Events.{look_of}
 use Rattle.course.specs.Made.{Made, Refused, made, halted}
+use Rattle.course.specs.Database.{statement_cancelled}
 use Rattle.course.specs.declared.caller.Caller.{Caller}
 use Rattle.statement_steps.specs.Asks.{named, held_at, all_locked}
 use Rattle.statement_steps.specs.Steps.{follow}
 use Rattle.select_statement.specs.Below.{numbers_below}
+use Rattle.select_statement.specs.Cancels.{cancels_itself}
 use Rattle.select_statement.specs.Items.{item_of}
 
 -- nothing happens by it
@@ -35,9 +37,14 @@ meant c t items h = outcome (bound_select items [] c.session t)
 abbrev pub answered : Caller → SelectMeant → Option TableTree → History → Made Answer
 answered c m tree h = outcome (answer_of m (select_course (c.sessions - 1) [] m (shown h (look_of h c.session c.cmd)) tree []))
 
+-- unless it cancels itself
+abbrev pub uncancelled : Bool → (History → Made Answer) → History → Made Answer
+uncancelled true f = λ h. halted [] (Refused statement_cancelled)
+uncancelled false f = f
+
 -- without FROM
 abbrev pub bare : Caller → SelectTree → History → Made Answer
-bare c t = follow (meant c t []) (λ m. answered c m None)
+bare c t = follow (meant c t []) (λ m. uncancelled (cancels_itself c.session (c.sessions - 1) m) (answered c m None))
 
 -- the tables under the named one are locked
 abbrev pub locked_below : List (List ℕ) → Caller → TableTree → History → Made (Unit {0})

@@ -10,9 +10,11 @@
 #![tactic(auto)]
 
 mod below;
+mod cancels;
 mod items;
 mod parts;
 mod statement;
 
 pub use below::tables_below;
+pub use cancels::cancelled;
 pub use statement::select;

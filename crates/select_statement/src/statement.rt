@@ -1,4 +1,4 @@
-ghost use Rattle.std.specs.Prelude.{◌≡◌, ◌+◌, ◌≤◌, [], ◌∷◌, Some, length};
+ghost use Rattle.std.specs.Prelude.{◌≡◌, ◌+◌, ◌-◌, ◌≤◌, [], ◌∷◌, Some, None, length};
 ghost use Rattle.table_trees.specs.Seen.{seen};
 ghost use Rattle.sql_queries.specs.Trees.{joined_tree, select_tree};
 ghost use Rattle.sql_binder.specs.From.{item_name};
@@ -7,11 +7,13 @@ ghost use Rattle.course.specs.Attempts.{MayAttempt};
 ghost use Rattle.statement_steps.specs.Known.{IsKnownTo};
 ghost use Rattle.statement_steps.specs.Steps.{IsStep, follow};
 ghost use Rattle.select_statement.specs.Lent.{IsTreeFor, IsLookFor};
+ghost use Rattle.select_statement.specs.Cancels.{cancels_itself};
 ghost use Rattle.select_statement.specs.Selected as selected;
 
+use crate::cancels::cancels_itself;
 use crate::items::only_item;
 use crate::parts::{answer, bind, lock_below, stop_by};
-use course::{Caller, Stop};
+use course::{Caller, Stop, statement_cancelled};
 use expression_binder::{ScopeItem, left_out};
 use pg_ids::{LockMode, TableNo};
 use pg_values::{Answer, NoMemory};
@@ -25,6 +27,45 @@ use tx_table::Snapshot;
 
 // ---- without FROM
 
+// The answer, unless the SELECT is cancelled.
+fn answer_unless(
+    alloc: Global,
+    stores: &Stores,
+    caller: Caller,
+    ask: &SelectAsk,
+    cancelled: bool,
+    snap: &Snapshot,
+) -> Result<Answer, Stop>
+    requires may { MayAttempt stores.now caller }
+    requires look { IsLookFor stores.now caller snap.now }
+    ensures { IsStep (λ a. a) result stores.now stores.now caller (caller.cmd + 1)
+        (selected.uncancelled cancelled (selected.answered caller (select_meant ask.now) None)) }
+{
+    if cancelled {
+        return Err(Stop::Refused(statement_cancelled(alloc)));
+    }
+    answer(alloc, stores, caller, ask, None, snap)
+}
+
+// The answer, unless the SELECT cancels itself.
+fn answer_bare(
+    alloc: Global,
+    stores: &Stores,
+    caller: Caller,
+    ask: &SelectAsk,
+    snap: &Snapshot,
+) -> Result<Answer, Stop>
+    requires may { MayAttempt stores.now caller }
+    requires look { IsLookFor stores.now caller snap.now }
+    ensures { IsStep (λ a. a) result stores.now stores.now caller (caller.cmd + 1)
+        (selected.uncancelled (cancels_itself caller.session (caller.sessions - 1) (select_meant ask.now)) (selected.answered caller (select_meant ask.now) None)) }
+{
+    match cancels_itself(alloc, ask, caller.session, caller.sessions - 1) {
+        Ok(own) => answer_unless(alloc, stores, caller, ask, own, snap),
+        Err(NoMemory) => Err(Stop::NoMemory),
+    }
+}
+
 fn select_bare(
     alloc: Global,
     stores: &Stores,
@@ -37,7 +78,7 @@ fn select_bare(
     ensures { IsStep (λ a. a) result stores.now stores.now caller (caller.cmd + 1) (selected.bare caller (select_tree select.now)) }
 {
     match bind(alloc, stores, caller, select, &[]) {
-        Ok(ask) => answer(alloc, stores, caller, &ask, None, snap),
+        Ok(ask) => answer_bare(alloc, stores, caller, &ask, snap),
         Err(stop) => Err(stop),
     }
 }

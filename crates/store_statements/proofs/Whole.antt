@@ -1,6 +1,5 @@
 -- A part of a statement as the whole of it, with what it prints.
-use Rattle.std.proofs.Common.{◌≡◌, ℕ, ◌+◌, ◌||◌, Bool, List, [], ◌∷◌, ◌++◌, refl, ap, sym, append-nil, Ok, Err, Result, map}
-use Rattle.std.specs.List.{list_any}
+use Rattle.std.proofs.Common.{◌≡◌, ℕ, ◌+◌, List, [], ◌++◌, refl, ap, sym, append-nil, Ok, Err, Result}
 use Rattle.pg_values.specs.declared.answer.Answer.{Answer}
 use Rattle.history.specs.History.{History}
 use Rattle.stores.specs.declared.stores.Stores.{Stores}
@@ -74,9 +73,3 @@ tabled_stops (stop.Refused fault) old new caller f before step = record {
   waits = step.waits;
 }
 tabled_stops stop.NoMemory old new caller f before step = record { is = λ h stands at. tt; keeps = step.keeps; waits = tt }
-
--- ---- a list and its images
-
-pub list_any_map : {X Y : Type 0} (p : Y → Bool) (f : X → Y) (xs : List X) → list_any p (map f xs) ≡ list_any (λ x. p (f x)) xs
-list_any_map p f [] = refl
-list_any_map p f (x ∷ xs) = ap (λ b. p (f x) || b) (list_any_map p f xs)

@@ -1,5 +1,5 @@
 -- What a statement of a session makes of a history, and what it prints (VI. SQL Commands).
-use Rattle.std.specs.Prelude.{ℕ, List, [], Option, Result, Ok, Err, if◌then◌else◌}
+use Rattle.std.specs.Prelude.{ℕ, List, [], Option, Result, Ok, Err}
 use Rattle.pg_values.specs.declared.answer.Answer.{Answer}
 use Rattle.history.specs.History.{History}
 use Rattle.expression_binder.specs.Faults.{left_out}
@@ -20,7 +20,7 @@ use Rattle.table_statements.specs.Partitions.{partitioned}
 use Rattle.table_statements.specs.Drops.{dropped}
 use Rattle.lock_statement.specs.Locked.{locked}
 use Rattle.detach_statement.specs.Detached.{detached}
-use Rattle.store_statements.specs.LeftOut.{command_word, query_word, cancel_word, cancels}
+use Rattle.store_statements.specs.LeftOut.{command_word, query_word}
 
 -- ---- what is printed
 
@@ -57,7 +57,7 @@ command_attempted names c (locks tables mode) = silent (locked names c.session t
 command_attempted names c t = omitted (command_word t)
 
 abbrev pub select_attempted : (names : List (List ℕ)) → Caller → SelectTree → History → Made (List ℕ)
-select_attempted names c s = if cancels s then omitted cancel_word else tabled (selected names c s)
+select_attempted names c s = tabled (selected names c s)
 
 abbrev pub row_attempted : (names : List (List ℕ)) → Caller → Option Rest → RowTree → History → Made (List ℕ)
 row_attempted names c rest (selects s) = select_attempted names c s

@@ -1,10 +1,7 @@
--- Statements that are left out, and the word that each is told by (VI. SQL Commands; 9.27.2 Server Signaling Functions).
-use Rattle.std.specs.Prelude.{ℕ, Bool, true, false, List, [], bytes_eq, codes}
-use Rattle.std.specs.List.{list_any}
-use Rattle.sql_expressions.specs.Tree.{Tree, call}
+-- Statements that are left out, and the word that each is told by (VI. SQL Commands).
+use Rattle.std.specs.Prelude.{ℕ, List, codes}
 use Rattle.sql_commands.specs.Trees.{CommandTree, begins, commits, rolls_back, sets, resets, makes_table, makes_partition, drops, attaches, detaches, locks, deallocates, deallocates_all}
-use Rattle.sql_queries.specs.Items.{Item, one_column}
-use Rattle.sql_queries.specs.Trees.{SelectTree, RowTree, QueryTree, selected, selects, inserts, updates, deletes, rows, prepares, executes, explains_select, explains_execute}
+use Rattle.sql_queries.specs.Trees.{RowTree, QueryTree, selects, inserts, updates, deletes, rows, prepares, executes, explains_select, explains_execute}
 
 -- ---- the first word of a statement
 
@@ -35,19 +32,3 @@ query_word (prepares name kinds r) = codes "PREPARE"
 query_word (executes name arguments) = codes "EXECUTE"
 query_word (explains_select analyze s) = codes "EXPLAIN"
 query_word (explains_execute analyze name arguments) = codes "EXPLAIN"
-
--- ---- a SELECT that cancels other statements: the call stands alone in the select list, and nowhere else
-
-abbrev pub cancel_word : List ℕ
-cancel_word = codes "pg_cancel_backend"
-
-abbrev pub is_cancel : Tree → Bool
-is_cancel (call f arguments) = bytes_eq f cancel_word
-is_cancel _ = false
-
-abbrev pub item_cancels : Item → Bool
-item_cancels (one_column output) = is_cancel output.0
-item_cancels _ = false
-
-abbrev pub cancels : SelectTree → Bool
-cancels (selected items from condition order limit offset) = list_any item_cancels items

@@ -1,14 +1,16 @@
 -- What the statements of a run mean. The run is told the names of its sessions.
-use Rattle.std.specs.Prelude.{ℕ, List, Option, None}
+use Rattle.std.specs.Prelude.{ℕ, ◌-◌, List, [], Option, None}
 use Rattle.pg_values.specs.declared.fault.Fault.{Fault}
 use Rattle.sessions.specs.declared.asker.Place.{Place}
 use Rattle.sql_commands.specs.Trees.{CommandTree, locks}
+use Rattle.sql_queries.specs.Trees.{RowTree, QueryTree, selects, rows}
 use Rattle.sql_syntax.specs.Trees.{StatementTree, commands, queries}
 use Rattle.block_reading.specs.Reading.{read_block}
 use Rattle.statement_roles.specs.Roles.{role_of, looks, changed}
 use Rattle.out_text.specs.FaultText.{fault_text}
 use Rattle.course.specs.Words.{Words}
 use Rattle.lock_statement.specs.Places.{lock_misplaced}
+use Rattle.select_statement.specs.Cancels.{cancelled}
 use Rattle.store_statements.specs.Attempted.{attempted}
 
 -- of the statements that are run over the stores LOCK alone cannot stand everywhere
@@ -20,6 +22,20 @@ abbrev pub misplaced : Place → StatementTree → Option Fault
 misplaced place (commands t) = command_misplaced place t
 misplaced place (queries t) = None
 
+-- a SELECT alone cancels waits
+abbrev pub row_cancelled : (session sessions : ℕ) → RowTree → List ℕ
+row_cancelled s sessions (selects t) = cancelled s sessions t
+row_cancelled s sessions t = []
+
+abbrev pub query_cancelled : (session sessions : ℕ) → QueryTree → List ℕ
+query_cancelled s sessions (rows r) = row_cancelled s sessions r
+query_cancelled s sessions t = []
+
+-- the control session is one of the sessions, and no number names it
+abbrev pub statement_cancelled : (session sessions : ℕ) → StatementTree → List ℕ
+statement_cancelled s sessions (commands t) = []
+statement_cancelled s sessions (queries t) = query_cancelled s (sessions - 1) t
+
 abbrev pub statement_words : Words (List (List ℕ)) StatementTree
 statement_words = record {
   parsed = read_block;
@@ -27,6 +43,7 @@ statement_words = record {
   looks = looks;
   misplaced = misplaced;
   set = changed;
+  cancels = statement_cancelled;
   attempted = λ names c rest h settings t. attempted names c rest t h;
   fault_text = fault_text;
 }

@@ -3,11 +3,10 @@ ghost use Rattle.sql_commands.specs.Trees.{command_tree};
 ghost use Rattle.sql_queries.specs.Trees.{query_tree, row_tree, select_tree};
 ghost use Rattle.sql_syntax.specs.Trees.{statement_tree};
 ghost use Rattle.course.specs.Attempts.{MayAttempt, MayGoOn};
-ghost use Rattle.select_statement.specs.Selected as selected;
 ghost use Rattle.store_statements.specs.Attempted as attempted;
 ghost use Rattle.store_statements.specs.Printed.{IsStatement};
 
-use crate::left_out::{cancels, command_word, query_word};
+use crate::left_out::{command_word, query_word};
 use change_statement::{delete, update};
 use course::{Caller, Rest, Stop};
 use detach_statement::detach;
@@ -84,27 +83,6 @@ fn attempt_command(
 }
 
 // The answer is printed as a table.
-fn print_select(
-    alloc: Global,
-    stores: &mut Stores,
-    names: &SessionNames,
-    caller: Caller,
-    statement: &Select,
-    out: &mut Vec<u8>,
-) -> Result<(), Stop>
-    requires { MayAttempt stores.old caller }
-    ensures { IsStatement result stores.old stores.new out.old.items out.new.items caller (attempted.tabled (selected.selected names.now caller (select_tree statement.now))) }
-{
-    check_room(stores, caller);
-    match select(alloc, stores, names, caller, statement) {
-        Ok(answer) => match write_table(alloc, &answer, out) {
-            Ok(()) => Ok(()),
-            Err(NoMemory) => Err(Stop::NoMemory),
-        },
-        Err(stop) => Err(stop),
-    }
-}
-
 fn attempt_select(
     alloc: Global,
     stores: &mut Stores,
@@ -116,10 +94,14 @@ fn attempt_select(
     requires { MayAttempt stores.old caller }
     ensures { IsStatement result stores.old stores.new out.old.items out.new.items caller (attempted.select_attempted names.now caller (select_tree statement.now)) }
 {
-    if cancels(statement) {
-        return omit(alloc, stores, caller, b"pg_cancel_backend", out);
+    check_room(stores, caller);
+    match select(alloc, stores, names, caller, statement) {
+        Ok(answer) => match write_table(alloc, &answer, out) {
+            Ok(()) => Ok(()),
+            Err(NoMemory) => Err(Stop::NoMemory),
+        },
+        Err(stop) => Err(stop),
     }
-    print_select(alloc, stores, names, caller, statement, out)
 }
 
 fn attempt_rows(

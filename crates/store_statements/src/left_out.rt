@@ -1,14 +1,10 @@
 ghost use Rattle.std.specs.Prelude.{◌≡◌};
-ghost use Rattle.std.specs.List.{list_any};
 ghost use Rattle.sql_commands.specs.Trees.{command_tree};
-ghost use Rattle.sql_queries.specs.Trees.{query_tree, row_tree, select_tree};
-ghost use Rattle.sql_queries.specs.Trees as trees;
-ghost use Rattle.sql_expressions.specs.Tree.{tree};
+ghost use Rattle.sql_queries.specs.Trees.{query_tree, row_tree};
 ghost use Rattle.store_statements.specs.LeftOut as left_out;
 
 use sql_commands::Command;
-use sql_expressions::Expr;
-use sql_queries::{Query, RowStatement, Select, SelectItem};
+use sql_queries::{Query, RowStatement};
 
 pub(crate) fn command_word(command: &Command) -> &'static [u8]
     ensures { result.now ≡ left_out.command_word (command_tree command.now) }
@@ -51,35 +47,4 @@ pub(crate) fn query_word(query: &Query) -> &'static [u8]
         Query::ExplainSelect(_, _) => b"EXPLAIN",
         Query::ExplainExecute(_, _, _) => b"EXPLAIN",
     }
-}
-
-fn is_cancel(value: &Expr) -> bool
-    ensures { result ≡ left_out.is_cancel (tree value.now) }
-{
-    match value {
-        Expr::Call(name, _) => name.as_bytes() == b"pg_cancel_backend".as_slice(),
-        _ => false,
-    }
-}
-
-fn item_cancels(item: &SelectItem) -> bool
-    ensures { result ≡ left_out.item_cancels (trees.item_tree item.now) }
-{
-    match item {
-        SelectItem::Output(value, _) => is_cancel(value),
-        _ => false,
-    }
-}
-
-fn any_cancels(items: &[SelectItem]) -> bool
-    ensures { result ≡ list_any (λ item. left_out.item_cancels (trees.item_tree item)) items.now }
-{
-    items.iter().any(|item| item_cancels(item))
-}
-
-/// Whether the statement cancels those of other sessions.
-pub(crate) fn cancels(select: &Select) -> bool
-    ensures { result ≡ left_out.cancels (select_tree select.now) }
-{
-    any_cancels(select.items.as_slice())
 }

@@ -6,8 +6,10 @@ use course::{Caller, Kinds, Rest, Stop};
 use lock_statement::lock_misplaced;
 use out_text::write_fault_text;
 use pg_values::{Fault, NoMemory, Refusal};
+use select_statement::cancelled;
 use sessions::{Place, Role, Settings};
 use sql_commands::Command;
+use sql_queries::{Query, RowStatement};
 use sql_syntax::Statement;
 use statement_roles::{changed_settings, looks, role_of};
 use statement_steps::SessionNames;
@@ -82,6 +84,20 @@ impl Kinds for Statements {
 
     fn set(alloc: Global, settings: Settings, statement: &Statement) -> Result<Settings, Refusal> {
         changed_settings(alloc, settings, statement)
+    }
+
+    fn cancels(
+        alloc: Global,
+        session: u32,
+        sessions: u32,
+        statement: &Statement,
+    ) -> Result<Vec<usize>, NoMemory> {
+        match statement {
+            Statement::Query(Query::Rows(RowStatement::Select(select))) => {
+                cancelled(alloc, select, session, sessions.saturating_sub(1))
+            }
+            _ => Ok(Vec::new(alloc)),
+        }
     }
 
     fn attempt(

@@ -1,22 +1,18 @@
-use Rattle.std.proofs.Common.{◌+◌, ◌<◌, [], None}
-use Rattle.std.proofs.lemmas.List.Elements.{All-nil}
-use Rattle.pg_ids.specs.declared.ids.LeafId.{LeafId}
+use Rattle.std.proofs.Common.{◌+◌, ◌-◌, [], None}
 use Rattle.pg_values.specs.declared.answer.Answer.{Answer}
 use Rattle.sql_queries.specs.Trees.{select_tree}
 use Rattle.statement_asks.specs.Asked.{select_meant}
 use Rattle.statement_steps.proofs.Steps.{then_step, stop_step}
-use Rattle.select_statement.specs.Selected.{meant, answered}
+use Rattle.select_statement.specs.Cancels.{cancels_itself}
+use Rattle.select_statement.specs.Selected.{meant, answered, uncancelled}
 use Rattle.select_statement.proofs.statement.select_bare.Goals as goal
-
-pub answer-requires-clause-leaves : goal.answer-requires-clause-leaves
-answer-requires-clause-leaves c = All-nil (λ (l : LeafId). l.number < c.args.stores.now.rows.leaves)
 
 pub returns-in-Ok : goal.returns-in-Ok
 returns-in-Ok c =
-    then_step select_meant (λ (a : Answer). a) c.in-Ok.ask c.answer.result c.args.stores.now c.args.stores.now c.args.stores.now c.args.caller (c.args.caller.cmd + 1)
-    (meant c.args.caller (select_tree c.args.select.now) []) (λ m. answered c.args.caller m None) c.in-Ok.ensures c.answer.ensures
+    then_step select_meant (λ (a : Answer). a) c.in-Ok.ask c.answer_bare.result c.args.stores.now c.args.stores.now c.args.stores.now c.args.caller (c.args.caller.cmd + 1)
+    (meant c.args.caller (select_tree c.args.select.now) []) (λ m. uncancelled (cancels_itself c.args.caller.session (c.args.caller.sessions - 1) m) (answered c.args.caller m None)) c.in-Ok.ensures c.answer_bare.ensures
 
 pub returns-in-Err : goal.returns-in-Err
 returns-in-Err c =
     stop_step select_meant (λ (a : Answer). a) c.in-Err.stop c.args.stores.now c.args.stores.now c.args.caller (c.args.caller.cmd + 1) c.args.caller.cmd
-    (meant c.args.caller (select_tree c.args.select.now) []) (λ m. answered c.args.caller m None) c.in-Err.ensures
+    (meant c.args.caller (select_tree c.args.select.now) []) (λ m. uncancelled (cancels_itself c.args.caller.session (c.args.caller.sessions - 1) m) (answered c.args.caller m None)) c.in-Err.ensures

@@ -1,8 +1,9 @@
-use Rattle.std.proofs.Common.{◌≡◌, ◌<◌, true, refl, ap, length, ◌∙◌, subst, slice_set, sym}
+use Rattle.std.proofs.Common.{◌≡◌, ◌<◌, ℕ, true, false, refl, ap, length, ◌∙◌, subst, slice_set, sym}
 use Rattle.stores.specs.Events.{withdrawn}
 use Rattle.course.specs.Kept.{KeptSeats, Adds, waits_in}
 use Rattle.course.specs.Weight.{slack}
 use Rattle.course.specs.contracts.seats.Seats.{the_view}
+use Rattle.course.proofs.Cuts.{withdrawn_idle}
 use Rattle.course.proofs.Lower.{withdrawn_lower}
 use Rattle.course.proofs.Steps.{seats, kept_after, seated_after, withdrawn_adds, as_long, known_of}
 use Rattle.course.proofs.seats.Seats.cancel.Goals as goal
@@ -30,3 +31,7 @@ returns-clause-lower c = subst (λ v. slack (after c) < slack v) c.self.view_is
     (subst (λ v. waits_in v c.args.session ≡ true) (sym c.self.view_is) c.requires.waiting)
     (subst (λ v. c.args.session < length v.opened) (sym c.self.view_is) c.requires.known)
     c.withdraw.ensures.good c.withdraw.ensures.size.tables)
+
+pub returns-clause-others : goal.returns-clause-others
+returns-clause-others c = subst (λ v. (s : ℕ) → waits_in v s ≡ false → waits_in (after c) s ≡ false) c.self.view_is
+    (λ r is. withdrawn_idle c.self.inside.whole c.self.inside.stores.locks.wants c.withdraw.new.self.locks.wants c.args.session r c.withdraw.ensures.idle c.withdraw.ensures.others is)

@@ -1,7 +1,7 @@
 use Rattle.sql_queries.specs.Trees.{select_tree}
 use Rattle.select_statement.specs.Selected.{selected}
 use Rattle.store_statements.proofs.Whole.{tabled_is, tabled_stops}
-use Rattle.store_statements.proofs.attempts.print_select.Goals as goal
+use Rattle.store_statements.proofs.attempts.attempt_select.Goals as goal
 
 pub returns-in-Ok-write_table : goal.returns-in-Ok-write_table
 returns-in-Ok-write_table c =

@@ -1,0 +1,12 @@
+use Rattle.std.proofs.Common.{◌+◌, ◌-◌, None}
+use Rattle.pg_values.specs.declared.answer.Answer.{Answer}
+use Rattle.statement_asks.specs.Asked.{select_meant}
+use Rattle.statement_steps.proofs.Parts.{stays, no_memory}
+use Rattle.select_statement.specs.Cancels.{cancels_itself}
+use Rattle.select_statement.specs.Selected.{answered, uncancelled}
+use Rattle.select_statement.proofs.statement.answer_bare.Goals as goal
+
+pub returns-in-Err : goal.returns-in-Err
+returns-in-Err c =
+    no_memory (λ (a : Answer). a) c.args.stores.now c.args.stores.now c.args.caller (c.args.caller.cmd + 1)
+    (uncancelled (cancels_itself c.args.caller.session (c.args.caller.sessions - 1) (select_meant c.args.ask.now)) (answered c.args.caller (select_meant c.args.ask.now) None)) (stays c.args.stores.now c.args.caller.session)
