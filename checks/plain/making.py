@@ -329,7 +329,7 @@ class Maker:
                 found.append("ROLLBACK;" if numbers.chance(25) else "COMMIT;")
                 is_open = False
             elif is_open:
-                found.append(self.statement() + (" " + self.statement() if numbers.chance(8) else ""))
+                found.append(self.statement() + (" " + self.statement() if numbers.chance(30 if "cancel" in self.weights else 8) else ""))
             elif self.free_bound and self.default_chance() and numbers.chance(22):
                 found += self.chain()
             elif numbers.chance(80):
