@@ -296,7 +296,10 @@ class Maker:
         return f"DROP TABLE {'IF EXISTS ' if numbers.chance(15) else ''}{', '.join(names)};"
 
     def cancel(self):
-        return f"SELECT pg_cancel_backend({self.numbers.below(7)});"
+        numbers = self.numbers
+        calls = [f"pg_cancel_backend({numbers.below(7)})" for _ in range(1 if numbers.chance(75) else 2)]
+        rest = numbers.of((" LIMIT 0", " LIMIT 1", " OFFSET 1", " WHERE 1 = 2", " WHERE 1 = 1")) if numbers.chance(25) else ""
+        return f"SELECT {', '.join(calls)}{rest};"
 
     def statement(self):
         return getattr(self, self.numbers.weighted(list(self.weights.items())))()
@@ -326,7 +329,7 @@ class Maker:
                 found.append("ROLLBACK;" if numbers.chance(25) else "COMMIT;")
                 is_open = False
             elif is_open:
-                found.append(self.statement() + (" " + self.statement() if numbers.chance(8) else ""))
+                found.append(self.statement() + (" " + self.statement() if numbers.chance(30 if "cancel" in self.weights else 8) else ""))
             elif self.free_bound and self.default_chance() and numbers.chance(22):
                 found += self.chain()
             elif numbers.chance(80):

@@ -22,7 +22,6 @@ class Task:
         self.use, self.number = use, number
         self.out, self.refusal = [], None
         self.has_ended = self.is_told = False
-        self.cancelled_by = 0
 
 
 class Permutation:
@@ -33,6 +32,7 @@ class Permutation:
         self.database = Database(self.history, self.cancel_wait_of)
         self.running = {}        # the block of a session that waits: its task, its generator
         self.ended = []          # the tasks that have ended, in this order
+        self.cut = []            # the sessions whose waits a statement has cancelled, until these have gone on
         self.tasks = []
         self.watched = 0
 
@@ -68,9 +68,10 @@ class Permutation:
         return task
 
     def cancel_wait_of(self, session):
-        """pg_cancel_backend."""
-        if any(wait.session == session for wait in self.history.waits):
-            self.cancel(session).cancelled_by = len(self.tasks)
+        """pg_cancel_backend: the wait is over at once, and the statement that waited fails when nobody acts."""
+        for wait in [wait for wait in self.history.waits if wait.session == session]:
+            self.history.end_wait(wait)
+            self.cut.append(session)
 
     # ---- reports
 
@@ -87,11 +88,18 @@ class Permutation:
         if task.refusal:
             self.write(error_line(task.refusal))
 
+    def report(self, task):
+        if task.has_ended and not self.is_held(task):
+            self.tell(task, "<... completed>")
+
     def settle(self):
-        """What comes while nobody acts: ends that are not held back, then the oldest wait that can go on."""
+        """What comes while nobody acts: whose wait a statement has cancelled, then ends that are not held back any more,
+        then the oldest wait that can go on."""
         while True:
+            if self.cut:
+                self.report(self.cancel(self.cut.pop(0)))
+                continue
             free = [task for task in self.ended if not task.is_told and not self.is_held(task)]
-            free.sort(key=lambda task: not task.cancelled_by)
             if free:
                 self.tell(free[0], "<... completed>")
                 continue
@@ -100,6 +108,7 @@ class Permutation:
                 return
             task, block = self.running[wait.session]
             self.go_on(task, lambda: next(block))
+            self.report(task)
 
     def launch(self, use):
         session = use.step.session
