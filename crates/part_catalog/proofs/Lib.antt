@@ -5,6 +5,7 @@ pub mod Grown
 pub mod Keeping
 pub mod Keys
 pub mod Listed
+pub mod Partitions
 pub mod Paths
 pub mod Suited
 pub mod Told

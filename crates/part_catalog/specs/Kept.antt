@@ -35,6 +35,10 @@ no_entry = record {
   marked = None;
 }
 
+-- the entry of a number
+abbrev pub stored_at : List StoredEntry → ℕ → StoredEntry
+stored_at entries k = slice_index_or entries k no_entry
+
 abbrev pub no_stored : StoredTable
 no_stored = record { table = no_table; dropped = None }
 

@@ -8,7 +8,7 @@ ghost use Rattle.history.specs.Presence.{entries_present};
 ghost use Rattle.tx_table.specs.Stands.{TableStands, SnapshotStands};
 ghost use Rattle.table_trees.specs.Seen.{seen};
 ghost use Rattle.table_trees.specs.Siblings.{AreSiblings};
-ghost use Rattle.table_trees.specs.Histories.{tree_of, ddl_tree, above, parent_in};
+ghost use Rattle.table_trees.specs.Histories.{tree_of, ddl_tree, above, children, parent_in};
 ghost use Rattle.part_catalog.specs.Stands.{CatalogueStands};
 ghost use Rattle.part_catalog.specs.Answers.{parent_told, child_told, marker_told, pending_entry, AreTogether};
 
@@ -17,7 +17,7 @@ use crate::grow::grow;
 use crate::names::Names;
 use crate::see;
 use crate::stored::{StoredEntry, StoredTable};
-use history::{Check, Stamp, Table, TxId};
+use history::{Check, Entry, Stamp, Table, TxId};
 use pg_ids::TableNo;
 use pg_values::NoMemory;
 use std::alloc::Global;
@@ -148,6 +148,23 @@ impl Catalog {
             7,
         )?;
         Ok(tree)
+    }
+
+    /// The entries below a table that are present for the session, pending ones too, in plain order.
+    pub fn partitions(
+        &self,
+        alloc: Global,
+        txs: &TxTable,
+        table: TableNo,
+        session: u32,
+    ) -> Result<Vec<&Entry>, NoMemory>
+        requires { table.number < length self.now.tables }
+        ensures { IfOk result (λ found. (h : History) → TableStands txs.now h → CatalogueStands self.now h →
+            map (λ e. e.now) found.items ≡ children (entries_present h session) table.number) }
+    {
+        let numbers = self.below[table.number as usize].numbers();
+        let found = see::present_among(alloc, &self.entries, numbers, txs, session)?;
+        Ok(found)
     }
 
     /// The table of which a table is a partition.

@@ -1,17 +1,17 @@
 //! What is there for a session, and what a snapshot is shown.
 
-ghost use Rattle.std.specs.Prelude.{◌≡◌, ◌==◌, ◌&&◌, ℕ, true, false, map, IfOk, length, option_map, option_copied, find, slice_index_or};
+ghost use Rattle.std.specs.Prelude.{◌≡◌, ◌<◌, ◌==◌, ◌&&◌, ℕ, true, false, All, map, filter, IfOk, length, option_map, option_copied, find, slice_index_or};
 ghost use Rattle.history.specs.Transactions.{IsPast};
 ghost use Rattle.history.specs.Snapshots.{TakenSnapshot};
 ghost use Rattle.history.specs.Catalogue.{standing};
 ghost use Rattle.history.specs.History.{History, tx_events};
 ghost use Rattle.history.specs.Presence as presence;
 ghost use Rattle.tx_table.specs.Stands.{TableStands, SnapshotStands};
-ghost use Rattle.part_catalog.specs.Kept.{no_entry};
+ghost use Rattle.part_catalog.specs.Kept.{no_entry, entry_in, stored_at};
 ghost use Rattle.part_catalog.specs.Stands.{there_by, present_by, pending_by, shown_by, above_by, pending_below};
 
 use crate::stored::{StoredEntry, StoredTable};
-use history::{Fate, Stamp, TxId};
+use history::{Entry, Fate, Stamp, TxId};
 use pg_values::NoMemory;
 use std::alloc::Global;
 use tx_table::{Snapshot, TxTable};
@@ -117,6 +117,28 @@ pub fn shown_flags(
         flags.push(is_shown(txs, session, snap, x))?;
     }
     Ok(flags)
+}
+
+/// The entries of these numbers that are present for the session.
+pub fn present_among<'c>(
+    alloc: Global,
+    entries: &'c [StoredEntry],
+    numbers: &[u64],
+    txs: &TxTable,
+    session: u32,
+) -> Result<Vec<&'c Entry>, NoMemory>
+    requires { All (λ k. k < length entries.now) numbers.now }
+    ensures { IfOk result (λ found. (h : History) → TableStands txs.now h →
+        map (λ e. e.now) found.items ≡ map entry_in (filter (present_by (tx_events h) session) (map (stored_at entries.now) numbers.now))) }
+{
+    let mut found = Vec::new(alloc);
+    for number in numbers {
+        let x = &entries[*number as usize];
+        if is_present(txs, session, x) {
+            found.push(&x.entry)?;
+        }
+    }
+    Ok(found)
 }
 
 /// The first present entry by which the table is a partition.

@@ -1,9 +1,12 @@
 pub mod Example
 pub mod Fit
 pub mod Full
+pub mod TablesByLeaf
 pub mod Leading
 pub mod Made
+pub mod Notes
 pub mod Placed
+pub mod Places
 pub mod Rows
 pub mod Steps
 pub mod Successors

@@ -1,5 +1,6 @@
 pub mod FullRows
 pub mod Laws
+pub mod Places
 pub mod Placing
 pub mod Refusals
 pub mod RowTexts

@@ -1,5 +1,5 @@
 -- The leaves of rows, and what a statement that names a table of the tree above them knows of each.
-use Rattle.std.specs.Prelude.{◌≡◌, ℕ, true, false, is_some, List, [], ◌∷◌, Some, Ok, All, length}
+use Rattle.std.specs.Prelude.{◌≡◌, ℕ, true, false, is_some, List, [], ◌∷◌, Option, Some, Ok, option_map, All, length}
 use Rattle.std.specs.List.{list_any}
 use Rattle.pg_values.specs.declared.value.Value.{Value}
 use Rattle.pg_ids.specs.declared.ids.LeafId.{LeafId}
@@ -25,6 +25,10 @@ use Rattle.row_change.specs.Ways.{root, way_to}
 abbrev pub last_table : TableNo → List TableNo → TableNo
 last_table t [] = t
 last_table t (x ∷ xs) = last_table x xs
+
+-- the table of the tree that has the leaf
+abbrev pub holder_in : TableTree → LeafId → Option TableNo
+holder_in tree leaf = option_map (last_table (root tree)) (way_to leaf tree)
 
 -- of a row that comes from above only the CHECKs along a path are asked: these parts refuse it as the path does, and may be
 -- asked where the path may

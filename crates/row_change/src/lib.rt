@@ -17,8 +17,10 @@
 //! Names, and the keys that a refusal tells, are those that a history gives the tables.
 #![tactic(auto)]
 
+mod by_leaf;
 mod faults;
 mod full_rows;
+mod holders;
 mod keys;
 mod laws;
 mod leaf_list;

@@ -1,6 +1,6 @@
 //! Rows into the store.
 
-ghost use Rattle.std.specs.Prelude.{◌≡◌, ◌<◌, [], ◌∷◌, All, find, length};
+ghost use Rattle.std.specs.Prelude.{◌≡◌, ◌<◌, [], ◌∷◌, All, IfOk, find, length};
 ghost use Rattle.pg_values.specs.Refusals.{IsAnswer};
 ghost use Rattle.history.specs.Rows.{RowBorn};
 ghost use Rattle.history.specs.Catalogue.{tables_made};
@@ -9,11 +9,13 @@ ghost use Rattle.tx_table.specs.Stands.{TableStands, IsOpen};
 ghost use Rattle.row_store.specs.Stands.{StoreStands, newborn};
 ghost use Rattle.part_bounds.specs.Checks.{or_first};
 ghost use Rattle.part_catalog.specs.Stands.{CatalogueStands};
+ghost use Rattle.row_change.specs.Places.{ArePlaces};
 ghost use Rattle.row_change.specs.Storing as storing;
 ghost use Rattle.row_change.specs.Storing.{all_stored, full_faults, is_into, leaf_faults, made_by, stored, FitsTargets, IsLeafKnown, IsMade, IsTargetNumbered};
 ghost use Rattle.row_change.specs.Targets.{HasTarget};
 
 use crate::Target;
+use crate::by_leaf::ByLeaf;
 use crate::faults::too_many;
 use crate::testing::check_row;
 use history::TxId;
@@ -59,6 +61,17 @@ fn put_row(
     }
 }
 
+// Of each leaf the place of its target.
+fn places_of(alloc: Global, targets: &[Target]) -> Result<ByLeaf<usize>, NoMemory>
+    ensures { IfOk result (λ places. ArePlaces places targets.now) }
+{
+    let mut places = ByLeaf::new(alloc);
+    for place in 0..targets.len() {
+        places.note(targets[place].leaf, place)?;
+    }
+    Ok(places)
+}
+
 /// The tests of a row that goes into the leaf, as its target says.
 pub fn check_leaf(
     alloc: Global,
@@ -80,12 +93,35 @@ pub fn check_leaf(
     Ok(())
 }
 
+// The same where the places of the targets are known.
+#[tactic(auto, using(crate::proofs::Places::target_there, crate::proofs::Places::no_target_there))]
+fn check_placed(
+    alloc: Global,
+    catalog: &Catalog,
+    targets: &[Target],
+    places: &ByLeaf<usize>,
+    leaf: LeafId,
+    row: &Row,
+) -> Result<(), Refusal>
+    requires fits { FitsTargets targets.now row.now }
+    requires known { All (IsTargetNumbered (length catalog.now.tables)) targets.now }
+    requires places { ArePlaces places.now targets.now }
+    ensures { (h : History) → CatalogueStands catalog.now h →
+        IsAnswer result (or_first (leaf_faults (tables_made (catalogue_events h)) (find (is_into leaf) targets.now) row.now) tt) }
+{
+    match places.of(leaf) {
+        Some(place) => check_row(alloc, catalog, &targets[place], row),
+        None => Ok(()),
+    }
+}
+
 fn store_row(
     alloc: Global,
     catalog: &Catalog,
     txs: &TxTable,
     store: &mut RowStore,
     targets: &[Target],
+    places: &ByLeaf<usize>,
     leaf: LeafId,
     row: &Row,
     by: TxId,
@@ -93,13 +129,14 @@ fn store_row(
 ) -> Result<(), Refusal>
     requires fits { FitsTargets targets.now row.now }
     requires targets { All (IsTargetNumbered (length catalog.now.tables)) targets.now }
+    requires places { ArePlaces places.now targets.now }
     requires leaf { leaf.number < store.old.leaves }
     requires runs { IsOpen txs.now by.number }
     ensures made { (h : History) → TableStands txs.now h → CatalogueStands catalog.now h → StoreStands store.old h →
         IsMade result store.new h (stored h (leaf_faults (tables_made (catalogue_events h)) (find (is_into leaf) targets.now) row.now) leaf row.now by cmd) }
     ensures leaves { store.new.leaves ≡ store.old.leaves }
 {
-    check_leaf(alloc, catalog, targets, leaf, row)?;
+    check_placed(alloc, catalog, targets, places, leaf, row)?;
     put_row(alloc, txs, store, leaf, row, by, cmd)
 }
 
@@ -126,12 +163,15 @@ pub fn store_rows(
         IsMade result store.new h (all_stored targets.now by cmd h leaves.now rows.now) }
     ensures leaves { store.new.leaves ≡ store.old.leaves }
 {
+    let places = places_of(alloc, targets)?;
     let mut left = leaves;
     for row in rows {
         match left.split_first() {
             None => return Ok(()),
             Some((leaf, others)) => {
-                store_row(alloc, catalog, txs, store, targets, *leaf, row, by, cmd)?;
+                store_row(
+                    alloc, catalog, txs, store, targets, &places, *leaf, row, by, cmd,
+                )?;
                 left = others;
             }
         }

@@ -1,6 +1,7 @@
-ghost use Rattle.std.specs.Prelude.{◌≡◌};
+ghost use Rattle.std.specs.Prelude.{◌≡◌, ◌≤◌, ◌-◌, ◌^◌};
 ghost use Rattle.table_trees.specs.Trees.{routed, accepting, found_leaf, Fits};
 ghost use Rattle.table_trees.specs.Seen.{seen};
+ghost use Rattle.row_router.specs.Costs.{way_outcomes};
 
 use part_bounds::{find_child, stands_in_plain_order};
 use pg_ids::LeafId;
@@ -9,11 +10,13 @@ use std::sync::ledger::Ledger;
 use table_trees::{LevelKey, NoPartition, Shape, Tree};
 
 /// The one leaf of the tree that accepts the row; or, where none does, the table at which the row
-/// found no partition.
+/// found no partition. Each level on the way is searched by halves.
 pub fn route<L: Ledger>(tree: &Tree, row: &Row, steps: &mut Steps<L>) -> Result<LeafId, NoPartition>
     requires { Fits row.now (seen tree.now) }
     ensures way { result ≡ routed row.now (seen tree.now) }
     ensures one { accepting row.now (seen tree.now) ≡ found_leaf result }
+    ensures later { steps.old ≤ steps.new }
+    ensures cost { 2 ^ (steps.new - steps.old) ≤ way_outcomes row.now (seen tree.now) }
 {
     let mut node = tree;
     loop {

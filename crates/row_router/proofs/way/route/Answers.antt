@@ -1,10 +1,11 @@
-use Rattle.std.proofs.Common.{◌≡◌, ◌<◌, ◌∙◌, ap, arith, sym, subst, List, ℕ, map, position}
+use Rattle.std.proofs.Common.{◌≡◌, ◌<◌, ◌∙◌, ap, arith, sym, subst, List, ℕ, length, map, position}
 use Rattle.part_bounds.specs.declared.level.KeyColumn.{KeyColumn}
 use Rattle.part_bounds.specs.Points.{picked}
 use Rattle.part_bounds.specs.Accepts.{accepts_among, FitsSet}
 use Rattle.table_trees.specs.Trees.{key_of}
-use Rattle.table_trees.specs.Seen.{seen}
+use Rattle.table_trees.specs.Seen.{seen, items_of}
 use Rattle.table_trees.proofs.Levels.{here, chosen, none_chosen, found_within}
+use Rattle.row_router.proofs.Costs.{chosen_outcomes, no_outcomes, costs_more}
 use Rattle.row_router.proofs.way.route.Goals as goal
 
 pub find_child-requires : goal.find_child-requires
@@ -31,10 +32,27 @@ loop-node-preserved g c =
     let within = found_within (accepts_among c.in-Level.bounds (key_of c.in-Level.level c.args.row.now)) c.in-Level.bounds c.in-Some.child found in
     let i = c.loop-node.invariant in
     let x = chosen c.loop-node.node.now c.args.row.now c.in-Level.level c.in-Level.bounds c.in-Level.children c.in-Some.child c.at-node.result.now c.in-Level.is i.fits c.stands_in_plain_order.ensures found within c.at-node.ensures in
-    record { fits = x.fits; way = sym x.way ∙ i.way; accept = sym x.accept ∙ i.accept }
+    let h = here c.loop-node.node.now c.args.row.now c.in-Level.level c.in-Level.bounds c.in-Level.children c.in-Level.is i.fits in
+    let inside : c.in-Some.child < length (items_of c.in-Level.children) = omega (arith, within, h.paired) in
+    let whole = chosen_outcomes c.loop-node.node.now c.args.row.now c.in-Level.level c.in-Level.bounds c.in-Level.children c.in-Some.child c.at-node.result.now c.in-Level.is found inside c.at-node.ensures in
+    record {
+      fits = x.fits;
+      way = sym x.way ∙ i.way;
+      accept = sym x.accept ∙ i.accept;
+      later = omega (arith, i.later, c.in-Some.ensures.later);
+      cost = costs_more _ _ _ _ _ _ _ i.later c.in-Some.ensures.later c.in-Some.ensures.cost whole i.cost;
+    }
 
 pub returns-in-None-clause-one : goal.returns-in-None-clause-one
 returns-in-None-clause-one g c =
     let found = c.in-None.ensures.child ∙ ap (λ (cs : List KeyColumn). position (accepts_among c.in-Level.bounds (picked c.args.row.now (map (λ x. x.position) cs))) c.in-Level.bounds) c.as_slice-columns.ensures in
     let i = c.loop-node.invariant in
     sym i.accept ∙ (none_chosen c.loop-node.node.now c.args.row.now c.in-Level.level c.in-Level.bounds c.in-Level.children c.in-Level.is i.fits c.stands_in_plain_order.ensures found).1
+
+pub returns-in-None-clause-cost : goal.returns-in-None-clause-cost
+returns-in-None-clause-cost g c =
+    let found = c.in-None.ensures.child ∙ ap (λ (cs : List KeyColumn). position (accepts_among c.in-Level.bounds (picked c.args.row.now (map (λ x. x.position) cs))) c.in-Level.bounds) c.as_slice-columns.ensures in
+    let i = c.loop-node.invariant in
+    let whole = no_outcomes c.loop-node.node.now c.args.row.now c.in-Level.level c.in-Level.bounds c.in-Level.children c.in-Level.is found in
+    let all = costs_more _ _ _ _ _ _ _ i.later c.in-None.ensures.later c.in-None.ensures.cost whole i.cost in
+    omega (arith, all)

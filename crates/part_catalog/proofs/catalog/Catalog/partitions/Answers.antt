@@ -1,0 +1,39 @@
+use Rattle.std.proofs.Common.{◌≡◌, ◌∙◌, ◌<◌, [], ℕ, List, ap, sym, subst, arith, length, map, get_or}
+use Rattle.std.specs.List.{All}
+use Rattle.std.proofs.lemmas.Grind.{common_steps, elements}
+use Rattle.history.specs.History.{tx_events}
+use Rattle.table_trees.specs.Histories.{children}
+use Rattle.part_catalog.specs.declared.stored.StoredTable.{StoredTable}
+use Rattle.part_catalog.specs.declared.stored.StoredEntry.{StoredEntry}
+use Rattle.part_catalog.specs.Kept.{KeptCatalogue, entry_in, number_of}
+use Rattle.part_catalog.specs.Stands.{present_by}
+use Rattle.part_catalog.proofs.Partitions.{passed, known_numbers, passed_are}
+use Rattle.part_catalog.proofs.Told.{AreNumbered}
+use Rattle.part_catalog.proofs.catalog.Catalog.partitions.Goals as goal
+
+pub present_among-requires : goal.present_among-requires
+present_among-requires c =
+    let E = c.self.inside.entries.items in
+    let t = c.args.table.number in
+    let tables = ap (λ (k : KeptCatalogue). k.tables) c.self.view_is in
+    let known : t < length c.self.inside.tables.items = omega (arith, c.requires, ap (length {A = StoredTable}) tables) in
+    let within : t < length c.self.inside.below.items = omega (arith, known, c.self.invariant.listed.count) in
+    let list : c.index.result.now ≡ get_or c.self.inside.below.items t [] = grind (arith, common_steps, elements, c.index.ensures) in
+    let numbers : c.numbers-numbers.result.now ≡ map number_of (children (map entry_in E) t) = c.numbers-numbers.ensures ∙ list ∙ c.self.invariant.listed.below t known in
+    subst (λ (es : List StoredEntry). All (λ k. k < length es) c.numbers-numbers.result.now) (sym c.deref.ensures.value) (known_numbers E c.numbers-numbers.result.now t c.self.invariant.listed.numbered numbers)
+
+pub returns : goal.returns
+returns c h txs st =
+    let kept = c.args.self.now in
+    let t = c.args.table.number in
+    let N = c.numbers-numbers.result.now in
+    let tables = ap (λ (k : KeptCatalogue). k.tables) c.self.view_is in
+    let entries = ap (λ (k : KeptCatalogue). k.entries) c.self.view_is in
+    let num : AreNumbered kept.entries = subst AreNumbered entries c.self.invariant.listed.numbered in
+    let known : t < length c.self.inside.tables.items = omega (arith, c.requires, ap (length {A = StoredTable}) tables) in
+    let within : t < length c.self.inside.below.items = omega (arith, known, c.self.invariant.listed.count) in
+    let list : c.index.result.now ≡ get_or c.self.inside.below.items t [] = grind (arith, common_steps, elements, c.index.ensures) in
+    let numbers : N ≡ map number_of (children (map entry_in kept.entries) t) = c.numbers-numbers.ensures ∙ list ∙ c.self.invariant.listed.below t known ∙ ap (λ (es : List StoredEntry). map number_of (children (map entry_in es) t)) entries in
+    c.in_ok-found.ensures h txs
+    ∙ ap (λ (es : List StoredEntry). passed (present_by (tx_events h) c.args.session) es N) (c.deref.ensures.value ∙ entries)
+    ∙ passed_are kept h c.args.session t N st num numbers
