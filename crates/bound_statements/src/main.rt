@@ -8,19 +8,26 @@
 //! EXECUTE is read with three parameters: the first is declared an integer, the second has the place of a date,
 //! and of the third nothing is known.
 //!
+//! Of PREPARE the kinds are written that the places of `$2`, `$3` and `$4` give them, a dash where none does: their
+//! arguments are string literals, and `$1` is an integer. Behind PREPARE, in one line, EXECUTE is read with the
+//! parameters of that statement.
+//!
 //! A column is written by the place of its FROM item and its own place there, `0.2`, a bigint with an `L`
 //! behind it, and each operator stands before its operands.
 //!
-//! That the first rule that is broken is told is proved in `sql_binder` and `change_binder`. Here the rules
-//! are seen: `stdin` has the statements, and `stdout` what was worked out by hand from them.
+//! That the first rule that is broken is told is proved in `sql_binder` and `change_binder`, and that the first
+//! place counts in `parameter_kinds`. Here the rules are seen: `stdin` has the statements, and `stdout` what was
+//! worked out by hand from them.
 #![tactic(auto)]
 
 mod bound;
+mod kinds;
 mod tables;
 mod trees;
 
 use bound::{write_change, write_insert, write_params, write_select};
 use change_binder::{Wanted, bind_arguments, bind_delete, bind_insert, bind_update};
+use kinds::{write_bound, write_kinds};
 use pg_values::{Fault, Kind, NoMemory, Refusal};
 use sql_binder::bind_select;
 use sql_expressions::ExprList;
@@ -78,7 +85,8 @@ fn bound_line(alloc: Global, query: &Query, out: &mut Vec<u8>) -> Result<(), Ref
         Query::Rows(RowStatement::Update(update)) => update_line(alloc, update, out),
         Query::Rows(RowStatement::Delete(delete)) => delete_line(alloc, delete, out),
         Query::Execute(_, arguments) => arguments_line(alloc, arguments, out),
-        _ => Ok(write_text(b"neither a statement on rows nor EXECUTE", out)?),
+        Query::Prepare(_, _, statement) => Ok(write_kinds(alloc, statement, out)?),
+        _ => Ok(write_text(b"neither a statement on rows, nor PREPARE nor EXECUTE", out)?),
     }
 }
 
@@ -91,24 +99,44 @@ fn write_fault(fault: &Fault, out: &mut Vec<u8>) -> Result<(), NoMemory> {
     Ok(())
 }
 
-/// The statement that the line is a block of.
-fn query_of(alloc: Global, line: &[u8]) -> Option<Query> {
+/// The last two statements of the block that the line is, the last one first.
+fn queries_of(alloc: Global, line: &[u8]) -> (Option<Query>, Option<Query>) {
     let Ok(mut statements) = parse_block(alloc, line) else {
-        return None;
+        return (None, None);
     };
-    match statements.pop() {
+    let last = query_of(statements.pop());
+    (last, query_of(statements.pop()))
+}
+
+fn query_of(statement: Option<Statement>) -> Option<Query> {
+    match statement {
         Some(Statement::Query(query)) => Some(query),
         _ => None,
     }
 }
 
+fn written(
+    alloc: Global,
+    prepared: &Option<Query>,
+    query: &Query,
+    out: &mut Vec<u8>,
+) -> Result<(), Refusal> {
+    match (prepared, query) {
+        (Some(Query::Prepare(_, kinds, statement)), Query::Execute(_, arguments)) => {
+            write_bound(alloc, kinds.as_slice(), statement, arguments, out)
+        }
+        _ => bound_line(alloc, query, out),
+    }
+}
+
 fn answer(alloc: Global, line: &[u8]) -> Result<Vec<u8>, NoMemory> {
     let mut out = Vec::new(alloc);
-    let Some(query) = query_of(alloc, line) else {
+    let (last, prepared) = queries_of(alloc, line);
+    let Some(query) = last else {
         out.extend_from_slice(b"no statement")?;
         return Ok(out);
     };
-    match bound_line(alloc, &query, &mut out) {
+    match written(alloc, &prepared, &query, &mut out) {
         Ok(()) => {}
         Err(Refusal::Sql(fault)) => write_fault(&fault, &mut out)?,
         Err(Refusal::NoMemory) => return Err(NoMemory),
