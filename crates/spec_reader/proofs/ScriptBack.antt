@@ -4,7 +4,7 @@ use Rattle.std.proofs.Math.Seq.{drop-append_seam}
 use Rattle.std.proofs.lemmas.List.{append-nil}
 use Rattle.spec_reader.specs.Pieces.{piece_of, token}
 use Rattle.grammar_rules.specs.Reading.{Class, Rule, one, both, as_value, behind, before}
-use Rattle.grammar_rules.specs.Rows.{many, many_texts, rows_texts, all_rows, always}
+use Rattle.grammar_rules.specs.Repeats.{many, many_texts, repeats_texts, all_repeats, always}
 use Rattle.grammar_words.specs.Words as words
 use Rattle.spec_reader.specs.Quotes.{quoted_len}
 use Rattle.spec_reader.specs.Scripts.{a, a_name, name, block, block_of, maybe_block, setup, step_of, step, session_of, session, marker, markers, or_none, maybe_markers, use_of, one_use, permutation, script_of, script, marker_of, notices, Says as IsSaid}
@@ -182,7 +182,7 @@ module _ (whole : List ℕ) where
   marker_says written.Notices rest w s = absurd (w tt)
 
   abbrev more_markers : List WrittenMarker → List Token → List WrittenMarker → Type 0
-  more_markers l ts xs = rows_texts always words.snoc (λ (z : List WrittenMarker). (both (one (a kinds.Comma)) (marker whole)).texts) l ts xs
+  more_markers l ts xs = repeats_texts always words.snoc (λ (z : List WrittenMarker). (both (one (a kinds.Comma)) (marker whole)).texts) l ts xs
 
   commas_spaced : (ms : List WrittenMarker) (rest : List ℕ) → Spaced rest → Spaced (all_of with_comma ms rest)
   commas_spaced ms rest s = all_spaced with_comma (λ m r. blank (44 ∷ with_marker m r)) ms rest s
