@@ -112,7 +112,7 @@ module _ (text : List ℕ) where
   grown : (p : Parts) (t : Tree) (d r : ℕ) (ts : List Tree) → ◌≡◌ {A = Parts} ((p.0 ++ t ∷ []) ++ ts, max (max p.1 d) r) (p.0 ++ t ∷ ts, max p.1 (max d r))
   grown p t d r ts = let n : max (max p.1 d) r ≡ max p.1 (max d r) = omega arith in rw (append_assoc p.0 (t ∷ []) ts, n) refl
 
-  two_value : (f : Trees → Tree) (ts : Trees) (d : ℕ) → HasTwo ts → ◌≡◌ {A = Deep} (f ts, suc d) (level.chain_of (λ us. f (listed us)) (of_trees ts) d)
+  two_value : (f : Trees → Tree) (ts : Trees) (d : ℕ) → HasTwo ts → ◌≡◌ {A = Deep} (f ts, suc d) (level.node_of (λ us. f (listed us)) (of_trees ts) d)
   two_value f no_more d h = absurd h
   two_value f (and_more t no_more) d h = absurd h
   two_value f (and_more t (and_more u ts)) d h = ap (λ us. (f (and_more t (and_more u us)), suc d)) (sym (listed_back ts))
