@@ -2,7 +2,7 @@
 use Rattle.std.proofs.Common.{◌≡◌, ◌≤◌, ℕ, Bool, true, false, List, [], ◌∷◌, length, Option, Some, None, nat_lt, refl, sym, subst, arith, length-append}
 use Rattle.std.proofs.lemmas.Bool.{ltb-true}
 use Rattle.grammar_rules.specs.Reading.{both_texts, nothing_texts, one_texts}
-use Rattle.grammar_rules.specs.Rows.{always, all_rows, step_to}
+use Rattle.grammar_rules.specs.Repeats.{always, all_repeats, step_to}
 use Rattle.sql_expressions.specs.Levels.{room_texts}
 use Rattle.sql_tokens.specs.Classes.{a}
 use Rattle.sql_tokens.specs.declared.kind.Kind.TheVariants as word
@@ -28,7 +28,7 @@ module _ (text : List ℕ) where
   abbrev Next : List StatementTree → List Token → Token × Option StatementTree → Type 0
   Next xs = both_texts (one_texts (a word.Semicolon)) (maybe_statement text (length xs)).texts
 
-  more : (steps : List (Token × Option StatementTree)) (xs : List StatementTree) (ts : List Token) (all : List StatementTree) → length xs ≤ MOST_STATEMENTS → all_rows always join Next xs steps ts all → length all ≤ MOST_STATEMENTS
+  more : (steps : List (Token × Option StatementTree)) (xs : List StatementTree) (ts : List Token) (all : List StatementTree) → length xs ≤ MOST_STATEMENTS → all_repeats always join Next xs steps ts all → length all ≤ MOST_STATEMENTS
   more [] xs ts all h w = subst (λ (z : List StatementTree). length z ≤ MOST_STATEMENTS) (sym w.1) h
   more (s ∷ steps) xs ts all h w =
       let n = w.4 in

@@ -4,12 +4,12 @@
 -- look-ahead decides.
 use Rattle.std.proofs.Common.{◌≡◌, Bool, true, false, ◌&&◌, ◌||◌, List, [], ◌∷◌, Some, None, refl}
 use Rattle.grammar_rules.specs.Reading.{Class, Rule, one, nothing, both, follow, as_value, either, optional, behind, before, barred}
-use Rattle.grammar_rules.specs.Rows.{always, many, rows, more_of, chain_by, chain_after, chain}
+use Rattle.grammar_rules.specs.Repeats.{always, many, repeats, more_of, chain_by, chain_after, chain}
 use Rattle.grammar_rules.proofs.Laws.{Law, Disjoint, Within, or_if}
 use Rattle.grammar_rules.proofs.Single.{one_law, nothing_law, value_law, wide_law, same_reads}
 use Rattle.grammar_rules.proofs.Follow.{both_law, follow_law}
 use Rattle.grammar_rules.proofs.Either.{either_law, either_goes_on}
-use Rattle.grammar_rules.proofs.Chain.{none, with, or_false, then_law, rows_of_law, chain_by_law}
+use Rattle.grammar_rules.proofs.Chain.{none, with, or_false, then_law, repeats_of_law, chain_by_law}
 use Rattle.grammar_rules.proofs.Many.{many_law}
 use Rattle.grammar_rules.proofs.Barred.{barred_law}
 
@@ -68,12 +68,12 @@ pub before_token : {T A : Type 0} {p : Rule T A} {f : Class T} {n : Bool} {c : C
 before_token {T} {A} {p = p} {f = f} {n = n} {c = c} g t e l d = value_law (λ (x : A × T). x.0) (both p (one g)) (or_if n f g) (n && false) (or_if false none c) (both_law p (one g) f n c g false none l (one_law g t e) d)
 
 -- { sign p } behind l, each only where the guard lets what stands before grow; t is a token of sign
-pub rows_by : {T A B : Type 0} {p : A → Rule T B} {f : Class T} {n : Bool} {c : Class T} (sign : Class T) (t : T) → sign t ≡ true → (guard : A → Bool) (join : A → T → B → A) → ((a : A) → Law (p a) f n c) → Disjoint sign c → (l : A) → Law (rows sign guard join p l) sign true (with c sign)
-rows_by {p = p} {f = f} {n = n} {c = c} sign t e guard join lp d l = rows_of_law sign t e guard join p f n c lp d l
+pub repeats_by : {T A B : Type 0} {p : A → Rule T B} {f : Class T} {n : Bool} {c : Class T} (sign : Class T) (t : T) → sign t ≡ true → (guard : A → Bool) (join : A → T → B → A) → ((a : A) → Law (p a) f n c) → Disjoint sign c → (l : A) → Law (repeats sign guard join p l) sign true (with c sign)
+repeats_by {p = p} {f = f} {n = n} {c = c} sign t e guard join lp d l = repeats_of_law sign t e guard join p f n c lp d l
 
 -- { sign p } behind l
 pub more : {T A B : Type 0} {p : Rule T B} {f : Class T} {n : Bool} {c : Class T} (sign : Class T) (t : T) → sign t ≡ true → (join : A → T → B → A) → Law p f n c → Disjoint sign c → (l : A) → Law (more_of sign join p l) sign true (with c sign)
-more {p = p} {f = f} {n = n} {c = c} sign t e join lp d l = rows_of_law sign t e always join (λ _. p) f n c (λ _. lp) d l
+more {p = p} {f = f} {n = n} {c = c} sign t e join lp d l = repeats_of_law sign t e always join (λ _. p) f n c (λ _. lp) d l
 
 -- q { sign p }, each more only where the guard lets what stands before grow; t is a token of sign
 pub chained_by : {T A B C : Type 0} {q : Rule T C} {p : A → Rule T B} {f' : Class T} {n' : Bool} {f : Class T} {n : Bool} {c : Class T} (sign : Class T) (t : T) → sign t ≡ true → (guard : A → Bool) (first : C → A) (join : A → T → B → A) → Law q f' n' c → ((a : A) → Law (p a) f n c) → Disjoint sign c → Law (chain_by sign guard first join q p) (or_if n' f' sign) (n' && true) (with c sign)

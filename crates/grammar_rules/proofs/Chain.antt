@@ -1,11 +1,11 @@
--- Rows and chains of any rules keep the law.
+-- Repeats and chains of any rules keep the law.
 use Rattle.std.proofs.Common.{◌≡◌, Bool, true, false, ◌&&◌, ◌||◌, refl, subst, Ok, Err}
 use Rattle.grammar_rules.specs.Reading.{Class, Rule, Reading, given, ◌>>=◌, one, both, follow, as_value}
-use Rattle.grammar_rules.specs.Rows.{rows, second_of, chain_by}
+use Rattle.grammar_rules.specs.Repeats.{repeats, second_of, chain_by}
 use Rattle.grammar_rules.proofs.Laws.{Law, Reads, Disjoint, Within, or_if}
 use Rattle.grammar_rules.proofs.Single.{one_law, value_law, wide_law}
 use Rattle.grammar_rules.proofs.Follow.{both_law, follow_law}
-use Rattle.grammar_rules.proofs.Rows.{rows_law}
+use Rattle.grammar_rules.proofs.Repeats.{repeats_law}
 
 -- no token
 abbrev pub none : {T : Type 0} → Class T
@@ -32,21 +32,21 @@ then_law c t e p f n g l =
     (λ k h. or_false (c k) h) (λ k h. no_more n (g k) h)
 
 -- { sign p } behind l
-pub rows_of_law : {T A B : Type 0} (sign : Class T) (t : T) (e : sign t ≡ true) (guard : A → Bool) (join : A → T → B → A) (p : A → Rule T B) (f : Class T) (n : Bool) (g : Class T) → ((a : A) → Law (p a) f n g) → Disjoint sign g → (l : A) → Law (rows sign guard join p l) sign true (with g sign)
-rows_of_law sign t e guard join p f n g lp d l = rows_law sign guard join p g f n (λ a. (lp a).shape) (λ a. then_law sign t e (p a) f n g (lp a)) d l
+pub repeats_of_law : {T A B : Type 0} (sign : Class T) (t : T) (e : sign t ≡ true) (guard : A → Bool) (join : A → T → B → A) (p : A → Rule T B) (f : Class T) (n : Bool) (g : Class T) → ((a : A) → Law (p a) f n g) → Disjoint sign g → (l : A) → Law (repeats sign guard join p l) sign true (with g sign)
+repeats_of_law sign t e guard join p f n g lp d l = repeats_law sign guard join p g f n (λ a. (lp a).shape) (λ a. then_law sign t e (p a) f n g (lp a)) d l
 
 module _ {T A B C : Type 0} (sign : Class T) (t : T) (e : sign t ≡ true) (guard : A → Bool) (start : C → A) (join : A → T → B → A) (q : Rule T C) (p : A → Rule T B) (f' : Class T) (n' : Bool) (f : Class T) (n : Bool) (g : Class T) (lq : Law q f' n' g) (lp : (a : A) → Law (p a) f n g) (d : Disjoint sign g) where
   abbrev rest : C → Rule T A
-  rest c = rows sign guard join p (start c)
+  rest c = repeats sign guard join p (start c)
 
-  row_last : (x : C) (r : Reading T A) → ((r >>= λ y. given {A = C × A} (x, y.0) y.1) >>= λ z. given (second_of z.0) z.1) ≡ r
-  row_last x (Ok y) = refl
-  row_last x (Err e) = refl
+  repeats_last : (x : C) (r : Reading T A) → ((r >>= λ y. given {A = C × A} (x, y.0) y.1) >>= λ z. given (second_of z.0) z.1) ≡ r
+  repeats_last x (Ok y) = refl
+  repeats_last x (Err e) = refl
 
-  row_after : (r : Reading T C) →
+  repeats_after : (r : Reading T C) →
       ((r >>= λ x. (rest x.0).read x.1 >>= λ y. given {A = C × A} (x.0, y.0) y.1) >>= λ z. given (second_of z.0) z.1) ≡ (r >>= λ x. (rest x.0).read x.1)
-  row_after (Ok x) = row_last x.0 ((rest x.0).read x.1)
-  row_after (Err e) = refl
+  repeats_after (Ok x) = repeats_last x.0 ((rest x.0).read x.1)
+  repeats_after (Err e) = refl
 
   more_class : Within (or_if true (with g sign) g) (with g sign)
   more_class k h = go (g k) (sign k) h
@@ -58,9 +58,9 @@ module _ {T A B C : Type 0} (sign : Class T) (t : T) (e : sign t ≡ true) (guar
 
   pub chain_by_law : Law (chain_by sign guard start join q p) (or_if n' f' sign) (n' && true) (with g sign)
   chain_by_law =
-      let b = follow_law q rest f' n' g sign true (with g sign) lq (λ c. rows_of_law sign t e guard join p f n g lp d (start c)) d in
+      let b = follow_law q rest f' n' g sign true (with g sign) lq (λ c. repeats_of_law sign t e guard join p f n g lp d (start c)) d in
       let v = wide_law (as_value second_of (follow q rest)) (or_if n' f' sign) (n' && true) (or_if true (with g sign) g) (or_if n' f' sign) (with g sign) (value_law second_of (follow q rest) (or_if n' f' sign) (n' && true) (or_if true (with g sign) g) b) (λ k h. h) more_class in
       record {
         shape = v.shape;
-        reads = λ ts. subst (Reads (chain_by sign guard start join q p).texts (chain_by sign guard start join q p).free (with g sign) ts) (row_after (q.read ts)) (v.reads ts);
+        reads = λ ts. subst (Reads (chain_by sign guard start join q p).texts (chain_by sign guard start join q p).free (with g sign) ts) (repeats_after (q.read ts)) (v.reads ts);
       }

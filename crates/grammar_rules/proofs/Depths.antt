@@ -4,7 +4,7 @@
 -- over U give U again (`same_union`), and `said` takes it from there.
 use Rattle.std.proofs.Common.{ℕ, zero, suc, ◌+◌, ◌-◌, ◌≤◌, Bool, List, [], ◌∷◌, inl, inr, arith, subst}
 use Rattle.grammar_rules.specs.Reading.{follow_texts, both_texts, value_texts, either_texts}
-use Rattle.grammar_rules.specs.Rows.{all_rows, rows_texts, many_texts, step_to}
+use Rattle.grammar_rules.specs.Repeats.{all_repeats, repeats_texts, many_texts, step_to}
 use Rattle.grammar_rules.specs.Depths.{AtSome}
 
 -- Each text of P is one of Q.
@@ -103,28 +103,28 @@ module _ {T A : Type 0} {G : ℕ → List T → A → Type 0} {P : List T → A 
     from = λ ts a w. either_from w.0 ts a w.1;
   }
 
--- rows
+-- repeats
 module _ {T A B : Type 0} (guard : A → Bool) (join : A → T → B → A) where
-  all_inside : (P Q : A → List T → T × B → Type 0) → ((a : A) → Inside (P a) (Q a)) → (l : A) (xs : List (T × B)) → Inside (all_rows guard join P l xs) (all_rows guard join Q l xs)
+  all_inside : (P Q : A → List T → T × B → Type 0) → ((a : A) → Inside (P a) (Q a)) → (l : A) (xs : List (T × B)) → Inside (all_repeats guard join P l xs) (all_repeats guard join Q l xs)
   all_inside P Q i l [] ts a w = w
   all_inside P Q i l (x ∷ xs) ts a w = (w.0, w.1, w.2, w.3, i l w.1 x w.4, all_inside P Q i (step_to join l x) xs w.2 a w.5)
 
-  pub rows_inside : {P Q : A → List T → T × B → Type 0} → ((a : A) → Inside (P a) (Q a)) → (l : A) → Inside (rows_texts guard join P l) (rows_texts guard join Q l)
-  rows_inside {P = P} {Q = Q} i l ts a w = (w.0, all_inside P Q i l w.0 ts a w.1)
+  pub repeats_inside : {P Q : A → List T → T × B → Type 0} → ((a : A) → Inside (P a) (Q a)) → (l : A) → Inside (repeats_texts guard join P l) (repeats_texts guard join Q l)
+  repeats_inside {P = P} {Q = Q} i l ts a w = (w.0, all_inside P Q i l w.0 ts a w.1)
 
   module _ (G : ℕ → A → List T → T × B → Type 0) (P : A → List T → T × B → Type 0) (u : (a : A) → Union (λ n. G n a) (P a)) where
-    all_grows : (l : A) (xs : List (T × B)) (m k : ℕ) → m ≤ k → Inside (all_rows guard join (G m) l xs) (all_rows guard join (G k) l xs)
+    all_grows : (l : A) (xs : List (T × B)) (m k : ℕ) → m ≤ k → Inside (all_repeats guard join (G m) l xs) (all_repeats guard join (G k) l xs)
     all_grows l xs m k h = all_inside (G m) (G k) (λ a. (u a).grows m k h) l xs
 
-    all_to : (l : A) (xs : List (T × B)) (ts : List T) (a : A) → all_rows guard join P l xs ts a → (n : ℕ) × all_rows guard join (G n) l xs ts a
+    all_to : (l : A) (xs : List (T × B)) (ts : List T) (a : A) → all_repeats guard join P l xs ts a → (n : ℕ) × all_repeats guard join (G n) l xs ts a
     all_to l [] ts a w = (0, w)
     all_to l (x ∷ xs) ts a w =
         let p = (u l).to w.1 x w.4 in
         let q = all_to (step_to join l x) xs w.2 a w.5 in
         (p.0 + q.0, (w.0, w.1, w.2, w.3, (u l).grows p.0 (p.0 + q.0) (omega arith) w.1 x p.1, all_grows (step_to join l x) xs q.0 (p.0 + q.0) (omega arith) w.2 a q.1))
 
-    pub rows_union : (l : A) → Union (λ n. rows_texts guard join (G n) l) (rows_texts guard join P l)
-    rows_union l = record {
+    pub repeats_union : (l : A) → Union (λ n. repeats_texts guard join (G n) l) (repeats_texts guard join P l)
+    repeats_union l = record {
       grows = λ m k h ts a w. (w.0, all_grows l w.0 m k h ts a w.1);
       to = λ ts a w. let p = all_to l w.0 ts a w.1 in (p.0, (w.0, p.1));
       from = λ ts a w. (w.1.0, all_inside (G w.0) P (λ a ts x v. (u a).from ts x (w.0, v)) l w.1.0 ts a w.1.1);

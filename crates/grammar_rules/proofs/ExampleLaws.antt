@@ -6,7 +6,7 @@ use Rattle.grammar_rules.specs.declared.example.Token.{Token}
 use Rattle.grammar_rules.specs.declared.example.Entry.TheVariants.{Name}
 use Rattle.grammar_rules.specs.Reading.{Class}
 use Rattle.grammar_rules.specs.KindClasses.{every}
-use Rattle.grammar_rules.specs.Rows.{second_of}
+use Rattle.grammar_rules.specs.Repeats.{second_of}
 use Rattle.grammar_rules.specs.Example as grammar
 use Rattle.grammar_rules.proofs.Laws.{Law, Disjoint, Within}
 use Rattle.grammar_rules.proofs.Chain.{none, with}

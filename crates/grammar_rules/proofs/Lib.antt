@@ -8,7 +8,7 @@ pub mod Follow
 pub mod KindClasses
 pub mod Laws
 pub mod Many
-pub mod Rows
+pub mod Repeats
 pub mod Single
 pub mod Steps
 pub mod Whole

@@ -1,7 +1,7 @@
 -- Any number of texts keep the law.
 use Rattle.std.proofs.Common.{◌≡◌, ℕ, zero, suc, ◌≤◌, Bool, true, false, ◌||◌, List, [], ◌∷◌, ◌++◌, length, Ok, Err, cond, inl, inr, refl, sym, ap, subst, arith, length-append}
 use Rattle.grammar_rules.specs.Reading.{Class, Reading, given, Rule, ◌>>=◌, begins_in, nothing, nothing_texts, follow_texts, value_texts, either_texts}
-use Rattle.grammar_rules.specs.Rows.{many, many_texts, read_many}
+use Rattle.grammar_rules.specs.Repeats.{many, many_texts, read_many}
 use Rattle.grammar_rules.proofs.Laws.{Took, Reads, Shape, Law, Disjoint, Within, or_if, head_eq}
 use Rattle.grammar_rules.proofs.Single.{nothing_law, value_reads, wide_reads, same_reads}
 use Rattle.grammar_rules.proofs.Follow.{follow_second, follow_fails, follow_shape}

@@ -1,33 +1,33 @@
--- The steps of a row, and of any number of texts, for the loop of the code that reads them.
+-- The steps of repeats, and of any number of texts, for the loop of the code that reads them.
 use Rattle.std.proofs.Common.{◌≡◌, ℕ, zero, suc, Bool, true, false, List, [], ◌∷◌, ◌++◌, refl, ap, append_assoc, Ok, Err}
 use Rattle.grammar_rules.specs.declared.refused.Refused.{Refused}
 use Rattle.grammar_rules.specs.declared.refused.Refused.TheVariants.{NoMemory, Syntax, Limit}
 use Rattle.grammar_rules.specs.Reading.{Class, Reading, given, begins_in, ◌>>=◌}
-use Rattle.grammar_rules.specs.Rows.{read_row, read_step, read_many}
+use Rattle.grammar_rules.specs.Repeats.{read_repeats, read_step, read_many}
 use Rattle.grammar_rules.specs.Gives.{Refuses}
 
 module _ {T A B : Type 0} (sign : Class T) (guard : A → Bool) (join : A → T → B → A) (p : A → List T → Reading T B) where
-  -- A step that read on: the rest of the row is read from there.
-  pub row_more : (n m : ℕ) (left : A) (ts : List T) (b : Bool) (l : A) (rest : List T) → n ≡ suc m → b ≡ true → read_step sign guard join p left ts ≡ Ok ((b, l), rest) → read_row sign guard join p m l rest ≡ read_row sign guard join p n left ts
-  unfolding read_row
-  row_more n m left ts b l rest h g e = rw (h, e, g) refl
+  -- A step that read on: the rest is read from there.
+  pub repeats_more : (n m : ℕ) (left : A) (ts : List T) (b : Bool) (l : A) (rest : List T) → n ≡ suc m → b ≡ true → read_step sign guard join p left ts ≡ Ok ((b, l), rest) → read_repeats sign guard join p m l rest ≡ read_repeats sign guard join p n left ts
+  unfolding read_repeats
+  repeats_more n m left ts b l rest h g e = rw (h, e, g) refl
 
-  -- A step that read nothing ends the row.
-  pub row_done : (n m : ℕ) (left : A) (ts : List T) (b : Bool) (l : A) (rest : List T) → n ≡ suc m → b ≡ false → read_step sign guard join p left ts ≡ Ok ((b, l), rest) → read_row sign guard join p n left ts ≡ Ok (l, rest)
-  unfolding read_row
-  row_done n m left ts b l rest h g e = rw (h, e, g) refl
+  -- A step that read nothing ends them.
+  pub repeats_done : (n m : ℕ) (left : A) (ts : List T) (b : Bool) (l : A) (rest : List T) → n ≡ suc m → b ≡ false → read_step sign guard join p left ts ≡ Ok ((b, l), rest) → read_repeats sign guard join p n left ts ≡ Ok (l, rest)
+  unfolding read_repeats
+  repeats_done n m left ts b l rest h g e = rw (h, e, g) refl
 
   -- So does the count.
-  pub row_end : (n : ℕ) (left : A) (ts : List T) → n ≡ 0 → read_row sign guard join p n left ts ≡ Ok (left, ts)
-  unfolding read_row
-  row_end n left ts h = rw h refl
+  pub repeats_end : (n : ℕ) (left : A) (ts : List T) → n ≡ 0 → read_repeats sign guard join p n left ts ≡ Ok (left, ts)
+  unfolding read_repeats
+  repeats_end n left ts h = rw h refl
 
-  -- A step that refuses: so does the row.
-  pub row_fails : (n m : ℕ) (left : A) (ts : List T) (e : Refused) → n ≡ suc m → Refuses e (read_step sign guard join p left ts) → Refuses e (read_row sign guard join p n left ts)
-  unfolding read_row
-  row_fails n m left ts NoMemory h k = tt
-  row_fails n m left ts (Syntax i) h k = rw (h, k) refl
-  row_fails n m left ts (Limit i) h k = rw (h, k) refl
+  -- A step that refuses: so does the whole.
+  pub repeats_fail : (n m : ℕ) (left : A) (ts : List T) (e : Refused) → n ≡ suc m → Refuses e (read_step sign guard join p left ts) → Refuses e (read_repeats sign guard join p n left ts)
+  unfolding read_repeats
+  repeats_fail n m left ts NoMemory h k = tt
+  repeats_fail n m left ts (Syntax i) h k = rw (h, k) refl
+  repeats_fail n m left ts (Limit i) h k = rw (h, k) refl
 
 -- What is read, behind the list of what was read before.
 abbrev pub with_earlier : {T A : Type 0} → List A → Reading T (List A) → Reading T (List A)

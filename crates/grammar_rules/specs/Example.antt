@@ -11,7 +11,7 @@ use Rattle.grammar_rules.specs.declared.example.Token.{Token}
 use Rattle.grammar_rules.specs.declared.example.Entry.{Entry}
 use Rattle.grammar_rules.specs.declared.example.Entry.TheVariants.{Number, Name, Each}
 use Rattle.grammar_rules.specs.Reading.{Class, Rule, one, nothing, follow, as_value, either}
-use Rattle.grammar_rules.specs.Rows.{second_of, chain_by}
+use Rattle.grammar_rules.specs.Repeats.{second_of, chain_by}
 use Rattle.grammar_rules.specs.KindClasses.{of_kind}
 
 -- What a token is.

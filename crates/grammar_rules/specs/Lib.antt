@@ -4,4 +4,4 @@ pub mod Gives
 pub mod KindClasses
 pub mod Parses
 pub mod Reading
-pub mod Rows
+pub mod Repeats

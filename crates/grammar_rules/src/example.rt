@@ -28,7 +28,7 @@ ghost use Rattle.grammar_rules.specs.Example as grammar;
 ghost use Rattle.grammar_rules.specs.Gives.{Gives};
 ghost use Rattle.grammar_rules.specs.Parses.{Parses};
 ghost use Rattle.grammar_rules.specs.Reading.{begins_in, read_one, read_whole};
-ghost use Rattle.grammar_rules.specs.Rows.{read_row, read_step};
+ghost use Rattle.grammar_rules.specs.Repeats.{read_repeats, read_step};
 
 use crate::{Refused, split};
 use std::alloc::Global;
@@ -114,7 +114,7 @@ fn one_entry(tokens: &[Token]) -> Result<(Entry, &[Token]), Refused>
 }
 
 // One more entry, if a comma comes; or false.
-#[tactic(auto, unfolding(crate::specs::Rows::read_step))]
+#[tactic(auto, unfolding(crate::specs::Repeats::read_step))]
 fn one_more(mut done: Vec<Entry>, tokens: &[Token]) -> Result<(bool, Vec<Entry>, &[Token]), Refused>
     ensures { Gives (λ x. ((x.0, x.1.items), x.2.now)) result (read_step grammar.is_comma grammar.has_room grammar.snoc (λ _. grammar.entry.read) done.items tokens.now) }
 {
@@ -133,7 +133,7 @@ fn one_more(mut done: Vec<Entry>, tokens: &[Token]) -> Result<(bool, Vec<Entry>,
 }
 
 fn more_entries(first: Vec<Entry>, tokens: &[Token]) -> Result<(Vec<Entry>, &[Token]), Refused>
-    ensures { Gives (λ x. (x.0.items, x.1.now)) result (read_row grammar.is_comma grammar.has_room grammar.snoc (λ _. grammar.entry.read) (length tokens.now) first.items tokens.now) }
+    ensures { Gives (λ x. (x.0.items, x.1.now)) result (read_repeats grammar.is_comma grammar.has_room grammar.snoc (λ _. grammar.entry.read) (length tokens.now) first.items tokens.now) }
 {
     let mut done = first;
     let mut rest = tokens;

@@ -3,7 +3,7 @@
 //! A rule of a grammar is three things (`specs/Reading.antt`): which lists of tokens are texts of
 //! which values, the same without limits, and a function that reads one text from the left with
 //! one token of look-ahead. Rules are built from smaller ones: one token, one text after
-//! another, one of two, rows with signs between (`specs/Rows.antt`).
+//! another, one of two, repeats with signs between (`specs/Repeats.antt`).
 //!
 //! The law of a rule (`proofs/Laws.antt`) ties the three: what was read is a text of its value
 //! and of no other; and where the reader stops, what stands before the token begins a text, and

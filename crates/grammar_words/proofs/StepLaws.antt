@@ -5,7 +5,7 @@ use Rattle.grammar_rules.specs.declared.refused.Refused.{Refused}
 use Rattle.grammar_rules.specs.declared.refused.Refused.TheVariants.{NoMemory, Syntax, Limit}
 use Rattle.grammar_rules.specs.Gives.{Refuses}
 use Rattle.grammar_rules.specs.Reading.{Class, Reading, Stop, given, ◌>>=◌, begins_in}
-use Rattle.grammar_rules.specs.Rows.{read_many}
+use Rattle.grammar_rules.specs.Repeats.{read_many}
 use Rattle.grammar_rules.proofs.Steps.{many_more, many_done, many_end, many_fails}
 use Rattle.grammar_words.specs.Steps.{many_step, with_earlier}
 

@@ -2,7 +2,7 @@
 -- a token or none, brackets, and lists with signs between or without.
 use Rattle.std.specs.Prelude.{◌||◌, List, [], ◌∷◌, ◌++◌, Option}
 use Rattle.grammar_rules.specs.Reading.{Class, Rule, one, both, as_value, optional, behind, before}
-use Rattle.grammar_rules.specs.Rows.{chain, many, more_of}
+use Rattle.grammar_rules.specs.Repeats.{chain, many, more_of}
 
 -- a token of the class, then p
 infixr 20 ◌>>◌

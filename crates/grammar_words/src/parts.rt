@@ -1,8 +1,8 @@
 ghost use Rattle.std.specs.Prelude.{length, map};
 ghost use Rattle.grammar_rules.specs.Gives.{Gives};
 ghost use Rattle.grammar_rules.specs.Reading.{begins_in};
-ghost use Rattle.grammar_rules.specs.Rows as rows;
-ghost use Rattle.grammar_rules.specs.Rows.{always, read_many, read_row, read_step};
+ghost use Rattle.grammar_rules.specs.Repeats as repeats;
+ghost use Rattle.grammar_rules.specs.Repeats.{always, read_many, read_repeats, read_step};
 ghost use Rattle.grammar_words.specs.Steps.{many_step, with_earlier};
 ghost use Rattle.grammar_words.specs.Words as words;
 
@@ -36,7 +36,7 @@ pub trait Part {
         ensures { Gives (λ x. (tree x.0, x.1.now)) result ((rule text.now).read tokens.now) };
 }
 
-#[tactic(auto, unfolding(grammar_rules::specs::Rows::read_step))]
+#[tactic(auto, unfolding(grammar_rules::specs::Repeats::read_step))]
 fn part_step<'a, P: Part>(
     alloc: Global,
     text: &[u8],
@@ -63,7 +63,7 @@ pub fn more_parts<'a, P: Part>(
     first: Vec<P::Item>,
     tokens: &'a [P::Token],
 ) -> Result<(Vec<P::Item>, &'a [P::Token]), Refused>
-    ensures { Gives (λ x. (map P.tree x.0.items, x.1.now)) result (read_row (P.Token.a sign) always words.snoc (λ _. (P.rule text.now).read) (length tokens.now) (map P.tree first.items) tokens.now) }
+    ensures { Gives (λ x. (map P.tree x.0.items, x.1.now)) result (read_repeats (P.Token.a sign) always words.snoc (λ _. (P.rule text.now).read) (length tokens.now) (map P.tree first.items) tokens.now) }
 {
     let mut done = first;
     let mut rest = tokens;
@@ -164,7 +164,7 @@ pub fn any<'a, P: Begun>(
     text: &[u8],
     tokens: &'a [P::Token],
 ) -> Result<(Vec<P::Item>, &'a [P::Token]), Refused>
-    ensures { Gives (λ x. (map P.tree x.0.items, x.1.now)) result ((rows.many P.begins (P.rule text.now)).read tokens.now) }
+    ensures { Gives (λ x. (map P.tree x.0.items, x.1.now)) result ((repeats.many P.begins (P.rule text.now)).read tokens.now) }
 {
     many::<P>(alloc, text, Vec::new(alloc), tokens)
 }

@@ -1,13 +1,10 @@
-pub mod Back
 pub mod Filters
 pub mod Firsts
-pub mod FirstLaws
 pub mod KindLaws
 pub mod LimitLaws
 pub mod NameLaws
 pub mod Newlines
 pub mod Parts
-pub mod QuoteSteps
 pub mod ScriptBack
 pub mod ScriptLaws
 pub mod SpecLaws

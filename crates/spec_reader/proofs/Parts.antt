@@ -1,7 +1,7 @@
 -- Parts of a text that a rule reads, wherever in the text they stand.
-use Rattle.std.proofs.Common.{◌≡◌, ◌<◌, ℕ, suc, ◌+◌, ◌-◌, Bool, true, false, not, ◌&&◌, ◌==◌, List, [], ◌∷◌, ◌++◌, Option, Some, length, take, drop, refl, sym, ap, ◌∙◌, subst, arith, append_assoc, length-append}
+use Rattle.std.proofs.Common.{◌≡◌, ◌<◌, ℕ, suc, ◌+◌, ◌-◌, Bool, true, false, not, ◌&&◌, ◌==◌, List, [], ◌∷◌, ◌++◌, Option, Some, length, take, drop, refl, sym, ap, ◌∙◌, subst, arith, append_assoc, length-append, slice_index}
 use Rattle.std.specs.List.{list_all, prefix_len}
-use Rattle.std.proofs.lemmas.Bool.{lt-ltb, eqb-true}
+use Rattle.std.proofs.lemmas.Bool.{lt-ltb}
 use Rattle.std.proofs.lemmas.List.{drop-drop}
 use Rattle.std.proofs.Math.Seq.{take-append_seam, drop-append_seam}
 use Rattle.grammar_rules.specs.Reading.{Rule, both, behind, as_value}
@@ -10,15 +10,16 @@ use Rattle.spec_reader.specs.declared.kind.Kind.{Kind}
 use Rattle.spec_reader.specs.declared.kind.Kind.TheVariants as kinds
 use Rattle.spec_reader.specs.declared.token.Token.{Token}
 use Rattle.spec_reader.specs.Bytes.{goes_on, trimmed}
-use Rattle.spec_reader.specs.Quotes.{is_inside, one_more, quoted_len, undoubled}
+use Rattle.text_pieces.specs.Places.{inside, slice}
+use Rattle.text_pieces.specs.Quotes.{closing, doubled, undoubled}
+use Rattle.text_pieces.proofs.QuotedBack.{closing_doubled, inside-quoted, length_quoted, undoubled-doubled}
 use Rattle.spec_reader.specs.Pieces.{piece_of, token, gap, quoted_to, fault}
 use Rattle.spec_reader.specs.Pieces as pieces
 use Rattle.spec_reader.specs.Tokens.{tokens_from}
-use Rattle.spec_reader.specs.Contents.{slice, inside, name_in, block_in}
+use Rattle.spec_reader.specs.Contents.{name_in, block_in}
 use Rattle.spec_reader.specs.Words.{is}
-use Rattle.spec_reader.specs.FirstForm.{word, name, block}
-use Rattle.spec_reader.specs.Written.{doubled, quoted, braced, IsOneLine, IsBlock}
-use Rattle.spec_reader.proofs.QuoteSteps.{quoted_more, undoubled_more, undoubled_nothing}
+use Rattle.spec_reader.specs.Scripts.{a as kind_of, name, block}
+use Rattle.spec_reader.specs.Written.{quoted, braced, IsOneLine, IsBlock}
 use Rattle.spec_reader.proofs.TokenSteps.{piece_step}
 
 -- the tokens at the front of a text, which say a, and where the rest stands
@@ -67,7 +68,7 @@ module _ (whole : List ℕ) where
 
   -- a word and a blank
   pub word_says : {A : Type 0} (k : Kind) (w : List ℕ) (n : ℕ) (p : Rule Token A) (text : List ℕ) (a : A) (rest : List ℕ) →
-      piece_of (w ++ 32 ∷ text) ≡ token k n → length w ≡ n → 0 < n → is k k ≡ true → Says whole p.texts text a rest → Says whole (behind (word k) p).texts (w ++ 32 ∷ text) a rest
+      piece_of (w ++ 32 ∷ text) ≡ token k n → length w ≡ n → 0 < n → is k k ≡ true → Says whole p.texts text a rest → Says whole (behind (kind_of k) p).texts (w ++ 32 ∷ text) a rest
   word_says k w n p text a rest e size some same l at h =
       let d : drop n (w ++ 32 ∷ text) ≡ 32 ∷ text = ap (λ (z : ℕ). drop z (w ++ 32 ∷ text)) (sym size) ∙ drop-append_seam w (32 ∷ text) in
       let t : Token = record { kind = k; start = at; end = at + n } in
@@ -128,42 +129,46 @@ block_says whole text rest w at h =
     }
 
 -- quoted names
-undoubled_doubled : (text : List ℕ) → undoubled false (doubled text) ≡ text
-undoubled_doubled [] = undoubled_nothing false
-undoubled_doubled (b ∷ text) = go (b == 34) refl (undoubled_doubled text)
-  where
-    go : (q : Bool) → (b == 34) ≡ q → undoubled false (doubled text) ≡ text → undoubled false (doubled (b ∷ text)) ≡ b ∷ text
-    go true e ih =
-        let P : ℕ → Type 0 = λ (z : ℕ). undoubled false (doubled (z ∷ text)) ≡ z ∷ text in
-        subst P (sym (eqb-true b 34 e))
-        (undoubled_more false 34 (34 ∷ doubled text) ∙ ap (λ (x : List ℕ). 34 ∷ x) (undoubled_more true 34 (doubled text) ∙ ih))
-    go false e ih =
-        let more = rw e at (undoubled_more false b (doubled text)) in
-        rw e (more ∙ ap (λ (x : List ℕ). b ∷ x) ih)
+on_line : (p : ℕ → Bool) (b n : ℕ) (z : List ℕ) → p b ≡ true → prefix_len p z ≡ n → prefix_len p (b ∷ z) ≡ suc n
+on_line p b n z h e = rw h (let k : 1 + prefix_len p z ≡ suc n = omega (arith, e) in k)
 
-to_quote : (text rest : List ℕ) → list_all (λ b. not (b == 10)) text ≡ true → quoted_len true rest ≡ Some 0 → quoted_len false ((doubled text ++ 34 ∷ []) ++ rest) ≡ Some (length (doubled text ++ 34 ∷ []))
-to_quote [] rest h e = quoted_more false 34 rest refl ∙ ap one_more e
-to_quote (b ∷ text) rest h e = go (b == 34) refl (to_quote text rest (and_right (not (b == 10)) (list_all (λ c. not (c == 10)) text) h) e)
+abbrev OnLine : List ℕ → Type 0
+OnLine z = prefix_len (goes_on runs.Comment) z ≡ length z
+
+doubled_on_line : (text : List ℕ) → IsOneLine text → OnLine (doubled 34 text ++ 34 ∷ [])
+doubled_on_line [] h = refl
+doubled_on_line (b ∷ text) h = go (b == 34) refl (doubled_on_line text (and_right (not (b == 10)) (list_all (λ c. not (c == 10)) text) h))
   where
-    go : (q : Bool) → (b == 34) ≡ q → quoted_len false ((doubled text ++ 34 ∷ []) ++ rest) ≡ Some (length (doubled text ++ 34 ∷ [])) →
-        quoted_len false ((doubled (b ∷ text) ++ 34 ∷ []) ++ rest) ≡ Some (length (doubled (b ∷ text) ++ 34 ∷ []))
+    go : (q : Bool) → (b == 34) ≡ q → OnLine (doubled 34 text ++ 34 ∷ []) → OnLine (doubled 34 (b ∷ text) ++ 34 ∷ [])
     go true q ih =
-        let x : List ℕ = (doubled text ++ 34 ∷ []) ++ rest in
-        rw q (quoted_more false 34 (34 ∷ x) refl ∙ ap one_more (quoted_more true 34 x refl ∙ ap one_more ih))
+        let z : List ℕ = doubled 34 text ++ 34 ∷ [] in
+        rw q (on_line (goes_on runs.Comment) 34 (length (34 ∷ z)) (34 ∷ z) refl (on_line (goes_on runs.Comment) 34 (length z) z refl ih))
     go false q ih =
-        let x : List ℕ = (doubled text ++ 34 ∷ []) ++ rest in
-        let inside : is_inside false b ≡ true = rw (q, and_left (not (b == 10)) (list_all (λ c. not (c == 10)) text) h) refl in
-        let more = rw q at (quoted_more false b x inside) in
-        rw q (more ∙ ap one_more ih)
+        let z : List ℕ = doubled 34 text ++ 34 ∷ [] in
+        rw q (on_line (goes_on runs.Comment) b (length z) z (and_left (not (b == 10)) (list_all (λ c. not (c == 10)) text) h) ih)
 
-quoted_piece : (text rest : List ℕ) → IsOneLine text → quoted_len true rest ≡ Some 0 → piece_of (quoted text ++ rest) ≡ token kinds.QuotedName (length (quoted text))
-quoted_piece text rest h e = ap (λ (o : Option ℕ). quoted_to ((doubled text ++ 34 ∷ []) ++ rest) o) (to_quote text rest h e)
+quoted_on_line : (text : List ℕ) → IsOneLine text → OnLine (quoted text)
+quoted_on_line text h = on_line (goes_on runs.Comment) 34 (length (doubled 34 text ++ 34 ∷ [])) (doubled 34 text ++ 34 ∷ []) refl (doubled_on_line text h)
 
-pub name_says : (whole text rest : List ℕ) → IsOneLine text → quoted_len true rest ≡ Some 0 → Says whole (name whole).texts (quoted text ++ rest) text rest
+to_quote : (text rest : List ℕ) → (slice_index rest 0 == 34) ≡ false → closing 34 false 1 ((doubled 34 text ++ 34 ∷ []) ++ rest) ≡ Some (length (quoted text))
+to_quote text rest e =
+    let n : 1 + length (doubled 34 text) + 1 ≡ length (quoted text) = omega (arith, length_quoted 34 text) in
+    ap (closing 34 false 1) (append_assoc (doubled 34 text) (34 ∷ []) rest) ∙ (closing_doubled 34 1 text rest refl e ∙ ap (λ (k : ℕ). Some k) n)
+
+closed_there : (text : List ℕ) (n : ℕ) → OnLine (take n text) → quoted_to text (Some n) ≡ token kinds.QuotedName n
+closed_there text n h = let e : (prefix_len (goes_on runs.Comment) (take n text) == length (take n text)) ≡ true = grind (arith, h) in rw e refl
+
+quoted_piece : (text rest : List ℕ) → IsOneLine text → (slice_index rest 0 == 34) ≡ false → piece_of (quoted text ++ rest) ≡ token kinds.QuotedName (length (quoted text))
+quoted_piece text rest h e =
+    let front : take (length (quoted text)) (quoted text ++ rest) ≡ quoted text = take-append_seam (quoted text) rest in
+    ap (λ (o : Option ℕ). quoted_to (quoted text ++ rest) o) (to_quote text rest e)
+    ∙ closed_there (quoted text ++ rest) (length (quoted text)) (subst OnLine (sym front) (quoted_on_line text h))
+
+pub name_says : (whole text rest : List ℕ) → IsOneLine text → (slice_index rest 0 == 34) ≡ false → Says whole (name whole).texts (quoted text ++ rest) text rest
 name_says whole text rest w e at h =
     let t : Token = record { kind = kinds.QuotedName; start = at; end = at + length (quoted text) } in
     let d : drop (length (quoted text)) (quoted text ++ rest) ≡ rest = drop-append_seam (quoted text) rest in
-    let said : name_in whole t ≡ text = ap (λ (x : List ℕ). undoubled false (inside x)) (slice_is whole at (quoted text) rest h) ∙ (ap (λ (x : List ℕ). undoubled false x) (inside_is 34 34 (doubled text)) ∙ undoubled_doubled text) in
+    let said : name_in whole t ≡ text = ap (λ (x : List ℕ). undoubled 34 false (inside x)) (slice_is whole at (quoted text) rest h) ∙ (ap (undoubled 34 false) (inside-quoted 34 text) ∙ undoubled-doubled 34 text refl) in
     record {
       next = at + length (quoted text);
       tokens = t ∷ [];

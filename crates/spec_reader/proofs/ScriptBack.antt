@@ -1,12 +1,11 @@
 -- A script that is written is read back.
-use Rattle.std.proofs.Common.{◌≡◌, ◌≢◌, ◌<◌, ℕ, ◌+◌, Bool, true, List, [], ◌∷◌, ◌++◌, length, drop, map, Option, Some, None, inl, inr, codes, refl, sym, ap, ◌∙◌, subst, lit<, arith, append_assoc, length-append}
+use Rattle.std.proofs.Common.{◌≡◌, ◌≢◌, ◌<◌, ℕ, ◌+◌, Bool, true, List, [], ◌∷◌, ◌++◌, length, drop, map, Option, Some, None, inl, inr, codes, refl, sym, ap, ◌∙◌, subst, lit<, arith, append_assoc, length-append, slice_index, ◌==◌, false}
 use Rattle.std.proofs.Math.Seq.{drop-append_seam}
 use Rattle.std.proofs.lemmas.List.{append-nil}
 use Rattle.spec_reader.specs.Pieces.{piece_of, token}
 use Rattle.grammar_rules.specs.Reading.{Class, Rule, one, both, as_value, behind, before}
-use Rattle.grammar_rules.specs.Rows.{many, many_texts, rows_texts, all_rows, always}
+use Rattle.grammar_rules.specs.Repeats.{many, many_texts, repeats_texts, all_repeats, always}
 use Rattle.grammar_words.specs.Words as words
-use Rattle.spec_reader.specs.Quotes.{quoted_len}
 use Rattle.spec_reader.specs.Scripts.{a, a_name, name, block, block_of, maybe_block, setup, step_of, step, session_of, session, marker, markers, or_none, maybe_markers, use_of, one_use, permutation, script_of, script, marker_of, notices, Says as IsSaid}
 use Rattle.spec_reader.specs.Specs.{markers_of, spec_of, uses_of, IsScript}
 use Rattle.spec_reader.specs.Specs as specs
@@ -28,15 +27,14 @@ use Rattle.spec_reader.specs.declared.written.WrittenMarker.TheVariants as writt
 use Rattle.spec_reader.specs.declared.written.WrittenSpec.{WrittenSpec}
 use Rattle.spec_reader.specs.declared.written.WrittenUse.{WrittenUse}
 use Rattle.spec_reader.proofs.Parts.{Part, Says, moved, token_at, value_says, both_says, blank_says, word_says, block_says, name_says}
-use Rattle.spec_reader.proofs.QuoteSteps.{quoted_stops, quoted_ends}
 use Rattle.spec_reader.proofs.TokenSteps.{tokens_of_utf8, tokens_end}
 
 -- a text behind which a quoted name ends
 abbrev Spaced : List ℕ → Type 0
-Spaced rest = quoted_len true rest ≡ Some 0
+Spaced rest = (slice_index rest 0 == 34) ≡ false
 
 blank : (rest : List ℕ) → Spaced (32 ∷ rest)
-blank rest = quoted_stops true 32 rest refl
+blank rest = refl
 
 all_spaced : {A : Type 0} (write : A → List ℕ → List ℕ) → ((x : A) (r : List ℕ) → Spaced (write x r)) → (xs : List A) (rest : List ℕ) → Spaced rest → Spaced (all_of write xs rest)
 all_spaced write w [] rest s = s
@@ -182,7 +180,7 @@ module _ (whole : List ℕ) where
   marker_says written.Notices rest w s = absurd (w tt)
 
   abbrev more_markers : List WrittenMarker → List Token → List WrittenMarker → Type 0
-  more_markers l ts xs = rows_texts always words.snoc (λ (z : List WrittenMarker). (both (one (a kinds.Comma)) (marker whole)).texts) l ts xs
+  more_markers l ts xs = repeats_texts always words.snoc (λ (z : List WrittenMarker). (both (one (a kinds.Comma)) (marker whole)).texts) l ts xs
 
   commas_spaced : (ms : List WrittenMarker) (rest : List ℕ) → Spaced rest → Spaced (all_of with_comma ms rest)
   commas_spaced ms rest s = all_spaced with_comma (λ m r. blank (44 ∷ with_marker m r)) ms rest s
@@ -266,7 +264,7 @@ module _ (whole : List ℕ) where
 
   script_says : (w : WrittenSpec) → Each IsBlock w.setups → IfThere w.teardown → w.sessions ≢ [] → Each IsSession w.sessions → Each IsPermutation w.permutations → Says whole (script whole).texts (written_text w) w []
   script_says w setups down some sessions permutations =
-      let ends : Spaced [] = quoted_ends true in
+      let ends : Spaced [] = refl in
       let after_sessions : List ℕ = all_of with_permutation w.permutations [] in
       let after_down : List ℕ = all_of with_session w.sessions after_sessions in
       let after_setups : List ℕ = with_teardown w.teardown after_down in

@@ -1,23 +1,17 @@
 -- What a token says.
-use Rattle.std.specs.Prelude.{ℕ, ◌-◌, false, if◌then◌else◌, List, length, take, drop}
+use Rattle.std.specs.Prelude.{ℕ, false, if◌then◌else◌, List}
+use Rattle.text_pieces.specs.Places.{inside, slice}
+use Rattle.text_pieces.specs.Quotes.{undoubled}
 use Rattle.spec_reader.specs.declared.kind.Kind.TheVariants as kinds
 use Rattle.spec_reader.specs.declared.token.Token.{Token}
 use Rattle.spec_reader.specs.Bytes.{trimmed}
-use Rattle.spec_reader.specs.Quotes.{undoubled}
 use Rattle.spec_reader.specs.Words.{is}
-
-abbrev pub slice : List ℕ → ℕ → ℕ → List ℕ
-slice text start end = take (end - start) (drop start text)
-
--- a text without its first and its last byte
-abbrev pub inside : List ℕ → List ℕ
-inside text = take (length text - 2) (drop 1 text)
 
 -- a name, without its quotes and with those inside made one where it is quoted
 abbrev pub name_in : List ℕ → Token → List ℕ
 name_in text t =
     let bytes : List ℕ = slice text t.start t.end in
-    if is t.kind kinds.QuotedName then undoubled false (inside bytes) else bytes
+    if is t.kind kinds.QuotedName then undoubled 34 false (inside bytes) else bytes
 
 -- what stands between the braces, without the blanks at both ends
 abbrev pub block_in : List ℕ → Token → List ℕ

@@ -2,9 +2,7 @@ pub mod Bytes
 pub mod Contents
 pub mod Faults
 pub mod Finds
-pub mod FirstForm
 pub mod Pieces
-pub mod Quotes
 pub mod Scripts
 pub mod Specs
 pub mod Tokens

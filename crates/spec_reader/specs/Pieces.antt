@@ -1,12 +1,12 @@
 -- What stands at the front of a text.
-use Rattle.std.specs.Prelude.{ℕ, suc, ◌==◌, nat_lt, if◌then◌else◌, List, [], ◌∷◌, false, Option, Some, None, length, take}
+use Rattle.std.specs.Prelude.{ℕ, suc, Bool, ◌==◌, nat_lt, if◌then◌else◌, List, [], ◌∷◌, false, Option, Some, None, length, take, drop}
 use Rattle.std.specs.List.{prefix_len}
 use Rattle.spec_reader.specs.declared.bytes.Run.TheVariants as runs
 use Rattle.spec_reader.specs.declared.kind.Kind.{Kind}
 use Rattle.spec_reader.specs.declared.kind.Kind.TheVariants as kinds
 use Rattle.spec_reader.specs.declared.piece.Piece.{Piece}
 use Rattle.spec_reader.specs.Bytes.{is_blank, is_digit, begins_name, goes_on}
-use Rattle.spec_reader.specs.Quotes.{quoted_len}
+use Rattle.text_pieces.specs.Quotes.{closing}
 use Rattle.spec_reader.specs.Words.{word_kind}
 
 -- blanks or a comment, of so many bytes
@@ -24,14 +24,21 @@ fault n = token kinds.Fault n
 abbrev pub name : List ℕ → Piece
 name text = let n : ℕ = prefix_len (goes_on runs.Name) text in token (word_kind (take n text)) n
 
--- behind the opening quote, up to the closing one; without one, up to the end of the line
+-- a text without a newline
+abbrev pub is_one_line : List ℕ → Bool
+is_one_line text = prefix_len (goes_on runs.Comment) text == length text
+
+-- a quote up to the end of its line
+abbrev pub unclosed : List ℕ → Piece
+unclosed text = fault (suc (prefix_len (goes_on runs.Comment) (drop 1 text)))
+
+-- up to the closing quote, where that stands on the line
 abbrev pub quoted_to : List ℕ → Option ℕ → Piece
-quoted_to rest None = fault (suc (prefix_len (goes_on runs.Comment) rest))
-quoted_to rest (Some n) = token kinds.QuotedName (suc n)
+quoted_to text None = unclosed text
+quoted_to text (Some n) = if is_one_line (take n text) then token kinds.QuotedName n else unclosed text
 
 abbrev pub quoted_name : List ℕ → Piece
-quoted_name [] = fault 0
-quoted_name (b ∷ rest) = quoted_to rest (quoted_len false rest)
+quoted_name text = quoted_to text (closing 34 false 1 (drop 1 text))
 
 -- up to the first `}`; without one, up to the end
 abbrev pub block : List ℕ → Piece

@@ -12,7 +12,7 @@
 -- What a name or a block says stands in the text, so rules take the text.
 use Rattle.std.specs.Prelude.{ℕ, List, [], Option, Some, None}
 use Rattle.grammar_rules.specs.Reading.{Class, Rule, one, as_value, optional, either}
-use Rattle.grammar_rules.specs.Rows.{many}
+use Rattle.grammar_rules.specs.Repeats.{many}
 use Rattle.grammar_words.specs.Words.{◌>>◌, ◌&◌, means, between, separated, some}
 use Rattle.spec_reader.specs.Contents.{name_in, block_in}
 use Rattle.spec_reader.specs.Tokens.{tokens_of}

@@ -3,27 +3,10 @@ ghost use Rattle.spec_reader.specs.Contents as contents;
 
 use crate::bytes::trimmed;
 use crate::kind::{Kind, same_kind};
-use crate::quotes::undoubled;
 use crate::token::Token;
 use pg_values::{NoMemory, PgText};
 use std::alloc::Global;
-
-fn slice(text: &[u8], start: usize, end: usize) -> &[u8]
-    ensures { result.now ≡ contents.slice text.now start end }
-{
-    let end = end.min(text.len());
-    let start = start.min(end);
-    &text[start..end]
-}
-
-fn inside(text: &[u8]) -> &[u8]
-    ensures { result.now ≡ contents.inside text.now }
-{
-    match text {
-        [_, inner @ .., _] => inner,
-        _ => &[],
-    }
-}
+use text_pieces::{inside_of, slice, undoubled};
 
 /// The name that a token says.
 pub fn name_of(alloc: Global, text: &[u8], token: Token) -> Result<PgText, NoMemory>
@@ -31,7 +14,7 @@ pub fn name_of(alloc: Global, text: &[u8], token: Token) -> Result<PgText, NoMem
 {
     let bytes = slice(text, token.start, token.end);
     if same_kind(token.kind, Kind::QuotedName) {
-        return PgText::from_vec(alloc, undoubled(alloc, inside(bytes))?);
+        return PgText::from_vec(alloc, undoubled(alloc, b'"', inside_of(bytes))?);
     }
     PgText::from_bytes(alloc, bytes)
 }
@@ -40,5 +23,8 @@ pub fn name_of(alloc: Global, text: &[u8], token: Token) -> Result<PgText, NoMem
 pub fn block_of(alloc: Global, text: &[u8], token: Token) -> Result<PgText, NoMemory>
     ensures { IfOk result (λ block. block ≡ contents.block_in text.now token) }
 {
-    PgText::from_bytes(alloc, trimmed(inside(slice(text, token.start, token.end))))
+    PgText::from_bytes(
+        alloc,
+        trimmed(inside_of(slice(text, token.start, token.end))),
+    )
 }

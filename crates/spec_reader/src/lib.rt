@@ -12,16 +12,12 @@
 //! Then the tokens are parsed by a grammar (`specs/Scripts.antt`), of which each rule says which tokens
 //! are a text of which value, and what was read is judged by the rules on limits and names
 //! (`specs/Faults.antt`). `read_spec` answers the only script that the text is, or the first fault.
-//!
-//! `read_first_form` reads the first form of scripts alone: one setup, one session, one step and one
-//! permutation.
 #![tactic(auto)]
 
 mod bytes;
 mod check;
 mod contents;
 mod fault;
-mod first_form;
 mod in_order;
 mod kind;
 mod laws;
@@ -30,7 +26,6 @@ mod limits;
 mod names;
 mod piece;
 mod productions;
-mod quotes;
 mod read;
 mod reader;
 mod spec;
@@ -41,9 +36,6 @@ mod words;
 mod written;
 
 pub use fault::SpecFault;
-pub use first_form::{
-    FirstSpec, SpecRefused, only_one_first_spec, read_first_form, written_is_read_back,
-};
 pub use in_order::InOrder;
 pub use laws::{
     no_two_scripts, refused_for_one_reason, refused_is_no_script, written_scripts_are_read_back,

@@ -3,8 +3,8 @@ ghost use Rattle.spec_reader.specs.Pieces as pieces;
 
 use crate::bytes::{Run, begins_name, is_blank, is_digit, run_len};
 use crate::kind::Kind;
-use crate::quotes::quoted_len;
 use crate::words::word_kind;
+use text_pieces::closing;
 
 /// What stands at the front of a text: a token of a kind, or a gap between tokens; and its length.
 #[derive(Clone, Copy)]
@@ -35,15 +35,31 @@ fn name(text: &[u8]) -> Piece
     token(word_kind(&text[..len]), len)
 }
 
+fn is_one_line(text: &[u8]) -> bool
+    ensures { result ≡ pieces.is_one_line text.now }
+{
+    run_len(Run::Comment, text) == text.len()
+}
+
+fn unclosed(text: &[u8]) -> Piece
+    requires { text.now ≢ [] }
+    ensures same { result ≡ pieces.unclosed text.now }
+    ensures some { 0 < result.len }
+    ensures within { result.len ≤ length text.now }
+{
+    token(Kind::Fault, run_len(Run::Comment, &text[1..]) + 1)
+}
+
 fn quoted_name(text: &[u8]) -> Piece
     requires { text.now ≢ [] }
     ensures same { result ≡ pieces.quoted_name text.now }
+    ensures some { 0 < result.len }
     ensures within { result.len ≤ length text.now }
 {
     let rest = &text[1..];
-    match quoted_len(rest) {
-        Some(n) => token(Kind::QuotedName, n + 1),
-        None => token(Kind::Fault, run_len(Run::Comment, rest) + 1),
+    match closing(b'"', rest) {
+        Some(n) if is_one_line(&text[..n]) => token(Kind::QuotedName, n),
+        _ => unclosed(text),
     }
 }
 

@@ -2,51 +2,25 @@ use crate::kind::Kind;
 use crate::reader::read_tokens;
 use crate::token::Token;
 use crate::{
-    SpecRefused, no_two_scripts, only_one_first_spec, read_first_form, read_spec,
-    refused_for_one_reason, refused_is_no_script, written_is_read_back,
+    no_two_scripts, read_spec, refused_for_one_reason, refused_is_no_script,
     written_scripts_are_read_back,
 };
 
 const SCRIPT: &[u8] =
-    b"# a script\r\nsetup { CREATE TABLE t (a int); -- {x\n }\r\nsession \"the \"\"first\"\" one\"\n step s$1{}#}\n\tpermutation S_1 # end";
+    b"# a script\r\nsetup { CREATE TABLE t (a int); -- {x\n }\r\nsession \"the \"\"first\"\" one\"\n step s$1{}#}\n\tpermutation s$1 # end";
 
 #[test]
 fn a_script_is_read(rt: HostRuntime) {
-    let Ok(spec) = read_first_form(rt.alloc(), SCRIPT) else {
+    let Ok(spec) = read_spec(rt.alloc(), SCRIPT) else {
         panic!(rt; "refused");
     };
-    assert!(rt; spec.setup.as_bytes() == b"CREATE TABLE t (a int); -- {x".as_slice());
-    assert!(rt; spec.session.as_bytes() == b"the \"first\" one".as_slice());
-    assert!(rt; spec.step.as_bytes() == b"s$1".as_slice());
-    assert!(rt; spec.block.as_bytes() == b"".as_slice());
-    assert!(rt; spec.used.as_bytes() == b"S_1".as_slice());
-    only_one_first_spec();
-    written_is_read_back();
-}
-
-// Each breaks one rule of the first form.
-const REFUSED: [&[u8]; 13] = [
-    b"",
-    b"setup {} session step step t {} permutation t",
-    b"setup {} session s step t {} permutation \"t",
-    b"setup {} session \"s\n\" step t {} permutation t",
-    b"Setup {} session s step t {} permutation t",
-    b"setup { session s step t { permutation t",
-    b"setup {} session s step t {} permutation t permutation t",
-    b"setup {} session s permutation t",
-    b"setup {}} session s step t {} permutation t",
-    b"setup {} step t {} session s permutation t",
-    b"setup {} session s step t {} permutation t; ",
-    b"setup {} session s step t {\xff} permutation t",
-    b"setup {} session s # step t {} permutation t",
-];
-
-#[test]
-fn what_is_no_script_is_refused(rt: HostRuntime) {
-    let alloc = rt.alloc();
-    assert!(rt; read_first_form(alloc, b"setup{}session\"\"step t{}permutation t").is_ok());
-    for text in REFUSED.iter() {
-        assert!(rt; matches!(read_first_form(alloc, text), Err(SpecRefused::NotFirstForm)));
+    match spec.setups.at(0) {
+        Some(block) => assert!(rt; block.as_bytes() == b"CREATE TABLE t (a int); -- {x".as_slice()),
+        None => assert!(rt; false),
+    }
+    match spec.sessions.at(0) {
+        Some(session) => assert!(rt; session.name.as_bytes() == b"the \"first\" one".as_slice()),
+        None => assert!(rt; false),
     }
 }
 

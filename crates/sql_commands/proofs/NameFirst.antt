@@ -4,7 +4,7 @@ use Rattle.std.proofs.Common.{◌≡◌, ℕ, Bool, true, false, ◌&&◌, not, 
 use Rattle.std.proofs.lemmas.List.{append-nil, append_assoc}
 use Rattle.std.specs.Prelude.{◌⊎◌}
 use Rattle.grammar_rules.specs.Reading.{Class, Rule, one_texts, nothing_texts, both_texts, follow_texts, value_texts, either_texts, as_value}
-use Rattle.grammar_rules.specs.Rows.{rows_texts, always, second_of}
+use Rattle.grammar_rules.specs.Repeats.{repeats_texts, always, second_of}
 use Rattle.grammar_rules.proofs.Depths.{Inside}
 use Rattle.grammar_rules.proofs.Build.{said}
 use Rattle.grammar_rules.proofs.Laws.{Law, pair_eq}
@@ -118,17 +118,17 @@ module _ (text : List ℕ) (N : Of (Kind × List ℕ)) (W : Of Token) (w : WordN
   abbrev Names : Of (List ℕ)
   Names = value_texts lists.said N
 
-  abbrev Rows : List (List ℕ) → Of (List (List ℕ))
-  Rows l = rows_texts always snoc (λ (x : List (List ℕ)). both_texts (one_texts (a word.Comma)) Names) l
+  abbrev More : List (List ℕ) → Of (List (List ℕ))
+  More l = repeats_texts always snoc (λ (x : List (List ℕ)). both_texts (one_texts (a word.Comma)) Names) l
 
   abbrev Commas : Of (List (List ℕ))
-  Commas = value_texts second_of (follow_texts Names (λ c. Rows (only c)))
+  Commas = value_texts second_of (follow_texts Names (λ c. More (only c)))
 
   abbrev BehindExists : Of (Bool × List (List ℕ))
   BehindExists = value_texts (grammar.drop_value true) (value_texts (λ (x : Token × List (List ℕ)). x.1) (both_texts (one_texts (a word.Exists)) Commas))
 
   abbrev BehindName : Kind × List ℕ → Of (Bool × List (List ℕ))
-  BehindName x = value_texts (grammar.drop_value false) (Rows (x.1 ∷ []))
+  BehindName x = value_texts (grammar.drop_value false) (More (x.1 ∷ []))
 
   abbrev IfExists : Of Bool
   IfExists = either_texts (value_texts (λ (x : Token × Token). true) (both_texts W (one_texts (a word.Exists)))) (nothing_texts false)
@@ -155,7 +155,7 @@ module _ (text : List ℕ) (N : Of (Kind × List ℕ)) (W : Of Token) (w : WordN
       ts,
       refl,
       inr (refl, ap (λ (r : Bool × List (List ℕ)). r.0) i.2),
-      ((x.1, z.1), (u, v, e, (x, n, refl), subst (Rows (x.1 ∷ []) v) (sym (ap (λ (r : Bool × List (List ℕ)). r.1) i.2)) i.1), refl),
+      ((x.1, z.1), (u, v, e, (x, n, refl), subst (More (x.1 ∷ []) v) (sym (ap (λ (r : Bool × List (List ℕ)). r.1) i.2)) i.1), refl),
     )
 
     tables_to : Inside Dropped Tables
@@ -187,7 +187,7 @@ module _ (text : List ℕ) (N : Of (Kind × List ℕ)) (W : Of Token) (w : WordN
             m.1,
             e ∙ ap (λ r. r ++ v) i.0 ∙ m.2,
             m.3.1,
-            (l x).second m.1 z (k.0.1, subst (λ c. Rows (only c) m.1 k.0.1) m.3.2 m.4, pair_eq z y i.1 k.2),
+            (l x).second m.1 z (k.0.1, subst (λ c. More (only c) m.1 k.0.1) m.3.2 m.4, pair_eq z y i.1 k.2),
           ),
           refl,
         )

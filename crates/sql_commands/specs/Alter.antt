@@ -1,7 +1,7 @@
 -- ATTACH and DETACH (VI. SQL Commands: ALTER TABLE).
 use Rattle.std.specs.Prelude.{ℕ, if◌then◌else◌, List, Option, Some, None}
 use Rattle.grammar_rules.specs.Reading.{Class, Rule, follow, as_value, either}
-use Rattle.grammar_rules.specs.Rows.{second_of}
+use Rattle.grammar_rules.specs.Repeats.{second_of}
 use Rattle.sql_tokens.specs.declared.kind.Kind.TheVariants as word
 use Rattle.sql_tokens.specs.declared.token.Token.{Token}
 use Rattle.grammar_words.specs.Words.{◌>>◌, ◌&◌, one_of, maybe}

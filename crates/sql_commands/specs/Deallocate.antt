@@ -1,7 +1,7 @@
 -- DEALLOCATE (VI. SQL Commands).
 use Rattle.std.specs.Prelude.{ℕ, Bool, true, false, List, Option, Some, None}
 use Rattle.grammar_rules.specs.Reading.{Rule, one, nothing, follow, as_value, either, optional}
-use Rattle.grammar_rules.specs.Rows.{second_of}
+use Rattle.grammar_rules.specs.Repeats.{second_of}
 use Rattle.sql_tokens.specs.Words as words
 use Rattle.sql_tokens.specs.declared.kind.Kind.{Kind}
 use Rattle.sql_tokens.specs.declared.kind.Kind.TheVariants as word

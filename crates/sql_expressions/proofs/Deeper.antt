@@ -2,7 +2,7 @@
 use Rattle.std.proofs.Common.{◌≡◌, ℕ, suc, ◌<◌, Bool, true, List, length, refl, sym, subst, arith, Ok, Err}
 use Rattle.grammar_rules.specs.Reading.{Class, Reading, Rule, given, ◌>>=◌, begins_in}
 use Rattle.grammar_rules.specs.Gives.{Gives}
-use Rattle.grammar_rules.specs.Rows.{second_of, chain_by, read_row}
+use Rattle.grammar_rules.specs.Repeats.{second_of, chain_by, read_repeats}
 use Rattle.grammar_rules.specs.declared.refused.Refused.{Refused}
 use Rattle.grammar_rules.proofs.Whole.{gives_by}
 use Rattle.std.specs.Prelude.{Result}
@@ -11,12 +11,12 @@ use Rattle.sql_tokens.specs.declared.kind.Kind.TheVariants as word
 use Rattle.sql_tokens.specs.declared.token.Token.{Token}
 use Rattle.sql_expressions.specs.Grammar.{any, below, freed, nullity_at, rules, sum_at, test_at, under_depth}
 use Rattle.sql_expressions.specs.Levels.{Deep, Room, Rules, begins_nested, begins_test, is_comparison, nested, call_of, tested, compared, inverted_by, unary, named_leaf, test, comparison, negation}
-use Rattle.sql_expressions.specs.Views.{comparison_of, named_at, operand_of, part_of, row_at}
+use Rattle.sql_expressions.specs.Views.{comparison_of, named_at, operand_of, part_of, chain_at}
 use Rattle.sql_tokens.specs.Classes.{a}
 use Rattle.sql_expressions.specs.Words.{name}
 use Rattle.sql_expressions.specs.declared.signs.Joint.{Joint}
-use Rattle.sql_expressions.specs.declared.signs.Row.{Row}
-use Rattle.sql_expressions.specs.declared.signs.Row.TheVariants as rows
+use Rattle.sql_expressions.specs.declared.signs.Chain.{Chain}
+use Rattle.sql_expressions.specs.declared.signs.Chain.TheVariants as chains
 
 -- the second of two values that are read one after another
 second_read : {A B : Type 0} (x : A) (r : Reading Token B) → ((r >>= λ y. given (x, y.0) y.1) >>= λ (z : (A × B) × List Token). given (second_of z.0) z.1) ≡ r
@@ -58,14 +58,14 @@ module _ (text : List ℕ) (n m : ℕ) (h : n ≡ suc m) (ts : List Token) where
   unfolding under_depth
   named_deeper x rest e b = subst (λ k. (named_at text k).read ts ≡ (call_of (rules text m).expression x.1).read rest) (sym h) (named_with_room (below (suc m)) (any text) lower ts text x rest e b (is_below 0 (suc m) (omega arith)))
 
-  pub operand_deeper : (row : Row) → (operand_of row (under_depth text n)).read ts ≡ (operand_of row (rules text m)).read ts
+  pub operand_deeper : (chain : Chain) → (operand_of chain (under_depth text n)).read ts ≡ (operand_of chain (rules text m)).read ts
   unfolding under_depth
-  operand_deeper row = subst (λ k. (operand_of row (under_depth text k)).read ts ≡ (operand_of row (rules text m)).read ts) (sym h) refl
+  operand_deeper chain = subst (λ k. (operand_of chain (under_depth text k)).read ts ≡ (operand_of chain (rules text m)).read ts) (sym h) refl
 
-  pub test_deeper : (x : Deep) (rest : List Token) → (row_at text rows.Sum n).read ts ≡ Ok (x, rest) → begins_in begins_test rest ≡ true → x.1 < n → (rules text n).test.read ts ≡ (tested (rules text m) x).read rest
+  pub test_deeper : (x : Deep) (rest : List Token) → (chain_at text chains.Sum n).read ts ≡ Ok (x, rest) → begins_in begins_test rest ≡ true → x.1 < n → (rules text n).test.read ts ≡ (tested (rules text m) x).read rest
   unfolding under_depth
   test_deeper x rest e b l =
-      subst (λ k. (row_at text rows.Sum k).read ts ≡ Ok (x, rest) → x.1 < k → (rules text k).test.read ts ≡ (tested (rules text m) x).read rest) (sym h)
+      subst (λ k. (chain_at text chains.Sum k).read ts ≡ Ok (x, rest) → x.1 < k → (rules text k).test.read ts ≡ (tested (rules text m) x).read rest) (sym h)
       (λ e l. test_with_room (below (suc m)) (any text) lower ts (sum_at text (suc m) (under_depth text (suc m))) x rest e b (is_below x.1 (suc m) l)) e l
 
   pub comparison_deeper : (x : Deep) (rest : List Token) → (rules text n).test.read ts ≡ Ok (x, rest) → begins_in is_comparison rest ≡ true → x.1 < n → (comparison_of text n).read ts ≡ (compared (rules text m) x).read rest
@@ -84,7 +84,7 @@ module _ (text : List ℕ) (n m : ℕ) (h : n ≡ suc m) (ts : List Token) where
   unfolding under_depth
   part_deeper joint = subst (λ k. (part_of joint (under_depth text k)).read ts ≡ (part_of joint (rules text m)).read ts) (sym h) refl
 
--- a row, behind its first part
+-- a chain, behind its first part
 pub chain_gives : {X A B C : Type 0} (view : X → A × List Token) (r : Result X Refused) (sign : Class Token) (guard : A → Bool) (first : C → A) (join : A → Token → B → A) (q : Rule Token C) (p : A → Rule Token B)
-    (ts : List Token) (x : C) (rest : List Token) (l : A) → q.read ts ≡ Ok (x, rest) → l ≡ first x → Gives view r (read_row sign guard join (λ a. (p a).read) (length rest) l rest) → Gives view r ((chain_by sign guard first join q p).read ts)
-chain_gives view r sign guard first join q p ts x rest l e f g = gives_by view r _ (read_row sign guard join (λ a. (p a).read) (length rest) l rest) (rw (e, f) refl) g
+    (ts : List Token) (x : C) (rest : List Token) (l : A) → q.read ts ≡ Ok (x, rest) → l ≡ first x → Gives view r (read_repeats sign guard join (λ a. (p a).read) (length rest) l rest) → Gives view r ((chain_by sign guard first join q p).read ts)
+chain_gives view r sign guard first join q p ts x rest l e f g = gives_by view r _ (read_repeats sign guard join (λ a. (p a).read) (length rest) l rest) (rw (e, f) refl) g

@@ -2,8 +2,8 @@
 use Rattle.std.proofs.Common.{ℕ, zero, suc, Bool, true, false, List, [], inl, inr}
 use Rattle.grammar_rules.specs.Depths.{AtSome}
 use Rattle.grammar_rules.specs.Reading.{Class, one_texts, nothing_texts, both_texts, follow_texts, value_texts, either_texts, one, as_value}
-use Rattle.grammar_rules.specs.Rows.{rows_texts, always, second_of}
-use Rattle.grammar_rules.proofs.Depths.{Inside, Grows, Union, grows_by, fixed, follow_union, both_union, value_union, either_union, rows_union}
+use Rattle.grammar_rules.specs.Repeats.{repeats_texts, always, second_of}
+use Rattle.grammar_rules.proofs.Depths.{Inside, Grows, Union, grows_by, fixed, follow_union, both_union, value_union, either_union, repeats_union}
 use Rattle.grammar_rules.proofs.Depths as depths
 use Rattle.sql_tokens.specs.declared.kind.Kind.{Kind}
 use Rattle.sql_tokens.specs.declared.kind.Kind.TheVariants as word
@@ -27,16 +27,16 @@ behind_union {A} {G = G} {P = P} k u = value_union (λ (x : Token × A). x.1) (b
 before_union : {A : Type 0} {G : Family A} {P : Of A} (k : Kind) → Union G P → Union (λ n. value_texts (λ (x : A × Token). x.0) (both_texts (G n) (one_texts (a k)))) (value_texts (λ (x : A × Token). x.0) (both_texts P (one_texts (a k))))
 before_union {A} {G = G} {P = P} k u = value_union (λ (x : A × Token). x.0) (both_union u (fixed (one_texts (a k))))
 
--- rows
+-- chains
 abbrev chain_texts : {A B C : Type 0} → Class Token → (A → Bool) → (C → A) → (A → Token → B → A) → Of C → Of B → Of A
-chain_texts {A} sign guard first join Q P = value_texts second_of (follow_texts Q (λ c. rows_texts guard join (λ (l : A). both_texts (one_texts sign) P) (first c)))
+chain_texts {A} sign guard first join Q P = value_texts second_of (follow_texts Q (λ c. repeats_texts guard join (λ (l : A). both_texts (one_texts sign) P) (first c)))
 
 chain_union : {A B C : Type 0} {H : Family C} {Q : Of C} {G : Family B} {P : Of B} (sign : Class Token) (guard : A → Bool) (first : C → A) (join : A → Token → B → A) → Union H Q → Union G P →
     Union (λ n. chain_texts sign guard first join (H n) (G n)) (chain_texts sign guard first join Q P)
 chain_union {A} {H = H} {Q = Q} {G = G} {P = P} sign guard first join v u =
     value_union second_of (follow_union {G = H} {P = Q}
-    {H = λ n c. rows_texts guard join (λ (l : A). both_texts (one_texts sign) (G n)) (first c)} {Q = λ c. rows_texts guard join (λ (l : A). both_texts (one_texts sign) P) (first c)} v
-    (λ c. rows_union guard join (λ n (l : A). both_texts (one_texts sign) (G n)) (λ (l : A). both_texts (one_texts sign) P) (λ l. both_union (fixed (one_texts sign)) u) (first c)))
+    {H = λ n c. repeats_texts guard join (λ (l : A). both_texts (one_texts sign) (G n)) (first c)} {Q = λ c. repeats_texts guard join (λ (l : A). both_texts (one_texts sign) P) (first c)} v
+    (λ c. repeats_union guard join (λ n (l : A). both_texts (one_texts sign) (G n)) (λ (l : A). both_texts (one_texts sign) P) (λ l. both_union (fixed (one_texts sign)) u) (first c)))
 
 -- the levels over a family of texts and its union
 module _ (K : ℕ → Texts) (k : Texts) (unaries : Union (λ n. (K n).unary) k.unary) (negations : Union (λ n. (K n).negation) k.negation) where

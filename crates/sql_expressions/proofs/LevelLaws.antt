@@ -2,7 +2,7 @@
 use Rattle.std.proofs.Common.{◌≡◌, ℕ, Bool, true, false, ◌||◌, List, [], ◌∷◌, ◌++◌, inl, inr, refl, sym, ◌∙◌, ap, subst}
 use Rattle.std.proofs.lemmas.List.{append-nil}
 use Rattle.grammar_rules.specs.Reading.{Class, Rule, one, one_texts, nothing, both_texts, value_texts, either_texts, as_value, either}
-use Rattle.grammar_rules.specs.Rows.{second_of, always}
+use Rattle.grammar_rules.specs.Repeats.{second_of, always}
 use Rattle.grammar_rules.proofs.Laws.{Law, Disjoint, head_eq, or_true_left, or_true_right}
 use Rattle.grammar_rules.proofs.Chain.{none, with, or_false}
 use Rattle.grammar_rules.proofs.Build.{token, empty, valued, wide, seq, then_by, alt, after_token, before_token, chained_by}
@@ -11,7 +11,7 @@ use Rattle.sql_tokens.specs.declared.kind.Kind.TheVariants as word
 use Rattle.sql_tokens.specs.declared.token.Token.{Token}
 use Rattle.sql_tokens.specs.Classes.{a, a_name}
 use Rattle.sql_expressions.specs.Words.{a_literal, literal, column}
-use Rattle.sql_expressions.specs.Levels.{Deep, Room, Rules, flat, under, deeper, itself, join, only_part, add_part, has_room, parts_room, list_of, begins_nested, begins_expression, all_call, call_value, arguments, call_of, behind_name, named_leaf, nested, unary, row, is_product, is_sum, is_comparison, begins_test, in_value, between_value, in_or_between, tested, maybe_tested, test, compared_value, compared, maybe_compared, comparison, said, null_or_not, null_join, nullity, inverted_by, negation, parts, all_value, any_value, conjunction, disjunction}
+use Rattle.sql_expressions.specs.Levels.{Deep, Room, Rules, flat, under, deeper, itself, join, only_part, add_part, has_room, parts_room, list_of, begins_nested, begins_expression, all_call, call_value, arguments, call_of, behind_name, named_leaf, nested, unary, chain, is_product, is_sum, is_comparison, begins_test, in_value, between_value, in_or_between, tested, maybe_tested, test, compared_value, compared, maybe_compared, comparison, said, null_or_not, null_join, nullity, inverted_by, negation, parts, all_value, any_value, conjunction, disjunction}
 use Rattle.sql_expressions.specs.Grammar.{freely}
 use Rattle.sql_expressions.specs.Tree.{negated, inverted}
 use Rattle.sql_expressions.proofs.RoomLaws.{Opens, if_room_law}
@@ -231,10 +231,10 @@ module _ (r : Rules) (l : Laws r) where
   inverted_law : Law (inverted_by r) (a word.Not) false after_negation
   inverted_law = valued (under inverted) (after_token (a word.Not) (sample word.Not) refl l.negation)
 
--- rows
+-- chains
 module _ {first : Rule Token Deep} {right : Rule Token Deep} {f : Class Token} {f' : Class Token} {c : Class Token} (sign : Class Token) (t : Token) (e : sign t ≡ true) (room : Room) (l : Law first f false c) (l' : Law right f' false c) (d : Disjoint sign c) where
-  pub row_law : Law (row sign room first right) f false (with c sign)
-  row_law = wide (chained_by sign t e (has_room room) itself join l (λ _. l') d) (λ k h. or_false (f k) h) (λ k h. h)
+  pub chain_law : Law (chain sign room first right) f false (with c sign)
+  chain_law = wide (chained_by sign t e (has_room room) itself join l (λ _. l') d) (λ k h. or_false (f k) h) (λ k h. h)
 
   parts_law : Law (parts sign room first right) f false (with c sign)
   parts_law = wide (chained_by sign t e (parts_room room) only_part add_part l (λ _. l') d) (λ k h. or_false (f k) h) (λ k h. h)
@@ -245,11 +245,11 @@ conjunction_law room l l' = valued all_value (parts_law (a word.And) (sample wor
 pub disjunction_law : {first : Rule Token Deep} {right : Rule Token Deep} (room : Room) → Law first begins_expression false after_conjunction → Law right begins_expression false after_conjunction → Law (disjunction room first right) begins_expression false after_expression
 disjunction_law room l l' = valued any_value (parts_law (a word.Or) (sample word.Or) refl room l l' (apart _ _ (λ t. refl) refl))
 
-pub product_law : {first : Rule Token Deep} {right : Rule Token Deep} (room : Room) → Law first begins_unary false after_unary → Law right begins_unary false after_unary → Law (row is_product room first right) begins_unary false after_product
-product_law room l l' = row_law is_product (sample word.Star) refl room l l' (apart _ _ (λ t. refl) refl)
+pub product_law : {first : Rule Token Deep} {right : Rule Token Deep} (room : Room) → Law first begins_unary false after_unary → Law right begins_unary false after_unary → Law (chain is_product room first right) begins_unary false after_product
+product_law room l l' = chain_law is_product (sample word.Star) refl room l l' (apart _ _ (λ t. refl) refl)
 
-pub sum_law : {first : Rule Token Deep} {right : Rule Token Deep} (room : Room) → Law first begins_unary false after_product → Law right begins_unary false after_product → Law (row is_sum room first right) begins_unary false after_sum
-sum_law room l l' = row_law is_sum (sample word.Plus) refl room l l' (apart _ _ (λ t. refl) refl)
+pub sum_law : {first : Rule Token Deep} {right : Rule Token Deep} (room : Room) → Law first begins_unary false after_product → Law right begins_unary false after_product → Law (chain is_sum room first right) begins_unary false after_sum
+sum_law room l l' = chain_law is_sum (sample word.Plus) refl room l l' (apart _ _ (λ t. refl) refl)
 
 null_or_not_law : Law null_or_not (λ t. a word.Not t || a word.Null t) false none
 null_or_not_law =

@@ -2,13 +2,13 @@
 -- and the texts of its other operands those less deep than n, its own are those of a depth of at most n.
 use Rattle.std.proofs.Common.{◌≡◌, ℕ, suc, ◌<◌, ◌≤◌, max, zero-le, Bool, true, false, List, [], ◌∷◌, ◌++◌, inl, inr, refl, sym, ap, subst, arith}
 use Rattle.grammar_rules.specs.Reading.{Class, Rule, one_texts, both_texts, value_texts, either_texts, as_value}
-use Rattle.grammar_rules.specs.Rows.{always, second_of}
+use Rattle.grammar_rules.specs.Repeats.{always, second_of}
 use Rattle.grammar_rules.proofs.Laws.{Disjoint}
 use Rattle.sql_tokens.specs.declared.kind.Kind.{Kind}
 use Rattle.sql_tokens.specs.declared.kind.Kind.TheVariants as word
 use Rattle.sql_tokens.specs.declared.token.Token.{Token}
 use Rattle.sql_expressions.specs.Grammar.{below}
-use Rattle.sql_expressions.specs.Levels.{Deep, Parts, Rules, flat, under, deeper, itself, join, only_part, add_part, row_of, has_room, parts_room, list_of, all_call, call_value, arguments, call_of, behind_name, named_leaf, nested, unary, row, is_comparison, in_value, between_value, in_or_between, tested, maybe_tested, test, compared_value, compared, maybe_compared, comparison, said, null_or_not, null_join, nullity, inverted_by, negation, parts, all_value, any_value, conjunction, disjunction}
+use Rattle.sql_expressions.specs.Levels.{Deep, Parts, Rules, flat, under, deeper, itself, join, only_part, add_part, node_of, has_room, parts_room, list_of, all_call, call_value, arguments, call_of, behind_name, named_leaf, nested, unary, chain, is_comparison, in_value, between_value, in_or_between, tested, maybe_tested, test, compared_value, compared, maybe_compared, comparison, said, null_or_not, null_join, nullity, inverted_by, negation, parts, all_value, any_value, conjunction, disjunction}
 use Rattle.sql_expressions.specs.Limits.{IsShort}
 use Rattle.sql_expressions.specs.Tree.{Tree, negated, inverted, all_of, any_of, listed}
 use Rattle.grammar_words.specs.Words.{◌>>◌, ◌<<◌, ◌&◌}
@@ -78,13 +78,13 @@ module _ (any : Rules) where
   inverted_deep : Holds (Over 0) (inverted_by any).texts
   inverted_deep = each_value {G = Over 0} (under inverted) (λ x. omega arith)
 
--- the depth of a row of parts
-row_depth : (f : List Tree → Tree) (ts : List Tree) (d : ℕ) → (row_of f ts d).1 ≤ suc d
-row_depth f [] d = omega arith
-row_depth f (t ∷ []) d = omega arith
-row_depth f (t ∷ u ∷ ts) d = omega arith
+-- the depth of a chain of parts
+node_depth : (f : List Tree → Tree) (ts : List Tree) (d : ℕ) → (node_of f ts d).1 ≤ suc d
+node_depth f [] d = omega arith
+node_depth f (t ∷ []) d = omega arith
+node_depth f (t ∷ u ∷ ts) d = omega arith
 
-more_depth : (f : List Tree → Tree) (t : Tree) (ts : List Tree) (x : Tree) (d : ℕ) → (row_of f (t ∷ (ts ++ x ∷ [])) d).1 ≡ suc d
+more_depth : (f : List Tree → Tree) (t : Tree) (ts : List Tree) (x : Tree) (d : ℕ) → (node_of f (t ∷ (ts ++ x ∷ [])) d).1 ≡ suc d
 more_depth f t [] x d = refl
 more_depth f t (u ∷ ts) x d = refl
 
@@ -119,8 +119,8 @@ module _ (text : List ℕ) (n : ℕ) where
     back = λ l s x u h. (refl, omega arith, omega arith);
   }
 
-  row_joins : Joins (has_room (below n)) join (λ (x : Deep). Unit {0}) High Low
-  row_joins = record {
+  chain_joins : Joins (has_room (below n)) join (λ (x : Deep). Unit {0}) High Low
+  chain_joins = record {
     keep = λ l s x u. tt;
     grow = λ l s x u e h k. let i = is_below n l.1 e in omega arith;
     back = λ l s x u h. (has_below n l.1 (omega arith), omega arith, omega arith);
@@ -137,13 +137,13 @@ module _ (text : List ℕ) (n : ℕ) where
     abbrev Some_part : Parts → Type 0
     Some_part p = (t : Tree) × (ts : List Tree) × (p.0 ≡ t ∷ ts)
 
-    abbrev HighRow : Parts → Type 0
-    HighRow p = (row_of f p.0 p.1).1 ≤ n
+    abbrev HighNode : Parts → Type 0
+    HighNode p = (node_of f p.0 p.1).1 ≤ n
 
-    grown : (p : Parts) (s : Token) (x : Deep) → Some_part p → (row_of f (p.0 ++ x.0 ∷ []) (max p.1 x.1)).1 ≡ suc (max p.1 x.1)
-    grown p s x u = subst (λ ts. (row_of f (ts ++ x.0 ∷ []) (max p.1 x.1)).1 ≡ suc (max p.1 x.1)) (sym u.2) (more_depth f u.0 u.1 x.0 (max p.1 x.1))
+    grown : (p : Parts) (s : Token) (x : Deep) → Some_part p → (node_of f (p.0 ++ x.0 ∷ []) (max p.1 x.1)).1 ≡ suc (max p.1 x.1)
+    grown p s x u = subst (λ ts. (node_of f (ts ++ x.0 ∷ []) (max p.1 x.1)).1 ≡ suc (max p.1 x.1)) (sym u.2) (more_depth f u.0 u.1 x.0 (max p.1 x.1))
 
-    parts_joins : Joins (parts_room (below n)) add_part Some_part HighRow Low
+    parts_joins : Joins (parts_room (below n)) add_part Some_part HighNode Low
     parts_joins = record {
       keep = λ p s x u. (u.0, u.1 ++ x.0 ∷ [], ap (λ ts. ts ++ x.0 ∷ []) u.2);
       grow = λ p s x u e h k.
@@ -152,16 +152,16 @@ module _ (text : List ℕ) (n : ℕ) where
       back = λ p s x u h.
           let g = grown p s x u in
           let i : suc (max p.1 x.1) ≤ n = omega arith in
-          let d = row_depth f p.0 p.1 in
+          let d = node_depth f p.0 p.1 in
           (has_below n p.1 (omega arith), omega arith, omega arith);
     }
 
-  -- rows
+  -- chains
   module _ (first right : Rule Token Deep) (l : Lim (Unit {0}) High first.texts first.free) (k : (d : ℕ) → below n d ≡ true → Lim (Unit {0}) Low right.texts right.free) where
-    pub row_limited : (sign : Class Token) → Disjoint sign may_be_long → Lim (Unit {0}) High (row sign (below n) first right).texts (row sign (below n) first right).free
-    row_limited sign d = chain_limited row_joins (λ x e. sign_limited sign (plain text sign d) (k x.1 e)) itself (λ x. tt) l
+    pub operators_limited : (sign : Class Token) → Disjoint sign may_be_long → Lim (Unit {0}) High (chain sign (below n) first right).texts (chain sign (below n) first right).free
+    operators_limited sign d = chain_limited chain_joins (λ x e. sign_limited sign (plain text sign d) (k x.1 e)) itself (λ x. tt) l
 
-    parts_limited : (f : List Tree → Tree) (sign : Class Token) → Disjoint sign may_be_long → Lim (Unit {0}) (HighRow f) (parts sign (below n) first right).texts (parts sign (below n) first right).free
+    parts_limited : (f : List Tree → Tree) (sign : Class Token) → Disjoint sign may_be_long → Lim (Unit {0}) (HighNode f) (parts sign (below n) first right).texts (parts sign (below n) first right).free
     parts_limited f sign d = chain_limited (parts_joins f) (λ p e. sign_limited sign (plain text sign d) (k p.1 e)) only_part (λ x. (x.0, [], refl)) l
 
     pub conjunction_limited : Lim (Unit {0}) High (conjunction (below n) first right).texts (conjunction (below n) first right).free

@@ -3,7 +3,7 @@ use Rattle.std.proofs.Common.{◌≡◌, Bool, true, false, ◌&&◌, not, List,
 use Rattle.std.proofs.lemmas.List.Elements.{All-nil, All-cons, All-head, All-tail}
 use Rattle.std.specs.Prelude.{All}
 use Rattle.grammar_rules.specs.Reading.{Class, one_texts, nothing_texts, both_texts, follow_texts, value_texts, either_texts}
-use Rattle.grammar_rules.specs.Rows.{all_rows, rows_texts, always, step_to, second_of}
+use Rattle.grammar_rules.specs.Repeats.{all_repeats, repeats_texts, always, step_to, second_of}
 use Rattle.grammar_rules.proofs.Depths.{Inside}
 use Rattle.sql_tokens.specs.declared.token.Token.{Token}
 use Rattle.sql_expressions.specs.Levels.{room_texts}
@@ -159,17 +159,17 @@ module _ {S R : Token → Type 0} where
     room_limited true p deep = either_limited (p refl)
     room_limited false p deep = record { bounded = q.bounded; covered = no_room q (λ ts a w g. let e : false ≡ true = deep ts a w g in cc) }
 
-  -- rows
+  -- chains
   module _ {A B : Type 0} {guard : A → Bool} {join : A → Token → B → A} {N H : A → Type 0} {K : B → Type 0} (j : Joins guard join N H K)
       {P U : A → List Token → Token × B → Type 0} (step : (l : A) → guard l ≡ true → Limited S R (Unit {0}) (λ (x : Token × B). K x.1) (P l) (U l)) where
-    all_bounded : (l : A) (xs : List (Token × B)) (ts : List Token) (a : A) → N l → H l → all_rows guard join P l xs ts a → H a × Each S ts
+    all_bounded : (l : A) (xs : List (Token × B)) (ts : List Token) (a : A) → N l → H l → all_repeats guard join P l xs ts a → H a × Each S ts
     all_bounded l [] ts a n h w = (subst H (sym w.1) h, subst (Each S) (sym w.0) tt)
     all_bounded l (x ∷ xs) ts a n h w =
         let p = (step l w.0).bounded tt w.1 x w.4 in
         let q = all_bounded (step_to join l x) xs w.2 a (j.keep l x.0 x.1 n) (j.grow l x.0 x.1 n w.0 h p.0) w.5 in
         (q.0, joined S ts w.1 w.2 w.3 p.1 q.1)
 
-    all_covered : (l : A) (xs : List (Token × B)) (ts : List Token) (a : A) → N l → all_rows always join U l xs ts a → H a → Each R ts → H l × all_rows guard join P l xs ts a
+    all_covered : (l : A) (xs : List (Token × B)) (ts : List Token) (a : A) → N l → all_repeats always join U l xs ts a → H a → Each R ts → H l × all_repeats guard join P l xs ts a
     all_covered l [] ts a n w g h = (subst H w.1 g, w)
     all_covered l (x ∷ xs) ts a n w g h =
         let s = parted R ts w.1 w.2 w.3 h in
@@ -178,12 +178,12 @@ module _ {S R : Token → Type 0} where
         let p = (step l b.0).covered w.1 x w.4 b.2 s.0 in
         (b.1, (b.0, w.1, w.2, w.3, p.1, q.1))
 
-    rows_limited : (l : A) → N l → Limited S R (H l) H (rows_texts guard join P l) (rows_texts always join U l)
-    rows_limited l n = record {
+    repeats_limited : (l : A) → N l → Limited S R (H l) H (repeats_texts guard join P l) (repeats_texts always join U l)
+    repeats_limited l n = record {
       bounded = λ h ts a w. all_bounded l w.0 ts a n h w.1;
       covered = λ ts a w g h. let p = all_covered l w.0 ts a n w.1 g h in (p.0, (w.0, p.1));
     }
 
     pub chain_limited : {C : Type 0} {Q V : Of C} (first : C → A) → ((c : C) → N (first c)) → Limited S R (Unit {0}) (λ c. H (first c)) Q V →
-        Limited S R (Unit {0}) H (value_texts second_of (follow_texts Q (λ c. rows_texts guard join P (first c)))) (value_texts second_of (follow_texts V (λ c. rows_texts always join U (first c))))
-    chain_limited first n q = value_limited {G = H} second_of (follow_limited q (λ c. rows_limited (first c) (n c)))
+        Limited S R (Unit {0}) H (value_texts second_of (follow_texts Q (λ c. repeats_texts guard join P (first c)))) (value_texts second_of (follow_texts V (λ c. repeats_texts always join U (first c))))
+    chain_limited first n q = value_limited {G = H} second_of (follow_limited q (λ c. repeats_limited (first c) (n c)))

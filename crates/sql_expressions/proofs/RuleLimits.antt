@@ -9,7 +9,7 @@ use Rattle.sql_expressions.specs.Tree.{Tree}
 use Rattle.sql_expressions.specs.declared.levels.TheConstants.{MOST_DEPTH}
 use Rattle.sql_expressions.proofs.DepthLaws.{unary_from, negation_from}
 use Rattle.sql_expressions.proofs.Limited.{Of, over, adapt, each_of_all, all_of_each}
-use Rattle.sql_expressions.proofs.LevelLimits.{Lim, Low, High, is_below, RulesLimited, row_limited, conjunction_limited, disjunction_limited, nullity_limited, unary_limited, test_limited, comparison_limited, negation_limited}
+use Rattle.sql_expressions.proofs.LevelLimits.{Lim, Low, High, is_below, RulesLimited, operators_limited, conjunction_limited, disjunction_limited, nullity_limited, unary_limited, test_limited, comparison_limited, negation_limited}
 use Rattle.sql_expressions.proofs.RuleLaws.{rules_laws}
 use Rattle.sql_expressions.proofs.TextWords.{may_be_long}
 use Rattle.sql_expressions.proofs.WordLaws.{apart}
@@ -25,10 +25,10 @@ module _ (text : List ℕ) where
     unary_kept = over (unary_from text) (unary_limited text n (any text) r l)
 
     product_kept : Keeps (product_at text n r).texts (any text).product.texts
-    product_kept = row_limited text n (unary_at text n r) ((freed text r).unary) unary_kept (λ d e. (l d e).unary) is_product (apart is_product may_be_long (λ t. refl) refl)
+    product_kept = operators_limited text n (unary_at text n r) ((freed text r).unary) unary_kept (λ d e. (l d e).unary) is_product (apart is_product may_be_long (λ t. refl) refl)
 
     sum_kept : Keeps (sum_at text n r).texts (any text).sum.texts
-    sum_kept = row_limited text n (product_at text n r) ((freed text r).product) product_kept (λ d e. (l d e).product) is_sum (apart is_sum may_be_long (λ t. refl) refl)
+    sum_kept = operators_limited text n (product_at text n r) ((freed text r).product) product_kept (λ d e. (l d e).product) is_sum (apart is_sum may_be_long (λ t. refl) refl)
 
     test_kept : Keeps (test_at text n r).texts (any text).test.texts
     test_kept = test_limited text n (any text) r l (sum_at text n r) sum_kept

@@ -5,7 +5,7 @@ use Rattle.std.specs.Prelude.{◌⊎◌, nat_eq}
 use Rattle.std.proofs.lemmas.List.{append-nil, append_assoc}
 use Rattle.grammar_rules.specs.KindClasses.{every}
 use Rattle.grammar_rules.specs.Reading.{Class, one_texts, nothing_texts, both_texts, follow_texts, value_texts, either_texts}
-use Rattle.grammar_rules.specs.Rows.{all_rows, rows_texts, step_to, second_of}
+use Rattle.grammar_rules.specs.Repeats.{all_repeats, repeats_texts, step_to, second_of}
 use Rattle.grammar_rules.proofs.Depths.{Inside, value_inside}
 use Rattle.grammar_rules.proofs.Laws.{head_eq, tail_eq}
 use Rattle.sql_tokens.specs.Words as words
@@ -264,28 +264,28 @@ module _ (u : Token) (h : begins_unary u ≡ true) where
       (λ x c k. one_fits (a word.CloseParenthesis) (closed (run p x) (l.ends x c k)) (l.ends x c k)) (λ c d y b k. (y, b, k)) in
       value_fits (λ (x : A × Token). x.0) (record { goes = o.goes; inside = o.inside; swaps = o.swaps })
 
-  -- rows
+  -- chains
   module _ {A B : Type 0} (guard : A → Bool) (join : A → Token → B → A) (P U : A → Of (Token × B)) (l : (c : A) → Fits behind behind (P c) (U c)) where
-    all_goes : (c : A) (xs : List (Token × B)) (ts : List Token) (x : A) → all_rows guard join P c xs ts x → run behind ts ≡ behind
+    all_goes : (c : A) (xs : List (Token × B)) (ts : List Token) (x : A) → all_repeats guard join P c xs ts x → run behind ts ≡ behind
     all_goes c [] ts x k = subst (λ z. run behind z ≡ behind) (sym k.0) refl
     all_goes c (b ∷ xs) ts x k =
         subst (λ z. run behind z ≡ behind) (sym k.3)
         (run_append behind k.1 k.2 ∙ ap (λ z. run z k.2) ((l c).goes k.1 b k.4) ∙ all_goes (step_to join c b) xs k.2 x k.5)
 
-    all_into : (c : A) (xs : List (Token × B)) → Inside (all_rows guard join P c xs) (all_rows guard join U c xs)
+    all_into : (c : A) (xs : List (Token × B)) → Inside (all_repeats guard join P c xs) (all_repeats guard join U c xs)
     all_into c [] ts x k = k
     all_into c (b ∷ xs) ts x k = (k.0, k.1, k.2, k.3, (l c).inside k.1 b k.4, all_into (step_to join c b) xs k.2 x k.5)
 
-    first_cut : (c : A) (y v w : List Token) (s : Token) (b : Token × B) → guard c ≡ true → P c y b → y ≡ v ++ s ∷ w → run behind v ≡ bound → Some (rows_texts guard join U c) v
+    first_cut : (c : A) (y v w : List Token) (s : Token) (b : Token × B) → guard c ≡ true → P c y b → y ≡ v ++ s ∷ w → run behind v ≡ bound → Some (repeats_texts guard join U c) v
     first_cut c y v w s b t k e g =
         let o = (l c).swaps y v w s b k e g in
         (o.0, step_to join c o.1, (o.1 ∷ [], (t, v ++ u ∷ o.0, [], sym (append-nil (v ++ u ∷ o.0)), o.2, (refl, refl))))
 
-    later_cut : (c : A) (y v v' : List Token) (b : Token × B) → guard c ≡ true → P c y b → v ≡ y ++ v' → Some (rows_texts guard join U (step_to join c b)) v' → Some (rows_texts guard join U c) v
+    later_cut : (c : A) (y v v' : List Token) (b : Token × B) → guard c ≡ true → P c y b → v ≡ y ++ v' → Some (repeats_texts guard join U (step_to join c b)) v' → Some (repeats_texts guard join U c) v
     later_cut c y v v' b t k e o =
         (o.0, o.1, (b ∷ o.2.0, (t, y, v' ++ u ∷ o.0, ap (λ z. z ++ u ∷ o.0) e ∙ append_assoc y v' (u ∷ o.0), (l c).inside y b k, o.2.1)))
 
-    all_swaps : (c : A) (xs : List (Token × B)) → Swaps behind (all_rows guard join P c xs) (rows_texts guard join U c)
+    all_swaps : (c : A) (xs : List (Token × B)) → Swaps behind (all_repeats guard join P c xs) (repeats_texts guard join U c)
     all_swaps c [] ts v w s x k e g = absurd (nil_cut v w s (sym k.0 ∙ e))
     all_swaps c (b ∷ xs) ts v w s x k e g = elim (cut k.1 k.2 v s w (sym k.3 ∙ e)) [
       | inl o ↦ first_cut c k.1 v o.0 s b k.0 k.4 o.1 g
@@ -293,22 +293,22 @@ module _ (u : Token) (h : begins_unary u ≡ true) where
           (sym (ap (λ z. run z o.0) ((l c).goes k.1 b k.4)) ∙ sym (run_append behind k.1 o.0) ∙ subst (λ z. run behind z ≡ bound) o.1 g))
     ]
 
-    rows_fits : (c : A) → Fits behind behind (rows_texts guard join P c) (rows_texts guard join U c)
-    rows_fits c = record {
+    repeats_fit : (c : A) → Fits behind behind (repeats_texts guard join P c) (repeats_texts guard join U c)
+    repeats_fit c = record {
       goes = λ ts x k. all_goes c k.0 ts x k.1;
       inside = λ ts x k. (k.0, all_into c k.0 ts x k.1);
       swaps = λ ts v w s x k e g. all_swaps c k.0 ts v w s x k.1 e g;
     }
 
   abbrev pub chain_texts : {A B C : Type 0} → Class Token → (A → Bool) → (C → A) → (A → Token → B → A) → Of C → Of B → Of A
-  chain_texts {A} sign guard first join Q P = value_texts second_of (follow_texts Q (λ c. rows_texts guard join (λ (l : A). both_texts (one_texts sign) P) (first c)))
+  chain_texts {A} sign guard first join Q P = value_texts second_of (follow_texts Q (λ c. repeats_texts guard join (λ (l : A). both_texts (one_texts sign) P) (first c)))
 
   pub chain_fits : {A B C : Type 0} {p : Place} {H Q : Of C} {G P : Of B} (sign : Class Token) (guard : A → Bool) (first : C → A) (join : A → Token → B → A) → Leads behind sign before → Fits p behind H Q → Fits before behind G P →
       Fits p behind (chain_texts sign guard first join H G) (chain_texts sign guard first join Q P)
   chain_fits {A} {H = H} {Q = Q} {G = G} {P = P} sign guard first join e l m =
       value_fits second_of (follow_fits {P = H} {U = Q}
-      {Q = λ c. rows_texts guard join (λ (x : A). both_texts (one_texts sign) G) (first c)} {V = λ c. rows_texts guard join (λ (x : A). both_texts (one_texts sign) P) (first c)} l
-      (λ c. rows_fits guard join (λ (x : A). both_texts (one_texts sign) G) (λ (x : A). both_texts (one_texts sign) P) (λ x. both_fits (one_fits sign (not_bound behind refl) e) m) (first c))
+      {Q = λ c. repeats_texts guard join (λ (x : A). both_texts (one_texts sign) G) (first c)} {V = λ c. repeats_texts guard join (λ (x : A). both_texts (one_texts sign) P) (first c)} l
+      (λ c. repeats_fit guard join (λ (x : A). both_texts (one_texts sign) G) (λ (x : A). both_texts (one_texts sign) P) (λ x. both_fits (one_fits sign (not_bound behind refl) e) m) (first c))
       (λ c d y b k. ([], first d, ([], (refl, refl)))))
 
   -- behind an operator BETWEEN

@@ -2,7 +2,7 @@
 use Rattle.std.proofs.Common.{◌≡◌, ℕ, Bool, true, false, ◌&&◌, ◌||◌, not, List, [], refl, sym, subst}
 use Rattle.grammar_rules.specs.KindClasses.{every}
 use Rattle.grammar_rules.specs.Reading.{Class, Rule, one_texts, nothing, as_value}
-use Rattle.grammar_rules.specs.Rows.{second_of}
+use Rattle.grammar_rules.specs.Repeats.{second_of}
 use Rattle.grammar_rules.proofs.Laws.{Law, Disjoint, Within, head_eq}
 use Rattle.grammar_rules.proofs.Chain.{none}
 use Rattle.grammar_rules.proofs.KindClasses as sides

@@ -2,7 +2,7 @@
 use Rattle.std.proofs.Common.{◌≡◌, ℕ, Bool, true, false, ◌&&◌, ◌||◌, not, List, refl, eqb-true}
 use Rattle.std.specs.Prelude.{Contains}
 use Rattle.grammar_rules.specs.Reading.{Class, Rule, nothing, as_value}
-use Rattle.grammar_rules.specs.Rows.{second_of}
+use Rattle.grammar_rules.specs.Repeats.{second_of}
 use Rattle.grammar_rules.proofs.Laws.{Disjoint}
 use Rattle.sql_tokens.specs.Contents.{string_in}
 use Rattle.sql_tokens.specs.Tokens.{tokens_of}

@@ -4,7 +4,7 @@ use Rattle.grammar_rules.specs.Depths.{AtSome}
 use Rattle.grammar_rules.specs.Reading.{Rule, syntax_at, as_value}
 use Rattle.sql_tokens.specs.declared.token.Token.{Token}
 use Rattle.sql_expressions.specs.Tree.{Tree}
-use Rattle.sql_expressions.specs.Levels.{Deep, Room, Rules, unary, row, is_product, is_sum, test, comparison, nullity, negation, conjunction, disjunction}
+use Rattle.sql_expressions.specs.Levels.{Deep, Room, Rules, unary, chain, is_product, is_sum, test, comparison, nullity, negation, conjunction, disjunction}
 use Rattle.sql_expressions.specs.declared.levels.TheConstants.{MOST_DEPTH}
 
 -- a rule of known texts; it is not read
@@ -22,10 +22,10 @@ endless d = true
 
 -- all levels over the texts of the two
 abbrev pub product_over : Texts → Rule Token Deep
-product_over k = row is_product endless (known k.unary) (known k.unary)
+product_over k = chain is_product endless (known k.unary) (known k.unary)
 
 abbrev pub sum_over : Texts → Rule Token Deep
-sum_over k = row is_sum endless (product_over k) (product_over k)
+sum_over k = chain is_sum endless (product_over k) (product_over k)
 
 abbrev pub conjunction_over : Texts → Rule Token Deep
 conjunction_over k = conjunction endless (known k.negation) (known k.negation)
@@ -91,10 +91,10 @@ abbrev pub unary_at : List ℕ → ℕ → Rules → Rule Token Deep
 unary_at text n r = freely (any text).unary (unary text (below n) (any text) (freed text r))
 
 abbrev pub product_at : List ℕ → ℕ → Rules → Rule Token Deep
-product_at text n r = row is_product (below n) (unary_at text n r) (freed text r).unary
+product_at text n r = chain is_product (below n) (unary_at text n r) (freed text r).unary
 
 abbrev pub sum_at : List ℕ → ℕ → Rules → Rule Token Deep
-sum_at text n r = row is_sum (below n) (product_at text n r) (freed text r).product
+sum_at text n r = chain is_sum (below n) (product_at text n r) (freed text r).product
 
 abbrev pub test_at : List ℕ → ℕ → Rules → Rule Token Deep
 test_at text n r = test (below n) (any text) (freed text r) (sum_at text n r)
@@ -133,10 +133,10 @@ abbrev pub zero_unary : List ℕ → Rule Token Deep
 zero_unary text = freely (any text).unary (unary text no_room (any text) (any text))
 
 abbrev pub zero_product : List ℕ → Rule Token Deep
-zero_product text = row is_product no_room (zero_unary text) (zero_unary text)
+zero_product text = chain is_product no_room (zero_unary text) (zero_unary text)
 
 abbrev pub zero_sum : List ℕ → Rule Token Deep
-zero_sum text = row is_sum no_room (zero_product text) (zero_product text)
+zero_sum text = chain is_sum no_room (zero_product text) (zero_product text)
 
 abbrev pub zero_test : List ℕ → Rule Token Deep
 zero_test text = test no_room (any text) (any text) (zero_sum text)

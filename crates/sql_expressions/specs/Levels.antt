@@ -2,7 +2,7 @@
 -- of its operands, and says by `room` where one more operator, call or pair of parentheses may stand.
 use Rattle.std.specs.Prelude.{ℕ, suc, Bool, true, false, ◌||◌, if◌then◌else◌, List, [], ◌∷◌, ◌++◌, length, max, Err}
 use Rattle.grammar_rules.specs.Reading.{Class, Rule, one, nothing, follow, as_value, either, either_texts, begins_in, limit_at}
-use Rattle.grammar_rules.specs.Rows.{second_of, chain_by, always}
+use Rattle.grammar_rules.specs.Repeats.{second_of, chain_by, always}
 use Rattle.sql_tokens.specs.declared.kind.Kind.{Kind}
 use Rattle.sql_tokens.specs.declared.kind.Kind.TheVariants as word
 use Rattle.sql_tokens.specs.declared.token.Token.{Token}
@@ -68,10 +68,10 @@ abbrev pub add_part : Parts → Token → Deep → Parts
 add_part p sign x = (p.0 ++ x.0 ∷ [], max p.1 x.1)
 
 -- one part is itself
-abbrev pub row_of : (List Tree → Tree) → List Tree → ℕ → Deep
-row_of f (t ∷ []) d = (t, d)
-row_of f [] d = (f [], suc d)
-row_of f (t ∷ u ∷ ts) d = (f (t ∷ u ∷ ts), suc d)
+abbrev pub node_of : (List Tree → Tree) → List Tree → ℕ → Deep
+node_of f (t ∷ []) d = (t, d)
+node_of f [] d = (f [], suc d)
+node_of f (t ∷ u ∷ ts) d = (f (t ∷ u ∷ ts), suc d)
 
 -- p { "," p }
 abbrev pub list_of : Rule Token Deep → Rule Token Parts
@@ -117,7 +117,7 @@ unary text room any below =
     if_room (room 0) begins_nested (nested any).texts (nested below)
     (either a_name (named_leaf text room any below) (as_value flat (literal text)))
 
--- operators of one row, from the left
+-- operators of one chain, from the left
 abbrev pub is_product : Class Token
 is_product t = a word.Star t || (a word.Slash t || a word.Percent t)
 
@@ -145,8 +145,8 @@ itself x = x
 abbrev pub has_room : Room → Deep → Bool
 has_room room x = room x.1
 
-abbrev pub row : Class Token → Room → Rule Token Deep → Rule Token Deep → Rule Token Deep
-row sign room first right = chain_by sign (has_room room) itself join first (λ (x : Deep). right)
+abbrev pub chain : Class Token → Room → Rule Token Deep → Rule Token Deep → Rule Token Deep
+chain sign room first right = chain_by sign (has_room room) itself join first (λ (x : Deep). right)
 
 -- sum [ [ "NOT" ] ( "IN" "(" expr { "," expr } ")" | "BETWEEN" sum "AND" sum ) ]
 abbrev pub begins_test : Class Token
@@ -205,7 +205,7 @@ inverted_by below = as_value (under inverted) (a word.Not >> below.negation)
 abbrev pub negation : Room → Rules → Rules → Rule Token Deep → Rule Token Deep
 negation room any below nullity = if_room (room 0) (a word.Not) (inverted_by any).texts (inverted_by below) nullity
 
--- a row of ANDs, a row of ORs: one node however long
+-- a chain of ANDs, a chain of ORs: one node however long
 abbrev pub parts_room : Room → Parts → Bool
 parts_room room p = room p.1
 
@@ -213,10 +213,10 @@ abbrev pub parts : Class Token → Room → Rule Token Deep → Rule Token Deep 
 parts sign room first right = chain_by sign (parts_room room) only_part add_part first (λ (p : Parts). right)
 
 abbrev pub all_value : Parts → Deep
-all_value p = row_of (λ ts. all_of (listed ts)) p.0 p.1
+all_value p = node_of (λ ts. all_of (listed ts)) p.0 p.1
 
 abbrev pub any_value : Parts → Deep
-any_value p = row_of (λ ts. any_of (listed ts)) p.0 p.1
+any_value p = node_of (λ ts. any_of (listed ts)) p.0 p.1
 
 abbrev pub conjunction : Room → Rule Token Deep → Rule Token Deep → Rule Token Deep
 conjunction room first right = as_value all_value (parts (a word.And) room first right)

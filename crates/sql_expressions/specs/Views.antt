@@ -5,7 +5,7 @@ use Rattle.sql_tokens.specs.declared.kind.Kind.TheVariants as word
 use Rattle.sql_tokens.specs.declared.token.Token.{Token}
 use Rattle.sql_expressions.specs.Levels as level
 use Rattle.grammar_rules.specs.Reading.{as_value}
-use Rattle.grammar_rules.specs.Rows.{rows as rows_behind}
+use Rattle.grammar_rules.specs.Repeats.{repeats}
 use Rattle.sql_expressions.specs.Grammar.{any, below, comparison_at, freed, nullity_at, rules, under_depth}
 use Rattle.sql_expressions.specs.Tree.{tree}
 use Rattle.sql_tokens.specs.Classes.{a}
@@ -13,8 +13,8 @@ use Rattle.sql_expressions.specs.declared.deep.Deep.{Deep}
 use Rattle.sql_expressions.specs.declared.signs.Joint.{Joint}
 use Rattle.sql_expressions.specs.declared.signs.Joint.TheVariants as joints
 use Rattle.sql_expressions.specs.declared.deep.Parts.{Parts}
-use Rattle.sql_expressions.specs.declared.signs.Row.{Row}
-use Rattle.sql_expressions.specs.declared.signs.Row.TheVariants as rows
+use Rattle.sql_expressions.specs.declared.signs.Chain.{Chain}
+use Rattle.sql_expressions.specs.declared.signs.Chain.TheVariants as chains
 
 abbrev pub deep : Deep → level.Deep
 deep x = (tree x.expr, x.depth)
@@ -22,23 +22,23 @@ deep x = (tree x.expr, x.depth)
 abbrev pub parts : Parts → level.Parts
 parts p = (map tree p.items.items, p.depth)
 
--- parts of a row that may be one node of a depth of at most n: a single part is itself
+-- parts of a chain that may be one node of a depth of at most n: a single part is itself
 abbrev pub Fits : ℕ → Parts → Type 0
 Fits n p = (p.depth ≤ n) × ((p.depth < n) ⊎ (length p.items.items ≡ 1))
 
--- rows of operators
-abbrev pub sign_of : Row → Class Token
-sign_of rows.Sum = level.is_sum
-sign_of rows.Product = level.is_product
+-- chains of operators
+abbrev pub sign_of : Chain → Class Token
+sign_of chains.Sum = level.is_sum
+sign_of chains.Product = level.is_product
 
-abbrev pub operand_of : Row → level.Rules → Rule Token level.Deep
-operand_of rows.Sum r = r.product
-operand_of rows.Product r = r.unary
+abbrev pub operand_of : Chain → level.Rules → Rule Token level.Deep
+operand_of chains.Sum r = r.product
+operand_of chains.Product r = r.unary
 
-abbrev pub row_at : List ℕ → Row → ℕ → Rule Token level.Deep
-row_at text row n = level.row (sign_of row) (below n) (operand_of row (rules text n)) (operand_of row (under_depth text n))
+abbrev pub chain_at : List ℕ → Chain → ℕ → Rule Token level.Deep
+chain_at text chain n = level.chain (sign_of chain) (below n) (operand_of chain (rules text n)) (operand_of chain (under_depth text n))
 
--- rows of ANDs and of ORs
+-- chains of ANDs and of ORs
 abbrev pub joint_sign : Joint → Class Token
 joint_sign joints.Or = a word.Or
 joint_sign joints.And = a word.And
@@ -50,12 +50,12 @@ part_of joints.And r = r.negation
 abbrev pub parts_at : List ℕ → Joint → ℕ → Rule Token level.Parts
 parts_at text joint n = level.parts (joint_sign joint) (below n) (part_of joint (rules text n)) (part_of joint (under_depth text n))
 
-abbrev pub row_value : Joint → level.Parts → level.Deep
-row_value joints.Or = level.any_value
-row_value joints.And = level.all_value
+abbrev pub joint_value : Joint → level.Parts → level.Deep
+joint_value joints.Or = level.any_value
+joint_value joints.And = level.all_value
 
 abbrev pub joint_at : List ℕ → Joint → ℕ → Rule Token level.Deep
-joint_at text joint n = as_value (row_value joint) (parts_at text joint n)
+joint_at text joint n = as_value (joint_value joint) (parts_at text joint n)
 
 -- other levels
 abbrev pub named_at : List ℕ → ℕ → Rule Token level.Deep
@@ -67,6 +67,6 @@ comparison_of text n = comparison_at text n (under_depth text n)
 abbrev pub nullity_of : List ℕ → ℕ → Rule Token level.Deep
 nullity_of text n = nullity_at text n (under_depth text n)
 
--- what stands behind the first part of a row, with it
-abbrev pub more_of_row : List ℕ → Joint → ℕ → level.Deep → Rule Token level.Deep
-more_of_row text joint n x = as_value (row_value joint) (rows_behind (joint_sign joint) (level.parts_room (below n)) level.add_part (λ _. part_of joint (under_depth text n)) (level.only_part x))
+-- what stands behind the first part of a chain, with it
+abbrev pub more_of_joint : List ℕ → Joint → ℕ → level.Deep → Rule Token level.Deep
+more_of_joint text joint n x = as_value (joint_value joint) (repeats (joint_sign joint) (level.parts_room (below n)) level.add_part (λ _. part_of joint (under_depth text n)) (level.only_part x))

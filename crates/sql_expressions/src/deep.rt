@@ -129,10 +129,10 @@ pub(crate) fn only_part(alloc: Global, deep: Deep) -> Result<Parts, Refused>
     })
 }
 
-/// A row of parts; one part is itself.
-pub(crate) fn row_of(joint: Joint, mut parts: Parts) -> Deep
+/// A chain of parts; one part is itself.
+pub(crate) fn node_of(joint: Joint, mut parts: Parts) -> Deep
     requires { (parts.depth < 255) ⊎ (length parts.items.items ≡ 1) }
-    ensures value { views.deep result ≡ views.row_value joint (views.parts parts) }
+    ensures value { views.deep result ≡ views.joint_value joint (views.parts parts) }
     ensures within { (n : ℕ) → views.Fits n parts → result.depth ≤ n }
 {
     if parts.items.len() == 1 {

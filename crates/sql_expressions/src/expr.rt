@@ -5,8 +5,8 @@ use crate::{Leaf, Operator};
 use pg_values::PgText;
 
 /// An expression as its text says it. Names are folded, and nothing is looked up. Parentheses have
-/// no part in it, but a row of ANDs in parentheses stays a row of its own inside another one, and so
-/// does a row of ORs.
+/// no part in it, but a chain of ANDs in parentheses stays a chain of its own inside another one, and so
+/// does a chain of ORs.
 #[derive(Debug, Drop)]
 #[cycle(tree)]
 pub enum Expr {

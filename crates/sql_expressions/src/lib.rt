@@ -4,7 +4,7 @@
 //! one token of look-ahead (PostgreSQL's "4.1.6 Operator Precedence"). `specs/Levels.antt` has a line
 //! for each production. What stands deeper (behind a sign, in parentheses, in a call) is read by the
 //! same levels with one less of the depth that is left, so the depth of the calls here is bounded by
-//! the limit on the depth of an expression, however long the text is. Rows of ANDs and ORs, IN lists
+//! the limit on the depth of an expression, however long the text is. Chains of ANDs and ORs, IN lists
 //! and arguments are flat lists and are read by loops.
 //!
 //! Three answers are told apart, each at the first token that does not fit: no expression goes on

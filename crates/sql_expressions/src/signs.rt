@@ -10,14 +10,14 @@ use grammar_rules::{Refused, split};
 use grammar_words::{comes, name_comes};
 use sql_tokens::{Kind, Token};
 
-/// A row of operators that are taken together from the left.
+/// A chain of operators that are taken together from the left.
 #[derive(Clone, Copy)]
-pub(crate) enum Row {
+pub(crate) enum Chain {
     Sum,
     Product,
 }
 
-/// A row of any length that is one node.
+/// A chain of any length that is one node.
 #[derive(Clone, Copy)]
 pub(crate) enum Joint {
     Or,
@@ -42,12 +42,12 @@ pub(crate) fn operator_of(sign: Token) -> Operator
     }
 }
 
-pub(crate) fn sign_comes(row: Row, tokens: &[Token]) -> bool
-    ensures { result ≡ begins_in (views.sign_of row) tokens.now }
+pub(crate) fn sign_comes(chain: Chain, tokens: &[Token]) -> bool
+    ensures { result ≡ begins_in (views.sign_of chain) tokens.now }
 {
-    match row {
-        Row::Sum => comes(tokens, Kind::Plus) || comes(tokens, Kind::Minus),
-        Row::Product => {
+    match chain {
+        Chain::Sum => comes(tokens, Kind::Plus) || comes(tokens, Kind::Minus),
+        Chain::Product => {
             comes(tokens, Kind::Star) || comes(tokens, Kind::Slash) || comes(tokens, Kind::Percent)
         }
     }

@@ -1,7 +1,7 @@
 -- Each production keeps the law: one token of look-ahead decides how its texts are read.
 use Rattle.std.proofs.Common.{ℕ, Bool, true, false, ◌||◌, List, None, Some, refl}
 use Rattle.grammar_rules.specs.Reading.{Class}
-use Rattle.grammar_rules.specs.Rows.{second_of}
+use Rattle.grammar_rules.specs.Repeats.{second_of}
 use Rattle.grammar_rules.proofs.Laws.{Law}
 use Rattle.grammar_rules.proofs.Chain.{none}
 use Rattle.grammar_rules.proofs.Build.{token, empty, valued, wide, seq, then_by, alt, opt, after_token, repeated}

@@ -1,7 +1,7 @@
 -- The settings of an UPDATE keep the law: the reader looks behind a word SET, and its texts are the manual's.
 use Rattle.std.proofs.Common.{◌≡◌, ℕ, Bool, true, false, ◌&&◌, ◌||◌, not, List, [], ◌∷◌, ◌++◌, Option, Some, None, ◌⊎◌, inl, inr, refl, sym, ◌∙◌, ap, subst}
 use Rattle.grammar_rules.specs.Reading.{Class, Rule, both, behind, one_texts, nothing_texts, both_texts, follow_texts, value_texts, either_texts}
-use Rattle.grammar_rules.specs.Rows.{always, rows_texts, second_of}
+use Rattle.grammar_rules.specs.Repeats.{always, repeats_texts, second_of}
 use Rattle.grammar_rules.proofs.Laws.{Law, Within, pair_eq}
 use Rattle.grammar_rules.proofs.Build.{token, valued, wide, seq, then_by, alt, after_token, more, chained_after, said}
 use Rattle.sql_tokens.specs.Contents.{name_in}
@@ -123,7 +123,7 @@ module _ (text : List ℕ) (P N O : List Token → List ℕ → Type 0) (E : Lis
   Answer = Option (List ℕ) × List Setting
 
   abbrev More : List Setting → List Token → List Setting → Type 0
-  More = rows_texts always snoc (λ _. both_texts (one_texts (a word.Comma)) (both_texts N (behind_word word.Equal E)))
+  More = repeats_texts always snoc (λ _. both_texts (one_texts (a word.Comma)) (both_texts N (behind_word word.Equal E)))
 
   abbrev All : (List Token → List ℕ → Type 0) → List Token → List Setting → Type 0
   All F = value_texts second_of (follow_texts (both_texts F (behind_word word.Equal E)) (λ c. More (only c)))

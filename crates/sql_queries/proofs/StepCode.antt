@@ -3,7 +3,7 @@ use Rattle.std.proofs.Common.{◌≡◌, List, Ok, Err, Result, refl, sym, subst
 use Rattle.grammar_rules.specs.Gives.{Gives}
 use Rattle.grammar_rules.specs.declared.refused.Refused.{Refused}
 use Rattle.grammar_rules.specs.Reading.{Reading, Rule, given, read_one, as_value, follow, ◌>>=◌}
-use Rattle.grammar_rules.specs.Rows.{second_of}
+use Rattle.grammar_rules.specs.Repeats.{second_of}
 use Rattle.sql_tokens.specs.declared.kind.Kind.{Kind}
 use Rattle.sql_tokens.specs.declared.token.Token.{Token}
 use Rattle.grammar_words.specs.Words.{◌>>◌}

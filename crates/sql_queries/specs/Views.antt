@@ -3,7 +3,7 @@ use Rattle.std.specs.Prelude.{ℕ, List, Option}
 use Rattle.grammar_rules.specs.declared.refused.Refused.{Refused}
 use Rattle.grammar_rules.specs.declared.refused.Refused.TheVariants as refused
 use Rattle.grammar_rules.specs.Reading.{Rule, Stop, syntax_at, limit_at, as_value, follow}
-use Rattle.grammar_rules.specs.Rows.{second_of}
+use Rattle.grammar_rules.specs.Repeats.{second_of}
 use Rattle.sql_tokens.specs.declared.kind.Kind.TheVariants as word
 use Rattle.sql_tokens.specs.declared.token.Token.{Token}
 use Rattle.sql_expressions.specs.Grammar.{expression}

@@ -1,7 +1,7 @@
 -- Every first word of a statement begins one.
 use Rattle.std.proofs.Common.{ℕ, Bool, ◌||◌, List, [], None, inr, refl}
 use Rattle.grammar_rules.specs.Reading.{Class, Rule, as_value}
-use Rattle.grammar_rules.specs.Rows.{second_of}
+use Rattle.grammar_rules.specs.Repeats.{second_of}
 use Rattle.grammar_rules.proofs.Laws.{Law}
 use Rattle.grammar_rules.proofs.Build.{token, seq}
 use Rattle.sql_tokens.specs.declared.kind.Kind.{Kind}

@@ -1,7 +1,7 @@
 -- Statements and blocks keep the law: one token of look-ahead decides how they are read.
 use Rattle.std.proofs.Common.{ℕ, true, false, ◌||◌, List, length, Some, None, nat_lt, refl}
 use Rattle.grammar_rules.specs.Reading.{Class, nothing}
-use Rattle.grammar_rules.specs.Rows.{always}
+use Rattle.grammar_rules.specs.Repeats.{always}
 use Rattle.grammar_rules.proofs.Laws.{Law}
 use Rattle.grammar_rules.proofs.Chain.{none}
 use Rattle.grammar_rules.proofs.Build.{empty, valued, wide, alt, chained_by}

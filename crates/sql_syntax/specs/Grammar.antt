@@ -1,7 +1,7 @@
 -- The grammar of a block: statements with semicolons between, and none may stand anywhere (VI. SQL Commands).
 use Rattle.std.specs.Prelude.{ℕ, ◌||◌, List, [], ◌∷◌, ◌++◌, length, nat_lt, Option, Some, None}
 use Rattle.grammar_rules.specs.Reading.{Class, Rule, nothing, as_value, either}
-use Rattle.grammar_rules.specs.Rows.{always, chain_by}
+use Rattle.grammar_rules.specs.Repeats.{always, chain_by}
 use Rattle.sql_tokens.specs.declared.kind.Kind.TheVariants as word
 use Rattle.sql_tokens.specs.declared.token.Token.{Token}
 use Rattle.sql_expressions.specs.Levels.{if_room}

@@ -1,7 +1,7 @@
 ghost use Rattle.std.specs.Prelude.{◌≡◌, IfOk, length, map};
 ghost use Rattle.grammar_rules.specs.Gives.{Gives};
 ghost use Rattle.grammar_rules.specs.Reading.{begins_in};
-ghost use Rattle.grammar_rules.specs.Rows.{always, read_row, read_step};
+ghost use Rattle.grammar_rules.specs.Repeats.{always, read_repeats, read_step};
 ghost use Rattle.sql_tokens.specs.Classes.{a};
 ghost use Rattle.sql_syntax.specs.Grammar as grammar;
 ghost use Rattle.sql_syntax.specs.Trees.{statement_tree};
@@ -68,7 +68,7 @@ fn maybe_statement<'a>(
     Ok((Some(statement), rest))
 }
 
-#[tactic(auto, unfolding(grammar_rules::specs::Rows::read_step))]
+#[tactic(auto, unfolding(grammar_rules::specs::Repeats::read_step))]
 fn next_statement<'a>(
     alloc: Global,
     text: &[u8],
@@ -95,7 +95,7 @@ fn more_statements<'a>(
     first: Vec<Statement>,
     tokens: &'a [Token],
 ) -> Result<(Vec<Statement>, &'a [Token]), Refused>
-    ensures { Gives (λ x. (map statement_tree x.0.items, x.1.now)) result (read_row (a Kind.Semicolon) always grammar.join (λ xs. (grammar.maybe_statement text.now (length xs)).read) (length tokens.now) (map statement_tree first.items) tokens.now) }
+    ensures { Gives (λ x. (map statement_tree x.0.items, x.1.now)) result (read_repeats (a Kind.Semicolon) always grammar.join (λ xs. (grammar.maybe_statement text.now (length xs)).read) (length tokens.now) (map statement_tree first.items) tokens.now) }
 {
     let mut done = first;
     let mut rest = tokens;

@@ -1,15 +1,15 @@
 -- What a token says (4.1.1 Identifiers and Key Words, 4.1.2 Constants). A place behind the text's end stands for the end.
-use Rattle.std.specs.Prelude.{ℕ, ◌-◌, false, if◌then◌else◌, List, map, take, drop}
+use Rattle.std.specs.Prelude.{ℕ, false, if◌then◌else◌, List, map}
 use Rattle.std.specs.Char.{to_ascii_lowercase, to_ascii_uppercase}
 use Rattle.sql_tokens.specs.declared.kind.Kind.TheVariants.{Decimal, QuotedName}
 use Rattle.sql_tokens.specs.declared.token.Token.{Token}
 use Rattle.sql_tokens.specs.Numbers.{number_of_digits}
-use Rattle.sql_tokens.specs.Quotes.{inside, undoubled}
+use Rattle.sql_tokens.specs.Quotes.{inside, slice, undoubled}
 use Rattle.sql_tokens.specs.Words.{is}
 
 -- the bytes of a token
 abbrev pub bytes_of : List ℕ → Token → List ℕ
-bytes_of text token = take (token.end - token.start) (drop token.start text)
+bytes_of text token = slice text token.start token.end
 
 -- a name in lower case, or what stands between the quotes of a quoted one
 abbrev pub name_in : List ℕ → Token → List ℕ

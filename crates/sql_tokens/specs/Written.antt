@@ -1,17 +1,9 @@
 -- Texts as they are written between quotes (4.1.2.1 String Constants, 4.1.1 Identifiers and Key Words).
-use Rattle.std.specs.Prelude.{◌≡◌, ℕ, if◌then◌else◌, ◌==◌, List, [], ◌∷◌, ◌++◌, length}
+use Rattle.std.specs.Prelude.{◌≡◌, ℕ, List, [], ◌∷◌, length}
+pub use Rattle.text_pieces.specs.Quotes.{doubled, quoted}
 use Rattle.sql_tokens.specs.declared.kind.Kind.{Kind}
 use Rattle.sql_tokens.specs.declared.token.Token.{Token}
 use Rattle.sql_tokens.specs.Tokens.{tokens_of}
-
--- each quote twice
-abbrev pub doubled : ℕ → List ℕ → List ℕ
-doubled quote [] = []
-doubled quote (b ∷ z) = if b == quote then quote ∷ quote ∷ doubled quote z else b ∷ doubled quote z
-
--- between quotes
-abbrev pub quoted : ℕ → List ℕ → List ℕ
-quoted quote z = quote ∷ (doubled quote z ++ quote ∷ [])
 
 -- the token of a whole text
 abbrev pub whole : Kind → List ℕ → Token

@@ -1,4 +1,4 @@
-ghost use Rattle.std.specs.Prelude.{◌≡◌, ◌≢◌, ◌<◌, ◌≤◌, ◌+◌, length, slice_index, drop, true};
+ghost use Rattle.std.specs.Prelude.{◌≡◌, ◌<◌, ◌≤◌, length, slice_index, true};
 ghost use Rattle.sql_tokens.specs.Bytes as bytes;
 
 /// A class of bytes.
@@ -24,14 +24,6 @@ pub fn belongs(class: Class, b: u8) -> bool
     }
 }
 
-/// The byte at a place, or 0 behind the end.
-pub fn byte(z: &[u8], at: usize) -> u8
-    ensures value { result ≡ slice_index z.now at }
-    ensures within { result ≢ 0 → at < length z.now }
-{
-    if at < z.len() { z[at] } else { 0 }
-}
-
 /// The first place from `at` on whose byte is not of the class.
 pub fn past(class: Class, z: &[u8], at: usize) -> usize
     requires { at ≤ length z.now }
@@ -44,11 +36,4 @@ pub fn past(class: Class, z: &[u8], at: usize) -> usize
         end += 1;
     }
     end
-}
-
-/// The bytes from a place on: none where the text is shorter.
-pub fn behind(z: &[u8], at: usize) -> &[u8]
-    ensures { result.now ≡ drop at z.now }
-{
-    &z[at.min(z.len())..]
 }

@@ -1,35 +1,17 @@
-ghost use Rattle.std.specs.Prelude.{◌≡◌, ◌-◌, length, drop, take, map, IfOk};
+ghost use Rattle.std.specs.Prelude.{◌≡◌, map, IfOk};
 ghost use Rattle.std.specs.Char.{to_ascii_lowercase, to_ascii_uppercase};
 ghost use Rattle.sql_tokens.specs.Contents as contents;
-ghost use Rattle.sql_tokens.specs.Quotes.{inside};
 
-use crate::bytes::behind;
 use crate::numbers::number_of_digits;
-use crate::quotes::undoubled;
 use crate::{Kind, Token, same_kind};
 use pg_values::{NoMemory, PgText};
 use std::alloc::Global;
-
-/// The first bytes: all of them where there are fewer.
-fn first(z: &[u8], n: usize) -> &[u8]
-    ensures { result.now ≡ take n z.now }
-{
-    &z[..n.min(z.len())]
-}
+use text_pieces::{inside_of, slice, undoubled};
 
 fn bytes_of(text: &[u8], token: Token) -> &[u8]
     ensures { result.now ≡ contents.bytes_of text.now token }
 {
-    first(
-        behind(text, token.start),
-        token.end.saturating_sub(token.start),
-    )
-}
-
-fn inside_of(z: &[u8]) -> &[u8]
-    ensures { result.now ≡ inside z.now }
-{
-    first(behind(z, 1), z.len().saturating_sub(2))
+    slice(text, token.start, token.end)
 }
 
 fn folded(alloc: Global, name: &[u8]) -> Result<Vec<u8>, NoMemory>

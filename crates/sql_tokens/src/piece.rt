@@ -3,12 +3,13 @@ ghost use Rattle.std.specs.Str.{is_utf8};
 ghost use Rattle.sql_tokens.specs.Pieces as pieces;
 
 use crate::Kind;
-use crate::bytes::{Class, belongs, byte, past};
+use crate::bytes::{Class, belongs, past};
 use crate::comments::{minus, slash};
 use crate::numbers::{begins_number, number, parameter};
 use crate::quotes::{quoted_name, string};
 use crate::signs::sign;
 use crate::words::word_kind;
+use text_pieces::byte;
 
 /// What stands at the front of a text, with its length in bytes.
 #[derive(Clone, Copy, Debug)]

@@ -2,7 +2,7 @@
 use Rattle.std.proofs.Common.{◌≡◌, ℕ, suc, Bool, true, false, max, List, [], ◌∷◌, ◌++◌, inl, inr, refl, sym, ap, ◌∙◌, subst, arith, append_assoc, append-nil}
 use Rattle.std.specs.Prelude.{codes}
 use Rattle.grammar_rules.specs.Reading.{one_texts, both_texts}
-use Rattle.grammar_rules.specs.Rows.{rows_texts, always}
+use Rattle.grammar_rules.specs.Repeats.{repeats_texts, always}
 use Rattle.sql_tokens.specs.Words.{is}
 use Rattle.sql_tokens.specs.declared.kind.Kind.{Kind}
 use Rattle.sql_tokens.specs.declared.kind.Kind.TheVariants as kinds
@@ -19,12 +19,12 @@ use Rattle.sql_expressions.proofs.DepthLaws.{unary_to}
 use Rattle.sql_written.specs.Marks.{Mark, blank}
 use Rattle.sql_written.specs.Precedence.{Level, disjunction, conjunction, negation, nullity, sum, unary, level_of, level_of_operator, left_place, right_place, needs_parentheses}
 use Rattle.sql_written.specs.Spelling as spelled
-use Rattle.sql_written.specs.Writable.{HasTwo, HasOne, HasText, HaveTexts, deeper_by, depth, row_depth}
-use Rattle.sql_written.specs.Written.{and_between, behind_minus, behind_part, in_parentheses, marks, more, not_before, or_between, row}
+use Rattle.sql_written.specs.Writable.{HasTwo, HasOne, HasText, HaveTexts, deeper_by, depth, chain_depth}
+use Rattle.sql_written.specs.Written.{and_between, behind_minus, behind_part, in_parentheses, marks, more, not_before, or_between, chain}
 use Rattle.sql_written.proofs.Said.{Are, token, parted}
 use Rattle.sql_written.proofs.LeafTexts.{leaf_texts, name_texts, only}
 use Rattle.sql_written.proofs.TreeApart.{two_one}
-use Rattle.sql_written.proofs.LevelTexts.{Of, row_texts, row_on, texts_at, comparison_texts, operand, minus_texts, not_texts, sign_kind, binary_at}
+use Rattle.sql_written.proofs.LevelTexts.{Of, chain_texts, chain_on, texts_at, comparison_texts, operand, minus_texts, not_texts, sign_kind, binary_at}
 
 abbrev pub of_trees : Trees → List Tree
 of_trees no_more = []
@@ -85,12 +85,12 @@ module _ (text : List ℕ) where
       let t = token kinds.CloseParenthesis m n in
       ((s, (call_of_all f, 1)), (s ∷ [], r ∷ t ∷ [], d, (refl, refl), (((call_of_all f, 1), t), (r ∷ [], t ∷ [], refl, inl (r, (refl, refl), refl), (refl, refl)), refl)), refl)
 
-  -- lists and rows
+  -- lists and chains
   abbrev pub parts_texts : Kind → Level → Of Parts
-  parts_texts k place = row_texts (a k) level.only_part level.add_part (texts_at text place) (texts_at text place)
+  parts_texts k place = chain_texts (a k) level.only_part level.add_part (texts_at text place) (texts_at text place)
 
   abbrev more_texts : Kind → Level → Parts → Of Parts
-  more_texts k place p = rows_texts always level.add_part (λ (l : Parts). both_texts (one_texts (a k)) (texts_at text place)) p
+  more_texts k place p = repeats_texts always level.add_part (λ (l : Parts). both_texts (one_texts (a k)) (texts_at text place)) p
 
   -- marks that say one token of a kind
   record Says (k : Kind) (sign : List Mark) : Type 0 where
@@ -112,7 +112,7 @@ module _ (text : List ℕ) where
   grown : (p : Parts) (t : Tree) (d r : ℕ) (ts : List Tree) → ◌≡◌ {A = Parts} ((p.0 ++ t ∷ []) ++ ts, max (max p.1 d) r) (p.0 ++ t ∷ ts, max p.1 (max d r))
   grown p t d r ts = let n : max (max p.1 d) r ≡ max p.1 (max d r) = omega arith in rw (append_assoc p.0 (t ∷ []) ts, n) refl
 
-  two_value : (f : Trees → Tree) (ts : Trees) (d : ℕ) → HasTwo ts → ◌≡◌ {A = Deep} (f ts, suc d) (level.row_of (λ us. f (listed us)) (of_trees ts) d)
+  two_value : (f : Trees → Tree) (ts : Trees) (d : ℕ) → HasTwo ts → ◌≡◌ {A = Deep} (f ts, suc d) (level.node_of (λ us. f (listed us)) (of_trees ts) d)
   two_value f no_more d h = absurd h
   two_value f (and_more t no_more) d h = absurd h
   two_value f (and_more t (and_more u ts)) d h = ap (λ us. (f (and_more t (and_more u us)), suc d)) (sym (listed_back ts))
@@ -138,11 +138,11 @@ module _ (text : List ℕ) where
       inl (t, ((s, t), (s ∷ [], h.2, h.3, (refl, refl), (only text kinds.Null (codes "NULL") h.2 h.5, refl)), refl), refl)
   null_by false y h = inr (token kinds.Null h.0 h.1, (only text kinds.Null (codes "NULL") y h, refl), refl)
 
-  in_texts : (b : Bool) (x : Deep) (us : Trees) (d : ℕ) (z : List Token) → Are text z (spelled.in_word ∷ blank ∷ spelled.opening ∷ (row behind_part disjunction us ++ spelled.closing ∷ [])) →
-      ((y : List Token) → Are text y (row behind_part disjunction us) → parts_texts kinds.Comma disjunction y (of_trees us, d)) → (level.in_or_between (any text) b x).texts z (in_list b x.0 us, suc (max x.1 d))
+  in_texts : (b : Bool) (x : Deep) (us : Trees) (d : ℕ) (z : List Token) → Are text z (spelled.in_word ∷ blank ∷ spelled.opening ∷ (chain behind_part disjunction us ++ spelled.closing ∷ [])) →
+      ((y : List Token) → Are text y (chain behind_part disjunction us) → parts_texts kinds.Comma disjunction y (of_trees us, d)) → (level.in_or_between (any text) b x).texts z (in_list b x.0 us, suc (max x.1 d))
   in_texts b x us d z h on =
       let i = h.5 in
-      let q = parted text i.2 (row behind_part disjunction us) (spelled.closing ∷ []) i.5 in
+      let q = parted text i.2 (chain behind_part disjunction us) (spelled.closing ∷ []) i.5 in
       let s = token kinds.In h.0 h.1 in
       let o = token kinds.OpenParenthesis i.0 i.1 in
       let c = token kinds.CloseParenthesis q.4.0 q.4.1 in
@@ -163,10 +163,10 @@ module _ (text : List ℕ) where
       inr ((y, v), ((s, (y, v)), (s ∷ [], h.2, h.3, (refl, refl), (q.0, q.1, q.2, on q.0 q.3, ((t, v), (t ∷ [], q.4.2, q.4.3, (refl, refl), upto q.4.2 q.4.5), refl))), refl), refl)
 
   call_back : (f : List ℕ) (us : Trees) (from to m n : ℕ) (x v y : List Token) → y ≡ token kinds.OpenParenthesis from to ∷ v → v ≡ x ++ token kinds.CloseParenthesis m n ∷ [] →
-      Are text x (row behind_part disjunction us) → (HasOne us → parts_texts kinds.Comma disjunction x (of_trees us, row_depth disjunction us)) → (level.call_of (any text).expression f).texts y (call f us, suc (row_depth disjunction us))
+      Are text x (chain behind_part disjunction us) → (HasOne us → parts_texts kinds.Comma disjunction x (of_trees us, chain_depth disjunction us)) → (level.call_of (any text).expression f).texts y (call f us, suc (chain_depth disjunction us))
   call_back f no_more from to m n x v y d e h on = call_texts f from to m n x v y ([], 0) d e (inr (h, refl))
   call_back f (and_more t us) from to m n x v y d e h on =
-      let p : Parts = (of_trees (and_more t us), row_depth disjunction (and_more t us)) in
+      let p : Parts = (of_trees (and_more t us), chain_depth disjunction (and_more t us)) in
       subst (λ (vs : Trees). (level.call_of (any text).expression f).texts y (call f (and_more t vs), suc p.1)) (listed_back us) (call_texts f from to m n x v y p d e (inl (on tt)))
 
   -- every tree
@@ -174,11 +174,11 @@ module _ (text : List ℕ) where
     pub back : (e : Tree) → HasText e → (ts : List Token) → Are text ts (marks e) → texts_at text (level_of e) ts (e, depth e)
     back (leaf l) w ts h = leaf_texts text l w ts h
     back (call f us) w ts h =
-        let p = parted text ts (spelled.name f ∷ []) (spelled.opening ∷ (row behind_part disjunction us ++ spelled.closing ∷ [])) h in
+        let p = parted text ts (spelled.name f ∷ []) (spelled.opening ∷ (chain behind_part disjunction us ++ spelled.closing ∷ [])) h in
         let n = name_texts text f w.0 p.0 p.3 in
-        let q = parted text p.4.2 (row behind_part disjunction us) (spelled.closing ∷ []) p.4.5 in
-        called n.0 f p.0 p.1 ts (call f us, suc (row_depth disjunction us)) p.2 n.1 (call_back f us p.4.0 p.4.1 q.4.0 q.4.1 q.0 p.4.2 p.1 p.4.3 (q.2 ∙ ap (λ r. q.0 ++ r) (only text kinds.CloseParenthesis (codes ")") q.1 q.4)) q.3
-        (λ one. back_row kinds.Comma behind_part comma_says disjunction us one w.1 q.0 q.3))
+        let q = parted text p.4.2 (chain behind_part disjunction us) (spelled.closing ∷ []) p.4.5 in
+        called n.0 f p.0 p.1 ts (call f us, suc (chain_depth disjunction us)) p.2 n.1 (call_back f us p.4.0 p.4.1 q.4.0 q.4.1 q.0 p.4.2 p.1 p.4.3 (q.2 ∙ ap (λ r. q.0 ++ r) (only text kinds.CloseParenthesis (codes ")") q.1 q.4)) q.3
+        (λ one. back_chain kinds.Comma behind_part comma_says disjunction us one w.1 q.0 q.3))
     back (call_of_all f) w ts h =
         let p = parted text ts (spelled.name f ∷ []) (spelled.opening ∷ spelled.star ∷ spelled.closing ∷ []) h in
         let n = name_texts text f w p.0 p.3 in
@@ -200,10 +200,10 @@ module _ (text : List ℕ) where
     back (in_list b x us) w ts h =
         let p = parted text ts (in_parentheses (needs_parentheses sum x) (marks x)) _ h in
         let l : Deep = (x, deeper_by (needs_parentheses sum x) (depth x)) in
-        test_on l p.0 p.1 ts (in_list b x us, suc (max l.1 (row_depth disjunction us))) p.2
+        test_on l p.0 p.1 ts (in_list b x us, suc (max l.1 (chain_depth disjunction us))) p.2
         (operand text sum (level_of x) x (marks x) (depth x) (needs_parentheses sum x) refl (λ vs k. back x w.0 vs k) p.0 p.3)
-        (tested_by b p.1 (spelled.in_word ∷ blank ∷ spelled.opening ∷ (row behind_part disjunction us ++ spelled.closing ∷ [])) l (in_list b x us, suc (max l.1 (row_depth disjunction us))) p.4
-        (λ z k. in_texts b l us (row_depth disjunction us) z k (λ y i. back_row kinds.Comma behind_part comma_says disjunction us w.1 w.2 y i)))
+        (tested_by b p.1 (spelled.in_word ∷ blank ∷ spelled.opening ∷ (chain behind_part disjunction us ++ spelled.closing ∷ [])) l (in_list b x us, suc (max l.1 (chain_depth disjunction us))) p.4
+        (λ z k. in_texts b l us (chain_depth disjunction us) z k (λ y i. back_chain kinds.Comma behind_part comma_says disjunction us w.1 w.2 y i)))
     back (between b x from to) w ts h =
         let p = parted text ts (in_parentheses (needs_parentheses sum x) (marks x)) _ h in
         let l : Deep = (x, deeper_by (needs_parentheses sum x) (depth x)) in
@@ -221,20 +221,20 @@ module _ (text : List ℕ) where
         let p = parted text ts (in_parentheses (needs_parentheses nullity x) (marks x)) _ h in
         let l : Deep = (x, deeper_by (needs_parentheses nullity x) (depth x)) in
         subst (λ z. texts_at text nullity z (is_null b x, suc l.1)) (sym (p.2 ∙ ap (λ z. p.0 ++ z) p.4.3))
-        (row_on (a kinds.Is) level.itself level.null_join (comparison_texts text) level.null_or_not.free p.0 p.4.2 l (token kinds.Is p.4.0 p.4.1) b refl
+        (chain_on (a kinds.Is) level.itself level.null_join (comparison_texts text) level.null_or_not.free p.0 p.4.2 l (token kinds.Is p.4.0 p.4.1) b refl
         (operand text nullity (level_of x) x (marks x) (depth x) (needs_parentheses nullity x) refl (λ us k. back x w us k) p.0 p.3) (null_by b p.4.2 p.4.5))
     back (inverted e) w ts h =
         not_texts text h.0 h.1 h.2 ts (e, deeper_by (needs_parentheses negation e) (depth e)) h.3
         (operand text negation (level_of e) e (marks e) (depth e) (needs_parentheses negation e) refl (λ us k. back e w us k) h.2 h.5)
-    back (all_of us) w ts h = conjunction_of us (row_depth negation us) ts w.0 (back_row kinds.And and_between and_says negation us (two_one us w.0) w.1 ts h)
-    back (any_of us) w ts h = disjunction_of us (row_depth conjunction us) ts w.0 (back_row kinds.Or or_between or_says conjunction us (two_one us w.0) w.1 ts h)
+    back (all_of us) w ts h = conjunction_of us (chain_depth negation us) ts w.0 (back_chain kinds.And and_between and_says negation us (two_one us w.0) w.1 ts h)
+    back (any_of us) w ts h = disjunction_of us (chain_depth conjunction us) ts w.0 (back_chain kinds.Or or_between or_says conjunction us (two_one us w.0) w.1 ts h)
 
-    back_row : (k : Kind) (sign : List Mark) → Says k sign → (place : Level) (us : Trees) → HasOne us → HaveTexts us → (ts : List Token) → Are text ts (row sign place us) → parts_texts k place ts (of_trees us, row_depth place us)
-    back_row k sign s place no_more one w ts h = absurd one
-    back_row k sign s place (and_more t us) one w ts h =
+    back_chain : (k : Kind) (sign : List Mark) → Says k sign → (place : Level) (us : Trees) → HasOne us → HaveTexts us → (ts : List Token) → Are text ts (chain sign place us) → parts_texts k place ts (of_trees us, chain_depth place us)
+    back_chain k sign s place no_more one w ts h = absurd one
+    back_chain k sign s place (and_more t us) one w ts h =
         let p = parted text ts (in_parentheses (needs_parentheses place t) (marks t)) (more sign place us) h in
         let x : Deep = (t, deeper_by (needs_parentheses place t) (depth t)) in (
-          (x, (t ∷ of_trees us, max x.1 (row_depth place us))),
+          (x, (t ∷ of_trees us, max x.1 (chain_depth place us))),
           (
             p.0,
             p.1,
@@ -245,7 +245,7 @@ module _ (text : List ℕ) where
           refl,
         )
 
-    back_more : (k : Kind) (sign : List Mark) → Says k sign → (place : Level) (us : Trees) → HaveTexts us → (p : Parts) (ts : List Token) → Are text ts (more sign place us) → more_texts k place p ts (p.0 ++ of_trees us, max p.1 (row_depth place us))
+    back_more : (k : Kind) (sign : List Mark) → Says k sign → (place : Level) (us : Trees) → HaveTexts us → (p : Parts) (ts : List Token) → Are text ts (more sign place us) → more_texts k place p ts (p.0 ++ of_trees us, max p.1 (chain_depth place us))
     back_more k sign s place no_more w p ts h = ([], (h, ended p))
     back_more k sign s place (and_more t us) w p ts h =
         let q = s.one ts (in_parentheses (needs_parentheses place t) (marks t) ++ more sign place us) h in
@@ -253,7 +253,7 @@ module _ (text : List ℕ) where
         let x : Deep = (t, deeper_by (needs_parentheses place t) (depth t)) in
         let on = back_more k sign s place us w.1 (level.add_part p (token k q.0 q.1) x) r.1 r.4 in
         let c = token k q.0 q.1 in
-        subst (λ (v : Parts). more_texts k place p ts v) (grown p t x.1 (row_depth place us) (of_trees us)) (
+        subst (λ (v : Parts). more_texts k place p ts v) (grown p t x.1 (chain_depth place us) (of_trees us)) (
           (c, x) ∷ on.0,
           (
             refl,

@@ -17,7 +17,7 @@ use Rattle.sql_written.specs.Precedence.{Level, disjunction, conjunction, negati
 use Rattle.sql_written.specs.Spelling as spelled
 use Rattle.sql_written.specs.Spelling.{is_plain}
 use Rattle.sql_written.specs.Writable.{deeper_by}
-use Rattle.sql_written.specs.Written.{and_between, behind_minus, behind_part, in_parentheses, marks, more, not_before, or_between, row}
+use Rattle.sql_written.specs.Written.{and_between, behind_minus, behind_part, in_parentheses, marks, more, not_before, or_between, chain}
 use Rattle.sql_written.proofs.ShortMarks.{never_both}
 use Rattle.sql_written.proofs.MarksApart.{plain_is}
 use Rattle.sql_written.proofs.Said.{Are}
@@ -25,21 +25,21 @@ use Rattle.sql_written.proofs.Said.{Are}
 abbrev mutual
   pub opens : Tree → ℕ
   opens (leaf l) = 0
-  opens (call f ts) = suc (row_opens disjunction ts)
+  opens (call f ts) = suc (chain_opens disjunction ts)
   opens (call_of_all f) = 1
   opens (negated e) = deeper_by (needs_parentheses unary e) (opens e)
   opens (binary op x y) = deeper_by (needs_parentheses (left_place op) x) (opens x) + deeper_by (needs_parentheses (right_place op) y) (opens y)
-  opens (in_list b x ts) = suc (deeper_by (needs_parentheses sum x) (opens x) + row_opens disjunction ts)
+  opens (in_list b x ts) = suc (deeper_by (needs_parentheses sum x) (opens x) + chain_opens disjunction ts)
   opens (between b x from to) =
       deeper_by (needs_parentheses sum x) (opens x) + (deeper_by (needs_parentheses sum from) (opens from) + deeper_by (needs_parentheses sum to) (opens to))
   opens (is_null b x) = deeper_by (needs_parentheses nullity x) (opens x)
   opens (inverted e) = deeper_by (needs_parentheses negation e) (opens e)
-  opens (all_of ts) = row_opens negation ts
-  opens (any_of ts) = row_opens conjunction ts
+  opens (all_of ts) = chain_opens negation ts
+  opens (any_of ts) = chain_opens conjunction ts
 
-  pub row_opens : Level → Trees → ℕ
-  row_opens place no_more = 0
-  row_opens place (and_more t ts) = deeper_by (needs_parentheses place t) (opens t) + row_opens place ts
+  pub chain_opens : Level → Trees → ℕ
+  chain_opens place no_more = 0
+  chain_opens place (and_more t ts) = deeper_by (needs_parentheses place t) (opens t) + chain_opens place ts
 
 -- of marks
 abbrev one_if : Bool → ℕ
@@ -133,8 +133,8 @@ mutual
   pub opened_marks : (e : Tree) → opened_by (marks e) ≡ opens e
   opened_marks (leaf l) = opened_leaf l
   opened_marks (call f ts) =
-      opened_name f (spelled.opening ∷ (row behind_part disjunction ts ++ spelled.closing ∷ []))
-      ∙ omega (arith, opened_list (row behind_part disjunction ts), opened_row behind_part disjunction ts refl)
+      opened_name f (spelled.opening ∷ (chain behind_part disjunction ts ++ spelled.closing ∷ []))
+      ∙ omega (arith, opened_list (chain behind_part disjunction ts), opened_chain behind_part disjunction ts refl)
   opened_marks (call_of_all f) = opened_name f (spelled.opening ∷ spelled.star ∷ spelled.closing ∷ [])
   opened_marks (negated e) =
       omega (arith, opened_blank e (placed unary e), opened_parentheses (needs_parentheses unary e) (marks e) (opens e) (opened_marks e))
@@ -147,14 +147,14 @@ mutual
         opened_parentheses (needs_parentheses (right_place op) y) (marks y) (opens y) (opened_marks y),
       )
   opened_marks (in_list b x ts) =
-      let rest = spelled.in_word ∷ blank ∷ spelled.opening ∷ (row behind_part disjunction ts ++ spelled.closing ∷ []) in
+      let rest = spelled.in_word ∷ blank ∷ spelled.opening ∷ (chain behind_part disjunction ts ++ spelled.closing ∷ []) in
       opened_append (placed sum x) (blank ∷ (not_before b ++ rest))
       ∙ omega (
         arith,
         opened_not b rest,
         opened_parentheses (needs_parentheses sum x) (marks x) (opens x) (opened_marks x),
-        opened_list (row behind_part disjunction ts),
-        opened_row behind_part disjunction ts refl,
+        opened_list (chain behind_part disjunction ts),
+        opened_chain behind_part disjunction ts refl,
       )
   opened_marks (between b x from to) =
       let last = blank ∷ spelled.and_word ∷ blank ∷ placed sum to in
@@ -172,16 +172,16 @@ mutual
       opened_append (placed nullity x) (blank ∷ spelled.is_word ∷ blank ∷ (not_before b ++ spelled.null_word ∷ []))
       ∙ omega (arith, opened_not b (spelled.null_word ∷ []), opened_parentheses (needs_parentheses nullity x) (marks x) (opens x) (opened_marks x))
   opened_marks (inverted e) = omega (arith, opened_parentheses (needs_parentheses negation e) (marks e) (opens e) (opened_marks e))
-  opened_marks (all_of ts) = opened_row and_between negation ts refl
-  opened_marks (any_of ts) = opened_row or_between conjunction ts refl
+  opened_marks (all_of ts) = opened_chain and_between negation ts refl
+  opened_marks (any_of ts) = opened_chain or_between conjunction ts refl
 
-  opened_row : (sign : List Mark) (place : Level) (ts : Trees) → opened_by sign ≡ 0 → opened_by (row sign place ts) ≡ row_opens place ts
-  opened_row sign place no_more h = refl
-  opened_row sign place (and_more t ts) h =
+  opened_chain : (sign : List Mark) (place : Level) (ts : Trees) → opened_by sign ≡ 0 → opened_by (chain sign place ts) ≡ chain_opens place ts
+  opened_chain sign place no_more h = refl
+  opened_chain sign place (and_more t ts) h =
       opened_append (placed place t) (more sign place ts)
       ∙ omega (arith, opened_parentheses (needs_parentheses place t) (marks t) (opens t) (opened_marks t), opened_more sign place ts h)
 
-  opened_more : (sign : List Mark) (place : Level) (ts : Trees) → opened_by sign ≡ 0 → opened_by (more sign place ts) ≡ row_opens place ts
+  opened_more : (sign : List Mark) (place : Level) (ts : Trees) → opened_by sign ≡ 0 → opened_by (more sign place ts) ≡ chain_opens place ts
   opened_more sign place no_more h = refl
   opened_more sign place (and_more t ts) h =
       opened_append sign (placed place t ++ more sign place ts)

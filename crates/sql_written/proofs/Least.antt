@@ -14,8 +14,8 @@ use Rattle.sql_expressions.specs.declared.leaf.Operator.{Operator}
 use Rattle.sql_expressions.specs.declared.leaf.Operator.TheVariants as operator
 use Rattle.sql_written.specs.Parentheses.{opened}
 use Rattle.sql_written.specs.Precedence.{Level, comparison, test, sum, product, unary, rank, level_of, level_of_operator, left_place, right_place, needs_parentheses}
-use Rattle.sql_written.specs.Writable.{HasOne, HasText, HaveTexts, deeper_by, depth, row_depth}
-use Rattle.sql_written.proofs.Costs.{cost, opens, row_opens}
+use Rattle.sql_written.specs.Writable.{HasOne, HasText, HaveTexts, deeper_by, depth, chain_depth}
+use Rattle.sql_written.proofs.Costs.{cost, opens, chain_opens}
 
 -- arithmetic of parentheses
 deeper_less : (b c : Bool) (n : ℕ) → (b ≡ true → c ≡ true) → deeper_by b n ≤ deeper_by c n
@@ -52,14 +52,14 @@ one_if false h = cc
 pub opened_one : (t : Token) (x : List Token) → x ≡ t ∷ [] → a kinds.OpenParenthesis t ≡ true → opened x ≡ 1
 opened_one t x e h = ap opened e ∙ omega (arith, one_if (a kinds.OpenParenthesis t) h)
 
--- rows of trees, from the left
-pub row_opens_end : (s : Level) (ts : List Tree) (t : Tree) → row_opens s (listed (ts ++ t ∷ [])) ≡ row_opens s (listed ts) + cost s t
-row_opens_end s [] t = omega arith
-row_opens_end s (u ∷ ts) t = omega (arith, row_opens_end s ts t)
+-- chains of trees, from the left
+pub chain_opens_end : (s : Level) (ts : List Tree) (t : Tree) → chain_opens s (listed (ts ++ t ∷ [])) ≡ chain_opens s (listed ts) + cost s t
+chain_opens_end s [] t = omega arith
+chain_opens_end s (u ∷ ts) t = omega (arith, chain_opens_end s ts t)
 
-pub row_depth_end : (s : Level) (ts : List Tree) (t : Tree) → row_depth s (listed (ts ++ t ∷ [])) ≡ max (row_depth s (listed ts)) (deeper_by (needs_parentheses s t) (depth t))
-row_depth_end s [] t = omega arith
-row_depth_end s (u ∷ ts) t = omega (arith, row_depth_end s ts t)
+pub chain_depth_end : (s : Level) (ts : List Tree) (t : Tree) → chain_depth s (listed (ts ++ t ∷ [])) ≡ max (chain_depth s (listed ts)) (deeper_by (needs_parentheses s t) (depth t))
+chain_depth_end s [] t = omega arith
+chain_depth_end s (u ∷ ts) t = omega (arith, chain_depth_end s ts t)
 
 pub texts_end : (ts : List Tree) (t : Tree) → HaveTexts (listed ts) → HasText t → HaveTexts (listed (ts ++ t ∷ []))
 texts_end [] t h k = (k, tt)
@@ -75,9 +75,9 @@ pub record Least (s : Level) (n : ℕ) (E : Type 0) (x : Deep) : Type 0 where
   pub lowest : deeper_by (needs_parentheses s x.0) (depth x.0) ≤ x.1
   pub has : E → HasText x.0
 
-pub record LeastRow (s : Level) (n : ℕ) (E : Type 0) (p : Parts) : Type 0 where
-  pub fewest : row_opens s (listed p.0) ≤ n
-  pub lowest : row_depth s (listed p.0) ≤ p.1
+pub record LeastChain (s : Level) (n : ℕ) (E : Type 0) (p : Parts) : Type 0 where
+  pub fewest : chain_opens s (listed p.0) ≤ n
+  pub lowest : chain_depth s (listed p.0) ≤ p.1
   pub has : E → HaveTexts (listed p.0)
   pub some : HasOne (listed p.0)
 

@@ -2,7 +2,7 @@
 use Rattle.std.proofs.Common.{◌≡◌, ℕ, zero, suc, ◌+◌, ◌≤◌, Bool, true, false, cond, not, ◌&&◌, ◌||◌, max, List, [], ◌∷◌, ◌++◌, inl, inr, ◌⊎◌, refl, sym, ap, ◌∙◌, subst, arith}
 use Rattle.grammar_rules.specs.Depths.{AtSome}
 use Rattle.grammar_rules.specs.Reading.{Class, Rule, as_value, nothing, one_texts, nothing_texts, both_texts, follow_texts, value_texts, either_texts}
-use Rattle.grammar_rules.specs.Rows.{all_rows, always, second_of}
+use Rattle.grammar_rules.specs.Repeats.{all_repeats, always, second_of}
 use Rattle.sql_tokens.specs.Contents.{name_in, number_in, string_in}
 use Rattle.sql_tokens.specs.Words.{is}
 use Rattle.sql_tokens.specs.declared.kind.Kind.{Kind}
@@ -20,10 +20,10 @@ use Rattle.sql_expressions.specs.declared.leaf.Leaf.TheVariants.{Number, Text, D
 use Rattle.sql_expressions.proofs.Limited.{Each}
 use Rattle.sql_written.specs.Parentheses.{opened}
 use Rattle.sql_written.specs.Precedence.{Level, disjunction, conjunction, negation, nullity, comparison, test, sum, product, unary, rank, needs_parentheses}
-use Rattle.sql_written.specs.Writable.{HaveTexts, IsLeaf, IsName, IsText, depth, row_depth}
-use Rattle.sql_written.proofs.Costs.{opens, row_opens}
-use Rattle.sql_written.proofs.LevelTexts.{Of, row_texts}
-use Rattle.sql_written.proofs.Least.{Least, LeastRow, Stands, comparison_sign, deeper_one, deeper_some, loosen, one_end, opened_of, opened_one, own_least, product_sign, row_depth_end, row_opens_end, stands_least, sum_sign, texts_end, wider}
+use Rattle.sql_written.specs.Writable.{HaveTexts, IsLeaf, IsName, IsText, depth, chain_depth}
+use Rattle.sql_written.proofs.Costs.{opens, chain_opens}
+use Rattle.sql_written.proofs.LevelTexts.{Of, chain_texts}
+use Rattle.sql_written.proofs.Least.{Least, LeastChain, Stands, comparison_sign, deeper_one, deeper_some, loosen, one_end, opened_of, opened_one, own_least, product_sign, chain_depth_end, chain_opens_end, stands_least, sum_sign, texts_end, wider}
 
 pub parted : (R : Token → Type 0) (x y : List Token) → Each R (x ++ y) → Each R x × Each R y
 parted R [] y h = (tt, h)
@@ -43,41 +43,41 @@ module _ (text : List ℕ) (R : Token → Type 0) (good : Spelled text R) where
   abbrev Keeps : Level → Of Deep → Type 0
   Keeps s P = (ts : List Token) (x : Deep) → P ts x → Least s (opened ts) (Each R ts) x
 
-  -- a row of operators
+  -- a chain of operators
   module _ (s r : Level) (sign : Class Token) (stands : (t : Token) → sign t ≡ true → Stands s s r (level.operator_of t)) (P : Of Deep) (keeps : Keeps r P) where
-    rows_least : (xs : List (Token × Deep)) (l : Deep) (v : List Token) (x : Deep) (m : ℕ) (E : Type 0) → Least s m E l → all_rows always level.join (λ (d : Deep). both_texts (one_texts sign) P) l xs v x → Least s (m + opened v) (E × Each R v) x
-    rows_least [] l v x m E h w = subst (λ (d : Deep). Least s (m + opened v) (E × Each R v) d) (sym w.1) (wider s m (m + opened v) E (E × Each R v) l (omega arith) (λ e. e.0) h)
-    rows_least (y ∷ xs) l v x m E h w =
+    repeats_least : (xs : List (Token × Deep)) (l : Deep) (v : List Token) (x : Deep) (m : ℕ) (E : Type 0) → Least s m E l → all_repeats always level.join (λ (d : Deep). both_texts (one_texts sign) P) l xs v x → Least s (m + opened v) (E × Each R v) x
+    repeats_least [] l v x m E h w = subst (λ (d : Deep). Least s (m + opened v) (E × Each R v) d) (sym w.1) (wider s m (m + opened v) E (E × Each R v) l (omega arith) (λ e. e.0) h)
+    repeats_least (y ∷ xs) l v x m E h w =
         let b = w.4 in
         let k = keeps b.1 y.1 b.4 in
         let j = stands_least s s r (level.operator_of y.0) (stands y.0 b.3.1) l y.1 m (opened b.1) E (Each R b.1) h k in
-        let i = rows_least xs (level.join l y.0 y.1) w.2 x (m + opened b.1) (E × Each R b.1) j w.5 in
+        let i = repeats_least xs (level.join l y.0 y.1) w.2 x (m + opened b.1) (E × Each R b.1) j w.5 in
         wider s (m + opened b.1 + opened w.2) (m + opened v) ((E × Each R b.1) × Each R w.2) (E × Each R v) x (omega (arith, opened_of v w.1 w.2 w.3, opened_of w.1 b.0 b.1 b.2))
         (λ e. let p = parts_of v w.1 w.2 w.3 e.1 in ((e.0, (parts_of w.1 b.0 b.1 b.2 p.0).1), p.1)) i
 
-    row_least : (Q : Of Deep) → Keeps s Q → Keeps s (row_texts sign level.itself level.join Q P)
-    row_least Q q ts x w =
+    chain_least : (Q : Of Deep) → Keeps s Q → Keeps s (chain_texts sign level.itself level.join Q P)
+    chain_least Q q ts x w =
         let p = w.1 in
         subst (λ (d : Deep). Least s (opened ts) (Each R ts) d) (sym w.2)
         (wider s (opened p.0 + opened p.1) (opened ts) (Each R p.0 × Each R p.1) (Each R ts) w.0.1 (omega (arith, opened_of ts p.0 p.1 p.2)) (λ e. parts_of ts p.0 p.1 p.2 e)
-        (rows_least p.4.0 w.0.0 p.1 w.0.1 (opened p.0) (Each R p.0) (q p.0 w.0.0 p.3) p.4.1))
+        (repeats_least p.4.0 w.0.0 p.1 w.0.1 (opened p.0) (Each R p.0) (q p.0 w.0.0 p.3) p.4.1))
 
   loosened : (s r : Level) (P : Of Deep) → rank s ≤ rank r → Keeps r P → Keeps s P
   loosened s r P h k ts x w = loosen s r (opened ts) (Each R ts) x h (k ts x w)
 
-  -- a row of parts
+  -- a chain of parts
   module _ (place : Level) (sign : Class Token) (P : Of Deep) (keeps : Keeps place P) where
-    more_least : (xs : List (Token × Deep)) (l : Parts) (v : List Token) (x : Parts) (m : ℕ) (E : Type 0) → LeastRow place m E l → all_rows always level.add_part (λ (d : Parts). both_texts (one_texts sign) P) l xs v x →
-        LeastRow place (m + opened v) (E × Each R v) x
+    more_least : (xs : List (Token × Deep)) (l : Parts) (v : List Token) (x : Parts) (m : ℕ) (E : Type 0) → LeastChain place m E l → all_repeats always level.add_part (λ (d : Parts). both_texts (one_texts sign) P) l xs v x →
+        LeastChain place (m + opened v) (E × Each R v) x
     more_least [] l v x m E h w =
-        subst (λ (d : Parts). LeastRow place (m + opened v) (E × Each R v) d) (sym w.1)
+        subst (λ (d : Parts). LeastChain place (m + opened v) (E × Each R v) d) (sym w.1)
         (record { fewest = omega (arith, h.fewest); lowest = h.lowest; has = λ e. h.has e.0; some = h.some })
     more_least (y ∷ xs) l v x m E h w =
         let b = w.4 in
         let k = keeps b.1 y.1 b.4 in
-        let j : LeastRow place (m + opened b.1) (E × Each R b.1) (level.add_part l y.0 y.1) = record {
-          fewest = omega (arith, h.fewest, k.fewest, row_opens_end place l.0 y.1.0);
-          lowest = omega (arith, h.lowest, k.lowest, row_depth_end place l.0 y.1.0);
+        let j : LeastChain place (m + opened b.1) (E × Each R b.1) (level.add_part l y.0 y.1) = record {
+          fewest = omega (arith, h.fewest, k.fewest, chain_opens_end place l.0 y.1.0);
+          lowest = omega (arith, h.lowest, k.lowest, chain_depth_end place l.0 y.1.0);
           has = λ e. texts_end l.0 y.1.0 (h.has e.0) (k.has e.1);
           some = one_end l.0 y.1.0;
         } in
@@ -89,22 +89,22 @@ module _ (text : List ℕ) (R : Token → Type 0) (good : Spelled text R) where
           some = i.some;
         }
 
-    parts_least : (ts : List Token) (x : Parts) → row_texts sign level.only_part level.add_part P P ts x → LeastRow place (opened ts) (Each R ts) x
+    parts_least : (ts : List Token) (x : Parts) → chain_texts sign level.only_part level.add_part P P ts x → LeastChain place (opened ts) (Each R ts) x
     parts_least ts x w =
         let p = w.1 in
         let k = keeps p.0 w.0.0 p.3 in
-        let one : LeastRow place (opened p.0) (Each R p.0) (level.only_part w.0.0) = record { fewest = omega (arith, k.fewest); lowest = omega (arith, k.lowest); has = λ e. (k.has e, tt); some = tt } in
+        let one : LeastChain place (opened p.0) (Each R p.0) (level.only_part w.0.0) = record { fewest = omega (arith, k.fewest); lowest = omega (arith, k.lowest); has = λ e. (k.has e, tt); some = tt } in
         let i = more_least p.4.0 (level.only_part w.0.0) p.1 w.0.1 (opened p.0) (Each R p.0) one p.4.1 in
-        subst (λ (d : Parts). LeastRow place (opened ts) (Each R ts) d) (sym w.2)
+        subst (λ (d : Parts). LeastChain place (opened ts) (Each R ts) d) (sym w.2)
         (record { fewest = omega (arith, i.fewest, opened_of ts p.0 p.1 p.2); lowest = i.lowest; has = λ e. i.has (parts_of ts p.0 p.1 p.2 e); some = i.some })
 
-  conjunction_least : (p : Parts) (n : ℕ) (E : Type 0) → LeastRow negation n E p → Least conjunction n E (level.all_value p)
+  conjunction_least : (p : Parts) (n : ℕ) (E : Type 0) → LeastChain negation n E p → Least conjunction n E (level.all_value p)
   conjunction_least ([], d) n E h = absurd h.some
   conjunction_least (t ∷ [], d) n E h =
       loosen conjunction negation n E (t, d) (omega arith) (record { fewest = omega (arith, h.fewest); lowest = omega (arith, h.lowest); has = λ e. (h.has e).0 })
   conjunction_least (t ∷ u ∷ ts, d) n E h = own_least (all_of (listed (t ∷ u ∷ ts))) n E (suc d) h.fewest (omega (arith, h.lowest)) (λ e. (tt, h.has e))
 
-  disjunction_least : (p : Parts) (n : ℕ) (E : Type 0) → LeastRow conjunction n E p → Least disjunction n E (level.any_value p)
+  disjunction_least : (p : Parts) (n : ℕ) (E : Type 0) → LeastChain conjunction n E p → Least disjunction n E (level.any_value p)
   disjunction_least ([], d) n E h = absurd h.some
   disjunction_least (t ∷ [], d) n E h =
       loosen disjunction conjunction n E (t, d) (omega arith) (record { fewest = omega (arith, h.fewest); lowest = omega (arith, h.lowest); has = λ e. (h.has e).0 })
@@ -114,10 +114,10 @@ module _ (text : List ℕ) (R : Token → Type 0) (good : Spelled text R) where
   abbrev word_list : Of Deep → Of Parts
   word_list P =
       value_texts (λ (x : Token × Parts). x.1) (both_texts (one_texts (a kinds.OpenParenthesis))
-      (value_texts (λ (x : Parts × Token). x.0) (both_texts (row_texts (a kinds.Comma) level.only_part level.add_part P P) (one_texts (a kinds.CloseParenthesis)))))
+      (value_texts (λ (x : Parts × Token). x.0) (both_texts (chain_texts (a kinds.Comma) level.only_part level.add_part P P) (one_texts (a kinds.CloseParenthesis)))))
 
   enclosed_least : (P : Of Deep) → Keeps disjunction P → (ts : List Token) (p : Parts) → word_list P ts p →
-      (n : ℕ) × (suc n ≤ opened ts) × LeastRow disjunction n (Each R ts) p
+      (n : ℕ) × (suc n ≤ opened ts) × LeastChain disjunction n (Each R ts) p
   enclosed_least P keeps ts p w =
       let b = w.1 in
       let i = b.4 in
@@ -125,7 +125,7 @@ module _ (text : List ℕ) (R : Token → Type 0) (good : Spelled text R) where
       let l = parts_least disjunction (a kinds.Comma) P keeps c.0 i.0.0 c.3 in (
         opened c.0,
         omega (arith, opened_of ts b.0 b.1 b.2, opened_of b.1 c.0 c.1 c.2, opened_one w.0.0 b.0 b.3.0 b.3.1),
-        subst (λ (d : Parts). LeastRow disjunction (opened c.0) (Each R ts) d) (sym (w.2 ∙ i.2))
+        subst (λ (d : Parts). LeastChain disjunction (opened c.0) (Each R ts) d) (sym (w.2 ∙ i.2))
             (record { fewest = l.fewest; lowest = l.lowest; has = λ e. l.has (parts_of b.1 c.0 c.1 c.2 (parts_of ts b.0 b.1 b.2 e).1).0; some = l.some }),
       )
 
@@ -236,10 +236,10 @@ module _ (text : List ℕ) (R : Token → Type 0) (good : Spelled text R) where
   -- the levels over texts that keep to the least
   module _ (k : Texts) (unaries : Keeps unary k.unary) (negations : Keeps negation k.negation) where
     products : Keeps product (product_over k).texts
-    products = row_least product unary level.is_product product_sign k.unary unaries k.unary (loosened product unary k.unary (omega arith) unaries)
+    products = chain_least product unary level.is_product product_sign k.unary unaries k.unary (loosened product unary k.unary (omega arith) unaries)
 
     sums : Keeps sum (sum_over k).texts
-    sums = row_least sum product level.is_sum sum_sign (product_over k).texts products (product_over k).texts (loosened sum product (product_over k).texts (omega arith) products)
+    sums = chain_least sum product level.is_sum sum_sign (product_over k).texts products (product_over k).texts (loosened sum product (product_over k).texts (omega arith) products)
 
     conjunctions : Keeps conjunction (conjunction_over k).texts
     conjunctions ts x w =
@@ -252,7 +252,7 @@ module _ (text : List ℕ) (R : Token → Type 0) (good : Spelled text R) where
         (disjunction_least w.0 (opened ts) (Each R ts) (parts_least conjunction (a kinds.Or) (conjunction_over k).texts conjunctions ts w.0 w.1))
 
     -- IN and BETWEEN
-    in_least : (b : Bool) (x : Deep) (p : Parts) (m n j : ℕ) (E F : Type 0) → Least sum m E x → suc n ≤ j → LeastRow disjunction n F p → Least test (m + j) (E × F) (level.in_value b x p)
+    in_least : (b : Bool) (x : Deep) (p : Parts) (m n j : ℕ) (E F : Type 0) → Least sum m E x → suc n ≤ j → LeastChain disjunction n F p → Least test (m + j) (E × F) (level.in_value b x p)
     in_least b x p m n j E F h i l =
         own_least (in_list b x.0 (listed p.0)) (m + j) (E × F) (suc (max x.1 p.1)) (omega (arith, h.fewest, l.fewest)) (omega (arith, h.lowest, l.lowest)) (λ e. (h.has e.0, l.some, l.has e.1))
 
@@ -318,7 +318,7 @@ module _ (text : List ℕ) (R : Token → Type 0) (good : Spelled text R) where
     null_least : (b : Bool) (x : Deep) (n : ℕ) (E : Type 0) → Least nullity n E x → Least nullity n E (level.under (is_null b) x)
     null_least b x n E h = own_least (is_null b x.0) n E (suc x.1) h.fewest (omega (arith, h.lowest)) h.has
 
-    nulls_least : (xs : List (Token × Bool)) (l : Deep) (v : List Token) (x : Deep) (n : ℕ) (E : Type 0) → Least nullity n E l → all_rows always level.null_join (λ (d : Deep). both_texts (one_texts (a kinds.Is)) level.null_or_not.free) l xs v x → Least nullity n E x
+    nulls_least : (xs : List (Token × Bool)) (l : Deep) (v : List Token) (x : Deep) (n : ℕ) (E : Type 0) → Least nullity n E l → all_repeats always level.null_join (λ (d : Deep). both_texts (one_texts (a kinds.Is)) level.null_or_not.free) l xs v x → Least nullity n E x
     nulls_least [] l v x n E h w = subst (λ (d : Deep). Least nullity n E d) (sym w.1) h
     nulls_least (y ∷ xs) l v x n E h w = nulls_least xs (level.null_join l y.0 y.1) w.2 x n E (null_least y.1 l n E h) w.5
 
@@ -344,10 +344,10 @@ module _ (text : List ℕ) (R : Token → Type 0) (good : Spelled text R) where
     abbrev inner_texts : List ℕ → Of Deep
     inner_texts f = either_texts (value_texts (level.all_call f) (one_texts (a kinds.Star))) (value_texts (level.call_value f) (level.arguments (expression_over k)).texts)
 
-    arguments_least : (ts : List Token) (p : Parts) → (level.arguments (expression_over k)).texts ts p → (row_opens disjunction (listed p.0) ≤ opened ts) × (row_depth disjunction (listed p.0) ≤ p.1) × (Each R ts → HaveTexts (listed p.0))
+    arguments_least : (ts : List Token) (p : Parts) → (level.arguments (expression_over k)).texts ts p → (chain_opens disjunction (listed p.0) ≤ opened ts) × (chain_depth disjunction (listed p.0) ≤ p.1) × (Each R ts → HaveTexts (listed p.0))
     arguments_least ts p (inl w) = let l = parts_least disjunction (a kinds.Comma) (expression_over k).texts expressions ts p w in (l.fewest, l.lowest, l.has)
     arguments_least ts p (inr w) =
-        subst (λ (q : Parts). (row_opens disjunction (listed q.0) ≤ opened ts) × (row_depth disjunction (listed q.0) ≤ q.1) × (Each R ts → HaveTexts (listed q.0))) (sym w.1) (omega arith, omega arith, λ e. tt)
+        subst (λ (q : Parts). (chain_opens disjunction (listed q.0) ≤ opened ts) × (chain_depth disjunction (listed q.0) ≤ q.1) × (Each R ts → HaveTexts (listed q.0))) (sym w.1) (omega arith, omega arith, λ e. tt)
 
     inner_least : (f : List ℕ) (ts : List Token) (x : Deep) → inner_texts f ts x → Least unary (suc (opened ts)) (IsName f × Each R ts) x
     inner_least f ts x (inl w) =

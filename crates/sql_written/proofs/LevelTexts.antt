@@ -3,7 +3,7 @@ use Rattle.std.proofs.Common.{◌≡◌, ℕ, zero, suc, ◌-◌, Bool, true, fa
 use Rattle.std.specs.Prelude.{codes}
 use Rattle.grammar_rules.specs.Depths.{AtSome}
 use Rattle.grammar_rules.specs.Reading.{Class, one_texts, nothing_texts, both_texts, follow_texts, value_texts, either_texts}
-use Rattle.grammar_rules.specs.Rows.{all_rows, rows_texts, always, step_to, second_of}
+use Rattle.grammar_rules.specs.Repeats.{all_repeats, repeats_texts, always, step_to, second_of}
 use Rattle.sql_tokens.specs.declared.kind.Kind.{Kind}
 use Rattle.sql_tokens.specs.declared.kind.Kind.TheVariants as kinds
 use Rattle.sql_tokens.specs.declared.token.Token.{Token}
@@ -26,24 +26,24 @@ use Rattle.sql_written.proofs.LeafTexts.{only}
 abbrev pub Of : Type 0 → Type 1
 Of A = List Token → A → Type 0
 
--- rows
-abbrev pub row_texts : {A B C : Type 0} → Class Token → (C → A) → (A → Token → B → A) → Of C → Of B → Of A
-row_texts {A} sign first join Q P = value_texts second_of (follow_texts Q (λ c. rows_texts always join (λ (l : A). both_texts (one_texts sign) P) (first c)))
+-- chains
+abbrev pub chain_texts : {A B C : Type 0} → Class Token → (C → A) → (A → Token → B → A) → Of C → Of B → Of A
+chain_texts {A} sign first join Q P = value_texts second_of (follow_texts Q (λ c. repeats_texts always join (λ (l : A). both_texts (one_texts sign) P) (first c)))
 
-all_end : {A B : Type 0} (join : A → Token → B → A) (P : A → List Token → Token × B → Type 0) (l b : A) (xs : List (Token × B)) (x : Token × B) (ts u : List Token) → all_rows always join P l xs ts b → P b u x →
-    all_rows always join P l (xs ++ x ∷ []) (ts ++ u) (step_to join b x)
+all_end : {A B : Type 0} (join : A → Token → B → A) (P : A → List Token → Token × B → Type 0) (l b : A) (xs : List (Token × B)) (x : Token × B) (ts u : List Token) → all_repeats always join P l xs ts b → P b u x →
+    all_repeats always join P l (xs ++ x ∷ []) (ts ++ u) (step_to join b x)
 all_end join P l b [] x ts u h k = (refl, u, [], ap (λ z. z ++ u) h.0 ∙ sym (append-nil u), subst (λ c. P c u x) h.1 k, (refl, ap (λ c. step_to join c x) h.1))
 all_end join P l b (y ∷ xs) x ts u h k =
     (refl, h.1, h.2 ++ u, ap (λ z. z ++ u) h.3 ∙ append_assoc h.1 h.2 u, h.4, all_end join P (step_to join l y) b xs x h.2 u h.5 k)
 
 module _ {A B C : Type 0} (sign : Class Token) (first : C → A) (join : A → Token → B → A) (Q : Of C) (P : Of B) where
-  pub row_has : (ts : List Token) (c : C) → Q ts c → row_texts sign first join Q P ts (first c)
-  row_has ts c h = ((c, first c), (ts, [], sym (append-nil ts), h, ([], (refl, refl))), refl)
+  pub chain_has : (ts : List Token) (c : C) → Q ts c → chain_texts sign first join Q P ts (first c)
+  chain_has ts c h = ((c, first c), (ts, [], sym (append-nil ts), h, ([], (refl, refl))), refl)
 
-  pub row_on : (ts u : List Token) (l : A) (s : Token) (b : B) → sign s ≡ true → row_texts sign first join Q P ts l → P u b → row_texts sign first join Q P (ts ++ s ∷ u) (join l s b)
-  row_on ts u l s b e h k =
+  pub chain_on : (ts u : List Token) (l : A) (s : Token) (b : B) → sign s ≡ true → chain_texts sign first join Q P ts l → P u b → chain_texts sign first join Q P (ts ++ s ∷ u) (join l s b)
+  chain_on ts u l s b e h k =
       let p = h.1 in
-      let here = subst (λ (x : A). all_rows always join (λ (d : A). both_texts (one_texts sign) P) (first h.0.0) p.4.0 p.1 x) (sym h.2) p.4.1 in (
+      let here = subst (λ (x : A). all_repeats always join (λ (d : A). both_texts (one_texts sign) P) (first h.0.0) p.4.0 p.1 x) (sym h.2) p.4.1 in (
         (h.0.0, join l s b),
         (
           p.0,
@@ -64,7 +64,7 @@ module _ (text : List ℕ) where
   comparison_texts = value_texts second_of (follow_texts (any text).test.texts (λ x. either_texts (level.compared (any text) x).texts (nothing_texts x)))
 
   abbrev pub nullity_texts : Of Deep
-  nullity_texts = row_texts (a kinds.Is) level.itself level.null_join comparison_texts level.null_or_not.free
+  nullity_texts = chain_texts (a kinds.Is) level.itself level.null_join comparison_texts level.null_or_not.free
 
   abbrev pub texts_at : Level → Of Deep
   texts_at disjunction = (any text).expression.texts
@@ -94,11 +94,11 @@ module _ (text : List ℕ) where
   up_one conjunction ts x h = (level.only_part x, ((x, level.only_part x), (ts, [], sym (append-nil ts), h, ([], (refl, refl))), refl), refl)
   up_one negation ts x h = (level.only_part x, ((x, level.only_part x), (ts, [], sym (append-nil ts), h, ([], (refl, refl))), refl), refl)
   up_one nullity ts x h = negation_to text ts x (inr h)
-  up_one comparison ts x h = row_has (a kinds.Is) level.itself level.null_join comparison_texts level.null_or_not.free ts x h
+  up_one comparison ts x h = chain_has (a kinds.Is) level.itself level.null_join comparison_texts level.null_or_not.free ts x h
   up_one test ts x h = ((x, x), (ts, [], sym (append-nil ts), h, inr (refl, refl)), refl)
   up_one sum ts x h = ((x, x), (ts, [], sym (append-nil ts), h, inr (refl, refl)), refl)
-  up_one product ts x h = row_has level.is_sum level.itself level.join (any text).product.texts (any text).product.texts ts x h
-  up_one unary ts x h = row_has level.is_product level.itself level.join (any text).unary.texts (any text).unary.texts ts x h
+  up_one product ts x h = chain_has level.is_sum level.itself level.join (any text).product.texts (any text).product.texts ts x h
+  up_one unary ts x h = chain_has level.is_product level.itself level.join (any text).unary.texts (any text).unary.texts ts x h
 
   abbrev up_by : ℕ → Level → Level
   up_by zero s = s
@@ -241,10 +241,10 @@ module _ (text : List ℕ) where
 
   -- binary operators
   sum_on : (s : Token) (x y : List Token) (l r : Deep) → level.is_sum s ≡ true → (any text).sum.texts x l → (any text).product.texts y r → (any text).sum.texts (x ++ s ∷ y) (level.join l s r)
-  sum_on s x y l r e h k = row_on level.is_sum level.itself level.join (any text).product.texts (any text).product.texts x y l s r e h k
+  sum_on s x y l r e h k = chain_on level.is_sum level.itself level.join (any text).product.texts (any text).product.texts x y l s r e h k
 
   product_on : (s : Token) (x y : List Token) (l r : Deep) → level.is_product s ≡ true → (any text).product.texts x l → (any text).unary.texts y r → (any text).product.texts (x ++ s ∷ y) (level.join l s r)
-  product_on s x y l r e h k = row_on level.is_product level.itself level.join (any text).unary.texts (any text).unary.texts x y l s r e h k
+  product_on s x y l r e h k = chain_on level.is_product level.itself level.join (any text).unary.texts (any text).unary.texts x y l s r e h k
 
   compared_on : (s : Token) (x y : List Token) (l r : Deep) → level.is_comparison s ≡ true → (any text).test.texts x l → (any text).test.texts y r → comparison_texts (x ++ s ∷ y) (level.join l s r)
   compared_on s x y l r e h k = ((l, level.join l s r), (x, s ∷ y, refl, h, inl ((s, r), (s ∷ [], y, refl, (refl, e), k), refl)), refl)

@@ -21,7 +21,7 @@ use Rattle.sql_written.specs.Precedence.{Level, disjunction, conjunction, negati
 use Rattle.sql_written.specs.Spelling as spelled
 use Rattle.sql_written.specs.Spelling.{is_plain}
 use Rattle.sql_written.specs.Writable.{HasText, HaveTexts, IsLeaf, IsName, IsText}
-use Rattle.sql_written.specs.Written.{and_between, behind_minus, behind_part, in_parentheses, marks, more, not_before, or_between, row}
+use Rattle.sql_written.specs.Written.{and_between, behind_minus, behind_part, in_parentheses, marks, more, not_before, or_between, chain}
 use Rattle.sql_written.proofs.MarksApart.{plain_is}
 use Rattle.sql_written.proofs.Said.{Are, name_said, plain_said, quoted_said}
 use Rattle.sql_written.proofs.TreeApart.{◌also◌}
@@ -135,7 +135,7 @@ parentheses false ms h = h
 mutual
   pub short : (e : Tree) → HasText e → Short (marks e)
   short (leaf l) w = short_leaf l w
-  short (call f ts) w = short_name f w.0 also ((refl, refl) also append (row behind_part disjunction ts) (spelled.closing ∷ []) (short_row behind_part ((refl, refl) also (tt also tt)) disjunction ts w.1) ((refl, refl), tt))
+  short (call f ts) w = short_name f w.0 also ((refl, refl) also append (chain behind_part disjunction ts) (spelled.closing ∷ []) (short_chain behind_part ((refl, refl) also (tt also tt)) disjunction ts w.1) ((refl, refl), tt))
   short (call_of_all f) w = short_name f w also ((refl, refl) also ((refl, refl) also ((refl, refl) also tt)))
   short (negated e) w = ((refl, refl), append (behind_minus e) _ (short_blank e) (parentheses (needs_parentheses unary e) (marks e) (short e w)))
   short (binary op x y) w =
@@ -144,7 +144,7 @@ mutual
   short (in_list b x ts) w =
       append (in_parentheses (needs_parentheses sum x) (marks x)) _ (parentheses (needs_parentheses sum x) (marks x) (short x w.0))
       (tt also append (not_before b) _ (short_not b)
-      ((refl, refl) also (tt also ((refl, refl) also append (row behind_part disjunction ts) (spelled.closing ∷ []) (short_row behind_part ((refl, refl) also (tt also tt)) disjunction ts w.2) ((refl, refl), tt)))))
+      ((refl, refl) also (tt also ((refl, refl) also append (chain behind_part disjunction ts) (spelled.closing ∷ []) (short_chain behind_part ((refl, refl) also (tt also tt)) disjunction ts w.2) ((refl, refl), tt)))))
   short (between b x from to) w =
       append (in_parentheses (needs_parentheses sum x) (marks x)) _ (parentheses (needs_parentheses sum x) (marks x) (short x w.0))
       (tt also append (not_before b) _ (short_not b)
@@ -154,12 +154,12 @@ mutual
       append (in_parentheses (needs_parentheses nullity x) (marks x)) _ (parentheses (needs_parentheses nullity x) (marks x) (short x w))
       (tt also ((refl, refl) also (tt also append (not_before b) (spelled.null_word ∷ []) (short_not b) ((refl, refl), tt))))
   short (inverted e) w = (refl, refl) also (tt also parentheses (needs_parentheses negation e) (marks e) (short e w))
-  short (all_of ts) w = short_row and_between (tt also ((refl, refl) also (tt also tt))) negation ts w.1
-  short (any_of ts) w = short_row or_between (tt also ((refl, refl) also (tt also tt))) conjunction ts w.1
+  short (all_of ts) w = short_chain and_between (tt also ((refl, refl) also (tt also tt))) negation ts w.1
+  short (any_of ts) w = short_chain or_between (tt also ((refl, refl) also (tt also tt))) conjunction ts w.1
 
-  short_row : (sign : List Mark) → Short sign → (place : Level) (ts : Trees) → HaveTexts ts → Short (row sign place ts)
-  short_row sign s place no_more w = tt
-  short_row sign s place (and_more t ts) w =
+  short_chain : (sign : List Mark) → Short sign → (place : Level) (ts : Trees) → HaveTexts ts → Short (chain sign place ts)
+  short_chain sign s place no_more w = tt
+  short_chain sign s place (and_more t ts) w =
       append (in_parentheses (needs_parentheses place t) (marks t)) (more sign place ts) (parentheses (needs_parentheses place t) (marks t) (short t w.0)) (short_more sign s place ts w.1)
 
   short_more : (sign : List Mark) → Short sign → (place : Level) (ts : Trees) → HaveTexts ts → Short (more sign place ts)

@@ -12,7 +12,7 @@ use Rattle.sql_written.specs.Marks.{Mark, blank, bytes_of, text_of}
 use Rattle.sql_written.specs.Precedence.{Level, disjunction, conjunction, negation, nullity, sum, unary, left_place, right_place, needs_parentheses}
 use Rattle.sql_written.specs.Spelling as spelled
 use Rattle.sql_written.specs.Writable.{HasOne, HasTwo, HasText, HaveTexts, IsLeaf, IsName}
-use Rattle.sql_written.specs.Written.{and_between, behind_minus, behind_part, in_parentheses, marks, more, not_before, or_between, row, written}
+use Rattle.sql_written.specs.Written.{and_between, behind_minus, behind_part, in_parentheses, marks, more, not_before, or_between, chain, written}
 use Rattle.sql_written.proofs.MarkTokens.{StandApart, StandsApart, apart_append, next, next_append, text_append, tokens_written, tokens_at}
 use Rattle.sql_written.proofs.MarksApart.{Ends, and_apart, between_apart, blank_ends, cast_apart, closing_apart, closing_ends, comma_apart, comma_ends, date_apart, dot_apart, end_ends, in_apart, is_apart, minus_apart, name_apart, name_first, not_apart, null_apart, number_apart, number_first, opening_apart, opening_ends, or_apart, parameter_apart, regclass_apart, sign_apart, star_apart, string_apart, tableoid_apart, truth_apart}
 
@@ -66,12 +66,12 @@ mutual
   begins (between b x from to) w = begin_append (in_parentheses (needs_parentheses sum x) (marks x)) _ (begin_parentheses (needs_parentheses sum x) (marks x) (begins x w.0))
   begins (is_null b x) w = begin_append (in_parentheses (needs_parentheses nullity x) (marks x)) _ (begin_parentheses (needs_parentheses nullity x) (marks x) (begins x w))
   begins (inverted e) w = record { at = λ n. refl }
-  begins (all_of ts) w = row_begins and_between negation ts (two_one ts w.0) w.1
-  begins (any_of ts) w = row_begins or_between conjunction ts (two_one ts w.0) w.1
+  begins (all_of ts) w = chain_begins and_between negation ts (two_one ts w.0) w.1
+  begins (any_of ts) w = chain_begins or_between conjunction ts (two_one ts w.0) w.1
 
-  row_begins : (sign : List Mark) (place : Level) (ts : Trees) → HasOne ts → HaveTexts ts → BeginWell (row sign place ts)
-  row_begins sign place no_more h w = absurd h
-  row_begins sign place (and_more t ts) h w = begin_append (in_parentheses (needs_parentheses place t) (marks t)) _ (begin_parentheses (needs_parentheses place t) (marks t) (begins t w.0))
+  chain_begins : (sign : List Mark) (place : Level) (ts : Trees) → HasOne ts → HaveTexts ts → BeginWell (chain sign place ts)
+  chain_begins sign place no_more h w = absurd h
+  chain_begins sign place (and_more t ts) h w = begin_append (in_parentheses (needs_parentheses place t) (marks t)) _ (begin_parentheses (needs_parentheses place t) (marks t) (begins t w.0))
 
 -- names and constants
 pub name_of : (z : List ℕ) (n : ℕ) → IsName z → Ends n → StandsApart (spelled.name z) n
@@ -100,7 +100,7 @@ parentheses_apart : (b : Bool) (ms : List Mark) (n : ℕ) → Ends n → ((m : �
 parentheses_apart true ms n h on = (opening_apart _, apart_append ms (spelled.closing ∷ []) n (on 41 closing_ends) (closing_apart n, tt))
 parentheses_apart false ms n h on = on n h
 
--- what stands between the parts of a row
+-- what stands between the parts of a chain
 record Separates (sign : List Mark) : Type 0 where
   first : (n : ℕ) → Ends (next (text_of sign) n)
   apart : (n : ℕ) → belongs class.Blank n ≡ false → StandApart sign n
@@ -141,7 +141,7 @@ operator_minus _ x y n = refl
 
 minus_first : (e : Tree) → HasText e → (n : ℕ) → (next (text_of (behind_minus e ++ in_parentheses (needs_parentheses unary e) (marks e))) n == 45) ≡ false
 minus_first (leaf l) w n = leaf_minus l w n
-minus_first (call f ts) w n = name_minus f (spelled.opening ∷ (row behind_part disjunction ts ++ spelled.closing ∷ [])) n
+minus_first (call f ts) w n = name_minus f (spelled.opening ∷ (chain behind_part disjunction ts ++ spelled.closing ∷ [])) n
 minus_first (call_of_all f) w n = name_minus f (spelled.opening ∷ spelled.star ∷ spelled.closing ∷ []) n
 minus_first (negated e) w n = refl
 minus_first (binary op x y) w n = operator_minus op x y n
@@ -195,7 +195,7 @@ mutual
   pub apart : (e : Tree) → HasText e → (n : ℕ) → Ends n → StandApart (marks e) n
   apart (leaf l) w n h = leaf_apart l w n h
   apart (call f ts) w n h =
-      name_of f 40 w.0 opening_ends also (opening_apart _ also apart_append (row behind_part disjunction ts) (spelled.closing ∷ []) n (row_apart behind_part comma_separates disjunction ts w.1 41 closing_ends) (closing_apart n, tt))
+      name_of f 40 w.0 opening_ends also (opening_apart _ also apart_append (chain behind_part disjunction ts) (spelled.closing ∷ []) n (chain_apart behind_part comma_separates disjunction ts w.1 41 closing_ends) (closing_apart n, tt))
   apart (call_of_all f) w n h = name_of f 40 w opening_ends also (opening_apart _ also (star_apart _ also (closing_apart n also tt)))
   apart (negated e) w n h = (
     minus_apart _ (minus_first e w n),
@@ -209,7 +209,7 @@ mutual
       apart_append (in_parentheses (needs_parentheses sum x) (marks x)) _ n
       (parentheses_apart (needs_parentheses sum x) (marks x) 32 blank_ends (λ m k. apart x w.0 m k))
       (not_behind b _ n
-      (in_apart 32 refl also (refl also (opening_apart _ also apart_append (row behind_part disjunction ts) (spelled.closing ∷ []) n (row_apart behind_part comma_separates disjunction ts w.2 41 closing_ends) (closing_apart n, tt))))
+      (in_apart 32 refl also (refl also (opening_apart _ also apart_append (chain behind_part disjunction ts) (spelled.closing ∷ []) n (chain_apart behind_part comma_separates disjunction ts w.2 41 closing_ends) (closing_apart n, tt))))
       (record { at = λ m. refl }))
   apart (between b x from to) w n h =
       apart_append (in_parentheses (needs_parentheses sum x) (marks x)) _ n
@@ -227,12 +227,12 @@ mutual
       (refl also (is_apart 32 refl also not_behind b (spelled.null_word ∷ []) n (null_apart n h.part, tt) (record { at = λ m. refl })))
   apart (inverted e) w n h =
       not_apart 32 refl also ((begin_parentheses (needs_parentheses negation e) (marks e) (begins e w)).at n also parentheses_apart (needs_parentheses negation e) (marks e) n h (λ m k. apart e w m k))
-  apart (all_of ts) w n h = row_apart and_between and_separates negation ts w.1 n h
-  apart (any_of ts) w n h = row_apart or_between or_separates conjunction ts w.1 n h
+  apart (all_of ts) w n h = chain_apart and_between and_separates negation ts w.1 n h
+  apart (any_of ts) w n h = chain_apart or_between or_separates conjunction ts w.1 n h
 
-  row_apart : (sign : List Mark) → Separates sign → (place : Level) (ts : Trees) → HaveTexts ts → (n : ℕ) → Ends n → StandApart (row sign place ts) n
-  row_apart sign s place no_more w n h = tt
-  row_apart sign s place (and_more t ts) w n h =
+  chain_apart : (sign : List Mark) → Separates sign → (place : Level) (ts : Trees) → HaveTexts ts → (n : ℕ) → Ends n → StandApart (chain sign place ts) n
+  chain_apart sign s place no_more w n h = tt
+  chain_apart sign s place (and_more t ts) w n h =
       apart_append (in_parentheses (needs_parentheses place t) (marks t)) (more sign place ts) n
       (parentheses_apart (needs_parentheses place t) (marks t) _ (more_first sign s place ts n h) (λ m k. apart t w.0 m k))
       (more_apart sign s place ts w.1 n h)

@@ -12,7 +12,7 @@ use Rattle.sql_expressions.specs.declared.leaf.Operator.{Operator}
 use Rattle.sql_written.specs.Marks.{Mark, blank, text_of}
 use Rattle.sql_written.specs.Precedence.{Level, disjunction, rank, level_of, left_place, right_place}
 use Rattle.sql_written.specs.Spelling as spelled
-use Rattle.sql_written.specs.Written.{behind_part, in_parentheses, marks, more, not_before, row}
+use Rattle.sql_written.specs.Written.{behind_part, in_parentheses, marks, more, not_before, chain}
 use Rattle.sql_written.proofs.MarkTokens.{text_append}
 
 -- how much is written of a tree
@@ -53,11 +53,11 @@ pub parentheses_text : (b : Bool) (ms : List Mark) (o0 o1 o2 o3 : List ℕ) → 
 parentheses_text true ms o0 o1 o2 o3 b h k l = behind (spelled.opening ∷ []) (ms ++ spelled.closing ∷ []) o0 o1 o3 h (behind ms (spelled.closing ∷ []) o1 o2 o3 k l)
 parentheses_text false ms o0 o1 o2 o3 b h k l = cc
 
-pub list_text : (ts us : Trees) (o0 o1 o2 o3 : List ℕ) → us ≡ ts → o1 ≡ o0 ++ 40 ∷ [] → o2 ≡ o1 ++ text_of (row behind_part disjunction us) → o3 ≡ o2 ++ 41 ∷ [] →
-    o3 ≡ o0 ++ text_of (spelled.opening ∷ (row behind_part disjunction ts ++ spelled.closing ∷ []))
+pub list_text : (ts us : Trees) (o0 o1 o2 o3 : List ℕ) → us ≡ ts → o1 ≡ o0 ++ 40 ∷ [] → o2 ≡ o1 ++ text_of (chain behind_part disjunction us) → o3 ≡ o2 ++ 41 ∷ [] →
+    o3 ≡ o0 ++ text_of (spelled.opening ∷ (chain behind_part disjunction ts ++ spelled.closing ∷ []))
 list_text ts us o0 o1 o2 o3 e h k l =
-    subst (λ vs. o3 ≡ o0 ++ text_of (spelled.opening ∷ (row behind_part disjunction vs ++ spelled.closing ∷ []))) e
-    (behind (spelled.opening ∷ []) (row behind_part disjunction us ++ spelled.closing ∷ []) o0 o1 o3 h (behind (row behind_part disjunction us) (spelled.closing ∷ []) o1 o2 o3 k l))
+    subst (λ vs. o3 ≡ o0 ++ text_of (spelled.opening ∷ (chain behind_part disjunction vs ++ spelled.closing ∷ []))) e
+    (behind (spelled.opening ∷ []) (chain behind_part disjunction us ++ spelled.closing ∷ []) o0 o1 o3 h (behind (chain behind_part disjunction us) (spelled.closing ∷ []) o1 o2 o3 k l))
 
 pub binary_text : (op : Operator) (x y t : Tree) (p q : ℕ) (o0 o1 o2 o3 : List ℕ) → t ≡ binary op x y → p ≡ rank (left_place op) → q ≡ rank (right_place op) → o1 ≡ o0 ++ text_of (placed p x) →
     o2 ≡ o1 ++ text_of (blank ∷ spelled.sign op ∷ blank ∷ []) → o3 ≡ o2 ++ text_of (placed q y) → o3 ≡ o0 ++ text_of (marks t)
@@ -68,9 +68,9 @@ binary_text op x y t p q o0 o1 o2 o3 e i j h k l =
     (behind (placed p x) (blank ∷ spelled.sign op ∷ blank ∷ placed q y) o0 o1 o3 h (behind (blank ∷ spelled.sign op ∷ blank ∷ []) (placed q y) o1 o2 o3 k l))))
 
 pub in_text : (b : Bool) (x t : Tree) (ts : Trees) (o0 o1 o2 o3 o4 o5 : List ℕ) → t ≡ in_list b x ts → o1 ≡ o0 ++ text_of (placed 6 x) → o2 ≡ o1 ++ 32 ∷ [] → o3 ≡ o2 ++ text_of (not_before b) →
-    o4 ≡ o3 ++ text_of (spelled.in_word ∷ blank ∷ []) → o5 ≡ o4 ++ text_of (spelled.opening ∷ (row behind_part disjunction ts ++ spelled.closing ∷ [])) → o5 ≡ o0 ++ text_of (marks t)
+    o4 ≡ o3 ++ text_of (spelled.in_word ∷ blank ∷ []) → o5 ≡ o4 ++ text_of (spelled.opening ∷ (chain behind_part disjunction ts ++ spelled.closing ∷ [])) → o5 ≡ o0 ++ text_of (marks t)
 in_text b x t ts o0 o1 o2 o3 o4 o5 e h1 h2 h3 h4 h5 =
-    let list = spelled.opening ∷ (row behind_part disjunction ts ++ spelled.closing ∷ []) in
+    let list = spelled.opening ∷ (chain behind_part disjunction ts ++ spelled.closing ∷ []) in
     subst (λ u. o5 ≡ o0 ++ text_of (marks u)) (sym e)
     (behind (placed 6 x) (blank ∷ (not_before b ++ spelled.in_word ∷ blank ∷ list)) o0 o1 o5 h1
     (behind (blank ∷ []) (not_before b ++ spelled.in_word ∷ blank ∷ list) o1 o2 o5 h2
@@ -101,10 +101,10 @@ null_text b x t o0 o1 o2 o3 o4 e h1 h2 h3 h4 =
 pub not_text : (x t : Tree) (o0 o1 o2 : List ℕ) → t ≡ inverted x → o1 ≡ o0 ++ text_of (spelled.not_word ∷ blank ∷ []) → o2 ≡ o1 ++ text_of (placed 2 x) → o2 ≡ o0 ++ text_of (marks t)
 not_text x t o0 o1 o2 e h1 h2 = subst (λ u. o2 ≡ o0 ++ text_of (marks u)) (sym e) (behind (spelled.not_word ∷ blank ∷ []) (placed 2 x) o0 o1 o2 h1 h2)
 
--- rows
-pub row_text : (sign : List Mark) (place : Level) (t : Tree) (us ts : Trees) (p : ℕ) (o0 o1 o2 : List ℕ) → us ≡ and_more t ts → p ≡ rank place → o1 ≡ o0 ++ text_of (placed p t) → o2 ≡ o1 ++ text_of (more sign place ts) → o2 ≡ o0 ++ text_of (row sign place us)
-row_text sign place t us ts p o0 o1 o2 e i h k =
-    subst (λ (vs : Trees). o2 ≡ o0 ++ text_of (row sign place vs)) (sym e)
+-- chains
+pub chain_text : (sign : List Mark) (place : Level) (t : Tree) (us ts : Trees) (p : ℕ) (o0 o1 o2 : List ℕ) → us ≡ and_more t ts → p ≡ rank place → o1 ≡ o0 ++ text_of (placed p t) → o2 ≡ o1 ++ text_of (more sign place ts) → o2 ≡ o0 ++ text_of (chain sign place us)
+chain_text sign place t us ts p o0 o1 o2 e i h k =
+    subst (λ (vs : Trees). o2 ≡ o0 ++ text_of (chain sign place vs)) (sym e)
     (subst (λ n. o2 ≡ o0 ++ text_of (placed n t ++ more sign place ts)) i (behind (placed p t) (more sign place ts) o0 o1 o2 h k))
 
 pub more_step : (sign : List Mark) (place : Level) (t : Tree) (us ts : Trees) (p : ℕ) (o0 o1 o2 all : List ℕ) → us ≡ and_more t ts → p ≡ rank place → o1 ≡ o0 ++ text_of sign → o2 ≡ o1 ++ text_of (placed p t) →

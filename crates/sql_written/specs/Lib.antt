@@ -1,7 +1,7 @@
+pub mod Chains
 pub mod Marks
 pub mod Parentheses
 pub mod Precedence
-pub mod Rows
 pub mod Spelling
 pub mod Writable
 pub mod Written

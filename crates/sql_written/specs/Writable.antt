@@ -28,7 +28,7 @@ IsLeaf (ColumnOf t c) = IsName t × IsName c
 IsLeaf TableName = Unit {0}
 IsLeaf (TableNameOf t) = IsName t
 
--- a list of IN has a part, and a row has two, since one part alone is itself
+-- a list of IN has a part, and a chain has two, since one part alone is itself
 abbrev pub HasOne : Trees → Type 0
 HasOne no_more = ⊥
 HasOne (and_more t ts) = Unit {0}
@@ -38,7 +38,7 @@ HasTwo no_more = ⊥
 HasTwo (and_more t ts) = HasOne ts
 
 abbrev mutual
-  -- every name and every constant can be spelled, and every row has parts enough
+  -- every name and every constant can be spelled, and every chain has parts enough
   pub HasText : Tree → Type 0
   HasText (leaf l) = IsLeaf l
   HasText (call f ts) = IsName f × HaveTexts ts
@@ -63,22 +63,22 @@ deeper_by b n = if b then suc n else n
 abbrev mutual
   pub depth : Tree → ℕ
   depth (leaf l) = 0
-  depth (call f ts) = suc (row_depth disjunction ts)
+  depth (call f ts) = suc (chain_depth disjunction ts)
   depth (call_of_all f) = 1
   depth (negated e) = suc (deeper_by (needs_parentheses unary e) (depth e))
   depth (binary op x y) = suc (max (deeper_by (needs_parentheses (left_place op) x) (depth x)) (deeper_by (needs_parentheses (right_place op) y) (depth y)))
-  depth (in_list b x ts) = suc (max (deeper_by (needs_parentheses sum x) (depth x)) (row_depth disjunction ts))
+  depth (in_list b x ts) = suc (max (deeper_by (needs_parentheses sum x) (depth x)) (chain_depth disjunction ts))
   depth (between b x from to) =
       suc (max (deeper_by (needs_parentheses sum x) (depth x))
       (max (deeper_by (needs_parentheses sum from) (depth from)) (deeper_by (needs_parentheses sum to) (depth to))))
   depth (is_null b x) = suc (deeper_by (needs_parentheses nullity x) (depth x))
   depth (inverted e) = suc (deeper_by (needs_parentheses negation e) (depth e))
-  depth (all_of ts) = suc (row_depth negation ts)
-  depth (any_of ts) = suc (row_depth conjunction ts)
+  depth (all_of ts) = suc (chain_depth negation ts)
+  depth (any_of ts) = suc (chain_depth conjunction ts)
 
-  pub row_depth : Level → Trees → ℕ
-  row_depth place no_more = 0
-  row_depth place (and_more t ts) = max (deeper_by (needs_parentheses place t) (depth t)) (row_depth place ts)
+  pub chain_depth : Level → Trees → ℕ
+  chain_depth place no_more = 0
+  chain_depth place (and_more t ts) = max (deeper_by (needs_parentheses place t) (depth t)) (chain_depth place ts)
 
 abbrev pub IsWritable : Tree → Type 0
 IsWritable t = HasText t × (depth t ≤ MOST_DEPTH)

@@ -5,7 +5,7 @@ use Rattle.sql_written.specs.Marks.{Mark, blank, text_of}
 use Rattle.sql_written.specs.Precedence.{Level, disjunction, conjunction, negation, nullity, sum, unary, left_place, right_place, needs_parentheses}
 use Rattle.sql_written.specs.Spelling as spelled
 
--- between the parts of a list, and of a row
+-- between the parts of a list, and of a chain
 abbrev pub behind_part : List Mark
 behind_part = spelled.comma ∷ blank ∷ []
 
@@ -31,7 +31,7 @@ behind_minus _ = []
 abbrev mutual
   pub marks : Tree → List Mark
   marks (leaf l) = spelled.leaf_marks l
-  marks (call f ts) = spelled.name f ∷ spelled.opening ∷ (row behind_part disjunction ts ++ spelled.closing ∷ [])
+  marks (call f ts) = spelled.name f ∷ spelled.opening ∷ (chain behind_part disjunction ts ++ spelled.closing ∷ [])
   marks (call_of_all f) = spelled.name f ∷ spelled.opening ∷ spelled.star ∷ spelled.closing ∷ []
   marks (negated e) = spelled.minus ∷ (behind_minus e ++ in_parentheses (needs_parentheses unary e) (marks e))
   marks (binary op x y) =
@@ -39,20 +39,20 @@ abbrev mutual
       ++ blank ∷ spelled.sign op ∷ blank ∷ in_parentheses (needs_parentheses (right_place op) y) (marks y)
   marks (in_list b x ts) =
       in_parentheses (needs_parentheses sum x) (marks x)
-      ++ blank ∷ (not_before b ++ spelled.in_word ∷ blank ∷ spelled.opening ∷ (row behind_part disjunction ts ++ spelled.closing ∷ []))
+      ++ blank ∷ (not_before b ++ spelled.in_word ∷ blank ∷ spelled.opening ∷ (chain behind_part disjunction ts ++ spelled.closing ∷ []))
   marks (between b x from to) =
       in_parentheses (needs_parentheses sum x) (marks x)
       ++ blank ∷ (not_before b ++ spelled.between_word ∷ blank ∷ (in_parentheses (needs_parentheses sum from) (marks from)
       ++ blank ∷ spelled.and_word ∷ blank ∷ in_parentheses (needs_parentheses sum to) (marks to)))
   marks (is_null b x) = in_parentheses (needs_parentheses nullity x) (marks x) ++ blank ∷ spelled.is_word ∷ blank ∷ (not_before b ++ spelled.null_word ∷ [])
   marks (inverted e) = spelled.not_word ∷ blank ∷ in_parentheses (needs_parentheses negation e) (marks e)
-  marks (all_of ts) = row and_between negation ts
-  marks (any_of ts) = row or_between conjunction ts
+  marks (all_of ts) = chain and_between negation ts
+  marks (any_of ts) = chain or_between conjunction ts
 
-  -- the parts of a row that stand in places of one level
-  pub row : List Mark → Level → Trees → List Mark
-  row sign place no_more = []
-  row sign place (and_more t ts) = in_parentheses (needs_parentheses place t) (marks t) ++ more sign place ts
+  -- the parts of a chain that stand in places of one level
+  pub chain : List Mark → Level → Trees → List Mark
+  chain sign place no_more = []
+  chain sign place (and_more t ts) = in_parentheses (needs_parentheses place t) (marks t) ++ more sign place ts
 
   -- the same behind a part
   pub more : List Mark → Level → Trees → List Mark

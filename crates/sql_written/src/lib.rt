@@ -15,9 +15,9 @@
 //! fewer, and `quotes_are_needed` that a name in quotes is said by no token without.
 #![tactic(auto)]
 
+mod chain;
 mod laws;
 mod precedence;
-mod row;
 mod spelling;
 mod write;
 

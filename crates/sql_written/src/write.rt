@@ -2,38 +2,38 @@ ghost use Rattle.std.specs.Prelude.{◌≡◌, ◌++◌, ◌∷◌, [], IfOk, On
 ghost use Rattle.sql_expressions.specs.Tree.{listed, tree, trees};
 ghost use Rattle.sql_written.specs.Marks.{blank, text_of};
 ghost use Rattle.sql_written.specs.Precedence as levels;
-ghost use Rattle.sql_written.specs.Rows as rows;
+ghost use Rattle.sql_written.specs.Chains as chains;
 ghost use Rattle.sql_written.specs.Spelling as spelled;
 ghost use Rattle.sql_written.specs.Written as shown;
 
 use crate::precedence::{
     CONJUNCTION, DISJUNCTION, NEGATION, NULLITY, SUM, UNARY, left_rank, rank_of, right_rank,
 };
-use crate::row::Row;
+use crate::chain::Chain;
 use crate::spelling::{write_leaf, write_name, write_sign};
 use pg_values::NoMemory;
 use sql_expressions::{Expr, ExprList, Operator};
 use std::alloc::Global;
 
-fn write_between(row: Row, out: &mut Vec<u8>) -> Result<(), NoMemory>
-    ensures { OnOk result (out.new.items ≡ out.old.items ++ text_of (rows.between row)) }
+fn write_between(chain: Chain, out: &mut Vec<u8>) -> Result<(), NoMemory>
+    ensures { OnOk result (out.new.items ≡ out.old.items ++ text_of (chains.between chain)) }
 {
-    let sign: &[u8] = match row {
-        Row::List => b", ",
-        Row::And => b" AND ",
-        Row::Or => b" OR ",
+    let sign: &[u8] = match chain {
+        Chain::List => b", ",
+        Chain::And => b" AND ",
+        Chain::Or => b" OR ",
     };
     out.extend_from_slice(sign)?;
     Ok(())
 }
 
-fn place_of(row: Row) -> u8
-    ensures { result ≡ levels.rank (rows.place row) }
+fn place_of(chain: Chain) -> u8
+    ensures { result ≡ levels.rank (chains.place chain) }
 {
-    match row {
-        Row::List => DISJUNCTION,
-        Row::And => NEGATION,
-        Row::Or => CONJUNCTION,
+    match chain {
+        Chain::List => DISJUNCTION,
+        Chain::And => NEGATION,
+        Chain::Or => CONJUNCTION,
     }
 }
 
@@ -79,25 +79,25 @@ fn write_operand(place: u8, e: &Expr, out: &mut Vec<u8>) -> Result<(), NoMemory>
     write_tree(e, out)
 }
 
-/// The parts of a row behind the first.
+/// The parts of a chain behind the first.
 #[cycle(write)]
-fn write_more(row: Row, parts: &[Expr], out: &mut Vec<u8>) -> Result<(), NoMemory>
-    ensures { OnOk result (out.new.items ≡ out.old.items ++ text_of (shown.more (rows.between row) (rows.place row) (listed (map tree parts.now)))) }
+fn write_more(chain: Chain, parts: &[Expr], out: &mut Vec<u8>) -> Result<(), NoMemory>
+    ensures { OnOk result (out.new.items ≡ out.old.items ++ text_of (shown.more (chains.between chain) (chains.place chain) (listed (map tree parts.now)))) }
 {
     for part in parts {
-        write_between(row, out)?;
-        write_operand(place_of(row), part, out)?;
+        write_between(chain, out)?;
+        write_operand(place_of(chain), part, out)?;
     }
     Ok(())
 }
 
 #[cycle(write)]
-fn write_row(row: Row, parts: &[Expr], out: &mut Vec<u8>) -> Result<(), NoMemory>
-    ensures { OnOk result (out.new.items ≡ out.old.items ++ text_of (shown.row (rows.between row) (rows.place row) (listed (map tree parts.now)))) }
+fn write_chain(chain: Chain, parts: &[Expr], out: &mut Vec<u8>) -> Result<(), NoMemory>
+    ensures { OnOk result (out.new.items ≡ out.old.items ++ text_of (shown.chain (chains.between chain) (chains.place chain) (listed (map tree parts.now)))) }
 {
     if let [first, rest @ ..] = parts {
-        write_operand(place_of(row), first, out)?;
-        write_more(row, rest, out)?;
+        write_operand(place_of(chain), first, out)?;
+        write_more(chain, rest, out)?;
     }
     Ok(())
 }
@@ -105,10 +105,10 @@ fn write_row(row: Row, parts: &[Expr], out: &mut Vec<u8>) -> Result<(), NoMemory
 /// A list in parentheses.
 #[cycle(write)]
 fn write_list(list: &ExprList, out: &mut Vec<u8>) -> Result<(), NoMemory>
-    ensures { OnOk result (out.new.items ≡ out.old.items ++ text_of (spelled.opening ∷ (shown.row shown.behind_part levels.disjunction (trees list.now) ++ spelled.closing ∷ []))) }
+    ensures { OnOk result (out.new.items ≡ out.old.items ++ text_of (spelled.opening ∷ (shown.chain shown.behind_part levels.disjunction (trees list.now) ++ spelled.closing ∷ []))) }
 {
     out.push(b'(')?;
-    write_row(Row::List, list.as_slice(), out)?;
+    write_chain(Chain::List, list.as_slice(), out)?;
     out.push(b')')?;
     Ok(())
 }
@@ -166,8 +166,8 @@ fn write_tree(e: &Expr, out: &mut Vec<u8>) -> Result<(), NoMemory>
             out.extend_from_slice(b"NOT ")?;
             write_operand(NEGATION, operand, out)
         }
-        Expr::And(list) => write_row(Row::And, list.as_slice(), out),
-        Expr::Or(list) => write_row(Row::Or, list.as_slice(), out),
+        Expr::And(list) => write_chain(Chain::And, list.as_slice(), out),
+        Expr::Or(list) => write_chain(Chain::Or, list.as_slice(), out),
     }
 }
 

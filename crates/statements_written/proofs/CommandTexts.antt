@@ -5,7 +5,7 @@ use Rattle.std.specs.Prelude.{codes, map, nat_lt}
 use Rattle.std.specs.Str.{bytes_eq}
 use Rattle.std.proofs.lemmas.Slice.Eq.{bytes_eq-Decides}
 use Rattle.grammar_rules.specs.Reading.{one_texts, nothing_texts, both_texts, value_texts}
-use Rattle.grammar_rules.specs.Rows.{second_of}
+use Rattle.grammar_rules.specs.Repeats.{second_of}
 use Rattle.sql_tokens.specs.Contents.{bytes_of, name_in}
 use Rattle.sql_tokens.specs.Words.{is, is_name}
 use Rattle.sql_tokens.specs.declared.kind.Kind.{Kind}

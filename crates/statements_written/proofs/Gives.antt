@@ -3,7 +3,7 @@
 use Rattle.std.proofs.Common.{◌≡◌, ℕ, suc, ◌+◌, ◌≤◌, true, List, [], ◌∷◌, ◌++◌, inl, inr, sym, subst, arith}
 use Rattle.std.specs.Prelude.{Contains}
 use Rattle.grammar_rules.specs.Reading.{Class, one_texts, nothing_texts, both_texts, follow_texts, value_texts, either_texts}
-use Rattle.grammar_rules.specs.Rows.{all_rows, always, many_texts}
+use Rattle.grammar_rules.specs.Repeats.{all_repeats, always, many_texts}
 use Rattle.sql_tokens.specs.Tokens.{tokens_of}
 use Rattle.sql_tokens.specs.declared.kind.Kind.{Kind}
 use Rattle.sql_tokens.specs.declared.kind.Kind.TheVariants as kinds
@@ -14,7 +14,7 @@ use Rattle.grammar_words.specs.Words.{snoc, only as alone}
 use Rattle.sql_written.specs.Parentheses.{opened}
 use Rattle.sql_written.proofs.Least.{opened_of, opened_one}
 use Rattle.sql_written.proofs.LeastTexts.{parted}
-use Rattle.sql_written.proofs.LevelTexts.{Of, row_texts}
+use Rattle.sql_written.proofs.LevelTexts.{Of, chain_texts}
 use Rattle.statements_written.specs.Lists.{Each, SomeAre}
 
 -- a token of the text
@@ -137,33 +137,33 @@ module _ {text : List ℕ} where
 
   -- lists
   module _ {A : Type 0} {P : Of A} {cost : A → ℕ} {W : A → Type 0} (g : Gives text P cost W) where
-    rows_fewest : (l : List A) (xs : List (Token × A)) (ts : List Token) (y : List A) → all_rows always snoc (λ (l : List A). both_texts (one_texts (a kinds.Comma)) P) l xs ts y → total cost y ≤ total cost l + opened ts
-    rows_fewest l [] ts y h = subst (λ z. total cost z ≤ total cost l + opened ts) (sym h.1) (omega arith)
-    rows_fewest l (x ∷ xs) ts y h =
+    repeats_fewest : (l : List A) (xs : List (Token × A)) (ts : List Token) (y : List A) → all_repeats always snoc (λ (l : List A). both_texts (one_texts (a kinds.Comma)) P) l xs ts y → total cost y ≤ total cost l + opened ts
+    repeats_fewest l [] ts y h = subst (λ z. total cost z ≤ total cost l + opened ts) (sym h.1) (omega arith)
+    repeats_fewest l (x ∷ xs) ts y h =
         let u = h.1 in
         let b = h.4 in
-        let on = rows_fewest (l ++ x.1 ∷ []) xs h.2 y h.5 in
+        let on = repeats_fewest (l ++ x.1 ∷ []) xs h.2 y h.5 in
         omega (arith, on, total_end cost l x.1, opened_of ts u h.2 h.3, opened_of u b.0 b.1 b.2, g.fewest b.1 x.1 b.4)
 
-    rows_fit : (l : List A) (xs : List (Token × A)) (ts : List Token) (y : List A) → EachToken (Own text) ts → SomeAre W l → all_rows always snoc (λ (l : List A). both_texts (one_texts (a kinds.Comma)) P) l xs ts y → SomeAre W y
-    rows_fit l [] ts y e w h = subst (SomeAre W) (sym h.1) w
-    rows_fit l (x ∷ xs) ts y e w h =
+    repeats_fit : (l : List A) (xs : List (Token × A)) (ts : List Token) (y : List A) → EachToken (Own text) ts → SomeAre W l → all_repeats always snoc (λ (l : List A). both_texts (one_texts (a kinds.Comma)) P) l xs ts y → SomeAre W y
+    repeats_fit l [] ts y e w h = subst (SomeAre W) (sym h.1) w
+    repeats_fit l (x ∷ xs) ts y e w h =
         let b = h.4 in
         let p = parts_of (Own text) ts h.1 h.2 h.3 e in
         let q = parts_of (Own text) h.1 b.0 b.1 b.2 p.0 in
-        rows_fit (l ++ x.1 ∷ []) xs h.2 y p.1 (some_end W l x.1 w (g.fits b.1 x.1 q.1 b.4)) h.5
+        repeats_fit (l ++ x.1 ∷ []) xs h.2 y p.1 (some_end W l x.1 w (g.fits b.1 x.1 q.1 b.4)) h.5
 
-    pub commas : Gives text (row_texts (a kinds.Comma) alone snoc P P) (total cost) (SomeAre W)
+    pub commas : Gives text (chain_texts (a kinds.Comma) alone snoc P P) (total cost) (SomeAre W)
     commas = record {
       fewest = λ ts y h.
           let f = h.1 in
           let first : total cost (h.0.0 ∷ []) ≡ cost h.0.0 = omega arith in
-          let on = rows_fewest (h.0.0 ∷ []) f.4.0 f.1 h.0.1 f.4.1 in
+          let on = repeats_fewest (h.0.0 ∷ []) f.4.0 f.1 h.0.1 f.4.1 in
           subst (λ z. total cost z ≤ opened ts) (sym h.2) (omega (arith, first, on, opened_of ts f.0 f.1 f.2, g.fewest f.0 h.0.0 f.3));
       fits = λ ts y e h.
           let f = h.1 in
           let p = parts_of (Own text) ts f.0 f.1 f.2 e in
-          subst (SomeAre W) (sym h.2) (rows_fit (h.0.0 ∷ []) f.4.0 f.1 h.0.1 p.1 (g.fits f.0 h.0.0 p.0 f.3, tt) f.4.1);
+          subst (SomeAre W) (sym h.2) (repeats_fit (h.0.0 ∷ []) f.4.0 f.1 h.0.1 p.1 (g.fits f.0 h.0.0 p.0 f.3, tt) f.4.1);
     }
 
     many_fewest : (ts : List Token) (xs : List A) → many_texts P xs ts → total cost xs ≤ opened ts

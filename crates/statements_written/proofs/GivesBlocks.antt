@@ -2,7 +2,7 @@
 use Rattle.std.proofs.Common.{◌≡◌, ℕ, ◌+◌, ◌≤◌, Bool, true, false, List, [], ◌∷◌, length, Option, Some, None, refl, sym, subst, arith}
 use Rattle.std.specs.Prelude.{nat_lt}
 use Rattle.grammar_rules.specs.Reading.{both_texts, nothing_texts, one_texts}
-use Rattle.grammar_rules.specs.Rows.{all_rows, always}
+use Rattle.grammar_rules.specs.Repeats.{all_repeats, always}
 use Rattle.sql_tokens.specs.Tokens.{tokens_of}
 use Rattle.sql_tokens.specs.declared.kind.Kind.TheVariants as kinds
 use Rattle.sql_tokens.specs.declared.token.Token.{Token}
@@ -65,32 +65,32 @@ module _ (text : List ℕ) where
   abbrev Behind : List StatementTree → Of (Token × Option StatementTree)
   Behind xs = both_texts (one_texts (a kinds.Semicolon)) (maybe_statement text (length xs)).texts
 
-  rows_fewest : (l : List StatementTree) (xs : List (Token × Option StatementTree)) (ts : List Token) (y : List StatementTree) → all_rows always join Behind l xs ts y → total cost y ≤ total cost l + opened ts
-  rows_fewest l [] ts y h = subst (λ z. total cost z ≤ total cost l + opened ts) (sym h.1) (omega arith)
-  rows_fewest l (x ∷ xs) ts y h =
+  repeats_fewest : (l : List StatementTree) (xs : List (Token × Option StatementTree)) (ts : List Token) (y : List StatementTree) → all_repeats always join Behind l xs ts y → total cost y ≤ total cost l + opened ts
+  repeats_fewest l [] ts y h = subst (λ z. total cost z ≤ total cost l + opened ts) (sym h.1) (omega arith)
+  repeats_fewest l (x ∷ xs) ts y h =
       let u = h.1 in
       let b = h.4 in
-      let on = rows_fewest (and_maybe l x.1) xs h.2 y h.5 in
+      let on = repeats_fewest (and_maybe l x.1) xs h.2 y h.5 in
       omega (arith, on, total_of l x.1, opened_of ts u h.2 h.3, opened_of u b.0 b.1 b.2, (maybe_gives (length l)).fewest b.1 x.1 b.4)
 
-  rows_fit : (l : List StatementTree) (xs : List (Token × Option StatementTree)) (ts : List Token) (y : List StatementTree) → EachToken (Own text) ts → Each IsWritable l → all_rows always join Behind l xs ts y → Each IsWritable y
-  rows_fit l [] ts y e w h = subst (Each IsWritable) (sym h.1) w
-  rows_fit l (x ∷ xs) ts y e w h =
+  repeats_fit : (l : List StatementTree) (xs : List (Token × Option StatementTree)) (ts : List Token) (y : List StatementTree) → EachToken (Own text) ts → Each IsWritable l → all_repeats always join Behind l xs ts y → Each IsWritable y
+  repeats_fit l [] ts y e w h = subst (Each IsWritable) (sym h.1) w
+  repeats_fit l (x ∷ xs) ts y e w h =
       let b = h.4 in
       let p = parts_of (Own text) ts h.1 h.2 h.3 e in
       let q = parts_of (Own text) h.1 b.0 b.1 b.2 p.0 in
-      rows_fit (and_maybe l x.1) xs h.2 y p.1 (each_of l x.1 w ((maybe_gives (length l)).fits b.1 x.1 q.1 b.4)) h.5
+      repeats_fit (and_maybe l x.1) xs h.2 y p.1 (each_of l x.1 w ((maybe_gives (length l)).fits b.1 x.1 q.1 b.4)) h.5
 
   block_gives : Gives text (block text).texts (total cost) (Each IsWritable)
   block_gives = record {
     fewest = λ ts y h.
         let f = h.1 in
-        let on = rows_fewest (first_of h.0.0) f.4.0 f.1 h.0.1 f.4.1 in
+        let on = repeats_fewest (first_of h.0.0) f.4.0 f.1 h.0.1 f.4.1 in
         subst (λ z. total cost z ≤ opened ts) (sym h.2) (omega (arith, on, total_of [] h.0.0, opened_of ts f.0 f.1 f.2, (maybe_gives 0).fewest f.0 h.0.0 f.3));
     fits = λ ts y e h.
         let f = h.1 in
         let p = parts_of (Own text) ts f.0 f.1 f.2 e in
-        subst (Each IsWritable) (sym h.2) (rows_fit (first_of h.0.0) f.4.0 f.1 h.0.1 p.1 (each_of [] h.0.0 tt ((maybe_gives 0).fits f.0 h.0.0 p.0 f.3)) f.4.1);
+        subst (Each IsWritable) (sym h.2) (repeats_fit (first_of h.0.0) f.4.0 f.1 h.0.1 p.1 (each_of [] h.0.0 tt ((maybe_gives 0).fits f.0 h.0.0 p.0 f.3)) f.4.1);
   }
 
   pub parsed_are_writable : (trees : List StatementTree) → (block text).texts (tokens_of text) trees → Each IsWritable trees

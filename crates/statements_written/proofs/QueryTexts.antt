@@ -2,7 +2,7 @@
 use Rattle.std.proofs.Common.{◌≡◌, ℕ, Bool, true, false, List, [], ◌∷◌, ◌++◌, Option, Some, None, inl, inr, refl, sym, ap, ◌∙◌, append_assoc, subst}
 use Rattle.std.specs.Prelude.{codes}
 use Rattle.grammar_rules.specs.Reading.{one, one_texts, nothing_texts, value_texts, optional}
-use Rattle.grammar_rules.specs.Rows.{many, many_texts, second_of}
+use Rattle.grammar_rules.specs.Repeats.{many, many_texts, second_of}
 use Rattle.sql_tokens.specs.declared.kind.Kind.{Kind}
 use Rattle.sql_tokens.specs.declared.kind.Kind.TheVariants as kinds
 use Rattle.sql_tokens.specs.declared.token.Token.{Token}

@@ -4,7 +4,7 @@ use Rattle.std.proofs.Common.{◌≡◌, ℕ, arith, true, false, slice_index, L
 use Rattle.std.specs.List.{prefix_len}
 use Rattle.std.specs.Prelude.{codes}
 use Rattle.grammar_rules.specs.Reading.{Class, one_texts, nothing_texts, both_texts, follow_texts, value_texts, either_texts}
-use Rattle.grammar_rules.specs.Rows.{rows_texts, always}
+use Rattle.grammar_rules.specs.Repeats.{repeats_texts, always}
 use Rattle.sql_tokens.specs.Bytes.{belongs}
 use Rattle.sql_tokens.specs.Words.{is, word_kind}
 use Rattle.sql_tokens.specs.declared.bytes.Class.TheVariants as class
@@ -18,7 +18,7 @@ use Rattle.sql_written.specs.Marks.{Mark, blank, mark, text_of}
 use Rattle.sql_written.specs.Spelling as spelled
 use Rattle.sql_written.proofs.Fronts.{ascii_utf8, is_ascii}
 use Rattle.sql_written.proofs.LeafTexts.{only}
-use Rattle.sql_written.proofs.LevelTexts.{Of, row_texts}
+use Rattle.sql_written.proofs.LevelTexts.{Of, chain_texts}
 use Rattle.sql_written.proofs.MarkTokens.{StandApart, StandsApart, apart_append, next, next_append, text_append}
 use Rattle.sql_written.proofs.MarksApart.{Ends, blank_ends, closing_apart, closing_ends, comma_apart, comma_ends, opening_apart, sign_apart, word_apart}
 use Rattle.sql_written.proofs.Said.{Are, parted, token}
@@ -189,7 +189,7 @@ module _ {text : List ℕ} where
   -- lists
   module _ {A : Type 0} (W : A → Type 0) (P : Of A) (f : A → List Mark) (part : (x : A) → W x → Exactly Begins text P (f x) x) where
     abbrev more_texts : List A → Of (List A)
-    more_texts done = rows_texts always snoc (λ (l : List A). both_texts (one_texts (a kinds.Comma)) P) done
+    more_texts done = repeats_texts always snoc (λ (l : List A). both_texts (one_texts (a kinds.Comma)) P) done
 
     more_read : (done xs : List A) → Each W xs → (ts : List Token) → Are text ts (more_parts f xs) → more_texts done ts (done ++ xs)
     more_read done [] w ts h = ([], (h, append-nil done))
@@ -214,12 +214,12 @@ module _ {text : List ℕ} where
         let p = part x w.0 in
         (comma_apart 32, (first_behind Begins (f x) (more_parts f xs) n (p.first m e), apart_append (f x) (more_parts f xs) n (p.apart m e) (more_apart xs w.1 n h)))
 
-    list_read : (x : A) (xs : List A) → W x → Each W xs → (ts : List Token) → Are text ts (parts f (x ∷ xs)) → row_texts (a kinds.Comma) alone snoc P P ts (x ∷ xs)
+    list_read : (x : A) (xs : List A) → W x → Each W xs → (ts : List Token) → Are text ts (parts f (x ∷ xs)) → chain_texts (a kinds.Comma) alone snoc P P ts (x ∷ xs)
     list_read x xs w ws ts h =
         let r = parted text ts (f x) (more_parts f xs) h in
         ((x, x ∷ xs), (r.0, r.1, r.2, ((part x w).reads r.0 r.3).1, more_read (x ∷ []) xs ws r.1 r.4), refl)
 
-    pub listed : (xs : List A) → SomeAre W xs → Exactly Begins text (row_texts (a kinds.Comma) alone snoc P P) (parts f xs) xs
+    pub listed : (xs : List A) → SomeAre W xs → Exactly Begins text (chain_texts (a kinds.Comma) alone snoc P P) (parts f xs) xs
     listed [] w = absurd w
     listed (x ∷ xs) w = record {
       reads = λ ts h. (tt, list_read x xs w.0 w.1 ts h);

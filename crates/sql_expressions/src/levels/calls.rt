@@ -1,6 +1,6 @@
 ghost use Rattle.std.specs.Prelude.{◌<◌, ◌≤◌, ◌+◌, IfOk, length};
 ghost use Rattle.grammar_rules.specs.Gives.{Gives};
-ghost use Rattle.grammar_rules.specs.Rows.{always, read_row, read_step};
+ghost use Rattle.grammar_rules.specs.Repeats.{always, read_repeats, read_step};
 ghost use Rattle.sql_expressions.specs.Grammar as grammar;
 ghost use Rattle.sql_expressions.specs.Levels as levels;
 ghost use Rattle.sql_expressions.specs.Views as views;
@@ -87,7 +87,7 @@ pub(crate) fn list<'a>(
 }
 
 #[cycle(levels)]
-#[tactic(auto, unfolding(grammar_rules::specs::Rows::read_step))]
+#[tactic(auto, unfolding(grammar_rules::specs::Repeats::read_step))]
 fn item_step<'a>(
     alloc: Global,
     text: &[u8],
@@ -120,7 +120,7 @@ fn more_items<'a>(
 ) -> Result<(Parts, &'a [Token]), Refused>
     requires budget { below < 255 }
     requires within { first.depth ≤ below }
-    ensures reads { Gives (λ x. (views.parts x.0, x.1.now)) result (read_row (a Kind.Comma) always levels.add_part (λ _. (grammar.rules text.now below).expression.read) (length tokens.now) (views.parts first) tokens.now) }
+    ensures reads { Gives (λ x. (views.parts x.0, x.1.now)) result (read_repeats (a Kind.Comma) always levels.add_part (λ _. (grammar.rules text.now below).expression.read) (length tokens.now) (views.parts first) tokens.now) }
     ensures within { IfOk result (λ x. x.0.depth ≤ below) }
 {
     let mut done = first;

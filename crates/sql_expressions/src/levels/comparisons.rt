@@ -7,8 +7,8 @@ ghost use Rattle.sql_expressions.specs.Views as views;
 
 use crate::deep::{Deep, between, binary, in_list};
 use crate::levels::calls::list;
-use crate::levels::sums::row_of_operators;
-use crate::signs::{Row, comparison_comes, operator_of, sign, test_comes};
+use crate::levels::sums::chain_of_operators;
+use crate::signs::{Chain, comparison_comes, operator_of, sign, test_comes};
 use grammar_rules::Refused;
 use grammar_words::{comes, word};
 use sql_tokens::{Kind, Token};
@@ -25,7 +25,7 @@ fn test<'a>(
     ensures reads { Gives (λ x. (views.deep x.0, x.1.now)) result ((grammar.rules text.now budget).test.read tokens.now) }
     ensures within { IfOk result (λ x. x.0.depth ≤ budget) }
 {
-    let (sum, rest) = row_of_operators(alloc, text, Row::Sum, tokens, budget)?;
+    let (sum, rest) = chain_of_operators(alloc, text, Chain::Sum, tokens, budget)?;
     if !test_comes(rest) {
         return Ok((sum, rest));
     }
@@ -75,9 +75,9 @@ fn in_or_between<'a>(
         return Ok((in_list(alloc, is_not, operand, items)?, rest));
     }
     let (_, rest) = word(tokens, Kind::Between)?;
-    let (from, rest) = row_of_operators(alloc, text, Row::Sum, rest, below)?;
+    let (from, rest) = chain_of_operators(alloc, text, Chain::Sum, rest, below)?;
     let (_, rest) = word(rest, Kind::And)?;
-    let (to, rest) = row_of_operators(alloc, text, Row::Sum, rest, below)?;
+    let (to, rest) = chain_of_operators(alloc, text, Chain::Sum, rest, below)?;
     Ok((between(alloc, is_not, operand, from, to)?, rest))
 }
 

@@ -1,11 +1,11 @@
 ghost use Rattle.std.specs.Prelude.{◌<◌, ◌≤◌, IfOk, length};
 ghost use Rattle.grammar_rules.specs.Gives.{Gives};
-ghost use Rattle.grammar_rules.specs.Rows.{read_row, read_step};
+ghost use Rattle.grammar_rules.specs.Repeats.{read_repeats, read_step};
 ghost use Rattle.sql_expressions.specs.Grammar as grammar;
 ghost use Rattle.sql_expressions.specs.Levels as levels;
 ghost use Rattle.sql_expressions.specs.Views as views;
 
-use crate::deep::{Deep, Parts, only_part, row_of};
+use crate::deep::{Deep, Parts, node_of, only_part};
 use crate::levels::negations::negation;
 use crate::signs::{Joint, joint_comes, sign};
 use grammar_rules::Refused;
@@ -24,7 +24,7 @@ fn part<'a>(
     ensures within { IfOk result (λ x. x.0.depth ≤ budget) }
 {
     match joint {
-        Joint::Or => row_of_parts(alloc, text, Joint::And, tokens, budget),
+        Joint::Or => chain_of_parts(alloc, text, Joint::And, tokens, budget),
         Joint::And => negation(alloc, text, tokens, budget),
     }
 }
@@ -47,7 +47,7 @@ fn right_part<'a>(
 
 /// A part, and those behind it, each behind an AND or an OR.
 #[cycle(levels)]
-fn row_of_parts<'a>(
+fn chain_of_parts<'a>(
     alloc: Global,
     text: &[u8],
     joint: Joint,
@@ -61,12 +61,12 @@ fn row_of_parts<'a>(
     if !joint_comes(joint, rest) {
         return Ok((first, rest));
     }
-    more_of_row(alloc, text, joint, first, rest, budget)
+    more_of_joint(alloc, text, joint, first, rest, budget)
 }
 
-/// The row behind its first part.
+/// The chain behind its first part.
 #[cycle(levels)]
-fn more_of_row<'a>(
+fn more_of_joint<'a>(
     alloc: Global,
     text: &[u8],
     joint: Joint,
@@ -75,16 +75,16 @@ fn more_of_row<'a>(
     budget: u8,
 ) -> Result<(Deep, &'a [Token]), Refused>
     requires { first.depth ≤ budget }
-    ensures reads { Gives (λ x. (views.deep x.0, x.1.now)) result ((views.more_of_row text.now joint budget (views.deep first)).read tokens.now) }
+    ensures reads { Gives (λ x. (views.deep x.0, x.1.now)) result ((views.more_of_joint text.now joint budget (views.deep first)).read tokens.now) }
     ensures within { IfOk result (λ x. x.0.depth ≤ budget) }
 {
     let first = only_part(alloc, first)?;
     let (parts, rest) = more_parts(alloc, text, joint, first, tokens, budget)?;
-    Ok((row_of(joint, parts), rest))
+    Ok((node_of(joint, parts), rest))
 }
 
 #[cycle(levels)]
-#[tactic(auto, unfolding(grammar_rules::specs::Rows::read_step))]
+#[tactic(auto, unfolding(grammar_rules::specs::Repeats::read_step))]
 fn part_step<'a>(
     alloc: Global,
     text: &[u8],
@@ -120,7 +120,7 @@ fn more_parts<'a>(
     budget: u8,
 ) -> Result<(Parts, &'a [Token]), Refused>
     requires { views.Fits budget first }
-    ensures reads { Gives (λ x. (views.parts x.0, x.1.now)) result (read_row (views.joint_sign joint) (levels.parts_room (grammar.below budget)) levels.add_part (λ _. (views.part_of joint (grammar.under_depth text.now budget)).read) (length tokens.now) (views.parts first) tokens.now) }
+    ensures reads { Gives (λ x. (views.parts x.0, x.1.now)) result (read_repeats (views.joint_sign joint) (levels.parts_room (grammar.below budget)) levels.add_part (λ _. (views.part_of joint (grammar.under_depth text.now budget)).read) (length tokens.now) (views.parts first) tokens.now) }
     ensures within { IfOk result (λ x. views.Fits budget x.0) }
 {
     let mut done = first;
@@ -146,5 +146,5 @@ pub(crate) fn disjunction<'a>(
     ensures reads { Gives (λ x. (views.deep x.0, x.1.now)) result ((grammar.rules text.now budget).expression.read tokens.now) }
     ensures within { IfOk result (λ x. x.0.depth ≤ budget) }
 {
-    row_of_parts(alloc, text, Joint::Or, tokens, budget)
+    chain_of_parts(alloc, text, Joint::Or, tokens, budget)
 }

@@ -1,6 +1,6 @@
 ghost use Rattle.std.specs.Prelude.{◌<◌, ◌≤◌, ◌+◌, IfOk, length};
 ghost use Rattle.grammar_rules.specs.Gives.{Gives};
-ghost use Rattle.grammar_rules.specs.Rows.{read_row, read_step};
+ghost use Rattle.grammar_rules.specs.Repeats.{read_repeats, read_step};
 ghost use Rattle.sql_expressions.specs.Grammar as grammar;
 ghost use Rattle.sql_expressions.specs.Levels as levels;
 ghost use Rattle.sql_expressions.specs.Views as views;
@@ -26,7 +26,7 @@ fn null_or_not(tokens: &[Token]) -> Result<(bool, &[Token]), Refused>
     Ok((false, rest))
 }
 
-#[tactic(auto, unfolding(grammar_rules::specs::Rows::read_step))]
+#[tactic(auto, unfolding(grammar_rules::specs::Repeats::read_step))]
 fn null_step<'a>(
     alloc: Global,
     left: Deep,
@@ -55,7 +55,7 @@ fn more_nulls<'a>(
     budget: u8,
 ) -> Result<(Deep, &'a [Token]), Refused>
     requires { first.depth ≤ budget }
-    ensures reads { Gives (λ x. (views.deep x.0, x.1.now)) result (read_row (a Kind.Is) (levels.has_room (grammar.below budget)) levels.null_join (λ _. levels.null_or_not.read) (length tokens.now) (views.deep first) tokens.now) }
+    ensures reads { Gives (λ x. (views.deep x.0, x.1.now)) result (read_repeats (a Kind.Is) (levels.has_room (grammar.below budget)) levels.null_join (λ _. levels.null_or_not.read) (length tokens.now) (views.deep first) tokens.now) }
     ensures within { IfOk result (λ x. x.0.depth ≤ budget) }
 {
     let mut left = first;

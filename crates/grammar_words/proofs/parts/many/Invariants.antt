@@ -1,5 +1,5 @@
 use Rattle.std.proofs.Common.{◌≡◌, ◌-◌, length, map}
-use Rattle.grammar_rules.specs.Rows.{read_many}
+use Rattle.grammar_rules.specs.Repeats.{read_many}
 use Rattle.grammar_words.specs.Steps.{with_earlier}
 use Rattle.grammar_words.proofs.parts.many.Given as goal
 

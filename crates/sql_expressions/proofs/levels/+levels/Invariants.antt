@@ -1,5 +1,5 @@
 use Rattle.std.proofs.Common.{◌≡◌, ◌≤◌, ℕ, ◌+◌, ◌-◌, ◌*◌, length}
-use Rattle.grammar_rules.specs.Rows.{always, read_row}
+use Rattle.grammar_rules.specs.Repeats.{always, read_repeats}
 use Rattle.sql_tokens.specs.Classes.{a}
 use Rattle.sql_tokens.specs.declared.kind.Kind.TheVariants as kinds
 use Rattle.sql_expressions.specs.Grammar as grammar
@@ -7,14 +7,14 @@ use Rattle.sql_expressions.specs.Levels as levels
 use Rattle.sql_expressions.specs.Views as views
 use Rattle.sql_expressions.specs.declared.signs.Joint.{Joint}
 use Rattle.sql_expressions.specs.declared.signs.Joint.TheVariants as joints
-use Rattle.sql_expressions.specs.declared.signs.Row.{Row}
-use Rattle.sql_expressions.specs.declared.signs.Row.TheVariants as rows
+use Rattle.sql_expressions.specs.declared.signs.Chain.{Chain}
+use Rattle.sql_expressions.specs.declared.signs.Chain.TheVariants as chains
 use Rattle.sql_expressions.proofs.levels.+levels.Given as goal
 
 -- how many calls of one budget come below an operand, and below a part
-abbrev rank : Row → ℕ
-rank rows.Sum = 5
-rank rows.Product = 3
+abbrev rank : Chain → ℕ
+rank chains.Sum = 5
+rank chains.Product = 3
 
 abbrev part_rank : Joint → ℕ
 part_rank joints.Or = 14
@@ -45,10 +45,10 @@ abbrev pub decreases-conjunctions::more_parts : goal.decreases-conjunctions::mor
 decreases-conjunctions::more_parts l = 32 * l.budget + 2
 
 abbrev pub decreases-sums::operand : goal.decreases-sums::operand
-decreases-sums::operand l = 32 * l.budget + rank l.row
+decreases-sums::operand l = 32 * l.budget + rank l.chain
 
-abbrev pub decreases-sums::row_of_operators : goal.decreases-sums::row_of_operators
-decreases-sums::row_of_operators l = 32 * l.budget + rank l.row + 1
+abbrev pub decreases-sums::chain_of_operators : goal.decreases-sums::chain_of_operators
+decreases-sums::chain_of_operators l = 32 * l.budget + rank l.chain + 1
 
 abbrev pub decreases-comparisons::test : goal.decreases-comparisons::test
 decreases-comparisons::test l = 32 * l.budget + 7
@@ -65,11 +65,11 @@ decreases-negations::negation l = 32 * l.budget + 10
 abbrev pub decreases-conjunctions::part : goal.decreases-conjunctions::part
 decreases-conjunctions::part l = 32 * l.budget + part_rank l.joint
 
-abbrev pub decreases-conjunctions::more_of_row : goal.decreases-conjunctions::more_of_row
-decreases-conjunctions::more_of_row l = 32 * l.budget + 3
+abbrev pub decreases-conjunctions::more_of_joint : goal.decreases-conjunctions::more_of_joint
+decreases-conjunctions::more_of_joint l = 32 * l.budget + 3
 
-abbrev pub decreases-conjunctions::row_of_parts : goal.decreases-conjunctions::row_of_parts
-decreases-conjunctions::row_of_parts l = 32 * l.budget + part_rank l.joint + 2
+abbrev pub decreases-conjunctions::chain_of_parts : goal.decreases-conjunctions::chain_of_parts
+decreases-conjunctions::chain_of_parts l = 32 * l.budget + part_rank l.joint + 2
 
 abbrev pub decreases-conjunctions::disjunction : goal.decreases-conjunctions::disjunction
 decreases-conjunctions::disjunction l = 32 * l.budget + 17
@@ -105,27 +105,27 @@ decreases-comparisons::in_or_between l = 32 * l.below + 21
 abbrev pub decreases-comparisons::tested : goal.decreases-comparisons::tested
 decreases-comparisons::tested l = 32 * l.below + 22
 
--- the rest of the row is read from where the loop stands
+-- the rest of the chain is read from where the loop stands
 abbrev pub invariant-calls::more_items-loop : goal.invariant-calls::more_items-loop
 invariant-calls::more_items-loop l = record {
   reads :
-      read_row (a kinds.Comma) always levels.add_part (λ _. (grammar.rules l.text l.below).expression.read) (l.end - l.counter) (views.parts l.done) l.rest
-      ≡ read_row (a kinds.Comma) always levels.add_part (λ _. (grammar.rules l.text l.below).expression.read) (length l.fn.tokens) (views.parts l.fn.first) l.fn.tokens;
+      read_repeats (a kinds.Comma) always levels.add_part (λ _. (grammar.rules l.text l.below).expression.read) (l.end - l.counter) (views.parts l.done) l.rest
+      ≡ read_repeats (a kinds.Comma) always levels.add_part (λ _. (grammar.rules l.text l.below).expression.read) (length l.fn.tokens) (views.parts l.fn.first) l.fn.tokens;
   within : l.done.depth ≤ l.below;
 }
 
 abbrev pub invariant-sums::more_operands-loop : goal.invariant-sums::more_operands-loop
 invariant-sums::more_operands-loop l = record {
   reads :
-      read_row (views.sign_of l.row) (levels.has_room (grammar.below l.budget)) levels.join (λ _. (views.operand_of l.row (grammar.under_depth l.text l.budget)).read) (l.end - l.counter) (views.deep l.left) l.rest
-      ≡ read_row (views.sign_of l.row) (levels.has_room (grammar.below l.budget)) levels.join (λ _. (views.operand_of l.row (grammar.under_depth l.text l.budget)).read) (length l.fn.tokens) (views.deep l.fn.first) l.fn.tokens;
+      read_repeats (views.sign_of l.chain) (levels.has_room (grammar.below l.budget)) levels.join (λ _. (views.operand_of l.chain (grammar.under_depth l.text l.budget)).read) (l.end - l.counter) (views.deep l.left) l.rest
+      ≡ read_repeats (views.sign_of l.chain) (levels.has_room (grammar.below l.budget)) levels.join (λ _. (views.operand_of l.chain (grammar.under_depth l.text l.budget)).read) (length l.fn.tokens) (views.deep l.fn.first) l.fn.tokens;
   within : l.left.depth ≤ l.budget;
 }
 
 abbrev pub invariant-conjunctions::more_parts-loop : goal.invariant-conjunctions::more_parts-loop
 invariant-conjunctions::more_parts-loop l = record {
   reads :
-      read_row (views.joint_sign l.joint) (levels.parts_room (grammar.below l.budget)) levels.add_part (λ _. (views.part_of l.joint (grammar.under_depth l.text l.budget)).read) (l.end - l.counter) (views.parts l.done) l.rest
-      ≡ read_row (views.joint_sign l.joint) (levels.parts_room (grammar.below l.budget)) levels.add_part (λ _. (views.part_of l.joint (grammar.under_depth l.text l.budget)).read) (length l.fn.tokens) (views.parts l.fn.first) l.fn.tokens;
+      read_repeats (views.joint_sign l.joint) (levels.parts_room (grammar.below l.budget)) levels.add_part (λ _. (views.part_of l.joint (grammar.under_depth l.text l.budget)).read) (l.end - l.counter) (views.parts l.done) l.rest
+      ≡ read_repeats (views.joint_sign l.joint) (levels.parts_room (grammar.below l.budget)) levels.add_part (λ _. (views.part_of l.joint (grammar.under_depth l.text l.budget)).read) (length l.fn.tokens) (views.parts l.fn.first) l.fn.tokens;
   within : views.Fits l.budget l.done;
 }

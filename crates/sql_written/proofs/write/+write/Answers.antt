@@ -1,9 +1,9 @@
 use Rattle.std.proofs.Common.{◌≡◌, map, ◌+◌, ◌-◌, length, ap, ◌∙◌, arith, true, take, drop}
 use Rattle.sql_expressions.specs.declared.expr.Expr.{Binary, Between, In, IsNull, Not}
 use Rattle.sql_expressions.specs.Tree.{listed, tree, trees, binary, in_list, between, is_null, inverted}
-use Rattle.sql_written.specs.Rows as rows
+use Rattle.sql_written.specs.Chains as chains
 use Rattle.sql_written.specs.Written.{marks}
-use Rattle.sql_written.proofs.WriteSteps.{between_is, binary_is, in_is, not_is, null_is, between_text, binary_text, in_text, less_is, list_text, more_step, not_text, null_text, on_ok, parentheses_text, part_less, parts_split, parts_step, row_text}
+use Rattle.sql_written.proofs.WriteSteps.{between_is, binary_is, in_is, not_is, null_is, between_text, binary_text, in_text, less_is, list_text, more_step, not_text, null_text, on_ok, parentheses_text, part_less, parts_split, parts_step, chain_text}
 use Rattle.sql_written.proofs.write.+write.Goals as goal
 
 pub write_list-returns : goal.write_list-returns
@@ -15,16 +15,16 @@ write_more-write_operand-requires t c = let w = part_less c.args.parts.now c.loo
 
 pub write_more-loop-part-preserved : goal.write_more-loop-part-preserved
 write_more-loop-part-preserved t c =
-    more_step (rows.between c.args.row) (rows.place c.args.row) (tree c.part-item.result) (listed (map tree (drop c.loop-part.part-index c.args.parts.now))) (listed (map tree (drop (c.loop-part.part-index + 1) c.args.parts.now))) c.place_of.result _ _ _ _
+    more_step (chains.between c.args.chain) (chains.place c.args.chain) (tree c.part-item.result) (listed (map tree (drop c.loop-part.part-index c.args.parts.now))) (listed (map tree (drop (c.loop-part.part-index + 1) c.args.parts.now))) c.place_of.result _ _ _ _
     (parts_step c.args.parts.now c.loop-part.part-index c.part-item.result c.loop-part-test.true c.part-item.is) c.place_of.ensures c.in_ok-write_between.ensures c.in_ok-write_operand.ensures c.loop-part.invariant
 
 pub write_operand-returns-then-rank_of-place : goal.write_operand-returns-then-rank_of-place
 write_operand-returns-then-rank_of-place t c =
     parentheses_text _ (marks (tree c.args.e.now)) _ _ _ _ (less_is c.rank_of.result _ _ c.rank_of.ensures c.if-rank_of-place.true) c.in_ok-push.ensures.items c.in_ok-write_tree.ensures c.in_ok-push-2.ensures.items
 
-pub write_row-returns-in_ok-write_more : goal.write_row-returns-in_ok-write_more
-write_row-returns-in_ok-write_more t c =
-    row_text (rows.between c.args.row) (rows.place c.args.row) (tree c.first-item.result) (listed (map tree c.args.parts.now)) (listed (map tree (take (length c.args.parts.now - 1) (drop 1 c.args.parts.now)))) c.place_of.result _ _ _
+pub write_chain-returns-in_ok-write_more : goal.write_chain-returns-in_ok-write_more
+write_chain-returns-in_ok-write_more t c =
+    chain_text (chains.between c.args.chain) (chains.place c.args.chain) (tree c.first-item.result) (listed (map tree c.args.parts.now)) (listed (map tree (take (length c.args.parts.now - 1) (drop 1 c.args.parts.now)))) c.place_of.result _ _ _
     (parts_split c.args.parts.now c.first-item.result c.in-len1-up.len_at_least c.first-item.is) c.place_of.ensures c.in_ok-write_operand.ensures c.in_ok-write_more.ensures
 
 pub write_tree-returns-in_ok-write_operator-in-Binary : goal.write_tree-returns-in_ok-write_operator-in-Binary

@@ -1,7 +1,7 @@
 use Rattle.std.proofs.Common.{◌≡◌, ◌++◌, ◌+◌, ◌*◌, map, drop}
 use Rattle.sql_expressions.specs.Tree.{listed, tree, trees}
 use Rattle.sql_written.specs.Marks.{text_of}
-use Rattle.sql_written.specs.Rows as rows
+use Rattle.sql_written.specs.Chains as chains
 use Rattle.sql_written.specs.Written.{more}
 use Rattle.sql_written.proofs.WriteSteps.{weight, weights}
 use Rattle.sql_written.proofs.write.+write.Given as goal
@@ -23,4 +23,4 @@ decreases-write_list l = 5 * weights (trees l.list.now) + 4
 
 abbrev pub invariant-write_more-loop-part : goal.invariant-write_more-loop-part
 invariant-write_more-loop-part l =
-    l.out.items ++ text_of (more (rows.between l.row) (rows.place l.row) (listed (map tree (drop l.part-index l.parts)))) ≡ l.fn.out.items ++ text_of (more (rows.between l.row) (rows.place l.row) (listed (map tree l.parts)))
+    l.out.items ++ text_of (more (chains.between l.chain) (chains.place l.chain) (listed (map tree (drop l.part-index l.parts)))) ≡ l.fn.out.items ++ text_of (more (chains.between l.chain) (chains.place l.chain) (listed (map tree l.parts)))

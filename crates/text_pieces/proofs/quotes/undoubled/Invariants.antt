@@ -1,6 +1,6 @@
 use Rattle.std.proofs.Common.{◌≡◌, ◌++◌, length, false}
-use Rattle.sql_tokens.specs.Quotes.{undoubled}
-use Rattle.sql_tokens.proofs.quotes.undoubled.Given as goal
+use Rattle.text_pieces.specs.Quotes.{undoubled}
+use Rattle.text_pieces.proofs.quotes.undoubled.Given as goal
 
 abbrev pub invariant-loop-z : goal.invariant-loop-z
 invariant-loop-z l = l.out.items ++ undoubled l.quote l.is_second l.z ≡ undoubled l.quote false l.initial.z

@@ -1,5 +1,5 @@
 -- Rules that repeat: { p }, and { sign p } behind a value that stands there, which is joined from the
--- left with each sign and text that is read. A row may be told to stop growing by a guard.
+-- left with each sign and text that is read. A guard may tell it to stop there.
 use Rattle.std.specs.Prelude.{◌≡◌, ℕ, zero, suc, Bool, true, false, List, [], ◌∷◌, ◌++◌, length, Ok, Err, if◌then◌else◌}
 use Rattle.grammar_rules.specs.Reading.{Class, Reading, limit_at, given, ◌>>=◌, Rule, begins_in, read_one, one, both, follow_texts, value_texts}
 
@@ -26,12 +26,12 @@ step_to join l x = join l x.0 x.1
 
 -- The texts of the signs and values xs behind l, taken together as a; each where the guard lets what
 -- stands before it grow.
-abbrev pub all_rows : {T A B : Type 0} → (A → Bool) → (A → T → B → A) → (A → List T → T × B → Type 0) → A → List (T × B) → List T → A → Type 0
-all_rows guard join P l [] ts a = (ts ≡ []) × (a ≡ l)
-all_rows {T} guard join P l (x ∷ xs) ts a = (guard l ≡ true) × (u : List T) × (v : List T) × (ts ≡ u ++ v) × P l u x × all_rows guard join P (step_to join l x) xs v a
+abbrev pub all_repeats : {T A B : Type 0} → (A → Bool) → (A → T → B → A) → (A → List T → T × B → Type 0) → A → List (T × B) → List T → A → Type 0
+all_repeats guard join P l [] ts a = (ts ≡ []) × (a ≡ l)
+all_repeats {T} guard join P l (x ∷ xs) ts a = (guard l ≡ true) × (u : List T) × (v : List T) × (ts ≡ u ++ v) × P l u x × all_repeats guard join P (step_to join l x) xs v a
 
-abbrev pub rows_texts : {T A B : Type 0} → (A → Bool) → (A → T → B → A) → (A → List T → T × B → Type 0) → A → List T → A → Type 0
-rows_texts {T} {A} {B} guard join P l ts a = (xs : List (T × B)) × all_rows guard join P l xs ts a
+abbrev pub repeats_texts : {T A B : Type 0} → (A → Bool) → (A → T → B → A) → (A → List T → T × B → Type 0) → A → List T → A → Type 0
+repeats_texts {T} {A} {B} guard join P l ts a = (xs : List (T × B)) × all_repeats guard join P l xs ts a
 
 -- A guard that lets everything grow.
 abbrev pub always : {A : Type 0} → A → Bool
@@ -45,21 +45,21 @@ read_step sign guard join p l ts =
     else given (false, l) ts
 
 -- Such steps, until one reads nothing.
-unfoldable pub read_row : {T A B : Type 0} → Class T → (A → Bool) → (A → T → B → A) → (A → List T → Reading T B) → ℕ → A → List T → Reading T A
-read_row sign guard join p zero l ts = given l ts
-read_row sign guard join p (suc n) l ts = read_step sign guard join p l ts >>= λ x. if x.0.0 then read_row sign guard join p n x.0.1 x.1 else given x.0.1 x.1
+unfoldable pub read_repeats : {T A B : Type 0} → Class T → (A → Bool) → (A → T → B → A) → (A → List T → Reading T B) → ℕ → A → List T → Reading T A
+read_repeats sign guard join p zero l ts = given l ts
+read_repeats sign guard join p (suc n) l ts = read_step sign guard join p l ts >>= λ x. if x.0.0 then read_repeats sign guard join p n x.0.1 x.1 else given x.0.1 x.1
 
 -- { sign p } behind l, each only where the guard lets what stands before grow; p may depend on that.
-abbrev pub rows : {T A B : Type 0} → Class T → (A → Bool) → (A → T → B → A) → (A → Rule T B) → A → Rule T A
-rows sign guard join p l = record {
-  texts = rows_texts guard join (λ a. (both (one sign) (p a)).texts) l;
-  free = rows_texts always join (λ a. (both (one sign) (p a)).free) l;
-  read = λ ts. read_row sign guard join (λ a. (p a).read) (length ts) l ts;
+abbrev pub repeats : {T A B : Type 0} → Class T → (A → Bool) → (A → T → B → A) → (A → Rule T B) → A → Rule T A
+repeats sign guard join p l = record {
+  texts = repeats_texts guard join (λ a. (both (one sign) (p a)).texts) l;
+  free = repeats_texts always join (λ a. (both (one sign) (p a)).free) l;
+  read = λ ts. read_repeats sign guard join (λ a. (p a).read) (length ts) l ts;
 }
 
 -- { sign p } behind l
 abbrev pub more_of : {T A B : Type 0} → Class T → (A → T → B → A) → Rule T B → A → Rule T A
-more_of sign join p l = rows sign always join (λ _. p) l
+more_of sign join p l = repeats sign always join (λ _. p) l
 
 -- The second of two values.
 abbrev pub second_of : {A B : Type 0} → A × B → B
@@ -68,9 +68,9 @@ second_of x = x.1
 -- q { sign p }, taken together from the left, each more only where the guard lets what stands before grow.
 abbrev pub chain_by : {T A B C : Type 0} → Class T → (A → Bool) → (C → A) → (A → T → B → A) → Rule T C → (A → Rule T B) → Rule T A
 chain_by sign guard first join q p = record {
-  texts = value_texts second_of (follow_texts q.texts (λ c. (rows sign guard join p (first c)).texts));
-  free = value_texts second_of (follow_texts q.free (λ c. (rows sign guard join p (first c)).free));
-  read = λ ts. q.read ts >>= λ x. (rows sign guard join p (first x.0)).read x.1;
+  texts = value_texts second_of (follow_texts q.texts (λ c. (repeats sign guard join p (first c)).texts));
+  free = value_texts second_of (follow_texts q.free (λ c. (repeats sign guard join p (first c)).free));
+  read = λ ts. q.read ts >>= λ x. (repeats sign guard join p (first x.0)).read x.1;
 }
 
 -- q { sign p }

@@ -1,26 +1,26 @@
--- Rows keep the law.
+-- Repeats keep the law.
 use Rattle.std.proofs.Common.{◌≡◌, ℕ, zero, suc, ◌≤◌, Bool, true, false, ◌||◌, List, [], ◌∷◌, ◌++◌, length, Ok, Err, cond, if◌then◌else◌, inl, inr, refl, sym, ◌∙◌, ap, subst, arith, append_assoc, length-append}
 use Rattle.std.proofs.lemmas.List.{append-nil}
 use Rattle.grammar_rules.specs.Reading.{Class, Reading, limit_at, given, Rule, ◌>>=◌, begins_in, read_one, one, nothing, both, follow_texts, value_texts, either_texts}
-use Rattle.grammar_rules.specs.Rows.{step_to, all_rows, rows_texts, always, read_step, read_row, rows}
+use Rattle.grammar_rules.specs.Repeats.{step_to, all_repeats, repeats_texts, always, read_step, read_repeats, repeats}
 use Rattle.grammar_rules.proofs.Laws.{Stops, SameHead, Took, Failed, Beyond, Reads, Shape, Law, Disjoint, Within, or_if, head_eq, stops_right}
 use Rattle.grammar_rules.proofs.Single.{value_reads, wide_reads, same_reads}
 use Rattle.grammar_rules.proofs.Follow.{follow_second, follow_fails, follow_shape}
 use Rattle.grammar_rules.proofs.Either.{either_goes_on, first_reads}
 
--- The reader of a row, by whole pairs of a sign and a text.
-unfoldable pub read_rows : {T A B : Type 0} → Class T → (A → Bool) → (A → T → B → A) → (A → List T → Reading T (T × B)) → ℕ → A → List T → Reading T A
-read_rows sign guard join p zero l ts = given l ts
-read_rows sign guard join p (suc n) l ts =
-    if begins_in sign ts then (if guard l then (p l ts >>= λ x. read_rows sign guard join p n (step_to join l x.0) x.1) else Err (limit_at (length ts))) else given l ts
+-- The reader of repeats, by whole pairs of a sign and a text.
+unfoldable pub read_pairs : {T A B : Type 0} → Class T → (A → Bool) → (A → T → B → A) → (A → List T → Reading T (T × B)) → ℕ → A → List T → Reading T A
+read_pairs sign guard join p zero l ts = given l ts
+read_pairs sign guard join p (suc n) l ts =
+    if begins_in sign ts then (if guard l then (p l ts >>= λ x. read_pairs sign guard join p n (step_to join l x.0) x.1) else Err (limit_at (length ts))) else given l ts
 
 -- It reads as the steps do.
 module _ {T A B : Type 0} (sign : Class T) (guard : A → Bool) (join : A → T → B → A) (p : A → Rule T B) where
   abbrev by_steps : ℕ → A → List T → Reading T A
-  by_steps n l ts = read_row sign guard join (λ a. (p a).read) n l ts
+  by_steps n l ts = read_repeats sign guard join (λ a. (p a).read) n l ts
 
   abbrev by_pairs : ℕ → A → List T → Reading T A
-  by_pairs n l ts = read_rows sign guard join (λ a. (both (one sign) (p a)).read) n l ts
+  by_pairs n l ts = read_pairs sign guard join (λ a. (both (one sign) (p a)).read) n l ts
 
   text_read : (n : ℕ) (l : A) (rec : (l : A) (ts : List T) → by_steps n l ts ≡ by_pairs n l ts) (t : T) (r : Reading T B) →
       ((r >>= λ x. given {A = Bool × A} (true, join l t x.0) x.1) >>= λ x. cond x.0.0 (by_steps n x.0.1 x.1) (given x.0.1 x.1))
@@ -36,38 +36,38 @@ module _ {T A B : Type 0} (sign : Class T) (guard : A → Bool) (join : A → T 
   step_choice n l ts rec true true (Err e) = refl
   step_choice n l ts rec true true (Ok t) = text_read n l rec t.0 ((p l).read t.1)
 
-  pub row_read : (n : ℕ) (l : A) (ts : List T) → by_steps n l ts ≡ by_pairs n l ts
-  unfolding read_row read_rows read_step
-  row_read zero l ts = refl
-  row_read (suc n) l ts = step_choice n l ts (λ l' ts'. row_read n l' ts') (begins_in sign ts) (guard l) (read_one sign ts)
+  pub repeats_read : (n : ℕ) (l : A) (ts : List T) → by_steps n l ts ≡ by_pairs n l ts
+  unfolding read_repeats read_pairs read_step
+  repeats_read zero l ts = refl
+  repeats_read (suc n) l ts = step_choice n l ts (λ l' ts'. repeats_read n l' ts') (begins_in sign ts) (guard l) (read_one sign ts)
 
 module _ {T A B : Type 0} (sign : Class T) (guard : A → Bool) (join : A → T → B → A) (p : A → Rule T B) (g : Class T) (f : Class T) (n : Bool) (sp : (l : A) → Shape (p l).texts (p l).free f n) (lq : (l : A) → Law (both (one sign) (p l)) sign false g) (d : Disjoint sign g) where
   abbrev goes_on : Class T
   goes_on k = g k || sign k
 
   abbrev R : A → List T → A → Type 0
-  R l = rows_texts guard join (λ a. (both (one sign) (p a)).texts) l
+  R l = repeats_texts guard join (λ a. (both (one sign) (p a)).texts) l
 
   abbrev V : A → List T → A → Type 0
-  V l = rows_texts always join (λ a. (both (one sign) (p a)).free) l
+  V l = repeats_texts always join (λ a. (both (one sign) (p a)).free) l
 
-  rows_begins : (l : A) (t : T) (x : List T) (a : A) → V l (t ∷ x) a → sign t ≡ true
-  rows_begins l t x a w = go w.0 w.1
+  repeats_begin : (l : A) (t : T) (x : List T) (a : A) → V l (t ∷ x) a → sign t ≡ true
+  repeats_begin l t x a w = go w.0 w.1
     where
       head : (b : T × B) (u v : List T) → t ∷ x ≡ u ++ v → (both (one sign) (p l)).free u b → sign t ≡ true
       head b [] v e h = let i = (lq l).shape.empty b h in cc
       head b (k ∷ u) v e h = subst (λ (z : T). sign z ≡ true) (sym (head_eq e)) ((lq l).shape.begins k u b h)
 
-      go : (xs : List (T × B)) → all_rows always join (λ a. (both (one sign) (p a)).free) l xs (t ∷ x) a → sign t ≡ true
+      go : (xs : List (T × B)) → all_repeats always join (λ a. (both (one sign) (p a)).free) l xs (t ∷ x) a → sign t ≡ true
       go [] h = cc h.0
       go (b ∷ xs) h = head b h.1 h.2 h.3 h.4
 
-  all_within : (l : A) (xs : List (T × B)) (x : List T) (a : A) → all_rows guard join (λ a. (both (one sign) (p a)).texts) l xs x a → all_rows always join (λ a. (both (one sign) (p a)).free) l xs x a
+  all_within : (l : A) (xs : List (T × B)) (x : List T) (a : A) → all_repeats guard join (λ a. (both (one sign) (p a)).texts) l xs x a → all_repeats always join (λ a. (both (one sign) (p a)).free) l xs x a
   all_within l [] x a h = h
   all_within l (b ∷ xs) x a h = (refl, h.1, h.2, h.3, (lq l).shape.within h.1 b h.4, all_within (step_to join l b) xs h.2 a h.5)
 
-  rows_shape : (l : A) → Shape (R l) (V l) sign true
-  rows_shape l = record { begins = rows_begins l; empty = λ a w. refl; within = λ x a w. (w.0, all_within l w.0 x a w.1); text = []; value = l; sample = ([], (refl, refl)) }
+  repeats_shape : (l : A) → Shape (R l) (V l) sign true
+  repeats_shape l = record { begins = repeats_begin l; empty = λ a w. refl; within = λ x a w. (w.0, all_within l w.0 x a w.1); text = []; value = l; sample = ([], (refl, refl)) }
 
   nil_shape : (l : A) → Shape (nothing {T = T} l).texts (nothing {T = T} l).free (λ _. false) true
   nil_shape l = record { begins = λ t x b w. cc w.0; empty = λ b w. refl; within = λ x a w. w; text = []; value = l; sample = (refl, refl) }
@@ -80,7 +80,7 @@ module _ {T A B : Type 0} (sign : Class T) (guard : A → Bool) (join : A → T 
 
   step_shape : (l : A) → Shape (stepP l) (stepV l) sign false
   step_shape l =
-      let s = follow_shape (both (one sign) (p l)).texts (both (one sign) (p l)).free (λ x. R (step_to join l x)) (λ x. V (step_to join l x)) sign false sign true (lq l).shape (λ x. rows_shape (step_to join l x)) in
+      let s = follow_shape (both (one sign) (p l)).texts (both (one sign) (p l)).free (λ x. R (step_to join l x)) (λ x. V (step_to join l x)) sign false sign true (lq l).shape (λ x. repeats_shape (step_to join l x)) in
       record {
         begins = λ t x b w. first t x w.0 w.1.0 w.1.1 w.1.2 w.1.3;
         empty = λ b w. s.empty w.0 w.1;
@@ -94,14 +94,14 @@ module _ {T A B : Type 0} (sign : Class T) (guard : A → Bool) (join : A → T 
       first t x ab [] v e h = let i = (lq l).shape.empty ab.0 h in cc
       first t x ab (k ∷ u) v e h = subst (λ (z : T). sign z ≡ true) (sym (head_eq e)) ((lq l).shape.begins k u ab.0 h)
 
-  to_rows : (l : A) → guard l ≡ true → (ts : List T) (a : A) → either_texts (stepP l) (nothing {T = T} l).texts ts a → R l ts a
-  to_rows l gl ts a (inl w) = subst (R l ts) (sym w.2) (w.0.0 ∷ w.1.4.0, (gl, w.1.0, w.1.1, w.1.2, w.1.3, w.1.4.1))
-  to_rows l gl ts a (inr w) = ([], (w.0, w.1))
+  to_repeats : (l : A) → guard l ≡ true → (ts : List T) (a : A) → either_texts (stepP l) (nothing {T = T} l).texts ts a → R l ts a
+  to_repeats l gl ts a (inl w) = subst (R l ts) (sym w.2) (w.0.0 ∷ w.1.4.0, (gl, w.1.0, w.1.1, w.1.2, w.1.3, w.1.4.1))
+  to_repeats l gl ts a (inr w) = ([], (w.0, w.1))
 
-  from_rows : (l : A) (ts : List T) (a : A) → R l ts a → either_texts (stepP l) (nothing {T = T} l).texts ts a
-  from_rows l ts a w = go w.0 w.1
+  from_repeats : (l : A) (ts : List T) (a : A) → R l ts a → either_texts (stepP l) (nothing {T = T} l).texts ts a
+  from_repeats l ts a w = go w.0 w.1
     where
-      go : (xs : List (T × B)) → all_rows guard join (λ a. (both (one sign) (p a)).texts) l xs ts a → either_texts (stepP l) (nothing {T = T} l).texts ts a
+      go : (xs : List (T × B)) → all_repeats guard join (λ a. (both (one sign) (p a)).texts) l xs ts a → either_texts (stepP l) (nothing {T = T} l).texts ts a
       go [] h = inr (h.0, h.1)
       go (b ∷ xs) h = inl ((b, a), (h.1, h.2, h.3, h.4, (xs, h.5)), refl)
 
@@ -112,7 +112,7 @@ module _ {T A B : Type 0} (sign : Class T) (guard : A → Bool) (join : A → T 
   from_free : (l : A) (ts : List T) (a : A) → V l ts a → either_texts (stepV l) (nothing {T = T} l).free ts a
   from_free l ts a w = go w.0 w.1
     where
-      go : (xs : List (T × B)) → all_rows always join (λ a. (both (one sign) (p a)).free) l xs ts a → either_texts (stepV l) (nothing {T = T} l).free ts a
+      go : (xs : List (T × B)) → all_repeats always join (λ a. (both (one sign) (p a)).free) l xs ts a → either_texts (stepV l) (nothing {T = T} l).free ts a
       go [] h = inr (h.0, h.1)
       go (b ∷ xs) h = inl ((b, a), (h.1, h.2, h.3, h.4, (xs, h.5)), refl)
 
@@ -135,16 +135,16 @@ module _ {T A B : Type 0} (sign : Class T) (guard : A → Bool) (join : A → T 
   valued l ts r h = value_reads (λ (z : (T × B) × A). z.1) (follow_texts (both (one sign) (p l)).texts (λ x. R (step_to join l x))) (follow_texts (both (one sign) (p l)).free (λ x. V (step_to join l x))) (or_if true goes_on g) ts r h
 
   step_second : (l : A) (ts : List T) (x : (T × B) × List T) (r : Reading T A) → Took (both (one sign) (p l)).texts (both (one sign) (p l)).free g ts x.0 x.1 → Reads (R (step_to join l x.0)) (V (step_to join l x.0)) goes_on x.1 r → Reads (stepP l) (stepV l) (or_if true goes_on g) ts r
-  step_second l ts x (Ok y) h k = valued l ts (Ok ((x.0, y.0), y.1)) (follow_second (both (one sign) (p l)).texts (both (one sign) (p l)).free (λ x. R (step_to join l x)) (λ x. V (step_to join l x)) g sign true goes_on (lq l).shape.within (λ x. rows_shape (step_to join l x)) d ts x (Ok y) h k)
-  step_second l ts x (Err e) h k = valued l ts (Err e) (follow_second (both (one sign) (p l)).texts (both (one sign) (p l)).free (λ x. R (step_to join l x)) (λ x. V (step_to join l x)) g sign true goes_on (lq l).shape.within (λ x. rows_shape (step_to join l x)) d ts x (Err e) h k)
+  step_second l ts x (Ok y) h k = valued l ts (Ok ((x.0, y.0), y.1)) (follow_second (both (one sign) (p l)).texts (both (one sign) (p l)).free (λ x. R (step_to join l x)) (λ x. V (step_to join l x)) g sign true goes_on (lq l).shape.within (λ x. repeats_shape (step_to join l x)) d ts x (Ok y) h k)
+  step_second l ts x (Err e) h k = valued l ts (Err e) (follow_second (both (one sign) (p l)).texts (both (one sign) (p l)).free (λ x. R (step_to join l x)) (λ x. V (step_to join l x)) g sign true goes_on (lq l).shape.within (λ x. repeats_shape (step_to join l x)) d ts x (Err e) h k)
 
-  step_first : (n : ℕ) (l : A) (ts : List T) (r : Reading T (T × B)) → length ts ≤ suc n → ((l' : A) (mid : List T) → length mid ≤ n → Reads (R l') (V l') goes_on mid (read_rows sign guard join (λ a. (both (one sign) (p a)).read) n l' mid)) → Reads (both (one sign) (p l)).texts (both (one sign) (p l)).free g ts r →
-      Reads (stepP l) (stepV l) (or_if true goes_on g) ts (r >>= λ x. read_rows sign guard join (λ a. (both (one sign) (p a)).read) n (step_to join l x.0) x.1)
-  step_first n l ts (Ok x) h rec k = step_second l ts x (read_rows sign guard join (λ a. (both (one sign) (p a)).read) n (step_to join l x.0) x.1) k (rec (step_to join l x.0) x.1 (shorter l n ts x h k))
-  step_first n l ts (Err e) h rec k = valued l ts (Err e) (follow_fails (both (one sign) (p l)).texts (both (one sign) (p l)).free (λ x. R (step_to join l x)) (λ x. V (step_to join l x)) g sign true goes_on (lq l).shape.within (λ x. rows_shape (step_to join l x)) d ts e k)
+  step_first : (n : ℕ) (l : A) (ts : List T) (r : Reading T (T × B)) → length ts ≤ suc n → ((l' : A) (mid : List T) → length mid ≤ n → Reads (R l') (V l') goes_on mid (read_pairs sign guard join (λ a. (both (one sign) (p a)).read) n l' mid)) → Reads (both (one sign) (p l)).texts (both (one sign) (p l)).free g ts r →
+      Reads (stepP l) (stepV l) (or_if true goes_on g) ts (r >>= λ x. read_pairs sign guard join (λ a. (both (one sign) (p a)).read) n (step_to join l x.0) x.1)
+  step_first n l ts (Ok x) h rec k = step_second l ts x (read_pairs sign guard join (λ a. (both (one sign) (p a)).read) n (step_to join l x.0) x.1) k (rec (step_to join l x.0) x.1 (shorter l n ts x h k))
+  step_first n l ts (Err e) h rec k = valued l ts (Err e) (follow_fails (both (one sign) (p l)).texts (both (one sign) (p l)).free (λ x. R (step_to join l x)) (λ x. V (step_to join l x)) g sign true goes_on (lq l).shape.within (λ x. repeats_shape (step_to join l x)) d ts e k)
 
   more_reads : (l : A) → guard l ≡ true → (ts : List T) (r : Reading T A) → begins_in sign ts ≡ true → Reads (stepP l) (stepV l) (or_if true goes_on g) ts r → Reads (R l) (V l) goes_on ts r
-  more_reads l gl ts r b k = same_reads (either_texts (stepP l) (nothing {T = T} l).texts) (either_texts (stepV l) (nothing {T = T} l).free) (R l) (V l) (to_rows l gl) (from_rows l) (to_free l) (from_free l) goes_on ts r
+  more_reads l gl ts r b k = same_reads (either_texts (stepP l) (nothing {T = T} l).texts) (either_texts (stepV l) (nothing {T = T} l).free) (R l) (V l) (to_repeats l gl) (from_repeats l) (to_free l) (from_free l) goes_on ts r
       (wide_reads (either_texts (stepP l) (nothing {T = T} l).texts) (either_goes_on sign true (or_if true goes_on g) (λ _. false)) goes_on narrow_all (either_texts (stepV l) (nothing {T = T} l).free) ts r
       (first_reads (stepP l) (stepV l) (nothing {T = T} l).texts (nothing {T = T} l).free sign (or_if true goes_on g) (λ _. false) true (λ _. false) (step_shape l) (nil_shape l) (λ k e. refl) ts r b k))
 
@@ -166,11 +166,11 @@ module _ {T A B : Type 0} (sign : Class T) (guard : A → Bool) (join : A → T 
     dead = λ more x y v same e w s. go more x y v same e w.0 w.1 s;
   }
     where
-      go : (more x y : List T) (v : A) → SameHead ts more → more ≡ x ++ y → (xs : List (T × B)) → all_rows guard join (λ a. (both (one sign) (p a)).texts) l xs x v → Stops goes_on y → ⊥
+      go : (more x y : List T) (v : A) → SameHead ts more → more ≡ x ++ y → (xs : List (T × B)) → all_repeats guard join (λ a. (both (one sign) (p a)).texts) l xs x v → Stops goes_on y → ⊥
       go more x y v same e [] h s = not_done l ts more x y b same e h.0 s
       go more x y v same e (z ∷ xs) h s = let i = h.0 in cc
 
-  -- without limits the row goes on with this very sign
+  -- without limits they go on with this very sign
   limit_beyond : (l : A) (ts : List T) → begins_in sign ts ≡ true → Beyond (V l) ts (length ts)
   limit_beyond l [] b = cc
   limit_beyond l (t ∷ ts) b = record {
@@ -198,24 +198,24 @@ module _ {T A B : Type 0} (sign : Class T) (guard : A → Bool) (join : A → T 
       head (t ∷ ts') more (k ∷ u) v y z h same e w =
           let i : sign t ≡ true = subst (λ (c : T). sign c ≡ true) (sym (head_eq (sym same.1 ∙ e))) ((lq l).shape.begins k u z w) in cc
 
-      go : (more x y : List T) (v : A) → SameHead ts more → more ≡ x ++ y → (xs : List (T × B)) → all_rows always join (λ a. (both (one sign) (p a)).free) l xs x v → (y ≡ more) × (v ≡ l)
+      go : (more x y : List T) (v : A) → SameHead ts more → more ≡ x ++ y → (xs : List (T × B)) → all_repeats always join (λ a. (both (one sign) (p a)).free) l xs x v → (y ≡ more) × (v ≡ l)
       go more x y v same e [] h = (ap (λ z. z ++ y) (sym h.0) ∙ sym e, h.1)
       go more x y v same e (z ∷ xs) h = absurd (head ts more h.1 h.2 y z b same (e ∙ ap (λ c. c ++ y) h.3 ∙ append_assoc h.1 h.2 y) h.4)
 
-  rows_choice : (n : ℕ) (l : A) (ts : List T) (b gl : Bool) → begins_in sign ts ≡ b → guard l ≡ gl → length ts ≤ suc n → ((l' : A) (mid : List T) → length mid ≤ n → Reads (R l') (V l') goes_on mid (read_rows sign guard join (λ a. (both (one sign) (p a)).read) n l' mid)) →
-      Reads (R l) (V l) goes_on ts (cond b (cond gl ((both (one sign) (p l)).read ts >>= λ x. read_rows sign guard join (λ a. (both (one sign) (p a)).read) n (step_to join l x.0) x.1) (Err (limit_at (length ts)))) (given l ts))
-  rows_choice n l ts false gl e f h rec = done_reads l ts e
-  rows_choice n l ts true true e f h rec = more_reads l f ts ((both (one sign) (p l)).read ts >>= λ x. read_rows sign guard join (λ a. (both (one sign) (p a)).read) n (step_to join l x.0) x.1) e (step_first n l ts ((both (one sign) (p l)).read ts) h rec ((lq l).reads ts))
-  rows_choice n l ts true false e f h rec = (limit_failed l ts e f, limit_beyond l ts e)
+  repeats_choice : (n : ℕ) (l : A) (ts : List T) (b gl : Bool) → begins_in sign ts ≡ b → guard l ≡ gl → length ts ≤ suc n → ((l' : A) (mid : List T) → length mid ≤ n → Reads (R l') (V l') goes_on mid (read_pairs sign guard join (λ a. (both (one sign) (p a)).read) n l' mid)) →
+      Reads (R l) (V l) goes_on ts (cond b (cond gl ((both (one sign) (p l)).read ts >>= λ x. read_pairs sign guard join (λ a. (both (one sign) (p a)).read) n (step_to join l x.0) x.1) (Err (limit_at (length ts)))) (given l ts))
+  repeats_choice n l ts false gl e f h rec = done_reads l ts e
+  repeats_choice n l ts true true e f h rec = more_reads l f ts ((both (one sign) (p l)).read ts >>= λ x. read_pairs sign guard join (λ a. (both (one sign) (p a)).read) n (step_to join l x.0) x.1) e (step_first n l ts ((both (one sign) (p l)).read ts) h rec ((lq l).reads ts))
+  repeats_choice n l ts true false e f h rec = (limit_failed l ts e f, limit_beyond l ts e)
 
-  rows_at : (n : ℕ) (l : A) (ts : List T) → length ts ≤ n → Reads (R l) (V l) goes_on ts (read_rows sign guard join (λ a. (both (one sign) (p a)).read) n l ts)
-  unfolding read_rows
-  rows_at zero l [] h = done_reads l [] refl
-  rows_at zero l (t ∷ ts) h = absurd (omega arith)
-  rows_at (suc n) l ts h = rows_choice n l ts (begins_in sign ts) (guard l) refl refl h (λ l' mid i. rows_at n l' mid i)
+  repeats_at : (n : ℕ) (l : A) (ts : List T) → length ts ≤ n → Reads (R l) (V l) goes_on ts (read_pairs sign guard join (λ a. (both (one sign) (p a)).read) n l ts)
+  unfolding read_pairs
+  repeats_at zero l [] h = done_reads l [] refl
+  repeats_at zero l (t ∷ ts) h = absurd (omega arith)
+  repeats_at (suc n) l ts h = repeats_choice n l ts (begins_in sign ts) (guard l) refl refl h (λ l' mid i. repeats_at n l' mid i)
 
-  pub rows_law : (l : A) → Law (rows sign guard join p l) sign true goes_on
-  rows_law l = record {
-    shape = rows_shape l;
-    reads = λ ts. subst (Reads (R l) (V l) goes_on ts) (sym (row_read sign guard join p (length ts) l ts)) (rows_at (length ts) l ts (omega arith));
+  pub repeats_law : (l : A) → Law (repeats sign guard join p l) sign true goes_on
+  repeats_law l = record {
+    shape = repeats_shape l;
+    reads = λ ts. subst (Reads (R l) (V l) goes_on ts) (sym (repeats_read sign guard join p (length ts) l ts)) (repeats_at (length ts) l ts (omega arith));
   }

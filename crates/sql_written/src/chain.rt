@@ -1,6 +1,6 @@
-/// What is written in a row.
+/// What is written in a chain.
 #[derive(Clone, Copy)]
-pub(crate) enum Row {
+pub(crate) enum Chain {
     /// The parts of a list.
     List,
     And,
