@@ -1,0 +1,4 @@
+pub mod Conditions
+pub mod Kept
+pub mod Laws
+pub mod Prunable
