@@ -1,0 +1,7 @@
+pub mod Cleaning
+mod Asked
+mod Fitted
+mod Judging
+mod RowsOf
+mod Sets
+mod Waiting
