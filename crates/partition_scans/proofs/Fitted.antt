@@ -25,7 +25,7 @@ use Rattle.table_trees.specs.declared.node.Node.{Node}
 use Rattle.table_trees.specs.declared.tree.Shape.TheVariants.{Level as ShapeLevel}
 use Rattle.table_trees.specs.declared.tree.Tree.{Tree}
 use Rattle.table_trees.specs.declared.tree.TreeList.{TreeList}
-use Rattle.table_trees.specs.Histories.{ddl_tree, node_at}
+use Rattle.table_trees.specs.Histories.{ddl_tree, node_at, path_of}
 use Rattle.table_trees.specs.Seen.{seen, items_of}
 use Rattle.table_trees.specs.Siblings.{AreSiblings}
 use Rattle.table_trees.specs.Trees.{TableTree, LeafTable, LevelTable, End, More, trees_of, key_of, IsRowOf, IsSound, Fits}
@@ -35,7 +35,15 @@ use Rattle.table_trees.proofs.Sound.{ddl_tree_sound}
 use Rattle.part_catalog.specs.Found.{made_at}
 use Rattle.part_ddl.specs.Faults.{second_default}
 use Rattle.part_ddl.specs.Placing.{names_below, bounds_below, pending_name, fault_at, default_faults, bound_faults, place_faults}
+use Rattle.table_trees.specs.declared.path_part.PathPart.{PathPart}
+use Rattle.row_router.specs.Paths.{PartFits}
+use Rattle.row_change.specs.Laws.{PathsFit}
+use Rattle.soundness.specs.Laws.{SessionsHaveSiblings}
+use Rattle.stores.specs.Stand.{Stands}
+use Rattle.stores.specs.declared.stores.Stores.{Stores}
+use Rattle.stores.proofs.Goodness.{legal_of, permitted_of}
 use Rattle.partition_scans.specs.Fitting.{is_row_of, KeyFits, SiblingsFit}
+use Rattle.partition_scans.proofs.Leaves.{tables_kept}
 use Rattle.partition_scans.proofs.RowsOf.{row_of}
 
 -- ---- one bound
@@ -95,3 +103,29 @@ level_of_tree h s p t level bounds kids sound siblings is tree =
     let columns = (table_at (tables_made (catalogue_events h)) p).columns in
     let whole : IsSound columns (LevelTable t.node level bounds (trees_of (map seen (items_of kids)))) = subst (IsSound columns) (sym tree ∙ seen_level t level bounds kids is) (ddl_tree_sound h s p sound siblings) in
     record { bounds_of = whole.1; keys = whole.3 }
+
+-- ---- what the tests may be asked of
+
+pub default_fits : (columns : List Column) (level : OneLevel) (b : Bound) (others : List Column) → columns ≡ others → All (LiesIn others) level.columns → IsOfLevel level b → (row : List Value) → is_row_of columns row ≡ true → KeyFits level b row
+default_fits columns level b others same lie of row is = key_fits columns level b row (subst (λ (cs : List Column). All (LiesIn cs) level.columns) (sym same) lie) of is
+
+path_fits : PathsFit → SessionsHaveSiblings → (stores : Stores) (h : History) (s : ℕ) (p : TableNo) (columns : List Column) (row : List Value) → Stands stores h → p.number < length stores.catalog.tables → columns ≡ (made_at h p.number).columns → is_row_of columns row ≡ true
+    → All (PartFits row) (path_of h s p.number)
+path_fits fit together stores h s p columns row stands low same is =
+    let count = tables_kept stores h stands in
+    let made : p.number < length (tables_made (catalogue_events h)) = omega (arith, count, low) in
+    fit h s p row stands.all.catalog.sound (together h s (legal_of h stands.good) (permitted_of h stands.good)) (made, subst (λ (cs : List Column). IsRowOf cs row) same (row_of columns row is))
+
+pub place_fits : PathsFit → SessionsHaveSiblings → (stores : Stores) (h : History) (s : ℕ) (p : TableNo) (columns : List Column) (level : OneLevel) (bounds : List Bound) (path : List PathPart) (b : Bound) → Stands stores h → p.number < length stores.catalog.tables
+    → columns ≡ (made_at h p.number).columns → bounds ≡ bounds_below h s p.number → path ≡ path_of h s p.number → All (LiesIn (made_at h p.number).columns) level.columns → IsOfLevel level b → All (IsOfLevel level) bounds
+    → (height : ℕ) → place_faults h s p.number b height ≡ [] → (row : List Value) → is_row_of columns row ≡ true → KeyFits level b row × SiblingsFit level bounds b row × All (PartFits row) path
+place_fits fit together stores h s p columns level bounds path b stands low same siblings above lie of all height none row is =
+    let mine = subst (λ (cs : List Column). All (LiesIn cs) level.columns) (sym same) lie in
+    (
+      key_fits columns level b row mine of is,
+      record {
+        set = set_fits columns level bounds row mine all is;
+        apart = λ e. subst (λ (bs : List Bound). list_any is_default bs ≡ false) (sym siblings) (no_default_beside h s p.number b height none e);
+      },
+      subst (λ (ps : List PathPart). All (PartFits row) ps) (sym above) (path_fits fit together stores h s p columns row stands low same is),
+    )

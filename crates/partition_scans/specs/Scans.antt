@@ -1,7 +1,8 @@
 -- Scans of tables, for rows that may not be there (the manual, ALTER TABLE, ATTACH PARTITION; 13.2).
-use Rattle.std.specs.Prelude.{◌≡◌, ℕ, Bool, false, ◌||◌, List, [], ◌∷◌, ◌++◌, Option, Some, None, Result}
+use Rattle.std.specs.Prelude.{◌≡◌, ◌≤◌, ℕ, Bool, false, ◌||◌, List, [], ◌∷◌, ◌++◌, Option, Some, None, Result}
 use Rattle.pg_values.specs.declared.fault.Fault.{Fault}
 use Rattle.pg_values.specs.declared.value.Value.{Value}
+use Rattle.pg_ids.specs.Sets.{has}
 use Rattle.pg_ids.specs.declared.ids.LeafId.{LeafId}
 use Rattle.pg_ids.specs.declared.session_set.SessionSet.{SessionSet}
 use Rattle.part_bounds.specs.Checks.{or_first}
@@ -38,3 +39,15 @@ judged h s scans = or_first (refusals h s scans) (those (watches h s scans))
 -- nobody is refused, and no other session's snapshot has to go
 abbrev pub IsClean : History → (session : ℕ) → List Scan → Type 0
 IsClean h s scans = (refusals h s scans ≡ []) × ((r : ℕ) → watches h s scans r ≡ false)
+
+-- of one list of leaves: no row refuses that breaks the test, and these are the sessions that see one
+pub record IsPassed (h : History) (session : ℕ) (leaves : List LeafId) (breaks : List Value → Bool) (others : SessionSet) : Type 0 where
+  pub none : refusing h session (tx_in h session) leaves breaks ≡ None
+  pub all : (r : ℕ) → has others r ≡ seeing h session leaves breaks r
+  pub low : (r : ℕ) → 128 ≤ r → has others r ≡ false
+
+-- or this is the first that does
+pub record IsRefused (h : History) (session : ℕ) (leaves : List LeafId) (breaks : List Value → Bool) (row : List Value) : Type 0 where
+  pub first : Version
+  pub refuses : refusing h session (tx_in h session) leaves breaks ≡ Some first
+  pub is_row : row ≡ first.row

@@ -1,5 +1,4 @@
-ghost use Rattle.std.specs.Prelude.{◌≡◌, ◌||◌, not, List, true, All};
-ghost use Rattle.pg_values.specs.declared.value.Value.{Value as OneValue};
+ghost use Rattle.std.specs.Prelude.{◌≡◌, ◌||◌, not, true};
 ghost use Rattle.part_bounds.specs.Accepts.{accepts};
 ghost use Rattle.table_trees.specs.Trees.{key_of};
 ghost use Rattle.partition_scans.specs.Fitting as fitting;
@@ -19,11 +18,10 @@ pub(crate) struct DefaultRows<'p> {
     pub(crate) columns: &'p [Column],
     pub(crate) level: &'p Level,
     pub(crate) bound: &'p Bound,
-    ghost fits: { (row : List OneValue) → fitting.is_row_of columns.now row ≡ true → KeyFits level.now bound.now row },
 }
 
 impl<'p> RowTest for DefaultRows<'p> {
-    ghost suits = { λ _ _. Unit {0} };
+    ghost suits = { λ t row. fitting.is_row_of t.columns.now row ≡ true → KeyFits t.level.now t.bound.now row };
 
     ghost broken = { λ t row. not (fitting.is_row_of t.columns.now row) || accepts (key_of t.level.now row) t.bound.now };
 

@@ -11,19 +11,18 @@ ghost use Rattle.part_ddl.specs.Placing.{place_faults};
 ghost use Rattle.table_trees.specs.Seen.{seen};
 ghost use Rattle.course.specs.Attempts.{MayAttempt};
 ghost use Rattle.history.specs.declared.catalogue.TableShape.TheVariants.{Level as Levels};
-ghost use Rattle.history.specs.declared.version.Version.{Version};
-ghost use Rattle.row_store.specs.Judged.{refusing, seeing, AreSuited};
-ghost use Rattle.stores.specs.Events.{tx_in};
+ghost use Rattle.row_store.specs.Judged.{AreSuited};
 ghost use Rattle.table_trees.specs.Histories.{ddl_tree, path_of};
 ghost use Rattle.table_trees.specs.Trees.{leaves};
 ghost use Rattle.tx_table.specs.Stands.{TableStands};
 ghost use Rattle.part_ddl.specs.Placing.{bounds_below};
 ghost use Rattle.partition_scans.specs.Data.{DataStand};
 ghost use Rattle.partition_scans.specs.Places.{place_scan, default_scan};
-ghost use Rattle.partition_scans.specs.Scans.{judged, watches};
+ghost use Rattle.partition_scans.specs.Scans.{judged, watches, IsPassed, IsRefused};
 
 use crate::default_rows::DefaultRows;
 use crate::faults::{default_has_row, outside_new_bounds};
+use crate::low::sessions_are_low;
 use crate::new_rows::NewRows;
 use course::Caller;
 use part_bounds::{Bound, BoundSet, Level};
@@ -32,7 +31,7 @@ use pg_ids::{LeafId, SessionSet, TableNo};
 use pg_values::{NoMemory, Refusal, Row, ValueKey};
 use row_change::rows_fit_paths;
 use row_store::{RowTest, Verdict};
-use soundness::legal_keeps_all;
+use soundness::sessions_have_siblings;
 use std::alloc::Global;
 use stores::{Stores, leaves_are_housed, trees_are_together};
 use table_trees::{PathPart, Shape, Tree, push_leaves};
@@ -69,8 +68,8 @@ fn judge<'s, T: RowTest>(
     requires known { All (λ leaf. leaf.number < stores.now.rows.leaves) leaves.now }
     requires suited { AreSuited stores.now.rows leaves.now (T.suits test.now) }
     ensures { (h : History) → DataStand stores.now h → MatchResult result
-        (λ others. (refusing h caller.session (tx_in h caller.session) leaves.now (T.broken test.now) ≡ None) × ((r : ℕ) → has others r ≡ seeing h caller.session leaves.now (T.broken test.now) r))
-        (λ row. (v : Version) × (refusing h caller.session (tx_in h caller.session) leaves.now (T.broken test.now) ≡ Some v) × (row.now ≡ v.row)) }
+        (λ others. IsPassed h caller.session leaves.now (T.broken test.now) others)
+        (λ row. IsRefused h caller.session leaves.now (T.broken test.now) row.now) }
 {
     let Some(me) = stores.txs.open_of(caller.session) else {
         unreachable!()
@@ -80,7 +79,10 @@ fn judge<'s, T: RowTest>(
         .judge(&stores.txs, leaves, caller.session, me, test)
     {
         Verdict::Clean => Ok(SessionSet::empty()),
-        Verdict::Seen(others) => Ok(others),
+        Verdict::Seen(others) => {
+            sessions_are_low(others);
+            Ok(others)
+        }
         Verdict::Violator(row) => Err(row),
     }
 }
@@ -176,7 +178,7 @@ fn judge_below(
     ensures all { IfOk result (λ others. (h : History) → DataStand stores.now h → (r : ℕ) → has others r ≡ watches h caller.session (place_scan h caller.session parent.number table.number bound.now ∷ []) r) }
 {
     rows_fit_paths();
-    legal_keeps_all();
+    sessions_have_siblings();
     let columns = stores.catalog.table(parent).columns.as_slice();
     let leaves = leaves_of(alloc, stores, caller, table)?;
     let test = NewRows {

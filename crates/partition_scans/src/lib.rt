@@ -14,6 +14,7 @@ mod default_rows;
 mod faults;
 mod fitting;
 mod judging;
+mod low;
 mod new_rows;
 mod scans;
 

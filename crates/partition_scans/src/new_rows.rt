@@ -1,6 +1,5 @@
-ghost use Rattle.std.specs.Prelude.{◌≡◌, ◌||◌, not, is_some, List, true, false, All};
+ghost use Rattle.std.specs.Prelude.{◌≡◌, ◌||◌, not, is_some, true, false, All};
 ghost use Rattle.std.specs.List.{list_any};
-ghost use Rattle.pg_values.specs.declared.value.Value.{Value as OneValue};
 ghost use Rattle.part_bounds.specs.Accepts.{accepts_among, is_default, FitsBound, FitsSet};
 ghost use Rattle.row_router.specs.declared.path.PathTest.TheVariants.{Bounds, Checks};
 ghost use Rattle.row_router.specs.Paths.{refused, PartFits};
@@ -27,7 +26,6 @@ pub(crate) struct NewRows<'p> {
     pub(crate) siblings: &'p BoundSet<ValueKey>,
     pub(crate) bound: &'p Bound,
     pub(crate) path: &'p [PathPart],
-    ghost fits: { (row : List OneValue) → fitting.is_row_of columns.now row ≡ true → KeyFits level.now bound.now row × SiblingsFit level.now siblings.now bound.now row × All (PartFits row) path.now },
 }
 
 // The bound accepts the key among its siblings.
@@ -45,7 +43,7 @@ fn accepts_key<Q: Key>(siblings: &BoundSet<ValueKey>, bound: &Bound, key: &Q) ->
 }
 
 impl<'p> RowTest for NewRows<'p> {
-    ghost suits = { λ _ _. Unit {0} };
+    ghost suits = { λ t row. fitting.is_row_of t.columns.now row ≡ true → KeyFits t.level.now t.bound.now row × SiblingsFit t.level.now t.siblings.now t.bound.now row × All (PartFits row) t.path.now };
 
     ghost broken = { λ t row. not (fitting.is_row_of t.columns.now row)
         || (not (accepts_among t.siblings.now (key_of t.level.now row) t.bound.now) || (is_some (refused Bounds row t.path.now) || is_some (refused Checks row t.path.now))) };

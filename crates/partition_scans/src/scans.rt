@@ -10,6 +10,7 @@ ghost use Rattle.partition_scans.specs.Scans as scans;
 ghost use Rattle.partition_scans.specs.Scans.{Scan};
 ghost use Rattle.partition_scans.specs.Waited.{scanned};
 
+use crate::low::sessions_are_low;
 use course::{Caller, Stop};
 use history::WaitOn;
 use pg_ids::SessionSet;
@@ -35,14 +36,11 @@ pub fn wait_for_snapshots(
     ensures rest { stores.new ≡ record stores.old { locks = stores.new.locks } }
 {
     match judged {
-        Ok(others) => wait_for(
-            alloc,
-            stores,
-            names,
-            caller,
-            WaitOn::Snapshots(others),
-            None,
-        ),
+        Ok(others) => {
+            sessions_are_low(others);
+            let others = WaitOn::Snapshots(others);
+            wait_for(alloc, stores, names, caller, others, None)
+        }
         Err(Refusal::Sql(fault)) => Err(Stop::Refused(fault)),
         Err(Refusal::NoMemory) => Err(Stop::NoMemory),
     }
