@@ -121,12 +121,11 @@ path_fits fit together stores h s p columns row stands low same is =
 pub place_fits : PathsFit → SessionsHaveSiblings → (stores : Stores) (h : History) (s : ℕ) (p : TableNo) (columns : List Column) (level : OneLevel) (bounds : List Bound) (path : List PathPart) (b : Bound) → Stands stores h → p.number < length stores.catalog.tables
     → columns ≡ (made_at h p.number).columns → bounds ≡ bounds_below h s p.number → path ≡ path_of h s p.number → All (LiesIn columns) level.columns → IsOfLevel level b → All (IsOfLevel level) bounds
     → (height : ℕ) → place_faults h s p.number b height ≡ [] → (row : List Value) → is_row_of columns row ≡ true → KeyFits level b row × SiblingsFit level bounds b row × All (PartFits row) path
-place_fits fit together stores h s p columns level bounds path b stands low same siblings above lie of all height none row is =
-    (
-      key_fits columns level b row lie of is,
-      record {
-        set = set_fits columns level bounds row lie all is;
-        apart = λ e. subst (λ (bs : List Bound). list_any is_default bs ≡ false) (sym siblings) (no_default_beside h s p.number b height none e);
-      },
-      subst (λ (ps : List PathPart). All (PartFits row) ps) (sym above) (path_fits fit together stores h s p columns row stands low same is),
-    )
+place_fits fit together stores h s p columns level bounds path b stands low same siblings above lie of all height none row is = (
+  key_fits columns level b row lie of is,
+  record {
+    set = set_fits columns level bounds row lie all is;
+    apart = λ e. subst (λ (bs : List Bound). list_any is_default bs ≡ false) (sym siblings) (no_default_beside h s p.number b height none e);
+  },
+  subst (λ (ps : List PathPart). All (PartFits row) ps) (sym above) (path_fits fit together stores h s p columns row stands low same is),
+)

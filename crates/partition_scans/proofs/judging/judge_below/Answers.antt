@@ -22,29 +22,29 @@ judge-requires-clause-suited c = λ v stored mine is.
     (lie_in columns (made_at keys.0 c.args.parent.number).columns c.args.level.now (c.as_slice-columns.ensures ∙ ap (λ (t : Table). t.columns) (c.table.ensures keys.0 keys.1)) keys.2) c.requires.mine c.requires.theirs place.0 place.1 v.row is
 
 pub returns-in-Ok-clause-answer : goal.returns-in-Ok-clause-answer
-returns-in-Ok-clause-answer c = λ h data.
+returns-in-Ok-clause-answer c = λ h tells.
     let s = c.args.caller.session in
     let p = c.args.parent.number in
     let b = c.args.bound.now in
     let t = c.args.table.number in
     let scan : Scan = record { leaves = leaves (ddl_tree h s t); breaks = breaks_place h s p b; fault = outside_new_bounds (made_at h t).name } in
     goes_on h s scan c.in-Ok.others
-    (place_passed h s p c.as_slice-columns.result.now c.args.level.now b (c.as_slice-columns.ensures ∙ ap (λ (t : Table). t.columns) (c.table.ensures h data.catalog)) (c.requires.level h data.txs data.catalog) c.deref.result.now c.args.siblings.now c.args.path.now
-    (c.requires.siblings h data.txs data.catalog) (c.requires.path h data.txs data.catalog) t c.in-Ok.others (c.deref.ensures.value ∙ c.in_ok-leaves.ensures.is h data.txs data.catalog) (c.in-Ok.ensures h data))
+    (place_passed h s p c.as_slice-columns.result.now c.args.level.now b (c.as_slice-columns.ensures ∙ ap (λ (t : Table). t.columns) (c.table.ensures h tells.catalog)) (c.requires.level h tells.txs tells.catalog) c.deref.result.now c.args.siblings.now c.args.path.now
+    (c.requires.siblings h tells.txs tells.catalog) (c.requires.path h tells.txs tells.catalog) t c.in-Ok.others (c.deref.ensures.value ∙ c.in_ok-leaves.ensures.is h tells.txs tells.catalog) (c.in-Ok.ensures h tells))
 
 pub returns-in-Ok-clause-all : goal.returns-in-Ok-clause-all
-returns-in-Ok-clause-all c = λ h data.
+returns-in-Ok-clause-all c = λ h tells.
     let s = c.args.caller.session in
     let p = c.args.parent.number in
     let b = c.args.bound.now in
     let t = c.args.table.number in
     let scan : Scan = record { leaves = leaves (ddl_tree h s t); breaks = breaks_place h s p b; fault = outside_new_bounds (made_at h t).name } in
     watched h s scan c.in-Ok.others
-    (place_passed h s p c.as_slice-columns.result.now c.args.level.now b (c.as_slice-columns.ensures ∙ ap (λ (t : Table). t.columns) (c.table.ensures h data.catalog)) (c.requires.level h data.txs data.catalog) c.deref.result.now c.args.siblings.now c.args.path.now
-    (c.requires.siblings h data.txs data.catalog) (c.requires.path h data.txs data.catalog) t c.in-Ok.others (c.deref.ensures.value ∙ c.in_ok-leaves.ensures.is h data.txs data.catalog) (c.in-Ok.ensures h data))
+    (place_passed h s p c.as_slice-columns.result.now c.args.level.now b (c.as_slice-columns.ensures ∙ ap (λ (t : Table). t.columns) (c.table.ensures h tells.catalog)) (c.requires.level h tells.txs tells.catalog) c.deref.result.now c.args.siblings.now c.args.path.now
+    (c.requires.siblings h tells.txs tells.catalog) (c.requires.path h tells.txs tells.catalog) t c.in-Ok.others (c.deref.ensures.value ∙ c.in_ok-leaves.ensures.is h tells.txs tells.catalog) (c.in-Ok.ensures h tells))
 
 pub returns-clause-answer : goal.returns-clause-answer
-returns-clause-answer c = λ h data.
+returns-clause-answer c = λ h tells.
     let s = c.args.caller.session in
     let p = c.args.parent.number in
     let b = c.args.bound.now in
@@ -52,6 +52,6 @@ returns-clause-answer c = λ h data.
     let row = c.in-Err.row.now in
     let scan : Scan = record { leaves = leaves (ddl_tree h s t); breaks = breaks_place h s p b; fault = outside_new_bounds (made_at h t).name } in
     refuses h s scan row
-    (place_refused h s p c.as_slice-columns.result.now c.args.level.now b (c.as_slice-columns.ensures ∙ ap (λ (t : Table). t.columns) (c.table.ensures h data.catalog)) (c.requires.level h data.txs data.catalog) c.deref.result.now c.args.siblings.now c.args.path.now
-    (c.requires.siblings h data.txs data.catalog) (c.requires.path h data.txs data.catalog) t row (c.deref.ensures.value ∙ c.in_ok-leaves.ensures.is h data.txs data.catalog) (c.in-Err.ensures h data))
-    ∙ ap Err (sym (c.in_ok-outside_new_bounds-in-Err.ensures ∙ ap (λ (n : List ℕ). outside_new_bounds n row) (c.name_of-table.ensures h data.catalog)))
+    (place_refused h s p c.as_slice-columns.result.now c.args.level.now b (c.as_slice-columns.ensures ∙ ap (λ (t : Table). t.columns) (c.table.ensures h tells.catalog)) (c.requires.level h tells.txs tells.catalog) c.deref.result.now c.args.siblings.now c.args.path.now
+    (c.requires.siblings h tells.txs tells.catalog) (c.requires.path h tells.txs tells.catalog) t row (c.deref.ensures.value ∙ c.in_ok-leaves.ensures.is h tells.txs tells.catalog) (c.in-Err.ensures h tells))
+    ∙ ap Err (sym (c.in_ok-outside_new_bounds-in-Err.ensures ∙ ap (λ (n : List ℕ). outside_new_bounds n row) (c.name_of-table.ensures h tells.catalog)))

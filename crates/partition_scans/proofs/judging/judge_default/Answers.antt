@@ -32,8 +32,7 @@ judge_default_of-requires-clause-level c = λ h txs catalog. (told h c.args.call
 
 pub judge_default_of-requires-clause-keys : goal.judge_default_of-requires-clause-keys
 judge_default_of-requires-clause-keys c =
-    let m = c.trees_are_together.ensures c.args.stores.now c.requires.may.sound.0 c.args.caller.session c.requires.may.sound.1 in
-    (
+    let m = c.trees_are_together.ensures c.args.stores.now c.requires.may.sound.0 c.args.caller.session c.requires.may.sound.1 in (
       m.h,
       m.catalogue,
       (level_of_tree m.h c.args.caller.session c.args.parent.number c.args.tree.now c.in-Level.level c.in-Level.field-1 c.in-Level.field-2 m.catalogue.sound m.siblings c.in-Level.is (c.requires.tree m.h m.txs m.catalogue)).keys,
@@ -47,8 +46,8 @@ judge_default_of-requires-clause-mine c =
     subst (λ (x : TableShape). TakesBound x c.args.bound.now) all.shape (c.requires.takes h stands.all.catalog)
 
 pub returns-in-None-clause-answer : goal.returns-in-None-clause-answer
-returns-in-None-clause-answer c = λ h data.
+returns-in-None-clause-answer c = λ h tells.
     let s = c.args.caller.session in
     let p = c.args.parent.number in
-    let none = sym (c.default_in.ensures h s p data.catalog.sound (c.requires.tree h data.txs data.catalog)) ∙ c.in-None.is in
+    let none = sym (c.default_in.ensures h s p tells.catalog.sound (c.requires.tree h tells.txs tells.catalog)) ∙ c.in-None.is in
     subst (λ (o : Option TableNo). judged h s (default_scan h s p c.args.bound.now c.args.name.now o) ≡ Ok c.empty.result) (sym none) (nothing_judged h s ∙ ap Ok (sym c.empty.ensures.is))

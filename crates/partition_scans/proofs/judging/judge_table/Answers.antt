@@ -22,8 +22,7 @@ judge_below-requires-clause-siblings c = λ h txs catalog. (told h c.args.caller
 
 pub judge_below-requires-clause-keys : goal.judge_below-requires-clause-keys
 judge_below-requires-clause-keys c =
-    let m = c.trees_are_together.ensures c.args.stores.now c.requires.may.sound.0 c.args.caller.session c.requires.may.sound.1 in
-    (
+    let m = c.trees_are_together.ensures c.args.stores.now c.requires.may.sound.0 c.args.caller.session c.requires.may.sound.1 in (
       m.h,
       m.catalogue,
       (level_of_tree m.h c.args.caller.session c.args.parent.number c.args.tree.now c.in-Level.level c.in-Level.siblings c.in-Level.field-2 m.catalogue.sound m.siblings c.in-Level.is (c.requires.tree m.h m.txs m.catalogue)).keys,
