@@ -1,7 +1,6 @@
 -- Which rows the bounds below a table, and its path, may be asked of.
-use Rattle.std.proofs.Common.{◌≡◌, ℕ, ◌<◌, Bool, true, false, List, [], ◌∷◌, ◌++◌, inl, inr, refl, sym, ap, ◌∙◌, subst, arith, Option, Some, None, All, map, length, slice_index_or}
+use Rattle.std.proofs.Common.{◌≡◌, ℕ, ◌<◌, Bool, true, false, List, [], ◌∷◌, ◌++◌, refl, sym, ◌∙◌, subst, arith, Option, Some, None, All, map, length}
 use Rattle.std.specs.List.{list_any, position}
-use Rattle.std.proofs.lemmas.Bool.{cases_Bool}
 use Rattle.std.proofs.lemmas.List.Folds.{list_any_none}
 use Rattle.std.proofs.lemmas.List.Elements.{All-nil, All-cons, All-head, All-tail}
 use Rattle.pg_values.specs.declared.value.Value.{Value}
@@ -16,12 +15,9 @@ use Rattle.part_bounds.specs.Levels.{IsOfLevel}
 use Rattle.part_bounds.proofs.Choice.{position-None}
 use Rattle.part_bounds.proofs.LevelLaws.{level_kind}
 use Rattle.history.specs.declared.catalogue.Column.{Column}
-use Rattle.history.specs.declared.catalogue.Table.{Table}
-use Rattle.history.specs.declared.catalogue.TableShape.{TableShape}
-use Rattle.history.specs.declared.catalogue.TableShape.TheVariants.{Level}
 use Rattle.history.specs.Catalogue.{tables_made}
 use Rattle.history.specs.History.{History, catalogue_events}
-use Rattle.history.specs.Places.{table_at, LiesIn, TakesBound, AreCatalogueSound}
+use Rattle.history.specs.Places.{table_at, LiesIn, AreCatalogueSound}
 use Rattle.history.specs.Presence.{entries_present}
 use Rattle.table_trees.specs.declared.node.Node.{Node}
 use Rattle.table_trees.specs.declared.tree.Shape.TheVariants.{Level as ShapeLevel}

@@ -1,11 +1,10 @@
 -- What is told of one scan.
-use Rattle.std.proofs.Common.{◌≡◌, ℕ, ◌≤◌, ◌||◌, ◌==◌, not, Bool, true, false, List, [], ◌∷◌, ◌++◌, refl, sym, ap, ◌∙◌, subst, arith, Option, Some, None, Result, Ok, Err}
+use Rattle.std.proofs.Common.{◌≡◌, ℕ, ◌||◌, not, Bool, true, false, List, [], ◌∷◌, ◌++◌, refl, sym, ap, ◌∙◌, subst, arith, Option, Ok, Err}
 use Rattle.std.specs.Prelude.{is_some}
 use Rattle.std.proofs.lemmas.Grind.{common_steps}
 use Rattle.std.proofs.lemmas.Bool.Decides.{nat_tests}
 use Rattle.std.proofs.lemmas.Nat.Bits.{bit_at-zero}
 use Rattle.pg_values.specs.declared.value.Value.{Value}
-use Rattle.pg_values.specs.declared.fault.Fault.{Fault}
 use Rattle.pg_ids.specs.Sets.{has, empty}
 use Rattle.pg_ids.specs.declared.ids.LeafId.{LeafId}
 use Rattle.pg_ids.specs.declared.session_set.SessionSet.{SessionSet}
@@ -18,10 +17,9 @@ use Rattle.history.specs.declared.catalogue.TableShape.{TableShape}
 use Rattle.history.specs.declared.catalogue.TableShape.TheVariants.{Level}
 use Rattle.history.specs.declared.version.Version.{Version}
 use Rattle.history.specs.History.{History}
-use Rattle.row_store.specs.Judged.{refusing, seeing}
+use Rattle.row_store.specs.Judged.{seeing}
 use Rattle.row_router.specs.declared.path.PathTest.TheVariants.{Bounds, Checks}
 use Rattle.row_router.specs.Paths.{refused}
-use Rattle.stores.specs.Events.{tx_in}
 use Rattle.soundness.specs.Worlds.{key_in}
 use Rattle.table_trees.specs.declared.path_part.PathPart.{PathPart}
 use Rattle.table_trees.specs.Histories.{ddl_tree, path_of}
@@ -30,7 +28,7 @@ use Rattle.part_catalog.specs.Found.{made_at}
 use Rattle.part_ddl.specs.Placing.{bounds_below}
 use Rattle.partition_scans.specs.Fitting.{is_row_of}
 use Rattle.partition_scans.specs.Places.{breaks_default, breaks_place}
-use Rattle.partition_scans.specs.Scans.{Scan, IsPassed, IsRefused, fault_told, refusals, watches, judged}
+use Rattle.partition_scans.specs.Scans.{Scan, IsPassed, IsRefused, fault_told, watches, judged}
 use Rattle.partition_scans.specs.Sessions.{those}
 use Rattle.partition_scans.proofs.Sets.{are_those}
 

@@ -1,5 +1,5 @@
 -- A statement that waits until snapshots have gone, or need not wait.
-use Rattle.std.proofs.Common.{◌≡◌, ℕ, ◌<◌, ◌≤◌, Bool, true, false, if◌then◌else◌, List, [], inl, inr, refl, sym, ap, ◌∙◌, subst, Option, Some, None, Result, Ok, Err, IfOk, map}
+use Rattle.std.proofs.Common.{◌≡◌, ℕ, ◌≤◌, Bool, true, false, if◌then◌else◌, List, inl, inr, refl, Option, Some, None, Result, Ok, Err, IfOk, map}
 use Rattle.std.proofs.lemmas.Bool.{cases_lt}
 use Rattle.pg_values.specs.declared.fault.Refusal.{Refusal}
 use Rattle.pg_ids.specs.Sets.{has, nobody}

@@ -1,4 +1,4 @@
-use Rattle.std.proofs.Common.{◌≡◌, List, ℕ, ◌∙◌, ap, sym, Err}
+use Rattle.std.proofs.Common.{List, ℕ, ◌∙◌, ap, sym, Err}
 use Rattle.history.specs.declared.catalogue.Table.{Table}
 use Rattle.table_trees.specs.Histories.{ddl_tree}
 use Rattle.table_trees.specs.Trees.{leaves}
