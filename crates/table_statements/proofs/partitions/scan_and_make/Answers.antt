@@ -1,4 +1,6 @@
-use Rattle.std.proofs.Common.{◌+◌, List, ℕ, sym, subst, Ok, Err}
+use Rattle.std.proofs.Common.{◌+◌, List, ℕ, sym, ◌∙◌, subst, Ok, Err}
+use Rattle.history.specs.declared.catalogue.Table.{Table}
+use Rattle.history.specs.Places.{table_at, TakesBound}
 use Rattle.history.specs.History.{History}
 use Rattle.tx_table.specs.Stands.{TableStands}
 use Rattle.part_catalog.specs.Stands.{CatalogueStands}
@@ -24,7 +26,9 @@ pub scan_default-requires-clause-known : goal.scan_default-requires-clause-known
 scan_default-requires-clause-known c = c.requires.parent.made
 
 pub scan_default-requires-clause-takes : goal.scan_default-requires-clause-takes
-scan_default-requires-clause-takes c = λ h catalog. (c.requires.placed h c.requires.may.sound.1.all.txs catalog).takes
+scan_default-requires-clause-takes c = λ h catalog.
+    let was = c.requires.may.sound.1.all in
+    subst (λ (tables : List Table). TakesBound (table_at tables c.args.parent.number).shape c.args.place.bound) (sym was.catalog.tables ∙ catalog.tables) (c.requires.placed c.requires.may.sound.0 was.txs was.catalog).takes
 
 pub make_placed-requires-clause-may : goal.make_placed-requires-clause-may
 make_placed-requires-clause-may c =
