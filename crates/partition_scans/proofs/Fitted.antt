@@ -1,7 +1,7 @@
 -- Which rows the bounds below a table, and its path, may be asked of.
-use Rattle.std.proofs.Common.{◌≡◌, ℕ, ◌<◌, Bool, true, false, List, [], ◌∷◌, ◌++◌, inl, inr, refl, sym, ap, ◌∙◌, subst, arith, Option, Some, None, All, map, length, slice_index_or}
+use Rattle.std.proofs.Common.{◌≡◌, ℕ, ◌<◌, Bool, true, false, List, [], ◌∷◌, ◌++◌, refl, sym, ◌∙◌, subst, arith, Option, Some, None, All, map, length}
 use Rattle.std.specs.List.{list_any, position}
-use Rattle.std.proofs.lemmas.Bool.{cases_Bool}
+use Rattle.std.proofs.lemmas.List.Folds.{list_any_none}
 use Rattle.std.proofs.lemmas.List.Elements.{All-nil, All-cons, All-head, All-tail}
 use Rattle.pg_values.specs.declared.value.Value.{Value}
 use Rattle.pg_values.specs.declared.fault.Fault.{Fault}
@@ -12,14 +12,12 @@ use Rattle.part_bounds.specs.declared.partition_bound.Bound.TheVariants.{Range, 
 use Rattle.part_bounds.specs.Accepts.{is_default, FitsBound, FitsSet}
 use Rattle.part_bounds.specs.Bounds.{IsInPlainOrder}
 use Rattle.part_bounds.specs.Levels.{IsOfLevel}
+use Rattle.part_bounds.proofs.Choice.{position-None}
 use Rattle.part_bounds.proofs.LevelLaws.{level_kind}
 use Rattle.history.specs.declared.catalogue.Column.{Column}
-use Rattle.history.specs.declared.catalogue.Table.{Table}
-use Rattle.history.specs.declared.catalogue.TableShape.{TableShape}
-use Rattle.history.specs.declared.catalogue.TableShape.TheVariants.{Level}
 use Rattle.history.specs.Catalogue.{tables_made}
 use Rattle.history.specs.History.{History, catalogue_events}
-use Rattle.history.specs.Places.{table_at, LiesIn, TakesBound, AreCatalogueSound}
+use Rattle.history.specs.Places.{table_at, LiesIn, AreCatalogueSound}
 use Rattle.history.specs.Presence.{entries_present}
 use Rattle.table_trees.specs.declared.node.Node.{Node}
 use Rattle.table_trees.specs.declared.tree.Shape.TheVariants.{Level as ShapeLevel}
@@ -77,7 +75,7 @@ found_none f names None e = refl
 found_none f names (Some i) e = absurd (let c = e in cc)
 
 none_is : (p : Bound → Bool) (xs : List Bound) → position p xs ≡ None → list_any p xs ≡ false
-none_is p xs e = grind (arith, e)
+none_is p xs e = list_any_none p xs (position-None p xs e)
 
 pub no_default_beside : (h : History) (s p : ℕ) (b : Bound) (height : ℕ) → place_faults h s p b height ≡ [] → is_default b ≡ true → list_any is_default (bounds_below h s p) ≡ false
 no_default_beside h s p (Range l u) height none is = absurd (let c = is in cc)
@@ -106,8 +104,8 @@ level_of_tree h s p t level bounds kids sound siblings is tree =
 
 -- ---- what the tests may be asked of
 
-pub default_fits : (columns : List Column) (level : OneLevel) (b : Bound) (others : List Column) → columns ≡ others → All (LiesIn others) level.columns → IsOfLevel level b → (row : List Value) → is_row_of columns row ≡ true → KeyFits level b row
-default_fits columns level b others same lie of row is = key_fits columns level b row (subst (λ (cs : List Column). All (LiesIn cs) level.columns) (sym same) lie) of is
+pub lie_in : (columns others : List Column) (level : OneLevel) → columns ≡ others → All (LiesIn others) level.columns → All (LiesIn columns) level.columns
+lie_in columns others level same lie = subst (λ (cs : List Column). All (LiesIn cs) level.columns) (sym same) lie
 
 path_fits : PathsFit → SessionsHaveSiblings → (stores : Stores) (h : History) (s : ℕ) (p : TableNo) (columns : List Column) (row : List Value) → Stands stores h → p.number < length stores.catalog.tables → columns ≡ (made_at h p.number).columns → is_row_of columns row ≡ true
     → All (PartFits row) (path_of h s p.number)
@@ -117,15 +115,13 @@ path_fits fit together stores h s p columns row stands low same is =
     fit h s p row stands.all.catalog.sound (together h s (legal_of h stands.good) (permitted_of h stands.good)) (made, subst (λ (cs : List Column). IsRowOf cs row) same (row_of columns row is))
 
 pub place_fits : PathsFit → SessionsHaveSiblings → (stores : Stores) (h : History) (s : ℕ) (p : TableNo) (columns : List Column) (level : OneLevel) (bounds : List Bound) (path : List PathPart) (b : Bound) → Stands stores h → p.number < length stores.catalog.tables
-    → columns ≡ (made_at h p.number).columns → bounds ≡ bounds_below h s p.number → path ≡ path_of h s p.number → All (LiesIn (made_at h p.number).columns) level.columns → IsOfLevel level b → All (IsOfLevel level) bounds
+    → columns ≡ (made_at h p.number).columns → bounds ≡ bounds_below h s p.number → path ≡ path_of h s p.number → All (LiesIn columns) level.columns → IsOfLevel level b → All (IsOfLevel level) bounds
     → (height : ℕ) → place_faults h s p.number b height ≡ [] → (row : List Value) → is_row_of columns row ≡ true → KeyFits level b row × SiblingsFit level bounds b row × All (PartFits row) path
-place_fits fit together stores h s p columns level bounds path b stands low same siblings above lie of all height none row is =
-    let mine = subst (λ (cs : List Column). All (LiesIn cs) level.columns) (sym same) lie in
-    (
-      key_fits columns level b row mine of is,
-      record {
-        set = set_fits columns level bounds row mine all is;
-        apart = λ e. subst (λ (bs : List Bound). list_any is_default bs ≡ false) (sym siblings) (no_default_beside h s p.number b height none e);
-      },
-      subst (λ (ps : List PathPart). All (PartFits row) ps) (sym above) (path_fits fit together stores h s p columns row stands low same is),
-    )
+place_fits fit together stores h s p columns level bounds path b stands low same siblings above lie of all height none row is = (
+  key_fits columns level b row lie of is,
+  record {
+    set = set_fits columns level bounds row lie all is;
+    apart = λ e. subst (λ (bs : List Bound). list_any is_default bs ≡ false) (sym siblings) (no_default_beside h s p.number b height none e);
+  },
+  subst (λ (ps : List PathPart). All (PartFits row) ps) (sym above) (path_fits fit together stores h s p columns row stands low same is),
+)

@@ -1,8 +1,10 @@
 -- Where the leaves of a table's tree are kept.
-use Rattle.std.proofs.Common.{◌≡◌, ℕ, zero, suc, ◌<◌, List, [], ◌∷◌, refl, sym, ap, ◌∙◌, subst, arith, All, map, length}
+use Rattle.std.proofs.Common.{◌≡◌, ℕ, zero, suc, ◌<◌, Bool, List, [], ◌∷◌, inl, inr, refl, sym, ap, ◌∙◌, subst, arith, Some, option_map, find, All, map, length}
+use Rattle.std.proofs.lemmas.Bool.{cases_Bool}
 use Rattle.std.proofs.lemmas.List.{length-map}
 use Rattle.std.proofs.lemmas.List.Elements.{All-nil, All-cons, All-head, All-tail, All-append}
 use Rattle.pg_ids.specs.declared.ids.LeafId.{LeafId}
+use Rattle.pg_ids.specs.declared.ids.TableNo.{TableNo}
 use Rattle.history.specs.declared.catalogue.Entry.{Entry}
 use Rattle.history.specs.declared.catalogue.TableShape.{TableShape}
 use Rattle.history.specs.declared.catalogue.TableShape.TheVariants.{Leaf, Level}
@@ -20,6 +22,8 @@ use Rattle.soundness.proofs.Looking.{counts_world}
 use Rattle.soundness.proofs.Presence.{all_more, all_present}
 use Rattle.soundness.proofs.Sound.{sound_of, catalogue_sound_of}
 use Rattle.part_catalog.specs.Kept.{table_in as kept_table}
+use Rattle.part_ddl.specs.Below.{default_of, has_default_bound}
+use Rattle.part_ddl.specs.Placing.{partitions_of}
 use Rattle.stores.specs.Laws.{LeavesAreHoused}
 use Rattle.stores.specs.Stand.{Stands}
 use Rattle.stores.specs.declared.stores.Stores.{Stores}
@@ -70,3 +74,31 @@ leaves_there housed stores h s t stands low =
     leaves_within (λ (l : LeafId). l.number < stores.rows.leaves) cats entries t
     (λ x leaf at. subst (λ n. leaf.number < n) (sym stands.all.rows.leaves) (housed h x leaf stands.good at))
     (all_more (Present cats (counts (tx_events h) s)) (λ (e : Entry). IsMade cats e.child.number) entries (λ e p. (siblings.there e p).1.0) present) 7 t made
+
+-- ---- the default partition
+
+found_all : (P : TableNo → Type 0) (q : Entry → Bool) (es : List Entry) (d : TableNo) → All (λ (e : Entry). P e.child) es → option_map (λ (e : Entry). e.child) (find q es) ≡ Some d → P d
+found_all P q [] d all is = absurd (let c = is in cc)
+found_all P q (e ∷ es) d all is = elim (cases_Bool (q e)) [
+  | inl t ↦
+      let here : option_map (λ (x : Entry). x.child) (find q (e ∷ es)) ≡ Some e.child = rw t refl in
+      let same : Some e.child ≡ Some d = sym here ∙ is in
+      subst P (let c = same in cc) (All-head (λ (x : Entry). P x.child) e es all)
+  | inr f ↦
+      let there : option_map (λ (x : Entry). x.child) (find q (e ∷ es)) ≡ option_map (λ (x : Entry). x.child) (find q es) = rw f refl in
+      found_all P q es d (All-tail (λ (x : Entry). P x.child) e es all) (sym there ∙ is)
+]
+
+-- it is one of the tables that are kept
+pub default_kept : (stores : Stores) (h : History) (s p : ℕ) (d : TableNo) → Stands stores h → default_of h s p ≡ Some d → d.number < length stores.catalog.tables
+default_kept stores h s p d stands is =
+    let cats = catalogue_events h in
+    let legal = legal_of h stands.good in
+    let sound = sound_of h legal in
+    let siblings = (legal_keeps_all h legal (permitted_of h stands.good)).siblings (counts (tx_events h) s) (counts_world (tx_events h) s sound) in
+    let entries = entries_present h s in
+    let present : All (Present cats (counts (tx_events h) s)) entries = all_present h s sound (catalogue_sound_of h legal) in
+    let made : All (λ (e : Entry). IsMade cats e.child.number) entries = all_more (Present cats (counts (tx_events h) s)) (λ (e : Entry). IsMade cats e.child.number) entries (λ e its. (siblings.there e its).1.0) present in
+    let count = tables_kept stores h stands in
+    let low : IsMade cats d.number = found_all (λ (t : TableNo). IsMade cats t.number) has_default_bound (partitions_of h s p) d (all_children (λ (e : Entry). IsMade cats e.child.number) entries p made) is in
+    omega (arith, count, low)

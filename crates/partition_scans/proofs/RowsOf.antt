@@ -1,6 +1,5 @@
 -- A row of columns, as a test and as a fact.
 use Rattle.std.proofs.Common.{◌≡◌, ◌&&◌, Bool, true, false, List, [], ◌∷◌, refl}
-use Rattle.std.specs.List.{AllZip}
 use Rattle.pg_values.specs.declared.value.Kind.{Kind}
 use Rattle.pg_values.specs.declared.value.Kind.TheVariants as kinds
 use Rattle.pg_values.specs.declared.value.Value.{Value}

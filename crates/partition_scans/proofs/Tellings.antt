@@ -1,11 +1,10 @@
 -- What is told of one scan.
-use Rattle.std.proofs.Common.{◌≡◌, ℕ, ◌≤◌, ◌||◌, ◌==◌, not, Bool, true, false, List, [], ◌∷◌, ◌++◌, refl, sym, ap, ◌∙◌, subst, arith, Option, Some, None, Result, Ok, Err}
-use Rattle.std.specs.Prelude.{is_some, unwrap_or}
+use Rattle.std.proofs.Common.{◌≡◌, ℕ, ◌||◌, not, Bool, true, false, List, [], ◌∷◌, ◌++◌, refl, sym, ap, ◌∙◌, subst, arith, Option, Ok, Err}
+use Rattle.std.specs.Prelude.{is_some}
 use Rattle.std.proofs.lemmas.Grind.{common_steps}
 use Rattle.std.proofs.lemmas.Bool.Decides.{nat_tests}
 use Rattle.std.proofs.lemmas.Nat.Bits.{bit_at-zero}
 use Rattle.pg_values.specs.declared.value.Value.{Value}
-use Rattle.pg_values.specs.declared.fault.Fault.{Fault}
 use Rattle.pg_ids.specs.Sets.{has, empty}
 use Rattle.pg_ids.specs.declared.ids.LeafId.{LeafId}
 use Rattle.pg_ids.specs.declared.session_set.SessionSet.{SessionSet}
@@ -17,22 +16,19 @@ use Rattle.history.specs.declared.catalogue.Column.{Column}
 use Rattle.history.specs.declared.catalogue.TableShape.{TableShape}
 use Rattle.history.specs.declared.catalogue.TableShape.TheVariants.{Level}
 use Rattle.history.specs.declared.version.Version.{Version}
-use Rattle.history.specs.Transactions.{open_of}
-use Rattle.history.specs.History.{History, tx_events, catalogue_events}
-use Rattle.row_store.specs.declared.judge.Verdict.TheVariants.{Clean, Seen}
-use Rattle.row_store.specs.Judged.{refusing, seeing, IsVerdict}
+use Rattle.history.specs.History.{History}
+use Rattle.row_store.specs.Judged.{seeing}
 use Rattle.row_router.specs.declared.path.PathTest.TheVariants.{Bounds, Checks}
 use Rattle.row_router.specs.Paths.{refused}
-use Rattle.stores.specs.Events.{tx_in}
 use Rattle.soundness.specs.Worlds.{key_in}
 use Rattle.table_trees.specs.declared.path_part.PathPart.{PathPart}
-use Rattle.table_trees.specs.Histories.{path_of}
-use Rattle.table_trees.specs.Trees.{key_of}
+use Rattle.table_trees.specs.Histories.{ddl_tree, path_of}
+use Rattle.table_trees.specs.Trees.{key_of, leaves}
 use Rattle.part_catalog.specs.Found.{made_at}
 use Rattle.part_ddl.specs.Placing.{bounds_below}
 use Rattle.partition_scans.specs.Fitting.{is_row_of}
 use Rattle.partition_scans.specs.Places.{breaks_default, breaks_place}
-use Rattle.partition_scans.specs.Scans.{Scan, IsPassed, IsRefused, fault_told, refusals, watches, judged}
+use Rattle.partition_scans.specs.Scans.{Scan, IsPassed, IsRefused, fault_told, watches, judged}
 use Rattle.partition_scans.specs.Sessions.{those}
 use Rattle.partition_scans.proofs.Sets.{are_those}
 
@@ -40,33 +36,8 @@ or_none : (b : Bool) → (b || false) ≡ b
 or_none true = refl
 or_none false = refl
 
--- the verdict of the session's transaction
-own_tx : (n : ℕ) (o : Option ℕ) → Some n ≡ o → n ≡ unwrap_or o 0
-own_tx n o is = ap (λ (x : Option ℕ). unwrap_or x 0) is
-
 none_has : (k : ℕ) → has empty k ≡ false
 none_has k = grind (arith, common_steps, nat_tests, bit_at-zero k)
-
-pub passed_clean : (h : History) (s n : ℕ) (ls : List LeafId) (breaks : List Value → Bool) (set : SessionSet) → Some n ≡ open_of (tx_events h) s → set ≡ empty → IsVerdict h s n ls breaks Clean → IsPassed h s ls breaks set
-passed_clean h s n ls breaks set own is verdict = record {
-  none = subst (λ (m : ℕ). refusing h s m ls breaks ≡ None) (own_tx n (open_of (tx_events h) s) own) verdict.0;
-  all = λ r. ap (λ (x : SessionSet). has x r) is ∙ (none_has r ∙ sym (verdict.1 r));
-  low = λ r le. ap (λ (x : SessionSet). has x r) is ∙ none_has r;
-}
-
-pub passed_seen : (h : History) (s n : ℕ) (ls : List LeafId) (breaks : List Value → Bool) (set : SessionSet) → Some n ≡ open_of (tx_events h) s → ((r : ℕ) → 128 ≤ r → has set r ≡ false) → IsVerdict h s n ls breaks (Seen set) → IsPassed h s ls breaks set
-passed_seen h s n ls breaks set own low verdict = record {
-  none = subst (λ (m : ℕ). refusing h s m ls breaks ≡ None) (own_tx n (open_of (tx_events h) s) own) verdict.0;
-  all = verdict.1;
-  low = low;
-}
-
-pub refused_first : (h : History) (s n : ℕ) (ls : List LeafId) (breaks : List Value → Bool) (row : List Value) → Some n ≡ open_of (tx_events h) s → (v : Version) → refusing h s n ls breaks ≡ Some v → row ≡ v.row → IsRefused h s ls breaks row
-refused_first h s n ls breaks row own v is same = record {
-  first = v;
-  refuses = subst (λ (m : ℕ). refusing h s m ls breaks ≡ Some v) (own_tx n (open_of (tx_events h) s) own) is;
-  is_row = same;
-}
 
 -- nobody refuses: those who watch have to go
 pub goes_on : (h : History) (s : ℕ) (x : Scan) (set : SessionSet) → IsPassed h s x.leaves x.breaks set → judged h s (x ∷ []) ≡ Ok set
@@ -108,13 +79,26 @@ same_place_test h s p columns level bounds path b cols shape siblings above =
     ap (λ (x : List Column). place_test x (Level level) bounds path b) cols
     ∙ (ap (λ (x : TableShape). place_test cs x bounds path b) (sym shape) ∙ (ap (λ (x : List Bound). place_test cs sh x path b) siblings ∙ ap (λ (x : List PathPart). place_test cs sh (bounds_below h s p) x b) above))
 
--- ---- what a scan comes to
+-- ---- what a scan of the code comes to
 
--- the leaves and the test are those of the scan
-pub passed_by : (h : History) (s : ℕ) (x : Scan) (ls : List LeafId) (breaks : List Value → Bool) (set : SessionSet) → ls ≡ x.leaves → breaks ≡ x.breaks → IsPassed h s ls breaks set → IsPassed h s x.leaves x.breaks set
-passed_by h s x ls breaks set is same its =
-    subst (λ (f : List Value → Bool). IsPassed h s x.leaves f set) same (subst (λ (l : List LeafId). IsPassed h s l breaks set) is its)
+module _ (h : History) (s p : ℕ) (columns : List Column) (level : OneLevel) (b : Bound) (cols : columns ≡ (made_at h p).columns) (shape : (made_at h p).shape ≡ Level level) (ls : List LeafId) where
+  pub default_passed : (d : ℕ) (set : SessionSet) → ls ≡ leaves (ddl_tree h s d) → IsPassed h s ls (λ (row : List Value). not (is_row_of columns row) || accepts (key_of level row) b) set → IsPassed h s (leaves (ddl_tree h s d)) (breaks_default h p b) set
+  default_passed d set are its =
+      subst (λ (f : List Value → Bool). IsPassed h s (leaves (ddl_tree h s d)) f set) (same_default_test h p columns level b cols shape) (subst (λ (l : List LeafId). IsPassed h s l (λ (row : List Value). not (is_row_of columns row) || accepts (key_of level row) b) set) are its)
 
-pub refused_by : (h : History) (s : ℕ) (x : Scan) (ls : List LeafId) (breaks : List Value → Bool) (row : List Value) → ls ≡ x.leaves → breaks ≡ x.breaks → IsRefused h s ls breaks row → IsRefused h s x.leaves x.breaks row
-refused_by h s x ls breaks row is same its =
-    subst (λ (f : List Value → Bool). IsRefused h s x.leaves f row) same (subst (λ (l : List LeafId). IsRefused h s l breaks row) is its)
+  pub default_refused : (d : ℕ) (row : List Value) → ls ≡ leaves (ddl_tree h s d) → IsRefused h s ls (λ (r : List Value). not (is_row_of columns r) || accepts (key_of level r) b) row → IsRefused h s (leaves (ddl_tree h s d)) (breaks_default h p b) row
+  default_refused d row are its =
+      subst (λ (f : List Value → Bool). IsRefused h s (leaves (ddl_tree h s d)) f row) (same_default_test h p columns level b cols shape) (subst (λ (l : List LeafId). IsRefused h s l (λ (r : List Value). not (is_row_of columns r) || accepts (key_of level r) b) row) are its)
+
+  module _ (bounds : List Bound) (path : List PathPart) (siblings : bounds ≡ bounds_below h s p) (above : path ≡ path_of h s p) where
+    pub place_passed : (t : ℕ) (set : SessionSet) → ls ≡ leaves (ddl_tree h s t) → IsPassed h s ls (λ (row : List Value). not (is_row_of columns row) || (not (accepts_among bounds (key_of level row) b) || (is_some (refused Bounds row path) || is_some (refused Checks row path)))) set
+        → IsPassed h s (leaves (ddl_tree h s t)) (breaks_place h s p b) set
+    place_passed t set are its =
+        subst (λ (f : List Value → Bool). IsPassed h s (leaves (ddl_tree h s t)) f set) (same_place_test h s p columns level bounds path b cols shape siblings above)
+        (subst (λ (l : List LeafId). IsPassed h s l (λ (row : List Value). not (is_row_of columns row) || (not (accepts_among bounds (key_of level row) b) || (is_some (refused Bounds row path) || is_some (refused Checks row path)))) set) are its)
+
+    pub place_refused : (t : ℕ) (row : List Value) → ls ≡ leaves (ddl_tree h s t) → IsRefused h s ls (λ (r : List Value). not (is_row_of columns r) || (not (accepts_among bounds (key_of level r) b) || (is_some (refused Bounds r path) || is_some (refused Checks r path)))) row
+        → IsRefused h s (leaves (ddl_tree h s t)) (breaks_place h s p b) row
+    place_refused t row are its =
+        subst (λ (f : List Value → Bool). IsRefused h s (leaves (ddl_tree h s t)) f row) (same_place_test h s p columns level bounds path b cols shape siblings above)
+        (subst (λ (l : List LeafId). IsRefused h s l (λ (r : List Value). not (is_row_of columns r) || (not (accepts_among bounds (key_of level r) b) || (is_some (refused Bounds r path) || is_some (refused Checks r path)))) row) are its)

@@ -1,8 +1,8 @@
 ghost use Rattle.std.specs.Prelude.{◌≡◌, IfOk};
 ghost use Rattle.partition_scans.specs.Places as places;
 
+use crate::texts::row_text;
 use pg_values::{Fault, NoMemory, PgText, Row, SqlState};
-use row_change::row_text;
 use std::alloc::Global;
 use value_rules::three_texts;
 

@@ -100,8 +100,8 @@ fn judge_default_of(
     requires may { MayAttempt stores.now caller }
     requires parent { parent.number < length stores.now.catalog.tables }
     requires default { default.number < length stores.now.catalog.tables }
-    requires level { (h : History) → CatalogueStands stores.now.catalog h → (made_at h parent.number).shape ≡ Levels level.now }
-    requires keys { (h : History) → CatalogueStands stores.now.catalog h → All (LiesIn (made_at h parent.number).columns) level.now.columns }
+    requires level { (h : History) → TableStands stores.now.txs h → CatalogueStands stores.now.catalog h → (made_at h parent.number).shape ≡ Levels level.now }
+    requires keys { (h : History) × CatalogueStands stores.now.catalog h × All (LiesIn (made_at h parent.number).columns) level.now.columns }
     requires mine { IsOfLevel level.now bound.now }
     ensures answer { (h : History) → DataStand stores.now h → IsAnswer result (judged h caller.session (default_scan h caller.session parent.number bound.now name.now (Some default))) }
     ensures all { IfOk result (λ others. (h : History) → DataStand stores.now h → (r : ℕ) → has others r ≡ watches h caller.session (default_scan h caller.session parent.number bound.now name.now (Some default)) r) }
@@ -142,14 +142,14 @@ pub fn judge_default(
     ensures all { IfOk result (λ others. (h : History) → DataStand stores.now h → (r : ℕ) → has others r ≡ watches h caller.session (default_scan h caller.session parent.number bound.now name.now (default_of h caller.session parent.number)) r) }
 {
     trees_are_together();
-    let Shape::Level(level, _, _) = &tree.shape else {
-        unreachable!()
-    };
-    match default_in(tree) {
-        None => Ok(SessionSet::empty()),
-        Some(default) => judge_default_of(
-            alloc, stores, caller, parent, level, bound, name, default,
-        ),
+    match &tree.shape {
+        Shape::Leaf(_) => unreachable!(),
+        Shape::Level(level, _, _) => match default_in(tree) {
+            None => Ok(SessionSet::empty()),
+            Some(default) => judge_default_of(
+                alloc, stores, caller, parent, level, bound, name, default,
+            ),
+        },
     }
 }
 
@@ -167,10 +167,10 @@ fn judge_below(
     requires may { MayAttempt stores.now caller }
     requires parent { parent.number < length stores.now.catalog.tables }
     requires table { table.number < length stores.now.catalog.tables }
-    requires level { (h : History) → CatalogueStands stores.now.catalog h → (made_at h parent.number).shape ≡ Levels level.now }
+    requires level { (h : History) → TableStands stores.now.txs h → CatalogueStands stores.now.catalog h → (made_at h parent.number).shape ≡ Levels level.now }
     requires siblings { (h : History) → TableStands stores.now.txs h → CatalogueStands stores.now.catalog h → siblings.now ≡ bounds_below h caller.session parent.number }
     requires path { (h : History) → TableStands stores.now.txs h → CatalogueStands stores.now.catalog h → path.now ≡ path_of h caller.session parent.number }
-    requires keys { (h : History) → CatalogueStands stores.now.catalog h → All (LiesIn (made_at h parent.number).columns) level.now.columns }
+    requires keys { (h : History) × CatalogueStands stores.now.catalog h × All (LiesIn (made_at h parent.number).columns) level.now.columns }
     requires mine { IsOfLevel level.now bound.now }
     requires theirs { All (IsOfLevel level.now) siblings.now }
     requires place { (h : History) → TableStands stores.now.txs h → CatalogueStands stores.now.catalog h → (height : ℕ) × (place_faults h caller.session parent.number bound.now height ≡ []) }
@@ -221,10 +221,10 @@ pub fn judge_table(
     ensures all { IfOk result (λ others. (h : History) → DataStand stores.now h → (r : ℕ) → has others r ≡ watches h caller.session (place_scan h caller.session parent.number table.number bound.now ∷ []) r) }
 {
     trees_are_together();
-    let Shape::Level(level, siblings, _) = &tree.shape else {
-        unreachable!()
-    };
-    judge_below(
-        alloc, stores, caller, parent, level, siblings, path, bound, table,
-    )
+    match &tree.shape {
+        Shape::Leaf(_) => unreachable!(),
+        Shape::Level(level, siblings, _) => judge_below(
+            alloc, stores, caller, parent, level, siblings, path, bound, table,
+        ),
+    }
 }

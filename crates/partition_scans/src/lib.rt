@@ -17,6 +17,7 @@ mod judging;
 mod low;
 mod new_rows;
 mod scans;
+mod texts;
 
 pub use judging::{judge_default, judge_table};
 pub use scans::wait_for_snapshots;

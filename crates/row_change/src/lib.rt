@@ -42,5 +42,4 @@ pub use storing::{check_leaf, store_rows};
 pub use succession::succeed_row;
 pub use target::Target;
 pub use testing::check_row;
-pub use texts::row_text;
 pub use way::{all_ways, leaf_way, push_way};
