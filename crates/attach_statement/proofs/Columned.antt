@@ -2,6 +2,7 @@
 use Rattle.std.proofs.Common.{◌≡◌, ℕ, ◌&&◌, ◌||◌, not, Bool, true, false, if◌then◌else◌, List, [], ◌∷◌, inl, inr, refl}
 use Rattle.std.specs.Prelude.{bytes_eq}
 use Rattle.std.proofs.lemmas.Bool.{cases_Bool}
+use Rattle.std.proofs.lemmas.Slice.Eq.{bytes_eq-Decides}
 use Rattle.pg_values.specs.declared.fault.Fault.{Fault}
 use Rattle.pg_values.specs.declared.value.Kind.{Kind}
 use Rattle.pg_values.specs.declared.value.Kind.TheVariants as kinds
@@ -45,17 +46,17 @@ strict_too : (p c : Bool) → (not p || c) ≡ true → p ≡ true → c ≡ tru
 strict_too true c e is = e
 strict_too false c e is = absurd (let d = is in cc)
 
-column_of : ((a b : List ℕ) → bytes_eq a b ≡ true → a ≡ b) → (p c : Column) → matches p c ≡ true → IsColumnOf p c
-column_of same p c e =
+column_of : (p c : Column) → matches p c ≡ true → IsColumnOf p c
+column_of p c e =
     let one = both (bytes_eq p.name c.name) (same_kind p.kind c.kind && (not p.not_null || c.not_null)) e in
     let two = both (same_kind p.kind c.kind) (not p.not_null || c.not_null) one.1 in
-    (same p.name c.name one.0, kinds_same p.kind c.kind two.0, strict_too p.not_null c.not_null two.1)
+    ((bytes_eq-Decides p.name c.name).0 one.0, kinds_same p.kind c.kind two.0, strict_too p.not_null c.not_null two.1)
 
-pub columns_of : ((a b : List ℕ) → bytes_eq a b ≡ true → a ≡ b) → (t : List ℕ) (ps cs : List Column) → column_faults t ps cs ≡ [] → HasColumnsOf ps cs
-columns_of same t [] [] e = tt
-columns_of same t [] (c ∷ cs) e = absurd (let d = e in cc)
-columns_of same t (p ∷ ps) [] e = absurd (let d = e in cc)
-columns_of same t (p ∷ ps) (c ∷ cs) e = elim (cases_Bool (matches p c)) [
-  | inl y ↦ (column_of same p c y, columns_of same t ps cs (rw y at e))
+pub columns_of : (t : List ℕ) (ps cs : List Column) → column_faults t ps cs ≡ [] → HasColumnsOf ps cs
+columns_of t [] [] e = tt
+columns_of t [] (c ∷ cs) e = absurd (let d = e in cc)
+columns_of t (p ∷ ps) [] e = absurd (let d = e in cc)
+columns_of t (p ∷ ps) (c ∷ cs) e = elim (cases_Bool (matches p c)) [
+  | inl y ↦ (column_of p c y, columns_of t ps cs (rw y at e))
   | inr n ↦ absurd (let d : (does_not_match p.name t ∷ []) ≡ [] = rw n at e in cc)
 ]
