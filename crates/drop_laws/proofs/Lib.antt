@@ -1,2 +1,4 @@
+mod Alike
 pub mod Free
 pub mod Led
+mod Moved

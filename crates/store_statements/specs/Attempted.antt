@@ -3,7 +3,7 @@ use Rattle.std.specs.Prelude.{ℕ, List, [], Option, Result, Ok, Err}
 use Rattle.pg_values.specs.declared.answer.Answer.{Answer}
 use Rattle.history.specs.History.{History}
 use Rattle.expression_binder.specs.Faults.{left_out}
-use Rattle.sql_commands.specs.Trees.{CommandTree, makes_table, makes_partition, drops, detaches, locks}
+use Rattle.sql_commands.specs.Trees.{CommandTree, makes_table, makes_partition, drops, attaches, detaches, locks}
 use Rattle.sql_commands.specs.declared.alter.Detachment.TheVariants.{AtOnce}
 use Rattle.sql_queries.specs.Trees.{SelectTree, RowTree, QueryTree, selects, inserts, updates, deletes, rows}
 use Rattle.sql_syntax.specs.Trees.{StatementTree, commands, queries}
@@ -20,6 +20,7 @@ use Rattle.table_statements.specs.Partitions.{partitioned}
 use Rattle.table_statements.specs.Drops.{dropped}
 use Rattle.lock_statement.specs.Locked.{locked}
 use Rattle.detach_statement.specs.Detached.{detached}
+use Rattle.attach_statement.specs.Attached.{attached}
 use Rattle.store_statements.specs.LeftOut.{command_word, query_word}
 
 -- ---- what is printed
@@ -52,6 +53,7 @@ abbrev pub command_attempted : (names : List (List ℕ)) → Caller → CommandT
 command_attempted names c (makes_table name columns by) = silent (created names c name columns by)
 command_attempted names c (makes_partition name parent bound by) = silent (partitioned names c name parent bound by)
 command_attempted names c (drops if_there tables) = silent (dropped names c if_there tables)
+command_attempted names c (attaches parent name bound) = silent (attached names c parent name bound)
 command_attempted names c (detaches parent name AtOnce) = silent (detached names c parent name)
 command_attempted names c (locks tables mode) = silent (locked names c.session tables mode)
 command_attempted names c t = omitted (command_word t)

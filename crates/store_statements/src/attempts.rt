@@ -7,6 +7,7 @@ ghost use Rattle.store_statements.specs.Attempted as attempted;
 ghost use Rattle.store_statements.specs.Printed.{IsStatement};
 
 use crate::left_out::{command_word, query_word};
+use attach_statement::attach;
 use change_statement::{delete, update};
 use course::{Caller, Rest, Stop};
 use detach_statement::detach;
@@ -64,6 +65,17 @@ fn attempt_command(
         }
         Command::DropTables(if_there, tables) => {
             drop_tables(alloc, stores, names, caller, *if_there, tables.as_slice())
+        }
+        Command::Attach(parent, name, bound) => {
+            attach(
+                alloc,
+                stores,
+                names,
+                caller,
+                parent.as_bytes(),
+                name.as_bytes(),
+                bound,
+            )
         }
         Command::Detach(parent, name, Detachment::AtOnce) => {
             detach(

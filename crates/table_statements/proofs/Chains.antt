@@ -5,7 +5,6 @@ use Rattle.pg_values.specs.Refusals.{IsAnswer}
 use Rattle.pg_values.specs.declared.fault.Fault.{Fault}
 use Rattle.pg_values.specs.declared.fault.Refusal.{Refusal}
 use Rattle.pg_values.specs.declared.fault.Refusal.TheVariants.{Sql, NoMemory}
-use Rattle.pg_ids.specs.declared.ids.TableNo.{TableNo}
 use Rattle.part_bounds.specs.Checks.{or_first}
 use Rattle.part_bounds.specs.declared.level.KeyColumn.{KeyColumn}
 use Rattle.part_bounds.specs.declared.level.Level.{Level}
@@ -15,7 +14,6 @@ use Rattle.part_bounds.specs.declared.partition_bound.Bound.{Bound as MeantBound
 use Rattle.history.specs.declared.catalogue.Column.{Column}
 use Rattle.history.specs.History.{History}
 use Rattle.part_catalog.specs.Found.{made_at}
-use Rattle.part_ddl.specs.Below.{default_of}
 use Rattle.part_ddl.specs.Placing.{IsFault, level_at, place_faults}
 use Rattle.part_ddl.specs.Tables.{count_faults}
 use Rattle.expression_binder.specs.Firsts.{IsAnswerBy}
@@ -24,7 +22,7 @@ use Rattle.sql_commands.specs.declared.lists.ColumnDefinition.{ColumnDefinition}
 use Rattle.sql_commands.specs.declared.lists.Partitioning.{Partitioning}
 use Rattle.table_binder.specs.Bounds.{bound_for}
 use Rattle.table_binder.specs.Partitionings.{Key, key_of, bound_key}
-use Rattle.table_statements.specs.Partitions.{Place, place_with, placed_bound, partition_place, beside_default}
+use Rattle.table_statements.specs.Partitions.{Place, place_with, placed_bound, partition_place}
 use Rattle.table_statements.specs.Refused.{next_answer, unless_faults}
 use Rattle.table_statements.specs.Seen.{seen_place}
 use Rattle.table_statements.specs.declared.partitions.Place.{Place as HeldPlace}
@@ -71,11 +69,8 @@ fault_answer (Sql f) w is = is
 fault_answer NoMemory w is = tt
 
 -- what is left to be told behind each answer
-abbrev pub after_own_level : History → (s p : ℕ) → MeantBound → Option Level → Result Place Fault
-after_own_level h s p bound own_level = unless_faults (beside_default (default_of h s p)) (place_with bound own_level)
-
 abbrev pub after_bound : History → (s p : ℕ) → Option Partitioning → MeantBound → Result Place Fault
-after_bound h s p by bound = next_answer (level_by (made_at h p).columns by) (after_own_level h s p bound)
+after_bound h s p by bound = next_answer (level_by (made_at h p).columns by) (place_with bound)
 
 abbrev pub after_count : History → (s p : ℕ) → Bound → Option Partitioning → Level → Result Place Fault
 after_count h s p b by level = next_answer (placed_bound h s p level b) (after_bound h s p by)
@@ -110,8 +105,3 @@ pub place_refused : (h : History) (s p : ℕ) (level : Level) (b : Bound) (bound
 place_refused h s p level b bound (Sql f) meant e =
     ap (λ (a : Result MeantBound Fault). next_answer a (λ x. unless_faults (place_faults h s p x 1) (Ok x))) meant ∙ first_refused (place_faults h s p bound 1) bound f tt e
 place_refused h s p level b bound NoMemory meant e = tt
-
--- no default partition stands there
-pub none_beside : (o : Option TableNo) → beside_default o ≡ [] → o ≡ None
-none_beside None e = refl
-none_beside (Some d) e = absurd (let c = e in cc)

@@ -1,6 +1,7 @@
 pub mod Chains
 pub mod Taken
 pub mod Below
+pub mod Beside
 pub mod Deeds
 pub mod Dropping
 pub mod Ends

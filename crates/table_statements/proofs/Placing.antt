@@ -10,8 +10,11 @@ use Rattle.pg_ids.specs.declared.ids.TableNo.{TableNo}
 use Rattle.pg_ids.specs.declared.lock_mode.LockMode.TheVariants.{AccessExclusive}
 use Rattle.part_bounds.specs.declared.level.Level.{Level as OneLevel}
 use Rattle.part_bounds.specs.declared.partition_bound.Bound.{Bound}
+use Rattle.pg_values.specs.declared.value.Value.{Value}
+use Rattle.part_bounds.specs.Accepts.{accepts}
 use Rattle.part_bounds.specs.Levels.{IsOfLevel}
 use Rattle.history.specs.declared.transaction.TxId.{TxId}
+use Rattle.history.specs.declared.version.Version.{Version}
 use Rattle.history.specs.declared.catalogue.Column.{Column}
 use Rattle.history.specs.declared.catalogue.Entry.{Entry}
 use Rattle.history.specs.declared.catalogue.Table.{Table}
@@ -28,32 +31,32 @@ use Rattle.history.specs.Presence.{entries_present}
 use Rattle.history.proofs.Open.{open_own}
 use Rattle.table_trees.specs.declared.node.Node.{Node}
 use Rattle.table_trees.specs.Siblings.{AreSiblings, CanStandTogether}
-use Rattle.table_trees.specs.Trees.{TableTree, height}
+use Rattle.table_trees.specs.Trees.{TableTree, height, leaves}
 use Rattle.table_trees.specs.Histories.{table_of, is_under, children, all_placed, bound_of, child_of_entry, node_at, grown, tree_within, ddl_tree, above}
 use Rattle.tx_table.specs.Stands.{TableStands}
 use Rattle.row_store.specs.Kept.{KeptRows}
 use Rattle.row_store.specs.Stands.{StoreStands}
 use Rattle.soundness.specs.Legal.{ArePermitted, HasTable}
 use Rattle.soundness.specs.Laws.{SessionsHaveSiblings}
-use Rattle.soundness.specs.Worlds.{view, table_in, IsMade}
-use Rattle.soundness.proofs.Listed.{child_listed}
-use Rattle.soundness.proofs.Made.{made_more, same_table}
+use Rattle.soundness.specs.Worlds.{view, table_in, key_at, IsMade}
+use Rattle.soundness.proofs.Made.{made_more, same_table, same_key}
 use Rattle.soundness.proofs.Sound.{catalogue_sound_of}
 use Rattle.soundness.proofs.Worlds.{view_own}
 use Rattle.part_catalog.specs.Found.{made_at, table_number}
 use Rattle.part_catalog.specs.Kept.{KeptCatalogue}
 use Rattle.part_catalog.specs.Stands.{CatalogueStands}
-use Rattle.part_ddl.specs.Below.{default_of, has_default_bound}
 use Rattle.part_ddl.specs.Laws.{PassedHavePlaces, IsNoDefaultBeside}
 use Rattle.part_ddl.specs.Made.{IsMade as IsMadeBy}
 use Rattle.part_ddl.specs.Partitions.{new_entry, partition_events, made_partition, MayMake}
-use Rattle.part_ddl.specs.Placing.{level_told, partitions_of, place_faults}
+use Rattle.part_ddl.specs.Placing.{level_told, place_faults}
 use Rattle.part_ddl.specs.Tables.{count_faults, next_table, new_table, table_events}
 use Rattle.part_ddl.proofs.Making.{table_count}
-use Rattle.legal_statements.specs.Entries.{IsDefaultOf, IsNewPlace, IsNewPartition}
+use Rattle.legal_statements.specs.Below.{numbers_from, tables_in}
+use Rattle.legal_statements.specs.Entries.{IsDefaultOf, IsScanned, IsNewPlace, IsNewPartition}
 use Rattle.legal_statements.specs.Follows.{MayCome, MayFollow}
-use Rattle.legal_statements.specs.Laws.{NamedIsThere, NewPartitionMayFollow}
+use Rattle.legal_statements.specs.Laws.{NamedIsThere, NewPartitionMayFollow, NoneBreaks}
 use Rattle.legal_statements.proofs.Holding.{session_runs}
+use Rattle.stores.specs.Events.{tx_in}
 use Rattle.stores.specs.Numbers.{IsAt}
 use Rattle.stores.specs.Stand.{Stands}
 use Rattle.stores.specs.declared.stores.Stores.{Stores}
@@ -62,10 +65,11 @@ use Rattle.stores.proofs.Goodness.{legal_of, permitted_of}
 use Rattle.course.specs.Attempts.{MayAttempt}
 use Rattle.course.specs.declared.caller.Caller.{Caller}
 use Rattle.statement_steps.specs.Steps.{IsStep}
-use Rattle.table_statements.specs.Asked.{IsLockedNamed, MayBeMade, MayBePlaced, stopped}
+use Rattle.table_statements.specs.Asked.{IsLockedNamed, HasDefaultLocked, HasDefaultClean, MayBeMade, MayBePlaced, stopped}
 use Rattle.table_statements.specs.Partitions.{partition_made}
 use Rattle.table_statements.specs.Tables.{own}
-use Rattle.table_statements.proofs.Below.{none_passes, no_default_found, entry_suits}
+use Rattle.table_statements.proofs.Below.{entry_suits}
+use Rattle.table_statements.proofs.Beside.{IsApart, tree_same, tree_with, stands_apart}
 use Rattle.table_statements.proofs.Deeds.{Each, IsDone, IsDeed, deed_step, made_stands, not_made}
 use Rattle.table_statements.proofs.Fresh.{TableLaws, IsOwn, is_new, own_number, own_is, table_may, table_done, table_housed}
 use Rattle.table_statements.proofs.Held.{held_at_history}
@@ -143,6 +147,9 @@ dropped_made (CatalogueChange (CheckKept c) ∷ h) k u sound drop = dropped_made
 
 -- ---- the place, right before the table is made
 
+abbrev numbers_in : TableTree → List ℕ
+numbers_in t = map (λ y. y.number) (tables_in t)
+
 pub record IsReady (m : History) (s t cmd parent : ℕ) (b : Bound) : Type 0 where
   pub legal : IsLegal m
   pub permitted : ArePermitted m
@@ -150,7 +157,7 @@ pub record IsReady (m : History) (s t cmd parent : ℕ) (b : Bound) : Type 0 whe
   pub command : IsInOrder (Some (t, cmd)) m
   pub takes : TakesBound (made_at m parent).shape b
   pub place : place_faults m s parent b 1 ≡ []
-  pub no_default : default_of m s parent ≡ None
+  pub beside : (d : Entry) → IsDefaultOf m s parent d → IsApart m s t parent b d
   pub there : HasTable m t parent
   pub locked : holds (lock_events m) s parent AccessExclusive ≡ true
 
@@ -166,6 +173,8 @@ pub record PartitionLaws : Type 0 where
   pub partition : NewPartitionMayFollow
   pub passed : PassedHavePlaces
   pub named : NamedIsThere
+  pub siblings : SessionsHaveSiblings
+  pub none : NoneBreaks
 
 module _ (laws : PartitionLaws) (m : History) (s cmd parent : ℕ) (b : Bound) (by : TxId) (new : Table) (ready : IsReady m s by.number cmd parent b) (child : IsChild m by cmd parent new) where
   sound : AreCatalogueSound m
@@ -198,9 +207,20 @@ module _ (laws : PartitionLaws) (m : History) (s cmd parent : ℕ) (b : Bound) (
         λ u drop. absurd (let low = dropped_made m (table_number m) u sound drop in omega (arith, low)),
       )
 
-  has_no_default : (d : Entry) → IsDefaultOf (CatalogueChange (TableMade new) ∷ m) s parent d → ⊥
-  has_no_default d is =
-      none_passes has_default_bound (partitions_of m s parent) d (no_default_found m s parent ready.no_default) (child_listed (entries_present m s) parent d is.present is.of) is.default
+  made_below : All (λ (x : Entry). x.child.number < table_number m) (entries_present m s)
+  made_below k d lt = (entry_place (slice_index_or (entries_present m s) k d) (Contains-get_or (entries_present m s) k d lt)).child
+
+  -- the tree of the default partition is as it was
+  same_tree : (d : Entry) → IsDefaultOf m s parent d → ddl_tree (CatalogueChange (TableMade new) ∷ m) s d.child.number ≡ ddl_tree m s d.child.number
+  same_tree d is = tree_with (CatalogueChange (TableMade new) ∷ m) m new s d.child.number refl refl made_below (entry_place d is.present).child
+
+  owned : (d : Entry) (x : ℕ) → IsDefaultOf m s parent d → Contains (numbers_from (CatalogueChange (TableMade new) ∷ m) s d.child.number) x → holds (lock_events m) s x AccessExclusive ≡ true
+  owned d x is at = (ready.beside d is).owned x (subst (λ (t : TableTree). Contains (numbers_in t) x) (same_tree d is) at)
+
+  scanned : (d : Entry) (v : Version) → IsDefaultOf m s parent d → IsScanned (CatalogueChange (TableMade new) ∷ m) s by.number d.child.number v → accepts (key_at (TableMade new ∷ catalogue_events m) parent v.row) b ≡ false
+  scanned d v is its =
+      let was : IsScanned m s by.number d.child.number v = record { version = its.version; leaf = subst (λ (t : TableTree). Contains (leaves t) v.leaf) (same_tree d is) its.leaf; judged = its.judged } in
+      subst (λ (k : List Value). accepts k b ≡ false) (same_key new (catalogue_events m) parent v.row ready.there.0) ((ready.beside d is).scanned v was)
 
   new_place : IsNewPlace (CatalogueChange (TableMade new) ∷ m) s (new_entry m parent b by cmd)
   new_place =
@@ -220,8 +240,8 @@ module _ (laws : PartitionLaws) (m : History) (s cmd parent : ℕ) (b : Bound) (
         room = record { partitions = law.partitions; levels = omega (arith, one, levels) };
         together = λ x at. All-contains (λ (y : Entry). CanStandTogether y e) (entries_present m s) x law.together at;
         no_pending = λ x at of pending. All-contains (IsNoDefaultBeside m s e) (entries_present m s) x law.no_pending at of pending;
-        default_owned = λ d x is at. absurd (has_no_default d is);
-        default_scanned = λ d v is at. absurd (has_no_default d is);
+        default_owned = λ d x is at. inl (owned d x (record { present = is.present; of = is.of; default = is.default }) at);
+        default_scanned = λ d v is its. scanned d v (record { present = is.present; of = is.of; default = is.default }) its;
       }
 
   new_partition : IsNewPartition (CatalogueChange (TableMade new) ∷ m) s (new_entry m parent b by cmd)
@@ -257,7 +277,13 @@ partition_may laws h s cmd parent name b None by ready may =
       command = (tt, ready.command);
       takes = ready.takes;
       place = ready.place;
-      no_default = ready.no_default;
+      beside = λ d is.
+          let its = ready.beside d (record { present = is.present; of = is.of; default = is.default }) in
+          let tree = tree_same m h s d.child.number refl refl in
+          record {
+            owned = λ x at. its.owned x (subst (λ (t : TableTree). Contains (numbers_in t) x) tree at);
+            scanned = λ v seen. its.scanned v (record { version = seen.version; leaf = subst (λ (t : TableTree). Contains (leaves t) v.leaf) tree seen.leaf; judged = seen.judged });
+          };
       there = ready.there;
       locked = ready.locked;
     } in
@@ -292,27 +318,30 @@ may_make siblings stores caller parent b level by may mine above placed =
 
 -- ---- the part
 
-ready_for : NamedIsThere → (stores : Stores) (h : History) (s t cmd parent : ℕ) (b : Bound) (level : Option OneLevel) → Stands stores h → IsAt h s cmd → open_of (tx_events h) s ≡ Some t → IsLockedNamed stores s parent → MayBePlaced h s parent b level → IsReady h s t cmd parent b
-ready_for law stores h s t cmd parent b level stands at mine above can = record {
+ready_for : PartitionLaws → (stores : Stores) (h : History) (s t cmd parent : ℕ) (name : List ℕ) (b : Bound) (level : Option OneLevel) → Stands stores h → IsAt h s cmd → open_of (tx_events h) s ≡ Some t → tx_in h s ≡ t → IsLockedNamed stores s parent → HasDefaultLocked stores s parent
+    → HasDefaultClean stores s parent b name → MayBePlaced h s parent b level → IsReady h s t cmd parent b
+ready_for laws stores h s t cmd parent name b level stands at mine own above locked clean can = record {
   legal = legal_of h stands.good;
   permitted = permitted_of h stands.good;
   own = mine;
   command = commands_are_in_order h s t cmd at mine;
   takes = can.takes;
   place = can.place;
-  no_default = can.no_default;
-  there = law h s t parent above.name (legal_of h stands.good) mine (above.named h stands.all.txs stands.all.catalog);
+  beside = λ d is.
+      stands_apart laws.none stores h s t parent b name d stands (laws.siblings h s (legal_of h stands.good) (permitted_of h stands.good)) own (locked h stands.all.txs stands.all.catalog)
+      (clean h (record { txs = stands.all.txs; rows = stands.all.rows; catalog = stands.all.catalog })) is;
+  there = laws.named h s t parent above.name (legal_of h stands.good) mine (above.named h stands.all.txs stands.all.catalog);
   locked = held_at_history stores h s parent stands above.locked;
 }
 
-partition_deed : PartitionLaws → (stores : Stores) (rows : KeptRows) (catalog : KeptCatalogue) (h : History) (s t cmd parent : ℕ) (name : List ℕ) (b : Bound) (level : Option OneLevel) → Stands stores h → IsAt h s cmd → open_of (tx_events h) s ≡ Some t → IsLockedNamed stores s parent → MayBeMade h s name → MayBePlaced h s parent b level
+partition_deed : PartitionLaws → (stores : Stores) (rows : KeptRows) (catalog : KeptCatalogue) (h : History) (s t cmd parent : ℕ) (name : List ℕ) (b : Bound) (level : Option OneLevel) → Stands stores h → IsAt h s cmd → open_of (tx_events h) s ≡ Some t → IsLockedNamed stores s parent → HasDefaultLocked stores s parent → HasDefaultClean stores s parent b name → MayBeMade h s name → MayBePlaced h s parent b level
     → CatalogueStands catalog (partition_events h name parent b level (own h s) cmd ++ h) × StoreStands rows (partition_events h name parent b level (own h s) cmd ++ h) → IsDeed rows catalog t cmd (partition_events h name parent b level (own h s) cmd) h
-partition_deed laws stores rows catalog h s t cmd parent name b level stands at mine above free can stand =
+partition_deed laws stores rows catalog h s t cmd parent name b level stands at mine above locked clean free can stand =
     let by = own h s in
     let cols = (made_at h parent).columns in
     let is = own_number h s t mine in
     let ours : open_of (tx_events h) s ≡ Some by.number = mine ∙ ap Some (sym is) in
-    let ready = ready_for laws.named stores h s by.number cmd parent b level stands at ours above can in
+    let ready = ready_for laws stores h s by.number cmd parent name b level stands at ours refl above locked clean can in
     let tables = table_may laws.tables h s name cols level by cmd stands.good (is_new h s name cols level by cmd at ours can.keys free) in
     record {
       done = subst (λ (n : ℕ). Each (IsDone n cmd) (partition_events h name parent b level by cmd)) is (refl, table_done h name cols level by cmd);
@@ -325,18 +354,18 @@ partition_deed laws stores rows catalog h s t cmd parent name b level stands at 
 abbrev pub TellsPartition : Result TableNo Refusal → Stores → KeptRows → KeptCatalogue → (name : List ℕ) → (parent : ℕ) → Bound → Option OneLevel → TxId → (cmd : ℕ) → Type 0
 TellsPartition r old rows catalog name parent b level by cmd = (h : History) → TableStands old.txs h → CatalogueStands old.catalog h → StoreStands old.rows h → IsMadeBy r catalog rows h (made_partition h name parent b level by cmd)
 
-pub partition_step : PartitionLaws → (old : Stores) (rows : KeptRows) (catalog : KeptCatalogue) (caller : Caller) (name : List ℕ) (parent : ℕ) (b : Bound) (level : Option OneLevel) (by : TxId) (u : TableNo) → MayAttempt old caller → IsLockedNamed old caller.session parent
+pub partition_step : PartitionLaws → (old : Stores) (rows : KeptRows) (catalog : KeptCatalogue) (caller : Caller) (name : List ℕ) (parent : ℕ) (b : Bound) (level : Option OneLevel) (by : TxId) (u : TableNo) → MayAttempt old caller → IsLockedNamed old caller.session parent → HasDefaultLocked old caller.session parent → HasDefaultClean old caller.session parent b name
     → ((h : History) → TableStands old.txs h → CatalogueStands old.catalog h → MayBeMade h caller.session name) → ((h : History) → TableStands old.txs h → CatalogueStands old.catalog h → MayBePlaced h caller.session parent b level)
     → IsOwn old caller.session by → TellsPartition (Ok u) old rows catalog name parent b level by caller.cmd
     → IsStep (λ (u : Unit {0}). u) (Ok tt) old (record old { rows = rows; catalog = catalog }) caller (caller.cmd + 1) (partition_made caller name parent (record { bound = b; level = level }))
-partition_step laws old rows catalog caller name parent b level by u may above free placed mine tells =
+partition_step laws old rows catalog caller name parent b level by u may above locked clean free placed mine tells =
     let s = caller.session in
     deed_step old rows catalog caller (λ h. partition_events h name parent b level (own h s) caller.cmd) may
     (λ h t stands at its.
     let can = free h stands.all.txs stands.all.catalog in
     let same = own_is h s by (mine h stands.all.txs) in
     let is = subst (λ (x : TxId). IsMadeBy (Ok u) catalog rows h (made_partition h name parent b level x caller.cmd)) same (tells h stands.all.txs stands.all.catalog stands.all.rows) in
-    partition_deed laws old rows catalog h s t caller.cmd parent name b level stands at its above can (placed h stands.all.txs stands.all.catalog)
+    partition_deed laws old rows catalog h s t caller.cmd parent name b level stands at its above locked clean can (placed h stands.all.txs stands.all.catalog)
     (made_stands (count_faults h) (next_table h) u (partition_events h name parent b level (own h s) caller.cmd) catalog rows h can.few is))
 
 pub partition_not_made : (old : Stores) (rows : KeptRows) (catalog : KeptCatalogue) (caller : Caller) (name : List ℕ) (parent : ℕ) (b : Bound) (level : Option OneLevel) (by : TxId) (r : Refusal) → MayAttempt old caller

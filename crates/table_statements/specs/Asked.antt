@@ -1,5 +1,5 @@
 -- What is asked of tables that are made and dropped.
-use Rattle.std.specs.Prelude.{◌≡◌, ℕ, ◌<◌, true, List, [], ◌∷◌, ◌++◌, Option, Some, None, Vec, map, length}
+use Rattle.std.specs.Prelude.{◌≡◌, ℕ, ◌<◌, true, List, [], ◌∷◌, ◌++◌, Option, Some, None, Vec, All, map, length}
 use Rattle.std.specs.List.{Contains}
 use Rattle.std.specs.Option.{option_to_list}
 use Rattle.pg_ids.specs.Sets.{has}
@@ -26,6 +26,9 @@ use Rattle.part_ddl.specs.Placing.{place_faults}
 use Rattle.part_ddl.specs.Tables.{KeysFit, count_faults}
 use Rattle.legal_statements.specs.Below.{numbers_from}
 use Rattle.stores.specs.Stand.{Stands}
+use Rattle.partition_scans.specs.Data.{DataStand}
+use Rattle.partition_scans.specs.Places.{default_scan}
+use Rattle.partition_scans.specs.Scans.{IsClean}
 use Rattle.stores.specs.declared.stores.Stores.{Stores}
 use Rattle.course.specs.declared.caller.Caller.{Caller}
 use Rattle.course.specs.declared.stop.Stop.{Stop}
@@ -44,12 +47,11 @@ pub record MayBeMade (h : History) (session : ℕ) (name : List ℕ) : Type 0 wh
   pub free : IsFree h session name
   pub few : count_faults h ≡ []
 
--- a new partition has a place below the parent, beside no default partition
+-- a new partition has a place below the parent
 pub record MayBePlaced (h : History) (session parent : ℕ) (b : Bound) (level : Option Level) : Type 0 where
   pub takes : TakesBound (made_at h parent).shape b
   pub place : place_faults h session parent b 1 ≡ []
   pub keys : KeysFit (made_at h parent).columns level
-  pub no_default : default_of h session parent ≡ None
 
 -- ---- tables that are locked
 
@@ -64,10 +66,21 @@ pub record IsLockedNamed (stores : Stores) (session table : ℕ) : Type 0 where
   pub made : table < length stores.catalog.tables
   pub locked : IsLocked stores session table
 
+-- the session holds ACCESS EXCLUSIVE on all of these
+abbrev pub AreLocked : Stores → (session : ℕ) → List TableNo → Type 0
+AreLocked stores s tables = All (λ t. IsLocked stores s t.number) tables
+
 -- the default partition of a table, if there is one, and the tables under it
 abbrev pub family_of : History → (session : ℕ) → Option TableNo → List TableNo
 family_of h s None = []
 family_of h s (Some t) = tables_from h s t.number
+
+abbrev pub HasDefaultLocked : Stores → (session table : ℕ) → Type 0
+HasDefaultLocked stores s t = (h : History) → TableStands stores.txs h → CatalogueStands stores.catalog h → AreLocked stores s (family_of h s (default_of h s t))
+
+-- no row of it belongs to a new partition, and no other session's open snapshot sees one that does
+abbrev pub HasDefaultClean : Stores → (session table : ℕ) → Bound → (name : List ℕ) → Type 0
+HasDefaultClean stores s t b name = (h : History) → DataStand stores h → IsClean h s (default_scan h s t b name (default_of h s t))
 
 -- ---- tables that are dropped
 

@@ -1,12 +1,11 @@
 -- CREATE TABLE, PARTITION OF, of a session (the manual, CREATE TABLE; 13.3.1 Table-Level Locks).
-use Rattle.std.specs.Prelude.{ℕ, List, [], ◌∷◌, Option, Some, None, Result, Ok, map, codes}
+use Rattle.std.specs.Prelude.{ℕ, List, [], Option, Some, None, Result, Ok, map}
 use Rattle.pg_values.specs.declared.fault.Fault.{Fault}
 use Rattle.pg_ids.specs.declared.ids.TableNo.{TableNo}
 use Rattle.pg_ids.specs.declared.lock_mode.LockMode.TheVariants.{AccessExclusive}
 use Rattle.part_bounds.specs.declared.level.Level.{Level}
 use Rattle.part_bounds.specs.declared.partition_bound.Bound.{Bound as MeantBound}
 use Rattle.history.specs.History.{History}
-use Rattle.expression_binder.specs.Faults.{left_out}
 use Rattle.sql_commands.specs.Trees.{Bound}
 use Rattle.sql_commands.specs.declared.lists.Partitioning.{Partitioning}
 use Rattle.table_binder.specs.Bounds.{bound_for}
@@ -15,6 +14,8 @@ use Rattle.part_ddl.specs.Below.{default_of, tables_from}
 use Rattle.part_ddl.specs.Partitions.{partition_events}
 use Rattle.part_ddl.specs.Placing.{level_at, place_faults}
 use Rattle.part_ddl.specs.Tables.{count_faults}
+use Rattle.partition_scans.specs.Places.{default_scan}
+use Rattle.partition_scans.specs.Waited.{scanned}
 use Rattle.course.specs.Made.{Made, made}
 use Rattle.course.specs.declared.caller.Caller.{Caller}
 use Rattle.statement_steps.specs.Asks.{named, held_at, all_locked}
@@ -33,10 +34,9 @@ numbers_under h s (Some t) = map (λ x. x.number) (tables_from h s t.number)
 abbrev pub default_locked : List (List ℕ) → (session table : ℕ) → History → Made (Unit {0})
 default_locked names s t h = all_locked names s AccessExclusive (numbers_under h s (default_of h s t)) h
 
--- its rows are not scanned: a partition beside it is left out
-abbrev pub beside_default : Option TableNo → List Fault
-beside_default None = []
-beside_default (Some d) = left_out (codes "CREATE") ∷ []
+-- its rows are judged beside a new partition of that name and bound
+abbrev pub default_scanned : List (List ℕ) → (session table : ℕ) → MeantBound → (name : List ℕ) → History → Made (Unit {0})
+default_scanned names s t b name = scanned names s (λ h. default_scan h s t b name (default_of h s t))
 
 -- ---- the partition
 
@@ -52,14 +52,13 @@ place_with bound level = Ok (record { bound = bound; level = level })
 abbrev pub placed_bound : History → (session parent : ℕ) → Level → Bound → Result MeantBound Fault
 placed_bound h s p level b = next_answer (bound_for level b) (λ bound. unless_faults (place_faults h s p bound 1) (Ok bound))
 
--- the first refusal: the parent, the count of tables, the bound, its own key, the rows of the default partition
+-- the first refusal: the parent, the count of tables, the bound, its own key
 abbrev pub partition_place : History → (session parent : ℕ) → Bound → Option Partitioning → Result Place Fault
 partition_place h s p b by =
     next_answer (level_at h p) (λ level.
     unless_faults (count_faults h) (
     next_answer (placed_bound h s p level b) (λ bound.
-    next_answer (level_by (made_at h p).columns by) (λ own_level.
-    unless_faults (beside_default (default_of h s p)) (place_with bound own_level)))))
+    next_answer (level_by (made_at h p).columns by) (place_with bound))))
 
 abbrev pub place_found : (session parent : ℕ) → Bound → Option Partitioning → History → Made Place
 place_found s p b by h = answered (partition_place h s p b by)
@@ -67,8 +66,12 @@ place_found s p b by h = answered (partition_place h s p b by)
 abbrev pub partition_made : Caller → (name : List ℕ) → (parent : ℕ) → Place → History → Made (Unit {0})
 partition_made caller name p place h = made (partition_events h name p place.bound place.level (own h caller.session) caller.cmd) tt
 
-abbrev pub placed_and_made : Caller → (name : List ℕ) → (parent : ℕ) → Bound → Option Partitioning → History → Made (Unit {0})
-placed_and_made caller name p b by = follow (place_found caller.session p b by) (λ place. partition_made caller name p place)
+-- the default partition is scanned before it is made
+abbrev pub scanned_and_made : (names : List (List ℕ)) → Caller → (name : List ℕ) → (parent : ℕ) → Place → History → Made (Unit {0})
+scanned_and_made names caller name p place = follow (default_scanned names caller.session p place.bound name) (λ u. partition_made caller name p place)
+
+abbrev pub placed_and_made : (names : List (List ℕ)) → Caller → (name : List ℕ) → (parent : ℕ) → Bound → Option Partitioning → History → Made (Unit {0})
+placed_and_made names caller name p b by = follow (place_found caller.session p b by) (λ place. scanned_and_made names caller name p place)
 
 -- that the parent is partitioned, and the name, come before its place
 abbrev pub level_there : Level → Result (Unit {0}) Fault
@@ -78,7 +81,7 @@ abbrev pub parent_tested : (parent : ℕ) → History → Made (Unit {0})
 parent_tested p h = answered (next_answer (level_at h p) level_there)
 
 abbrev pub claimed_and_placed : (names : List (List ℕ)) → Caller → (name : List ℕ) → (parent : ℕ) → Bound → Option Partitioning → History → Made (Unit {0})
-claimed_and_placed names caller name p b by = follow (name_claimed names caller.session name) (λ u. placed_and_made caller name p b by)
+claimed_and_placed names caller name p b by = follow (name_claimed names caller.session name) (λ u. placed_and_made names caller name p b by)
 
 abbrev pub claimed_and_made : (names : List (List ℕ)) → Caller → (name : List ℕ) → (parent : ℕ) → Bound → Option Partitioning → History → Made (Unit {0})
 claimed_and_made names caller name p b by = follow (parent_tested p) (λ u. claimed_and_placed names caller name p b by)

@@ -2,8 +2,9 @@
 //!
 //! Each statement locks what it needs first, tells the first of its refusals, and then changes the
 //! catalogue in one step. A new table's name may have been given to one by another open transaction: then
-//! the statement waits for its end, and begins anew. A partition beside a default one is left out (0A000),
-//! since the rows of that one are not scanned.
+//! the statement waits for its end, and begins anew. Beside a default partition the rows of that one are scanned:
+//! the statement is refused with a row that the new partition would accept, and waits where only old snapshots see
+//! one.
 #![tactic(auto)]
 
 mod claims;
@@ -13,5 +14,5 @@ mod refused;
 mod tables;
 
 pub use drops::drop_tables;
-pub use partitions::create_partition;
+pub use partitions::{create_partition, lock_default, tables_from};
 pub use tables::create_table;

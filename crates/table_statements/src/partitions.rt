@@ -1,10 +1,6 @@
 ghost use Rattle.std.specs.Prelude.{◌≡◌, ◌+◌, ◌<◌, ◌≤◌, ℕ, [], IfOk, length};
-ghost use Rattle.pg_values.specs.Refusals.{IsAnswer};
-ghost use Rattle.part_bounds.specs.Checks.{or_first};
 ghost use Rattle.history.specs.History.{History};
-ghost use Rattle.history.specs.Places.{AreCatalogueSound};
 ghost use Rattle.tx_table.specs.Stands.{TableStands};
-ghost use Rattle.table_trees.specs.Histories.{ddl_tree};
 ghost use Rattle.table_trees.specs.Seen.{seen};
 ghost use Rattle.part_catalog.specs.Answers.{AreTogether};
 ghost use Rattle.part_catalog.specs.Stands.{CatalogueStands};
@@ -17,17 +13,18 @@ ghost use Rattle.course.specs.Attempts.{MayAttempt};
 ghost use Rattle.statement_steps.specs.Steps.{IsStep};
 ghost use Rattle.table_statements.specs.Partitions as partitions;
 ghost use Rattle.table_statements.specs.Partitions.{partitioned, partition_place};
-ghost use Rattle.table_statements.specs.Asked.{IsFree, IsLockedNamed, MayBeMade, MayBePlaced, family_of};
+ghost use Rattle.table_statements.specs.Asked.{IsFree, IsLockedNamed, HasDefaultLocked, HasDefaultClean, MayBeMade, MayBePlaced, family_of};
+ghost use Rattle.history.specs.Places.{TakesBound};
+ghost use Rattle.part_catalog.specs.Found.{made_at};
 ghost use Rattle.table_statements.specs.Seen.{seen_place};
 
 use crate::claims::claim_name;
 use crate::refused::stop_by;
 use crate::tables::level_by;
 use course::{Caller, Stop};
-use expression_binder::left_out;
 use legal_statements::{
     listed_is_there, named_is_there, new_leaf_may_follow, new_level_may_follow,
-    new_partition_may_follow, there_is_known, tree_is_whole,
+    new_partition_may_follow, none_breaks, there_is_known, tree_is_whole,
 };
 use part_bounds::{Bound, Level};
 use part_catalog::Catalog;
@@ -35,6 +32,7 @@ use part_ddl::{
     check_count, check_place, default_in, make_partition, parent_level, passed_have_places,
     tables_below,
 };
+use partition_scans::{judge_default, wait_for_snapshots};
 use pg_ids::{LockMode, TableNo};
 use pg_values::{NoMemory, PgText, Refusal};
 use soundness::{legal_keeps_all, sessions_have_siblings};
@@ -53,8 +51,8 @@ struct Place {
     level: Option<Level>,
 }
 
-// A table and those under it.
-pub(crate) fn tables_from(
+/// A table and those under it.
+pub fn tables_from(
     alloc: Global,
     catalog: &Catalog,
     txs: &TxTable,
@@ -92,8 +90,8 @@ fn default_tables(
     }
 }
 
-// The default partition of the parent and the tables under it are locked.
-fn lock_default(
+/// A part: the default partition of the parent, whose tree is given, and the tables under it are locked.
+pub fn lock_default(
     alloc: Global,
     stores: &mut Stores,
     names: &SessionNames,
@@ -105,6 +103,7 @@ fn lock_default(
     requires few { length stores.old.catalog.tables ≤ 4096 }
     requires tree { IsTreeOf stores.old.txs stores.old.catalog caller.session parent.number (seen tree.now) }
     ensures step { IsStep (λ u. u) result stores.old stores.new caller caller.cmd (partitions.default_locked names.now caller.session parent.number) }
+    ensures locked { IfOk result (λ u. HasDefaultLocked stores.new caller.session parent.number) }
     ensures rest { stores.new ≡ record stores.old { locks = stores.new.locks } }
 {
     trees_are_together();
@@ -132,17 +131,6 @@ fn lock_default(
     }
 }
 
-// The rows of a default partition are not scanned: a partition beside it is left out.
-fn check_default(alloc: Global, tree: &Tree) -> Result<(), Refusal>
-    requires { below.IsDdlTree (seen tree.now) }
-    ensures { (h : History) (session table : ℕ) → AreCatalogueSound h → seen tree.now ≡ ddl_tree h session table → IsAnswer result (or_first (partitions.beside_default (below.default_of h session table)) tt) }
-{
-    match default_in(tree) {
-        None => Ok(()),
-        Some(_) => Err(Refusal::Sql(left_out(alloc, b"CREATE")?)),
-    }
-}
-
 // The place of the partition, or the first refusal.
 fn place_of(
     alloc: Global,
@@ -167,7 +155,6 @@ fn place_of(
     let bound = bind_bound(alloc, bound, above)?;
     check_place(alloc, catalog, txs, parent, tree, &bound, session)?;
     let level = level_by(alloc, catalog.table(parent).columns.as_slice(), by)?;
-    check_default(alloc, tree)?;
     Ok(Place { bound, level })
 }
 
@@ -207,6 +194,8 @@ fn make_placed(
 ) -> Result<(), Stop>
     requires may { MayAttempt stores.old caller }
     requires parent { IsLockedNamed stores.old caller.session parent.number }
+    requires default { HasDefaultLocked stores.old caller.session parent.number }
+    requires clean { HasDefaultClean stores.old caller.session parent.number place.bound name }
     requires free { (h : History) → TableStands stores.old.txs h → CatalogueStands stores.old.catalog h → MayBeMade h caller.session name }
     requires placed { (h : History) → TableStands stores.old.txs h → CatalogueStands stores.old.catalog h → MayBePlaced h caller.session parent.number place.bound place.level }
     ensures { IsStep (λ u. u) result stores.old stores.new caller (caller.cmd + 1) (partitions.partition_made caller name parent.number (seen_place place)) }
@@ -218,6 +207,7 @@ fn make_placed(
     passed_have_places();
     named_is_there();
     sessions_have_siblings();
+    none_breaks();
     let Some(by) = stores.txs.open_of(caller.session) else {
         unreachable!()
     };
@@ -236,10 +226,63 @@ fn make_placed(
     }
 }
 
+// A part: no row of the default partition belongs to the new one.
+fn scan_default(
+    alloc: Global,
+    stores: &mut Stores,
+    names: &SessionNames,
+    caller: Caller,
+    name: &[u8],
+    parent: TableNo,
+    tree: &Tree,
+    place: &Place,
+) -> Result<(), Stop>
+    requires may { MayAttempt stores.old caller }
+    requires known { parent.number < length stores.old.catalog.tables }
+    requires takes { (h : History) → CatalogueStands stores.old.catalog h → TakesBound (made_at h parent.number).shape place.now.bound }
+    requires tree { IsTreeOf stores.old.txs stores.old.catalog caller.session parent.number (seen tree.now) }
+    ensures step { IsStep (λ u. u) result stores.old stores.new caller caller.cmd (partitions.default_scanned names.now caller.session parent.number place.now.bound name.now) }
+    ensures clean { IfOk result (λ u. HasDefaultClean stores.new caller.session parent.number place.now.bound name.now) }
+    ensures rest { stores.new ≡ record stores.old { locks = stores.new.locks } }
+{
+    let judged = judge_default(alloc, stores, caller, parent, tree, &place.bound, name);
+    wait_for_snapshots(alloc, stores, names, caller, judged)
+}
+
+// The default partition is scanned, and the table made in its place.
+fn scan_and_make(
+    alloc: Global,
+    stores: &mut Stores,
+    names: &SessionNames,
+    caller: Caller,
+    name: &PgText,
+    parent: TableNo,
+    tree: &Tree,
+    place: Place,
+) -> Result<(), Stop>
+    requires may { MayAttempt stores.old caller }
+    requires parent { IsLockedNamed stores.old caller.session parent.number }
+    requires default { HasDefaultLocked stores.old caller.session parent.number }
+    requires tree { IsTreeOf stores.old.txs stores.old.catalog caller.session parent.number (seen tree.now) }
+    requires free { (h : History) → TableStands stores.old.txs h → CatalogueStands stores.old.catalog h → MayBeMade h caller.session name.now }
+    requires placed { (h : History) → TableStands stores.old.txs h → CatalogueStands stores.old.catalog h → MayBePlaced h caller.session parent.number place.bound place.level }
+    ensures { IsStep (λ u. u) result stores.old stores.new caller (caller.cmd + 1) (partitions.scanned_and_made names.now caller name.now parent.number (seen_place place)) }
+{
+    let text = name.as_bytes();
+    match scan_default(alloc, stores, names, caller, text, parent, tree, &place) {
+        Ok(()) => match name.copy(alloc) {
+            Ok(name) => make_placed(alloc, stores, caller, name, parent, place),
+            Err(NoMemory) => Err(Stop::NoMemory),
+        },
+        Err(stop) => Err(stop),
+    }
+}
+
 // The place is found, and the table made there.
 fn place_and_make(
     alloc: Global,
     stores: &mut Stores,
+    names: &SessionNames,
     caller: Caller,
     name: &PgText,
     parent: TableNo,
@@ -249,15 +292,13 @@ fn place_and_make(
 ) -> Result<(), Stop>
     requires may { MayAttempt stores.old caller }
     requires parent { IsLockedNamed stores.old caller.session parent.number }
+    requires default { HasDefaultLocked stores.old caller.session parent.number }
     requires tree { IsTreeOf stores.old.txs stores.old.catalog caller.session parent.number (seen tree.now) }
     requires free { (h : History) → TableStands stores.old.txs h → CatalogueStands stores.old.catalog h → IsFree h caller.session name.now }
-    ensures { IsStep (λ u. u) result stores.old stores.new caller (caller.cmd + 1) (partitions.placed_and_made caller name.now parent.number (bound_tree bound.now) by.now) }
+    ensures { IsStep (λ u. u) result stores.old stores.new caller (caller.cmd + 1) (partitions.placed_and_made names.now caller name.now parent.number (bound_tree bound.now) by.now) }
 {
     match place_found(alloc, stores, caller, parent, tree, bound, by) {
-        Ok(place) => match name.copy(alloc) {
-            Ok(name) => make_placed(alloc, stores, caller, name, parent, place),
-            Err(NoMemory) => Err(Stop::NoMemory),
-        },
+        Ok(place) => scan_and_make(alloc, stores, names, caller, name, parent, tree, place),
         Err(stop) => Err(stop),
     }
 }
@@ -288,11 +329,12 @@ fn claim_and_place(
 ) -> Result<(), Stop>
     requires may { MayAttempt stores.old caller }
     requires parent { IsLockedNamed stores.old caller.session parent.number }
+    requires default { HasDefaultLocked stores.old caller.session parent.number }
     requires tree { IsTreeOf stores.old.txs stores.old.catalog caller.session parent.number (seen tree.now) }
     ensures { IsStep (λ u. u) result stores.old stores.new caller (caller.cmd + 1) (partitions.claimed_and_placed names.now caller name.now parent.number (bound_tree bound.now) by.now) }
 {
     match claim_name(alloc, stores, names, caller, name.as_bytes()) {
-        Ok(()) => place_and_make(alloc, stores, caller, name, parent, tree, bound, by),
+        Ok(()) => place_and_make(alloc, stores, names, caller, name, parent, tree, bound, by),
         Err(stop) => Err(stop),
     }
 }
@@ -311,6 +353,7 @@ fn claim_and_make(
 ) -> Result<(), Stop>
     requires may { MayAttempt stores.old caller }
     requires parent { IsLockedNamed stores.old caller.session parent.number }
+    requires default { HasDefaultLocked stores.old caller.session parent.number }
     requires tree { IsTreeOf stores.old.txs stores.old.catalog caller.session parent.number (seen tree.now) }
     ensures { IsStep (λ u. u) result stores.old stores.new caller (caller.cmd + 1) (partitions.claimed_and_made names.now caller name.now parent.number (bound_tree bound.now) by.now) }
 {
@@ -395,7 +438,8 @@ fn create_below(
 /// CREATE TABLE, PARTITION OF. The parent is found (42P01) and locked in ACCESS EXCLUSIVE mode, and so are
 /// its default partition and the tables under that one. It is refused where the parent is not partitioned
 /// (42809) and with 42P07, waits where another open transaction has made a table of the name, and is then
-/// refused with 54000 for tables, for its bound, for its own key, and beside a default partition.
+/// refused with 54000 for tables, for its bound, for its own key, and with a row of the default partition that
+/// belongs to it. Where only the open snapshots of other sessions see such a row it waits until they have gone.
 pub fn create_partition(
     alloc: Global,
     stores: &mut Stores,

@@ -10,6 +10,7 @@ use Rattle.table_statements.specs.Partitions.{partitioned}
 use Rattle.table_statements.specs.Drops.{dropped}
 use Rattle.lock_statement.specs.Locked.{locked}
 use Rattle.detach_statement.specs.Detached.{detached}
+use Rattle.attach_statement.specs.Attached.{attached}
 use Rattle.store_statements.specs.Attempted.{command_attempted}
 use Rattle.store_statements.specs.Printed.{IsStatement}
 use Rattle.store_statements.proofs.Whole.{silent_is}
@@ -33,6 +34,14 @@ returns-in-DropTables c =
     let step = subst (λ (ts : List (List ℕ)). IsStep (λ (u : Unit {0}). u) c.drop_tables.result c.args.stores.now c.drop_tables.new.stores c.args.caller (c.args.caller.cmd + 1) (dropped c.args.names.now c.args.caller i.if_there ts)) c.as_slice.ensures c.drop_tables.ensures in
     let is = silent_is c.drop_tables.result c.args.stores.now c.drop_tables.new.stores c.args.caller (dropped c.args.names.now c.args.caller i.if_there i.tables) c.args.out.now step in
     subst (λ (x : Command). IsStatement c.drop_tables.result c.args.stores.now c.drop_tables.new.stores c.args.out.now c.args.out.now c.args.caller (command_attempted c.args.names.now c.args.caller (command_tree x))) (sym i.is) is
+
+pub returns-in-Attach : goal.returns-in-Attach
+returns-in-Attach c =
+    let i = c.in-Attach in
+    let parented = subst (λ (p : List ℕ). IsStep (λ (u : Unit {0}). u) c.attach.result c.args.stores.now c.attach.new.stores c.args.caller (c.args.caller.cmd + 1) (attached c.args.names.now c.args.caller p c.as_bytes-in-Attach.result.now (bound_tree i.bound))) c.as_bytes.ensures c.attach.ensures in
+    let step = subst (λ (n : List ℕ). IsStep (λ (u : Unit {0}). u) c.attach.result c.args.stores.now c.attach.new.stores c.args.caller (c.args.caller.cmd + 1) (attached c.args.names.now c.args.caller i.parent n (bound_tree i.bound))) c.as_bytes-in-Attach.ensures parented in
+    let is = silent_is c.attach.result c.args.stores.now c.attach.new.stores c.args.caller (attached c.args.names.now c.args.caller i.parent i.name (bound_tree i.bound)) c.args.out.now step in
+    subst (λ (x : Command). IsStatement c.attach.result c.args.stores.now c.attach.new.stores c.args.out.now c.args.out.now c.args.caller (command_attempted c.args.names.now c.args.caller (command_tree x))) (sym i.is) is
 
 pub returns-in-Detach-default-default-AtOnce : goal.returns-in-Detach-default-default-AtOnce
 returns-in-Detach-default-default-AtOnce c =

@@ -11,6 +11,7 @@ use Rattle.statement_steps.proofs.Steps.{then_step, stop_step, may_go_on}
 use Rattle.table_statements.specs.Asked.{IsFree}
 use Rattle.table_statements.specs.Claims.{name_claimed}
 use Rattle.table_statements.specs.Partitions.{placed_and_made}
+use Rattle.table_statements.proofs.Beside.{still_default}
 use Rattle.table_statements.proofs.Held.{still_named}
 use Rattle.table_statements.proofs.partitions.claim_and_place.Goals as goal
 use Rattle.table_statements.proofs.partitions.claim_and_place.Goals.{In-Ok}
@@ -27,6 +28,10 @@ pub place_and_make-requires-clause-parent : goal.place_and_make-requires-clause-
 place_and_make-requires-clause-parent c =
     still_named c.args.stores.now c.claim_name.new.stores c.args.caller.session c.args.parent.number c.claim_name.ensures.rest c.in-Ok.ensures.step.keeps.locks c.requires.parent
 
+pub place_and_make-requires-clause-default : goal.place_and_make-requires-clause-default
+place_and_make-requires-clause-default c =
+    still_default c.args.stores.now c.claim_name.new.stores c.args.caller.session c.args.parent.number c.claim_name.ensures.rest c.in-Ok.ensures.step.keeps.locks c.requires.default
+
 pub place_and_make-requires-clause-tree : goal.place_and_make-requires-clause-tree
 place_and_make-requires-clause-tree c =
     subst (λ (s : Stores). IsTreeOf s.txs s.catalog c.args.caller.session c.args.parent.number (seen c.args.tree.now)) (sym c.claim_name.ensures.rest) c.requires.tree
@@ -38,10 +43,10 @@ place_and_make-requires-clause-free c =
 pub returns-in-Ok : goal.returns-in-Ok
 returns-in-Ok c =
     then_step (λ (u : Unit {0}). u) (λ (u : Unit {0}). u) tt c.place_and_make.result c.args.stores.now c.claim_name.new.stores c.place_and_make.new.stores c.args.caller (c.args.caller.cmd + 1)
-    (name_claimed c.args.names.now c.args.caller.session c.args.name.now) (λ u. placed_and_made c.args.caller c.args.name.now c.args.parent.number (bound_tree c.args.bound.now) c.args.by.now) (claims (goal.at.returns-in-Ok c).In-Ok) c.place_and_make.ensures
+    (name_claimed c.args.names.now c.args.caller.session c.args.name.now) (λ u. placed_and_made c.args.names.now c.args.caller c.args.name.now c.args.parent.number (bound_tree c.args.bound.now) c.args.by.now) (claims (goal.at.returns-in-Ok c).In-Ok) c.place_and_make.ensures
 
 pub returns-in-Err : goal.returns-in-Err
 returns-in-Err c =
     stop_step (λ (u : Unit {0}). u) (λ (u : Unit {0}). u) c.in-Err.stop c.args.stores.now c.claim_name.new.stores c.args.caller (c.args.caller.cmd + 1) c.args.caller.cmd
-    (name_claimed c.args.names.now c.args.caller.session c.args.name.now) (λ u. placed_and_made c.args.caller c.args.name.now c.args.parent.number (bound_tree c.args.bound.now) c.args.by.now)
+    (name_claimed c.args.names.now c.args.caller.session c.args.name.now) (λ u. placed_and_made c.args.names.now c.args.caller c.args.name.now c.args.parent.number (bound_tree c.args.bound.now) c.args.by.now)
     (subst (λ (n : List ℕ). IsStep (λ (u : Unit {0}). u) (Err c.in-Err.stop) c.args.stores.now c.claim_name.new.stores c.args.caller c.args.caller.cmd (name_claimed c.args.names.now c.args.caller.session n)) c.as_bytes.ensures c.in-Err.ensures.step)

@@ -20,6 +20,9 @@ pub claim_and_make-requires-clause-tree : goal.claim_and_make-requires-clause-tr
 claim_and_make-requires-clause-tree c =
     subst (λ (s : Stores). IsTreeOf s.txs s.catalog c.args.caller.session c.args.parent.number (seen c.args.tree.now)) (sym c.lock_default.ensures.rest) c.requires.tree
 
+pub claim_and_make-requires-clause-default : goal.claim_and_make-requires-clause-default
+claim_and_make-requires-clause-default c = c.in-Ok.ensures.locked
+
 pub returns-in-Ok : goal.returns-in-Ok
 returns-in-Ok c =
     then_step (λ (u : Unit {0}). u) (λ (u : Unit {0}). u) tt c.claim_and_make.result c.args.stores.now c.lock_default.new.stores c.claim_and_make.new.stores c.args.caller (c.args.caller.cmd + 1)

@@ -5,6 +5,7 @@ use Rattle.statement_steps.proofs.Parts.{stays, no_memory}
 use Rattle.part_ddl.specs.Below.{default_of}
 use Rattle.table_statements.specs.Partitions.{default_locked}
 use Rattle.table_statements.proofs.Below.{here_of, TreeLaws, family_known, all_low}
+use Rattle.table_statements.proofs.Beside.{default_is_locked}
 use Rattle.table_statements.proofs.Left.{default_step}
 use Rattle.table_statements.proofs.partitions.lock_default.Goals as goal
 use Rattle.table_statements.proofs.partitions.lock_default.Goals.{In-Ok}
@@ -32,6 +33,11 @@ lock_tables-requires-clause-there c = subst (λ (ts : List TableNo). All (λ t. 
 pub returns-in-Ok-clause-step : goal.returns-in-Ok-clause-step
 returns-in-Ok-clause-step c =
     default_step c.args.names.now c.lock_tables.result c.args.stores.now c.lock_tables.new.stores c.args.caller c.args.parent.number c.deref.result.now
+    (λ h txs catalog. c.deref.ensures.value ∙ c.in-Ok.ensures h txs catalog) c.lock_tables.ensures.step
+
+pub returns-in-Ok-clause-locked : goal.returns-in-Ok-clause-locked
+returns-in-Ok-clause-locked c =
+    default_is_locked c.args.names.now c.lock_tables.result c.args.stores.now c.lock_tables.new.stores c.args.caller c.args.parent.number c.deref.result.now c.requires.may c.lock_tables.ensures.rest
     (λ h txs catalog. c.deref.ensures.value ∙ c.in-Ok.ensures h txs catalog) c.lock_tables.ensures.step
 
 pub returns-in-Err-clause-step : goal.returns-in-Err-clause-step

@@ -16,9 +16,11 @@ returns-in-Ok c =
       partition = c.new_partition_may_follow.ensures;
       passed = c.passed_have_places.ensures;
       named = c.named_is_there.ensures;
+      siblings = c.sessions_have_siblings.ensures;
+      none = c.none_breaks.ensures;
     } in
     partition_step laws c.args.stores.now c.make_partition.new.rows c.make_partition.new.catalog c.args.caller c.args.name c.args.parent.number c.args.place.bound c.args.place.level c.in-Some.by c.in-Ok.field-0
-    c.requires.may c.requires.parent c.requires.free c.requires.placed c.in-Some.ensures.is c.in-Ok.ensures
+    c.requires.may c.requires.parent c.requires.default c.requires.clean c.requires.free c.requires.placed c.in-Some.ensures.is c.in-Ok.ensures
 
 pub returns-in-Err : goal.returns-in-Err
 returns-in-Err c =

@@ -5,17 +5,14 @@ use Rattle.part_bounds.specs.declared.level.Level.{Level}
 use Rattle.history.specs.declared.catalogue.Column.{Column}
 use Rattle.history.specs.declared.catalogue.Table.{Table}
 use Rattle.part_catalog.specs.Found.{made_at}
-use Rattle.part_ddl.specs.Below.{default_of}
 use Rattle.part_ddl.specs.Placing.{level_at, place_faults}
 use Rattle.part_ddl.specs.Tables.{KeysFit, count_faults}
 use Rattle.sql_commands.specs.Trees.{bound_tree}
-use Rattle.table_trees.specs.Seen.{seen}
-use Rattle.table_statements.specs.Partitions.{beside_default, place_with, placed_bound}
+use Rattle.table_statements.specs.Partitions.{place_with, placed_bound}
 use Rattle.table_statements.specs.Seen.{seen_place}
 use Rattle.table_statements.specs.Tables.{level_by}
-use Rattle.table_statements.proofs.Below.{is_ddl_tree}
-use Rattle.table_statements.proofs.Chains.{after_own_level, after_bound, after_count, after_level, past_level, past_count, past_bound, bound_refused, place_refused, fault_answer, none_beside}
-use Rattle.table_statements.proofs.Firsts.{past_ok, past_none, stops_at, stops_first, none_first}
+use Rattle.table_statements.proofs.Chains.{after_bound, after_count, after_level, past_level, past_count, past_bound, bound_refused, place_refused, fault_answer}
+use Rattle.table_statements.proofs.Firsts.{past_ok, stops_at, stops_first, none_first}
 use Rattle.table_statements.proofs.Placing.{takes_bound}
 use Rattle.table_statements.proofs.partitions.place_of.Goals as goal
 
@@ -42,20 +39,14 @@ returns-in_err-check_place-clause-answer c = let p = err_from_is_err_and c.from_
 pub returns-in_err-level-clause-answer : goal.returns-in_err-level-clause-answer
 returns-in_err-level-clause-answer c = let p = err_from_is_err_and c.from_residual-in_err-level.result c.from_residual-in_err-level.ensures.1 in λ h txs catalog.
     rw (p.1, p.2) (past_bound (Err c.in_err-level.field-0.0) h c.args.session c.args.parent.number (bound_tree c.args.bound.now) c.args.by.now c.in_ok-above.above.now c.in_ok-bound.bound (c.in_ok-above.ensures h catalog) (none_first (count_faults h) tt (c.in_ok-check_count.ensures h catalog)) c.in_ok-bound.ensures.answer (none_first (place_faults h c.args.session c.args.parent.number c.in_ok-bound.bound 1) tt (c.in_ok-check_place.ensures h txs catalog))
-    (stops_at seen_place c.in_err-level.field-0.0 (level_by (made_at h c.args.parent.number).columns c.args.by.now) (after_own_level h c.args.session c.args.parent.number c.in_ok-bound.bound)
+    (stops_at seen_place c.in_err-level.field-0.0 (level_by (made_at h c.args.parent.number).columns c.args.by.now) (place_with c.in_ok-bound.bound)
     (subst (λ (cs : List Column). IsAnswer {T = Option Level} (Err c.in_err-level.field-0.0) (level_by cs c.args.by.now)) (c.as_slice.ensures ∙ ap (λ (t : Table). t.columns) (c.table.ensures h catalog)) c.in_err-level.ensures.answer)))
-
-pub returns-in_err-check_default-clause-answer : goal.returns-in_err-check_default-clause-answer
-returns-in_err-check_default-clause-answer c = let p = err_from_is_err_and c.from_residual-in_err-check_default.result c.from_residual-in_err-check_default.ensures.1 in λ h txs catalog.
-    rw (p.1, p.2) (past_bound (Err c.in_err-check_default.field-0.0) h c.args.session c.args.parent.number (bound_tree c.args.bound.now) c.args.by.now c.in_ok-above.above.now c.in_ok-bound.bound (c.in_ok-above.ensures h catalog) (none_first (count_faults h) tt (c.in_ok-check_count.ensures h catalog)) c.in_ok-bound.ensures.answer (none_first (place_faults h c.args.session c.args.parent.number c.in_ok-bound.bound 1) tt (c.in_ok-check_place.ensures h txs catalog))
-    (past_ok seen_place (Err c.in_err-check_default.field-0.0) (level_by (made_at h c.args.parent.number).columns c.args.by.now) c.in_ok-level.level (after_own_level h c.args.session c.args.parent.number c.in_ok-bound.bound) (subst (λ (cs : List Column). level_by cs c.args.by.now ≡ Ok c.in_ok-level.level) (c.as_slice.ensures ∙ ap (λ (t : Table). t.columns) (c.table.ensures h catalog)) c.in_ok-level.ensures.answer)
-    (stops_first seen_place c.in_err-check_default.field-0.0 (beside_default (default_of h c.args.session c.args.parent.number)) (place_with c.in_ok-bound.bound c.in_ok-level.level) tt (c.in_err-check_default.ensures h c.args.session c.args.parent.number catalog.sound (c.requires.tree h txs catalog)))))
 
 pub returns-clause-answer : goal.returns-clause-answer
 returns-clause-answer c = λ h txs catalog.
     past_bound (Ok (record { bound = c.in_ok-bound.bound; level = c.in_ok-level.level })) h c.args.session c.args.parent.number (bound_tree c.args.bound.now) c.args.by.now c.in_ok-above.above.now c.in_ok-bound.bound (c.in_ok-above.ensures h catalog) (none_first (count_faults h) tt (c.in_ok-check_count.ensures h catalog)) c.in_ok-bound.ensures.answer (none_first (place_faults h c.args.session c.args.parent.number c.in_ok-bound.bound 1) tt (c.in_ok-check_place.ensures h txs catalog))
-    (past_ok seen_place (Ok (record { bound = c.in_ok-bound.bound; level = c.in_ok-level.level })) (level_by (made_at h c.args.parent.number).columns c.args.by.now) c.in_ok-level.level (after_own_level h c.args.session c.args.parent.number c.in_ok-bound.bound) (subst (λ (cs : List Column). level_by cs c.args.by.now ≡ Ok c.in_ok-level.level) (c.as_slice.ensures ∙ ap (λ (t : Table). t.columns) (c.table.ensures h catalog)) c.in_ok-level.ensures.answer)
-    (past_none seen_place (Ok (record { bound = c.in_ok-bound.bound; level = c.in_ok-level.level })) (beside_default (default_of h c.args.session c.args.parent.number)) (place_with c.in_ok-bound.bound c.in_ok-level.level) (none_first (beside_default (default_of h c.args.session c.args.parent.number)) tt (c.in_ok-check_default.ensures h c.args.session c.args.parent.number catalog.sound (c.requires.tree h txs catalog))) refl))
+    (past_ok seen_place (Ok (record { bound = c.in_ok-bound.bound; level = c.in_ok-level.level })) (level_by (made_at h c.args.parent.number).columns c.args.by.now) c.in_ok-level.level (place_with c.in_ok-bound.bound) (subst (λ (cs : List Column). level_by cs c.args.by.now ≡ Ok c.in_ok-level.level) (c.as_slice.ensures ∙ ap (λ (t : Table). t.columns) (c.table.ensures h catalog)) c.in_ok-level.ensures.answer)
+    refl)
 
 pub returns-clause-few : goal.returns-clause-few
 returns-clause-few c = λ h catalog. none_first (count_faults h) tt (c.in_ok-check_count.ensures h catalog)
@@ -65,11 +56,7 @@ returns-clause-may c = λ h txs catalog. record {
   takes = takes_bound (made_at h c.args.parent.number).name (made_at h c.args.parent.number).shape c.in_ok-above.above.now c.in_ok-bound.bound (c.in_ok-above.ensures h catalog) c.in_ok-bound.ensures.of_level;
   place = (none_first (place_faults h c.args.session c.args.parent.number c.in_ok-bound.bound 1) tt (c.in_ok-check_place.ensures h txs catalog));
   keys = subst (λ (cs : List Column). KeysFit cs c.in_ok-level.level) (c.as_slice.ensures ∙ ap (λ (t : Table). t.columns) (c.table.ensures h catalog)) c.in_ok-level.ensures.fit;
-  no_default = none_beside (default_of h c.args.session c.args.parent.number) (none_first (beside_default (default_of h c.args.session c.args.parent.number)) tt (c.in_ok-check_default.ensures h c.args.session c.args.parent.number catalog.sound (c.requires.tree h txs catalog)));
 }
 
 pub check_place-requires-clause-takes : goal.check_place-requires-clause-takes
 check_place-requires-clause-takes c = λ h catalog. takes_bound (made_at h c.args.parent.number).name (made_at h c.args.parent.number).shape c.in_ok-above.above.now c.in_ok-bound.bound (c.in_ok-above.ensures h catalog) c.in_ok-bound.ensures.of_level
-
-pub check_default-requires : goal.check_default-requires
-check_default-requires c = is_ddl_tree c.args.txs.now c.args.catalog.now c.args.session c.args.parent.number (seen c.args.tree.now) c.requires.siblings c.requires.tree

@@ -1,0 +1,260 @@
+-- The entry by which a table becomes a partition.
+use Rattle.std.proofs.Common.{◌≡◌, ℕ, ◌+◌, ◌<◌, ◌&&◌, ◌||◌, not, Bool, true, false, List, [], ◌∷◌, ◌++◌, ◌⊎◌, inl, inr, refl, sym, ap, ◌∙◌, subst, arith, Option, Some, None, Ok, Err, All, map, length}
+use Rattle.std.specs.Prelude.{is_some, ◌≤◌}
+use Rattle.std.specs.List.{Contains, list_any}
+use Rattle.std.proofs.lemmas.List.{length-map}
+use Rattle.std.proofs.lemmas.List.Elements.{All-contains}
+use Rattle.pg_values.specs.declared.value.Value.{Value}
+use Rattle.pg_ids.specs.Sets.{has}
+use Rattle.pg_ids.specs.declared.ids.TableNo.{TableNo}
+use Rattle.pg_ids.specs.declared.lock_mode.LockMode.TheVariants.{ShareUpdateExclusive, AccessExclusive}
+use Rattle.part_bounds.specs.declared.partition_bound.Bound.{Bound}
+use Rattle.part_bounds.specs.Accepts.{accepts, accepts_among, is_default}
+use Rattle.history.specs.declared.transaction.TxId.{TxId}
+use Rattle.history.specs.declared.version.Version.{Version}
+use Rattle.history.specs.declared.catalogue.Entry.{Entry}
+use Rattle.history.specs.Transactions.{open_of, session_of}
+use Rattle.history.specs.Catalogue.{EntryAdded, tables_made, entries_added}
+use Rattle.history.specs.Locks.{holds}
+use Rattle.history.specs.History.{History, CatalogueChange, tx_events, lock_events, catalogue_events}
+use Rattle.history.specs.Places.{Suits}
+use Rattle.history.specs.Presence.{entries_present}
+use Rattle.history.proofs.Open.{open_own}
+use Rattle.table_trees.specs.Histories.{table_of, bound_of, path_of, ddl_tree}
+use Rattle.table_trees.specs.Siblings.{AreSiblings, CanStandTogether}
+use Rattle.table_trees.specs.Trees.{leaves}
+use Rattle.row_router.specs.declared.path.PathTest.TheVariants.{Bounds, Checks}
+use Rattle.row_router.specs.Paths.{refused}
+use Rattle.row_store.specs.Judged.{refusing}
+use Rattle.tx_table.specs.Stands.{TableStands}
+use Rattle.row_store.specs.Stands.{StoreStands}
+use Rattle.part_catalog.specs.Found.{made_at, table_number}
+use Rattle.part_catalog.specs.Full.{EntryRefused, MayAdd, partitions, levels}
+use Rattle.part_catalog.specs.Kept.{KeptCatalogue, entry_in, next_entry}
+use Rattle.part_catalog.specs.Stands.{CatalogueStands}
+use Rattle.part_ddl.specs.Below.{default_of, tables_from}
+use Rattle.part_ddl.specs.Laws.{PassedHavePlaces, IsNoDefaultBeside}
+use Rattle.part_ddl.specs.Placing.{partitions_of, bounds_below}
+use Rattle.part_ddl.proofs.Making.{table_count}
+use Rattle.soundness.specs.Laws.{SessionsHaveSiblings}
+use Rattle.soundness.specs.Legal.{Has, HasTable, Takes}
+use Rattle.soundness.specs.Worlds.{key_at}
+use Rattle.soundness.proofs.Listed.{child_listed, none_in, cases_in}
+use Rattle.soundness.proofs.Sound.{catalogue_sound_of}
+use Rattle.legal_statements.specs.Below.{numbers_from}
+use Rattle.legal_statements.specs.Entries.{IsDefaultOf, IsScanned, IsNewPlace, IsAttached}
+use Rattle.legal_statements.specs.Laws.{NamedIsThere, AttachMayFollow, NoneBreaks}
+use Rattle.legal_statements.proofs.Adding.{listed_for}
+use Rattle.pg_ids.specs.declared.which.Which.{Which}
+use Rattle.part_catalog.specs.declared.new_table.CatalogRefused.TheVariants.{Full}
+use Rattle.stores.specs.Events.{tx_in}
+use Rattle.stores.specs.Numbers.{IsAt}
+use Rattle.stores.specs.Stand.{Stands}
+use Rattle.stores.specs.declared.stores.Stores.{Stores}
+use Rattle.stores.proofs.Commands.{commands_are_in_order}
+use Rattle.stores.proofs.Goodness.{legal_of, permitted_of}
+use Rattle.course.specs.Attempts.{MayAttempt}
+use Rattle.course.specs.declared.caller.Caller.{Caller}
+use Rattle.course.specs.declared.stop.Stop.TheVariants as stop
+use Rattle.statement_steps.specs.Steps.{IsStep}
+use Rattle.statement_steps.proofs.Parts.{locks_same, no_memory}
+use Rattle.partition_scans.specs.Fitting.{is_row_of}
+use Rattle.partition_scans.specs.Places.{breaks_place, is_refused_above, place_scan, default_scan}
+use Rattle.partition_scans.specs.Scans.{IsClean}
+use Rattle.partition_scans.proofs.Cleaning.{clean_first, clean_rest}
+use Rattle.table_statements.specs.Asked.{IsLocked, IsLockedNamed, HasDefaultLocked, AreLocked}
+use Rattle.table_statements.specs.Tables.{own}
+use Rattle.table_statements.proofs.Below.{from_numbers, unmapped_in}
+use Rattle.table_statements.proofs.Beside.{stands_apart}
+use Rattle.table_statements.proofs.Deeds.{IsDeed, deed_step}
+use Rattle.table_statements.proofs.Fresh.{IsOwn, own_is, own_number}
+use Rattle.table_statements.proofs.Held.{held_at_history}
+use Rattle.attach_statement.specs.Asked.{MayBeAttached, HasPlace, HasLockedAll, AreRowsClean}
+use Rattle.attach_statement.specs.Attached.{new_entry, entry_added}
+use Rattle.attach_statement.specs.Places.{name_at}
+
+pub record AttachLaws : Type 0 where
+  pub named : NamedIsThere
+  pub follow : AttachMayFollow
+  pub passed : PassedHavePlaces
+  pub none : NoneBreaks
+  pub siblings : SessionsHaveSiblings
+
+-- ---- what a row that does not break the new place is
+
+not_true : (b : Bool) → not b ≡ false → b ≡ true
+not_true true e = refl
+not_true false e = absurd (let c = e in cc)
+
+not_false : (b : Bool) → not b ≡ true → b ≡ false
+not_false true e = absurd (let c = e in cc)
+not_false false e = refl
+
+none_refused : (o : Option TableNo) → is_some o ≡ false → o ≡ None
+none_refused None e = refl
+none_refused (Some t) e = absurd (let c = e in cc)
+
+three_false : (a b c : Bool) → (a || (b || c)) ≡ false → (a ≡ false) × (b ≡ false) × (c ≡ false)
+three_false false false false e = (refl, refl, refl)
+three_false true b c e = absurd (let d = e in cc)
+three_false false true c e = absurd (let d = e in cc)
+three_false false false true e = absurd (let d = e in cc)
+
+left_of : (a b : Bool) → (a || b) ≡ false → a ≡ false
+left_of false b e = refl
+left_of true b e = absurd (let c = e in cc)
+
+right_of : (a b : Bool) → (a || b) ≡ false → b ≡ false
+right_of false b e = e
+right_of true b e = absurd (let c = e in cc)
+
+either_of : (a b : Bool) → (a || b) ≡ true → (a ≡ true) ⊎ (b ≡ true)
+either_of true b e = inl refl
+either_of false b e = inr e
+
+both_of : (a b : Bool) → (a && b) ≡ true → (a ≡ true) × (b ≡ true)
+both_of true b e = (refl, e)
+both_of false b e = absurd (let c = e in cc)
+
+none_of_all : (key : List Value) (es : List Entry) (f : Entry) → list_any (accepts key) (map bound_of es) ≡ false → Contains es f → accepts key f.bound ≡ false
+none_of_all key [] f none at = absurd (none_in f at)
+none_of_all key (e ∷ es) f none at = elim (cases_in e es f at) [
+  | inl here ↦ subst (λ (z : Entry). accepts key z.bound ≡ false) here (left_of (accepts key e.bound) (list_any (accepts key) (map bound_of es)) none)
+  | inr later ↦ none_of_all key es f (right_of (accepts key e.bound) (list_any (accepts key) (map bound_of es)) none) later
+]
+
+-- ---- at a history that the stores stand for
+
+module _ (laws : AttachLaws) (stores : Stores) (caller : Caller) (p t : ℕ) (b : Bound) (h : History) (stands : Stands stores h) (at : IsAt h caller.session caller.cmd) (n : ℕ) (its : open_of (tx_events h) caller.session ≡ Some n) (is_n : tx_in h caller.session ≡ n) (all : HasLockedAll stores caller.session p t)
+    (may : MayBeAttached h caller.session p t b) (clean : IsClean h caller.session (place_scan h caller.session p t b ∷ default_scan h caller.session p b (name_at h t) (default_of h caller.session p))) where
+  ours : open_of (tx_events h) caller.session ≡ Some (tx_in h caller.session)
+  ours = its ∙ ap Some (sym is_n)
+
+  guarded : holds (lock_events h) caller.session p ShareUpdateExclusive ≡ true
+  guarded = sym (stands.all.locks.tells.held caller.session p ShareUpdateExclusive) ∙ all.guarded.guarded
+
+  owned : (x : ℕ) → Contains (numbers_from h caller.session t) x → holds (lock_events h) caller.session x AccessExclusive ≡ true
+  owned x listed =
+      let found = unmapped_in (tables_from h caller.session t) x (subst (λ (ns : List ℕ). Contains ns x) (sym (from_numbers h caller.session t)) listed) in
+      let held = All-contains (λ (y : TableNo). IsLocked stores caller.session y.number) (tables_from h caller.session t) found.0 (all.family h stands.all.txs stands.all.catalog) found.1 in
+      subst (λ (k : ℕ). holds (lock_events h) caller.session k AccessExclusive ≡ true) found.2 (held_at_history stores h caller.session found.0.number stands held)
+
+  takes_row : (row : List Value) → accepts_among (bounds_below h caller.session p) (key_at (catalogue_events h) p row) b ≡ true → Takes h (tx_in h caller.session) (new_entry caller p t b h) row
+  takes_row row is =
+      let key = key_at (catalogue_events h) p row in
+      elim (either_of (accepts key b) (is_default b && not (list_any (accepts key) (bounds_below h caller.session p))) is) [
+        | inl own ↦ inl own
+        | inr other ↦
+            let two = both_of (is_default b) (not (list_any (accepts key) (bounds_below h caller.session p))) other in
+            let none : list_any (accepts key) (bounds_below h caller.session p) ≡ false = not_false (list_any (accepts key) (bounds_below h caller.session p)) two.1 in
+            inr (two.0, λ f present under. none_of_all key (partitions_of h caller.session p) f none (child_listed (entries_present h caller.session) p f (listed_for h caller.session (tx_in h caller.session) f (legal_of h stands.good) ours present) under))
+      ]
+
+  scanned : (v : Version) → IsScanned h caller.session (tx_in h caller.session) t v → Takes h (tx_in h caller.session) (new_entry caller p t b h) v.row × (refused Bounds v.row (path_of h caller.session p) ≡ None)
+  scanned v it =
+      let first = clean_first h caller.session (place_scan h caller.session p t b) (default_scan h caller.session p b (name_at h t) (default_of h caller.session p)) clean in
+      let breaks = laws.none h caller.session (tx_in h caller.session) t (breaks_place h caller.session p b) first.0 first.1 v it in
+      let key = key_at (catalogue_events h) p v.row in
+      let parts = three_false (not (is_row_of (made_at h p).columns v.row)) (not (accepts_among (bounds_below h caller.session p) key b)) (is_refused_above h caller.session p v.row) breaks in (
+        takes_row v.row (not_true (accepts_among (bounds_below h caller.session p) key b) parts.1),
+        none_refused (refused Bounds v.row (path_of h caller.session p)) (left_of (is_some (refused Bounds v.row (path_of h caller.session p))) (is_some (refused Checks v.row (path_of h caller.session p))) parts.2),
+      )
+
+  place : IsNewPlace h caller.session (new_entry caller p t b h)
+  place =
+      let legal = legal_of h stands.good in
+      let permitted = permitted_of h stands.good in
+      let law = laws.passed h caller.session _ (new_entry caller p t b h) (catalogue_sound_of h legal) may.takes may.place in
+      let count = table_count stores.catalog h stands.all.catalog in
+      let rest = clean_rest h caller.session (place_scan h caller.session p t b) (default_scan h caller.session p b (name_at h t) (default_of h caller.session p)) clean in
+      let apart = λ (d : Entry) (is : IsDefaultOf h caller.session p d). stands_apart laws.none stores h caller.session (tx_in h caller.session) p b (name_at h t) d stands (laws.siblings h caller.session legal permitted) refl (all.default h stands.all.txs stands.all.catalog) rest is in
+      record {
+        own = ours;
+        command = commands_are_in_order h caller.session (tx_in h caller.session) caller.cmd at ours;
+        number = refl;
+        suits = record { parent = let made = all.guarded.made in omega (arith, count, made); child = let made = all.locked.made in omega (arith, count, made); bound = may.takes; columns = may.columns };
+        parent_there = laws.named h caller.session (tx_in h caller.session) p all.guarded.name legal ours (all.guarded.named h stands.all.txs stands.all.catalog);
+        child_there = laws.named h caller.session (tx_in h caller.session) t all.locked.name legal ours (all.locked.named h stands.all.txs stands.all.catalog);
+        guarded = inl guarded;
+        room = record { partitions = law.partitions; levels = law.levels };
+        together = λ x there. All-contains (λ (y : Entry). CanStandTogether y (new_entry caller p t b h)) (entries_present h caller.session) x law.together there;
+        no_pending = λ x there of pending. All-contains (IsNoDefaultBeside h caller.session (new_entry caller p t b h)) (entries_present h caller.session) x law.no_pending there of pending;
+        default_owned = λ d x is listed. inl ((apart d is).owned x listed);
+        default_scanned = λ d v is it. (apart d is).scanned v it;
+      }
+
+  pub is_attached : IsAttached h caller.session (new_entry caller p t b h)
+  is_attached = record {
+    place = place;
+    child_owned = λ x listed. inl (owned x listed);
+    no_partition = may.no_partition;
+    not_above = may.not_above;
+    scanned = scanned;
+  }
+
+-- ---- the catalogue takes it
+
+entry_count : (kept : KeptCatalogue) (h : History) → CatalogueStands kept h → length kept.entries ≡ length (entries_added (catalogue_events h))
+entry_count kept h stands = sym (length-map kept.entries entry_in) ∙ ap length stands.entries
+
+-- it is the next one
+is_next : (kept : KeptCatalogue) (caller : Caller) (p t : TableNo) (b : Bound) (by : TxId) (h : History) → CatalogueStands kept h → by ≡ own h caller.session → next_entry kept p t b by caller.cmd ≡ new_entry caller p.number t.number b h
+is_next kept caller p t b by h stands is =
+    let at : ℕ → TxId → Entry = λ n x. record { id = record { number = n }; parent = p; child = t; bound = b; by = x; cmd = caller.cmd } in
+    ap (λ (n : ℕ). at n by) (entry_count kept h stands) ∙ ap (λ (x : TxId). at (length (entries_added (catalogue_events h))) x) is
+
+module _ (laws : AttachLaws) (stores : Stores) (caller : Caller) (p t : TableNo) (b : Bound) (by : TxId) (may : MayAttempt stores caller) (mine : IsOwn stores caller.session by) (all : HasLockedAll stores caller.session p.number t.number) (place : HasPlace stores caller.session p.number t.number b) where
+  owner : (h : History) → TableStands stores.txs h → session_of (tx_events h) by.number ≡ caller.session
+  owner h txs = open_own (tx_events h) caller.session by.number txs.sound (sym (mine h txs))
+
+  pub may_add : MayAdd stores.txs stores.catalog (next_entry stores.catalog p t b by caller.cmd)
+  may_add =
+      let h = may.sound.0 in
+      let stands = may.sound.1 in
+      let can = place h stands.all.txs stands.all.catalog in
+      let count = table_count stores.catalog h stands.all.catalog in
+      record {
+        h = h;
+        txs = stands.all.txs;
+        catalogue = stands.all.catalog;
+        suits = record { parent = let made = all.guarded.made in omega (arith, count, made); child = let made = all.locked.made in omega (arith, count, made); bound = can.takes; columns = can.columns };
+        siblings = subst (λ (n : ℕ). AreSiblings (entries_present h n)) (sym (owner h stands.all.txs)) (laws.siblings h caller.session (legal_of h stands.good) (permitted_of h stands.good));
+      }
+
+  -- there is room for it
+  refused_none : (h : History) (s : ℕ) (which : Which) → partitions h s p.number < 1024 → levels h s p.number t.number ≤ 8 → EntryRefused h s p.number t.number (Full which) → ⊥
+  refused_none h s which few low (inl r) = omega (arith, r.1, few)
+  refused_none h s which few low (inr r) = omega (arith, r.2, low)
+
+  pub never_full : (which : Which) → ((h : History) → TableStands stores.txs h → CatalogueStands stores.catalog h → EntryRefused h (session_of (tx_events h) by.number) p.number t.number (Full which)) → ⊥
+  never_full which refused =
+      let h = may.sound.0 in
+      let stands = may.sound.1 in
+      let can = place h stands.all.txs stands.all.catalog in
+      let room = laws.passed h caller.session _ (new_entry caller p.number t.number b h) (catalogue_sound_of h (legal_of h stands.good)) can.takes can.place in
+      refused_none h caller.session which room.partitions room.levels (subst (λ (n : ℕ). EntryRefused h n p.number t.number (Full which)) (owner h stands.all.txs) (refused h stands.all.txs stands.all.catalog))
+
+  -- what the call says of the catalogue
+  abbrev Adds : KeptCatalogue → Type 0
+  Adds catalog = (h : History) → TableStands stores.txs h → CatalogueStands stores.catalog h → CatalogueStands catalog (CatalogueChange (EntryAdded (next_entry stores.catalog p t b by caller.cmd)) ∷ h)
+
+  add_deed : AreRowsClean stores caller.session p.number t.number b → (catalog : KeptCatalogue) → Adds catalog → (h : History) (stands : Stands stores h) → IsAt h caller.session caller.cmd → (n : ℕ) → open_of (tx_events h) caller.session ≡ Some n
+      → IsDeed stores.rows catalog n caller.cmd (CatalogueChange (EntryAdded (new_entry caller p.number t.number b h)) ∷ []) h
+  add_deed clean catalog adds h stands at n its =
+      let s = caller.session in
+      let rows = stands.all.rows in
+      let told = clean h (record { txs = stands.all.txs; rows = stands.all.rows; catalog = stands.all.catalog }) in
+      record {
+        done = (ap (λ (m : ℕ). Some (m, caller.cmd)) (own_number h s n its), tt);
+        may = (laws.follow h s (new_entry caller p.number t.number b h) (legal_of h stands.good) (permitted_of h stands.good) (is_attached laws stores caller p.number t.number b h stands at n its (own_number h s n its) all (place h stands.all.txs stands.all.catalog) told));
+        housed = (tt, tt);
+        catalogue = subst (λ (e : Entry). CatalogueStands catalog (CatalogueChange (EntryAdded e) ∷ h)) (is_next stores.catalog caller p t b by h stands.all.catalog (own_is h s by (mine h stands.all.txs))) (adds h stands.all.txs stands.all.catalog);
+        store = record { sound = rows.sound; births = rows.births; ends = rows.ends; leaves = rows.leaves; room = rows.room };
+      }
+
+  pub added_step : AreRowsClean stores caller.session p.number t.number b → (catalog : KeptCatalogue) → Adds catalog → IsStep (λ (u : Unit {0}). u) (Ok tt) stores (record stores { catalog = catalog }) caller (caller.cmd + 1) (entry_added caller p.number t.number b)
+  added_step clean catalog adds =
+      deed_step stores stores.rows catalog caller (λ h. CatalogueChange (EntryAdded (new_entry caller p.number t.number b h)) ∷ []) may (λ h n stands at its. add_deed clean catalog adds h stands at n its)
+
+  pub not_added : (catalog : KeptCatalogue) → IsStep (λ (u : Unit {0}). u) (Err stop.NoMemory) stores (record stores { catalog = catalog }) caller (caller.cmd + 1) (entry_added caller p.number t.number b)
+  not_added catalog = no_memory (λ (u : Unit {0}). u) stores (record stores { catalog = catalog }) caller (caller.cmd + 1) (entry_added caller p.number t.number b) (locks_same stores (record stores { catalog = catalog }) caller.session refl refl)

@@ -1,0 +1,5 @@
+mod Attaching
+mod Columned
+mod Locked
+mod Placed
+mod Scanned

@@ -1,0 +1,14 @@
+use Rattle.std.proofs.Common.{◌+◌}
+use Rattle.sql_commands.specs.Trees.{bound_tree}
+use Rattle.statement_steps.proofs.Parts.{stays, no_memory}
+use Rattle.attach_statement.specs.Attached.{attached_beside}
+use Rattle.attach_statement.proofs.statement.attach_below.Goals as goal
+
+pub ddl_tree-requires-clause-known : goal.ddl_tree-requires-clause-known
+ddl_tree-requires-clause-known c = c.requires.parent.made
+
+pub ddl_tree-requires-clause-siblings : goal.ddl_tree-requires-clause-siblings
+ddl_tree-requires-clause-siblings c = c.trees_are_together.ensures c.args.stores.now c.requires.may.sound.0 c.args.caller.session c.requires.may.sound.1
+
+pub returns-in-Err : goal.returns-in-Err
+returns-in-Err c = no_memory (λ (u : Unit {0}). u) c.args.stores.now c.args.stores.now c.args.caller (c.args.caller.cmd + 1) (attached_beside c.args.names.now c.args.caller c.args.parent.number c.args.table.number (bound_tree c.args.bound.now)) (stays c.args.stores.now c.args.caller.session)

@@ -1,0 +1,27 @@
+-- Whether a table has the columns of another one (the manual, ALTER TABLE, ATTACH PARTITION).
+use Rattle.std.specs.Prelude.{ℕ, Bool, true, false, ◌&&◌, ◌||◌, not, if◌then◌else◌, List, [], ◌∷◌, bytes_eq}
+use Rattle.pg_values.specs.declared.value.Kind.{Kind}
+use Rattle.pg_values.specs.declared.value.Kind.TheVariants as kinds
+use Rattle.pg_values.specs.declared.fault.Fault.{Fault}
+use Rattle.history.specs.declared.catalogue.Column.{Column}
+use Rattle.attach_statement.specs.Faults.{does_not_match}
+
+abbrev pub same_kind : Kind → Kind → Bool
+same_kind kinds.Int4 kinds.Int4 = true
+same_kind kinds.Int8 kinds.Int8 = true
+same_kind kinds.Text kinds.Text = true
+same_kind kinds.Day kinds.Day = true
+same_kind kinds.Truth kinds.Truth = true
+same_kind k l = false
+
+-- a column for the parent's: of its name and its kind, and NOT NULL where it is
+abbrev pub matches : (parent own : Column) → Bool
+matches p c = bytes_eq p.name c.name && (same_kind p.kind c.kind && (not p.not_null || c.not_null))
+
+-- the first of the parent's columns for which another one, or none, stands in its place, or else the first that the
+-- parent has not
+abbrev pub column_faults : (table : List ℕ) → (parent own : List Column) → List Fault
+column_faults t [] [] = []
+column_faults t [] (c ∷ cs) = does_not_match c.name t ∷ []
+column_faults t (p ∷ ps) [] = does_not_match p.name t ∷ []
+column_faults t (p ∷ ps) (c ∷ cs) = if matches p c then column_faults t ps cs else does_not_match p.name t ∷ []

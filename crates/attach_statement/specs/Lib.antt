@@ -1,0 +1,5 @@
+pub mod Faults
+pub mod Columns
+pub mod Places
+pub mod Attached
+pub mod Asked

@@ -1,0 +1,146 @@
+//! Whether the table may be attached.
+
+ghost use Rattle.std.specs.Prelude.{◌≡◌, ◌==◌, ◌<◌, ◌+◌, IfOk, is_some, length, nat_le};
+ghost use Rattle.std.specs.List.{list_any};
+ghost use Rattle.pg_values.specs.Refusals.{IsAnswer};
+ghost use Rattle.part_bounds.specs.Checks.{or_first, unless};
+ghost use Rattle.pg_ids.specs.declared.which.Which.TheVariants.{Levels};
+ghost use Rattle.history.specs.History.{History};
+ghost use Rattle.tx_table.specs.Stands.{TableStands};
+ghost use Rattle.table_trees.specs.Seen.{seen};
+ghost use Rattle.table_trees.specs.Trees.{height};
+ghost use Rattle.part_catalog.specs.Answers.{AreTogether};
+ghost use Rattle.part_catalog.specs.Stands.{CatalogueStands};
+ghost use Rattle.part_ddl.specs.Below as below;
+ghost use Rattle.part_ddl.specs.Faults.{too_many as levels_passed};
+ghost use Rattle.sql_commands.specs.Trees.{bound_tree};
+ghost use Rattle.course.specs.Attempts.{MayAttempt};
+ghost use Rattle.statement_steps.specs.Steps.{IsStep};
+ghost use Rattle.attach_statement.specs.Asked.{HasPlace, SeesBoth};
+ghost use Rattle.attach_statement.specs.Attached as attached;
+ghost use Rattle.attach_statement.specs.Places.{attach_place, table_faults};
+
+use crate::columns::check_columns;
+use crate::faults::{already_a_partition, is_above, stop_by, too_many};
+use course::{Caller, Stop};
+use part_bounds::Bound;
+use part_catalog::{Catalog, LEVEL_LIMIT};
+use part_ddl::{check_place, parent_level};
+use pg_ids::{TableNo, Which};
+use pg_values::Refusal;
+use sql_commands::BoundText;
+use std::alloc::Global;
+use stores::{Stores, trees_are_together};
+use table_binder::bind_bound;
+use table_trees::{PathPart, Tree, height_up_to};
+use tx_table::TxTable;
+
+fn is_there(found: Option<TableNo>) -> bool
+    ensures { result ≡ is_some found }
+{
+    found.is_some()
+}
+
+fn is_among(table: TableNo, tables: &[TableNo]) -> bool
+    ensures { result ≡ list_any (λ x. x.number == table.number) tables.now }
+{
+    tables.iter().any(|x| x.number == table.number)
+}
+
+// The table is no partition (42809), is not the parent or above it (42P17), and has its columns (42804).
+fn check_table(
+    alloc: Global,
+    catalog: &Catalog,
+    txs: &TxTable,
+    session: u32,
+    parent: TableNo,
+    table: TableNo,
+    tables: &[TableNo],
+) -> Result<(), Refusal>
+    requires parent { parent.number < length catalog.now.tables }
+    requires table { table.number < length catalog.now.tables }
+    requires tables { (h : History) → TableStands txs.now h → CatalogueStands catalog.now h → tables.now ≡ below.tables_from h session table.number }
+    ensures { (h : History) → TableStands txs.now h → CatalogueStands catalog.now h → IsAnswer result (or_first (table_faults h session parent.number table.number) tt) }
+{
+    let name = catalog.name_of(table);
+    if is_there(catalog.parent_of(txs, session, table)) {
+        return Err(Refusal::Sql(already_a_partition(alloc, name)?));
+    }
+    if is_among(parent, tables) {
+        let above = catalog.name_of(parent);
+        return Err(Refusal::Sql(is_above(alloc, name, above)?));
+    }
+    let own = catalog.table(table).columns.as_slice();
+    check_columns(alloc, name, catalog.table(parent).columns.as_slice(), own)
+}
+
+// A path has 8 tables at most.
+fn check_levels(alloc: Global, above: usize, own: &Tree) -> Result<(), Refusal>
+    requires { above < 9 }
+    ensures { IsAnswer result (or_first (unless (nat_le (above + height (seen own.now)) 8) (levels_passed Levels)) tt) }
+{
+    if above + height_up_to(own, LEVEL_LIMIT + 1) > LEVEL_LIMIT {
+        return Err(Refusal::Sql(too_many(alloc, Which::Levels)?));
+    }
+    Ok(())
+}
+
+// The bound of the table below the parent, or the first refusal. The trees of both are given, the path of the parent, and
+// the tables from the other one down.
+fn place_of(
+    alloc: Global,
+    stores: &Stores,
+    session: u32,
+    parent: TableNo,
+    tree: &Tree,
+    path: &[PathPart],
+    table: TableNo,
+    own: &Tree,
+    tables: &[TableNo],
+    bound: &BoundText,
+) -> Result<Bound, Refusal>
+    requires siblings { AreTogether stores.now.txs stores.now.catalog session }
+    requires parent { parent.number < length stores.now.catalog.tables }
+    requires table { table.number < length stores.now.catalog.tables }
+    requires sees { SeesBoth stores.now session parent.number table.number (seen tree.now) (seen own.now) path.now tables.now }
+    ensures answer { (h : History) → TableStands stores.now.txs h → CatalogueStands stores.now.catalog h → IsAnswer result (attach_place h session parent.number table.number (bound_tree bound.now)) }
+    ensures place { IfOk result (λ b. HasPlace stores.now session parent.number table.number b) }
+{
+    let Stores { txs, catalog, .. } = stores;
+    let level = parent_level(alloc, catalog, parent)?;
+    check_table(alloc, catalog, txs, session, parent, table, tables)?;
+    let bound = bind_bound(alloc, bound, level)?;
+    check_place(alloc, catalog, txs, parent, tree, &bound, session)?;
+    check_levels(alloc, path.len(), own)?;
+    Ok(bound)
+}
+
+/// A part: the bound of the table below the parent.
+pub(crate) fn place_found(
+    alloc: Global,
+    stores: &Stores,
+    caller: Caller,
+    parent: TableNo,
+    tree: &Tree,
+    path: &[PathPart],
+    table: TableNo,
+    own: &Tree,
+    tables: &[TableNo],
+    bound: &BoundText,
+) -> Result<Bound, Stop>
+    requires may { MayAttempt stores.now caller }
+    requires parent { parent.number < length stores.now.catalog.tables }
+    requires table { table.number < length stores.now.catalog.tables }
+    requires sees { SeesBoth stores.now caller.session parent.number table.number (seen tree.now) (seen own.now) path.now tables.now }
+    ensures step { IsStep (λ b. b) result stores.now stores.now caller caller.cmd (attached.place_found caller.session parent.number table.number (bound_tree bound.now)) }
+    ensures place { IfOk result (λ b. HasPlace stores.now caller.session parent.number table.number b) }
+{
+    trees_are_together();
+    let session = caller.session;
+    match place_of(
+        alloc, stores, session, parent, tree, path, table, own, tables, bound,
+    ) {
+        Ok(bound) => Ok(bound),
+        Err(refusal) => Err(stop_by(refusal)),
+    }
+}

@@ -1,0 +1,188 @@
+-- Lists of entries in which one stands at another place, with the same bound and of the same two tables.
+use Rattle.std.proofs.Common.{◌≡◌, ℕ, zero, suc, ◌==◌, Bool, true, false, ◌&&◌, List, [], ◌∷◌, ◌++◌, inl, inr, refl, sym, ap, ◌∙◌, subst, arith, filter, map, All}
+use Rattle.std.specs.Ordering.{is_gt, is_lt}
+use Rattle.std.proofs.lemmas.Bool.{cases_Bool}
+use Rattle.std.proofs.lemmas.Bool.Decides.{nat_tests}
+use Rattle.std.proofs.lemmas.List.Elements.{All-nil, All-cons, All-head, All-tail, filter-append}
+use Rattle.part_bounds.specs.declared.partition_bound.Bound.{Bound}
+use Rattle.part_bounds.specs.declared.partition_bound.Bound.TheVariants.{Range, List as Listed, Hash, Default}
+use Rattle.part_bounds.specs.Bounds.{comes_after, overlaps, are_siblings, is_filled}
+use Rattle.part_bounds.specs.Points.{point_order}
+use Rattle.part_bounds.proofs.PointOrder.{point_total}
+use Rattle.part_bounds.proofs.TotalOrder.{gt-le, le_trans, lt-gt}
+use Rattle.part_bounds.proofs.OverlapLaws.{overlap_of_filled}
+use Rattle.part_bounds.proofs.ListedLaws.{shared_least}
+use Rattle.part_bounds.proofs.Residues.{meets_self}
+use Rattle.part_bounds.proofs.PlainOrder.{plain_total, either_order}
+use Rattle.history.specs.declared.catalogue.Entry.{Entry}
+use Rattle.history.specs.declared.catalogue.Table.{Table}
+use Rattle.history.specs.Places.{table_at}
+use Rattle.table_trees.specs.Trees.{TableTree}
+use Rattle.table_trees.specs.Histories.{placed, all_placed, is_under, children, bound_of, child_of_entry, node_at, grown, tree_within}
+
+-- ---- two entries that are placed
+
+placed_first : (e x : Entry) (xs : List Entry) → comes_after x.bound e.bound ≡ true → placed e (x ∷ xs) ≡ e ∷ (x ∷ xs)
+placed_first e x xs is = rw is refl
+
+placed_later : (e x : Entry) (xs : List Entry) → comes_after x.bound e.bound ≡ false → placed e (x ∷ xs) ≡ x ∷ placed e xs
+placed_later e x xs is = rw is refl
+
+two_placed : (a b : Entry) (xs : List Entry) → comes_after b.bound a.bound ≡ true → placed a (placed b xs) ≡ placed b (placed a xs)
+two_placed a b [] h = placed_first a b [] h ∙ sym (placed_later b a [] (gt-le plain_total b.bound a.bound h))
+two_placed a b (c ∷ cs) h = by (comes_after c.bound a.bound) refl (comes_after c.bound b.bound) refl (two_placed a b cs h)
+  where
+    turned : comes_after a.bound b.bound ≡ false
+    turned = gt-le plain_total b.bound a.bound h
+
+    by : (s : Bool) → comes_after c.bound a.bound ≡ s → (t : Bool) → comes_after c.bound b.bound ≡ t → placed a (placed b cs) ≡ placed b (placed a cs) → placed a (placed b (c ∷ cs)) ≡ placed b (placed a (c ∷ cs))
+    by true e true f rest =
+        ap (placed a) (placed_first b c cs f) ∙ placed_first a b (c ∷ cs) h
+        ∙ sym (ap (placed b) (placed_first a c cs e) ∙ placed_later b a (c ∷ cs) turned ∙ ap (λ l. a ∷ l) (placed_first b c cs f))
+    by true e false f rest =
+        ap (placed a) (placed_later b c cs f) ∙ placed_first a c (placed b cs) e
+        ∙ sym (ap (placed b) (placed_first a c cs e) ∙ placed_later b a (c ∷ cs) turned ∙ ap (λ l. a ∷ l) (placed_later b c cs f))
+    by false e t f rest =
+        let g = le_trans plain_total c.bound a.bound b.bound e turned in
+        ap (placed a) (placed_later b c cs g) ∙ placed_later a c (placed b cs) e ∙ ap (λ l. c ∷ l) rest
+        ∙ sym (ap (placed b) (placed_later a c cs e) ∙ placed_later b c (placed a cs) g)
+
+-- a bound that is not empty overlaps itself
+self_overlaps : (b : Bound) → is_filled b ≡ true → overlaps b b ≡ true
+self_overlaps (Range l u) f =
+    let ended : is_gt (point_order u l) ≡ true = sym (lt-gt point_total l u) ∙ f in
+    let both : is_lt (point_order l u) && is_gt (point_order u l) ≡ true = rw (f, ended) refl in
+    overlap_of_filled l u l u f f ∙ both
+self_overlaps (Listed values) f = elim (cases_Bool (comes_after (Listed values) (Listed values))) [
+  | inl y ↦ absurd (let n : comes_after (Listed values) (Listed values) ≡ false = gt-le plain_total (Listed values) (Listed values) y in let c : true ≡ false = sym y ∙ n in cc)
+  | inr n ↦ shared_least values values f f n n
+]
+self_overlaps (Hash m r) f = rw (meets_self m r) refl
+self_overlaps Default f = refl
+
+abbrev pub IsApart : Entry → Entry → Type 0
+IsApart a b = (are_siblings a.bound b.bound ≡ true) × (overlaps a.bound b.bound ≡ false) × (is_filled a.bound ≡ true) × (is_filled b.bound ≡ true)
+
+heads_same : (a b : Bound) → (b ∷ (a ∷ [])) ≡ (a ∷ (b ∷ [])) → b ≡ a
+heads_same a b e = cc
+
+-- neither stands behind the other
+not_beside : (a b : Entry) → IsApart a b → comes_after b.bound a.bound ≡ false → comes_after a.bound b.bound ≡ false → ⊥
+not_beside a b apart n m =
+    let order = either_order a.bound b.bound [] apart.0 apart.1 apart.2 apart.3 in
+    let same : b.bound ≡ a.bound = heads_same a.bound b.bound (rw (n, m) at order) in
+    let over : overlaps a.bound b.bound ≡ true = subst (λ (z : Bound). overlaps a.bound z ≡ true) (sym same) (self_overlaps a.bound apart.2) in
+    absurd (let c : true ≡ false = sym over ∙ apart.1 in cc)
+
+apart_placed : (a b : Entry) (xs : List Entry) → IsApart a b → placed a (placed b xs) ≡ placed b (placed a xs)
+apart_placed a b xs apart = elim (cases_Bool (comes_after b.bound a.bound)) [
+  | inl y ↦ two_placed a b xs y
+  | inr n ↦ elim (cases_Bool (comes_after a.bound b.bound)) [
+    | inl z ↦ sym (two_placed b a xs z)
+    | inr m ↦ absurd (not_beside a b apart n m)
+  ]
+]
+
+-- ---- one that is placed among many
+
+one_more : (e : Entry) (done es : List Entry) → All (IsApart e) es → all_placed (placed e done) es ≡ placed e (all_placed done es)
+one_more e done [] apart = refl
+one_more e done (x ∷ xs) apart =
+    ap (λ (d : List Entry). all_placed d xs) (sym (apart_placed e x done (All-head (IsApart e) x xs apart))) ∙ one_more e (placed x done) xs (All-tail (IsApart e) x xs apart)
+
+placed_append : (done xs ys : List Entry) → all_placed done (xs ++ ys) ≡ all_placed (all_placed done xs) ys
+placed_append done [] ys = refl
+placed_append done (x ∷ xs) ys = placed_append (placed x done) xs ys
+
+among : (e : Entry) (before after : List Entry) → All (IsApart e) after → all_placed [] (before ++ (e ∷ after)) ≡ placed e (all_placed [] (before ++ after))
+among e before after apart =
+    placed_append [] before (e ∷ after) ∙ (one_more e (all_placed [] before) after apart ∙ ap (placed e) (sym (placed_append [] before after)))
+
+last : (e : Entry) (xs : List Entry) → all_placed [] (xs ++ (e ∷ [])) ≡ placed e (all_placed [] xs)
+last e xs = placed_append [] xs (e ∷ [])
+
+alike : {Y : Type 0} (f : Entry → Y) (a b : Entry) (xs : List Entry) → a.bound ≡ b.bound → f a ≡ f b → map f (placed a xs) ≡ map f (placed b xs)
+alike f a b [] bound same = ap (λ y. y ∷ []) same
+alike f a b (x ∷ xs) bound same = elim (cases_Bool (comes_after x.bound a.bound)) [
+  | inl y ↦ ap (map f) (placed_first a x xs y) ∙ (ap (λ z. z ∷ map f (x ∷ xs)) same ∙ sym (ap (map f) (placed_first b x xs (subst (λ (z : Bound). comes_after x.bound z ≡ true) bound y))))
+  | inr n ↦ ap (map f) (placed_later a x xs n) ∙ (ap (λ zs. f x ∷ zs) (alike f a b xs bound same) ∙ sym (ap (map f) (placed_later b x xs (subst (λ (z : Bound). comes_after x.bound z ≡ false) bound n))))
+]
+
+-- ---- below one table
+
+-- where they stand below the same table
+abbrev pub StandsApart : Entry → Entry → Type 0
+StandsApart e x = e.parent.number ≡ x.parent.number → IsApart e x
+
+same_number : (n m : ℕ) → (n == m) ≡ true → n ≡ m
+same_number n m is = grind (arith, nat_tests, is)
+
+apart_below : (t : ℕ) (e : Entry) (es : List Entry) → is_under t e ≡ true → All (StandsApart e) es → All (IsApart e) (filter (is_under t) es)
+apart_below t e [] is all = All-nil (IsApart e)
+apart_below t e (x ∷ xs) is all = elim (cases_Bool (is_under t x)) [
+  | inl y ↦
+      let parent : e.parent.number ≡ x.parent.number = same_number e.parent.number t is ∙ sym (same_number x.parent.number t y) in
+      rw y (All-cons (IsApart e) x (filter (is_under t) xs) (All-head (StandsApart e) x xs all parent) (apart_below t e xs is (All-tail (StandsApart e) x xs all)))
+  | inr n ↦ rw n (apart_below t e xs is (All-tail (StandsApart e) x xs all))
+]
+
+module _ (old again : Entry) (before after : List Entry) (parent : again.parent.number ≡ old.parent.number) (child : again.child.number ≡ old.child.number) (bound : again.bound ≡ old.bound) (apart : All (StandsApart old) after) where
+  abbrev moved : List Entry
+  moved = (before ++ after) ++ (again ∷ [])
+
+  abbrev stayed : List Entry
+  stayed = before ++ (old ∷ after)
+
+  abbrev under : (t : ℕ) → List Entry
+  under t = filter (is_under t) before ++ filter (is_under t) after
+
+  both_under : (t : ℕ) → filter (is_under t) (before ++ after) ≡ under t
+  both_under t = filter-append (is_under t) before after
+
+  here_with : (t : ℕ) → is_under t again ≡ true → children moved t ≡ placed again (all_placed [] (under t))
+  here_with t y =
+      let tail : filter (is_under t) (again ∷ []) ≡ again ∷ [] = rw y refl in
+      ap (all_placed []) (filter-append (is_under t) (before ++ after) (again ∷ []) ∙ (ap (λ (xs : List Entry). xs ++ filter (is_under t) (again ∷ [])) (both_under t) ∙ ap (λ (ys : List Entry). under t ++ ys) tail)) ∙ last again (under t)
+
+  here_without : (t : ℕ) → is_under t old ≡ true → children stayed t ≡ placed old (all_placed [] (under t))
+  here_without t y =
+      let tail : filter (is_under t) (old ∷ after) ≡ old ∷ filter (is_under t) after = rw y refl in
+      ap (all_placed []) (filter-append (is_under t) before (old ∷ after) ∙ ap (λ (ys : List Entry). filter (is_under t) before ++ ys) tail) ∙ among old (filter (is_under t) before) (filter (is_under t) after) (apart_below t old after y apart)
+
+  nothing_behind : (xs : List Entry) → xs ++ [] ≡ xs
+  nothing_behind [] = refl
+  nothing_behind (x ∷ xs) = ap (λ (ys : List Entry). x ∷ ys) (nothing_behind xs)
+
+  there_with : (t : ℕ) → is_under t again ≡ false → children moved t ≡ all_placed [] (under t)
+  there_with t n =
+      let tail : filter (is_under t) (again ∷ []) ≡ [] = rw n refl in
+      ap (all_placed []) (filter-append (is_under t) (before ++ after) (again ∷ []) ∙ (ap (λ (xs : List Entry). xs ++ filter (is_under t) (again ∷ [])) (both_under t) ∙ (ap (λ (ys : List Entry). under t ++ ys) tail ∙ nothing_behind (under t))))
+
+  there_without : (t : ℕ) → is_under t old ≡ false → children stayed t ≡ all_placed [] (under t)
+  there_without t n =
+      let tail : filter (is_under t) (old ∷ after) ≡ filter (is_under t) after = rw n refl in
+      ap (all_placed []) (filter-append (is_under t) before (old ∷ after) ∙ ap (λ (ys : List Entry). filter (is_under t) before ++ ys) tail)
+
+  below_alike : {Y : Type 0} (f : Entry → Y) (t : ℕ) → f again ≡ f old → map f (children moved t) ≡ map f (children stayed t)
+  below_alike f t same = elim (cases_Bool (is_under t again)) [
+    | inl y ↦
+        let z : is_under t old ≡ true = ap (λ (n : ℕ). n == t) (sym parent) ∙ y in
+        ap (map f) (here_with t y) ∙ (alike f again old (all_placed [] (under t)) bound same ∙ sym (ap (map f) (here_without t z)))
+    | inr n ↦
+        let m : is_under t old ≡ false = ap (λ (k : ℕ). k == t) (sym parent) ∙ n in
+        ap (map f) (there_with t n) ∙ sym (ap (map f) (there_without t m))
+  ]
+
+  maps_agree : (f g : Entry → TableTree) → ((x : Entry) → f x ≡ g x) → (xs : List Entry) → map f xs ≡ map g xs
+  maps_agree f g same [] = refl
+  maps_agree f g same (x ∷ xs) = ap (λ (t : TableTree). t ∷ map f xs) (same x) ∙ ap (λ (ts : List TableTree). g x ∷ ts) (maps_agree f g same xs)
+
+  pub trees_alike : (tables : List Table) (n named t : ℕ) → tree_within n tables moved named t ≡ tree_within n tables stayed named t
+  trees_alike tables zero named t = refl
+  trees_alike tables (suc n) named t =
+      let f : Entry → TableTree = λ e. tree_within n tables moved named (child_of_entry e) in
+      let g : Entry → TableTree = λ e. tree_within n tables stayed named (child_of_entry e) in
+      let kids : map f (children moved t) ≡ map g (children stayed t) =
+      maps_agree f g (λ x. trees_alike tables n named (child_of_entry x)) (children moved t) ∙ below_alike g t (ap (tree_within n tables stayed named) child) in
+      ap (λ (bs : List Bound). grown (table_at tables t).shape (node_at tables named t) bs (map f (children moved t))) (below_alike bound_of t bound)
+      ∙ ap (λ (ts : List TableTree). grown (table_at tables t).shape (node_at tables named t) (map bound_of (children stayed t)) ts) kids

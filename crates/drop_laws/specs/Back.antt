@@ -1,0 +1,37 @@
+-- What DETACH and ATTACH of one partition leave as it was (the manual, ALTER TABLE).
+use Rattle.std.specs.Prelude.{◌≡◌, ℕ, true, ◌∷◌, None, length}
+use Rattle.std.specs.List.{Contains}
+use Rattle.history.specs.declared.catalogue.Entry.{Entry}
+use Rattle.history.specs.declared.catalogue.Stamp.{Stamp}
+use Rattle.history.specs.Transactions.{fate, is_committed}
+use Rattle.history.specs.Snapshots.{TakenSnapshot}
+use Rattle.history.specs.Catalogue.{EntryAdded, EntryEnded, entries_added, entry_ends, marks, counted_of}
+use Rattle.history.specs.History.{History, tx_events, row_events, catalogue_events, seen}
+use Rattle.history.specs.Legal.{IsLegal}
+use Rattle.table_trees.specs.Histories.{tree_of}
+use Rattle.soundness.specs.Legal.{ArePermitted}
+
+-- the one history is the other with two events more, of transactions that have committed: the entry by which a table is a
+-- partition, which was not pending, ended, and it became a partition of the same table again, with the same bound
+pub record IsBackAgain (g h : History) : Type 0 where
+  pub old : Entry
+  pub again : Entry
+  pub stamp : Stamp
+  pub transactions : tx_events g ≡ tx_events h
+  pub rows : row_events g ≡ row_events h
+  pub changes : catalogue_events g ≡ EntryAdded again ∷ (EntryEnded old.id.number stamp ∷ catalogue_events h)
+  pub parent : again.parent.number ≡ old.parent.number
+  pub child : again.child.number ≡ old.child.number
+  pub bound : again.bound ≡ old.bound
+  pub number : again.id.number ≡ length (entries_added (catalogue_events h))
+  pub there : Contains (entries_added (catalogue_events h)) old
+  pub committed : is_committed (fate (tx_events h) old.by.number) ≡ true
+  pub standing : counted_of (tx_events h) (entry_ends (catalogue_events h)) old.id.number ≡ None
+  pub unmarked : counted_of (tx_events h) (marks (catalogue_events h)) old.id.number ≡ None
+  pub detached : is_committed (fate (tx_events h) stamp.by.number) ≡ true
+  pub attached : is_committed (fate (tx_events h) again.by.number) ≡ true
+
+-- so each session finds the same tree of each table, and each snapshot sees the same rows, of which the answer to a query is
+-- made
+abbrev pub DetachAndAttachShowTheSame : Type 0
+DetachAndAttachShowTheSame = (g h : History) (session table leaf : ℕ) (s : TakenSnapshot) → IsLegal h → ArePermitted h → IsBackAgain g h → (tree_of g session table s ≡ tree_of h session table s) × (seen g leaf s ≡ seen h leaf s)

@@ -1,0 +1,63 @@
+-- Which rows may not be in a table that becomes a partition, and in the default partition beside a new one (the manual,
+-- ALTER TABLE, ATTACH PARTITION, and 5.11.2).
+use Rattle.std.specs.Prelude.{ℕ, Bool, not, ◌||◌, is_some, List, [], ◌∷◌, Option, Some, None, codes}
+use Rattle.pg_values.specs.declared.fault.Fault.{Fault}
+use Rattle.pg_values.specs.declared.value.Value.{Value}
+use Rattle.pg_ids.specs.declared.ids.TableNo.{TableNo}
+use Rattle.value_rules.specs.FaultTexts.{fault_of}
+use Rattle.part_bounds.specs.declared.partition_bound.Bound.{Bound}
+use Rattle.part_bounds.specs.Accepts.{accepts, accepts_among}
+use Rattle.history.specs.History.{History, catalogue_events}
+use Rattle.table_trees.specs.Histories.{ddl_tree, path_of}
+use Rattle.table_trees.specs.Trees.{leaves}
+use Rattle.row_router.specs.declared.path.PathTest.TheVariants.{Bounds, Checks}
+use Rattle.row_router.specs.Paths.{refused}
+use Rattle.part_catalog.specs.Found.{made_at}
+use Rattle.part_ddl.specs.Placing.{bounds_below}
+use Rattle.row_change.specs.RowTexts.{row_text}
+use Rattle.soundness.specs.Worlds.{key_at}
+use Rattle.partition_scans.specs.Fitting.{is_row_of}
+use Rattle.partition_scans.specs.Scans.{Scan}
+
+-- ---- the texts
+
+-- `<t> has the row <row> outside its new bounds`
+abbrev pub outside_new_bounds : (table : List ℕ) → List Value → Fault
+outside_new_bounds t row = fault_of (codes "23514") (codes "<t> has the row <row> outside its new bounds" ∷ t ∷ row_text row ∷ [])
+
+-- `default <d> has the row <row> for <p>`
+abbrev pub default_has_row : (default partition : List ℕ) → List Value → Fault
+default_has_row d p row = fault_of (codes "23514") (codes "default <d> has the row <row> for <p>" ∷ d ∷ row_text row ∷ p ∷ [])
+
+-- ---- a table that becomes a partition
+
+-- a place above the parent, or a CHECK that was kept there, refuses the row
+abbrev pub is_refused_above : History → (session parent : ℕ) → List Value → Bool
+is_refused_above h s p row = is_some (refused Bounds row (path_of h s p)) || is_some (refused Checks row (path_of h s p))
+
+-- the new bound, among those of its siblings, does not accept the row, or it is refused above; and so is what is no row of
+-- the parent's columns
+abbrev pub breaks_place : History → (session parent : ℕ) → Bound → List Value → Bool
+breaks_place h s p b row =
+    not (is_row_of (made_at h p).columns row) || (not (accepts_among (bounds_below h s p) (key_at (catalogue_events h) p row) b) || is_refused_above h s p row)
+
+abbrev pub place_scan : History → (session parent table : ℕ) → Bound → Scan
+place_scan h s p t b = record {
+  leaves = leaves (ddl_tree h s t);
+  breaks = breaks_place h s p b;
+  fault = outside_new_bounds (made_at h t).name;
+}
+
+-- ---- the default partition beside it
+
+-- the new bound accepts the row; and so is what is no row of the parent's columns
+abbrev pub breaks_default : History → (parent : ℕ) → Bound → List Value → Bool
+breaks_default h p b row = not (is_row_of (made_at h p).columns row) || accepts (key_at (catalogue_events h) p row) b
+
+abbrev pub default_scan : History → (session parent : ℕ) → Bound → (name : List ℕ) → Option TableNo → List Scan
+default_scan h s p b name None = []
+default_scan h s p b name (Some d) = record {
+  leaves = leaves (ddl_tree h s d.number);
+  breaks = breaks_default h p b;
+  fault = default_has_row (made_at h d.number).name name;
+} ∷ []

@@ -1,0 +1,23 @@
+//! What the rows of tables say of a new partition.
+//!
+//! In PostgreSQL a table that is attached is scanned for a row outside its new bounds, and the default partition
+//! beside a new one for a row that goes there from then on. The rows that are visible to nobody but to old
+//! snapshots are passed over, though such a snapshot would come to see them in the wrong place.
+//!
+//! Here they count too. A row that is live, or that the session's own open snapshot sees, refuses the statement,
+//! the first one in plain order. Where only other sessions' open snapshots see such a row, the statement waits
+//! until they have gone, and then begins anew. A test of rows is a `RowTest` over what is known of the parent: its
+//! columns, its level, the bounds below it and the path above it.
+#![tactic(auto)]
+
+mod default_rows;
+mod faults;
+mod fitting;
+mod judging;
+mod low;
+mod new_rows;
+mod scans;
+mod texts;
+
+pub use judging::{judge_default, judge_table};
+pub use scans::wait_for_snapshots;
