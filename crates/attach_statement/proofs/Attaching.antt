@@ -1,11 +1,10 @@
 -- The entry by which a table becomes a partition.
-use Rattle.std.proofs.Common.{◌≡◌, ℕ, ◌+◌, ◌<◌, ◌&&◌, ◌||◌, not, Bool, true, false, List, [], ◌∷◌, ◌++◌, ◌⊎◌, inl, inr, refl, sym, ap, ◌∙◌, subst, arith, Option, Some, None, Ok, Err, All, map, length}
+use Rattle.std.proofs.Common.{◌≡◌, ℕ, ◌+◌, ◌<◌, ◌&&◌, ◌||◌, not, Bool, true, false, List, [], ◌∷◌, ◌⊎◌, inl, inr, refl, sym, ap, ◌∙◌, subst, arith, Option, Some, None, Ok, Err, map, length}
 use Rattle.std.specs.Prelude.{is_some, ◌≤◌}
 use Rattle.std.specs.List.{Contains, list_any}
 use Rattle.std.proofs.lemmas.List.{length-map}
 use Rattle.std.proofs.lemmas.List.Elements.{All-contains}
 use Rattle.pg_values.specs.declared.value.Value.{Value}
-use Rattle.pg_ids.specs.Sets.{has}
 use Rattle.pg_ids.specs.declared.ids.TableNo.{TableNo}
 use Rattle.pg_ids.specs.declared.lock_mode.LockMode.TheVariants.{ShareUpdateExclusive, AccessExclusive}
 use Rattle.part_bounds.specs.declared.partition_bound.Bound.{Bound}
@@ -14,21 +13,17 @@ use Rattle.history.specs.declared.transaction.TxId.{TxId}
 use Rattle.history.specs.declared.version.Version.{Version}
 use Rattle.history.specs.declared.catalogue.Entry.{Entry}
 use Rattle.history.specs.Transactions.{open_of, session_of}
-use Rattle.history.specs.Catalogue.{EntryAdded, tables_made, entries_added}
+use Rattle.history.specs.Catalogue.{EntryAdded, entries_added}
 use Rattle.history.specs.Locks.{holds}
 use Rattle.history.specs.History.{History, CatalogueChange, tx_events, lock_events, catalogue_events}
-use Rattle.history.specs.Places.{Suits}
 use Rattle.history.specs.Presence.{entries_present}
 use Rattle.history.proofs.Open.{open_own}
-use Rattle.table_trees.specs.Histories.{table_of, bound_of, path_of, ddl_tree}
+use Rattle.table_trees.specs.Histories.{bound_of, path_of}
 use Rattle.table_trees.specs.Siblings.{AreSiblings, CanStandTogether}
-use Rattle.table_trees.specs.Trees.{leaves}
 use Rattle.row_router.specs.declared.path.PathTest.TheVariants.{Bounds, Checks}
 use Rattle.row_router.specs.Paths.{refused}
-use Rattle.row_store.specs.Judged.{refusing}
 use Rattle.tx_table.specs.Stands.{TableStands}
-use Rattle.row_store.specs.Stands.{StoreStands}
-use Rattle.part_catalog.specs.Found.{made_at, table_number}
+use Rattle.part_catalog.specs.Found.{made_at}
 use Rattle.part_catalog.specs.Full.{EntryRefused, MayAdd, partitions, levels}
 use Rattle.part_catalog.specs.Kept.{KeptCatalogue, entry_in, next_entry}
 use Rattle.part_catalog.specs.Stands.{CatalogueStands}
@@ -37,7 +32,7 @@ use Rattle.part_ddl.specs.Laws.{PassedHavePlaces, IsNoDefaultBeside}
 use Rattle.part_ddl.specs.Placing.{partitions_of, bounds_below}
 use Rattle.part_ddl.proofs.Making.{table_count}
 use Rattle.soundness.specs.Laws.{SessionsHaveSiblings}
-use Rattle.soundness.specs.Legal.{Has, HasTable, Takes}
+use Rattle.soundness.specs.Legal.{Takes}
 use Rattle.soundness.specs.Worlds.{key_at}
 use Rattle.soundness.proofs.Listed.{child_listed, none_in, cases_in}
 use Rattle.soundness.proofs.Sound.{catalogue_sound_of}
@@ -62,7 +57,7 @@ use Rattle.partition_scans.specs.Fitting.{is_row_of}
 use Rattle.partition_scans.specs.Places.{breaks_place, is_refused_above, place_scan, default_scan}
 use Rattle.partition_scans.specs.Scans.{IsClean}
 use Rattle.partition_scans.proofs.Cleaning.{clean_first, clean_rest}
-use Rattle.table_statements.specs.Asked.{IsLocked, IsLockedNamed, HasDefaultLocked, AreLocked}
+use Rattle.table_statements.specs.Asked.{IsLocked}
 use Rattle.table_statements.specs.Tables.{own}
 use Rattle.table_statements.proofs.Below.{from_numbers, unmapped_in}
 use Rattle.table_statements.proofs.Beside.{stands_apart}

@@ -1,5 +1,5 @@
 -- The locks of ATTACH PARTITION, and what stays so while more are got.
-use Rattle.std.proofs.Common.{◌≡◌, ℕ, ◌<◌, ◌≤◌, ◌==◌, ◌&&◌, ◌||◌, Bool, true, false, List, [], ◌++◌, refl, ap, sym, ◌∙◌, subst, arith, append-nil, Option, Some, None, Result, Ok, Err, All, IfOk, map, length, slice_index_or}
+use Rattle.std.proofs.Common.{◌≡◌, ℕ, ◌<◌, ◌==◌, ◌&&◌, ◌||◌, Bool, true, List, ◌++◌, refl, ap, sym, ◌∙◌, subst, arith, append-nil, Option, Some, None, Result, Ok, Err, All, IfOk, map, length, slice_index_or}
 use Rattle.std.proofs.lemmas.Bool.Decides.{nat_tests}
 use Rattle.pg_ids.specs.Modes.{same_mode, rank}
 use Rattle.pg_ids.specs.declared.ids.TableNo.{TableNo}
@@ -16,7 +16,6 @@ use Rattle.part_catalog.specs.Found.{resolved}
 use Rattle.part_catalog.specs.Stands.{CatalogueStands}
 use Rattle.part_bounds.specs.declared.partition_bound.Bound.{Bound}
 use Rattle.part_ddl.specs.Below.{tables_from, IsTreeOf}
-use Rattle.stores.specs.Stand.{Stands}
 use Rattle.stores.specs.declared.stores.Stores.{Stores}
 use Rattle.course.specs.Made.{Made, Halt, then_told}
 use Rattle.course.specs.Attempts.{MayAttempt, LocksStay}

@@ -1,8 +1,7 @@
 -- The place of a table that is attached.
-use Rattle.std.proofs.Common.{◌≡◌, ℕ, zero, suc, ◌+◌, ◌<◌, ◌≤◌, ◌==◌, ◌||◌, not, Bool, true, false, List, [], ◌∷◌, ◌++◌, inl, inr, refl, sym, ap, subst, ◌∙◌, arith, Option, Some, None, Result, Ok, Err, length, map, min}
-use Rattle.std.specs.Prelude.{is_none, is_some, nat_le, nat_lt}
+use Rattle.std.proofs.Common.{◌≡◌, ℕ, zero, suc, ◌+◌, ◌≤◌, ◌==◌, ◌||◌, not, Bool, true, false, List, [], ◌∷◌, ◌++◌, inl, inr, refl, sym, ap, subst, ◌∙◌, arith, Option, Some, None, Result, Ok, Err, length}
+use Rattle.std.specs.Prelude.{is_none, nat_le, nat_lt}
 use Rattle.std.specs.List.{Contains, list_any}
-use Rattle.std.proofs.lemmas.Bool.{cases_Bool}
 use Rattle.std.proofs.lemmas.Bool.Decides.{nat_tests}
 use Rattle.pg_values.specs.Refusals.{IsAnswer}
 use Rattle.pg_values.specs.declared.fault.Fault.{Fault}
@@ -29,7 +28,7 @@ use Rattle.part_catalog.specs.Found.{made_at}
 use Rattle.part_catalog.specs.Full.{tables_up, tables_above}
 use Rattle.part_ddl.specs.Below.{tables_from}
 use Rattle.part_ddl.specs.Faults.{too_many}
-use Rattle.part_ddl.specs.Placing.{level_at, partitions_of, pending_name, names_below, bounds_below, bound_faults, levels_with, room_faults, place_faults}
+use Rattle.part_ddl.specs.Placing.{level_at, partitions_of, pending_name, names_below, bounds_below, bound_faults, place_faults}
 use Rattle.expression_binder.specs.Firsts.{IsAnswerBy}
 use Rattle.legal_statements.specs.Below.{numbers_from}
 use Rattle.table_statements.specs.Refused.{next_answer, unless_faults}

@@ -1,5 +1,5 @@
 -- The rows of the table and those of the default partition, one scan after the other.
-use Rattle.std.proofs.Common.{◌≡◌, ℕ, zero, suc, ◌<◌, ◌≤◌, ◌^◌, ◌==◌, ◌||◌, Bool, true, false, List, [], ◌∷◌, ◌++◌, inl, inr, refl, sym, ap, ◌∙◌, subst, arith, append-nil, Result, Ok, Err, IfOk}
+use Rattle.std.proofs.Common.{◌≡◌, ℕ, zero, suc, ◌<◌, ◌≤◌, ◌==◌, ◌||◌, Bool, true, false, List, [], ◌∷◌, ◌++◌, inl, inr, refl, sym, ap, ◌∙◌, subst, arith, Ok, Err}
 use Rattle.std.specs.Int.{bit_at}
 use Rattle.std.proofs.lemmas.Grind.{common_steps}
 use Rattle.std.proofs.lemmas.Bool.{cases_Bool, cases_lt}
@@ -14,8 +14,7 @@ use Rattle.pg_ids.specs.declared.session_set.SessionSet.{SessionSet}
 use Rattle.pg_ids.proofs.Bits.{set_has}
 use Rattle.part_bounds.specs.Checks.{or_first}
 use Rattle.part_bounds.specs.declared.partition_bound.Bound.{Bound}
-use Rattle.history.specs.History.{History, catalogue_events}
-use Rattle.history.specs.Catalogue.{tables_made}
+use Rattle.history.specs.History.{History}
 use Rattle.history.specs.Places.{table_at, TakesBound}
 use Rattle.history.specs.declared.catalogue.Table.{Table}
 use Rattle.row_store.specs.Judged.{seeing, refusing}

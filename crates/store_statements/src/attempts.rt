@@ -67,15 +67,9 @@ fn attempt_command(
             drop_tables(alloc, stores, names, caller, *if_there, tables.as_slice())
         }
         Command::Attach(parent, name, bound) => {
-            attach(
-                alloc,
-                stores,
-                names,
-                caller,
-                parent.as_bytes(),
-                name.as_bytes(),
-                bound,
-            )
+            let above = parent.as_bytes();
+            let table = name.as_bytes();
+            attach(alloc, stores, names, caller, above, table, bound)
         }
         Command::Detach(parent, name, Detachment::AtOnce) => {
             detach(

@@ -1,4 +1,4 @@
-use Rattle.std.proofs.Common.{◌+◌, ◌≡◌, Ok, Err}
+use Rattle.std.proofs.Common.{◌+◌, Ok}
 use Rattle.history.specs.History.{History}
 use Rattle.stores.specs.Stand.{Stands}
 use Rattle.partition_scans.specs.Data.{DataStand}

@@ -38,8 +38,8 @@ returns-in-DropTables c =
 pub returns-in-Attach : goal.returns-in-Attach
 returns-in-Attach c =
     let i = c.in-Attach in
-    let parented = subst (λ (p : List ℕ). IsStep (λ (u : Unit {0}). u) c.attach.result c.args.stores.now c.attach.new.stores c.args.caller (c.args.caller.cmd + 1) (attached c.args.names.now c.args.caller p c.as_bytes-in-Attach.result.now (bound_tree i.bound))) c.as_bytes.ensures c.attach.ensures in
-    let step = subst (λ (n : List ℕ). IsStep (λ (u : Unit {0}). u) c.attach.result c.args.stores.now c.attach.new.stores c.args.caller (c.args.caller.cmd + 1) (attached c.args.names.now c.args.caller i.parent n (bound_tree i.bound))) c.as_bytes-in-Attach.ensures parented in
+    let parented = subst (λ (p : List ℕ). IsStep (λ (u : Unit {0}). u) c.attach.result c.args.stores.now c.attach.new.stores c.args.caller (c.args.caller.cmd + 1) (attached c.args.names.now c.args.caller p c.as_bytes-table.result.now (bound_tree i.bound))) c.as_bytes-above.ensures c.attach.ensures in
+    let step = subst (λ (n : List ℕ). IsStep (λ (u : Unit {0}). u) c.attach.result c.args.stores.now c.attach.new.stores c.args.caller (c.args.caller.cmd + 1) (attached c.args.names.now c.args.caller i.parent n (bound_tree i.bound))) c.as_bytes-table.ensures parented in
     let is = silent_is c.attach.result c.args.stores.now c.attach.new.stores c.args.caller (attached c.args.names.now c.args.caller i.parent i.name (bound_tree i.bound)) c.args.out.now step in
     subst (λ (x : Command). IsStatement c.attach.result c.args.stores.now c.attach.new.stores c.args.out.now c.args.out.now c.args.caller (command_attempted c.args.names.now c.args.caller (command_tree x))) (sym i.is) is
 

@@ -1,5 +1,4 @@
 use Rattle.std.proofs.Common.{◌+◌}
-use Rattle.table_statements.specs.Asked.{MayBeMade}
 use Rattle.sql_commands.specs.Trees.{bound_tree}
 use Rattle.statement_steps.proofs.Steps.{then_step, stop_step}
 use Rattle.table_statements.specs.Seen.{seen_place}

@@ -4,9 +4,7 @@ use Rattle.history.specs.Places.{table_at, TakesBound}
 use Rattle.history.specs.History.{History}
 use Rattle.tx_table.specs.Stands.{TableStands}
 use Rattle.part_catalog.specs.Stands.{CatalogueStands}
-use Rattle.part_ddl.specs.Below.{IsTreeOf}
 use Rattle.stores.specs.declared.stores.Stores.{Stores}
-use Rattle.table_trees.specs.Seen.{seen}
 use Rattle.statement_steps.specs.Steps.{IsStep}
 use Rattle.statement_steps.proofs.Parts.{no_memory}
 use Rattle.statement_steps.proofs.Steps.{then_step, stop_step, may_go_on}

@@ -1,4 +1,3 @@
-use Rattle.std.proofs.Common.{false, sym, ◌∙◌, subst}
 use Rattle.part_ddl.specs.Below.{default_of}
 use Rattle.partition_scans.specs.Places.{default_scan}
 use Rattle.partition_scans.proofs.Cleaning.{found_clean, own_never}
