@@ -61,14 +61,12 @@ fn kind_called(name: &[u8]) -> Option<Kind> {
     None
 }
 
-/// Writes the parameters of a statement that is prepared and executed: as many as there are arguments.
-pub(crate) fn write_bound(
+/// What is declared of as many parameters as there are arguments.
+fn declared_of(
     alloc: Global,
     names: &[PgText],
-    statement: &RowStatement,
     arguments: &ExprList,
-    out: &mut Vec<u8>,
-) -> Result<(), Refusal> {
+) -> Result<Vec<Option<Kind>>, NoMemory> {
     let mut declared = Vec::new(alloc);
     for (place, _) in arguments.as_slice().iter().enumerate() {
         let kind = match names.get(place) {
@@ -77,6 +75,18 @@ pub(crate) fn write_bound(
         };
         declared.push(kind)?;
     }
+    Ok(declared)
+}
+
+/// Writes the parameters of a statement that is prepared and executed.
+pub(crate) fn write_bound(
+    alloc: Global,
+    names: &[PgText],
+    statement: &RowStatement,
+    arguments: &ExprList,
+    out: &mut Vec<u8>,
+) -> Result<(), Refusal> {
+    let declared = declared_of(alloc, names, arguments)?;
     let tables = tables_of(alloc, statement)?;
     let params = bind_parameters(alloc, statement, &tables, &declared, arguments)?;
     Ok(write_params(alloc, &params, out)?)
