@@ -1,5 +1,5 @@
 -- What a loop over the children of a level puts behind its lists.
-use Rattle.std.proofs.Common.{◌≡◌, ℕ, ◌+◌, ◌<◌, ◌≤◌, arith, Bool, true, false, if◌then◌else◌, List, [], ◌∷◌, ◌++◌, length, map, drop, get_or, refl, sym, ap, subst, ◌∙◌, append_assoc, append-nil}
+use Rattle.std.proofs.Common.{◌≡◌, ℕ, zero, suc, ◌+◌, ◌<◌, ◌≤◌, arith, Bool, true, false, if◌then◌else◌, List, [], ◌∷◌, ◌++◌, length, map, drop, get_or, refl, sym, ap, subst, ◌∙◌, append_assoc, append-nil}
 use Rattle.std.specs.Prelude.{Option}
 use Rattle.std.specs.List.{All, slice_index_or}
 use Rattle.std.proofs.lemmas.List.{drop_more, length-append}
@@ -14,7 +14,7 @@ use Rattle.table_trees.specs.declared.tree.TreeList.{TreeList}
 use Rattle.table_trees.specs.declared.tree.Shape.{Level as ShapeLevel}
 use Rattle.table_trees.specs.Seen.{seen, items_of}
 use Rattle.table_trees.proofs.Seen.{seen_level}
-use Rattle.table_trees.specs.Trees.{TableTree, LeafTable, LevelTable, Trees, trees_of, count}
+use Rattle.table_trees.specs.Trees.{TableTree, LeafTable, LevelTable, Trees, trees_of, count, height, heights}
 use Rattle.pruned_trees.specs.Kept.{Keeps, Leaf, AreKept, is_kept, led, leaves_below, leaves_among, kept_tables, tables_among, node_of}
 use Rattle.pruned_trees.specs.Prunable.{CanPrune, AllCanPrune}
 
@@ -74,6 +74,18 @@ module _ (keeps : Keeps) (test : Bound → Bool) (bounds : List Bound) (items : 
 
   pub rest_can : AllCanPrune (kids (drop k items)) → AllCanPrune (kids (drop (k + 1) items))
   rest_can all = (subst (λ xs. AllCanPrune (kids xs)) (left_items items k child in_items is) all).1
+
+child_low : (items : List Tree) (k : ℕ) (child : Tree) → k < length items → child ≡ get_or items k child → height (seen child) ≤ heights (kids items)
+child_low [] k child lt is = absurd (omega arith)
+child_low (x ∷ items) zero child lt is = let w = ap (λ (y : Tree). height (seen y)) is in omega (arith, w)
+child_low (x ∷ items) (suc k) child lt is = let w = child_low items k child (omega arith) is in omega (arith, w)
+
+-- the tree of a child is lower
+pub child_lower : (t : Tree) (level : Level) (bounds : List Bound) (children : TreeList) (items : List Tree) (k : ℕ) (child : Tree) → t.shape ≡ ShapeLevel level bounds children → items ≡ items_of children → k < length items → child ≡ get_or items k child → height (seen child) < height (seen t)
+child_lower t level bounds children items k child is are lt at =
+    let low = child_low items k child lt at in
+    let same : heights (kids items) ≡ heights (kids (items_of children)) = ap (λ xs. heights (kids xs)) are in
+    rw (seen_level t level bounds children is) (omega (arith, low, same))
 
 -- ---- a level
 
