@@ -1,7 +1,6 @@
 -- Without arguments a condition stays as it is.
-use Rattle.std.proofs.Common.{◌≡◌, List, [], refl, ap, ◌∙◌, Result, Ok, Err, IfOk}
+use Rattle.std.proofs.Common.{◌≡◌, [], refl, ap, ◌∙◌, Result, Ok, Err, IfOk}
 use Rattle.pg_values.specs.declared.text.NoMemory.{NoMemory}
-use Rattle.pg_values.specs.declared.value.Value.{Value}
 use Rattle.cond_logic.specs.declared.cond.Cond.{Cond}
 use Rattle.cond_logic.specs.declared.cond.Operand.{Operand}
 use Rattle.cond_logic.specs.declared.cond.Operand.TheVariants.{Column, Lit, Param}

@@ -1,5 +1,5 @@
 -- Whether a plain table is kept, by a level without key columns.
-use Rattle.std.proofs.Common.{◌≡◌, ◌<◌, arith, Bool, List, [], ◌∷◌, refl, ap, sym, subst, ◌∙◌, length}
+use Rattle.std.proofs.Common.{◌≡◌, arith, Bool, List, [], ◌∷◌, ap, subst, ◌∙◌, length}
 use Rattle.std.specs.Prelude.{Option}
 use native.Mathlib.Nat.{ℕ_set}
 use Rattle.part_bounds.specs.declared.level.KeyColumn.{KeyColumn}

@@ -4,7 +4,7 @@ use Rattle.std.specs.List.{All, Contains, list_any}
 use Rattle.std.proofs.lemmas.Bool.{and_parts}
 use Rattle.std.proofs.lemmas.Bool.Decides.{nat_tests}
 use Rattle.std.proofs.lemmas.Grind.{common_steps}
-use Rattle.std.proofs.lemmas.List.Elements.{All-cons, All-nil, All-head, All-tail, All-append, All-map, All-filter, filter_passes, Contains-append_right, Contains-append_cases}
+use Rattle.std.proofs.lemmas.List.Elements.{All-cons, All-nil, All-head, All-tail, All-append, All-map, All-filter, filter_passes, Contains-append_cases}
 use Rattle.std.proofs.lemmas.List.Folds.{list_any_none}
 use Rattle.pg_values.specs.declared.value.Value.{Value}
 use Rattle.pg_ids.specs.declared.ids.LeafId.{LeafId}
@@ -24,13 +24,12 @@ use Rattle.table_trees.specs.declared.node.Node.{Node}
 use Rattle.table_trees.specs.Trees.{TableTree, trees_of, key_of, leaves, all_leaves}
 use Rattle.table_trees.specs.Histories.{tree_within, tree_of, grown, node_at, children, bound_of, child_of_entry}
 use Rattle.table_trees.proofs.Order.{all_children, under_children}
-use Rattle.soundness.specs.Legal.{ArePermitted}
 use Rattle.soundness.specs.Laws.{IsLooking}
 use Rattle.soundness.specs.Parts.{InvariantOf}
 use Rattle.soundness.specs.Versions.{IsVersion}
 use Rattle.soundness.specs.Worlds.{World, table_in, IsMade, HasLeaf, Present, Under, key_in, key_at, AcceptsKey, AcceptAbove}
 use Rattle.soundness.proofs.All.{legal_keeps_all}
-use Rattle.soundness.proofs.Listed.{none_in, only_one, later_in}
+use Rattle.soundness.proofs.Listed.{none_in, only_one}
 use Rattle.soundness.proofs.Looking.{counts_world, looking_shows}
 use Rattle.soundness.proofs.Presence.{all_more, all_shown}
 use Rattle.soundness.proofs.Sound.{sound_of, catalogue_sound_of}

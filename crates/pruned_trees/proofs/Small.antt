@@ -1,5 +1,5 @@
 -- Each tree of a history can be pruned: no table has more than 1,024 partitions.
-use Rattle.std.proofs.Common.{◌≡◌, ℕ, zero, suc, ◌≤◌, arith, List, [], ◌∷◌, sym, ap, ◌∙◌, map, length, filter, get_or}
+use Rattle.std.proofs.Common.{◌≡◌, ℕ, zero, suc, ◌≤◌, arith, List, [], ◌∷◌, sym, ap, ◌∙◌, map, length, filter}
 use Rattle.std.specs.List.{All, AllPairs}
 use Rattle.std.proofs.lemmas.Bool.Decides.{nat_tests}
 use Rattle.std.proofs.lemmas.List.{length-map}
@@ -14,7 +14,7 @@ use Rattle.history.specs.declared.catalogue.Table.{Table}
 use Rattle.history.specs.declared.catalogue.TableShape.{TableShape}
 use Rattle.history.specs.declared.catalogue.TableShape.TheVariants.{Leaf, Level}
 use Rattle.history.specs.Snapshots.{TakenSnapshot}
-use Rattle.history.specs.Catalogue.{CatalogueEvents, tables_made, entries_added}
+use Rattle.history.specs.Catalogue.{tables_made, entries_added}
 use Rattle.history.specs.History.{History, tx_events, catalogue_events}
 use Rattle.history.specs.Places.{table_at}
 use Rattle.history.specs.Presence.{counts, is_shown, entries_shown}
@@ -23,7 +23,7 @@ use Rattle.table_trees.specs.Trees.{TableTree, LeafTable, LevelTable, Trees, End
 use Rattle.table_trees.specs.Histories.{grown, node_at, tree_within, tree_of, children, is_under, bound_of, child_of_entry}
 use Rattle.table_trees.proofs.Order.{children_bounds}
 use Rattle.table_trees.proofs.Sound.{tree_sound}
-use Rattle.soundness.specs.Worlds.{World, Present}
+use Rattle.soundness.specs.Worlds.{Present}
 use Rattle.soundness.specs.Parts.{AreChildren, InvariantOf}
 use Rattle.soundness.proofs.All.{legal_keeps_all}
 use Rattle.soundness.proofs.Looking.{counts_world}

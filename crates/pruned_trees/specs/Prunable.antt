@@ -1,5 +1,5 @@
 -- Which trees can be pruned.
-use Rattle.std.specs.Prelude.{◌≡◌, ◌≤◌, List, All, length}
+use Rattle.std.specs.Prelude.{◌≡◌, ◌≤◌, All, length}
 use Rattle.part_bounds.specs.Levels.{IsOfLevel}
 use Rattle.table_trees.specs.Trees.{TableTree, LeafTable, LevelTable, Trees, End, More, count}
 
