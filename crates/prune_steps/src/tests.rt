@@ -253,6 +253,18 @@ fn kept_by<L: Ledger>(
     Ok(())
 }
 
+fn push_kept(
+    alloc: Global,
+    level: &Level,
+    set: &BoundSet<ValueKey>,
+    cond: &Cond,
+    out: &mut Vec<u8>,
+) -> Result<(), NoMemory>
+    requires { All (IsOfLevel level.now) set.now }
+{
+    kept_by::<Brand>(alloc, level, set, cond, Blank::new(1), out)
+}
+
 fn answers(alloc: Global, line: &str) -> Result<Vec<u8>, Refusal> {
     let (level_words, rest) = line.split_once(": ").unwrap_or((line, ""));
     let (bounds, conditions) = rest.split_once(": ").unwrap_or((rest, ""));
@@ -264,7 +276,7 @@ fn answers(alloc: Global, line: &str) -> Result<Vec<u8>, Refusal> {
     let mut out = Vec::new(alloc);
     for words in conditions.split("; ") {
         let cond = condition(alloc, words)?;
-        kept_by::<Brand>(alloc, &level, &set, &cond, Blank::new(1), &mut out)?;
+        push_kept(alloc, &level, &set, &cond, &mut out)?;
     }
     Ok(out)
 }
