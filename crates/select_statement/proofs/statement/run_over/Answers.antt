@@ -13,12 +13,12 @@ read_under-requires-clause-locks c =
 
 pub read_under-requires-clause-there : goal.read_under-requires-clause-there
 read_under-requires-clause-there c =
-    there_kept c.args.stores.now c.args.caller c.args.prunes (select_meant c.args.ask.now) c.deref-2.result.now (seen c.args.tree.now) (c.deref-2.ensures.value ∙ c.in-Ok.ensures.leaves) c.requires.tree
+    there_kept c.args.stores.now c.args.caller c.args.prunes (select_meant c.args.ask.now) c.deref-in-Ok.result.now (seen c.args.tree.now) (c.deref-in-Ok.ensures.value ∙ c.in-Ok.ensures.leaves) c.requires.tree
 
 pub returns-in-Ok : goal.returns-in-Ok
 returns-in-Ok c =
-    kept_step c.args.prunes c.args.names.now c.args.caller (select_meant c.args.ask.now) c.deref.result.now c.deref-2.result.now (seen c.args.tree.now) c.read_under.result c.args.stores.now c.read_under.new.stores
-    (c.deref.ensures.value ∙ c.in-Ok.ensures.tables) (c.deref-2.ensures.value ∙ c.in-Ok.ensures.leaves) c.read_under.ensures
+    kept_step c.args.prunes c.args.names.now c.args.caller (select_meant c.args.ask.now) c.deref.result.now c.deref-in-Ok.result.now (seen c.args.tree.now) c.read_under.result c.args.stores.now c.read_under.new.stores
+    (c.deref.ensures.value ∙ c.in-Ok.ensures.tables) (c.deref-in-Ok.ensures.value ∙ c.in-Ok.ensures.leaves) c.read_under.ensures
 
 pub returns-in-Err : goal.returns-in-Err
 returns-in-Err c =
