@@ -199,7 +199,9 @@ fn select_over(
         (selected.of_tree prunes names.now caller (select_tree select.now) (item_name (joined_tree item.now)) (seen tree.now)) }
 {
     match only_item(alloc, item, tree) {
-        Ok(items) => bind_over(alloc, stores, names, caller, prunes, select, &items, tree, snap),
+        Ok(items) => bind_over(
+            alloc, stores, names, caller, prunes, select, &items, tree, snap,
+        ),
         Err(NoMemory) => Err(Stop::NoMemory),
     }
 }
@@ -226,7 +228,9 @@ fn read_tree(
     leaves_are_housed();
     trees_can_be_pruned();
     match stores.tree(alloc, table, caller.session, snap) {
-        Ok(tree) => select_over(alloc, stores, names, caller, prunes, select, item, &tree, snap),
+        Ok(tree) => select_over(
+            alloc, stores, names, caller, prunes, select, item, &tree, snap,
+        ),
         Err(NoMemory) => Err(Stop::NoMemory),
     }
 }
@@ -248,7 +252,9 @@ fn select_table(
         (selected.of_table prunes names.now caller (select_tree select.now) (item_name (joined_tree item.now)) table.number) }
 {
     match stores.look(alloc, caller.session, caller.cmd) {
-        Ok(snap) => read_tree(alloc, stores, names, caller, prunes, select, item, table, &snap),
+        Ok(snap) => read_tree(
+            alloc, stores, names, caller, prunes, select, item, table, &snap,
+        ),
         Err(NoMemory) => Err(Stop::NoMemory),
     }
 }

@@ -6,10 +6,10 @@ ghost use Rattle.sql_written.specs.Chains as chains;
 ghost use Rattle.sql_written.specs.Spelling as spelled;
 ghost use Rattle.sql_written.specs.Written as shown;
 
+use crate::chain::Chain;
 use crate::precedence::{
     CONJUNCTION, DISJUNCTION, NEGATION, NULLITY, SUM, UNARY, left_rank, rank_of, right_rank,
 };
-use crate::chain::Chain;
 use crate::spelling::{write_leaf, write_name, write_sign};
 use pg_values::NoMemory;
 use sql_expressions::{Expr, ExprList, Operator};
