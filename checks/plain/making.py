@@ -43,6 +43,7 @@ KINDS = {
     "defaults": {"select": 2, "insert": 5, "delete": 3, "partition": 6, "detach": 3, "drop": 2, "lock": 1},
     "attaches": {"select": 2, "insert": 5, "delete": 3, "attach": 6, "detach": 5, "partition": 1, "drop": 1},
     "cancels": {"select": 3, "insert": 4, "delete": 4, "lock": 4, "cancel": 5},
+    "prunes": {"select": 9, "lock": 6, "insert": 3, "setting": 2},
     "mixed": {
         "select": 3, "insert": 5, "delete": 3, "update": 5, "attach": 4, "detach": 4, "partition": 3, "create": 1,
         "drop": 2, "lock": 2, "cancel": 2,
@@ -247,6 +248,11 @@ class Maker:
         names = [("ONLY " if numbers.chance(25) else "") + self.any_table() for _ in range(1 if numbers.chance(85) else 2)]
         mode = f" IN {numbers.of(MODES)} MODE" if numbers.chance(60) else ""
         return f"LOCK TABLE {', '.join(names)}{mode};"
+
+    def setting(self):
+        return self.numbers.of((
+            "SET enable_partition_pruning = off;", "SET enable_partition_pruning = on;", "RESET enable_partition_pruning;",
+        ))
 
     def outside(self):
         """A statement outside of a transaction, where LOCK is refused."""

@@ -80,8 +80,18 @@ class Bound:
     whose place has given it no kind yet; `of` computes the value of a row, a list of values and the
     name of the leaf that it lies in."""
 
-    def __init__(self, kind, of, is_constant, text=None):
-        self.kind, self.of, self.is_constant, self.text = kind, of, is_constant, text
+    def __init__(self, kind, of, is_constant, text=None, place=None):
+        self.kind, self.of, self.is_constant, self.text, self.place = kind, of, is_constant, text, place
+
+
+class Test:
+    """A condition that was judged: its word and its parts, and what decides it for a row."""
+
+    def __init__(self, word, parts, decide):
+        self.word, self.parts, self.decide = word, parts, decide
+
+    def __call__(self, row):
+        return self.decide(row)
 
 
 class Scope:
@@ -136,7 +146,7 @@ class Scope:
             self.check_table(written[1])
             for place, (name, kind) in enumerate(self.columns):
                 if name == written[2]:
-                    return Bound(kind, lambda row: row[0][place], False)
+                    return Bound(kind, lambda row: row[0][place], False, place=place)
             raise Refusal("42703", f"no column {written[2]}")
         if sort == "regclass":
             self.check_table(written[1])
@@ -219,31 +229,33 @@ class Scope:
             return self.condition(written[1])
         if sort in ("and", "or"):
             parts = [self.condition(part) for part in written[1]]
-            return lambda row: joined(sort, [part(row) for part in parts])
+            return several(sort, parts)
         if sort == "not":
-            part = self.condition(written[1])
-            return lambda row: None if part(row) is None else not part(row)
+            return opposite(self.condition(written[1]))
         if sort == "is null":
             tested = self.in_condition(written[1])
             if tested.kind == "literal":
                 tested = self.as_kind(tested, "text")
-            return lambda row: (tested.of(row) is None) != written[2]
+            is_null = Test("null", [tested], lambda row: tested.of(row) is None)
+            return opposite(is_null) if written[2] else is_null
         if sort == "compare":
             return self.comparison(written[1], self.in_condition(written[2]), self.in_condition(written[3]))
         if sort == "in":
             tested, sign = self.in_condition(written[1]), "<>" if written[3] else "="
             parts = [self.comparison(sign, tested, self.in_condition(value)) for value in written[2]]
-            return lambda row: joined("and" if written[3] else "or", [part(row) for part in parts])
+            return several("and" if written[3] else "or", parts)
         if sort == "between":
             tested, low, high = (self.in_condition(part) for part in written[1:4])
             signs = ("<", ">") if written[4] else (">=", "<=")
             parts = [self.comparison(signs[0], tested, low), self.comparison(signs[1], tested, high)]
-            return lambda row: joined("or" if written[4] else "and", [part(row) for part in parts])
+            return several("or" if written[4] else "and", parts)
         bound = self.in_condition(written)
         if bound.kind != "boolean":
             kind = "text" if bound.kind in ("literal", None) else bound.kind
             raise Refusal("42804", f"{kind} where boolean is wanted")
-        return bound.of
+        if bound.is_constant:
+            return Test("known", [bound], bound.of)
+        return self.comparison("=", bound, Bound("boolean", lambda row: True, True))
 
     def in_condition(self, written):
         bound = self.operand(written)
@@ -265,7 +277,15 @@ class Scope:
             if x is None or y is None:
                 return None
             return {"=": x == y, "<>": x != y, "<": x < y, "<=": x <= y, ">": x > y, ">=": x >= y}[sign]
-        return decide
+        return Test("compare", [sign, left, right], decide)
+
+
+def several(word, parts):
+    return Test(word, parts, lambda row: joined(word, [part(row) for part in parts]))
+
+
+def opposite(part):
+    return Test("not", [part], lambda row: None if part(row) is None else not part(row))
 
 
 def moved(day, days):

@@ -1,35 +1,12 @@
 use crate::run_select;
 use cond_logic::{ColumnId, CompareOp, Cond, Operand, Scalar};
-use history::Columns;
-use part_bounds::{KeyColumns, Level, Strategy, make_set};
-use pg_ids::{LeafId, TableNo};
-use pg_values::{Answer, Kind, NoMemory, PgText, Refusal, Row, Value, ValueKey};
+use pg_ids::LeafId;
+use pg_values::{Answer, Kind, NoMemory, PgText, Refusal, Row, Value};
+use pruned_trees::NamedLeaf;
 use row_store::{RowStore, Trail};
 use statement_asks::{Output, SelectAsk, SortBy, SortKey};
 use std::alloc::Global;
-use table_trees::{Node, Tree, push_leaves};
 use tx_table::TxTable;
-
-fn node(alloc: Global, number: u32, name: &[u8]) -> Result<Node, NoMemory> {
-    Ok(Node {
-        table: TableNo { number },
-        name: PgText::from_bytes(alloc, name)?,
-        columns: Columns::new(alloc),
-    })
-}
-
-// t with the partitions p0 and p1
-fn tree(alloc: Global) -> Result<Tree, NoMemory> {
-    let mut kids = Vec::new(alloc);
-    kids.push(Tree::leaf(node(alloc, 1, b"p0")?, LeafId { number: 0 }))?;
-    kids.push(Tree::leaf(node(alloc, 2, b"p1")?, LeafId { number: 1 }))?;
-    let level = Level {
-        strategy: Strategy::Range,
-        columns: KeyColumns::new(alloc),
-    };
-    let bounds = make_set(alloc, Vec::new(alloc), ValueKey)?;
-    Ok(Tree::level(node(alloc, 0, b"t")?, level, bounds, kids))
-}
 
 fn put(
     alloc: Global,
@@ -103,17 +80,26 @@ fn answered(
     txs: &TxTable,
     trail: &mut Trail,
 ) -> Result<Answer, Refusal> {
-    let tree = tree(alloc)?;
-    let mut leaves = Vec::new(alloc);
-    push_leaves(&tree, &mut leaves)?;
-    let count = store.leaf_count();
-    if txs.open_of(0).is_none() || !leaves.iter().all(|l| (l.number as usize) < count) {
+    let p0 = PgText::from_bytes(alloc, b"p0")?;
+    let p1 = PgText::from_bytes(alloc, b"p1")?;
+    let leaves = [
+        NamedLeaf {
+            id: LeafId { number: 0 },
+            name: &p0,
+        },
+        NamedLeaf {
+            id: LeafId { number: 1 },
+            name: &p1,
+        },
+    ];
+    if txs.open_of(0).is_none() || store.leaf_count() < 2 {
         return Err(Refusal::NoMemory);
     }
     let mut snap = txs.snapshot(alloc, 0)?;
     snap.cmd = 1;
     let ask = ask(alloc)?;
-    run_select(alloc, &ask, &[], 1, Some(&tree), store, txs, &snap, trail)
+    let from = Some(leaves.as_slice());
+    run_select(alloc, &ask, &[], 1, from, store, txs, &snap, trail)
 }
 
 #[test]

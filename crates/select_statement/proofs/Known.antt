@@ -1,5 +1,5 @@
 -- What is known of a tree that was read, and what locks leave as it was.
-use Rattle.std.proofs.Common.{◌≡◌, ℕ, ◌<◌, ◌≤◌, ◌||◌, true, ap, sym, subst, ◌∙◌, arith, Option, Some, None, All, length}
+use Rattle.std.proofs.Common.{◌≡◌, ℕ, ◌<◌, ◌≤◌, ◌||◌, true, List, ap, sym, subst, ◌∙◌, arith, Option, Some, None, All, length}
 use Rattle.std.proofs.lemmas.Bool.Decides.{nat_tests}
 use Rattle.std.proofs.lemmas.List.{length-map}
 use Rattle.pg_ids.specs.declared.ids.LeafId.{LeafId}
@@ -12,7 +12,6 @@ use Rattle.history.specs.Catalogue.{tables_made}
 use Rattle.history.specs.History.{History, tx_events, catalogue_events}
 use Rattle.history.specs.Presence.{is_own, counts, entries_shown}
 use Rattle.tx_table.specs.Kept.{KeptSnapshot}
-use Rattle.table_trees.specs.Trees.{TableTree}
 use Rattle.table_trees.specs.Histories.{tree_of, table_of}
 use Rattle.soundness.specs.Worlds.{IsMade, IsThere, Present, table_in}
 use Rattle.soundness.specs.Parts.{IsKnown}
@@ -21,6 +20,8 @@ use Rattle.soundness.proofs.Looking.{counts_world}
 use Rattle.soundness.proofs.Presence.{all_more, all_shown}
 use Rattle.soundness.proofs.Sound.{sound_of, catalogue_sound_of}
 use Rattle.part_catalog.specs.Kept.{table_in as kept_table}
+use Rattle.pruned_trees.specs.Kept.{Leaf}
+use Rattle.pruned_trees.specs.Laws.{TreesCanBePruned}
 use Rattle.stores.specs.Laws.{LeavesAreHoused}
 use Rattle.stores.specs.Stand.{Stands}
 use Rattle.stores.specs.declared.stores.Stores.{Stores}
@@ -28,7 +29,7 @@ use Rattle.stores.proofs.Goodness.{legal_of, permitted_of}
 use Rattle.course.specs.declared.caller.Caller.{Caller}
 use Rattle.statement_steps.specs.Known.{IsKnownTo}
 use Rattle.statement_steps.proofs.Parts.{known_by}
-use Rattle.select_statement.specs.Lent.{HasLeaves, MayLock, IsTreeFor, IsLookFor}
+use Rattle.select_statement.specs.Lent.{AreThere, MayLock, IsTreeFor, IsLookFor}
 use Rattle.select_statement.proofs.Trees.{below_within, leaves_within}
 
 -- ---- a tree that is read
@@ -58,10 +59,10 @@ may_lock stores caller h x stands few there =
     let low : x < 4096 = omega (arith, lt, few) in
     (low, known_by stores h caller.session x stands lt (there_known h caller.session x there))
 
-pub tree_for : LeavesAreHoused → (stores : Stores) (caller : Caller) (h : History) (t : ℕ) (snap : TakenSnapshot) → Stands stores h → length stores.catalog.tables ≤ 4096 → IsKnownTo stores caller.session t
+pub tree_for : LeavesAreHoused → TreesCanBePruned → (stores : Stores) (caller : Caller) (h : History) (t : ℕ) (snap : TakenSnapshot) → Stands stores h → length stores.catalog.tables ≤ 4096 → IsKnownTo stores caller.session t
     → IsTreeFor stores caller (tree_of h caller.session t snap)
 unfolding tree_of
-tree_for housed stores caller h t snap stands few known =
+tree_for housed prunable stores caller h t snap stands few known =
     let s = caller.session in
     let cats = catalogue_events h in
     let legal = legal_of h stands.good in
@@ -78,12 +79,13 @@ tree_for housed stores caller h t snap stands few known =
       leaves = leaves_within (λ (l : LeafId). l.number < stores.rows.leaves) cats entries t
           (λ x leaf at. subst (λ n. leaf.number < n) (sym stands.all.rows.leaves) (housed h x leaf stands.good at))
           (all_more (Present cats (counts (tx_events h) s)) (λ (e : Entry). IsMade cats e.child.number) entries (λ e p. (siblings.there e p).1.0) shown) 7 t made;
+      prunable = prunable h s t snap legal (permitted_of h stands.good) made;
     }
 
 -- ---- locks leave it as it was
 
-pub leaves_stay : (old new : Stores) (tree : TableTree) → new ≡ record old { locks = new.locks } → HasLeaves old tree → HasLeaves new tree
-leaves_stay old new tree rest its = subst (λ x. HasLeaves x tree) (sym rest) its
+pub leaves_stay : (old new : Stores) (ls : List Leaf) → new ≡ record old { locks = new.locks } → AreThere old ls → AreThere new ls
+leaves_stay old new ls rest its = subst (λ x. AreThere x ls) (sym rest) its
 
 pub look_stays : (old new : Stores) (caller : Caller) (snap : KeptSnapshot) → new ≡ record old { locks = new.locks } → IsLookFor old caller snap → IsLookFor new caller snap
 look_stays old new caller snap rest its = subst (λ x. IsLookFor x caller snap) (sym rest) (record { stands = its.stands; past = its.past })

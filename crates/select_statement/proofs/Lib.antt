@@ -1,3 +1,4 @@
+mod Kept
 mod Known
 mod Nodes
 mod Steps

@@ -1,11 +1,13 @@
 -- What is known of a tree and of a snapshot while the stores are those that they were read from, but for locks.
-use Rattle.std.specs.Prelude.{◌<◌, All}
+use Rattle.std.specs.Prelude.{◌<◌, All, List, map}
 use Rattle.pg_ids.specs.declared.ids.TableNo.{TableNo}
 use Rattle.history.specs.Transactions.{IsPast}
 use Rattle.history.specs.History.{History, tx_events}
 use Rattle.tx_table.specs.Kept.{KeptSnapshot}
 use Rattle.tx_table.specs.Stands.{TableStands, SnapshotStands}
 use Rattle.table_trees.specs.Trees.{TableTree, leaves}
+use Rattle.pruned_trees.specs.Kept.{Leaf, id_of}
+use Rattle.pruned_trees.specs.Prunable.{CanPrune}
 use Rattle.stores.specs.Events.{look_of}
 use Rattle.stores.specs.declared.stores.Stores.{Stores}
 use Rattle.course.specs.declared.caller.Caller.{Caller}
@@ -16,6 +18,9 @@ use Rattle.select_statement.specs.Below.{below}
 abbrev pub HasLeaves : Stores → TableTree → Type 0
 HasLeaves stores tree = All (λ l. l.number < stores.rows.leaves) (leaves tree)
 
+abbrev pub AreThere : Stores → List Leaf → Type 0
+AreThere stores ls = All (λ l. l.number < stores.rows.leaves) (map id_of ls)
+
 -- each of its tables may be locked
 abbrev pub MayLock : Stores → Caller → TableNo → Type 0
 MayLock stores caller t = (t.number < 4096) × IsKnownTo stores caller.session t.number
@@ -23,6 +28,7 @@ MayLock stores caller t = (t.number < 4096) × IsKnownTo stores caller.session t
 pub record IsTreeFor (stores : Stores) (caller : Caller) (tree : TableTree) : Type 0 where
   pub locks : All (MayLock stores caller) (below tree)
   pub leaves : HasLeaves stores tree
+  pub prunable : CanPrune tree
 
 -- the snapshot is that of the command
 pub record IsLookFor (stores : Stores) (caller : Caller) (snap : KeptSnapshot) : Type 0 where

@@ -1,20 +1,22 @@
-ghost use Rattle.std.specs.Prelude.{◌≡◌, ◌+◌, ◌<◌, [], All};
+ghost use Rattle.std.specs.Prelude.{◌≡◌, ◌+◌, ◌<◌, [], All, IfOk};
 ghost use Rattle.table_trees.specs.Seen.{seen};
+ghost use Rattle.pruned_trees.specs.Kept.{kept_leaves, kept_tables};
+ghost use Rattle.pruned_trees.specs.Prunable.{CanPrune};
 ghost use Rattle.sql_queries.specs.Trees.{select_tree};
 ghost use Rattle.statement_asks.specs.Asked.{select_meant};
-ghost use Rattle.select_answer.specs.Answer.{tree_of, leaves_of};
+ghost use Rattle.select_answer.specs.Answer.{leaves_in, ids_in};
 ghost use Rattle.course.specs.Attempts.{MayAttempt};
 ghost use Rattle.statement_steps.specs.Steps.{IsStep};
 ghost use Rattle.statement_steps.specs.Faults as faults;
 ghost use Rattle.select_statement.specs.Halts as halts;
-ghost use Rattle.select_statement.specs.Lent.{IsTreeFor, IsLookFor};
+ghost use Rattle.select_statement.specs.Lent.{IsLookFor, MayLock};
 ghost use Rattle.select_statement.specs.Selected as selected;
 
-use crate::below::tables_below;
 use course::{Caller, Stop};
 use expression_binder::ScopeItem;
-use pg_ids::LockMode;
+use pg_ids::{LockMode, TableNo};
 use pg_values::{Answer, Fault, NoMemory, Refusal};
+use pruned_trees::{KeptParts, NamedLeaf, all_hold, prune_tree};
 use row_store::Trail;
 use select_answer::run_select;
 use sql_binder::bind_select;
@@ -62,23 +64,35 @@ pub(crate) fn bind(
     }
 }
 
-/// The tables under that of the tree are locked, one after the other.
+/// What the conditions keep of the tree.
+pub(crate) fn prune<'t>(
+    alloc: Global,
+    prunes: bool,
+    ask: &SelectAsk,
+    tree: &'t Tree,
+) -> Result<KeptParts<'t>, NoMemory>
+    requires { CanPrune (seen tree.now) }
+    ensures tables { IfOk result (λ k. k.tables.items ≡ kept_tables (selected.keeps_for prunes (select_meant ask.now)) (seen tree.now)) }
+    ensures leaves { IfOk result (λ k. k.leaves.items ≡ kept_leaves (selected.keeps_for prunes (select_meant ask.now)) (seen tree.now)) }
+{
+    let cond = all_hold(alloc, &ask.conditions)?;
+    prune_tree(alloc, prunes, &cond, tree)
+}
+
+/// The tables are locked, one after the other.
 pub(crate) fn lock_below(
     alloc: Global,
     stores: &mut Stores,
     names: &SessionNames,
     caller: Caller,
-    tree: &Tree,
+    tables: &[TableNo],
 ) -> Result<(), Stop>
     requires may { MayAttempt stores.old caller }
-    requires tree { IsTreeFor stores.old caller (seen tree.now) }
-    ensures step { IsStep (λ u. u) result stores.old stores.new caller caller.cmd (selected.locked_below names.now caller (seen tree.now)) }
+    requires locks { All (MayLock stores.old caller) tables.now }
+    ensures step { IsStep (λ u. u) result stores.old stores.new caller caller.cmd (selected.locked_below names.now caller tables.now) }
     ensures rest { stores.new ≡ record stores.old { locks = stores.new.locks } }
 {
-    match tables_below(alloc, tree) {
-        Ok(tables) => lock_tables(alloc, stores, names, caller, &tables, LockMode::AccessShare),
-        Err(NoMemory) => Err(Stop::NoMemory),
-    }
+    lock_tables(alloc, stores, names, caller, tables, LockMode::AccessShare)
 }
 
 // The answer, with a trail of what it reads.
@@ -87,15 +101,15 @@ fn run(
     stores: &Stores,
     caller: Caller,
     ask: &SelectAsk,
-    from: Option<&Tree>,
+    from: Option<&[NamedLeaf<'_>]>,
     snap: &Snapshot,
     trail: &mut Trail,
 ) -> Result<Answer, Stop>
     requires may { MayAttempt stores.now caller }
-    requires leaves { All (λ l. l.number < stores.now.rows.leaves) (leaves_of (tree_of from)) }
+    requires leaves { All (λ l. l.number < stores.now.rows.leaves) (ids_in (leaves_in from)) }
     requires look { IsLookFor stores.now caller snap.now }
     requires fresh { trail.old.leaves ≡ [] }
-    ensures { IsStep (λ a. a) result stores.now stores.now caller (caller.cmd + 1) (selected.answered caller (select_meant ask.now) (tree_of from.entry)) }
+    ensures { IsStep (λ a. a) result stores.now stores.now caller (caller.cmd + 1) (selected.answered caller (select_meant ask.now) (leaves_in from.entry)) }
 {
     let sessions = caller.sessions - 1;
     let rows = &stores.rows;
@@ -106,19 +120,19 @@ fn run(
     }
 }
 
-/// The answer for the rows that the snapshot shows.
+/// The answer for the rows that the snapshot shows in these leaves.
 pub(crate) fn answer(
     alloc: Global,
     stores: &Stores,
     caller: Caller,
     ask: &SelectAsk,
-    from: Option<&Tree>,
+    from: Option<&[NamedLeaf<'_>]>,
     snap: &Snapshot,
 ) -> Result<Answer, Stop>
     requires may { MayAttempt stores.now caller }
-    requires leaves { All (λ l. l.number < stores.now.rows.leaves) (leaves_of (tree_of from)) }
+    requires leaves { All (λ l. l.number < stores.now.rows.leaves) (ids_in (leaves_in from)) }
     requires look { IsLookFor stores.now caller snap.now }
-    ensures { IsStep (λ a. a) result stores.now stores.now caller (caller.cmd + 1) (selected.answered caller (select_meant ask.now) (tree_of from.entry)) }
+    ensures { IsStep (λ a. a) result stores.now stores.now caller (caller.cmd + 1) (selected.answered caller (select_meant ask.now) (leaves_in from.entry)) }
 {
     match Trail::new(alloc) {
         Ok(mut trail) => run(alloc, stores, caller, ask, from, snap, &mut trail),

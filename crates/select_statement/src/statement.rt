@@ -1,4 +1,4 @@
-ghost use Rattle.std.specs.Prelude.{◌≡◌, ◌+◌, ◌-◌, ◌≤◌, [], ◌∷◌, Some, None, length};
+ghost use Rattle.std.specs.Prelude.{◌≡◌, ◌+◌, ◌-◌, ◌≤◌, [], ◌∷◌, All, None, length};
 ghost use Rattle.table_trees.specs.Seen.{seen};
 ghost use Rattle.sql_queries.specs.Trees.{joined_tree, select_tree};
 ghost use Rattle.sql_binder.specs.From.{item_name};
@@ -6,17 +6,18 @@ ghost use Rattle.statement_asks.specs.Asked.{select_meant};
 ghost use Rattle.course.specs.Attempts.{MayAttempt};
 ghost use Rattle.statement_steps.specs.Known.{IsKnownTo};
 ghost use Rattle.statement_steps.specs.Steps.{IsStep, follow};
-ghost use Rattle.select_statement.specs.Lent.{IsTreeFor, IsLookFor};
+ghost use Rattle.select_statement.specs.Lent.{AreThere, IsTreeFor, IsLookFor, MayLock};
 ghost use Rattle.select_statement.specs.Cancels.{cancels_itself};
 ghost use Rattle.select_statement.specs.Selected as selected;
 
 use crate::cancels::cancels_itself;
 use crate::items::only_item;
-use crate::parts::{answer, bind, lock_below, stop_by};
+use crate::parts::{answer, bind, lock_below, prune, stop_by};
 use course::{Caller, Stop, statement_cancelled};
 use expression_binder::{ScopeItem, left_out};
 use pg_ids::{LockMode, TableNo};
 use pg_values::{Answer, NoMemory};
+use pruned_trees::{NamedLeaf, trees_can_be_pruned};
 use sql_queries::{FromItem, Select};
 use statement_asks::SelectAsk;
 use statement_steps::{SessionNames, hold_if_repeatable, lock_named};
@@ -100,12 +101,37 @@ fn select_nothing(
 
 // ---- of one table
 
-// What was bound over the tree: the tables under it are locked, and the answer is made.
+// The tables are locked, and the answer is made of the leaves.
+fn read_under(
+    alloc: Global,
+    stores: &mut Stores,
+    names: &SessionNames,
+    caller: Caller,
+    ask: &SelectAsk,
+    tables: &[TableNo],
+    leaves: &[NamedLeaf<'_>],
+    snap: &Snapshot,
+) -> Result<Answer, Stop>
+    requires may { MayAttempt stores.old caller }
+    requires locks { All (MayLock stores.old caller) tables.now }
+    requires there { AreThere stores.old leaves.now }
+    requires look { IsLookFor stores.old caller snap.now }
+    ensures { IsStep (λ a. a) result stores.old stores.new caller (caller.cmd + 1)
+        (selected.read_under names.now caller (select_meant ask.now) tables.now leaves.now) }
+{
+    match lock_below(alloc, stores, names, caller, tables) {
+        Ok(()) => answer(alloc, stores, caller, ask, Some(leaves), snap),
+        Err(stop) => Err(stop),
+    }
+}
+
+// What was bound over the tree: what its conditions keep is locked and read.
 fn run_over(
     alloc: Global,
     stores: &mut Stores,
     names: &SessionNames,
     caller: Caller,
+    prunes: bool,
     ask: &SelectAsk,
     tree: &Tree,
     snap: &Snapshot,
@@ -114,11 +140,20 @@ fn run_over(
     requires tree { IsTreeFor stores.old caller (seen tree.now) }
     requires look { IsLookFor stores.old caller snap.now }
     ensures { IsStep (λ a. a) result stores.old stores.new caller (caller.cmd + 1)
-        (follow (selected.locked_below names.now caller (seen tree.now)) (λ u. selected.answered caller (select_meant ask.now) (Some (seen tree.now)))) }
+        (selected.of_kept prunes names.now caller (select_meant ask.now) (seen tree.now)) }
 {
-    match lock_below(alloc, stores, names, caller, tree) {
-        Ok(()) => answer(alloc, stores, caller, ask, Some(tree), snap),
-        Err(stop) => Err(stop),
+    match prune(alloc, prunes, ask, tree) {
+        Ok(kept) => read_under(
+            alloc,
+            stores,
+            names,
+            caller,
+            ask,
+            &kept.tables,
+            &kept.leaves,
+            snap,
+        ),
+        Err(NoMemory) => Err(Stop::NoMemory),
     }
 }
 
@@ -128,6 +163,7 @@ fn bind_over(
     stores: &mut Stores,
     names: &SessionNames,
     caller: Caller,
+    prunes: bool,
     select: &Select,
     items: &[ScopeItem],
     tree: &Tree,
@@ -137,10 +173,10 @@ fn bind_over(
     requires tree { IsTreeFor stores.old caller (seen tree.now) }
     requires look { IsLookFor stores.old caller snap.now }
     ensures { IsStep (λ a. a) result stores.old stores.new caller (caller.cmd + 1)
-        (selected.over names.now caller (select_tree select.now) items.now (seen tree.now)) }
+        (selected.over prunes names.now caller (select_tree select.now) items.now (seen tree.now)) }
 {
     match bind(alloc, stores, caller, select, items) {
-        Ok(ask) => run_over(alloc, stores, names, caller, &ask, tree, snap),
+        Ok(ask) => run_over(alloc, stores, names, caller, prunes, &ask, tree, snap),
         Err(stop) => Err(stop),
     }
 }
@@ -150,6 +186,7 @@ fn select_over(
     stores: &mut Stores,
     names: &SessionNames,
     caller: Caller,
+    prunes: bool,
     select: &Select,
     item: &FromItem,
     tree: &Tree,
@@ -159,10 +196,12 @@ fn select_over(
     requires tree { IsTreeFor stores.old caller (seen tree.now) }
     requires look { IsLookFor stores.old caller snap.now }
     ensures { IsStep (λ a. a) result stores.old stores.new caller (caller.cmd + 1)
-        (selected.of_tree names.now caller (select_tree select.now) (item_name (joined_tree item.now)) (seen tree.now)) }
+        (selected.of_tree prunes names.now caller (select_tree select.now) (item_name (joined_tree item.now)) (seen tree.now)) }
 {
     match only_item(alloc, item, tree) {
-        Ok(items) => bind_over(alloc, stores, names, caller, select, &items, tree, snap),
+        Ok(items) => bind_over(
+            alloc, stores, names, caller, prunes, select, &items, tree, snap,
+        ),
         Err(NoMemory) => Err(Stop::NoMemory),
     }
 }
@@ -173,6 +212,7 @@ fn read_tree(
     stores: &mut Stores,
     names: &SessionNames,
     caller: Caller,
+    prunes: bool,
     select: &Select,
     item: &FromItem,
     table: TableNo,
@@ -183,11 +223,14 @@ fn read_tree(
     requires known { IsKnownTo stores.old caller.session table.number }
     requires look { IsLookFor stores.old caller snap.now }
     ensures { IsStep (λ a. a) result stores.old stores.new caller (caller.cmd + 1)
-        (selected.of_table names.now caller (select_tree select.now) (item_name (joined_tree item.now)) table.number) }
+        (selected.of_table prunes names.now caller (select_tree select.now) (item_name (joined_tree item.now)) table.number) }
 {
     leaves_are_housed();
+    trees_can_be_pruned();
     match stores.tree(alloc, table, caller.session, snap) {
-        Ok(tree) => select_over(alloc, stores, names, caller, select, item, &tree, snap),
+        Ok(tree) => select_over(
+            alloc, stores, names, caller, prunes, select, item, &tree, snap,
+        ),
         Err(NoMemory) => Err(Stop::NoMemory),
     }
 }
@@ -197,6 +240,7 @@ fn select_table(
     stores: &mut Stores,
     names: &SessionNames,
     caller: Caller,
+    prunes: bool,
     select: &Select,
     item: &FromItem,
     table: TableNo,
@@ -205,10 +249,12 @@ fn select_table(
     requires few { length stores.old.catalog.tables ≤ 4096 }
     requires known { IsKnownTo stores.old caller.session table.number }
     ensures { IsStep (λ a. a) result stores.old stores.new caller (caller.cmd + 1)
-        (selected.of_table names.now caller (select_tree select.now) (item_name (joined_tree item.now)) table.number) }
+        (selected.of_table prunes names.now caller (select_tree select.now) (item_name (joined_tree item.now)) table.number) }
 {
     match stores.look(alloc, caller.session, caller.cmd) {
-        Ok(snap) => read_tree(alloc, stores, names, caller, select, item, table, &snap),
+        Ok(snap) => read_tree(
+            alloc, stores, names, caller, prunes, select, item, table, &snap,
+        ),
         Err(NoMemory) => Err(Stop::NoMemory),
     }
 }
@@ -219,17 +265,18 @@ fn select_item(
     stores: &mut Stores,
     names: &SessionNames,
     caller: Caller,
+    prunes: bool,
     select: &Select,
     item: &FromItem,
 ) -> Result<Answer, Stop>
     requires may { MayAttempt stores.old caller }
     requires few { length stores.old.catalog.tables ≤ 4096 }
     ensures { IsStep (λ a. a) result stores.old stores.new caller (caller.cmd + 1)
-        (selected.of_item names.now caller (select_tree select.now) (joined_tree item.now)) }
+        (selected.of_item prunes names.now caller (select_tree select.now) (joined_tree item.now)) }
 {
     let name = item.table.name.as_bytes();
     match lock_named(alloc, stores, names, caller, name, LockMode::AccessShare) {
-        Ok(table) => select_table(alloc, stores, names, caller, select, item, table),
+        Ok(table) => select_table(alloc, stores, names, caller, prunes, select, item, table),
         Err(stop) => Err(stop),
     }
 }
@@ -257,35 +304,38 @@ fn begin_with(
     stores: &mut Stores,
     names: &SessionNames,
     caller: Caller,
+    prunes: bool,
     select: &Select,
     item: &FromItem,
 ) -> Result<Answer, Stop>
     requires may { MayAttempt stores.old caller }
     requires few { length stores.old.catalog.tables ≤ 4096 }
     ensures { IsStep (λ a. a) result stores.old stores.new caller (caller.cmd + 1)
-        (follow (selected.begins caller) (λ u. selected.of_item names.now caller (select_tree select.now) (joined_tree item.now))) }
+        (follow (selected.begins caller) (λ u. selected.of_item prunes names.now caller (select_tree select.now) (joined_tree item.now))) }
 {
     match hold_if_repeatable(alloc, stores, caller) {
-        Ok(()) => select_item(alloc, stores, names, caller, select, item),
+        Ok(()) => select_item(alloc, stores, names, caller, prunes, select, item),
         Err(stop) => Err(stop),
     }
 }
 
-/// A SELECT of a session: its answer, or why it stops. Several tables in FROM are refused with 0A000.
+/// A SELECT of a session: its answer, or why it stops. It locks and reads what its conditions keep, or all
+/// where the session prunes nothing. Several tables in FROM are refused with 0A000.
 pub fn select(
     alloc: Global,
     stores: &mut Stores,
     names: &SessionNames,
     caller: Caller,
+    prunes: bool,
     select: &Select,
 ) -> Result<Answer, Stop>
     requires may { MayAttempt stores.old caller }
     requires few { length stores.old.catalog.tables ≤ 4096 }
-    ensures { IsStep (λ a. a) result stores.old stores.new caller (caller.cmd + 1) (selected.selected names.now caller (select_tree select.now)) }
+    ensures { IsStep (λ a. a) result stores.old stores.new caller (caller.cmd + 1) (selected.selected prunes names.now caller (select_tree select.now)) }
 {
     match select.from.as_slice() {
         [] => begin_without(alloc, stores, caller, select),
-        [item] => begin_with(alloc, stores, names, caller, select, item),
+        [item] => begin_with(alloc, stores, names, caller, prunes, select, item),
         [_, _, ..] => Err(stop_by(left_out(alloc, b"SELECT"))),
     }
 }

@@ -1,8 +1,9 @@
 -- What a statement of a session makes of a history, and what it prints (VI. SQL Commands).
-use Rattle.std.specs.Prelude.{ℕ, List, [], Option, Result, Ok, Err}
+use Rattle.std.specs.Prelude.{ℕ, Bool, List, [], Option, Result, Ok, Err}
 use Rattle.pg_values.specs.declared.answer.Answer.{Answer}
 use Rattle.history.specs.History.{History}
 use Rattle.expression_binder.specs.Faults.{left_out}
+use Rattle.sessions.specs.declared.settings.Settings.{Settings}
 use Rattle.sql_commands.specs.Trees.{CommandTree, makes_table, makes_partition, drops, attaches, detaches, locks}
 use Rattle.sql_commands.specs.declared.alter.Detachment.TheVariants.{AtOnce}
 use Rattle.sql_queries.specs.Trees.{SelectTree, RowTree, QueryTree, selects, inserts, updates, deletes, rows}
@@ -58,20 +59,20 @@ command_attempted names c (detaches parent name AtOnce) = silent (detached names
 command_attempted names c (locks tables mode) = silent (locked names c.session tables mode)
 command_attempted names c t = omitted (command_word t)
 
-abbrev pub select_attempted : (names : List (List ℕ)) → Caller → SelectTree → History → Made (List ℕ)
-select_attempted names c s = tabled (selected names c s)
+abbrev pub select_attempted : (prunes : Bool) → (names : List (List ℕ)) → Caller → SelectTree → History → Made (List ℕ)
+select_attempted prunes names c s = tabled (selected prunes names c s)
 
-abbrev pub row_attempted : (names : List (List ℕ)) → Caller → Option Rest → RowTree → History → Made (List ℕ)
-row_attempted names c rest (selects s) = select_attempted names c s
-row_attempted names c rest (inserts table columns values) = silent (inserted names [] c table columns values)
-row_attempted names c rest (updates table settings condition) = silent (updated names [] c rest table settings condition)
-row_attempted names c rest (deletes table condition) = silent (deleted names [] c rest table condition)
+abbrev pub row_attempted : (prunes : Bool) → (names : List (List ℕ)) → Caller → Option Rest → RowTree → History → Made (List ℕ)
+row_attempted prunes names c rest (selects s) = select_attempted prunes names c s
+row_attempted prunes names c rest (inserts table columns values) = silent (inserted names [] c table columns values)
+row_attempted prunes names c rest (updates table settings condition) = silent (updated names [] c rest table settings condition)
+row_attempted prunes names c rest (deletes table condition) = silent (deleted names [] c rest table condition)
 
-abbrev pub query_attempted : (names : List (List ℕ)) → Caller → Option Rest → QueryTree → History → Made (List ℕ)
-query_attempted names c rest (rows r) = row_attempted names c rest r
-query_attempted names c rest t = omitted (query_word t)
+abbrev pub query_attempted : (prunes : Bool) → (names : List (List ℕ)) → Caller → Option Rest → QueryTree → History → Made (List ℕ)
+query_attempted prunes names c rest (rows r) = row_attempted prunes names c rest r
+query_attempted prunes names c rest t = omitted (query_word t)
 
--- from its beginning, or from where it stood
-abbrev pub attempted : (names : List (List ℕ)) → Caller → Option Rest → StatementTree → History → Made (List ℕ)
-attempted names c rest (commands t) = command_attempted names c t
-attempted names c rest (queries t) = query_attempted names c rest t
+-- from its beginning, or from where it stood, in a session with these settings
+abbrev pub attempted : (names : List (List ℕ)) → Caller → Option Rest → Settings → StatementTree → History → Made (List ℕ)
+attempted names c rest g (commands t) = command_attempted names c t
+attempted names c rest g (queries t) = query_attempted g.enable_partition_pruning names c rest t

@@ -44,6 +44,6 @@ statement_words = record {
   misplaced = misplaced;
   set = changed;
   cancels = statement_cancelled;
-  attempted = λ names c rest h settings t. attempted names c rest t h;
+  attempted = λ names c rest h settings t. attempted names c rest settings t h;
   fault_text = fault_text;
 }

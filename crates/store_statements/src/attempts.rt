@@ -17,6 +17,7 @@ use lock_statement::lock;
 use out_text::write_table;
 use pg_values::NoMemory;
 use select_statement::select;
+use sessions::Settings;
 use sql_commands::{Command, Detachment};
 use sql_queries::{Query, RowStatement, Select};
 use sql_syntax::Statement;
@@ -94,14 +95,15 @@ fn attempt_select(
     stores: &mut Stores,
     names: &SessionNames,
     caller: Caller,
+    prunes: bool,
     statement: &Select,
     out: &mut Vec<u8>,
 ) -> Result<(), Stop>
     requires { MayAttempt stores.old caller }
-    ensures { IsStatement result stores.old stores.new out.old.items out.new.items caller (attempted.select_attempted names.now caller (select_tree statement.now)) }
+    ensures { IsStatement result stores.old stores.new out.old.items out.new.items caller (attempted.select_attempted prunes names.now caller (select_tree statement.now)) }
 {
     check_room(stores, caller);
-    match select(alloc, stores, names, caller, statement) {
+    match select(alloc, stores, names, caller, prunes, statement) {
         Ok(answer) => match write_table(alloc, &answer, out) {
             Ok(()) => Ok(()),
             Err(NoMemory) => Err(Stop::NoMemory),
@@ -115,17 +117,18 @@ fn attempt_rows(
     stores: &mut Stores,
     names: &SessionNames,
     caller: Caller,
+    prunes: bool,
     rest: Option<Rest>,
     statement: &RowStatement,
     out: &mut Vec<u8>,
 ) -> Result<(), Stop>
     requires may { MayAttempt stores.old caller }
     requires rest { MayGoOn stores.old rest }
-    ensures { IsStatement result stores.old stores.new out.old.items out.new.items caller (attempted.row_attempted names.now caller rest (row_tree statement.now)) }
+    ensures { IsStatement result stores.old stores.new out.old.items out.new.items caller (attempted.row_attempted prunes names.now caller rest (row_tree statement.now)) }
 {
     check_room(stores, caller);
     match statement {
-        RowStatement::Select(s) => attempt_select(alloc, stores, names, caller, s, out),
+        RowStatement::Select(s) => attempt_select(alloc, stores, names, caller, prunes, s, out),
         RowStatement::Insert(s) => insert(alloc, stores, names, &[], caller, s),
         RowStatement::Update(s) => update(alloc, stores, names, &[], caller, rest, s),
         RowStatement::Delete(s) => delete(alloc, stores, names, &[], caller, rest, s),
@@ -137,16 +140,17 @@ fn attempt_query(
     stores: &mut Stores,
     names: &SessionNames,
     caller: Caller,
+    prunes: bool,
     rest: Option<Rest>,
     query: &Query,
     out: &mut Vec<u8>,
 ) -> Result<(), Stop>
     requires may { MayAttempt stores.old caller }
     requires rest { MayGoOn stores.old rest }
-    ensures { IsStatement result stores.old stores.new out.old.items out.new.items caller (attempted.query_attempted names.now caller rest (query_tree query.now)) }
+    ensures { IsStatement result stores.old stores.new out.old.items out.new.items caller (attempted.query_attempted prunes names.now caller rest (query_tree query.now)) }
 {
     match query {
-        Query::Rows(s) => attempt_rows(alloc, stores, names, caller, rest, s, out),
+        Query::Rows(s) => attempt_rows(alloc, stores, names, caller, prunes, rest, s, out),
         _ => omit(alloc, stores, caller, query_word(query), out),
     }
 }
@@ -159,17 +163,19 @@ pub(crate) fn attempt(
     names: &SessionNames,
     caller: Caller,
     rest: Option<Rest>,
+    settings: Settings,
     statement: &Statement,
     out: &mut Vec<u8>,
 ) -> Result<(), Stop>
     requires may { MayAttempt stores.old caller }
     requires rest { MayGoOn stores.old rest }
-    ensures { IsStatement result stores.old stores.new out.old.items out.new.items caller (attempted.attempted names.now caller rest (statement_tree statement.now)) }
+    ensures { IsStatement result stores.old stores.new out.old.items out.new.items caller (attempted.attempted names.now caller rest settings (statement_tree statement.now)) }
 {
     match statement {
         Statement::Command(command) => attempt_command(alloc, stores, names, caller, command, out),
         Statement::Query(query) => {
-            attempt_query(alloc, stores, names, caller, rest, query, out)
+            let prunes = settings.enable_partition_pruning;
+            attempt_query(alloc, stores, names, caller, prunes, rest, query, out)
         },
     }
 }

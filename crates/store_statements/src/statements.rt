@@ -106,11 +106,12 @@ impl Kinds for Statements {
         stores: &mut Stores,
         caller: Caller,
         rest: Option<Rest>,
-        _settings: Settings,
+        settings: Settings,
         statement: &Statement,
         out: &mut Vec<u8>,
     ) -> Result<(), Stop> {
-        attempt(alloc, stores, &self.names, caller, rest, statement, out)
+        let names = &self.names;
+        attempt(alloc, stores, names, caller, rest, settings, statement, out)
     }
 
     fn write_fault(alloc: Global, fault: &Fault, out: &mut Vec<u8>) -> Result<(), NoMemory> {

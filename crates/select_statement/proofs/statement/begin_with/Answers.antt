@@ -15,9 +15,9 @@ select_item-requires-clause-few c = subst (λ (s : Stores). length s.catalog.tab
 pub returns-in-Ok : goal.returns-in-Ok
 returns-in-Ok c =
     then_step (λ (u : Unit {0}). u) (λ (a : Answer). a) tt c.select_item.result c.args.stores.now c.hold_if_repeatable.new.stores c.select_item.new.stores c.args.caller (c.args.caller.cmd + 1)
-    (begins c.args.caller) (λ u. of_item c.args.names.now c.args.caller (select_tree c.args.select.now) (joined_tree c.args.item.now)) c.in-Ok.ensures.step c.select_item.ensures
+    (begins c.args.caller) (λ u. of_item c.args.prunes c.args.names.now c.args.caller (select_tree c.args.select.now) (joined_tree c.args.item.now)) c.in-Ok.ensures.step c.select_item.ensures
 
 pub returns-in-Err : goal.returns-in-Err
 returns-in-Err c =
     stop_step (λ (u : Unit {0}). u) (λ (a : Answer). a) c.in-Err.stop c.args.stores.now c.hold_if_repeatable.new.stores c.args.caller (c.args.caller.cmd + 1) c.args.caller.cmd
-    (begins c.args.caller) (λ u. of_item c.args.names.now c.args.caller (select_tree c.args.select.now) (joined_tree c.args.item.now)) c.in-Err.ensures.step
+    (begins c.args.caller) (λ u. of_item c.args.prunes c.args.names.now c.args.caller (select_tree c.args.select.now) (joined_tree c.args.item.now)) c.in-Err.ensures.step

@@ -20,13 +20,13 @@ read c = tree_read c.args.stores.now c.args.caller c.args.table.number (seen c.i
 
 pub select_over-requires-clause-tree : goal.select_over-requires-clause-tree
 select_over-requires-clause-tree c =
-    read_for c.leaves_are_housed.ensures c.args.stores.now c.args.caller c.args.table.number (seen c.in-Ok.tree) c.requires.may c.requires.few c.requires.known (read (goal.at.select_over-requires-clause-tree c).In-Ok)
+    read_for c.leaves_are_housed.ensures c.trees_can_be_pruned.ensures c.args.stores.now c.args.caller c.args.table.number (seen c.in-Ok.tree) c.requires.may c.requires.few c.requires.known (read (goal.at.select_over-requires-clause-tree c).In-Ok)
 
 pub returns-in-Ok : goal.returns-in-Ok
 returns-in-Ok c =
-    table_step c.args.names.now c.args.caller (select_tree c.args.select.now) (item_name (joined_tree c.args.item.now)) c.args.table.number (seen c.in-Ok.tree) c.select_over.result c.args.stores.now c.select_over.new.stores (read (goal.at.returns-in-Ok c).In-Ok) c.select_over.ensures
+    table_step c.args.prunes c.args.names.now c.args.caller (select_tree c.args.select.now) (item_name (joined_tree c.args.item.now)) c.args.table.number (seen c.in-Ok.tree) c.select_over.result c.args.stores.now c.select_over.new.stores (read (goal.at.returns-in-Ok c).In-Ok) c.select_over.ensures
 
 pub returns-in-Err : goal.returns-in-Err
 returns-in-Err c =
     no_memory (λ (a : Answer). a) c.args.stores.now c.args.stores.now c.args.caller (c.args.caller.cmd + 1)
-    (of_table c.args.names.now c.args.caller (select_tree c.args.select.now) (item_name (joined_tree c.args.item.now)) c.args.table.number) (stays c.args.stores.now c.args.caller.session)
+    (of_table c.args.prunes c.args.names.now c.args.caller (select_tree c.args.select.now) (item_name (joined_tree c.args.item.now)) c.args.table.number) (stays c.args.stores.now c.args.caller.session)

@@ -1,28 +1,25 @@
-use Rattle.std.proofs.Common.{◌+◌, Some}
+use Rattle.std.proofs.Common.{◌+◌, ◌∙◌}
 use Rattle.pg_values.specs.declared.answer.Answer.{Answer}
 use Rattle.table_trees.specs.Seen.{seen}
 use Rattle.statement_asks.specs.Asked.{select_meant}
-use Rattle.statement_steps.proofs.Steps.{then_step, stop_step, may_go_on}
-use Rattle.select_statement.specs.Selected.{locked_below, answered}
-use Rattle.select_statement.proofs.Known.{leaves_stay, look_stays}
+use Rattle.statement_steps.proofs.Parts.{stays, no_memory}
+use Rattle.select_statement.specs.Selected.{of_kept}
+use Rattle.select_statement.proofs.Whole.{locks_kept, there_kept, kept_step}
 use Rattle.select_statement.proofs.statement.run_over.Goals as goal
 
-pub answer-requires-clause-may : goal.answer-requires-clause-may
-answer-requires-clause-may c =
-    may_go_on (λ (u : Unit {0}). u) tt c.args.stores.now c.lock_below.new.stores c.args.caller (locked_below c.args.names.now c.args.caller (seen c.args.tree.now)) c.requires.may c.in-Ok.ensures.step
+pub read_under-requires-clause-locks : goal.read_under-requires-clause-locks
+read_under-requires-clause-locks c =
+    locks_kept c.args.stores.now c.args.caller c.args.prunes (select_meant c.args.ask.now) c.deref.result.now (seen c.args.tree.now) (c.deref.ensures.value ∙ c.in-Ok.ensures.tables) c.requires.tree
 
-pub answer-requires-clause-leaves : goal.answer-requires-clause-leaves
-answer-requires-clause-leaves c = leaves_stay c.args.stores.now c.lock_below.new.stores (seen c.args.tree.now) c.lock_below.ensures.rest c.requires.tree.leaves
-
-pub answer-requires-clause-look : goal.answer-requires-clause-look
-answer-requires-clause-look c = look_stays c.args.stores.now c.lock_below.new.stores c.args.caller c.args.snap.now c.lock_below.ensures.rest c.requires.look
+pub read_under-requires-clause-there : goal.read_under-requires-clause-there
+read_under-requires-clause-there c =
+    there_kept c.args.stores.now c.args.caller c.args.prunes (select_meant c.args.ask.now) c.deref-in-Ok.result.now (seen c.args.tree.now) (c.deref-in-Ok.ensures.value ∙ c.in-Ok.ensures.leaves) c.requires.tree
 
 pub returns-in-Ok : goal.returns-in-Ok
 returns-in-Ok c =
-    then_step (λ (u : Unit {0}). u) (λ (a : Answer). a) tt c.answer.result c.args.stores.now c.lock_below.new.stores c.lock_below.new.stores c.args.caller (c.args.caller.cmd + 1)
-    (locked_below c.args.names.now c.args.caller (seen c.args.tree.now)) (λ u. answered c.args.caller (select_meant c.args.ask.now) (Some (seen c.args.tree.now))) c.in-Ok.ensures.step c.answer.ensures
+    kept_step c.args.prunes c.args.names.now c.args.caller (select_meant c.args.ask.now) c.deref.result.now c.deref-in-Ok.result.now (seen c.args.tree.now) c.read_under.result c.args.stores.now c.read_under.new.stores
+    (c.deref.ensures.value ∙ c.in-Ok.ensures.tables) (c.deref-in-Ok.ensures.value ∙ c.in-Ok.ensures.leaves) c.read_under.ensures
 
 pub returns-in-Err : goal.returns-in-Err
 returns-in-Err c =
-    stop_step (λ (u : Unit {0}). u) (λ (a : Answer). a) c.in-Err.stop c.args.stores.now c.lock_below.new.stores c.args.caller (c.args.caller.cmd + 1) c.args.caller.cmd
-    (locked_below c.args.names.now c.args.caller (seen c.args.tree.now)) (λ u. answered c.args.caller (select_meant c.args.ask.now) (Some (seen c.args.tree.now))) c.in-Err.ensures.step
+    no_memory (λ (a : Answer). a) c.args.stores.now c.args.stores.now c.args.caller (c.args.caller.cmd + 1) (of_kept c.args.prunes c.args.names.now c.args.caller (select_meant c.args.ask.now) (seen c.args.tree.now)) (stays c.args.stores.now c.args.caller.session)

@@ -33,9 +33,9 @@ select_table-requires-clause-few c = subst (λ (s : Stores). length s.catalog.ta
 pub returns-in-Ok : goal.returns-in-Ok
 returns-in-Ok c =
     then_step (λ (t : TableNo). t.number) (λ (a : Answer). a) c.in-Ok.table c.select_table.result c.args.stores.now c.lock_named.new.stores c.select_table.new.stores c.args.caller (c.args.caller.cmd + 1)
-    (named c.args.names.now c.args.caller.session AccessShare c.args.item.now.table.name) (of_table c.args.names.now c.args.caller (select_tree c.args.select.now) (item_name (joined_tree c.args.item.now))) (finds (goal.at.returns-in-Ok c).In-Ok) c.select_table.ensures
+    (named c.args.names.now c.args.caller.session AccessShare c.args.item.now.table.name) (of_table c.args.prunes c.args.names.now c.args.caller (select_tree c.args.select.now) (item_name (joined_tree c.args.item.now))) (finds (goal.at.returns-in-Ok c).In-Ok) c.select_table.ensures
 
 pub returns-in-Err : goal.returns-in-Err
 returns-in-Err c =
     stop_step (λ (t : TableNo). t.number) (λ (a : Answer). a) c.in-Err.stop c.args.stores.now c.lock_named.new.stores c.args.caller (c.args.caller.cmd + 1) c.args.caller.cmd
-    (named c.args.names.now c.args.caller.session AccessShare c.args.item.now.table.name) (of_table c.args.names.now c.args.caller (select_tree c.args.select.now) (item_name (joined_tree c.args.item.now))) (stops c)
+    (named c.args.names.now c.args.caller.session AccessShare c.args.item.now.table.name) (of_table c.args.prunes c.args.names.now c.args.caller (select_tree c.args.select.now) (item_name (joined_tree c.args.item.now))) (stops c)

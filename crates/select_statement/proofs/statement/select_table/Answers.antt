@@ -12,4 +12,4 @@ read_tree-requires-clause-look c = record { stands = c.in-Ok.ensures.stands; pas
 pub returns-in-Err : goal.returns-in-Err
 returns-in-Err c =
     no_memory (λ (a : Answer). a) c.args.stores.now c.args.stores.now c.args.caller (c.args.caller.cmd + 1)
-    (of_table c.args.names.now c.args.caller (select_tree c.args.select.now) (item_name (joined_tree c.args.item.now)) c.args.table.number) (stays c.args.stores.now c.args.caller.session)
+    (of_table c.args.prunes c.args.names.now c.args.caller (select_tree c.args.select.now) (item_name (joined_tree c.args.item.now)) c.args.table.number) (stays c.args.stores.now c.args.caller.session)

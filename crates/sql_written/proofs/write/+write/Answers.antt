@@ -8,7 +8,7 @@ use Rattle.sql_written.proofs.write.+write.Goals as goal
 
 pub write_list-returns : goal.write_list-returns
 write_list-returns t c =
-    list_text (trees c.args.list.now) (listed (map tree c.as_slice.result.now)) _ _ _ _ c.as_slice.ensures c.in_ok-push.ensures.items c.in_ok-write_row.ensures c.in_ok-push-2.ensures.items
+    list_text (trees c.args.list.now) (listed (map tree c.as_slice.result.now)) _ _ _ _ c.as_slice.ensures c.in_ok-push.ensures.items c.in_ok-write_chain.ensures c.in_ok-push-2.ensures.items
 
 pub write_more-write_operand-requires : goal.write_more-write_operand-requires
 write_more-write_operand-requires t c = let w = part_less c.args.parts.now c.loop-part.part-index c.part-item.result c.loop-part-test.true c.part-item.is in (omega (arith, w), tt)

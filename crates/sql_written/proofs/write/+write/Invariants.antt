@@ -15,8 +15,8 @@ decreases-write_operand l = 5 * weight (tree l.e.now) + 1
 abbrev pub decreases-write_more : goal.decreases-write_more
 decreases-write_more l = 5 * weights (listed (map tree l.parts.now)) + 2
 
-abbrev pub decreases-write_row : goal.decreases-write_row
-decreases-write_row l = 5 * weights (listed (map tree l.parts.now)) + 3
+abbrev pub decreases-write_chain : goal.decreases-write_chain
+decreases-write_chain l = 5 * weights (listed (map tree l.parts.now)) + 3
 
 abbrev pub decreases-write_list : goal.decreases-write_list
 decreases-write_list l = 5 * weights (trees l.list.now) + 4
