@@ -10,3 +10,4 @@ pub mod Found
 pub mod Targets
 pub mod EachRow
 pub mod Faults
+pub mod Pruned

@@ -13,7 +13,6 @@ use Rattle.history.specs.Rows.{RowEvents, RowEvent, LeafAdded, RowBorn, RowEnded
 use Rattle.history.specs.RowsSound.{AreRowsSound}
 use Rattle.history.specs.Snapshots.{TakenSnapshot}
 use Rattle.history.specs.History.{Event, History, TxChange, SnapshotChange, RowChange, LockChange, CatalogueChange, row_events, versions, is_seen, seen}
-use Rattle.table_trees.specs.Trees.{leaves}
 use Rattle.cond_logic.specs.Trees.{CondTree}
 use Rattle.row_store.specs.Kept.{KeptRows, blank, version_of, stored_at}
 use Rattle.row_store.specs.Stands.{StoreStands}
@@ -93,19 +92,19 @@ same_leaf a b e =
     let of : ℕ → LeafId = λ n. record { number = n } in
     ap of number
 
-version_is_target : (rows : KeptRows) (g : Found) (h : History) (s : TakenSnapshot) (leaf : LeafId) (v : Version) → Contains (leaves g.tree) leaf → ((v.leaf.number == leaf.number) && is_seen h s v) ≡ true → IsAt rows v → IsTargetIn rows g (target_of v)
+version_is_target : (rows : KeptRows) (g : Found) (h : History) (s : TakenSnapshot) (leaf : LeafId) (v : Version) → Contains g.leaves leaf → ((v.leaf.number == leaf.number) && is_seen h s v) ≡ true → IsAt rows v → IsTargetIn rows g (target_of v)
 version_is_target rows g h s leaf v among passes at =
     let both = and_parts (v.leaf.number == leaf.number) (is_seen h s v) passes in
     record {
       there = at.0;
       leaf = ap (λ (w : Version). w.leaf) at.1;
-      among = subst (Contains (leaves g.tree)) (sym (same_leaf v.leaf leaf both.0)) among;
+      among = subst (Contains g.leaves) (sym (same_leaf v.leaf leaf both.0)) among;
     }
 
-pub all_targets : (rows : KeptRows) (g : Found) (h : History) (s : TakenSnapshot) (condition : Option CondTree) → StoreStands rows h → All (IsTargetIn rows g) (targets h s condition (leaves g.tree))
+pub all_targets : (rows : KeptRows) (g : Found) (h : History) (s : TakenSnapshot) (condition : Option CondTree) → StoreStands rows h → All (IsTargetIn rows g) (targets h s condition g.leaves)
 all_targets rows g h s condition stands =
     let P : Version → Type 0 = λ v. IsTargetIn rows g (target_of v) in
-    all_flat (targets_in h s condition) (IsTargetIn rows g) (leaves g.tree) (λ leaf among.
+    all_flat (targets_in h s condition) (IsTargetIn rows g) g.leaves (λ leaf among.
     all_mapped target_of (IsTargetIn rows g) (filter (λ v. takes condition v.row) (seen h leaf.number s))
     (all_passing (λ (v : Version). takes condition v.row) P P (seen h leaf.number s) (λ v passes its. its)
     (all_passing (λ (v : Version). (v.leaf.number == leaf.number) && is_seen h s v) (IsAt rows) P (versions h) (λ v passes at. version_is_target rows g h s leaf v among passes at) (all_at rows h stands))))

@@ -13,8 +13,8 @@ bind_over-requires-clause-tables c = tree_locks c.args.stores.now c.args.caller 
 
 pub returns-in-Ok-clause-step : goal.returns-in-Ok-clause-step
 returns-in-Ok-clause-step c =
-    read_step c.args.names.now c.args.params.now c.args.caller (table_named c.args.change) (settings_of c.args.change) (condition_of c.args.change) c.bind_over.result c.args.stores.now c.bind_over.new.stores c.args.table (seen c.in-Ok.tree) c.in-Ok.path.items c.in-Ok.ensures c.bind_over.ensures.step
+    read_step c.args.prunes c.args.names.now c.args.params.now c.args.caller (table_named c.args.change) (settings_of c.args.change) (condition_of c.args.change) c.bind_over.result c.args.stores.now c.bind_over.new.stores c.args.table (seen c.in-Ok.tree) c.in-Ok.path.items c.in-Ok.ensures c.bind_over.ensures.step
 
 pub returns-in-Err-clause-step : goal.returns-in-Err-clause-step
 returns-in-Err-clause-step c =
-    no_memory found_of c.args.stores.now c.args.stores.now c.args.caller c.args.caller.cmd (of_table c.args.names.now c.args.params.now c.args.caller (table_named c.args.change) (settings_of c.args.change) (condition_of c.args.change) c.args.table.number) (stays c.args.stores.now c.args.caller.session)
+    no_memory found_of c.args.stores.now c.args.stores.now c.args.caller c.args.caller.cmd (of_table c.args.prunes c.args.names.now c.args.params.now c.args.caller (table_named c.args.change) (settings_of c.args.change) (condition_of c.args.change) c.args.table.number) (stays c.args.stores.now c.args.caller.session)
