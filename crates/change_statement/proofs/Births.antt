@@ -1,6 +1,7 @@
 -- A row version that is followed by another one.
-use Rattle.std.proofs.Common.{◌≡◌, ◌⊎◌, inl, inr, ℕ, zero, suc, ◌+◌, ◌<◌, true, List, [], ◌∷◌, ◌++◌, refl, ap, sym, ◌∙◌, subst, arith, Option, Some, None, Result, Ok, Err, IfOk, MatchResult, length, map, slice_get, slice_index_or}
+use Rattle.std.proofs.Common.{◌≡◌, inl, inr, ℕ, zero, suc, ◌+◌, ◌<◌, true, List, [], ◌∷◌, ◌++◌, refl, ap, sym, ◌∙◌, subst, arith, Option, Some, None, Result, Ok, Err, length, map, slice_get, slice_index_or}
 use Rattle.std.specs.List.{Contains}
+use Rattle.std.proofs.lemmas.Bool.{cases_Bool}
 use Rattle.std.proofs.lemmas.List.Elements.{Contains-append_left, Contains-append_right}
 use Rattle.pg_values.specs.declared.value.Value.{Value}
 use Rattle.pg_values.specs.declared.fault.Fault.{Fault}
@@ -24,7 +25,6 @@ use Rattle.tx_table.specs.Stands.{TableStands}
 use Rattle.row_store.specs.Kept.{KeptRows, blank, version_of, stored_at}
 use Rattle.row_store.specs.Stands.{StoreStands, newborn}
 use Rattle.row_change.specs.Placing.{placed}
-use Rattle.row_change.specs.Targets.{HasWay}
 use Rattle.part_catalog.specs.Stands.{CatalogueStands}
 use Rattle.row_change.specs.Storing.{Made, IsMade, full_faults, made_by}
 use Rattle.row_change.specs.Succession as rows_spec
@@ -52,7 +52,7 @@ use Rattle.insert_statement.proofs.OwnLeaf.{none_refuses}
 use Rattle.insert_statement.proofs.Tables.{tables_kept}
 use Rattle.insert_statement.proofs.Ways.{is_placed}
 use Rattle.change_statement.specs.Gathered.{Found}
-use Rattle.change_statement.specs.Running.{IsGathered, IsInRun, IsPlacedIn, IsRun, IsRunTold, MayEndIn, MayRun, MayWriteIn}
+use Rattle.change_statement.specs.Running.{IsGathered, IsInRun, IsPlacedIn, IsRun, IsRunTold, MayEndIn, MayPlace, MayRun, MayWriteIn}
 use Rattle.change_statement.specs.Updated.{succeeded, succeeded_by}
 use Rattle.change_statement.proofs.Ended.{Came, came_one, came_on, got_at, own_is, rows_keep}
 use Rattle.change_statement.proofs.Kept.{leaf_is_there, one_of}
@@ -73,29 +73,16 @@ mutual
 
 -- ---- the leaf where a row goes
 
--- it is the one where the row was, or one of the tree's while rows may move
-abbrev pub IsHomeFor : Result LeafId Stop → Found → (from leaf : LeafId) → Type 0
-IsHomeFor r g from leaf = MatchResult r (λ home. (home ≡ leaf) × ((leaf ≡ from) ⊎ (g.moves ≡ true))) (λ e. e ≡ stop.NoMemory)
-
-abbrev Goes : Stores → Found → List Value → LeafId → Type 0
-Goes stores g row leaf = (h : History) → CatalogueStands stores.catalog h → placed (tables_of h) g.tree g.path row ≡ Ok leaf
-
-written_there : (stores : Stores) (caller : Caller) (g : Found) (from leaf : LeafId) (row : List Value) (h : History) → Stands stores h → IsGathered stores caller g → MayWriteIn stores caller.session from → Goes stores g row leaf → (leaf ≡ from) ⊎ (g.moves ≡ true) → MayWriteIn stores caller.session leaf
-written_there stores caller g from leaf row h stands its here goes (inl same) = subst (MayWriteIn stores caller.session) (sym same) here
-written_there stores caller g from leaf row h stands its here goes (inr on) =
-    let way = is_placed (tables_of h) g.tree g.path row leaf (goes h stands.all.catalog) in
-    one_of (MayWriteIn stores caller.session) (leaves g.tree) leaf (routed_among row g.tree leaf way.routed) (its.moves on)
-
-pub home_placed : (r : Result LeafId Stop) (stores : Stores) (caller : Caller) (g : Found) (from leaf : LeafId) (row : List Value) → MayRun stores caller → IsGathered stores caller g → MayWriteIn stores caller.session from → Goes stores g row leaf → HasWay g.tree leaf → IsHomeFor r g from leaf
-    → IfOk r (λ home. IsPlacedIn stores caller.session g home row)
-home_placed (Ok home) stores caller g from leaf row may its here goes way is =
+-- the session may write there: the row may not move, or all leaves of the tree may be written
+pub written_there : (stores : Stores) (caller : Caller) (g : Found) (leaf : LeafId) (row : List Value) → MayRun stores caller → IsGathered stores caller g → MayPlace stores caller.session g row
+    → ((h : History) → CatalogueStands stores.catalog h → placed (tables_of h) g.tree g.path row ≡ Ok leaf) → MayWriteIn stores caller.session leaf
+written_there stores caller g leaf row may its place goes =
     let s = may.sound in
-    subst (λ l. IsPlacedIn stores caller.session g l row) (sym is.0) (record { placed = goes; way = way; written = written_there stores caller g from leaf row s.0 s.1 its here goes is.1 })
-home_placed (Err e) stores caller g from leaf row may its here goes way is = tt
-
-pub home_run : (r : Result LeafId Stop) (stores : Stores) (caller : Caller) (g : Found) (from leaf : LeafId) (f : History → Made LeafId) → IsHomeFor r g from leaf → IsRun (λ (l : LeafId). l) (Ok leaf) stores stores caller f → IsRun (λ (l : LeafId). l) r stores stores caller f
-home_run (Ok home) stores caller g from leaf f is run = subst (λ x. IsRun (λ (l : LeafId). l) (Ok x) stores stores caller f) (sym is.0) run
-home_run (Err e) stores caller g from leaf f is run = subst (λ (x : Stop). IsRun (λ (l : LeafId). l) (Err x) stores stores caller f) (sym is) (no_memory_run (λ (l : LeafId). l) stores stores caller f (stays stores caller.session))
+    let way = is_placed (tables_of s.0) g.tree g.path row leaf (goes s.0 s.1.all.catalog) in
+    elim (cases_Bool g.moves) [
+      | inl on ↦ one_of (MayWriteIn stores caller.session) (leaves g.tree) leaf (routed_among row g.tree leaf way.routed) (its.moves on)
+      | inr still ↦ place still leaf way.routed
+    ]
 
 -- ---- the row that is born
 

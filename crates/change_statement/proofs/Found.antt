@@ -1,5 +1,5 @@
 -- What is gathered: names that are bound, locks, and the tree of the named table.
-use Rattle.std.proofs.Common.{◌≡◌, ℕ, ◌+◌, ◌<◌, ◌≤◌, Bool, true, false, if◌then◌else◌, List, [], ◌∷◌, ap, sym, ◌∙◌, subst, Option, Result, Ok, Err, All, map, length}
+use Rattle.std.proofs.Common.{◌≡◌, ℕ, ◌+◌, ◌<◌, ◌≤◌, Bool, true, false, if◌then◌else◌, List, [], ◌∷◌, ap, sym, ◌∙◌, subst, Option, Result, Ok, Err, All, arith, map, length}
 use Rattle.std.specs.List.{Contains}
 use Rattle.std.proofs.lemmas.List.Elements.{All-cons, All-head}
 use Rattle.pg_values.specs.declared.fault.Fault.{Fault}
@@ -13,7 +13,7 @@ use Rattle.history.specs.History.{History, catalogue_events}
 use Rattle.table_trees.specs.declared.path_part.PathPart.{PathPart}
 use Rattle.table_trees.specs.Histories.{path_of}
 use Rattle.table_trees.specs.Trees.{TableTree, leaves}
-use Rattle.pruned_trees.specs.Kept.{Keeps, kept_tables}
+use Rattle.pruned_trees.specs.Kept.{Keeps, Leaf, id_of, kept_leaves, kept_tables}
 use Rattle.part_catalog.specs.Found.{made_at}
 use Rattle.part_catalog.specs.Stands.{CatalogueStands}
 use Rattle.sql_expressions.specs.Tree.{Tree}
@@ -21,17 +21,21 @@ use Rattle.sql_queries.specs.Trees.{Setting}
 use Rattle.sql_queries.specs.declared.parts.NamedTable.{NamedTable}
 use Rattle.expression_binder.specs.Firsts.{IsAnswerBy}
 use Rattle.expression_binder.specs.declared.scope.Param.{Param}
+use Rattle.pruned_trees.specs.Laws.{TreesCanBePruned}
+use Rattle.pruned_trees.specs.Prunable.{CanPrune}
 use Rattle.statement_asks.specs.Asked.{ChangeMeant, SettingMeant, change_meant}
 use Rattle.statement_asks.specs.declared.change.ChangeAsk.{ChangeAsk}
 use Rattle.change_binder.specs.Changes.{bound_change}
 use Rattle.row_change.specs.Ways.{AllTables, root}
 use Rattle.soundness.specs.Worlds.{HasLeaf}
+use Rattle.soundness.proofs.Listed.{none_in}
 use Rattle.soundness.proofs.Presence.{all_more}
 use Rattle.legal_statements.specs.Below.{tables_in}
 use Rattle.legal_statements.specs.Locked.{IsWritable}
 use Rattle.stores.specs.Events.{look_of}
 use Rattle.stores.specs.Stand.{Stands}
 use Rattle.stores.specs.declared.stores.Stores.{Stores}
+use Rattle.stores.proofs.Goodness.{legal_of, permitted_of}
 use Rattle.course.specs.Attempts.{MayAttempt}
 use Rattle.course.specs.declared.caller.Caller.{Caller}
 use Rattle.course.specs.declared.stop.Stop.{Stop}
@@ -43,10 +47,10 @@ use Rattle.insert_statement.specs.Inserted.{answered}
 use Rattle.insert_statement.specs.Asked.{IsReadOf, MayLock, MayWrite, stopped}
 use Rattle.insert_statement.proofs.Locked.{may_write}
 use Rattle.insert_statement.proofs.Told.{same_step}
-use Rattle.insert_statement.proofs.Tables.{IsMade}
+use Rattle.insert_statement.proofs.Tables.{IsMade, tables_kept}
 use Rattle.insert_statement.proofs.Trees.{Are, IsHome, tree_root}
 use Rattle.change_statement.specs.Gathered.{Found, found_by, found_of, item_of, meant, locked_all, over, of_table}
-use Rattle.change_statement.specs.Kept.{leaves_read, moves, tables_locked}
+use Rattle.change_statement.specs.Kept.{if_some, leaves_read, moves, sets_key, tables_locked}
 use Rattle.change_statement.specs.Running.{IsGathered, MayWriteIn}
 use Rattle.change_statement.specs.declared.gathering.Gathered.{Gathered}
 use Rattle.change_statement.proofs.Homes.{all_kept, all_under, home_of, kept_home, kept_in, root_and_below}
@@ -88,6 +92,10 @@ all_low stores s tables all = all_more (MayLock stores s) (λ (t : TableNo). t.n
 pub all_known : (stores : Stores) (s : ℕ) (tables : List TableNo) → All (MayLock stores s) tables → All (λ t. IsKnownTo stores s t.number) tables
 all_known stores s tables all = all_more (MayLock stores s) (λ (t : TableNo). IsKnownTo stores s t.number) tables (λ t may. may.1) all
 
+pub locked_step : (names : List (List ℕ)) (c : Caller) (r : Result (Unit {0}) Stop) (old new : Stores) (tables others : List TableNo) → tables ≡ others
+    → IsStep (λ (u : Unit {0}). u) r old new c c.cmd (locked_all names c tables) → IsStep (λ (u : Unit {0}). u) r old new c c.cmd (locked_all names c others)
+locked_step names c r old new tables others are step = subst (λ ts. IsStep (λ (u : Unit {0}). u) r old new c c.cmd (locked_all names c ts)) are step
+
 -- ---- what the session may write then
 
 -- locks change nothing of a tree that is read
@@ -119,6 +127,10 @@ under_all : (P : TableNo → Type 0) (keeps : Keeps) (tree : TableTree) (v : Boo
 under_all P keeps tree true on all = all
 under_all P keeps tree false on all = absurd (cc)
 
+some_kept : (xs : List Leaf) (b : Bool) (leaf : LeafId) → Contains (map id_of xs) leaf → if_some xs b ≡ false → b ≡ false
+some_kept [] b leaf at out = absurd (none_in leaf at)
+some_kept (x ∷ xs) b leaf at out = out
+
 pub gathered_now : (names : List (List ℕ)) (old new : Stores) (c : Caller) (keeps : Keeps) (t : TableNo) (tree : TableTree) (path : List PathPart) (m : ChangeMeant) (tables : List TableNo) → tables ≡ tables_locked keeps m.settings tree
     → MayAttempt old c → IsKnownTo old c.session t.number → IsReadOf old.txs old.catalog c t tree path → MayWrite old c.session (t ∷ [])
     → IsStep (λ (u : Unit {0}). u) (Ok tt) old new c c.cmd (locked_all names c tables) → new ≡ record old { locks = new.locks } → IsGathered new c (found_by keeps t tree path m)
@@ -140,6 +152,7 @@ gathered_now names old new c keeps t tree path m tables are may known read top s
           kept_written new h c.session keeps tree leaf x (moves keeps m.settings tree) stands (homes_of new c t tree path h stands there reads) (at_top h stands) (under h stands) at has);
       moves = λ on. each_of (MayWriteIn new c.session) (leaves tree) (λ leaf at h stands x has.
           all_written new h c.session tree leaf x stands (homes_of new c t tree path h stands there reads) (at_top h stands) (under_all (P h) keeps tree (moves keeps m.settings tree) on (under h stands)) at has);
+      stays = λ still leaf at. some_kept (kept_leaves keeps tree) (sets_key m.settings tree) leaf at still;
     }
 
 -- what is made of it
@@ -150,6 +163,14 @@ found_as keeps t tree path m ls b are is =
     ap (λ xs. f xs (moves keeps m.settings tree)) (sym are) ∙ ap (f ls) (sym is)
 
 -- ---- the tree of the named table
+
+pub read_prunable : TreesCanBePruned → (stores : Stores) (c : Caller) (t : TableNo) (tree : TableTree) (path : List PathPart) → MayAttempt stores c → IsKnownTo stores c.session t.number → IsReadOf stores.txs stores.catalog c t tree path → CanPrune tree
+read_prunable can stores c t tree path may there read =
+    let h = may.sound.0 in
+    let stands = may.sound.1 in
+    let kept = tables_kept stores.catalog h stands.all.catalog in
+    let known = there.made in
+    subst CanPrune (sym (read.is_tree h stands.all.txs stands.all.catalog)) (can h c.session t.number (look_of h c.session c.cmd) (legal_of h stands.good) (permitted_of h stands.good) (omega (arith, kept, known)))
 
 pub read_step : (prunes : Bool) (names : List (List ℕ)) (params : List Param) (c : Caller) (table : NamedTable) (settings : List Setting) (condition : Option Tree) (r : Result Gathered Stop) (old new : Stores) (t : TableNo) (tree : TableTree) (path : List PathPart) → IsReadOf old.txs old.catalog c t tree path
     → IsStep found_of r old new c c.cmd (over prunes names params c table settings condition t.number tree path) → IsStep found_of r old new c c.cmd (of_table prunes names params c table settings condition t.number)

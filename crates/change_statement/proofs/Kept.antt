@@ -86,6 +86,7 @@ gathered_with stores rows caller g h stands its =
       among = its.among;
       writes = all_more W V g.leaves (λ leaf may. written_with stores rows caller.session h stands leaf may) its.writes;
       moves = λ on. all_more W V (leaves g.tree) (λ leaf may. written_with stores rows caller.session h stands leaf may) (its.moves on);
+      stays = its.stays;
     }
 
 pub gathered_stays : (old new : Stores) (caller : Caller) (g : Found) → MayRun old caller → OnlyRows old new → IsGathered old caller g → IsGathered new caller g

@@ -11,3 +11,4 @@ pub mod Targets
 pub mod EachRow
 pub mod Faults
 pub mod Pruned
+pub mod Stays

@@ -1,8 +1,8 @@
 -- The targets in the leaves that a condition keeps are those in all leaves.
-use Rattle.std.proofs.Common.{◌≡◌, ◌≤◌, ℕ, ◌+◌, arith, Bool, true, false, if◌then◌else◌, List, [], ◌∷◌, ◌++◌, length, map, refl, sym, ap, ◌∙◌, length-append}
+use Rattle.std.proofs.Common.{◌≡◌, ◌≤◌, ℕ, ◌+◌, arith, Bool, true, false, if◌then◌else◌, List, [], ◌∷◌, ◌++◌, length, map, refl, sym, ap, ◌∙◌, append_assoc, length-append}
 use Rattle.std.specs.Prelude.{Option, Some, None, filter}
 use Rattle.std.specs.List.{flat_map}
-use Rattle.std.proofs.lemmas.List.{append_assoc, length-map}
+use Rattle.std.proofs.lemmas.List.{length-map}
 use Rattle.pg_values.specs.declared.value.Value.{Value}
 use Rattle.pg_ids.specs.declared.ids.LeafId.{LeafId}
 use Rattle.part_bounds.specs.declared.partition_bound.Bound.{Bound}
@@ -38,13 +38,9 @@ flat_through : {X Y Z : Type 0} (f : Y → List Z) (g : X → Y) (xs : List X) �
 flat_through f g [] = refl
 flat_through f g (x ∷ xs) = ap (λ l. f (g x) ++ l) (flat_through f g xs)
 
-nothing : {X : Type 0} (xs : List X) → length xs ≡ 0 → xs ≡ []
-nothing [] e = refl
-nothing (x ∷ xs) e = absurd (omega (arith, e))
+-- ---- kept leaves are some of all: where all have no more passing rows than these, all have no more targets
 
--- ---- kept leaves are some of all: where they have as many of one kind, they have all of another that is none where that is none
-
-module _ {A B : Type 0} (f : Leaf → List A) (g : Leaf → List B) (none : (l : Leaf) → length (f l) ≡ 0 → g l ≡ []) where
+module _ (f : Leaf → List (Leaf × List Value)) (g : Leaf → List TargetRow) (none : (l : Leaf) → length (f l) ≡ 0 → g l ≡ []) where
   -- so it is of those of the leaves
   record Rest (some all : List Leaf) : Type 0 where
     pub fewer : length (flat_map f some) ≤ length (flat_map f all)

@@ -53,6 +53,21 @@ numbered (RowChange (RowEnded k e) ∷ h) sound = numbered h sound.1
 abbrev IsAt : KeptRows → Version → Type 0
 IsAt rows v = (v.id.number < length rows.stored) × ((stored_at rows.stored v.id).version ≡ v)
 
+-- a version that is kept is that of its place
+pub record IsKept (rows : KeptRows) (h : History) (id : RowId) : Type 0 where
+  pub within : id.number < length (versions h)
+  pub there : slice_index_or (versions h) id.number blank.version ≡ (stored_at rows.stored id).version
+  pub number : (stored_at rows.stored id).version.id.number ≡ id.number
+
+pub version_numbered : (rows : KeptRows) (h : History) (id : RowId) → id.number < length rows.stored → StoreStands rows h → IsKept rows h id
+version_numbered rows h id known stands =
+    let k = id.number in
+    let d = blank.version in
+    let count : length rows.stored ≡ length (versions h) = sym (length-map rows.stored version_of) ∙ ap length stands.births in
+    let within : k < length (versions h) = omega (arith, count, known) in
+    let there : (slice_index_or rows.stored k blank).version ≡ slice_index_or (versions h) k d = sym (get_or-map version_of rows.stored k blank d known) ∙ ap (λ vs. slice_index_or vs k d) stands.births in
+    record { within = within; there = sym there; number = ap (λ (v : Version). v.id.number) there ∙ numbered h stands.sound k d within }
+
 each_at : (vs : List Version) (P : Version → Type 0) → ((k : ℕ) (d : Version) → k < length vs → P (slice_index_or vs k d)) → All P vs
 each_at vs P each k d lt = each k d lt
 

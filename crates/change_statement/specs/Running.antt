@@ -1,5 +1,5 @@
 -- A statement in the middle of its run: what a part of it makes of a history (the manual, 13.2).
-use Rattle.std.specs.Prelude.{◌≡◌, ℕ, ◌+◌, ◌<◌, ◌≤◌, true, List, [], ◌∷◌, ◌++◌, Some, None, Result, Ok, Err, All, length, slice_index_or}
+use Rattle.std.specs.Prelude.{◌≡◌, ℕ, ◌+◌, ◌<◌, ◌≤◌, true, false, List, [], ◌∷◌, ◌++◌, Some, None, Result, Ok, Err, All, length, slice_index_or}
 use Rattle.std.specs.List.{Contains}
 use Rattle.pg_values.specs.declared.value.Value.{Value}
 use Rattle.pg_ids.specs.declared.ids.LeafId.{LeafId}
@@ -7,7 +7,7 @@ use Rattle.pg_ids.specs.declared.ids.RowId.{RowId}
 use Rattle.history.specs.Transactions.{open_of}
 use Rattle.history.specs.History.{History, tx_events, catalogue_events, stands}
 use Rattle.history.specs.Legal.{IsInOrder}
-use Rattle.table_trees.specs.Trees.{leaves}
+use Rattle.table_trees.specs.Trees.{leaves, routed}
 use Rattle.tx_table.specs.Stands.{TableStands, sees_now_by}
 use Rattle.row_store.specs.Kept.{KeptRows, stored_at}
 use Rattle.row_store.specs.Stands.{StoreStands}
@@ -30,6 +30,7 @@ use Rattle.statement_steps.specs.Steps.{IsHalted}
 use Rattle.insert_statement.specs.Asked.{IsReadOf}
 use Rattle.insert_statement.specs.Inserted.{tables_of}
 use Rattle.change_statement.specs.Gathered.{Found}
+use Rattle.change_statement.specs.Kept.{sets_key}
 
 -- ---- its command
 
@@ -82,13 +83,14 @@ abbrev pub MayWriteIn : Stores → (session : ℕ) → LeafId → Type 0
 MayWriteIn stores s leaf = (h : History) → Stands stores h → (x : ℕ) → HasLeaf (catalogue_events h) x leaf → IsWritable h s x
 
 -- the tree and the path are those that the command reads; the leaves that are read are some of the tree's, and the session
--- may write their tables, and those of all leaves of the tree where rows may move
+-- may write their tables, and those of all leaves of the tree where rows may move; where they may not, no key column is set
 pub record IsGathered (stores : Stores) (caller : Caller) (g : Found) : Type 0 where
   pub known : IsKnownTo stores caller.session g.table.number
   pub read : IsReadOf stores.txs stores.catalog caller g.table g.tree g.path
   pub among : All (Contains (leaves g.tree)) g.leaves
   pub writes : All (MayWriteIn stores caller.session) g.leaves
   pub moves : g.moves ≡ true → All (MayWriteIn stores caller.session) (leaves g.tree)
+  pub stays : g.moves ≡ false → (leaf : LeafId) → Contains g.leaves leaf → sets_key g.asked.settings g.tree ≡ false
 
 -- ---- its rows
 
@@ -106,6 +108,10 @@ pub record MayEndIn (stores : Stores) (caller : Caller) (id : RowId) : Type 0 wh
   pub locked : MayWriteIn stores caller.session (stored_at stores.rows.stored id).version.leaf
 
 -- ---- a new row
+
+-- where no row may move, the session may write the table of the leaf to which the row goes
+abbrev pub MayPlace : Stores → (session : ℕ) → Found → (row : List Value) → Type 0
+MayPlace stores s g row = g.moves ≡ false → (leaf : LeafId) → routed row g.tree ≡ Ok leaf → MayWriteIn stores s leaf
 
 -- the row goes to the leaf, which is one of the tree's, and the session may write the table that has it
 pub record IsPlacedIn (stores : Stores) (session : ℕ) (g : Found) (leaf : LeafId) (row : List Value) : Type 0 where

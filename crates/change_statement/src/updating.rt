@@ -1,6 +1,6 @@
 //! A row version that is followed by another one.
 
-ghost use Rattle.std.specs.Prelude.{◌≡◌, ◌<◌, ◌∷◌, ◌⊎◌, [], true, IfOk, MatchResult, length};
+ghost use Rattle.std.specs.Prelude.{◌≡◌, ◌<◌, ◌∷◌, [], true, IfOk, MatchResult, length};
 ghost use Rattle.pg_values.specs.Refusals.{IsAnswer};
 ghost use Rattle.part_bounds.specs.Levels.{IsOf};
 ghost use Rattle.part_bounds.specs.Checks.{or_first};
@@ -16,12 +16,11 @@ ghost use Rattle.part_catalog.specs.Stands.{CatalogueStands};
 ghost use Rattle.pg_values.specs.declared.fault.Refusal.TheVariants.{NoMemory};
 ghost use Rattle.row_targets.specs.NewRows.{new_row};
 ghost use Rattle.statement_asks.specs.Asked.{change_meant};
-ghost use Rattle.course.specs.declared.stop.Stop.TheVariants.{NoMemory as OutOfMemory};
 ghost use Rattle.stores.specs.Stand.{Stands};
 ghost use Rattle.insert_statement.specs.Asked.{AreRowsOf};
 ghost use Rattle.insert_statement.specs.Inserted.{holder_faults, tables_of};
 ghost use Rattle.change_statement.specs.Gathered.{found_of};
-ghost use Rattle.change_statement.specs.Running.{IsGathered, IsPlacedIn, IsRun, MayEndIn, MayRun, MayWriteIn};
+ghost use Rattle.change_statement.specs.Running.{IsGathered, IsPlacedIn, IsRun, MayEndIn, MayPlace, MayRun};
 ghost use Rattle.change_statement.specs.Updated as updated;
 
 use crate::asking::stop_by;
@@ -100,29 +99,17 @@ pub(crate) fn renew(
 
 // ---- its leaf
 
-// A row keeps its leaf where no row may move: want of memory is never told for another one.
-fn only_home(gathered: &Gathered, from: LeafId, leaf: LeafId) -> Result<LeafId, Stop>
-    ensures { MatchResult result (λ home. (home ≡ leaf) × ((leaf ≡ from) ⊎ (gathered.now.moves ≡ true))) (λ stop. stop ≡ OutOfMemory) }
-{
-    if gathered.moves || leaf.number == from.number {
-        Ok(leaf)
-    } else {
-        Err(Stop::NoMemory)
-    }
-}
-
 // The leaf of the row below the named table.
 fn rehouse(
     alloc: Global,
     stores: &Stores,
     caller: Caller,
     gathered: &Gathered,
-    from: LeafId,
     row: &Row,
 ) -> Result<LeafId, Stop>
     requires may { MayRun stores.now caller }
     requires gathered { IsGathered stores.now caller (found_of gathered.now) }
-    requires from { MayWriteIn stores.now caller.session from }
+    requires place { MayPlace stores.now caller.session (found_of gathered.now) row.now }
     requires of { AreRowsOf stores.now.catalog (found_of gathered.now).table (row.now ∷ []) }
     ensures run { IsRun (λ leaf. leaf) result stores.now stores.now caller (updated.rehoused (found_of gathered.now) row.now) }
     ensures placed { IfOk result (λ leaf. IsPlacedIn stores.now caller.session (found_of gathered.now) leaf row.now) }
@@ -130,7 +117,7 @@ fn rehouse(
     let tree = &gathered.tree;
     match leaves_of(alloc, &stores.catalog, tree, &gathered.path, from_ref(row)) {
         Ok(leaves) => match leaves.as_slice().split_first() {
-            Some((leaf, _)) => only_home(gathered, from, *leaf),
+            Some((leaf, _)) => Ok(*leaf),
             None => Err(Stop::NoMemory),
         },
         Err(refusal) => Err(stop_by(refusal)),
@@ -238,7 +225,8 @@ fn store_in(
     }
 }
 
-/// The row takes the place of the version, in the leaf where it belongs.
+/// The row takes the place of the version, in the leaf where it belongs: where no row may move, in that of the
+/// version.
 pub(crate) fn store(
     alloc: Global,
     stores: &mut Stores,
@@ -252,12 +240,13 @@ pub(crate) fn store(
     requires gathered { IsGathered stores.old caller (found_of gathered.now) }
     requires version { MayEndIn stores.old caller id }
     requires own { (stored_at stores.old.rows.stored id).version.leaf ≡ from }
+    requires place { MayPlace stores.old caller.session (found_of gathered.now) row }
     requires of { AreRowsOf stores.old.catalog (found_of gathered.now).table (row ∷ []) }
     ensures run { IsRun (λ u. u) result stores.old stores.new caller (updated.stored caller (found_of gathered.now) from id row) }
     ensures rest { stores.new ≡ record stores.old { rows = stores.new.rows } }
     ensures keeps { KeepsVersions stores.old.rows stores.new.rows }
 {
-    match rehouse(alloc, stores, caller, gathered, from, &row) {
+    match rehouse(alloc, stores, caller, gathered, &row) {
         Ok(leaf) => store_in(alloc, stores, caller, gathered, from, id, leaf, row),
         Err(stop) => Err(stop),
     }

@@ -2,11 +2,14 @@ use Rattle.table_trees.specs.Seen.{seen}
 use Rattle.statement_steps.proofs.Parts.{stays, no_memory}
 use Rattle.insert_statement.proofs.Tables.{tree_locks}
 use Rattle.change_statement.specs.Gathered.{found_of, of_table, table_named, settings_of, condition_of}
-use Rattle.change_statement.proofs.Found.{read_step}
+use Rattle.change_statement.proofs.Found.{read_prunable, read_step}
 use Rattle.change_statement.proofs.gathering.read_table.Goals as goal
 
 pub tree_and_path-requires-clause-known : goal.tree_and_path-requires-clause-known
 tree_and_path-requires-clause-known c = c.requires.there.made
+
+pub bind_over-requires-clause-prunable : goal.bind_over-requires-clause-prunable
+bind_over-requires-clause-prunable c = read_prunable c.trees_can_be_pruned.ensures c.args.stores.now c.args.caller c.args.table (seen c.in-Ok.tree) c.in-Ok.path.items c.requires.may c.requires.there c.in-Ok.ensures
 
 pub bind_over-requires-clause-tables : goal.bind_over-requires-clause-tables
 bind_over-requires-clause-tables c = tree_locks c.args.stores.now c.args.caller c.args.table (seen c.in-Ok.tree) c.in-Ok.path.items c.requires.may c.requires.few c.requires.there c.in-Ok.ensures

@@ -1,19 +1,18 @@
-use Rattle.std.proofs.Common.{◌≡◌, [], ◌∷◌, List, ◌∙◌, Ok, Err, Result, sym, subst, All, length}
+use Rattle.std.proofs.Common.{◌≡◌, [], ◌∷◌, List, ◌∙◌, Ok, Err, sym, subst, All, length}
 use Rattle.std.proofs.lemmas.List.Elements.{All-cons, All-nil, All-head}
 use Rattle.pg_ids.specs.declared.ids.LeafId.{LeafId}
 use Rattle.pg_values.specs.Refusals.{IsAnswer}
 use Rattle.row_change.specs.Placing.{placed, all_placed, CanBePlaced, IsPartNumbered}
 use Rattle.row_change.specs.Targets.{HasWay}
 use Rattle.course.specs.declared.stop.Stop.{Stop}
-use Rattle.pg_values.specs.declared.fault.Fault.{Fault}
 use Rattle.history.specs.History.{History}
 use Rattle.part_catalog.specs.Stands.{CatalogueStands}
-use Rattle.insert_statement.specs.Inserted.{answered, tables_of}
+use Rattle.insert_statement.specs.Inserted.{tables_of}
 use Rattle.change_statement.specs.Gathered.{found_of}
 use Rattle.change_statement.specs.Running.{IsRun}
 use Rattle.change_statement.specs.Updated.{rehoused}
 use Rattle.change_statement.proofs.Renewed.{takes, answer_run, refusal_run, is_one, is_none}
-use Rattle.change_statement.proofs.Births.{home_placed, home_run}
+use Rattle.change_statement.proofs.Births.{written_there}
 use Rattle.change_statement.proofs.updating.rehouse.Goals as goal
 use Rattle.change_statement.proofs.updating.rehouse.Goals.{In-Some}
 
@@ -50,15 +49,17 @@ pub returns-in-Some-clause-run : goal.returns-in-Some-clause-run
 returns-in-Some-clause-run c =
     let g = found_of c.args.gathered.now in
     let at = (goal.at.returns-in-Some-clause-run c).In-Some in
-    let f : History → Result LeafId Fault = λ h. placed (tables_of h) g.tree g.path c.args.row.now in
-    home_run c.only_home.result c.args.stores.now c.args.caller g c.args.from c.in-Some.leaf.now (λ h. answered (f h)) c.only_home.ensures
-    (answer_run c.in-Some.leaf.now c.args.stores.now c.args.caller f c.requires.may (λ h stands. goes at h stands.all.catalog))
+    answer_run c.in-Some.leaf.now c.args.stores.now c.args.caller (λ h. placed (tables_of h) g.tree g.path c.args.row.now) c.requires.may (λ h stands. goes at h stands.all.catalog)
 
 pub returns-in-Some-clause-placed : goal.returns-in-Some-clause-placed
 returns-in-Some-clause-placed c =
     let g = found_of c.args.gathered.now in
     let at = (goal.at.returns-in-Some-clause-placed c).In-Some in
-    home_placed c.only_home.result c.args.stores.now c.args.caller g c.args.from c.in-Some.leaf.now c.args.row.now c.requires.may c.requires.gathered c.requires.from (goes at) (way at) c.only_home.ensures
+    record {
+      placed = goes at;
+      way = way at;
+      written = written_there c.args.stores.now c.args.caller g c.in-Some.leaf.now c.args.row.now c.requires.may c.requires.gathered c.requires.place (goes at);
+    }
 
 pub returns-clause-run : goal.returns-clause-run
 returns-clause-run c =

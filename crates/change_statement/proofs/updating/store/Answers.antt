@@ -1,14 +1,10 @@
-use Rattle.std.proofs.Common.{refl, subst, Ok, Err}
+use Rattle.std.proofs.Common.{refl, Ok, Err}
 use Rattle.pg_ids.specs.declared.ids.LeafId.{LeafId}
 use Rattle.row_change.proofs.Successors.{keeps_all}
 use Rattle.change_statement.specs.Gathered.{found_of}
-use Rattle.change_statement.specs.Running.{MayWriteIn}
 use Rattle.change_statement.specs.Updated.{rehoused, stored_in}
 use Rattle.change_statement.proofs.Runs.{then_run, stop_run}
 use Rattle.change_statement.proofs.updating.store.Goals as goal
-
-pub rehouse-requires-clause-from : goal.rehouse-requires-clause-from
-rehouse-requires-clause-from c = subst (MayWriteIn c.args.stores.now c.args.caller.session) c.requires.own c.requires.version.locked
 
 pub returns-in-Ok-clause-run : goal.returns-in-Ok-clause-run
 returns-in-Ok-clause-run c =
