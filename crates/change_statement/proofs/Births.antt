@@ -1,5 +1,5 @@
 -- A row version that is followed by another one.
-use Rattle.std.proofs.Common.{◌≡◌, inl, inr, ℕ, zero, suc, ◌+◌, ◌<◌, true, List, [], ◌∷◌, ◌++◌, refl, ap, sym, ◌∙◌, subst, arith, Option, Some, None, Result, Ok, Err, length, map, slice_get, slice_index_or}
+use Rattle.std.proofs.Common.{◌≡◌, inl, inr, ℕ, zero, suc, ◌+◌, ◌<◌, List, [], ◌∷◌, ◌++◌, refl, ap, sym, ◌∙◌, subst, arith, Option, Some, None, Result, Ok, Err, slice_get, slice_index_or}
 use Rattle.std.specs.List.{Contains}
 use Rattle.std.proofs.lemmas.Bool.{cases_Bool}
 use Rattle.std.proofs.lemmas.List.Elements.{Contains-append_left, Contains-append_right}
@@ -14,7 +14,6 @@ use Rattle.history.specs.declared.transaction.TxId.{TxId}
 use Rattle.history.specs.declared.version.Version.{Version}
 use Rattle.history.specs.declared.version.End.{End}
 use Rattle.history.specs.Transactions.{open_of}
-use Rattle.history.specs.Catalogue.{tables_made}
 use Rattle.history.specs.Rows.{RowEvent, RowBorn, RowEnded}
 use Rattle.history.specs.History.{History, RowChange, tx_events, catalogue_events, versions}
 use Rattle.history.specs.Legal.{IsInOrder}
@@ -22,15 +21,15 @@ use Rattle.table_trees.specs.Trees.{TableTree, LeafTable, LevelTable, Trees, End
 use Rattle.row_router.specs.declared.path.PathTest.TheVariants.{Bounds}
 use Rattle.row_router.specs.Paths.{refused}
 use Rattle.tx_table.specs.Stands.{TableStands}
-use Rattle.row_store.specs.Kept.{KeptRows, blank, version_of, stored_at}
+use Rattle.row_store.specs.Kept.{KeptRows, stored_at}
 use Rattle.row_store.specs.Stands.{StoreStands, newborn}
 use Rattle.row_change.specs.Placing.{placed}
 use Rattle.part_catalog.specs.Stands.{CatalogueStands}
-use Rattle.row_change.specs.Storing.{Made, IsMade, full_faults, made_by}
+use Rattle.row_change.specs.Storing.{IsMade, full_faults, made_by}
 use Rattle.row_change.specs.Succession as rows_spec
 use Rattle.row_change.specs.Succession.{ending_to, follows}
 use Rattle.soundness.specs.Worlds.{HasLeaf}
-use Rattle.soundness.proofs.Listed.{none_in, first_in}
+use Rattle.soundness.proofs.Listed.{first_in}
 use Rattle.legal_statements.specs.Rows.{IsNewRow, IsOldRow}
 use Rattle.legal_statements.proofs.Storing.{new_row_may_follow, old_row_may_follow}
 use Rattle.stores.specs.Events.{look_of}
@@ -40,7 +39,7 @@ use Rattle.stores.specs.declared.stores.Stores.{Stores}
 use Rattle.stores.proofs.Calls.{look_is_past}
 use Rattle.stores.proofs.Commands.{look_is_own}
 use Rattle.stores.proofs.Goodness.{legal_of, permitted_of}
-use Rattle.course.specs.Made.{Refused, halted}
+use Rattle.course.specs.Made.{Refused}
 use Rattle.course.specs.Attempts.{WentOn}
 use Rattle.course.specs.declared.caller.Caller.{Caller}
 use Rattle.course.specs.declared.stop.Stop.{Stop}

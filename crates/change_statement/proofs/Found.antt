@@ -1,5 +1,5 @@
 -- What is gathered: names that are bound, locks, and the tree of the named table.
-use Rattle.std.proofs.Common.{◌≡◌, ℕ, ◌+◌, ◌<◌, ◌≤◌, Bool, true, false, if◌then◌else◌, List, [], ◌∷◌, ap, sym, ◌∙◌, subst, Option, Result, Ok, Err, All, arith, map, length}
+use Rattle.std.proofs.Common.{◌≡◌, ℕ, ◌<◌, Bool, true, false, if◌then◌else◌, List, [], ◌∷◌, ap, sym, ◌∙◌, subst, Option, Result, Ok, Err, All, arith, map}
 use Rattle.std.specs.List.{Contains}
 use Rattle.std.proofs.lemmas.List.Elements.{All-cons, All-head}
 use Rattle.pg_values.specs.declared.fault.Fault.{Fault}

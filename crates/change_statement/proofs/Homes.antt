@@ -1,5 +1,5 @@
 -- The tables of a tree, and which of them has a leaf.
-use Rattle.std.proofs.Common.{◌≡◌, ℕ, Bool, true, false, if◌then◌else◌, List, [], ◌∷◌, ◌++◌, refl, ap, sym, ◌∙◌, subst, inl, inr, All, map}
+use Rattle.std.proofs.Common.{◌≡◌, Bool, true, false, if◌then◌else◌, List, [], ◌∷◌, ◌++◌, refl, subst, inl, inr, All, map}
 use Rattle.std.specs.List.{Contains}
 use Rattle.std.proofs.lemmas.List.{map-append}
 use Rattle.std.proofs.lemmas.List.Elements.{All-nil, All-cons, All-append, Contains-append_left, Contains-append_right, Contains-append_cases}
@@ -11,7 +11,7 @@ use Rattle.legal_statements.specs.Below.{tables_in, all_tables}
 use Rattle.row_change.specs.Ways.{AllTables, AllTablesOf, root}
 use Rattle.pruned_trees.specs.Kept.{Leaf, Keeps, id_of, leaf_of, keeps_plain, leaves_below, leaves_among, kept_leaves, node_of, led, kept_tables, tables_among}
 use Rattle.select_statement.specs.Below.{below}
-use Rattle.soundness.proofs.Listed.{none_in, first_in, later_in, only_one}
+use Rattle.soundness.proofs.Listed.{none_in, first_in, only_one}
 use Rattle.insert_statement.proofs.Trees.{AtHome, AllAtHome}
 
 -- ---- the tables as a list

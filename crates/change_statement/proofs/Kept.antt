@@ -1,5 +1,5 @@
 -- What was gathered stays, whatever rows are changed; and what the session may write.
-use Rattle.std.proofs.Common.{◌≡◌, ℕ, zero, suc, ◌<◌, ◌≤◌, true, List, [], ◌∷◌, inl, inr, refl, ap, sym, ◌∙◌, subst, arith, Some, None, All, map, length, slice_index_or}
+use Rattle.std.proofs.Common.{◌≡◌, ℕ, zero, suc, ◌<◌, true, List, [], ◌∷◌, inl, inr, refl, ap, sym, ◌∙◌, subst, arith, Some, None, All, map, length, slice_index_or}
 use Rattle.std.specs.List.{Contains}
 use Rattle.pg_ids.specs.declared.ids.LeafId.{LeafId}
 use Rattle.pg_ids.specs.declared.ids.TableNo.{TableNo}

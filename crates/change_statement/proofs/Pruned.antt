@@ -1,16 +1,15 @@
 -- The targets in the leaves that a condition keeps are those in all leaves.
-use Rattle.std.proofs.Common.{◌≡◌, ◌≤◌, ℕ, ◌+◌, arith, Bool, true, false, if◌then◌else◌, List, [], ◌∷◌, ◌++◌, length, map, refl, sym, ap, ◌∙◌, append_assoc, length-append}
+use Rattle.std.proofs.Common.{◌≡◌, ◌≤◌, ◌+◌, arith, Bool, true, false, if◌then◌else◌, List, [], ◌∷◌, ◌++◌, length, map, refl, sym, ap, ◌∙◌, append_assoc, length-append}
 use Rattle.std.specs.Prelude.{Option, Some, None, filter}
 use Rattle.std.specs.List.{flat_map}
 use Rattle.std.proofs.lemmas.List.{length-map}
 use Rattle.pg_values.specs.declared.value.Value.{Value}
-use Rattle.pg_ids.specs.declared.ids.LeafId.{LeafId}
 use Rattle.part_bounds.specs.declared.partition_bound.Bound.{Bound}
 use Rattle.history.specs.declared.version.Version.{Version}
 use Rattle.history.specs.Snapshots.{TakenSnapshot}
 use Rattle.history.specs.History.{History, seen}
 use Rattle.table_trees.specs.Histories.{tree_of}
-use Rattle.table_trees.specs.Trees.{TableTree, LeafTable, LevelTable, Trees, End, More, leaves}
+use Rattle.table_trees.specs.Trees.{TableTree, LeafTable, LevelTable, Trees, End, More}
 use Rattle.cond_logic.specs.declared.truth.Truth3.{Truth3}
 use Rattle.cond_logic.specs.declared.truth.Truth3.TheVariants.{Yes, No, Unknown}
 use Rattle.cond_logic.specs.Trees.{CondTree}
@@ -22,7 +21,7 @@ use Rattle.pruned_trees.proofs.Missed.{ids_named}
 use Rattle.row_targets.specs.Targets as targets_spec
 use Rattle.row_targets.specs.Targets.{takes, target_of, targets, targets_in}
 use Rattle.row_targets.specs.declared.finding.TargetRow.{TargetRow}
-use Rattle.change_statement.specs.Kept.{condition_or_all, keeps_for, leaves_read}
+use Rattle.change_statement.specs.Kept.{condition_or_all, keeps_for}
 use Rattle.change_statement.specs.Laws.{KeptHaveAllTargets}
 
 -- ---- lists of lists

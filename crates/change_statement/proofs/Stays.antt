@@ -1,17 +1,15 @@
 -- A row whose key columns are not set goes where it was.
-use Rattle.std.proofs.Common.{◌≡◌, ◌≢◌, ℕ, zero, suc, ◌+◌, ◌<◌, ◌==◌, ◌&&◌, ◌||◌, arith, Bool, true, false, List, [], ◌∷◌, ◌++◌, inl, inr, refl, sym, ap, subst, ◌∙◌, Option, Some, None, Result, Ok, Err, All, map, length, slice_index_or, slice_get}
+use Rattle.std.proofs.Common.{◌≡◌, ◌≢◌, ℕ, zero, suc, ◌==◌, ◌||◌, arith, true, false, List, [], ◌∷◌, inl, inr, refl, sym, ap, subst, ◌∙◌, Option, Some, None, Result, Ok, Err, All, map, slice_index_or}
 use Rattle.std.specs.Prelude.{is_none, nat_lt, position, slice_set}
 use Rattle.std.specs.List.{Contains, list_any}
 use Rattle.std.proofs.lemmas.Bool.{and_parts, cases_Bool, or_parts}
 use Rattle.std.proofs.lemmas.Bool.Decides.{nat_tests}
-use Rattle.std.proofs.lemmas.Grind.{common_steps}
 use Rattle.std.proofs.lemmas.List.{get_or-set_other}
 use Rattle.std.proofs.lemmas.List.Elements.{All-append, All-cons, All-nil}
 use Rattle.pg_values.specs.declared.fault.Fault.{Fault}
 use Rattle.pg_values.specs.declared.value.Value.{Value}
 use Rattle.pg_values.specs.declared.value.Value.TheVariants.{Null}
 use Rattle.pg_ids.specs.declared.ids.LeafId.{LeafId}
-use Rattle.pg_ids.specs.declared.ids.RowId.{RowId}
 use Rattle.pg_ids.specs.declared.ids.TableNo.{TableNo}
 use Rattle.part_bounds.specs.declared.level.KeyColumn.{KeyColumn}
 use Rattle.part_bounds.specs.Accepts.{accepts_among}
@@ -23,7 +21,7 @@ use Rattle.history.specs.Transactions.{is_committed, fate, open_of}
 use Rattle.history.specs.Snapshots.{TakenSnapshot}
 use Rattle.history.specs.Catalogue.{tables_made}
 use Rattle.history.specs.Rows.{RowEvents, LeafAdded, RowBorn, RowEnded, births}
-use Rattle.history.specs.History.{History, tx_events, snapshot_events, row_events, catalogue_events, versions, end_of, next_version, stands}
+use Rattle.history.specs.History.{History, tx_events, snapshot_events, row_events, catalogue_events, end_of, next_version}
 use Rattle.history.specs.Legal.{IsLegal}
 use Rattle.history.specs.Places.{table_at}
 use Rattle.history.specs.Presence.{counts, entries_shown}
@@ -32,9 +30,8 @@ use Rattle.table_trees.specs.Histories.{tree_of}
 use Rattle.table_trees.specs.Trees.{TableTree, LeafTable, LevelTable, Trees, End as NoTrees, More, accepting, child_of, found_leaf, key_of, leaves, routed, routed_in}
 use Rattle.table_trees.proofs.OneLeaf.{one_leaf}
 use Rattle.table_trees.proofs.Sound.{tree_sound}
-use Rattle.tx_table.specs.Stands.{TableStands, sees_now_by}
 use Rattle.row_store.specs.declared.scan.SeenRow.{SeenRow}
-use Rattle.row_store.specs.Kept.{blank, stored_at, version_of}
+use Rattle.row_store.specs.Kept.{blank, stored_at}
 use Rattle.row_targets.specs.NewRows.{new_row, set_in, set_value, with_value}
 use Rattle.row_targets.specs.Verdicts.{MayEnd}
 use Rattle.row_targets.specs.declared.finding.TargetRow.{TargetRow}
@@ -61,7 +58,6 @@ use Rattle.insert_statement.proofs.Tables.{tables_kept}
 use Rattle.change_statement.specs.Gathered.{Found}
 use Rattle.change_statement.specs.Kept.{is_set, sets_key, sets_key_of}
 use Rattle.change_statement.specs.Running.{IsGathered, IsTargetIn, MayPlace, MayRun, MayWriteIn}
-use Rattle.change_statement.proofs.Ended.{got_at}
 use Rattle.change_statement.proofs.Kept.{one_of}
 use Rattle.change_statement.proofs.Targets.{version_numbered}
 

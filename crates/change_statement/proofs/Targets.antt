@@ -1,5 +1,5 @@
 -- The targets that are found are versions of the tree's leaves, and so are those that are left of them.
-use Rattle.std.proofs.Common.{◌≡◌, ℕ, zero, suc, ◌+◌, ◌<◌, ◌==◌, ◌&&◌, Bool, true, false, if◌then◌else◌, List, [], ◌∷◌, ◌++◌, refl, ap, sym, ◌∙◌, subst, arith, inl, inr, Option, Some, None, All, map, filter, length, slice_index_or, append-nil}
+use Rattle.std.proofs.Common.{◌≡◌, ℕ, ◌<◌, ◌==◌, ◌&&◌, Bool, true, false, if◌then◌else◌, List, [], ◌∷◌, ◌++◌, refl, ap, sym, ◌∙◌, subst, arith, inl, inr, Option, Some, None, All, map, filter, length, slice_index_or, append-nil}
 use Rattle.std.specs.List.{Contains, flat_map}
 use Rattle.std.proofs.lemmas.List.{length-append, length-map, get_or-map}
 use Rattle.std.proofs.lemmas.Bool.{cases_Bool, cases_lt, and_parts}
@@ -9,17 +9,16 @@ use Rattle.std.proofs.lemmas.List.Elements.{All-nil, All-cons, All-head, All-tai
 use Rattle.pg_ids.specs.declared.ids.LeafId.{LeafId}
 use Rattle.pg_ids.specs.declared.ids.RowId.{RowId}
 use Rattle.history.specs.declared.version.Version.{Version}
-use Rattle.history.specs.Rows.{RowEvents, RowEvent, LeafAdded, RowBorn, RowEnded, births}
+use Rattle.history.specs.Rows.{LeafAdded, RowBorn, RowEnded}
 use Rattle.history.specs.RowsSound.{AreRowsSound}
 use Rattle.history.specs.Snapshots.{TakenSnapshot}
-use Rattle.history.specs.History.{Event, History, TxChange, SnapshotChange, RowChange, LockChange, CatalogueChange, row_events, versions, is_seen, seen}
+use Rattle.history.specs.History.{History, TxChange, SnapshotChange, RowChange, LockChange, CatalogueChange, versions, is_seen, seen}
 use Rattle.cond_logic.specs.Trees.{CondTree}
 use Rattle.row_store.specs.Kept.{KeptRows, blank, version_of, stored_at}
 use Rattle.row_store.specs.Stands.{StoreStands}
 use Rattle.row_targets.specs.Targets.{takes, target_of, targets_in, targets}
 use Rattle.row_targets.specs.declared.finding.TargetRow.{TargetRow}
-use Rattle.soundness.proofs.Listed.{none_in, first_in, later_in}
-use Rattle.soundness.proofs.Presence.{all_more}
+use Rattle.soundness.proofs.Listed.{first_in, later_in}
 use Rattle.course.specs.declared.rest.Rest.{Rest}
 use Rattle.change_statement.specs.Gathered.{Found}
 use Rattle.change_statement.specs.Running.{IsTargetIn}

@@ -1,6 +1,6 @@
 -- What an UPDATE or a DELETE has before it looks at rows: its table and those that it needs below it, locked, and what is asked of the rows
 -- (the manual, UPDATE; DELETE; 13.3.1 Table-Level Locks).
-use Rattle.std.specs.Prelude.{ℕ, Bool, List, [], Option, Some, None, Result, Ok, Err, map}
+use Rattle.std.specs.Prelude.{ℕ, Bool, List, [], Option, None, Result, Ok, Err, map}
 use Rattle.pg_ids.specs.declared.ids.LeafId.{LeafId}
 use Rattle.pg_ids.specs.declared.ids.TableNo.{TableNo}
 use Rattle.pg_ids.specs.declared.lock_mode.LockMode.TheVariants.{RowExclusive}

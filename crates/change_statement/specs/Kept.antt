@@ -9,7 +9,7 @@ use Rattle.table_trees.specs.Trees.{TableTree, LeafTable, LevelTable, Trees, End
 use Rattle.cond_logic.specs.Trees.{CondTree}
 use Rattle.pruned_trees.specs.Conditions.{all_hold}
 use Rattle.pruned_trees.specs.Kept.{Keeps, keeps_by, id_of, kept_leaves, kept_tables}
-use Rattle.statement_asks.specs.Asked.{ChangeMeant, SettingMeant}
+use Rattle.statement_asks.specs.Asked.{SettingMeant}
 use Rattle.select_statement.specs.Below.{below}
 
 -- ---- what the condition keeps

@@ -1,4 +1,4 @@
-use Rattle.std.proofs.Common.{◌+◌, ◌≤◌, length, map, sym, subst}
+use Rattle.std.proofs.Common.{◌≤◌, length, map, sym, subst}
 use Rattle.sql_queries.specs.Trees.{maybe_tree, setting}
 use Rattle.stores.specs.declared.stores.Stores.{Stores}
 use Rattle.course.specs.Attempts.{MayGoOn}
