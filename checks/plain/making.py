@@ -44,6 +44,7 @@ KINDS = {
     "attaches": {"select": 2, "insert": 5, "delete": 3, "attach": 6, "detach": 5, "partition": 1, "drop": 1},
     "cancels": {"select": 3, "insert": 4, "delete": 4, "lock": 4, "cancel": 5},
     "prunes": {"select": 9, "lock": 6, "insert": 3, "setting": 2},
+    "pruned": {"select": 1, "insert": 2, "delete": 5, "update": 9, "lock": 5, "setting": 2},
     "mixed": {
         "select": 3, "insert": 5, "delete": 3, "update": 5, "attach": 4, "detach": 4, "partition": 3, "create": 1,
         "drop": 2, "lock": 2, "cancel": 2,

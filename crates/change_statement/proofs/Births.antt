@@ -1,6 +1,7 @@
 -- A row version that is followed by another one.
-use Rattle.std.proofs.Common.{◌≡◌, ℕ, zero, suc, ◌+◌, ◌<◌, true, List, [], ◌∷◌, ◌++◌, refl, ap, sym, ◌∙◌, subst, arith, Option, Some, None, Result, Ok, Err, length, map, slice_get, slice_index_or}
+use Rattle.std.proofs.Common.{◌≡◌, inl, inr, ℕ, zero, suc, ◌+◌, ◌<◌, List, [], ◌∷◌, ◌++◌, refl, ap, sym, ◌∙◌, subst, arith, Option, Some, None, Result, Ok, Err, slice_get, slice_index_or}
 use Rattle.std.specs.List.{Contains}
+use Rattle.std.proofs.lemmas.Bool.{cases_Bool}
 use Rattle.std.proofs.lemmas.List.Elements.{Contains-append_left, Contains-append_right}
 use Rattle.pg_values.specs.declared.value.Value.{Value}
 use Rattle.pg_values.specs.declared.fault.Fault.{Fault}
@@ -13,7 +14,6 @@ use Rattle.history.specs.declared.transaction.TxId.{TxId}
 use Rattle.history.specs.declared.version.Version.{Version}
 use Rattle.history.specs.declared.version.End.{End}
 use Rattle.history.specs.Transactions.{open_of}
-use Rattle.history.specs.Catalogue.{tables_made}
 use Rattle.history.specs.Rows.{RowEvent, RowBorn, RowEnded}
 use Rattle.history.specs.History.{History, RowChange, tx_events, catalogue_events, versions}
 use Rattle.history.specs.Legal.{IsInOrder}
@@ -21,13 +21,15 @@ use Rattle.table_trees.specs.Trees.{TableTree, LeafTable, LevelTable, Trees, End
 use Rattle.row_router.specs.declared.path.PathTest.TheVariants.{Bounds}
 use Rattle.row_router.specs.Paths.{refused}
 use Rattle.tx_table.specs.Stands.{TableStands}
-use Rattle.row_store.specs.Kept.{KeptRows, blank, version_of, stored_at}
+use Rattle.row_store.specs.Kept.{KeptRows, stored_at}
 use Rattle.row_store.specs.Stands.{StoreStands, newborn}
-use Rattle.row_change.specs.Storing.{Made, IsMade, full_faults, made_by}
+use Rattle.row_change.specs.Placing.{placed}
+use Rattle.part_catalog.specs.Stands.{CatalogueStands}
+use Rattle.row_change.specs.Storing.{IsMade, full_faults, made_by}
 use Rattle.row_change.specs.Succession as rows_spec
 use Rattle.row_change.specs.Succession.{ending_to, follows}
 use Rattle.soundness.specs.Worlds.{HasLeaf}
-use Rattle.soundness.proofs.Listed.{none_in, first_in}
+use Rattle.soundness.proofs.Listed.{first_in}
 use Rattle.legal_statements.specs.Rows.{IsNewRow, IsOldRow}
 use Rattle.legal_statements.proofs.Storing.{new_row_may_follow, old_row_may_follow}
 use Rattle.stores.specs.Events.{look_of}
@@ -37,7 +39,7 @@ use Rattle.stores.specs.declared.stores.Stores.{Stores}
 use Rattle.stores.proofs.Calls.{look_is_past}
 use Rattle.stores.proofs.Commands.{look_is_own}
 use Rattle.stores.proofs.Goodness.{legal_of, permitted_of}
-use Rattle.course.specs.Made.{Refused, halted}
+use Rattle.course.specs.Made.{Refused}
 use Rattle.course.specs.Attempts.{WentOn}
 use Rattle.course.specs.declared.caller.Caller.{Caller}
 use Rattle.course.specs.declared.stop.Stop.{Stop}
@@ -49,10 +51,10 @@ use Rattle.insert_statement.proofs.OwnLeaf.{none_refuses}
 use Rattle.insert_statement.proofs.Tables.{tables_kept}
 use Rattle.insert_statement.proofs.Ways.{is_placed}
 use Rattle.change_statement.specs.Gathered.{Found}
-use Rattle.change_statement.specs.Running.{IsGathered, IsInRun, IsPlacedIn, IsRun, IsRunTold, MayEndIn, MayRun}
+use Rattle.change_statement.specs.Running.{IsGathered, IsInRun, IsPlacedIn, IsRun, IsRunTold, MayEndIn, MayPlace, MayRun, MayWriteIn}
 use Rattle.change_statement.specs.Updated.{succeeded, succeeded_by}
 use Rattle.change_statement.proofs.Ended.{Came, came_one, came_on, got_at, own_is, rows_keep}
-use Rattle.change_statement.proofs.Kept.{leaf_is_there, leaf_is_written}
+use Rattle.change_statement.proofs.Kept.{leaf_is_there, one_of}
 use Rattle.change_statement.proofs.Runs.{no_memory_run}
 
 -- ---- the leaf is one of the tree's
@@ -68,9 +70,22 @@ mutual
   routed_under row table (Some zero) (More k ks) leaf e = Contains-append_left (leaves k) (all_leaves ks) leaf (routed_among row k leaf e)
   routed_under row table (Some (suc i)) (More k ks) leaf e = Contains-append_right (leaves k) (all_leaves ks) leaf (routed_under row table (Some i) ks leaf e)
 
+-- ---- the leaf where a row goes
+
+-- the session may write there: the row may not move, or all leaves of the tree may be written
+pub written_there : (stores : Stores) (caller : Caller) (g : Found) (leaf : LeafId) (row : List Value) → MayRun stores caller → IsGathered stores caller g → MayPlace stores caller.session g row
+    → ((h : History) → CatalogueStands stores.catalog h → placed (tables_of h) g.tree g.path row ≡ Ok leaf) → MayWriteIn stores caller.session leaf
+written_there stores caller g leaf row may its place goes =
+    let s = may.sound in
+    let way = is_placed (tables_of s.0) g.tree g.path row leaf (goes s.0 s.1.all.catalog) in
+    elim (cases_Bool g.moves) [
+      | inl on ↦ one_of (MayWriteIn stores caller.session) (leaves g.tree) leaf (routed_among row g.tree leaf way.routed) (its.moves on)
+      | inr still ↦ place still leaf way.routed
+    ]
+
 -- ---- the row that is born
 
-new_row_in : (stores : Stores) (caller : Caller) (g : Found) (leaf : LeafId) (row : List Value) (by : TxId) (h : History) → Stands stores h → IsInRun h caller → IsGathered stores caller g → IsPlacedIn stores g leaf row → open_of (tx_events h) caller.session ≡ Some by.number
+new_row_in : (stores : Stores) (caller : Caller) (g : Found) (leaf : LeafId) (row : List Value) (by : TxId) (h : History) → Stands stores h → IsInRun h caller → IsGathered stores caller g → IsPlacedIn stores caller.session g leaf row → open_of (tx_events h) caller.session ≡ Some by.number
     → IsNewRow h caller.session g.table.number (look_of h caller.session caller.cmd) (newborn h leaf row by caller.cmd)
 new_row_in stores caller g leaf row by h stands run its at mine =
     let s = caller.session in
@@ -86,7 +101,7 @@ new_row_in stores caller g leaf row by h stands run its at mine =
       stored = record {
         placed = subst (λ p. refused Bounds row p ≡ None) (its.read.is_path h stands.all.txs stands.all.catalog) (none_refuses (tables_of h) row g.path placed.bounds);
         routed = subst (λ x. routed row x ≡ Ok leaf) (its.read.is_tree h stands.all.txs stands.all.catalog) placed.routed;
-        locked = λ x has. leaf_is_written stores caller g h leaf x stands its among has;
+        locked = λ x has. at.written h stands x has;
         leaf = subst (λ n. leaf.number < n) stands.all.rows.leaves (leaf_is_there stores caller g h leaf stands its among);
       };
       number = refl;
@@ -134,7 +149,7 @@ nothing_came h caller good run = record {
   quiet = record { txs = refl; snapshots = refl; locks = refl; catalogue = refl; sound = λ s. s };
 }
 
-follows_came : (stores : Stores) (rows : KeptRows) (caller : Caller) (g : Found) (from : LeafId) (id : RowId) (leaf : LeafId) (row : List Value) (by : TxId) (h : History) → Stands stores h → IsInRun h caller → IsGathered stores caller g → MayEndIn stores caller id → IsPlacedIn stores g leaf row
+follows_came : (stores : Stores) (rows : KeptRows) (caller : Caller) (g : Found) (from : LeafId) (id : RowId) (leaf : LeafId) (row : List Value) (by : TxId) (h : History) → Stands stores h → IsInRun h caller → IsGathered stores caller g → MayEndIn stores caller id → IsPlacedIn stores caller.session g leaf row
     → open_of (tx_events h) caller.session ≡ Some by.number → StoreStands rows (follows from id (newborn h leaf row by caller.cmd) ++ h) → Came h caller (follows from id (newborn h leaf row by caller.cmd) ++ h)
 follows_came stores rows caller g from id leaf row by h stands run its may at mine store =
     let v = newborn h leaf row by caller.cmd in
@@ -164,7 +179,7 @@ abbrev pub ends : Result (Unit {0}) Refusal → Result (Unit {0}) Stop
 ends (Ok u) = Ok tt
 ends (Err r) = Err (stopped r)
 
-pub succeeded_run : (r : Result (Unit {0}) Refusal) (old : Stores) (rows : KeptRows) (caller : Caller) (g : Found) (from : LeafId) (id : RowId) (leaf : LeafId) (row : List Value) (by : TxId) → MayRun old caller → IsGathered old caller g → MayEndIn old caller id → IsPlacedIn old g leaf row
+pub succeeded_run : (r : Result (Unit {0}) Refusal) (old : Stores) (rows : KeptRows) (caller : Caller) (g : Found) (from : LeafId) (id : RowId) (leaf : LeafId) (row : List Value) (by : TxId) → MayRun old caller → IsGathered old caller g → MayEndIn old caller id → IsPlacedIn old caller.session g leaf row
     → slice_index_or old.txs.current caller.session None ≡ Some by.number → ((h : History) → TableStands old.txs h → StoreStands old.rows h → IsMade r rows h (rows_spec.succeeded h from id leaf row by caller.cmd))
     → IsRun (λ (u : Unit {0}). u) (ends r) old (record old { rows = rows }) caller (succeeded caller from id leaf row)
 succeeded_run (Ok u) old rows caller g from id leaf row by may its version at mine added = record {

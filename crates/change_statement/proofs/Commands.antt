@@ -1,8 +1,7 @@
 -- A statement as a whole: its gathering, and its run.
-use Rattle.std.proofs.Common.{◌≡◌, ℕ, ◌+◌, List, [], ◌∷◌, ◌++◌, refl, ap, sym, ◌∙◌, subst, append_assoc, Option, Some, None, Result, Ok, Err}
+use Rattle.std.proofs.Common.{ℕ, ◌+◌, [], ◌∷◌, ◌++◌, refl, ap, sym, subst, append_assoc, Option, Some, None, Result, Ok, Err}
 use Rattle.history.specs.History.{History}
 use Rattle.stores.specs.Numbers.{IsAt}
-use Rattle.stores.specs.Stand.{Stands}
 use Rattle.stores.specs.declared.stores.Stores.{Stores}
 use Rattle.stores.proofs.Commands.{commands_are_in_order}
 use Rattle.course.specs.Made.{Made, and_then, then_told, behind, number_after}

@@ -6,15 +6,14 @@ use Rattle.pg_values.specs.declared.fault.Fault.{Fault}
 use Rattle.pg_values.specs.declared.text.NoMemory.{NoMemory}
 use Rattle.pg_ids.specs.declared.ids.RowId.{RowId}
 use Rattle.pg_ids.specs.declared.ids.TableNo.{TableNo}
-use Rattle.history.specs.History.{History, catalogue_events}
-use Rattle.soundness.specs.Worlds.{HasLeaf}
+use Rattle.history.specs.History.{History}
 use Rattle.tx_table.specs.Stands.{TableStands, sees_now_by}
 use Rattle.row_store.specs.declared.scan.SeenRow.{SeenRow}
 use Rattle.row_store.specs.Kept.{KeptRows, stored_at}
 use Rattle.row_store.specs.Stands.{StoreStands}
 use Rattle.row_change.specs.Succession.{KeepsVersions}
 use Rattle.row_change.specs.Ways.{AllTables, AllTablesOf}
-use Rattle.table_trees.specs.Trees.{TableTree, LeafTable, LevelTable, Trees, End, More, leaves}
+use Rattle.table_trees.specs.Trees.{TableTree, LeafTable, LevelTable, Trees, End, More}
 use Rattle.part_catalog.specs.Stands.{CatalogueStands}
 use Rattle.row_targets.specs.Targets.{targets}
 use Rattle.row_targets.specs.Verdicts.{UpdaterMeant, Decision, Changes, PassesBy, WaitsFor, Refuses, decided, MayEnd}
@@ -23,21 +22,19 @@ use Rattle.row_targets.specs.declared.verdicts.Conflict.{Conflict}
 use Rattle.stores.specs.Events.{look_of}
 use Rattle.stores.specs.Stand.{Stands}
 use Rattle.stores.specs.declared.stores.Stores.{Stores}
-use Rattle.course.specs.Made.{Made, Refused, made, halted}
+use Rattle.course.specs.Made.{Refused, made, halted}
 use Rattle.course.specs.declared.caller.Caller.{Caller}
 use Rattle.course.specs.declared.rest.Rest.{Rest}
 use Rattle.course.specs.declared.stop.Stop.{Stop}
-use Rattle.course.specs.declared.stop.Stop.TheVariants as stop
 use Rattle.statement_steps.specs.Faults.{stop_by}
-use Rattle.statement_steps.specs.Steps.{follow}
 use Rattle.statement_steps.proofs.Parts.{stays}
 use Rattle.insert_statement.proofs.Tables.{IsMade, tables_kept}
 use Rattle.change_statement.specs.Gathered.{Found}
 use Rattle.change_statement.specs.Standing.{left_of, changed_before, standing}
 use Rattle.change_statement.specs.Changed.{Changing, updater, by_decision, one_changed, all_changed, changed_from, paused, conflict_fault}
-use Rattle.change_statement.specs.Running.{IsRun, IsGathered, IsTargetIn, MayEndIn, MayRun}
+use Rattle.change_statement.specs.Running.{IsRun, IsGathered, IsTargetIn, MayEndIn, MayRun, MayWriteIn}
 use Rattle.change_statement.proofs.Runs.{then_run, stop_run, nothing_run, refused_run, no_memory_run, same_run, may_run_on}
-use Rattle.change_statement.proofs.Kept.{OnlyRows, gathered_stays, targets_stay, leaf_is_written, tree_homes}
+use Rattle.change_statement.proofs.Kept.{OnlyRows, gathered_stays, one_of, targets_stay, tree_homes}
 
 -- ---- what is decided
 
@@ -96,9 +93,7 @@ may_end_in stores caller g t tx seen its target mine may = record {
   known = may.known;
   standing = may.standing;
   born = λ own is. let same : tx ≡ own = (let both : Some tx ≡ Some own = mine ∙ is in cc) in subst (λ x. sees_now_by stores.txs x (stored_at stores.rows.stored seen.id).version.by.number ≡ true) same may.born;
-  locked = λ h stands x at.
-      let leaf = may.leaf ∙ target.leaf in
-      leaf_is_written stores caller g h t.leaf x stands its target.among (subst (λ l. HasLeaf (catalogue_events h) x l) leaf at);
+  locked = subst (MayWriteIn stores caller.session) (sym (may.leaf ∙ target.leaf)) (one_of (MayWriteIn stores caller.session) g.leaves t.leaf target.among its.writes);
 }
 
 -- ---- all tables of the tree are kept
@@ -164,7 +159,7 @@ no_length (x ∷ xs) e = absurd (omega (arith, e))
 -- ---- all that are left
 
 pub from_there : (change : Changing) (names : List (List ℕ)) (r : Result (Unit {0}) Stop) (old new : Stores) (caller : Caller) (g : Found) (rest : Option Rest) (ts : List TargetRow) (n : ℕ)
-    → ((h : History) → Stands old h → ts ≡ left_of rest (targets h (look_of h caller.session caller.cmd) g.asked.condition (leaves g.tree))) → n ≡ changed_before rest
+    → ((h : History) → Stands old h → ts ≡ left_of rest (targets h (look_of h caller.session caller.cmd) g.asked.condition g.leaves)) → n ≡ changed_before rest
     → IsRun (λ (u : Unit {0}). u) r old new caller (all_changed change names caller g ts n) → IsRun (λ (u : Unit {0}). u) r old new caller (changed_from change names caller rest g)
 from_there change names r old new caller g rest ts n are count run =
     same_run (λ (u : Unit {0}). u) r old new caller (changed_from change names caller rest g) (all_changed change names caller g ts n)

@@ -1,5 +1,5 @@
 -- Row events of a statement in its run, and a version that it ends.
-use Rattle.std.proofs.Common.{◌≡◌, ◌≢◌, ℕ, zero, suc, ◌+◌, ◌<◌, ◌≤◌, true, List, [], ◌∷◌, ◌++◌, refl, ap, sym, ◌∙◌, subst, arith, append-nil, Option, Some, None, Ok, length, map, slice_get, slice_index_or, slice_set, unwrap_or}
+use Rattle.std.proofs.Common.{◌≡◌, ◌≢◌, ℕ, zero, suc, ◌+◌, ◌<◌, List, [], ◌∷◌, refl, ap, sym, ◌∙◌, subst, arith, append-nil, Some, None, Ok, length, map, slice_get, slice_index_or, unwrap_or}
 use Rattle.std.proofs.lemmas.List.Elements.{All-cons}
 use Rattle.pg_ids.specs.declared.ids.RowId.{RowId}
 use Rattle.history.specs.declared.transaction.TxId.{TxId}
@@ -17,7 +17,7 @@ use Rattle.history.proofs.Open.{open_own, open_runs}
 use Rattle.tx_table.specs.Stands.{StandsFor, TableStands}
 use Rattle.lock_table.specs.Stands.{StandsFor as LocksFor}
 use Rattle.row_store.specs.declared.stored.Stored.{Stored}
-use Rattle.row_store.specs.Kept.{KeptRows, blank, version_of, stored_at, after_end}
+use Rattle.row_store.specs.Kept.{KeptRows, blank, version_of, stored_at}
 use Rattle.row_store.specs.Stands.{StoreStands}
 use Rattle.row_store.proofs.Changes.{end_sound}
 use Rattle.soundness.specs.Worlds.{HasLeaf}

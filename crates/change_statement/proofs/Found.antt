@@ -1,16 +1,19 @@
 -- What is gathered: names that are bound, locks, and the tree of the named table.
-use Rattle.std.proofs.Common.{◌≡◌, ℕ, ◌+◌, ◌<◌, ◌≤◌, List, [], ◌∷◌, ap, sym, ◌∙◌, subst, Option, Result, Ok, Err, All, map, length}
-use Rattle.std.proofs.lemmas.List.Elements.{All-head}
+use Rattle.std.proofs.Common.{◌≡◌, ℕ, ◌<◌, Bool, true, false, if◌then◌else◌, List, [], ◌∷◌, ap, sym, ◌∙◌, subst, Option, Result, Ok, Err, All, arith, map}
+use Rattle.std.specs.List.{Contains}
+use Rattle.std.proofs.lemmas.List.Elements.{All-cons, All-head}
 use Rattle.pg_values.specs.declared.fault.Fault.{Fault}
 use Rattle.pg_values.specs.declared.fault.Refusal.{Refusal}
 use Rattle.pg_values.specs.declared.fault.Refusal.TheVariants.{Sql, NoMemory}
+use Rattle.pg_ids.specs.declared.ids.LeafId.{LeafId}
 use Rattle.pg_ids.specs.declared.ids.TableNo.{TableNo}
-use Rattle.pg_ids.specs.declared.lock_mode.LockMode.TheVariants.{RowExclusive}
 use Rattle.history.specs.declared.catalogue.Column.{Column}
-use Rattle.history.specs.History.{History}
+use Rattle.history.specs.Catalogue.{tables_made}
+use Rattle.history.specs.History.{History, catalogue_events}
 use Rattle.table_trees.specs.declared.path_part.PathPart.{PathPart}
 use Rattle.table_trees.specs.Histories.{path_of}
-use Rattle.table_trees.specs.Trees.{TableTree}
+use Rattle.table_trees.specs.Trees.{TableTree, leaves}
+use Rattle.pruned_trees.specs.Kept.{Keeps, Leaf, id_of, kept_leaves, kept_tables}
 use Rattle.part_catalog.specs.Found.{made_at}
 use Rattle.part_catalog.specs.Stands.{CatalogueStands}
 use Rattle.sql_expressions.specs.Tree.{Tree}
@@ -18,33 +21,40 @@ use Rattle.sql_queries.specs.Trees.{Setting}
 use Rattle.sql_queries.specs.declared.parts.NamedTable.{NamedTable}
 use Rattle.expression_binder.specs.Firsts.{IsAnswerBy}
 use Rattle.expression_binder.specs.declared.scope.Param.{Param}
-use Rattle.statement_asks.specs.Asked.{ChangeMeant, change_meant}
+use Rattle.pruned_trees.specs.Laws.{TreesCanBePruned}
+use Rattle.pruned_trees.specs.Prunable.{CanPrune}
+use Rattle.statement_asks.specs.Asked.{ChangeMeant, SettingMeant, change_meant}
 use Rattle.statement_asks.specs.declared.change.ChangeAsk.{ChangeAsk}
 use Rattle.change_binder.specs.Changes.{bound_change}
 use Rattle.row_change.specs.Ways.{AllTables, root}
+use Rattle.soundness.specs.Worlds.{HasLeaf}
+use Rattle.soundness.proofs.Listed.{none_in}
 use Rattle.soundness.proofs.Presence.{all_more}
+use Rattle.legal_statements.specs.Below.{tables_in}
 use Rattle.legal_statements.specs.Locked.{IsWritable}
 use Rattle.stores.specs.Events.{look_of}
 use Rattle.stores.specs.Stand.{Stands}
 use Rattle.stores.specs.declared.stores.Stores.{Stores}
+use Rattle.stores.proofs.Goodness.{legal_of, permitted_of}
 use Rattle.course.specs.Attempts.{MayAttempt}
 use Rattle.course.specs.declared.caller.Caller.{Caller}
 use Rattle.course.specs.declared.stop.Stop.{Stop}
-use Rattle.statement_steps.specs.Asks.{all_locked}
 use Rattle.statement_steps.specs.Known.{IsKnownTo}
 use Rattle.statement_steps.specs.Steps.{IsStep}
 use Rattle.statement_steps.proofs.Parts.{nothing_done, refused_here, no_memory, stays}
-use Rattle.select_statement.specs.Below.{below, number_of}
+use Rattle.select_statement.specs.Below.{below}
 use Rattle.insert_statement.specs.Inserted.{answered}
 use Rattle.insert_statement.specs.Asked.{IsReadOf, MayLock, MayWrite, stopped}
 use Rattle.insert_statement.proofs.Locked.{may_write}
 use Rattle.insert_statement.proofs.Told.{same_step}
-use Rattle.insert_statement.proofs.Trees.{tree_root}
-use Rattle.change_statement.specs.Gathered.{Found, found_of, item_of, meant, locked_below, over, of_table}
-use Rattle.change_statement.specs.Running.{IsGathered}
+use Rattle.insert_statement.proofs.Tables.{IsMade, tables_kept}
+use Rattle.insert_statement.proofs.Trees.{Are, IsHome, tree_root}
+use Rattle.change_statement.specs.Gathered.{Found, found_by, found_of, item_of, meant, locked_all, over, of_table}
+use Rattle.change_statement.specs.Kept.{if_some, leaves_read, moves, sets_key, tables_locked}
+use Rattle.change_statement.specs.Running.{IsGathered, MayWriteIn}
 use Rattle.change_statement.specs.declared.gathering.Gathered.{Gathered}
-use Rattle.change_statement.proofs.Homes.{all_under, root_and_below}
-use Rattle.change_statement.proofs.Kept.{Stay, writable_moves}
+use Rattle.change_statement.proofs.Homes.{all_kept, all_under, home_of, kept_home, kept_in, root_and_below}
+use Rattle.change_statement.proofs.Kept.{Stay, each_of, home_written, homes_of, writable_moves}
 
 -- ---- names and kinds
 
@@ -68,15 +78,23 @@ bound_refused NoMemory stores c t columns params table settings condition may ar
 
 -- ---- the tables under the named one
 
-pub under_low : (stores : Stores) (s : ℕ) (tree : TableTree) (tables : List TableNo) → tables ≡ below tree → AllTables (MayLock stores s) tree → All (λ t. t.number < 4096) tables
-under_low stores s tree tables are all = subst (All (λ (t : TableNo). t.number < 4096)) (sym are) (all_more (MayLock stores s) (λ (t : TableNo). t.number < 4096) (below tree) (λ t may. may.0) (all_under (MayLock stores s) tree all))
+either_may : (P : TableNo → Type 0) (keeps : Keeps) (tree : TableTree) (v : Bool) → AllTables P tree → All P (if v then below tree else kept_tables keeps tree)
+either_may P keeps tree true all = all_under P tree all
+either_may P keeps tree false all = all_kept P keeps tree all
 
-pub under_known : (stores : Stores) (s : ℕ) (tree : TableTree) (tables : List TableNo) → tables ≡ below tree → AllTables (MayLock stores s) tree → All (λ t. IsKnownTo stores s t.number) tables
-under_known stores s tree tables are all = subst (All (λ (t : TableNo). IsKnownTo stores s t.number)) (sym are) (all_more (MayLock stores s) (λ (t : TableNo). IsKnownTo stores s t.number) (below tree) (λ t may. may.1) (all_under (MayLock stores s) tree all))
+-- each that is needed may be locked
+pub may_lock : (stores : Stores) (s : ℕ) (keeps : Keeps) (settings : List SettingMeant) (tree : TableTree) (tables : List TableNo) → tables ≡ tables_locked keeps settings tree → AllTables (MayLock stores s) tree → All (MayLock stores s) tables
+may_lock stores s keeps settings tree tables are all = subst (All (MayLock stores s)) (sym are) (either_may (MayLock stores s) keeps tree (moves keeps settings tree) all)
 
-pub under_step : (names : List (List ℕ)) (c : Caller) (r : Result (Unit {0}) Stop) (old new : Stores) (tables : List TableNo) (tree : TableTree) → tables ≡ below tree
-    → IsStep (λ (u : Unit {0}). u) r old new c c.cmd (all_locked names c.session RowExclusive (map (λ t. t.number) tables)) → IsStep (λ (u : Unit {0}). u) r old new c c.cmd (locked_below names c tree)
-under_step names c r old new tables tree are step = subst (λ ts. IsStep (λ (u : Unit {0}). u) r old new c c.cmd (all_locked names c.session RowExclusive (map number_of ts))) are step
+pub all_low : (stores : Stores) (s : ℕ) (tables : List TableNo) → All (MayLock stores s) tables → All (λ t. t.number < 4096) tables
+all_low stores s tables all = all_more (MayLock stores s) (λ (t : TableNo). t.number < 4096) tables (λ t may. may.0) all
+
+pub all_known : (stores : Stores) (s : ℕ) (tables : List TableNo) → All (MayLock stores s) tables → All (λ t. IsKnownTo stores s t.number) tables
+all_known stores s tables all = all_more (MayLock stores s) (λ (t : TableNo). IsKnownTo stores s t.number) tables (λ t may. may.1) all
+
+pub locked_step : (names : List (List ℕ)) (c : Caller) (r : Result (Unit {0}) Stop) (old new : Stores) (tables others : List TableNo) → tables ≡ others
+    → IsStep (λ (u : Unit {0}). u) r old new c c.cmd (locked_all names c tables) → IsStep (λ (u : Unit {0}). u) r old new c c.cmd (locked_all names c others)
+locked_step names c r old new tables others are step = subst (λ ts. IsStep (λ (u : Unit {0}). u) r old new c c.cmd (locked_all names c ts)) are step
 
 -- ---- what the session may write then
 
@@ -91,29 +109,75 @@ known_stays old new s x rest its = subst (λ y. IsKnownTo y s x) (sym rest) (rec
 top_is : (stores : Stores) (c : Caller) (t : TableNo) (tree : TableTree) (path : List PathPart) (h : History) → Stands stores h → IsReadOf stores.txs stores.catalog c t tree path → root tree ≡ t
 top_is stores c t tree path h stands read = ap root (read.is_tree h stands.all.txs stands.all.catalog) ∙ tree_root h c.session t.number (look_of h c.session c.cmd)
 
-pub gathered_now : (names : List (List ℕ)) (old new : Stores) (c : Caller) (g : Found) → MayAttempt old c → IsKnownTo old c.session g.table.number → IsReadOf old.txs old.catalog c g.table g.tree g.path → MayWrite old c.session (g.table ∷ [])
-    → IsStep (λ (u : Unit {0}). u) (Ok tt) old new c c.cmd (locked_below names c g.tree) → new ≡ record old { locks = new.locks } → IsGathered new c g
-gathered_now names old new c g may known read top step rest =
+-- where all tables of the tree may be written, all leaves may
+all_written : (stores : Stores) (h : History) (s : ℕ) (tree : TableTree) (leaf : LeafId) (x : ℕ) → Stands stores h → Are (IsMade h) (IsHome (tables_made (catalogue_events h))) tree → IsWritable h s (root tree).number → All (λ t. IsWritable h s t.number) (below tree)
+    → Contains (leaves tree) leaf → HasLeaf (catalogue_events h) x leaf → IsWritable h s x
+all_written stores h s tree leaf x stands homes top under at has =
+    home_written stores h s (tables_in tree) leaf x stands (home_of (IsMade h) (IsHome (tables_made (catalogue_events h))) tree leaf homes.tables homes.home at) (root_and_below (λ (t : TableNo). IsWritable h s t.number) tree top under) has
+
+-- where those are locked that lead to kept leaves, these may
+kept_written : (stores : Stores) (h : History) (s : ℕ) (keeps : Keeps) (tree : TableTree) (leaf : LeafId) (x : ℕ) (v : Bool) → Stands stores h → Are (IsMade h) (IsHome (tables_made (catalogue_events h))) tree → IsWritable h s (root tree).number
+    → All (λ t. IsWritable h s t.number) (if v then below tree else kept_tables keeps tree) → Contains (leaves_read keeps tree) leaf → HasLeaf (catalogue_events h) x leaf → IsWritable h s x
+kept_written stores h s keeps tree leaf x true stands homes top under at has = all_written stores h s tree leaf x stands homes top under (kept_in keeps tree leaf at) has
+kept_written stores h s keeps tree leaf x false stands homes top under at has =
+    home_written stores h s (root tree ∷ kept_tables keeps tree) leaf x stands (kept_home (IsMade h) (IsHome (tables_made (catalogue_events h))) keeps tree leaf homes.tables homes.home at)
+    (All-cons (λ (t : TableNo). IsWritable h s t.number) (root tree) (kept_tables keeps tree) top under) has
+
+under_all : (P : TableNo → Type 0) (keeps : Keeps) (tree : TableTree) (v : Bool) → v ≡ true → All P (if v then below tree else kept_tables keeps tree) → All P (below tree)
+under_all P keeps tree true on all = all
+under_all P keeps tree false on all = absurd (cc)
+
+some_kept : (xs : List Leaf) (b : Bool) (leaf : LeafId) → Contains (map id_of xs) leaf → if_some xs b ≡ false → b ≡ false
+some_kept [] b leaf at out = absurd (none_in leaf at)
+some_kept (x ∷ xs) b leaf at out = out
+
+pub gathered_now : (names : List (List ℕ)) (old new : Stores) (c : Caller) (keeps : Keeps) (t : TableNo) (tree : TableTree) (path : List PathPart) (m : ChangeMeant) (tables : List TableNo) → tables ≡ tables_locked keeps m.settings tree
+    → MayAttempt old c → IsKnownTo old c.session t.number → IsReadOf old.txs old.catalog c t tree path → MayWrite old c.session (t ∷ [])
+    → IsStep (λ (u : Unit {0}). u) (Ok tt) old new c c.cmd (locked_all names c tables) → new ≡ record old { locks = new.locks } → IsGathered new c (found_by keeps t tree path m)
+gathered_now names old new c keeps t tree path m tables are may known read top step rest =
     let s = may.sound in
-    let P : History → TableNo → Type 0 = λ h t. IsWritable h c.session t.number in
+    let P : History → TableNo → Type 0 = λ h x. IsWritable h c.session x.number in
     let stay : Stay old new = record { locks = step.keeps.locks; current = step.keeps.transactions; catalog = ap (λ (x : Stores). x.catalog) rest } in
-    let named_is : P s.0 g.table = All-head (P s.0) g.table [] (top s.0 s.1) in
-    let first : P s.0 (root g.tree) = subst (P s.0) (sym (top_is old c g.table g.tree g.path s.0 s.1 read)) named_is in
-    let under = may_write names old new c (below g.tree) may step in
+    let named_is : P s.0 t = All-head (P s.0) t [] (top s.0 s.1) in
+    let first : P s.0 (root tree) = subst (P s.0) (sym (top_is old c t tree path s.0 s.1 read)) named_is in
+    let at_top : (h : History) → Stands new h → P h (root tree) = λ h stands. writable_moves old new s.0 h c.session (root tree).number stay s.1 stands first in
+    let under : (h : History) → Stands new h → All (P h) (if moves keeps m.settings tree then below tree else kept_tables keeps tree) = λ h stands. subst (All (P h)) are (may_write names old new c tables may step h stands) in
+    let there = known_stays old new c.session t.number rest known in
+    let reads = read_stays old new c t tree path rest read in
     record {
-      known = known_stays old new c.session g.table.number rest known;
-      read = read_stays old new c g.table g.tree g.path rest read;
-      writes = λ h stands. root_and_below (P h) g.tree (writable_moves old new s.0 h c.session (root g.tree).number stay s.1 stands first) (under h stands);
+      known = there;
+      read = reads;
+      among = each_of (Contains (leaves tree)) (leaves_read keeps tree) (λ leaf at. kept_in keeps tree leaf at);
+      writes = each_of (MayWriteIn new c.session) (leaves_read keeps tree) (λ leaf at h stands x has.
+          kept_written new h c.session keeps tree leaf x (moves keeps m.settings tree) stands (homes_of new c t tree path h stands there reads) (at_top h stands) (under h stands) at has);
+      moves = λ on. each_of (MayWriteIn new c.session) (leaves tree) (λ leaf at h stands x has.
+          all_written new h c.session tree leaf x stands (homes_of new c t tree path h stands there reads) (at_top h stands) (under_all (P h) keeps tree (moves keeps m.settings tree) on (under h stands)) at has);
+      stays = λ still leaf at. some_kept (kept_leaves keeps tree) (sets_key m.settings tree) leaf at still;
     }
+
+-- what is made of it
+pub found_as : (keeps : Keeps) (t : TableNo) (tree : TableTree) (path : List PathPart) (m : ChangeMeant) (ls : List LeafId) (b : Bool) → ls ≡ leaves_read keeps tree → b ≡ moves keeps m.settings tree
+    → found_by keeps t tree path m ≡ record { table = t; tree = tree; path = path; asked = m; leaves = ls; moves = b }
+found_as keeps t tree path m ls b are is =
+    let f : List LeafId → Bool → Found = λ xs v. record { table = t; tree = tree; path = path; asked = m; leaves = xs; moves = v } in
+    ap (λ xs. f xs (moves keeps m.settings tree)) (sym are) ∙ ap (f ls) (sym is)
 
 -- ---- the tree of the named table
 
-pub read_step : (names : List (List ℕ)) (params : List Param) (c : Caller) (table : NamedTable) (settings : List Setting) (condition : Option Tree) (r : Result Gathered Stop) (old new : Stores) (t : TableNo) (tree : TableTree) (path : List PathPart) → IsReadOf old.txs old.catalog c t tree path
-    → IsStep found_of r old new c c.cmd (over names params c table settings condition t.number tree path) → IsStep found_of r old new c c.cmd (of_table names params c table settings condition t.number)
-read_step names params c table settings condition r old new t tree path read step =
-    same_step found_of r old new c c.cmd (of_table names params c table settings condition t.number) (over names params c table settings condition t.number tree path)
-    (λ h stands. ap (λ x. over names params c table settings condition t.number x (path_of h c.session t.number) h) (sym (read.is_tree h stands.all.txs stands.all.catalog))
-    ∙ ap (λ p. over names params c table settings condition t.number tree p h) (sym (read.is_path h stands.all.txs stands.all.catalog))) step
+pub read_prunable : TreesCanBePruned → (stores : Stores) (c : Caller) (t : TableNo) (tree : TableTree) (path : List PathPart) → MayAttempt stores c → IsKnownTo stores c.session t.number → IsReadOf stores.txs stores.catalog c t tree path → CanPrune tree
+read_prunable can stores c t tree path may there read =
+    let h = may.sound.0 in
+    let stands = may.sound.1 in
+    let kept = tables_kept stores.catalog h stands.all.catalog in
+    let known = there.made in
+    subst CanPrune (sym (read.is_tree h stands.all.txs stands.all.catalog)) (can h c.session t.number (look_of h c.session c.cmd) (legal_of h stands.good) (permitted_of h stands.good) (omega (arith, kept, known)))
+
+pub read_step : (prunes : Bool) (names : List (List ℕ)) (params : List Param) (c : Caller) (table : NamedTable) (settings : List Setting) (condition : Option Tree) (r : Result Gathered Stop) (old new : Stores) (t : TableNo) (tree : TableTree) (path : List PathPart) → IsReadOf old.txs old.catalog c t tree path
+    → IsStep found_of r old new c c.cmd (over prunes names params c table settings condition t.number tree path) → IsStep found_of r old new c c.cmd (of_table prunes names params c table settings condition t.number)
+read_step prunes names params c table settings condition r old new t tree path read step =
+    same_step found_of r old new c c.cmd (of_table prunes names params c table settings condition t.number) (over prunes names params c table settings condition t.number tree path)
+    (λ h stands. ap (λ x. over prunes names params c table settings condition t.number x (path_of h c.session t.number) h) (sym (read.is_tree h stands.all.txs stands.all.catalog))
+    ∙ ap (λ p. over prunes names params c table settings condition t.number tree p h) (sym (read.is_path h stands.all.txs stands.all.catalog))) step
 
 pub rest_same : (start mid new : Stores) → mid ≡ record start { locks = mid.locks } → new ≡ record mid { locks = new.locks } → new ≡ record start { locks = new.locks }
 rest_same start mid new first second = let f : Stores → Stores = λ s. record s { locks = new.locks } in second ∙ ap f first

@@ -1,16 +1,18 @@
 -- What was gathered stays, whatever rows are changed; and what the session may write.
-use Rattle.std.proofs.Common.{◌≡◌, ℕ, zero, suc, ◌<◌, ◌≤◌, true, List, [], ◌∷◌, inl, inr, refl, ap, sym, ◌∙◌, subst, arith, Some, None, All, map, length, slice_index_or}
+use Rattle.std.proofs.Common.{◌≡◌, ℕ, zero, suc, ◌<◌, true, List, [], ◌∷◌, inl, inr, refl, ap, sym, ◌∙◌, subst, arith, Some, None, All, map, length, slice_index_or}
 use Rattle.std.specs.List.{Contains}
 use Rattle.pg_ids.specs.declared.ids.LeafId.{LeafId}
 use Rattle.pg_ids.specs.declared.ids.TableNo.{TableNo}
 use Rattle.pg_ids.specs.declared.lock_mode.LockMode.{LockMode}
 use Rattle.pg_ids.specs.declared.lock_mode.LockMode.TheVariants.{RowExclusive, AccessExclusive}
+use Rattle.history.specs.declared.catalogue.TableShape.TheVariants.{Leaf}
 use Rattle.history.specs.Transactions.{open_of}
 use Rattle.history.specs.Locks.{holds}
 use Rattle.history.specs.Catalogue.{tables_made}
 use Rattle.history.specs.History.{History, tx_events, lock_events, catalogue_events}
 use Rattle.history.specs.Places.{table_at}
-use Rattle.table_trees.specs.Trees.{leaves}
+use Rattle.table_trees.specs.declared.path_part.PathPart.{PathPart}
+use Rattle.table_trees.specs.Trees.{TableTree, leaves}
 use Rattle.table_trees.specs.Histories.{table_of}
 use Rattle.part_catalog.specs.Kept.{KeptCatalogue, table_in}
 use Rattle.row_store.specs.Kept.{KeptRows}
@@ -19,7 +21,6 @@ use Rattle.row_targets.specs.declared.finding.TargetRow.{TargetRow}
 use Rattle.soundness.specs.Worlds.{HasLeaf}
 use Rattle.soundness.proofs.All.{legal_keeps_all}
 use Rattle.soundness.proofs.Presence.{all_more}
-use Rattle.legal_statements.specs.Below.{tables_in}
 use Rattle.legal_statements.specs.Locked.{IsOwnTable, IsWritable}
 use Rattle.stores.specs.Events.{look_of}
 use Rattle.stores.specs.Stand.{Stands}
@@ -28,11 +29,13 @@ use Rattle.stores.proofs.Goodness.{legal_of, permitted_of}
 use Rattle.stores.proofs.Housed.{leaves_are_housed}
 use Rattle.course.specs.Attempts.{LocksStay}
 use Rattle.course.specs.declared.caller.Caller.{Caller}
+use Rattle.statement_steps.specs.Known.{IsKnownTo}
+use Rattle.insert_statement.specs.Asked.{IsReadOf}
 use Rattle.insert_statement.proofs.Tables.{IsMade, tables_kept, shown_made}
 use Rattle.insert_statement.proofs.Trees.{Are, IsHome, tree_are}
 use Rattle.change_statement.specs.Gathered.{Found}
-use Rattle.change_statement.specs.Running.{IsGathered, IsTargetIn, MayRun}
-use Rattle.change_statement.proofs.Homes.{home_of}
+use Rattle.change_statement.specs.Running.{IsGathered, IsTargetIn, MayRun, MayWriteIn}
+use Rattle.change_statement.proofs.Homes.{Home, home_of}
 
 -- ---- only rows have changed
 
@@ -64,13 +67,27 @@ writable_moves old new g h s x stay before now (inl held) = inl (held_moves old 
 writable_moves old new g h s x stay before now (inr (inl held)) = inr (inl (held_moves old new g h s x AccessExclusive stay before now held))
 writable_moves old new g h s x stay before now (inr (inr own)) = inr (inr (own_moves old new g h s x stay before now own))
 
+-- rows take no lock, and no table its leaf
+written_with : (stores : Stores) (rows : KeptRows) (s : ℕ) (h : History) → Stands stores h → (leaf : LeafId) → MayWriteIn stores s leaf → MayWriteIn (record stores { rows = rows }) s leaf
+written_with stores rows s h stands leaf may k new x at =
+    let after = record stores { rows = rows } in
+    let stay : Stay stores after = record { locks = λ r y m e. e; current = refl; catalog = refl } in
+    let tables = same_tables stores after h k stay stands new in
+    let there : HasLeaf (catalogue_events h) x leaf = subst (λ ts. (x < length ts) × ((table_at ts x).shape ≡ Leaf leaf)) (sym tables) at in
+    writable_moves stores after h k s x stay stands new (may h stands x there)
+
 gathered_with : (stores : Stores) (rows : KeptRows) (caller : Caller) (g : Found) → (h : History) → Stands stores h → IsGathered stores caller g → IsGathered (record stores { rows = rows }) caller g
-gathered_with stores rows caller g h stands its = record {
-  known = record { made = its.known.made; own = its.known.own };
-  read = record { is_tree = its.read.is_tree; is_path = its.read.is_path };
-  writes = λ k new. all_more (λ (t : TableNo). IsWritable h caller.session t.number) (λ (t : TableNo). IsWritable k caller.session t.number) (tables_in g.tree)
-      (λ t may. writable_moves stores (record stores { rows = rows }) h k caller.session t.number (record { locks = λ r x m e. e; current = refl; catalog = refl }) stands new may) (its.writes h stands);
-}
+gathered_with stores rows caller g h stands its =
+    let W : LeafId → Type 0 = MayWriteIn stores caller.session in
+    let V : LeafId → Type 0 = MayWriteIn (record stores { rows = rows }) caller.session in
+    record {
+      known = record { made = its.known.made; own = its.known.own };
+      read = record { is_tree = its.read.is_tree; is_path = its.read.is_path };
+      among = its.among;
+      writes = all_more W V g.leaves (λ leaf may. written_with stores rows caller.session h stands leaf may) its.writes;
+      moves = λ on. all_more W V (leaves g.tree) (λ leaf may. written_with stores rows caller.session h stands leaf may) (its.moves on);
+      stays = its.stays;
+    }
 
 pub gathered_stays : (old new : Stores) (caller : Caller) (g : Found) → MayRun old caller → OnlyRows old new → IsGathered old caller g → IsGathered new caller g
 gathered_stays old new caller g may rest its =
@@ -92,27 +109,29 @@ target_stays old new g t keeps its =
 pub targets_stay : (old new : KeptRows) (g : Found) (ts : List TargetRow) → KeepsVersions old new → All (IsTargetIn old g) ts → All (IsTargetIn new g) ts
 targets_stay old new g ts keeps all = all_more (IsTargetIn old g) (IsTargetIn new g) ts (λ t its. target_stays old new g t keeps its) all
 
--- ---- the leaf of a target may be written
+-- ---- leaves at home
 
 -- the tables of the tree are made, and each leaf is at home
-pub tree_homes : (stores : Stores) (caller : Caller) (g : Found) (h : History) → Stands stores h → IsGathered stores caller g → Are (IsMade h) (IsHome (tables_made (catalogue_events h))) g.tree
-tree_homes stores caller g h stands its =
+pub homes_of : (stores : Stores) (caller : Caller) (t : TableNo) (tree : TableTree) (path : List PathPart) (h : History) → Stands stores h → IsKnownTo stores caller.session t.number → IsReadOf stores.txs stores.catalog caller t tree path → Are (IsMade h) (IsHome (tables_made (catalogue_events h))) tree
+homes_of stores caller t tree path h stands there read =
     let look = look_of h caller.session caller.cmd in
     let kept = tables_kept stores.catalog h stands.all.catalog in
-    let known = its.known.made in
-    let made : IsMade h (table_of g.table.number) = omega (arith, kept, known) in
-    subst (Are (IsMade h) (IsHome (tables_made (catalogue_events h)))) (sym (its.read.is_tree h stands.all.txs stands.all.catalog))
-    (tree_are h caller.session g.table.number look (IsMade h) (shown_made h caller.session look stands.good) made)
+    let known = there.made in
+    let made : IsMade h (table_of t.number) = omega (arith, kept, known) in
+    subst (Are (IsMade h) (IsHome (tables_made (catalogue_events h)))) (sym (read.is_tree h stands.all.txs stands.all.catalog))
+    (tree_are h caller.session t.number look (IsMade h) (shown_made h caller.session look stands.good) made)
 
-pub leaf_is_written : (stores : Stores) (caller : Caller) (g : Found) (h : History) (leaf : LeafId) (x : ℕ) → Stands stores h → IsGathered stores caller g → Contains (leaves g.tree) leaf → HasLeaf (catalogue_events h) x leaf → IsWritable h caller.session x
-leaf_is_written stores caller g h leaf x stands its among at =
-    let are = tree_homes stores caller g h stands its in
-    let home = home_of (IsMade h) (IsHome (tables_made (catalogue_events h))) g.tree leaf are.tables are.home among in
+pub tree_homes : (stores : Stores) (caller : Caller) (g : Found) (h : History) → Stands stores h → IsGathered stores caller g → Are (IsMade h) (IsHome (tables_made (catalogue_events h))) g.tree
+tree_homes stores caller g h stands its = homes_of stores caller g.table g.tree g.path h stands its.known its.read
+
+-- a leaf may be written where its table stands among such tables
+pub home_written : (stores : Stores) (h : History) (s : ℕ) (tables : List TableNo) (leaf : LeafId) (x : ℕ) → Stands stores h → Home (IsMade h) (IsHome (tables_made (catalogue_events h))) tables leaf → All (λ t. IsWritable h s t.number) tables → HasLeaf (catalogue_events h) x leaf → IsWritable h s x
+home_written stores h s tables leaf x stands home all at =
     let i = legal_keeps_all h (legal_of h stands.good) (permitted_of h stands.good) in
     let mine : HasLeaf (catalogue_events h) home.table.number leaf = (home.is, home.has) in
     let same : home.table.number ≡ x = i.tables.one_home home.table.number x leaf mine at in
-    let may : IsWritable h caller.session home.table.number = subst (λ (t : TableNo). IsWritable h caller.session t.number) home.among.2 (its.writes h stands home.among.0 home.table home.among.1) in
-    subst (IsWritable h caller.session) same may
+    let may : IsWritable h s home.table.number = subst (λ (t : TableNo). IsWritable h s t.number) home.among.2 (all home.among.0 home.table home.among.1) in
+    subst (IsWritable h s) same may
 
 -- each leaf of the tree is there
 pub leaf_is_there : (stores : Stores) (caller : Caller) (g : Found) (h : History) (leaf : LeafId) → Stands stores h → IsGathered stores caller g → Contains (leaves g.tree) leaf → leaf.number < stores.rows.leaves
@@ -127,5 +146,12 @@ at_place [] k d e lt = absurd (omega (arith, lt))
 at_place (x ∷ xs) zero d e lt = refl
 at_place (x ∷ xs) (suc k) d e lt = at_place xs k d e (omega (arith, lt))
 
-pub leaves_there : (stores : Stores) (caller : Caller) (g : Found) (h : History) → Stands stores h → IsGathered stores caller g → All (λ l. l.number < stores.rows.leaves) (leaves g.tree)
-leaves_there stores caller g h stands its k d lt = leaf_is_there stores caller g h (slice_index_or (leaves g.tree) k d) stands its (k, lt, at_place (leaves g.tree) k d (slice_index_or (leaves g.tree) k d) lt)
+-- what holds of each that a list contains
+pub each_of : (P : LeafId → Type 0) (xs : List LeafId) → ((x : LeafId) → Contains xs x → P x) → All P xs
+each_of P xs each k d lt = each (slice_index_or xs k d) (k, lt, at_place xs k d (slice_index_or xs k d) lt)
+
+pub one_of : (P : LeafId → Type 0) (xs : List LeafId) (x : LeafId) → Contains xs x → All P xs → P x
+one_of P xs x at all = subst P at.2 (all at.0 x at.1)
+
+pub leaves_there : (stores : Stores) (caller : Caller) (g : Found) (h : History) → Stands stores h → IsGathered stores caller g → All (λ l. l.number < stores.rows.leaves) g.leaves
+leaves_there stores caller g h stands its = all_more (Contains (leaves g.tree)) (λ (l : LeafId). l.number < stores.rows.leaves) g.leaves (λ leaf among. leaf_is_there stores caller g h leaf stands its among) its.among

@@ -10,3 +10,5 @@ pub mod Found
 pub mod Targets
 pub mod EachRow
 pub mod Faults
+pub mod Pruned
+pub mod Stays

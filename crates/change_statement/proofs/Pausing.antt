@@ -1,5 +1,5 @@
 -- A statement that waits in the middle of its run.
-use Rattle.std.proofs.Common.{◌≡◌, ◌≢◌, ℕ, ◌+◌, ◌<◌, ◌^◌, ◌==◌, ◌||◌, Bool, true, false, if◌then◌else◌, List, [], ◌∷◌, ◌++◌, refl, ap, sym, ◌∙◌, subst, arith, inl, inr, Option, Some, None, Result, Ok, Err, All, map}
+use Rattle.std.proofs.Common.{◌≡◌, ◌≢◌, ℕ, ◌+◌, ◌<◌, ◌^◌, ◌==◌, ◌||◌, Bool, true, false, if◌then◌else◌, List, [], ◌∷◌, ◌++◌, refl, ap, sym, ◌∙◌, subst, arith, inl, inr, Option, Some, None, Ok, Err, All, map}
 use Rattle.std.specs.Int.{bit_at}
 use Rattle.std.proofs.lemmas.Bool.{cases_eq, cases_Bool}
 use Rattle.std.proofs.lemmas.Bool.Decides.{nat_tests}
@@ -21,10 +21,9 @@ use Rattle.history.specs.History.{History, LockChange, lock_events}
 use Rattle.lock_answers.specs.Asked.{AskedView, AtOnce, WaitsBehind, ClosesCycle, asked, events_of, cycle_or_wait, least_cycle, those}
 use Rattle.stores.specs.Events.{held}
 use Rattle.stores.specs.Numbers.{IsAt}
-use Rattle.stores.specs.Stand.{Stands}
 use Rattle.stores.specs.declared.stores.Stores.{Stores}
 use Rattle.stores.proofs.Meanwhile.{looks_keep_numbers}
-use Rattle.course.specs.Made.{Made, Halt, Waits, Refused, behind}
+use Rattle.course.specs.Made.{Waits, Refused, behind}
 use Rattle.course.specs.Attempts.{WentOn}
 use Rattle.course.specs.declared.caller.Caller.{Caller}
 use Rattle.course.specs.declared.rest.Rest.{Rest}

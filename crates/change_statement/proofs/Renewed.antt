@@ -1,7 +1,6 @@
 -- The new row of an UPDATE, its leaf, and what stands against it there.
-use Rattle.std.proofs.Common.{◌≡◌, ℕ, zero, suc, ◌+◌, ◌<◌, List, [], ◌∷◌, ◌++◌, refl, ap, sym, ◌∙◌, subst, arith, Option, Some, None, Result, Ok, Err, All, IfOk, MatchResult, find, length, slice_index_or}
-use Rattle.std.specs.List.{Contains}
-use Rattle.std.proofs.lemmas.List.Elements.{All-cons, All-nil, All-head}
+use Rattle.std.proofs.Common.{◌≡◌, ℕ, ◌<◌, List, [], ◌∷◌, ap, sym, ◌∙◌, subst, arith, Result, Ok, Err, All, IfOk, MatchResult, find, length, slice_index_or}
+use Rattle.std.proofs.lemmas.List.Elements.{All-cons, All-nil}
 use Rattle.pg_values.specs.declared.value.Value.{Value}
 use Rattle.pg_values.specs.declared.fault.Fault.{Fault}
 use Rattle.pg_values.specs.declared.fault.Refusal.{Refusal}
@@ -16,7 +15,7 @@ use Rattle.history.specs.declared.catalogue.Column.{Column}
 use Rattle.history.specs.Catalogue.{tables_made}
 use Rattle.history.specs.History.{History, catalogue_events}
 use Rattle.table_trees.specs.Histories.{tree_of, path_of}
-use Rattle.table_trees.specs.Trees.{TableTree, IsRowOf}
+use Rattle.table_trees.specs.Trees.{IsRowOf}
 use Rattle.part_catalog.specs.Found.{made_at}
 use Rattle.part_catalog.specs.Stands.{CatalogueStands}
 use Rattle.part_catalog.specs.Kept.{KeptCatalogue}

@@ -1,5 +1,5 @@
 -- Parts of a run, one after another.
-use Rattle.std.proofs.Common.{◌≡◌, ℕ, ◌+◌, List, [], ◌∷◌, ◌++◌, refl, ap, sym, ◌∙◌, subst, append_assoc, Some, None, Result, Ok, Err, IsSome, slice_index_or}
+use Rattle.std.proofs.Common.{◌≡◌, ◌+◌, [], ◌∷◌, ◌++◌, refl, sym, ◌∙◌, subst, append_assoc, Some, None, Result, Ok, Err, IsSome, slice_index_or}
 use Rattle.pg_values.specs.declared.fault.Fault.{Fault}
 use Rattle.history.specs.History.{History}
 use Rattle.stores.specs.Stand.{Stands}
@@ -12,7 +12,7 @@ use Rattle.course.specs.declared.stop.Stop.TheVariants as stop
 use Rattle.statement_steps.specs.Steps.{follow}
 use Rattle.statement_steps.proofs.Parts.{still_on, stays}
 use Rattle.statement_steps.proofs.Steps.{went_on, goes_on, halted_same}
-use Rattle.change_statement.specs.Running.{IsInRun, IsRunTold, IsRun, MayRun, following}
+use Rattle.change_statement.specs.Running.{IsInRun, IsRunTold, IsRun, MayRun}
 
 run_behind : {Y U : Type 0} (view : Y → U) (r : Result Y Stop) (mid new : Stores) (caller : Caller) (h : History) (events : History) (m : Made U)
     → WentOn h caller.session (caller.cmd + 1) [] mid (events ++ h) → IsRunTold view r new caller (events ++ h) m → IsRunTold view r new caller h (behind events m)

@@ -1,5 +1,5 @@
 -- The targets that are found are versions of the tree's leaves, and so are those that are left of them.
-use Rattle.std.proofs.Common.{◌≡◌, ℕ, zero, suc, ◌+◌, ◌<◌, ◌==◌, ◌&&◌, Bool, true, false, if◌then◌else◌, List, [], ◌∷◌, ◌++◌, refl, ap, sym, ◌∙◌, subst, arith, inl, inr, Option, Some, None, All, map, filter, length, slice_index_or, append-nil}
+use Rattle.std.proofs.Common.{◌≡◌, ℕ, ◌<◌, ◌==◌, ◌&&◌, Bool, true, false, if◌then◌else◌, List, [], ◌∷◌, ◌++◌, refl, ap, sym, ◌∙◌, subst, arith, inl, inr, Option, Some, None, All, map, filter, length, slice_index_or, append-nil}
 use Rattle.std.specs.List.{Contains, flat_map}
 use Rattle.std.proofs.lemmas.List.{length-append, length-map, get_or-map}
 use Rattle.std.proofs.lemmas.Bool.{cases_Bool, cases_lt, and_parts}
@@ -9,18 +9,16 @@ use Rattle.std.proofs.lemmas.List.Elements.{All-nil, All-cons, All-head, All-tai
 use Rattle.pg_ids.specs.declared.ids.LeafId.{LeafId}
 use Rattle.pg_ids.specs.declared.ids.RowId.{RowId}
 use Rattle.history.specs.declared.version.Version.{Version}
-use Rattle.history.specs.Rows.{RowEvents, RowEvent, LeafAdded, RowBorn, RowEnded, births}
+use Rattle.history.specs.Rows.{LeafAdded, RowBorn, RowEnded}
 use Rattle.history.specs.RowsSound.{AreRowsSound}
 use Rattle.history.specs.Snapshots.{TakenSnapshot}
-use Rattle.history.specs.History.{Event, History, TxChange, SnapshotChange, RowChange, LockChange, CatalogueChange, row_events, versions, is_seen, seen}
-use Rattle.table_trees.specs.Trees.{leaves}
+use Rattle.history.specs.History.{History, TxChange, SnapshotChange, RowChange, LockChange, CatalogueChange, versions, is_seen, seen}
 use Rattle.cond_logic.specs.Trees.{CondTree}
 use Rattle.row_store.specs.Kept.{KeptRows, blank, version_of, stored_at}
 use Rattle.row_store.specs.Stands.{StoreStands}
 use Rattle.row_targets.specs.Targets.{takes, target_of, targets_in, targets}
 use Rattle.row_targets.specs.declared.finding.TargetRow.{TargetRow}
-use Rattle.soundness.proofs.Listed.{none_in, first_in, later_in}
-use Rattle.soundness.proofs.Presence.{all_more}
+use Rattle.soundness.proofs.Listed.{first_in, later_in}
 use Rattle.course.specs.declared.rest.Rest.{Rest}
 use Rattle.change_statement.specs.Gathered.{Found}
 use Rattle.change_statement.specs.Running.{IsTargetIn}
@@ -53,6 +51,21 @@ numbered (RowChange (RowEnded k e) ∷ h) sound = numbered h sound.1
 -- it has its place
 abbrev IsAt : KeptRows → Version → Type 0
 IsAt rows v = (v.id.number < length rows.stored) × ((stored_at rows.stored v.id).version ≡ v)
+
+-- a version that is kept is that of its place
+pub record IsKept (rows : KeptRows) (h : History) (id : RowId) : Type 0 where
+  pub within : id.number < length (versions h)
+  pub there : slice_index_or (versions h) id.number blank.version ≡ (stored_at rows.stored id).version
+  pub number : (stored_at rows.stored id).version.id.number ≡ id.number
+
+pub version_numbered : (rows : KeptRows) (h : History) (id : RowId) → id.number < length rows.stored → StoreStands rows h → IsKept rows h id
+version_numbered rows h id known stands =
+    let k = id.number in
+    let d = blank.version in
+    let count : length rows.stored ≡ length (versions h) = sym (length-map rows.stored version_of) ∙ ap length stands.births in
+    let within : k < length (versions h) = omega (arith, count, known) in
+    let there : (slice_index_or rows.stored k blank).version ≡ slice_index_or (versions h) k d = sym (get_or-map version_of rows.stored k blank d known) ∙ ap (λ vs. slice_index_or vs k d) stands.births in
+    record { within = within; there = sym there; number = ap (λ (v : Version). v.id.number) there ∙ numbered h stands.sound k d within }
 
 each_at : (vs : List Version) (P : Version → Type 0) → ((k : ℕ) (d : Version) → k < length vs → P (slice_index_or vs k d)) → All P vs
 each_at vs P each k d lt = each k d lt
@@ -93,19 +106,19 @@ same_leaf a b e =
     let of : ℕ → LeafId = λ n. record { number = n } in
     ap of number
 
-version_is_target : (rows : KeptRows) (g : Found) (h : History) (s : TakenSnapshot) (leaf : LeafId) (v : Version) → Contains (leaves g.tree) leaf → ((v.leaf.number == leaf.number) && is_seen h s v) ≡ true → IsAt rows v → IsTargetIn rows g (target_of v)
+version_is_target : (rows : KeptRows) (g : Found) (h : History) (s : TakenSnapshot) (leaf : LeafId) (v : Version) → Contains g.leaves leaf → ((v.leaf.number == leaf.number) && is_seen h s v) ≡ true → IsAt rows v → IsTargetIn rows g (target_of v)
 version_is_target rows g h s leaf v among passes at =
     let both = and_parts (v.leaf.number == leaf.number) (is_seen h s v) passes in
     record {
       there = at.0;
       leaf = ap (λ (w : Version). w.leaf) at.1;
-      among = subst (Contains (leaves g.tree)) (sym (same_leaf v.leaf leaf both.0)) among;
+      among = subst (Contains g.leaves) (sym (same_leaf v.leaf leaf both.0)) among;
     }
 
-pub all_targets : (rows : KeptRows) (g : Found) (h : History) (s : TakenSnapshot) (condition : Option CondTree) → StoreStands rows h → All (IsTargetIn rows g) (targets h s condition (leaves g.tree))
+pub all_targets : (rows : KeptRows) (g : Found) (h : History) (s : TakenSnapshot) (condition : Option CondTree) → StoreStands rows h → All (IsTargetIn rows g) (targets h s condition g.leaves)
 all_targets rows g h s condition stands =
     let P : Version → Type 0 = λ v. IsTargetIn rows g (target_of v) in
-    all_flat (targets_in h s condition) (IsTargetIn rows g) (leaves g.tree) (λ leaf among.
+    all_flat (targets_in h s condition) (IsTargetIn rows g) g.leaves (λ leaf among.
     all_mapped target_of (IsTargetIn rows g) (filter (λ v. takes condition v.row) (seen h leaf.number s))
     (all_passing (λ (v : Version). takes condition v.row) P P (seen h leaf.number s) (λ v passes its. its)
     (all_passing (λ (v : Version). (v.leaf.number == leaf.number) && is_seen h s v) (IsAt rows) P (versions h) (λ v passes at. version_is_target rows g h s leaf v among passes at) (all_at rows h stands))))

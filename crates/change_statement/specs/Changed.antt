@@ -9,7 +9,7 @@ use Rattle.pg_ids.specs.declared.ids.TableNo.{TableNo}
 use Rattle.pg_ids.specs.declared.session_set.SessionSet.{SessionSet}
 use Rattle.history.specs.declared.wait.WaitOn.TheVariants.{Ends}
 use Rattle.history.specs.History.{History}
-use Rattle.table_trees.specs.Trees.{TableTree, leaves}
+use Rattle.table_trees.specs.Trees.{TableTree}
 use Rattle.row_change.specs.Placing.{name_at}
 use Rattle.row_targets.specs.Faults.{could_not_serialize, conflict_session}
 use Rattle.row_targets.specs.Targets.{targets}
@@ -87,7 +87,7 @@ abbrev pub all_changed : Changing → List (List ℕ) → Caller → Found → L
 all_changed change names c g [] n h = made [] tt
 all_changed change names c g (t ∷ ts) n h = follow (one_changed change names c g t (standing (t ∷ ts) n)) (all_changed change names c g ts) h
 
--- the rows of the tree's leaves that the snapshot sees and that pass, or those of them that are left
+-- the rows of the kept leaves that the snapshot sees and that pass, or those of them that are left
 abbrev pub changed_from : Changing → List (List ℕ) → Caller → Option Rest → Found → History → Made (Unit {0})
 changed_from change names c rest g h =
-    all_changed change names c g (left_of rest (targets h (look_of h c.session c.cmd) g.asked.condition (leaves g.tree))) (changed_before rest) h
+    all_changed change names c g (left_of rest (targets h (look_of h c.session c.cmd) g.asked.condition g.leaves)) (changed_before rest) h

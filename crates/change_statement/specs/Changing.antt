@@ -1,5 +1,4 @@
 -- What an UPDATE or a DELETE makes of a version that it changes.
-use Rattle.pg_ids.specs.declared.ids.RowId.{RowId}
 use Rattle.course.specs.declared.caller.Caller.{Caller}
 use Rattle.change_statement.specs.Gathered.{Found}
 use Rattle.change_statement.specs.Changed.{Changing}

@@ -1,5 +1,5 @@
 -- DELETE of a session (the manual, DELETE).
-use Rattle.std.specs.Prelude.{ℕ, List, [], ◌∷◌, Option}
+use Rattle.std.specs.Prelude.{ℕ, Bool, List, [], ◌∷◌, Option}
 use Rattle.pg_ids.specs.declared.ids.RowId.{RowId}
 use Rattle.history.specs.declared.version.Ending.{Ending}
 use Rattle.history.specs.declared.version.Ending.TheVariants.{Deleted}
@@ -26,7 +26,7 @@ deleting c leaf id row = ended c Deleted id
 
 -- DELETE FROM table [ WHERE condition ], from its beginning, or from where it stood; a transaction at REPEATABLE READ takes its
 -- snapshot before anything waits
-abbrev pub deleted : (names : List (List ℕ)) → List Param → Caller → Option Rest → NamedTable → (condition : Option Tree) → History → Made (Unit {0})
-deleted names params c rest table condition =
+abbrev pub deleted : (prunes : Bool) → (names : List (List ℕ)) → List Param → Caller → Option Rest → NamedTable → (condition : Option Tree) → History → Made (Unit {0})
+deleted prunes names params c rest table condition =
     follow (held_at c.level c.session c.cmd) (λ u.
-    follow (found names params c rest table [] condition) (changed_from (deleting c) names c rest))
+    follow (found prunes names params c rest table [] condition) (changed_from (deleting c) names c rest))

@@ -1,6 +1,7 @@
--- What an UPDATE or a DELETE has before it looks at rows: its table and those below it, locked, and what is asked of the rows
+-- What an UPDATE or a DELETE has before it looks at rows: its table and those that it needs below it, locked, and what is asked of the rows
 -- (the manual, UPDATE; DELETE; 13.3.1 Table-Level Locks).
-use Rattle.std.specs.Prelude.{ℕ, List, [], Option, Some, None, Result, Ok, Err, map}
+use Rattle.std.specs.Prelude.{ℕ, Bool, List, [], Option, None, Result, Ok, Err, map}
+use Rattle.pg_ids.specs.declared.ids.LeafId.{LeafId}
 use Rattle.pg_ids.specs.declared.ids.TableNo.{TableNo}
 use Rattle.pg_ids.specs.declared.lock_mode.LockMode.TheVariants.{RowExclusive}
 use Rattle.history.specs.declared.catalogue.Column.{Column}
@@ -26,8 +27,10 @@ use Rattle.course.specs.declared.stop.Stop.{Stop}
 use Rattle.course.specs.declared.stop.Stop.TheVariants as stop
 use Rattle.statement_steps.specs.Asks.{named, all_locked}
 use Rattle.statement_steps.specs.Steps.{follow}
-use Rattle.select_statement.specs.Below.{numbers_below}
+use Rattle.pruned_trees.specs.Kept.{Keeps}
+use Rattle.select_statement.specs.Below.{number_of}
 use Rattle.insert_statement.specs.Inserted.{answered, scope_column}
+use Rattle.change_statement.specs.Kept.{keeps_for, leaves_read, moves, tables_locked}
 use Rattle.change_statement.specs.declared.asking.Change.{Change}
 use Rattle.change_statement.specs.declared.asking.Change.TheVariants.{Update, Delete}
 use Rattle.change_statement.specs.declared.gathering.Gathered.{Gathered}
@@ -48,15 +51,22 @@ condition_of (Delete d) = maybe_tree d.now.condition
 
 -- ---- what is gathered
 
--- the named table, its tree and the path above it, and what is asked
+-- the named table, its tree and the path above it, what is asked, the leaves that are read, and whether rows may move from
+-- these to others
 pub record Found : Type 0 where
   pub table : TableNo
   pub tree : TableTree
   pub path : List PathPart
   pub asked : ChangeMeant
+  pub leaves : List LeafId
+  pub moves : Bool
 
 abbrev pub found_of : Gathered → Found
-found_of g = record { table = g.table; tree = seen g.tree; path = g.path.items; asked = change_meant g.ask }
+found_of g = record { table = g.table; tree = seen g.tree; path = g.path.items; asked = change_meant g.ask; leaves = g.leaves.items; moves = g.moves }
+
+abbrev pub found_by : Keeps → TableNo → TableTree → List PathPart → ChangeMeant → Found
+found_by keeps table tree path m =
+    record { table = table; tree = tree; path = path; asked = m; leaves = leaves_read keeps tree; moves = moves keeps m.settings tree }
 
 -- the table, under the name that it goes by
 abbrev pub item_of : NamedTable → List Column → Item
@@ -66,24 +76,29 @@ item_of table columns = record { name = item_name (table, None); number = 0; col
 abbrev pub meant : List Param → Caller → NamedTable → (settings : List Setting) → (condition : Option Tree) → (table : ℕ) → History → Made ChangeMeant
 meant params c table settings condition t h = answered (bound_change (item_of table (made_at h t).columns) params c.session settings condition)
 
--- the tables under the named one are locked
-abbrev pub locked_below : List (List ℕ) → Caller → TableTree → History → Made (Unit {0})
-locked_below names c tree = all_locked names c.session RowExclusive (numbers_below tree)
+-- these tables are locked, one after the other
+abbrev pub locked_all : List (List ℕ) → Caller → List TableNo → History → Made (Unit {0})
+locked_all names c tables = all_locked names c.session RowExclusive (map number_of tables)
 
-abbrev pub locked : List (List ℕ) → Caller → (table : ℕ) → TableTree → List PathPart → ChangeMeant → History → Made Found
-locked names c t tree path m = follow (locked_below names c tree) (λ u h. made [] (record { table = table_of t; tree = tree; path = path; asked = m }))
+-- of the tables under the named one those are locked that lead to a leaf which the condition keeps, and those of such
+-- leaves; all where a row may move from these to others
+abbrev pub locked_by : Keeps → List (List ℕ) → Caller → (table : ℕ) → TableTree → List PathPart → ChangeMeant → History → Made Found
+locked_by keeps names c t tree path m = follow (locked_all names c (tables_locked keeps m.settings tree)) (λ u h. made [] (found_by keeps (table_of t) tree path m))
 
-abbrev pub over : List (List ℕ) → List Param → Caller → NamedTable → List Setting → Option Tree → (table : ℕ) → TableTree → List PathPart → History → Made Found
-over names params c table settings condition t tree path = follow (meant params c table settings condition t) (locked names c t tree path)
+abbrev pub locked : (prunes : Bool) → List (List ℕ) → Caller → (table : ℕ) → TableTree → List PathPart → ChangeMeant → History → Made Found
+locked prunes names c t tree path m = locked_by (keeps_for prunes m.condition) names c t tree path m
+
+abbrev pub over : (prunes : Bool) → List (List ℕ) → List Param → Caller → NamedTable → List Setting → Option Tree → (table : ℕ) → TableTree → List PathPart → History → Made Found
+over prunes names params c table settings condition t tree path = follow (meant params c table settings condition t) (locked prunes names c t tree path)
 
 -- of the table of that number: its tree is that of the command's snapshot
-abbrev pub of_table : List (List ℕ) → List Param → Caller → NamedTable → List Setting → Option Tree → (table : ℕ) → History → Made Found
-of_table names params c table settings condition t h =
-    over names params c table settings condition t (tree_of h c.session t (look_of h c.session c.cmd)) (path_of h c.session t) h
+abbrev pub of_table : (prunes : Bool) → List (List ℕ) → List Param → Caller → NamedTable → List Setting → Option Tree → (table : ℕ) → History → Made Found
+of_table prunes names params c table settings condition t h =
+    over prunes names params c table settings condition t (tree_of h c.session t (look_of h c.session c.cmd)) (path_of h c.session t) h
 
 -- the named table is found and locked first
-abbrev pub gathered : List (List ℕ) → List Param → Caller → NamedTable → List Setting → Option Tree → History → Made Found
-gathered names params c table settings condition = follow (named names c.session RowExclusive table.name) (of_table names params c table settings condition)
+abbrev pub gathered : (prunes : Bool) → List (List ℕ) → List Param → Caller → NamedTable → List Setting → Option Tree → History → Made Found
+gathered prunes names params c table settings condition = follow (named names c.session RowExclusive table.name) (of_table prunes names params c table settings condition)
 
 -- ---- where it begins, and where it goes on
 
@@ -102,5 +117,5 @@ abbrev pub going_on : {T : Type 0} → Option Rest → Made T → Made T
 going_on rest m = record { events = m.events; told = told_on rest m.told }
 
 -- where it goes on it finds the same table, and holds the locks that it asks for, but on tables that were attached meanwhile
-abbrev pub found : List (List ℕ) → List Param → Caller → Option Rest → NamedTable → List Setting → Option Tree → History → Made Found
-found names params c rest table settings condition h = going_on rest (gathered names params c table settings condition h)
+abbrev pub found : (prunes : Bool) → List (List ℕ) → List Param → Caller → Option Rest → NamedTable → List Setting → Option Tree → History → Made Found
+found prunes names params c rest table settings condition h = going_on rest (gathered prunes names params c table settings condition h)

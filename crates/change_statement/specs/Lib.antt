@@ -1,3 +1,4 @@
+pub mod Kept
 pub mod Gathered
 pub mod Standing
 pub mod Running
@@ -5,3 +6,4 @@ pub mod Changed
 pub mod Deleted
 pub mod Updated
 pub mod Changing
+pub mod Laws

@@ -1,5 +1,5 @@
 -- A statement in the middle of its run: what a part of it makes of a history (the manual, 13.2).
-use Rattle.std.specs.Prelude.{◌≡◌, ℕ, ◌+◌, ◌<◌, ◌≤◌, true, List, [], ◌∷◌, ◌++◌, Some, None, Result, Ok, Err, length, slice_index_or}
+use Rattle.std.specs.Prelude.{◌≡◌, ℕ, ◌+◌, ◌<◌, true, false, List, [], ◌∷◌, ◌++◌, Some, None, Result, Ok, Err, All, length, slice_index_or}
 use Rattle.std.specs.List.{Contains}
 use Rattle.pg_values.specs.declared.value.Value.{Value}
 use Rattle.pg_ids.specs.declared.ids.LeafId.{LeafId}
@@ -7,7 +7,7 @@ use Rattle.pg_ids.specs.declared.ids.RowId.{RowId}
 use Rattle.history.specs.Transactions.{open_of}
 use Rattle.history.specs.History.{History, tx_events, catalogue_events, stands}
 use Rattle.history.specs.Legal.{IsInOrder}
-use Rattle.table_trees.specs.Trees.{leaves}
+use Rattle.table_trees.specs.Trees.{leaves, routed}
 use Rattle.tx_table.specs.Stands.{TableStands, sees_now_by}
 use Rattle.row_store.specs.Kept.{KeptRows, stored_at}
 use Rattle.row_store.specs.Stands.{StoreStands}
@@ -16,7 +16,6 @@ use Rattle.part_catalog.specs.Stands.{CatalogueStands}
 use Rattle.row_change.specs.Placing.{placed}
 use Rattle.row_change.specs.Targets.{HasWay}
 use Rattle.row_targets.specs.declared.finding.TargetRow.{TargetRow}
-use Rattle.legal_statements.specs.Below.{tables_in}
 use Rattle.legal_statements.specs.Locked.{IsWritable}
 use Rattle.stores.specs.Numbers.{IsAt}
 use Rattle.stores.specs.Stand.{Stands}
@@ -28,9 +27,10 @@ use Rattle.course.specs.declared.stop.Stop.{Stop}
 use Rattle.course.specs.declared.stop.Stop.TheVariants as stop
 use Rattle.statement_steps.specs.Known.{IsKnownTo}
 use Rattle.statement_steps.specs.Steps.{IsHalted}
-use Rattle.insert_statement.specs.Asked.{IsReadOf, MayWrite}
+use Rattle.insert_statement.specs.Asked.{IsReadOf}
 use Rattle.insert_statement.specs.Inserted.{tables_of}
 use Rattle.change_statement.specs.Gathered.{Found}
+use Rattle.change_statement.specs.Kept.{sets_key}
 
 -- ---- its command
 
@@ -78,30 +78,43 @@ pub record IsCommand (result : Result (Unit {0}) Stop) (old new : Stores) (calle
 
 -- ---- what it has gathered
 
--- the tree and the path are those that the command reads, and the session may write all tables of the tree
+-- the session may write the table that has the leaf
+abbrev pub MayWriteIn : Stores → (session : ℕ) → LeafId → Type 0
+MayWriteIn stores s leaf = (h : History) → Stands stores h → (x : ℕ) → HasLeaf (catalogue_events h) x leaf → IsWritable h s x
+
+-- the tree and the path are those that the command reads; the leaves that are read are some of the tree's, and the session
+-- may write their tables, and those of all leaves of the tree where rows may move; where they may not, no key column is set
 pub record IsGathered (stores : Stores) (caller : Caller) (g : Found) : Type 0 where
   pub known : IsKnownTo stores caller.session g.table.number
   pub read : IsReadOf stores.txs stores.catalog caller g.table g.tree g.path
-  pub writes : MayWrite stores caller.session (tables_in g.tree)
+  pub among : All (Contains (leaves g.tree)) g.leaves
+  pub writes : All (MayWriteIn stores caller.session) g.leaves
+  pub moves : g.moves ≡ true → All (MayWriteIn stores caller.session) (leaves g.tree)
+  pub stays : g.moves ≡ false → (leaf : LeafId) → Contains g.leaves leaf → sets_key g.asked.settings g.tree ≡ false
 
 -- ---- its rows
 
--- the version is there, and has the leaf, which is one of the tree's
+-- the version is there, and has the leaf, which is one of those that are read
 pub record IsTargetIn (rows : KeptRows) (g : Found) (t : TargetRow) : Type 0 where
   pub there : t.id.number < length rows.stored
   pub leaf : (stored_at rows.stored t.id).version.leaf ≡ t.leaf
-  pub among : Contains (leaves g.tree) t.leaf
+  pub among : Contains g.leaves t.leaf
 
 -- the version is there and stands, the transaction sees its birth, and its leaf is one that the session may write
 pub record MayEndIn (stores : Stores) (caller : Caller) (id : RowId) : Type 0 where
   pub known : id.number < length stores.rows.stored
   pub standing : (h : History) → TableStands stores.txs h → StoreStands stores.rows h → stands h id.number ≡ true
   pub born : (tx : ℕ) → slice_index_or stores.txs.current caller.session None ≡ Some tx → sees_now_by stores.txs tx (stored_at stores.rows.stored id).version.by.number ≡ true
-  pub locked : (h : History) → Stands stores h → (x : ℕ) → HasLeaf (catalogue_events h) x (stored_at stores.rows.stored id).version.leaf → IsWritable h caller.session x
+  pub locked : MayWriteIn stores caller.session (stored_at stores.rows.stored id).version.leaf
 
 -- ---- a new row
 
--- the row goes to the leaf, which is one of the tree's
-pub record IsPlacedIn (stores : Stores) (g : Found) (leaf : LeafId) (row : List Value) : Type 0 where
+-- where no row may move, the session may write the table of the leaf to which the row goes
+abbrev pub MayPlace : Stores → (session : ℕ) → Found → (row : List Value) → Type 0
+MayPlace stores s g row = g.moves ≡ false → (leaf : LeafId) → routed row g.tree ≡ Ok leaf → MayWriteIn stores s leaf
+
+-- the row goes to the leaf, which is one of the tree's, and the session may write the table that has it
+pub record IsPlacedIn (stores : Stores) (session : ℕ) (g : Found) (leaf : LeafId) (row : List Value) : Type 0 where
   pub placed : (h : History) → CatalogueStands stores.catalog h → placed (tables_of h) g.tree g.path row ≡ Ok leaf
   pub way : HasWay g.tree leaf
+  pub written : MayWriteIn stores session leaf

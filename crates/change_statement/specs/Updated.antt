@@ -1,5 +1,5 @@
 -- UPDATE of a session (the manual, UPDATE; 5.11.2 Declarative Partitioning).
-use Rattle.std.specs.Prelude.{ℕ, List, Option}
+use Rattle.std.specs.Prelude.{ℕ, Bool, List, Option}
 use Rattle.pg_values.specs.declared.value.Value.{Value}
 use Rattle.pg_ids.specs.declared.ids.LeafId.{LeafId}
 use Rattle.pg_ids.specs.declared.ids.RowId.{RowId}
@@ -61,7 +61,7 @@ abbrev pub updating : Caller → Found → Changing
 updating c g old id row = follow (renewed g row) (stored c g old id)
 
 -- UPDATE table SET settings [ WHERE condition ], from its beginning, or from where it stood
-abbrev pub updated : (names : List (List ℕ)) → List Param → Caller → Option Rest → NamedTable → List Setting → (condition : Option Tree) → History → Made (Unit {0})
-updated names params c rest table settings condition =
+abbrev pub updated : (prunes : Bool) → (names : List (List ℕ)) → List Param → Caller → Option Rest → NamedTable → List Setting → (condition : Option Tree) → History → Made (Unit {0})
+updated prunes names params c rest table settings condition =
     follow (held_at c.level c.session c.cmd) (λ u.
-    follow (found names params c rest table settings condition) (λ g. changed_from (updating c g) names c rest g))
+    follow (found prunes names params c rest table settings condition) (λ g. changed_from (updating c g) names c rest g))

@@ -7,8 +7,6 @@ ghost use Rattle.row_targets.specs.Verdicts.{updater_meant};
 ghost use Rattle.statement_asks.specs.Asked.{change_meant};
 ghost use Rattle.row_change.specs.Succession.{KeepsVersions};
 ghost use Rattle.row_targets.specs.Targets.{targets};
-ghost use Rattle.table_trees.specs.Seen.{seen};
-ghost use Rattle.table_trees.specs.Trees.{leaves};
 ghost use Rattle.stores.specs.Events.{look_of};
 ghost use Rattle.stores.specs.Stand.{Stands};
 ghost use Rattle.course.specs.Attempts.{MayAttempt, MayGoOn};
@@ -27,14 +25,12 @@ use crate::standing::{changed_before, left_of};
 use crate::updating::{renew, store};
 use crate::waiting::pause;
 use course::{Caller, Rest, Stop};
-use pg_ids::LeafId;
 use pg_values::{Fault, NoMemory};
 use row_targets::{TargetRow, Updater, Verdict, decide, find_targets};
 use sessions::Isolation;
 use statement_steps::SessionNames;
 use std::alloc::Global;
 use stores::Stores;
-use table_trees::{Tree, push_leaves};
 
 fn repeats(caller: Caller) -> bool
     ensures { result ≡ changed_spec.repeats_at caller.level }
@@ -157,15 +153,7 @@ fn change_rows(
     Ok(())
 }
 
-fn leaves_of(alloc: Global, tree: &Tree) -> Result<Vec<LeafId>, NoMemory>
-    ensures { IfOk result (λ found. found.items ≡ leaves (seen tree.now)) }
-{
-    let mut found = Vec::new(alloc);
-    push_leaves(tree, &mut found)?;
-    Ok(found)
-}
-
-// The rows that the command sees and that pass.
+// The rows of the leaves that are read which the command sees and which pass.
 fn find(
     alloc: Global,
     stores: &Stores,
@@ -174,15 +162,14 @@ fn find(
 ) -> Result<Vec<TargetRow>, NoMemory>
     requires may { MayAttempt stores.now caller }
     requires gathered { IsGathered stores.now caller (found_of gathered.now) }
-    ensures { IfOk result (λ found. (h : History) → Stands stores.now h → found.items ≡ targets h (look_of h caller.session caller.cmd) (found_of gathered.now).asked.condition (leaves (found_of gathered.now).tree)) }
+    ensures { IfOk result (λ found. (h : History) → Stands stores.now h → found.items ≡ targets h (look_of h caller.session caller.cmd) (found_of gathered.now).asked.condition (found_of gathered.now).leaves) }
 {
-    let found = leaves_of(alloc, &gathered.tree)?;
     let snap = stores.look(alloc, caller.session, caller.cmd)?;
     find_targets(
         alloc,
         &stores.rows,
         &stores.txs,
-        &found,
+        &gathered.leaves,
         &snap,
         &gathered.ask.condition,
     )
@@ -198,7 +185,7 @@ fn find_left(
 ) -> Result<Vec<TargetRow>, NoMemory>
     requires may { MayAttempt stores.now caller }
     requires gathered { IsGathered stores.now caller (found_of gathered.now) }
-    ensures are { IfOk result (λ found. (h : History) → Stands stores.now h → found.items ≡ standing_spec.left_of rest.now (targets h (look_of h caller.session caller.cmd) (found_of gathered.now).asked.condition (leaves (found_of gathered.now).tree))) }
+    ensures are { IfOk result (λ found. (h : History) → Stands stores.now h → found.items ≡ standing_spec.left_of rest.now (targets h (look_of h caller.session caller.cmd) (found_of gathered.now).asked.condition (found_of gathered.now).leaves)) }
     ensures there { IfOk result (λ found. All (IsTargetIn stores.now.rows (found_of gathered.now)) found.items) }
 {
     left_of(alloc, rest, find(alloc, stores, caller, gathered)?)

@@ -37,6 +37,7 @@ fn change_from(
     names: &SessionNames,
     params: &[Param],
     caller: Caller,
+    prunes: bool,
     rest: Option<Rest>,
     change: Change<'_>,
 ) -> Result<(), Stop>
@@ -44,9 +45,9 @@ fn change_from(
     requires rest { MayGoOn stores.old rest }
     requires few { length stores.old.catalog.tables ≤ 4096 }
     ensures { IsCommand result stores.old stores.new caller
-        (follow (gathered_spec.found names.now params.now caller rest (gathered_spec.table_named change.entry) (gathered_spec.settings_of change.entry) (gathered_spec.condition_of change.entry)) (λ g. changed_from (changing change.entry caller g) names.now caller rest g)) }
+        (follow (gathered_spec.found prunes names.now params.now caller rest (gathered_spec.table_named change.entry) (gathered_spec.settings_of change.entry) (gathered_spec.condition_of change.entry)) (λ g. changed_from (changing change.entry caller g) names.now caller rest g)) }
 {
-    match gather(alloc, stores, names, params, caller, change) {
+    match gather(alloc, stores, names, params, caller, prunes, change) {
         Ok(gathered) => change_found(alloc, stores, names, caller, rest, &gathered, change),
         Err(stop) => Err(stopped_on(stop, rest)),
     }
@@ -64,18 +65,19 @@ pub fn delete(
     names: &SessionNames,
     params: &[Param],
     caller: Caller,
+    prunes: bool,
     rest: Option<Rest>,
     statement: &Delete,
 ) -> Result<(), Stop>
     requires may { MayAttempt stores.old caller }
     requires rest { MayGoOn stores.old rest }
     requires few { length stores.old.catalog.tables ≤ 4096 }
-    ensures { IsCommand result stores.old stores.new caller (deleted names.now params.now caller rest statement.now.table (maybe_tree statement.now.condition)) }
+    ensures { IsCommand result stores.old stores.new caller (deleted prunes names.now params.now caller rest statement.now.table (maybe_tree statement.now.condition)) }
 {
     match hold_if_repeatable(alloc, stores, caller) {
         Ok(()) => {
             let change = Change::Delete(statement);
-            change_from(alloc, stores, names, params, caller, rest, change)
+            change_from(alloc, stores, names, params, caller, prunes, rest, change)
         }
         Err(stop) => Err(stop),
     }
@@ -91,18 +93,19 @@ pub fn update(
     names: &SessionNames,
     params: &[Param],
     caller: Caller,
+    prunes: bool,
     rest: Option<Rest>,
     statement: &Update,
 ) -> Result<(), Stop>
     requires may { MayAttempt stores.old caller }
     requires rest { MayGoOn stores.old rest }
     requires few { length stores.old.catalog.tables ≤ 4096 }
-    ensures { IsCommand result stores.old stores.new caller (updated names.now params.now caller rest statement.now.table (map setting statement.now.assignments) (maybe_tree statement.now.condition)) }
+    ensures { IsCommand result stores.old stores.new caller (updated prunes names.now params.now caller rest statement.now.table (map setting statement.now.assignments) (maybe_tree statement.now.condition)) }
 {
     match hold_if_repeatable(alloc, stores, caller) {
         Ok(()) => {
             let change = Change::Update(statement);
-            change_from(alloc, stores, names, params, caller, rest, change)
+            change_from(alloc, stores, names, params, caller, prunes, rest, change)
         }
         Err(stop) => Err(stop),
     }

@@ -20,7 +20,7 @@ ghost use Rattle.stores.specs.Stand.{Stands};
 ghost use Rattle.insert_statement.specs.Asked.{AreRowsOf};
 ghost use Rattle.insert_statement.specs.Inserted.{holder_faults, tables_of};
 ghost use Rattle.change_statement.specs.Gathered.{found_of};
-ghost use Rattle.change_statement.specs.Running.{IsGathered, IsPlacedIn, IsRun, MayEndIn, MayRun};
+ghost use Rattle.change_statement.specs.Running.{IsGathered, IsPlacedIn, IsRun, MayEndIn, MayPlace, MayRun};
 ghost use Rattle.change_statement.specs.Updated as updated;
 
 use crate::asking::stop_by;
@@ -109,9 +109,10 @@ fn rehouse(
 ) -> Result<LeafId, Stop>
     requires may { MayRun stores.now caller }
     requires gathered { IsGathered stores.now caller (found_of gathered.now) }
+    requires place { MayPlace stores.now caller.session (found_of gathered.now) row.now }
     requires of { AreRowsOf stores.now.catalog (found_of gathered.now).table (row.now ∷ []) }
     ensures run { IsRun (λ leaf. leaf) result stores.now stores.now caller (updated.rehoused (found_of gathered.now) row.now) }
-    ensures placed { IfOk result (λ leaf. IsPlacedIn stores.now (found_of gathered.now) leaf row.now) }
+    ensures placed { IfOk result (λ leaf. IsPlacedIn stores.now caller.session (found_of gathered.now) leaf row.now) }
 {
     let tree = &gathered.tree;
     match leaves_of(alloc, &stores.catalog, tree, &gathered.path, from_ref(row)) {
@@ -134,7 +135,7 @@ fn check(
     requires may { MayRun stores.now caller }
     requires gathered { IsGathered stores.now caller (found_of gathered.now) }
     requires of { AreRowsOf stores.now.catalog (found_of gathered.now).table (row.now ∷ []) }
-    requires placed { IsPlacedIn stores.now (found_of gathered.now) leaf row.now }
+    requires placed { IsPlacedIn stores.now caller.session (found_of gathered.now) leaf row.now }
     ensures { (h : History) → Stands stores.now h → IsAnswer result (or_first (holder_faults h caller.session (seen gathered.now.tree) leaf row.now) tt) }
 {
     trees_are_together();
@@ -157,7 +158,7 @@ fn test(
     requires may { MayRun stores.now caller }
     requires gathered { IsGathered stores.now caller (found_of gathered.now) }
     requires of { AreRowsOf stores.now.catalog (found_of gathered.now).table (row.now ∷ []) }
-    requires placed { IsPlacedIn stores.now (found_of gathered.now) leaf row.now }
+    requires placed { IsPlacedIn stores.now caller.session (found_of gathered.now) leaf row.now }
     ensures { IsRun (λ u. u) result stores.now stores.now caller (updated.tested caller (found_of gathered.now) leaf row.now) }
 {
     match check(alloc, stores, caller, gathered, leaf, row) {
@@ -183,7 +184,7 @@ fn succeed(
     requires gathered { IsGathered stores.old caller (found_of gathered.now) }
     requires version { MayEndIn stores.old caller id }
     requires own { (stored_at stores.old.rows.stored id).version.leaf ≡ from }
-    requires placed { IsPlacedIn stores.old (found_of gathered.now) leaf row }
+    requires placed { IsPlacedIn stores.old caller.session (found_of gathered.now) leaf row }
     ensures run { IsRun (λ u. u) result stores.old stores.new caller (updated.succeeded caller from id leaf row) }
     ensures rest { stores.new ≡ record stores.old { rows = stores.new.rows } }
     ensures keeps { KeepsVersions stores.old.rows stores.new.rows }
@@ -213,7 +214,7 @@ fn store_in(
     requires version { MayEndIn stores.old caller id }
     requires own { (stored_at stores.old.rows.stored id).version.leaf ≡ from }
     requires of { AreRowsOf stores.old.catalog (found_of gathered.now).table (row ∷ []) }
-    requires placed { IsPlacedIn stores.old (found_of gathered.now) leaf row }
+    requires placed { IsPlacedIn stores.old caller.session (found_of gathered.now) leaf row }
     ensures run { IsRun (λ u. u) result stores.old stores.new caller (updated.stored_in caller (found_of gathered.now) from id row leaf) }
     ensures rest { stores.new ≡ record stores.old { rows = stores.new.rows } }
     ensures keeps { KeepsVersions stores.old.rows stores.new.rows }
@@ -224,7 +225,8 @@ fn store_in(
     }
 }
 
-/// The row takes the place of the version, in the leaf where it belongs.
+/// The row takes the place of the version, in the leaf where it belongs: where no row may move, in that of the
+/// version.
 pub(crate) fn store(
     alloc: Global,
     stores: &mut Stores,
@@ -238,6 +240,7 @@ pub(crate) fn store(
     requires gathered { IsGathered stores.old caller (found_of gathered.now) }
     requires version { MayEndIn stores.old caller id }
     requires own { (stored_at stores.old.rows.stored id).version.leaf ≡ from }
+    requires place { MayPlace stores.old caller.session (found_of gathered.now) row }
     requires of { AreRowsOf stores.old.catalog (found_of gathered.now).table (row ∷ []) }
     ensures run { IsRun (λ u. u) result stores.old stores.new caller (updated.stored caller (found_of gathered.now) from id row) }
     ensures rest { stores.new ≡ record stores.old { rows = stores.new.rows } }

@@ -65,8 +65,8 @@ select_attempted prunes names c s = tabled (selected prunes names c s)
 abbrev pub row_attempted : (prunes : Bool) → (names : List (List ℕ)) → Caller → Option Rest → RowTree → History → Made (List ℕ)
 row_attempted prunes names c rest (selects s) = select_attempted prunes names c s
 row_attempted prunes names c rest (inserts table columns values) = silent (inserted names [] c table columns values)
-row_attempted prunes names c rest (updates table settings condition) = silent (updated names [] c rest table settings condition)
-row_attempted prunes names c rest (deletes table condition) = silent (deleted names [] c rest table condition)
+row_attempted prunes names c rest (updates table settings condition) = silent (updated prunes names [] c rest table settings condition)
+row_attempted prunes names c rest (deletes table condition) = silent (deleted prunes names [] c rest table condition)
 
 abbrev pub query_attempted : (prunes : Bool) → (names : List (List ℕ)) → Caller → Option Rest → QueryTree → History → Made (List ℕ)
 query_attempted prunes names c rest (rows r) = row_attempted prunes names c rest r

@@ -130,8 +130,8 @@ fn attempt_rows(
     match statement {
         RowStatement::Select(s) => attempt_select(alloc, stores, names, caller, prunes, s, out),
         RowStatement::Insert(s) => insert(alloc, stores, names, &[], caller, s),
-        RowStatement::Update(s) => update(alloc, stores, names, &[], caller, rest, s),
-        RowStatement::Delete(s) => delete(alloc, stores, names, &[], caller, rest, s),
+        RowStatement::Update(s) => update(alloc, stores, names, &[], caller, prunes, rest, s),
+        RowStatement::Delete(s) => delete(alloc, stores, names, &[], caller, prunes, rest, s),
     }
 }
 

@@ -1,5 +1,4 @@
-use Rattle.std.proofs.Common.{sym, refl, ◌≡◌, Ok, subst}
-use Rattle.stores.specs.declared.stores.Stores.{Stores}
+use Rattle.std.proofs.Common.{sym}
 use Rattle.row_change.proofs.Successors.{end_keeps}
 use Rattle.change_statement.proofs.Ended.{ended_run}
 use Rattle.change_statement.proofs.deleting.end_row.Goals as goal

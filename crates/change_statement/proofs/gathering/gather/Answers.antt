@@ -31,7 +31,7 @@ read_table-requires-clause-top c = may_write_named c.args.names.now c.args.store
 pub returns-in-Ok-clause-step : goal.returns-in-Ok-clause-step
 returns-in-Ok-clause-step c =
     then_step (λ (t : TableNo). t.number) found_of c.in-Ok.table c.read_table.result c.args.stores.now c.lock_named.new.stores c.read_table.new.stores c.args.caller c.args.caller.cmd
-    (named c.args.names.now c.args.caller.session RowExclusive (table_named c.args.change).name) (of_table c.args.names.now c.args.params.now c.args.caller (table_named c.args.change) (settings_of c.args.change) (condition_of c.args.change))
+    (named c.args.names.now c.args.caller.session RowExclusive (table_named c.args.change).name) (of_table c.args.prunes c.args.names.now c.args.params.now c.args.caller (table_named c.args.change) (settings_of c.args.change) (condition_of c.args.change))
     (finds (goal.at.returns-in-Ok-clause-step c).In-Ok) c.read_table.ensures.step
 
 pub returns-in-Ok-clause-rest : goal.returns-in-Ok-clause-rest
@@ -40,5 +40,5 @@ returns-in-Ok-clause-rest c = rest_same c.args.stores.now c.lock_named.new.store
 pub returns-in-Err-clause-step : goal.returns-in-Err-clause-step
 returns-in-Err-clause-step c =
     stop_step (λ (t : TableNo). t.number) found_of c.in-Err.stop c.args.stores.now c.lock_named.new.stores c.args.caller c.args.caller.cmd c.args.caller.cmd
-    (named c.args.names.now c.args.caller.session RowExclusive (table_named c.args.change).name) (of_table c.args.names.now c.args.params.now c.args.caller (table_named c.args.change) (settings_of c.args.change) (condition_of c.args.change))
+    (named c.args.names.now c.args.caller.session RowExclusive (table_named c.args.change).name) (of_table c.args.prunes c.args.names.now c.args.params.now c.args.caller (table_named c.args.change) (settings_of c.args.change) (condition_of c.args.change))
     (stops (goal.at.returns-in-Err-clause-step c).In-Err)

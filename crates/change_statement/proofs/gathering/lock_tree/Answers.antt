@@ -1,30 +1,51 @@
-use Rattle.std.proofs.Common.{◌≡◌, [], refl}
-use Rattle.history.specs.History.{History}
-use Rattle.table_trees.specs.Histories.{table_of}
+use Rattle.std.proofs.Common.{◌∙◌, [], ap, subst, Ok, Err}
 use Rattle.table_trees.specs.Seen.{seen}
 use Rattle.statement_asks.specs.Asked.{change_meant}
-use Rattle.course.specs.Made.{Made, made}
-use Rattle.statement_steps.proofs.Parts.{nothing_done}
+use Rattle.course.specs.Made.{made}
+use Rattle.statement_steps.proofs.Parts.{nothing_done, no_memory, stays}
 use Rattle.statement_steps.proofs.Steps.{then_step, stop_step, may_go_on}
-use Rattle.change_statement.specs.Gathered.{Found, found_of, locked_below}
-use Rattle.change_statement.proofs.Found.{gathered_now}
+use Rattle.change_statement.specs.Gathered.{found_by, found_of, locked, locked_all}
+use Rattle.change_statement.specs.Kept.{keeps_for, tables_locked}
+use Rattle.change_statement.specs.Running.{IsGathered}
+use Rattle.change_statement.proofs.Found.{found_as, gathered_now, locked_step, may_lock}
 use Rattle.change_statement.proofs.gathering.lock_tree.Goals as goal
 
-pub returns-in-Ok-clause-step : goal.returns-in-Ok-clause-step
-returns-in-Ok-clause-step c =
-    let g : Found = record { table = c.args.table; tree = seen c.args.tree; path = c.args.path.items; asked = change_meant c.args.ask } in
-    let may = may_go_on (λ (u : Unit {0}). u) tt c.args.stores.now c.lock_below.new.stores c.args.caller (locked_below c.args.names.now c.args.caller (seen c.args.tree)) c.requires.may c.in-Ok.ensures.step in
-    then_step (λ (u : Unit {0}). u) found_of tt _ c.args.stores.now c.lock_below.new.stores c.lock_below.new.stores c.args.caller c.args.caller.cmd
-    (locked_below c.args.names.now c.args.caller (seen c.args.tree)) (λ u h. made [] g) c.in-Ok.ensures.step
-    (nothing_done found_of _ c.lock_below.new.stores c.args.caller (λ h. made [] g) may (λ h stands. refl))
+pub lock_all-requires-clause-tables : goal.lock_all-requires-clause-tables
+lock_all-requires-clause-tables c =
+    let m = change_meant c.args.ask in
+    may_lock c.args.stores.now c.args.caller.session (keeps_for c.args.prunes m.condition) m.settings (seen c.args.tree) c.deref.result.now (c.deref.ensures.value ∙ c.in-Ok.ensures.tables) c.requires.tables
 
-pub returns-in-Ok-clause-found : goal.returns-in-Ok-clause-found
-returns-in-Ok-clause-found c =
-    gathered_now c.args.names.now c.args.stores.now c.lock_below.new.stores c.args.caller (record { table = c.args.table; tree = seen c.args.tree; path = c.args.path.items; asked = change_meant c.args.ask })
-    c.requires.may c.requires.there c.requires.read c.requires.top c.in-Ok.ensures.step c.lock_below.ensures.rest
+pub returns-in-Ok-lock_all-clause-step : goal.returns-in-Ok-lock_all-clause-step
+returns-in-Ok-lock_all-clause-step c =
+    let m = change_meant c.args.ask in
+    let keeps = keeps_for c.args.prunes m.condition in
+    let g = found_by keeps c.args.table (seen c.args.tree) c.args.path.items m in
+    let locks = locked_all c.args.names.now c.args.caller (tables_locked keeps m.settings (seen c.args.tree)) in
+    let step = locked_step c.args.names.now c.args.caller (Ok tt) c.args.stores.now c.lock_all.new.stores c.deref.result.now (tables_locked keeps m.settings (seen c.args.tree)) (c.deref.ensures.value ∙ c.in-Ok.ensures.tables) c.in-Ok-lock_all.ensures.step in
+    let may = may_go_on (λ (u : Unit {0}). u) tt c.args.stores.now c.lock_all.new.stores c.args.caller locks c.requires.may step in
+    then_step (λ (u : Unit {0}). u) found_of tt _ c.args.stores.now c.lock_all.new.stores c.lock_all.new.stores c.args.caller c.args.caller.cmd locks (λ u h. made [] g) step
+    (nothing_done found_of _ c.lock_all.new.stores c.args.caller (λ h. made [] g) may
+    (λ h stands. ap (λ x. made [] x) (found_as keeps c.args.table (seen c.args.tree) c.args.path.items m c.in-Ok.kept.leaves.items c.in-Ok.kept.moves c.in-Ok.ensures.leaves c.in-Ok.ensures.moves)))
+
+pub returns-in-Ok-lock_all-clause-found : goal.returns-in-Ok-lock_all-clause-found
+returns-in-Ok-lock_all-clause-found c =
+    let m = change_meant c.args.ask in
+    let keeps = keeps_for c.args.prunes m.condition in
+    subst (IsGathered c.lock_all.new.stores c.args.caller)
+    (found_as keeps c.args.table (seen c.args.tree) c.args.path.items m c.in-Ok.kept.leaves.items c.in-Ok.kept.moves c.in-Ok.ensures.leaves c.in-Ok.ensures.moves)
+    (gathered_now c.args.names.now c.args.stores.now c.lock_all.new.stores c.args.caller keeps c.args.table (seen c.args.tree) c.args.path.items m c.deref.result.now (c.deref.ensures.value ∙ c.in-Ok.ensures.tables)
+    c.requires.may c.requires.there c.requires.read c.requires.top c.in-Ok-lock_all.ensures.step c.lock_all.ensures.rest)
+
+pub returns-in-Err-lock_all-clause-step : goal.returns-in-Err-lock_all-clause-step
+returns-in-Err-lock_all-clause-step c =
+    let m = change_meant c.args.ask in
+    let keeps = keeps_for c.args.prunes m.condition in
+    let g = found_by keeps c.args.table (seen c.args.tree) c.args.path.items m in
+    let tables = tables_locked keeps m.settings (seen c.args.tree) in
+    stop_step (λ (u : Unit {0}). u) found_of c.in-Err-lock_all.stop c.args.stores.now c.lock_all.new.stores c.args.caller c.args.caller.cmd c.args.caller.cmd
+    (locked_all c.args.names.now c.args.caller tables) (λ u h. made [] g)
+    (locked_step c.args.names.now c.args.caller (Err c.in-Err-lock_all.stop) c.args.stores.now c.lock_all.new.stores c.deref.result.now tables (c.deref.ensures.value ∙ c.in-Ok.ensures.tables) c.in-Err-lock_all.ensures.step)
 
 pub returns-in-Err-clause-step : goal.returns-in-Err-clause-step
 returns-in-Err-clause-step c =
-    let g : Found = record { table = c.args.table; tree = seen c.args.tree; path = c.args.path.items; asked = change_meant c.args.ask } in
-    stop_step (λ (u : Unit {0}). u) found_of c.in-Err.stop c.args.stores.now c.lock_below.new.stores c.args.caller c.args.caller.cmd c.args.caller.cmd
-    (locked_below c.args.names.now c.args.caller (seen c.args.tree)) (λ u h. made [] g) c.in-Err.ensures.step
+    no_memory found_of c.args.stores.now c.args.stores.now c.args.caller c.args.caller.cmd (locked c.args.prunes c.args.names.now c.args.caller c.args.table.number (seen c.args.tree) c.args.path.items (change_meant c.args.ask)) (stays c.args.stores.now c.args.caller.session)

@@ -9,6 +9,7 @@ use Rattle.change_statement.specs.declared.asking.Change.{Change}
 use Rattle.change_statement.specs.Standing.{standing}
 use Rattle.change_statement.proofs.EachRow.{IsRowRun, decided_is, is_changed, is_stopped, is_passed, is_waited, is_refused, may_end_in, tables_low, there}
 use Rattle.change_statement.proofs.Renewed.{updated_run, faulty_run}
+use Rattle.change_statement.proofs.Stays.{may_place}
 use Rattle.change_statement.proofs.rows.change_row.Goals as goal
 
 pub end_row-requires-clause-row : goal.end_row-requires-clause-row
@@ -27,6 +28,11 @@ store-requires-clause-of c = c.in-Ok.ensures.of
 
 pub store-requires-clause-own : goal.store-requires-clause-own
 store-requires-clause-own c = c.in-Change.ensures.change.leaf ∙ c.requires.target.leaf
+
+pub store-requires-clause-place : goal.store-requires-clause-place
+store-requires-clause-place c =
+    may_place c.args.stores.now c.args.caller (found_of c.args.gathered.now) c.args.target c.updater-updater.result.tx.number c.in-Change.seen c.in-Ok.row c.requires.may c.requires.gathered c.requires.target c.updater-updater.ensures.own c.in-Change.ensures.change
+    (λ h stands. c.in-Ok.ensures.is h stands.all.catalog)
 
 pub pause-requires-clause-another : goal.pause-requires-clause-another
 pause-requires-clause-another c = subst (λ s. c.in-Wait.other ≢ s) c.updater-updater.ensures.session c.in-Wait.ensures.wait.another

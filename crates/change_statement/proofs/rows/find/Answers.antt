@@ -1,9 +1,5 @@
-use Rattle.std.proofs.Common.{◌≡◌, ◌<◌, ◌∙◌, All, ap, sym, subst}
+use Rattle.std.proofs.Common.{◌<◌, All, sym, subst}
 use Rattle.pg_ids.specs.declared.ids.LeafId.{LeafId}
-use Rattle.table_trees.specs.Seen.{seen}
-use Rattle.table_trees.specs.Trees.{leaves}
-use Rattle.stores.specs.Events.{look_of}
-use Rattle.row_targets.specs.Targets.{targets}
 use Rattle.change_statement.specs.Gathered.{found_of}
 use Rattle.change_statement.proofs.Kept.{leaves_there}
 use Rattle.change_statement.proofs.rows.find.Goals as goal
@@ -11,5 +7,5 @@ use Rattle.change_statement.proofs.rows.find.Goals as goal
 pub find_targets-requires : goal.find_targets-requires
 find_targets-requires c =
     let s = c.requires.may.sound in
-    subst (All (λ (l : LeafId). l.number < c.args.stores.now.rows.leaves)) (sym (c.deref.ensures.value ∙ c.in_ok-found.ensures))
+    subst (All (λ (l : LeafId). l.number < c.args.stores.now.rows.leaves)) (sym c.deref.ensures.value)
     (leaves_there c.args.stores.now c.args.caller (found_of c.args.gathered.now) s.0 s.1 c.requires.gathered)

@@ -1,4 +1,4 @@
-use Rattle.std.proofs.Common.{◌≡◌, ◌∙◌, All, ap, sym, subst}
+use Rattle.std.proofs.Common.{◌∙◌, All, ap, sym, subst}
 use Rattle.std.proofs.lemmas.Result.{IfOk-weaker}
 use Rattle.stores.specs.Events.{look_of}
 use Rattle.change_statement.specs.Gathered.{found_of}

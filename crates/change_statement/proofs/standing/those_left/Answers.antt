@@ -1,4 +1,3 @@
-use Rattle.std.proofs.Common.{◌≡◌, ◌∙◌, ◌++◌, sym, ap, append-nil}
 use Rattle.change_statement.proofs.Targets.{nobody_left}
 use Rattle.change_statement.proofs.standing.those_left.Goals as goal
 

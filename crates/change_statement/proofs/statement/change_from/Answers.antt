@@ -1,4 +1,4 @@
-use Rattle.std.proofs.Common.{◌≡◌, Err, sym, subst}
+use Rattle.std.proofs.Common.{Err, sym, subst}
 use Rattle.stores.specs.declared.stores.Stores.{Stores}
 use Rattle.course.specs.Attempts.{MayGoOn}
 use Rattle.statement_steps.specs.Steps.{follow}
@@ -12,21 +12,21 @@ use Rattle.change_statement.proofs.statement.change_from.Goals as goal
 
 pub change_found-requires-clause-may : goal.change_found-requires-clause-may
 change_found-requires-clause-may c =
-    may_go_on found_of c.in-Ok.gathered c.args.stores.now c.gather.new.stores c.args.caller (gathered c.args.names.now c.args.params.now c.args.caller (table_named c.args.change) (settings_of c.args.change) (condition_of c.args.change)) c.requires.may c.in-Ok.ensures.step
+    may_go_on found_of c.in-Ok.gathered c.args.stores.now c.gather.new.stores c.args.caller (gathered c.args.prunes c.args.names.now c.args.params.now c.args.caller (table_named c.args.change) (settings_of c.args.change) (condition_of c.args.change)) c.requires.may c.in-Ok.ensures.step
 
 pub returns-in-Ok : goal.returns-in-Ok
 returns-in-Ok c =
-    let f = gathered c.args.names.now c.args.params.now c.args.caller (table_named c.args.change) (settings_of c.args.change) (condition_of c.args.change) in
+    let f = gathered c.args.prunes c.args.names.now c.args.params.now c.args.caller (table_named c.args.change) (settings_of c.args.change) (condition_of c.args.change) in
     then_command found_of c.in-Ok.gathered c.change_found.result c.args.stores.now c.gather.new.stores c.change_found.new.stores c.args.caller
-    (found c.args.names.now c.args.params.now c.args.caller c.args.rest (table_named c.args.change) (settings_of c.args.change) (condition_of c.args.change)) (λ g. changed_from (changing c.args.change c.args.caller g) c.args.names.now c.args.caller c.args.rest g)
+    (found c.args.prunes c.args.names.now c.args.params.now c.args.caller c.args.rest (table_named c.args.change) (settings_of c.args.change) (condition_of c.args.change)) (λ g. changed_from (changing c.args.change c.args.caller g) c.args.names.now c.args.caller c.args.rest g)
     (gathers_on found_of c.in-Ok.gathered c.args.rest c.args.stores.now c.gather.new.stores c.args.caller f c.in-Ok.ensures.step) c.change_found.ensures
 
 pub returns-in-Err : goal.returns-in-Err
 returns-in-Err c =
-    let f = gathered c.args.names.now c.args.params.now c.args.caller (table_named c.args.change) (settings_of c.args.change) (condition_of c.args.change) in
+    let f = gathered c.args.prunes c.args.names.now c.args.params.now c.args.caller (table_named c.args.change) (settings_of c.args.change) (condition_of c.args.change) in
     let left = subst (λ (s : Stores). MayGoOn s c.args.rest) (sym c.gather.ensures.rest) c.requires.rest in
-    let h = follow (found c.args.names.now c.args.params.now c.args.caller c.args.rest (table_named c.args.change) (settings_of c.args.change) (condition_of c.args.change)) (λ g. changed_from (changing c.args.change c.args.caller g) c.args.names.now c.args.caller c.args.rest g) in
+    let h = follow (found c.args.prunes c.args.names.now c.args.params.now c.args.caller c.args.rest (table_named c.args.change) (settings_of c.args.change) (condition_of c.args.change)) (λ g. changed_from (changing c.args.change c.args.caller g) c.args.names.now c.args.caller c.args.rest g) in
     subst (λ e. IsCommand (Err e) c.args.stores.now c.gather.new.stores c.args.caller h) (sym c.stopped_on.ensures)
     (stop_command found_of (stopped_on c.in-Err.stop c.args.rest) c.args.stores.now c.gather.new.stores c.args.caller
-    (found c.args.names.now c.args.params.now c.args.caller c.args.rest (table_named c.args.change) (settings_of c.args.change) (condition_of c.args.change)) (λ g. changed_from (changing c.args.change c.args.caller g) c.args.names.now c.args.caller c.args.rest g)
+    (found c.args.prunes c.args.names.now c.args.params.now c.args.caller c.args.rest (table_named c.args.change) (settings_of c.args.change) (condition_of c.args.change)) (λ g. changed_from (changing c.args.change c.args.caller g) c.args.names.now c.args.caller c.args.rest g)
     (stops_on found_of c.in-Err.stop c.args.rest c.args.stores.now c.gather.new.stores c.args.caller f left c.in-Err.ensures.step))

@@ -1,4 +1,4 @@
-use Rattle.std.proofs.Common.{◌+◌, ◌≤◌, length, map, sym, subst}
+use Rattle.std.proofs.Common.{◌≤◌, length, map, sym, subst}
 use Rattle.sql_queries.specs.Trees.{maybe_tree, setting}
 use Rattle.stores.specs.declared.stores.Stores.{Stores}
 use Rattle.course.specs.Attempts.{MayGoOn}
@@ -25,12 +25,12 @@ pub returns-in-Ok : goal.returns-in-Ok
 returns-in-Ok c =
     then_command (λ (u : Unit {0}). u) tt c.change_from.result c.args.stores.now c.hold_if_repeatable.new.stores c.change_from.new.stores c.args.caller
     (held_at c.args.caller.level c.args.caller.session c.args.caller.cmd)
-    (λ u. follow (found c.args.names.now c.args.params.now c.args.caller c.args.rest c.args.statement.now.table (map setting c.args.statement.now.assignments) (maybe_tree c.args.statement.now.condition)) (λ g. changed_from (updating c.args.caller g) c.args.names.now c.args.caller c.args.rest g))
+    (λ u. follow (found c.args.prunes c.args.names.now c.args.params.now c.args.caller c.args.rest c.args.statement.now.table (map setting c.args.statement.now.assignments) (maybe_tree c.args.statement.now.condition)) (λ g. changed_from (updating c.args.caller g) c.args.names.now c.args.caller c.args.rest g))
     c.in-Ok.ensures.step c.change_from.ensures
 
 pub returns-in-Err : goal.returns-in-Err
 returns-in-Err c =
     stop_command (λ (u : Unit {0}). u) c.in-Err.stop c.args.stores.now c.hold_if_repeatable.new.stores c.args.caller
     (held_at c.args.caller.level c.args.caller.session c.args.caller.cmd)
-    (λ u. follow (found c.args.names.now c.args.params.now c.args.caller c.args.rest c.args.statement.now.table (map setting c.args.statement.now.assignments) (maybe_tree c.args.statement.now.condition)) (λ g. changed_from (updating c.args.caller g) c.args.names.now c.args.caller c.args.rest g))
+    (λ u. follow (found c.args.prunes c.args.names.now c.args.params.now c.args.caller c.args.rest c.args.statement.now.table (map setting c.args.statement.now.assignments) (maybe_tree c.args.statement.now.condition)) (λ g. changed_from (updating c.args.caller g) c.args.names.now c.args.caller c.args.rest g))
     c.in-Err.ensures.step

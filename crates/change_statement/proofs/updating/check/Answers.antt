@@ -1,4 +1,4 @@
-use Rattle.std.proofs.Common.{◌≡◌, [], ◌∷◌, sym, subst, All, find, length}
+use Rattle.std.proofs.Common.{[], sym, subst, All, find, length}
 use Rattle.std.proofs.lemmas.List.Elements.{All-head}
 use Rattle.pg_values.specs.Refusals.{IsAnswer}
 use Rattle.part_bounds.specs.Checks.{or_first}

@@ -1,4 +1,4 @@
-use Rattle.std.proofs.Common.{refl, Ok, Err}
+use Rattle.std.proofs.Common.{refl}
 use Rattle.pg_ids.specs.declared.ids.LeafId.{LeafId}
 use Rattle.row_change.proofs.Successors.{keeps_all}
 use Rattle.change_statement.specs.Gathered.{found_of}

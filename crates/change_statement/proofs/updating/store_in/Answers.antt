@@ -1,4 +1,4 @@
-use Rattle.std.proofs.Common.{refl, Ok, Err}
+use Rattle.std.proofs.Common.{refl}
 use Rattle.row_change.proofs.Successors.{keeps_all}
 use Rattle.change_statement.specs.Gathered.{found_of}
 use Rattle.change_statement.specs.Updated.{tested, succeeded}

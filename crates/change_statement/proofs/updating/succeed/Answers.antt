@@ -1,4 +1,4 @@
-use Rattle.std.proofs.Common.{◌≡◌, Ok, Err, sym, ◌∙◌, subst}
+use Rattle.std.proofs.Common.{Ok, Err, sym, ◌∙◌, subst}
 use Rattle.row_store.proofs.Changes.{standing_is}
 use Rattle.insert_statement.specs.Inserted.{tables_of}
 use Rattle.insert_statement.proofs.Ways.{is_placed}

@@ -1,4 +1,4 @@
-use Rattle.std.proofs.Common.{◌≡◌, Err, sym, subst}
+use Rattle.std.proofs.Common.{Err, sym, subst}
 use Rattle.part_bounds.specs.Checks.{or_first}
 use Rattle.course.specs.declared.stop.Stop.{Stop}
 use Rattle.insert_statement.specs.Inserted.{holder_faults}

@@ -1,4 +1,4 @@
-use Rattle.std.proofs.Common.{◌≡◌, ◌<◌, All, Err, length, sym, subst, ap}
+use Rattle.std.proofs.Common.{◌<◌, All, Err, length, sym, subst}
 use Rattle.pg_ids.specs.declared.ids.RowId.{RowId}
 use Rattle.stores.specs.declared.stores.Stores.{Stores}
 use Rattle.statement_steps.proofs.Steps.{then_step, stop_step, may_go_on}

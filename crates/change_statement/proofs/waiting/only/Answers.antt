@@ -1,4 +1,4 @@
-use Rattle.std.proofs.Common.{◌≡◌, ◌==◌, ◌||◌, ◌∙◌, ap}
+use Rattle.std.proofs.Common.{◌==◌, ◌||◌, ◌∙◌, ap}
 use Rattle.change_statement.proofs.Pausing.{only_is}
 use Rattle.change_statement.proofs.waiting.only.Goals as goal
 

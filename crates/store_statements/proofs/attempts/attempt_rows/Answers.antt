@@ -19,11 +19,11 @@ returns-in-Insert c =
 pub returns-in-Update : goal.returns-in-Update
 returns-in-Update c =
     let s = c.in-Update.s in
-    let is = command_is c.update.result c.args.stores.now c.update.new.stores c.args.caller (updated c.args.names.now [] c.args.caller c.args.rest s.table (map setting s.assignments) (maybe_tree s.condition)) c.args.out.now.items c.update.ensures in
+    let is = command_is c.update.result c.args.stores.now c.update.new.stores c.args.caller (updated c.args.prunes c.args.names.now [] c.args.caller c.args.rest s.table (map setting s.assignments) (maybe_tree s.condition)) c.args.out.now.items c.update.ensures in
     subst (λ (x : RowStatement). IsStatement c.update.result c.args.stores.now c.update.new.stores c.args.out.now.items c.args.out.now.items c.args.caller (row_attempted c.args.prunes c.args.names.now c.args.caller c.args.rest (row_tree x))) (sym c.in-Update.is) is
 
 pub returns-in-Delete : goal.returns-in-Delete
 returns-in-Delete c =
     let s = c.in-Delete.s in
-    let is = command_is c.delete.result c.args.stores.now c.delete.new.stores c.args.caller (deleted c.args.names.now [] c.args.caller c.args.rest s.table (maybe_tree s.condition)) c.args.out.now.items c.delete.ensures in
+    let is = command_is c.delete.result c.args.stores.now c.delete.new.stores c.args.caller (deleted c.args.prunes c.args.names.now [] c.args.caller c.args.rest s.table (maybe_tree s.condition)) c.args.out.now.items c.delete.ensures in
     subst (λ (x : RowStatement). IsStatement c.delete.result c.args.stores.now c.delete.new.stores c.args.out.now.items c.args.out.now.items c.args.caller (row_attempted c.args.prunes c.args.names.now c.args.caller c.args.rest (row_tree x))) (sym c.in-Delete.is) is

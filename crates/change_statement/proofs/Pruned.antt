@@ -1,0 +1,145 @@
+-- The targets in the leaves that a condition keeps are those in all leaves.
+use Rattle.std.proofs.Common.{◌≡◌, ◌≤◌, ◌+◌, arith, Bool, true, false, if◌then◌else◌, List, [], ◌∷◌, ◌++◌, length, map, refl, sym, ap, ◌∙◌, append_assoc, length-append}
+use Rattle.std.specs.Prelude.{Option, Some, None, filter}
+use Rattle.std.specs.List.{flat_map}
+use Rattle.std.proofs.lemmas.List.{length-map}
+use Rattle.pg_values.specs.declared.value.Value.{Value}
+use Rattle.part_bounds.specs.declared.partition_bound.Bound.{Bound}
+use Rattle.history.specs.declared.version.Version.{Version}
+use Rattle.history.specs.Snapshots.{TakenSnapshot}
+use Rattle.history.specs.History.{History, seen}
+use Rattle.table_trees.specs.Histories.{tree_of}
+use Rattle.table_trees.specs.Trees.{TableTree, LeafTable, LevelTable, Trees, End, More}
+use Rattle.cond_logic.specs.declared.truth.Truth3.{Truth3}
+use Rattle.cond_logic.specs.declared.truth.Truth3.TheVariants.{Yes, No, Unknown}
+use Rattle.cond_logic.specs.Trees.{CondTree}
+use Rattle.cond_logic.specs.Truths.{truth}
+use Rattle.cond_logic.specs.Tuples.{no_rows, put}
+use Rattle.pruned_trees.specs.Kept.{Leaf, Keeps, id_of, leaf_of, named_leaves, all_named_leaves, keeps_plain, leaves_below, leaves_among, kept_leaves}
+use Rattle.pruned_trees.specs.Laws.{is_yes, passes, passing_in, row_of, shown, NoneIsMissed, ShownLieRight, TreesCanBePruned}
+use Rattle.pruned_trees.proofs.Missed.{ids_named}
+use Rattle.row_targets.specs.Targets as targets_spec
+use Rattle.row_targets.specs.Targets.{takes, target_of, targets, targets_in}
+use Rattle.row_targets.specs.declared.finding.TargetRow.{TargetRow}
+use Rattle.change_statement.specs.Kept.{condition_or_all, keeps_for}
+use Rattle.change_statement.specs.Laws.{KeptHaveAllTargets}
+
+-- ---- lists of lists
+
+flat_append : {X Y : Type 0} (f : X → List Y) (xs ys : List X) → flat_map f (xs ++ ys) ≡ flat_map f xs ++ flat_map f ys
+flat_append f [] ys = refl
+flat_append f (x ∷ xs) ys = ap (λ l. f x ++ l) (flat_append f xs ys) ∙ sym (append_assoc (f x) (flat_map f xs) (flat_map f ys))
+
+flat_length : {X Y : Type 0} (f : X → List Y) (xs ys : List X) → length (flat_map f (xs ++ ys)) ≡ length (flat_map f xs) + length (flat_map f ys)
+flat_length f xs ys = ap length (flat_append f xs ys) ∙ length-append (flat_map f xs) (flat_map f ys)
+
+flat_through : {X Y Z : Type 0} (f : Y → List Z) (g : X → Y) (xs : List X) → flat_map f (map g xs) ≡ flat_map (λ x. f (g x)) xs
+flat_through f g [] = refl
+flat_through f g (x ∷ xs) = ap (λ l. f (g x) ++ l) (flat_through f g xs)
+
+-- ---- kept leaves are some of all: where all have no more passing rows than these, all have no more targets
+
+module _ (f : Leaf → List (Leaf × List Value)) (g : Leaf → List TargetRow) (none : (l : Leaf) → length (f l) ≡ 0 → g l ≡ []) where
+  -- so it is of those of the leaves
+  record Rest (some all : List Leaf) : Type 0 where
+    pub fewer : length (flat_map f some) ≤ length (flat_map f all)
+    pub same : length (flat_map f some) ≡ length (flat_map f all) → flat_map g some ≡ flat_map g all
+
+  none_of : (ls : List Leaf) → length (flat_map f ls) ≡ 0 → flat_map g ls ≡ []
+  none_of [] e = refl
+  none_of (l ∷ ls) e =
+      let count = length-append (f l) (flat_map f ls) in
+      rw (none l (omega (arith, count, e)), none_of ls (omega (arith, count, e))) refl
+
+  all_of : (ls : List Leaf) → Rest ls ls
+  all_of ls = record { fewer = omega arith; same = λ e. refl }
+
+  left_out : (ls : List Leaf) → Rest [] ls
+  left_out ls = record { fewer = omega arith; same = λ e. sym (none_of ls (sym e)) }
+
+  both : (xs ys us vs : List Leaf) → Rest xs us → Rest ys vs → Rest (xs ++ ys) (us ++ vs)
+  both xs ys us vs first second =
+      let some = flat_length f xs ys in
+      let all = flat_length f us vs in
+      let a = first.fewer in
+      let b = second.fewer in
+      record {
+        fewer = omega (arith, some, all, a, b);
+        same = λ e.
+            flat_append g xs ys
+            ∙ ap (λ l. l ++ flat_map g ys) (first.same (omega (arith, some, all, a, b, e)))
+            ∙ ap (λ l. flat_map g us ++ l) (second.same (omega (arith, some, all, a, b, e)))
+            ∙ sym (flat_append g us vs);
+      }
+
+  if_kept : (v : Bool) (some all : List Leaf) → Rest some all → Rest (if v then some else []) all
+  if_kept true some all rest = rest
+  if_kept false some all rest = left_out all
+
+  module _ (keeps : Keeps) where
+    mutual
+      below_rest : (tree : TableTree) → Rest (leaves_below keeps tree) (named_leaves tree)
+      below_rest (LeafTable node leaf) = all_of (leaf_of node leaf ∷ [])
+      below_rest (LevelTable node level bounds kids) = among_rest (keeps level bounds) bounds kids
+
+      among_rest : (test : Bound → Bool) (bs : List Bound) (kids : Trees) → Rest (leaves_among keeps test bs kids) (all_named_leaves kids)
+      among_rest test bs End = all_of []
+      among_rest test [] (More k ks) = left_out (all_named_leaves (More k ks))
+      among_rest test (b ∷ bs) (More k ks) =
+          both (if test b then leaves_below keeps k else []) (leaves_among keeps test bs ks) (named_leaves k) (all_named_leaves ks)
+          (if_kept (test b) (leaves_below keeps k) (named_leaves k) (below_rest k)) (among_rest test bs ks)
+
+    kept_rest : (tree : TableTree) → Rest (kept_leaves keeps tree) (named_leaves tree)
+    kept_rest (LeafTable node leaf) = if_kept (keeps_plain keeps) (leaf_of node leaf ∷ []) (leaf_of node leaf ∷ []) (all_of (leaf_of node leaf ∷ []))
+    kept_rest (LevelTable node level bounds kids) = below_rest (LevelTable node level bounds kids)
+
+-- ---- a leaf in which no row passes has no target
+
+same_yes : (v : Truth3) → is_yes v ≡ targets_spec.is_yes v
+same_yes Yes = refl
+same_yes No = refl
+same_yes Unknown = refl
+
+same_test : (condition : Option CondTree) (row : List Value) → passes (condition_or_all condition) row ≡ takes condition row
+same_test None row = refl
+same_test (Some c) row = same_yes (truth (put no_rows 0 row) [] c)
+
+none_taken : (condition : Option CondTree) (vs : List Version) → length (filter (passes (condition_or_all condition)) (map row_of vs)) ≡ 0 → filter (λ v. takes condition v.row) vs ≡ []
+none_taken condition [] e = refl
+none_taken condition (v ∷ vs) e = by (passes (condition_or_all condition) v.row) (takes condition v.row) (same_test condition v.row) e (none_taken condition vs)
+  where
+    by : (a b : Bool) → a ≡ b
+        → length (if a then v.row ∷ filter (passes (condition_or_all condition)) (map row_of vs) else filter (passes (condition_or_all condition)) (map row_of vs)) ≡ 0
+        → (length (filter (passes (condition_or_all condition)) (map row_of vs)) ≡ 0 → filter (λ w. takes condition w.row) vs ≡ [])
+        → (if b then v ∷ filter (λ w. takes condition w.row) vs else filter (λ w. takes condition w.row) vs) ≡ []
+    by true b same k go = absurd (omega (arith, k))
+    by false false same k go = go k
+    by false true same k go = cc
+
+module _ (condition : Option CondTree) (h : History) (s : TakenSnapshot) where
+  abbrev found_in : Leaf → List TargetRow
+  found_in leaf = targets_in h s condition leaf.id
+
+  abbrev pairs_in : Leaf → List (Leaf × List Value)
+  pairs_in leaf = passing_in (shown h s) (condition_or_all condition) leaf
+
+  none_found : (leaf : Leaf) → length (pairs_in leaf) ≡ 0 → found_in leaf ≡ []
+  none_found leaf e =
+      let rows = filter (passes (condition_or_all condition)) (shown h s leaf.id.number) in
+      let pair : List Value → Leaf × List Value = λ row. (leaf, row) in
+      ap (map target_of) (none_taken condition (seen h leaf.id.number s) (sym (length-map rows pair) ∙ e))
+
+  -- so over leaves
+  found_over : (ls : List Leaf) → targets h s condition (map id_of ls) ≡ flat_map found_in ls
+  found_over ls = flat_through (targets_in h s condition) id_of ls
+
+pub all_targets_kept : NoneIsMissed → ShownLieRight → TreesCanBePruned → KeptHaveAllTargets
+all_targets_kept missed right can prunes condition h session table s legal permitted looking made =
+    let tree = tree_of h session table s in
+    let keeps = keeps_for prunes condition in
+    let same = missed prunes (condition_or_all condition) (shown h s) tree (can h session table s legal permitted made) (right h session table s legal permitted looking made) in
+    let rest = kept_rest (pairs_in condition h s) (found_in condition h s) (none_found condition h s) keeps tree in
+    found_over condition h s (kept_leaves keeps tree)
+    ∙ rest.same (ap length (sym same))
+    ∙ sym (found_over condition h s (named_leaves tree))
+    ∙ ap (targets h s condition) (ids_named tree)

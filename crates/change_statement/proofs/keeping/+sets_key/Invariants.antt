@@ -1,0 +1,10 @@
+use Rattle.std.proofs.Common.{◌≡◌, drop, map}
+use Rattle.table_trees.specs.Trees.{trees_of}
+use Rattle.table_trees.specs.Seen.{seen}
+use Rattle.statement_asks.specs.Asked.{setting_meant}
+use Rattle.change_statement.specs.Kept.{sets_key, sets_key_of}
+use Rattle.change_statement.proofs.keeping.+sets_key.Given as goal
+
+abbrev pub invariant-loop-child : goal.invariant-loop-child
+invariant-loop-child l =
+    sets_key_of (map setting_meant l.settings) (trees_of (map seen (drop l.child-index l.child-items))) ≡ sets_key (map setting_meant l.fn.settings) (seen l.fn.tree)

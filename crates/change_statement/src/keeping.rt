@@ -1,0 +1,128 @@
+//! What is read and locked of the tables under the named one.
+
+ghost use Rattle.std.specs.Prelude.{◌≡◌, IfOk, map};
+ghost use Rattle.std.specs.List.{list_any};
+ghost use Rattle.table_trees.specs.Seen.{seen};
+ghost use Rattle.pruned_trees.specs.Kept.{id_of, kept_leaves, kept_tables};
+ghost use Rattle.pruned_trees.specs.Prunable.{CanPrune};
+ghost use Rattle.statement_asks.specs.Asked.{change_meant, maybe_cond, setting_meant};
+ghost use Rattle.change_statement.specs.Kept as kept_spec;
+ghost use Rattle.change_statement.specs.Kept.{keeps_for};
+
+use cond_logic::Cond;
+use part_bounds::KeyColumn;
+use pg_ids::{LeafId, TableNo};
+use pg_values::NoMemory;
+use pruned_trees::{KeptParts, NamedLeaf, all_hold, prune_tree};
+use select_statement::tables_below;
+use statement_asks::{ChangeAsk, Setting};
+use std::alloc::Global;
+use table_trees::{Shape, Tree};
+
+/// What a statement needs of a tree.
+#[derive(Drop)]
+pub(crate) struct Kept {
+    /// The tables under the named one that it locks.
+    pub tables: Vec<TableNo>,
+    /// The leaves that it reads.
+    pub leaves: Vec<LeafId>,
+    /// Whether rows of these may move to others.
+    pub moves: bool,
+}
+
+fn is_set(settings: &[Setting], column: &KeyColumn) -> bool
+    ensures { result ≡ kept_spec.is_set (map setting_meant settings.now) column.now }
+{
+    for setting in settings {
+        if setting.column == column.position {
+            return true;
+        }
+    }
+    false
+}
+
+fn is_one_set(settings: &[Setting], columns: &[KeyColumn]) -> bool
+    ensures { result ≡ list_any (kept_spec.is_set (map setting_meant settings.now)) columns.now }
+{
+    for column in columns {
+        if is_set(settings, column) {
+            return true;
+        }
+    }
+    false
+}
+
+// Whether SET names a key column of a table of the tree.
+fn sets_key(settings: &[Setting], tree: &Tree) -> bool
+    ensures { result ≡ kept_spec.sets_key (map setting_meant settings.now) (seen tree.now) }
+{
+    match &tree.shape {
+        Shape::Leaf(_) => false,
+        Shape::Level(level, _, children) => {
+            if is_one_set(settings, level.columns.as_slice()) {
+                return true;
+            }
+            for child in children.as_slice() {
+                if sets_key(settings, child) {
+                    return true;
+                }
+            }
+            false
+        }
+    }
+}
+
+fn ids_of(alloc: Global, leaves: &[NamedLeaf<'_>]) -> Result<Vec<LeafId>, NoMemory>
+    ensures { IfOk result (λ ids. ids.items ≡ map id_of leaves.now) }
+{
+    let mut ids = Vec::new(alloc);
+    for leaf in leaves {
+        ids.push(leaf.id)?;
+    }
+    Ok(ids)
+}
+
+// What the condition keeps of the tree; all where there is none.
+fn prune<'t>(
+    alloc: Global,
+    prunes: bool,
+    condition: &Option<Cond>,
+    tree: &'t Tree,
+) -> Result<KeptParts<'t>, NoMemory>
+    requires { CanPrune (seen tree.now) }
+    ensures tables { IfOk result (λ k. k.tables.items ≡ kept_tables (keeps_for prunes (maybe_cond condition.now)) (seen tree.now)) }
+    ensures leaves { IfOk result (λ k. k.leaves.items ≡ kept_leaves (keeps_for prunes (maybe_cond condition.now)) (seen tree.now)) }
+{
+    match condition {
+        Some(cond) => prune_tree(alloc, prunes, cond, tree),
+        None => prune_tree(alloc, prunes, &all_hold(alloc, &[])?, tree),
+    }
+}
+
+/// The leaves that the condition keeps, and the tables under the named one that lead to them; where rows may
+/// move from these leaves, all tables under it.
+pub(crate) fn keep(
+    alloc: Global,
+    prunes: bool,
+    ask: &ChangeAsk,
+    tree: &Tree,
+) -> Result<Kept, NoMemory>
+    requires { CanPrune (seen tree.now) }
+    ensures tables { IfOk result (λ k. k.tables.items ≡ kept_spec.tables_locked (keeps_for prunes (change_meant ask.now).condition) (change_meant ask.now).settings (seen tree.now)) }
+    ensures leaves { IfOk result (λ k. k.leaves.items ≡ kept_spec.leaves_read (keeps_for prunes (change_meant ask.now).condition) (seen tree.now)) }
+    ensures moves { IfOk result (λ k. k.moves ≡ kept_spec.moves (keeps_for prunes (change_meant ask.now).condition) (change_meant ask.now).settings (seen tree.now)) }
+{
+    let kept = prune(alloc, prunes, &ask.condition, tree)?;
+    let leaves = ids_of(alloc, &kept.leaves)?;
+    let moves = !leaves.is_empty() && sets_key(&ask.settings, tree);
+    let tables = if moves {
+        tables_below(alloc, tree)?
+    } else {
+        kept.tables
+    };
+    Ok(Kept {
+        tables,
+        leaves,
+        moves,
+    })
+}
