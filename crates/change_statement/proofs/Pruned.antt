@@ -22,7 +22,10 @@ use Rattle.row_targets.specs.Targets as targets_spec
 use Rattle.row_targets.specs.Targets.{takes, target_of, targets, targets_in}
 use Rattle.row_targets.specs.declared.finding.TargetRow.{TargetRow}
 use Rattle.change_statement.specs.Kept.{condition_or_all, keeps_for}
-use Rattle.change_statement.specs.Laws.{KeptHaveAllTargets}
+use Rattle.stores.specs.Events.{look_of}
+use Rattle.change_statement.specs.Changed.{all_changed}
+use Rattle.change_statement.specs.Laws.{KeptHaveAllTargets, PrunedChangesArePlain, gathered_of}
+use Rattle.change_statement.specs.Standing.{changed_before, left_of}
 
 -- ---- lists of lists
 
@@ -143,3 +146,8 @@ all_targets_kept missed right can prunes condition h session table s legal permi
     ∙ rest.same (ap length (sym same))
     ∙ sym (found_over condition h s (named_leaves tree))
     ∙ ap (targets h s condition) (ids_named tree)
+
+pub pruned_plain : NoneIsMissed → ShownLieRight → TreesCanBePruned → PrunedChangesArePlain
+pruned_plain missed right can prunes change names c rest table m h legal permitted looking made =
+    ap (λ ts. all_changed change names c (gathered_of prunes c table m h) (left_of rest ts) (changed_before rest) h)
+    (all_targets_kept missed right can prunes m.condition h c.session table (look_of h c.session c.cmd) legal permitted looking made)

@@ -87,7 +87,11 @@ abbrev pub all_changed : Changing → List (List ℕ) → Caller → Found → L
 all_changed change names c g [] n h = made [] tt
 all_changed change names c g (t ∷ ts) n h = follow (one_changed change names c g t (standing (t ∷ ts) n)) (all_changed change names c g ts) h
 
--- the rows of the kept leaves that the snapshot sees and that pass, or those of them that are left
+-- the rows of these leaves that the snapshot sees and that pass, or those of them that are left
+abbrev pub changed_in : List LeafId → Changing → List (List ℕ) → Caller → Option Rest → Found → History → Made (Unit {0})
+changed_in ls change names c rest g h =
+    all_changed change names c g (left_of rest (targets h (look_of h c.session c.cmd) g.asked.condition ls)) (changed_before rest) h
+
+-- of the leaves that are read
 abbrev pub changed_from : Changing → List (List ℕ) → Caller → Option Rest → Found → History → Made (Unit {0})
-changed_from change names c rest g h =
-    all_changed change names c g (left_of rest (targets h (look_of h c.session c.cmd) g.asked.condition g.leaves)) (changed_before rest) h
+changed_from change names c rest g h = changed_in g.leaves change names c rest g h

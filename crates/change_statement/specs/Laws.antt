@@ -1,18 +1,39 @@
 -- What holds of every UPDATE and DELETE.
-use Rattle.std.specs.Prelude.{◌≡◌, ℕ, Bool, Option}
+use Rattle.std.specs.Prelude.{◌≡◌, ℕ, Bool, List, Option}
 use Rattle.history.specs.Snapshots.{TakenSnapshot}
 use Rattle.history.specs.History.{History, catalogue_events}
 use Rattle.history.specs.Legal.{IsLegal}
-use Rattle.table_trees.specs.Histories.{tree_of}
+use Rattle.table_trees.specs.Histories.{path_of, table_of, tree_of}
 use Rattle.table_trees.specs.Trees.{leaves}
 use Rattle.cond_logic.specs.Trees.{CondTree}
 use Rattle.soundness.specs.Worlds.{IsMade}
 use Rattle.soundness.specs.Legal.{ArePermitted}
 use Rattle.soundness.specs.Laws.{IsLooking}
 use Rattle.row_targets.specs.Targets.{targets}
+use Rattle.statement_asks.specs.Asked.{ChangeMeant}
+use Rattle.stores.specs.Events.{look_of}
+use Rattle.course.specs.Made.{Made}
+use Rattle.course.specs.declared.caller.Caller.{Caller}
+use Rattle.course.specs.declared.rest.Rest.{Rest}
+use Rattle.change_statement.specs.Changed.{Changing, changed_from, changed_in}
+use Rattle.change_statement.specs.Gathered.{Found, found_by}
 use Rattle.change_statement.specs.Kept.{keeps_for, leaves_read}
 
 -- in each history of the stores the targets that are found in the kept leaves are those of all leaves of the tree, as lists
 abbrev pub KeptHaveAllTargets : Type 0
 KeptHaveAllTargets = (prunes : Bool) (condition : Option CondTree) (h : History) (session table : ℕ) (s : TakenSnapshot) → IsLegal h → ArePermitted h → IsLooking h session s → IsMade (catalogue_events h) table
     → targets h s condition (leaves_read (keeps_for prunes condition) (tree_of h session table s)) ≡ targets h s condition (leaves (tree_of h session table s))
+
+-- so what the statement makes of the history, its events and what is told, is what it would make of it over all leaves
+abbrev pub plainly_changed : Changing → List (List ℕ) → Caller → Option Rest → Found → History → Made (Unit {0})
+plainly_changed change names c rest g h = changed_in (leaves g.tree) change names c rest g h
+
+-- what is gathered of a table: its tree is that of the command's snapshot
+abbrev pub gathered_of : (prunes : Bool) → Caller → (table : ℕ) → ChangeMeant → History → Found
+gathered_of prunes c table m h =
+    found_by (keeps_for prunes m.condition) (table_of table) (tree_of h c.session table (look_of h c.session c.cmd)) (path_of h c.session table) m
+
+abbrev pub PrunedChangesArePlain : Type 0
+PrunedChangesArePlain = (prunes : Bool) (change : Changing) (names : List (List ℕ)) (c : Caller) (rest : Option Rest) (table : ℕ) (m : ChangeMeant) (h : History)
+    → IsLegal h → ArePermitted h → IsLooking h c.session (look_of h c.session c.cmd) → IsMade (catalogue_events h) table
+    → changed_from change names c rest (gathered_of prunes c table m h) h ≡ plainly_changed change names c rest (gathered_of prunes c table m h) h
