@@ -1,6 +1,0 @@
-mod Kept
-mod Known
-mod Nodes
-mod Steps
-mod Trees
-mod Whole
