@@ -7,7 +7,7 @@
 //! rows in the places of their columns (`PlanItem::leaves_beside`). Joins are nested loops, the first item
 //! outermost; where an item keeps no leaf when the plan is made, nothing is locked and nothing is read.
 //!
-//! A plan lends the trees of its tables. Contracts see it without where it lies in memory (`Planned`).
+//! A plan lends the trees of its tables. Contracts speak of it without where it lies in memory (`planned`).
 #![tactic(auto)]
 
 mod beside;

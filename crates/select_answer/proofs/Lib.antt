@@ -1,5 +1,6 @@
 pub mod Bytes
 pub mod Courses
+pub mod Gathering
 pub mod Items
 pub mod Marks
 pub mod Plain

@@ -1,7 +1,7 @@
 ghost use Rattle.std.specs.Prelude.{◌≡◌, ◌+◌, [], All};
 ghost use Rattle.sql_queries.specs.Trees.{select_tree};
 ghost use Rattle.statement_asks.specs.Asked.{select_meant};
-ghost use Rattle.plan_tree.specs.Plans.{CanRead};
+ghost use Rattle.plan_tree.specs.Plans.{CanRead, planned};
 ghost use Rattle.course.specs.Attempts.{MayAttempt};
 ghost use Rattle.statement_steps.specs.Steps.{IsStep};
 ghost use Rattle.select_statement.specs.Halts as halts;
@@ -76,10 +76,10 @@ fn run<'s>(
     trail: &mut Trail,
 ) -> Result<Answer, Stop>
     requires may { MayAttempt stores.now caller }
-    requires reads { All (CanRead stores.now.rows.leaves) plan.now.items }
+    requires reads { All (CanRead stores.now.rows.leaves) (planned plan.now).items }
     requires look { IsLookFor stores.now caller snap.now }
     requires fresh { trail.old.leaves ≡ [] }
-    ensures { IsStep (λ a. a) result stores.now stores.now caller (caller.cmd + 1) (selected.answered caller (select_meant ask.now) plan.now) }
+    ensures { IsStep (λ a. a) result stores.now stores.now caller (caller.cmd + 1) (selected.answered caller (select_meant ask.now) (planned plan.now)) }
 {
     let sessions = caller.sessions - 1;
     let rows = &stores.rows;
@@ -100,9 +100,9 @@ pub(crate) fn answer<'s>(
     snap: &'s Snapshot,
 ) -> Result<Answer, Stop>
     requires may { MayAttempt stores.now caller }
-    requires reads { All (CanRead stores.now.rows.leaves) plan.now.items }
+    requires reads { All (CanRead stores.now.rows.leaves) (planned plan.now).items }
     requires look { IsLookFor stores.now caller snap.now }
-    ensures { IsStep (λ a. a) result stores.now stores.now caller (caller.cmd + 1) (selected.answered caller (select_meant ask.now) plan.now) }
+    ensures { IsStep (λ a. a) result stores.now stores.now caller (caller.cmd + 1) (selected.answered caller (select_meant ask.now) (planned plan.now)) }
 {
     match Trail::new(alloc) {
         Ok(mut trail) => run(alloc, stores, caller, ask, plan, snap, &mut trail),

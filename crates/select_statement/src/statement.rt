@@ -3,7 +3,7 @@ ghost use Rattle.table_trees.specs.Seen.{seen};
 ghost use Rattle.sql_queries.specs.Trees.{select_tree};
 ghost use Rattle.sql_binder.specs.Selects.{from_of};
 ghost use Rattle.statement_asks.specs.Asked.{select_meant};
-ghost use Rattle.plan_tree.specs.Plans.{CanRead, plan_for, plan_tables};
+ghost use Rattle.plan_tree.specs.Plans.{CanRead, plan_for, plan_tables, planned};
 ghost use Rattle.course.specs.Attempts.{MayAttempt};
 ghost use Rattle.statement_steps.specs.Known.{IsKnownTo};
 ghost use Rattle.statement_steps.specs.Steps.{IsStep, follow};
@@ -42,10 +42,10 @@ fn answer_unless(
     snap: &Snapshot,
 ) -> Result<Answer, Stop>
     requires may { MayAttempt stores.now caller }
-    requires reads { All (CanRead stores.now.rows.leaves) plan.now.items }
+    requires reads { All (CanRead stores.now.rows.leaves) (planned plan.now).items }
     requires look { IsLookFor stores.now caller snap.now }
     ensures { IsStep (λ a. a) result stores.now stores.now caller (caller.cmd + 1)
-        (selected.uncancelled cancelled (selected.answered caller (select_meant ask.now) plan.now)) }
+        (selected.uncancelled cancelled (selected.answered caller (select_meant ask.now) (planned plan.now))) }
 {
     if cancelled {
         return Err(Stop::Refused(statement_cancelled(alloc)));
@@ -63,10 +63,10 @@ fn answer_bare(
     snap: &Snapshot,
 ) -> Result<Answer, Stop>
     requires may { MayAttempt stores.now caller }
-    requires reads { All (CanRead stores.now.rows.leaves) plan.now.items }
+    requires reads { All (CanRead stores.now.rows.leaves) (planned plan.now).items }
     requires look { IsLookFor stores.now caller snap.now }
     ensures { IsStep (λ a. a) result stores.now stores.now caller (caller.cmd + 1)
-        (selected.uncancelled (cancels_itself caller.session (caller.sessions - 1) (select_meant ask.now)) (selected.answered caller (select_meant ask.now) plan.now)) }
+        (selected.uncancelled (cancels_itself caller.session (caller.sessions - 1) (select_meant ask.now)) (selected.answered caller (select_meant ask.now) (planned plan.now))) }
 {
     match cancels_itself(alloc, ask, caller.session, caller.sessions - 1) {
         Ok(own) => answer_unless(alloc, stores, caller, ask, own, plan, snap),
@@ -140,10 +140,10 @@ fn lock_and_run(
 ) -> Result<Answer, Stop>
     requires may { MayAttempt stores.old caller }
     requires locks { All (MayLock stores.old caller) tables.now }
-    requires reads { All (CanRead stores.old.rows.leaves) plan.now.items }
+    requires reads { All (CanRead stores.old.rows.leaves) (planned plan.now).items }
     requires look { IsLookFor stores.old caller snap.now }
     ensures { IsStep (λ a. a) result stores.old stores.new caller (caller.cmd + 1)
-        (follow (selected.locked_below names.now caller tables.now) (λ u. selected.answered caller (select_meant ask.now) plan.now)) }
+        (follow (selected.locked_below names.now caller tables.now) (λ u. selected.answered caller (select_meant ask.now) (planned plan.now))) }
 {
     match lock_below(alloc, stores, names, caller, tables) {
         Ok(()) => answer(alloc, stores, caller, ask, plan, snap),
@@ -162,10 +162,10 @@ fn run_plan(
     snap: &Snapshot,
 ) -> Result<Answer, Stop>
     requires may { MayAttempt stores.old caller }
-    requires locks { All (MayLock stores.old caller) (plan_tables plan.now) }
-    requires reads { All (CanRead stores.old.rows.leaves) plan.now.items }
+    requires locks { All (MayLock stores.old caller) (plan_tables (planned plan.now)) }
+    requires reads { All (CanRead stores.old.rows.leaves) (planned plan.now).items }
     requires look { IsLookFor stores.old caller snap.now }
-    ensures { IsStep (λ a. a) result stores.old stores.new caller (caller.cmd + 1) (selected.by_plan names.now caller (select_meant ask.now) plan.now) }
+    ensures { IsStep (λ a. a) result stores.old stores.new caller (caller.cmd + 1) (selected.by_plan names.now caller (select_meant ask.now) (planned plan.now)) }
 {
     match plan.tables(alloc) {
         Ok(tables) => lock_and_run(alloc, stores, names, caller, ask, plan, &tables, snap),
