@@ -2,6 +2,7 @@ pub mod Bytes
 pub mod Courses
 pub mod Gathering
 pub mod Items
+pub mod Kept
 pub mod Marks
 pub mod Plain
 pub mod Pruned

@@ -31,6 +31,7 @@ use Rattle.sql_binder.specs.Selects.{from_of, name_faults, constant_faults, mean
 use Rattle.sql_binder.specs.States.{too_many}
 use Rattle.plan_tree.specs.Conjuncts.{pool, asked_at, asked_later}
 use Rattle.plan_tree.specs.Plans.{PlannedItem, Planned, keeps_first, item_for, items_from, plan_for, is_empty, plan_tables, CanRead}
+use Rattle.select_answer.proofs.Kept.{leaves_kept}
 use Rattle.stores.specs.Events.{look_of}
 use Rattle.stores.specs.Laws.{LeavesAreHoused}
 use Rattle.stores.specs.Stand.{AllStand, Stands, IsSound}
@@ -47,7 +48,7 @@ use Rattle.statement_steps.proofs.Parts.{refused_here}
 use Rattle.select_statement.specs.Below.{number_of}
 use Rattle.select_statement.specs.Lent.{MayLock, IsTreeFor, IsLookFor}
 use Rattle.select_statement.specs.Selected.{outcome, meant, uncancelled, of_trees, trees_for, of_tables, begins, of_named, of_items, selected}
-use Rattle.select_statement.proofs.Kept.{tables_kept, leaves_kept}
+use Rattle.select_statement.proofs.Kept.{tables_kept}
 use Rattle.select_statement.proofs.Known.{tree_for}
 use Rattle.select_statement.proofs.Steps.{same_step}
 
