@@ -1,13 +1,12 @@
 -- The parts of a SELECT, one after another.
-use Rattle.std.proofs.Common.{◌≡◌, ℕ, ◌+◌, ◌<◌, ◌≤◌, Bool, true, false, if◌then◌else◌, arith, List, [], ◌∷◌, ◌++◌, refl, ap, sym, subst, Result, Ok, Err, All, map, length}
+use Rattle.std.proofs.Common.{◌≡◌, ℕ, ◌+◌, ◌<◌, ◌≤◌, Bool, true, false, if◌then◌else◌, arith, List, [], ◌∷◌, ◌++◌, suc, refl, ap, sym, subst, ◌∙◌, append_assoc, add-one, drop, drop-cons, get_or, Result, Ok, Err, All, map, length}
 use Rattle.std.specs.Prelude.{nat_le}
 use Rattle.std.specs.List.{flat_map}
 use Rattle.std.proofs.lemmas.Bool.Decides.{nat_tests}
-use Rattle.std.proofs.lemmas.List.{length-map}
+use Rattle.std.proofs.lemmas.List.{length-map, map-append}
 use Rattle.std.proofs.lemmas.List.Elements.{All-nil, All-cons, All-head, All-tail, All-append}
 use Rattle.pg_values.specs.declared.answer.Answer.{Answer}
 use Rattle.pg_values.specs.declared.fault.Fault.{Fault}
-use Rattle.pg_ids.specs.declared.ids.LeafId.{LeafId}
 use Rattle.pg_ids.specs.declared.ids.TableNo.{TableNo}
 use Rattle.pg_ids.specs.declared.which.Which.TheVariants.{TablesInFrom}
 use Rattle.history.specs.Transactions.{IsPast}
@@ -30,8 +29,8 @@ use Rattle.sql_binder.specs.From.{item_name, twice_faults}
 use Rattle.sql_binder.specs.Selects.{from_of, name_faults, constant_faults, meaning}
 use Rattle.sql_binder.specs.States.{too_many}
 use Rattle.plan_tree.specs.Conjuncts.{pool, asked_at, asked_later}
-use Rattle.plan_tree.specs.Plans.{PlannedItem, Planned, keeps_first, item_for, items_from, plan_for, is_empty, plan_tables, CanRead}
-use Rattle.select_answer.proofs.Kept.{leaves_kept}
+use Rattle.plan_tree.specs.Plans.{PlannedItem, Planned, keeps_first, items_from, plan_for, is_empty, plan_tables, CanRead}
+use Rattle.select_answer.proofs.Kept.{plan_read as read_by}
 use Rattle.stores.specs.Events.{look_of}
 use Rattle.stores.specs.Laws.{LeavesAreHoused}
 use Rattle.stores.specs.Stand.{AllStand, Stands, IsSound}
@@ -46,7 +45,7 @@ use Rattle.statement_steps.specs.Known.{IsKnownTo}
 use Rattle.statement_steps.specs.Steps.{IsStep, follow}
 use Rattle.statement_steps.proofs.Parts.{refused_here}
 use Rattle.select_statement.specs.Below.{number_of}
-use Rattle.select_statement.specs.Lent.{MayLock, IsTreeFor, IsLookFor}
+use Rattle.select_statement.specs.Lent.{HasLeaves, MayLock, IsTreeFor, IsLookFor}
 use Rattle.select_statement.specs.Selected.{outcome, meant, uncancelled, of_trees, trees_for, of_tables, begins, of_named, of_items, selected}
 use Rattle.select_statement.proofs.Kept.{tables_kept}
 use Rattle.select_statement.proofs.Known.{tree_for}
@@ -80,18 +79,6 @@ trees_for_all stores caller f (x ∷ xs) all = (All-head (λ x. IsTreeFor stores
 pub can_prune_all : {X : Type 0} (stores : Stores) (caller : Caller) (f : X → TableTree) (xs : List X) → All (λ x. IsTreeFor stores caller (f x)) xs → All (λ x. CanPrune (f x)) xs
 can_prune_all stores caller f xs all = all_more (λ x. IsTreeFor stores caller (f x)) (λ x. CanPrune (f x)) xs (λ x its. its.prunable) all
 
-item_read : (stores : Stores) (caller : Caller) (prunes : Bool) (n : ℕ) (cs : List CondTree) (tree : TableTree) → IsTreeFor stores caller tree → CanRead stores.rows.leaves (item_for prunes n cs tree)
-item_read stores caller prunes n cs tree its = record {
-  prunable = its.prunable;
-  kept = leaves_kept (λ (l : LeafId). l.number < stores.rows.leaves) (keeps_first prunes n cs) tree its.leaves;
-  whole = its.leaves;
-}
-
-items_read : (stores : Stores) (caller : Caller) (prunes : Bool) (n : ℕ) (cs : List CondTree) (trees : List TableTree) → AreTreesFor stores caller trees → All (CanRead stores.rows.leaves) (items_from prunes n cs trees)
-items_read stores caller prunes n cs [] its = All-nil (CanRead stores.rows.leaves)
-items_read stores caller prunes n cs (t ∷ ts) its =
-    All-cons (CanRead stores.rows.leaves) (item_for prunes n (asked_at n cs) t) (items_from prunes (n + 1) (asked_later n cs) ts) (item_read stores caller prunes n (asked_at n cs) t its.0) (items_read stores caller prunes (n + 1) (asked_later n cs) ts its.1)
-
 items_locked : (stores : Stores) (caller : Caller) (prunes : Bool) (n : ℕ) (cs : List CondTree) (trees : List TableTree) → AreTreesFor stores caller trees → All (MayLock stores caller) (flat_map (λ i. i.tables) (items_from prunes n cs trees))
 items_locked stores caller prunes n cs [] its = All-nil (MayLock stores caller)
 items_locked stores caller prunes n cs (t ∷ ts) its =
@@ -104,7 +91,8 @@ none_or stores caller false tables all = all
 
 module _ {X : Type 0} (stores : Stores) (caller : Caller) (prunes : Bool) (conditions : List CondTree) (f : X → TableTree) (xs : List X) (its : All (λ x. IsTreeFor stores caller (f x)) xs) where
   pub plan_read : (plan : Planned) → plan ≡ plan_for prunes conditions (map f xs) → All (CanRead stores.rows.leaves) plan.items
-  plan_read plan is = subst (λ p. All (CanRead stores.rows.leaves) p.items) (sym is) (items_read stores caller prunes 0 (pool conditions) (map f xs) (trees_for_all stores caller f xs its))
+  plan_read plan is =
+      read_by f stores.rows.leaves prunes conditions xs plan (can_prune_all stores caller f xs its) (all_more (λ x. IsTreeFor stores caller (f x)) (λ x. HasLeaves stores (f x)) xs (λ x t. t.leaves) its) is
 
   pub plan_locked : (plan : Planned) → plan ≡ plan_for prunes conditions (map f xs) → All (MayLock stores caller) (plan_tables plan)
   plan_locked plan is =
@@ -116,6 +104,9 @@ pub reads_stay : (old new : Stores) (items : List PlannedItem) → new ≡ recor
 reads_stay old new items rest all = subst (λ (x : Stores). All (CanRead x.rows.leaves) items) (sym rest) all
 
 -- ---- the trees of the named tables
+
+from_here : {X : Type 0} (xs : List X) (i : ℕ) (x : X) → i < length xs → x ≡ get_or xs i x → drop i xs ≡ x ∷ drop (i + 1) xs
+from_here xs i x less is = rw (add-one i) (drop-cons xs i x less ∙ ap (λ y. y ∷ drop (suc i) xs) (sym is))
 
 pub is_sound : (stores : Stores) (caller : Caller) → MayAttempt stores caller → IsSound stores
 is_sound stores caller may = record { h = may.sound.0; stands = may.sound.1 }
@@ -133,6 +124,14 @@ read_for housed prunable stores caller n tree may few known is =
     let h = may.sound.0 in
     let stands = may.sound.1 in
     subst (IsTreeFor stores caller) (sym (is h stands)) (tree_for housed prunable stores caller h n (look_of h caller.session caller.cmd) stands few known)
+
+-- one tree more
+pub one_tree : {X : Type 0} (f : X → TableTree) (caller : Caller) (tables : List TableNo) (i : ℕ) (t : TableNo) (before now : List X) (x : X) (h : History) (all : List TableTree) → i < length tables → t ≡ get_or tables i t → now ≡ before ++ x ∷ []
+    → f x ≡ tree_of h caller.session t.number (look_of h caller.session caller.cmd) → map f before ++ trees_for caller (map number_of (drop i tables)) h ≡ all → map f now ++ trees_for caller (map number_of (drop (i + 1) tables)) h ≡ all
+one_tree f caller tables i t before now x h all less at more is told =
+    let rest = trees_for caller (map number_of (drop (i + 1) tables)) h in
+    ap (λ xs. map f xs ++ rest) more ∙ ap (λ l. l ++ rest) (map-append f before (x ∷ [])) ∙ append_assoc (map f before) (f x ∷ []) rest
+    ∙ ap (λ y. map f before ++ (y ∷ rest)) is ∙ ap (λ ts. map f before ++ trees_for caller (map number_of ts) h) (sym (from_here tables i t less at)) ∙ told
 
 -- there are as many as tables
 pub as_many : {X : Type 0} (stores : Stores) (caller : Caller) (f : X → TableTree) (xs : List X) (tables : List TableNo) → MayAttempt stores caller → ((h : History) → Stands stores h → map f xs ≡ trees_for caller (map number_of tables) h) → length xs ≡ length tables
