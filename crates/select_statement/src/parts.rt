@@ -66,13 +66,13 @@ pub(crate) fn lock_below(
 }
 
 // The answer, with a trail of what it reads.
-fn run<'s>(
+fn run(
     alloc: Global,
-    stores: &'s Stores,
+    stores: &Stores,
     caller: Caller,
     ask: &SelectAsk,
-    plan: &Plan<'s>,
-    snap: &'s Snapshot,
+    plan: &Plan<'_>,
+    snap: &Snapshot,
     trail: &mut Trail,
 ) -> Result<Answer, Stop>
     requires may { MayAttempt stores.now caller }
@@ -91,13 +91,13 @@ fn run<'s>(
 }
 
 /// The answer by the plan for the rows that the snapshot shows.
-pub(crate) fn answer<'s>(
+pub(crate) fn answer(
     alloc: Global,
-    stores: &'s Stores,
+    stores: &Stores,
     caller: Caller,
     ask: &SelectAsk,
-    plan: &Plan<'s>,
-    snap: &'s Snapshot,
+    plan: &Plan<'_>,
+    snap: &Snapshot,
 ) -> Result<Answer, Stop>
     requires may { MayAttempt stores.now caller }
     requires reads { All (CanRead stores.now.rows.leaves) (planned plan.now).items }

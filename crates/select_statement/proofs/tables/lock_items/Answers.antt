@@ -10,4 +10,3 @@ use Rattle.select_statement.proofs.tables.lock_items.Goals as goal
 
 pub loop-item-init : goal.loop-item-init
 loop-item-init c = none_named (λ ts. map number_of ts.items) c.args.stores.now c.args.caller c.args.names.now (map joined_tree c.args.items.now) _ c.new-tables.ensures.items c.requires.may c.requires.few
-
