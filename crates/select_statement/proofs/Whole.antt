@@ -1,9 +1,9 @@
 -- The parts of a SELECT, one after another.
-use Rattle.std.proofs.Common.{◌≡◌, ℕ, ◌+◌, ◌<◌, ◌≤◌, Bool, true, false, if◌then◌else◌, arith, List, [], ◌∷◌, ◌++◌, suc, refl, ap, sym, subst, ◌∙◌, append_assoc, add-one, drop, drop-cons, get_or, Result, Ok, Err, All, map, length}
+use Rattle.std.proofs.Common.{◌≡◌, ℕ, ◌+◌, ◌<◌, ◌≤◌, Bool, true, false, if◌then◌else◌, arith, List, [], ◌∷◌, ◌++◌, refl, ap, sym, subst, ◌∙◌, append_assoc, drop, Result, Ok, Err, IfOk, All, map, length}
 use Rattle.std.specs.Prelude.{nat_le}
-use Rattle.std.specs.List.{flat_map}
+use Rattle.std.specs.List.{flat_map, slice_index_or}
 use Rattle.std.proofs.lemmas.Bool.Decides.{nat_tests}
-use Rattle.std.proofs.lemmas.List.{length-map, map-append}
+use Rattle.std.proofs.lemmas.List.{length-map, map-append, drop_more}
 use Rattle.std.proofs.lemmas.List.Elements.{All-nil, All-cons, All-head, All-tail, All-append}
 use Rattle.pg_values.specs.declared.answer.Answer.{Answer}
 use Rattle.pg_values.specs.declared.fault.Fault.{Fault}
@@ -105,9 +105,6 @@ reads_stay old new items rest all = subst (λ (x : Stores). All (CanRead x.rows.
 
 -- ---- the trees of the named tables
 
-from_here : {X : Type 0} (xs : List X) (i : ℕ) (x : X) → i < length xs → x ≡ get_or xs i x → drop i xs ≡ x ∷ drop (i + 1) xs
-from_here xs i x less is = rw (add-one i) (drop-cons xs i x less ∙ ap (λ y. y ∷ drop (suc i) xs) (sym is))
-
 pub is_sound : (stores : Stores) (caller : Caller) → MayAttempt stores caller → IsSound stores
 is_sound stores caller may = record { h = may.sound.0; stands = may.sound.1 }
 
@@ -126,12 +123,12 @@ read_for housed prunable stores caller n tree may few known is =
     subst (IsTreeFor stores caller) (sym (is h stands)) (tree_for housed prunable stores caller h n (look_of h caller.session caller.cmd) stands few known)
 
 -- one tree more
-pub one_tree : {X : Type 0} (f : X → TableTree) (caller : Caller) (tables : List TableNo) (i : ℕ) (t : TableNo) (before now : List X) (x : X) (h : History) (all : List TableTree) → i < length tables → t ≡ get_or tables i t → now ≡ before ++ x ∷ []
-    → f x ≡ tree_of h caller.session t.number (look_of h caller.session caller.cmd) → map f before ++ trees_for caller (map number_of (drop i tables)) h ≡ all → map f now ++ trees_for caller (map number_of (drop (i + 1) tables)) h ≡ all
-one_tree f caller tables i t before now x h all less at more is told =
+pub one_tree : {X : Type 0} (f : X → TableTree) (caller : Caller) (tables : List TableNo) (i : ℕ) (d : TableNo) (before now : List X) (x : X) (h : History) (all : List TableTree) → i < length tables → now ≡ before ++ x ∷ []
+    → f x ≡ tree_of h caller.session (slice_index_or tables i d).number (look_of h caller.session caller.cmd) → map f before ++ trees_for caller (map number_of (drop i tables)) h ≡ all → map f now ++ trees_for caller (map number_of (drop (i + 1) tables)) h ≡ all
+one_tree f caller tables i d before now x h all less more is told =
     let rest = trees_for caller (map number_of (drop (i + 1) tables)) h in
     ap (λ xs. map f xs ++ rest) more ∙ ap (λ l. l ++ rest) (map-append f before (x ∷ [])) ∙ append_assoc (map f before) (f x ∷ []) rest
-    ∙ ap (λ y. map f before ++ (y ∷ rest)) is ∙ ap (λ ts. map f before ++ trees_for caller (map number_of ts) h) (sym (from_here tables i t less at)) ∙ told
+    ∙ ap (λ y. map f before ++ (y ∷ rest)) is ∙ ap (λ ts. map f before ++ trees_for caller (map number_of ts) h) (sym (drop_more tables i d less)) ∙ told
 
 -- there are as many as tables
 pub as_many : {X : Type 0} (stores : Stores) (caller : Caller) (f : X → TableTree) (xs : List X) (tables : List TableNo) → MayAttempt stores caller → ((h : History) → Stands stores h → map f xs ≡ trees_for caller (map number_of tables) h) → length xs ≡ length tables
@@ -165,6 +162,27 @@ too_many_meant caller (selects ls from cond keys limit offset) items many = by (
     by : (b : Bool) → b ≡ false → told b items ≡ told b []
     by true e = absurd (cc)
     by false e = refl
+
+pub too_many_told : (caller : Caller) (t : SelectTree) (items : List Item) (h : History) → 4 < length (from_of t) → (meant caller t items h).told ≡ Err (Refused (too_many TablesInFrom))
+too_many_told caller (selects ls from cond keys limit offset) items h many = by (nat_le (length from) 4) (grind (arith, nat_tests, many))
+  where
+    by : (b : Bool) → b ≡ false
+        → (outcome (or_first ((unless b (too_many TablesInFrom) ++ twice_faults [] (map item_name from))
+        ++ (name_faults items [] caller.session (selects ls from cond keys limit offset) ++ constant_faults items [] caller.session (selects ls from cond keys limit offset)))
+        (meaning items [] caller.session (selects ls from cond keys limit offset)))).told ≡ Err (Refused (too_many TablesInFrom))
+    by true e = absurd (cc)
+    by false e = refl
+
+-- so of too many nothing is meant
+pub none_meant : {X : Type 0} (view : X → SelectMeant) (r : Result X Stop) (stores : Stores) (caller : Caller) (t : SelectTree) (items : List Item) (P : X → Type 0) → 4 < length (from_of t) → MayAttempt stores caller
+    → IsStep view r stores stores caller caller.cmd (meant caller t items) → IfOk r P
+none_meant view (Ok x) stores caller t items P many may step =
+    let h = may.sound.0 in
+    let told = (step.is h may.sound.1 may.sound.2).0 in
+    let refused = too_many_told caller t items h many in
+    let both : Err (Refused (too_many TablesInFrom)) ≡ Ok (view x) = sym refused ∙ told in
+    absurd (cc)
+none_meant view (Err e) stores caller t items P many may step = tt
 
 pub with_items : (prunes : Bool) (names : List (List ℕ)) (caller : Caller) (t : SelectTree) (from : List Joined) (r : Result Answer Stop) (old new : Stores) → from_of t ≡ from
     → IsStep (λ (a : Answer). a) r old new caller (caller.cmd + 1) (of_items prunes names caller t from) → IsStep (λ (a : Answer). a) r old new caller (caller.cmd + 1) (selected prunes names caller t)

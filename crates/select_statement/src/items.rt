@@ -57,16 +57,15 @@ pub(crate) fn items_of(
     from_items: &[FromItem],
     trees: &[Tree],
 ) -> Result<Vec<ScopeItem>, NoMemory>
-    requires { length trees.now ≤ 4 }
+    requires few { length trees.now ≤ 4 }
+    requires each { length from_items.now ≡ length trees.now }
     ensures { IfOk result (λ found. found.items ≡ items.items_of 0 (map joined_tree from_items.now) (map seen trees.now)) }
 {
     let mut found = Vec::new(alloc);
     let mut number: u32 = 0;
     for (place, item) in from_items.iter().enumerate() {
-        if let Some(tree) = trees.get(place) {
-            found.push(item_of(alloc, number, item, tree)?)?;
-            number += 1;
-        }
+        found.push(item_of(alloc, number, item, &trees[place])?)?;
+        number += 1;
     }
     Ok(found)
 }

@@ -2,8 +2,10 @@
 
 ghost use Rattle.std.specs.Prelude.{◌≡◌, ◌≤◌, ◌∷◌, [], All, IfOk, length, map};
 ghost use Rattle.history.specs.History.{History};
+ghost use Rattle.table_trees.specs.Histories.{tree_of};
 ghost use Rattle.table_trees.specs.Seen.{seen};
 ghost use Rattle.sql_queries.specs.Trees.{joined_tree};
+ghost use Rattle.stores.specs.Events.{look_of};
 ghost use Rattle.stores.specs.Stand.{Stands};
 ghost use Rattle.course.specs.Attempts.{MayAttempt};
 ghost use Rattle.statement_steps.specs.Known.{IsKnownTo};
@@ -53,6 +55,25 @@ pub(crate) fn lock_items(
     Ok(tables)
 }
 
+fn read_tree(
+    alloc: Global,
+    stores: &Stores,
+    caller: Caller,
+    table: TableNo,
+    snap: &Snapshot,
+) -> Result<Tree, NoMemory>
+    requires may { MayAttempt stores.now caller }
+    requires few { length stores.now.catalog.tables ≤ 4096 }
+    requires known { IsKnownTo stores.now caller.session table.number }
+    requires look { IsLookFor stores.now caller snap.now }
+    ensures tree { IfOk result (λ t. (h : History) → Stands stores.now h → seen t ≡ tree_of h caller.session table.number (look_of h caller.session caller.cmd)) }
+    ensures fit { IfOk result (λ t. IsTreeFor stores.now caller (seen t)) }
+{
+    leaves_are_housed();
+    trees_can_be_pruned();
+    stores.tree(alloc, table, caller.session, snap)
+}
+
 /// The trees of the tables under the snapshot of the command.
 pub(crate) fn read_trees(
     alloc: Global,
@@ -68,11 +89,9 @@ pub(crate) fn read_trees(
     ensures trees { IfOk result (λ trees. (h : History) → Stands stores.now h → map seen trees.items ≡ selected.trees_for caller (map number_of tables.now) h) }
     ensures each { IfOk result (λ trees. All (λ t. IsTreeFor stores.now caller (seen t)) trees.items) }
 {
-    leaves_are_housed();
-    trees_can_be_pruned();
     let mut trees = Vec::new(alloc);
     for table in tables {
-        trees.push(stores.tree(alloc, *table, caller.session, snap)?)?;
+        trees.push(read_tree(alloc, stores, caller, *table, snap)?)?;
     }
     Ok(trees)
 }
