@@ -43,6 +43,7 @@ KINDS = {
     "defaults": {"select": 2, "insert": 5, "delete": 3, "partition": 6, "detach": 3, "drop": 2, "lock": 1},
     "attaches": {"select": 2, "insert": 5, "delete": 3, "attach": 6, "detach": 5, "partition": 1, "drop": 1},
     "cancels": {"select": 3, "insert": 4, "delete": 4, "lock": 4, "cancel": 5},
+    "joins": {"join": 12, "select": 1, "lock": 4, "insert": 4, "delete": 1, "setting": 2},
     "prunes": {"select": 9, "lock": 6, "insert": 3, "setting": 2},
     "pruned": {"select": 1, "insert": 2, "delete": 5, "update": 9, "lock": 5, "setting": 2},
     "mixed": {
@@ -225,6 +226,48 @@ class Maker:
         items = numbers.of(("tableoid::regclass, a, v", "a, v", "*", "a"))
         order = numbers.of(("", "", " ORDER BY a", " ORDER BY v DESC, a", " ORDER BY a LIMIT 2"))
         return f"SELECT {items} FROM {self.any_table()}{self.condition()}{order};"
+
+    def comparison(self, left, right):
+        """Of a column of one item with a column of another, or with a value."""
+        numbers = self.numbers
+        sign = numbers.of(("=", "=", "=", "<", ">=", "<>"))
+        if left == right or numbers.chance(25):
+            other = numbers.of(self.keys) if numbers.chance(70) else numbers.of(("NULL", numbers.below(24)))
+        else:
+            other = f"q{right}.{numbers.of(('a', 'a', 'v'))}"
+        column = f"q{left}.{numbers.of(('a', 'a', 'a', 'v'))}"
+        return f"{column} {sign} {other}" if numbers.chance(80) else f"{other} {sign} {column}"
+
+    def joining(self, count):
+        """A condition over the items before that number."""
+        numbers = self.numbers
+
+        def one():
+            return self.comparison(numbers.below(count), count - 1 if numbers.chance(70) else numbers.below(count))
+        form = numbers.of(("one", "one", "one", "and", "and", "or", "or of ands", "not", "in", "null"))
+        return {
+            "one": one, "and": lambda: f"{one()} AND {one()}", "or": lambda: f"({one()} OR {one()})",
+            "or of ands": lambda: f"({one()} AND {one()} OR {one()} AND {one()})", "not": lambda: f"NOT ({one()} AND {one()})",
+            "in": lambda: f"q{numbers.below(count)}.a IN (q{count - 1}.v, {numbers.of(self.keys)})",
+            "null": lambda: f"q{numbers.below(count)}.{numbers.of(('a', 'v'))} IS {numbers.of(('', 'NOT '))}NULL AND {one()}",
+        }[form]()
+
+    def join(self):
+        numbers, count = self.numbers, self.numbers.of((2, 2, 2, 3, 3, 4))
+        tables = f"{self.any_table()} AS q0"
+        for item in range(1, count):
+            table = f"{'t' if numbers.chance(50) else self.any_table()} {numbers.of(('', 'AS '))}q{item}"
+            if numbers.chance(75) or item > 1:
+                tables += f" JOIN {table} ON {self.joining(item + 1)}"
+            else:
+                tables += f", {table}"
+        where = f" WHERE {self.joining(count)}" if numbers.chance(60) or "," in tables else ""
+        items = numbers.of((
+            "*", "q1.*, q0.v", "q0.tableoid::regclass, q0.a, q1.tableoid::regclass AS other, q1.a AS b", "q0.a, q1.v - q0.v AS d",
+            "q1.a", "10 / (q0.v - q1.v) AS d",
+        ))
+        order = numbers.of(("", "", " ORDER BY q1.v DESC, q0.a", " ORDER BY 1", " LIMIT 3", " ORDER BY q0.v OFFSET 1"))
+        return f"SELECT {items} FROM {tables}{where}{order};"
 
     def insert(self):
         numbers = self.numbers

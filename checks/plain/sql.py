@@ -297,6 +297,19 @@ class Reader:
             return name, self.name()
         return name, None
 
+    def tables(self):
+        """The items of FROM: name, alias, and the condition of ON behind a JOIN."""
+        found = [(*self.table_with_alias(), None)]
+        while True:
+            if self.took(","):
+                found.append((*self.table_with_alias(), None))
+            elif self.took("join") or self.took("inner", "join"):
+                table = self.table_with_alias()
+                self.take("on")
+                found.append((*table, self.expression()))
+            else:
+                return found
+
     def key(self):
         value = self.expression()
         down = self.took("desc")
@@ -363,9 +376,7 @@ class Reader:
             return Statement("LOCK", names=names, mode=mode)
         if self.took("select"):
             items = self.list_of(self.item)
-            table = self.table_with_alias() if self.took("from") else None
-            if self.peek()[1] in (",", "join", "inner"):
-                raise NotRead("several tables in FROM")
+            tables = self.tables() if self.took("from") else []
             where = self.expression() if self.took("where") else None
             keys = self.list_of(self.key) if self.took("order", "by") else []
             limit = offset = None
@@ -373,7 +384,7 @@ class Reader:
                 limit = self.expression()
             if self.took("offset"):
                 offset = self.expression()
-            return Statement("SELECT", items=items, table=table, where=where, keys=keys, limit=limit, offset=offset)
+            return Statement("SELECT", items=items, tables=tables, where=where, keys=keys, limit=limit, offset=offset)
         if self.took("insert", "into"):
             name = self.name()
             columns = self.in_parentheses(self.name) if self.peek() == ("sign", "(") else None

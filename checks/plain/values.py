@@ -77,11 +77,11 @@ def judge_assignment(kind, wanted):
 
 class Bound:
     """An expression whose names and kinds were judged. `kind` is None for null, "literal" for a string
-    whose place has given it no kind yet; `of` computes the value of a row, a list of values and the
-    name of the leaf that it lies in."""
+    whose place has given it no kind yet; `of` computes the value of a tuple: for each item of FROM a row, a list
+    of values, and the name of the leaf that it lies in. A column is known by its item's number and its place."""
 
-    def __init__(self, kind, of, is_constant, text=None, place=None):
-        self.kind, self.of, self.is_constant, self.text, self.place = kind, of, is_constant, text, place
+    def __init__(self, kind, of, is_constant, text=None, item=None, place=None):
+        self.kind, self.of, self.is_constant, self.text, self.item, self.place = kind, of, is_constant, text, item, place
 
 
 class Test:
@@ -95,12 +95,18 @@ class Test:
 
 
 class Scope:
-    """The columns that may be named: (name, kind), in the order of the row; and what expressions over no
-    column have to be computed when the statement starts."""
+    """The items of FROM that may be named: the number, the name and the columns of each, these as (name, kind) in
+    the order of the row; and what expressions over no column have to be computed when the statement starts."""
 
-    def __init__(self, columns, name=None, user=None, calls=None):
-        self.columns, self.name, self.user, self.calls = columns, name, user, calls
+    def __init__(self, items, user=None, calls=None):
+        self.items, self.user, self.calls = items, user, calls
         self.constants = []
+
+    def of_items(self, items):
+        """The same, where these items alone may be named."""
+        scope = Scope(items, self.user, self.calls)
+        scope.constants = self.constants
+        return scope
 
     def compute_constants(self):
         for compute in self.constants:
@@ -117,9 +123,19 @@ class Scope:
             return bound
         return self.constant(Bound(kind, lambda row: read_value(kind, bound.text), True))
 
-    def check_table(self, table):
-        if table is not None and table != self.name:
+    def called(self, table):
+        """The items of that name, all where none is written."""
+        found = [item for item in self.items if table in (None, item[1])]
+        if table is not None and not found:
             raise Refusal("42P01", f"no table {table}")
+        return found
+
+    def only(self, found, name):
+        if len(found) > 1:
+            raise Refusal("42702", f"column {name} is ambiguous")
+        if not found:
+            raise Refusal("42703", f"no column {name}")
+        return found[0]
 
     def operand(self, written):
         """Judges an operand, whose string literal has no kind yet."""
@@ -143,14 +159,15 @@ class Scope:
         if sort == "parameter":
             raise Refusal("42P02", f"no parameter {written[1][1:].lstrip('0') or '0'}")
         if sort == "column":
-            self.check_table(written[1])
-            for place, (name, kind) in enumerate(self.columns):
-                if name == written[2]:
-                    return Bound(kind, lambda row: row[0][place], False, place=place)
-            raise Refusal("42703", f"no column {written[2]}")
+            found = [
+                (number, [column for column, _ in columns].index(written[2]), dict(columns)[written[2]])
+                for number, _, columns in self.called(written[1]) if written[2] in dict(columns)
+            ]
+            item, place, kind = self.only(found, written[2])
+            return Bound(kind, lambda row: row[item][0][place], False, item=item, place=place)
         if sort == "regclass":
-            self.check_table(written[1])
-            return Bound("text", lambda row: row[1], False)
+            number = self.only(self.called(written[1]), "tableoid")[0]
+            return Bound("text", lambda row: row[number][1], False)
         if sort == "arithmetic":
             return self.arithmetic(written)
         if sort == "call":

@@ -1,6 +1,5 @@
 -- Whether a plain table is kept, by a level without key columns.
-use Rattle.std.proofs.Common.{◌≡◌, arith, Bool, List, [], ◌∷◌, ap, subst, ◌∙◌, length}
-use Rattle.std.specs.Prelude.{Option}
+use Rattle.std.proofs.Common.{◌≡◌, ℕ, arith, Bool, List, [], ◌∷◌, ap, subst, ◌∙◌, length}
 use native.Mathlib.Nat.{ℕ_set}
 use Rattle.part_bounds.specs.declared.level.KeyColumn.{KeyColumn}
 use Rattle.part_bounds.specs.declared.level.Level.{Level}
@@ -10,7 +9,7 @@ use Rattle.part_bounds.specs.declared.partition_bound.Bound.{Bound}
 use Rattle.part_bounds.specs.declared.partition_bound.Bound.TheVariants.{Default}
 use Rattle.part_bounds.specs.Bounds.{in_plain_order}
 use Rattle.cond_logic.specs.Trees.{CondTree}
-use Rattle.pruned_trees.specs.Kept.{keeps_by, keeps_plain, no_keys, is_kept, AreKept}
+use Rattle.pruned_trees.specs.Kept.{keeps_for, keeps_plain, no_keys, is_kept, AreKept}
 
 one_proof : (s : Strategy) (columns : List KeyColumn) → IsProp (s ≡ ByList → length columns ≡ 1)
 one_proof s columns = hlevel ℕ_set
@@ -24,9 +23,9 @@ level_same ByHash columns one e f = absurd (cc)
 pub alone : (bounds items : List Bound) → items ≡ Default ∷ [] → bounds ≡ in_plain_order items → bounds ≡ Default ∷ []
 alone bounds items is order = order ∙ ap in_plain_order is
 
-pub plain_is : (prunes : Bool) (t : CondTree) (level : Level) (bounds : List Bound) (kept : Option (List Bool)) (b : Bool) → level.strategy ≡ ByRange → level.columns ≡ [] → bounds ≡ Default ∷ [] → AreKept kept (keeps_by prunes t level bounds) bounds → b ≡ is_kept kept 0
-    → b ≡ keeps_plain (keeps_by prunes t)
-plain_is prunes t level bounds kept b e f is agree told =
+pub plain_is : (prunes : Bool) (item : ℕ) (ts : List CondTree) (level : Level) (bounds : List Bound) (kept : List (List Bool)) (b : Bool) → level.strategy ≡ ByRange → level.columns ≡ [] → bounds ≡ Default ∷ [] → AreKept kept (keeps_for prunes item ts level bounds) bounds → b ≡ is_kept kept 0
+    → b ≡ keeps_plain (keeps_for prunes item ts)
+plain_is prunes item ts level bounds kept b e f is agree told =
     let same : level ≡ no_keys = level_same level.strategy level.columns level.one_if_list e f in
-    let here : AreKept kept (keeps_by prunes t no_keys (Default ∷ [])) (Default ∷ []) = subst (λ l. AreKept kept (keeps_by prunes t l (Default ∷ [])) (Default ∷ [])) same (subst (λ bs. AreKept kept (keeps_by prunes t level bs) bs) is agree) in
+    let here : AreKept kept (keeps_for prunes item ts no_keys (Default ∷ [])) (Default ∷ []) = subst (λ l. AreKept kept (keeps_for prunes item ts l (Default ∷ [])) (Default ∷ [])) same (subst (λ bs. AreKept kept (keeps_for prunes item ts level bs) bs) is agree) in
     told ∙ here 0 (omega arith)

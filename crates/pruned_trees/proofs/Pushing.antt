@@ -1,6 +1,5 @@
 -- What a loop over the children of a level puts behind its lists.
 use Rattle.std.proofs.Common.{◌≡◌, ℕ, zero, suc, ◌+◌, ◌<◌, ◌≤◌, arith, Bool, true, false, if◌then◌else◌, List, [], ◌∷◌, ◌++◌, length, map, drop, get_or, refl, sym, ap, subst, ◌∙◌, append_assoc, append-nil}
-use Rattle.std.specs.Prelude.{Option}
 use Rattle.std.specs.List.{All, slice_index_or}
 use Rattle.std.proofs.lemmas.List.{drop_more, length-append}
 use Rattle.std.proofs.Math.ListN.{drop_of_length-le}
@@ -98,7 +97,7 @@ test_of keeps (LeafTable node leaf) = λ b. false
 test_of keeps (LevelTable node level bounds kids) = keeps level bounds
 
 -- before a child: what stands in the lists, with that of the children from this one on, is all
-pub record Going (keeps : Keeps) (tree : TableTree) (items : List Tree) (set : Option (List Bool)) (k : ℕ) (now_tables old_tables : List TableNo) (now_leaves old_leaves : List Leaf) : Type 0 where
+pub record Going (keeps : Keeps) (tree : TableTree) (items : List Tree) (set : List (List Bool)) (k : ℕ) (now_tables old_tables : List TableNo) (now_leaves old_leaves : List Leaf) : Type 0 where
   pub tables : now_tables ++ tables_among keeps (test_of keeps tree) (drop k (bounds_of tree)) (kids (drop k items)) ≡ old_tables ++ kept_tables keeps tree
   pub leaves : now_leaves ++ leaves_among keeps (test_of keeps tree) (drop k (bounds_of tree)) (kids (drop k items)) ≡ old_leaves ++ leaves_below keeps tree
   pub can : AllCanPrune (kids (drop k items))
@@ -106,7 +105,7 @@ pub record Going (keeps : Keeps) (tree : TableTree) (items : List Tree) (set : O
   pub paired : length (bounds_of tree) ≡ length items
   pub kept : AreKept set (test_of keeps tree) (bounds_of tree)
 
-pub begins : (keeps : Keeps) (t : Tree) (level : Level) (bounds : List Bound) (children : TreeList) (items : List Tree) (kept : Option (List Bool)) (tables : List TableNo) (leaves : List Leaf) → t.shape ≡ ShapeLevel level bounds children → items ≡ items_of children
+pub begins : (keeps : Keeps) (t : Tree) (level : Level) (bounds : List Bound) (children : TreeList) (items : List Tree) (kept : List (List Bool)) (tables : List TableNo) (leaves : List Leaf) → t.shape ≡ ShapeLevel level bounds children → items ≡ items_of children
     → CanPrune (seen t) → AreKept kept (keeps level bounds) bounds → Going keeps (seen t) items kept 0 tables tables leaves leaves
 begins keeps t level bounds children items kept tables leaves is are can agree =
     let s = seen_level t level bounds children is in
@@ -129,7 +128,7 @@ can_ask t level bounds children is can =
     let whole : CanPrune (LevelTable t.node level bounds (kids (items_of children))) = subst CanPrune (seen_level t level bounds children is) can in
     (whole.1, whole.2)
 
-module _ (keeps : Keeps) (tree : TableTree) (items : List Tree) (kept : Option (List Bool)) (k : ℕ) (child : Tree) (tables tables_before : List TableNo) (leaves leaves_before : List Leaf) (lt : k < length items) (is : child ≡ get_or items k child) (going : Going keeps tree items kept k tables tables_before leaves leaves_before) where
+module _ (keeps : Keeps) (tree : TableTree) (items : List Tree) (kept : List (List Bool)) (k : ℕ) (child : Tree) (tables tables_before : List TableNo) (leaves leaves_before : List Leaf) (lt : k < length items) (is : child ≡ get_or items k child) (going : Going keeps tree items kept k tables tables_before leaves leaves_before) where
   in_bounds : k < length (bounds_of tree)
   in_bounds = let same = going.paired in omega (arith, same, lt)
 
@@ -165,7 +164,7 @@ module _ (keeps : Keeps) (tree : TableTree) (items : List Tree) (kept : Option (
   child_prunes = child_can keeps (test_of keeps tree) (bounds_of tree) items k child in_bounds lt is going.can
 
 -- behind the last child
-pub ends : (keeps : Keeps) (tree : TableTree) (items : List Tree) (kept : Option (List Bool)) (k : ℕ) (tables tables_before : List TableNo) (leaves leaves_before : List Leaf) → length items ≤ k → Going keeps tree items kept k tables tables_before leaves leaves_before
+pub ends : (keeps : Keeps) (tree : TableTree) (items : List Tree) (kept : List (List Bool)) (k : ℕ) (tables tables_before : List TableNo) (leaves leaves_before : List Leaf) → length items ≤ k → Going keeps tree items kept k tables tables_before leaves leaves_before
     → (tables ≡ tables_before ++ kept_tables keeps tree) × (leaves ≡ leaves_before ++ leaves_below keeps tree)
 ends keeps tree items kept k tables tables_before leaves leaves_before past going =
     let none : drop k items ≡ [] = drop_of_length-le items past in

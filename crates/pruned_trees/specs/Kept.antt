@@ -1,6 +1,6 @@
 -- The leaves of a tree that a condition keeps, and the tables that lead to them (5.11.4 Partition Pruning).
-use Rattle.std.specs.Prelude.{◌≡◌, ℕ, ◌<◌, Bool, true, false, if◌then◌else◌, List, [], ◌∷◌, ◌++◌, length, Option, Some, None}
-use Rattle.std.specs.List.{slice_index_or}
+use Rattle.std.specs.Prelude.{◌≡◌, ℕ, ◌<◌, Bool, true, false, if◌then◌else◌, List, [], ◌∷◌, ◌++◌, length}
+use Rattle.std.specs.List.{list_all, slice_index_or}
 use Rattle.pg_ids.specs.declared.ids.LeafId.{LeafId}
 use Rattle.pg_ids.specs.declared.ids.TableNo.{TableNo}
 use Rattle.part_bounds.specs.declared.level.KeyColumn.{KeyColumn}
@@ -19,10 +19,15 @@ use Rattle.prune_steps.specs.Kept.{kept}
 abbrev pub Keeps : Type 0
 Keeps = Level → List Bound → Bound → Bool
 
--- by a condition over the columns of the only FROM item; where nothing is pruned all are kept
+-- what each of these conditions keeps, where the columns of the FROM item of that number are the level's; all, where nothing
+-- is pruned
+abbrev pub keeps_for : (prunes : Bool) → (item : ℕ) → List CondTree → Keeps
+keeps_for true item ts level bounds b = list_all (λ t. kept (asked item level) bounds [] t b) ts
+keeps_for false item ts level bounds b = true
+
+-- by one condition, over the columns of the only FROM item
 abbrev pub keeps_by : (prunes : Bool) → CondTree → Keeps
-keeps_by true t level bounds b = kept (asked 0 level) bounds [] t b
-keeps_by false t level bounds b = true
+keeps_by prunes t = keeps_for prunes 0 (t ∷ [])
 
 -- ---- leaves
 
@@ -98,11 +103,10 @@ abbrev mutual
 
 -- ---- sets of children
 
--- without a set all children are kept
-abbrev pub is_kept : Option (List Bool) → ℕ → Bool
-is_kept None k = true
-is_kept (Some bits) k = bit bits k
+-- what all sets have; without a set all children are kept
+abbrev pub is_kept : List (List Bool) → ℕ → Bool
+is_kept sets k = list_all (λ bits. bit bits k) sets
 
 -- the children that the test takes, by their numbers
-abbrev pub AreKept : Option (List Bool) → (Bound → Bool) → List Bound → Type 0
+abbrev pub AreKept : List (List Bool) → (Bound → Bool) → List Bound → Type 0
 AreKept kept test bounds = (k : ℕ) → k < length bounds → is_kept kept k ≡ test (slice_index_or bounds k Default)

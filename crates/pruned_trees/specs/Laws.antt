@@ -1,6 +1,6 @@
 -- No row that passes is missed (5.11.4 Partition Pruning).
-use Rattle.std.specs.Prelude.{◌≡◌, ℕ, Bool, true, false, List, [], ◌∷◌, map, filter}
-use Rattle.std.specs.List.{All, Contains, flat_map}
+use Rattle.std.specs.Prelude.{◌≡◌, ◌<◌, ℕ, Bool, true, false, List, [], ◌∷◌, map, filter}
+use Rattle.std.specs.List.{All, Contains, flat_map, list_all}
 use Rattle.pg_values.specs.declared.value.Value.{Value}
 use Rattle.pg_ids.specs.declared.ids.LeafId.{LeafId}
 use Rattle.part_bounds.specs.declared.partition_bound.Bound.{Bound}
@@ -15,11 +15,11 @@ use Rattle.cond_logic.specs.declared.truth.Truth3.{Truth3}
 use Rattle.cond_logic.specs.declared.truth.Truth3.TheVariants.{Yes, No, Unknown}
 use Rattle.cond_logic.specs.Trees.{CondTree}
 use Rattle.cond_logic.specs.Truths.{truth}
-use Rattle.cond_logic.specs.Tuples.{no_rows, put}
+use Rattle.cond_logic.specs.Tuples.{Places, put}
 use Rattle.soundness.specs.Worlds.{IsMade}
 use Rattle.soundness.specs.Legal.{ArePermitted}
 use Rattle.soundness.specs.Laws.{IsLooking}
-use Rattle.pruned_trees.specs.Kept.{Leaf, named_leaves, keeps_by, kept_leaves}
+use Rattle.pruned_trees.specs.Kept.{Leaf, named_leaves, keeps_for, kept_leaves}
 use Rattle.pruned_trees.specs.Prunable.{CanPrune}
 
 abbrev pub is_yes : Truth3 → Bool
@@ -27,8 +27,9 @@ is_yes Yes = true
 is_yes No = false
 is_yes Unknown = false
 
-abbrev pub passes : CondTree → List Value → Bool
-passes t row = is_yes (truth (put no_rows 0 row) [] t)
+-- a row of the item of that number, beside these rows of the others
+abbrev pub passes_beside : Places → (item : ℕ) → List CondTree → List Value → Bool
+passes_beside beside item ts row = list_all (λ t. is_yes (truth (put beside item row) [] t)) ts
 
 -- ---- in trees
 
@@ -48,13 +49,14 @@ abbrev mutual
   AllLieRight rows test (b ∷ bs) (More k ks) = ((leaf : LeafId) → Contains (leaves k) leaf → All (λ row. test row b ≡ true) (rows leaf.number)) × LieRight rows k × AllLieRight rows test bs ks
 
 -- a leaf's rows that pass, each beside the leaf
-abbrev pub passing_in : Rows → CondTree → Leaf → List (Leaf × List Value)
-passing_in rows t leaf = map (λ row. (leaf, row)) (filter (passes t) (rows leaf.id.number))
+abbrev pub passing_in : Rows → (List Value → Bool) → Leaf → List (Leaf × List Value)
+passing_in rows test leaf = map (λ row. (leaf, row)) (filter test (rows leaf.id.number))
 
--- the rows of all leaves that pass are those of the kept leaves, in plain order
+-- whatever rows of the other items stand beside them: the rows of all leaves that pass are those of the kept leaves, in plain
+-- order
 abbrev pub NoneIsMissed : Type 0
-NoneIsMissed = (prunes : Bool) (t : CondTree) (rows : Rows) (tree : TableTree) → CanPrune tree → LieRight rows tree
-    → flat_map (passing_in rows t) (named_leaves tree) ≡ flat_map (passing_in rows t) (kept_leaves (keeps_by prunes t) tree)
+NoneIsMissed = (prunes : Bool) (item : ℕ) (ts : List CondTree) (beside : Places) (rows : Rows) (tree : TableTree) → item < 4 → CanPrune tree → LieRight rows tree
+    → flat_map (passing_in rows (passes_beside beside item ts)) (named_leaves tree) ≡ flat_map (passing_in rows (passes_beside beside item ts)) (kept_leaves (keeps_for prunes item ts) tree)
 
 -- ---- in histories
 

@@ -6,7 +6,8 @@ use cond_logic::{Cond, CondList, bind_params};
 use pg_values::NoMemory;
 use std::alloc::Global;
 
-fn copy(alloc: Global, cond: &Cond) -> Result<Cond, NoMemory>
+/// A copy of the condition.
+pub fn copy_cond(alloc: Global, cond: &Cond) -> Result<Cond, NoMemory>
     ensures { IfOk result (λ c. cond_tree c ≡ cond_tree cond.now) }
 {
     bind_params(alloc, cond, &[])
@@ -18,7 +19,7 @@ pub fn all_hold(alloc: Global, conds: &[Cond]) -> Result<Cond, NoMemory>
 {
     let mut all = Vec::new(alloc);
     for cond in conds {
-        all.push(copy(alloc, cond)?)?;
+        all.push(copy_cond(alloc, cond)?)?;
     }
     Ok(Cond::And(CondList::from_vec(all)))
 }

@@ -1,6 +1,8 @@
 pub mod Bytes
 pub mod Courses
 pub mod Gathering
+pub mod Items
+pub mod Kept
 pub mod Marks
 pub mod Plain
 pub mod Pruned

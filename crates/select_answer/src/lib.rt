@@ -1,13 +1,13 @@
-//! The answer of a SELECT over leaves of the one table in FROM, or without FROM.
+//! The answer of a SELECT by its plan, which joins the items of FROM in nested loops.
 //!
-//! The leaves are read in order, each once. The rows that the snapshot sees are lent until they are
-//! projected: one that passes all conditions gives a row to the answer, with the values that it is sorted by
-//! (`KeyedRow`). Then the rows are sorted, stably, and cut by OFFSET and LIMIT. What this gives is the
-//! definition of an answer (`specs/Answer.antt`).
+//! The leaves of the first item are read in order. Each of its rows that passes what is asked there goes on:
+//! the leaves of the next item that are kept beside it are read, and so on to the last. The rows that the
+//! snapshot sees are lent until they are projected: a tuple of all items that passes gives a row to the
+//! answer, with the values that it is sorted by (`KeyedRow`). Then the rows are sorted, stably, and cut by
+//! OFFSET and LIMIT. What this gives is the definition of an answer (`specs/Answer.antt`).
 //!
-//! Over all leaves of the table's tree, in plain order, it is a plain scan. A SELECT that reads only the
-//! leaves that its conditions keep gives the same answer, or the same first fault, in each history of the
-//! stores (`pruned_is_plain`).
+//! The answer, or the first fault, is that of nested loops over all leaves of the tables, in plain order, in
+//! each history of the stores (`pruned_is_plain`).
 //!
 //! A statement makes so many scans at most, and an answer has so many tuples and so many bytes of
 //! values before the cut: what is passed first stops it, as does the first fault of a select list
@@ -24,7 +24,7 @@ mod row;
 
 pub use answering::run_select;
 pub use keyed_row::KeyedRow;
-pub use laws::{pruned_is_plain, rows_are_of_all_tuples};
+pub use laws::{one_item_is_read_once, pruned_is_plain, rows_are_of_all_tuples};
 
 /// How many tuples an answer has at most, before it is cut.
 pub const TUPLE_LIMIT: usize = 1_000_000;

@@ -1,11 +1,18 @@
+ghost use Rattle.std.specs.Prelude.{◌<◌, ◌≤◌, ℕ, All, IfOk, length};
+ghost use Rattle.table_trees.specs.Seen.{seen};
+ghost use Rattle.table_trees.specs.Trees.{leaves};
+ghost use Rattle.pruned_trees.specs.Prunable.{CanPrune};
+
 use crate::run_select;
 use cond_logic::{ColumnId, CompareOp, Cond, Operand, Scalar};
-use pg_ids::LeafId;
+use history::Columns;
+use pg_ids::{LeafId, TableNo};
 use pg_values::{Answer, Kind, NoMemory, PgText, Refusal, Row, Value};
-use pruned_trees::NamedLeaf;
+use plan_tree::make_plan;
 use row_store::{RowStore, Trail};
 use statement_asks::{Output, SelectAsk, SortBy, SortKey};
 use std::alloc::Global;
+use table_trees::{Node, Tree};
 use tx_table::TxTable;
 
 fn put(
@@ -28,30 +35,27 @@ fn put(
     }
 }
 
-fn column() -> ColumnId {
-    ColumnId {
-        item: 0,
-        position: 0,
-    }
+fn column(item: u32) -> ColumnId {
+    ColumnId { item, position: 0 }
 }
 
-// SELECT a, tableoid::regclass FROM t WHERE a <> 4 OR a IS NULL ORDER BY a DESC LIMIT 2 OFFSET 1
+// SELECT l.a, r.tableoid::regclass FROM l JOIN r ON l.a = r.a ORDER BY 1 DESC LIMIT 2 OFFSET 1
 fn ask(alloc: Global) -> Result<SelectAsk, NoMemory> {
     let mut outputs = Vec::new(alloc);
     outputs.push(Output {
         name: PgText::from_bytes(alloc, b"a")?,
         kind: Kind::Int4,
-        value: Scalar::Column(column()),
+        value: Scalar::Column(column(0)),
     })?;
     outputs.push(Output {
         name: PgText::from_bytes(alloc, b"tableoid")?,
         kind: Kind::Text,
-        value: Scalar::TableName(0),
+        value: Scalar::TableName(1),
     })?;
     let mut conditions = Vec::new(alloc);
-    let four = Operand::Lit(Value::Int4(4));
-    let equal = Cond::Compare(CompareOp::Eq, Operand::Column(column()), four);
-    conditions.push(Cond::Not(Box::new(alloc, equal)?))?;
+    let left = Operand::Column(column(0));
+    let right = Operand::Column(column(1));
+    conditions.push(Cond::Compare(CompareOp::Eq, left, right))?;
     let mut order = Vec::new(alloc);
     order.push(SortKey {
         by: SortBy::Output(0),
@@ -67,11 +71,45 @@ fn ask(alloc: Global) -> Result<SelectAsk, NoMemory> {
     })
 }
 
+// A plain table with that leaf.
+fn plain(alloc: Global, name: &[u8], leaf: u32) -> Result<Tree, NoMemory>
+    ensures can { IfOk result (λ t. CanPrune (seen t)) }
+    ensures there { IfOk result (λ t. (count : ℕ) → leaf < count → All (λ l. l.number < count) (leaves (seen t))) }
+{
+    let node = Node {
+        table: TableNo { number: leaf },
+        name: PgText::from_bytes(alloc, name)?,
+        columns: Columns::new(alloc),
+    };
+    Ok(Tree::leaf(node, LeafId { number: leaf }))
+}
+
 fn is_row(row: &Row, number: i32, name: &[u8]) -> bool {
     match row.as_slice() {
         [Value::Int4(n), Value::Text(text)] => *n == number && text.as_bytes() == name,
         _ => false,
     }
+}
+
+fn answer_over(
+    alloc: Global,
+    trees: &[Tree],
+    store: &RowStore,
+    txs: &TxTable,
+    trail: &mut Trail,
+) -> Result<Answer, Refusal>
+    requires few { length trees.now ≤ 4 }
+    requires can { All (λ t. CanPrune (seen t)) trees.now }
+    requires there { All (λ t. All (λ l. l.number < store.now.leaves) (leaves (seen t))) trees.now }
+{
+    if txs.open_of(0).is_none() {
+        return Err(Refusal::NoMemory);
+    }
+    let mut snap = txs.snapshot(alloc, 0)?;
+    snap.cmd = 1;
+    let ask = ask(alloc)?;
+    let plan = make_plan(alloc, true, &ask.conditions, trees)?;
+    run_select(alloc, &ask, &[], 1, &plan, store, txs, &snap, trail)
 }
 
 fn answered(
@@ -80,30 +118,16 @@ fn answered(
     txs: &TxTable,
     trail: &mut Trail,
 ) -> Result<Answer, Refusal> {
-    let p0 = PgText::from_bytes(alloc, b"p0")?;
-    let p1 = PgText::from_bytes(alloc, b"p1")?;
-    let leaves = [
-        NamedLeaf {
-            id: LeafId { number: 0 },
-            name: &p0,
-        },
-        NamedLeaf {
-            id: LeafId { number: 1 },
-            name: &p1,
-        },
-    ];
-    if txs.open_of(0).is_none() || store.leaf_count() < 2 {
+    if store.leaf_count() < 2 {
         return Err(Refusal::NoMemory);
     }
-    let mut snap = txs.snapshot(alloc, 0)?;
-    snap.cmd = 1;
-    let ask = ask(alloc)?;
-    let from = Some(leaves.as_slice());
-    run_select(alloc, &ask, &[], 1, from, store, txs, &snap, trail)
+    let left = plain(alloc, b"l", 0)?;
+    let right = plain(alloc, b"r", 1)?;
+    answer_over(alloc, &[left, right], store, txs, trail)
 }
 
 #[test]
-fn rows_of_all_leaves_are_sorted_and_cut(rt: HostRuntime) -> Result<(), Refusal> {
+fn joined_rows_are_sorted_and_cut(rt: HostRuntime) -> Result<(), Refusal> {
     let alloc = rt.alloc();
     let mut txs = TxTable::new(alloc, 1)?;
     let mut store = RowStore::new(alloc)?;
@@ -116,19 +140,23 @@ fn rows_of_all_leaves_are_sorted_and_cut(rt: HostRuntime) -> Result<(), Refusal>
     put(alloc, &txs, &mut store, 0, Value::Int4(3))?;
     put(alloc, &txs, &mut store, 0, Value::Null)?;
     put(alloc, &txs, &mut store, 1, Value::Int4(3))?;
-    put(alloc, &txs, &mut store, 0, Value::Int4(4))?;
-    put(alloc, &txs, &mut store, 1, Value::Int4(9))?;
+    put(alloc, &txs, &mut store, 0, Value::Int4(5))?;
+    put(alloc, &txs, &mut store, 1, Value::Int4(3))?;
+    put(alloc, &txs, &mut store, 1, Value::Null)?;
     let mut trail = Trail::new(alloc)?;
     let answer = answered(alloc, &store, &txs, &mut trail)?;
     match answer.rows.as_slice() {
         [first, second] => {
-            assert!(rt; is_row(first, 5, b"p1"));
-            assert!(rt; is_row(second, 3, b"p0"));
+            assert!(rt; is_row(first, 3, b"r"));
+            assert!(rt; is_row(second, 3, b"r"));
         }
         _ => assert!(rt; false),
     }
     assert!(rt; answer.names.as_slice().len() == 2);
     assert!(rt; answer.kinds.as_slice() == [Kind::Int4, Kind::Text].as_slice());
-    assert!(rt; trail.leaves() == [LeafId { number: 0 }, LeafId { number: 1 }].as_slice());
+    // (r is read beside 3 and 5, and not beside the null)
+    let l = LeafId { number: 0 };
+    let r = LeafId { number: 1 };
+    assert!(rt; trail.leaves() == [l, r, r].as_slice());
     Ok(())
 }

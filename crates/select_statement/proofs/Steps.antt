@@ -1,5 +1,5 @@
 -- The parts of a SELECT.
-use Rattle.std.proofs.Common.{◌≡◌, ℕ, ◌+◌, ◌-◌, List, [], refl, ap, sym, subst, Option, Result, Ok, Err}
+use Rattle.std.proofs.Common.{◌≡◌, ℕ, ◌+◌, ◌-◌, List, [], refl, ap, sym, subst, Result, Ok, Err}
 use Rattle.pg_values.specs.Refusals.{IsAnswer}
 use Rattle.pg_values.specs.declared.answer.Answer.{Answer}
 use Rattle.pg_values.specs.declared.fault.Fault.{Fault}
@@ -10,10 +10,10 @@ use Rattle.pg_ids.specs.declared.ids.LeafId.{LeafId}
 use Rattle.history.specs.History.{History}
 use Rattle.history.specs.Snapshots.{TakenSnapshot}
 use Rattle.tx_table.specs.Kept.{KeptSnapshot}
-use Rattle.pruned_trees.specs.Kept.{Leaf}
 use Rattle.pruned_trees.specs.Laws.{shown}
 use Rattle.expression_binder.specs.Firsts.{IsAnswerBy}
 use Rattle.statement_asks.specs.Asked.{SelectMeant}
+use Rattle.plan_tree.specs.Plans.{Planned}
 use Rattle.select_answer.specs.Answer.{AreLent, answer_of, select_course}
 use Rattle.stores.specs.Events.{look_of}
 use Rattle.stores.specs.Stand.{Stands}
@@ -42,24 +42,24 @@ outcome_refused view NoMemory stores caller wanted may e = no_memory view stores
 -- ---- the answer
 
 -- what a run of the select gives, at each history for which the stores and the snapshot stand
-abbrev pub Answers : Result Answer Refusal → Stores → Caller → SelectMeant → Option (List Leaf) → KeptSnapshot → Type 0
-Answers r stores caller m tree snap = (h : History) (s : TakenSnapshot) → AreLent stores.txs stores.rows snap h s → IsAnswer r (answer_of m (select_course (caller.sessions - 1) [] m (shown h s) tree []))
+abbrev pub Answers : Result Answer Refusal → Stores → Caller → SelectMeant → Planned → KeptSnapshot → Type 0
+Answers r stores caller m plan snap = (h : History) (s : TakenSnapshot) → AreLent stores.txs stores.rows snap h s → IsAnswer r (answer_of m (select_course (caller.sessions - 1) [] m (shown h s) plan []))
 
 -- a run for so many sessions, without arguments, that has read nothing before
-pub told_for : (r : Result Answer Refusal) (stores : Stores) (caller : Caller) (m : SelectMeant) (tree : Option (List Leaf)) (snap : KeptSnapshot) (n : ℕ) (args : List Value) (before : List LeafId)
-    → n ≡ caller.sessions - 1 → args ≡ [] → before ≡ [] → ((h : History) (s : TakenSnapshot) → AreLent stores.txs stores.rows snap h s → IsAnswer r (answer_of m (select_course n args m (shown h s) tree before)))
-    → Answers r stores caller m tree snap
-told_for r stores caller m tree snap n args before count none fresh answers h s are =
-    let counted = subst (λ k. IsAnswer r (answer_of m (select_course k args m (shown h s) tree before))) count (answers h s are) in
-    let bare = subst (λ xs. IsAnswer r (answer_of m (select_course (caller.sessions - 1) xs m (shown h s) tree before))) none counted in
-    subst (λ ls. IsAnswer r (answer_of m (select_course (caller.sessions - 1) [] m (shown h s) tree ls))) fresh bare
+pub told_for : (r : Result Answer Refusal) (stores : Stores) (caller : Caller) (m : SelectMeant) (plan : Planned) (snap : KeptSnapshot) (n : ℕ) (args : List Value) (before : List LeafId)
+    → n ≡ caller.sessions - 1 → args ≡ [] → before ≡ [] → ((h : History) (s : TakenSnapshot) → AreLent stores.txs stores.rows snap h s → IsAnswer r (answer_of m (select_course n args m (shown h s) plan before)))
+    → Answers r stores caller m plan snap
+told_for r stores caller m plan snap n args before count none fresh answers h s are =
+    let counted = subst (λ k. IsAnswer r (answer_of m (select_course k args m (shown h s) plan before))) count (answers h s are) in
+    let bare = subst (λ xs. IsAnswer r (answer_of m (select_course (caller.sessions - 1) xs m (shown h s) plan before))) none counted in
+    subst (λ ls. IsAnswer r (answer_of m (select_course (caller.sessions - 1) [] m (shown h s) plan ls))) fresh bare
 
 lent : (stores : Stores) (caller : Caller) (snap : KeptSnapshot) (h : History) → IsLookFor stores caller snap → Stands stores h → AreLent stores.txs stores.rows snap h (look_of h caller.session caller.cmd)
 lent stores caller snap h look stands = record { table = stands.all.txs; rows = stands.all.rows; past = look.past h stands.all.txs; snapshot = look.stands h stands.all.txs }
 
-pub answer_done : (a : Answer) (stores : Stores) (caller : Caller) (m : SelectMeant) (tree : Option (List Leaf)) (snap : KeptSnapshot) → MayAttempt stores caller → IsLookFor stores caller snap → Answers (Ok a) stores caller m tree snap
-    → IsStep (λ (x : Answer). x) (Ok a) stores stores caller (caller.cmd + 1) (answered caller m tree)
-answer_done a stores caller m tree snap may look answers = record {
+pub answer_done : (a : Answer) (stores : Stores) (caller : Caller) (m : SelectMeant) (plan : Planned) (snap : KeptSnapshot) → MayAttempt stores caller → IsLookFor stores caller snap → Answers (Ok a) stores caller m plan snap
+    → IsStep (λ (x : Answer). x) (Ok a) stores stores caller (caller.cmd + 1) (answered caller m plan)
+answer_done a stores caller m plan snap may look answers = record {
   is = λ h stands at.
       subst (IsTold (λ (x : Answer). x) (Ok a) stores caller (caller.cmd + 1) h) (sym (ap outcome (answers h (look_of h caller.session caller.cmd) (lent stores caller snap h look stands))))
       (refl, still_on stores h caller.session (caller.cmd + 1) stands (one_later h caller.session caller.cmd at));
@@ -67,11 +67,11 @@ answer_done a stores caller m tree snap may look answers = record {
   waits = may.idle;
 }
 
-pub answer_refused : (r : Refusal) (stores : Stores) (caller : Caller) (m : SelectMeant) (tree : Option (List Leaf)) (snap : KeptSnapshot) → MayAttempt stores caller → IsLookFor stores caller snap → Answers (Err r) stores caller m tree snap
-    → IsStep (λ (x : Answer). x) (Err (stop_of r)) stores stores caller (caller.cmd + 1) (answered caller m tree)
-answer_refused (Sql f) stores caller m tree snap may look answers =
-    refused_here (λ (x : Answer). x) f stores caller (caller.cmd + 1) (answered caller m tree) may (λ h stands. ap outcome (answers h (look_of h caller.session caller.cmd) (lent stores caller snap h look stands)))
-answer_refused NoMemory stores caller m tree snap may look answers = no_memory (λ (x : Answer). x) stores stores caller (caller.cmd + 1) (answered caller m tree) (stays stores caller.session)
+pub answer_refused : (r : Refusal) (stores : Stores) (caller : Caller) (m : SelectMeant) (plan : Planned) (snap : KeptSnapshot) → MayAttempt stores caller → IsLookFor stores caller snap → Answers (Err r) stores caller m plan snap
+    → IsStep (λ (x : Answer). x) (Err (stop_of r)) stores stores caller (caller.cmd + 1) (answered caller m plan)
+answer_refused (Sql f) stores caller m plan snap may look answers =
+    refused_here (λ (x : Answer). x) f stores caller (caller.cmd + 1) (answered caller m plan) may (λ h stands. ap outcome (answers h (look_of h caller.session caller.cmd) (lent stores caller snap h look stands)))
+answer_refused NoMemory stores caller m plan snap may look answers = no_memory (λ (x : Answer). x) stores stores caller (caller.cmd + 1) (answered caller m plan) (stays stores caller.session)
 
 -- ---- what is the same at each history
 

@@ -1,10 +1,14 @@
 -- The parts of a SELECT, one after another.
-use Rattle.std.proofs.Common.{◌≡◌, ℕ, ◌+◌, ◌<◌, ◌≤◌, Bool, true, false, arith, List, [], ◌∷◌, ap, sym, subst, Result, Ok, Err, IfOk, All, map, length, get_or, codes}
+use Rattle.std.proofs.Common.{◌≡◌, ℕ, ◌+◌, ◌<◌, ◌≤◌, Bool, true, false, if◌then◌else◌, arith, List, [], ◌∷◌, ◌++◌, refl, ap, sym, subst, ◌∙◌, append_assoc, drop, Result, Ok, Err, IfOk, All, map, length}
+use Rattle.std.specs.Prelude.{nat_le}
+use Rattle.std.specs.List.{flat_map, slice_index_or}
+use Rattle.std.proofs.lemmas.Bool.Decides.{nat_tests}
+use Rattle.std.proofs.lemmas.List.{length-map, map-append, drop_more}
+use Rattle.std.proofs.lemmas.List.Elements.{All-nil, All-cons, All-head, All-tail, All-append}
 use Rattle.pg_values.specs.declared.answer.Answer.{Answer}
 use Rattle.pg_values.specs.declared.fault.Fault.{Fault}
-use Rattle.pg_values.specs.declared.text.NoMemory.{NoMemory}
-use Rattle.pg_ids.specs.declared.ids.LeafId.{LeafId}
 use Rattle.pg_ids.specs.declared.ids.TableNo.{TableNo}
+use Rattle.pg_ids.specs.declared.which.Which.TheVariants.{TablesInFrom}
 use Rattle.history.specs.Transactions.{IsPast}
 use Rattle.history.specs.Snapshots.{TakenSnapshot}
 use Rattle.history.specs.History.{History, tx_events}
@@ -12,13 +16,21 @@ use Rattle.tx_table.specs.Kept.{KeptSnapshot}
 use Rattle.tx_table.specs.Stands.{SnapshotStands}
 use Rattle.table_trees.specs.Trees.{TableTree}
 use Rattle.table_trees.specs.Histories.{tree_of}
-use Rattle.pruned_trees.specs.Kept.{Leaf, kept_leaves, kept_tables}
+use Rattle.cond_logic.specs.Trees.{CondTree}
+use Rattle.pruned_trees.specs.Kept.{kept_tables}
 use Rattle.pruned_trees.specs.Laws.{TreesCanBePruned}
 use Rattle.statement_asks.specs.Asked.{SelectMeant}
+use Rattle.pruned_trees.specs.Prunable.{CanPrune}
 use Rattle.soundness.proofs.Presence.{all_more}
-use Rattle.sql_queries.specs.Trees.{Joined, SelectTree}
-use Rattle.sql_binder.specs.Selects.{from_of}
-use Rattle.expression_binder.specs.Faults.{left_out}
+use Rattle.sql_queries.specs.Trees.{Joined, SelectTree, selected as selects}
+use Rattle.expression_binder.specs.Firsts.{or_first, unless}
+use Rattle.expression_binder.specs.Scopes.{Item}
+use Rattle.sql_binder.specs.From.{item_name, twice_faults}
+use Rattle.sql_binder.specs.Selects.{from_of, name_faults, constant_faults, meaning}
+use Rattle.sql_binder.specs.States.{too_many}
+use Rattle.plan_tree.specs.Conjuncts.{pool, asked_at, asked_later}
+use Rattle.plan_tree.specs.Plans.{PlannedItem, Planned, keeps_first, items_from, plan_for, is_empty, plan_tables, CanRead}
+use Rattle.select_answer.proofs.Kept.{plan_read as read_by}
 use Rattle.stores.specs.Events.{look_of}
 use Rattle.stores.specs.Laws.{LeavesAreHoused}
 use Rattle.stores.specs.Stand.{AllStand, Stands, IsSound}
@@ -29,17 +41,17 @@ use Rattle.course.specs.Database.{statement_cancelled}
 use Rattle.course.specs.declared.caller.Caller.{Caller}
 use Rattle.course.specs.declared.stop.Stop.{Stop}
 use Rattle.course.specs.declared.stop.Stop.TheVariants as stop
-use Rattle.statement_steps.specs.Faults.{stop_by}
 use Rattle.statement_steps.specs.Known.{IsKnownTo}
-use Rattle.statement_steps.specs.Steps.{IsStep}
-use Rattle.statement_steps.proofs.Parts.{stays, refused_here, no_memory}
-use Rattle.select_statement.specs.Lent.{AreThere, MayLock, IsTreeFor, IsLookFor}
-use Rattle.select_statement.specs.Selected.{keeps_for, read_under, uncancelled, of_kept, of_tree, of_table, of_items, selected}
-use Rattle.select_statement.proofs.Kept.{tables_kept, leaves_kept}
+use Rattle.statement_steps.specs.Steps.{IsStep, follow}
+use Rattle.statement_steps.proofs.Parts.{refused_here}
+use Rattle.select_statement.specs.Below.{number_of}
+use Rattle.select_statement.specs.Lent.{HasLeaves, MayLock, IsTreeFor, IsLookFor}
+use Rattle.select_statement.specs.Selected.{outcome, meant, uncancelled, of_trees, trees_for, of_tables, begins, of_named, of_items, selected}
+use Rattle.select_statement.proofs.Kept.{tables_kept}
 use Rattle.select_statement.proofs.Known.{tree_for}
 use Rattle.select_statement.proofs.Steps.{same_step}
 
--- ---- the tables under the named one
+-- ---- the tables under the named ones
 
 abbrev IsLow : TableNo → Type 0
 IsLow t = t.number < 4096
@@ -53,22 +65,45 @@ IsKnownHere stores caller t = IsKnownTo stores caller.session t.number
 pub all_known : (stores : Stores) (caller : Caller) (tables : List TableNo) → All (MayLock stores caller) tables → All (λ t. IsKnownTo stores caller.session t.number) tables
 all_known stores caller tables all = all_more (MayLock stores caller) (IsKnownHere stores caller) tables (λ t may. may.1) all
 
--- what is kept of a tree
+-- ---- what a plan reads and locks
 
-pub locks_kept : (stores : Stores) (caller : Caller) (prunes : Bool) (m : SelectMeant) (tables : List TableNo) (tree : TableTree) → tables ≡ kept_tables (keeps_for prunes m) tree → IsTreeFor stores caller tree → All (MayLock stores caller) tables
-locks_kept stores caller prunes m tables tree are its = subst (All (MayLock stores caller)) (sym are) (tables_kept (MayLock stores caller) (keeps_for prunes m) tree its.locks)
+-- the trees of a statement
+abbrev AreTreesFor : Stores → Caller → List TableTree → Type 0
+AreTreesFor stores caller [] = Unit {0}
+AreTreesFor stores caller (t ∷ ts) = IsTreeFor stores caller t × AreTreesFor stores caller ts
 
-pub there_kept : (stores : Stores) (caller : Caller) (prunes : Bool) (m : SelectMeant) (ls : List Leaf) (tree : TableTree) → ls ≡ kept_leaves (keeps_for prunes m) tree → IsTreeFor stores caller tree → AreThere stores ls
-there_kept stores caller prunes m ls tree are its = subst (AreThere stores) (sym are) (leaves_kept (λ (l : LeafId). l.number < stores.rows.leaves) (keeps_for prunes m) tree its.leaves)
+trees_for_all : {X : Type 0} (stores : Stores) (caller : Caller) (f : X → TableTree) (xs : List X) → All (λ x. IsTreeFor stores caller (f x)) xs → AreTreesFor stores caller (map f xs)
+trees_for_all stores caller f [] all = tt
+trees_for_all stores caller f (x ∷ xs) all = (All-head (λ x. IsTreeFor stores caller (f x)) x xs all, trees_for_all stores caller f xs (All-tail (λ x. IsTreeFor stores caller (f x)) x xs all))
 
-pub kept_step : (prunes : Bool) (names : List (List ℕ)) (caller : Caller) (m : SelectMeant) (tables : List TableNo) (ls : List Leaf) (tree : TableTree) (r : Result Answer Stop) (old new : Stores)
-    → tables ≡ kept_tables (keeps_for prunes m) tree → ls ≡ kept_leaves (keeps_for prunes m) tree
-    → IsStep (λ (a : Answer). a) r old new caller (caller.cmd + 1) (read_under names caller m tables ls) → IsStep (λ (a : Answer). a) r old new caller (caller.cmd + 1) (of_kept prunes names caller m tree)
-kept_step prunes names caller m tables ls tree r old new are those step =
-    subst (λ xs. IsStep (λ (a : Answer). a) r old new caller (caller.cmd + 1) (read_under names caller m (kept_tables (keeps_for prunes m) tree) xs)) those
-    (subst (λ ts. IsStep (λ (a : Answer). a) r old new caller (caller.cmd + 1) (read_under names caller m ts ls)) are step)
+pub can_prune_all : {X : Type 0} (stores : Stores) (caller : Caller) (f : X → TableTree) (xs : List X) → All (λ x. IsTreeFor stores caller (f x)) xs → All (λ x. CanPrune (f x)) xs
+can_prune_all stores caller f xs all = all_more (λ x. IsTreeFor stores caller (f x)) (λ x. CanPrune (f x)) xs (λ x its. its.prunable) all
 
--- ---- the tree of the named table
+items_locked : (stores : Stores) (caller : Caller) (prunes : Bool) (n : ℕ) (cs : List CondTree) (trees : List TableTree) → AreTreesFor stores caller trees → All (MayLock stores caller) (flat_map (λ i. i.tables) (items_from prunes n cs trees))
+items_locked stores caller prunes n cs [] its = All-nil (MayLock stores caller)
+items_locked stores caller prunes n cs (t ∷ ts) its =
+    All-append (MayLock stores caller) (kept_tables (keeps_first prunes n (asked_at n cs)) t) (flat_map (λ i. i.tables) (items_from prunes (n + 1) (asked_later n cs) ts))
+    (tables_kept (MayLock stores caller) (keeps_first prunes n (asked_at n cs)) t its.0.locks) (items_locked stores caller prunes (n + 1) (asked_later n cs) ts its.1)
+
+none_or : (stores : Stores) (caller : Caller) (b : Bool) (tables : List TableNo) → All (MayLock stores caller) tables → All (MayLock stores caller) (if b then [] else tables)
+none_or stores caller true tables all = All-nil (MayLock stores caller)
+none_or stores caller false tables all = all
+
+module _ {X : Type 0} (stores : Stores) (caller : Caller) (prunes : Bool) (conditions : List CondTree) (f : X → TableTree) (xs : List X) (its : All (λ x. IsTreeFor stores caller (f x)) xs) where
+  pub plan_read : (plan : Planned) → plan ≡ plan_for prunes conditions (map f xs) → All (CanRead stores.rows.leaves) plan.items
+  plan_read plan is =
+      read_by f stores.rows.leaves prunes conditions xs plan (can_prune_all stores caller f xs its) (all_more (λ x. IsTreeFor stores caller (f x)) (λ x. HasLeaves stores (f x)) xs (λ x t. t.leaves) its) is
+
+  pub plan_locked : (plan : Planned) → plan ≡ plan_for prunes conditions (map f xs) → All (MayLock stores caller) (plan_tables plan)
+  plan_locked plan is =
+      subst (λ p. All (MayLock stores caller) (plan_tables p)) (sym is)
+      (none_or stores caller (is_empty (plan_for prunes conditions (map f xs))) (flat_map (λ i. i.tables) (items_from prunes 0 (pool conditions) (map f xs))) (items_locked stores caller prunes 0 (pool conditions) (map f xs) (trees_for_all stores caller f xs its)))
+
+-- locks leave it as it was
+pub reads_stay : (old new : Stores) (items : List PlannedItem) → new ≡ record old { locks = new.locks } → All (CanRead old.rows.leaves) items → All (CanRead new.rows.leaves) items
+reads_stay old new items rest all = subst (λ (x : Stores). All (CanRead x.rows.leaves) items) (sym rest) all
+
+-- ---- the trees of the named tables
 
 pub is_sound : (stores : Stores) (caller : Caller) → MayAttempt stores caller → IsSound stores
 is_sound stores caller may = record { h = may.sound.0; stands = may.sound.1 }
@@ -87,33 +122,76 @@ read_for housed prunable stores caller n tree may few known is =
     let stands = may.sound.1 in
     subst (IsTreeFor stores caller) (sym (is h stands)) (tree_for housed prunable stores caller h n (look_of h caller.session caller.cmd) stands few known)
 
-pub table_step : (prunes : Bool) (names : List (List ℕ)) (caller : Caller) (t : SelectTree) (item : List ℕ) (n : ℕ) (tree : TableTree) (r : Result Answer Stop) (old new : Stores) → IsTreeOf old caller n tree
-    → IsStep (λ (a : Answer). a) r old new caller (caller.cmd + 1) (of_tree prunes names caller t item tree) → IsStep (λ (a : Answer). a) r old new caller (caller.cmd + 1) (of_table prunes names caller t item n)
-table_step prunes names caller t item n tree r old new is step =
-    same_step (λ (a : Answer). a) r old new caller (caller.cmd + 1) (of_table prunes names caller t item n) (of_tree prunes names caller t item tree) (λ h stands. ap (λ x. of_tree prunes names caller t item x h) (sym (is h stands))) step
+-- one tree more
+pub one_tree : {X : Type 0} (f : X → TableTree) (caller : Caller) (tables : List TableNo) (i : ℕ) (d : TableNo) (before now : List X) (x : X) (h : History) (all : List TableTree) → i < length tables → now ≡ before ++ x ∷ []
+    → f x ≡ tree_of h caller.session (slice_index_or tables i d).number (look_of h caller.session caller.cmd) → map f before ++ trees_for caller (map number_of (drop i tables)) h ≡ all → map f now ++ trees_for caller (map number_of (drop (i + 1) tables)) h ≡ all
+one_tree f caller tables i d before now x h all less more is told =
+    let rest = trees_for caller (map number_of (drop (i + 1) tables)) h in
+    ap (λ xs. map f xs ++ rest) more ∙ ap (λ l. l ++ rest) (map-append f before (x ∷ [])) ∙ append_assoc (map f before) (f x ∷ []) rest
+    ∙ ap (λ y. map f before ++ (y ∷ rest)) is ∙ ap (λ ts. map f before ++ trees_for caller (map number_of ts) h) (sym (drop_more tables i d less)) ∙ told
+
+-- there are as many as tables
+pub as_many : {X : Type 0} (stores : Stores) (caller : Caller) (f : X → TableTree) (xs : List X) (tables : List TableNo) → MayAttempt stores caller → ((h : History) → Stands stores h → map f xs ≡ trees_for caller (map number_of tables) h) → length xs ≡ length tables
+as_many stores caller f xs tables may are =
+    let h = may.sound.0 in
+    let same = ap length (are h may.sound.1) in
+    let n = length-map xs f in
+    let k = length-map (map number_of tables) (λ (t : ℕ). tree_of h caller.session t (look_of h caller.session caller.cmd)) in
+    let m = length-map tables number_of in
+    omega (arith, same, n, k, m)
+
+-- of the tables that are read
+pub tables_step : (prunes : Bool) (names : List (List ℕ)) (caller : Caller) (t : SelectTree) (ns : List ℕ) (trees : List TableTree) (r : Result Answer Stop) (old new : Stores) → ((h : History) → Stands old h → trees ≡ trees_for caller ns h)
+    → IsStep (λ (a : Answer). a) r old new caller (caller.cmd + 1) (of_trees prunes names caller t trees) → IsStep (λ (a : Answer). a) r old new caller (caller.cmd + 1) (of_tables prunes names caller t ns)
+tables_step prunes names caller t ns trees r old new are step =
+    same_step (λ (a : Answer). a) r old new caller (caller.cmd + 1) (of_tables prunes names caller t ns) (of_trees prunes names caller t trees) (λ h stands. ap (λ x. of_trees prunes names caller t x h) (sym (are h stands))) step
 
 -- ---- by how many items stand in FROM
 
-pub only_one : {X : Type 0} (xs : List X) (x : X) → length xs ≡ 1 → x ≡ get_or xs 0 x → xs ≡ x ∷ []
-only_one [] x one is = absurd (omega (arith, one))
-only_one (y ∷ []) x one is = ap (λ z. z ∷ []) (sym is)
-only_one (y ∷ (z ∷ zs)) x one is = absurd (omega (arith, one))
+-- the binder refuses too many, whatever they stand for
+pub too_many_meant : (caller : Caller) (t : SelectTree) (items : List Item) → 4 < length (from_of t) → meant caller t items ≡ meant caller t []
+too_many_meant caller (selects ls from cond keys limit offset) items many = by (nat_le (length from) 4) (grind (arith, nat_tests, many))
+  where
+    -- what is told, by whether there are few enough
+    told : Bool → List Item → History → Made SelectMeant
+    told b items h =
+        outcome (or_first ((unless b (too_many TablesInFrom) ++ twice_faults [] (map item_name from))
+        ++ (name_faults items [] caller.session (selects ls from cond keys limit offset) ++ constant_faults items [] caller.session (selects ls from cond keys limit offset)))
+        (meaning items [] caller.session (selects ls from cond keys limit offset)))
+
+    by : (b : Bool) → b ≡ false → told b items ≡ told b []
+    by true e = absurd (cc)
+    by false e = refl
+
+pub too_many_told : (caller : Caller) (t : SelectTree) (items : List Item) (h : History) → 4 < length (from_of t) → (meant caller t items h).told ≡ Err (Refused (too_many TablesInFrom))
+too_many_told caller (selects ls from cond keys limit offset) items h many = by (nat_le (length from) 4) (grind (arith, nat_tests, many))
+  where
+    by : (b : Bool) → b ≡ false
+        → (outcome (or_first ((unless b (too_many TablesInFrom) ++ twice_faults [] (map item_name from))
+        ++ (name_faults items [] caller.session (selects ls from cond keys limit offset) ++ constant_faults items [] caller.session (selects ls from cond keys limit offset)))
+        (meaning items [] caller.session (selects ls from cond keys limit offset)))).told ≡ Err (Refused (too_many TablesInFrom))
+    by true e = absurd (cc)
+    by false e = refl
+
+-- so of too many nothing is meant
+pub none_meant : {X : Type 0} (view : X → SelectMeant) (r : Result X Stop) (stores : Stores) (caller : Caller) (t : SelectTree) (items : List Item) (P : X → Type 0) → 4 < length (from_of t) → MayAttempt stores caller
+    → IsStep view r stores stores caller caller.cmd (meant caller t items) → IfOk r P
+none_meant view (Ok x) stores caller t items P many may step =
+    let h = may.sound.0 in
+    let told = (step.is h may.sound.1 may.sound.2).0 in
+    let refused = too_many_told caller t items h many in
+    let both : Err (Refused (too_many TablesInFrom)) ≡ Ok (view x) = sym refused ∙ told in
+    absurd (cc)
+none_meant view (Err e) stores caller t items P many may step = tt
 
 pub with_items : (prunes : Bool) (names : List (List ℕ)) (caller : Caller) (t : SelectTree) (from : List Joined) (r : Result Answer Stop) (old new : Stores) → from_of t ≡ from
     → IsStep (λ (a : Answer). a) r old new caller (caller.cmd + 1) (of_items prunes names caller t from) → IsStep (λ (a : Answer). a) r old new caller (caller.cmd + 1) (selected prunes names caller t)
 with_items prunes names caller t from r old new is step = subst (λ js. IsStep (λ (a : Answer). a) r old new caller (caller.cmd + 1) (of_items prunes names caller t js)) (sym is) step
 
-several_by : (prunes : Bool) (names : List (List ℕ)) (caller : Caller) (t : SelectTree) (j k : Joined) (js : List Joined) (r : Result Fault NoMemory) (stores : Stores) → IfOk r (λ f. f ≡ left_out (codes "SELECT")) → MayAttempt stores caller
-    → IsStep (λ (a : Answer). a) (Err (stop_by r)) stores stores caller (caller.cmd + 1) (of_items prunes names caller t (j ∷ (k ∷ js)))
-several_by prunes names caller t j k js (Ok f) stores is may = refused_here (λ (a : Answer). a) f stores caller (caller.cmd + 1) (of_items prunes names caller t (j ∷ (k ∷ js))) may (λ h stands. ap (λ x. halted [] (Refused x)) (sym is))
-several_by prunes names caller t j k js (Err e) stores is may = no_memory (λ (a : Answer). a) stores stores caller (caller.cmd + 1) (of_items prunes names caller t (j ∷ (k ∷ js))) (stays stores caller.session)
-
--- at least two
-pub several : (prunes : Bool) (names : List (List ℕ)) (caller : Caller) (t : SelectTree) (from : List Joined) (r : Result Fault NoMemory) (stores : Stores) → from_of t ≡ from → 2 ≤ length from → IfOk r (λ f. f ≡ left_out (codes "SELECT")) → MayAttempt stores caller
-    → IsStep (λ (a : Answer). a) (Err (stop_by r)) stores stores caller (caller.cmd + 1) (selected prunes names caller t)
-several prunes names caller t [] r stores is two fault may = absurd (omega (arith, two))
-several prunes names caller t (j ∷ []) r stores is two fault may = absurd (omega (arith, two))
-several prunes names caller t (j ∷ (k ∷ js)) r stores is two fault may = with_items prunes names caller t (j ∷ (k ∷ js)) (Err (stop_by r)) stores stores is (several_by prunes names caller t j k js r stores fault may)
+pub with_some : (prunes : Bool) (names : List (List ℕ)) (caller : Caller) (t : SelectTree) (from : List Joined) (r : Result Answer Stop) (old new : Stores) → from_of t ≡ from → (from ≡ [] → ⊥)
+    → IsStep (λ (a : Answer). a) r old new caller (caller.cmd + 1) (follow (begins caller) (λ u. of_named prunes names caller t)) → IsStep (λ (a : Answer). a) r old new caller (caller.cmd + 1) (selected prunes names caller t)
+with_some prunes names caller t [] r old new is some step = absurd (some refl)
+with_some prunes names caller t (j ∷ js) r old new is some step = with_items prunes names caller t (j ∷ js) r old new is step
 
 -- ---- a SELECT that cancels itself
 

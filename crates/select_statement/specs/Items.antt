@@ -1,10 +1,12 @@
--- What the names of a statement stand for, where one table stands in FROM (the manual, 7.2.1 The FROM Clause).
-use Rattle.std.specs.Prelude.{ℕ, List, map}
+-- What the names of a statement stand for (the manual, 7.2.1 The FROM Clause).
+use Rattle.std.specs.Prelude.{ℕ, ◌+◌, List, [], ◌∷◌, map}
 use Rattle.history.specs.declared.catalogue.Column.{Column}
 use Rattle.table_trees.specs.declared.node.Node.{Node}
 use Rattle.table_trees.specs.Trees.{TableTree, LeafTable, LevelTable}
 use Rattle.expression_binder.specs.declared.scope.ScopeColumn.{ScopeColumn}
 use Rattle.expression_binder.specs.Scopes.{Item}
+use Rattle.sql_queries.specs.Trees.{Joined}
+use Rattle.sql_binder.specs.From.{item_name}
 
 abbrev pub column_named : Column → ScopeColumn
 column_named c = record { name = c.name; kind = c.kind }
@@ -14,6 +16,12 @@ abbrev pub node_of : TableTree → Node
 node_of (LeafTable node leaf) = node
 node_of (LevelTable node level bounds kids) = node
 
--- the first item, under the name that it goes by
-abbrev pub item_of : (name : List ℕ) → TableTree → Item
-item_of name tree = record { name = name; number = 0; columns = map column_named (node_of tree).columns }
+-- the item of that number, under the name that it goes by
+abbrev pub item_of : (number : ℕ) → (name : List ℕ) → TableTree → Item
+item_of n name tree = record { name = name; number = n; columns = map column_named (node_of tree).columns }
+
+-- the items of FROM over the trees of their tables, in text order
+abbrev pub items_of : (number : ℕ) → List Joined → List TableTree → List Item
+items_of n [] trees = []
+items_of n (j ∷ js) [] = []
+items_of n (j ∷ js) (tree ∷ trees) = item_of n (item_name j) tree ∷ items_of (n + 1) js trees

@@ -1,4 +1,4 @@
-ghost use Rattle.std.specs.Prelude.{◌≡◌, ◌∷◌, [], IfOk, map};
+ghost use Rattle.std.specs.Prelude.{◌≡◌, ◌≤◌, IfOk, length, map};
 ghost use Rattle.sql_queries.specs.Trees.{joined_tree};
 ghost use Rattle.sql_binder.specs.From as from;
 ghost use Rattle.table_trees.specs.Seen.{seen};
@@ -43,17 +43,29 @@ fn node_of(tree: &Tree) -> &Node
     &tree.node
 }
 
-/// What the names of a statement stand for: the table of the tree, under the name that it goes by.
-pub(crate) fn only_item(
-    alloc: Global,
-    item: &FromItem,
-    tree: &Tree,
-) -> Result<Vec<ScopeItem>, NoMemory>
-    ensures { IfOk result (λ only. only.items ≡ items.item_of (from.item_name (joined_tree item.now)) (seen tree.now) ∷ []) }
+fn item_of(alloc: Global, number: u32, item: &FromItem, tree: &Tree) -> Result<ScopeItem, NoMemory>
+    ensures { IfOk result (λ i. i ≡ items.item_of number (from.item_name (joined_tree item.now)) (seen tree.now)) }
 {
     let name = PgText::from_bytes(alloc, item_name(item))?;
     let columns = columns_of(alloc, node_of(tree).columns.as_slice())?;
-    let mut only = Vec::new(alloc);
-    only.push(ScopeItem::new(name, 0, columns))?;
-    Ok(only)
+    Ok(ScopeItem::new(name, number, columns))
+}
+
+/// What the names of a statement stand for: the tables of the trees, under the names that they go by.
+pub(crate) fn items_of(
+    alloc: Global,
+    from_items: &[FromItem],
+    trees: &[Tree],
+) -> Result<Vec<ScopeItem>, NoMemory>
+    requires few { length trees.now ≤ 4 }
+    requires each { length from_items.now ≡ length trees.now }
+    ensures { IfOk result (λ found. found.items ≡ items.items_of 0 (map joined_tree from_items.now) (map seen trees.now)) }
+{
+    let mut found = Vec::new(alloc);
+    let mut number: u32 = 0;
+    for (place, item) in from_items.iter().enumerate() {
+        found.push(item_of(alloc, number, item, &trees[place])?)?;
+        number += 1;
+    }
+    Ok(found)
 }

@@ -1,13 +1,9 @@
-ghost use Rattle.std.specs.Prelude.{◌≡◌, ◌+◌, ◌<◌, [], All, IfOk};
-ghost use Rattle.table_trees.specs.Seen.{seen};
-ghost use Rattle.pruned_trees.specs.Kept.{kept_leaves, kept_tables};
-ghost use Rattle.pruned_trees.specs.Prunable.{CanPrune};
+ghost use Rattle.std.specs.Prelude.{◌≡◌, ◌+◌, [], All};
 ghost use Rattle.sql_queries.specs.Trees.{select_tree};
 ghost use Rattle.statement_asks.specs.Asked.{select_meant};
-ghost use Rattle.select_answer.specs.Answer.{leaves_in, ids_in};
+ghost use Rattle.plan_tree.specs.Plans.{CanRead, planned};
 ghost use Rattle.course.specs.Attempts.{MayAttempt};
 ghost use Rattle.statement_steps.specs.Steps.{IsStep};
-ghost use Rattle.statement_steps.specs.Faults as faults;
 ghost use Rattle.select_statement.specs.Halts as halts;
 ghost use Rattle.select_statement.specs.Lent.{IsLookFor, MayLock};
 ghost use Rattle.select_statement.specs.Selected as selected;
@@ -15,8 +11,8 @@ ghost use Rattle.select_statement.specs.Selected as selected;
 use course::{Caller, Stop};
 use expression_binder::ScopeItem;
 use pg_ids::{LockMode, TableNo};
-use pg_values::{Answer, Fault, NoMemory, Refusal};
-use pruned_trees::{KeptParts, NamedLeaf, all_hold, prune_tree};
+use pg_values::{Answer, NoMemory, Refusal};
+use plan_tree::Plan;
 use row_store::Trail;
 use select_answer::run_select;
 use sql_binder::bind_select;
@@ -25,18 +21,7 @@ use statement_asks::SelectAsk;
 use statement_steps::{SessionNames, lock_tables};
 use std::alloc::Global;
 use stores::Stores;
-use table_trees::Tree;
 use tx_table::Snapshot;
-
-/// Why a statement stops that is refused with a fault, or with none for want of memory.
-pub(crate) fn stop_by(fault: Result<Fault, NoMemory>) -> Stop
-    ensures { result ≡ faults.stop_by fault }
-{
-    match fault {
-        Ok(fault) => Stop::Refused(fault),
-        Err(NoMemory) => Stop::NoMemory,
-    }
-}
 
 fn stop_of(refusal: Refusal) -> Stop
     ensures { result ≡ halts.stop_of refusal }
@@ -64,21 +49,6 @@ pub(crate) fn bind(
     }
 }
 
-/// What the conditions keep of the tree.
-pub(crate) fn prune<'t>(
-    alloc: Global,
-    prunes: bool,
-    ask: &SelectAsk,
-    tree: &'t Tree,
-) -> Result<KeptParts<'t>, NoMemory>
-    requires { CanPrune (seen tree.now) }
-    ensures tables { IfOk result (λ k. k.tables.items ≡ kept_tables (selected.keeps_for prunes (select_meant ask.now)) (seen tree.now)) }
-    ensures leaves { IfOk result (λ k. k.leaves.items ≡ kept_leaves (selected.keeps_for prunes (select_meant ask.now)) (seen tree.now)) }
-{
-    let cond = all_hold(alloc, &ask.conditions)?;
-    prune_tree(alloc, prunes, &cond, tree)
-}
-
 /// The tables are locked, one after the other.
 pub(crate) fn lock_below(
     alloc: Global,
@@ -101,41 +71,41 @@ fn run(
     stores: &Stores,
     caller: Caller,
     ask: &SelectAsk,
-    from: Option<&[NamedLeaf<'_>]>,
+    plan: &Plan<'_>,
     snap: &Snapshot,
     trail: &mut Trail,
 ) -> Result<Answer, Stop>
     requires may { MayAttempt stores.now caller }
-    requires leaves { All (λ l. l.number < stores.now.rows.leaves) (ids_in (leaves_in from)) }
+    requires reads { All (CanRead stores.now.rows.leaves) (planned plan.now).items }
     requires look { IsLookFor stores.now caller snap.now }
     requires fresh { trail.old.leaves ≡ [] }
-    ensures { IsStep (λ a. a) result stores.now stores.now caller (caller.cmd + 1) (selected.answered caller (select_meant ask.now) (leaves_in from.entry)) }
+    ensures { IsStep (λ a. a) result stores.now stores.now caller (caller.cmd + 1) (selected.answered caller (select_meant ask.now) (planned plan.now)) }
 {
     let sessions = caller.sessions - 1;
     let rows = &stores.rows;
     let txs = &stores.txs;
-    match run_select(alloc, ask, &[], sessions, from, rows, txs, snap, trail) {
+    match run_select(alloc, ask, &[], sessions, plan, rows, txs, snap, trail) {
         Ok(answer) => Ok(answer),
         Err(refusal) => Err(stop_of(refusal)),
     }
 }
 
-/// The answer for the rows that the snapshot shows in these leaves.
+/// The answer by the plan for the rows that the snapshot shows.
 pub(crate) fn answer(
     alloc: Global,
     stores: &Stores,
     caller: Caller,
     ask: &SelectAsk,
-    from: Option<&[NamedLeaf<'_>]>,
+    plan: &Plan<'_>,
     snap: &Snapshot,
 ) -> Result<Answer, Stop>
     requires may { MayAttempt stores.now caller }
-    requires leaves { All (λ l. l.number < stores.now.rows.leaves) (ids_in (leaves_in from)) }
+    requires reads { All (CanRead stores.now.rows.leaves) (planned plan.now).items }
     requires look { IsLookFor stores.now caller snap.now }
-    ensures { IsStep (λ a. a) result stores.now stores.now caller (caller.cmd + 1) (selected.answered caller (select_meant ask.now) (leaves_in from.entry)) }
+    ensures { IsStep (λ a. a) result stores.now stores.now caller (caller.cmd + 1) (selected.answered caller (select_meant ask.now) (planned plan.now)) }
 {
     match Trail::new(alloc) {
-        Ok(mut trail) => run(alloc, stores, caller, ask, from, snap, &mut trail),
+        Ok(mut trail) => run(alloc, stores, caller, ask, plan, snap, &mut trail),
         Err(NoMemory) => Err(Stop::NoMemory),
     }
 }

@@ -1,28 +1,31 @@
-ghost use Rattle.std.specs.Prelude.{◌≡◌, ◌+◌, ◌-◌, ◌≤◌, [], ◌∷◌, All, None, length};
+ghost use Rattle.std.specs.Prelude.{◌≡◌, ◌+◌, ◌-◌, ◌≤◌, All, IfOk, length, map};
 ghost use Rattle.table_trees.specs.Seen.{seen};
-ghost use Rattle.sql_queries.specs.Trees.{joined_tree, select_tree};
-ghost use Rattle.sql_binder.specs.From.{item_name};
+ghost use Rattle.sql_queries.specs.Trees.{select_tree};
+ghost use Rattle.sql_binder.specs.Selects.{from_of};
 ghost use Rattle.statement_asks.specs.Asked.{select_meant};
+ghost use Rattle.plan_tree.specs.Plans.{CanRead, plan_for, plan_tables, planned};
 ghost use Rattle.course.specs.Attempts.{MayAttempt};
 ghost use Rattle.statement_steps.specs.Known.{IsKnownTo};
 ghost use Rattle.statement_steps.specs.Steps.{IsStep, follow};
-ghost use Rattle.select_statement.specs.Lent.{AreThere, IsTreeFor, IsLookFor, MayLock};
+ghost use Rattle.select_statement.specs.Below.{number_of};
+ghost use Rattle.select_statement.specs.Lent.{IsTreeFor, IsLookFor, MayLock};
 ghost use Rattle.select_statement.specs.Cancels.{cancels_itself};
+ghost use Rattle.select_statement.specs.Items.{items_of as scope_of};
 ghost use Rattle.select_statement.specs.Selected as selected;
 
 use crate::cancels::cancels_itself;
-use crate::items::only_item;
-use crate::parts::{answer, bind, lock_below, prune, stop_by};
+use crate::items::items_of;
+use crate::parts::{answer, bind, lock_below};
+use crate::tables::{lock_items, read_trees};
 use course::{Caller, Stop, statement_cancelled};
-use expression_binder::{ScopeItem, left_out};
-use pg_ids::{LockMode, TableNo};
+use pg_ids::TableNo;
 use pg_values::{Answer, NoMemory};
-use pruned_trees::{NamedLeaf, trees_can_be_pruned};
-use sql_queries::{FromItem, Select};
+use plan_tree::{Plan, make_plan};
+use sql_queries::Select;
 use statement_asks::SelectAsk;
-use statement_steps::{SessionNames, hold_if_repeatable, lock_named};
+use statement_steps::{SessionNames, hold_if_repeatable};
 use std::alloc::Global;
-use stores::{Stores, leaves_are_housed};
+use stores::Stores;
 use table_trees::Tree;
 use tx_table::Snapshot;
 
@@ -35,21 +38,44 @@ fn answer_unless(
     caller: Caller,
     ask: &SelectAsk,
     cancelled: bool,
+    plan: &Plan<'_>,
     snap: &Snapshot,
 ) -> Result<Answer, Stop>
     requires may { MayAttempt stores.now caller }
+    requires reads { All (CanRead stores.now.rows.leaves) (planned plan.now).items }
     requires look { IsLookFor stores.now caller snap.now }
     ensures { IsStep (λ a. a) result stores.now stores.now caller (caller.cmd + 1)
-        (selected.uncancelled cancelled (selected.answered caller (select_meant ask.now) None)) }
+        (selected.uncancelled cancelled (selected.answered caller (select_meant ask.now) (planned plan.now))) }
 {
     if cancelled {
         return Err(Stop::Refused(statement_cancelled(alloc)));
     }
-    answer(alloc, stores, caller, ask, None, snap)
+    answer(alloc, stores, caller, ask, plan, snap)
 }
 
 // The answer, unless the SELECT cancels itself.
 fn answer_bare(
+    alloc: Global,
+    stores: &Stores,
+    caller: Caller,
+    ask: &SelectAsk,
+    plan: &Plan<'_>,
+    snap: &Snapshot,
+) -> Result<Answer, Stop>
+    requires may { MayAttempt stores.now caller }
+    requires reads { All (CanRead stores.now.rows.leaves) (planned plan.now).items }
+    requires look { IsLookFor stores.now caller snap.now }
+    ensures { IsStep (λ a. a) result stores.now stores.now caller (caller.cmd + 1)
+        (selected.uncancelled (cancels_itself caller.session (caller.sessions - 1) (select_meant ask.now)) (selected.answered caller (select_meant ask.now) (planned plan.now))) }
+{
+    match cancels_itself(alloc, ask, caller.session, caller.sessions - 1) {
+        Ok(own) => answer_unless(alloc, stores, caller, ask, own, plan, snap),
+        Err(NoMemory) => Err(Stop::NoMemory),
+    }
+}
+
+// All of its conditions are asked once.
+fn plan_bare(
     alloc: Global,
     stores: &Stores,
     caller: Caller,
@@ -59,10 +85,10 @@ fn answer_bare(
     requires may { MayAttempt stores.now caller }
     requires look { IsLookFor stores.now caller snap.now }
     ensures { IsStep (λ a. a) result stores.now stores.now caller (caller.cmd + 1)
-        (selected.uncancelled (cancels_itself caller.session (caller.sessions - 1) (select_meant ask.now)) (selected.answered caller (select_meant ask.now) None)) }
+        (selected.uncancelled (cancels_itself caller.session (caller.sessions - 1) (select_meant ask.now)) (selected.answered caller (select_meant ask.now) (selected.bare_plan (select_meant ask.now)))) }
 {
-    match cancels_itself(alloc, ask, caller.session, caller.sessions - 1) {
-        Ok(own) => answer_unless(alloc, stores, caller, ask, own, snap),
+    match make_plan(alloc, false, &ask.conditions, &[]) {
+        Ok(plan) => answer_bare(alloc, stores, caller, ask, &plan, snap),
         Err(NoMemory) => Err(Stop::NoMemory),
     }
 }
@@ -79,7 +105,7 @@ fn select_bare(
     ensures { IsStep (λ a. a) result stores.now stores.now caller (caller.cmd + 1) (selected.bare caller (select_tree select.now)) }
 {
     match bind(alloc, stores, caller, select, &[]) {
-        Ok(ask) => answer_bare(alloc, stores, caller, &ask, snap),
+        Ok(ask) => plan_bare(alloc, stores, caller, &ask, snap),
         Err(stop) => Err(stop),
     }
 }
@@ -99,33 +125,55 @@ fn select_nothing(
     }
 }
 
-// ---- of one table
+// ---- of tables
 
-// The tables are locked, and the answer is made of the leaves.
-fn read_under(
+// The tables are locked, and the plan is run.
+fn lock_and_run(
     alloc: Global,
     stores: &mut Stores,
     names: &SessionNames,
     caller: Caller,
     ask: &SelectAsk,
+    plan: &Plan<'_>,
     tables: &[TableNo],
-    leaves: &[NamedLeaf<'_>],
     snap: &Snapshot,
 ) -> Result<Answer, Stop>
     requires may { MayAttempt stores.old caller }
     requires locks { All (MayLock stores.old caller) tables.now }
-    requires there { AreThere stores.old leaves.now }
+    requires reads { All (CanRead stores.old.rows.leaves) (planned plan.now).items }
     requires look { IsLookFor stores.old caller snap.now }
     ensures { IsStep (λ a. a) result stores.old stores.new caller (caller.cmd + 1)
-        (selected.read_under names.now caller (select_meant ask.now) tables.now leaves.now) }
+        (follow (selected.locked_below names.now caller tables.now) (λ u. selected.answered caller (select_meant ask.now) (planned plan.now))) }
 {
     match lock_below(alloc, stores, names, caller, tables) {
-        Ok(()) => answer(alloc, stores, caller, ask, Some(leaves), snap),
+        Ok(()) => answer(alloc, stores, caller, ask, plan, snap),
         Err(stop) => Err(stop),
     }
 }
 
-// What was bound over the tree: what its conditions keep is locked and read.
+// What the plan reads is locked.
+fn run_plan(
+    alloc: Global,
+    stores: &mut Stores,
+    names: &SessionNames,
+    caller: Caller,
+    ask: &SelectAsk,
+    plan: &Plan<'_>,
+    snap: &Snapshot,
+) -> Result<Answer, Stop>
+    requires may { MayAttempt stores.old caller }
+    requires locks { All (MayLock stores.old caller) (plan_tables (planned plan.now)) }
+    requires reads { All (CanRead stores.old.rows.leaves) (planned plan.now).items }
+    requires look { IsLookFor stores.old caller snap.now }
+    ensures { IsStep (λ a. a) result stores.old stores.new caller (caller.cmd + 1) (selected.by_plan names.now caller (select_meant ask.now) (planned plan.now)) }
+{
+    match plan.tables(alloc) {
+        Ok(tables) => lock_and_run(alloc, stores, names, caller, ask, plan, &tables, snap),
+        Err(NoMemory) => Err(Stop::NoMemory),
+    }
+}
+
+// What was bound over the trees is planned.
 fn run_over(
     alloc: Global,
     stores: &mut Stores,
@@ -133,51 +181,41 @@ fn run_over(
     caller: Caller,
     prunes: bool,
     ask: &SelectAsk,
-    tree: &Tree,
+    trees: &[Tree],
     snap: &Snapshot,
 ) -> Result<Answer, Stop>
     requires may { MayAttempt stores.old caller }
-    requires tree { IsTreeFor stores.old caller (seen tree.now) }
+    requires few { length trees.now ≤ 4 }
+    requires trees { All (λ t. IsTreeFor stores.old caller (seen t)) trees.now }
     requires look { IsLookFor stores.old caller snap.now }
     ensures { IsStep (λ a. a) result stores.old stores.new caller (caller.cmd + 1)
-        (selected.of_kept prunes names.now caller (select_meant ask.now) (seen tree.now)) }
+        (selected.by_plan names.now caller (select_meant ask.now) (plan_for prunes (select_meant ask.now).conditions (map seen trees.now))) }
 {
-    match prune(alloc, prunes, ask, tree) {
-        Ok(kept) => read_under(
-            alloc,
-            stores,
-            names,
-            caller,
-            ask,
-            &kept.tables,
-            &kept.leaves,
-            snap,
-        ),
+    match make_plan(alloc, prunes, &ask.conditions, trees) {
+        Ok(plan) => run_plan(alloc, stores, names, caller, ask, &plan, snap),
         Err(NoMemory) => Err(Stop::NoMemory),
     }
 }
 
-// The names of the statement stand for the tree's table.
+// The names of the statement stand for the tables of the trees, where these are not too many.
 fn bind_over(
     alloc: Global,
-    stores: &mut Stores,
-    names: &SessionNames,
+    stores: &Stores,
     caller: Caller,
-    prunes: bool,
     select: &Select,
-    items: &[ScopeItem],
-    tree: &Tree,
-    snap: &Snapshot,
-) -> Result<Answer, Stop>
-    requires may { MayAttempt stores.old caller }
-    requires tree { IsTreeFor stores.old caller (seen tree.now) }
-    requires look { IsLookFor stores.old caller snap.now }
-    ensures { IsStep (λ a. a) result stores.old stores.new caller (caller.cmd + 1)
-        (selected.over prunes names.now caller (select_tree select.now) items.now (seen tree.now)) }
+    trees: &[Tree],
+) -> Result<SelectAsk, Stop>
+    requires may { MayAttempt stores.now caller }
+    requires each { length trees.now ≡ length (from_of (select_tree select.now)) }
+    ensures step { IsStep select_meant result stores.now stores.now caller caller.cmd (selected.meant caller (select_tree select.now) (scope_of 0 (from_of (select_tree select.now)) (map seen trees.now))) }
+    ensures few { IfOk result (λ ask. length trees.now ≤ 4) }
 {
-    match bind(alloc, stores, caller, select, items) {
-        Ok(ask) => run_over(alloc, stores, names, caller, prunes, &ask, tree, snap),
-        Err(stop) => Err(stop),
+    if trees.len() > 4 {
+        return bind(alloc, stores, caller, select, &[]);
+    }
+    match items_of(alloc, select.from.as_slice(), trees) {
+        Ok(items) => bind(alloc, stores, caller, select, &items),
+        Err(NoMemory) => Err(Stop::NoMemory),
     }
 }
 
@@ -188,95 +226,81 @@ fn select_over(
     caller: Caller,
     prunes: bool,
     select: &Select,
-    item: &FromItem,
-    tree: &Tree,
+    trees: &[Tree],
     snap: &Snapshot,
 ) -> Result<Answer, Stop>
     requires may { MayAttempt stores.old caller }
-    requires tree { IsTreeFor stores.old caller (seen tree.now) }
+    requires each { length trees.now ≡ length (from_of (select_tree select.now)) }
+    requires trees { All (λ t. IsTreeFor stores.old caller (seen t)) trees.now }
     requires look { IsLookFor stores.old caller snap.now }
-    ensures { IsStep (λ a. a) result stores.old stores.new caller (caller.cmd + 1)
-        (selected.of_tree prunes names.now caller (select_tree select.now) (item_name (joined_tree item.now)) (seen tree.now)) }
+    ensures { IsStep (λ a. a) result stores.old stores.new caller (caller.cmd + 1) (selected.of_trees prunes names.now caller (select_tree select.now) (map seen trees.now)) }
 {
-    match only_item(alloc, item, tree) {
-        Ok(items) => bind_over(
-            alloc, stores, names, caller, prunes, select, &items, tree, snap,
-        ),
-        Err(NoMemory) => Err(Stop::NoMemory),
+    match bind_over(alloc, stores, caller, select, trees) {
+        Ok(ask) => run_over(alloc, stores, names, caller, prunes, &ask, trees, snap),
+        Err(stop) => Err(stop),
     }
 }
 
-// The tree of the table is read under the snapshot.
-fn read_tree(
+// The trees of the tables are read under the snapshot.
+fn select_under(
     alloc: Global,
     stores: &mut Stores,
     names: &SessionNames,
     caller: Caller,
     prunes: bool,
     select: &Select,
-    item: &FromItem,
-    table: TableNo,
+    tables: &[TableNo],
     snap: &Snapshot,
 ) -> Result<Answer, Stop>
     requires may { MayAttempt stores.old caller }
     requires few { length stores.old.catalog.tables ≤ 4096 }
-    requires known { IsKnownTo stores.old caller.session table.number }
+    requires each { length tables.now ≡ length (from_of (select_tree select.now)) }
+    requires known { All (λ t. IsKnownTo stores.old caller.session t.number) tables.now }
     requires look { IsLookFor stores.old caller snap.now }
-    ensures { IsStep (λ a. a) result stores.old stores.new caller (caller.cmd + 1)
-        (selected.of_table prunes names.now caller (select_tree select.now) (item_name (joined_tree item.now)) table.number) }
+    ensures { IsStep (λ a. a) result stores.old stores.new caller (caller.cmd + 1) (selected.of_tables prunes names.now caller (select_tree select.now) (map number_of tables.now)) }
 {
-    leaves_are_housed();
-    trees_can_be_pruned();
-    match stores.tree(alloc, table, caller.session, snap) {
-        Ok(tree) => select_over(
-            alloc, stores, names, caller, prunes, select, item, &tree, snap,
-        ),
+    match read_trees(alloc, stores, caller, tables, snap) {
+        Ok(trees) => select_over(alloc, stores, names, caller, prunes, select, &trees, snap),
         Err(NoMemory) => Err(Stop::NoMemory),
     }
 }
 
-fn select_table(
+fn select_tables(
     alloc: Global,
     stores: &mut Stores,
     names: &SessionNames,
     caller: Caller,
     prunes: bool,
     select: &Select,
-    item: &FromItem,
-    table: TableNo,
+    tables: &[TableNo],
 ) -> Result<Answer, Stop>
     requires may { MayAttempt stores.old caller }
     requires few { length stores.old.catalog.tables ≤ 4096 }
-    requires known { IsKnownTo stores.old caller.session table.number }
-    ensures { IsStep (λ a. a) result stores.old stores.new caller (caller.cmd + 1)
-        (selected.of_table prunes names.now caller (select_tree select.now) (item_name (joined_tree item.now)) table.number) }
+    requires each { length tables.now ≡ length (from_of (select_tree select.now)) }
+    requires known { All (λ t. IsKnownTo stores.old caller.session t.number) tables.now }
+    ensures { IsStep (λ a. a) result stores.old stores.new caller (caller.cmd + 1) (selected.of_tables prunes names.now caller (select_tree select.now) (map number_of tables.now)) }
 {
     match stores.look(alloc, caller.session, caller.cmd) {
-        Ok(snap) => read_tree(
-            alloc, stores, names, caller, prunes, select, item, table, &snap,
-        ),
+        Ok(snap) => select_under(alloc, stores, names, caller, prunes, select, tables, &snap),
         Err(NoMemory) => Err(Stop::NoMemory),
     }
 }
 
-// The table is found and locked first.
-fn select_item(
+// The tables are found and locked first.
+fn select_named(
     alloc: Global,
     stores: &mut Stores,
     names: &SessionNames,
     caller: Caller,
     prunes: bool,
     select: &Select,
-    item: &FromItem,
 ) -> Result<Answer, Stop>
     requires may { MayAttempt stores.old caller }
     requires few { length stores.old.catalog.tables ≤ 4096 }
-    ensures { IsStep (λ a. a) result stores.old stores.new caller (caller.cmd + 1)
-        (selected.of_item prunes names.now caller (select_tree select.now) (joined_tree item.now)) }
+    ensures { IsStep (λ a. a) result stores.old stores.new caller (caller.cmd + 1) (selected.of_named prunes names.now caller (select_tree select.now)) }
 {
-    let name = item.table.name.as_bytes();
-    match lock_named(alloc, stores, names, caller, name, LockMode::AccessShare) {
-        Ok(table) => select_table(alloc, stores, names, caller, prunes, select, item, table),
+    match lock_items(alloc, stores, names, caller, select.from.as_slice()) {
+        Ok(tables) => select_tables(alloc, stores, names, caller, prunes, select, &tables),
         Err(stop) => Err(stop),
     }
 }
@@ -306,21 +330,20 @@ fn begin_with(
     caller: Caller,
     prunes: bool,
     select: &Select,
-    item: &FromItem,
 ) -> Result<Answer, Stop>
     requires may { MayAttempt stores.old caller }
     requires few { length stores.old.catalog.tables ≤ 4096 }
     ensures { IsStep (λ a. a) result stores.old stores.new caller (caller.cmd + 1)
-        (follow (selected.begins caller) (λ u. selected.of_item prunes names.now caller (select_tree select.now) (joined_tree item.now))) }
+        (follow (selected.begins caller) (λ u. selected.of_named prunes names.now caller (select_tree select.now))) }
 {
     match hold_if_repeatable(alloc, stores, caller) {
-        Ok(()) => select_item(alloc, stores, names, caller, prunes, select, item),
+        Ok(()) => select_named(alloc, stores, names, caller, prunes, select),
         Err(stop) => Err(stop),
     }
 }
 
 /// A SELECT of a session: its answer, or why it stops. It locks and reads what its conditions keep, or all
-/// where the session prunes nothing. Several tables in FROM are refused with 0A000.
+/// where the session prunes nothing.
 pub fn select(
     alloc: Global,
     stores: &mut Stores,
@@ -333,9 +356,9 @@ pub fn select(
     requires few { length stores.old.catalog.tables ≤ 4096 }
     ensures { IsStep (λ a. a) result stores.old stores.new caller (caller.cmd + 1) (selected.selected prunes names.now caller (select_tree select.now)) }
 {
-    match select.from.as_slice() {
-        [] => begin_without(alloc, stores, caller, select),
-        [item] => begin_with(alloc, stores, names, caller, prunes, select, item),
-        [_, _, ..] => Err(stop_by(left_out(alloc, b"SELECT"))),
+    if select.from.as_slice().is_empty() {
+        begin_without(alloc, stores, caller, select)
+    } else {
+        begin_with(alloc, stores, names, caller, prunes, select)
     }
 }

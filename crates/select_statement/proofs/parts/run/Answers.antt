@@ -1,7 +1,7 @@
 use Rattle.std.proofs.Common.{◌+◌, refl, sym, subst, Ok, Err}
 use Rattle.pg_values.specs.declared.answer.Answer.{Answer}
 use Rattle.statement_asks.specs.Asked.{select_meant}
-use Rattle.select_answer.specs.Answer.{leaves_in}
+use Rattle.plan_tree.specs.Plans.{planned}
 use Rattle.statement_steps.specs.Steps.{IsStep}
 use Rattle.select_statement.specs.Selected.{answered}
 use Rattle.select_statement.proofs.Steps.{told_for, answer_done, answer_refused}
@@ -9,11 +9,11 @@ use Rattle.select_statement.proofs.parts.run.Goals as goal
 
 pub returns-in-Ok : goal.returns-in-Ok
 returns-in-Ok c =
-    answer_done c.in-Ok.answer c.args.stores.now c.args.caller (select_meant c.args.ask.now) (leaves_in c.args.from) c.args.snap.now c.requires.may c.requires.look
-    (told_for (Ok c.in-Ok.answer) c.args.stores.now c.args.caller (select_meant c.args.ask.now) (leaves_in c.args.from) c.args.snap.now _ _ _ refl refl c.requires.fresh c.in-Ok.ensures.answer)
+    answer_done c.in-Ok.answer c.args.stores.now c.args.caller (select_meant c.args.ask.now) (planned c.args.plan.now) c.args.snap.now c.requires.may c.requires.look
+    (told_for (Ok c.in-Ok.answer) c.args.stores.now c.args.caller (select_meant c.args.ask.now) (planned c.args.plan.now) c.args.snap.now _ _ _ refl refl c.requires.fresh c.in-Ok.ensures.answer)
 
 pub returns-in-Err : goal.returns-in-Err
 returns-in-Err c =
-    subst (λ r. IsStep (λ (a : Answer). a) (Err r) c.args.stores.now c.args.stores.now c.args.caller (c.args.caller.cmd + 1) (answered c.args.caller (select_meant c.args.ask.now) (leaves_in c.args.from))) (sym c.stop_of.ensures)
-    (answer_refused c.in-Err.refusal c.args.stores.now c.args.caller (select_meant c.args.ask.now) (leaves_in c.args.from) c.args.snap.now c.requires.may c.requires.look
-    (told_for (Err c.in-Err.refusal) c.args.stores.now c.args.caller (select_meant c.args.ask.now) (leaves_in c.args.from) c.args.snap.now _ _ _ refl refl c.requires.fresh c.in-Err.ensures.answer))
+    subst (λ r. IsStep (λ (a : Answer). a) (Err r) c.args.stores.now c.args.stores.now c.args.caller (c.args.caller.cmd + 1) (answered c.args.caller (select_meant c.args.ask.now) (planned c.args.plan.now))) (sym c.stop_of.ensures)
+    (answer_refused c.in-Err.refusal c.args.stores.now c.args.caller (select_meant c.args.ask.now) (planned c.args.plan.now) c.args.snap.now c.requires.may c.requires.look
+    (told_for (Err c.in-Err.refusal) c.args.stores.now c.args.caller (select_meant c.args.ask.now) (planned c.args.plan.now) c.args.snap.now _ _ _ refl refl c.requires.fresh c.in-Err.ensures.answer))

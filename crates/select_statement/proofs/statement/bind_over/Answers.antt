@@ -1,20 +1,22 @@
-use Rattle.std.proofs.Common.{◌+◌}
-use Rattle.pg_values.specs.declared.answer.Answer.{Answer}
+use Rattle.std.proofs.Common.{[], ◌≤◌, arith, map, length, subst, sym}
 use Rattle.table_trees.specs.Seen.{seen}
 use Rattle.sql_queries.specs.Trees.{select_tree}
+use Rattle.sql_binder.specs.Selects.{from_of}
 use Rattle.statement_asks.specs.Asked.{select_meant}
-use Rattle.statement_steps.proofs.Steps.{then_step, stop_step}
-use Rattle.select_statement.specs.Selected.{meant, of_kept}
+use Rattle.statement_steps.specs.Steps.{IsStep}
+use Rattle.select_statement.specs.Items.{items_of}
+use Rattle.select_statement.proofs.Whole.{too_many_meant, none_meant}
 use Rattle.select_statement.proofs.statement.bind_over.Goals as goal
 
-pub returns-in-Ok : goal.returns-in-Ok
-returns-in-Ok c =
-    then_step select_meant (λ (a : Answer). a) c.in-Ok.ask c.run_over.result c.args.stores.now c.args.stores.now c.run_over.new.stores c.args.caller (c.args.caller.cmd + 1)
-    (meant c.args.caller (select_tree c.args.select.now) c.args.items.now)
-    (λ m. of_kept c.args.prunes c.args.names.now c.args.caller m (seen c.args.tree.now)) c.in-Ok.ensures c.run_over.ensures
+pub returns-then-trees-gt4-clause-step : goal.returns-then-trees-gt4-clause-step
+returns-then-trees-gt4-clause-step c =
+    let many = c.if-trees-gt4.true in
+    let each = c.requires.each in
+    subst (λ f. IsStep select_meant c.bind.result c.args.stores.now c.args.stores.now c.args.caller c.args.caller.cmd f)
+    (sym (too_many_meant c.args.caller (select_tree c.args.select.now) (items_of 0 (from_of (select_tree c.args.select.now)) (map seen c.args.trees.now)) (omega (arith, many, each)))) c.bind.ensures
 
-pub returns-in-Err : goal.returns-in-Err
-returns-in-Err c =
-    stop_step select_meant (λ (a : Answer). a) c.in-Err.stop c.args.stores.now c.args.stores.now c.args.caller (c.args.caller.cmd + 1) c.args.caller.cmd
-    (meant c.args.caller (select_tree c.args.select.now) c.args.items.now)
-    (λ m. of_kept c.args.prunes c.args.names.now c.args.caller m (seen c.args.tree.now)) c.in-Err.ensures
+pub returns-then-trees-gt4-clause-few : goal.returns-then-trees-gt4-clause-few
+returns-then-trees-gt4-clause-few c =
+    let many = c.if-trees-gt4.true in
+    let each = c.requires.each in
+    none_meant select_meant c.bind.result c.args.stores.now c.args.caller (select_tree c.args.select.now) [] (λ ask. length c.args.trees.now ≤ 4) (omega (arith, many, each)) c.requires.may c.bind.ensures

@@ -1,0 +1,4 @@
+pub mod Places
+pub mod Pools
+pub mod Truths
+pub mod Weights

@@ -1,0 +1,68 @@
+use Rattle.std.proofs.Common.{rules, ◌≡◌, ◌∷◌, ◌++◌, [], ap, arith, length, map, refl, subst, Ok, Err}
+use Rattle.std.proofs.lemmas.List.{length-map, nil_from_length}
+use Rattle.pg_ids.specs.declared.ids.TableNo.{TableNo}
+use Rattle.pg_ids.specs.declared.lock_mode.LockMode.TheVariants.{AccessShare}
+use Rattle.sql_queries.specs.Trees.{joined_tree}
+use Rattle.statement_steps.specs.Asks.{named}
+use Rattle.statement_steps.specs.Steps.{IsStep}
+use Rattle.select_statement.proofs.Naming.{AreNamed, numbers, none_named, one_named, stops_naming, runs_out, all_named, rest_same}
+use Rattle.select_statement.proofs.tables.lock_items.Goals as goal
+
+pub loop-item-init : goal.loop-item-init
+loop-item-init c = none_named numbers c.args.stores.now c.args.caller c.args.names.now (map joined_tree c.args.items.now) _ c.new-tables.ensures.items c.requires.may c.requires.few
+
+pub lock_named-requires-clause-may : goal.lock_named-requires-clause-may
+lock_named-requires-clause-may c = c.loop-item.invariant.may
+
+pub lock_named-requires-clause-few : goal.lock_named-requires-clause-few
+lock_named-requires-clause-few c = c.loop-item.invariant.few
+
+pub loop-item-preserved : goal.loop-item-preserved
+loop-item-preserved c =
+    let whole : c.loop-item.left.now ≡ c.in-Some.item.now ∷ c.in-Some.others.now = search rules in
+    let more : c.push.new.self.items ≡ c.loop-item.tables.items ++ c.in-Ok.table ∷ [] = search rules in
+    one_named numbers c.args.stores.now c.loop-item.stores c.lock_named.new.stores c.args.caller c.args.names.now (map joined_tree c.args.items.now) c.loop-item.tables.items c.push.new.self.items (joined_tree c.in-Some.item.now) (map joined_tree c.in-Some.others.now) c.in-Ok.table
+    (subst (λ left. AreNamed numbers c.args.stores.now c.loop-item.stores c.args.caller c.args.names.now (map joined_tree c.args.items.now) c.loop-item.tables.items (map joined_tree left)) whole c.loop-item.invariant)
+    (subst (λ name. IsStep (λ (t : TableNo). t.number) (Ok c.in-Ok.table) c.loop-item.stores c.lock_named.new.stores c.args.caller c.args.caller.cmd (named c.args.names.now c.args.caller.session AccessShare name)) c.as_bytes-name.ensures c.in-Ok.ensures.step)
+    c.in-Ok.ensures.known c.lock_named.ensures.rest more
+
+pub returns-in-Err-push-clause-step : goal.returns-in-Err-push-clause-step
+returns-in-Err-push-clause-step c =
+    let whole : c.loop-item.left.now ≡ c.in-Some.item.now ∷ c.in-Some.others.now = search rules in
+    runs_out numbers c.args.stores.now c.loop-item.stores c.lock_named.new.stores c.args.caller c.args.names.now (map joined_tree c.args.items.now) c.loop-item.tables.items (joined_tree c.in-Some.item.now) (map joined_tree c.in-Some.others.now) c.in-Ok.table
+    (subst (λ left. AreNamed numbers c.args.stores.now c.loop-item.stores c.args.caller c.args.names.now (map joined_tree c.args.items.now) c.loop-item.tables.items (map joined_tree left)) whole c.loop-item.invariant)
+    (subst (λ name. IsStep (λ (t : TableNo). t.number) (Ok c.in-Ok.table) c.loop-item.stores c.lock_named.new.stores c.args.caller c.args.caller.cmd (named c.args.names.now c.args.caller.session AccessShare name)) c.as_bytes-name.ensures c.in-Ok.ensures.step)
+
+pub returns-in-Err-push-clause-rest : goal.returns-in-Err-push-clause-rest
+returns-in-Err-push-clause-rest c = rest_same c.args.stores.now c.loop-item.stores c.lock_named.new.stores c.loop-item.invariant.rest c.lock_named.ensures.rest
+
+pub returns-in-Err-clause-step : goal.returns-in-Err-clause-step
+returns-in-Err-clause-step c =
+    let whole : c.loop-item.left.now ≡ c.in-Some.item.now ∷ c.in-Some.others.now = search rules in
+    stops_naming numbers c.args.stores.now c.loop-item.stores c.lock_named.new.stores c.args.caller c.args.names.now (map joined_tree c.args.items.now) c.loop-item.tables.items (joined_tree c.in-Some.item.now) (map joined_tree c.in-Some.others.now) c.in-Err.stop
+    (subst (λ left. AreNamed numbers c.args.stores.now c.loop-item.stores c.args.caller c.args.names.now (map joined_tree c.args.items.now) c.loop-item.tables.items (map joined_tree left)) whole c.loop-item.invariant)
+    (subst (λ name. IsStep (λ (t : TableNo). t.number) (Err c.in-Err.stop) c.loop-item.stores c.lock_named.new.stores c.args.caller c.args.caller.cmd (named c.args.names.now c.args.caller.session AccessShare name)) c.as_bytes-name.ensures c.in-Err.ensures.step)
+
+pub returns-in-Err-clause-rest : goal.returns-in-Err-clause-rest
+returns-in-Err-clause-rest c = rest_same c.args.stores.now c.loop-item.stores c.lock_named.new.stores c.loop-item.invariant.rest c.lock_named.ensures.rest
+
+pub returns-clause-step : goal.returns-clause-step
+returns-clause-step c =
+    let none : c.loop-item.left.now ≡ [] = nil_from_length c.loop-item.left.now c.in_default.ensures.cases in
+    all_named numbers c.args.stores.now c.loop-item.stores c.args.caller c.args.names.now (map joined_tree c.args.items.now) c.loop-item.tables.items c.loop-item.tables
+    (subst (λ left. AreNamed numbers c.args.stores.now c.loop-item.stores c.args.caller c.args.names.now (map joined_tree c.args.items.now) c.loop-item.tables.items (map joined_tree left)) none c.loop-item.invariant) refl
+
+pub returns-clause-known : goal.returns-clause-known
+returns-clause-known c = c.loop-item.invariant.known
+
+pub returns-clause-count : goal.returns-clause-count
+returns-clause-count c =
+    let none : c.loop-item.left.now ≡ [] = nil_from_length c.loop-item.left.now c.in_default.ensures.cases in
+    let count = c.loop-item.invariant.count in
+    let left = length-map c.loop-item.left.now joined_tree in
+    let zero = ap length none in
+    let items = length-map c.args.items.now joined_tree in
+    omega (arith, count, left, zero, items)
+
+pub returns-clause-rest : goal.returns-clause-rest
+returns-clause-rest c = c.loop-item.invariant.rest

@@ -1,0 +1,10 @@
+use Rattle.std.proofs.Common.{length, map}
+use Rattle.sql_queries.specs.Trees.{joined_tree}
+use Rattle.select_statement.proofs.Naming.{AreNamed, numbers}
+use Rattle.select_statement.proofs.tables.lock_items.Given as goal
+
+abbrev pub invariant-loop-item : goal.invariant-loop-item
+invariant-loop-item l = AreNamed numbers l.fn.stores l.stores l.fn.caller l.fn.names (map joined_tree l.fn.items) l.tables.items (map joined_tree l.left)
+
+abbrev pub decreases-loop-item : goal.decreases-loop-item
+decreases-loop-item l = length l.left

@@ -1,0 +1,97 @@
+//! The tables of FROM: found and locked, and their trees.
+
+ghost use Rattle.std.specs.Prelude.{◌≡◌, ◌≤◌, ◌∷◌, [], All, IfOk, length, map};
+ghost use Rattle.history.specs.History.{History};
+ghost use Rattle.table_trees.specs.Histories.{tree_of};
+ghost use Rattle.table_trees.specs.Seen.{seen};
+ghost use Rattle.sql_queries.specs.Trees.{joined_tree};
+ghost use Rattle.stores.specs.Events.{look_of};
+ghost use Rattle.stores.specs.Stand.{Stands};
+ghost use Rattle.course.specs.Attempts.{MayAttempt};
+ghost use Rattle.statement_steps.specs.Known.{IsKnownTo};
+ghost use Rattle.statement_steps.specs.Steps.{IsStep};
+ghost use Rattle.select_statement.specs.Below.{number_of};
+ghost use Rattle.select_statement.specs.Lent.{IsTreeFor, IsLookFor};
+ghost use Rattle.select_statement.specs.Selected as selected;
+
+use course::{Caller, Stop};
+use pg_ids::{LockMode, TableNo};
+use pg_values::NoMemory;
+use pruned_trees::trees_can_be_pruned;
+use sql_queries::FromItem;
+use statement_steps::{SessionNames, lock_named};
+use std::alloc::Global;
+use stores::{Stores, leaves_are_housed};
+use table_trees::Tree;
+use tx_table::Snapshot;
+
+/// The tables of the items are found and locked in text order.
+pub(crate) fn lock_items(
+    alloc: Global,
+    stores: &mut Stores,
+    names: &SessionNames,
+    caller: Caller,
+    items: &[FromItem],
+) -> Result<Vec<TableNo>, Stop>
+    requires may { MayAttempt stores.old caller }
+    requires few { length stores.old.catalog.tables ≤ 4096 }
+    ensures step { IsStep (λ ts. map number_of ts.items) result stores.old stores.new caller caller.cmd (selected.named_from names.now caller [] (map joined_tree items.now)) }
+    ensures known { IfOk result (λ ts. All (λ t. IsKnownTo stores.new caller.session t.number) ts.items) }
+    ensures count { IfOk result (λ ts. length ts.items ≡ length items.now) }
+    ensures rest { stores.new ≡ record stores.old { locks = stores.new.locks } }
+{
+    let mut tables = Vec::new(alloc);
+    let mut left = items;
+    while let Some((item, others)) = left.split_first() {
+        let name = item.table.name.as_bytes();
+        match lock_named(alloc, stores, names, caller, name, LockMode::AccessShare) {
+            Ok(table) => match tables.push(table) {
+                Ok(()) => left = others,
+                Err(_) => return Err(Stop::NoMemory),
+            },
+            Err(stop) => return Err(stop),
+        }
+    }
+    Ok(tables)
+}
+
+fn read_tree(
+    alloc: Global,
+    stores: &Stores,
+    caller: Caller,
+    table: TableNo,
+    snap: &Snapshot,
+) -> Result<Tree, NoMemory>
+    requires may { MayAttempt stores.now caller }
+    requires few { length stores.now.catalog.tables ≤ 4096 }
+    requires known { IsKnownTo stores.now caller.session table.number }
+    requires look { IsLookFor stores.now caller snap.now }
+    ensures tree { IfOk result (λ t. (h : History) → Stands stores.now h → seen t ≡ tree_of h caller.session table.number (look_of h caller.session caller.cmd)) }
+    ensures fit { IfOk result (λ t. IsTreeFor stores.now caller (seen t)) }
+{
+    leaves_are_housed();
+    trees_can_be_pruned();
+    stores.tree(alloc, table, caller.session, snap)
+}
+
+/// The trees of the tables under the snapshot of the command.
+pub(crate) fn read_trees(
+    alloc: Global,
+    stores: &Stores,
+    caller: Caller,
+    tables: &[TableNo],
+    snap: &Snapshot,
+) -> Result<Vec<Tree>, NoMemory>
+    requires may { MayAttempt stores.now caller }
+    requires few { length stores.now.catalog.tables ≤ 4096 }
+    requires known { All (λ t. IsKnownTo stores.now caller.session t.number) tables.now }
+    requires look { IsLookFor stores.now caller snap.now }
+    ensures trees { IfOk result (λ trees. (h : History) → Stands stores.now h → map seen trees.items ≡ selected.trees_for caller (map number_of tables.now) h) }
+    ensures each { IfOk result (λ trees. All (λ t. IsTreeFor stores.now caller (seen t)) trees.items) }
+{
+    let mut trees = Vec::new(alloc);
+    for table in tables {
+        trees.push(read_tree(alloc, stores, caller, *table, snap)?)?;
+    }
+    Ok(trees)
+}
