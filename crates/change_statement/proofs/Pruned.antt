@@ -1,5 +1,5 @@
 -- The targets in the leaves that a condition keeps are those in all leaves.
-use Rattle.std.proofs.Common.{◌≡◌, ◌≤◌, ◌+◌, arith, Bool, true, false, if◌then◌else◌, List, [], ◌∷◌, ◌++◌, length, map, refl, sym, ap, ◌∙◌, append_assoc, length-append}
+use Rattle.std.proofs.Common.{◌≡◌, ◌≤◌, ◌+◌, ◌&&◌, arith, Bool, true, false, if◌then◌else◌, List, [], ◌∷◌, ◌++◌, length, map, refl, sym, ap, ◌∙◌, append_assoc, length-append}
 use Rattle.std.specs.Prelude.{Option, Some, None, filter}
 use Rattle.std.specs.List.{flat_map}
 use Rattle.std.proofs.lemmas.List.{length-map}
@@ -16,7 +16,7 @@ use Rattle.cond_logic.specs.Trees.{CondTree}
 use Rattle.cond_logic.specs.Truths.{truth}
 use Rattle.cond_logic.specs.Tuples.{no_rows, put}
 use Rattle.pruned_trees.specs.Kept.{Leaf, Keeps, id_of, leaf_of, named_leaves, all_named_leaves, keeps_plain, leaves_below, leaves_among, kept_leaves}
-use Rattle.pruned_trees.specs.Laws.{is_yes, passes, passing_in, row_of, shown, NoneIsMissed, ShownLieRight, TreesCanBePruned}
+use Rattle.pruned_trees.specs.Laws.{is_yes, passes_beside, passing_in, row_of, shown, NoneIsMissed, ShownLieRight, TreesCanBePruned}
 use Rattle.pruned_trees.proofs.Missed.{ids_named}
 use Rattle.row_targets.specs.Targets as targets_spec
 use Rattle.row_targets.specs.Targets.{takes, target_of, targets, targets_in}
@@ -103,9 +103,17 @@ same_yes Yes = refl
 same_yes No = refl
 same_yes Unknown = refl
 
+-- of the only item
+abbrev passes : CondTree → List Value → Bool
+passes t = passes_beside no_rows 0 (t ∷ [])
+
+and_true : (b : Bool) → (b && true) ≡ b
+and_true true = refl
+and_true false = refl
+
 same_test : (condition : Option CondTree) (row : List Value) → passes (condition_or_all condition) row ≡ takes condition row
 same_test None row = refl
-same_test (Some c) row = same_yes (truth (put no_rows 0 row) [] c)
+same_test (Some c) row = and_true (is_yes (truth (put no_rows 0 row) [] c)) ∙ same_yes (truth (put no_rows 0 row) [] c)
 
 none_taken : (condition : Option CondTree) (vs : List Version) → length (filter (passes (condition_or_all condition)) (map row_of vs)) ≡ 0 → filter (λ v. takes condition v.row) vs ≡ []
 none_taken condition [] e = refl
@@ -124,7 +132,7 @@ module _ (condition : Option CondTree) (h : History) (s : TakenSnapshot) where
   found_in leaf = targets_in h s condition leaf.id
 
   abbrev pairs_in : Leaf → List (Leaf × List Value)
-  pairs_in leaf = passing_in (shown h s) (condition_or_all condition) leaf
+  pairs_in leaf = passing_in (shown h s) (passes (condition_or_all condition)) leaf
 
   none_found : (leaf : Leaf) → length (pairs_in leaf) ≡ 0 → found_in leaf ≡ []
   none_found leaf e =
@@ -140,7 +148,7 @@ pub all_targets_kept : NoneIsMissed → ShownLieRight → TreesCanBePruned → K
 all_targets_kept missed right can prunes condition h session table s legal permitted looking made =
     let tree = tree_of h session table s in
     let keeps = keeps_for prunes condition in
-    let same = missed prunes (condition_or_all condition) (shown h s) tree (can h session table s legal permitted made) (right h session table s legal permitted looking made) in
+    let same = missed prunes 0 (condition_or_all condition ∷ []) no_rows (shown h s) tree (omega arith) (can h session table s legal permitted made) (right h session table s legal permitted looking made) in
     let rest = kept_rest (pairs_in condition h s) (found_in condition h s) (none_found condition h s) keeps tree in
     found_over condition h s (kept_leaves keeps tree)
     ∙ rest.same (ap length (sym same))
