@@ -184,15 +184,6 @@ none_meant view (Ok x) stores caller t items P many may step =
     absurd (cc)
 none_meant view (Err e) stores caller t items P many may step = tt
 
-pub with_items : (prunes : Bool) (names : List (List ℕ)) (caller : Caller) (t : SelectTree) (from : List Joined) (r : Result Answer Stop) (old new : Stores) → from_of t ≡ from
-    → IsStep (λ (a : Answer). a) r old new caller (caller.cmd + 1) (of_items prunes names caller t from) → IsStep (λ (a : Answer). a) r old new caller (caller.cmd + 1) (selected prunes names caller t)
-with_items prunes names caller t from r old new is step = subst (λ js. IsStep (λ (a : Answer). a) r old new caller (caller.cmd + 1) (of_items prunes names caller t js)) (sym is) step
-
-pub with_some : (prunes : Bool) (names : List (List ℕ)) (caller : Caller) (t : SelectTree) (from : List Joined) (r : Result Answer Stop) (old new : Stores) → from_of t ≡ from → (from ≡ [] → ⊥)
-    → IsStep (λ (a : Answer). a) r old new caller (caller.cmd + 1) (follow (begins caller) (λ u. of_named prunes names caller t)) → IsStep (λ (a : Answer). a) r old new caller (caller.cmd + 1) (selected prunes names caller t)
-with_some prunes names caller t [] r old new is some step = absurd (some refl)
-with_some prunes names caller t (j ∷ js) r old new is some step = with_items prunes names caller t (j ∷ js) r old new is step
-
 -- ---- a SELECT that cancels itself
 
 pub itself_refused : (b : Bool) (f : History → Made Answer) (fault : Fault) (stores : Stores) (caller : Caller) → b ≡ true → fault ≡ statement_cancelled → MayAttempt stores caller
