@@ -1,4 +1,4 @@
-ghost use Rattle.std.specs.Prelude.{◌≡◌};
+ghost use Rattle.std.specs.Prelude.{◌≡◌, Some, None, if◌then◌else◌};
 ghost use Rattle.pg_values.specs.Order as orders;
 ghost use Rattle.cond_logic.specs.Trees.{cond_tree};
 ghost use Rattle.cond_logic.specs.Tuples.{or_null, value_of};
@@ -6,21 +6,22 @@ ghost use Rattle.cond_logic.specs.Truths as truths;
 ghost use Rattle.cond_logic.specs.Truths.{compared, passes_by, truth};
 
 use crate::{Binding, CompareOp, Cond, Operand, Truth3};
-use pg_values::{Value, cmp_values};
+use pg_values::Value;
 use std::cmp::Ordering;
 
-fn are_comparable(a: &Value, b: &Value) -> bool
-    ensures { result ≡ orders.are_comparable a.now b.now }
+// The order of two values; none where they cannot be compared, as with null.
+fn order(a: &Value, b: &Value) -> Option<Ordering>
+    ensures { result ≡ (if orders.are_comparable a.now b.now then Some (orders.order a.now b.now) else None) }
 {
     match (a, b) {
-        (Value::Int4(_), Value::Int4(_)) => true,
-        (Value::Int4(_), Value::Int8(_)) => true,
-        (Value::Int8(_), Value::Int4(_)) => true,
-        (Value::Int8(_), Value::Int8(_)) => true,
-        (Value::Text(_), Value::Text(_)) => true,
-        (Value::Day(_), Value::Day(_)) => true,
-        (Value::Truth(_), Value::Truth(_)) => true,
-        _ => false,
+        (Value::Int4(m), Value::Int4(n)) => Some(m.cmp(n)),
+        (Value::Int4(m), Value::Int8(n)) => Some((*m as i64).cmp(n)),
+        (Value::Int8(m), Value::Int4(n)) => Some(m.cmp(&(*n as i64))),
+        (Value::Int8(m), Value::Int8(n)) => Some(m.cmp(n)),
+        (Value::Text(s), Value::Text(t)) => Some(s.as_bytes().cmp(t.as_bytes())),
+        (Value::Day(m), Value::Day(n)) => Some(m.cmp(n)),
+        (Value::Truth(p), Value::Truth(q)) => Some(p.cmp(q)),
+        _ => None,
     }
 }
 
@@ -40,10 +41,9 @@ fn passes(op: CompareOp, order: Ordering) -> bool
 fn compare(op: CompareOp, a: &Value, b: &Value) -> Truth3
     ensures { result ≡ compared op a.now b.now }
 {
-    if are_comparable(a, b) {
-        Truth3::decided(passes(op, cmp_values(a, b)))
-    } else {
-        Truth3::Unknown
+    match order(a, b) {
+        Some(order) => Truth3::decided(passes(op, order)),
+        None => Truth3::Unknown,
     }
 }
 
