@@ -16,7 +16,7 @@ ghost use Rattle.part_ddl.specs.Faults.{too_many as levels_passed};
 ghost use Rattle.sql_commands.specs.Trees.{bound_tree};
 ghost use Rattle.course.specs.Attempts.{MayAttempt};
 ghost use Rattle.statement_steps.specs.Steps.{IsStep};
-ghost use Rattle.attach_statement.specs.Asked.{HasPlace, SeesBoth};
+ghost use Rattle.attach_statement.specs.Asked.{AreFrom, HasPlace, IsPathOf};
 ghost use Rattle.attach_statement.specs.Attached as attached;
 ghost use Rattle.attach_statement.specs.Places.{attach_place, table_faults};
 
@@ -85,14 +85,13 @@ fn check_levels(alloc: Global, above: usize, own: &Tree) -> Result<(), Refusal>
     Ok(())
 }
 
-// The bound of the table below the parent, or the first refusal. The trees of both are given, the path of the parent, and
-// the tables from the other one down.
+// The bound of the table below the parent, or the first refusal. The path of the parent is given, and of the other one its
+// tree and the tables from it down.
 fn place_of(
     alloc: Global,
     stores: &Stores,
     session: u32,
     parent: TableNo,
-    tree: &Tree,
     path: &[PathPart],
     table: TableNo,
     own: &Tree,
@@ -102,7 +101,9 @@ fn place_of(
     requires siblings { AreTogether stores.now.txs stores.now.catalog session }
     requires parent { parent.number < length stores.now.catalog.tables }
     requires table { table.number < length stores.now.catalog.tables }
-    requires sees { SeesBoth stores.now session parent.number table.number (seen tree.now) (seen own.now) path.now tables.now }
+    requires path { IsPathOf stores.now session parent.number path.now }
+    requires own { below.IsTreeOf stores.now.txs stores.now.catalog session table.number (seen own.now) }
+    requires tables { AreFrom stores.now session table.number tables.now }
     ensures answer { (h : History) → TableStands stores.now.txs h → CatalogueStands stores.now.catalog h → IsAnswer result (attach_place h session parent.number table.number (bound_tree bound.now)) }
     ensures place { IfOk result (λ b. HasPlace stores.now session parent.number table.number b) }
 {
@@ -110,7 +111,7 @@ fn place_of(
     let level = parent_level(alloc, catalog, parent)?;
     check_table(alloc, catalog, txs, session, parent, table, tables)?;
     let bound = bind_bound(alloc, bound, level)?;
-    check_place(alloc, catalog, txs, parent, tree, &bound, session)?;
+    check_place(alloc, catalog, txs, parent, &bound, session)?;
     check_levels(alloc, path.len(), own)?;
     Ok(bound)
 }
@@ -121,7 +122,6 @@ pub(crate) fn place_found(
     stores: &Stores,
     caller: Caller,
     parent: TableNo,
-    tree: &Tree,
     path: &[PathPart],
     table: TableNo,
     own: &Tree,
@@ -131,14 +131,16 @@ pub(crate) fn place_found(
     requires may { MayAttempt stores.now caller }
     requires parent { parent.number < length stores.now.catalog.tables }
     requires table { table.number < length stores.now.catalog.tables }
-    requires sees { SeesBoth stores.now caller.session parent.number table.number (seen tree.now) (seen own.now) path.now tables.now }
+    requires path { IsPathOf stores.now caller.session parent.number path.now }
+    requires own { below.IsTreeOf stores.now.txs stores.now.catalog caller.session table.number (seen own.now) }
+    requires tables { AreFrom stores.now caller.session table.number tables.now }
     ensures step { IsStep (λ b. b) result stores.now stores.now caller caller.cmd (attached.place_found caller.session parent.number table.number (bound_tree bound.now)) }
     ensures place { IfOk result (λ b. HasPlace stores.now caller.session parent.number table.number b) }
 {
     trees_are_together();
     let session = caller.session;
     match place_of(
-        alloc, stores, session, parent, tree, path, table, own, tables, bound,
+        alloc, stores, session, parent, path, table, own, tables, bound,
     ) {
         Ok(bound) => Ok(bound),
         Err(refusal) => Err(stop_by(refusal)),

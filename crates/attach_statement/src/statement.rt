@@ -142,7 +142,7 @@ fn place_and_add(
     ensures { IsStep (λ u. u) result stores.old stores.new caller (caller.cmd + 1) (attached.placed_and_added names.now caller parent.number table.number (bound_tree bound.now)) }
 {
     match place_found(
-        alloc, stores, caller, parent, tree, path, table, own, tables, bound,
+        alloc, stores, caller, parent, path, table, own, tables, bound,
     ) {
         Ok(bound) => scan_and_add(
             alloc, stores, names, caller, parent, tree, path, table, bound,
@@ -173,7 +173,7 @@ fn attach_beside(
     requires sees { SeesBoth stores.old caller.session parent.number table.number (seen tree.now) (seen own.now) path.now tables.now }
     ensures { IsStep (λ u. u) result stores.old stores.new caller (caller.cmd + 1) (attached.attached_beside names.now caller parent.number table.number (bound_tree bound.now)) }
 {
-    match lock_default(alloc, stores, names, caller, parent, tree) {
+    match lock_default(alloc, stores, names, caller, parent) {
         Ok(()) => place_and_add(
             alloc, stores, names, caller, parent, tree, path, table, own, tables, bound,
         ),

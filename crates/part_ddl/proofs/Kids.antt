@@ -28,7 +28,7 @@ use Rattle.table_trees.specs.Siblings.{AreSiblings}
 use Rattle.table_trees.proofs.Seen.{seen_level}
 use Rattle.table_trees.proofs.Sound.{ddl_tree_sound}
 use Rattle.part_catalog.specs.Found.{made_at}
-use Rattle.part_ddl.specs.Placing.{partitions_of, names_below, bounds_below, tree_names}
+use Rattle.part_ddl.specs.Placing.{partitions_of, bounds_below}
 
 -- ---- what a tree says of its top
 
@@ -79,7 +79,6 @@ entry_child e = e.child
 pub record IsTold (h : History) (s p : ℕ) (level : OneLevel) (bs : List Bound) (trees : List Tree) : Type 0 where
   pub shape : (made_at h p).shape ≡ Level level
   pub bounds : bs ≡ bounds_below h s p
-  pub names : tree_names trees ≡ names_below h s p
   pub tables : map tree_table trees ≡ map entry_child (partitions_of h s p)
   pub paired : length bs ≡ length trees
 
@@ -121,7 +120,6 @@ told h s p t level bounds kids is tree =
     record {
       shape = g.shape_is;
       bounds = g.bounds_are;
-      names = each_node (λ n. n.name) f (node_at tables p) (items_of kids) es nodes same;
       tables = each_node (λ n. n.table) f (node_at tables p) (items_of kids) es nodes same;
       paired = ap length g.bounds_are ∙ length-map es bound_of ∙ sym (length-map es (λ (x : Entry). f (child_of_entry x))) ∙ sym (ap length same) ∙ length-map (items_of kids) seen;
     }

@@ -1,6 +1,7 @@
 pub mod Among
 pub mod Defaults
 pub mod Ends
+pub mod First
 pub mod Forest
 pub mod Free
 pub mod Going

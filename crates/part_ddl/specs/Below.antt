@@ -38,8 +38,11 @@ tables_under h session table = below_top (ddl_tree h session table)
 abbrev pub has_default_bound : Entry → Bool
 has_default_bound e = is_default e.bound
 
+abbrev pub default_among : List Entry → Option TableNo
+default_among partitions = option_map (λ e. e.child) (find has_default_bound partitions)
+
 abbrev pub default_of : History → (session table : ℕ) → Option TableNo
-default_of h session table = option_map (λ e. e.child) (find has_default_bound (partitions_of h session table))
+default_of h session table = default_among (partitions_of h session table)
 
 -- a tree is the one of the table for the session, in each history for which the two stand
 abbrev pub IsTreeOf : KeptTable → KeptCatalogue → (session table : ℕ) → TableTree → Type 0

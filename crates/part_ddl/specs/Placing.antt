@@ -1,6 +1,6 @@
 -- Whether a partition may stand below a table (the manual, CREATE TABLE, PARTITION OF, and 5.11.2 Declarative
 -- Partitioning).
-use Rattle.std.specs.Prelude.{◌≡◌, ℕ, ◌+◌, List, [], ◌∷◌, ◌++◌, Option, Some, None, Result, Ok, Err, length, map, nat_le, nat_lt, option_map, position, slice_index_or}
+use Rattle.std.specs.Prelude.{◌≡◌, ℕ, ◌+◌, List, [], ◌∷◌, ◌++◌, Option, Some, None, Result, Ok, Err, All, length, map, nat_le, nat_lt, option_map, position, slice_index_or}
 use Rattle.pg_values.specs.declared.fault.Fault.{Fault}
 use Rattle.pg_values.specs.declared.fault.Refusal.{Refusal}
 use Rattle.pg_values.specs.declared.fault.Refusal.TheVariants.{Sql, NoMemory}
@@ -11,13 +11,13 @@ use Rattle.part_bounds.specs.declared.partition_bound.Bound.TheVariants.{Hash, D
 use Rattle.part_bounds.specs.Accepts.{is_default}
 use Rattle.part_bounds.specs.Bounds.{overlaps}
 use Rattle.part_bounds.specs.Checks.{unless}
+use Rattle.part_bounds.specs.Levels.{IsOfLevel}
 use Rattle.part_bounds.specs.Moduli.{bad_modulus}
 use Rattle.history.specs.declared.catalogue.Entry.{Entry}
 use Rattle.history.specs.declared.catalogue.TableShape.{TableShape}
 use Rattle.history.specs.declared.catalogue.TableShape.TheVariants.{Leaf, Level}
 use Rattle.history.specs.History.{History}
 use Rattle.history.specs.Presence.{entries_present}
-use Rattle.table_trees.specs.declared.tree.Tree.{Tree}
 use Rattle.table_trees.specs.Histories.{above, bound_of, children}
 use Rattle.part_catalog.specs.Answers.{pending_entry}
 use Rattle.part_catalog.specs.Found.{made_at}
@@ -86,12 +86,11 @@ bound_faults parent pending names bounds b = default_faults parent pending names
 abbrev pub room_faults : (partitions levels : ℕ) → List Fault
 room_faults partitions levels = unless (nat_lt partitions 1024) (too_many Partitions) ++ unless (nat_le levels 8) (too_many Levels)
 
--- what a tree tells of the partitions at its top
-abbrev pub tree_name : Tree → List ℕ
-tree_name t = t.node.name
-
-abbrev pub tree_names : List Tree → List (List ℕ)
-tree_names trees = map tree_name trees
+-- the bounds are of one level
+pub record AreOfOneLevel (b : Bound) (bounds : List Bound) : Type 0 where
+  pub level : OneLevel
+  pub mine : IsOfLevel level b
+  pub theirs : All (IsOfLevel level) bounds
 
 -- ---- the same, of a history
 

@@ -1,4 +1,4 @@
-ghost use Rattle.std.specs.Prelude.{◌≡◌, ◌<◌, ◌++◌, ℕ, IfOk, OnOk, length};
+ghost use Rattle.std.specs.Prelude.{◌≡◌, ◌<◌, ◌++◌, ℕ, IfOk, OnOk, length, map};
 ghost use Rattle.history.specs.History.{History};
 ghost use Rattle.history.specs.Places.{AreCatalogueSound};
 ghost use Rattle.tx_table.specs.Stands.{TableStands};
@@ -8,7 +8,8 @@ ghost use Rattle.part_catalog.specs.Answers.{AreTogether};
 ghost use Rattle.part_catalog.specs.Stands.{CatalogueStands};
 ghost use Rattle.part_ddl.specs.Below as below;
 
-use part_bounds::default_child;
+use history::Entry;
+use part_bounds::{Bound, default_child};
 use part_catalog::Catalog;
 use pg_ids::TableNo;
 use pg_values::NoMemory;
@@ -81,6 +82,18 @@ pub fn default_in(tree: &Tree) -> Option<TableNo>
     }
 }
 
+// The default partition among those of a table.
+pub(crate) fn default_among(partitions: &[&Entry]) -> Option<TableNo>
+    ensures { result ≡ below.default_among (map (λ e. e.now) partitions.now) }
+{
+    for entry in partitions {
+        if matches!(entry.bound, Bound::Default) {
+            return Some(entry.child);
+        }
+    }
+    None
+}
+
 /// The default partition of a table for the session.
 pub fn default_of(
     alloc: Global,
@@ -94,7 +107,7 @@ pub fn default_of(
     ensures { IfOk result (λ default. (h : History) → TableStands txs.now h → CatalogueStands catalog.now h →
         default ≡ below.default_of h session table.number) }
 {
-    let tree = catalog.ddl_tree(alloc, txs, table, session)?;
-    let default = default_in(&tree);
+    let partitions = catalog.partitions(alloc, txs, table, session)?;
+    let default = default_among(&partitions);
     Ok(default)
 }

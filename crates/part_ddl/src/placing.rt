@@ -1,40 +1,38 @@
 //! Whether a partition may stand below a table.
 
-ghost use Rattle.std.specs.Prelude.{◌≡◌, ◌<◌, ◌≤◌, ◌++◌, [], MatchResult, OnOk, Ok, All, true, length, option_map, slice_index_or};
+ghost use Rattle.std.specs.Prelude.{◌≡◌, ◌<◌, ◌≤◌, ◌++◌, [], ◌∷◌, MatchResult, IfOk, OnOk, Ok, None, All, true, find, length, map, option_map};
+ghost use Rattle.pg_values.specs.KeyKinds.{IsNotNull};
 ghost use Rattle.pg_values.specs.Refusals.{IsAnswer};
-ghost use Rattle.part_bounds.specs.declared.level.Level.{Level as OneLevel};
 ghost use Rattle.part_bounds.specs.declared.partition_bound.Bound.TheVariants.{Default};
-ghost use Rattle.part_bounds.specs.Bounds.{BoundsFit, is_filled};
+ghost use Rattle.part_bounds.specs.Bounds.{is_filled, overlaps, BoundOfKind, BoundsFit};
 ghost use Rattle.part_bounds.specs.Checks.{or_first};
-ghost use Rattle.part_bounds.specs.Levels.{IsOfLevel};
+ghost use Rattle.part_bounds.specs.Moduli as moduli;
+ghost use Rattle.part_bounds.specs.Moduli.{bad_modulus};
 ghost use Rattle.history.specs.History.{History};
 ghost use Rattle.history.specs.Places.{TakesBound};
 ghost use Rattle.history.specs.Presence.{entries_present};
 ghost use Rattle.tx_table.specs.Stands.{TableStands};
-ghost use Rattle.table_trees.specs.Histories.{above};
-ghost use Rattle.table_trees.specs.Seen.{items_of, seen};
+ghost use Rattle.table_trees.specs.Histories.{above, bound_of};
 ghost use Rattle.part_catalog.specs.Answers.{AreTogether};
 ghost use Rattle.part_catalog.specs.Found.{made_at};
 ghost use Rattle.part_catalog.specs.Full.{tables_above};
 ghost use Rattle.part_catalog.specs.Stands.{CatalogueStands};
-ghost use Rattle.part_ddl.specs.Below.{IsTreeOf};
 ghost use Rattle.part_ddl.specs.Placing as placing;
-ghost use Rattle.part_ddl.specs.Placing.{IsFault};
+ghost use Rattle.part_ddl.specs.Placing.{AreOfOneLevel, IsFault};
 
+use crate::below::default_among;
 use crate::faults::{
     bound_overlaps, modulus_does_not_suit, not_partitioned, pending_beside, second_default,
     too_many,
 };
-use history::TableShape;
+use history::{Entry, TableShape};
 use part_bounds::{
-    Bound, BoundSet, Level, default_child, level_bounds_have_a_kind, modulus_fault,
-    overlap_uncounted,
+    Bound, BoundSet, Level, copy_bound, modulus_fault, overlap_uncounted, set_in_order,
 };
 use part_catalog::{Catalog, LEVEL_LIMIT, PARTITION_LIMIT};
 use pg_ids::{TableNo, Which};
-use pg_values::{Refusal, ValueKey};
+use pg_values::{NoMemory, Refusal, ValueKey};
 use std::alloc::Global;
-use table_trees::{Shape, Tree, TreeList};
 use tx_table::TxTable;
 
 /// The level of a table, below which a partition is to stand; 42809 where the table is not
@@ -55,27 +53,70 @@ pub fn parent_level<'c>(
     }
 }
 
-// The name of the partition at a place.
-fn name_at(children: &TreeList, at: usize) -> &[u8]
-    requires { at < length (items_of children.now) }
-    ensures { result.now ≡ slice_index_or (placing.tree_names (items_of children.now)) at [] }
+// The bound by itself, as a set.
+fn set_of(alloc: Global, bound: &Bound) -> Result<BoundSet<ValueKey>, NoMemory>
+    requires { BoundOfKind IsNotNull bound.now }
+    ensures { IfOk result (λ set. set ≡ bound.now ∷ []) }
 {
-    children.at(at).node.name.as_bytes()
+    let mut bounds = Vec::new(alloc);
+    bounds.push(copy_bound(alloc, bound)?)?;
+    let set = set_in_order(alloc, bounds, ValueKey)?;
+    Ok(set)
+}
+
+// The modulus of a bound that has one.
+fn modulus_of(bound: &Bound) -> Option<u32>
+    ensures { result ≡ moduli.modulus_of bound.now }
+{
+    match bound {
+        Bound::Hash { modulus, .. } => Some(*modulus),
+        _ => None,
+    }
+}
+
+// The modulus of the first partition that does not suit the only bound of the set.
+fn unsuited(one: &BoundSet<ValueKey>, _bound: &Bound, partitions: &[&Entry]) -> Option<u32>
+    requires one { one.now ≡ _bound.now ∷ [] }
+    requires filled { All (λ e. is_filled e.bound ≡ true) (map (λ e. e.now) partitions.now) }
+    ensures { result ≡ bad_modulus _bound.now (map bound_of (map (λ e. e.now) partitions.now)) }
+{
+    for entry in partitions {
+        if modulus_fault(one, &entry.bound).is_some() {
+            return modulus_of(&entry.bound);
+        }
+    }
+    None
+}
+
+// The first partition whose bound overlaps the only bound of the set.
+fn overlapping(one: &BoundSet<ValueKey>, _bound: &Bound, partitions: &[&Entry]) -> Option<TableNo>
+    requires one { one.now ≡ _bound.now ∷ [] }
+    requires filled { All (λ e. is_filled e.bound ≡ true) (map (λ e. e.now) partitions.now) }
+    requires fit { All (λ e. BoundsFit _bound.now e.bound) (map (λ e. e.now) partitions.now) }
+    ensures { result ≡ option_map (λ e. e.child) (find (λ e. overlaps _bound.now e.bound) (map (λ e. e.now) partitions.now)) }
+{
+    for entry in partitions {
+        if overlap_uncounted(one, &entry.bound).is_some() {
+            return Some(entry.child);
+        }
+    }
+    None
 }
 
 // A default stands beside no other default, and beside no pending partition.
 fn check_further_default(
     alloc: Global,
+    catalog: &Catalog,
     parent: &[u8],
     pending: Option<&[u8]>,
-    bounds: &BoundSet<ValueKey>,
-    children: &TreeList,
+    partitions: &[&Entry],
 ) -> Result<(), Refusal>
-    requires { length bounds.now ≡ length (items_of children.now) }
-    ensures { IsAnswer result (or_first (placing.default_faults parent.now (option_map (λ n. n.now) pending.entry) (placing.tree_names (items_of children.now)) bounds.now Default) tt) }
+    requires { All (λ e. e.child.number < length catalog.now.tables) (map (λ e. e.now) partitions.now) }
+    ensures { (h : History) → CatalogueStands catalog.now h →
+        IsAnswer result (or_first (placing.default_faults parent.now (option_map (λ n. n.now) pending.entry) (map (placing.child_name h) (map (λ e. e.now) partitions.now)) (map bound_of (map (λ e. e.now) partitions.now)) Default) tt) }
 {
-    if let Some(at) = default_child(bounds) {
-        let name = name_at(children, at);
+    if let Some(default) = default_among(partitions) {
+        let name = catalog.name_of(default);
         return Err(Refusal::Sql(second_default(alloc, parent, name)?));
     }
     match pending {
@@ -86,28 +127,35 @@ fn check_further_default(
 
 fn check_default(
     alloc: Global,
+    catalog: &Catalog,
     parent: &[u8],
     pending: Option<&[u8]>,
-    bounds: &BoundSet<ValueKey>,
-    children: &TreeList,
+    partitions: &[&Entry],
     bound: &Bound,
 ) -> Result<(), Refusal>
-    requires { length bounds.now ≡ length (items_of children.now) }
-    ensures { IsAnswer result (or_first (placing.default_faults parent.now (option_map (λ n. n.now) pending.entry) (placing.tree_names (items_of children.now)) bounds.now bound.now) tt) }
+    requires { All (λ e. e.child.number < length catalog.now.tables) (map (λ e. e.now) partitions.now) }
+    ensures { (h : History) → CatalogueStands catalog.now h →
+        IsAnswer result (or_first (placing.default_faults parent.now (option_map (λ n. n.now) pending.entry) (map (placing.child_name h) (map (λ e. e.now) partitions.now)) (map bound_of (map (λ e. e.now) partitions.now)) bound.now) tt) }
 {
     match bound {
-        Bound::Default => check_further_default(alloc, parent, pending, bounds, children),
+        Bound::Default => check_further_default(alloc, catalog, parent, pending, partitions),
         _ => Ok(()),
     }
 }
 
 // Of two moduli one is a factor of the other.
-fn check_modulus(alloc: Global, bounds: &BoundSet<ValueKey>, bound: &Bound) -> Result<(), Refusal>
-    requires { is_filled bound.now ≡ true }
-    ensures answer { IsAnswer result (or_first (placing.modulus_faults bounds.now bound.now) tt) }
-    ensures fit { OnOk result ((level : OneLevel) → IsOfLevel level bound.now → All (IsOfLevel level) bounds.now → All (λ a. BoundsFit a bound.now) bounds.now) }
+fn check_modulus(
+    alloc: Global,
+    one: &BoundSet<ValueKey>,
+    partitions: &[&Entry],
+    bound: &Bound,
+) -> Result<(), Refusal>
+    requires one { one.now ≡ bound.now ∷ [] }
+    requires filled { All (λ e. is_filled e.bound ≡ true) (map (λ e. e.now) partitions.now) }
+    ensures answer { IsAnswer result (or_first (placing.modulus_faults (map bound_of (map (λ e. e.now) partitions.now)) bound.now) tt) }
+    ensures fit { OnOk result (bad_modulus bound.now (map bound_of (map (λ e. e.now) partitions.now)) ≡ None) }
 {
-    match modulus_fault(bounds, bound) {
+    match unsuited(one, bound, partitions) {
         None => Ok(()),
         Some(other) => match bound {
             Bound::Hash { modulus, .. } => {
@@ -120,18 +168,21 @@ fn check_modulus(alloc: Global, bounds: &BoundSet<ValueKey>, bound: &Bound) -> R
 
 fn check_overlap(
     alloc: Global,
-    bounds: &BoundSet<ValueKey>,
-    children: &TreeList,
+    catalog: &Catalog,
+    one: &BoundSet<ValueKey>,
+    partitions: &[&Entry],
     bound: &Bound,
 ) -> Result<(), Refusal>
-    requires paired { length bounds.now ≡ length (items_of children.now) }
-    requires filled { is_filled bound.now ≡ true }
-    requires fit { All (λ a. BoundsFit a bound.now) bounds.now }
-    ensures { IsAnswer result (or_first (placing.overlap_faults (placing.tree_names (items_of children.now)) bounds.now bound.now) tt) }
+    requires one { one.now ≡ bound.now ∷ [] }
+    requires known { All (λ e. e.child.number < length catalog.now.tables) (map (λ e. e.now) partitions.now) }
+    requires filled { All (λ e. is_filled e.bound ≡ true) (map (λ e. e.now) partitions.now) }
+    requires fit { All (λ e. BoundsFit bound.now e.bound) (map (λ e. e.now) partitions.now) }
+    ensures { (h : History) → CatalogueStands catalog.now h →
+        IsAnswer result (or_first (placing.overlap_faults (map (placing.child_name h) (map (λ e. e.now) partitions.now)) (map bound_of (map (λ e. e.now) partitions.now)) bound.now) tt) }
 {
-    match overlap_uncounted(bounds, bound) {
-        Some(at) => {
-            let name = name_at(children, at);
+    match overlapping(one, bound, partitions) {
+        Some(other) => {
+            let name = catalog.name_of(other);
             Err(Refusal::Sql(bound_overlaps(alloc, name)?))
         }
         None => Ok(()),
@@ -141,23 +192,21 @@ fn check_overlap(
 // What stands against the bound among the partitions of its level.
 fn check_beside(
     alloc: Global,
+    catalog: &Catalog,
     parent: &[u8],
     pending: Option<&[u8]>,
-    level: &Level,
-    bounds: &BoundSet<ValueKey>,
-    children: &TreeList,
+    partitions: &[&Entry],
     bound: &Bound,
 ) -> Result<(), Refusal>
-    requires paired { length bounds.now ≡ length (items_of children.now) }
-    requires mine { IsOfLevel level.now bound.now }
-    requires theirs { All (IsOfLevel level.now) bounds.now }
-    ensures { IsAnswer result (or_first (placing.bound_faults parent.now (option_map (λ n. n.now) pending.entry) (placing.tree_names (items_of children.now)) bounds.now bound.now) tt) }
+    requires known { All (λ e. e.child.number < length catalog.now.tables) (map (λ e. e.now) partitions.now) }
+    requires level { AreOfOneLevel bound.now (map bound_of (map (λ e. e.now) partitions.now)) }
+    ensures { (h : History) → CatalogueStands catalog.now h →
+        IsAnswer result (or_first (placing.bound_faults parent.now (option_map (λ n. n.now) pending.entry) (map (placing.child_name h) (map (λ e. e.now) partitions.now)) (map bound_of (map (λ e. e.now) partitions.now)) bound.now) tt) }
 {
-    level_bounds_have_a_kind();
-    let _ = level;
-    check_default(alloc, parent, pending, bounds, children, bound)?;
-    check_modulus(alloc, bounds, bound)?;
-    check_overlap(alloc, bounds, children, bound)
+    check_default(alloc, catalog, parent, pending, partitions, bound)?;
+    let one = set_of(alloc, bound)?;
+    check_modulus(alloc, &one, partitions, bound)?;
+    check_overlap(alloc, catalog, &one, partitions, bound)
 }
 
 // A table has 1,024 partitions at most, and a path 8 tables.
@@ -176,21 +225,20 @@ fn check_room(alloc: Global, partitions: usize, levels: usize) -> Result<(), Ref
 // What stands against the bound, the limits among it.
 fn check_level(
     alloc: Global,
+    catalog: &Catalog,
     parent: &[u8],
     pending: Option<&[u8]>,
-    level: &Level,
-    bounds: &BoundSet<ValueKey>,
-    children: &TreeList,
+    partitions: &[&Entry],
     bound: &Bound,
     levels: usize,
 ) -> Result<(), Refusal>
-    requires paired { length bounds.now ≡ length (items_of children.now) }
-    requires mine { IsOfLevel level.now bound.now }
-    requires theirs { All (IsOfLevel level.now) bounds.now }
-    ensures { IsAnswer result (or_first (placing.bound_faults parent.now (option_map (λ n. n.now) pending.entry) (placing.tree_names (items_of children.now)) bounds.now bound.now ++ placing.room_faults (length (items_of children.now)) levels) tt) }
+    requires known { All (λ e. e.child.number < length catalog.now.tables) (map (λ e. e.now) partitions.now) }
+    requires level { AreOfOneLevel bound.now (map bound_of (map (λ e. e.now) partitions.now)) }
+    ensures { (h : History) → CatalogueStands catalog.now h →
+        IsAnswer result (or_first (placing.bound_faults parent.now (option_map (λ n. n.now) pending.entry) (map (placing.child_name h) (map (λ e. e.now) partitions.now)) (map bound_of (map (λ e. e.now) partitions.now)) bound.now ++ placing.room_faults (length (map (λ e. e.now) partitions.now)) levels) tt) }
 {
-    check_beside(alloc, parent, pending, level, bounds, children, bound)?;
-    check_room(alloc, children.len(), levels)
+    check_beside(alloc, catalog, parent, pending, partitions, bound)?;
+    check_room(alloc, partitions.len(), levels)
 }
 
 // How many tables stand on the path from a table upwards, up to eight.
@@ -229,33 +277,27 @@ fn pending_name<'c>(
     }
 }
 
-/// Whether a table that is not partitioned, or has no partition yet, may stand below another, whose tree is
-/// given, under a bound of that one's level. It is refused as a second default (42P17), as a default beside
-/// a pending partition (55000), where its modulus does not suit a sibling's or its bound overlaps a
-/// sibling's (42P17), pending ones among them, and past 1,024 partitions or 8 tables on a path (54000).
+/// Whether a table that is not partitioned, or has no partition yet, may stand below another under a
+/// bound of that one's level. It is refused as a second default (42P17), as a default beside a pending
+/// partition (55000), where its modulus does not suit a sibling's or its bound overlaps a sibling's
+/// (42P17), pending ones among them, and past 1,024 partitions or 8 tables on a path (54000).
 pub fn check_place(
     alloc: Global,
     catalog: &Catalog,
     txs: &TxTable,
     parent: TableNo,
-    tree: &Tree,
     bound: &Bound,
     session: u32,
 ) -> Result<(), Refusal>
     requires known { parent.number < length catalog.now.tables }
     requires siblings { AreTogether txs.now catalog.now session }
     requires takes { (h : History) → CatalogueStands catalog.now h → TakesBound (made_at h parent.number).shape bound.now }
-    requires tree { IsTreeOf txs.now catalog.now session parent.number (seen tree.now) }
     ensures { (h : History) → TableStands txs.now h → CatalogueStands catalog.now h →
         IsAnswer result (or_first (placing.place_faults h session parent.number bound.now 1) tt) }
 {
-    match &tree.shape {
-        Shape::Leaf(_) => unreachable!(),
-        Shape::Level(level, bounds, children) => {
-            let pending = pending_name(catalog, txs, parent, session);
-            let name = catalog.name_of(parent);
-            let levels = levels_up(catalog, txs, parent, session) + 1;
-            check_level(alloc, name, pending, level, bounds, children, bound, levels)
-        }
-    }
+    let partitions = catalog.partitions(alloc, txs, parent, session)?;
+    let pending = pending_name(catalog, txs, parent, session);
+    let name = catalog.name_of(parent);
+    let levels = levels_up(catalog, txs, parent, session) + 1;
+    check_level(alloc, catalog, name, pending, &partitions, bound, levels)
 }

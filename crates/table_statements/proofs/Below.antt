@@ -123,11 +123,6 @@ pub entry_suits : (h : History) (s : ℕ) (e : Entry) → AreCatalogueSound h �
 entry_suits h s e sound at =
     All-contains (Suits (tables_made (catalogue_events h))) (entries_present h s) e (All-filter (is_present h s) (Suits (tables_made (catalogue_events h))) (entries_added (catalogue_events h)) (all_suit h sound)) at
 
--- ---- the tree of a table
-
-pub is_ddl_tree : (table : KeptTable) (kept : KeptCatalogue) (s p : ℕ) (t : TableTree) → AreTogether table kept s → ddl.IsTreeOf table kept s p t → ddl.IsDdlTree t
-is_ddl_tree table kept s p t both is = record { h = both.h; session = s; table = p; is = is both.h both.txs both.catalogue }
-
 -- ---- what is looked up is made
 
 pub default_made : (table : KeptTable) (kept : KeptCatalogue) (s p : ℕ) (d : TableNo) → AreTogether table kept s → ((h : History) → TableStands table h → CatalogueStands kept h → Some d ≡ default_of h s p) → d.number < length kept.tables

@@ -1,14 +1,17 @@
 ghost use Rattle.std.specs.Prelude.{◌≡◌, ◌+◌, ◌<◌, ◌≤◌, ℕ, [], IfOk, length};
+ghost use Rattle.pg_ids.specs.Sets.{has};
+ghost use Rattle.pg_values.specs.Refusals.{IsAnswer};
 ghost use Rattle.history.specs.History.{History};
 ghost use Rattle.tx_table.specs.Stands.{TableStands};
-ghost use Rattle.table_trees.specs.Seen.{seen};
 ghost use Rattle.part_catalog.specs.Answers.{AreTogether};
 ghost use Rattle.part_catalog.specs.Stands.{CatalogueStands};
 ghost use Rattle.expression_binder.specs.Firsts.{IsAnswerBy};
 ghost use Rattle.part_ddl.specs.Below as below;
-ghost use Rattle.part_ddl.specs.Below.{IsTreeOf};
 ghost use Rattle.part_ddl.specs.Tables.{count_faults};
 ghost use Rattle.sql_commands.specs.Trees.{bound_tree};
+ghost use Rattle.partition_scans.specs.Data.{DataStand};
+ghost use Rattle.partition_scans.specs.Places.{default_scan};
+ghost use Rattle.partition_scans.specs.Scans.{judged, watches};
 ghost use Rattle.course.specs.Attempts.{MayAttempt};
 ghost use Rattle.statement_steps.specs.Steps.{IsStep};
 ghost use Rattle.table_statements.specs.Partitions as partitions;
@@ -29,11 +32,11 @@ use legal_statements::{
 use part_bounds::{Bound, Level};
 use part_catalog::Catalog;
 use part_ddl::{
-    check_count, check_place, default_in, make_partition, parent_level, passed_have_places,
+    check_count, check_place, default_of, make_partition, parent_level, passed_have_places,
     tables_below,
 };
 use partition_scans::{judge_default, wait_for_snapshots};
-use pg_ids::{LockMode, TableNo};
+use pg_ids::{LockMode, SessionSet, TableNo};
 use pg_values::{NoMemory, PgText, Refusal};
 use soundness::{legal_keeps_all, sessions_have_siblings};
 use sql_commands::{BoundText, Partitioning};
@@ -41,7 +44,6 @@ use statement_steps::{SessionNames, hold_if_repeatable, lock_named, lock_tables}
 use std::alloc::Global;
 use stores::{Stores, leaves_are_housed, trees_are_together};
 use table_binder::bind_bound;
-use table_trees::Tree;
 use tx_table::TxTable;
 
 /// The bound of a partition, and its own level where it is partitioned.
@@ -70,38 +72,36 @@ pub fn tables_from(
     Ok(tables)
 }
 
-// The default partition of the parent, whose tree is given, and the tables under it.
+// The default partition of the parent, and the tables under it.
 fn default_tables(
     alloc: Global,
     catalog: &Catalog,
     txs: &TxTable,
     parent: TableNo,
-    tree: &Tree,
     session: u32,
 ) -> Result<Vec<TableNo>, NoMemory>
+    requires known { parent.number < length catalog.now.tables }
     requires siblings { AreTogether txs.now catalog.now session }
-    requires tree { IsTreeOf txs.now catalog.now session parent.number (seen tree.now) }
     ensures { IfOk result (λ tables. (h : History) → TableStands txs.now h → CatalogueStands catalog.now h →
         tables.items ≡ family_of h session (below.default_of h session parent.number)) }
 {
-    match default_in(tree) {
+    match default_of(alloc, catalog, txs, parent, session)? {
         None => Ok(Vec::new(alloc)),
         Some(table) => tables_from(alloc, catalog, txs, table, session),
     }
 }
 
-/// A part: the default partition of the parent, whose tree is given, and the tables under it are locked.
+/// A part: the default partition of the parent and the tables under it are locked.
 pub fn lock_default(
     alloc: Global,
     stores: &mut Stores,
     names: &SessionNames,
     caller: Caller,
     parent: TableNo,
-    tree: &Tree,
 ) -> Result<(), Stop>
     requires may { MayAttempt stores.old caller }
     requires few { length stores.old.catalog.tables ≤ 4096 }
-    requires tree { IsTreeOf stores.old.txs stores.old.catalog caller.session parent.number (seen tree.now) }
+    requires known { parent.number < length stores.old.catalog.tables }
     ensures step { IsStep (λ u. u) result stores.old stores.new caller caller.cmd (partitions.default_locked names.now caller.session parent.number) }
     ensures locked { IfOk result (λ u. HasDefaultLocked stores.new caller.session parent.number) }
     ensures rest { stores.new ≡ record stores.old { locks = stores.new.locks } }
@@ -111,14 +111,7 @@ pub fn lock_default(
     there_is_known();
     tree_is_whole();
     legal_keeps_all();
-    match default_tables(
-        alloc,
-        &stores.catalog,
-        &stores.txs,
-        parent,
-        tree,
-        caller.session,
-    ) {
+    match default_tables(alloc, &stores.catalog, &stores.txs, parent, caller.session) {
         Ok(tables) => lock_tables(
             alloc,
             stores,
@@ -138,13 +131,11 @@ fn place_of(
     txs: &TxTable,
     session: u32,
     parent: TableNo,
-    tree: &Tree,
     bound: &BoundText,
     by: &Option<Partitioning>,
 ) -> Result<Place, Refusal>
     requires known { parent.number < length catalog.now.tables }
     requires siblings { AreTogether txs.now catalog.now session }
-    requires tree { IsTreeOf txs.now catalog.now session parent.number (seen tree.now) }
     ensures answer { (h : History) → TableStands txs.now h → CatalogueStands catalog.now h →
         IsAnswerBy seen_place result (partition_place h session parent.number (bound_tree bound.now) by.now) }
     ensures few { IfOk result (λ place. (h : History) → CatalogueStands catalog.now h → count_faults h ≡ []) }
@@ -153,7 +144,7 @@ fn place_of(
     let above = parent_level(alloc, catalog, parent)?;
     check_count(alloc, catalog)?;
     let bound = bind_bound(alloc, bound, above)?;
-    check_place(alloc, catalog, txs, parent, tree, &bound, session)?;
+    check_place(alloc, catalog, txs, parent, &bound, session)?;
     let level = level_by(alloc, catalog.table(parent).columns.as_slice(), by)?;
     Ok(Place { bound, level })
 }
@@ -164,20 +155,18 @@ fn place_found(
     stores: &Stores,
     caller: Caller,
     parent: TableNo,
-    tree: &Tree,
     bound: &BoundText,
     by: &Option<Partitioning>,
 ) -> Result<Place, Stop>
     requires may { MayAttempt stores.now caller }
     requires known { parent.number < length stores.now.catalog.tables }
-    requires tree { IsTreeOf stores.now.txs stores.now.catalog caller.session parent.number (seen tree.now) }
     ensures step { IsStep seen_place result stores.now stores.now caller caller.cmd (partitions.place_found caller.session parent.number (bound_tree bound.now) by.now) }
     ensures few { IfOk result (λ place. (h : History) → CatalogueStands stores.now.catalog h → count_faults h ≡ []) }
     ensures may { IfOk result (λ place. (h : History) → TableStands stores.now.txs h → CatalogueStands stores.now.catalog h → MayBePlaced h caller.session parent.number place.bound place.level) }
 {
     trees_are_together();
     let Stores { txs, catalog, .. } = stores;
-    match place_of(alloc, catalog, txs, caller.session, parent, tree, bound, by) {
+    match place_of(alloc, catalog, txs, caller.session, parent, bound, by) {
         Ok(place) => Ok(place),
         Err(refusal) => Err(stop_by(refusal)),
     }
@@ -226,6 +215,32 @@ fn make_placed(
     }
 }
 
+// The rows of the default partition are judged. The tree of the parent is built only where there is one.
+fn judge_beside(
+    alloc: Global,
+    stores: &Stores,
+    caller: Caller,
+    parent: TableNo,
+    bound: &Bound,
+    name: &[u8],
+) -> Result<SessionSet, Refusal>
+    requires may { MayAttempt stores.now caller }
+    requires known { parent.number < length stores.now.catalog.tables }
+    requires takes { (h : History) → CatalogueStands stores.now.catalog h → TakesBound (made_at h parent.number).shape bound.now }
+    ensures answer { (h : History) → DataStand stores.now h → IsAnswer result (judged h caller.session (default_scan h caller.session parent.number bound.now name.now (below.default_of h caller.session parent.number))) }
+    ensures all { IfOk result (λ others. (h : History) → DataStand stores.now h → (r : ℕ) → has others r ≡ watches h caller.session (default_scan h caller.session parent.number bound.now name.now (below.default_of h caller.session parent.number)) r) }
+{
+    trees_are_together();
+    let Stores { txs, catalog, .. } = stores;
+    match default_of(alloc, catalog, txs, parent, caller.session)? {
+        None => Ok(SessionSet::empty()),
+        Some(_) => {
+            let tree = catalog.ddl_tree(alloc, txs, parent, caller.session)?;
+            judge_default(alloc, stores, caller, parent, &tree, bound, name)
+        }
+    }
+}
+
 // A part: no row of the default partition belongs to the new one.
 fn scan_default(
     alloc: Global,
@@ -234,18 +249,16 @@ fn scan_default(
     caller: Caller,
     name: &[u8],
     parent: TableNo,
-    tree: &Tree,
     place: &Place,
 ) -> Result<(), Stop>
     requires may { MayAttempt stores.old caller }
     requires known { parent.number < length stores.old.catalog.tables }
     requires takes { (h : History) → CatalogueStands stores.old.catalog h → TakesBound (made_at h parent.number).shape place.now.bound }
-    requires tree { IsTreeOf stores.old.txs stores.old.catalog caller.session parent.number (seen tree.now) }
     ensures step { IsStep (λ u. u) result stores.old stores.new caller caller.cmd (partitions.default_scanned names.now caller.session parent.number place.now.bound name.now) }
     ensures clean { IfOk result (λ u. HasDefaultClean stores.new caller.session parent.number place.now.bound name.now) }
     ensures rest { stores.new ≡ record stores.old { locks = stores.new.locks } }
 {
-    let judged = judge_default(alloc, stores, caller, parent, tree, &place.bound, name);
+    let judged = judge_beside(alloc, stores, caller, parent, &place.bound, name);
     wait_for_snapshots(alloc, stores, names, caller, judged)
 }
 
@@ -257,19 +270,17 @@ fn scan_and_make(
     caller: Caller,
     name: &PgText,
     parent: TableNo,
-    tree: &Tree,
     place: Place,
 ) -> Result<(), Stop>
     requires may { MayAttempt stores.old caller }
     requires parent { IsLockedNamed stores.old caller.session parent.number }
     requires default { HasDefaultLocked stores.old caller.session parent.number }
-    requires tree { IsTreeOf stores.old.txs stores.old.catalog caller.session parent.number (seen tree.now) }
     requires free { (h : History) → TableStands stores.old.txs h → CatalogueStands stores.old.catalog h → MayBeMade h caller.session name.now }
     requires placed { (h : History) → TableStands stores.old.txs h → CatalogueStands stores.old.catalog h → MayBePlaced h caller.session parent.number place.bound place.level }
     ensures { IsStep (λ u. u) result stores.old stores.new caller (caller.cmd + 1) (partitions.scanned_and_made names.now caller name.now parent.number (seen_place place)) }
 {
     let text = name.as_bytes();
-    match scan_default(alloc, stores, names, caller, text, parent, tree, &place) {
+    match scan_default(alloc, stores, names, caller, text, parent, &place) {
         Ok(()) => match name.copy(alloc) {
             Ok(name) => make_placed(alloc, stores, caller, name, parent, place),
             Err(NoMemory) => Err(Stop::NoMemory),
@@ -286,19 +297,17 @@ fn place_and_make(
     caller: Caller,
     name: &PgText,
     parent: TableNo,
-    tree: &Tree,
     bound: &BoundText,
     by: &Option<Partitioning>,
 ) -> Result<(), Stop>
     requires may { MayAttempt stores.old caller }
     requires parent { IsLockedNamed stores.old caller.session parent.number }
     requires default { HasDefaultLocked stores.old caller.session parent.number }
-    requires tree { IsTreeOf stores.old.txs stores.old.catalog caller.session parent.number (seen tree.now) }
     requires free { (h : History) → TableStands stores.old.txs h → CatalogueStands stores.old.catalog h → IsFree h caller.session name.now }
     ensures { IsStep (λ u. u) result stores.old stores.new caller (caller.cmd + 1) (partitions.placed_and_made names.now caller name.now parent.number (bound_tree bound.now) by.now) }
 {
-    match place_found(alloc, stores, caller, parent, tree, bound, by) {
-        Ok(place) => scan_and_make(alloc, stores, names, caller, name, parent, tree, place),
+    match place_found(alloc, stores, caller, parent, bound, by) {
+        Ok(place) => scan_and_make(alloc, stores, names, caller, name, parent, place),
         Err(stop) => Err(stop),
     }
 }
@@ -323,18 +332,16 @@ fn claim_and_place(
     caller: Caller,
     name: &PgText,
     parent: TableNo,
-    tree: &Tree,
     bound: &BoundText,
     by: &Option<Partitioning>,
 ) -> Result<(), Stop>
     requires may { MayAttempt stores.old caller }
     requires parent { IsLockedNamed stores.old caller.session parent.number }
     requires default { HasDefaultLocked stores.old caller.session parent.number }
-    requires tree { IsTreeOf stores.old.txs stores.old.catalog caller.session parent.number (seen tree.now) }
     ensures { IsStep (λ u. u) result stores.old stores.new caller (caller.cmd + 1) (partitions.claimed_and_placed names.now caller name.now parent.number (bound_tree bound.now) by.now) }
 {
     match claim_name(alloc, stores, names, caller, name.as_bytes()) {
-        Ok(()) => place_and_make(alloc, stores, names, caller, name, parent, tree, bound, by),
+        Ok(()) => place_and_make(alloc, stores, names, caller, name, parent, bound, by),
         Err(stop) => Err(stop),
     }
 }
@@ -347,18 +354,16 @@ fn claim_and_make(
     caller: Caller,
     name: &PgText,
     parent: TableNo,
-    tree: &Tree,
     bound: &BoundText,
     by: &Option<Partitioning>,
 ) -> Result<(), Stop>
     requires may { MayAttempt stores.old caller }
     requires parent { IsLockedNamed stores.old caller.session parent.number }
     requires default { HasDefaultLocked stores.old caller.session parent.number }
-    requires tree { IsTreeOf stores.old.txs stores.old.catalog caller.session parent.number (seen tree.now) }
     ensures { IsStep (λ u. u) result stores.old stores.new caller (caller.cmd + 1) (partitions.claimed_and_made names.now caller name.now parent.number (bound_tree bound.now) by.now) }
 {
     match check_parent(alloc, stores, caller, parent) {
-        Ok(()) => claim_and_place(alloc, stores, names, caller, name, parent, tree, bound, by),
+        Ok(()) => claim_and_place(alloc, stores, names, caller, name, parent, bound, by),
         Err(stop) => Err(stop),
     }
 }
@@ -371,45 +376,17 @@ fn create_beside(
     caller: Caller,
     name: &PgText,
     parent: TableNo,
-    tree: &Tree,
     bound: &BoundText,
     by: &Option<Partitioning>,
 ) -> Result<(), Stop>
     requires may { MayAttempt stores.old caller }
     requires few { length stores.old.catalog.tables ≤ 4096 }
     requires parent { IsLockedNamed stores.old caller.session parent.number }
-    requires tree { IsTreeOf stores.old.txs stores.old.catalog caller.session parent.number (seen tree.now) }
     ensures { IsStep (λ u. u) result stores.old stores.new caller (caller.cmd + 1) (partitions.made_beside names.now caller name.now parent.number (bound_tree bound.now) by.now) }
 {
-    match lock_default(alloc, stores, names, caller, parent, tree) {
-        Ok(()) => claim_and_make(alloc, stores, names, caller, name, parent, tree, bound, by),
+    match lock_default(alloc, stores, names, caller, parent) {
+        Ok(()) => claim_and_make(alloc, stores, names, caller, name, parent, bound, by),
         Err(stop) => Err(stop),
-    }
-}
-
-// The parent's tree is built once for all that is asked of it.
-fn create_in_tree(
-    alloc: Global,
-    stores: &mut Stores,
-    names: &SessionNames,
-    caller: Caller,
-    name: &PgText,
-    parent: TableNo,
-    bound: &BoundText,
-    by: &Option<Partitioning>,
-) -> Result<(), Stop>
-    requires may { MayAttempt stores.old caller }
-    requires few { length stores.old.catalog.tables ≤ 4096 }
-    requires parent { IsLockedNamed stores.old caller.session parent.number }
-    ensures { IsStep (λ u. u) result stores.old stores.new caller (caller.cmd + 1) (partitions.made_beside names.now caller name.now parent.number (bound_tree bound.now) by.now) }
-{
-    trees_are_together();
-    match stores
-        .catalog
-        .ddl_tree(alloc, &stores.txs, parent, caller.session)
-    {
-        Ok(tree) => create_beside(alloc, stores, names, caller, name, parent, &tree, bound, by),
-        Err(NoMemory) => Err(Stop::NoMemory),
     }
 }
 
@@ -430,7 +407,7 @@ fn create_below(
 {
     let mode = LockMode::AccessExclusive;
     match lock_named(alloc, stores, names, caller, parent.as_bytes(), mode) {
-        Ok(parent) => create_in_tree(alloc, stores, names, caller, name, parent, bound, by),
+        Ok(parent) => create_beside(alloc, stores, names, caller, name, parent, bound, by),
         Err(stop) => Err(stop),
     }
 }

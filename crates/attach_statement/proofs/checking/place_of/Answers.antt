@@ -33,18 +33,15 @@ pub check_levels-requires : goal.check_levels-requires
 check_levels-requires c =
     let both = c.requires.siblings in
     let short = path_short both.h c.args.session c.args.parent.number in
-    let same = c.requires.sees.parent_path both.h both.txs both.catalogue in
+    let same = c.requires.path both.h both.txs both.catalogue in
     let count = ap length same in
     omega (arith, short, count)
 
 pub check_place-requires-clause-takes : goal.check_place-requires-clause-takes
 check_place-requires-clause-takes c = λ h catalog. takes_bound (made_at h c.args.parent.number).name (made_at h c.args.parent.number).shape c.in_ok-level.level.now c.in_ok-bound.bound (c.in_ok-level.ensures h catalog) c.in_ok-bound.ensures.of_level
 
-pub check_place-requires-clause-tree : goal.check_place-requires-clause-tree
-check_place-requires-clause-tree c = c.requires.sees.parent_tree
-
 pub check_table-requires-clause-tables : goal.check_table-requires-clause-tables
-check_table-requires-clause-tables c = c.requires.sees.table_family
+check_table-requires-clause-tables c = c.requires.tables
 
 pub returns-in_err-level-clause-answer : goal.returns-in_err-level-clause-answer
 returns-in_err-level-clause-answer c = let p = err_from_is_err_and c.from_residual.result c.from_residual.ensures.1 in λ h txs catalog.
@@ -66,20 +63,20 @@ returns-in_err-check_place-clause-answer c = let p = err_from_is_err_and c.from_
 
 pub returns-in_err-check_levels-clause-answer : goal.returns-in_err-check_levels-clause-answer
 returns-in_err-check_levels-clause-answer c = let p = err_from_is_err_and c.from_residual-in_err-check_levels.result c.from_residual-in_err-check_levels.ensures.1 in λ h txs catalog.
-    let long = ap length (c.requires.sees.parent_path h txs catalog) in
+    let long = ap length (c.requires.path h txs catalog) in
     rw (p.1, p.2) (past_bound (Err c.in_err-check_levels.field-0.0) h c.args.session c.args.parent.number c.args.table.number (bound_tree c.args.bound.now) c.in_ok-level.level.now c.in_ok-bound.bound (c.in_ok-level.ensures h catalog) (none_first (table_faults h c.args.session c.args.parent.number c.args.table.number) tt (c.in_ok-check_table.ensures h txs catalog)) c.in_ok-bound.ensures.answer
     (stops_first (λ (x : Bound). x) c.in_err-check_levels.field-0.0 (place_faults h c.args.session c.args.parent.number c.in_ok-bound.bound (height (ddl_tree h c.args.session c.args.table.number))) (Ok c.in_ok-bound.bound) tt
-    (levels_answer h c.args.session c.args.parent.number c.args.table.number (length c.args.path.now) c.in_ok-bound.bound (seen c.args.own.now) (Err c.in_err-check_levels.field-0.0) long (c.requires.sees.table_tree h txs catalog) (none_first (place_faults h c.args.session c.args.parent.number c.in_ok-bound.bound 1) tt (c.in_ok-check_place.ensures h txs catalog)) c.in_err-check_levels.ensures)))
+    (levels_answer h c.args.session c.args.parent.number c.args.table.number (length c.args.path.now) c.in_ok-bound.bound (seen c.args.own.now) (Err c.in_err-check_levels.field-0.0) long (c.requires.own h txs catalog) (none_first (place_faults h c.args.session c.args.parent.number c.in_ok-bound.bound 1) tt (c.in_ok-check_place.ensures h txs catalog)) c.in_err-check_levels.ensures)))
 
 pub returns-clause-answer : goal.returns-clause-answer
 returns-clause-answer c = λ h txs catalog.
-    let long = ap length (c.requires.sees.parent_path h txs catalog) in
-    let place = none_first (place_faults h c.args.session c.args.parent.number c.in_ok-bound.bound (height (ddl_tree h c.args.session c.args.table.number))) tt (levels_answer h c.args.session c.args.parent.number c.args.table.number (length c.args.path.now) c.in_ok-bound.bound (seen c.args.own.now) (Ok tt) long (c.requires.sees.table_tree h txs catalog) (none_first (place_faults h c.args.session c.args.parent.number c.in_ok-bound.bound 1) tt (c.in_ok-check_place.ensures h txs catalog)) c.in_ok-check_levels.ensures) in
+    let long = ap length (c.requires.path h txs catalog) in
+    let place = none_first (place_faults h c.args.session c.args.parent.number c.in_ok-bound.bound (height (ddl_tree h c.args.session c.args.table.number))) tt (levels_answer h c.args.session c.args.parent.number c.args.table.number (length c.args.path.now) c.in_ok-bound.bound (seen c.args.own.now) (Ok tt) long (c.requires.own h txs catalog) (none_first (place_faults h c.args.session c.args.parent.number c.in_ok-bound.bound 1) tt (c.in_ok-check_place.ensures h txs catalog)) c.in_ok-check_levels.ensures) in
     past_bound (Ok c.in_ok-bound.bound) h c.args.session c.args.parent.number c.args.table.number (bound_tree c.args.bound.now) c.in_ok-level.level.now c.in_ok-bound.bound (c.in_ok-level.ensures h catalog) (none_first (table_faults h c.args.session c.args.parent.number c.args.table.number) tt (c.in_ok-check_table.ensures h txs catalog)) c.in_ok-bound.ensures.answer
     (past_none (λ (x : Bound). x) (Ok c.in_ok-bound.bound) (place_faults h c.args.session c.args.parent.number c.in_ok-bound.bound (height (ddl_tree h c.args.session c.args.table.number))) (Ok c.in_ok-bound.bound) place refl)
 
 pub returns-clause-place : goal.returns-clause-place
 returns-clause-place c = λ h txs catalog.
-    let long = ap length (c.requires.sees.parent_path h txs catalog) in
-    let place = none_first (place_faults h c.args.session c.args.parent.number c.in_ok-bound.bound (height (ddl_tree h c.args.session c.args.table.number))) tt (levels_answer h c.args.session c.args.parent.number c.args.table.number (length c.args.path.now) c.in_ok-bound.bound (seen c.args.own.now) (Ok tt) long (c.requires.sees.table_tree h txs catalog) (none_first (place_faults h c.args.session c.args.parent.number c.in_ok-bound.bound 1) tt (c.in_ok-check_place.ensures h txs catalog)) c.in_ok-check_levels.ensures) in
+    let long = ap length (c.requires.path h txs catalog) in
+    let place = none_first (place_faults h c.args.session c.args.parent.number c.in_ok-bound.bound (height (ddl_tree h c.args.session c.args.table.number))) tt (levels_answer h c.args.session c.args.parent.number c.args.table.number (length c.args.path.now) c.in_ok-bound.bound (seen c.args.own.now) (Ok tt) long (c.requires.own h txs catalog) (none_first (place_faults h c.args.session c.args.parent.number c.in_ok-bound.bound 1) tt (c.in_ok-check_place.ensures h txs catalog)) c.in_ok-check_levels.ensures) in
     may_be_attached h c.args.session c.args.parent.number c.args.table.number c.in_ok-level.level.now c.in_ok-bound.bound (c.in_ok-level.ensures h catalog) c.in_ok-bound.ensures.of_level (none_first (table_faults h c.args.session c.args.parent.number c.args.table.number) tt (c.in_ok-check_table.ensures h txs catalog)) place

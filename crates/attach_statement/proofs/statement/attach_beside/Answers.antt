@@ -8,8 +8,8 @@ use Rattle.attach_statement.specs.Attached.{placed_and_added}
 use Rattle.attach_statement.proofs.Locked.{still_guarded, still_family, still_sees}
 use Rattle.attach_statement.proofs.statement.attach_beside.Goals as goal
 
-pub lock_default-requires-clause-tree : goal.lock_default-requires-clause-tree
-lock_default-requires-clause-tree c = c.requires.sees.parent_tree
+pub lock_default-requires-clause-known : goal.lock_default-requires-clause-known
+lock_default-requires-clause-known c = c.requires.parent.made
 
 pub place_and_add-requires-clause-may : goal.place_and_add-requires-clause-may
 place_and_add-requires-clause-may c = may_go_on (λ (u : Unit {0}). u) tt c.args.stores.now c.lock_default.new.stores c.args.caller (default_locked c.args.names.now c.args.caller.session c.args.parent.number) c.requires.may c.in-Ok.ensures.step

@@ -11,6 +11,15 @@ place_found-requires-clause-parent c = c.requires.locked.guarded.made
 pub place_found-requires-clause-table : goal.place_found-requires-clause-table
 place_found-requires-clause-table c = c.requires.locked.locked.made
 
+pub place_found-requires-clause-path : goal.place_found-requires-clause-path
+place_found-requires-clause-path c = c.requires.sees.parent_path
+
+pub place_found-requires-clause-own : goal.place_found-requires-clause-own
+place_found-requires-clause-own c = c.requires.sees.table_tree
+
+pub place_found-requires-clause-tables : goal.place_found-requires-clause-tables
+place_found-requires-clause-tables c = c.requires.sees.table_family
+
 pub scan_and_add-requires-clause-tree : goal.scan_and_add-requires-clause-tree
 scan_and_add-requires-clause-tree c = c.requires.sees.parent_tree
 

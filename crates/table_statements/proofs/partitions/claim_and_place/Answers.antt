@@ -1,11 +1,8 @@
-use Rattle.std.proofs.Common.{◌+◌, List, ℕ, sym, subst, Ok, Err}
+use Rattle.std.proofs.Common.{◌+◌, List, ℕ, subst, Ok, Err}
 use Rattle.history.specs.History.{History}
 use Rattle.sql_commands.specs.Trees.{bound_tree}
-use Rattle.stores.specs.declared.stores.Stores.{Stores}
-use Rattle.table_trees.specs.Seen.{seen}
 use Rattle.tx_table.specs.Stands.{TableStands}
 use Rattle.part_catalog.specs.Stands.{CatalogueStands}
-use Rattle.part_ddl.specs.Below.{IsTreeOf}
 use Rattle.statement_steps.specs.Steps.{IsStep}
 use Rattle.statement_steps.proofs.Steps.{then_step, stop_step, may_go_on}
 use Rattle.table_statements.specs.Asked.{IsFree}
@@ -31,10 +28,6 @@ place_and_make-requires-clause-parent c =
 pub place_and_make-requires-clause-default : goal.place_and_make-requires-clause-default
 place_and_make-requires-clause-default c =
     still_default c.args.stores.now c.claim_name.new.stores c.args.caller.session c.args.parent.number c.claim_name.ensures.rest c.in-Ok.ensures.step.keeps.locks c.requires.default
-
-pub place_and_make-requires-clause-tree : goal.place_and_make-requires-clause-tree
-place_and_make-requires-clause-tree c =
-    subst (λ (s : Stores). IsTreeOf s.txs s.catalog c.args.caller.session c.args.parent.number (seen c.args.tree.now)) (sym c.claim_name.ensures.rest) c.requires.tree
 
 pub place_and_make-requires-clause-free : goal.place_and_make-requires-clause-free
 place_and_make-requires-clause-free c =

@@ -1,12 +1,12 @@
-use Rattle.std.proofs.Common.{◌+◌, sym, subst}
+use Rattle.std.proofs.Common.{◌+◌}
 use Rattle.sql_commands.specs.Trees.{bound_tree}
-use Rattle.stores.specs.declared.stores.Stores.{Stores}
-use Rattle.table_trees.specs.Seen.{seen}
-use Rattle.part_ddl.specs.Below.{IsTreeOf}
 use Rattle.statement_steps.proofs.Steps.{then_step, stop_step, may_go_on}
 use Rattle.table_statements.specs.Partitions.{default_locked, claimed_and_made}
 use Rattle.table_statements.proofs.Held.{still_named}
 use Rattle.table_statements.proofs.partitions.create_beside.Goals as goal
+
+pub lock_default-requires-clause-known : goal.lock_default-requires-clause-known
+lock_default-requires-clause-known c = c.requires.parent.made
 
 pub claim_and_make-requires-clause-may : goal.claim_and_make-requires-clause-may
 claim_and_make-requires-clause-may c =
@@ -15,10 +15,6 @@ claim_and_make-requires-clause-may c =
 pub claim_and_make-requires-clause-parent : goal.claim_and_make-requires-clause-parent
 claim_and_make-requires-clause-parent c =
     still_named c.args.stores.now c.lock_default.new.stores c.args.caller.session c.args.parent.number c.lock_default.ensures.rest c.in-Ok.ensures.step.keeps.locks c.requires.parent
-
-pub claim_and_make-requires-clause-tree : goal.claim_and_make-requires-clause-tree
-claim_and_make-requires-clause-tree c =
-    subst (λ (s : Stores). IsTreeOf s.txs s.catalog c.args.caller.session c.args.parent.number (seen c.args.tree.now)) (sym c.lock_default.ensures.rest) c.requires.tree
 
 pub claim_and_make-requires-clause-default : goal.claim_and_make-requires-clause-default
 claim_and_make-requires-clause-default c = c.in-Ok.ensures.locked

@@ -1,0 +1,7 @@
+use Rattle.std.proofs.Common.{◌≡◌, drop, map}
+use Rattle.std.specs.List.{find}
+use Rattle.part_bounds.specs.Bounds.{overlaps}
+use Rattle.part_ddl.proofs.placing.overlapping.Given as goal
+
+abbrev pub invariant-loop-entry : goal.invariant-loop-entry
+invariant-loop-entry l = find (λ e. overlaps l._bound e.bound) (map (λ e. e.now) (drop l.entry-index l.partitions)) ≡ find (λ e. overlaps l._bound e.bound) (map (λ e. e.now) l.partitions)
