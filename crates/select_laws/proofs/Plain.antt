@@ -1,12 +1,9 @@
 -- A SELECT by its plan is one that scans all leaves.
-use Rattle.std.proofs.Common.{◌≡◌, ℕ, ◌+◌, ◌-◌, ◌≤◌, ◌<◌, ◌&&◌, ◌||◌, not, arith, Bool, true, false, if◌then◌else◌, List, [], ◌∷◌, ◌++◌, inl, inr, refl, ap, sym, ◌∙◌, length, map}
+use Rattle.std.proofs.Common.{◌≡◌, ℕ, ◌+◌, ◌-◌, ◌≤◌, ◌&&◌, not, arith, Bool, true, false, if◌then◌else◌, List, [], ◌∷◌, ◌++◌, inl, inr, refl, ap, sym, ◌∙◌, length, map}
 use Rattle.std.specs.Prelude.{Result, Ok, Err}
-use Rattle.std.specs.List.{list_any}
 use Rattle.std.proofs.lemmas.List.{length-append, length-map, map-append}
 use Rattle.std.proofs.lemmas.List.Elements.{All-cons, All-nil}
-use Rattle.pg_values.specs.declared.answer.Answer.{Answer}
 use Rattle.pg_values.specs.declared.fault.Fault.{Fault}
-use Rattle.pg_ids.specs.declared.ids.TableNo.{TableNo}
 use Rattle.pg_ids.specs.declared.lock_mode.LockMode.{LockMode}
 use Rattle.pg_ids.specs.declared.lock_mode.LockMode.TheVariants.{AccessShare}
 use Rattle.part_bounds.specs.declared.partition_bound.Bound.{Bound}
@@ -22,13 +19,12 @@ use Rattle.cond_logic.specs.Trees.{CondTree}
 use Rattle.pruned_trees.specs.Kept.{Keeps, id_of, keeps_plain, leaves_below, leaves_among, kept_leaves}
 use Rattle.pruned_trees.specs.Laws.{Rows, shown}
 use Rattle.lock_answers.specs.Asked.{AskedView, AtOnce, WaitsBehind, ClosesCycle, asked, asked_events}
-use Rattle.sql_queries.specs.Trees.{SelectTree}
 use Rattle.sql_binder.specs.Selects.{from_of, bound_select}
 use Rattle.statement_asks.specs.Asked.{SelectMeant}
 use Rattle.plan_tree.specs.Conjuncts.{pool, lies_within, asked_at, asked_later}
 use Rattle.plan_tree.specs.Plans.{keeps_first, is_joined, item_for, plan_for, plan_tables}
 use Rattle.select_answer.specs.Answer.{answer_of, select_course}
-use Rattle.select_answer.specs.Laws.{OneItemIsReadOnce, PrunedIsPlain, plainly, planned, plan_reads}
+use Rattle.select_answer.specs.Laws.{OneItemIsReadOnce, PrunedIsPlain, plainly, plan_reads}
 use Rattle.stores.specs.Events.{look_of}
 use Rattle.stores.specs.Good.{IsGood}
 use Rattle.stores.specs.Laws.{GoodIsLegal}
