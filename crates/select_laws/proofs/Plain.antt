@@ -16,7 +16,7 @@ use Rattle.table_trees.specs.Histories.{tree_of}
 use Rattle.table_trees.specs.Trees.{TableTree, LeafTable, LevelTable, Trees, End, More, leaves, all_leaves}
 use Rattle.soundness.specs.Worlds.{IsMade}
 use Rattle.cond_logic.specs.Trees.{CondTree}
-use Rattle.pruned_trees.specs.Kept.{Keeps, id_of, keeps_plain, leaves_below, leaves_among, kept_leaves}
+use Rattle.pruned_trees.specs.Kept.{Keeps, id_of, leaf_of, keeps_plain, leaves_below, leaves_among, kept_leaves}
 use Rattle.pruned_trees.specs.Laws.{Rows, shown}
 use Rattle.lock_answers.specs.Asked.{AskedView, AtOnce, WaitsBehind, ClosesCycle, asked, asked_events}
 use Rattle.sql_binder.specs.Selects.{from_of, bound_select}
@@ -61,7 +61,7 @@ module _ (keeps : Keeps) where
   kept_few : (t : TableTree) → length (kept_leaves keeps t) ≤ length (leaves t)
   kept_few (LeafTable node leaf) = by (keeps_plain keeps)
     where
-      by : (v : Bool) → length (if v then leaf ∷ [] else []) ≤ 1
+      by : (v : Bool) → length (if v then leaf_of node leaf ∷ [] else []) ≤ 1
       by true = omega arith
       by false = omega arith
   kept_few (LevelTable node level bounds kids) = below_few (LevelTable node level bounds kids)
