@@ -1,5 +1,5 @@
 -- Lists of entries in which one stands at another place, with the same bound and of the same two tables.
-use Rattle.std.proofs.Common.{◌≡◌, ℕ, zero, suc, ◌==◌, Bool, true, false, ◌&&◌, List, [], ◌∷◌, ◌++◌, inl, inr, refl, sym, ap, ◌∙◌, subst, arith, filter, map, All}
+use Rattle.std.proofs.Common.{◌≡◌, ℕ, zero, suc, ◌==◌, Bool, true, false, ◌&&◌, List, [], ◌∷◌, ◌++◌, inl, inr, refl, sym, ap, ◌∙◌, subst, arith, filter, map, All, if◌then◌else◌}
 use Rattle.std.specs.Ordering.{is_gt, is_lt}
 use Rattle.std.proofs.lemmas.Bool.{cases_Bool}
 use Rattle.std.proofs.lemmas.Bool.Decides.{nat_tests}
@@ -186,3 +186,82 @@ module _ (old again : Entry) (before after : List Entry) (parent : again.parent.
       maps_agree f g (λ x. trees_alike tables n named (child_of_entry x)) (children moved t) ∙ below_alike g t (ap (tree_within n tables stayed named) child) in
       ap (λ (bs : List Bound). grown (table_at tables t).shape (node_at tables named t) bs (map f (children moved t))) (below_alike bound_of t bound)
       ∙ ap (λ (ts : List TableTree). grown (table_at tables t).shape (node_at tables named t) (map bound_of (children stayed t)) ts) kids
+
+-- ---- lists of entries of the same tables with the same bounds, whatever their numbers
+
+abbrev pub IsLike : Entry → Entry → Type 0
+IsLike a b = (a.parent.number ≡ b.parent.number) × (a.child.number ≡ b.child.number) × (a.bound ≡ b.bound)
+
+abbrev pub AreLike : List Entry → List Entry → Type 0
+AreLike [] [] = Unit {0}
+AreLike [] (y ∷ ys) = ⊥
+AreLike (x ∷ xs) [] = ⊥
+AreLike (x ∷ xs) (y ∷ ys) = IsLike x y × AreLike xs ys
+
+pub like_itself : (xs : List Entry) → AreLike xs xs
+like_itself [] = tt
+like_itself (x ∷ xs) = ((refl, refl, refl), like_itself xs)
+
+pub like_append : (xs ys us vs : List Entry) → AreLike xs ys → AreLike us vs → AreLike (xs ++ us) (ys ++ vs)
+like_append [] [] us vs first second = second
+like_append [] (y ∷ ys) us vs first second = absurd first
+like_append (x ∷ xs) [] us vs first second = absurd first
+like_append (x ∷ xs) (y ∷ ys) us vs first second = (first.0, like_append xs ys us vs first.1 second)
+
+like_under : (t : ℕ) (xs ys : List Entry) → AreLike xs ys → AreLike (filter (is_under t) xs) (filter (is_under t) ys)
+like_under t [] [] like = tt
+like_under t [] (y ∷ ys) like = absurd like
+like_under t (x ∷ xs) [] like = absurd like
+like_under t (x ∷ xs) (y ∷ ys) like = by (is_under t x) (is_under t y) (ap (λ (n : ℕ). n == t) like.0.0) (like_under t xs ys like.1)
+  where
+    by : (a b : Bool) → a ≡ b → AreLike (filter (is_under t) xs) (filter (is_under t) ys) → AreLike (if a then x ∷ filter (is_under t) xs else filter (is_under t) xs) (if b then y ∷ filter (is_under t) ys else filter (is_under t) ys)
+    by true true e rest = (like.0, rest)
+    by false false e rest = rest
+    by true false e rest = absurd (cc)
+    by false true e rest = absurd (cc)
+
+like_placed : (e f : Entry) (xs ys : List Entry) → IsLike e f → AreLike xs ys → AreLike (placed e xs) (placed f ys)
+like_placed e f [] [] same like = (same, tt)
+like_placed e f [] (y ∷ ys) same like = absurd like
+like_placed e f (x ∷ xs) [] same like = absurd like
+like_placed e f (x ∷ xs) (y ∷ ys) same like = by (comes_after x.bound e.bound) (comes_after y.bound f.bound) both (like_placed e f xs ys same like.1)
+  where
+    both : comes_after x.bound e.bound ≡ comes_after y.bound f.bound
+    both = ap (λ (b : Bound). comes_after b e.bound) like.0.2 ∙ ap (λ (b : Bound). comes_after y.bound b) same.2
+
+    by : (a b : Bool) → a ≡ b → AreLike (placed e xs) (placed f ys) → AreLike (if a then e ∷ (x ∷ xs) else x ∷ placed e xs) (if b then f ∷ (y ∷ ys) else y ∷ placed f ys)
+    by true true is rest = (same, like)
+    by false false is rest = (like.0, rest)
+    by true false is rest = absurd (cc)
+    by false true is rest = absurd (cc)
+
+like_all_placed : (ds es xs ys : List Entry) → AreLike ds es → AreLike xs ys → AreLike (all_placed ds xs) (all_placed es ys)
+like_all_placed ds es [] [] done like = done
+like_all_placed ds es [] (y ∷ ys) done like = absurd like
+like_all_placed ds es (x ∷ xs) [] done like = absurd like
+like_all_placed ds es (x ∷ xs) (y ∷ ys) done like = like_all_placed (placed x ds) (placed y es) xs ys (like_placed x y ds es like.0 done) like.1
+
+like_bounds : (xs ys : List Entry) → AreLike xs ys → map bound_of xs ≡ map bound_of ys
+like_bounds [] [] like = refl
+like_bounds [] (y ∷ ys) like = absurd like
+like_bounds (x ∷ xs) [] like = absurd like
+like_bounds (x ∷ xs) (y ∷ ys) like = ap (λ (b : Bound). b ∷ map bound_of xs) like.0.2 ∙ ap (λ (bs : List Bound). y.bound ∷ bs) (like_bounds xs ys like.1)
+
+like_kids : (f g : ℕ → TableTree) → ((c : ℕ) → f c ≡ g c) → (xs ys : List Entry) → AreLike xs ys → map (λ (e : Entry). f (child_of_entry e)) xs ≡ map (λ (e : Entry). g (child_of_entry e)) ys
+like_kids f g same [] [] like = refl
+like_kids f g same [] (y ∷ ys) like = absurd like
+like_kids f g same (x ∷ xs) [] like = absurd like
+like_kids f g same (x ∷ xs) (y ∷ ys) like =
+    ap (λ (c : ℕ). f c ∷ map (λ (e : Entry). f (child_of_entry e)) xs) like.0.1
+    ∙ ap (λ (t : TableTree). t ∷ map (λ (e : Entry). f (child_of_entry e)) xs) (same y.child.number)
+    ∙ ap (λ (ts : List TableTree). g y.child.number ∷ ts) (like_kids f g same xs ys like.1)
+
+-- their trees are the same
+pub like_trees : (tables : List Table) (xs ys : List Entry) → AreLike xs ys → (n named t : ℕ) → tree_within n tables xs named t ≡ tree_within n tables ys named t
+like_trees tables xs ys like zero named t = refl
+like_trees tables xs ys like (suc n) named t =
+    let kids = like_all_placed [] [] (filter (is_under t) xs) (filter (is_under t) ys) tt (like_under t xs ys like) in
+    let f : ℕ → TableTree = λ c. tree_within n tables xs named c in
+    let g : ℕ → TableTree = λ c. tree_within n tables ys named c in
+    ap (λ (bs : List Bound). grown (table_at tables t).shape (node_at tables named t) bs (map (λ (e : Entry). f (child_of_entry e)) (children xs t))) (like_bounds (children xs t) (children ys t) kids)
+    ∙ ap (λ (ts : List TableTree). grown (table_at tables t).shape (node_at tables named t) (map bound_of (children ys t)) ts) (like_kids f g (λ c. like_trees tables xs ys like n named c) (children xs t) (children ys t) kids)

@@ -1,4 +1,5 @@
 mod Alike
+mod Behind
 pub mod Free
 pub mod Led
 mod Moved

@@ -1,10 +1,9 @@
 -- A partition that ended, and was attached again.
-use Rattle.std.proofs.Common.{◌≡◌, ◌≢◌, ℕ, suc, ◌+◌, ◌<◌, ◌≤◌, ◌==◌, ◌&&◌, not, Bool, true, false, List, [], ◌∷◌, ◌++◌, inl, inr, refl, sym, ap, ◌∙◌, subst, arith, filter, All, length, Option, Some, None, get_or}
+use Rattle.std.proofs.Common.{◌≡◌, ◌≢◌, ℕ, suc, ◌+◌, ◌<◌, ◌≤◌, ◌==◌, ◌&&◌, not, Bool, true, false, List, [], ◌∷◌, ◌++◌, inl, inr, refl, sym, ap, ◌∙◌, subst, arith, filter, All, length, map, append_assoc, Option, Some, None, get_or}
 use Rattle.std.specs.List.{Contains, AllPairs}
 use Rattle.std.proofs.lemmas.Bool.{cases_Bool, cases_lt}
 use Rattle.std.proofs.lemmas.Grind.{common_steps, elements}
-use Rattle.std.proofs.lemmas.Bool.Decides.{nat_tests}
-use Rattle.std.proofs.lemmas.List.{length-append}
+use Rattle.std.proofs.lemmas.List.{length-append, get_or-append-add}
 use Rattle.std.proofs.lemmas.List.Elements.{All-nil, All-cons, All-head, All-tail, All-contains, filter-append}
 use Rattle.part_bounds.specs.declared.partition_bound.Bound.{Bound}
 use Rattle.part_bounds.specs.Bounds.{is_filled}
@@ -12,11 +11,12 @@ use Rattle.part_bounds.proofs.LevelLaws.{level_filled}
 use Rattle.part_bounds.proofs.PlainOrder.{pairs-head, pairs-tail}
 use Rattle.history.specs.declared.catalogue.Entry.{Entry}
 use Rattle.history.specs.declared.catalogue.Stamp.{Stamp}
+use Rattle.history.specs.declared.catalogue.Table.{Table}
 use Rattle.history.specs.declared.catalogue.TableShape.{TableShape}
 use Rattle.history.specs.declared.catalogue.TableShape.TheVariants.{Leaf, Level}
 use Rattle.history.specs.Transactions.{TxEvents, fate, is_committed, was_aborted}
 use Rattle.history.specs.Snapshots.{TakenSnapshot, sees}
-use Rattle.history.specs.Catalogue.{CatalogueEvents, EntryAdded, EntryEnded, EntryMarked, tables_made, entries_added, entry_ends, marks, counted_of}
+use Rattle.history.specs.Catalogue.{CatalogueEvents, EntryAdded, EntryEnded, EntryMarked, Stamps, tables_made, entries_added, entry_ends, marks, counted_of}
 use Rattle.history.specs.Rows.{RowEvents, births, end_in}
 use Rattle.history.specs.declared.version.Version.{Version}
 use Rattle.history.specs.History.{History, CatalogueChange, tx_events, row_events, catalogue_events, seen, sees_end}
@@ -28,8 +28,9 @@ use Rattle.table_trees.specs.Histories.{tree_within, tree_of}
 use Rattle.table_trees.proofs.Order.{siblings_kept, all_kept}
 use Rattle.table_trees.proofs.Suited.{all_suit}
 use Rattle.soundness.proofs.Listed.{cases_in, none_in}
-use Rattle.drop_laws.specs.Back.{IsBackAgain}
-use Rattle.drop_laws.proofs.Alike.{StandsApart, trees_alike}
+use Rattle.drop_laws.specs.Back.{IsBackAgain, number_behind, entry_behind, event_behind}
+use Rattle.drop_laws.proofs.Alike.{StandsApart, trees_alike, AreLike, like_itself, like_append, like_trees}
+use Rattle.drop_laws.proofs.Behind.{Earlier, earlier, stamp_behind, newer_or, other_number, itself, low_stays, high_goes_on, tables_both, tables_behind, entries_both, entries_behind, ends_both, ends_behind, marks_both, marks_behind, counted_both, counted_behind, none_of_that, none_newer}
 
 -- ---- what is shown, of the events alone
 
@@ -47,15 +48,6 @@ not_aborted txs t is = elim (cases_Bool (was_aborted txs t)) [
 
 committed_counts : (txs : TxEvents) (s t : ℕ) → is_committed (fate txs t) ≡ true → counts txs s t ≡ true
 committed_counts txs s t is = rw is refl
-
-other_number : (n m : ℕ) → n ≢ m → (n == m) ≡ false
-other_number n m other = elim (cases_Bool (n == m)) [
-  | inl y ↦ absurd (other (grind (arith, nat_tests, y)))
-  | inr f ↦ f
-]
-
-itself : (n : ℕ) → (n == n) ≡ true
-itself n = grind (arith, nat_tests)
 
 -- no entry that is still to come has ended, nor was it marked
 ends_below : (txs : TxEvents) (h : History) (n : ℕ) → AreCatalogueSound h → length (entries_added (catalogue_events h)) ≤ n → counted_of txs (entry_ends (catalogue_events h)) n ≡ None
@@ -167,57 +159,194 @@ filled : (shape : TableShape) (b : Bound) → TakesBound shape b → is_filled b
 filled (Leaf leaf) b takes = absurd takes
 filled (Level level) b takes = level_filled level b takes
 
+all_front : {X : Type 0} (P : X → Type 0) (xs ys : List X) → All P (xs ++ ys) → All P xs
+all_front P [] ys all = All-nil P
+all_front P (x ∷ xs) ys all = All-cons P x xs (All-head P x (xs ++ ys) all) (all_front P xs ys (All-tail P x (xs ++ ys) all))
+
+mapped_filter : (p q : Entry → Bool) (f : Entry → Entry) (xs : List Entry) → All (λ (x : Entry). q (f x) ≡ p x) xs → filter q (map f xs) ≡ map f (filter p xs)
+mapped_filter p q f [] same = refl
+mapped_filter p q f (x ∷ xs) same =
+    let first = All-head (λ (y : Entry). q (f y) ≡ p y) x xs same in
+    let rest = mapped_filter p q f xs (All-tail (λ (y : Entry). q (f y) ≡ p y) x xs same) in
+    elim (cases_Bool (p x)) [
+      | inl y ↦ let z : q (f x) ≡ true = first ∙ y in rw (y, z) (ap (λ (ys : List Entry). f x ∷ ys) rest)
+      | inr n ↦ let m : q (f x) ≡ false = first ∙ n in rw (n, m) rest
+    ]
+
+like_behind : (n : ℕ) (xs : List Entry) → AreLike (map (entry_behind n) xs) xs
+like_behind n [] = tt
+like_behind n (x ∷ xs) = ((refl, refl, refl), like_behind n xs)
+
 module _ (g h : History) (s : ℕ) (snap : TakenSnapshot) (back : IsBackAgain g h) (sound : AreCatalogueSound h) (siblings : AreSiblings (entries_present h s)) where
+  abbrev n : ℕ
+  n = length (entries_added back.until)
+
+  abbrev first : List Entry
+  first = entries_added back.until
+
+  abbrev last : List Entry
+  last = entries_added back.later
+
+  -- the catalogue's events without the two, and the two with those before them
+  abbrev whole : CatalogueEvents
+  whole = back.later ++ back.until
+
+  abbrev two : CatalogueEvents
+  two = EntryAdded back.again ∷ (EntryEnded back.old.id.number back.stamp ∷ back.until)
+
+  abbrev more : CatalogueEvents
+  more = map (event_behind n) back.later ++ two
+
   abbrev p : Entry → Bool
-  p = shown_by (tx_events h) (catalogue_events h) s snap
+  p = shown_by (tx_events h) whole s snap
 
   abbrev q : Entry → Bool
-  q = shown_by (tx_events h) (EntryAdded back.again ∷ (EntryEnded back.old.id.number back.stamp ∷ catalogue_events h)) s snap
+  q = shown_by (tx_events h) more s snap
 
-  split : Among (entries_added (catalogue_events h)) back.old
-  split = among 0 (entries_added (catalogue_events h)) back.old (λ d k lt. let at = numbered h sound d k lt in omega (arith, at)) back.there
+  -- ---- numbers
 
-  -- with other numbers nothing changes
-  others_same : (x : Entry) → x.id.number ≢ back.old.id.number → q x ≡ p x
-  others_same x other =
-      let apart : (back.old.id.number == x.id.number) ≡ false = other_number back.old.id.number x.id.number (λ same. other (sym same)) in
-      let ends : counted_of (tx_events h) ((back.old.id.number, back.stamp) ∷ entry_ends (catalogue_events h)) x.id.number ≡ counted_of (tx_events h) (entry_ends (catalogue_events h)) x.id.number = rw apart refl in
-      ap (λ (o : Option Stamp). (counts (tx_events h) s x.by.number && not (stamp_counts (tx_events h) s o)) && not (sees_stamp (tx_events h) snap (counted_of (tx_events h) (marks (catalogue_events h)) x.id.number))) ends
+  was : Earlier back.until
+  was = earlier h back.later back.until back.without sound
+
+  numbers_first : (d : Entry) (k : ℕ) → k < length first → (get_or first k d).id.number ≡ k
+  numbers_first d k = subst (λ (cs : CatalogueEvents). k < length (entries_added cs) → (get_or (entries_added cs) k d).id.number ≡ k) was.1 (numbered was.0 was.2 d k)
+
+  entries_whole : entries_added (catalogue_events h) ≡ first ++ last
+  entries_whole = ap entries_added back.without ∙ entries_both back.later back.until
+
+  numbers_last : (d : Entry) (j : ℕ) → j < length last → n ≤ (get_or last j d).id.number
+  numbers_last d j lt =
+      let count = ap length entries_whole ∙ length-append first last in
+      let at : (get_or (first ++ last) (n + j) d).id.number ≡ n + j = subst (λ (es : List Entry). (get_or es (n + j) d).id.number ≡ n + j) entries_whole (numbered h sound d (n + j) (omega (arith, count, lt))) in
+      let same = ap (λ (x : Entry). x.id.number) (get_or-append-add first last j d) in
+      omega (arith, at, same)
+
+  all_low : All (λ (x : Entry). x.id.number < n) first
+  all_low k d lt = let at = numbers_first d k lt in omega (arith, at, lt)
+
+  low_old : back.old.id.number < n
+  low_old = All-contains (λ (x : Entry). x.id.number < n) first back.old all_low back.there
+
+  none_ended : (k : ℕ) → n ≤ k → counted_of (tx_events h) (entry_ends back.until) k ≡ None
+  none_ended k le =
+      let count = ap (λ (cs : CatalogueEvents). length (entries_added cs)) was.1 in
+      subst (λ (cs : CatalogueEvents). counted_of (tx_events h) (entry_ends cs) k ≡ None) was.1 (ends_below (tx_events h) was.0 k was.2 (omega (arith, count, le)))
+
+  none_marked : (k : ℕ) → n ≤ k → counted_of (tx_events h) (marks back.until) k ≡ None
+  none_marked k le =
+      let count = ap (λ (cs : CatalogueEvents). length (entries_added cs)) was.1 in
+      subst (λ (cs : CatalogueEvents). counted_of (tx_events h) (marks cs) k ≡ None) was.1 (marks_below (tx_events h) was.0 k was.2 (omega (arith, count, le)))
+
+  -- ---- stamps
+
+  ends_more : (k : ℕ) → counted_of (tx_events h) (entry_ends more) k ≡ newer_or (counted_of (tx_events h) (map (stamp_behind n) (entry_ends back.later)) k) (counted_of (tx_events h) (entry_ends two) k)
+  ends_more k =
+      ap (λ (ds : Stamps). counted_of (tx_events h) ds k) (ends_both (map (event_behind n) back.later) two ∙ ap (λ (ds : Stamps). ds ++ entry_ends two) (ends_behind n back.later))
+      ∙ counted_both (tx_events h) (map (stamp_behind n) (entry_ends back.later)) (entry_ends two) k
+
+  marks_more : (k : ℕ) → counted_of (tx_events h) (marks more) k ≡ newer_or (counted_of (tx_events h) (map (stamp_behind n) (marks back.later)) k) (counted_of (tx_events h) (marks back.until) k)
+  marks_more k =
+      ap (λ (ds : Stamps). counted_of (tx_events h) ds k) (marks_both (map (event_behind n) back.later) two ∙ ap (λ (ds : Stamps). ds ++ marks back.until) (marks_behind n back.later))
+      ∙ counted_both (tx_events h) (map (stamp_behind n) (marks back.later)) (marks back.until) k
+
+  ends_whole : (k : ℕ) → counted_of (tx_events h) (entry_ends whole) k ≡ newer_or (counted_of (tx_events h) (entry_ends back.later) k) (counted_of (tx_events h) (entry_ends back.until) k)
+  ends_whole k = ap (λ (ds : Stamps). counted_of (tx_events h) ds k) (ends_both back.later back.until) ∙ counted_both (tx_events h) (entry_ends back.later) (entry_ends back.until) k
+
+  marks_whole : (k : ℕ) → counted_of (tx_events h) (marks whole) k ≡ newer_or (counted_of (tx_events h) (marks back.later) k) (counted_of (tx_events h) (marks back.until) k)
+  marks_whole k = ap (λ (ds : Stamps). counted_of (tx_events h) ds k) (marks_both back.later back.until) ∙ counted_both (tx_events h) (marks back.later) (marks back.until) k
+
+  two_same : (k : ℕ) → k ≢ back.old.id.number → counted_of (tx_events h) (entry_ends two) (number_behind n k) ≡ counted_of (tx_events h) (entry_ends back.until) k
+  two_same k other = elim (cases_lt k n) [
+    | inl lt ↦
+        let apart = other_number back.old.id.number k (λ same. other (sym same)) in
+        let here : counted_of (tx_events h) (entry_ends two) k ≡ counted_of (tx_events h) (entry_ends back.until) k = rw apart refl in
+        ap (λ (m : ℕ). counted_of (tx_events h) (entry_ends two) m) (low_stays n k lt) ∙ here
+    | inr le ↦
+        let low = low_old in
+        let apart = other_number back.old.id.number (k + 1) (λ same. omega (arith, low, le, same)) in
+        let here : counted_of (tx_events h) (entry_ends two) (k + 1) ≡ None = rw apart (none_ended (k + 1) (omega (arith, le))) in
+        ap (λ (m : ℕ). counted_of (tx_events h) (entry_ends two) m) (high_goes_on n k le) ∙ (here ∙ sym (none_ended k le))
+  ]
+
+  until_same : (k : ℕ) → counted_of (tx_events h) (marks back.until) (number_behind n k) ≡ counted_of (tx_events h) (marks back.until) k
+  until_same k = elim (cases_lt k n) [
+    | inl lt ↦ ap (λ (m : ℕ). counted_of (tx_events h) (marks back.until) m) (low_stays n k lt)
+    | inr le ↦ ap (λ (m : ℕ). counted_of (tx_events h) (marks back.until) m) (high_goes_on n k le) ∙ (none_marked (k + 1) (omega (arith, le)) ∙ sym (none_marked k le))
+  ]
+
+  ends_same : (k : ℕ) → k ≢ back.old.id.number → counted_of (tx_events h) (entry_ends more) (number_behind n k) ≡ counted_of (tx_events h) (entry_ends whole) k
+  ends_same k other =
+      ends_more (number_behind n k)
+      ∙ (ap (λ (o : Option Stamp). newer_or o (counted_of (tx_events h) (entry_ends two) (number_behind n k))) (counted_behind (tx_events h) n (entry_ends back.later) k)
+      ∙ (ap (λ (o : Option Stamp). newer_or (counted_of (tx_events h) (entry_ends back.later) k) o) (two_same k other) ∙ sym (ends_whole k)))
+
+  marks_same : (k : ℕ) → counted_of (tx_events h) (marks more) (number_behind n k) ≡ counted_of (tx_events h) (marks whole) k
+  marks_same k =
+      marks_more (number_behind n k)
+      ∙ (ap (λ (o : Option Stamp). newer_or o (counted_of (tx_events h) (marks back.until) (number_behind n k))) (counted_behind (tx_events h) n (marks back.later) k)
+      ∙ (ap (λ (o : Option Stamp). newer_or (counted_of (tx_events h) (marks back.later) k) o) (until_same k) ∙ sym (marks_whole k)))
+
+  -- ---- entries
+
+  -- each but the old one is shown with the two as it is without them
+  shown_same : (x : Entry) → x.id.number ≢ back.old.id.number → q (entry_behind n x) ≡ p x
+  shown_same x other =
+      ap (λ (o : Option Stamp). (counts (tx_events h) s x.by.number && not (stamp_counts (tx_events h) s o)) && not (sees_stamp (tx_events h) snap (counted_of (tx_events h) (marks more) (number_behind n x.id.number)))) (ends_same x.id.number other)
+      ∙ ap (λ (o : Option Stamp). (counts (tx_events h) s x.by.number && not (stamp_counts (tx_events h) s (counted_of (tx_events h) (entry_ends whole) x.id.number))) && not (sees_stamp (tx_events h) snap o)) (marks_same x.id.number)
+
+  low_same : (x : Entry) → x.id.number < n → x.id.number ≢ back.old.id.number → q x ≡ p x
+  low_same x lt other =
+      let stays : entry_behind n x ≡ x = ap (λ (k : ℕ). record x { id = record { number = k } }) (low_stays n x.id.number lt) in
+      ap q (sym stays) ∙ shown_same x other
+
+  standing : counted_of (tx_events h) (entry_ends whole) back.old.id.number ≡ None
+  standing = subst (λ (cs : CatalogueEvents). counted_of (tx_events h) (entry_ends cs) back.old.id.number ≡ None) back.without back.standing
+
+  unmarked : counted_of (tx_events h) (marks whole) back.old.id.number ≡ None
+  unmarked = subst (λ (cs : CatalogueEvents). counted_of (tx_events h) (marks cs) back.old.id.number ≡ None) back.without back.unmarked
 
   old_shown : p back.old ≡ true
   old_shown =
       let born = committed_counts (tx_events h) s back.old.by.number back.committed in
-      rw (born, back.standing, back.unmarked) refl
+      let stands = standing in
+      let plain = unmarked in
+      rw (born, stands, plain) refl
 
-  gone : (b : Bool) → ((b && not true) && true) ≡ false
-  gone true = refl
-  gone false = refl
+  gone : (a b : Bool) → ((a && not true) && b) ≡ false
+  gone true b = refl
+  gone false b = refl
 
   old_gone : q back.old ≡ false
   old_gone =
       let ended = committed_counts (tx_events h) s back.stamp.by.number back.detached in
-      let counted : counted_of (tx_events h) ((back.old.id.number, back.stamp) ∷ entry_ends (catalogue_events h)) back.old.id.number ≡ Some back.stamp = rw (itself back.old.id.number, not_aborted (tx_events h) back.stamp.by.number back.detached) refl in
-      ap (λ (o : Option Stamp). (counts (tx_events h) s back.old.by.number && not (stamp_counts (tx_events h) s o)) && not (sees_stamp (tx_events h) snap (counted_of (tx_events h) (marks (catalogue_events h)) back.old.id.number))) counted
-      ∙ (ap (λ (b : Bool). (counts (tx_events h) s back.old.by.number && not b) && not (sees_stamp (tx_events h) snap (counted_of (tx_events h) (marks (catalogue_events h)) back.old.id.number))) ended
-      ∙ (ap (λ (o : Option Stamp). (counts (tx_events h) s back.old.by.number && not true) && not (sees_stamp (tx_events h) snap o)) back.unmarked ∙ gone (counts (tx_events h) s back.old.by.number)))
-
-  old_low : back.old.id.number < length (entries_added (catalogue_events h))
-  old_low =
-      let at = back.there in
-      let number : back.old.id.number ≡ at.0 = ap (λ (z : Entry). z.id.number) (sym at.2) ∙ numbered h sound back.old at.0 at.1 in
-      let lt = at.1 in
-      omega (arith, number, lt)
+      let none_later = none_newer (counted_of (tx_events h) (entry_ends back.later) back.old.id.number) (counted_of (tx_events h) (entry_ends back.until) back.old.id.number) (sym (ends_whole back.old.id.number) ∙ standing) in
+      let none_behind : counted_of (tx_events h) (map (stamp_behind n) (entry_ends back.later)) back.old.id.number ≡ None =
+      ap (λ (k : ℕ). counted_of (tx_events h) (map (stamp_behind n) (entry_ends back.later)) k) (sym (low_stays n back.old.id.number low_old)) ∙ (counted_behind (tx_events h) n (entry_ends back.later) back.old.id.number ∙ none_later) in
+      let here : counted_of (tx_events h) (entry_ends two) back.old.id.number ≡ Some back.stamp = rw (itself back.old.id.number, not_aborted (tx_events h) back.stamp.by.number back.detached) refl in
+      let counted : counted_of (tx_events h) (entry_ends more) back.old.id.number ≡ Some back.stamp =
+      ends_more back.old.id.number ∙ (ap (λ (o : Option Stamp). newer_or o (counted_of (tx_events h) (entry_ends two) back.old.id.number)) none_behind ∙ here) in
+      ap (λ (o : Option Stamp). (counts (tx_events h) s back.old.by.number && not (stamp_counts (tx_events h) s o)) && not (sees_stamp (tx_events h) snap (counted_of (tx_events h) (marks more) back.old.id.number))) counted
+      ∙ (ap (λ (b : Bool). (counts (tx_events h) s back.old.by.number && not b) && not (sees_stamp (tx_events h) snap (counted_of (tx_events h) (marks more) back.old.id.number))) ended
+      ∙ gone (counts (tx_events h) s back.old.by.number) (not (sees_stamp (tx_events h) snap (counted_of (tx_events h) (marks more) back.old.id.number))))
 
   again_shown : q back.again ≡ true
   again_shown =
-      let low = old_low in
-      let n = back.number in
-      let apart : (back.old.id.number == back.again.id.number) ≡ false = other_number back.old.id.number back.again.id.number (λ same. omega (arith, low, n, same)) in
-      let none = ends_below (tx_events h) h back.again.id.number sound (omega (arith, n)) in
-      let unmarked = marks_below (tx_events h) h back.again.id.number sound (omega (arith, n)) in
-      let ends : counted_of (tx_events h) ((back.old.id.number, back.stamp) ∷ entry_ends (catalogue_events h)) back.again.id.number ≡ None = rw apart none in
+      let low = low_old in
+      let apart = other_number back.old.id.number n (λ same. omega (arith, low, same)) in
+      let none_two : counted_of (tx_events h) (entry_ends two) n ≡ None = rw apart (none_ended n (omega arith)) in
+      let ends : counted_of (tx_events h) (entry_ends more) back.again.id.number ≡ None =
+      ap (λ (k : ℕ). counted_of (tx_events h) (entry_ends more) k) back.number
+      ∙ (ends_more n ∙ (ap (λ (o : Option Stamp). newer_or o (counted_of (tx_events h) (entry_ends two) n)) (none_of_that (tx_events h) n (entry_ends back.later)) ∙ none_two)) in
+      let plain : counted_of (tx_events h) (marks more) back.again.id.number ≡ None =
+      ap (λ (k : ℕ). counted_of (tx_events h) (marks more) k) back.number
+      ∙ (marks_more n ∙ (ap (λ (o : Option Stamp). newer_or o (counted_of (tx_events h) (marks back.until) n)) (none_of_that (tx_events h) n (marks back.later)) ∙ none_marked n (omega arith))) in
       let born = committed_counts (tx_events h) s back.again.by.number back.attached in
-      rw (born, ends, unmarked) refl
+      rw (born, ends, plain) refl
+
+  -- ---- lists of them
+
+  split : Among first back.old
+  split = among 0 first back.old (λ d k lt. let at = numbers_first d k lt in omega (arith, at)) back.there
 
   abbrev before : List Entry
   before = filter p split.before
@@ -225,55 +354,96 @@ module _ (g h : History) (s : ℕ) (snap : TakenSnapshot) (back : IsBackAgain g 
   abbrev after : List Entry
   after = filter p split.after
 
-  shown_without : filter p (entries_added (catalogue_events h)) ≡ before ++ (back.old ∷ after)
+  abbrev rest : List Entry
+  rest = filter p last
+
+  shown_without : filter p (entries_added whole) ≡ before ++ (back.old ∷ (after ++ rest))
   shown_without =
-      let kept : filter p (back.old ∷ split.after) ≡ back.old ∷ filter p split.after = rw old_shown refl in
-      ap (filter p) split.is ∙ (filter-append p split.before (back.old ∷ split.after) ∙ ap (λ (ys : List Entry). before ++ ys) kept)
+      let kept : filter p (back.old ∷ split.after) ≡ back.old ∷ after = rw old_shown refl in
+      let here : filter p first ≡ before ++ (back.old ∷ after) = ap (filter p) split.is ∙ (filter-append p split.before (back.old ∷ split.after) ∙ ap (λ (ys : List Entry). before ++ ys) kept) in
+      ap (filter p) (entries_both back.later back.until) ∙ (filter-append p first last ∙ (ap (λ (xs : List Entry). xs ++ rest) here ∙ append_assoc before (back.old ∷ after) rest))
+
+  low_split : All (λ (x : Entry). x.id.number < n) (split.before ++ (back.old ∷ split.after))
+  low_split = subst (All (λ (x : Entry). x.id.number < n)) split.is all_low
 
   same_before : filter q split.before ≡ before
-  same_before = same_filter q p split.before (λ k d lt. others_same (get_or split.before k d) (split.others_before k d lt))
+  same_before =
+      let low = all_front (λ (x : Entry). x.id.number < n) split.before (back.old ∷ split.after) low_split in
+      same_filter q p split.before (λ k d lt. low_same (get_or split.before k d) (low k d lt) (split.others_before k d lt))
 
   same_after : filter q split.after ≡ after
-  same_after = same_filter q p split.after (λ k d lt. others_same (get_or split.after k d) (split.others_after k d lt))
+  same_after =
+      let low = All-tail (λ (x : Entry). x.id.number < n) back.old split.after (all_behind (λ (x : Entry). x.id.number < n) split.before (back.old ∷ split.after) low_split) in
+      same_filter q p split.after (λ k d lt. low_same (get_or split.after k d) (low k d lt) (split.others_after k d lt))
 
-  shown_with : filter q (entries_added (catalogue_events h) ++ (back.again ∷ [])) ≡ (before ++ after) ++ (back.again ∷ [])
+  same_rest_behind : filter q (map (entry_behind n) last) ≡ map (entry_behind n) rest
+  same_rest_behind =
+      let low = low_old in
+      mapped_filter p q (entry_behind n) last (λ k d lt. shown_same (get_or last k d) (let at = numbers_last d k lt in λ same. omega (arith, low, at, same)))
+
+  shown_with : filter q (entries_added more) ≡ ((before ++ after) ++ (back.again ∷ [])) ++ map (entry_behind n) rest
   shown_with =
-      let last : filter q (back.again ∷ []) ≡ back.again ∷ [] = rw again_shown refl in
+      let own : filter q (back.again ∷ []) ≡ back.again ∷ [] = rw again_shown refl in
       let dropped : filter q (back.old ∷ split.after) ≡ filter q split.after = rw old_gone refl in
-      let first : filter q (entries_added (catalogue_events h)) ≡ before ++ after =
+      let here : filter q first ≡ before ++ after =
       ap (filter q) split.is ∙ (filter-append q split.before (back.old ∷ split.after) ∙ (ap (λ (xs : List Entry). xs ++ filter q (back.old ∷ split.after)) same_before ∙ ap (λ (ys : List Entry). before ++ ys) (dropped ∙ same_after))) in
-      filter-append q (entries_added (catalogue_events h)) (back.again ∷ []) ∙ (ap (λ (xs : List Entry). xs ++ filter q (back.again ∷ [])) first ∙ ap (λ (ys : List Entry). (before ++ after) ++ ys) last)
+      let front : filter q (first ++ (back.again ∷ [])) ≡ (before ++ after) ++ (back.again ∷ []) =
+      filter-append q first (back.again ∷ []) ∙ (ap (λ (xs : List Entry). xs ++ filter q (back.again ∷ [])) here ∙ ap (λ (ys : List Entry). (before ++ after) ++ ys) own) in
+      ap (filter q) (entries_both (map (event_behind n) back.later) two ∙ ap (λ (es : List Entry). (first ++ (back.again ∷ [])) ++ es) (entries_behind n back.later))
+      ∙ (filter-append q (first ++ (back.again ∷ [])) (map (entry_behind n) last)
+      ∙ (ap (λ (xs : List Entry). xs ++ filter q (map (entry_behind n) last)) front ∙ ap (λ (ys : List Entry). ((before ++ after) ++ (back.again ∷ [])) ++ ys) same_rest_behind))
 
   -- those that are shown stand apart
-  shown_siblings : AreSiblings (filter p (entries_added (catalogue_events h)))
+  shown_siblings : AreSiblings (filter p (entries_added whole))
   shown_siblings =
       let r : Entry → Bool = λ x. not (sees_stamp (tx_events h) snap (counted_of (tx_events h) (marks (catalogue_events h)) x.id.number)) in
-      subst AreSiblings (sym (both_filters (is_present h s) r (entries_added (catalogue_events h)))) (siblings_kept r (entries_present h s) siblings)
+      subst (λ (cs : CatalogueEvents). AreSiblings (filter (shown_by (tx_events h) cs s snap) (entries_added cs))) back.without
+      (subst AreSiblings (sym (both_filters (is_present h s) r (entries_added (catalogue_events h)))) (siblings_kept r (entries_present h s) siblings))
 
   all_filled : All (λ (x : Entry). is_filled x.bound ≡ true) (entries_added (catalogue_events h))
   all_filled k d lt = let x = get_or (entries_added (catalogue_events h)) k d in filled (table_at (tables_made (catalogue_events h)) x.parent.number).shape x.bound (all_suit h sound k d lt).bound
 
-  apart : All (StandsApart back.old) after
+  apart : All (StandsApart back.old) (after ++ rest)
   apart =
-      let pairs : AllPairs CanStandTogether (back.old ∷ after) = pairs_behind CanStandTogether before (back.old ∷ after) (subst AreSiblings shown_without shown_siblings) in
-      let beside = pairs-head CanStandTogether back.old after pairs in
-      let own = All-contains (λ (x : Entry). is_filled x.bound ≡ true) (entries_added (catalogue_events h)) back.old all_filled back.there in
-      let rest : All (λ (x : Entry). is_filled x.bound ≡ true) (split.before ++ (back.old ∷ split.after)) = subst (All (λ (x : Entry). is_filled x.bound ≡ true)) split.is all_filled in
-      let later = All-tail (λ (x : Entry). is_filled x.bound ≡ true) back.old split.after (all_behind (λ (x : Entry). is_filled x.bound ≡ true) split.before (back.old ∷ split.after) rest) in
-      let behind : All (λ (x : Entry). is_filled x.bound ≡ true) after = all_kept (λ (x : Entry). is_filled x.bound ≡ true) p split.after later in
+      let pairs : AllPairs CanStandTogether (back.old ∷ (after ++ rest)) = pairs_behind CanStandTogether before (back.old ∷ (after ++ rest)) (subst AreSiblings shown_without shown_siblings) in
+      let beside = pairs-head CanStandTogether back.old (after ++ rest) pairs in
+      let kept : All (λ (x : Entry). is_filled x.bound ≡ true) (filter p (entries_added whole)) =
+      all_kept (λ (x : Entry). is_filled x.bound ≡ true) p (entries_added whole) (subst (λ (cs : CatalogueEvents). All (λ (x : Entry). is_filled x.bound ≡ true) (entries_added cs)) back.without all_filled) in
+      let here = all_behind (λ (x : Entry). is_filled x.bound ≡ true) before (back.old ∷ (after ++ rest)) (subst (All (λ (x : Entry). is_filled x.bound ≡ true)) shown_without kept) in
+      let own = All-head (λ (x : Entry). is_filled x.bound ≡ true) back.old (after ++ rest) here in
+      let behind = All-tail (λ (x : Entry). is_filled x.bound ≡ true) back.old (after ++ rest) here in
       λ k d lt parent. let both = beside k d lt parent in (both.1, both.0, own, behind k d lt)
+
+  -- ---- trees
 
   abbrev tree_by : TxEvents → CatalogueEvents → (t : ℕ) → TableTree
   tree_by x cs t = tree_within 7 (tables_made cs) (filter (shown_by x cs s snap) (entries_added cs)) t t
+
+  same_tables : tables_made more ≡ tables_made whole
+  same_tables = tables_both (map (event_behind n) back.later) two ∙ (ap (λ (ts : List Table). tables_made back.until ++ ts) (tables_behind n back.later) ∙ sym (tables_both back.later back.until))
+
+  moved_trees : (tables : List Table) (t : ℕ) → tree_within 7 tables (((before ++ after) ++ (back.again ∷ [])) ++ map (entry_behind n) rest) t t ≡ tree_within 7 tables (before ++ (back.old ∷ (after ++ rest))) t t
+  moved_trees tables t =
+      let tree : List Entry → TableTree = λ es. tree_within 7 tables es t t in
+      let like =
+      like_append ((before ++ after) ++ (back.again ∷ [])) ((before ++ after) ++ (back.old ∷ [])) (map (entry_behind n) rest) rest
+      (like_append (before ++ after) (before ++ after) (back.again ∷ []) (back.old ∷ []) (like_itself (before ++ after)) ((back.parent, back.child, back.bound), tt)) (like_behind n rest) in
+      like_trees tables (((before ++ after) ++ (back.again ∷ [])) ++ map (entry_behind n) rest) (((before ++ after) ++ (back.old ∷ [])) ++ rest) like 7 t t
+      ∙ (ap tree (append_assoc (before ++ after) (back.old ∷ []) rest)
+      ∙ (sym (trees_alike back.old back.old (before ++ after) rest refl refl refl (all_behind (StandsApart back.old) after rest apart) tables 7 t t)
+      ∙ (ap (λ (es : List Entry). tree (es ++ (back.old ∷ []))) (append_assoc before after rest)
+      ∙ trees_alike back.old back.old before (after ++ rest) refl refl refl apart tables 7 t t)))
 
   pub same_trees : (t : ℕ) → tree_of g s t snap ≡ tree_of h s t snap
   unfolding tree_of
   same_trees t =
       ap (λ (x : TxEvents). tree_by x (catalogue_events g) t) back.transactions
       ∙ (ap (λ (cs : CatalogueEvents). tree_by (tx_events h) cs t) back.changes
-      ∙ (ap (λ (es : List Entry). tree_within 7 (tables_made (catalogue_events h)) es t t) shown_with
-      ∙ (trees_alike back.old back.again before after back.parent back.child back.bound apart (tables_made (catalogue_events h)) 7 t t
-      ∙ ap (λ (es : List Entry). tree_within 7 (tables_made (catalogue_events h)) es t t) (sym shown_without))))
+      ∙ (ap (λ (es : List Entry). tree_within 7 (tables_made more) es t t) shown_with
+      ∙ (ap (λ (ts : List Table). tree_within 7 ts (((before ++ after) ++ (back.again ∷ [])) ++ map (entry_behind n) rest) t t) same_tables
+      ∙ (moved_trees (tables_made whole) t
+      ∙ (ap (λ (es : List Entry). tree_within 7 (tables_made whole) es t t) (sym shown_without)
+      ∙ ap (λ (cs : CatalogueEvents). tree_by (tx_events h) cs t) (sym back.without))))))
 
 -- ---- the rows are the same
 

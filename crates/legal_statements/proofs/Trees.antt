@@ -117,7 +117,7 @@ bare_only : (cats : CatalogueEvents) (w : World) (t : ℕ) (node : Node) (shape 
 bare_only cats w t node (Leaf leaf) y is at = (zero, ap (λ (z : TableNo). z.number) (sym is ∙ only_one node.table y at))
 bare_only cats w t node (Level level) y is at = (zero, ap (λ (z : TableNo). z.number) (sym is ∙ only_one node.table y at))
 
-only_within : (fuel : ℕ) (cats : CatalogueEvents) (w : World) (entries : List Entry) (named top : ℕ) (y : TableNo) → All (Present cats w) entries → Contains (tables_in (tree_within fuel (tables_made cats) entries named top)) y → IsUnder cats w top y
+pub only_within : (fuel : ℕ) (cats : CatalogueEvents) (w : World) (entries : List Entry) (named top : ℕ) (y : TableNo) → All (Present cats w) entries → Contains (tables_in (tree_within fuel (tables_made cats) entries named top)) y → IsUnder cats w top y
 only_within zero cats w entries named top y present at = bare_only cats w top (node_at (tables_made cats) named top) (table_in cats top).shape y refl at
 only_within (suc fuel) cats w entries named top y present at =
     level_only cats w top (λ c. tree_within fuel (tables_made cats) entries named c) (node_at (tables_made cats) named top) (children entries top) (table_in cats top).shape y refl (kids_of cats w entries top present)
@@ -173,7 +173,7 @@ bare_once : (node : Node) (shape : TableShape) → AllPairs Differ (tables_in (g
 bare_once node (Leaf leaf) = pairs_one Differ node.table
 bare_once node (Level level) = pairs_one Differ node.table
 
-once_within : (fuel : ℕ) (cats : CatalogueEvents) (w : World) (entries : List Entry) (named top : ℕ) → Siblings cats w → All (Present cats w) entries → AllPairs AreTwo entries → AllPairs Differ (tables_in (tree_within fuel (tables_made cats) entries named top))
+pub once_within : (fuel : ℕ) (cats : CatalogueEvents) (w : World) (entries : List Entry) (named top : ℕ) → Siblings cats w → All (Present cats w) entries → AllPairs AreTwo entries → AllPairs Differ (tables_in (tree_within fuel (tables_made cats) entries named top))
 once_within zero cats w entries named top s present two = bare_once (node_at (tables_made cats) named top) (table_in cats top).shape
 once_within (suc fuel) cats w entries named top s present two =
     level_once cats w top (λ c. tree_within fuel (tables_made cats) entries named c) (node_at (tables_made cats) named top) (children entries top) (table_in cats top).shape refl s (kids_of cats w entries top present) (children_two entries top two)
@@ -195,7 +195,7 @@ number_was (z ∷ ys) x at = elim (cases_in z.number (map (λ (y : TableNo). y.n
   | inr later ↦ let its = number_was ys x later in (its.0, later_in z ys its.0 its.1, its.2)
 ]
 
-numbers_differ : (ys : List TableNo) → AllPairs Differ ys → AllPairs (λ a b. a ≢ b) (map (λ (y : TableNo). y.number) ys)
+pub numbers_differ : (ys : List TableNo) → AllPairs Differ ys → AllPairs (λ a b. a ≢ b) (map (λ (y : TableNo). y.number) ys)
 numbers_differ [] two = pairs_none (λ a b. a ≢ b)
 numbers_differ (y ∷ ys) two =
     AllPairs-cons (λ a b. a ≢ b) y.number (map (λ (y : TableNo). y.number) ys)

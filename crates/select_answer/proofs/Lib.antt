@@ -6,5 +6,6 @@ pub mod Kept
 pub mod Marks
 pub mod Plain
 pub mod Pruned
+pub mod ReadLeaves
 pub mod Stable
 pub mod Total

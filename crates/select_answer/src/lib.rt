@@ -6,8 +6,9 @@
 //! answer, with the values that it is sorted by (`KeyedRow`). Then the rows are sorted, stably, and cut by
 //! OFFSET and LIMIT. What this gives is the definition of an answer (`specs/Answer.antt`).
 //!
-//! The answer, or the first fault, is that of nested loops over all leaves of the tables, in plain order, in
-//! each history of the stores (`pruned_is_plain`).
+//! In each history of the stores the answer over the leaves that are read is that of nested loops over all
+//! leaves of the tables, in plain order (`reads_are_plain`), and a SELECT gives that answer, or its first
+//! fault, or is refused because it makes too many scans (`pruned_is_plain`).
 //!
 //! A statement makes so many scans at most, and an answer has so many tuples and so many bytes of
 //! values before the cut: what is passed first stops it, as does the first fault of a select list
@@ -24,7 +25,7 @@ mod row;
 
 pub use answering::run_select;
 pub use keyed_row::KeyedRow;
-pub use laws::{one_item_is_read_once, pruned_is_plain, rows_are_of_all_tuples};
+pub use laws::{one_item_is_read_once, pruned_is_plain, reads_are_plain, rows_are_of_all_tuples};
 
 /// How many tuples an answer has at most, before it is cut.
 pub const TUPLE_LIMIT: usize = 1_000_000;
