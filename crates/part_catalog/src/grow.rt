@@ -48,7 +48,7 @@ pub fn set_below(
     requires { IsLevel entries.now below.now flags.now _table.number }
     ensures { IfOk result (λ set. set ≡ map bound_of (filter (is_flagged flags.now) (children (map entry_in entries.now) _table.number))) }
 {
-    let mut bounds = Vec::new(alloc);
+    let mut bounds = Vec::with_capacity(alloc, below.numbers().len())?;
     for number in below.numbers() {
         if flags[*number as usize] {
             bounds.push(copy_bound(alloc, &entries[*number as usize].entry.bound)?)?;
@@ -79,12 +79,13 @@ pub fn grow(
         TableShape::Leaf(leaf) => Ok(Tree::leaf(node, *leaf)),
         TableShape::Level(level) => {
             let level = copy_level(alloc, level)?;
-            let mut trees = Vec::new(alloc);
             if depth == 0 {
                 let none = set_in_order(alloc, Vec::new(alloc), ValueKey)?;
+                let trees = Vec::new(alloc);
                 return Ok(Tree::level(node, level, none, trees));
             }
             let list = &below[table.number as usize];
+            let mut trees = Vec::with_capacity(alloc, list.numbers().len())?;
             for number in list.numbers() {
                 if flags[*number as usize] {
                     let child = entries[*number as usize].entry.child;
