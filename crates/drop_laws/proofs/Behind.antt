@@ -1,14 +1,15 @@
 -- Events behind two more of the catalogue.
-use Rattle.std.proofs.Common.{◌≡◌, ◌≢◌, ℕ, ◌+◌, ◌<◌, ◌≤◌, ◌==◌, ◌&&◌, not, Bool, true, false, List, [], ◌∷◌, ◌++◌, inl, inr, refl, sym, ap, ◌∙◌, arith, map, Option, Some, None, if◌then◌else◌, append_assoc, append-nil}
+use Rattle.std.proofs.Common.{◌≡◌, ◌≢◌, ◌⊎◌, ℕ, ◌+◌, ◌<◌, ◌≤◌, ◌==◌, ◌&&◌, not, Bool, true, false, List, [], ◌∷◌, ◌++◌, inl, inr, refl, sym, ap, ◌∙◌, arith, map, Option, Some, None, if◌then◌else◌, append_assoc, append-nil}
 use Rattle.std.specs.Prelude.{nat_lt}
 use Rattle.std.proofs.lemmas.Bool.{cases_Bool}
 use Rattle.std.proofs.lemmas.Bool.Decides.{nat_tests}
 use Rattle.std.proofs.lemmas.List.{map-append}
+use Rattle.history.specs.declared.catalogue.Check.{Check}
 use Rattle.history.specs.declared.catalogue.Entry.{Entry}
 use Rattle.history.specs.declared.catalogue.Stamp.{Stamp}
 use Rattle.history.specs.declared.catalogue.Table.{Table}
 use Rattle.history.specs.Transactions.{TxEvents, was_aborted}
-use Rattle.history.specs.Catalogue.{CatalogueEvents, TableMade, TableDropped, EntryAdded, EntryEnded, EntryMarked, CheckKept, Stamps, tables_made, entries_added, entry_ends, marks, counted_of}
+use Rattle.history.specs.Catalogue.{CatalogueEvents, TableMade, TableDropped, EntryAdded, EntryEnded, EntryMarked, CheckKept, Stamps, tables_made, entries_added, checks_kept, entry_ends, marks, counted_of}
 use Rattle.history.specs.History.{History, TxChange, SnapshotChange, RowChange, LockChange, CatalogueChange, catalogue_events}
 use Rattle.history.specs.Places.{AreCatalogueSound}
 use Rattle.drop_laws.specs.Back.{number_behind, entry_behind, event_behind}
@@ -32,6 +33,15 @@ entries_both (TableDropped k s ∷ xs) ys = entries_both xs ys
 entries_both (EntryEnded k s ∷ xs) ys = entries_both xs ys
 entries_both (EntryMarked k s ∷ xs) ys = entries_both xs ys
 entries_both (CheckKept c ∷ xs) ys = entries_both xs ys
+
+pub checks_both : (xs ys : CatalogueEvents) → checks_kept (xs ++ ys) ≡ checks_kept ys ++ checks_kept xs
+checks_both [] ys = sym (append-nil (checks_kept ys))
+checks_both (CheckKept c ∷ xs) ys = ap (λ (cs : List Check). cs ++ c ∷ []) (checks_both xs ys) ∙ append_assoc (checks_kept ys) (checks_kept xs) (c ∷ [])
+checks_both (TableMade t ∷ xs) ys = checks_both xs ys
+checks_both (TableDropped k s ∷ xs) ys = checks_both xs ys
+checks_both (EntryAdded e ∷ xs) ys = checks_both xs ys
+checks_both (EntryEnded k s ∷ xs) ys = checks_both xs ys
+checks_both (EntryMarked k s ∷ xs) ys = checks_both xs ys
 
 pub ends_both : (xs ys : CatalogueEvents) → entry_ends (xs ++ ys) ≡ entry_ends xs ++ entry_ends ys
 ends_both [] ys = refl
@@ -64,6 +74,15 @@ tables_behind n (EntryAdded e ∷ xs) = tables_behind n xs
 tables_behind n (EntryEnded k s ∷ xs) = tables_behind n xs
 tables_behind n (EntryMarked k s ∷ xs) = tables_behind n xs
 tables_behind n (CheckKept c ∷ xs) = tables_behind n xs
+
+pub checks_behind : (n : ℕ) (xs : CatalogueEvents) → checks_kept (map (event_behind n) xs) ≡ checks_kept xs
+checks_behind n [] = refl
+checks_behind n (CheckKept c ∷ xs) = ap (λ (cs : List Check). cs ++ c ∷ []) (checks_behind n xs)
+checks_behind n (TableMade t ∷ xs) = checks_behind n xs
+checks_behind n (TableDropped k s ∷ xs) = checks_behind n xs
+checks_behind n (EntryAdded e ∷ xs) = checks_behind n xs
+checks_behind n (EntryEnded k s ∷ xs) = checks_behind n xs
+checks_behind n (EntryMarked k s ∷ xs) = checks_behind n xs
 
 pub entries_behind : (n : ℕ) (xs : CatalogueEvents) → entries_added (map (event_behind n) xs) ≡ map (entry_behind n) (entries_added xs)
 entries_behind n [] = refl
@@ -141,11 +160,25 @@ from_there n a b same = elim (cases_Bool (nat_lt a n)) [
 pub itself : (n : ℕ) → (n == n) ≡ true
 itself n = grind (arith, nat_tests)
 
-same_test : (n a b : ℕ) → (number_behind n a == number_behind n b) ≡ (a == b)
+pub same_test : (n a b : ℕ) → (number_behind n a == number_behind n b) ≡ (a == b)
 same_test n a b = elim (cases_Bool (a == b)) [
   | inl y ↦ let e : a ≡ b = grind (arith, nat_tests, y) in ap (λ (c : ℕ). number_behind n c == number_behind n b) e ∙ itself (number_behind n b) ∙ sym y
   | inr f ↦ let apart : a ≢ b = grind (arith, nat_tests, f) in other_number (number_behind n a) (number_behind n b) (λ same. apart (from_there n a b same)) ∙ sym f
 ]
+
+-- the number of an entry in the history with the two events, and in the one without: that of the old one, or of another
+abbrev pub Numbers : (n old a b : ℕ) → Type 0
+Numbers n old a b = ((a ≡ n) × (b ≡ old)) ⊎ ((a ≡ number_behind n b) × (b ≢ old))
+
+pub numbers_tested : (n old : ℕ) (a b c d : ℕ) → Numbers n old a b → Numbers n old c d → (c == a) ≡ (d == b)
+numbers_tested n old a b c d (inl first) (inl second) =
+    ap (λ (k : ℕ). k == a) (second.0 ∙ sym first.0) ∙ (itself a ∙ (sym (itself b) ∙ ap (λ (k : ℕ). k == b) (first.1 ∙ sym second.1)))
+numbers_tested n old a b c d (inl first) (inr second) =
+    other_number c a (λ same. never_that n d (sym second.0 ∙ (same ∙ first.0))) ∙ sym (other_number d b (λ same. second.1 (same ∙ first.1)))
+numbers_tested n old a b c d (inr first) (inl second) =
+    other_number c a (λ same. never_that n b (sym first.0 ∙ (sym same ∙ second.0))) ∙ sym (other_number d b (λ same. first.1 (sym same ∙ second.1)))
+numbers_tested n old a b c d (inr first) (inr second) =
+    ap (λ (k : ℕ). k == a) second.0 ∙ (ap (λ (k : ℕ). number_behind n d == k) first.0 ∙ same_test n d b)
 
 -- ---- stamps
 

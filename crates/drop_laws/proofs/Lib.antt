@@ -3,3 +3,4 @@ mod Behind
 pub mod Free
 pub mod Led
 mod Moved
+mod Once

@@ -9,6 +9,7 @@ use Rattle.part_bounds.specs.declared.partition_bound.Bound.{Bound}
 use Rattle.part_bounds.specs.Bounds.{is_filled}
 use Rattle.part_bounds.proofs.LevelLaws.{level_filled}
 use Rattle.part_bounds.proofs.PlainOrder.{pairs-head, pairs-tail}
+use Rattle.history.specs.declared.catalogue.Check.{Check}
 use Rattle.history.specs.declared.catalogue.Entry.{Entry}
 use Rattle.history.specs.declared.catalogue.Stamp.{Stamp}
 use Rattle.history.specs.declared.catalogue.Table.{Table}
@@ -16,27 +17,29 @@ use Rattle.history.specs.declared.catalogue.TableShape.{TableShape}
 use Rattle.history.specs.declared.catalogue.TableShape.TheVariants.{Leaf, Level}
 use Rattle.history.specs.Transactions.{TxEvents, fate, is_committed, was_aborted}
 use Rattle.history.specs.Snapshots.{TakenSnapshot, sees}
-use Rattle.history.specs.Catalogue.{CatalogueEvents, EntryAdded, EntryEnded, EntryMarked, Stamps, tables_made, entries_added, entry_ends, marks, counted_of}
+use Rattle.history.specs.Catalogue.{CatalogueEvents, EntryAdded, EntryEnded, EntryMarked, Stamps, tables_made, entries_added, checks_kept, entry_ends, marks, counted_of}
 use Rattle.history.specs.Rows.{RowEvents, births, end_in}
 use Rattle.history.specs.declared.version.Version.{Version}
 use Rattle.history.specs.History.{History, CatalogueChange, tx_events, row_events, catalogue_events, seen, sees_end}
 use Rattle.history.specs.Places.{AreCatalogueSound, TakesBound, table_at}
-use Rattle.history.specs.Presence.{counts, stamp_counts, sees_stamp, is_present, entries_present}
+use Rattle.history.specs.Presence.{counts, stamp_counts, sees_stamp, is_present, entries_present, is_check_of, checks_of}
 use Rattle.table_trees.specs.Trees.{TableTree}
 use Rattle.table_trees.specs.Siblings.{AreSiblings, CanStandTogether}
-use Rattle.table_trees.specs.Histories.{tree_within, tree_of}
+use Rattle.table_trees.specs.declared.path_part.Place.{Place}
+use Rattle.table_trees.specs.declared.path_part.PathPart.{PathPart}
+use Rattle.table_trees.specs.Histories.{table_of, kept_of, children, above, parent_in, place_among, place_of, part_of, upwards, tree_within, tree_of, path_of}
 use Rattle.table_trees.proofs.Order.{siblings_kept, all_kept}
 use Rattle.table_trees.proofs.Suited.{all_suit}
 use Rattle.soundness.proofs.Listed.{cases_in, none_in}
 use Rattle.drop_laws.specs.Back.{IsBackAgain, number_behind, entry_behind, event_behind}
-use Rattle.drop_laws.proofs.Alike.{StandsApart, trees_alike, AreLike, like_itself, like_append, like_trees}
-use Rattle.drop_laws.proofs.Behind.{Earlier, earlier, stamp_behind, newer_or, other_number, itself, low_stays, high_goes_on, tables_both, tables_behind, entries_both, entries_behind, ends_both, ends_behind, marks_both, marks_behind, counted_both, counted_behind, none_of_that, none_newer}
+use Rattle.drop_laws.proofs.Alike.{StandsApart, trees_alike, children_alike, AreLike, like_append, like_trees, like_found, like_place, like_parent, same_upwards, moved_found}
+use Rattle.drop_laws.proofs.Behind.{Earlier, earlier, Numbers, numbers_tested, stamp_behind, newer_or, other_number, itself, low_stays, high_goes_on, tables_both, tables_behind, checks_both, checks_behind, entries_both, entries_behind, ends_both, ends_behind, marks_both, marks_behind, counted_both, counted_behind, none_of_that, none_newer}
 
--- ---- what is shown, of the events alone
+-- ---- what is present, and passes a test of its mark, of the events alone
 
-abbrev shown_by : TxEvents → CatalogueEvents → (session : ℕ) → TakenSnapshot → Entry → Bool
-shown_by txs cats s snap x =
-    (counts txs s x.by.number && not (stamp_counts txs s (counted_of txs (entry_ends cats) x.id.number))) && not (sees_stamp txs snap (counted_of txs (marks cats) x.id.number))
+abbrev passes_by : (Option Stamp → Bool) → TxEvents → CatalogueEvents → (session : ℕ) → Entry → Bool
+passes_by unseen txs cats s x =
+    (counts txs s x.by.number && not (stamp_counts txs s (counted_of txs (entry_ends cats) x.id.number))) && unseen (counted_of txs (marks cats) x.id.number)
 
 -- ---- stamps
 
@@ -173,11 +176,7 @@ mapped_filter p q f (x ∷ xs) same =
       | inr n ↦ let m : q (f x) ≡ false = first ∙ n in rw (n, m) rest
     ]
 
-like_behind : (n : ℕ) (xs : List Entry) → AreLike (map (entry_behind n) xs) xs
-like_behind n [] = tt
-like_behind n (x ∷ xs) = ((refl, refl, refl), like_behind n xs)
-
-module _ (g h : History) (s : ℕ) (snap : TakenSnapshot) (back : IsBackAgain g h) (sound : AreCatalogueSound h) (siblings : AreSiblings (entries_present h s)) where
+module _ (unseen : Option Stamp → Bool) (passed : unseen None ≡ true) (g h : History) (s : ℕ) (back : IsBackAgain g h) (sound : AreCatalogueSound h) (siblings : AreSiblings (entries_present h s)) where
   abbrev n : ℕ
   n = length (entries_added back.until)
 
@@ -198,10 +197,10 @@ module _ (g h : History) (s : ℕ) (snap : TakenSnapshot) (back : IsBackAgain g 
   more = map (event_behind n) back.later ++ two
 
   abbrev p : Entry → Bool
-  p = shown_by (tx_events h) whole s snap
+  p = passes_by unseen (tx_events h) whole s
 
   abbrev q : Entry → Bool
-  q = shown_by (tx_events h) more s snap
+  q = passes_by unseen (tx_events h) more s
 
   -- ---- numbers
 
@@ -291,8 +290,8 @@ module _ (g h : History) (s : ℕ) (snap : TakenSnapshot) (back : IsBackAgain g 
   -- each but the old one is shown with the two as it is without them
   shown_same : (x : Entry) → x.id.number ≢ back.old.id.number → q (entry_behind n x) ≡ p x
   shown_same x other =
-      ap (λ (o : Option Stamp). (counts (tx_events h) s x.by.number && not (stamp_counts (tx_events h) s o)) && not (sees_stamp (tx_events h) snap (counted_of (tx_events h) (marks more) (number_behind n x.id.number)))) (ends_same x.id.number other)
-      ∙ ap (λ (o : Option Stamp). (counts (tx_events h) s x.by.number && not (stamp_counts (tx_events h) s (counted_of (tx_events h) (entry_ends whole) x.id.number))) && not (sees_stamp (tx_events h) snap o)) (marks_same x.id.number)
+      ap (λ (o : Option Stamp). (counts (tx_events h) s x.by.number && not (stamp_counts (tx_events h) s o)) && unseen (counted_of (tx_events h) (marks more) (number_behind n x.id.number))) (ends_same x.id.number other)
+      ∙ ap (λ (o : Option Stamp). (counts (tx_events h) s x.by.number && not (stamp_counts (tx_events h) s (counted_of (tx_events h) (entry_ends whole) x.id.number))) && unseen o) (marks_same x.id.number)
 
   low_same : (x : Entry) → x.id.number < n → x.id.number ≢ back.old.id.number → q x ≡ p x
   low_same x lt other =
@@ -310,7 +309,7 @@ module _ (g h : History) (s : ℕ) (snap : TakenSnapshot) (back : IsBackAgain g 
       let born = committed_counts (tx_events h) s back.old.by.number back.committed in
       let stands = standing in
       let plain = unmarked in
-      rw (born, stands, plain) refl
+      rw (born, stands, plain, passed) refl
 
   gone : (a b : Bool) → ((a && not true) && b) ≡ false
   gone true b = refl
@@ -325,9 +324,9 @@ module _ (g h : History) (s : ℕ) (snap : TakenSnapshot) (back : IsBackAgain g 
       let here : counted_of (tx_events h) (entry_ends two) back.old.id.number ≡ Some back.stamp = rw (itself back.old.id.number, not_aborted (tx_events h) back.stamp.by.number back.detached) refl in
       let counted : counted_of (tx_events h) (entry_ends more) back.old.id.number ≡ Some back.stamp =
       ends_more back.old.id.number ∙ (ap (λ (o : Option Stamp). newer_or o (counted_of (tx_events h) (entry_ends two) back.old.id.number)) none_behind ∙ here) in
-      ap (λ (o : Option Stamp). (counts (tx_events h) s back.old.by.number && not (stamp_counts (tx_events h) s o)) && not (sees_stamp (tx_events h) snap (counted_of (tx_events h) (marks more) back.old.id.number))) counted
-      ∙ (ap (λ (b : Bool). (counts (tx_events h) s back.old.by.number && not b) && not (sees_stamp (tx_events h) snap (counted_of (tx_events h) (marks more) back.old.id.number))) ended
-      ∙ gone (counts (tx_events h) s back.old.by.number) (not (sees_stamp (tx_events h) snap (counted_of (tx_events h) (marks more) back.old.id.number))))
+      ap (λ (o : Option Stamp). (counts (tx_events h) s back.old.by.number && not (stamp_counts (tx_events h) s o)) && unseen (counted_of (tx_events h) (marks more) back.old.id.number)) counted
+      ∙ (ap (λ (b : Bool). (counts (tx_events h) s back.old.by.number && not b) && unseen (counted_of (tx_events h) (marks more) back.old.id.number)) ended
+      ∙ gone (counts (tx_events h) s back.old.by.number) (unseen (counted_of (tx_events h) (marks more) back.old.id.number)))
 
   again_shown : q back.again ≡ true
   again_shown =
@@ -341,7 +340,7 @@ module _ (g h : History) (s : ℕ) (snap : TakenSnapshot) (back : IsBackAgain g 
       ap (λ (k : ℕ). counted_of (tx_events h) (marks more) k) back.number
       ∙ (marks_more n ∙ (ap (λ (o : Option Stamp). newer_or o (counted_of (tx_events h) (marks back.until) n)) (none_of_that (tx_events h) n (marks back.later)) ∙ none_marked n (omega arith))) in
       let born = committed_counts (tx_events h) s back.again.by.number back.attached in
-      rw (born, ends, plain) refl
+      rw (born, ends, plain, passed) refl
 
   -- ---- lists of them
 
@@ -396,8 +395,8 @@ module _ (g h : History) (s : ℕ) (snap : TakenSnapshot) (back : IsBackAgain g 
   -- those that are shown stand apart
   shown_siblings : AreSiblings (filter p (entries_added whole))
   shown_siblings =
-      let r : Entry → Bool = λ x. not (sees_stamp (tx_events h) snap (counted_of (tx_events h) (marks (catalogue_events h)) x.id.number)) in
-      subst (λ (cs : CatalogueEvents). AreSiblings (filter (shown_by (tx_events h) cs s snap) (entries_added cs))) back.without
+      let r : Entry → Bool = λ x. unseen (counted_of (tx_events h) (marks (catalogue_events h)) x.id.number) in
+      subst (λ (cs : CatalogueEvents). AreSiblings (filter (passes_by unseen (tx_events h) cs s) (entries_added cs))) back.without
       (subst AreSiblings (sym (both_filters (is_present h s) r (entries_added (catalogue_events h)))) (siblings_kept r (entries_present h s) siblings))
 
   all_filled : All (λ (x : Entry). is_filled x.bound ≡ true) (entries_added (catalogue_events h))
@@ -414,36 +413,156 @@ module _ (g h : History) (s : ℕ) (snap : TakenSnapshot) (back : IsBackAgain g 
       let behind = All-tail (λ (x : Entry). is_filled x.bound ≡ true) back.old (after ++ rest) here in
       λ k d lt parent. let both = beside k d lt parent in (both.1, both.0, own, behind k d lt)
 
-  -- ---- trees
+  -- ---- the lists are like each other
 
-  abbrev tree_by : TxEvents → CatalogueEvents → (t : ℕ) → TableTree
-  tree_by x cs t = tree_within 7 (tables_made cs) (filter (shown_by x cs s snap) (entries_added cs)) t t
+  abbrev between : List Entry
+  between = ((before ++ after) ++ (back.old ∷ [])) ++ rest
+
+  like_itself : (xs : List Entry) → All (λ (x : Entry). x.id.number < n) xs → All (λ (x : Entry). x.id.number ≢ back.old.id.number) xs → AreLike (Numbers n back.old.id.number) xs xs
+  like_itself [] low others = tt
+  like_itself (x ∷ xs) low others =
+      let here = All-head (λ (y : Entry). y.id.number < n) x xs low in
+      let other = All-head (λ (y : Entry). y.id.number ≢ back.old.id.number) x xs others in (
+        record { parent = refl; child = refl; bound = refl; number = inr (sym (low_stays n x.id.number here), other) },
+        like_itself xs (All-tail (λ (y : Entry). y.id.number < n) x xs low) (All-tail (λ (y : Entry). y.id.number ≢ back.old.id.number) x xs others),
+      )
+
+  like_behind : (xs : List Entry) → All (λ (x : Entry). x.id.number ≢ back.old.id.number) xs → AreLike (Numbers n back.old.id.number) (map (entry_behind n) xs) xs
+  like_behind [] others = tt
+  like_behind (x ∷ xs) others =
+      let other = All-head (λ (y : Entry). y.id.number ≢ back.old.id.number) x xs others in (
+        record { parent = refl; child = refl; bound = refl; number = inr (refl, other) },
+        like_behind xs (All-tail (λ (y : Entry). y.id.number ≢ back.old.id.number) x xs others),
+      )
+
+  like_own : AreLike (Numbers n back.old.id.number) (back.again ∷ []) (back.old ∷ [])
+  like_own = (record { parent = back.parent; child = back.child; bound = back.bound; number = inl (back.number, refl) }, tt)
+
+  like_moved : AreLike (Numbers n back.old.id.number) (filter q (entries_added more)) between
+  like_moved =
+      let low_before = all_front (λ (x : Entry). x.id.number < n) split.before (back.old ∷ split.after) low_split in
+      let low_after = All-tail (λ (x : Entry). x.id.number < n) back.old split.after (all_behind (λ (x : Entry). x.id.number < n) split.before (back.old ∷ split.after) low_split) in
+      let low = low_old in
+      let last_others : All (λ (x : Entry). x.id.number ≢ back.old.id.number) last = λ k d lt. let at = numbers_last d k lt in λ same. omega (arith, low, at, same) in
+      let first_like =
+      like_append (Numbers n back.old.id.number) before before after after
+      (like_itself before (all_kept (λ (x : Entry). x.id.number < n) p split.before low_before) (all_kept (λ (x : Entry). x.id.number ≢ back.old.id.number) p split.before split.others_before))
+      (like_itself after (all_kept (λ (x : Entry). x.id.number < n) p split.after low_after) (all_kept (λ (x : Entry). x.id.number ≢ back.old.id.number) p split.after split.others_after)) in
+      let both = like_append (Numbers n back.old.id.number) (before ++ after) (before ++ after) (back.again ∷ []) (back.old ∷ []) first_like like_own in
+      subst (λ (es : List Entry). AreLike (Numbers n back.old.id.number) es between) (sym shown_with)
+      (like_append (Numbers n back.old.id.number) ((before ++ after) ++ (back.again ∷ [])) ((before ++ after) ++ (back.old ∷ [])) (map (entry_behind n) rest) rest both
+      (like_behind rest (all_kept (λ (x : Entry). x.id.number ≢ back.old.id.number) p last last_others)))
+
+  apart_rest : All (StandsApart back.old) rest
+  apart_rest = all_behind (StandsApart back.old) after rest apart
+
+  -- ---- trees
 
   same_tables : tables_made more ≡ tables_made whole
   same_tables = tables_both (map (event_behind n) back.later) two ∙ (ap (λ (ts : List Table). tables_made back.until ++ ts) (tables_behind n back.later) ∙ sym (tables_both back.later back.until))
 
-  moved_trees : (tables : List Table) (t : ℕ) → tree_within 7 tables (((before ++ after) ++ (back.again ∷ [])) ++ map (entry_behind n) rest) t t ≡ tree_within 7 tables (before ++ (back.old ∷ (after ++ rest))) t t
-  moved_trees tables t =
-      let tree : List Entry → TableTree = λ es. tree_within 7 tables es t t in
-      let like =
-      like_append ((before ++ after) ++ (back.again ∷ [])) ((before ++ after) ++ (back.old ∷ [])) (map (entry_behind n) rest) rest
-      (like_append (before ++ after) (before ++ after) (back.again ∷ []) (back.old ∷ []) (like_itself (before ++ after)) ((back.parent, back.child, back.bound), tt)) (like_behind n rest) in
-      like_trees tables (((before ++ after) ++ (back.again ∷ [])) ++ map (entry_behind n) rest) (((before ++ after) ++ (back.old ∷ [])) ++ rest) like 7 t t
-      ∙ (ap tree (append_assoc (before ++ after) (back.old ∷ []) rest)
-      ∙ (sym (trees_alike back.old back.old (before ++ after) rest refl refl refl (all_behind (StandsApart back.old) after rest apart) tables 7 t t)
-      ∙ (ap (λ (es : List Entry). tree (es ++ (back.old ∷ []))) (append_assoc before after rest)
-      ∙ trees_alike back.old back.old before (after ++ rest) refl refl refl apart tables 7 t t)))
+  abbrev tree_by : TxEvents → CatalogueEvents → (t : ℕ) → TableTree
+  tree_by x cs t = tree_within 7 (tables_made cs) (filter (passes_by unseen x cs s) (entries_added cs)) t t
 
-  pub same_trees : (t : ℕ) → tree_of g s t snap ≡ tree_of h s t snap
-  unfolding tree_of
-  same_trees t =
+  between_trees : (tables : List Table) (t : ℕ) → tree_within 7 tables between t t ≡ tree_within 7 tables (filter p (entries_added whole)) t t
+  between_trees tables t =
+      let tree : List Entry → TableTree = λ es. tree_within 7 tables es t t in
+      ap tree (append_assoc (before ++ after) (back.old ∷ []) rest)
+      ∙ (sym (trees_alike back.old back.old (before ++ after) rest refl refl refl apart_rest tables 7 t t)
+      ∙ (ap (λ (es : List Entry). tree (es ++ (back.old ∷ []))) (append_assoc before after rest)
+      ∙ (trees_alike back.old back.old before (after ++ rest) refl refl refl apart tables 7 t t ∙ ap tree (sym shown_without))))
+
+  pub trees_by : (t : ℕ) → tree_by (tx_events g) (catalogue_events g) t ≡ tree_by (tx_events h) (catalogue_events h) t
+  trees_by t =
       ap (λ (x : TxEvents). tree_by x (catalogue_events g) t) back.transactions
       ∙ (ap (λ (cs : CatalogueEvents). tree_by (tx_events h) cs t) back.changes
-      ∙ (ap (λ (es : List Entry). tree_within 7 (tables_made more) es t t) shown_with
-      ∙ (ap (λ (ts : List Table). tree_within 7 ts (((before ++ after) ++ (back.again ∷ [])) ++ map (entry_behind n) rest) t t) same_tables
-      ∙ (moved_trees (tables_made whole) t
-      ∙ (ap (λ (es : List Entry). tree_within 7 (tables_made whole) es t t) (sym shown_without)
-      ∙ ap (λ (cs : CatalogueEvents). tree_by (tx_events h) cs t) (sym back.without))))))
+      ∙ (ap (λ (ts : List Table). tree_within 7 ts (filter q (entries_added more)) t t) same_tables
+      ∙ (like_trees (Numbers n back.old.id.number) (tables_made whole) (filter q (entries_added more)) between like_moved 7 t t
+      ∙ (between_trees (tables_made whole) t ∙ ap (λ (cs : CatalogueEvents). tree_by (tx_events h) cs t) (sym back.without)))))
+
+  -- ---- paths
+
+  same_checks : checks_kept more ≡ checks_kept whole
+  same_checks = checks_both (map (event_behind n) back.later) two ∙ (ap (λ (cs : List Check). checks_kept back.until ++ cs) (checks_behind n back.later) ∙ sym (checks_both back.later back.until))
+
+  between_children : (t : ℕ) → children between t ≡ children (filter p (entries_added whole)) t
+  between_children t =
+      ap (λ (es : List Entry). children es t) (append_assoc (before ++ after) (back.old ∷ []) rest)
+      ∙ (sym (children_alike back.old back.old (before ++ after) rest refl refl refl apart_rest refl t)
+      ∙ (ap (λ (es : List Entry). children (es ++ (back.old ∷ [])) t) (append_assoc before after rest)
+      ∙ (children_alike back.old back.old before (after ++ rest) refl refl refl apart refl t ∙ ap (λ (es : List Entry). children es t) (sym shown_without))))
+
+  between_place : (tables : List Table) (o : Option Entry) → place_of tables between o ≡ place_of tables (filter p (entries_added whole)) o
+  between_place tables None = refl
+  between_place tables (Some e) = ap (λ (kids : List Entry). place_among kids (table_at tables e.parent.number).shape e) (between_children e.parent.number)
+
+  abbrev path_by : TxEvents → CatalogueEvents → (t : ℕ) → List PathPart
+  path_by x cs t =
+      upwards 8 (part_of (tables_made cs) (filter (passes_by unseen x cs s) (entries_added cs)) (λ table. filter (is_check_of x s table) (checks_kept cs)))
+      (above (filter (passes_by unseen x cs s) (entries_added cs))) (Some t)
+
+  -- where each table is the child of one of the entries at most
+  module _ (one : All (λ (x : Entry). x.child.number ≡ back.old.child.number → x.id.number ≡ back.old.id.number) (filter p (entries_added whole))) where
+    alone : All (λ (x : Entry). x.child.number ≢ back.old.child.number) after
+    alone =
+        let all = all_behind (λ (x : Entry). x.child.number ≡ back.old.child.number → x.id.number ≡ back.old.id.number) before (back.old ∷ (after ++ rest)) (subst (All (λ (x : Entry). x.child.number ≡ back.old.child.number → x.id.number ≡ back.old.id.number)) shown_without one) in
+        let here = all_front (λ (x : Entry). x.child.number ≡ back.old.child.number → x.id.number ≡ back.old.id.number) after rest (All-tail (λ (x : Entry). x.child.number ≡ back.old.child.number → x.id.number ≡ back.old.id.number) back.old (after ++ rest) all) in
+        let others = all_kept (λ (x : Entry). x.id.number ≢ back.old.id.number) p split.after split.others_after in
+        λ k d lt same. others k d lt (here k d lt same)
+
+    between_above : (t : ℕ) → above between t ≡ above (filter p (entries_added whole)) t
+    between_above t = moved_found t back.old before after rest alone ∙ ap (λ (es : List Entry). above es t) (sym shown_without)
+
+    parts : (t : ℕ) → part_of (tables_made whole) (filter q (entries_added more)) (λ table. filter (is_check_of (tx_events h) s table) (checks_kept whole)) t
+        ≡ part_of (tables_made whole) (filter p (entries_added whole)) (λ table. filter (is_check_of (tx_events h) s table) (checks_kept whole)) t
+    parts t =
+        let made : Option Place → PathPart = λ place. record { table = table_of t; checks = map kept_of (filter (is_check_of (tx_events h) s t) (checks_kept whole)); place = place } in
+        ap made
+        (like_place (Numbers n back.old.id.number) (numbers_tested n back.old.id.number) (tables_made whole) (filter q (entries_added more)) between like_moved (above (filter q (entries_added more)) t) (above between t) (like_found (Numbers n back.old.id.number) t (filter q (entries_added more)) between like_moved)
+        ∙ (between_place (tables_made whole) (above between t) ∙ ap (place_of (tables_made whole) (filter p (entries_added whole))) (between_above t)))
+
+    ups : (t : ℕ) → parent_in (above (filter q (entries_added more)) t) ≡ parent_in (above (filter p (entries_added whole)) t)
+    ups t =
+        like_parent (Numbers n back.old.id.number) (above (filter q (entries_added more)) t) (above between t) (like_found (Numbers n back.old.id.number) t (filter q (entries_added more)) between like_moved)
+        ∙ ap parent_in (between_above t)
+
+    pub paths_by : (t : ℕ) → path_by (tx_events g) (catalogue_events g) t ≡ path_by (tx_events h) (catalogue_events h) t
+    paths_by t =
+        ap (λ (x : TxEvents). path_by x (catalogue_events g) t) back.transactions
+        ∙ (ap (λ (cs : CatalogueEvents). path_by (tx_events h) cs t) back.changes
+        ∙ (ap (λ (ts : List Table). upwards 8 (part_of ts (filter q (entries_added more)) (λ table. filter (is_check_of (tx_events h) s table) (checks_kept more))) (above (filter q (entries_added more))) (Some t)) same_tables
+        ∙ (ap (λ (cs : List Check). upwards 8 (part_of (tables_made whole) (filter q (entries_added more)) (λ table. filter (is_check_of (tx_events h) s table) cs)) (above (filter q (entries_added more))) (Some t)) same_checks
+        ∙ (same_upwards 8 (part_of (tables_made whole) (filter q (entries_added more)) (λ table. filter (is_check_of (tx_events h) s table) (checks_kept whole)))
+        (part_of (tables_made whole) (filter p (entries_added whole)) (λ table. filter (is_check_of (tx_events h) s table) (checks_kept whole)))
+        (above (filter q (entries_added more))) (above (filter p (entries_added whole))) parts ups (Some t)
+        ∙ ap (λ (cs : CatalogueEvents). path_by (tx_events h) cs t) (sym back.without)))))
+
+-- ---- what is shown by a snapshot, and what is present
+
+pub same_trees : (g h : History) (s : ℕ) (snap : TakenSnapshot) → IsBackAgain g h → AreCatalogueSound h → AreSiblings (entries_present h s) → (t : ℕ) → tree_of g s t snap ≡ tree_of h s t snap
+unfolding tree_of
+same_trees g h s snap back sound siblings t =
+    ap (λ (x : TxEvents). tree_within 7 (tables_made (catalogue_events g)) (filter (passes_by (λ o. not (sees_stamp x snap o)) (tx_events g) (catalogue_events g) s) (entries_added (catalogue_events g))) t t) back.transactions
+    ∙ trees_by (λ o. not (sees_stamp (tx_events h) snap o)) refl g h s back sound siblings t
+
+-- where marks are not asked for all is as it is present
+and_true : (b : Bool) → (b && true) ≡ b
+and_true true = refl
+and_true false = refl
+
+all_pass : (h : History) (s : ℕ) → filter (passes_by (λ o. true) (tx_events h) (catalogue_events h) s) (entries_added (catalogue_events h)) ≡ entries_present h s
+all_pass h s = same_filter (passes_by (λ o. true) (tx_events h) (catalogue_events h) s) (is_present h s) (entries_added (catalogue_events h)) (λ k d lt. and_true (is_present h s (get_or (entries_added (catalogue_events h)) k d)))
+
+pub same_paths : (g h : History) (s : ℕ) (back : IsBackAgain g h) → AreCatalogueSound h → AreSiblings (entries_present h s)
+    → All (λ (x : Entry). x.child.number ≡ back.old.child.number → x.id.number ≡ back.old.id.number) (entries_present h s) → (t : ℕ) → path_of g s t ≡ path_of h s t
+unfolding path_of
+same_paths g h s back sound siblings one t =
+    let only : All (λ (x : Entry). x.child.number ≡ back.old.child.number → x.id.number ≡ back.old.id.number) (filter (passes_by (λ o. true) (tx_events h) (back.later ++ back.until) s) (entries_added (back.later ++ back.until))) =
+    subst (λ (cs : CatalogueEvents). All (λ (x : Entry). x.child.number ≡ back.old.child.number → x.id.number ≡ back.old.id.number) (filter (passes_by (λ o. true) (tx_events h) cs s) (entries_added cs))) back.without
+    (subst (All (λ (x : Entry). x.child.number ≡ back.old.child.number → x.id.number ≡ back.old.id.number)) (sym (all_pass h s)) one) in
+    ap (λ (es : List Entry). upwards 8 (part_of (tables_made (catalogue_events g)) es (checks_of g s)) (above es) (Some t)) (sym (all_pass g s))
+    ∙ (paths_by (λ o. true) refl g h s back sound siblings only t
+    ∙ ap (λ (es : List Entry). upwards 8 (part_of (tables_made (catalogue_events h)) es (checks_of h s)) (above es) (Some t)) (all_pass h s))
 
 -- ---- the rows are the same
 

@@ -8,7 +8,7 @@ use Rattle.history.specs.Snapshots.{TakenSnapshot}
 use Rattle.history.specs.Catalogue.{CatalogueEvent, CatalogueEvents, TableMade, TableDropped, EntryAdded, EntryEnded, EntryMarked, CheckKept, entries_added, entry_ends, marks, counted_of}
 use Rattle.history.specs.History.{History, tx_events, row_events, catalogue_events, seen}
 use Rattle.history.specs.Legal.{IsLegal}
-use Rattle.table_trees.specs.Histories.{tree_of}
+use Rattle.table_trees.specs.Histories.{tree_of, path_of}
 use Rattle.soundness.specs.Legal.{ArePermitted}
 
 -- ---- an entry more
@@ -55,7 +55,12 @@ pub record IsBackAgain (g h : History) : Type 0 where
   pub detached : is_committed (fate (tx_events h) stamp.by.number) ≡ true
   pub attached : is_committed (fate (tx_events h) again.by.number) ≡ true
 
--- so each session finds the same tree of each table, and each snapshot sees the same rows, of which the answer to a query is
--- made
+-- so each session finds the same tree of each table, and the same path above it, by which a row is tested that is written to
+-- the table by its own name; and each snapshot sees the same rows, of which the answer to a query is made
+pub record IsAsBefore (g h : History) (session table leaf : ℕ) (s : TakenSnapshot) : Type 0 where
+  pub tree : tree_of g session table s ≡ tree_of h session table s
+  pub path : path_of g session table ≡ path_of h session table
+  pub rows : seen g leaf s ≡ seen h leaf s
+
 abbrev pub DetachAndAttachShowTheSame : Type 0
-DetachAndAttachShowTheSame = (g h : History) (session table leaf : ℕ) (s : TakenSnapshot) → IsLegal h → ArePermitted h → IsBackAgain g h → (tree_of g session table s ≡ tree_of h session table s) × (seen g leaf s ≡ seen h leaf s)
+DetachAndAttachShowTheSame = (g h : History) (session table leaf : ℕ) (s : TakenSnapshot) → IsLegal h → ArePermitted h → IsBackAgain g h → IsAsBefore g h session table leaf s
