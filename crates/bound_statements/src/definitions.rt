@@ -3,7 +3,7 @@ use crate::trees::{write_literal, write_number};
 use history::{Column, Columns};
 use part_bounds::{Bound, Edge, Level, Point, Strategy};
 use pg_values::{NoMemory, Refusal};
-use sql_commands::{BoundText, ColumnList, Partitioning};
+use sql_ast::{BoundText, ColumnList, Partitioning};
 use std::alloc::Global;
 use table_binder::{bind_bound, bind_columns, bind_partitioning};
 use value_rules::kind_word;

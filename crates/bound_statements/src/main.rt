@@ -34,11 +34,9 @@ use change_binder::{Wanted, bind_arguments, bind_delete, bind_insert, bind_updat
 use definitions::{write_partition, write_table};
 use kinds::{write_bound, write_kinds};
 use pg_values::{Fault, Kind, NoMemory, Refusal};
+use sql_ast::{Command, Delete, ExprList, Insert, Query, RowStatement, Select, Statement, Update};
 use sql_binder::bind_select;
-use sql_commands::Command;
-use sql_expressions::ExprList;
-use sql_queries::{Delete, Insert, Query, RowStatement, Select, Update};
-use sql_syntax::{Statement, parse_block};
+use sql_syntax::parse_block;
 use std::alloc::Global;
 use std::io::{self, ErrorKind, Write};
 use tables::{columns_of, item_of, items_of, params};

@@ -1,8 +1,8 @@
 -- The modes of LOCK TABLE, from the words that name them (the manual, LOCK).
 use Rattle.pg_ids.specs.declared.lock_mode.LockMode.{LockMode}
 use Rattle.pg_ids.specs.declared.lock_mode.LockMode.TheVariants as modes
-use Rattle.sql_commands.specs.declared.lock.LockMode.{LockMode as WrittenMode}
-use Rattle.sql_commands.specs.declared.lock.LockMode.TheVariants as written
+use Rattle.pg_ids.specs.declared.lock_mode.LockMode.{LockMode as WrittenMode}
+use Rattle.pg_ids.specs.declared.lock_mode.LockMode.TheVariants as written
 
 abbrev pub mode_of : WrittenMode → LockMode
 mode_of written.AccessShare = modes.AccessShare

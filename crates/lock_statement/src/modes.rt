@@ -1,8 +1,7 @@
 ghost use Rattle.std.specs.Prelude.{◌≡◌};
 ghost use Rattle.lock_statement.specs.Modes as modes;
 
-use pg_ids::LockMode;
-use sql_commands::LockMode as WrittenMode;
+use pg_ids::{LockMode, LockMode as WrittenMode};
 
 pub(crate) fn mode_of(mode: WrittenMode) -> LockMode
     ensures { result ≡ modes.mode_of mode }

@@ -2,7 +2,7 @@ use Rattle.std.proofs.Common.{ℕ, ◌+◌, List, Err, sym, subst, map, All}
 use Rattle.pg_ids.specs.declared.ids.TableNo.{TableNo}
 use Rattle.pg_ids.specs.declared.lock_mode.LockMode.{LockMode}
 use Rattle.history.specs.History.{History}
-use Rattle.sql_commands.specs.declared.lists.LockedTable.{LockedTable}
+use Rattle.sql_ast.specs.declared.locked_table.LockedTable.{LockedTable}
 use Rattle.course.specs.Made.{Made}
 use Rattle.statement_steps.specs.Known.{IsKnownTo}
 use Rattle.statement_steps.specs.Steps.{IsStep, follow}
