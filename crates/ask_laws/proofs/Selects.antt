@@ -3,9 +3,8 @@ use Rattle.std.proofs.Common.{◌≡◌, ℕ, zero, suc, ◌+◌, ◌<◌, true,
 use Rattle.pg_values.specs.declared.fault.Fault.{Fault}
 use Rattle.pg_values.specs.declared.value.Kind.{Kind}
 use Rattle.pg_values.specs.declared.value.Kind.TheVariants.{Text as KText}
-use Rattle.sql_expressions.specs.Tree.{Tree}
-use Rattle.sql_queries.specs.Items.{Item as Listed, all_columns, columns_of, one_column}
-use Rattle.sql_queries.specs.Trees.{Joined}
+use Rattle.sql_ast.specs.Expressions.{Tree}
+use Rattle.sql_ast.specs.Queries.{Item as Listed, all_columns, columns_of, one_column, Joined}
 use Rattle.cond_logic.specs.declared.cond.Operand.{Operand}
 use Rattle.cond_logic.specs.declared.cond.Operand.TheVariants.{Column, Lit, Param as Argument}
 use Rattle.cond_logic.specs.Scalars.{ScalarTree}

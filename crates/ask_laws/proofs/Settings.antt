@@ -11,7 +11,7 @@ use Rattle.value_rules.specs.Assignment.{assigned}
 use Rattle.value_rules.specs.Ranges.{fitted, or_fault, is_integer}
 use Rattle.value_rules.specs.declared.assignment.CoerceFault.{CoerceFault}
 use Rattle.value_rules.specs.declared.assignment.CoerceFault.TheVariants.{Kinds, Range}
-use Rattle.sql_queries.specs.Trees.{Setting as Written}
+use Rattle.sql_ast.specs.Queries.{Setting as Written}
 use Rattle.cond_logic.specs.Scalars.{ScalarTree, column, literal, table_name, computes, cancels}
 use Rattle.expression_binder.specs.declared.scope.ScopeColumn.{ScopeColumn}
 use Rattle.expression_binder.specs.declared.typed.Given.{Given}

@@ -1,8 +1,8 @@
 -- Statements without a fault fit their tables.
 use Rattle.std.proofs.Common.{◌≡◌, ℕ, nat_le, true, List, [], ◌∷◌, ◌++◌, Option, Some, None, Ok, length, refl, sym, subst}
 use Rattle.std.proofs.lemmas.List.{length-map}
-use Rattle.sql_expressions.specs.Tree.{Tree, Trees}
-use Rattle.sql_queries.specs.Trees.{SelectTree, selected, Setting as Written}
+use Rattle.sql_ast.specs.Expressions.{Tree, Trees}
+use Rattle.sql_ast.specs.Queries.{SelectTree, selected, Setting as Written}
 use Rattle.expression_binder.specs.declared.scope.Param.{Param}
 use Rattle.expression_binder.specs.declared.scope.ScopeColumn.{ScopeColumn}
 use Rattle.expression_binder.specs.Scopes.{Item}

@@ -2,8 +2,8 @@
 use Rattle.std.specs.Prelude.{◌≡◌, ◌<◌, ℕ, nat_le, true, List, [], ◌∷◌, Option, Some, None, Ok, length}
 use Rattle.pg_values.specs.declared.value.Kind.{Kind}
 use Rattle.pg_values.specs.declared.value.Value.{Value}
-use Rattle.sql_expressions.specs.Tree.{Tree, Trees}
-use Rattle.sql_queries.specs.Trees.{SelectTree, Setting}
+use Rattle.sql_ast.specs.Expressions.{Tree, Trees}
+use Rattle.sql_ast.specs.Queries.{SelectTree, Setting}
 use Rattle.cond_logic.specs.Trees.{CondTree, listed}
 use Rattle.expression_binder.specs.Kinds.{are_alike}
 use Rattle.expression_binder.specs.Scopes.{Item}

@@ -21,7 +21,7 @@ use Rattle.table_trees.specs.declared.path_part.PathPart.{PathPart}
 use Rattle.table_trees.specs.Histories.{path_of, above, parent_in, part_of, upwards, ddl_tree}
 use Rattle.table_trees.specs.Trees.{TableTree, LeafTable, LevelTable, height}
 use Rattle.soundness.proofs.Listed.{none_in, cases_in}
-use Rattle.sql_commands.specs.Trees.{Bound}
+use Rattle.sql_ast.specs.Commands.{Bound}
 use Rattle.table_binder.specs.Bounds.{bound_for}
 use Rattle.part_catalog.specs.Answers.{parent_told}
 use Rattle.part_catalog.specs.Found.{made_at}

@@ -7,7 +7,7 @@ use Rattle.history.specs.declared.catalogue.Entry.{Entry}
 use Rattle.history.specs.Catalogue.{EntryAdded, entries_added}
 use Rattle.history.specs.History.{History, CatalogueChange, catalogue_events}
 use Rattle.table_trees.specs.Histories.{table_of}
-use Rattle.sql_commands.specs.Trees.{Bound}
+use Rattle.sql_ast.specs.Commands.{Bound}
 use Rattle.part_ddl.specs.Below.{default_of}
 use Rattle.partition_scans.specs.Places.{place_scan, default_scan}
 use Rattle.partition_scans.specs.Scans.{Scan}

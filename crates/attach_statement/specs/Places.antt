@@ -7,7 +7,7 @@ use Rattle.part_bounds.specs.Checks.{unless}
 use Rattle.history.specs.History.{History}
 use Rattle.table_trees.specs.Histories.{ddl_tree}
 use Rattle.table_trees.specs.Trees.{height}
-use Rattle.sql_commands.specs.Trees.{Bound}
+use Rattle.sql_ast.specs.Commands.{Bound}
 use Rattle.table_binder.specs.Bounds.{bound_for}
 use Rattle.part_catalog.specs.Found.{made_at}
 use Rattle.part_ddl.specs.Below.{tables_from}

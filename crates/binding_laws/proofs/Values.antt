@@ -12,8 +12,8 @@ use Rattle.value_rules.specs.Ranges.{fitted, dated, or_fault, is_integer, is_big
 use Rattle.value_rules.specs.Reads.{reads, told, reading, in_range, integer_of}
 use Rattle.value_rules.specs.declared.operators.ArithFault.{ArithFault}
 use Rattle.value_rules.specs.declared.operators.ArithFault.TheVariants.{OutOfRange, DateRange}
-use Rattle.sql_expressions.specs.declared.leaf.Operator.{Operator}
-use Rattle.sql_expressions.specs.declared.leaf.Operator.TheVariants as op
+use Rattle.sql_ast.specs.declared.leaf.Operator.{Operator}
+use Rattle.sql_ast.specs.declared.leaf.Operator.TheVariants as op
 use Rattle.expression_binder.specs.Constants.{arith_of, number_value}
 use Rattle.expression_binder.specs.Kinds.{kind_made, number_kind}
 use Rattle.binding_laws.specs.Fitting.{IsOf}

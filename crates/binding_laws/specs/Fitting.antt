@@ -5,8 +5,8 @@ use Rattle.pg_values.specs.declared.value.Kind.{Kind}
 use Rattle.pg_values.specs.declared.value.Kind.TheVariants.{Int4 as KInt4, Int8 as KInt8, Text as KText, Day as KDay, Truth as KTruth}
 use Rattle.pg_values.specs.declared.value.Value.{Value}
 use Rattle.pg_values.specs.declared.value.Value.TheVariants.{Null, Int4, Int8, Text, Day, Truth}
-use Rattle.sql_expressions.specs.Tree.{Tree}
-use Rattle.sql_expressions.specs.declared.leaf.Operator.{Operator}
+use Rattle.sql_ast.specs.Expressions.{Tree}
+use Rattle.sql_ast.specs.declared.leaf.Operator.{Operator}
 use Rattle.cond_logic.specs.declared.cond.ColumnId.{ColumnId}
 use Rattle.cond_logic.specs.declared.cond.Operand.{Operand}
 use Rattle.cond_logic.specs.declared.cond.Operand.TheVariants.{Column, Lit, Param as Argument}

@@ -8,7 +8,7 @@ use Rattle.sql_tokens.specs.Classes.{a}
 use Rattle.sql_tokens.specs.declared.kind.Kind.TheVariants as word
 use Rattle.sql_tokens.specs.declared.token.Token.{Token}
 use Rattle.sql_syntax.specs.Grammar.{and_maybe, block, first_of, join, maybe_statement}
-use Rattle.sql_syntax.specs.Trees.{StatementTree}
+use Rattle.sql_ast.specs.Statements.{StatementTree}
 use Rattle.sql_syntax.specs.declared.parse.TheConstants.{MOST_STATEMENTS}
 
 -- one stands only where there is room

@@ -10,7 +10,7 @@ use Rattle.sql_tokens.specs.declared.token.Token.{Token}
 use Rattle.sql_expressions.specs.Parsed.{LimitOf}
 use Rattle.sql_syntax.specs.Block.{passed}
 use Rattle.sql_syntax.specs.Grammar.{block}
-use Rattle.sql_syntax.specs.Trees.{StatementTree}
+use Rattle.sql_ast.specs.Statements.{StatementTree}
 use Rattle.block_reading.specs.Faults.{syntax_error, left_out, too_many}
 
 -- A token that fits in no text goes by its name where it is left out by name, else by where it is, or the text's end.

@@ -1,11 +1,12 @@
 ghost use Rattle.std.specs.Prelude.{◌≤◌, IfOk, length, map};
 ghost use Rattle.sessions.specs.Answers.{IsAnswerBy};
-ghost use Rattle.sql_syntax.specs.Trees.{statement_tree};
+ghost use Rattle.sql_ast.specs.Statements.{statement_tree};
 ghost use Rattle.block_reading.specs.Reading as reading;
 
 use crate::faults::fault;
 use pg_values::Refusal;
-use sql_syntax::{MOST_STATEMENTS, Statement, parse_block};
+use sql_ast::Statement;
+use sql_syntax::{MOST_STATEMENTS, parse_block};
 use std::alloc::Global;
 
 /// The statements of a block.

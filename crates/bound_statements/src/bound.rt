@@ -6,8 +6,12 @@ use statement_asks::{ChangeAsk, InsertAsk, Output, SelectAsk, Setting, SortBy, S
 use std::alloc::Global;
 use value_rules::kind_word;
 
-// Before every part but the first.
-fn write_between(is_first: &mut bool, sign: &[u8], out: &mut Vec<u8>) -> Result<(), NoMemory> {
+/// Before every part but the first.
+pub(crate) fn write_between(
+    is_first: &mut bool,
+    sign: &[u8],
+    out: &mut Vec<u8>,
+) -> Result<(), NoMemory> {
     if !*is_first {
         out.extend_from_slice(sign)?;
     }
@@ -88,7 +92,7 @@ pub(crate) fn write_select(
     write_count(b" offset ", bound.offset, out)
 }
 
-fn write_row(alloc: Global, row: &Row, out: &mut Vec<u8>) -> Result<(), NoMemory> {
+pub(crate) fn write_row(alloc: Global, row: &Row, out: &mut Vec<u8>) -> Result<(), NoMemory> {
     out.extend_from_slice(b" (")?;
     let mut is_first = true;
     for value in row.as_slice() {

@@ -3,8 +3,7 @@ use crate::tables::{columns_of, item_of, items_of};
 use expression_binder::{Given, ScopeItem};
 use parameter_kinds::{bind_parameters, kind_in_statement};
 use pg_values::{Kind, NoMemory, PgText, Refusal};
-use sql_expressions::ExprList;
-use sql_queries::RowStatement;
+use sql_ast::{ExprList, RowStatement};
 use std::alloc::Global;
 use value_rules::kind_word;
 

@@ -12,27 +12,31 @@
 //! arguments are string literals, and `$1` is an integer. Behind PREPARE, in one line, EXECUTE is read with the
 //! parameters of that statement.
 //!
+//! Of CREATE TABLE the columns are written with their kinds, and the places of those of its key. Behind it, in one
+//! line, CREATE TABLE with PARTITION OF is read as that of its partition, and the bound is written.
+//!
 //! A column is written by the place of its FROM item and its own place there, `0.2`, a bigint with an `L`
 //! behind it, and each operator stands before its operands.
 //!
-//! That the first rule that is broken is told is proved in `sql_binder` and `change_binder`, and that the first
-//! place counts in `parameter_kinds`. Here the rules are seen: `stdin` has the statements, and `stdout` what was
-//! worked out by hand from them.
+//! That the first rule that is broken is told is proved in `sql_binder`, `change_binder` and `table_binder`, and that
+//! the first place counts in `parameter_kinds`. Here the rules are seen: `stdin` has the statements, and `stdout` what
+//! was worked out by hand from them.
 #![tactic(auto)]
 
 mod bound;
+mod definitions;
 mod kinds;
 mod tables;
 mod trees;
 
 use bound::{write_change, write_insert, write_params, write_select};
 use change_binder::{Wanted, bind_arguments, bind_delete, bind_insert, bind_update};
+use definitions::{write_partition, write_table};
 use kinds::{write_bound, write_kinds};
 use pg_values::{Fault, Kind, NoMemory, Refusal};
+use sql_ast::{Command, Delete, ExprList, Insert, Query, RowStatement, Select, Statement, Update};
 use sql_binder::bind_select;
-use sql_expressions::ExprList;
-use sql_queries::{Delete, Insert, Query, RowStatement, Select, Update};
-use sql_syntax::{Statement, parse_block};
+use sql_syntax::parse_block;
 use std::alloc::Global;
 use std::io::{self, ErrorKind, Write};
 use tables::{columns_of, item_of, items_of, params};
@@ -73,8 +77,8 @@ fn arguments_line(alloc: Global, arguments: &ExprList, out: &mut Vec<u8>) -> Res
     Ok(write_params(alloc, &params, out)?)
 }
 
-fn write_text(text: &[u8], out: &mut Vec<u8>) -> Result<(), NoMemory> {
-    out.extend_from_slice(text)?;
+fn write_other(out: &mut Vec<u8>) -> Result<(), NoMemory> {
+    out.extend_from_slice(b"neither a statement on rows, nor PREPARE, EXECUTE or CREATE TABLE")?;
     Ok(())
 }
 
@@ -86,7 +90,7 @@ fn bound_line(alloc: Global, query: &Query, out: &mut Vec<u8>) -> Result<(), Ref
         Query::Rows(RowStatement::Delete(delete)) => delete_line(alloc, delete, out),
         Query::Execute(_, arguments) => arguments_line(alloc, arguments, out),
         Query::Prepare(_, _, statement) => Ok(write_kinds(alloc, statement, out)?),
-        _ => Ok(write_text(b"neither a statement on rows, nor PREPARE nor EXECUTE", out)?),
+        _ => Ok(write_other(out)?),
     }
 }
 
@@ -100,43 +104,54 @@ fn write_fault(fault: &Fault, out: &mut Vec<u8>) -> Result<(), NoMemory> {
 }
 
 /// The last two statements of the block that the line is, the last one first.
-fn queries_of(alloc: Global, line: &[u8]) -> (Option<Query>, Option<Query>) {
+fn statements_of(alloc: Global, line: &[u8]) -> (Option<Statement>, Option<Statement>) {
     let Ok(mut statements) = parse_block(alloc, line) else {
         return (None, None);
     };
-    let last = query_of(statements.pop());
-    (last, query_of(statements.pop()))
+    let last = statements.pop();
+    (last, statements.pop())
 }
 
-fn query_of(statement: Option<Statement>) -> Option<Query> {
-    match statement {
-        Some(Statement::Query(query)) => Some(query),
-        _ => None,
+fn command_line(
+    alloc: Global,
+    before: &Option<Statement>,
+    command: &Command,
+    out: &mut Vec<u8>,
+) -> Result<(), Refusal> {
+    match (before, command) {
+        (_, Command::CreateTable(_, columns, by)) => write_table(alloc, columns, by, out),
+        (
+            Some(Statement::Command(Command::CreateTable(_, columns, Some(by)))),
+            Command::CreatePartition(_, _, bound, _),
+        ) => write_partition(alloc, columns, by, bound, out),
+        _ => Ok(write_other(out)?),
     }
 }
 
 fn written(
     alloc: Global,
-    prepared: &Option<Query>,
-    query: &Query,
+    before: &Option<Statement>,
+    statement: &Statement,
     out: &mut Vec<u8>,
 ) -> Result<(), Refusal> {
-    match (prepared, query) {
-        (Some(Query::Prepare(_, kinds, statement)), Query::Execute(_, arguments)) => {
-            write_bound(alloc, kinds.as_slice(), statement, arguments, out)
-        }
-        _ => bound_line(alloc, query, out),
+    match (before, statement) {
+        (
+            Some(Statement::Query(Query::Prepare(_, kinds, prepared))),
+            Statement::Query(Query::Execute(_, arguments)),
+        ) => write_bound(alloc, kinds.as_slice(), prepared, arguments, out),
+        (_, Statement::Query(query)) => bound_line(alloc, query, out),
+        (_, Statement::Command(command)) => command_line(alloc, before, command, out),
     }
 }
 
 fn answer(alloc: Global, line: &[u8]) -> Result<Vec<u8>, NoMemory> {
     let mut out = Vec::new(alloc);
-    let (last, prepared) = queries_of(alloc, line);
-    let Some(query) = last else {
+    let (last, before) = statements_of(alloc, line);
+    let Some(statement) = last else {
         out.extend_from_slice(b"no statement")?;
         return Ok(out);
     };
-    match written(alloc, &prepared, &query, &mut out) {
+    match written(alloc, &before, &statement, &mut out) {
         Ok(()) => {}
         Err(Refusal::Sql(fault)) => write_fault(&fault, &mut out)?,
         Err(Refusal::NoMemory) => return Err(NoMemory),

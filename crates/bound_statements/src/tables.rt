@@ -1,6 +1,6 @@
 use expression_binder::{Param, ScopeColumn, ScopeItem};
 use pg_values::{Kind, NoMemory, PgText, Value};
-use sql_queries::{FromItem, NamedTable};
+use sql_ast::{FromItem, NamedTable};
 use std::alloc::Global;
 
 const T: &[(&[u8], Kind)] = &[

@@ -11,8 +11,8 @@ use Rattle.expression_binder.proofs.Firsts.{none_found, here}
 use Rattle.expression_binder.specs.declared.scope.ScopeColumn.{ScopeColumn}
 use Rattle.expression_binder.specs.Scopes.{Item, Scope}
 use Rattle.expression_binder.proofs.Lists.{earlier_step, later_step}
-use Rattle.sql_queries.specs.declared.parts.Assignment.{Assignment}
-use Rattle.sql_queries.specs.Trees.{setting}
+use Rattle.sql_ast.specs.declared.changes.Assignment.{Assignment}
+use Rattle.sql_ast.specs.Queries.{setting}
 use Rattle.change_binder.specs.Changes.{column_set, setting_faults, settings_faults}
 use Rattle.change_binder.specs.Inserts.{place_of, target_faults, column_faults}
 

@@ -4,8 +4,8 @@ use Rattle.pg_values.specs.declared.fault.Fault.{Fault}
 use Rattle.expression_binder.specs.Firsts.{or_first, fault_in}
 use Rattle.expression_binder.specs.Scopes.{Item, Scope}
 use Rattle.expression_binder.proofs.Firsts.{value_of}
-use Rattle.sql_queries.specs.declared.parts.Assignment.{Assignment}
-use Rattle.sql_queries.specs.Trees.{setting}
+use Rattle.sql_ast.specs.declared.changes.Assignment.{Assignment}
+use Rattle.sql_ast.specs.Queries.{setting}
 use Rattle.change_binder.specs.Changes.{new_value, meant_if, settings_constants, settings_meant}
 use Rattle.statement_asks.specs.Asked.{SettingMeant}
 use Rattle.change_binder.specs.Inserts.{place_of, place_or}

@@ -1,7 +1,7 @@
 -- Places one after the other, and how many values a row has.
 use Rattle.std.proofs.Common.{ℕ, zero, suc, ◌+◌, ◌≡◌, List, [], ◌∷◌, ◌++◌, map, length, refl, ap, ◌∙◌, add-one, arith}
-use Rattle.sql_expressions.specs.declared.expr.Expr.{Expr}
-use Rattle.sql_expressions.specs.Tree.{tree, listed}
+use Rattle.sql_ast.specs.declared.expr.Expr.{Expr}
+use Rattle.sql_ast.specs.Expressions.{tree, listed}
 use Rattle.change_binder.specs.Inserts.{from_to, count_of}
 
 -- one place more

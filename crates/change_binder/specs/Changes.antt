@@ -5,8 +5,8 @@ use Rattle.std.specs.Str.{bytes_eq}
 use Rattle.pg_values.specs.declared.fault.Fault.{Fault}
 use Rattle.pg_values.specs.declared.value.Kind.{Kind}
 use Rattle.pg_values.specs.declared.value.Value.{Value}
-use Rattle.sql_expressions.specs.Tree.{Tree}
-use Rattle.sql_queries.specs.Trees.{Setting as Written}
+use Rattle.sql_ast.specs.Expressions.{Tree}
+use Rattle.sql_ast.specs.Queries.{Setting as Written}
 use Rattle.cond_logic.specs.Scalars.{ScalarTree, literal}
 use Rattle.cond_logic.specs.Trees.{CondTree}
 use Rattle.expression_binder.specs.declared.scope.Allowed.{Allowed}

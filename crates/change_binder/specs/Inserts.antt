@@ -6,7 +6,7 @@ use Rattle.pg_values.specs.declared.fault.Fault.{Fault}
 use Rattle.pg_values.specs.declared.value.Kind.{Kind}
 use Rattle.pg_values.specs.declared.value.Kind.TheVariants.{Text as KText}
 use Rattle.pg_values.specs.declared.value.Value.{Value}
-use Rattle.sql_expressions.specs.Tree.{Tree, Trees, no_more, and_more}
+use Rattle.sql_ast.specs.Expressions.{Tree, Trees, no_more, and_more}
 use Rattle.expression_binder.specs.declared.scope.Param.{Param}
 use Rattle.expression_binder.specs.declared.scope.ScopeColumn.{ScopeColumn}
 use Rattle.expression_binder.specs.Constants.{constant, stored}

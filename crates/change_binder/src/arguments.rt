@@ -1,6 +1,6 @@
 ghost use Rattle.std.specs.Prelude.{◌≡◌, ◌++◌, ◌∷◌, [], map, length, OnOk};
 ghost use Rattle.pg_values.specs.Refusals.{IsAnswer};
-ghost use Rattle.sql_expressions.specs.Tree.{tree, trees, listed};
+ghost use Rattle.sql_ast.specs.Expressions.{tree, trees, listed};
 ghost use Rattle.expression_binder.specs.Firsts.{or_first, fault_in, IsAnswerBy};
 ghost use Rattle.expression_binder.specs.Kinds as kinds_spec;
 ghost use Rattle.expression_binder.specs.Operands.{operand_faults, typed};
@@ -14,7 +14,7 @@ use expression_binder::{
     typed_of,
 };
 use pg_values::{Kind, NoMemory, Refusal, Value};
-use sql_expressions::{Expr, ExprList};
+use sql_ast::{Expr, ExprList};
 use std::alloc::Global;
 
 /// What is known of a parameter's kind before its argument comes: it is declared, or one of its places

@@ -2,8 +2,8 @@ ghost use Rattle.std.specs.Prelude.{◌≡◌, ◌++◌, ◌∷◌, [], map, OnO
 ghost use Rattle.std.specs.List.{list_any};
 ghost use Rattle.std.specs.Str.{bytes_eq};
 ghost use Rattle.pg_values.specs.Refusals.{IsAnswer};
-ghost use Rattle.sql_expressions.specs.Tree.{tree};
-ghost use Rattle.sql_queries.specs.Trees.{maybe_tree, setting};
+ghost use Rattle.sql_ast.specs.Expressions.{tree};
+ghost use Rattle.sql_ast.specs.Queries.{maybe_tree, setting};
 ghost use Rattle.cond_logic.specs.Scalars.{scalar_tree};
 ghost use Rattle.expression_binder.specs.Constants.{as_literal as literal_of};
 ghost use Rattle.expression_binder.specs.Firsts.{or_first, fault_in, IsAnswerBy};
@@ -21,8 +21,7 @@ use expression_binder::{
     condition_names, store,
 };
 use pg_values::{Kind, NoMemory, Refusal};
-use sql_expressions::Expr;
-use sql_queries::{Assignment, Delete, Update};
+use sql_ast::{Assignment, Delete, Expr, Update};
 use statement_asks::{ChangeAsk, Setting};
 use std::alloc::Global;
 use std::slice::from_ref;

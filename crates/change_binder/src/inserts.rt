@@ -2,7 +2,7 @@ ghost use Rattle.std.specs.Prelude.{◌≡◌, ◌++◌, ◌∷◌, [], map, len
 ghost use Rattle.std.specs.List.{list_any};
 ghost use Rattle.std.specs.Str.{bytes_eq};
 ghost use Rattle.pg_values.specs.Refusals.{IsAnswer};
-ghost use Rattle.sql_expressions.specs.Tree.{tree, trees, listed};
+ghost use Rattle.sql_ast.specs.Expressions.{tree, trees, listed};
 ghost use Rattle.expression_binder.specs.Firsts.{or_first, IsAnswerBy};
 ghost use Rattle.expression_binder.specs.Kinds as kinds_spec;
 ghost use Rattle.expression_binder.specs.Operands.{operand_faults, typed};
@@ -16,9 +16,7 @@ use expression_binder::{
     condition_names, no_column, store, typed_of,
 };
 use pg_values::{Kind, NoMemory, PgText, Refusal, Row, RowList, Value};
-use sql_expressions::{Expr, ExprList};
-use sql_lists::NameList;
-use sql_queries::Insert;
+use sql_ast::{Expr, ExprList, Insert, NameList};
 use statement_asks::InsertAsk;
 use std::alloc::Global;
 

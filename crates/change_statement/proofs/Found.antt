@@ -16,9 +16,9 @@ use Rattle.table_trees.specs.Trees.{TableTree, leaves}
 use Rattle.pruned_trees.specs.Kept.{Keeps, Leaf, id_of, kept_leaves, kept_tables}
 use Rattle.part_catalog.specs.Found.{made_at}
 use Rattle.part_catalog.specs.Stands.{CatalogueStands}
-use Rattle.sql_expressions.specs.Tree.{Tree}
-use Rattle.sql_queries.specs.Trees.{Setting}
-use Rattle.sql_queries.specs.declared.parts.NamedTable.{NamedTable}
+use Rattle.sql_ast.specs.Expressions.{Tree}
+use Rattle.sql_ast.specs.Queries.{Setting}
+use Rattle.sql_ast.specs.declared.named_table.NamedTable.{NamedTable}
 use Rattle.expression_binder.specs.Firsts.{IsAnswerBy}
 use Rattle.expression_binder.specs.declared.scope.Param.{Param}
 use Rattle.pruned_trees.specs.Laws.{TreesCanBePruned}

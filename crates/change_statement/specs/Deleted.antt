@@ -5,8 +5,8 @@ use Rattle.history.specs.declared.version.Ending.{Ending}
 use Rattle.history.specs.declared.version.Ending.TheVariants.{Deleted}
 use Rattle.history.specs.Rows.{RowEnded}
 use Rattle.history.specs.History.{History, RowChange}
-use Rattle.sql_expressions.specs.Tree.{Tree}
-use Rattle.sql_queries.specs.declared.parts.NamedTable.{NamedTable}
+use Rattle.sql_ast.specs.Expressions.{Tree}
+use Rattle.sql_ast.specs.declared.named_table.NamedTable.{NamedTable}
 use Rattle.expression_binder.specs.declared.scope.Param.{Param}
 use Rattle.course.specs.Made.{Made, made}
 use Rattle.course.specs.declared.caller.Caller.{Caller}

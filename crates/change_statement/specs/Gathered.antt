@@ -11,9 +11,9 @@ use Rattle.table_trees.specs.Histories.{tree_of, path_of, table_of}
 use Rattle.table_trees.specs.Trees.{TableTree}
 use Rattle.table_trees.specs.Seen.{seen}
 use Rattle.part_catalog.specs.Found.{made_at}
-use Rattle.sql_expressions.specs.Tree.{Tree}
-use Rattle.sql_queries.specs.Trees.{Setting, maybe_tree, setting}
-use Rattle.sql_queries.specs.declared.parts.NamedTable.{NamedTable}
+use Rattle.sql_ast.specs.Expressions.{Tree}
+use Rattle.sql_ast.specs.Queries.{Setting, maybe_tree, setting}
+use Rattle.sql_ast.specs.declared.named_table.NamedTable.{NamedTable}
 use Rattle.sql_binder.specs.From.{item_name}
 use Rattle.expression_binder.specs.Scopes.{Item}
 use Rattle.expression_binder.specs.declared.scope.Param.{Param}

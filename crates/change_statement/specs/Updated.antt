@@ -12,9 +12,9 @@ use Rattle.row_change.specs.Placing.{placed}
 use Rattle.row_change.specs.Storing.{full_faults}
 use Rattle.row_change.specs.Succession.{follows}
 use Rattle.row_targets.specs.NewRows.{new_row}
-use Rattle.sql_expressions.specs.Tree.{Tree}
-use Rattle.sql_queries.specs.Trees.{Setting}
-use Rattle.sql_queries.specs.declared.parts.NamedTable.{NamedTable}
+use Rattle.sql_ast.specs.Expressions.{Tree}
+use Rattle.sql_ast.specs.Queries.{Setting}
+use Rattle.sql_ast.specs.declared.named_table.NamedTable.{NamedTable}
 use Rattle.expression_binder.specs.declared.scope.Param.{Param}
 use Rattle.course.specs.Made.{Made}
 use Rattle.course.specs.declared.caller.Caller.{Caller}

@@ -18,7 +18,7 @@ use history::Column;
 use insert_statement::scope_columns;
 use pg_ids::TableNo;
 use pg_values::{NoMemory, PgText, Refusal};
-use sql_queries::{Delete, NamedTable, Update};
+use sql_ast::{Delete, NamedTable, Update};
 use statement_asks::ChangeAsk;
 use std::alloc::Global;
 use stores::Stores;

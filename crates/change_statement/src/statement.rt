@@ -1,5 +1,5 @@
 ghost use Rattle.std.specs.Prelude.{◌≡◌, ◌≤◌, length, map};
-ghost use Rattle.sql_queries.specs.Trees.{maybe_tree, setting};
+ghost use Rattle.sql_ast.specs.Queries.{maybe_tree, setting};
 ghost use Rattle.course.specs.Attempts.{MayAttempt, MayGoOn};
 ghost use Rattle.statement_steps.specs.Steps.{follow};
 ghost use Rattle.change_statement.specs.Changed.{changed_from};
@@ -14,7 +14,7 @@ use crate::gathering::gather;
 use crate::rows::change_found;
 use course::{Caller, Rest, Stop};
 use expression_binder::Param;
-use sql_queries::{Delete, Update};
+use sql_ast::{Delete, Update};
 use statement_steps::{SessionNames, hold_if_repeatable};
 use std::alloc::Global;
 use stores::Stores;

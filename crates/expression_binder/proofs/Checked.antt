@@ -4,8 +4,8 @@ use Rattle.pg_values.specs.declared.fault.Fault.{Fault}
 use Rattle.pg_values.specs.declared.fault.Refusal.{Refusal}
 use Rattle.pg_values.specs.Refusals.{IsAnswer}
 use Rattle.expression_binder.specs.Firsts.{or_first}
-use Rattle.sql_expressions.specs.declared.expr.Expr.{Expr}
-use Rattle.sql_expressions.specs.Tree.{Tree, inverted, tree, listed}
+use Rattle.sql_ast.specs.declared.expr.Expr.{Expr}
+use Rattle.sql_ast.specs.Expressions.{Tree, inverted, tree, listed}
 use Rattle.expression_binder.specs.Operands.{suit, all_typed}
 use Rattle.cond_logic.specs.Trees.{CondTree}
 use Rattle.cond_logic.specs.Trees as conds

@@ -1,11 +1,11 @@
 -- Expressions and their trees: how much is left, part by part, and the tree by its operands.
 use Rattle.std.proofs.Common.{Box, Global, Bool, add-one, drop-cons, zero, ◌≡◌, ℕ, suc, ◌+◌, ◌<◌, ◌≤◌, List, [], ◌∷◌, map, length, drop, get_or, sym, ap, ◌∙◌, arith}
-use Rattle.sql_expressions.specs.declared.expr.Expr.{Expr, Negated, Binary, Between, IsNull, Not}
-use Rattle.sql_expressions.specs.declared.expr.Expr.TheFolds.{fold-roll-Expr}
-use Rattle.sql_expressions.specs.declared.expr.Expr.TheOpen.{Negated as negated-F, Binary as binary-F, Between as between-F, IsNull as null-F, Not as not-F}
-use Rattle.sql_expressions.specs.declared.expr.Expr.TheVariants.{rolls-Negated, rolls-Binary, rolls-Between, rolls-IsNull, rolls-Not}
-use Rattle.sql_expressions.specs.declared.leaf.Operator.{Operator}
-use Rattle.sql_expressions.specs.Tree.{layer, list_layer, tree, Tree, Trees, no_more, and_more, leaf, call, call_of_all, negated, binary, in_list, between, is_null, inverted, all_of, any_of, listed}
+use Rattle.sql_ast.specs.declared.expr.Expr.{Expr, Negated, Binary, Between, IsNull, Not}
+use Rattle.sql_ast.specs.declared.expr.Expr.TheFolds.{fold-roll-Expr}
+use Rattle.sql_ast.specs.declared.expr.Expr.TheOpen.{Negated as negated-F, Binary as binary-F, Between as between-F, IsNull as null-F, Not as not-F}
+use Rattle.sql_ast.specs.declared.expr.Expr.TheVariants.{rolls-Negated, rolls-Binary, rolls-Between, rolls-IsNull, rolls-Not}
+use Rattle.sql_ast.specs.declared.leaf.Operator.{Operator}
+use Rattle.sql_ast.specs.Expressions.{layer, list_layer, tree, Tree, Trees, no_more, and_more, leaf, call, call_of_all, negated, binary, in_list, between, is_null, inverted, all_of, any_of, listed}
 
 abbrev mutual
   pub weight : Tree → ℕ

@@ -15,11 +15,11 @@ use Rattle.value_rules.specs.declared.operators.Arith.{Arith}
 use Rattle.value_rules.specs.declared.operators.Arith.TheVariants.{Add, Sub, Mul, Div, Rem}
 use Rattle.value_rules.specs.declared.operators.ArithFault.{ArithFault}
 use Rattle.value_rules.specs.declared.operators.ArithFault.TheVariants.{OutOfRange, DateRange, ZeroDivisor, NoOperator}
-use Rattle.sql_expressions.specs.declared.leaf.Leaf.{Leaf}
-use Rattle.sql_expressions.specs.declared.leaf.Leaf.TheVariants.{Number, Text, Date, Null, Truth, Parameter, Column, ColumnOf, TableName, TableNameOf}
-use Rattle.sql_expressions.specs.declared.leaf.Operator.{Operator}
-use Rattle.sql_expressions.specs.declared.leaf.Operator.TheVariants as op
-use Rattle.sql_expressions.specs.Tree.{Tree, Trees, no_more, and_more, leaf, call, call_of_all, negated, binary, in_list, between, is_null, inverted, all_of, any_of}
+use Rattle.sql_ast.specs.declared.leaf.Leaf.{Leaf}
+use Rattle.sql_ast.specs.declared.leaf.Leaf.TheVariants.{Number, Text, Date, Null, Truth, Parameter, Column, ColumnOf, TableName, TableNameOf}
+use Rattle.sql_ast.specs.declared.leaf.Operator.{Operator}
+use Rattle.sql_ast.specs.declared.leaf.Operator.TheVariants as op
+use Rattle.sql_ast.specs.Expressions.{Tree, Trees, no_more, and_more, leaf, call, call_of_all, negated, binary, in_list, between, is_null, inverted, all_of, any_of}
 use Rattle.cond_logic.specs.Scalars.{ScalarTree, column, literal, table_name, computes, cancels}
 use Rattle.expression_binder.specs.declared.scope.Param.{Param}
 use Rattle.expression_binder.specs.declared.naming.Lookup.{Lookup}

@@ -4,8 +4,8 @@ use Rattle.std.specs.Prelude.{ℕ, ◌==◌, Bool, true, false, ◌||◌, ◌&&�
 use Rattle.pg_values.specs.declared.fault.Fault.{Fault}
 use Rattle.pg_values.specs.declared.value.Kind.{Kind}
 use Rattle.pg_values.specs.declared.value.Kind.TheVariants.{Int4 as KInt4, Int8 as KInt8, Text as KText, Day as KDay, Truth as KTruth}
-use Rattle.sql_expressions.specs.declared.leaf.Operator.{Operator}
-use Rattle.sql_expressions.specs.declared.leaf.Operator.TheVariants as op
+use Rattle.sql_ast.specs.declared.leaf.Operator.{Operator}
+use Rattle.sql_ast.specs.declared.leaf.Operator.TheVariants as op
 use Rattle.expression_binder.specs.declared.scope.Allowed.{Allowed}
 use Rattle.expression_binder.specs.declared.typed.Given.{Given}
 use Rattle.expression_binder.specs.declared.typed.Given.TheVariants.{Of, Quoted, Nothing}

@@ -4,12 +4,12 @@ use Rattle.pg_values.specs.declared.fault.Fault.{Fault}
 use Rattle.pg_values.specs.declared.value.Kind.{Kind}
 use Rattle.pg_values.specs.declared.value.Kind.TheVariants.{Truth as KTruth}
 use Rattle.pg_values.specs.declared.value.Value.TheVariants as value
-use Rattle.sql_expressions.specs.declared.leaf.Leaf.{Leaf}
-use Rattle.sql_expressions.specs.declared.leaf.Leaf.TheVariants.{Truth, Parameter}
-use Rattle.sql_expressions.specs.declared.leaf.Operator.{Operator}
-use Rattle.sql_expressions.specs.declared.leaf.Operator.TheVariants as op
-use Rattle.sql_expressions.specs.Tree as trees
-use Rattle.sql_expressions.specs.Tree.{Tree, Trees, leaf, call, call_of_all, negated, binary, in_list, between, is_null, inverted}
+use Rattle.sql_ast.specs.declared.leaf.Leaf.{Leaf}
+use Rattle.sql_ast.specs.declared.leaf.Leaf.TheVariants.{Truth, Parameter}
+use Rattle.sql_ast.specs.declared.leaf.Operator.{Operator}
+use Rattle.sql_ast.specs.declared.leaf.Operator.TheVariants as op
+use Rattle.sql_ast.specs.Expressions as trees
+use Rattle.sql_ast.specs.Expressions.{Tree, Trees, leaf, call, call_of_all, negated, binary, in_list, between, is_null, inverted}
 use Rattle.cond_logic.specs.declared.truth.Truth3.TheVariants.{Yes, No}
 use Rattle.cond_logic.specs.declared.cond.CompareOp.{CompareOp}
 use Rattle.cond_logic.specs.declared.cond.CompareOp.TheVariants.{Eq, Ne, Lt, Le, Gt, Ge}

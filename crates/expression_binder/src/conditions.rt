@@ -1,17 +1,17 @@
 ghost use Rattle.std.specs.Prelude.{◌≡◌, ◌++◌, map};
 ghost use Rattle.pg_values.specs.Refusals.{IsAnswer};
-ghost use Rattle.sql_expressions.specs.Tree.{tree, listed};
+ghost use Rattle.sql_ast.specs.Expressions.{tree, listed};
 ghost use Rattle.expression_binder.specs.Conditions as conditions;
 ghost use Rattle.expression_binder.specs.Firsts.{or_first};
 ghost use Rattle.expression_binder.specs.Operands as operands;
 ghost use Rattle.expression_binder.specs.Kinds as kinds;
-ghost use Rattle.sql_expressions.specs.Tree as trees;
+ghost use Rattle.sql_ast.specs.Expressions as trees;
 
 use crate::kinds::{check_comparison, check_truth, is_arithmetic};
 use crate::operands::{check_operand, check_operands, typed_of};
 use crate::{Given, Names};
 use pg_values::Refusal;
-use sql_expressions::{Expr, Operator};
+use sql_ast::{Expr, Operator};
 use std::alloc::Global;
 
 /// The comparison of IN, or of NOT IN.

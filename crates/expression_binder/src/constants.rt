@@ -13,7 +13,7 @@ use crate::naming::{item_called, look_up, look_up_in, param};
 use crate::{Lookup, Names, Param, ScopeItem};
 use cond_logic::Scalar;
 use pg_values::{Fault, Kind, NoMemory, Refusal, Value, copy_value};
-use sql_expressions::{Leaf, Operator};
+use sql_ast::{Leaf, Operator};
 use std::alloc::Global;
 use value_rules::{Arith, ArithFault, arith, out_of_range, read_value};
 

@@ -3,7 +3,7 @@ ghost use Rattle.std.specs.Fmt.{decimal};
 ghost use Rattle.expression_binder.specs.Faults as faults;
 
 use pg_values::{Args, Fault, Kind, NoMemory, PgText, SqlState};
-use sql_expressions::Operator;
+use sql_ast::Operator;
 use std::alloc::Global;
 use value_rules::{kind_word, one_text, three_texts, two_texts};
 

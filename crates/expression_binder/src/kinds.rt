@@ -7,7 +7,7 @@ ghost use Rattle.expression_binder.specs.Firsts.{or_first, unless};
 use crate::faults::{left_out, no_operator, sign, wrong_count, wrong_kind};
 use crate::{Allowed, Given, Typed};
 use pg_values::{Kind, Refusal};
-use sql_expressions::Operator;
+use sql_ast::Operator;
 use std::alloc::Global;
 
 pub(crate) fn fixed(given: Given) -> Typed

@@ -1,8 +1,8 @@
 ghost use Rattle.std.specs.Prelude.{◌≡◌, ◌++◌, ◌∷◌, [], map, IfOk, OnOk};
 ghost use Rattle.pg_values.specs.Refusals.{IsAnswer};
 ghost use Rattle.pg_values.specs.declared.value.Kind.TheVariants.{Truth as KTruth};
-ghost use Rattle.sql_expressions.specs.Tree as trees;
-ghost use Rattle.sql_expressions.specs.Tree.{tree, listed};
+ghost use Rattle.sql_ast.specs.Expressions as trees;
+ghost use Rattle.sql_ast.specs.Expressions.{tree, listed};
 ghost use Rattle.cond_logic.specs.Scalars.{scalar_tree};
 ghost use Rattle.cond_logic.specs.Trees as conds;
 ghost use Rattle.cond_logic.specs.Trees.{cond_tree};
@@ -19,7 +19,7 @@ use crate::operands::typed_of;
 use crate::scalars::bind_scalar;
 use cond_logic::{CompareOp, Cond, CondList, Operand, Scalar, Truth3};
 use pg_values::{Kind, NoMemory, Refusal, Value};
-use sql_expressions::{Expr, Leaf, Operator};
+use sql_ast::{Expr, Leaf, Operator};
 use std::alloc::Global;
 
 fn as_operand(x: Scalar) -> Operand

@@ -1,7 +1,7 @@
 ghost use Rattle.std.specs.Prelude.{◌≡◌, ◌++◌, ◌∷◌, [], map, IfOk, codes};
 ghost use Rattle.std.specs.Str.{bytes_eq};
 ghost use Rattle.pg_values.specs.Refusals.{IsAnswer};
-ghost use Rattle.sql_expressions.specs.Tree.{tree, listed};
+ghost use Rattle.sql_ast.specs.Expressions.{tree, listed};
 ghost use Rattle.expression_binder.specs.Faults as faults;
 ghost use Rattle.expression_binder.specs.Firsts.{or_first};
 ghost use Rattle.expression_binder.specs.Kinds as kinds;
@@ -14,7 +14,7 @@ use crate::kinds::{check_join, fixed, joined, number_kind};
 use crate::naming::{item_called, look_up, look_up_in, param};
 use crate::{Allowed, Given, Lookup, Names, Param, ScopeItem, Typed};
 use pg_values::{Kind, NoMemory, PgText, Refusal};
-use sql_expressions::{Expr, Leaf, Operator};
+use sql_ast::{Expr, Leaf, Operator};
 use std::alloc::Global;
 
 /// A name stands for one column: refused with 42703 or 42702.

@@ -1,7 +1,7 @@
 ghost use Rattle.std.specs.Prelude.{◌≡◌, map, IfOk};
 ghost use Rattle.pg_values.specs.Refusals.{IsAnswer};
 ghost use Rattle.value_rules.specs.Assignment.{assigned};
-ghost use Rattle.sql_expressions.specs.Tree.{tree, listed};
+ghost use Rattle.sql_ast.specs.Expressions.{tree, listed};
 ghost use Rattle.cond_logic.specs.Scalars.{scalar_tree};
 ghost use Rattle.cond_logic.specs.Scalars as scalars;
 ghost use Rattle.expression_binder.specs.Constants as constants;
@@ -14,7 +14,7 @@ use crate::kinds::kind_beside;
 use crate::operands::{is_pid, typed_of, zero_typed};
 use cond_logic::Scalar;
 use pg_values::{Kind, NoMemory, Refusal, Value};
-use sql_expressions::{Expr, Operator};
+use sql_ast::{Expr, Operator};
 use std::alloc::Global;
 use value_rules::{CoerceFault, coerce, out_of_range};
 

@@ -10,7 +10,7 @@ use Rattle.history.specs.declared.catalogue.Column.{Column}
 use Rattle.history.specs.History.{History}
 use Rattle.part_catalog.specs.Found.{made_at}
 use Rattle.part_catalog.specs.Stands.{CatalogueStands}
-use Rattle.sql_expressions.specs.Tree.{Trees}
+use Rattle.sql_ast.specs.Expressions.{Trees}
 use Rattle.expression_binder.specs.Firsts.{IsAnswerBy}
 use Rattle.expression_binder.specs.declared.scope.Param.{Param}
 use Rattle.statement_asks.specs.Asked.{InsertMeant, insert_meant}

@@ -15,7 +15,7 @@ use Rattle.table_trees.specs.Trees.{IsRowOf}
 use Rattle.part_catalog.specs.Found.{made_at}
 use Rattle.part_catalog.specs.Kept.{KeptCatalogue}
 use Rattle.part_catalog.specs.Stands.{CatalogueStands}
-use Rattle.sql_expressions.specs.Tree.{Trees}
+use Rattle.sql_ast.specs.Expressions.{Trees}
 use Rattle.expression_binder.specs.declared.scope.Param.{Param}
 use Rattle.expression_binder.specs.declared.scope.ScopeColumn.{ScopeColumn}
 use Rattle.statement_asks.specs.Asked.{InsertMeant}

@@ -19,7 +19,7 @@ use Rattle.part_catalog.specs.Found.{made_at}
 use Rattle.row_change.specs.FullRows.{full_row}
 use Rattle.row_change.specs.Placing.{all_placed}
 use Rattle.row_change.specs.Ways.{root, way_to, ways_below}
-use Rattle.sql_expressions.specs.Tree.{Trees}
+use Rattle.sql_ast.specs.Expressions.{Trees}
 use Rattle.expression_binder.specs.declared.scope.Param.{Param}
 use Rattle.expression_binder.specs.declared.scope.ScopeColumn.{ScopeColumn}
 use Rattle.statement_asks.specs.Asked.{InsertMeant}

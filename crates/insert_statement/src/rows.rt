@@ -1,7 +1,7 @@
 //! The rows of VALUES, with a value for each column of the table.
 
 ghost use Rattle.std.specs.Prelude.{◌≡◌, ◌<◌, ◌++◌, ◌∷◌, [], IfOk, OnOk, map, length};
-ghost use Rattle.sql_expressions.specs.Tree.{trees};
+ghost use Rattle.sql_ast.specs.Expressions.{trees};
 ghost use Rattle.pg_values.specs.Refusals.{IsAnswer};
 ghost use Rattle.statement_asks.specs.Asked.{insert_meant};
 ghost use Rattle.row_change.specs.FullRows as full_rows;
@@ -19,7 +19,7 @@ use history::Column;
 use pg_ids::TableNo;
 use pg_values::{NoMemory, Refusal, Row, RowList};
 use row_change::full_row;
-use sql_queries::Insert;
+use sql_ast::Insert;
 use statement_asks::InsertAsk;
 use std::alloc::Global;
 use stores::Stores;

@@ -3,7 +3,7 @@ ghost use Rattle.history.specs.declared.catalogue.TableShape.TheVariants.{Leaf, 
 ghost use Rattle.part_bounds.specs.declared.level.Level.{Level as OneLevel};
 ghost use Rattle.history.specs.History.{History};
 ghost use Rattle.part_catalog.specs.Stands.{CatalogueStands};
-ghost use Rattle.sql_expressions.specs.Tree.{trees};
+ghost use Rattle.sql_ast.specs.Expressions.{trees};
 ghost use Rattle.course.specs.Attempts.{MayAttempt};
 ghost use Rattle.statement_steps.specs.Known.{IsKnownTo};
 ghost use Rattle.statement_steps.specs.Steps.{IsStep, follow};
@@ -21,7 +21,7 @@ use history::TableShape;
 use part_catalog::Catalog;
 use pg_ids::{LeafId, LockMode, TableNo};
 use pg_values::Row;
-use sql_queries::Insert;
+use sql_ast::Insert;
 use statement_steps::{SessionNames, hold_if_repeatable, lock_named};
 use std::alloc::Global;
 use stores::Stores;

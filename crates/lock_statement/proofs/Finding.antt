@@ -7,7 +7,7 @@ use Rattle.std.proofs.lemmas.List.Elements.{All-nil, All-cons, All-append}
 use Rattle.pg_ids.specs.declared.ids.TableNo.{TableNo}
 use Rattle.pg_ids.specs.declared.lock_mode.LockMode.{LockMode}
 use Rattle.history.specs.History.{History}
-use Rattle.sql_commands.specs.declared.lists.LockedTable.{LockedTable}
+use Rattle.sql_ast.specs.declared.locked_table.LockedTable.{LockedTable}
 use Rattle.stores.specs.declared.stores.Stores.{Stores}
 use Rattle.course.specs.Made.{Made, made}
 use Rattle.course.specs.Attempts.{MayAttempt, GoesOn}

@@ -1,4 +1,3 @@
-pub mod Modes
 pub mod Places
 pub mod Locked
 pub mod Seen

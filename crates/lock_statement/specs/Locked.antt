@@ -3,12 +3,10 @@ use Rattle.std.specs.Prelude.{ℕ, Bool, true, false, List, [], ◌∷◌, ◌++
 use Rattle.pg_ids.specs.declared.lock_mode.LockMode.{LockMode}
 use Rattle.history.specs.History.{History}
 use Rattle.part_ddl.specs.Below.{tables_under}
-use Rattle.sql_commands.specs.declared.lists.LockedTable.{LockedTable}
-use Rattle.sql_commands.specs.declared.lock.LockMode.{LockMode as WrittenMode}
+use Rattle.sql_ast.specs.declared.locked_table.LockedTable.{LockedTable}
 use Rattle.course.specs.Made.{Made, made}
 use Rattle.statement_steps.specs.Asks.{named, all_locked}
 use Rattle.statement_steps.specs.Steps.{follow}
-use Rattle.lock_statement.specs.Modes.{mode_of}
 
 -- ---- the named tables, one after the other; ONLY leaves out what is under one
 
@@ -33,5 +31,5 @@ all_under names s m [] h = made [] tt
 all_under names s m (t ∷ ts) h = follow (one_under names s m t) (λ u. all_under names s m ts) h
 
 -- LOCK [ TABLE ] [ ONLY ] tables [ IN mode MODE ]
-abbrev pub locked : List (List ℕ) → (session : ℕ) → List LockedTable → WrittenMode → History → Made (Unit {0})
-locked names s tables mode = follow (all_named names s (mode_of mode) tables) (all_under names s (mode_of mode))
+abbrev pub locked : List (List ℕ) → (session : ℕ) → List LockedTable → LockMode → History → Made (Unit {0})
+locked names s tables mode = follow (all_named names s mode tables) (all_under names s mode)

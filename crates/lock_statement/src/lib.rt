@@ -7,7 +7,6 @@
 //! Its locks go at the end of the transaction, so LOCK by itself stands in an explicit one.
 #![tactic(auto)]
 
-mod modes;
 mod named;
 mod places;
 mod statement;

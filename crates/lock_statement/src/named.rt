@@ -9,7 +9,7 @@ ghost use Rattle.lock_statement.specs.Seen.{one_or_none, numbers};
 use course::{Caller, Stop};
 use pg_ids::{LockMode, TableNo};
 use pg_values::NoMemory;
-use sql_commands::LockedTable;
+use sql_ast::LockedTable;
 use statement_steps::{SessionNames, lock_named};
 use std::alloc::Global;
 use stores::Stores;

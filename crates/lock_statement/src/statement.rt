@@ -3,11 +3,11 @@ ghost use Rattle.course.specs.Attempts.{MayAttempt};
 ghost use Rattle.statement_steps.specs.Steps.{IsStep};
 ghost use Rattle.lock_statement.specs.Locked as locked;
 
-use crate::modes::mode_of;
 use crate::named::lock_all;
 use crate::under::lock_all_below;
 use course::{Caller, Stop};
-use sql_commands::{LockMode, LockedTable};
+use pg_ids::LockMode;
+use sql_ast::LockedTable;
 use statement_steps::SessionNames;
 use std::alloc::Global;
 use stores::Stores;
@@ -26,7 +26,6 @@ pub fn lock(
     requires few { length stores.old.catalog.tables ≤ 4096 }
     ensures { IsStep (λ u. u) result stores.old stores.new caller (caller.cmd + 1) (locked.locked names.now caller.session tables.now mode) }
 {
-    let mode = mode_of(mode);
     match lock_all(alloc, stores, names, caller, tables, mode) {
         Ok(whole) => lock_all_below(alloc, stores, names, caller, &whole, mode),
         Err(stop) => Err(stop),

@@ -1,13 +1,13 @@
 -- The first of the places in an operator's operands, which stand one behind the other.
 use Rattle.std.proofs.Common.{Box, Global, ◌≡◌, ℕ, Bool, List, ◌++◌, Option, Some, None, refl, sym, ap, subst, ◌∙◌}
 use Rattle.pg_values.specs.declared.value.Kind.{Kind}
-use Rattle.sql_expressions.specs.declared.expr.Expr.{Expr, In}
-use Rattle.sql_expressions.specs.declared.expr.Expr.TheFolds.{fold-roll-Expr}
-use Rattle.sql_expressions.specs.declared.expr.Expr.TheOpen.{In as in-F}
-use Rattle.sql_expressions.specs.declared.expr.Expr.TheVariants.{rolls-In}
-use Rattle.sql_expressions.specs.declared.expr.ExprList.{ExprList}
-use Rattle.sql_expressions.specs.declared.leaf.Operator.{Operator}
-use Rattle.sql_expressions.specs.Tree.{layer, list_layer, tree, trees, Tree, Trees, and_more, binary, in_list, between}
+use Rattle.sql_ast.specs.declared.expr.Expr.{Expr, In}
+use Rattle.sql_ast.specs.declared.expr.Expr.TheFolds.{fold-roll-Expr}
+use Rattle.sql_ast.specs.declared.expr.Expr.TheOpen.{In as in-F}
+use Rattle.sql_ast.specs.declared.expr.Expr.TheVariants.{rolls-In}
+use Rattle.sql_ast.specs.declared.expr.ExprList.{ExprList}
+use Rattle.sql_ast.specs.declared.leaf.Operator.{Operator}
+use Rattle.sql_ast.specs.Expressions.{layer, list_layer, tree, trees, Tree, Trees, and_more, binary, in_list, between}
 use Rattle.expression_binder.specs.declared.typed.Given.{Given}
 use Rattle.expression_binder.specs.Scopes.{Scope}
 use Rattle.parameter_kinds.specs.Places.{Place, either, kind_of, own_kind, beside, given, kind_of_any, part, part_places, places}

@@ -2,8 +2,8 @@
 use Rattle.std.specs.Prelude.{ℕ, ◌+◌, List, [], ◌∷◌, Option, Some, None, Result}
 use Rattle.pg_values.specs.declared.fault.Fault.{Fault}
 use Rattle.pg_values.specs.declared.value.Kind.{Kind}
-use Rattle.sql_expressions.specs.Tree.{Tree, Trees, no_more, and_more}
-use Rattle.sql_queries.specs.Trees.{RowTree}
+use Rattle.sql_ast.specs.Expressions.{Tree, Trees, no_more, and_more}
+use Rattle.sql_ast.specs.Queries.{RowTree}
 use Rattle.expression_binder.specs.declared.scope.Param.{Param}
 use Rattle.expression_binder.specs.declared.typed.Given.{Given}
 use Rattle.expression_binder.specs.declared.typed.Given.TheVariants.{Of}

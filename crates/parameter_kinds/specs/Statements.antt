@@ -2,9 +2,8 @@
 use Rattle.std.specs.Prelude.{ℕ, ◌+◌, List, [], ◌∷◌, ◌++◌, Option, Some, None, map, take, drop}
 use Rattle.pg_values.specs.declared.value.Kind.{Kind}
 use Rattle.pg_values.specs.declared.value.Kind.TheVariants.{Int8 as KInt8}
-use Rattle.sql_expressions.specs.Tree.{Tree, Trees, no_more, and_more}
-use Rattle.sql_queries.specs.Items.{Item as Listed, all_columns, columns_of, one_column}
-use Rattle.sql_queries.specs.Trees.{Joined, Key, Setting, SelectTree, selected, RowTree, selects, inserts, updates, deletes}
+use Rattle.sql_ast.specs.Expressions.{Tree, Trees, no_more, and_more}
+use Rattle.sql_ast.specs.Queries.{Item as Listed, all_columns, columns_of, one_column, Joined, Key, Setting, SelectTree, selected, RowTree, selects, inserts, updates, deletes}
 use Rattle.expression_binder.specs.declared.scope.ScopeColumn.{ScopeColumn}
 use Rattle.expression_binder.specs.declared.typed.Given.{Given}
 use Rattle.expression_binder.specs.Scopes.{Item, Scope, condition_scope}

@@ -4,7 +4,7 @@ ghost use Rattle.parameter_kinds.specs.Places as places;
 
 use expression_binder::{Given, is_arithmetic};
 use pg_values::Kind;
-use sql_expressions::Operator;
+use sql_ast::Operator;
 
 fn number_made(left: Kind, right: Kind) -> Option<Kind>
     ensures { result ≡ kinds.number_made left right }

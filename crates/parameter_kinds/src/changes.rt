@@ -1,6 +1,6 @@
 ghost use Rattle.std.specs.Prelude.{◌≡◌, ◌∷◌, [], map, take, drop};
-ghost use Rattle.sql_expressions.specs.Tree.{tree, trees, listed};
-ghost use Rattle.sql_queries.specs.Trees.{maybe_tree, setting};
+ghost use Rattle.sql_ast.specs.Expressions.{tree, trees, listed};
+ghost use Rattle.sql_ast.specs.Queries.{maybe_tree, setting};
 ghost use Rattle.change_binder.specs.Inserts as inserts;
 ghost use Rattle.parameter_kinds.specs.Places.{kind_of};
 ghost use Rattle.parameter_kinds.specs.Statements as statements;
@@ -9,8 +9,7 @@ use crate::places::{either, kind_at, kind_in};
 use crate::selects::{bare, kind_in_where};
 use expression_binder::{Given, ScopeColumn, ScopeItem};
 use pg_values::{Kind, PgText};
-use sql_expressions::{Expr, ExprList};
-use sql_queries::{Assignment, Delete, Insert, Update};
+use sql_ast::{Assignment, Delete, Expr, ExprList, Insert, Update};
 use std::slice::from_ref;
 
 fn place_of(columns: &[ScopeColumn], name: &[u8]) -> Option<usize>

@@ -1,11 +1,11 @@
 ghost use Rattle.std.specs.Prelude.{◌≡◌, map};
-ghost use Rattle.sql_expressions.specs.Tree.{tree, listed};
+ghost use Rattle.sql_ast.specs.Expressions.{tree, listed};
 ghost use Rattle.parameter_kinds.specs.Places as places;
 
 use crate::arithmetic::{operated, own_kind};
 use expression_binder::{Given, Names, typed_of};
 use pg_values::Kind;
-use sql_expressions::{Expr, Leaf, Operator};
+use sql_ast::{Expr, Leaf, Operator};
 
 fn param_given(givens: &[Given], n: u64) -> Given
     ensures { result ≡ places.param_given givens.now n }

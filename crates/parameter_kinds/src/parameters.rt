@@ -1,6 +1,6 @@
 ghost use Rattle.std.specs.Prelude.{◌≡◌, IfOk, map};
-ghost use Rattle.sql_expressions.specs.Tree.{tree, trees, listed};
-ghost use Rattle.sql_queries.specs.Trees.{row_tree};
+ghost use Rattle.sql_ast.specs.Expressions.{tree, trees, listed};
+ghost use Rattle.sql_ast.specs.Queries.{row_tree};
 ghost use Rattle.expression_binder.specs.Firsts.{IsAnswerBy};
 ghost use Rattle.parameter_kinds.specs.Parameters as parameters;
 ghost use Rattle.parameter_kinds.specs.Places.{kind_of};
@@ -11,8 +11,7 @@ use crate::selects::kind_in_select;
 use change_binder::{Wanted, bind_arguments};
 use expression_binder::{Given, Param, ScopeItem, condition_names, typed_of};
 use pg_values::{Kind, NoMemory, Refusal};
-use sql_expressions::{Expr, ExprList};
-use sql_queries::RowStatement;
+use sql_ast::{Expr, ExprList, RowStatement};
 use std::alloc::Global;
 
 /// The kind that the first of the parameter's places in a statement gives it. The tables of a SELECT are

@@ -1,13 +1,13 @@
 ghost use Rattle.std.specs.Prelude.{◌≡◌, map};
 ghost use Rattle.std.specs.Str.{bytes_eq};
-ghost use Rattle.sql_expressions.specs.Tree.{tree, listed};
+ghost use Rattle.sql_ast.specs.Expressions.{tree, listed};
 ghost use Rattle.parameter_kinds.specs.Places as places;
 
 use crate::arithmetic::{beside, own_kind};
 use crate::givens::{given_of, kind_of_any};
 use expression_binder::{Given, Names};
 use pg_values::Kind;
-use sql_expressions::{Expr, Leaf, Operator};
+use sql_ast::{Expr, Leaf, Operator};
 
 /// The first kind, else the second one.
 pub(crate) fn either(first: Option<Kind>, second: Option<Kind>) -> Option<Kind>

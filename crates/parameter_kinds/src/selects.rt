@@ -1,6 +1,6 @@
 ghost use Rattle.std.specs.Prelude.{◌≡◌, map, take, drop};
-ghost use Rattle.sql_expressions.specs.Tree.{tree};
-ghost use Rattle.sql_queries.specs.Trees.{item_tree, joined_tree, key_tree, maybe_tree, select_tree};
+ghost use Rattle.sql_ast.specs.Expressions.{tree};
+ghost use Rattle.sql_ast.specs.Queries.{item_tree, joined_tree, key_tree, maybe_tree, select_tree};
 ghost use Rattle.sql_binder.specs.From as from;
 ghost use Rattle.parameter_kinds.specs.Places as places;
 ghost use Rattle.parameter_kinds.specs.Places.{kind_of};
@@ -9,8 +9,7 @@ ghost use Rattle.parameter_kinds.specs.Statements as statements;
 use crate::places::{either, kind_at, kind_in};
 use expression_binder::{Given, Names, ScopeItem, condition_names};
 use pg_values::Kind;
-use sql_expressions::Expr;
-use sql_queries::{FromItem, Select, SelectItem, SortKey};
+use sql_ast::{Expr, FromItem, Select, SelectItem, SortKey};
 
 /// The names of the items alone: what parameters are is said by their kinds.
 pub(crate) fn bare<'a>(items: &'a [ScopeItem]) -> Names<'a>

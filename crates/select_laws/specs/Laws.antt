@@ -12,7 +12,7 @@ use Rattle.soundness.specs.Worlds.{IsMade}
 use Rattle.soundness.specs.Legal.{ArePermitted}
 use Rattle.soundness.specs.Laws.{IsLooking}
 use Rattle.pruned_trees.specs.Laws.{shown}
-use Rattle.sql_queries.specs.Trees.{SelectTree}
+use Rattle.sql_ast.specs.Queries.{SelectTree}
 use Rattle.statement_asks.specs.Asked.{SelectMeant}
 use Rattle.plan_tree.specs.Plans.{plan_for}
 use Rattle.select_answer.specs.Faults.{too_many}

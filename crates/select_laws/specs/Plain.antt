@@ -5,7 +5,7 @@ use Rattle.pg_values.specs.declared.answer.Answer.{Answer}
 use Rattle.history.specs.History.{History}
 use Rattle.table_trees.specs.Trees.{TableTree}
 use Rattle.pruned_trees.specs.Laws.{shown}
-use Rattle.sql_queries.specs.Trees.{SelectTree}
+use Rattle.sql_ast.specs.Queries.{SelectTree}
 use Rattle.sql_binder.specs.Selects.{from_of}
 use Rattle.statement_asks.specs.Asked.{SelectMeant}
 use Rattle.plan_tree.specs.Plans.{plan_for, plan_tables}

@@ -4,7 +4,7 @@ use Rattle.std.proofs.lemmas.List.{map-append, length-append}
 use Rattle.std.proofs.lemmas.List.Elements.{All-nil, All-cons, All-append}
 use Rattle.pg_ids.specs.declared.ids.TableNo.{TableNo}
 use Rattle.pg_ids.specs.declared.lock_mode.LockMode.TheVariants.{AccessShare}
-use Rattle.sql_queries.specs.Trees.{Joined}
+use Rattle.sql_ast.specs.Queries.{Joined}
 use Rattle.stores.specs.declared.stores.Stores.{Stores}
 use Rattle.course.specs.Made.{made}
 use Rattle.course.specs.Attempts.{MayAttempt}

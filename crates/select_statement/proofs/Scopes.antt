@@ -2,7 +2,7 @@
 use Rattle.std.proofs.Common.{◌≡◌, ℕ, suc, ◌+◌, ◌<◌, arith, List, [], ◌∷◌, ◌++◌, length, get_or, drop, map, sym, ap, ◌∙◌, append_assoc, add-one, drop-cons}
 use Rattle.table_trees.specs.Trees.{TableTree}
 use Rattle.expression_binder.specs.Scopes.{Item}
-use Rattle.sql_queries.specs.Trees.{Joined}
+use Rattle.sql_ast.specs.Queries.{Joined}
 use Rattle.sql_binder.specs.From.{item_name}
 use Rattle.select_statement.specs.Items.{item_of, items_of}
 

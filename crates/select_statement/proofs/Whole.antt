@@ -22,7 +22,7 @@ use Rattle.pruned_trees.specs.Laws.{TreesCanBePruned}
 use Rattle.statement_asks.specs.Asked.{SelectMeant}
 use Rattle.pruned_trees.specs.Prunable.{CanPrune}
 use Rattle.soundness.proofs.Presence.{all_more}
-use Rattle.sql_queries.specs.Trees.{Joined, SelectTree, selected as selects}
+use Rattle.sql_ast.specs.Queries.{Joined, SelectTree, selected as selects}
 use Rattle.expression_binder.specs.Firsts.{or_first, unless}
 use Rattle.expression_binder.specs.Scopes.{Item}
 use Rattle.sql_binder.specs.From.{item_name, twice_faults}

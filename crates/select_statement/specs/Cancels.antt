@@ -9,7 +9,7 @@ use Rattle.cond_logic.specs.Scalars.{ScalarTree, column, literal, table_name, co
 use Rattle.cond_logic.specs.Tuples.{no_rows}
 use Rattle.scalar_values.specs.Tables.{no_tables}
 use Rattle.scalar_values.specs.Values.{is_session, value_for}
-use Rattle.sql_queries.specs.Trees.{Joined, SelectTree}
+use Rattle.sql_ast.specs.Queries.{Joined, SelectTree}
 use Rattle.sql_binder.specs.Selects.{from_of, bound_select}
 use Rattle.select_answer.specs.Tuples.{no_tuple, passes}
 use Rattle.statement_asks.specs.Asked.{OutputTree, SelectMeant}

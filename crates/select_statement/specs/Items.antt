@@ -5,7 +5,7 @@ use Rattle.table_trees.specs.declared.node.Node.{Node}
 use Rattle.table_trees.specs.Trees.{TableTree, LeafTable, LevelTable}
 use Rattle.expression_binder.specs.declared.scope.ScopeColumn.{ScopeColumn}
 use Rattle.expression_binder.specs.Scopes.{Item}
-use Rattle.sql_queries.specs.Trees.{Joined}
+use Rattle.sql_ast.specs.Queries.{Joined}
 use Rattle.sql_binder.specs.From.{item_name}
 
 abbrev pub column_named : Column → ScopeColumn

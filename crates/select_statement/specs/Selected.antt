@@ -8,7 +8,7 @@ use Rattle.history.specs.History.{History}
 use Rattle.table_trees.specs.Trees.{TableTree}
 use Rattle.table_trees.specs.Histories.{tree_of}
 use Rattle.pruned_trees.specs.Laws.{shown}
-use Rattle.sql_queries.specs.Trees.{Joined, SelectTree}
+use Rattle.sql_ast.specs.Queries.{Joined, SelectTree}
 use Rattle.expression_binder.specs.Scopes.{Item}
 use Rattle.statement_asks.specs.Asked.{SelectMeant}
 use Rattle.sql_binder.specs.Selects.{from_of, bound_select}

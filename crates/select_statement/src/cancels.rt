@@ -4,15 +4,15 @@ ghost use Rattle.cond_logic.specs.Scalars.{scalar_tree};
 ghost use Rattle.cond_logic.specs.Trees.{cond_tree};
 ghost use Rattle.history.specs.Waits as waits;
 ghost use Rattle.select_answer.specs.Tuples as tuples;
-ghost use Rattle.sql_queries.specs.Trees.{select_tree};
+ghost use Rattle.sql_ast.specs.Queries.{select_tree};
 ghost use Rattle.statement_asks.specs.Asked.{output_tree, select_meant};
 ghost use Rattle.select_statement.specs.Cancels as cancels;
 
 use cond_logic::{Binding, Cond, Scalar, Truth3, eval};
 use pg_values::{NoMemory, Refusal, Value};
 use scalar_values::{TableNames, scalar_value};
+use sql_ast::Select;
 use sql_binder::bind_select;
-use sql_queries::Select;
 use statement_asks::{Output, SelectAsk};
 use std::alloc::Global;
 

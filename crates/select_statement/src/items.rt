@@ -1,5 +1,5 @@
 ghost use Rattle.std.specs.Prelude.{◌≡◌, ◌≤◌, IfOk, length, map};
-ghost use Rattle.sql_queries.specs.Trees.{joined_tree};
+ghost use Rattle.sql_ast.specs.Queries.{joined_tree};
 ghost use Rattle.sql_binder.specs.From as from;
 ghost use Rattle.table_trees.specs.Seen.{seen};
 ghost use Rattle.select_statement.specs.Items as items;
@@ -8,7 +8,7 @@ ghost use Rattle.select_statement.specs.Items.{column_named};
 use expression_binder::{ScopeColumn, ScopeItem};
 use history::Column;
 use pg_values::{NoMemory, PgText};
-use sql_queries::FromItem;
+use sql_ast::FromItem;
 use std::alloc::Global;
 use table_trees::{Node, Tree};
 

@@ -1,5 +1,5 @@
 ghost use Rattle.std.specs.Prelude.{◌≡◌, ◌+◌, [], All};
-ghost use Rattle.sql_queries.specs.Trees.{select_tree};
+ghost use Rattle.sql_ast.specs.Queries.{select_tree};
 ghost use Rattle.statement_asks.specs.Asked.{select_meant};
 ghost use Rattle.plan_tree.specs.Plans.{CanRead, planned};
 ghost use Rattle.course.specs.Attempts.{MayAttempt};
@@ -15,8 +15,8 @@ use pg_values::{Answer, NoMemory, Refusal};
 use plan_tree::Plan;
 use row_store::Trail;
 use select_answer::run_select;
+use sql_ast::Select;
 use sql_binder::bind_select;
-use sql_queries::Select;
 use statement_asks::SelectAsk;
 use statement_steps::{SessionNames, lock_tables};
 use std::alloc::Global;

@@ -1,6 +1,6 @@
 ghost use Rattle.std.specs.Prelude.{◌≡◌, ◌+◌, ◌-◌, ◌≤◌, All, IfOk, length, map};
 ghost use Rattle.table_trees.specs.Seen.{seen};
-ghost use Rattle.sql_queries.specs.Trees.{select_tree};
+ghost use Rattle.sql_ast.specs.Queries.{select_tree};
 ghost use Rattle.sql_binder.specs.Selects.{from_of};
 ghost use Rattle.statement_asks.specs.Asked.{select_meant};
 ghost use Rattle.plan_tree.specs.Plans.{CanRead, plan_for, plan_tables, planned};
@@ -21,7 +21,7 @@ use course::{Caller, Stop, statement_cancelled};
 use pg_ids::TableNo;
 use pg_values::{Answer, NoMemory};
 use plan_tree::{Plan, make_plan};
-use sql_queries::Select;
+use sql_ast::Select;
 use statement_asks::SelectAsk;
 use statement_steps::{SessionNames, hold_if_repeatable};
 use std::alloc::Global;

@@ -4,7 +4,7 @@ ghost use Rattle.std.specs.Prelude.{◌≡◌, ◌≤◌, ◌∷◌, [], All, If
 ghost use Rattle.history.specs.History.{History};
 ghost use Rattle.table_trees.specs.Histories.{tree_of};
 ghost use Rattle.table_trees.specs.Seen.{seen};
-ghost use Rattle.sql_queries.specs.Trees.{joined_tree};
+ghost use Rattle.sql_ast.specs.Queries.{joined_tree};
 ghost use Rattle.stores.specs.Events.{look_of};
 ghost use Rattle.stores.specs.Stand.{Stands};
 ghost use Rattle.course.specs.Attempts.{MayAttempt};
@@ -18,7 +18,7 @@ use course::{Caller, Stop};
 use pg_ids::{LockMode, TableNo};
 use pg_values::NoMemory;
 use pruned_trees::trees_can_be_pruned;
-use sql_queries::FromItem;
+use sql_ast::FromItem;
 use statement_steps::{SessionNames, lock_named};
 use std::alloc::Global;
 use stores::{Stores, leaves_are_housed};

@@ -4,8 +4,8 @@ use Rattle.pg_values.specs.declared.fault.Fault.{Fault}
 use Rattle.sessions.specs.Sessions.{default_settings}
 use Rattle.sessions.specs.declared.settings.PlanCacheMode.{PlanCacheMode}
 use Rattle.sessions.specs.declared.settings.Settings.{Settings}
-use Rattle.sql_commands.specs.declared.setting.SettingValue.{SettingValue}
-use Rattle.sql_commands.specs.declared.setting.SettingValue.TheVariants as values
+use Rattle.sql_ast.specs.declared.setting_value.SettingValue.{SettingValue}
+use Rattle.sql_ast.specs.declared.setting_value.SettingValue.TheVariants as values
 use Rattle.session_settings.specs.declared.names.SettingName.{SettingName}
 use Rattle.session_settings.specs.declared.names.SettingName.TheVariants as names
 use Rattle.session_settings.specs.Names.{setting_named, truth_of, mode_of}

@@ -6,7 +6,7 @@ use crate::SettingName;
 use crate::names::{mode_of, setting_named, truth_of};
 use pg_values::{Fault, NoMemory, Refusal, SqlState};
 use sessions::Settings;
-use sql_commands::SettingValue;
+use sql_ast::SettingValue;
 use std::alloc::Global;
 use value_rules::two_texts;
 

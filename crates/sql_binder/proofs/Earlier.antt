@@ -1,8 +1,8 @@
 -- Names that may not stand twice: one step along a list.
 use Rattle.std.proofs.Common.{ℕ, ◌+◌, ◌<◌, ◌≡◌, List, [], ◌∷◌, ◌++◌, map, take, drop, length, get_or, sym, ap, ◌∙◌}
 use Rattle.std.proofs.lemmas.List.{map-append}
-use Rattle.sql_queries.specs.declared.parts.FromItem.{FromItem}
-use Rattle.sql_queries.specs.Trees.{joined_tree}
+use Rattle.sql_ast.specs.declared.select.FromItem.{FromItem}
+use Rattle.sql_ast.specs.Queries.{joined_tree}
 use Rattle.expression_binder.proofs.Lists.{earlier_step, later_step}
 use Rattle.sql_binder.specs.From.{item_name, once_faults, twice_faults}
 

@@ -1,9 +1,9 @@
 -- The conditions of ON one by one, and that of WHERE behind them.
 use Rattle.std.proofs.Common.{ℕ, ◌+◌, ◌<◌, ◌≡◌, List, [], ◌∷◌, ◌++◌, Option, Some, map, drop, length, get_or, ap, ◌∙◌, append-nil}
-use Rattle.sql_expressions.specs.Tree.{Tree}
-use Rattle.sql_expressions.specs.declared.expr.Expr.{Expr}
-use Rattle.sql_queries.specs.declared.parts.FromItem.{FromItem}
-use Rattle.sql_queries.specs.Trees.{Joined, joined_tree, maybe_tree}
+use Rattle.sql_ast.specs.Expressions.{Tree}
+use Rattle.sql_ast.specs.declared.expr.Expr.{Expr}
+use Rattle.sql_ast.specs.declared.select.FromItem.{FromItem}
+use Rattle.sql_ast.specs.Queries.{Joined, joined_tree, maybe_tree}
 use Rattle.expression_binder.specs.Conditions.{cond_faults}
 use Rattle.expression_binder.specs.Meanings.{constant_faults, meaning}
 use Rattle.expression_binder.specs.declared.scope.Param.{Param}

@@ -1,9 +1,8 @@
 -- An answer that is put together of two.
 use Rattle.std.proofs.Common.{ℕ, ◌≡◌, List, ◌++◌, Option, Ok, ap, subst, ◌∙◌}
 use Rattle.pg_values.specs.declared.fault.Fault.{Fault}
-use Rattle.sql_expressions.specs.Tree.{Tree}
-use Rattle.sql_queries.specs.Items.{Item as Listed}
-use Rattle.sql_queries.specs.Trees.{Joined, Key, selected}
+use Rattle.sql_ast.specs.Expressions.{Tree}
+use Rattle.sql_ast.specs.Queries.{Item as Listed, Joined, Key, selected}
 use Rattle.expression_binder.specs.Firsts.{or_first, fault_in}
 use Rattle.expression_binder.specs.Scopes.{Item, Scope}
 use Rattle.expression_binder.specs.declared.scope.Param.{Param}

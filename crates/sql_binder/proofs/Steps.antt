@@ -1,7 +1,7 @@
 -- Steps of loops, and what stands behind what.
 use Rattle.std.proofs.Common.{ℕ, suc, ◌+◌, ◌<◌, ◌≡◌, List, [], ◌∷◌, ◌++◌, drop, length, get_or, refl, sym, ap, ◌∙◌, add-one, drop-cons, append_assoc}
 use Rattle.std.specs.Str.{bytes_eq}
-use Rattle.sql_expressions.specs.Tree.{Tree}
+use Rattle.sql_ast.specs.Expressions.{Tree}
 use Rattle.expression_binder.specs.Conditions.{cond_faults}
 use Rattle.expression_binder.specs.Meanings.{constant_faults, meaning}
 use Rattle.expression_binder.specs.declared.scope.Param.{Param}

@@ -4,7 +4,7 @@ use Rattle.pg_values.specs.declared.fault.Fault.{Fault}
 use Rattle.pg_values.specs.declared.value.Kind.TheVariants.{Int8 as KInt8}
 use Rattle.pg_values.specs.declared.value.Value.{Value}
 use Rattle.pg_values.specs.declared.value.Value.TheVariants.{Null, Int4, Int8, Text, Day, Truth}
-use Rattle.sql_expressions.specs.Tree.{Tree}
+use Rattle.sql_ast.specs.Expressions.{Tree}
 use Rattle.expression_binder.specs.Constants.{constant}
 use Rattle.expression_binder.specs.Kinds.{counting_faults}
 use Rattle.expression_binder.specs.Operands.{operand_faults, typed}

@@ -2,10 +2,10 @@
 use Rattle.std.specs.Prelude.{ℕ, ◌+◌, Bool, true, false, List, [], ◌∷◌, ◌++◌, Option, Some, None, map, codes, Result, Ok, Err}
 use Rattle.pg_values.specs.declared.fault.Fault.{Fault}
 use Rattle.pg_values.specs.declared.value.Kind.{Kind}
-use Rattle.sql_expressions.specs.declared.leaf.Leaf.{Leaf}
-use Rattle.sql_expressions.specs.declared.leaf.Leaf.TheVariants.{Column, ColumnOf, TableName, TableNameOf}
-use Rattle.sql_expressions.specs.Tree.{Tree, leaf, call, call_of_all}
-use Rattle.sql_queries.specs.Items.{Item as Listed, all_columns, columns_of, one_column}
+use Rattle.sql_ast.specs.declared.leaf.Leaf.{Leaf}
+use Rattle.sql_ast.specs.declared.leaf.Leaf.TheVariants.{Column, ColumnOf, TableName, TableNameOf}
+use Rattle.sql_ast.specs.Expressions.{Tree, leaf, call, call_of_all}
+use Rattle.sql_ast.specs.Queries.{Item as Listed, all_columns, columns_of, one_column}
 use Rattle.cond_logic.specs.Scalars.{ScalarTree, column}
 use Rattle.expression_binder.specs.declared.scope.Allowed.{Allowed}
 use Rattle.expression_binder.specs.declared.scope.ScopeColumn.{ScopeColumn}

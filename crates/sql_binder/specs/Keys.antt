@@ -2,9 +2,9 @@
 use Rattle.std.specs.Prelude.{ℕ, ◌+◌, ◌-◌, ◌&&◌, ◌||◌, not, nat_le, Bool, true, false, if◌then◌else◌, List, [], ◌∷◌, ◌++◌, Option, Some, None, length, codes}
 use Rattle.std.specs.Str.{bytes_eq}
 use Rattle.pg_values.specs.declared.fault.Fault.{Fault}
-use Rattle.sql_expressions.specs.declared.leaf.Leaf.TheVariants.{Number, Column, ColumnOf, TableName, TableNameOf}
-use Rattle.sql_expressions.specs.Tree.{Tree, leaf, binary, in_list, between, is_null, inverted, all_of, any_of}
-use Rattle.sql_queries.specs.Trees.{Key}
+use Rattle.sql_ast.specs.declared.leaf.Leaf.TheVariants.{Number, Column, ColumnOf, TableName, TableNameOf}
+use Rattle.sql_ast.specs.Expressions.{Tree, leaf, binary, in_list, between, is_null, inverted, all_of, any_of}
+use Rattle.sql_ast.specs.Queries.{Key}
 use Rattle.expression_binder.specs.declared.naming.Lookup.{Lookup}
 use Rattle.expression_binder.specs.declared.naming.Lookup.TheVariants.{Missing, One, Several}
 use Rattle.value_rules.specs.FaultTexts.{out_of_range}

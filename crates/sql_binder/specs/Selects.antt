@@ -2,7 +2,7 @@
 use Rattle.std.specs.Prelude.{ℕ, List, [], ◌++◌, Option, map, Result}
 use Rattle.pg_values.specs.declared.fault.Fault.{Fault}
 use Rattle.cond_logic.specs.Trees.{CondTree}
-use Rattle.sql_queries.specs.Trees.{Joined, SelectTree, selected}
+use Rattle.sql_ast.specs.Queries.{Joined, SelectTree, selected}
 use Rattle.expression_binder.specs.declared.scope.Param.{Param}
 use Rattle.expression_binder.specs.Firsts.{or_first, fault_in}
 use Rattle.expression_binder.specs.Scopes.{Item, Scope, condition_scope}

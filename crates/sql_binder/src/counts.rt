@@ -1,11 +1,11 @@
 ghost use Rattle.pg_values.specs.Refusals.{IsAnswer};
-ghost use Rattle.sql_queries.specs.Trees.{maybe_tree};
+ghost use Rattle.sql_ast.specs.Queries.{maybe_tree};
 ghost use Rattle.expression_binder.specs.Firsts.{or_first};
 ghost use Rattle.sql_binder.specs.Counts as counts;
 
 use expression_binder::{Names, bind_constant, check_counting, check_operand, typed_of};
 use pg_values::{Fault, Kind, Refusal, Value};
-use sql_expressions::Expr;
+use sql_ast::Expr;
 use std::alloc::Global;
 
 /// The first fault of names and kinds in the operand of LIMIT or OFFSET.

@@ -2,7 +2,7 @@ ghost use Rattle.std.specs.Prelude.{◌≡◌, ◌++◌, ◌∷◌, [], map, tak
 ghost use Rattle.std.specs.List.{list_any};
 ghost use Rattle.std.specs.Str.{bytes_eq};
 ghost use Rattle.pg_values.specs.Refusals.{IsAnswer};
-ghost use Rattle.sql_queries.specs.Trees.{joined_tree, maybe_tree};
+ghost use Rattle.sql_ast.specs.Queries.{joined_tree, maybe_tree};
 ghost use Rattle.cond_logic.specs.Trees.{cond_tree};
 ghost use Rattle.expression_binder.specs.Firsts.{or_first, IsAnswerBy};
 ghost use Rattle.sql_binder.specs.From as from;
@@ -12,8 +12,7 @@ use cond_logic::Cond;
 use expression_binder::{Param, ScopeItem, bind_condition, check_condition, condition_names};
 use pg_ids::Which;
 use pg_values::{NoMemory, Refusal};
-use sql_expressions::Expr;
-use sql_queries::FromItem;
+use sql_ast::{Expr, FromItem};
 use std::alloc::Global;
 
 fn check_from_count(alloc: Global, tables: &[FromItem]) -> Result<(), Refusal>

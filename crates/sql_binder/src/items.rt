@@ -1,8 +1,7 @@
 ghost use Rattle.std.specs.Prelude.{◌≡◌, ◌++◌, ◌∷◌, [], map, IfOk, OnOk};
 ghost use Rattle.pg_values.specs.Refusals.{IsAnswer};
-ghost use Rattle.sql_expressions.specs.Tree.{tree};
-ghost use Rattle.sql_queries.specs.Items.{Output as Written};
-ghost use Rattle.sql_queries.specs.Trees.{item_tree};
+ghost use Rattle.sql_ast.specs.Expressions.{tree};
+ghost use Rattle.sql_ast.specs.Queries.{Output as Written, item_tree};
 ghost use Rattle.cond_logic.specs.Scalars as scalars;
 ghost use Rattle.expression_binder.specs.Firsts.{or_first, fault_in, IsAnswerBy};
 ghost use Rattle.expression_binder.specs.Kinds as kinds;
@@ -17,8 +16,7 @@ use expression_binder::{
     kind_alone, left_out, typed_of,
 };
 use pg_values::{NoMemory, PgText, Refusal};
-use sql_expressions::{Expr, Leaf};
-use sql_queries::SelectItem;
+use sql_ast::{Expr, Leaf, SelectItem};
 use statement_asks::Output;
 use std::alloc::Global;
 

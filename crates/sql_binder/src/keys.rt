@@ -1,7 +1,7 @@
 ghost use Rattle.std.specs.Prelude.{◌≡◌, ◌++◌, ◌∷◌, [], map, OnOk, codes};
 ghost use Rattle.pg_values.specs.Refusals.{IsAnswer};
-ghost use Rattle.sql_expressions.specs.Tree.{tree, leaf as leaf_tree};
-ghost use Rattle.sql_queries.specs.Trees.{key_tree};
+ghost use Rattle.sql_ast.specs.Expressions.{tree, leaf as leaf_tree};
+ghost use Rattle.sql_ast.specs.Queries.{key_tree};
 ghost use Rattle.expression_binder.specs.Conditions.{cond_faults};
 ghost use Rattle.expression_binder.specs.Faults as faults;
 ghost use Rattle.expression_binder.specs.Firsts.{or_first, IsAnswerBy};
@@ -15,8 +15,7 @@ use expression_binder::{
     is_arithmetic, item_called, left_out, look_up, look_up_in,
 };
 use pg_values::{NoMemory, PgText, Refusal};
-use sql_expressions::{Expr, Leaf};
-use sql_queries::SortKey as Key;
+use sql_ast::{Expr, Leaf, SortKey as Key};
 use statement_asks::{SortBy, SortKey};
 use std::alloc::Global;
 use value_rules::out_of_range;

@@ -1,7 +1,7 @@
 ghost use Rattle.std.specs.Prelude.{◌≡◌, ◌++◌, map, IfOk};
 ghost use Rattle.pg_values.specs.Refusals.{IsAnswer};
 ghost use Rattle.cond_logic.specs.Trees.{cond_tree};
-ghost use Rattle.sql_queries.specs.Trees.{item_tree, joined_tree, key_tree, maybe_tree, select_tree};
+ghost use Rattle.sql_ast.specs.Queries.{item_tree, joined_tree, key_tree, maybe_tree, select_tree};
 ghost use Rattle.expression_binder.specs.Firsts.{or_first, fault_in, IsAnswerBy};
 ghost use Rattle.sql_binder.specs.Counts as counts;
 ghost use Rattle.sql_binder.specs.From as from;
@@ -20,7 +20,7 @@ use crate::keys::{bind_keys, check_keys};
 use cond_logic::Cond;
 use expression_binder::{Names, Param, ScopeItem, condition_names};
 use pg_values::{NoMemory, PgText, Refusal};
-use sql_queries::Select;
+use sql_ast::Select;
 use statement_asks::{Output, SelectAsk, SortKey};
 use std::alloc::Global;
 

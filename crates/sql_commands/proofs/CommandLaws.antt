@@ -17,15 +17,15 @@ use Rattle.sql_expressions.specs.Words.{either_if, is_long_name}
 use Rattle.sql_expressions.proofs.LevelLaws.{after_expression}
 use Rattle.sql_expressions.proofs.RuleLaws.{expression_law}
 use Rattle.sql_expressions.proofs.WordLaws.{sample, apart, within, no_longer_law, name_law, string_law}
-use Rattle.sql_commands.specs.Trees.{resets, deallocates, deallocates_all, other}
+use Rattle.sql_ast.specs.Commands.{resets, deallocates, deallocates_all, other}
 use Rattle.grammar_words.proofs.WordLaws.{means_law, maybe_law}
 use Rattle.sql_lists.proofs.ListLaws.{in_law, commas_law, plain_name_law, number_law, other_name_law}
 use Rattle.sql_lists.specs.Lists as lists
 use Rattle.sql_commands.specs.Grammar as grammar
-use Rattle.sql_commands.specs.declared.transaction.Isolation.TheVariants as isolation
-use Rattle.sql_commands.specs.declared.setting.SettingValue.TheVariants as setting
-use Rattle.sql_commands.specs.declared.lock.LockMode.{LockMode}
-use Rattle.sql_commands.specs.declared.lock.LockMode.TheVariants as mode
+use Rattle.sql_ast.specs.declared.isolation.Isolation.TheVariants as isolation
+use Rattle.sql_ast.specs.declared.setting_value.SettingValue.TheVariants as setting
+use Rattle.pg_ids.specs.declared.lock_mode.LockMode.{LockMode}
+use Rattle.pg_ids.specs.declared.lock_mode.LockMode.TheVariants as mode
 use Rattle.sql_commands.proofs.NameFirst.{dropped_texts, dropped_free, prepared_texts, prepared_free, read_as_law}
 use Rattle.sql_commands.proofs.TextLaws.{by_text_law}
 

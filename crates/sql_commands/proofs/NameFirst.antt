@@ -18,7 +18,7 @@ use Rattle.sql_expressions.specs.Words.{either_if, is_long_name, named, name}
 use Rattle.sql_expressions.proofs.WordLaws.{within}
 use Rattle.sql_lists.specs.Lists as lists
 use Rattle.sql_commands.specs.Grammar as grammar
-use Rattle.sql_commands.specs.Trees.{CommandTree, deallocates, deallocates_all}
+use Rattle.sql_ast.specs.Commands.{CommandTree, deallocates, deallocates_all}
 
 abbrev Of : Type 0 → Type 1
 Of A = List Token → A → Type 0

@@ -7,9 +7,9 @@ use Rattle.sql_tokens.specs.declared.token.Token.{Token}
 use Rattle.grammar_words.specs.Words.{◌>>◌, ◌&◌, one_of, maybe}
 use Rattle.sql_tokens.specs.Classes.{a}
 use Rattle.sql_lists.specs.Lists.{plain_name}
-use Rattle.sql_commands.specs.Trees.{Bound, CommandTree, attaches, detaches}
-use Rattle.sql_commands.specs.declared.alter.Detachment.{Detachment}
-use Rattle.sql_commands.specs.declared.alter.Detachment.TheVariants as detachment
+use Rattle.sql_ast.specs.Commands.{Bound, CommandTree, attaches, detaches}
+use Rattle.sql_ast.specs.declared.detachment.Detachment.{Detachment}
+use Rattle.sql_ast.specs.declared.detachment.Detachment.TheVariants as detachment
 use Rattle.sql_commands.specs.Bound.{bound}
 
 -- alter = "ALTER" "TABLE" name ( "ATTACH" "PARTITION" name bound | "DETACH" "PARTITION" name [ "CONCURRENTLY" | "FINALIZE" ] )

@@ -4,11 +4,11 @@ use Rattle.grammar_rules.specs.Reading.{Rule, one, as_value, either, ◌>>=◌}
 use Rattle.sql_tokens.specs.declared.kind.Kind.TheVariants as word
 use Rattle.sql_tokens.specs.declared.token.Token.{Token}
 use Rattle.sql_expressions.specs.Grammar.{expression}
-use Rattle.sql_expressions.specs.Tree.{Tree, listed as list_of_trees}
+use Rattle.sql_ast.specs.Expressions.{Tree, listed as list_of_trees}
 use Rattle.grammar_words.specs.Words.{◌>>◌, ◌<<◌, ◌&◌, means}
 use Rattle.sql_tokens.specs.Classes.{a}
 use Rattle.sql_lists.specs.Lists.{in_parentheses, commas, number}
-use Rattle.sql_commands.specs.Trees.{Edge, min, max, at, Bound, range, listed, hash, other}
+use Rattle.sql_ast.specs.Commands.{Edge, min, max, at, Bound, range, listed, hash, other}
 
 -- edge = "MINVALUE" | "MAXVALUE" | expr, where an edge that is one of these words alone is that word
 abbrev pub by_text : {A B : Type 0} → (List Token → A → B) → Rule Token A → Rule Token B

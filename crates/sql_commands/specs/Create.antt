@@ -8,11 +8,11 @@ use Rattle.grammar_words.specs.Words.{◌>>◌, ◌&◌, means}
 use Rattle.sql_tokens.specs.Classes.{a}
 use Rattle.sql_expressions.specs.Words.{name}
 use Rattle.sql_lists.specs.Lists.{in_parentheses, commas, plain_name}
-use Rattle.sql_commands.specs.Trees.{Bound, CommandTree, makes_table, makes_partition}
-use Rattle.sql_commands.specs.declared.create.Strategy.{Strategy}
-use Rattle.sql_commands.specs.declared.create.Strategy.TheVariants as strategy
-use Rattle.sql_commands.specs.declared.lists.ColumnDefinition.{ColumnDefinition}
-use Rattle.sql_commands.specs.declared.lists.Partitioning.{Partitioning}
+use Rattle.sql_ast.specs.Commands.{Bound, CommandTree, makes_table, makes_partition}
+use Rattle.sql_ast.specs.declared.table_definition.Strategy.{Strategy}
+use Rattle.sql_ast.specs.declared.table_definition.Strategy.TheVariants as strategy
+use Rattle.sql_ast.specs.declared.table_definition.ColumnDefinition.{ColumnDefinition}
+use Rattle.sql_ast.specs.declared.table_definition.Partitioning.{Partitioning}
 use Rattle.sql_commands.specs.Bound.{bound}
 
 -- by = "PARTITION" "BY" ( "RANGE" | "LIST" | "HASH" ) "(" name { "," name } ")"

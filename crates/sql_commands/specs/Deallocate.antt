@@ -10,7 +10,7 @@ use Rattle.grammar_words.specs.Words.{◌>>◌, means}
 use Rattle.sql_tokens.specs.Classes.{a}
 use Rattle.sql_expressions.specs.Words.{name}
 use Rattle.sql_lists.specs.Lists.{plain_name, name_word, is_other_name, other_name, read_as}
-use Rattle.sql_commands.specs.Trees.{CommandTree, deallocates, deallocates_all}
+use Rattle.sql_ast.specs.Commands.{CommandTree, deallocates, deallocates_all}
 
 -- dealloc = "DEALLOCATE" [ "PREPARE" ] ( name | "ALL" ), where TRANSACTION is no name behind PREPARE
 abbrev pub name_behind : List ℕ → Option Token → Rule Token (List ℕ)

@@ -10,7 +10,7 @@ use Rattle.grammar_words.specs.Words.{◌>>◌, ◌&◌, one_of, means, maybe}
 use Rattle.sql_tokens.specs.Classes.{a}
 use Rattle.sql_expressions.specs.Words.{either_if, name}
 use Rattle.sql_lists.specs.Lists.{commas, more_commas, plain_name, name_word, read_as}
-use Rattle.sql_commands.specs.Trees.{CommandTree, drops}
+use Rattle.sql_ast.specs.Commands.{CommandTree, drops}
 
 -- drop = "DROP" "TABLE" [ "IF" "EXISTS" ] name { "," name } [ "CASCADE" | "RESTRICT" ]
 abbrev pub is_behavior : Class Token

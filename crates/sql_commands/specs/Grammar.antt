@@ -5,7 +5,7 @@ use Rattle.grammar_rules.specs.Reading.{Class, Rule, either}
 use Rattle.sql_tokens.specs.declared.kind.Kind.TheVariants as word
 use Rattle.sql_tokens.specs.declared.token.Token.{Token}
 use Rattle.sql_tokens.specs.Classes.{a}
-use Rattle.sql_commands.specs.Trees.{CommandTree}
+use Rattle.sql_ast.specs.Commands.{CommandTree}
 pub use Rattle.sql_commands.specs.Transaction.{is_noise, noise, committed_or_not, level, isolation_level, begins_begin, begin_words, begin, is_commit, is_rollback, is_finish, finished, finish}
 pub use Rattle.sql_commands.specs.Setting.{is_equal_or_to, is_setting_word, setting_word, without_zeros, setting_number, setting_value, set_value, begins_set, set}
 pub use Rattle.sql_commands.specs.Create.{is_strategy, strategy_of, strategy_rule, partitioning, by, maybe_by, null_or_not, column_value, column, table_value, columns, partition_value, partition_of, made, create}

@@ -7,4 +7,3 @@ pub mod Grammar
 pub mod Lock
 pub mod Setting
 pub mod Transaction
-pub mod Trees

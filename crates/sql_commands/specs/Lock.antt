@@ -7,10 +7,10 @@ use Rattle.grammar_words.specs.Words.{◌>>◌, ◌<<◌, ◌&◌, one_of, means
 use Rattle.sql_tokens.specs.Classes.{a}
 use Rattle.sql_expressions.specs.Words.{name}
 use Rattle.sql_lists.specs.Lists.{commas, plain_name}
-use Rattle.sql_commands.specs.Trees.{CommandTree, locks}
-use Rattle.sql_commands.specs.declared.lock.LockMode.{LockMode}
-use Rattle.sql_commands.specs.declared.lock.LockMode.TheVariants as mode
-use Rattle.sql_commands.specs.declared.lists.LockedTable.{LockedTable}
+use Rattle.sql_ast.specs.Commands.{CommandTree, locks}
+use Rattle.pg_ids.specs.declared.lock_mode.LockMode.{LockMode}
+use Rattle.pg_ids.specs.declared.lock_mode.LockMode.TheVariants as mode
+use Rattle.sql_ast.specs.declared.locked_table.LockedTable.{LockedTable}
 
 -- lock = "LOCK" [ "TABLE" ] [ "ONLY" ] name { "," [ "ONLY" ] name } [ "IN" mode "MODE" ]
 abbrev pub locked_value : Option Token × List ℕ → LockedTable

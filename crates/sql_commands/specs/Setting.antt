@@ -8,9 +8,9 @@ use Rattle.grammar_words.specs.Words.{◌>>◌, ◌&◌, one_of}
 use Rattle.sql_tokens.specs.Classes.{a, a_name}
 use Rattle.sql_expressions.specs.Words.{is_long_name, no_longer, string}
 use Rattle.sql_lists.specs.Lists.{plain_name, other_name}
-use Rattle.sql_commands.specs.Trees.{CommandTree, sets, resets}
-use Rattle.sql_commands.specs.declared.setting.SettingValue.{SettingValue}
-use Rattle.sql_commands.specs.declared.setting.SettingValue.TheVariants as setting
+use Rattle.sql_ast.specs.Commands.{CommandTree, sets, resets}
+use Rattle.sql_ast.specs.declared.setting_value.SettingValue.{SettingValue}
+use Rattle.sql_ast.specs.declared.setting_value.SettingValue.TheVariants as setting
 
 -- set = "SET" name ( "=" | "TO" ) ( name | "ON" | "TRUE" | "FALSE" | string | number ) | "RESET" name
 -- where LOCAL is no name behind SET

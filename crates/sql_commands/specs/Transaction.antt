@@ -5,9 +5,9 @@ use Rattle.sql_tokens.specs.declared.kind.Kind.TheVariants as word
 use Rattle.sql_tokens.specs.declared.token.Token.{Token}
 use Rattle.grammar_words.specs.Words.{◌>>◌, ◌&◌, one_of, means, maybe}
 use Rattle.sql_tokens.specs.Classes.{a}
-use Rattle.sql_commands.specs.Trees.{CommandTree, begins, commits, rolls_back}
-use Rattle.sql_commands.specs.declared.transaction.Isolation.{Isolation}
-use Rattle.sql_commands.specs.declared.transaction.Isolation.TheVariants as isolation
+use Rattle.sql_ast.specs.Commands.{CommandTree, begins, commits, rolls_back}
+use Rattle.sql_ast.specs.declared.isolation.Isolation.{Isolation}
+use Rattle.sql_ast.specs.declared.isolation.Isolation.TheVariants as isolation
 
 -- [ "WORK" | "TRANSACTION" ]
 abbrev pub is_noise : Class Token

@@ -1,24 +1,16 @@
 ghost use Rattle.std.specs.Prelude.{◌≡◌};
 ghost use Rattle.grammar_rules.specs.Gives.{Gives};
 ghost use Rattle.sql_commands.specs.Alter as grammar;
-ghost use Rattle.sql_commands.specs.Trees.{command_tree};
+ghost use Rattle.sql_ast.specs.Commands.{command_tree};
 
-use crate::Command;
 use crate::bound::bound;
 use grammar_rules::Refused;
 use grammar_words::{comes, word};
 use pg_values::PgText;
+use sql_ast::{Command, Detachment};
 use sql_lists::{maybe_one_of, plain_name};
 use sql_tokens::{Kind, Token, same_kind};
 use std::alloc::Global;
-
-/// How a partition is detached.
-#[derive(Clone, Copy, Debug, PartialEq, Eq)]
-pub enum Detachment {
-    AtOnce,
-    Concurrently,
-    Finalize,
-}
 
 fn attach<'a>(
     alloc: Global,

@@ -1,36 +1,16 @@
 ghost use Rattle.std.specs.Prelude.{◌≡◌, map, take};
 ghost use Rattle.grammar_rules.specs.Gives.{Gives};
-ghost use Rattle.sql_expressions.specs.Tree.{tree};
+ghost use Rattle.sql_ast.specs.Expressions.{tree};
 ghost use Rattle.sql_commands.specs.Bound as grammar;
-ghost use Rattle.sql_commands.specs.Trees.{bound_tree, edge_tree};
+ghost use Rattle.sql_ast.specs.Commands.{bound_tree, edge_tree};
 
-use crate::EdgeList;
 use grammar_rules::Refused;
 use grammar_words::{Part, comes, separated, word};
-use sql_expressions::{Expr, ExprList, ExprPart, expression};
+use sql_ast::{BoundText, EdgeList, EdgeText, Expr, ExprList};
+use sql_expressions::{ExprPart, expression};
 use sql_lists::number;
 use sql_tokens::{Kind, Token, same_kind};
 use std::alloc::Global;
-
-/// A partition bound as it is written.
-#[derive(Debug, Drop)]
-pub enum BoundText {
-    /// FROM and TO.
-    Range(EdgeList, EdgeList),
-    /// IN.
-    List(ExprList),
-    /// MODULUS and REMAINDER; 2^63 stands for every number that is no `bigint`.
-    Hash(u64, u64),
-    Default,
-}
-
-/// An edge of a range.
-#[derive(Debug, Drop)]
-pub enum EdgeText {
-    MinValue,
-    MaxValue,
-    Value(Expr),
-}
 
 /// The first tokens: all of them where there are fewer.
 fn first(tokens: &[Token], n: usize) -> &[Token]
@@ -66,7 +46,7 @@ struct EachEdge;
 
 impl Part for EachEdge {
     ghost use Rattle.sql_commands.specs.Bound as grammar;
-    ghost use Rattle.sql_commands.specs.Trees.{Edge as OneEdge, edge_tree};
+    ghost use Rattle.sql_ast.specs.Commands.{Edge as OneEdge, edge_tree};
 
     type Token = Token;
 

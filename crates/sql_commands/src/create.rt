@@ -1,23 +1,15 @@
 ghost use Rattle.grammar_rules.specs.Gives.{Gives};
 ghost use Rattle.sql_commands.specs.Create as grammar;
-ghost use Rattle.sql_commands.specs.Trees.{command_tree};
+ghost use Rattle.sql_ast.specs.Commands.{command_tree};
 
 use crate::bound::bound;
-use crate::{ColumnDefinition, ColumnList, Command, Partitioning};
 use grammar_rules::{Refused, split};
 use grammar_words::{Part, comes, separated, word};
 use pg_values::PgText;
-use sql_lists::{NameList, names, plain_name};
+use sql_ast::{ColumnDefinition, ColumnList, Command, NameList, Partitioning, Strategy};
+use sql_lists::{names, plain_name};
 use sql_tokens::{Kind, Token, same_kind};
 use std::alloc::Global;
-
-/// The strategy of PARTITION BY.
-#[derive(Clone, Copy, Debug, PartialEq, Eq)]
-pub enum Strategy {
-    Range,
-    List,
-    Hash,
-}
 
 /// Whether a column may not be null.
 fn null_or_not(tokens: &[Token]) -> Result<(bool, &[Token]), Refused>
@@ -57,7 +49,7 @@ struct EachColumn;
 
 impl Part for EachColumn {
     ghost use Rattle.sql_commands.specs.Create as grammar;
-    ghost use Rattle.sql_commands.specs.declared.lists.ColumnDefinition.{ColumnDefinition as OneColumn};
+    ghost use Rattle.sql_ast.specs.declared.table_definition.ColumnDefinition.{ColumnDefinition as OneColumn};
 
     type Token = Token;
 

@@ -1,13 +1,13 @@
 ghost use Rattle.grammar_rules.specs.Gives.{Gives};
 ghost use Rattle.sql_commands.specs.Drop as grammar;
-ghost use Rattle.sql_commands.specs.Trees.{command_tree};
+ghost use Rattle.sql_ast.specs.Commands.{command_tree};
 
-use crate::Command;
 use grammar_rules::Refused;
 use grammar_words::{comes, word};
 use pg_values::PgText;
+use sql_ast::{Command, NameList};
 use sql_expressions::name;
-use sql_lists::{NameList, maybe_one_of, names, with_more_names};
+use sql_lists::{maybe_one_of, names, with_more_names};
 use sql_tokens::{Kind, Token, same_kind};
 use std::alloc::Global;
 

@@ -18,20 +18,8 @@ mod commands;
 mod create;
 mod deallocate;
 mod drop;
-mod lists;
 mod lock;
 mod setting;
 mod transaction;
-mod tree;
 
-pub use alter::Detachment;
-pub use bound::{BoundText, EdgeText};
 pub use commands::{command, command_comes, commands_are_read, no_two_commands};
-pub use create::Strategy;
-pub use lists::{
-    ColumnDefinition, ColumnList, EdgeList, LockedTable, LockedTableList, Partitioning,
-};
-pub use lock::LockMode;
-pub use setting::SettingValue;
-pub use transaction::Isolation;
-pub use tree::Command;

@@ -1,26 +1,14 @@
 ghost use Rattle.grammar_rules.specs.Gives.{Gives};
 ghost use Rattle.sql_commands.specs.Lock as grammar;
-ghost use Rattle.sql_commands.specs.Trees.{command_tree};
+ghost use Rattle.sql_ast.specs.Commands.{command_tree};
 
-use crate::{Command, LockedTable, LockedTableList};
 use grammar_rules::Refused;
 use grammar_words::{Part, comes, maybe_word, separated, word};
+use pg_ids::LockMode;
+use sql_ast::{Command, LockedTable, LockedTableList};
 use sql_lists::{one_of, plain_name};
 use sql_tokens::{Kind, Token, same_kind};
 use std::alloc::Global;
-
-/// The modes of table locks, from the weakest.
-#[derive(Clone, Copy, Debug, PartialEq, Eq)]
-pub enum LockMode {
-    AccessShare,
-    RowShare,
-    RowExclusive,
-    ShareUpdateExclusive,
-    Share,
-    ShareRowExclusive,
-    Exclusive,
-    AccessExclusive,
-}
 
 fn locked<'a>(
     alloc: Global,
@@ -39,7 +27,7 @@ struct EachTable;
 
 impl Part for EachTable {
     ghost use Rattle.sql_commands.specs.Lock as grammar;
-    ghost use Rattle.sql_commands.specs.declared.lists.LockedTable.{LockedTable as OneTable};
+    ghost use Rattle.sql_ast.specs.declared.locked_table.LockedTable.{LockedTable as OneTable};
 
     type Token = Token;
 

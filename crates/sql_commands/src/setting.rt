@@ -1,27 +1,17 @@
 ghost use Rattle.std.specs.Prelude.{◌≡◌};
 ghost use Rattle.grammar_rules.specs.Gives.{Gives};
 ghost use Rattle.sql_commands.specs.Setting as grammar;
-ghost use Rattle.sql_commands.specs.Trees.{command_tree};
+ghost use Rattle.sql_ast.specs.Commands.{command_tree};
 ghost use Rattle.sql_tokens.specs.Contents as contents;
 
-use crate::Command;
 use grammar_rules::{Refused, split};
 use grammar_words::{comes, word};
 use pg_values::PgText;
+use sql_ast::{Command, SettingValue};
 use sql_expressions::{MOST_NAME_BYTES, string};
 use sql_lists::{one_of, other_name, plain_name};
 use sql_tokens::{Kind, Token, is_name, name_of, same_kind};
 use std::alloc::Global;
-
-/// What a setting is set to.
-#[derive(Debug, Drop)]
-pub enum SettingValue {
-    /// A name, ON, TRUE or FALSE, folded.
-    Word(PgText),
-    Text(PgText),
-    /// The digits of a whole number, without zeros before them.
-    Number(PgText),
-}
 
 fn is_setting_word(token: Token) -> bool
     ensures { result ≡ grammar.is_setting_word token }

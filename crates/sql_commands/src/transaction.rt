@@ -2,22 +2,13 @@ ghost use Rattle.std.specs.Prelude.{◌≡◌};
 ghost use Rattle.grammar_rules.specs.Gives.{Gives};
 ghost use Rattle.grammar_rules.specs.Reading.{begins_in, read_one};
 ghost use Rattle.sql_commands.specs.Transaction as grammar;
-ghost use Rattle.sql_commands.specs.Trees.{command_tree};
+ghost use Rattle.sql_ast.specs.Commands.{command_tree};
 
-use crate::Command;
 use grammar_rules::{Refused, split};
 use grammar_words::{comes, word};
+use sql_ast::{Command, Isolation};
 use sql_lists::{maybe_one_of, one_of_comes};
 use sql_tokens::{Kind, Token, same_kind};
-
-/// The isolation level of a transaction as it is written. READ UNCOMMITTED behaves as READ COMMITTED,
-/// but a statement that sets the one does not set the other.
-#[derive(Clone, Copy, Debug, PartialEq, Eq)]
-pub enum Isolation {
-    ReadCommitted,
-    ReadUncommitted,
-    RepeatableRead,
-}
 
 /// What stands behind READ.
 fn committed_or_not(tokens: &[Token]) -> Result<(Isolation, &[Token]), Refused>

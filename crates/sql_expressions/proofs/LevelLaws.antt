@@ -13,7 +13,7 @@ use Rattle.sql_tokens.specs.Classes.{a, a_name}
 use Rattle.sql_expressions.specs.Words.{a_literal, literal, column}
 use Rattle.sql_expressions.specs.Levels.{Deep, Room, Rules, flat, under, deeper, itself, join, only_part, add_part, has_room, parts_room, list_of, begins_nested, begins_expression, all_call, call_value, arguments, call_of, behind_name, named_leaf, nested, unary, chain, is_product, is_sum, is_comparison, begins_test, in_value, between_value, in_or_between, tested, maybe_tested, test, compared_value, compared, maybe_compared, comparison, said, null_or_not, null_join, nullity, inverted_by, negation, parts, all_value, any_value, conjunction, disjunction}
 use Rattle.sql_expressions.specs.Grammar.{freely}
-use Rattle.sql_expressions.specs.Tree.{negated, inverted}
+use Rattle.sql_ast.specs.Expressions.{negated, inverted}
 use Rattle.sql_expressions.proofs.RoomLaws.{Opens, if_room_law}
 use Rattle.sql_expressions.proofs.WordLaws.{sample, apart, within, behind_column, name_law, literal_law, column_law}
 

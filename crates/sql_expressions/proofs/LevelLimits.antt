@@ -10,7 +10,7 @@ use Rattle.sql_tokens.specs.declared.token.Token.{Token}
 use Rattle.sql_expressions.specs.Grammar.{below}
 use Rattle.sql_expressions.specs.Levels.{Deep, Parts, Rules, flat, under, deeper, itself, join, only_part, add_part, node_of, has_room, parts_room, list_of, all_call, call_value, arguments, call_of, behind_name, named_leaf, nested, unary, chain, is_comparison, in_value, between_value, in_or_between, tested, maybe_tested, test, compared_value, compared, maybe_compared, comparison, said, null_or_not, null_join, nullity, inverted_by, negation, parts, all_value, any_value, conjunction, disjunction}
 use Rattle.sql_expressions.specs.Limits.{IsShort}
-use Rattle.sql_expressions.specs.Tree.{Tree, negated, inverted, all_of, any_of, listed}
+use Rattle.sql_ast.specs.Expressions.{Tree, negated, inverted, all_of, any_of, listed}
 use Rattle.grammar_words.specs.Words.{◌>>◌, ◌<<◌, ◌&◌}
 use Rattle.sql_tokens.specs.Classes.{a}
 use Rattle.sql_expressions.proofs.LevelLaws.{within_any}

@@ -17,8 +17,8 @@ use Rattle.sql_expressions.specs.Levels.{Deep, Parts, Rules}
 use Rattle.sql_tokens.specs.Classes.{a, a_name}
 use Rattle.sql_expressions.specs.Words.{a_literal, is_long_name, is_long_text, no_longer, name, string, literal, column, either_if}
 use Rattle.sql_expressions.specs.Words as Words
-use Rattle.sql_expressions.specs.declared.leaf.Leaf.{Leaf}
-use Rattle.sql_expressions.specs.declared.leaf.Leaf.TheVariants as leaf
+use Rattle.sql_ast.specs.declared.leaf.Leaf.{Leaf}
+use Rattle.sql_ast.specs.declared.leaf.Leaf.TheVariants as leaf
 use Rattle.sql_expressions.proofs.DepthLaws.{unary_to, negation_to}
 use Rattle.sql_expressions.proofs.LevelLaws.{begins_leaf, begins_unary, nested_opens, call_opens}
 use Rattle.sql_expressions.proofs.RuleLaws.{any_sample, rules_laws}

@@ -10,12 +10,12 @@ use Rattle.sql_expressions.specs.Grammar.{any, freed, below, unary_at, product_a
 use Rattle.sql_expressions.specs.Levels as Levels
 use Rattle.sql_expressions.specs.Levels.{Rules}
 use Rattle.sql_expressions.specs.Limits.{IsShort}
-use Rattle.sql_expressions.specs.Tree.{Tree}
+use Rattle.sql_ast.specs.Expressions.{Tree}
 use Rattle.sql_tokens.specs.Classes.{a, a_name}
 use Rattle.sql_expressions.specs.Words.{is_long_name, name, literal}
 use Rattle.sql_expressions.specs.Words as Words
-use Rattle.sql_expressions.specs.declared.leaf.Leaf.{Leaf}
-use Rattle.sql_expressions.specs.declared.leaf.Leaf.TheVariants as leaf
+use Rattle.sql_ast.specs.declared.leaf.Leaf.{Leaf}
+use Rattle.sql_ast.specs.declared.leaf.Leaf.TheVariants as leaf
 use Rattle.sql_expressions.specs.declared.levels.TheConstants.{MOST_DEPTH}
 use Rattle.sql_expressions.proofs.DepthLaws.{unary_to}
 use Rattle.sql_expressions.proofs.LevelLaws.{begins_unary}

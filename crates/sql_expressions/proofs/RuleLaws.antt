@@ -5,7 +5,7 @@ use Rattle.grammar_rules.proofs.Laws.{Law}
 use Rattle.grammar_rules.proofs.Build.{said, valued}
 use Rattle.sql_tokens.specs.declared.kind.Kind.TheVariants as word
 use Rattle.sql_tokens.specs.declared.token.Token.{Token}
-use Rattle.sql_expressions.specs.declared.leaf.Leaf.TheVariants as leaf
+use Rattle.sql_ast.specs.declared.leaf.Leaf.TheVariants as leaf
 use Rattle.sql_expressions.specs.declared.levels.TheConstants.{MOST_DEPTH}
 use Rattle.sql_expressions.specs.Levels.{Deep, Parts, Room, Rules, begins_expression, flat, only_part, unary}
 use Rattle.sql_expressions.specs.Grammar.{any, freely, freed, below, no_room, unary_at, product_at, sum_at, test_at, comparison_at, nullity_at, negation_at, conjunction_at, levels, zero_unary, zero_product, zero_sum, zero_test, zero_nullity, zero_negation, zero_conjunction, flat_rules, under_depth, rules, tree_of, expression}

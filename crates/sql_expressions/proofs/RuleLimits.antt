@@ -5,7 +5,7 @@ use Rattle.sql_tokens.specs.declared.token.Token.{Token}
 use Rattle.sql_expressions.specs.Grammar.{any, below, freed, unary_at, product_at, sum_at, test_at, comparison_at, nullity_at, negation_at, conjunction_at, expression_at, levels, under_depth, rules, deep_expression, expression}
 use Rattle.sql_expressions.specs.Levels.{Deep, Rules, is_product, is_sum}
 use Rattle.sql_expressions.specs.Limits.{IsShort, IsWithin, StandIn}
-use Rattle.sql_expressions.specs.Tree.{Tree}
+use Rattle.sql_ast.specs.Expressions.{Tree}
 use Rattle.sql_expressions.specs.declared.levels.TheConstants.{MOST_DEPTH}
 use Rattle.sql_expressions.proofs.DepthLaws.{unary_from, negation_from}
 use Rattle.sql_expressions.proofs.Limited.{Of, over, adapt, each_of_all, all_of_each}

@@ -13,8 +13,8 @@ use Rattle.sql_tokens.specs.declared.token.Token.{Token}
 use Rattle.sql_expressions.specs.Limits.{IsShort}
 use Rattle.sql_tokens.specs.Classes.{a, a_name}
 use Rattle.sql_expressions.specs.Words.{a_literal, is_long_name, is_long_text, named, name, string, literal_of, literal, either_if, cast, dotted, column}
-use Rattle.sql_expressions.specs.declared.leaf.Leaf.{Leaf}
-use Rattle.sql_expressions.specs.declared.leaf.Leaf.TheVariants as leaf
+use Rattle.sql_ast.specs.declared.leaf.Leaf.{Leaf}
+use Rattle.sql_ast.specs.declared.leaf.Leaf.TheVariants as leaf
 use Rattle.sql_expressions.proofs.Limited.{Of, Limited, one_limited, no_longer_limited, nothing_limited, follow_limited, value_limited, behind_limited, either_limited}
 use Rattle.sql_expressions.proofs.TextWords.{may_be_long, word_is_short}
 use Rattle.sql_expressions.proofs.WordLaws.{sample, apart}

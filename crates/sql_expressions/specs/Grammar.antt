@@ -3,7 +3,7 @@ use Rattle.std.specs.Prelude.{â„•, zero, suc, true, false, nat_lt, List, Err, â—
 use Rattle.grammar_rules.specs.Depths.{AtSome}
 use Rattle.grammar_rules.specs.Reading.{Rule, syntax_at, as_value}
 use Rattle.sql_tokens.specs.declared.token.Token.{Token}
-use Rattle.sql_expressions.specs.Tree.{Tree}
+use Rattle.sql_ast.specs.Expressions.{Tree}
 use Rattle.sql_expressions.specs.Levels.{Deep, Room, Rules, unary, chain, is_product, is_sum, test, comparison, nullity, negation, conjunction, disjunction}
 use Rattle.sql_expressions.specs.declared.levels.TheConstants.{MOST_DEPTH}
 

@@ -2,6 +2,5 @@ pub mod Grammar
 pub mod Levels
 pub mod Limits
 pub mod Parsed
-pub mod Tree
 pub mod Views
 pub mod Words

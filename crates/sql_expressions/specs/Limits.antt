@@ -4,7 +4,7 @@ use Rattle.std.specs.Prelude.{◌≡◌, ◌≤◌, ℕ, false, List, All, Conta
 use Rattle.sql_tokens.specs.Tokens.{tokens_of}
 use Rattle.sql_tokens.specs.declared.token.Token.{Token}
 use Rattle.sql_expressions.specs.Grammar.{deep_expression}
-use Rattle.sql_expressions.specs.Tree.{Tree}
+use Rattle.sql_ast.specs.Expressions.{Tree}
 use Rattle.sql_expressions.specs.Words.{is_long_name, is_long_text}
 use Rattle.sql_expressions.specs.declared.levels.TheConstants.{MOST_DEPTH}
 

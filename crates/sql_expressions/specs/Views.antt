@@ -7,7 +7,7 @@ use Rattle.sql_expressions.specs.Levels as level
 use Rattle.grammar_rules.specs.Reading.{as_value}
 use Rattle.grammar_rules.specs.Repeats.{repeats}
 use Rattle.sql_expressions.specs.Grammar.{any, below, comparison_at, freed, nullity_at, rules, under_depth}
-use Rattle.sql_expressions.specs.Tree.{tree}
+use Rattle.sql_ast.specs.Expressions.{tree}
 use Rattle.sql_tokens.specs.Classes.{a}
 use Rattle.sql_expressions.specs.declared.deep.Deep.{Deep}
 use Rattle.sql_expressions.specs.declared.signs.Joint.{Joint}

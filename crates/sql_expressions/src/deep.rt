@@ -1,12 +1,12 @@
 ghost use Rattle.std.specs.Prelude.{◌≡◌, ◌<◌, ◌≤◌, ◌⊎◌, MatchResult, ℕ, length};
 ghost use Rattle.grammar_rules.specs.declared.refused.Refused.TheVariants as refusals;
 ghost use Rattle.sql_expressions.specs.Levels as levels;
-ghost use Rattle.sql_expressions.specs.Tree as trees_of;
+ghost use Rattle.sql_ast.specs.Expressions as trees_of;
 ghost use Rattle.sql_expressions.specs.Views as views;
 
 use crate::signs::Joint;
-use crate::{Expr, ExprList, Operator};
 use grammar_rules::Refused;
+use sql_ast::{Expr, ExprList, Operator};
 use std::alloc::Global;
 
 /// An expression, and how many operators, calls and pairs of parentheses stand over its deepest leaf.

@@ -1,7 +1,7 @@
 ghost use Rattle.std.specs.Prelude.{◌≡◌, ℕ, List};
 ghost use Rattle.sql_expressions.specs.Grammar as grammar;
 ghost use Rattle.sql_expressions.specs.Limits.{IsWithin, StandIn};
-ghost use Rattle.sql_expressions.specs.Tree.{Tree};
+ghost use Rattle.sql_ast.specs.Expressions.{Tree};
 ghost use Rattle.sql_tokens.specs.declared.token.Token.{Token as OneToken};
 
 /// No text is that of two trees, even where the second is one without limits. The call does nothing.

@@ -1,6 +1,6 @@
 ghost use Rattle.grammar_rules.specs.Gives.{Gives};
 ghost use Rattle.sql_expressions.specs.Grammar as grammar;
-ghost use Rattle.sql_expressions.specs.Tree as trees_of;
+ghost use Rattle.sql_ast.specs.Expressions as trees_of;
 
 mod calls;
 mod comparisons;
@@ -9,9 +9,9 @@ mod negations;
 mod operands;
 mod sums;
 
-use crate::Expr;
 use conjunctions::disjunction;
 use grammar_rules::Refused;
+use sql_ast::Expr;
 use sql_tokens::Token;
 use std::alloc::Global;
 

@@ -12,18 +12,14 @@
 #![tactic(auto)]
 
 mod deep;
-mod expr;
 mod laws;
-mod leaf;
 mod levels;
 mod parse;
 mod refused;
 mod signs;
 mod words;
 
-pub use expr::{Expr, ExprList};
 pub use laws::{no_two_trees, the_limits};
-pub use leaf::{Leaf, Operator};
 pub use levels::expression;
 pub use parse::{ExprPart, parse_expression, refusal};
 pub use refused::ParseRefused;

@@ -1,15 +1,16 @@
 ghost use Rattle.std.specs.Prelude.{◌≡◌, IfOk};
 ghost use Rattle.sql_expressions.specs.Grammar as grammar;
 ghost use Rattle.sql_expressions.specs.Parsed as parsed;
-ghost use Rattle.sql_expressions.specs.Tree.{tree};
+ghost use Rattle.sql_ast.specs.Expressions.{tree};
 ghost use Rattle.sql_expressions.specs.Words as words;
 
 use crate::words::{MOST_NAME_BYTES, MOST_TEXT_BYTES};
-use crate::{Expr, ParseRefused, expression};
+use crate::{ParseRefused, expression};
 use grammar_rules::Refused;
 use grammar_words::{Part, token_at, whole};
 use pg_ids::Which;
 use pg_values::NoMemory;
+use sql_ast::Expr;
 use sql_tokens::{
     Kind, Token, called, is_left_out, is_name, name_of, read_tokens, same_kind, string_of,
 };
@@ -89,7 +90,7 @@ pub struct ExprPart;
 
 impl Part for ExprPart {
     ghost use Rattle.sql_expressions.specs.Grammar as grammar;
-    ghost use Rattle.sql_expressions.specs.Tree.{Tree as OneTree, tree as tree_of};
+    ghost use Rattle.sql_ast.specs.Expressions.{Tree as OneTree, tree as tree_of};
 
     type Token = Token;
 

@@ -4,10 +4,10 @@ ghost use Rattle.grammar_rules.specs.declared.refused.Refused.TheVariants as ref
 ghost use Rattle.sql_expressions.specs.Levels as levels;
 ghost use Rattle.sql_expressions.specs.Views as views;
 
-use crate::Operator;
 use crate::words::literal_comes;
 use grammar_rules::{Refused, split};
 use grammar_words::{comes, name_comes};
+use sql_ast::Operator;
 use sql_tokens::{Kind, Token};
 
 /// A chain of operators that are taken together from the left.

@@ -4,12 +4,10 @@
 //! Each function answers as the reader of its rule in `specs/Lists.antt` does.
 #![tactic(auto)]
 
-mod list_of;
 mod name_list;
 mod words;
 
-pub use list_of::ListOf;
-pub use name_list::{NameList, names, with_more_names};
+pub use name_list::{names, with_more_names};
 pub use words::{
     maybe_one_of, name_but, number, one_of, one_of_comes, other_name, other_name_comes, plain_name,
 };

@@ -2,15 +2,12 @@ ghost use Rattle.std.specs.Prelude.{◌≡◌, ◌∷◌, []};
 ghost use Rattle.grammar_rules.specs.Gives.{Gives};
 ghost use Rattle.sql_lists.specs.Lists as lists;
 
-use crate::{ListOf, plain_name};
+use crate::plain_name;
 use grammar_rules::Refused;
 use grammar_words::{Part, more_parts, separated};
 use pg_values::PgText;
 use sql_tokens::{Kind, Token};
 use std::alloc::Global;
-
-/// Names in order, seen as the list of their bytes.
-pub type NameList = ListOf<PgText>;
 
 struct Name;
 

@@ -7,7 +7,7 @@ use Rattle.grammar_rules.specs.declared.refused.Refused.TheVariants as refused
 use Rattle.sql_tokens.specs.declared.kind.Kind.TheVariants as word
 use Rattle.sql_tokens.specs.declared.token.Token.{Token}
 use Rattle.sql_expressions.specs.Grammar.{expression}
-use Rattle.sql_expressions.specs.Tree.{Tree}
+use Rattle.sql_ast.specs.Expressions.{Tree}
 use Rattle.sql_tokens.specs.Classes.{a}
 use Rattle.sql_queries.specs.Items.{ended, ended_at}
 

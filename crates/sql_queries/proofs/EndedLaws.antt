@@ -5,7 +5,7 @@ use Rattle.grammar_rules.proofs.Laws.{Stops, SameHead, Within, head_eq, tail_eq}
 use Rattle.sql_tokens.specs.declared.kind.Kind.TheVariants as word
 use Rattle.sql_tokens.specs.declared.token.Token.{Token}
 use Rattle.sql_expressions.specs.Grammar.{expression}
-use Rattle.sql_expressions.specs.Tree.{Tree}
+use Rattle.sql_ast.specs.Expressions.{Tree}
 use Rattle.sql_tokens.specs.Classes.{a}
 use Rattle.sql_queries.specs.Items.{ended, ended_by, ended_at, place_of_word}
 use Rattle.sql_queries.proofs.Splits.{Split, same, longer, shorter, split, rest_begins, append_one}

@@ -10,7 +10,7 @@ use Rattle.sql_tokens.specs.declared.kind.Kind.TheVariants as word
 use Rattle.sql_tokens.specs.declared.token.Token.{Token}
 use Rattle.sql_expressions.specs.Grammar.{expression}
 use Rattle.sql_expressions.specs.Levels.{begins_expression}
-use Rattle.sql_expressions.specs.Tree.{Tree}
+use Rattle.sql_ast.specs.Expressions.{Tree}
 use Rattle.sql_tokens.specs.Classes.{a, a_name}
 use Rattle.sql_expressions.specs.Words.{is_long_name, no_longer, named}
 use Rattle.sql_expressions.proofs.LevelLaws.{after_expression}
@@ -19,7 +19,8 @@ use Rattle.sql_expressions.proofs.RuleLaws.{expression_law}
 use Rattle.sql_expressions.proofs.WordLaws.{sample, apart, within}
 use Rattle.sql_lists.specs.Lists as lists
 use Rattle.sql_lists.proofs.ListLaws.{plain_name_law, name_but_law}
-use Rattle.sql_queries.specs.Items.{Output, maybe_alias, begins_operand, left_of, stop_at, ended_at, place_of_word, before_word, behind_output, output, Item, columns_of, one_column, starred, is_starred, all_of_them, starred_or_output, item}
+use Rattle.sql_ast.specs.Queries.{Output, Item, columns_of, one_column}
+use Rattle.sql_queries.specs.Items.{maybe_alias, begins_operand, left_of, stop_at, ended_at, place_of_word, before_word, behind_output, output, starred, is_starred, all_of_them, starred_or_output, item}
 use Rattle.sql_queries.proofs.WordBehind.{Stands, whole_read, read_is, reads_both, lone_word, stops_there, stops_behind}
 use Rattle.sql_queries.proofs.Splits.{same_self, same_by_head, rest_begins}
 use Rattle.sql_queries.proofs.EndedLaws.{Ended, ended_at_is, placed, not_missed}

@@ -8,7 +8,7 @@ use Rattle.grammar_rules.proofs.Build.{token, empty, valued, wide, seq, then_by,
 use Rattle.sql_tokens.specs.declared.kind.Kind.TheVariants as word
 use Rattle.sql_tokens.specs.declared.token.Token.{Token}
 use Rattle.sql_expressions.specs.Levels.{begins_expression}
-use Rattle.sql_expressions.specs.Tree.{Tree, no_more, listed}
+use Rattle.sql_ast.specs.Expressions.{Tree, no_more, listed}
 use Rattle.sql_tokens.specs.Classes.{a, a_name}
 use Rattle.sql_expressions.proofs.LevelLaws.{after_expression}
 use Rattle.sql_expressions.proofs.RuleLaws.{expression_law}
@@ -17,7 +17,7 @@ use Rattle.grammar_words.specs.Words.{one_of}
 use Rattle.grammar_words.proofs.WordLaws.{means_law, maybe_law}
 use Rattle.sql_lists.proofs.ListLaws.{in_law, commas_law, plain_name_law, other_name_law}
 use Rattle.sql_queries.specs.Grammar as grammar
-use Rattle.sql_queries.specs.Trees.{selects, rows, explains_select}
+use Rattle.sql_ast.specs.Queries.{selects, rows, explains_select}
 use Rattle.sql_queries.proofs.ItemLaws.{begins_alias, after_item, item_law}
 use Rattle.sql_queries.proofs.SettingLaws.{after_setting, settings_law}
 

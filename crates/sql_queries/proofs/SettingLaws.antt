@@ -9,7 +9,7 @@ use Rattle.sql_tokens.specs.declared.kind.Kind.{Kind}
 use Rattle.sql_tokens.specs.declared.kind.Kind.TheVariants as word
 use Rattle.sql_tokens.specs.declared.token.Token.{Token}
 use Rattle.sql_expressions.specs.Grammar.{expression}
-use Rattle.sql_expressions.specs.Tree.{Tree}
+use Rattle.sql_ast.specs.Expressions.{Tree}
 use Rattle.sql_tokens.specs.Classes.{a, a_name}
 use Rattle.sql_expressions.specs.Words.{is_long_name}
 use Rattle.sql_expressions.proofs.LevelLaws.{after_expression}
@@ -19,7 +19,7 @@ use Rattle.sql_lists.specs.Lists as lists
 use Rattle.grammar_words.specs.Words.{only, snoc}
 use Rattle.sql_lists.proofs.ListLaws.{commas_law, plain_name_law, name_but_law, other_name_law}
 use Rattle.sql_queries.specs.Grammar as grammar
-use Rattle.sql_queries.specs.Trees.{Setting}
+use Rattle.sql_ast.specs.Queries.{Setting}
 
 -- The reader.
 abbrev pub after_setting : Class Token

@@ -8,13 +8,13 @@ use Rattle.sql_tokens.specs.Contents.{name_in}
 use Rattle.sql_tokens.specs.declared.kind.Kind.TheVariants as word
 use Rattle.sql_tokens.specs.declared.token.Token.{Token}
 use Rattle.sql_expressions.specs.Grammar.{expression}
-use Rattle.sql_expressions.specs.Tree.{Tree, Trees, no_more, listed}
+use Rattle.sql_ast.specs.Expressions.{Tree, Trees, no_more, listed}
 use Rattle.grammar_words.specs.Words.{◌>>◌, ◌&◌, one_of, means, maybe, only, snoc}
 use Rattle.sql_tokens.specs.Classes.{a, a_name}
 use Rattle.sql_lists.specs.Lists.{in_parentheses, commas, more_commas, plain_name, name_but, other_name}
-use Rattle.sql_queries.specs.Items.{Item, item}
-use Rattle.sql_queries.specs.Trees.{Joined, Key, Setting, SelectTree, selected, RowTree, selects, inserts, updates, deletes, QueryTree, rows, prepares, executes, explains_select, explains_execute}
-use Rattle.sql_queries.specs.declared.parts.NamedTable.{NamedTable}
+use Rattle.sql_ast.specs.Queries.{Item, Joined, Key, Setting, SelectTree, selected, RowTree, selects, inserts, updates, deletes, QueryTree, rows, prepares, executes, explains_select, explains_execute}
+use Rattle.sql_queries.specs.Items.{item}
+use Rattle.sql_ast.specs.declared.named_table.NamedTable.{NamedTable}
 
 -- tab = name [ [ "AS" ] name ]
 abbrev pub table_alias : List ℕ → Rule Token (Option (List ℕ))

@@ -7,15 +7,12 @@ use Rattle.sql_tokens.specs.declared.kind.Kind.TheVariants as word
 use Rattle.sql_tokens.specs.declared.token.Token.{Token}
 use Rattle.sql_expressions.specs.Grammar.{expression}
 use Rattle.sql_expressions.specs.Levels.{begins_nested}
-use Rattle.sql_expressions.specs.Tree.{Tree}
+use Rattle.sql_ast.specs.Expressions.{Tree}
+use Rattle.sql_ast.specs.Queries.{Output, Item, all_columns, columns_of, one_column}
 use Rattle.grammar_words.specs.Words.{◌>>◌, ◌<<◌}
 use Rattle.sql_tokens.specs.Classes.{a, a_name}
 use Rattle.sql_expressions.specs.Words.{a_literal, is_long_name}
 use Rattle.sql_lists.specs.Lists.{plain_name, name_but}
-
--- An expression, and its alias.
-abbrev pub Output : Type 0
-Output = Tree × Option (List ℕ)
 
 -- [ [ "AS" ] name ], where no word BETWEEN is too long
 abbrev pub maybe_alias : List ℕ → Rule Token (Option (List ℕ))
@@ -68,12 +65,6 @@ output text = record {
   free = both_texts (expression text).free (maybe_alias text).free;
   read = λ ts. behind_output text ts ((expression text).read ts);
 }
-
--- What an item answers.
-pub data Item : Type 0 where
-  all_columns : Item
-  columns_of : List ℕ → Item
-  one_column : Output → Item
 
 -- name "." "*"
 abbrev pub starred : List ℕ → Rule Token Item

@@ -7,12 +7,11 @@ use Rattle.grammar_rules.specs.Repeats.{second_of}
 use Rattle.sql_tokens.specs.declared.kind.Kind.TheVariants as word
 use Rattle.sql_tokens.specs.declared.token.Token.{Token}
 use Rattle.sql_expressions.specs.Grammar.{expression}
-use Rattle.sql_expressions.specs.Tree.{tree}
+use Rattle.sql_ast.specs.Expressions.{tree}
 use Rattle.grammar_words.specs.Words.{◌>>◌}
 use Rattle.sql_tokens.specs.Classes.{a}
 use Rattle.sql_queries.specs.Grammar.{more_settings, unaliased}
-use Rattle.sql_queries.specs.Items.{Output as OutputTree}
-use Rattle.sql_queries.specs.Trees.{Setting}
+use Rattle.sql_ast.specs.Queries.{Output as OutputTree, Setting}
 use Rattle.sql_queries.specs.declared.items.OutputColumn.{OutputColumn}
 
 abbrev pub stop_of : Refused → Stop

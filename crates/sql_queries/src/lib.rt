@@ -13,12 +13,8 @@
 mod changes;
 mod from;
 mod items;
-mod parts;
 mod prepared;
 mod queries;
 mod selects;
-mod statements;
 
-pub use parts::{Assignment, FromItem, NamedTable, SelectItem, SortKey};
 pub use queries::{no_two_queries, queries_are_read, query};
-pub use statements::{Delete, Insert, Query, RowStatement, Select, Update};

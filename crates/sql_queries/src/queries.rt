@@ -5,12 +5,12 @@ ghost use Rattle.grammar_rules.specs.Reading.{begins_in, read_whole};
 ghost use Rattle.grammar_rules.specs.declared.refused.Refused.{Refused as OneRefusal};
 ghost use Rattle.sql_tokens.specs.declared.token.Token.{Token as OneToken};
 ghost use Rattle.sql_queries.specs.Grammar as grammar;
-ghost use Rattle.sql_queries.specs.Trees.{QueryTree, query_tree};
+ghost use Rattle.sql_ast.specs.Queries.{QueryTree, query_tree};
 
-use crate::Query;
 use crate::prepared::{execute, explain, prepare, row_statement};
 use grammar_rules::Refused;
 use grammar_words::comes;
+use sql_ast::Query;
 use sql_tokens::{Kind, Token};
 use std::alloc::Global;
 

@@ -1,15 +1,15 @@
 ghost use Rattle.std.specs.Prelude.{◌≡◌, map};
 ghost use Rattle.grammar_rules.specs.Gives.{Gives};
 ghost use Rattle.sql_queries.specs.Grammar as grammar;
-ghost use Rattle.sql_queries.specs.Trees.{key_tree, maybe_tree, select_tree};
+ghost use Rattle.sql_ast.specs.Queries.{key_tree, maybe_tree, select_tree};
 
 use crate::from::{condition, from};
 use crate::items::EachItem;
-use crate::{Select, SortKey};
 use grammar_rules::Refused;
 use grammar_words::{Part, comes, separated, word};
-use sql_expressions::{Expr, expression};
-use sql_lists::{ListOf, maybe_one_of, one_of};
+use sql_ast::{Expr, ListOf, Select, SortKey};
+use sql_expressions::expression;
+use sql_lists::{maybe_one_of, one_of};
 use sql_tokens::{Kind, Token, same_kind};
 use std::alloc::Global;
 
@@ -67,7 +67,7 @@ struct EachKey;
 
 impl Part for EachKey {
     ghost use Rattle.sql_queries.specs.Grammar as grammar;
-    ghost use Rattle.sql_queries.specs.Trees.{Key, key_tree};
+    ghost use Rattle.sql_ast.specs.Queries.{Key, key_tree};
 
     type Token = Token;
 

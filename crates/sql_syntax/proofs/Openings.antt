@@ -13,14 +13,14 @@ use Rattle.sql_expressions.proofs.WordLaws.{sample}
 use Rattle.grammar_words.proofs.WordLaws.{maybe_law}
 use Rattle.sql_lists.proofs.ListLaws.{other_name_law, plain_name_law}
 use Rattle.sql_commands.specs.Grammar as commands
-use Rattle.sql_commands.specs.Trees.{resets}
+use Rattle.sql_ast.specs.Commands.{resets}
 use Rattle.sql_commands.proofs.CommandLaws.{setting_value_law, create_law, drop_law, alter_law, lock_law, deallocate_law}
 use Rattle.sql_queries.specs.Grammar as queries
-use Rattle.sql_queries.specs.Trees.{selects, rows}
+use Rattle.sql_ast.specs.Queries.{selects, rows}
 use Rattle.sql_queries.proofs.QueryLaws.{select_law, insert_law, delete_law, prepare_law, execute_law, explain_law}
 use Rattle.sql_queries.proofs.SettingLaws.{settings_law}
 use Rattle.sql_syntax.specs.Grammar.{begins_statement, statement}
-use Rattle.sql_syntax.specs.Trees as trees
+use Rattle.sql_ast.specs.Statements as trees
 use Rattle.sql_syntax.proofs.Starts.{Starts, starts_value, starts_either, starts_both, starts_one, starts_behind, restart}
 
 -- a rule that begins with a word, by its law

@@ -13,7 +13,7 @@ use Rattle.sql_expressions.proofs.WordLaws.{sample, apart, within}
 use Rattle.sql_commands.proofs.CommandLaws.{after_command, command_law}
 use Rattle.sql_queries.proofs.QueryLaws.{after_query, query_law}
 use Rattle.sql_syntax.specs.Grammar.{begins_statement, begins_query, statement, some_statement, maybe_statement, first_of, join, block}
-use Rattle.sql_syntax.specs.Trees.{StatementTree, commands, queries}
+use Rattle.sql_ast.specs.Statements.{StatementTree, commands, queries}
 use Rattle.sql_syntax.specs.declared.parse.TheConstants.{MOST_STATEMENTS}
 use Rattle.sql_syntax.proofs.Openings.{starts_statement}
 

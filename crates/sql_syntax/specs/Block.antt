@@ -10,7 +10,7 @@ use Rattle.sql_tokens.specs.declared.kind.Kind.TheVariants as word
 use Rattle.sql_tokens.specs.declared.token.Token.{Token}
 use Rattle.sql_expressions.specs.Parsed as parsed
 use Rattle.sql_syntax.specs.Grammar.{begins_statement, block}
-use Rattle.sql_syntax.specs.Trees.{StatementTree}
+use Rattle.sql_ast.specs.Statements.{StatementTree}
 
 -- the text is a block of these statements, within the limits
 abbrev pub IsBlock : List ℕ → List StatementTree → Type 0

@@ -9,7 +9,7 @@ use Rattle.sql_tokens.specs.Classes.{a}
 use Rattle.sql_commands.specs.Grammar.{command, begins_command}
 use Rattle.grammar_words.specs.Words.{one_of}
 use Rattle.sql_queries.specs.Grammar.{query, begins_row_statement}
-use Rattle.sql_syntax.specs.Trees.{StatementTree, commands, queries}
+use Rattle.sql_ast.specs.Statements.{StatementTree, commands, queries}
 use Rattle.sql_syntax.specs.declared.parse.TheConstants.{MOST_STATEMENTS}
 
 -- the first word of a statement

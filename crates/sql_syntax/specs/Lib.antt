@@ -1,4 +1,3 @@
 pub mod Block
 pub mod Grammar
-pub mod Trees
 pub mod Views

@@ -1,7 +1,7 @@
 -- How the code sees a statement that may be there.
 use Rattle.std.specs.Prelude.{Option, Some, None}
-use Rattle.sql_syntax.specs.Trees.{StatementTree, statement_tree}
-use Rattle.sql_syntax.specs.declared.statement.Statement.{Statement}
+use Rattle.sql_ast.specs.Statements.{StatementTree, statement_tree}
+use Rattle.sql_ast.specs.declared.statement.Statement.{Statement}
 
 abbrev pub maybe_tree : Option Statement → Option StatementTree
 maybe_tree None = None

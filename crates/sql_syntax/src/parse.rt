@@ -4,14 +4,14 @@ ghost use Rattle.sql_expressions.specs.declared.refused.ParseRefused.{ParseRefus
 ghost use Rattle.sql_expressions.specs.declared.refused.ParseRefused.TheVariants as refusals;
 ghost use Rattle.sql_syntax.specs.Block as block;
 ghost use Rattle.sql_syntax.specs.Grammar as grammar;
-ghost use Rattle.sql_syntax.specs.Trees.{StatementTree, statement_tree};
+ghost use Rattle.sql_ast.specs.Statements.{StatementTree, statement_tree};
 
-use crate::Statement;
 use crate::statements::{BlockPart, statement_comes};
 use grammar_rules::Refused;
 use grammar_words::{comes, whole};
 use pg_ids::Which;
 use pg_values::NoMemory;
+use sql_ast::Statement;
 use sql_expressions::{ParseRefused, refusal};
 use sql_tokens::{Kind, Token, read_tokens};
 use std::alloc::Global;

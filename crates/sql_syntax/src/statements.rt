@@ -4,13 +4,14 @@ ghost use Rattle.grammar_rules.specs.Reading.{begins_in};
 ghost use Rattle.grammar_rules.specs.Repeats.{always, read_repeats, read_step};
 ghost use Rattle.sql_tokens.specs.Classes.{a};
 ghost use Rattle.sql_syntax.specs.Grammar as grammar;
-ghost use Rattle.sql_syntax.specs.Trees.{statement_tree};
+ghost use Rattle.sql_ast.specs.Statements.{statement_tree};
 ghost use Rattle.sql_syntax.specs.Views.{maybe_tree};
 
-use crate::{MOST_STATEMENTS, Statement};
+use crate::MOST_STATEMENTS;
 use grammar_rules::Refused;
 use grammar_words::{Part, comes, word};
 use pg_values::NoMemory;
+use sql_ast::Statement;
 use sql_commands::{command, command_comes};
 use sql_lists::one_of_comes;
 use sql_queries::query;
@@ -139,7 +140,7 @@ pub(crate) struct BlockPart;
 impl Part for BlockPart {
     ghost use Rattle.std.specs.Prelude.{List, map};
     ghost use Rattle.sql_syntax.specs.Grammar as grammar;
-    ghost use Rattle.sql_syntax.specs.Trees.{StatementTree, statement_tree};
+    ghost use Rattle.sql_ast.specs.Statements.{StatementTree, statement_tree};
 
     type Token = Token;
 

@@ -1,8 +1,9 @@
 //! Answers here are worked by hand from the grammar. `sql_format` has a long table of blocks.
 
-use crate::{MOST_STATEMENTS, Statement, no_two_blocks, parse_block, refused_blocks_stop_there};
+use crate::{MOST_STATEMENTS, no_two_blocks, parse_block, refused_blocks_stop_there};
 use pg_ids::Which;
 use pg_values::NoMemory;
+use sql_ast::Statement;
 use sql_expressions::ParseRefused;
 use std::alloc::Global;
 use std::test::Fail;

@@ -13,7 +13,8 @@ mod trees;
 
 use pg_values::NoMemory;
 use repeats::spelled_out;
-use sql_expressions::{Expr, ParseRefused, parse_expression};
+use sql_ast::Expr;
+use sql_expressions::{ParseRefused, parse_expression};
 use std::alloc::Global;
 use std::io::{self, ErrorKind, Write};
 use trees::{write_number, write_tree};

@@ -1,5 +1,5 @@
 use pg_values::NoMemory;
-use sql_expressions::{Expr, Leaf, Operator};
+use sql_ast::{Expr, Leaf, Operator};
 use std::alloc::Global;
 
 /// What is still to be written of a tree.

@@ -10,11 +10,11 @@ use Rattle.sql_tokens.specs.declared.token.Token.{Token}
 use Rattle.sql_expressions.specs.Grammar.{any}
 use Rattle.sql_expressions.specs.Levels as level
 use Rattle.sql_expressions.specs.Levels.{Deep, Parts}
-use Rattle.sql_expressions.specs.Tree.{Tree, Trees, no_more, and_more, leaf, call, call_of_all, negated, binary, in_list, between, is_null, inverted, all_of, any_of, listed}
+use Rattle.sql_ast.specs.Expressions.{Tree, Trees, no_more, and_more, leaf, call, call_of_all, negated, binary, in_list, between, is_null, inverted, all_of, any_of, listed}
 use Rattle.sql_tokens.specs.Classes.{a}
 use Rattle.sql_expressions.specs.Words.{name}
-use Rattle.sql_expressions.specs.declared.leaf.Operator.{Operator}
-use Rattle.sql_expressions.specs.declared.leaf.Operator.TheVariants as operator
+use Rattle.sql_ast.specs.declared.leaf.Operator.{Operator}
+use Rattle.sql_ast.specs.declared.leaf.Operator.TheVariants as operator
 use Rattle.sql_expressions.proofs.DepthLaws.{unary_to}
 use Rattle.sql_written.specs.Marks.{Mark, blank}
 use Rattle.sql_written.specs.Precedence.{Level, disjunction, conjunction, negation, nullity, sum, unary, level_of, level_of_operator, left_place, right_place, needs_parentheses}

@@ -3,7 +3,7 @@ use Rattle.std.proofs.Common.{◌≡◌, ℕ, ◌≤◌, List, ap, ◌∙◌, ar
 use Rattle.sql_tokens.specs.Tokens.{tokens_of}
 use Rattle.sql_tokens.specs.declared.token.Token.{Token}
 use Rattle.sql_expressions.specs.Grammar.{expression}
-use Rattle.sql_expressions.specs.Tree.{Tree}
+use Rattle.sql_ast.specs.Expressions.{Tree}
 use Rattle.sql_expressions.proofs.RuleLaws.{expression_law}
 use Rattle.sql_written.specs.Parentheses.{opened}
 use Rattle.sql_written.specs.Precedence.{disjunction, needs_parentheses}

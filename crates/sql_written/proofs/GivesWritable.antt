@@ -16,7 +16,7 @@ use Rattle.sql_tokens.proofs.EachKind.{each_kind}
 use Rattle.sql_expressions.specs.Grammar.{any, deep_expression, expression}
 use Rattle.sql_expressions.specs.Levels.{Deep}
 use Rattle.sql_expressions.specs.Limits.{IsShort, StandIn}
-use Rattle.sql_expressions.specs.Tree.{Tree}
+use Rattle.sql_ast.specs.Expressions.{Tree}
 use Rattle.sql_tokens.specs.Classes.{a, a_name}
 use Rattle.sql_expressions.specs.declared.words.TheConstants.{MOST_NAME_BYTES, MOST_TEXT_BYTES}
 use Rattle.sql_expressions.proofs.Limited.{each_of_all}

@@ -12,11 +12,11 @@ use Rattle.sql_tokens.specs.declared.kind.Kind.{Kind}
 use Rattle.sql_tokens.specs.declared.kind.Kind.TheVariants as kinds
 use Rattle.sql_tokens.specs.declared.token.Token.{Token}
 use Rattle.sql_expressions.specs.Grammar.{any}
-use Rattle.sql_expressions.specs.Tree.{leaf}
+use Rattle.sql_ast.specs.Expressions.{leaf}
 use Rattle.sql_tokens.specs.Classes.{a}
 use Rattle.sql_expressions.specs.Words.{cast, column, column_of, either_if, literal, name, string}
-use Rattle.sql_expressions.specs.declared.leaf.Leaf.{Leaf}
-use Rattle.sql_expressions.specs.declared.leaf.Leaf.TheVariants.{Number, Text, Date, Null, Truth, Parameter, Column, ColumnOf, TableName, TableNameOf}
+use Rattle.sql_ast.specs.declared.leaf.Leaf.{Leaf}
+use Rattle.sql_ast.specs.declared.leaf.Leaf.TheVariants.{Number, Text, Date, Null, Truth, Parameter, Column, ColumnOf, TableName, TableNameOf}
 use Rattle.sql_expressions.specs.declared.words.TheConstants.{MOST_NAME_BYTES, MOST_TEXT_BYTES}
 use Rattle.sql_expressions.proofs.DepthLaws.{unary_to}
 use Rattle.sql_written.specs.Marks.{mark}

@@ -8,10 +8,10 @@ use Rattle.sql_tokens.specs.declared.token.Token.{Token}
 use Rattle.sql_tokens.proofs.EachKind.{each_kind}
 use Rattle.sql_expressions.specs.Levels as level
 use Rattle.sql_expressions.specs.Levels.{Deep, Parts}
-use Rattle.sql_expressions.specs.Tree.{Tree, binary, listed}
+use Rattle.sql_ast.specs.Expressions.{Tree, binary, listed}
 use Rattle.sql_tokens.specs.Classes.{a}
-use Rattle.sql_expressions.specs.declared.leaf.Operator.{Operator}
-use Rattle.sql_expressions.specs.declared.leaf.Operator.TheVariants as operator
+use Rattle.sql_ast.specs.declared.leaf.Operator.{Operator}
+use Rattle.sql_ast.specs.declared.leaf.Operator.TheVariants as operator
 use Rattle.sql_written.specs.Parentheses.{opened}
 use Rattle.sql_written.specs.Precedence.{Level, comparison, test, sum, product, unary, rank, level_of, level_of_operator, left_place, right_place, needs_parentheses}
 use Rattle.sql_written.specs.Writable.{HasOne, HasText, HaveTexts, deeper_by, depth, chain_depth}

@@ -12,11 +12,11 @@ use Rattle.sql_tokens.specs.declared.token.Token.{Token}
 use Rattle.sql_expressions.specs.Grammar.{Texts, any, endless, nesting, over, nullity_over, product_over, sum_over, conjunction_over, expression_over, test_over}
 use Rattle.sql_expressions.specs.Levels as level
 use Rattle.sql_expressions.specs.Levels.{Deep, Parts}
-use Rattle.sql_expressions.specs.Tree.{leaf, call, call_of_all, negated, in_list, between, is_null, inverted, all_of, any_of, listed}
+use Rattle.sql_ast.specs.Expressions.{leaf, call, call_of_all, negated, in_list, between, is_null, inverted, all_of, any_of, listed}
 use Rattle.sql_tokens.specs.Classes.{a, a_name}
 use Rattle.sql_expressions.specs.Words.{a_literal, cast, column, column_of, dotted, either_if, is_long_name, is_long_text, literal, literal_of, name, string}
-use Rattle.sql_expressions.specs.declared.leaf.Leaf.{Leaf}
-use Rattle.sql_expressions.specs.declared.leaf.Leaf.TheVariants.{Number, Text, Date, Null, Truth, Column, ColumnOf, TableName, TableNameOf}
+use Rattle.sql_ast.specs.declared.leaf.Leaf.{Leaf}
+use Rattle.sql_ast.specs.declared.leaf.Leaf.TheVariants.{Number, Text, Date, Null, Truth, Column, ColumnOf, TableName, TableNameOf}
 use Rattle.sql_expressions.proofs.Limited.{Each}
 use Rattle.sql_written.specs.Parentheses.{opened}
 use Rattle.sql_written.specs.Precedence.{Level, disjunction, conjunction, negation, nullity, comparison, test, sum, product, unary, rank, needs_parentheses}

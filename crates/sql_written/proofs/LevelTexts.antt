@@ -10,10 +10,10 @@ use Rattle.sql_tokens.specs.declared.token.Token.{Token}
 use Rattle.sql_expressions.specs.Grammar.{Texts, any, nesting}
 use Rattle.sql_expressions.specs.Levels as level
 use Rattle.sql_expressions.specs.Levels.{Deep, Parts}
-use Rattle.sql_expressions.specs.Tree.{Tree, negated, binary, inverted}
+use Rattle.sql_ast.specs.Expressions.{Tree, negated, binary, inverted}
 use Rattle.sql_tokens.specs.Classes.{a}
-use Rattle.sql_expressions.specs.declared.leaf.Operator.{Operator}
-use Rattle.sql_expressions.specs.declared.leaf.Operator.TheVariants as operator
+use Rattle.sql_ast.specs.declared.leaf.Operator.{Operator}
+use Rattle.sql_ast.specs.declared.leaf.Operator.TheVariants as operator
 use Rattle.sql_expressions.proofs.DepthLaws.{unary_to, negation_to}
 use Rattle.sql_written.specs.Marks.{Mark}
 use Rattle.sql_written.specs.Precedence.{Level, disjunction, conjunction, negation, nullity, comparison, test, sum, product, unary, rank, is_looser, level_of_operator, left_place, right_place}

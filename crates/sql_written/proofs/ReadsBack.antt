@@ -8,8 +8,8 @@ use Rattle.sql_tokens.specs.declared.token.Token.{Token}
 use Rattle.sql_expressions.specs.Grammar.{any, deep_expression, expression}
 use Rattle.sql_expressions.specs.Levels.{Deep, begins_expression}
 use Rattle.sql_expressions.specs.Parsed.{ParsesText, passed}
-use Rattle.sql_expressions.specs.Tree.{Tree, tree}
-use Rattle.sql_expressions.specs.declared.expr.Expr.{Expr}
+use Rattle.sql_ast.specs.Expressions.{Tree, tree}
+use Rattle.sql_ast.specs.declared.expr.Expr.{Expr}
 use Rattle.sql_expressions.specs.declared.refused.ParseRefused.{ParseRefused}
 use Rattle.sql_expressions.specs.declared.refused.ParseRefused.TheVariants.{NoMemory}
 use Rattle.sql_expressions.proofs.LevelLaws.{after_expression}

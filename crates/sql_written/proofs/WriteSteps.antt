@@ -2,13 +2,13 @@
 use Rattle.std.proofs.Common.{Box, Global, add-one, drop-cons, take, ◌-◌, zero, ◌≡◌, ℕ, suc, ◌+◌, ◌<◌, ◌≤◌, Bool, true, false, List, [], ◌∷◌, ◌++◌, Result, Ok, Err, map, length, drop, get_or, refl, sym, ap, ◌∙◌, subst, append_assoc, arith}
 use Rattle.std.specs.Prelude.{OnOk, nat_lt}
 use Rattle.std.proofs.lemmas.Grind.{common_steps}
-use Rattle.sql_expressions.specs.declared.expr.Expr.{Binary, Between, Expr, In, IsNull, Not}
-use Rattle.sql_expressions.specs.declared.expr.Expr.TheFolds.{fold-roll-Expr}
-use Rattle.sql_expressions.specs.declared.expr.Expr.TheOpen.{Binary as binary-F, Between as between-F, In as in-F, IsNull as null-F, Not as not-F}
-use Rattle.sql_expressions.specs.declared.expr.Expr.TheVariants.{rolls-Between, rolls-Binary, rolls-In, rolls-IsNull, rolls-Not}
-use Rattle.sql_expressions.specs.declared.expr.ExprList.{ExprList}
-use Rattle.sql_expressions.specs.Tree.{layer, list_layer, tree, trees, Tree, Trees, no_more, and_more, leaf, call, call_of_all, negated, binary, in_list, between, is_null, inverted, all_of, any_of, listed}
-use Rattle.sql_expressions.specs.declared.leaf.Operator.{Operator}
+use Rattle.sql_ast.specs.declared.expr.Expr.{Binary, Between, Expr, In, IsNull, Not}
+use Rattle.sql_ast.specs.declared.expr.Expr.TheFolds.{fold-roll-Expr}
+use Rattle.sql_ast.specs.declared.expr.Expr.TheOpen.{Binary as binary-F, Between as between-F, In as in-F, IsNull as null-F, Not as not-F}
+use Rattle.sql_ast.specs.declared.expr.Expr.TheVariants.{rolls-Between, rolls-Binary, rolls-In, rolls-IsNull, rolls-Not}
+use Rattle.sql_ast.specs.declared.expr.ExprList.{ExprList}
+use Rattle.sql_ast.specs.Expressions.{layer, list_layer, tree, trees, Tree, Trees, no_more, and_more, leaf, call, call_of_all, negated, binary, in_list, between, is_null, inverted, all_of, any_of, listed}
+use Rattle.sql_ast.specs.declared.leaf.Operator.{Operator}
 use Rattle.sql_written.specs.Marks.{Mark, blank, text_of}
 use Rattle.sql_written.specs.Precedence.{Level, disjunction, rank, level_of, left_place, right_place}
 use Rattle.sql_written.specs.Spelling as spelled

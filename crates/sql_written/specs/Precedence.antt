@@ -1,9 +1,9 @@
 -- The levels of expressions by how tightly they bind (4.1.6 Operator Precedence), and the level that each place of an
 -- operand needs.
 use Rattle.std.specs.Prelude.{ℕ, Bool, nat_lt}
-use Rattle.sql_expressions.specs.Tree.{Tree, leaf, call, call_of_all, negated, binary, in_list, between, is_null, inverted, all_of, any_of}
-use Rattle.sql_expressions.specs.declared.leaf.Operator.{Operator}
-use Rattle.sql_expressions.specs.declared.leaf.Operator.TheVariants.{Add, Subtract, Multiply, Divide, Remainder}
+use Rattle.sql_ast.specs.Expressions.{Tree, leaf, call, call_of_all, negated, binary, in_list, between, is_null, inverted, all_of, any_of}
+use Rattle.sql_ast.specs.declared.leaf.Operator.{Operator}
+use Rattle.sql_ast.specs.declared.leaf.Operator.TheVariants.{Add, Subtract, Multiply, Divide, Remainder}
 
 -- from the loosest to the tightest
 pub data Level : Type 0 where

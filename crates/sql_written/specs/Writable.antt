@@ -2,9 +2,9 @@
 use Rattle.std.specs.Prelude.{◌≡◌, ◌<◌, ◌≤◌, ℕ, suc, max, Bool, true, if◌then◌else◌, List, length}
 use Rattle.std.specs.Str.{is_utf8}
 use Rattle.sql_tokens.specs.declared.numbers.TheConstants.{MOST_PARAMETER, NO_BIGINT}
-use Rattle.sql_expressions.specs.Tree.{Tree, Trees, no_more, and_more, leaf, call, call_of_all, negated, binary, in_list, between, is_null, inverted, all_of, any_of}
-use Rattle.sql_expressions.specs.declared.leaf.Leaf.{Leaf}
-use Rattle.sql_expressions.specs.declared.leaf.Leaf.TheVariants.{Number, Text, Date, Null, Truth, Parameter, Column, ColumnOf, TableName, TableNameOf}
+use Rattle.sql_ast.specs.Expressions.{Tree, Trees, no_more, and_more, leaf, call, call_of_all, negated, binary, in_list, between, is_null, inverted, all_of, any_of}
+use Rattle.sql_ast.specs.declared.leaf.Leaf.{Leaf}
+use Rattle.sql_ast.specs.declared.leaf.Leaf.TheVariants.{Number, Text, Date, Null, Truth, Parameter, Column, ColumnOf, TableName, TableNameOf}
 use Rattle.sql_expressions.specs.declared.levels.TheConstants.{MOST_DEPTH}
 use Rattle.sql_expressions.specs.declared.words.TheConstants.{MOST_NAME_BYTES, MOST_TEXT_BYTES}
 use Rattle.sql_written.specs.Precedence.{Level, disjunction, conjunction, negation, nullity, sum, unary, left_place, right_place, needs_parentheses}

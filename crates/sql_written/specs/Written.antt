@@ -1,6 +1,6 @@
 -- An expression as it is written: words in capitals, one blank between them, and the parentheses that its levels need.
 use Rattle.std.specs.Prelude.{ℕ, Bool, true, false, List, [], ◌∷◌, ◌++◌}
-use Rattle.sql_expressions.specs.Tree.{Tree, Trees, no_more, and_more, leaf, call, call_of_all, negated, binary, in_list, between, is_null, inverted, all_of, any_of}
+use Rattle.sql_ast.specs.Expressions.{Tree, Trees, no_more, and_more, leaf, call, call_of_all, negated, binary, in_list, between, is_null, inverted, all_of, any_of}
 use Rattle.sql_written.specs.Marks.{Mark, blank, text_of}
 use Rattle.sql_written.specs.Precedence.{Level, disjunction, conjunction, negation, nullity, sum, unary, left_place, right_place, needs_parentheses}
 use Rattle.sql_written.specs.Spelling as spelled

@@ -1,8 +1,8 @@
 ghost use Rattle.std.specs.Prelude.{◌≡◌};
-ghost use Rattle.sql_expressions.specs.Tree.{tree};
+ghost use Rattle.sql_ast.specs.Expressions.{tree};
 ghost use Rattle.sql_written.specs.Precedence as levels;
 
-use sql_expressions::{Expr, Operator};
+use sql_ast::{Expr, Operator};
 
 // How tightly the levels bind, from the loosest.
 pub(crate) const DISJUNCTION: u8 = 0;

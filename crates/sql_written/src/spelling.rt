@@ -6,7 +6,7 @@ ghost use Rattle.sql_written.specs.Marks.{bytes_of, mark, text_of};
 ghost use Rattle.sql_written.specs.Spelling as spelled;
 
 use pg_values::NoMemory;
-use sql_expressions::{Leaf, Operator};
+use sql_ast::{Leaf, Operator};
 use sql_tokens::{Class, Kind, belongs, is_name, word_kind};
 use std::alloc::Global;
 

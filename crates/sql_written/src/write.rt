@@ -1,5 +1,5 @@
 ghost use Rattle.std.specs.Prelude.{◌≡◌, ◌++◌, ◌∷◌, [], IfOk, OnErr, OnOk, map, nat_lt};
-ghost use Rattle.sql_expressions.specs.Tree.{listed, tree, trees};
+ghost use Rattle.sql_ast.specs.Expressions.{listed, tree, trees};
 ghost use Rattle.sql_written.specs.Marks.{blank, text_of};
 ghost use Rattle.sql_written.specs.Precedence as levels;
 ghost use Rattle.sql_written.specs.Chains as chains;
@@ -12,7 +12,7 @@ use crate::precedence::{
 };
 use crate::spelling::{write_leaf, write_name, write_sign};
 use pg_values::NoMemory;
-use sql_expressions::{Expr, ExprList, Operator};
+use sql_ast::{Expr, ExprList, Operator};
 use std::alloc::Global;
 
 fn write_between(chain: Chain, out: &mut Vec<u8>) -> Result<(), NoMemory>

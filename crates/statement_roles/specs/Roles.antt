@@ -6,10 +6,10 @@ use Rattle.sessions.specs.declared.phase.Isolation.TheVariants as levels
 use Rattle.sessions.specs.declared.role.Role.{Role}
 use Rattle.sessions.specs.declared.role.Role.TheVariants.{Begin, Commit, Rollback, Set, Query}
 use Rattle.sessions.specs.declared.settings.Settings.{Settings}
-use Rattle.sql_commands.specs.Trees.{CommandTree, begins, commits, rolls_back, sets, resets, locks}
-use Rattle.sql_commands.specs.declared.transaction.Isolation.{Isolation as WrittenIsolation}
-use Rattle.sql_commands.specs.declared.transaction.Isolation.TheVariants as written
-use Rattle.sql_syntax.specs.Trees.{StatementTree, commands, queries}
+use Rattle.sql_ast.specs.Commands.{CommandTree, begins, commits, rolls_back, sets, resets, locks}
+use Rattle.sql_ast.specs.declared.isolation.Isolation.{Isolation as WrittenIsolation}
+use Rattle.sql_ast.specs.declared.isolation.Isolation.TheVariants as written
+use Rattle.sql_ast.specs.Statements.{StatementTree, commands, queries}
 use Rattle.session_settings.specs.Changes as settings
 
 abbrev pub level_of : WrittenIsolation → Isolation

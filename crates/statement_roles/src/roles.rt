@@ -1,13 +1,12 @@
 ghost use Rattle.std.specs.Prelude.{◌≡◌};
 ghost use Rattle.sessions.specs.Answers.{IsAnswerBy};
-ghost use Rattle.sql_syntax.specs.Trees.{statement_tree};
+ghost use Rattle.sql_ast.specs.Statements.{statement_tree};
 ghost use Rattle.statement_roles.specs.Roles as roles;
 
 use pg_values::Refusal;
 use session_settings::{reset, set};
 use sessions::{Isolation, Role, Settings};
-use sql_commands::{Command, Isolation as WrittenIsolation};
-use sql_syntax::Statement;
+use sql_ast::{Command, Isolation as WrittenIsolation, Statement};
 use std::alloc::Global;
 
 fn level_of(level: WrittenIsolation) -> Isolation

@@ -8,13 +8,13 @@ use Rattle.sql_tokens.specs.declared.kind.Kind.{Kind}
 use Rattle.sql_tokens.specs.declared.kind.Kind.TheVariants as kinds
 use Rattle.sql_tokens.specs.declared.token.Token.{Token}
 use Rattle.sql_expressions.specs.Grammar.{expression}
-use Rattle.sql_expressions.specs.Tree.{Tree, leaf}
+use Rattle.sql_ast.specs.Expressions.{Tree, leaf}
 use Rattle.sql_tokens.specs.Classes.{a, a_name}
-use Rattle.sql_expressions.specs.declared.leaf.Leaf.TheVariants.{Column}
+use Rattle.sql_ast.specs.declared.leaf.Leaf.TheVariants.{Column}
 use Rattle.sql_lists.specs.Lists.{is_long_but, is_other_name, other_name, plain_name}
 use Rattle.sql_commands.specs.Grammar as grammar
-use Rattle.sql_commands.specs.Trees.{Edge, min, max, at}
-use Rattle.sql_commands.specs.declared.setting.SettingValue.TheVariants as setting
+use Rattle.sql_ast.specs.Commands.{Edge, min, max, at}
+use Rattle.sql_ast.specs.declared.setting_value.SettingValue.TheVariants as setting
 use Rattle.sql_written.specs.Marks.{Mark, mark}
 use Rattle.sql_written.specs.Spelling as spelled
 use Rattle.sql_written.proofs.Needed.{said_bare, said_kind, said_plain}

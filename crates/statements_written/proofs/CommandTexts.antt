@@ -14,27 +14,27 @@ use Rattle.sql_tokens.specs.declared.numbers.TheConstants.{NO_BIGINT}
 use Rattle.sql_tokens.specs.declared.token.Token.{Token}
 use Rattle.sql_tokens.proofs.EachKind.{each_kind}
 use Rattle.sql_expressions.specs.Grammar.{expression}
-use Rattle.sql_expressions.specs.Tree.{Tree, Trees, no_more, and_more, leaf, listed as list_of_trees}
+use Rattle.sql_ast.specs.Expressions.{Tree, Trees, no_more, and_more, leaf, listed as list_of_trees}
 use Rattle.sql_tokens.specs.Classes.{a, a_name}
-use Rattle.sql_expressions.specs.declared.leaf.Leaf.TheVariants.{Column}
+use Rattle.sql_ast.specs.declared.leaf.Leaf.TheVariants.{Column}
 use Rattle.sql_expressions.specs.declared.words.TheConstants.{MOST_NAME_BYTES}
 use Rattle.grammar_words.specs.Words.{maybe}
 use Rattle.sql_lists.specs.Lists.{commas, name_word, plain_name}
 use Rattle.sql_commands.specs.Grammar as grammar
-use Rattle.sql_commands.specs.Trees.{Edge, min, max, at, Bound, range, listed, hash, other, CommandTree, begins, commits, rolls_back, sets, resets, makes_table, makes_partition, drops, attaches, detaches, locks, deallocates, deallocates_all}
-use Rattle.sql_commands.specs.declared.alter.Detachment.{Detachment}
-use Rattle.sql_commands.specs.declared.alter.Detachment.TheVariants as detachment
-use Rattle.sql_commands.specs.declared.transaction.Isolation.{Isolation}
-use Rattle.sql_commands.specs.declared.transaction.Isolation.TheVariants as isolation
-use Rattle.sql_commands.specs.declared.lock.LockMode.{LockMode}
-use Rattle.sql_commands.specs.declared.lock.LockMode.TheVariants as mode
-use Rattle.sql_commands.specs.declared.setting.SettingValue.{SettingValue}
-use Rattle.sql_commands.specs.declared.setting.SettingValue.TheVariants as setting
-use Rattle.sql_commands.specs.declared.create.Strategy.{Strategy}
-use Rattle.sql_commands.specs.declared.create.Strategy.TheVariants as strategy
-use Rattle.sql_commands.specs.declared.lists.ColumnDefinition.{ColumnDefinition}
-use Rattle.sql_commands.specs.declared.lists.LockedTable.{LockedTable}
-use Rattle.sql_commands.specs.declared.lists.Partitioning.{Partitioning}
+use Rattle.sql_ast.specs.Commands.{Edge, min, max, at, Bound, range, listed, hash, other, CommandTree, begins, commits, rolls_back, sets, resets, makes_table, makes_partition, drops, attaches, detaches, locks, deallocates, deallocates_all}
+use Rattle.sql_ast.specs.declared.detachment.Detachment.{Detachment}
+use Rattle.sql_ast.specs.declared.detachment.Detachment.TheVariants as detachment
+use Rattle.sql_ast.specs.declared.isolation.Isolation.{Isolation}
+use Rattle.sql_ast.specs.declared.isolation.Isolation.TheVariants as isolation
+use Rattle.pg_ids.specs.declared.lock_mode.LockMode.{LockMode}
+use Rattle.pg_ids.specs.declared.lock_mode.LockMode.TheVariants as mode
+use Rattle.sql_ast.specs.declared.setting_value.SettingValue.{SettingValue}
+use Rattle.sql_ast.specs.declared.setting_value.SettingValue.TheVariants as setting
+use Rattle.sql_ast.specs.declared.table_definition.Strategy.{Strategy}
+use Rattle.sql_ast.specs.declared.table_definition.Strategy.TheVariants as strategy
+use Rattle.sql_ast.specs.declared.table_definition.ColumnDefinition.{ColumnDefinition}
+use Rattle.sql_ast.specs.declared.locked_table.LockedTable.{LockedTable}
+use Rattle.sql_ast.specs.declared.table_definition.Partitioning.{Partitioning}
 use Rattle.sql_written.specs.Marks.{Mark, blank, mark}
 use Rattle.sql_written.specs.Spelling as spelled
 use Rattle.sql_written.specs.Writable.{IsName, IsWritable as IsExpression}

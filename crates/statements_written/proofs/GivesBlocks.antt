@@ -10,7 +10,7 @@ use Rattle.sql_expressions.specs.Levels.{room_texts}
 use Rattle.sql_tokens.specs.Classes.{a}
 use Rattle.sql_expressions.proofs.Limited.{Each as EachToken, each_of_all}
 use Rattle.sql_syntax.specs.Grammar.{and_maybe, block, first_of, join, maybe_statement, some_statement, statement}
-use Rattle.sql_syntax.specs.Trees.{StatementTree, commands, queries}
+use Rattle.sql_ast.specs.Statements.{StatementTree, commands, queries}
 use Rattle.sql_syntax.specs.declared.parse.TheConstants.{MOST_STATEMENTS}
 use Rattle.sql_written.specs.Parentheses.{opened}
 use Rattle.sql_written.proofs.Costs.{opened_by, opened_tokens}

@@ -5,25 +5,25 @@ use Rattle.std.specs.Str.{bytes_eq}
 use Rattle.grammar_rules.specs.Repeats.{second_of}
 use Rattle.sql_tokens.specs.declared.kind.Kind.TheVariants as kinds
 use Rattle.sql_tokens.specs.declared.token.Token.{Token}
-use Rattle.sql_expressions.specs.Tree.{Tree, leaf, call, call_of_all, negated, binary, in_list, between, is_null, inverted, all_of, any_of, listed as list_of_trees}
+use Rattle.sql_ast.specs.Expressions.{Tree, leaf, call, call_of_all, negated, binary, in_list, between, is_null, inverted, all_of, any_of, listed as list_of_trees}
 use Rattle.sql_tokens.specs.Classes.{a}
-use Rattle.sql_expressions.specs.declared.leaf.Leaf.TheVariants.{Number, Text, Date, Null, Truth, Parameter, Column, ColumnOf, TableName, TableNameOf}
+use Rattle.sql_ast.specs.declared.leaf.Leaf.TheVariants.{Number, Text, Date, Null, Truth, Parameter, Column, ColumnOf, TableName, TableNameOf}
 use Rattle.sql_lists.specs.Lists.{commas as commas_of, plain_name}
 use Rattle.sql_commands.specs.Grammar as grammar
-use Rattle.sql_commands.specs.Trees.{Edge, min, max, at, Bound, range, other, CommandTree, begins, commits, rolls_back, sets, resets, makes_table, makes_partition, drops, attaches, detaches, locks, deallocates, deallocates_all}
-use Rattle.sql_commands.specs.declared.alter.Detachment.{Detachment}
-use Rattle.sql_commands.specs.declared.alter.Detachment.TheVariants as detachment
-use Rattle.sql_commands.specs.declared.transaction.Isolation.{Isolation}
-use Rattle.sql_commands.specs.declared.transaction.Isolation.TheVariants as isolation
-use Rattle.sql_commands.specs.declared.lock.LockMode.{LockMode}
-use Rattle.sql_commands.specs.declared.lock.LockMode.TheVariants as mode
-use Rattle.sql_commands.specs.declared.setting.SettingValue.{SettingValue}
-use Rattle.sql_commands.specs.declared.setting.SettingValue.TheVariants as setting
-use Rattle.sql_commands.specs.declared.create.Strategy.{Strategy}
-use Rattle.sql_commands.specs.declared.create.Strategy.TheVariants as strategy
-use Rattle.sql_commands.specs.declared.lists.ColumnDefinition.{ColumnDefinition}
-use Rattle.sql_commands.specs.declared.lists.LockedTable.{LockedTable}
-use Rattle.sql_commands.specs.declared.lists.Partitioning.{Partitioning}
+use Rattle.sql_ast.specs.Commands.{Edge, min, max, at, Bound, range, other, CommandTree, begins, commits, rolls_back, sets, resets, makes_table, makes_partition, drops, attaches, detaches, locks, deallocates, deallocates_all}
+use Rattle.sql_ast.specs.declared.detachment.Detachment.{Detachment}
+use Rattle.sql_ast.specs.declared.detachment.Detachment.TheVariants as detachment
+use Rattle.sql_ast.specs.declared.isolation.Isolation.{Isolation}
+use Rattle.sql_ast.specs.declared.isolation.Isolation.TheVariants as isolation
+use Rattle.pg_ids.specs.declared.lock_mode.LockMode.{LockMode}
+use Rattle.pg_ids.specs.declared.lock_mode.LockMode.TheVariants as mode
+use Rattle.sql_ast.specs.declared.setting_value.SettingValue.{SettingValue}
+use Rattle.sql_ast.specs.declared.setting_value.SettingValue.TheVariants as setting
+use Rattle.sql_ast.specs.declared.table_definition.Strategy.{Strategy}
+use Rattle.sql_ast.specs.declared.table_definition.Strategy.TheVariants as strategy
+use Rattle.sql_ast.specs.declared.table_definition.ColumnDefinition.{ColumnDefinition}
+use Rattle.sql_ast.specs.declared.locked_table.LockedTable.{LockedTable}
+use Rattle.sql_ast.specs.declared.table_definition.Partitioning.{Partitioning}
 use Rattle.sql_written.specs.Marks.{Mark, blank}
 use Rattle.sql_written.specs.Parentheses.{opened}
 use Rattle.sql_written.specs.Spelling as spelled

@@ -13,7 +13,7 @@ use Rattle.sql_tokens.specs.declared.token.Token.{Token}
 use Rattle.sql_tokens.proofs.EachKind.{each_kind}
 use Rattle.sql_expressions.specs.Grammar.{expression}
 use Rattle.sql_expressions.specs.Limits.{IsShort}
-use Rattle.sql_expressions.specs.Tree.{Tree}
+use Rattle.sql_ast.specs.Expressions.{Tree}
 use Rattle.sql_tokens.specs.Classes.{a, a_name}
 use Rattle.sql_expressions.specs.Words.{is_long_name, is_long_text, name, named, string}
 use Rattle.sql_expressions.specs.declared.words.TheConstants.{MOST_NAME_BYTES}
@@ -21,7 +21,7 @@ use Rattle.sql_expressions.proofs.Limited.{all_of_each}
 use Rattle.sql_expressions.proofs.TextWords.{long_is_name, word_is_short}
 use Rattle.sql_lists.specs.Lists.{is_long_but, is_other_name, name_but, number, other_name, plain_name, said}
 use Rattle.sql_commands.specs.Setting.{is_setting_word, setting_number, setting_word, without_zeros}
-use Rattle.sql_commands.specs.declared.setting.SettingValue.TheVariants as setting
+use Rattle.sql_ast.specs.declared.setting_value.SettingValue.TheVariants as setting
 use Rattle.sql_written.specs.Writable.{IsName, IsText, IsWritable as IsExpression}
 use Rattle.sql_written.specs.Written.{marks}
 use Rattle.sql_written.proofs.Costs.{opened_by, opened_marks}

@@ -8,15 +8,15 @@ use Rattle.sql_tokens.specs.declared.kind.Kind.TheVariants as kinds
 use Rattle.sql_tokens.specs.declared.token.Token.{Token}
 use Rattle.sql_tokens.proofs.EachKind.{each_kind}
 use Rattle.sql_expressions.specs.Grammar.{expression}
-use Rattle.sql_expressions.specs.Tree.{Tree, Trees, no_more, listed as list_of_trees}
+use Rattle.sql_ast.specs.Expressions.{Tree, Trees, no_more, listed as list_of_trees}
 use Rattle.grammar_words.specs.Words.{◌>>◌, means}
 use Rattle.sql_tokens.specs.Classes.{a}
-use Rattle.sql_expressions.specs.declared.leaf.Operator.TheVariants.{Equal}
+use Rattle.sql_ast.specs.declared.leaf.Operator.TheVariants.{Equal}
 use Rattle.sql_lists.specs.Lists.{plain_name}
 use Rattle.sql_queries.specs.Grammar as grammar
-use Rattle.sql_queries.specs.Items.{Item, columns_of, one_column, all_of_them, item, maybe_alias, output, starred}
-use Rattle.sql_queries.specs.Trees.{Joined, Key, Setting, selected, RowTree, selects, inserts, updates, deletes, QueryTree, rows, prepares, explains_select}
-use Rattle.sql_queries.specs.declared.parts.NamedTable.{NamedTable}
+use Rattle.sql_ast.specs.Queries.{Item, columns_of, one_column, Joined, Key, Setting, selected, RowTree, selects, inserts, updates, deletes, QueryTree, rows, prepares, explains_select}
+use Rattle.sql_queries.specs.Items.{all_of_them, item, maybe_alias, output, starred}
+use Rattle.sql_ast.specs.declared.named_table.NamedTable.{NamedTable}
 use Rattle.sql_written.specs.Marks.{Mark, blank}
 use Rattle.sql_written.specs.Spelling as spelled
 use Rattle.sql_written.specs.Writable.{IsName, IsWritable as IsExpression}

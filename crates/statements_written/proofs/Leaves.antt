@@ -14,9 +14,9 @@ use Rattle.sql_tokens.specs.declared.token.Token.{Token}
 use Rattle.sql_expressions.specs.Grammar.{any, deep_expression, expression}
 use Rattle.sql_expressions.specs.Levels.{Deep}
 use Rattle.sql_expressions.specs.Limits.{IsShort}
-use Rattle.sql_expressions.specs.Tree.{Tree, leaf}
+use Rattle.sql_ast.specs.Expressions.{Tree, leaf}
 use Rattle.sql_expressions.specs.Words.{name, string}
-use Rattle.sql_expressions.specs.declared.leaf.Leaf.TheVariants.{Column}
+use Rattle.sql_ast.specs.declared.leaf.Leaf.TheVariants.{Column}
 use Rattle.sql_expressions.specs.declared.words.TheConstants.{MOST_NAME_BYTES, MOST_TEXT_BYTES}
 use Rattle.sql_expressions.proofs.Limited.{all_of_each}
 use Rattle.sql_expressions.proofs.RuleLaws.{expression_law}

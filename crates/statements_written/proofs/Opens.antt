@@ -4,7 +4,7 @@ use Rattle.sql_tokens.specs.Words.{word_kind}
 use Rattle.sql_tokens.specs.Written.{quoted}
 use Rattle.sql_tokens.specs.declared.kind.Kind.{Kind}
 use Rattle.sql_tokens.specs.declared.kind.Kind.TheVariants as kinds
-use Rattle.sql_expressions.specs.Tree.{Tree, Trees}
+use Rattle.sql_ast.specs.Expressions.{Tree, Trees}
 use Rattle.sql_written.specs.Marks.{Mark, mark}
 use Rattle.sql_written.specs.Spelling as spelled
 use Rattle.sql_written.specs.Spelling.{is_plain}

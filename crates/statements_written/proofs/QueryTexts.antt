@@ -7,14 +7,14 @@ use Rattle.sql_tokens.specs.declared.kind.Kind.{Kind}
 use Rattle.sql_tokens.specs.declared.kind.Kind.TheVariants as kinds
 use Rattle.sql_tokens.specs.declared.token.Token.{Token}
 use Rattle.sql_expressions.specs.Grammar.{expression}
-use Rattle.sql_expressions.specs.Tree.{Tree, Trees, no_more, and_more, listed as list_of_trees}
+use Rattle.sql_ast.specs.Expressions.{Tree, Trees, no_more, and_more, listed as list_of_trees}
 use Rattle.grammar_words.specs.Words.{◌>>◌, maybe}
 use Rattle.sql_tokens.specs.Classes.{a}
 use Rattle.sql_lists.specs.Lists.{commas, plain_name}
 use Rattle.sql_queries.specs.Grammar as grammar
-use Rattle.sql_queries.specs.Items.{Item, all_columns, columns_of, one_column, all_of_them, item, maybe_alias, starred}
-use Rattle.sql_queries.specs.Trees.{Joined, Key, Setting, SelectTree, selected, RowTree, selects, inserts, updates, deletes, QueryTree, rows, prepares, executes, explains_select, explains_execute}
-use Rattle.sql_queries.specs.declared.parts.NamedTable.{NamedTable}
+use Rattle.sql_ast.specs.Queries.{Item, all_columns, columns_of, one_column, Joined, Key, Setting, SelectTree, selected, RowTree, selects, inserts, updates, deletes, QueryTree, rows, prepares, executes, explains_select, explains_execute}
+use Rattle.sql_queries.specs.Items.{all_of_them, item, maybe_alias, starred}
+use Rattle.sql_ast.specs.declared.named_table.NamedTable.{NamedTable}
 use Rattle.sql_written.specs.Marks.{Mark, blank, bytes_of, text_of}
 use Rattle.sql_written.specs.Spelling as spelled
 use Rattle.sql_written.specs.Writable.{IsName, IsWritable as IsExpression}

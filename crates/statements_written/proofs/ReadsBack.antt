@@ -11,7 +11,7 @@ use Rattle.sql_expressions.specs.Parsed.{ParsesText}
 use Rattle.sql_expressions.proofs.ParseLaws.{read_back}
 use Rattle.sql_syntax.specs.Block.{passed}
 use Rattle.sql_syntax.specs.Grammar.{block, maybe_statement, statement}
-use Rattle.sql_syntax.specs.Trees.{StatementTree, commands, queries}
+use Rattle.sql_ast.specs.Statements.{StatementTree, commands, queries}
 use Rattle.sql_syntax.proofs.StatementLaws.{after_block, begins_block, block_law}
 use Rattle.sql_written.proofs.MarkTokens.{tokens_written}
 use Rattle.sql_written.proofs.MarksApart.{end_ends}

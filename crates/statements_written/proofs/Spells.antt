@@ -12,7 +12,7 @@ use Rattle.sql_tokens.specs.declared.kind.Kind.{Kind}
 use Rattle.sql_tokens.specs.declared.kind.Kind.TheVariants as kinds
 use Rattle.sql_tokens.specs.declared.token.Token.{Token}
 use Rattle.sql_tokens.specs.Classes.{a}
-use Rattle.sql_expressions.specs.declared.leaf.Operator.TheVariants.{Equal}
+use Rattle.sql_ast.specs.declared.leaf.Operator.TheVariants.{Equal}
 use Rattle.grammar_words.specs.Words.{snoc, only as alone}
 use Rattle.sql_written.specs.Marks.{Mark, blank, mark, text_of}
 use Rattle.sql_written.specs.Spelling as spelled

@@ -1,7 +1,7 @@
 -- What is appended one after another is the text of a command.
 use Rattle.std.proofs.Common.{◌≡◌, ℕ, Bool, true, false, List, [], ◌∷◌, ◌++◌, Result, refl, ap, ◌∙◌, subst}
 use Rattle.std.specs.Prelude.{OnOk}
-use Rattle.sql_commands.specs.Trees.{CommandTree, deallocates, drops}
+use Rattle.sql_ast.specs.Commands.{CommandTree, deallocates, drops}
 use Rattle.sql_tokens.specs.declared.kind.Kind.TheVariants as kinds
 use Rattle.sql_written.specs.Marks.{Mark, blank, bytes_of, text_of}
 use Rattle.sql_written.specs.Spelling as spelled

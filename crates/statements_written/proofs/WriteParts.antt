@@ -1,6 +1,6 @@
 -- What is appended part by part is the text of a list.
 use Rattle.std.proofs.Common.{take, ◌-◌, ◌≡◌, ℕ, ◌+◌, ◌<◌, ◌≤◌, List, [], ◌∷◌, ◌++◌, map, length, drop, get_or, refl, sym, ap, ◌∙◌, subst, append-nil}
-use Rattle.sql_expressions.specs.Tree.{Tree, listed}
+use Rattle.sql_ast.specs.Expressions.{Tree, listed}
 use Rattle.sql_written.specs.Marks.{Mark, blank, bytes_of, text_of}
 use Rattle.sql_written.specs.Spelling as spelled
 use Rattle.sql_written.proofs.WriteSteps.{behind, slice_split, slice_step}

@@ -1,10 +1,10 @@
 -- What is appended one after another is the text of a query.
 use Rattle.std.proofs.Common.{◌≡◌, ℕ, ◌+◌, ◌-◌, ◌<◌, ◌≤◌, ◌==◌, false, List, [], ◌∷◌, ◌++◌, map, length, take, drop, get_or, refl, sym, ap, ◌∙◌, subst}
 use Rattle.sql_tokens.specs.declared.kind.Kind.TheVariants as kinds
-use Rattle.sql_expressions.specs.Tree.{Trees, listed, tree}
-use Rattle.sql_expressions.specs.declared.expr.Expr.{Expr}
-use Rattle.sql_queries.specs.Trees.{Joined, joined_tree, RowTree, prepares}
-use Rattle.sql_queries.specs.declared.parts.FromItem.{FromItem}
+use Rattle.sql_ast.specs.Expressions.{Trees, listed, tree}
+use Rattle.sql_ast.specs.declared.expr.Expr.{Expr}
+use Rattle.sql_ast.specs.Queries.{Joined, joined_tree, RowTree, prepares}
+use Rattle.sql_ast.specs.declared.select.FromItem.{FromItem}
 use Rattle.sql_written.specs.Marks.{Mark, blank, bytes_of, text_of}
 use Rattle.sql_written.specs.Spelling as spelled
 use Rattle.sql_written.proofs.WriteSteps.{behind, slice_split, slice_step}

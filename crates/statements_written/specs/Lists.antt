@@ -1,6 +1,6 @@
 -- Lists with commas between, and what stands in parentheses.
 use Rattle.std.specs.Prelude.{ℕ, List, [], ◌∷◌, ◌++◌, Option, Some, None}
-use Rattle.sql_expressions.specs.Tree.{Tree, Trees, no_more, and_more}
+use Rattle.sql_ast.specs.Expressions.{Tree, Trees, no_more, and_more}
 use Rattle.sql_written.specs.Marks.{Mark, blank}
 use Rattle.sql_written.specs.Spelling as spelled
 use Rattle.sql_written.specs.Written.{marks}

@@ -3,11 +3,10 @@ use Rattle.std.specs.Prelude.{ℕ, Bool, true, false, List, [], ◌∷◌, ◌++
 use Rattle.sql_tokens.specs.Words.{is}
 use Rattle.sql_tokens.specs.declared.kind.Kind.{Kind}
 use Rattle.sql_tokens.specs.declared.kind.Kind.TheVariants as kinds
-use Rattle.sql_expressions.specs.Tree.{Tree, Trees, no_more, and_more}
-use Rattle.sql_expressions.specs.declared.leaf.Operator.TheVariants.{Equal}
-use Rattle.sql_queries.specs.Items.{Item, all_columns, columns_of, one_column}
-use Rattle.sql_queries.specs.Trees.{Joined, Key, Setting, SelectTree, selected, RowTree, selects, inserts, updates, deletes, QueryTree, rows, prepares, executes, explains_select, explains_execute}
-use Rattle.sql_queries.specs.declared.parts.NamedTable.{NamedTable}
+use Rattle.sql_ast.specs.Expressions.{Tree, Trees, no_more, and_more}
+use Rattle.sql_ast.specs.declared.leaf.Operator.TheVariants.{Equal}
+use Rattle.sql_ast.specs.Queries.{Item, all_columns, columns_of, one_column, Joined, Key, Setting, SelectTree, selected, RowTree, selects, inserts, updates, deletes, QueryTree, rows, prepares, executes, explains_select, explains_execute}
+use Rattle.sql_ast.specs.declared.named_table.NamedTable.{NamedTable}
 use Rattle.sql_written.specs.Marks.{Mark, blank}
 use Rattle.sql_written.specs.Spelling as spelled
 use Rattle.sql_written.specs.Written.{marks}

@@ -1,6 +1,6 @@
 -- What is written of each statement.
 use Rattle.std.specs.Prelude.{ℕ, List}
-use Rattle.sql_syntax.specs.Trees.{StatementTree, commands, queries}
+use Rattle.sql_ast.specs.Statements.{StatementTree, commands, queries}
 use Rattle.sql_written.specs.Marks.{Mark, text_of}
 use Rattle.statements_written.specs.Commands.{command_marks}
 use Rattle.statements_written.specs.Queries.{query_marks}

@@ -1,5 +1,5 @@
 -- The statements that a parse can give.
-use Rattle.sql_syntax.specs.Trees.{StatementTree, commands, queries}
+use Rattle.sql_ast.specs.Statements.{StatementTree, commands, queries}
 use Rattle.statements_written.specs.WritableCommands.{IsCommand}
 use Rattle.statements_written.specs.WritableQueries.{IsQuery}
 

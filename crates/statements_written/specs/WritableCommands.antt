@@ -4,14 +4,14 @@ use Rattle.std.specs.Prelude.{◌≡◌, ◌<◌, ◌≤◌, ℕ, List, length}
 use Rattle.sql_tokens.specs.Bytes.{belongs}
 use Rattle.sql_tokens.specs.declared.bytes.Class.TheVariants as class
 use Rattle.sql_tokens.specs.declared.numbers.TheConstants.{NO_BIGINT}
-use Rattle.sql_expressions.specs.Tree.{Trees}
+use Rattle.sql_ast.specs.Expressions.{Trees}
 use Rattle.sql_commands.specs.Setting.{without_zeros}
-use Rattle.sql_commands.specs.Trees.{Edge, min, max, at, Bound, range, listed, hash, other, CommandTree, begins, commits, rolls_back, sets, resets, makes_table, makes_partition, drops, attaches, detaches, locks, deallocates, deallocates_all}
-use Rattle.sql_commands.specs.declared.setting.SettingValue.{SettingValue}
-use Rattle.sql_commands.specs.declared.setting.SettingValue.TheVariants as setting
-use Rattle.sql_commands.specs.declared.lists.ColumnDefinition.{ColumnDefinition}
-use Rattle.sql_commands.specs.declared.lists.LockedTable.{LockedTable}
-use Rattle.sql_commands.specs.declared.lists.Partitioning.{Partitioning}
+use Rattle.sql_ast.specs.Commands.{Edge, min, max, at, Bound, range, listed, hash, other, CommandTree, begins, commits, rolls_back, sets, resets, makes_table, makes_partition, drops, attaches, detaches, locks, deallocates, deallocates_all}
+use Rattle.sql_ast.specs.declared.setting_value.SettingValue.{SettingValue}
+use Rattle.sql_ast.specs.declared.setting_value.SettingValue.TheVariants as setting
+use Rattle.sql_ast.specs.declared.table_definition.ColumnDefinition.{ColumnDefinition}
+use Rattle.sql_ast.specs.declared.locked_table.LockedTable.{LockedTable}
+use Rattle.sql_ast.specs.declared.table_definition.Partitioning.{Partitioning}
 use Rattle.sql_written.specs.Writable.{IsName, IsText, IsWritable as IsExpression}
 use Rattle.statements_written.specs.Lists.{Maybe, SomeAre, list_of}
 

@@ -1,8 +1,7 @@
 -- The queries that a parse can give: each name and expression can be written, and each list has a part where it must have one.
 use Rattle.std.specs.Prelude.{◌≡◌, List, [], ◌∷◌, None}
-use Rattle.sql_queries.specs.Items.{Item, all_columns, columns_of, one_column}
-use Rattle.sql_queries.specs.Trees.{Joined, Key, Setting, SelectTree, selected, RowTree, selects, inserts, updates, deletes, QueryTree, rows, prepares, executes, explains_select, explains_execute}
-use Rattle.sql_queries.specs.declared.parts.NamedTable.{NamedTable}
+use Rattle.sql_ast.specs.Queries.{Item, all_columns, columns_of, one_column, Joined, Key, Setting, SelectTree, selected, RowTree, selects, inserts, updates, deletes, QueryTree, rows, prepares, executes, explains_select, explains_execute}
+use Rattle.sql_ast.specs.declared.named_table.NamedTable.{NamedTable}
 use Rattle.sql_written.specs.Writable.{IsName, IsWritable as IsExpression}
 use Rattle.statements_written.specs.Lists.{Each, Maybe, SomeAre, list_of}
 use Rattle.statements_written.specs.WritableCommands.{AreValues}

@@ -1,7 +1,7 @@
 ghost use Rattle.std.specs.Prelude.{◌≡◌, ◌++◌, [], OnOk};
-ghost use Rattle.sql_commands.specs.Trees as trees_of;
-ghost use Rattle.sql_commands.specs.Trees.{bound_tree, command_tree, edges_of};
-ghost use Rattle.sql_expressions.specs.Tree.{tree};
+ghost use Rattle.sql_ast.specs.Commands as trees_of;
+ghost use Rattle.sql_ast.specs.Commands.{bound_tree, command_tree, edges_of};
+ghost use Rattle.sql_ast.specs.Expressions.{tree};
 ghost use Rattle.sql_written.specs.Marks.{bytes_of, text_of};
 ghost use Rattle.statements_written.specs.Commands as shown;
 ghost use Rattle.statements_written.specs.Lists.{enclosed, parts};
@@ -10,13 +10,12 @@ use crate::parts::{
     Part, write_enclosed, write_enclosed_names, write_enclosed_values, write_names, write_parts,
 };
 use crate::words::{write_edge_name, write_setting_name};
+use pg_ids::LockMode;
 use pg_values::NoMemory;
-use sql_commands::{
-    BoundText, ColumnDefinition, Command, Detachment, EdgeList, EdgeText, Isolation, LockMode,
-    LockedTable, Partitioning, SettingValue, Strategy,
+use sql_ast::{
+    BoundText, ColumnDefinition, Command, Detachment, EdgeList, EdgeText, Expr, Isolation, Leaf,
+    LockedTable, NameList, Partitioning, SettingValue, Strategy,
 };
-use sql_expressions::{Expr, Leaf};
-use sql_lists::NameList;
 use sql_written::{write_expression, write_name, write_number, write_quoted};
 
 fn write_isolation(level: Option<Isolation>, out: &mut Vec<u8>) -> Result<(), NoMemory>
@@ -105,7 +104,7 @@ fn write_null(not_null: bool, out: &mut Vec<u8>) -> Result<(), NoMemory>
 struct EachColumn;
 
 impl Part for EachColumn {
-    ghost use Rattle.sql_commands.specs.declared.lists.ColumnDefinition.{ColumnDefinition as OneColumn};
+    ghost use Rattle.sql_ast.specs.declared.table_definition.ColumnDefinition.{ColumnDefinition as OneColumn};
     ghost use Rattle.statements_written.specs.Commands as shown;
 
     type Item = ColumnDefinition;
@@ -143,7 +142,7 @@ fn write_value(value: &Expr, out: &mut Vec<u8>) -> Result<(), NoMemory>
 struct EachEdge;
 
 impl Part for EachEdge {
-    ghost use Rattle.sql_commands.specs.Trees.{Edge as OneEdge, edge_tree};
+    ghost use Rattle.sql_ast.specs.Commands.{Edge as OneEdge, edge_tree};
     ghost use Rattle.statements_written.specs.Commands as shown;
 
     type Item = EdgeText;
@@ -230,7 +229,7 @@ fn write_detachment(how: Detachment, out: &mut Vec<u8>) -> Result<(), NoMemory>
 struct EachLocked;
 
 impl Part for EachLocked {
-    ghost use Rattle.sql_commands.specs.declared.lists.LockedTable.{LockedTable as OneTable};
+    ghost use Rattle.sql_ast.specs.declared.locked_table.LockedTable.{LockedTable as OneTable};
     ghost use Rattle.statements_written.specs.Commands as shown;
 
     type Item = LockedTable;

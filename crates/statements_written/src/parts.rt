@@ -1,10 +1,10 @@
 ghost use Rattle.std.specs.Prelude.{◌≡◌, ◌++◌, OnOk, map};
-ghost use Rattle.sql_expressions.specs.Tree.{trees};
+ghost use Rattle.sql_ast.specs.Expressions.{trees};
 ghost use Rattle.sql_written.specs.Marks.{text_of};
 ghost use Rattle.statements_written.specs.Lists as lists;
 
 use pg_values::{NoMemory, PgText};
-use sql_expressions::{Expr, ExprList};
+use sql_ast::{Expr, ExprList};
 use sql_written::{write_expression, write_name};
 
 /// What stands between commas: it is written as its marks say.
@@ -69,7 +69,7 @@ impl Part for Name {
 struct Value;
 
 impl Part for Value {
-    ghost use Rattle.sql_expressions.specs.Tree.{Tree as OneTree, tree as tree_of};
+    ghost use Rattle.sql_ast.specs.Expressions.{Tree as OneTree, tree as tree_of};
     ghost use Rattle.sql_written.specs.Written as shown;
 
     type Item = Expr;

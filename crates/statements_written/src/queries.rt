@@ -1,7 +1,7 @@
 ghost use Rattle.std.specs.Prelude.{◌≡◌, ◌++◌, ◌∷◌, [], OnOk, map};
-ghost use Rattle.sql_expressions.specs.Tree.{trees};
-ghost use Rattle.sql_queries.specs.Trees as trees_of;
-ghost use Rattle.sql_queries.specs.Trees.{key_tree, maybe_tree, query_tree, row_tree, select_tree};
+ghost use Rattle.sql_ast.specs.Expressions.{trees};
+ghost use Rattle.sql_ast.specs.Queries as trees_of;
+ghost use Rattle.sql_ast.specs.Queries.{key_tree, maybe_tree, query_tree, row_tree, select_tree};
 ghost use Rattle.sql_written.specs.Marks.{blank, text_of};
 ghost use Rattle.statements_written.specs.Queries as shown;
 ghost use Rattle.statements_written.specs.Words.{word};
@@ -13,9 +13,9 @@ use crate::query_parts::{
 };
 use crate::words::write_prepared_name;
 use pg_values::NoMemory;
-use sql_expressions::{Expr, ExprList};
-use sql_lists::NameList;
-use sql_queries::{Delete, Insert, Query, RowStatement, Select, SortKey, Update};
+use sql_ast::{
+    Delete, Expr, ExprList, Insert, NameList, Query, RowStatement, Select, SortKey, Update,
+};
 use sql_tokens::Kind;
 use sql_written::write_name;
 

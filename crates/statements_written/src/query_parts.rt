@@ -1,15 +1,13 @@
 ghost use Rattle.std.specs.Prelude.{◌≡◌, ◌++◌, OnOk, map};
-ghost use Rattle.sql_expressions.specs.Tree.{tree, trees};
-ghost use Rattle.sql_queries.specs.Items.{one_column};
-ghost use Rattle.sql_queries.specs.Trees.{item_tree, joined_tree, key_tree, maybe_tree, setting};
+ghost use Rattle.sql_ast.specs.Expressions.{tree, trees};
+ghost use Rattle.sql_ast.specs.Queries.{one_column, item_tree, joined_tree, key_tree, maybe_tree, setting};
 ghost use Rattle.sql_written.specs.Marks.{text_of};
 ghost use Rattle.statements_written.specs.Lists as lists;
 ghost use Rattle.statements_written.specs.Queries as shown;
 
 use crate::parts::{Part, write_enclosed_values, write_parts};
 use pg_values::{NoMemory, PgText};
-use sql_expressions::{Expr, ExprList};
-use sql_queries::{Assignment, FromItem, NamedTable, SelectItem, SortKey};
+use sql_ast::{Assignment, Expr, ExprList, FromItem, NamedTable, SelectItem, SortKey};
 use sql_tokens::Kind;
 use sql_written::{write_expression, write_name};
 
@@ -41,8 +39,7 @@ fn write_output(value: &Expr, alias: &Option<PgText>, out: &mut Vec<u8>) -> Resu
 struct EachItem;
 
 impl Part for EachItem {
-    ghost use Rattle.sql_queries.specs.Items.{Item as OneItem};
-    ghost use Rattle.sql_queries.specs.Trees.{item_tree};
+    ghost use Rattle.sql_ast.specs.Queries.{Item as OneItem, item_tree};
     ghost use Rattle.statements_written.specs.Queries as shown;
 
     type Item = SelectItem;
@@ -166,7 +163,7 @@ fn write_nulls(descending: bool, first: bool, out: &mut Vec<u8>) -> Result<(), N
 struct EachKey;
 
 impl Part for EachKey {
-    ghost use Rattle.sql_queries.specs.Trees.{Key as OneKey, key_tree};
+    ghost use Rattle.sql_ast.specs.Queries.{Key as OneKey, key_tree};
     ghost use Rattle.statements_written.specs.Queries as shown;
 
     type Item = SortKey;
@@ -198,7 +195,7 @@ pub(crate) fn write_order(keys: &[SortKey], out: &mut Vec<u8>) -> Result<(), NoM
 struct EachAssignment;
 
 impl Part for EachAssignment {
-    ghost use Rattle.sql_queries.specs.Trees.{Setting as OneSetting, setting};
+    ghost use Rattle.sql_ast.specs.Queries.{Setting as OneSetting, setting};
     ghost use Rattle.statements_written.specs.Queries as shown;
 
     type Item = Assignment;
@@ -219,7 +216,7 @@ impl Part for EachAssignment {
 struct EachRow;
 
 impl Part for EachRow {
-    ghost use Rattle.sql_expressions.specs.Tree.{Trees as OneRow, trees};
+    ghost use Rattle.sql_ast.specs.Expressions.{Trees as OneRow, trees};
     ghost use Rattle.statements_written.specs.Queries as shown;
 
     type Item = ExprList;

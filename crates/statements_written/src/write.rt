@@ -1,11 +1,11 @@
 ghost use Rattle.std.specs.Prelude.{◌≡◌, ◌++◌, IfOk, OnErr, OnOk};
-ghost use Rattle.sql_syntax.specs.Trees.{statement_tree};
+ghost use Rattle.sql_ast.specs.Statements.{statement_tree};
 ghost use Rattle.statements_written.specs.Statements as shown;
 
 use crate::commands::write_command;
 use crate::queries::write_query;
 use pg_values::NoMemory;
-use sql_syntax::Statement;
+use sql_ast::Statement;
 use std::alloc::Global;
 
 fn text(alloc: Global, statement: &Statement) -> Result<Vec<u8>, NoMemory>

@@ -6,7 +6,7 @@ use Rattle.spec_reader.specs.declared.spec.SessionSpec.{SessionSpec}
 use Rattle.sessions.specs.Sessions.{State, new_session, rules_of}
 use Rattle.course.specs.Database.{Database, course, empty}
 use Rattle.course.specs.Moments.{AlwaysInOneLeaf}
-use Rattle.sql_syntax.specs.Trees.{StatementTree}
+use Rattle.sql_ast.specs.Statements.{StatementTree}
 use Rattle.store_statements.specs.Words.{statement_words}
 
 abbrev pub RunState : Type 0

@@ -4,10 +4,10 @@ use Rattle.pg_values.specs.declared.answer.Answer.{Answer}
 use Rattle.history.specs.History.{History}
 use Rattle.expression_binder.specs.Faults.{left_out}
 use Rattle.sessions.specs.declared.settings.Settings.{Settings}
-use Rattle.sql_commands.specs.Trees.{CommandTree, makes_table, makes_partition, drops, attaches, detaches, locks}
-use Rattle.sql_commands.specs.declared.alter.Detachment.TheVariants.{AtOnce}
-use Rattle.sql_queries.specs.Trees.{SelectTree, RowTree, QueryTree, selects, inserts, updates, deletes, rows}
-use Rattle.sql_syntax.specs.Trees.{StatementTree, commands, queries}
+use Rattle.sql_ast.specs.Commands.{CommandTree, makes_table, makes_partition, drops, attaches, detaches, locks}
+use Rattle.sql_ast.specs.declared.detachment.Detachment.TheVariants.{AtOnce}
+use Rattle.sql_ast.specs.Queries.{SelectTree, RowTree, QueryTree, selects, inserts, updates, deletes, rows}
+use Rattle.sql_ast.specs.Statements.{StatementTree, commands, queries}
 use Rattle.out_text.specs.Table.{printed_table}
 use Rattle.course.specs.Made.{Made, Halt, Refused, halted}
 use Rattle.course.specs.declared.caller.Caller.{Caller}

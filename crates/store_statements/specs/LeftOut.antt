@@ -1,7 +1,7 @@
 -- Statements that are left out, and the word that each is told by (VI. SQL Commands).
 use Rattle.std.specs.Prelude.{ℕ, List, codes}
-use Rattle.sql_commands.specs.Trees.{CommandTree, begins, commits, rolls_back, sets, resets, makes_table, makes_partition, drops, attaches, detaches, locks, deallocates, deallocates_all}
-use Rattle.sql_queries.specs.Trees.{RowTree, QueryTree, selects, inserts, updates, deletes, rows, prepares, executes, explains_select, explains_execute}
+use Rattle.sql_ast.specs.Commands.{CommandTree, begins, commits, rolls_back, sets, resets, makes_table, makes_partition, drops, attaches, detaches, locks, deallocates, deallocates_all}
+use Rattle.sql_ast.specs.Queries.{RowTree, QueryTree, selects, inserts, updates, deletes, rows, prepares, executes, explains_select, explains_execute}
 
 -- ---- the first word of a statement
 

@@ -2,9 +2,9 @@
 use Rattle.std.specs.Prelude.{ℕ, ◌-◌, List, [], Option, None}
 use Rattle.pg_values.specs.declared.fault.Fault.{Fault}
 use Rattle.sessions.specs.declared.asker.Place.{Place}
-use Rattle.sql_commands.specs.Trees.{CommandTree, locks}
-use Rattle.sql_queries.specs.Trees.{RowTree, QueryTree, selects, rows}
-use Rattle.sql_syntax.specs.Trees.{StatementTree, commands, queries}
+use Rattle.sql_ast.specs.Commands.{CommandTree, locks}
+use Rattle.sql_ast.specs.Queries.{RowTree, QueryTree, selects, rows}
+use Rattle.sql_ast.specs.Statements.{StatementTree, commands, queries}
 use Rattle.block_reading.specs.Reading.{read_block}
 use Rattle.statement_roles.specs.Roles.{role_of, looks, changed}
 use Rattle.out_text.specs.FaultText.{fault_text}

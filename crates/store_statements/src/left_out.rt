@@ -1,10 +1,9 @@
 ghost use Rattle.std.specs.Prelude.{◌≡◌};
-ghost use Rattle.sql_commands.specs.Trees.{command_tree};
-ghost use Rattle.sql_queries.specs.Trees.{query_tree, row_tree};
+ghost use Rattle.sql_ast.specs.Commands.{command_tree};
+ghost use Rattle.sql_ast.specs.Queries.{query_tree, row_tree};
 ghost use Rattle.store_statements.specs.LeftOut as left_out;
 
-use sql_commands::Command;
-use sql_queries::{Query, RowStatement};
+use sql_ast::{Command, Query, RowStatement};
 
 pub(crate) fn command_word(command: &Command) -> &'static [u8]
     ensures { result.now ≡ left_out.command_word (command_tree command.now) }

@@ -8,9 +8,7 @@ use out_text::write_fault_text;
 use pg_values::{Fault, NoMemory, Refusal};
 use select_statement::cancelled;
 use sessions::{Place, Role, Settings};
-use sql_commands::Command;
-use sql_queries::{Query, RowStatement};
-use sql_syntax::Statement;
+use sql_ast::{Command, Query, RowStatement, Statement};
 use statement_roles::{changed_settings, looks, role_of};
 use statement_steps::SessionNames;
 use std::alloc::Global;
@@ -35,7 +33,7 @@ fn copied(alloc: Global, names: &SessionNames) -> Result<SessionNames, NoMemory>
 
 impl Kinds for Statements {
     ghost use Rattle.std.specs.Prelude.{ℕ, List};
-    ghost use Rattle.sql_syntax.specs.Trees.{StatementTree, statement_tree};
+    ghost use Rattle.sql_ast.specs.Statements.{StatementTree, statement_tree};
     ghost use Rattle.sql_syntax.specs.declared.parse.TheConstants.{MOST_STATEMENTS};
     ghost use Rattle.store_statements.specs.Words.{statement_words};
 

@@ -8,7 +8,7 @@ use Rattle.part_bounds.specs.declared.raw_bound.RawEdge.TheVariants.{Min, At, Ma
 use Rattle.part_bounds.specs.declared.raw_bound.RawBound.{RawBound}
 use Rattle.part_bounds.specs.declared.raw_bound.RawBound.TheVariants as raw
 use Rattle.part_bounds.specs.Checks.{checked}
-use Rattle.sql_commands.specs.Trees.{Edge, min, max, at, Bound, range, listed, hash, other}
+use Rattle.sql_ast.specs.Commands.{Edge, min, max, at, Bound, range, listed, hash, other}
 use Rattle.table_binder.specs.Values.{raw_value, raw_values}
 
 abbrev pub raw_edge : Edge → RawEdge

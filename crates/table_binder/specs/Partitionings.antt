@@ -4,9 +4,9 @@ use Rattle.std.specs.Str.{bytes_eq}
 use Rattle.pg_ids.specs.declared.which.Which.TheVariants.{KeyColumns as WhichKeyColumns}
 use Rattle.pg_values.specs.declared.fault.Fault.{Fault}
 use Rattle.pg_values.specs.declared.value.Kind.TheVariants.{Text as KText}
-use Rattle.sql_commands.specs.declared.create.Strategy.{Strategy as Word}
-use Rattle.sql_commands.specs.declared.create.Strategy.TheVariants as word
-use Rattle.sql_commands.specs.declared.lists.Partitioning.{Partitioning}
+use Rattle.sql_ast.specs.declared.table_definition.Strategy.{Strategy as Word}
+use Rattle.sql_ast.specs.declared.table_definition.Strategy.TheVariants as word
+use Rattle.sql_ast.specs.declared.table_definition.Partitioning.{Partitioning}
 use Rattle.part_bounds.specs.declared.level.Strategy.{Strategy}
 use Rattle.part_bounds.specs.declared.level.Strategy.TheVariants.{Range as ByRange, List as ByList, Hash as ByHash}
 use Rattle.part_bounds.specs.declared.level.KeyColumn.{KeyColumn}

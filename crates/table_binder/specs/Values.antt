@@ -4,9 +4,9 @@ use Rattle.std.specs.Prelude.{ℕ, List, [], ◌∷◌, ◌++◌, Result, Ok, Er
 use Rattle.std.specs.Fmt.{decimal}
 use Rattle.pg_values.specs.declared.fault.Fault.{Fault}
 use Rattle.pg_values.specs.declared.value.Value.{Value}
-use Rattle.sql_expressions.specs.declared.leaf.Leaf.{Leaf}
-use Rattle.sql_expressions.specs.declared.leaf.Leaf.TheVariants.{Text, Parameter, Column, ColumnOf}
-use Rattle.sql_expressions.specs.Tree.{Tree, Trees, no_more, and_more, leaf, call, call_of_all, negated, binary, in_list, between, is_null, inverted, all_of, any_of}
+use Rattle.sql_ast.specs.declared.leaf.Leaf.{Leaf}
+use Rattle.sql_ast.specs.declared.leaf.Leaf.TheVariants.{Text, Parameter, Column, ColumnOf}
+use Rattle.sql_ast.specs.Expressions.{Tree, Trees, no_more, and_more, leaf, call, call_of_all, negated, binary, in_list, between, is_null, inverted, all_of, any_of}
 use Rattle.part_bounds.specs.declared.raw_bound.RawValue.{RawValue}
 use Rattle.part_bounds.specs.declared.raw_bound.RawValue.TheVariants.{Literal, Given, Faulty}
 use Rattle.expression_binder.specs.Constants.{constant}

@@ -1,16 +1,15 @@
 ghost use Rattle.std.specs.Prelude.{◌≡◌, map, IfOk};
 ghost use Rattle.pg_values.specs.Refusals.{IsAnswer};
 ghost use Rattle.part_bounds.specs.Levels.{IsOfLevel};
-ghost use Rattle.sql_commands.specs.Trees.{bound_tree, edge_tree, edges_of};
-ghost use Rattle.sql_expressions.specs.Tree.{tree, trees, listed};
+ghost use Rattle.sql_ast.specs.Commands.{bound_tree, edge_tree, edges_of};
+ghost use Rattle.sql_ast.specs.Expressions.{tree, trees, listed};
 ghost use Rattle.table_binder.specs.Bounds as spec;
 ghost use Rattle.table_binder.specs.Values as values_spec;
 
 use crate::values::raw_value;
 use part_bounds::{Bound, Level, RawBound, RawEdge, RawEdges, RawValues, check_bound};
 use pg_values::{NoMemory, Refusal};
-use sql_commands::{BoundText, EdgeText};
-use sql_expressions::Expr;
+use sql_ast::{BoundText, EdgeText, Expr};
 use std::alloc::Global;
 
 fn raw_edge(alloc: Global, edge: &EdgeText) -> Result<RawEdge, NoMemory>

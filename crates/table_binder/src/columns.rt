@@ -12,7 +12,7 @@ use crate::faults::{column_twice, no_type, too_many};
 use history::{Column, Columns};
 use pg_ids::Which;
 use pg_values::{Kind, NoMemory, Refusal};
-use sql_commands::{ColumnDefinition, ColumnList};
+use sql_ast::{ColumnDefinition, ColumnList};
 use std::alloc::Global;
 
 // The names of types.

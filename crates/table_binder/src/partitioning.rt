@@ -15,7 +15,7 @@ use history::Column;
 use part_bounds::{KeyColumn, KeyColumns, Level, Strategy};
 use pg_ids::Which;
 use pg_values::{NoMemory, PgText, Refusal};
-use sql_commands::{Partitioning, Strategy as Word};
+use sql_ast::{Partitioning, Strategy as Word};
 use std::alloc::Global;
 
 fn strategy_of(word: Word) -> Strategy

@@ -1,6 +1,6 @@
 ghost use Rattle.std.specs.Prelude.{◌≡◌, ◌++◌, map, IfOk};
 ghost use Rattle.pg_values.specs.Refusals.{IsAnswer};
-ghost use Rattle.sql_expressions.specs.Tree.{tree, listed};
+ghost use Rattle.sql_ast.specs.Expressions.{tree, listed};
 ghost use Rattle.expression_binder.specs.Firsts.{or_first};
 ghost use Rattle.expression_binder.specs.Operands.{operand_faults};
 ghost use Rattle.table_binder.specs.Values as spec;
@@ -10,7 +10,7 @@ use expression_binder::{
 };
 use part_bounds::RawValue;
 use pg_values::{Fault, NoMemory, Refusal, Value};
-use sql_expressions::{Expr, Leaf};
+use sql_ast::{Expr, Leaf};
 use std::alloc::Global;
 
 fn no_names() -> Names<'static>

@@ -17,9 +17,9 @@ use Rattle.part_catalog.specs.Found.{made_at}
 use Rattle.part_ddl.specs.Placing.{IsFault, level_at, place_faults}
 use Rattle.part_ddl.specs.Tables.{count_faults}
 use Rattle.expression_binder.specs.Firsts.{IsAnswerBy}
-use Rattle.sql_commands.specs.Trees.{Bound}
-use Rattle.sql_commands.specs.declared.lists.ColumnDefinition.{ColumnDefinition}
-use Rattle.sql_commands.specs.declared.lists.Partitioning.{Partitioning}
+use Rattle.sql_ast.specs.Commands.{Bound}
+use Rattle.sql_ast.specs.declared.table_definition.ColumnDefinition.{ColumnDefinition}
+use Rattle.sql_ast.specs.declared.table_definition.Partitioning.{Partitioning}
 use Rattle.table_binder.specs.Bounds.{bound_for}
 use Rattle.table_binder.specs.Partitionings.{Key, key_of, bound_key}
 use Rattle.table_statements.specs.Partitions.{Place, place_with, placed_bound, partition_place}

@@ -6,8 +6,8 @@ use Rattle.pg_ids.specs.declared.lock_mode.LockMode.TheVariants.{AccessExclusive
 use Rattle.part_bounds.specs.declared.level.Level.{Level}
 use Rattle.part_bounds.specs.declared.partition_bound.Bound.{Bound as MeantBound}
 use Rattle.history.specs.History.{History}
-use Rattle.sql_commands.specs.Trees.{Bound}
-use Rattle.sql_commands.specs.declared.lists.Partitioning.{Partitioning}
+use Rattle.sql_ast.specs.Commands.{Bound}
+use Rattle.sql_ast.specs.declared.table_definition.Partitioning.{Partitioning}
 use Rattle.table_binder.specs.Bounds.{bound_for}
 use Rattle.part_catalog.specs.Found.{made_at}
 use Rattle.part_ddl.specs.Below.{default_of, tables_from}

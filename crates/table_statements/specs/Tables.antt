@@ -9,8 +9,8 @@ use Rattle.part_bounds.specs.declared.level.Strategy.TheVariants.{Range as ByRan
 use Rattle.history.specs.declared.catalogue.Column.{Column}
 use Rattle.history.specs.declared.transaction.TxId.{TxId}
 use Rattle.history.specs.History.{History}
-use Rattle.sql_commands.specs.declared.lists.ColumnDefinition.{ColumnDefinition}
-use Rattle.sql_commands.specs.declared.lists.Partitioning.{Partitioning}
+use Rattle.sql_ast.specs.declared.table_definition.ColumnDefinition.{ColumnDefinition}
+use Rattle.sql_ast.specs.declared.table_definition.Partitioning.{Partitioning}
 use Rattle.table_binder.specs.Columns.{bound_columns}
 use Rattle.table_binder.specs.Partitionings.{Key, bound_key}
 use Rattle.table_binder.specs.States.{list_takes_one}

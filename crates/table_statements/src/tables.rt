@@ -21,7 +21,7 @@ use part_bounds::Level;
 use part_catalog::Catalog;
 use part_ddl::{check_count, make_table};
 use pg_values::{NoMemory, PgText, Refusal};
-use sql_commands::{ColumnList, Partitioning};
+use sql_ast::{ColumnList, Partitioning};
 use statement_steps::{SessionNames, hold_if_repeatable};
 use std::alloc::Global;
 use stores::{Stores, leaves_are_housed};

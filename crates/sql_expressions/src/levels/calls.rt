@@ -9,10 +9,10 @@ ghost use Rattle.sql_tokens.specs.Classes.{a};
 use crate::deep::{Deep, Parts, only_part};
 use crate::levels::conjunctions::disjunction;
 use crate::signs::expression_comes;
-use crate::{Expr, ExprList};
 use grammar_rules::Refused;
 use grammar_words::{comes, word};
 use pg_values::PgText;
+use sql_ast::{Expr, ExprList};
 use sql_tokens::{Kind, Token};
 use std::alloc::Global;
 

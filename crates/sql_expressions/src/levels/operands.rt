@@ -4,7 +4,6 @@ ghost use Rattle.sql_expressions.specs.Grammar as grammar;
 ghost use Rattle.sql_expressions.specs.Levels as levels;
 ghost use Rattle.sql_expressions.specs.Views as views;
 
-use crate::Expr;
 use crate::deep::{Deep, negated};
 use crate::levels::calls::called;
 use crate::levels::conjunctions::disjunction;
@@ -12,6 +11,7 @@ use crate::signs::nested_comes;
 use crate::words::{column, literal, name};
 use grammar_rules::Refused;
 use grammar_words::{comes, name_comes, word};
+use sql_ast::Expr;
 use sql_tokens::{Kind, Token};
 use std::alloc::Global;
 

@@ -10,7 +10,7 @@ use Rattle.history.specs.History.{History}
 use Rattle.table_trees.specs.Histories.{ddl_tree, path_of}
 use Rattle.table_trees.specs.Seen.{seen}
 use Rattle.table_trees.specs.Trees.{TableTree, height}
-use Rattle.sql_commands.specs.Trees.{bound_tree}
+use Rattle.sql_ast.specs.Commands.{bound_tree}
 use Rattle.table_binder.specs.Bounds.{bound_for}
 use Rattle.part_catalog.specs.Found.{made_at}
 use Rattle.part_ddl.specs.Faults.{too_many}

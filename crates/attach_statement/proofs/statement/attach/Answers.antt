@@ -1,5 +1,5 @@
 use Rattle.std.proofs.Common.{◌+◌}
-use Rattle.sql_commands.specs.Trees.{bound_tree}
+use Rattle.sql_ast.specs.Commands.{bound_tree}
 use Rattle.statement_steps.specs.Asks.{held_at}
 use Rattle.statement_steps.proofs.Steps.{then_step, may_go_on}
 use Rattle.attach_statement.specs.Attached.{locked_and_attached}

@@ -1,5 +1,5 @@
 use Rattle.std.proofs.Common.{◌+◌, ◌∙◌}
-use Rattle.sql_commands.specs.Trees.{bound_tree}
+use Rattle.sql_ast.specs.Commands.{bound_tree}
 use Rattle.statement_steps.proofs.Parts.{stays, no_memory}
 use Rattle.attach_statement.specs.Attached.{attached_beside}
 use Rattle.attach_statement.proofs.statement.attach_on_path.Goals as goal

@@ -1,6 +1,6 @@
 use Rattle.std.proofs.Common.{◌+◌}
 use Rattle.part_bounds.specs.declared.partition_bound.Bound.{Bound}
-use Rattle.sql_commands.specs.Trees.{bound_tree}
+use Rattle.sql_ast.specs.Commands.{bound_tree}
 use Rattle.statement_steps.proofs.Steps.{then_step, stop_step}
 use Rattle.attach_statement.specs.Attached as attached
 use Rattle.attach_statement.proofs.statement.place_and_add.Goals as goal

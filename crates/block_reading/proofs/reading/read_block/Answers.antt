@@ -3,7 +3,7 @@ use Rattle.std.proofs.lemmas.List.{length-map}
 use Rattle.sql_tokens.specs.Tokens.{tokens_of}
 use Rattle.sql_syntax.specs.Block.{passed}
 use Rattle.sql_syntax.specs.Grammar.{block}
-use Rattle.sql_syntax.specs.Trees.{statement_tree}
+use Rattle.sql_ast.specs.Statements.{statement_tree}
 use Rattle.sql_syntax.specs.declared.parse.TheConstants.{MOST_STATEMENTS}
 use Rattle.sql_syntax.proofs.StatementLaws.{after_block, begins_block, block_law}
 use Rattle.block_reading.proofs.Counted.{few}

@@ -1,5 +1,5 @@
 use Rattle.std.proofs.Common.{◌≡◌, map, drop}
-use Rattle.sql_expressions.specs.Tree.{listed, tree}
+use Rattle.sql_ast.specs.Expressions.{listed, tree}
 use Rattle.change_binder.specs.Arguments.{argument_faults}
 use Rattle.change_binder.proofs.arguments.check_arguments.Given as goal
 

@@ -1,5 +1,5 @@
 use Rattle.std.proofs.Common.{◌≡◌, ◌++◌, map, drop}
-use Rattle.sql_queries.specs.Trees.{setting}
+use Rattle.sql_ast.specs.Queries.{setting}
 use Rattle.change_binder.specs.Changes.{settings_constants, settings_meant}
 use Rattle.statement_asks.specs.Asked.{setting_meant}
 use Rattle.change_binder.proofs.changes.bind_settings.Given as goal

@@ -1,6 +1,6 @@
 use Rattle.std.proofs.Common.{◌++◌, ap, subst, ◌∙◌}
 use Rattle.pg_values.specs.Refusals.{IsAnswer}
-use Rattle.sql_expressions.specs.Tree.{tree}
+use Rattle.sql_ast.specs.Expressions.{tree}
 use Rattle.expression_binder.specs.Firsts.{or_first}
 use Rattle.expression_binder.specs.Kinds.{assigned_faults}
 use Rattle.expression_binder.specs.Operands.{operand_faults, typed}

@@ -1,5 +1,5 @@
 use Rattle.std.proofs.Common.{◌≡◌, [], map, take, drop}
-use Rattle.sql_queries.specs.Trees.{setting}
+use Rattle.sql_ast.specs.Queries.{setting}
 use Rattle.change_binder.specs.Changes.{column_set, settings_faults}
 use Rattle.change_binder.proofs.changes.check_settings.Given as goal
 

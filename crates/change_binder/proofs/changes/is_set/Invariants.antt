@@ -1,7 +1,7 @@
 use Rattle.std.proofs.Common.{◌≡◌, map, drop}
 use Rattle.std.specs.List.{list_any}
 use Rattle.std.specs.Str.{bytes_eq}
-use Rattle.sql_queries.specs.Trees.{setting}
+use Rattle.sql_ast.specs.Queries.{setting}
 use Rattle.change_binder.specs.Changes.{column_set}
 use Rattle.change_binder.proofs.changes.is_set.Given as goal
 

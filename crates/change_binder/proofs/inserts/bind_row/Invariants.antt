@@ -1,5 +1,5 @@
 use Rattle.std.proofs.Common.{◌≡◌, ◌++◌, map, drop}
-use Rattle.sql_expressions.specs.Tree.{listed, tree}
+use Rattle.sql_ast.specs.Expressions.{listed, tree}
 use Rattle.change_binder.specs.Inserts.{value_constants, row_values}
 use Rattle.change_binder.proofs.inserts.bind_row.Given as goal
 

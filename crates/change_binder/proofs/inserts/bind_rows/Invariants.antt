@@ -1,5 +1,5 @@
 use Rattle.std.proofs.Common.{◌≡◌, ◌++◌, map, drop}
-use Rattle.sql_expressions.specs.Tree.{trees}
+use Rattle.sql_ast.specs.Expressions.{trees}
 use Rattle.change_binder.specs.Inserts.{row_constants, all_values}
 use Rattle.change_binder.proofs.inserts.bind_rows.Given as goal
 

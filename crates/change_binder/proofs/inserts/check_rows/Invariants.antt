@@ -1,5 +1,5 @@
 use Rattle.std.proofs.Common.{◌≡◌, map, drop, length}
-use Rattle.sql_expressions.specs.Tree.{trees}
+use Rattle.sql_ast.specs.Expressions.{trees}
 use Rattle.change_binder.specs.Inserts.{row_faults}
 use Rattle.change_binder.proofs.inserts.check_rows.Given as goal
 

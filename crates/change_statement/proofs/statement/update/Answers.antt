@@ -1,5 +1,5 @@
 use Rattle.std.proofs.Common.{◌≤◌, length, map, sym, subst}
-use Rattle.sql_queries.specs.Trees.{maybe_tree, setting}
+use Rattle.sql_ast.specs.Queries.{maybe_tree, setting}
 use Rattle.stores.specs.declared.stores.Stores.{Stores}
 use Rattle.course.specs.Attempts.{MayGoOn}
 use Rattle.statement_steps.specs.Asks.{held_at}

@@ -1,6 +1,6 @@
 use Rattle.std.proofs.Common.{◌≡◌, true, ap, ◌∙◌, arith}
-use Rattle.sql_expressions.specs.declared.expr.Expr.{Not}
-use Rattle.sql_expressions.specs.Tree.{tree, inverted}
+use Rattle.sql_ast.specs.declared.expr.Expr.{Not}
+use Rattle.sql_ast.specs.Expressions.{tree, inverted}
 use Rattle.expression_binder.proofs.Checked.{not_bound}
 use Rattle.expression_binder.proofs.Trees.{part_less, not_is}
 use Rattle.expression_binder.proofs.meanings.+bind.Goals as goal

@@ -1,5 +1,5 @@
 use Rattle.std.proofs.Common.{◌≡◌, ◌++◌, map, drop}
-use Rattle.sql_expressions.specs.Tree.{listed, tree}
+use Rattle.sql_ast.specs.Expressions.{listed, tree}
 use Rattle.cond_logic.specs.Trees.{cond_tree}
 use Rattle.expression_binder.specs.Meanings.{each_side_faults, comparisons}
 use Rattle.expression_binder.proofs.meanings.bind_each.Given as goal

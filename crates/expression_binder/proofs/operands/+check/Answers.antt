@@ -1,6 +1,6 @@
 use Rattle.std.proofs.Common.{◌≡◌, ◌++◌, ◌∷◌, [], true, ap, ◌∙◌, sym, arith, codes}
-use Rattle.sql_expressions.specs.declared.expr.Expr.{Binary, Between}
-use Rattle.sql_expressions.specs.Tree.{tree, binary, between}
+use Rattle.sql_ast.specs.declared.expr.Expr.{Binary, Between}
+use Rattle.sql_ast.specs.Expressions.{tree, binary, between}
 use Rattle.expression_binder.specs.declared.scope.Allowed.{Allowed}
 use Rattle.expression_binder.specs.declared.typed.Typed.{Typed}
 use Rattle.expression_binder.specs.Faults.{left_out}

@@ -1,5 +1,5 @@
 use Rattle.std.proofs.Common.{◌≡◌, ◌+◌, ◌*◌, map, drop}
-use Rattle.sql_expressions.specs.Tree.{listed, tree}
+use Rattle.sql_ast.specs.Expressions.{listed, tree}
 use Rattle.expression_binder.specs.Operands.{operands_faults}
 use Rattle.expression_binder.proofs.Trees.{weight, weights}
 use Rattle.expression_binder.proofs.operands.+check.Given as goal

@@ -1,7 +1,7 @@
 use Rattle.std.proofs.Common.{List, ◌∙◌, map, sym, subst, ap, Err}
 use Rattle.pg_values.specs.declared.value.Value.{Value}
 use Rattle.history.specs.declared.catalogue.Table.{Table}
-use Rattle.sql_expressions.specs.Tree.{trees}
+use Rattle.sql_ast.specs.Expressions.{trees}
 use Rattle.statement_steps.specs.Steps.{IsStep}
 use Rattle.insert_statement.specs.Inserted.{rows_meant}
 use Rattle.insert_statement.proofs.Meant.{rows_done, rows_refused}

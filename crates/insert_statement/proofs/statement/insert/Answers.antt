@@ -1,5 +1,5 @@
 use Rattle.std.proofs.Common.{◌+◌, ◌≤◌, length, map, sym, subst}
-use Rattle.sql_expressions.specs.Tree.{trees}
+use Rattle.sql_ast.specs.Expressions.{trees}
 use Rattle.stores.specs.declared.stores.Stores.{Stores}
 use Rattle.statement_steps.specs.Asks.{held_at}
 use Rattle.statement_steps.proofs.Steps.{then_step, stop_step, may_go_on}

@@ -1,6 +1,6 @@
 use Rattle.std.proofs.Common.{◌+◌, List, map, sym, subst}
 use Rattle.pg_values.specs.declared.value.Value.{Value}
-use Rattle.sql_expressions.specs.Tree.{trees}
+use Rattle.sql_ast.specs.Expressions.{trees}
 use Rattle.statement_steps.specs.Steps.{IsStep}
 use Rattle.statement_steps.proofs.Steps.{then_step, stop_step}
 use Rattle.insert_statement.specs.Inserted.{rows_meant, into}

@@ -1,7 +1,7 @@
 use Rattle.std.proofs.Common.{◌≡◌, ◌∷◌, [], List, rules, sym, subst}
 use Rattle.std.proofs.lemmas.List.{nil_from_length}
 use Rattle.pg_ids.specs.declared.ids.TableNo.{TableNo}
-use Rattle.sql_commands.specs.declared.lists.LockedTable.{LockedTable}
+use Rattle.sql_ast.specs.declared.locked_table.LockedTable.{LockedTable}
 use Rattle.statement_steps.proofs.Parts.{no_memory}
 use Rattle.statement_steps.proofs.Steps.{goes_on}
 use Rattle.lock_statement.specs.Locked.{all_named}

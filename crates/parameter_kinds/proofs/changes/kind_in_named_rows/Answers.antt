@@ -1,5 +1,5 @@
 use Rattle.std.proofs.Common.{refl, map, ap, ◌∙◌}
-use Rattle.sql_expressions.specs.Tree.{trees}
+use Rattle.sql_ast.specs.Expressions.{trees}
 use Rattle.parameter_kinds.specs.Places.{kind_of}
 use Rattle.parameter_kinds.specs.Statements.{kind_named, row_places, value_places}
 use Rattle.parameter_kinds.proofs.Loops.{part_told, part_passed}

@@ -1,5 +1,5 @@
 use Rattle.std.proofs.Common.{◌+◌, map, drop, ap, ◌∙◌}
-use Rattle.sql_expressions.specs.Tree.{tree, listed}
+use Rattle.sql_ast.specs.Expressions.{tree, listed}
 use Rattle.expression_binder.proofs.Trees.{parts_step}
 use Rattle.parameter_kinds.specs.Places.{kind_of}
 use Rattle.parameter_kinds.specs.Statements.{column_kind, first_kind as first_of, value_place, value_places}

@@ -1,5 +1,5 @@
 use Rattle.std.proofs.Common.{◌≡◌, map, drop}
-use Rattle.sql_expressions.specs.Tree.{trees}
+use Rattle.sql_ast.specs.Expressions.{trees}
 use Rattle.parameter_kinds.specs.Places.{kind_of}
 use Rattle.parameter_kinds.specs.Statements.{column_kind, row_places}
 use Rattle.parameter_kinds.proofs.changes.kind_in_rows.Given as goal

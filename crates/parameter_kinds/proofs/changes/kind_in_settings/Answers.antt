@@ -1,5 +1,5 @@
 use Rattle.std.proofs.Common.{refl}
-use Rattle.sql_queries.specs.Trees.{setting}
+use Rattle.sql_ast.specs.Queries.{setting}
 use Rattle.parameter_kinds.specs.Statements.{setting_places, settings_places}
 use Rattle.parameter_kinds.proofs.Loops.{part_told, part_passed}
 use Rattle.parameter_kinds.proofs.changes.kind_in_settings.Goals as goal

@@ -1,5 +1,5 @@
 use Rattle.std.proofs.Common.{◌≡◌, map, drop}
-use Rattle.sql_queries.specs.Trees.{setting}
+use Rattle.sql_ast.specs.Queries.{setting}
 use Rattle.parameter_kinds.specs.Places.{kind_of}
 use Rattle.parameter_kinds.specs.Statements.{settings_places}
 use Rattle.parameter_kinds.proofs.changes.kind_in_settings.Given as goal

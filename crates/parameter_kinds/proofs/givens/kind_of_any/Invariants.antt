@@ -1,5 +1,5 @@
 use Rattle.std.proofs.Common.{◌≡◌, map, drop}
-use Rattle.sql_expressions.specs.Tree.{listed, tree}
+use Rattle.sql_ast.specs.Expressions.{listed, tree}
 use Rattle.parameter_kinds.specs.Places.{kind_of_any}
 use Rattle.parameter_kinds.proofs.givens.kind_of_any.Given as goal
 

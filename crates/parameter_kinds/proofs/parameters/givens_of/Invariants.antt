@@ -1,5 +1,5 @@
 use Rattle.std.proofs.Common.{◌≡◌, ◌++◌, map, drop}
-use Rattle.sql_expressions.specs.Tree.{listed, tree}
+use Rattle.sql_ast.specs.Expressions.{listed, tree}
 use Rattle.parameter_kinds.specs.Parameters as parameters
 use Rattle.parameter_kinds.proofs.parameters.givens_of.Given as goal
 

@@ -1,5 +1,5 @@
 use Rattle.std.proofs.Common.{◌≡◌, ◌+◌, ◌++◌, drop}
-use Rattle.sql_queries.specs.Trees.{row_tree}
+use Rattle.sql_ast.specs.Queries.{row_tree}
 use Rattle.parameter_kinds.specs.Parameters as parameters
 use Rattle.parameter_kinds.specs.Statements.{statement_places}
 use Rattle.parameter_kinds.proofs.parameters.wanted_in.Given as goal

@@ -1,6 +1,6 @@
 use Rattle.std.proofs.Common.{◌≡◌, ◌+◌, true, map, drop, ap, ◌∙◌, arith}
-use Rattle.sql_expressions.specs.declared.expr.Expr.{Binary, Between, In}
-use Rattle.sql_expressions.specs.Tree.{tree, trees, listed, binary, in_list, between}
+use Rattle.sql_ast.specs.declared.expr.Expr.{Binary, Between, In}
+use Rattle.sql_ast.specs.Expressions.{tree, trees, listed, binary, in_list, between}
 use Rattle.expression_binder.proofs.Trees.{part_less, parts_step, binary_is, between_is}
 use Rattle.parameter_kinds.specs.Places.{given, kind_of, part}
 use Rattle.parameter_kinds.proofs.Operands.{in_is, binary_found, in_found, between_found, part_tells, part_is_passed}

@@ -1,5 +1,5 @@
 use Rattle.std.proofs.Common.{◌≡◌, ◌+◌, ◌*◌, map, drop}
-use Rattle.sql_expressions.specs.Tree.{listed, tree}
+use Rattle.sql_ast.specs.Expressions.{listed, tree}
 use Rattle.expression_binder.proofs.Trees.{weight, weights}
 use Rattle.parameter_kinds.specs.Places.{kind_of, part_places}
 use Rattle.parameter_kinds.proofs.places.+place.Given as goal

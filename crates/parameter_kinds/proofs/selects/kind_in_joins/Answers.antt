@@ -1,5 +1,5 @@
 use Rattle.std.proofs.Common.{◌+◌, map, drop, ap, ◌∙◌}
-use Rattle.sql_queries.specs.Trees.{joined_tree, maybe_tree}
+use Rattle.sql_ast.specs.Queries.{joined_tree, maybe_tree}
 use Rattle.sql_binder.specs.From.{start_of}
 use Rattle.expression_binder.proofs.Lists.{later_step}
 use Rattle.parameter_kinds.specs.Places.{kind_of}

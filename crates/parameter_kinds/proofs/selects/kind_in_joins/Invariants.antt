@@ -1,5 +1,5 @@
 use Rattle.std.proofs.Common.{◌≡◌, map, drop}
-use Rattle.sql_queries.specs.Trees.{joined_tree}
+use Rattle.sql_ast.specs.Queries.{joined_tree}
 use Rattle.parameter_kinds.specs.Places.{kind_of}
 use Rattle.parameter_kinds.specs.Statements.{on_places}
 use Rattle.parameter_kinds.proofs.selects.kind_in_joins.Given as goal

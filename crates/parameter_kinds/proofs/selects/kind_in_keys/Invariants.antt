@@ -1,5 +1,5 @@
 use Rattle.std.proofs.Common.{◌≡◌, map, drop}
-use Rattle.sql_queries.specs.Trees.{key_tree}
+use Rattle.sql_ast.specs.Queries.{key_tree}
 use Rattle.parameter_kinds.specs.Places.{kind_of}
 use Rattle.parameter_kinds.specs.Statements.{keys_places}
 use Rattle.parameter_kinds.proofs.selects.kind_in_keys.Given as goal

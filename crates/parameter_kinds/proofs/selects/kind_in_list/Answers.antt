@@ -1,5 +1,5 @@
 use Rattle.std.proofs.Common.{refl}
-use Rattle.sql_queries.specs.Trees.{item_tree}
+use Rattle.sql_ast.specs.Queries.{item_tree}
 use Rattle.parameter_kinds.specs.Statements.{listed_places, list_places}
 use Rattle.parameter_kinds.proofs.Loops.{part_told, part_passed}
 use Rattle.parameter_kinds.proofs.selects.kind_in_list.Goals as goal

@@ -1,5 +1,5 @@
 use Rattle.std.proofs.Common.{◌≡◌, map, drop}
-use Rattle.sql_queries.specs.Trees.{item_tree}
+use Rattle.sql_ast.specs.Queries.{item_tree}
 use Rattle.parameter_kinds.specs.Places.{kind_of}
 use Rattle.parameter_kinds.specs.Statements.{list_places}
 use Rattle.parameter_kinds.proofs.selects.kind_in_list.Given as goal

@@ -1,5 +1,5 @@
 use Rattle.std.proofs.Common.{[], sym, subst, Err}
-use Rattle.sql_queries.specs.Trees.{select_tree}
+use Rattle.sql_ast.specs.Queries.{select_tree}
 use Rattle.sql_binder.specs.Selects.{bound_select}
 use Rattle.statement_asks.specs.Asked.{select_meant}
 use Rattle.statement_steps.specs.Steps.{IsStep}

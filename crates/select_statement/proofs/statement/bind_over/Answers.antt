@@ -1,6 +1,6 @@
 use Rattle.std.proofs.Common.{[], ◌≤◌, arith, map, length, subst, sym}
 use Rattle.table_trees.specs.Seen.{seen}
-use Rattle.sql_queries.specs.Trees.{select_tree}
+use Rattle.sql_ast.specs.Queries.{select_tree}
 use Rattle.sql_binder.specs.Selects.{from_of}
 use Rattle.statement_asks.specs.Asked.{select_meant}
 use Rattle.statement_steps.specs.Steps.{IsStep}

@@ -1,7 +1,7 @@
 use Rattle.std.proofs.Common.{◌+◌, ◌∙◌, [], map, subst, sym, ap, length, All, Ok, Err}
 use Rattle.std.proofs.lemmas.List.{length-map}
 use Rattle.pg_values.specs.declared.answer.Answer.{Answer}
-use Rattle.sql_queries.specs.Trees.{joined_tree, select_tree}
+use Rattle.sql_ast.specs.Queries.{joined_tree, select_tree}
 use Rattle.sql_binder.specs.Selects.{from_of}
 use Rattle.statement_steps.specs.Known.{IsKnownTo}
 use Rattle.statement_steps.specs.Steps.{IsStep}

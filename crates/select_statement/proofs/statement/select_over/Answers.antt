@@ -1,7 +1,7 @@
 use Rattle.std.proofs.Common.{◌+◌, map}
 use Rattle.pg_values.specs.declared.answer.Answer.{Answer}
 use Rattle.table_trees.specs.Seen.{seen}
-use Rattle.sql_queries.specs.Trees.{select_tree}
+use Rattle.sql_ast.specs.Queries.{select_tree}
 use Rattle.sql_binder.specs.Selects.{from_of}
 use Rattle.statement_asks.specs.Asked.{select_meant}
 use Rattle.plan_tree.specs.Plans.{plan_for}

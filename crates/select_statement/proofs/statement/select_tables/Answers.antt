@@ -1,6 +1,6 @@
 use Rattle.std.proofs.Common.{◌+◌, map}
 use Rattle.pg_values.specs.declared.answer.Answer.{Answer}
-use Rattle.sql_queries.specs.Trees.{select_tree}
+use Rattle.sql_ast.specs.Queries.{select_tree}
 use Rattle.statement_steps.proofs.Parts.{stays, no_memory}
 use Rattle.select_statement.specs.Below.{number_of}
 use Rattle.select_statement.specs.Selected.{of_tables}

@@ -2,7 +2,7 @@ use Rattle.std.proofs.Common.{◌+◌, ◌≡◌, ◌∙◌, All, map, subst, sy
 use Rattle.pg_values.specs.declared.answer.Answer.{Answer}
 use Rattle.std.proofs.lemmas.List.{length-map}
 use Rattle.table_trees.specs.Seen.{seen}
-use Rattle.sql_queries.specs.Trees.{select_tree}
+use Rattle.sql_ast.specs.Queries.{select_tree}
 use Rattle.statement_steps.proofs.Parts.{stays, no_memory}
 use Rattle.select_statement.specs.Below.{number_of}
 use Rattle.select_statement.specs.Lent.{IsTreeFor}

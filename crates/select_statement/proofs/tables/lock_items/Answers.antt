@@ -2,7 +2,7 @@ use Rattle.std.proofs.Common.{rules, ◌≡◌, ◌∷◌, ◌++◌, [], ap, ari
 use Rattle.std.proofs.lemmas.List.{length-map, nil_from_length}
 use Rattle.pg_ids.specs.declared.ids.TableNo.{TableNo}
 use Rattle.pg_ids.specs.declared.lock_mode.LockMode.TheVariants.{AccessShare}
-use Rattle.sql_queries.specs.Trees.{joined_tree}
+use Rattle.sql_ast.specs.Queries.{joined_tree}
 use Rattle.statement_steps.specs.Asks.{named}
 use Rattle.statement_steps.specs.Steps.{IsStep}
 use Rattle.select_statement.proofs.Naming.{AreNamed, numbers, none_named, one_named, stops_naming, runs_out, all_named, rest_same}

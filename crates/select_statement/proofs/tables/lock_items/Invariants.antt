@@ -1,5 +1,5 @@
 use Rattle.std.proofs.Common.{length, map}
-use Rattle.sql_queries.specs.Trees.{joined_tree}
+use Rattle.sql_ast.specs.Queries.{joined_tree}
 use Rattle.select_statement.proofs.Naming.{AreNamed, numbers}
 use Rattle.select_statement.proofs.tables.lock_items.Given as goal
 

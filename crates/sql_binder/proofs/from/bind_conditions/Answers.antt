@@ -1,7 +1,7 @@
 use Rattle.std.proofs.Common.{◌≡◌, Ok, map, ap, subst}
 use Rattle.cond_logic.specs.Trees.{cond_tree}
-use Rattle.sql_expressions.specs.Tree.{tree}
-use Rattle.sql_queries.specs.Trees.{joined_tree, maybe_tree}
+use Rattle.sql_ast.specs.Expressions.{tree}
+use Rattle.sql_ast.specs.Queries.{joined_tree, maybe_tree}
 use Rattle.expression_binder.specs.Firsts.{or_first}
 use Rattle.expression_binder.specs.Meanings.{constant_faults, meaning}
 use Rattle.sql_binder.proofs.Conditions.{made_with}

@@ -1,6 +1,6 @@
 use Rattle.std.proofs.Common.{◌≡◌, ◌++◌, map, drop}
 use Rattle.cond_logic.specs.Trees.{cond_tree}
-use Rattle.sql_queries.specs.Trees.{joined_tree}
+use Rattle.sql_ast.specs.Queries.{joined_tree}
 use Rattle.sql_binder.specs.From.{condition_constants, condition_meanings, on_conditions}
 use Rattle.sql_binder.proofs.from.bind_joins.Given as goal
 

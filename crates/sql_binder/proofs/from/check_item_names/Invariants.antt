@@ -1,5 +1,5 @@
 use Rattle.std.proofs.Common.{◌≡◌, [], map, take, drop}
-use Rattle.sql_queries.specs.Trees.{joined_tree}
+use Rattle.sql_ast.specs.Queries.{joined_tree}
 use Rattle.sql_binder.specs.From.{item_name, twice_faults}
 use Rattle.sql_binder.proofs.from.check_item_names.Given as goal
 

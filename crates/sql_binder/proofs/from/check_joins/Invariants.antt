@@ -1,5 +1,5 @@
 use Rattle.std.proofs.Common.{◌≡◌, map, drop}
-use Rattle.sql_queries.specs.Trees.{joined_tree}
+use Rattle.sql_ast.specs.Queries.{joined_tree}
 use Rattle.sql_binder.specs.From.{condition_faults, on_conditions}
 use Rattle.sql_binder.proofs.from.check_joins.Given as goal
 

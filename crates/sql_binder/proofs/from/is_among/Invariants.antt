@@ -1,7 +1,7 @@
 use Rattle.std.proofs.Common.{◌≡◌, map, drop}
 use Rattle.std.specs.List.{list_any}
 use Rattle.std.specs.Str.{bytes_eq}
-use Rattle.sql_queries.specs.Trees.{joined_tree}
+use Rattle.sql_ast.specs.Queries.{joined_tree}
 use Rattle.sql_binder.specs.From.{item_name}
 use Rattle.sql_binder.proofs.from.is_among.Given as goal
 

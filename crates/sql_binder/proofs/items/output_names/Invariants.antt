@@ -1,5 +1,5 @@
 use Rattle.std.proofs.Common.{◌≡◌, ◌++◌, map, drop}
-use Rattle.sql_queries.specs.Trees.{item_tree}
+use Rattle.sql_ast.specs.Queries.{item_tree}
 use Rattle.sql_binder.specs.Items.{list_names}
 use Rattle.sql_binder.proofs.items.output_names.Given as goal
 

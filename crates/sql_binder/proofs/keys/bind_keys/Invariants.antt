@@ -1,5 +1,5 @@
 use Rattle.std.proofs.Common.{◌≡◌, ◌++◌, map, drop}
-use Rattle.sql_queries.specs.Trees.{key_tree}
+use Rattle.sql_ast.specs.Queries.{key_tree}
 use Rattle.sql_binder.specs.Keys.{keys_constants, sort_keys}
 use Rattle.sql_binder.proofs.keys.bind_keys.Given as goal
 

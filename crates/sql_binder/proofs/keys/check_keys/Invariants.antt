@@ -1,5 +1,5 @@
 use Rattle.std.proofs.Common.{◌≡◌, map, drop}
-use Rattle.sql_queries.specs.Trees.{key_tree}
+use Rattle.sql_ast.specs.Queries.{key_tree}
 use Rattle.sql_binder.specs.Keys.{keys_faults}
 use Rattle.sql_binder.proofs.keys.check_keys.Given as goal
 

@@ -2,7 +2,7 @@ use Rattle.std.proofs.Common.{false, ap, sym, ◌∙◌}
 use Rattle.sql_expressions.specs.Grammar.{expression}
 use Rattle.sql_expressions.specs.Levels.{begins_expression}
 use Rattle.sql_expressions.specs.Parsed.{passed, refusal_of}
-use Rattle.sql_expressions.specs.Tree.{tree}
+use Rattle.sql_ast.specs.Expressions.{tree}
 use Rattle.sql_expressions.proofs.ParseLaws.{read_as, refused_as}
 use Rattle.sql_expressions.proofs.LevelLaws.{after_expression}
 use Rattle.sql_expressions.proofs.RuleLaws.{expression_law}

@@ -1,5 +1,5 @@
 use Rattle.std.proofs.Common.{ap, ◌∙◌, Ok}
-use Rattle.sql_expressions.specs.Tree.{tree}
+use Rattle.sql_ast.specs.Expressions.{tree}
 use Rattle.sql_queries.specs.Items.{ended}
 use Rattle.sql_queries.proofs.EndedCode.{found, syntax_stop, limit_stop}
 use Rattle.sql_queries.proofs.items.ended_at.Goals as goal

@@ -3,7 +3,7 @@ use Rattle.sql_expressions.specs.Parsed.{refusal_of}
 use Rattle.sql_expressions.proofs.ParseLaws.{read_as, refused_as}
 use Rattle.sql_syntax.specs.Block.{passed}
 use Rattle.sql_syntax.specs.Grammar.{block}
-use Rattle.sql_syntax.specs.Trees.{StatementTree, statement_tree}
+use Rattle.sql_ast.specs.Statements.{StatementTree, statement_tree}
 use Rattle.sql_syntax.proofs.StatementLaws.{after_block, begins_block, block_law}
 use Rattle.sql_syntax.proofs.parse.parse_block.Goals as goal
 

@@ -3,7 +3,7 @@ use Rattle.grammar_rules.specs.Repeats.{always, read_repeats}
 use Rattle.sql_tokens.specs.declared.kind.Kind.TheVariants as kinds
 use Rattle.sql_tokens.specs.Classes.{a}
 use Rattle.sql_syntax.specs.Grammar as grammar
-use Rattle.sql_syntax.specs.Trees.{statement_tree}
+use Rattle.sql_ast.specs.Statements.{statement_tree}
 use Rattle.sql_syntax.proofs.statements.more_statements.Given as goal
 
 -- the rest of the block is read from where the loop stands

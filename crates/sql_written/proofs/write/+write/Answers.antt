@@ -1,6 +1,6 @@
 use Rattle.std.proofs.Common.{◌≡◌, map, ◌+◌, ◌-◌, length, ap, ◌∙◌, arith, true, take, drop}
-use Rattle.sql_expressions.specs.declared.expr.Expr.{Binary, Between, In, IsNull, Not}
-use Rattle.sql_expressions.specs.Tree.{listed, tree, trees, binary, in_list, between, is_null, inverted}
+use Rattle.sql_ast.specs.declared.expr.Expr.{Binary, Between, In, IsNull, Not}
+use Rattle.sql_ast.specs.Expressions.{listed, tree, trees, binary, in_list, between, is_null, inverted}
 use Rattle.sql_written.specs.Chains as chains
 use Rattle.sql_written.specs.Written.{marks}
 use Rattle.sql_written.proofs.WriteSteps.{between_is, binary_is, in_is, not_is, null_is, between_text, binary_text, in_text, less_is, list_text, more_step, not_text, null_text, on_ok, parentheses_text, part_less, parts_split, parts_step, chain_text}

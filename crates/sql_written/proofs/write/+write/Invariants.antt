@@ -1,5 +1,5 @@
 use Rattle.std.proofs.Common.{◌≡◌, ◌++◌, ◌+◌, ◌*◌, map, drop}
-use Rattle.sql_expressions.specs.Tree.{listed, tree, trees}
+use Rattle.sql_ast.specs.Expressions.{listed, tree, trees}
 use Rattle.sql_written.specs.Marks.{text_of}
 use Rattle.sql_written.specs.Chains as chains
 use Rattle.sql_written.specs.Written.{more}

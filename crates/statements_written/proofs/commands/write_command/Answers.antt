@@ -1,5 +1,5 @@
 use Rattle.std.proofs.Common.{◌≡◌, ap, sym}
-use Rattle.sql_commands.specs.Trees.{attaches, bound_tree, command_tree, deallocates, detaches, makes_partition}
+use Rattle.sql_ast.specs.Commands.{attaches, bound_tree, command_tree, deallocates, detaches, makes_partition}
 use Rattle.statements_written.proofs.WriteCommands.{deallocate_text, same_command}
 use Rattle.statements_written.proofs.commands.write_command.Goals as goal
 

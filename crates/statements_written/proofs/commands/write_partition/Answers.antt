@@ -1,4 +1,4 @@
-use Rattle.sql_commands.specs.Trees.{bound_tree}
+use Rattle.sql_ast.specs.Commands.{bound_tree}
 use Rattle.statements_written.specs.Commands.{bound_marks, maybe_by}
 use Rattle.statements_written.proofs.WriteCommands.{partition_text}
 use Rattle.statements_written.proofs.commands.write_partition.Goals as goal

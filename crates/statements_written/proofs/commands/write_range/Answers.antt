@@ -1,4 +1,4 @@
-use Rattle.sql_commands.specs.Trees.{edges_of}
+use Rattle.sql_ast.specs.Commands.{edges_of}
 use Rattle.statements_written.specs.Commands.{edges}
 use Rattle.statements_written.proofs.WriteCommands.{range_text}
 use Rattle.statements_written.proofs.commands.write_range.Goals as goal

@@ -1,5 +1,5 @@
 use Rattle.std.specs.Prelude.{map}
-use Rattle.sql_syntax.specs.Trees.{statement_tree}
+use Rattle.sql_ast.specs.Statements.{statement_tree}
 use Rattle.statements_written.proofs.ReadsBack.{only, parsed}
 use Rattle.statements_written.proofs.laws.statements_read_back.Goals as goal
 

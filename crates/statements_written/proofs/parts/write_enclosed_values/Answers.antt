@@ -1,5 +1,5 @@
 use Rattle.std.proofs.Common.{◌++◌, List, ap, map, ◌∙◌, sym}
-use Rattle.sql_expressions.specs.Tree.{Tree, tree}
+use Rattle.sql_ast.specs.Expressions.{Tree, tree}
 use Rattle.sql_written.specs.Marks.{text_of}
 use Rattle.sql_written.specs.Written.{marks}
 use Rattle.sql_written.proofs.WriteSteps.{on_ok}

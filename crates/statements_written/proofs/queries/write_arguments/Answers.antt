@@ -1,5 +1,5 @@
 use Rattle.std.proofs.Common.{sym, ◌∙◌}
-use Rattle.sql_expressions.specs.Tree.{trees}
+use Rattle.sql_ast.specs.Expressions.{trees}
 use Rattle.statements_written.proofs.WriteQueries.{arguments_text}
 use Rattle.statements_written.proofs.queries.write_arguments.Goals as goal
 

@@ -1,6 +1,6 @@
 use Rattle.std.proofs.Common.{[], ◌∷◌}
 use Rattle.sql_tokens.specs.declared.kind.Kind.TheVariants as kinds
-use Rattle.sql_queries.specs.Trees.{maybe_tree}
+use Rattle.sql_ast.specs.Queries.{maybe_tree}
 use Rattle.sql_written.specs.Marks.{blank}
 use Rattle.sql_written.proofs.WriteSteps.{on_ok}
 use Rattle.statements_written.specs.Queries.{clause, table_marks}

@@ -1,6 +1,6 @@
 use Rattle.std.proofs.Common.{ℕ, List, map}
-use Rattle.sql_expressions.specs.Tree.{trees}
-use Rattle.sql_expressions.specs.declared.expr.ExprList.{ExprList}
+use Rattle.sql_ast.specs.Expressions.{trees}
+use Rattle.sql_ast.specs.declared.expr.ExprList.{ExprList}
 use Rattle.sql_written.specs.Marks.{bytes_of, text_of}
 use Rattle.sql_written.specs.Spelling as spelled
 use Rattle.sql_written.proofs.WriteSteps.{on_ok}

@@ -1,6 +1,6 @@
 use Rattle.std.proofs.Common.{map}
 use Rattle.sql_tokens.specs.declared.kind.Kind.TheVariants as kinds
-use Rattle.sql_queries.specs.Trees.{key_tree, maybe_tree}
+use Rattle.sql_ast.specs.Queries.{key_tree, maybe_tree}
 use Rattle.sql_written.proofs.WriteSteps.{on_ok}
 use Rattle.statements_written.specs.Queries.{clause, order_marks}
 use Rattle.statements_written.proofs.WriteQueries.{three_texts}

@@ -1,4 +1,4 @@
-use Rattle.sql_queries.specs.Trees.{row_tree}
+use Rattle.sql_ast.specs.Queries.{row_tree}
 use Rattle.sql_written.proofs.WriteSteps.{on_ok}
 use Rattle.statements_written.proofs.WriteQueries.{prepare_text}
 use Rattle.statements_written.proofs.queries.write_prepare.Goals as goal

@@ -1,9 +1,9 @@
 use Rattle.std.proofs.Common.{◌++◌, List, map}
 use Rattle.sql_tokens.specs.declared.kind.Kind.TheVariants as kinds
-use Rattle.sql_queries.specs.Trees.{item_tree, joined_tree, key_tree, maybe_tree}
-use Rattle.sql_queries.specs.declared.parts.FromItem.{FromItem}
-use Rattle.sql_queries.specs.declared.parts.SelectItem.{SelectItem}
-use Rattle.sql_queries.specs.declared.parts.SortKey.{SortKey}
+use Rattle.sql_ast.specs.Queries.{item_tree, joined_tree, key_tree, maybe_tree}
+use Rattle.sql_ast.specs.declared.select.FromItem.{FromItem}
+use Rattle.sql_ast.specs.declared.select.SelectItem.{SelectItem}
+use Rattle.sql_ast.specs.declared.select.SortKey.{SortKey}
 use Rattle.sql_written.specs.Marks.{text_of}
 use Rattle.sql_written.proofs.WriteSteps.{on_ok}
 use Rattle.statements_written.specs.Lists.{parts}

@@ -1,7 +1,7 @@
 use Rattle.std.proofs.Common.{List, map}
 use Rattle.sql_tokens.specs.declared.kind.Kind.TheVariants as kinds
-use Rattle.sql_queries.specs.Trees.{maybe_tree, setting}
-use Rattle.sql_queries.specs.declared.parts.Assignment.{Assignment}
+use Rattle.sql_ast.specs.Queries.{maybe_tree, setting}
+use Rattle.sql_ast.specs.declared.changes.Assignment.{Assignment}
 use Rattle.sql_written.specs.Marks.{text_of}
 use Rattle.sql_written.proofs.WriteSteps.{on_ok}
 use Rattle.statements_written.specs.Lists.{parts}

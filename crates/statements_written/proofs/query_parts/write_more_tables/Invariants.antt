@@ -1,5 +1,5 @@
 use Rattle.std.proofs.Common.{◌≡◌, ◌++◌, map, drop}
-use Rattle.sql_queries.specs.Trees.{joined_tree}
+use Rattle.sql_ast.specs.Queries.{joined_tree}
 use Rattle.sql_written.specs.Marks.{text_of}
 use Rattle.statements_written.specs.Queries.{more_tables}
 use Rattle.statements_written.proofs.query_parts.write_more_tables.Given as goal

@@ -1,4 +1,4 @@
-use Rattle.sql_expressions.specs.Tree.{tree}
+use Rattle.sql_ast.specs.Expressions.{tree}
 use Rattle.sql_written.specs.Written.{marks}
 use Rattle.sql_written.proofs.WriteSteps.{behind, on_ok}
 use Rattle.statements_written.specs.Queries.{alias_marks}

@@ -1,9 +1,9 @@
 use Rattle.std.proofs.Common.{◌≡◌, List, ℕ, ◌+◌, rules, sym, subst}
-use Rattle.sql_commands.specs.Trees.{bound_tree, command_tree, detaches}
-use Rattle.sql_commands.specs.declared.alter.Detachment.{Detachment}
-use Rattle.sql_commands.specs.declared.alter.Detachment.TheVariants.{AtOnce}
-use Rattle.sql_commands.specs.declared.lists.LockedTable.{LockedTable}
-use Rattle.sql_commands.specs.declared.tree.Command.{Command}
+use Rattle.sql_ast.specs.Commands.{bound_tree, command_tree, detaches}
+use Rattle.sql_ast.specs.declared.detachment.Detachment.{Detachment}
+use Rattle.sql_ast.specs.declared.detachment.Detachment.TheVariants.{AtOnce}
+use Rattle.sql_ast.specs.declared.locked_table.LockedTable.{LockedTable}
+use Rattle.sql_ast.specs.declared.command.Command.{Command}
 use Rattle.statement_steps.specs.Steps.{IsStep}
 use Rattle.table_statements.specs.Tables.{created}
 use Rattle.table_statements.specs.Partitions.{partitioned}

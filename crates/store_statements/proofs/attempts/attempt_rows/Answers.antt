@@ -1,7 +1,7 @@
 use Rattle.std.proofs.Common.{[], map, sym, subst}
-use Rattle.sql_expressions.specs.Tree.{trees}
-use Rattle.sql_queries.specs.Trees.{maybe_tree, row_tree, setting}
-use Rattle.sql_queries.specs.declared.statements.RowStatement.{RowStatement}
+use Rattle.sql_ast.specs.Expressions.{trees}
+use Rattle.sql_ast.specs.Queries.{maybe_tree, row_tree, setting}
+use Rattle.sql_ast.specs.declared.query.RowStatement.{RowStatement}
 use Rattle.insert_statement.specs.Inserted.{inserted}
 use Rattle.store_statements.specs.Attempted.{row_attempted}
 use Rattle.store_statements.specs.Printed.{IsStatement}

@@ -1,4 +1,4 @@
-use Rattle.sql_queries.specs.Trees.{select_tree}
+use Rattle.sql_ast.specs.Queries.{select_tree}
 use Rattle.select_statement.specs.Selected.{selected}
 use Rattle.store_statements.proofs.Whole.{tabled_is, tabled_stops}
 use Rattle.store_statements.proofs.attempts.attempt_select.Goals as goal

@@ -1,5 +1,5 @@
 use Rattle.std.proofs.Common.{◌≡◌, ◌++◌, map, drop}
-use Rattle.sql_commands.specs.Trees.{edges_of}
+use Rattle.sql_ast.specs.Commands.{edges_of}
 use Rattle.table_binder.specs.Bounds.{raw_edge}
 use Rattle.table_binder.proofs.bounds.raw_edges.Given as goal
 

@@ -1,5 +1,5 @@
 use Rattle.std.proofs.Common.{◌≡◌, ◌+◌, ◌*◌, map, drop}
-use Rattle.sql_expressions.specs.Tree.{listed, tree}
+use Rattle.sql_ast.specs.Expressions.{listed, tree}
 use Rattle.expression_binder.proofs.Trees.{weight, weights}
 use Rattle.table_binder.specs.Values.{values_faults}
 use Rattle.table_binder.proofs.values.+check.Given as goal

@@ -1,5 +1,5 @@
 use Rattle.std.proofs.Common.{◌+◌}
-use Rattle.sql_commands.specs.Trees.{bound_tree}
+use Rattle.sql_ast.specs.Commands.{bound_tree}
 use Rattle.statement_steps.proofs.Steps.{then_step, stop_step}
 use Rattle.table_statements.specs.Partitions.{parent_tested, claimed_and_placed}
 use Rattle.table_statements.proofs.partitions.claim_and_make.Goals as goal

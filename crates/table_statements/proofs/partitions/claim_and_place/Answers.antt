@@ -1,6 +1,6 @@
 use Rattle.std.proofs.Common.{◌+◌, List, ℕ, subst, Ok, Err}
 use Rattle.history.specs.History.{History}
-use Rattle.sql_commands.specs.Trees.{bound_tree}
+use Rattle.sql_ast.specs.Commands.{bound_tree}
 use Rattle.tx_table.specs.Stands.{TableStands}
 use Rattle.part_catalog.specs.Stands.{CatalogueStands}
 use Rattle.statement_steps.specs.Steps.{IsStep}

@@ -1,7 +1,7 @@
 use Rattle.std.proofs.Common.{◌+◌, ◌≤◌, sym, subst, length}
 use Rattle.statement_steps.specs.Asks.{held_at}
 use Rattle.statement_steps.proofs.Steps.{then_step, stop_step, may_go_on}
-use Rattle.sql_commands.specs.Trees.{bound_tree}
+use Rattle.sql_ast.specs.Commands.{bound_tree}
 use Rattle.stores.specs.declared.stores.Stores.{Stores}
 use Rattle.table_statements.specs.Partitions.{made_below}
 use Rattle.table_statements.proofs.partitions.create_partition.Goals as goal

@@ -7,7 +7,7 @@ use Rattle.history.specs.declared.catalogue.Table.{Table}
 use Rattle.part_catalog.specs.Found.{made_at}
 use Rattle.part_ddl.specs.Placing.{level_at, place_faults}
 use Rattle.part_ddl.specs.Tables.{KeysFit, count_faults}
-use Rattle.sql_commands.specs.Trees.{bound_tree}
+use Rattle.sql_ast.specs.Commands.{bound_tree}
 use Rattle.table_statements.specs.Partitions.{place_with, placed_bound}
 use Rattle.table_statements.specs.Seen.{seen_place}
 use Rattle.table_statements.specs.Tables.{level_by}

@@ -1,12 +1,13 @@
 -- Expressions as trees, without where they lie in memory (4.2 Value Expressions).
 use Rattle.std.specs.Prelude.{ℕ, Bool, List, [], ◌∷◌}
-use Rattle.sql_expressions.specs.declared.expr.Expr.{Expr}
-use Rattle.sql_expressions.specs.declared.expr.Expr.TheOpen.{Expr-F, ExprList-F, Leaf, Call, CallOfAll, Negated, Binary, In, Between, IsNull, Not, And, Or}
-use Rattle.sql_expressions.specs.declared.expr.Expr.TheFolds.{fold-Expr, fold-ExprList}
-use Rattle.sql_expressions.specs.declared.expr.ExprList.{ExprList}
-use Rattle.sql_expressions.specs.declared.leaf.Leaf.{Leaf as OneLeaf}
-use Rattle.sql_expressions.specs.declared.leaf.Operator.{Operator}
+use Rattle.sql_ast.specs.declared.expr.Expr.{Expr}
+use Rattle.sql_ast.specs.declared.expr.Expr.TheOpen.{Expr-F, ExprList-F, Leaf, Call, CallOfAll, Negated, Binary, In, Between, IsNull, Not, And, Or}
+use Rattle.sql_ast.specs.declared.expr.Expr.TheFolds.{fold-Expr, fold-ExprList}
+use Rattle.sql_ast.specs.declared.expr.ExprList.{ExprList}
+use Rattle.sql_ast.specs.declared.leaf.Leaf.{Leaf as OneLeaf}
+use Rattle.sql_ast.specs.declared.leaf.Operator.{Operator}
 
+-- an expression, and expressions in order
 mutual
   pub data Tree : Type 0 where
     leaf : OneLeaf → Tree
@@ -25,6 +26,7 @@ mutual
     no_more : Trees
     and_more : Tree → Trees → Trees
 
+-- trees in order
 abbrev pub listed : List Tree → Trees
 listed [] = no_more
 listed (t ∷ ts) = and_more t (listed ts)

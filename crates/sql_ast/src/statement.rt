@@ -1,5 +1,4 @@
-use sql_commands::Command;
-use sql_queries::Query;
+use crate::{Command, Query};
 
 /// A statement of a block.
 #[derive(Debug, Drop)]

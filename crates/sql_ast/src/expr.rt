@@ -1,5 +1,5 @@
 ghost use Rattle.std.specs.Prelude.{◌≡◌, map};
-ghost use Rattle.sql_expressions.specs.Tree.{listed, tree, trees};
+ghost use Rattle.sql_ast.specs.Expressions.{listed, tree, trees};
 
 use crate::{Leaf, Operator};
 use pg_values::PgText;

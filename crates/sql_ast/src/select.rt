@@ -1,12 +1,5 @@
+use crate::{Expr, ListOf, NamedTable};
 use pg_values::PgText;
-use sql_expressions::Expr;
-
-/// A table, and the name that it goes by in the statement where one is written.
-#[derive(Debug, Drop)]
-pub struct NamedTable {
-    pub name: PgText,
-    pub alias: Option<PgText>,
-}
 
 /// What a SELECT lists.
 #[derive(Debug, Drop)]
@@ -34,9 +27,13 @@ pub struct SortKey {
     pub nulls_first: bool,
 }
 
-/// A column and its new value.
+/// A SELECT. LIMIT ALL is no limit.
 #[derive(Debug, Drop)]
-pub struct Assignment {
-    pub column: PgText,
-    pub value: Expr,
+pub struct Select {
+    pub items: ListOf<SelectItem>,
+    pub from: ListOf<FromItem>,
+    pub condition: Option<Expr>,
+    pub order: ListOf<SortKey>,
+    pub limit: Option<Expr>,
+    pub offset: Option<Expr>,
 }

@@ -1,9 +1,9 @@
 use crate::{
-    BoundText, ColumnList, Detachment, Isolation, LockMode, LockedTableList, Partitioning,
+    BoundText, ColumnList, Detachment, Isolation, LockedTableList, NameList, Partitioning,
     SettingValue,
 };
+use pg_ids::LockMode;
 use pg_values::PgText;
-use sql_lists::NameList;
 
 /// A statement that reads and changes no rows, as its text says it.
 #[derive(Debug, Drop)]

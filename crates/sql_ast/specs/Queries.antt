@@ -1,19 +1,28 @@
--- Queries as trees, without where they lie in memory.
+-- Queries as trees, without where they lie in memory (VI. SQL Commands).
 use Rattle.std.specs.Prelude.{ℕ, Bool, List, Option, Some, None, map}
-use Rattle.sql_expressions.specs.Tree.{Tree, Trees, tree, trees}
-use Rattle.sql_expressions.specs.declared.expr.Expr.{Expr}
-use Rattle.sql_queries.specs.Items.{Item, all_columns, columns_of, one_column}
-use Rattle.sql_queries.specs.declared.parts.Assignment.{Assignment}
-use Rattle.sql_queries.specs.declared.parts.FromItem.{FromItem}
-use Rattle.sql_queries.specs.declared.parts.NamedTable.{NamedTable}
-use Rattle.sql_queries.specs.declared.parts.SelectItem.{SelectItem}
-use Rattle.sql_queries.specs.declared.parts.SelectItem.TheVariants as items
-use Rattle.sql_queries.specs.declared.parts.SortKey.{SortKey}
-use Rattle.sql_queries.specs.declared.statements.Query.{Query}
-use Rattle.sql_queries.specs.declared.statements.Query.TheVariants as queries
-use Rattle.sql_queries.specs.declared.statements.RowStatement.{RowStatement}
-use Rattle.sql_queries.specs.declared.statements.RowStatement.TheVariants as statements
-use Rattle.sql_queries.specs.declared.statements.Select.{Select}
+use Rattle.sql_ast.specs.Expressions.{Tree, Trees, tree, trees}
+use Rattle.sql_ast.specs.declared.changes.Assignment.{Assignment}
+use Rattle.sql_ast.specs.declared.expr.Expr.{Expr}
+use Rattle.sql_ast.specs.declared.named_table.NamedTable.{NamedTable}
+use Rattle.sql_ast.specs.declared.query.Query.{Query}
+use Rattle.sql_ast.specs.declared.query.Query.TheVariants as queries
+use Rattle.sql_ast.specs.declared.query.RowStatement.{RowStatement}
+use Rattle.sql_ast.specs.declared.query.RowStatement.TheVariants as statements
+use Rattle.sql_ast.specs.declared.select.FromItem.{FromItem}
+use Rattle.sql_ast.specs.declared.select.Select.{Select}
+use Rattle.sql_ast.specs.declared.select.SelectItem.{SelectItem}
+use Rattle.sql_ast.specs.declared.select.SelectItem.TheVariants as items
+use Rattle.sql_ast.specs.declared.select.SortKey.{SortKey}
+
+-- an expression, and its alias
+abbrev pub Output : Type 0
+Output = Tree × Option (List ℕ)
+
+-- what a SELECT lists: `*`, a table's name and `.*`, or an expression
+pub data Item : Type 0 where
+  all_columns : Item
+  columns_of : List ℕ → Item
+  one_column : Output → Item
 
 -- a table of FROM, and the condition of ON where it is joined
 abbrev pub Joined : Type 0
@@ -31,12 +40,14 @@ Setting = List ℕ × Tree
 pub data SelectTree : Type 0 where
   selected : List Item → List Joined → Option Tree → List Key → Option Tree → Option Tree → SelectTree
 
+-- a statement that reads or changes rows
 pub data RowTree : Type 0 where
   selects : SelectTree → RowTree
   inserts : List ℕ → Option (List (List ℕ)) → List Trees → RowTree
   updates : NamedTable → List Setting → Option Tree → RowTree
   deletes : NamedTable → Option Tree → RowTree
 
+-- such a statement alone, prepared, executed or explained
 pub data QueryTree : Type 0 where
   rows : RowTree → QueryTree
   prepares : List ℕ → List (List ℕ) → RowTree → QueryTree

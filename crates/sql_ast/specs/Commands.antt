@@ -1,31 +1,34 @@
--- Commands as trees, without where they lie in memory.
+-- Commands as trees, without where they lie in memory (VI. SQL Commands).
 use Rattle.std.specs.Prelude.{ℕ, Bool, List, Option, map}
-use Rattle.sql_expressions.specs.Tree.{Tree, Trees, tree, trees}
-use Rattle.sql_commands.specs.declared.bound.BoundText.{BoundText}
-use Rattle.sql_commands.specs.declared.bound.BoundText.TheVariants as bounds
-use Rattle.sql_commands.specs.declared.bound.EdgeText.{EdgeText}
-use Rattle.sql_commands.specs.declared.bound.EdgeText.TheVariants as edges
-use Rattle.sql_commands.specs.declared.tree.Command.{Command}
-use Rattle.sql_commands.specs.declared.tree.Command.TheVariants as commands
-use Rattle.sql_commands.specs.declared.alter.Detachment.{Detachment}
-use Rattle.sql_commands.specs.declared.transaction.Isolation.{Isolation}
-use Rattle.sql_commands.specs.declared.lock.LockMode.{LockMode}
-use Rattle.sql_commands.specs.declared.setting.SettingValue.{SettingValue}
-use Rattle.sql_commands.specs.declared.lists.ColumnDefinition.{ColumnDefinition}
-use Rattle.sql_commands.specs.declared.lists.LockedTable.{LockedTable}
-use Rattle.sql_commands.specs.declared.lists.Partitioning.{Partitioning}
+use Rattle.pg_ids.specs.declared.lock_mode.LockMode.{LockMode}
+use Rattle.sql_ast.specs.Expressions.{Tree, Trees, tree, trees}
+use Rattle.sql_ast.specs.declared.bound.BoundText.{BoundText}
+use Rattle.sql_ast.specs.declared.bound.BoundText.TheVariants as bounds
+use Rattle.sql_ast.specs.declared.bound.EdgeText.{EdgeText}
+use Rattle.sql_ast.specs.declared.bound.EdgeText.TheVariants as edges
+use Rattle.sql_ast.specs.declared.command.Command.{Command}
+use Rattle.sql_ast.specs.declared.command.Command.TheVariants as commands
+use Rattle.sql_ast.specs.declared.detachment.Detachment.{Detachment}
+use Rattle.sql_ast.specs.declared.isolation.Isolation.{Isolation}
+use Rattle.sql_ast.specs.declared.locked_table.LockedTable.{LockedTable}
+use Rattle.sql_ast.specs.declared.setting_value.SettingValue.{SettingValue}
+use Rattle.sql_ast.specs.declared.table_definition.ColumnDefinition.{ColumnDefinition}
+use Rattle.sql_ast.specs.declared.table_definition.Partitioning.{Partitioning}
 
+-- an edge of a range
 pub data Edge : Type 0 where
   min : Edge
   max : Edge
   at : Tree → Edge
 
+-- a partition bound: FROM and TO, IN, MODULUS and REMAINDER, or DEFAULT
 pub data Bound : Type 0 where
   range : List Edge → List Edge → Bound
   listed : Trees → Bound
   hash : ℕ → ℕ → Bound
   other : Bound
 
+-- a statement that reads and changes no rows
 pub data CommandTree : Type 0 where
   begins : Option Isolation → CommandTree
   commits : CommandTree
@@ -41,6 +44,7 @@ pub data CommandTree : Type 0 where
   deallocates : List ℕ → CommandTree
   deallocates_all : CommandTree
 
+-- the trees of what the code holds
 abbrev pub edge_tree : EdgeText → Edge
 edge_tree edges.MinValue = min
 edge_tree edges.MaxValue = max

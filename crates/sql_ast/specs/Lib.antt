@@ -1,0 +1,4 @@
+pub mod Commands
+pub mod Expressions
+pub mod Queries
+pub mod Statements

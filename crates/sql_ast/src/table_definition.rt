@@ -1,0 +1,28 @@
+use crate::{ListOf, NameList};
+use pg_values::PgText;
+
+/// A column, the name of its type, and whether it may not be null.
+#[derive(Debug, Drop)]
+pub struct ColumnDefinition {
+    pub name: PgText,
+    pub kind: PgText,
+    pub not_null: bool,
+}
+
+/// Columns in order.
+pub type ColumnList = ListOf<ColumnDefinition>;
+
+/// The strategy of PARTITION BY.
+#[derive(Clone, Copy, Debug, PartialEq, Eq)]
+pub enum Strategy {
+    Range,
+    List,
+    Hash,
+}
+
+/// How a table is partitioned: PARTITION BY, and the columns of its key.
+#[derive(Debug, Drop)]
+pub struct Partitioning {
+    pub strategy: Strategy,
+    pub columns: NameList,
+}
