@@ -6,7 +6,8 @@ ghost use Rattle.pg_values.specs.declared.value.Value.TheVariants.{Int4, Int8, D
 ghost use Rattle.pg_values.specs.declared.value.Value.TheVariants.{Null};
 ghost use Rattle.pg_values.specs.Days.{IsDay};
 ghost use Rattle.pg_values.specs.Spelling.{spelled};
-ghost use Rattle.value_rules.specs.Reads.{kind_of, IsCalendarDay};
+ghost use Rattle.pg_values.specs.Kinds.{kind_of};
+ghost use Rattle.value_rules.specs.Reads.{IsCalendarDay};
 
 use jiff_core::civil::Date;
 use pg_values::Value;
