@@ -1,8 +1,8 @@
 //! The answers here are worked by hand from the rules of CREATE TABLE.
 
 use crate::{bind_bound, bind_columns, bind_partitioning};
+use bound_forms::Level;
 use history::Columns;
-use part_bounds::Level;
 use pg_values::{Fault, NoMemory, Refusal};
 use sql_commands::{Command, command};
 use sql_tokens::read_tokens;
