@@ -7,8 +7,8 @@ use Rattle.std.proofs.lemmas.List.Elements.{All-contains}
 use Rattle.pg_values.specs.declared.value.Value.{Value}
 use Rattle.pg_ids.specs.declared.ids.TableNo.{TableNo}
 use Rattle.pg_ids.specs.declared.lock_mode.LockMode.TheVariants.{ShareUpdateExclusive, AccessExclusive}
-use Rattle.part_bounds.specs.declared.partition_bound.Bound.{Bound}
-use Rattle.part_bounds.specs.Accepts.{accepts, accepts_among, is_default}
+use Rattle.bound_forms.specs.declared.partition_bound.Bound.{Bound}
+use Rattle.bound_forms.specs.Accepts.{accepts, accepts_among, is_default}
 use Rattle.history.specs.declared.transaction.TxId.{TxId}
 use Rattle.history.specs.declared.version.Version.{Version}
 use Rattle.history.specs.declared.catalogue.Entry.{Entry}

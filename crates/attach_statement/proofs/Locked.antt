@@ -14,7 +14,7 @@ use Rattle.tx_table.specs.Stands.{TableStands}
 use Rattle.lock_answers.specs.Asked.{AskedView, AtOnce, WaitsBehind, ClosesCycle, asked, events_of}
 use Rattle.part_catalog.specs.Found.{resolved}
 use Rattle.part_catalog.specs.Stands.{CatalogueStands}
-use Rattle.part_bounds.specs.declared.partition_bound.Bound.{Bound}
+use Rattle.bound_forms.specs.declared.partition_bound.Bound.{Bound}
 use Rattle.part_ddl.specs.Below.{tables_from, IsTreeOf}
 use Rattle.stores.specs.declared.stores.Stores.{Stores}
 use Rattle.course.specs.Made.{Made, Halt, then_told}

@@ -2,7 +2,7 @@
 -- Locks).
 use Rattle.std.specs.Prelude.{ℕ, List, [], ◌∷◌, Some, length}
 use Rattle.pg_ids.specs.declared.lock_mode.LockMode.TheVariants.{ShareUpdateExclusive, AccessExclusive}
-use Rattle.part_bounds.specs.declared.partition_bound.Bound.{Bound as MeantBound}
+use Rattle.bound_forms.specs.declared.partition_bound.Bound.{Bound as MeantBound}
 use Rattle.history.specs.declared.catalogue.Entry.{Entry}
 use Rattle.history.specs.Catalogue.{EntryAdded, entries_added}
 use Rattle.history.specs.History.{History, CatalogueChange, catalogue_events}

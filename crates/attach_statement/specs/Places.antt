@@ -2,8 +2,8 @@
 use Rattle.std.specs.Prelude.{ℕ, ◌==◌, Bool, not, is_none, List, ◌++◌, Result, Ok}
 use Rattle.std.specs.List.{list_any}
 use Rattle.pg_values.specs.declared.fault.Fault.{Fault}
-use Rattle.part_bounds.specs.declared.partition_bound.Bound.{Bound as MeantBound}
-use Rattle.part_bounds.specs.Checks.{unless}
+use Rattle.bound_forms.specs.declared.partition_bound.Bound.{Bound as MeantBound}
+use Rattle.pg_values.specs.Refusals.{unless}
 use Rattle.history.specs.History.{History}
 use Rattle.table_trees.specs.Histories.{ddl_tree}
 use Rattle.table_trees.specs.Trees.{height}

@@ -2,8 +2,7 @@
 
 ghost use Rattle.std.specs.Prelude.{◌≡◌, ◌==◌, ◌<◌, ◌+◌, IfOk, is_some, length, nat_le};
 ghost use Rattle.std.specs.List.{list_any};
-ghost use Rattle.pg_values.specs.Refusals.{IsAnswer};
-ghost use Rattle.part_bounds.specs.Checks.{or_first, unless};
+ghost use Rattle.pg_values.specs.Refusals.{IsAnswer, or_first, unless};
 ghost use Rattle.pg_ids.specs.declared.which.Which.TheVariants.{Levels};
 ghost use Rattle.history.specs.History.{History};
 ghost use Rattle.tx_table.specs.Stands.{TableStands};
@@ -22,8 +21,8 @@ ghost use Rattle.attach_statement.specs.Places.{attach_place, table_faults};
 
 use crate::columns::check_columns;
 use crate::faults::{already_a_partition, is_above, stop_by, too_many};
+use bound_forms::Bound;
 use course::{Caller, Stop};
-use part_bounds::Bound;
 use part_catalog::{Catalog, LEVEL_LIMIT};
 use part_ddl::{check_place, parent_level};
 use pg_ids::{TableNo, Which};

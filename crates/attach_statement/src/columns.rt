@@ -1,7 +1,6 @@
 ghost use Rattle.std.specs.Prelude.{◌≡◌, Err};
 ghost use Rattle.attach_statement.specs.Faults.{does_not_match as does_not_match_column};
-ghost use Rattle.pg_values.specs.Refusals.{IsAnswer};
-ghost use Rattle.part_bounds.specs.Checks.{or_first};
+ghost use Rattle.pg_values.specs.Refusals.{IsAnswer, or_first};
 ghost use Rattle.attach_statement.specs.Columns as spec;
 
 use crate::faults::does_not_match;

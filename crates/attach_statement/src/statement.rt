@@ -15,11 +15,11 @@ ghost use Rattle.attach_statement.specs.Asked.{AreFrom, AreRowsClean, HasFamilyL
 ghost use Rattle.attach_statement.specs.Attached as attached;
 
 use crate::checking::place_found;
+use bound_forms::Bound;
 use course::{Caller, Stop};
 use legal_statements::{
     attach_may_follow, listed_is_there, named_is_there, none_breaks, there_is_known, tree_is_whole,
 };
-use part_bounds::Bound;
 use part_catalog::CatalogRefused;
 use part_ddl::passed_have_places;
 use partition_scans::{judge_default, judge_table, wait_for_snapshots};

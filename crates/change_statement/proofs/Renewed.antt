@@ -5,12 +5,10 @@ use Rattle.pg_values.specs.declared.value.Value.{Value}
 use Rattle.pg_values.specs.declared.fault.Fault.{Fault}
 use Rattle.pg_values.specs.declared.fault.Refusal.{Refusal}
 use Rattle.pg_values.specs.declared.fault.Refusal.TheVariants.{Sql, NoMemory}
-use Rattle.pg_values.specs.Refusals.{IsAnswer}
+use Rattle.pg_values.specs.Refusals.{IsAnswer, or_first, faults_in, read_in}
 use Rattle.pg_ids.specs.declared.ids.LeafId.{LeafId}
 use Rattle.pg_ids.specs.declared.ids.RowId.{RowId}
 use Rattle.pg_ids.specs.declared.ids.TableNo.{TableNo}
-use Rattle.part_bounds.specs.Checks.{or_first}
-use Rattle.part_bounds.specs.RawBounds.{faults_in, read_in}
 use Rattle.history.specs.declared.catalogue.Column.{Column}
 use Rattle.history.specs.Catalogue.{tables_made}
 use Rattle.history.specs.History.{History, catalogue_events}

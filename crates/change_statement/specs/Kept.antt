@@ -4,7 +4,7 @@ use Rattle.std.specs.Prelude.{◌==◌, ◌||◌, Bool, false, if◌then◌else�
 use Rattle.std.specs.List.{list_any}
 use Rattle.pg_ids.specs.declared.ids.LeafId.{LeafId}
 use Rattle.pg_ids.specs.declared.ids.TableNo.{TableNo}
-use Rattle.part_bounds.specs.declared.level.KeyColumn.{KeyColumn}
+use Rattle.bound_forms.specs.declared.level.KeyColumn.{KeyColumn}
 use Rattle.table_trees.specs.Trees.{TableTree, LeafTable, LevelTable, Trees, End, More}
 use Rattle.cond_logic.specs.Trees.{CondTree}
 use Rattle.pruned_trees.specs.Conditions.{all_hold}

@@ -9,8 +9,8 @@ ghost use Rattle.statement_asks.specs.Asked.{change_meant, maybe_cond, setting_m
 ghost use Rattle.change_statement.specs.Kept as kept_spec;
 ghost use Rattle.change_statement.specs.Kept.{keeps_for};
 
+use bound_forms::KeyColumn;
 use cond_logic::Cond;
-use part_bounds::KeyColumn;
 use pg_ids::{LeafId, TableNo};
 use pg_values::NoMemory;
 use pruned_trees::{KeptParts, NamedLeaf, all_hold, prune_tree};

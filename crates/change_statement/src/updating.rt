@@ -1,9 +1,8 @@
 //! A row version that is followed by another one.
 
 ghost use Rattle.std.specs.Prelude.{◌≡◌, ◌<◌, ◌∷◌, [], true, IfOk, MatchResult, length};
-ghost use Rattle.pg_values.specs.Refusals.{IsAnswer};
-ghost use Rattle.part_bounds.specs.Levels.{IsOf};
-ghost use Rattle.part_bounds.specs.Checks.{or_first};
+ghost use Rattle.pg_values.specs.Refusals.{IsAnswer, or_first};
+ghost use Rattle.bound_forms.specs.Levels.{IsOf};
 ghost use Rattle.history.specs.History.{History};
 ghost use Rattle.table_trees.specs.Seen.{seen};
 ghost use Rattle.table_trees.specs.Trees.{IsRowOf};
@@ -30,13 +29,12 @@ use history::Column;
 use insert_statement::leaves_of;
 use part_catalog::Catalog;
 use pg_ids::{LeafId, RowId};
-use pg_values::{Kind, Refusal, Row, Value};
+use pg_values::{Kind, Refusal, Row, Value, kind_of};
 use row_change::{check_leaf, leaf_targets, succeed_row};
 use row_targets::new_row;
 use std::alloc::Global;
 use std::slice::from_ref;
 use stores::{Stores, trees_are_together};
-use value_rules::kind_of;
 
 // ---- the new row
 

@@ -5,16 +5,16 @@ use Rattle.std.specs.Ordering.{is_gt, is_lt}
 use Rattle.std.proofs.lemmas.Bool.{cases_Bool}
 use Rattle.std.proofs.lemmas.Bool.Decides.{nat_tests}
 use Rattle.std.proofs.lemmas.List.Elements.{All-nil, All-cons, All-head, All-tail, filter-append}
-use Rattle.part_bounds.specs.declared.partition_bound.Bound.{Bound}
-use Rattle.part_bounds.specs.declared.partition_bound.Bound.TheVariants.{Range, List as Listed, Hash, Default}
-use Rattle.part_bounds.specs.Bounds.{comes_after, overlaps, are_siblings, is_filled}
-use Rattle.part_bounds.specs.Points.{point_order}
-use Rattle.part_bounds.proofs.PointOrder.{point_total}
-use Rattle.part_bounds.proofs.TotalOrder.{gt-le, le_trans, lt-gt}
-use Rattle.part_bounds.proofs.OverlapLaws.{overlap_of_filled}
-use Rattle.part_bounds.proofs.ListedLaws.{shared_least}
-use Rattle.part_bounds.proofs.Residues.{meets_self}
-use Rattle.part_bounds.proofs.PlainOrder.{plain_total, either_order}
+use Rattle.bound_forms.specs.declared.partition_bound.Bound.{Bound}
+use Rattle.bound_forms.specs.declared.partition_bound.Bound.TheVariants.{Range, List as Listed, Hash, Default}
+use Rattle.bound_forms.specs.Bounds.{comes_after, overlaps, are_siblings, is_filled}
+use Rattle.bound_forms.specs.Points.{point_order}
+use Rattle.bound_forms.proofs.PointOrder.{point_total}
+use Rattle.bound_forms.proofs.TotalOrder.{gt-le, le_trans, lt-gt}
+use Rattle.bound_forms.proofs.OverlapLaws.{overlap_of_filled}
+use Rattle.bound_forms.proofs.ListedLaws.{shared_least}
+use Rattle.bound_forms.proofs.Residues.{meets_self}
+use Rattle.bound_forms.proofs.PlainOrder.{plain_total, either_order}
 use Rattle.history.specs.declared.catalogue.Entry.{Entry}
 use Rattle.history.specs.declared.catalogue.Table.{Table}
 use Rattle.history.specs.declared.catalogue.TableShape.{TableShape}

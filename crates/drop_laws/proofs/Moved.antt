@@ -5,10 +5,10 @@ use Rattle.std.proofs.lemmas.Bool.{cases_Bool, cases_lt}
 use Rattle.std.proofs.lemmas.Grind.{common_steps, elements}
 use Rattle.std.proofs.lemmas.List.{length-append, get_or-append-add}
 use Rattle.std.proofs.lemmas.List.Elements.{All-nil, All-cons, All-head, All-tail, All-contains, filter-append}
-use Rattle.part_bounds.specs.declared.partition_bound.Bound.{Bound}
-use Rattle.part_bounds.specs.Bounds.{is_filled}
-use Rattle.part_bounds.proofs.LevelLaws.{level_filled}
-use Rattle.part_bounds.proofs.PlainOrder.{pairs-head, pairs-tail}
+use Rattle.bound_forms.specs.declared.partition_bound.Bound.{Bound}
+use Rattle.bound_forms.specs.Bounds.{is_filled}
+use Rattle.bound_forms.proofs.LevelLaws.{level_filled}
+use Rattle.bound_forms.proofs.PlainOrder.{pairs-head, pairs-tail}
 use Rattle.history.specs.declared.catalogue.Check.{Check}
 use Rattle.history.specs.declared.catalogue.Entry.{Entry}
 use Rattle.history.specs.declared.catalogue.Stamp.{Stamp}

@@ -1,3 +1,4 @@
+pub mod Holders
 pub mod Open
 pub mod Settled
 pub mod Stays

@@ -8,6 +8,10 @@ use Rattle.history.specs.Snapshots.{TakenSnapshot, held_by}
 use Rattle.history.specs.Rows.{RowBorn, RowEnded}
 use Rattle.history.specs.History.{Event, History, TxChange, RowChange, tx_events, snapshot_events, versions, end_of, sees_end, is_seen, seen}
 use Rattle.history.specs.Legal.{IsLegal}
+use Rattle.pg_ids.specs.Modes.{conflicts}
+use Rattle.pg_ids.specs.declared.lock_mode.LockMode.{LockMode}
+use Rattle.history.specs.Locks.{LockEvents, holds}
+use Rattle.history.specs.LocksSound.{AreLocksSound}
 
 -- a version of a transaction that had committed is shown to each snapshot taken since, until that sees an
 -- end of it
@@ -57,3 +61,7 @@ HeldWasTaken = (h : History) (session : ℕ) (s : TakenSnapshot) → IsLegal h �
 abbrev pub SeenBeforeItsEnd : Type 0
 SeenBeforeItsEnd = (h : History) (v : Version) (e : End) (early late : TakenSnapshot) → IsSound (tx_events h) → IsPast early.past late.past → IsPast late.past (tx_events h)
     → end_of h v.id.number ≡ Some e → is_seen h late v ≡ true → is_committed (fate early.past e.by.number) ≡ false
+
+-- two sessions never hold conflicting modes on one table
+abbrev pub NoTwoConflict : Type 0
+NoTwoConflict = (h : LockEvents) (x y t : ℕ) (a b : LockMode) → AreLocksSound h → x ≢ y → holds h x t a ≡ true → holds h y t b ≡ true → conflicts a b ≡ false

@@ -1,7 +1,7 @@
 ghost use Rattle.std.specs.Prelude.{◌≡◌, ◌++◌, ◌∷◌, [], length, OnOk, OnErr, IfOk};
 
 use crate::TxId;
-use part_bounds::{Bound, Level};
+use bound_forms::{Bound, Level};
 use pg_ids::{LeafId, TableNo};
 use pg_values::{Kind, NoMemory, PgText};
 use std::alloc::Global;

@@ -1,4 +1,4 @@
-ghost use Rattle.history.specs.Laws.{CommittedStaysSeen, AlikeSeeAlike, AbortUndoes, SeenBeforeItsEnd, OthersChangeNothing, HeldWasTaken};
+ghost use Rattle.history.specs.Laws.{CommittedStaysSeen, AlikeSeeAlike, AbortUndoes, SeenBeforeItsEnd, OthersChangeNothing, HeldWasTaken, NoTwoConflict};
 
 /// What was committed stays seen by every later snapshot, until that sees an end of it.
 pub fn committed_stays_seen()
@@ -29,4 +29,9 @@ pub fn others_change_nothing()
 /// A snapshot that is held was taken at some place of the history.
 pub fn held_was_taken()
     ensures { HeldWasTaken }
+{}
+
+/// Two sessions never hold conflicting modes on one table.
+pub fn no_two_conflict()
+    ensures { NoTwoConflict }
 {}

@@ -4,7 +4,7 @@ use Rattle.std.specs.List.{Contains}
 use Rattle.pg_values.specs.declared.value.Value.{Value}
 use Rattle.pg_ids.specs.declared.ids.LeafId.{LeafId}
 use Rattle.pg_ids.specs.declared.ids.TableNo.{TableNo}
-use Rattle.part_bounds.specs.declared.level.Level.{Level as OneLevel}
+use Rattle.bound_forms.specs.declared.level.Level.{Level as OneLevel}
 use Rattle.history.specs.declared.catalogue.TableShape.TheVariants.{Level}
 use Rattle.history.specs.Snapshots.{TakenSnapshot}
 use Rattle.history.specs.Transactions.{open_of}

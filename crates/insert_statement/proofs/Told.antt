@@ -9,7 +9,7 @@ use Rattle.pg_ids.specs.declared.ids.LeafId.{LeafId}
 use Rattle.pg_ids.specs.declared.ids.TableNo.{TableNo}
 use Rattle.history.specs.declared.catalogue.TableShape.TheVariants.{Leaf, Level}
 use Rattle.history.specs.History.{History}
-use Rattle.part_bounds.specs.declared.level.Level.{Level as OneLevel}
+use Rattle.bound_forms.specs.declared.level.Level.{Level as OneLevel}
 use Rattle.table_trees.specs.declared.path_part.PathPart.{PathPart}
 use Rattle.table_trees.specs.Histories.{path_of}
 use Rattle.table_trees.specs.Trees.{TableTree}

@@ -7,7 +7,7 @@ use Rattle.pg_values.specs.declared.value.Value.{Value}
 use Rattle.pg_values.specs.declared.value.Value.TheVariants.{Null, Int4, Int8, Text, Day, Truth}
 use Rattle.pg_values.specs.declared.fault.Fault.{Fault}
 use Rattle.pg_ids.specs.declared.ids.TableNo.{TableNo}
-use Rattle.part_bounds.specs.Levels.{IsOf}
+use Rattle.bound_forms.specs.Levels.{IsOf}
 use Rattle.history.specs.declared.catalogue.Column.{Column}
 use Rattle.history.specs.Catalogue.{tables_made}
 use Rattle.history.specs.History.{History, catalogue_events}

@@ -2,7 +2,7 @@
 
 ghost use Rattle.std.specs.Prelude.{◌≡◌, ◌+◌, ◌<◌, ◌≤◌, All, IfOk, length, map};
 ghost use Rattle.pg_values.specs.Refusals.{IsAnswer};
-ghost use Rattle.part_bounds.specs.declared.level.Level.{Level as OneLevel};
+ghost use Rattle.bound_forms.specs.declared.level.Level.{Level as OneLevel};
 ghost use Rattle.pg_ids.specs.declared.lock_mode.LockMode.TheVariants.{RowExclusive};
 ghost use Rattle.history.specs.declared.catalogue.TableShape.TheVariants.{Level};
 ghost use Rattle.history.specs.History.{History};

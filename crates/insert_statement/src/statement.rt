@@ -1,6 +1,6 @@
 ghost use Rattle.std.specs.Prelude.{◌≡◌, ◌+◌, ◌<◌, ◌≤◌, [], ◌∷◌, Some, None, map, length};
 ghost use Rattle.history.specs.declared.catalogue.TableShape.TheVariants.{Leaf, Level};
-ghost use Rattle.part_bounds.specs.declared.level.Level.{Level as OneLevel};
+ghost use Rattle.bound_forms.specs.declared.level.Level.{Level as OneLevel};
 ghost use Rattle.history.specs.History.{History};
 ghost use Rattle.part_catalog.specs.Stands.{CatalogueStands};
 ghost use Rattle.sql_ast.specs.Expressions.{trees};

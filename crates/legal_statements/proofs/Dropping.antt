@@ -2,7 +2,7 @@
 use Rattle.std.proofs.Common.{◌≡◌, ◌≢◌, ℕ, ◌<◌, List, [], ◌∷◌, ◌++◌, inl, inr, refl, sym, subst, ◌∙◌, None, arith, append_assoc, length}
 use Rattle.std.proofs.lemmas.List.{append-nil}
 use Rattle.std.specs.List.{AllPairs, Contains}
-use Rattle.part_bounds.proofs.PlainOrder.{pairs-head, pairs-tail}
+use Rattle.bound_forms.proofs.PlainOrder.{pairs-head, pairs-tail}
 use Rattle.history.specs.declared.catalogue.Entry.{Entry}
 use Rattle.history.specs.declared.catalogue.Stamp.{Stamp}
 use Rattle.history.specs.Catalogue.{TableDropped, EntryEnded, entries_added, entry_ends, counted_of}

@@ -1,7 +1,7 @@
 -- New tables may follow.
 use Rattle.std.proofs.Common.{◌≡◌, ◌≢◌, ◌<◌, [], ◌∷◌, inl, inr, ap, sym, subst, ◌∙◌, arith}
 use Rattle.pg_ids.specs.declared.ids.LeafId.{LeafId}
-use Rattle.part_bounds.specs.declared.level.Level.{Level}
+use Rattle.bound_forms.specs.declared.level.Level.{Level}
 use Rattle.history.specs.declared.version.Version.{Version}
 use Rattle.history.specs.declared.catalogue.Table.{Table}
 use Rattle.history.specs.declared.catalogue.TableShape.TheVariants.{Leaf, Level as Levels}

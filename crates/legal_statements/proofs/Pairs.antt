@@ -6,8 +6,8 @@ use Rattle.std.proofs.lemmas.List.{length-append, get_or_append_left}
 use Rattle.std.proofs.lemmas.List.Elements.{All-cons, All-nil, All-head, All-tail, Contains-get_or, Contains-append_cases}
 use Rattle.std.proofs.lemmas.List.Kept.{AllPairs-cons, AllPairs-filter}
 use Rattle.std.proofs.Math.Seq.{get_or-append_seam}
-use Rattle.part_bounds.proofs.PlainOrder.{pairs-head, pairs-tail}
-use Rattle.part_bounds.specs.Bounds.{comes_after}
+use Rattle.bound_forms.proofs.PlainOrder.{pairs-head, pairs-tail}
+use Rattle.bound_forms.specs.Bounds.{comes_after}
 use Rattle.history.specs.declared.catalogue.Entry.{Entry}
 use Rattle.history.specs.Catalogue.{TableMade, TableDropped, EntryAdded, EntryEnded, EntryMarked, CheckKept, entries_added}
 use Rattle.history.specs.History.{History, TxChange, SnapshotChange, RowChange, CatalogueChange, LockChange, catalogue_events}

@@ -4,7 +4,7 @@ use Rattle.std.specs.List.{AllPairs, Contains}
 use Rattle.std.proofs.lemmas.Bool.{cases_Bool}
 use Rattle.std.proofs.lemmas.Bool.Decides.{nat_tests}
 use Rattle.std.proofs.lemmas.List.Elements.{Contains-append_left, Contains-append_right, Contains-append_cases}
-use Rattle.part_bounds.proofs.PlainOrder.{pairs-head, pairs-tail}
+use Rattle.bound_forms.proofs.PlainOrder.{pairs-head, pairs-tail}
 use Rattle.history.specs.declared.catalogue.Entry.{Entry}
 use Rattle.history.specs.Transactions.{open_of}
 use Rattle.history.specs.History.{History, tx_events}

@@ -2,7 +2,7 @@
 -- TABLE, PARTITION OF, and ALTER TABLE, ATTACH and DETACH PARTITION).
 use Rattle.std.specs.Prelude.{◌≡◌, ◌≢◌, ℕ, true, false, Some, None, length}
 use Rattle.std.specs.List.{Contains}
-use Rattle.part_bounds.specs.Accepts.{accepts, is_default}
+use Rattle.bound_forms.specs.Accepts.{accepts, is_default}
 use Rattle.history.specs.declared.version.Version.{Version}
 use Rattle.history.specs.declared.catalogue.Entry.{Entry}
 use Rattle.history.specs.declared.catalogue.Stamp.{Stamp}

@@ -1,5 +1,4 @@
 pub mod Chains
-pub mod Holders
 pub mod Lists
 pub mod Queues
 pub mod Readiness

@@ -1,5 +1,5 @@
 -- Who is ready, and who keeps its place.
-use Rattle.std.proofs.Common.{◌≡◌, ◌≢◌, ℕ, ◌<◌, ◌==◌, ◌&&◌, ◌||◌, not, Bool, true, false, List, [], ◌∷◌, ◌++◌, Option, Some, None, find, filter, nat_eq, inl, inr, refl, sym, ap, ◌∙◌, subst, arith}
+use Rattle.std.proofs.Common.{◌≡◌, ℕ, Bool, true, false, List, [], ◌∷◌, ◌++◌, Some, find, nat_eq, inl, inr, refl, sym, ap, ◌∙◌, subst, arith}
 use Rattle.std.specs.List.{list_any}
 use Rattle.std.proofs.lemmas.Grind.{common_steps}
 use Rattle.std.proofs.lemmas.Bool.{cases_Bool, cases_eq}
@@ -8,17 +8,10 @@ use Rattle.pg_ids.specs.Sets.{nobody}
 use Rattle.pg_ids.proofs.Bits.{nobody_is, somebody_is}
 use Rattle.history.specs.Locks.{LockEvent, LockEvents, LockGot, LocksGivenUp, SnapshotGone, WaitBegan, WaitResumed, WaitWithdrawn, queue, removed}
 use Rattle.history.specs.Waits.{before, waits_for, ready}
+use Rattle.history.proofs.Holders.{ready_nobody}
 use Rattle.lock_table.specs.Laws.{IsOldestReady}
 
--- what is found passes the test
-found_passes : (p : ℕ → Bool) (q : List ℕ) (x : ℕ) → find p q ≡ Some x → p x ≡ true
-found_passes p [] x e = absurd (cc)
-found_passes p (y ∷ ys) x e = elim (cases_Bool (p y)) [
-  | inl t ↦ let e' : Some y ≡ Some x = rw t at e in let same : y ≡ x = cc in subst (λ z. p z ≡ true) same t
-  | inr f ↦ let e' = rw f at e in found_passes p ys x e'
-]
-
--- and nothing before it does
+-- nothing before what is found passes the test
 none_before : (p : ℕ → Bool) (q : List ℕ) (x z : ℕ) → find p q ≡ Some x → list_any (nat_eq z) (before x q) ≡ true → p z ≡ false
 none_before p [] x z e t = absurd (cc)
 none_before p (y ∷ ys) x z e t = elim (cases_Bool (p y)) [
@@ -33,9 +26,6 @@ none_before p (y ∷ ys) x z e t = elim (cases_Bool (p y)) [
         | inr apart ↦ none_before p ys x z e' (grind (arith, common_steps, nat_tests, t))
       ]
 ]
-
-pub ready_nobody : (h : LockEvents) (x : ℕ) → ready h ≡ Some x → nobody (waits_for h x) ≡ true
-ready_nobody h x e = found_passes (λ z. nobody (waits_for h z)) (queue h) x e
 
 pub oldest_ready : (h : LockEvents) (x : ℕ) → ready h ≡ Some x → IsOldestReady h x
 oldest_ready h x e = record {

@@ -7,11 +7,6 @@ use Rattle.pg_ids.specs.declared.lock_mode.LockMode.{LockMode}
 use Rattle.history.specs.declared.wait.Wanted.TheVariants.{Lock}
 use Rattle.history.specs.Locks.{LockEvent, LockEvents, holds, holds_against, wanted, queue}
 use Rattle.history.specs.Waits.{before, is_cause, waits_for, ready, IsLeastCycle}
-use Rattle.history.specs.LocksSound.{AreLocksSound}
-
--- two sessions never hold conflicting modes on one table
-abbrev pub NoTwoConflict : Type 0
-NoTwoConflict = (h : LockEvents) (x y t : ℕ) (a b : LockMode) → AreLocksSound h → x ≢ y → holds h x t a ≡ true → holds h y t b ≡ true → conflicts a b ≡ false
 
 -- whoever stands before a waiter stood there before the event, too: nobody overtakes
 abbrev pub WaitersKeepTheirPlace : Type 0

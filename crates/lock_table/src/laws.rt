@@ -1,9 +1,4 @@
-ghost use Rattle.lock_table.specs.Laws.{NoTwoConflict, WaitersKeepTheirPlace, ReadyHasNoCause, FirstComeFirstServed, OneCycleIsTold};
-
-/// Two sessions never hold conflicting modes on one table.
-pub fn no_two_conflict()
-    ensures { NoTwoConflict }
-{}
+ghost use Rattle.lock_table.specs.Laws.{WaitersKeepTheirPlace, ReadyHasNoCause, FirstComeFirstServed, OneCycleIsTold};
 
 /// A waiter keeps its place until its wait is over: nobody comes to stand before it.
 pub fn waiters_keep_their_place()

@@ -26,7 +26,6 @@ mod tests;
 
 pub use asked::Asked;
 pub use laws::{
-    first_come_first_served, no_two_conflict, one_cycle_is_told, ready_has_no_cause,
-    waiters_keep_their_place,
+    first_come_first_served, one_cycle_is_told, ready_has_no_cause, waiters_keep_their_place,
 };
 pub use table::LockTable;

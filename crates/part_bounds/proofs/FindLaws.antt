@@ -8,15 +8,15 @@ use Rattle.std.specs.declared.cmp.Ordering.TheVariants.{Less, Equal, Greater}
 use Rattle.std.proofs.lemmas.Bool.{cases_lt}
 use Rattle.std.proofs.lemmas.Slice.Zip.{AllZip-long}
 use Rattle.pg_values.specs.declared.value.Value.{Value}
-use Rattle.part_bounds.specs.declared.partition_bound.Bound.{Bound}
-use Rattle.part_bounds.specs.declared.partition_bound.Bound.TheVariants.{Range, List as Listed, Hash, Default}
-use Rattle.part_bounds.specs.declared.point.Edge.{Edge}
-use Rattle.part_bounds.specs.declared.point.Fill.TheVariants.{Min as WithMin}
-use Rattle.part_bounds.specs.Points.{point_order, point_of, is_null, EdgesFit, PointsFit}
-use Rattle.part_bounds.specs.Listed.{only, ValuesFit}
-use Rattle.part_bounds.specs.Accepts.{accepts, has_null, lies_between, FitsBound, FitsSet}
-use Rattle.part_bounds.specs.Stored.{Each, InRow, points_in, range_points, stored, width, end_of, passes, TellsEqual, of_ranges, IsRangeLevel, FitsEnd, Splits}
-use Rattle.part_bounds.proofs.Choice.{position_none, position_at}
+use Rattle.bound_forms.specs.declared.partition_bound.Bound.{Bound}
+use Rattle.bound_forms.specs.declared.partition_bound.Bound.TheVariants.{Range, List as Listed, Hash, Default}
+use Rattle.bound_forms.specs.declared.point.Edge.{Edge}
+use Rattle.bound_forms.specs.declared.point.Fill.TheVariants.{Min as WithMin}
+use Rattle.bound_forms.specs.Points.{point_order, point_of, is_null, EdgesFit, PointsFit, end_of}
+use Rattle.bound_forms.specs.Listed.{only, ValuesFit}
+use Rattle.bound_forms.specs.Accepts.{accepts, has_null, lies_between, FitsBound, FitsSet}
+use Rattle.part_bounds.specs.Stored.{Each, InRow, points_in, range_points, stored, width, passes, TellsEqual, of_ranges, IsRangeLevel, FitsEnd, Splits}
+use Rattle.bound_forms.proofs.Choice.{position_none, position_at}
 use Rattle.part_bounds.proofs.StoredLaws.{ChildAt, RangeAt, child_at, each_of, each_stored, stored_row}
 
 gt_if : (r : Ordering) → is_le r ≡ false → is_gt r ≡ true

@@ -11,18 +11,18 @@ use Rattle.std.proofs.lemmas.List.Folds.{list_any_none, list_any_at}
 use Rattle.pg_values.specs.declared.value.Value.{Value}
 use Rattle.pg_values.specs.declared.value.Value.TheVariants.{Null, Int4, Int8, Text, Day, Truth}
 use Rattle.pg_values.specs.Order.{order}
-use Rattle.part_bounds.specs.declared.partition_bound.Bound.{Bound}
-use Rattle.part_bounds.specs.declared.partition_bound.Bound.TheVariants.{Range, List as Listed, Hash, Default}
+use Rattle.bound_forms.specs.declared.partition_bound.Bound.{Bound}
+use Rattle.bound_forms.specs.declared.partition_bound.Bound.TheVariants.{Range, List as Listed, Hash, Default}
 use Rattle.part_bounds.specs.declared.listing.Listing.{Listing}
-use Rattle.part_bounds.specs.declared.point.Edge.{Edge}
-use Rattle.part_bounds.specs.Points.{point_order, point_of, is_null}
-use Rattle.part_bounds.specs.Listed.{is_same, lists}
-use Rattle.part_bounds.specs.Accepts.{accepts, has_null}
-use Rattle.part_bounds.specs.Bounds.{IsInPlainOrder}
+use Rattle.bound_forms.specs.declared.point.Edge.{Edge}
+use Rattle.bound_forms.specs.Points.{point_order, point_of, is_null}
+use Rattle.bound_forms.specs.Listed.{is_same, lists}
+use Rattle.bound_forms.specs.Accepts.{accepts, has_null}
+use Rattle.bound_forms.specs.Bounds.{IsInPlainOrder}
 use Rattle.part_bounds.specs.Stored.{Each, Mark, marks_from, marks, stored, lies_below, passes, of_lists, IsListLevel, Splits, TellsEqual}
 use Rattle.part_bounds.specs.Listings.{values_of, value_at, lists_null, StandsFor}
-use Rattle.part_bounds.proofs.Choice.{position_none, position_at, position_same, fails_at}
-use Rattle.part_bounds.proofs.OverlapLaws.{at_most_one}
+use Rattle.bound_forms.proofs.Choice.{position_none, position_at, position_same, fails_at}
+use Rattle.bound_forms.proofs.OverlapLaws.{at_most_one}
 use Rattle.part_bounds.proofs.Stable.{any_sorted}
 use Rattle.part_bounds.proofs.StoredLaws.{each_of, marks_weak}
 use Rattle.part_bounds.proofs.ListingLaws.{one_value, listed_point}

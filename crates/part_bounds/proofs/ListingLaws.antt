@@ -12,17 +12,17 @@ use Rattle.std.proofs.lemmas.Option.{slice_get_within, get_or_from_slice_get}
 use Rattle.pg_values.specs.declared.value.Value.{Value}
 use Rattle.pg_values.specs.declared.value.Value.TheVariants.{Null}
 use Rattle.pg_values.specs.Order.{order}
-use Rattle.part_bounds.specs.declared.partition_bound.Bound.{Bound}
-use Rattle.part_bounds.specs.declared.partition_bound.Bound.TheVariants.{Range, List as Listed, Hash, Default}
+use Rattle.bound_forms.specs.declared.partition_bound.Bound.{Bound}
+use Rattle.bound_forms.specs.declared.partition_bound.Bound.TheVariants.{Range, List as Listed, Hash, Default}
 use Rattle.part_bounds.specs.declared.listing.Listing.{Listing}
-use Rattle.part_bounds.specs.Points.{point_order, edge_order, point_of, is_null}
-use Rattle.part_bounds.specs.declared.point.Edge.TheVariants.{Min, At}
-use Rattle.part_bounds.specs.declared.point.Fill.{Fill}
-use Rattle.part_bounds.specs.declared.point.Fill.TheVariants.{Min as WithMin, Max as WithMax}
+use Rattle.bound_forms.specs.Points.{point_order, edge_order, point_of, is_null, fill_edge, end_of}
+use Rattle.bound_forms.specs.declared.point.Edge.TheVariants.{Min, At}
+use Rattle.bound_forms.specs.declared.point.Fill.{Fill}
+use Rattle.bound_forms.specs.declared.point.Fill.TheVariants.{Min as WithMin, Max as WithMax}
 use Rattle.part_bounds.specs.Sorted.{sorted}
-use Rattle.part_bounds.specs.Stored.{Each, marks_from, marks, stored, owners, lies_below, of_lists, IsListLevel, fill_edge, end_of}
+use Rattle.part_bounds.specs.Stored.{Each, marks_from, marks, stored, owners, lies_below, of_lists, IsListLevel}
 use Rattle.part_bounds.specs.Listings.{values_of, value_at, mark_at, one_place, places_from, listings_from, listing_less, StandsFor}
-use Rattle.part_bounds.proofs.PointOrder.{point_total}
+use Rattle.bound_forms.proofs.PointOrder.{point_total}
 use Rattle.part_bounds.proofs.Stable.{map_sorted}
 use Rattle.part_bounds.proofs.StoredLaws.{each_of}
 

@@ -6,12 +6,12 @@ use Rattle.std.specs.declared.cmp.Ordering.{Ordering}
 use Rattle.std.specs.declared.cmp.Ordering.TheVariants.{Less, Equal, Greater}
 use Rattle.std.proofs.Math.Nat.{eq-or-lt_of_le}
 use Rattle.std.proofs.lemmas.List.{get_or_default}
-use Rattle.part_bounds.specs.declared.partition_bound.Bound.{Bound}
-use Rattle.part_bounds.specs.declared.point.Edge.{Edge}
-use Rattle.part_bounds.specs.Points.{point_order}
+use Rattle.bound_forms.specs.declared.partition_bound.Bound.{Bound}
+use Rattle.bound_forms.specs.declared.point.Edge.{Edge}
+use Rattle.bound_forms.specs.Points.{point_order}
 use Rattle.part_bounds.specs.Stored.{Mark, marks_from, marks, stored, lies_below, passes, TellsEqual}
-use Rattle.part_bounds.proofs.PointOrder.{point_total}
-use Rattle.part_bounds.proofs.TotalOrder.{lt-gt}
+use Rattle.bound_forms.proofs.PointOrder.{point_total}
+use Rattle.bound_forms.proofs.TotalOrder.{lt-gt}
 use Rattle.part_bounds.proofs.Halves.{Falls}
 use Rattle.part_bounds.proofs.Stable.{NoneLess, Rising, sorted_rising}
 use Rattle.part_bounds.proofs.StoredLaws.{marks_weak, passes_down}

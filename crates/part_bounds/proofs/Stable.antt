@@ -144,7 +144,7 @@ module _ {X : Type 0} (lt : X → X → Bool) (o : IsStrictWeakOrder lt) where
   sorted_itself (x ∷ xs) r = rw (sorted_itself xs r.1) (insert_first x xs r.0)
 
   -- what holds of each element holds of each of the sorted list
-  each_insert : (Q : X → Type 0) (x : X) (ys : List X) → Q x → Each Q ys → Each Q (insert lt x ys)
+  pub each_insert : (Q : X → Type 0) (x : X) (ys : List X) → Q x → Each Q ys → Each Q (insert lt x ys)
   each_insert Q x [] h e = (h, tt)
   each_insert Q x (y ∷ ys) h e = by (lt y x) (each_insert Q x ys h e.1)
     where

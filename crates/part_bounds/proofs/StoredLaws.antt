@@ -9,18 +9,18 @@ use Rattle.std.specs.Cmp.{IsStrictWeakOrder}
 use Rattle.std.proofs.lemmas.List.Sorted.{ranks_by}
 use Rattle.std.proofs.lemmas.List.Elements.{All-cons, All-head, All-tail, All-nil}
 use Rattle.pg_values.specs.declared.value.Value.{Value}
-use Rattle.part_bounds.specs.declared.partition_bound.Bound.{Bound}
-use Rattle.part_bounds.specs.declared.partition_bound.Bound.TheVariants.{Range, List as Listed, Hash, Default}
-use Rattle.part_bounds.specs.declared.point.Edge.{Edge}
-use Rattle.part_bounds.specs.Points.{point_order, EdgeOfKind}
-use Rattle.part_bounds.specs.Bounds.{is_below, comes_after, overlaps, BoundOfKind, CanCompare, IsInPlainOrder}
-use Rattle.part_bounds.specs.Accepts.{is_default}
+use Rattle.bound_forms.specs.declared.partition_bound.Bound.{Bound}
+use Rattle.bound_forms.specs.declared.partition_bound.Bound.TheVariants.{Range, List as Listed, Hash, Default}
+use Rattle.bound_forms.specs.declared.point.Edge.{Edge}
+use Rattle.bound_forms.specs.Points.{point_order, EdgeOfKind}
+use Rattle.bound_forms.specs.Bounds.{is_below, comes_after, overlaps, BoundOfKind, CanCompare, IsInPlainOrder}
+use Rattle.bound_forms.specs.Accepts.{is_default}
 use Rattle.part_bounds.specs.Stored.{Each, InRow, range_points, stored, owners, of_ranges, IsRangeLevel, passes, upper_of, Mark, points_in, marks_from, marks, lies_below, in_sibling, begins_up_to, CanBegin, RangesFit, Splits}
 use Rattle.std.specs.declared.cmp.Ordering.{Ordering}
 use Rattle.std.specs.declared.cmp.Ordering.TheVariants.{Less, Equal, Greater}
-use Rattle.part_bounds.proofs.PointOrder.{point_total}
-use Rattle.part_bounds.proofs.OverlapLaws.{overlap_of_filled}
-use Rattle.part_bounds.proofs.TotalOrder.{turn, le_trans, le_lt, lt-le, lt-gt, le-not_gt, not_gt-le}
+use Rattle.bound_forms.proofs.PointOrder.{point_total}
+use Rattle.bound_forms.proofs.OverlapLaws.{overlap_of_filled}
+use Rattle.bound_forms.proofs.TotalOrder.{turn, le_trans, le_lt, lt-le, lt-gt, le-not_gt, not_gt-le}
 use Rattle.part_bounds.proofs.Halves.{Falls}
 use Rattle.part_bounds.proofs.Stable.{NoneLess, Rising, sorted_itself, each_sorted}
 
@@ -526,7 +526,7 @@ kinds_row P bounds h all = subst (λ ps. All (λ p. All (EdgeOfKind P) p) ps) (s
 
 -- ---- what holds of the points of each bound holds of the stored ones
 
-each_append : {X : Type 0} (Q : X → Type 0) (xs ys : List X) → Each Q xs → Each Q ys → Each Q (xs ++ ys)
+pub each_append : {X : Type 0} (Q : X → Type 0) (xs ys : List X) → Each Q xs → Each Q ys → Each Q (xs ++ ys)
 each_append Q [] ys h k = k
 each_append Q (x ∷ xs) ys h k = (h.0, each_append Q xs ys h.1 k)
 

@@ -1,10 +1,11 @@
 -- The strategy of a level is that of its first bound.
 use Rattle.std.proofs.Common.{◌≡◌, ◌<◌, zero, suc, true, false, true≢false, List, [], ◌∷◌, length, get_or, refl, sym, subst, arith}
 use Rattle.pg_values.specs.declared.value.Value.{Value}
-use Rattle.part_bounds.specs.declared.partition_bound.Bound.{Bound}
-use Rattle.part_bounds.specs.declared.partition_bound.Bound.TheVariants.{Range, List as Listed, Hash, Default}
-use Rattle.part_bounds.specs.Bounds.{comes_after, are_siblings, takes_default, IsInPlainOrder}
-use Rattle.part_bounds.specs.Accepts.{FitsBound, FitsSet}
+use Rattle.bound_forms.specs.declared.partition_bound.Bound.{Bound}
+use Rattle.bound_forms.specs.declared.partition_bound.Bound.TheVariants.{Range, List as Listed, Hash, Default}
+use Rattle.bound_forms.specs.Bounds.{comes_after, are_siblings, takes_default, IsInPlainOrder}
+use Rattle.bound_forms.specs.Ordered.{are_alike}
+use Rattle.bound_forms.specs.Accepts.{FitsBound, FitsSet}
 use Rattle.part_bounds.specs.Stored.{of_ranges, of_lists, of_hashes, HasPoints, IsRangeLevel, IsListLevel, IsHashLevel}
 
 pub ranges_by_first : (bounds : List Bound) (b : Bound) → IsInPlainOrder bounds → b ≡ get_or bounds 0 b → of_ranges b ≡ true → IsRangeLevel bounds
@@ -125,3 +126,19 @@ one_column bounds b key at some e points fits = by b e (subst (λ x. takes_defau
     by (Range l u) e f h = absurd (true≢false e)
     by Default e f h = absurd (true≢false e)
     by (Hash m n) e f h = cc
+
+-- siblings have a plain order
+pub siblings_alike : (a b : Bound) → are_siblings a b ≡ true → are_alike a b ≡ true
+siblings_alike Default b e = refl
+siblings_alike (Range l u) (Range m v) e = refl
+siblings_alike (Range l u) Default e = refl
+siblings_alike (Range l u) (Listed values) e = cc
+siblings_alike (Range l u) (Hash m n) e = cc
+siblings_alike (Listed values) (Listed others) e = refl
+siblings_alike (Listed values) Default e = refl
+siblings_alike (Listed values) (Range m v) e = cc
+siblings_alike (Listed values) (Hash m n) e = cc
+siblings_alike (Hash m n) (Hash p q) e = refl
+siblings_alike (Hash m n) Default e = refl
+siblings_alike (Hash m n) (Range l u) e = cc
+siblings_alike (Hash m n) (Listed values) e = cc

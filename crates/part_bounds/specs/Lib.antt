@@ -1,16 +1,4 @@
-pub mod Accepts
-pub mod BoundFaults
-pub mod Bounds
-pub mod Checks
-pub mod IntBounds
 pub mod Laws
-pub mod Levels
-pub mod Listed
 pub mod Listings
-pub mod Moduli
-pub mod Ordered
-pub mod Points
-pub mod RawBounds
 pub mod Sorted
 pub mod Stored
-pub mod Within

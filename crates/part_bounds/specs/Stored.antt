@@ -1,20 +1,17 @@
 -- The stored points of a level, ascending, and their children; the points that a search compares them with, and how many of them pass a
 -- test.
-use Rattle.std.specs.Prelude.{◌≡◌, ◌<◌, ◌≤◌, ℕ, suc, ◌-◌, Bool, true, false, not, List, [], ◌∷◌, ◌++◌, map, filter, length, replicate, take, nat_lt, All, if◌then◌else◌}
+use Rattle.std.specs.Prelude.{◌≡◌, ◌<◌, ◌≤◌, ℕ, suc, ◌-◌, Bool, true, false, not, List, [], ◌∷◌, ◌++◌, map, filter, length, All, if◌then◌else◌}
 use Rattle.std.specs.List.{slice_index_or, list_any, AllPairs}
 use Rattle.std.specs.Ordering.{is_lt, is_le, is_gt}
 use Rattle.std.specs.declared.cmp.Ordering.TheVariants.{Equal}
 use Rattle.pg_values.specs.declared.value.Value.{Value}
-use Rattle.pg_values.specs.declared.value.Value.TheVariants.{Null}
-use Rattle.part_bounds.specs.declared.partition_bound.Bound.{Bound}
-use Rattle.part_bounds.specs.declared.partition_bound.Bound.TheVariants.{Range, List as Listed, Hash, Default}
-use Rattle.part_bounds.specs.declared.point.Edge.{Edge}
-use Rattle.part_bounds.specs.declared.point.Edge.TheVariants.{Min, At, Max}
-use Rattle.part_bounds.specs.declared.point.Fill.{Fill}
-use Rattle.part_bounds.specs.declared.point.Fill.TheVariants.{Min as WithMin, Max as WithMax}
-use Rattle.part_bounds.specs.Points.{point_order, point_of, is_null, PointsFit}
-use Rattle.part_bounds.specs.Accepts.{lies_between}
-use Rattle.part_bounds.specs.Bounds.{CanCompare, is_below, takes_default}
+use Rattle.bound_forms.specs.declared.partition_bound.Bound.{Bound}
+use Rattle.bound_forms.specs.declared.partition_bound.Bound.TheVariants.{Range, List as Listed, Hash, Default}
+use Rattle.bound_forms.specs.declared.point.Edge.{Edge}
+use Rattle.bound_forms.specs.declared.point.Fill.{Fill}
+use Rattle.bound_forms.specs.Points.{point_order, point_of, is_null, PointsFit, end_of}
+use Rattle.bound_forms.specs.Accepts.{lies_between}
+use Rattle.bound_forms.specs.Bounds.{CanCompare, is_below, takes_default}
 use Rattle.part_bounds.specs.Sorted.{sorted}
 
 -- ---- the stored points
@@ -86,18 +83,6 @@ HasPoints bounds = All (λ b. takes_default b ≡ true) bounds
 -- how many edges the stored points have
 abbrev pub width : List Bound → ℕ
 width bounds = length (slice_index_or (stored bounds) 0 [])
-
-abbrev pub fill_edge : Fill → Edge
-fill_edge WithMin = Min
-fill_edge WithMax = Max
-
--- the first n values, filled up to w edges
-abbrev pub end_of : ℕ → ℕ → Fill → List Value → List Edge
-end_of w n fill values = map At (take n values) ++ replicate (w - n) (fill_edge fill)
-
--- its edge at a place
-abbrev pub end_edge : ℕ → Fill → List Value → ℕ → Edge
-end_edge n fill values i = if nat_lt i n then At (slice_index_or values i Null) else fill_edge fill
 
 -- each stored point can be compared with it
 abbrev pub FitsEnd : List Bound → ℕ → Fill → List Value → Type 0

@@ -2,10 +2,11 @@
 
 ghost use Rattle.std.specs.Prelude.{◌≡◌, ◌<◌, List, length, true, false, slice_index_or};
 ghost use Rattle.pg_values.specs.declared.value.Value.{Value};
-ghost use Rattle.part_bounds.specs.Accepts.{FitsSet};
+ghost use Rattle.bound_forms.specs.Accepts.{FitsSet};
 ghost use Rattle.part_bounds.specs.Stored.{of_ranges, of_hashes, HasPoints, IsRangeLevel, IsListLevel, IsHashLevel};
 
-use crate::{Bound, BoundSet};
+use crate::BoundSet;
+use bound_forms::Bound;
 use pg_values::KeyKind;
 
 fn is_of_ranges(b: &Bound) -> bool

@@ -1,18 +1,17 @@
 //! The sorted array of a list level: where each listed value that is not null stands, ascending. It names the values by
 //! their places, so it holds none of them.
 
+ghost use Rattle.std.specs.List.{list_any};
 ghost use Rattle.std.specs.Prelude.{◌≡◌, ◌≤◌, ◌++◌, ◌∷◌, [], length, slice_index_or, IfOk, OnOk};
 ghost use Rattle.pg_values.specs.declared.value.Value.TheVariants.{Null};
-ghost use Rattle.part_bounds.specs.Points.{point_order, point_of, edge_order};
+ghost use Rattle.bound_forms.specs.Points.{point_order, point_of, edge_order, end_of, fill_edge};
 ghost use Rattle.part_bounds.specs.Sorted.{sorted};
-ghost use Rattle.part_bounds.specs.Stored.{end_of, fill_edge};
+ghost use Rattle.bound_forms.specs.Points as points;
+ghost use Rattle.part_bounds.specs.Listings as listings;
 ghost use Rattle.part_bounds.specs.Listings.{AValue, values_of, mark_at, value_at, one_place, places_from, listings_from, listing_less, StandsFor};
 
-use crate::key::is_null;
-use crate::listed::cmp_any;
-use crate::point::{Fill, cmp_fill};
-use crate::{Bound, Edge, Key};
-use pg_values::{NoMemory, Row, Value};
+use bound_forms::{Bound, Edge, Fill, Key, cmp_fill, is_null};
+use pg_values::{NoMemory, Row, Value, cmp_any};
 use std::alloc::Global;
 use std::cmp::Ordering;
 
@@ -147,4 +146,26 @@ pub(crate) fn listings_of(alloc: Global, bounds: &[Bound]) -> Result<Vec<Listing
     }
     sort_listings(bounds, &mut listings)?;
     Ok(listings)
+}
+
+// Whether the list has NULL.
+fn has_null(values: &Row) -> bool
+    ensures { result ≡ list_any points.is_null values.now }
+{
+    for i in 0..values.len() {
+        if is_null(values.value(i)) {
+            return true;
+        }
+    }
+    false
+}
+
+// Whether the bound lists NULL.
+pub(crate) fn lists_null(b: &Bound) -> bool
+    ensures { result ≡ listings.lists_null b.now }
+{
+    match b {
+        Bound::List { values } => has_null(values),
+        _ => false,
+    }
 }

@@ -1,56 +1,24 @@
-ghost use Rattle.std.specs.Prelude.{true, ◌≡◌, ◌<◌, ◌%◌, ◌==◌, ◌+◌, ◌-◌, ◌*◌, ◌^◌, ◌≤◌, All, length, position, IfSome, slice_get};
-ghost use Rattle.part_bounds.specs.Bounds as bounds_spec;
-ghost use Rattle.part_bounds.specs.Bounds.{BoundOfKind, BoundsFit, greater, is_below, is_filled, lesser};
-ghost use Rattle.part_bounds.specs.Points.{EdgeOfKind, PointsFit};
-ghost use Rattle.part_bounds.specs.Accepts as accepts_spec;
-ghost use Rattle.part_bounds.specs.Accepts.{accepts_among, leaves_remainder, FitsBound, FitsSet};
+ghost use Rattle.std.specs.Prelude.{true, ◌≡◌, ◌<◌, ◌+◌, ◌-◌, ◌*◌, ◌^◌, ◌≤◌, All, length, position, IfSome, slice_get};
+ghost use Rattle.bound_forms.specs.Bounds as bounds_spec;
+ghost use Rattle.bound_forms.specs.Bounds.{BoundOfKind, BoundsFit, greater, is_below, is_filled, lesser};
+ghost use Rattle.bound_forms.specs.Points.{EdgeOfKind, PointsFit};
+ghost use Rattle.bound_forms.specs.Accepts as accepts_spec;
+ghost use Rattle.bound_forms.specs.Accepts.{accepts_among, FitsBound, FitsSet};
 ghost use Rattle.part_bounds.specs.Stored.{stored, IsRangeLevel, IsListLevel, IsHashLevel};
 ghost use Rattle.part_bounds.specs.Listings as listings;
 
-use crate::key::{has_null, row_hash};
+use crate::counted::{count_points, count_share};
 use crate::level_kind::{is_hash_level, is_range_level};
-use crate::listed::{count_lists, count_share, lists_null};
-use crate::moduli::agree;
-use crate::partition_bound::is_default;
-use crate::point::{count_key, count_points};
+use crate::listing::lists_null;
 use crate::stored::search_points;
-use crate::{Bound, BoundSet, Fill, Key, Point, default_child, points_below};
+use crate::{BoundSet, default_child, points_below};
+use bound_forms::{
+    Bound, Fill, Key, Point, bound_accepts, has_null, is_default, leaves_remainder,
+    remainders_meet, row_hash,
+};
 use pg_values::{KeyKind, Steps};
 use std::marker::Brand;
 use std::sync::ledger::{Blank, Ledger};
-
-// Whether the hash leaves the remainder.
-fn leaves(hash: u64, modulus: u32, remainder: u32) -> bool
-    requires { 0 < modulus }
-    ensures { result ≡ (hash % modulus == remainder) }
-{
-    hash % modulus as u64 == remainder as u64
-}
-
-// Whether the bound by itself accepts the key, of which it is known whether it has a null. Counted.
-fn count_accepts<K: KeyKind, Q: Key, L: Ledger>(
-    kind: &K,
-    b: &Bound,
-    key: &Q,
-    has_null: bool,
-    steps: &mut Steps<L>,
-) -> bool
-    requires null { has_null ≡ accepts_spec.has_null (Q.values key.now) }
-    requires fits { FitsBound (Q.values key.now) b.now }
-    requires of_kind { BoundOfKind (K.admits kind.now) b.now }
-    ensures { result ≡ accepts_spec.accepts (Q.values key.now) b.now }
-{
-    match b {
-        Bound::Range { lower, upper } => {
-            !has_null
-                && count_key(kind, lower, key, steps).is_le()
-                && count_key(kind, upper, key, steps).is_gt()
-        }
-        Bound::List { values } => count_lists(kind, values, key.value(0), steps),
-        Bound::Hash { modulus, remainder } => leaves(row_hash(key), *modulus, *remainder),
-        Bound::Default => false,
-    }
-}
 
 // Whether two ranges that are not empty overlap: each begins before the other ends.
 fn ranges_overlap<K: KeyKind, L: Ledger>(
@@ -101,31 +69,10 @@ fn overlap_each_other<K: KeyKind, L: Ledger>(
                 remainder: rest,
             },
             Bound::Hash { modulus, remainder },
-        ) => agree(*modulus, *remainder, *other, *rest),
+        ) => remainders_meet(*modulus, *remainder, *other, *rest),
         (Bound::Default, Bound::Default) => true,
         _ => false,
     }
-}
-
-fn accepts_from<K: KeyKind, Q: Key, L: Ledger>(kind: &K, b: &Bound, key: &Q, blank: Blank) -> bool
-    requires fits { FitsBound (Q.values key.now) b.now }
-    requires of_kind { BoundOfKind (K.admits kind.now) b.now }
-    requires name { blank.name ≡ L.name }
-    requires parts { blank.parts ≡ L.parts }
-    requires some { 0 < blank.parts }
-    ensures { result ≡ accepts_spec.accepts (Q.values key.now) b.now }
-{
-    let mut steps = Steps::<L>::new(blank);
-    count_accepts(kind, b, key, has_null(key), &mut steps)
-}
-
-/// Whether the bound by itself accepts the key. `DEFAULT` by itself accepts none.
-pub fn bound_accepts<K: KeyKind, Q: Key>(kind: &K, b: &Bound, key: &Q) -> bool
-    requires fits { FitsBound (Q.values key.now) b.now }
-    requires of_kind { BoundOfKind (K.admits kind.now) b.now }
-    ensures { result ≡ accepts_spec.accepts (Q.values key.now) b.now }
-{
-    accepts_from::<K, Q, Brand>(kind, b, key, Blank::new(1))
 }
 
 /// The first sibling in plain order that overlaps the bound.
@@ -200,17 +147,6 @@ fn null_child<K: KeyKind>(set: &BoundSet<K>) -> Option<usize>
     set.bounds.iter().position(|b| lists_null(b))
 }
 
-// Whether the bound has a remainder that the hash leaves.
-fn takes_hash(b: &Bound, hash: u64) -> bool
-    requires { is_filled b.now ≡ true }
-    ensures { result ≡ leaves_remainder hash b.now }
-{
-    match b {
-        Bound::Hash { modulus, remainder } => leaves(hash, *modulus, *remainder),
-        _ => false,
-    }
-}
-
 // The remainder that the key's hash leaves. It compares no values.
 fn hash_child<K: KeyKind, Q: Key>(set: &BoundSet<K>, key: &Q) -> Option<usize>
     requires { IsHashLevel set.now }
@@ -218,7 +154,7 @@ fn hash_child<K: KeyKind, Q: Key>(set: &BoundSet<K>, key: &Q) -> Option<usize>
 {
     let hash = row_hash(key);
     for (i, b) in set.bounds.iter().enumerate() {
-        if takes_hash(b, hash) {
+        if leaves_remainder(b, hash) {
             return Some(i);
         }
     }

@@ -1,17 +1,17 @@
 ghost use Rattle.std.specs.Prelude.{◌≡◌, ◌+◌, ◌-◌, ◌*◌, ◌/◌, ◌^◌, ◌<◌, ◌≤◌, [], length, All, false, slice_index_or, if◌then◌else◌};
 ghost use Rattle.std.specs.List.{count_by};
-ghost use Rattle.part_bounds.specs.Accepts as accepts;
-ghost use Rattle.part_bounds.specs.declared.partition_bound.Bound.TheVariants.{Default as ByDefault};
-ghost use Rattle.part_bounds.specs.Points.{EdgeOfKind, point_order};
+ghost use Rattle.bound_forms.specs.Accepts as accepts;
+ghost use Rattle.bound_forms.specs.declared.partition_bound.Bound.TheVariants.{Default as ByDefault};
+ghost use Rattle.bound_forms.specs.Points.{EdgeOfKind, point_order, end_of};
 ghost use Rattle.std.specs.Ordering.{is_le as order_is_le, is_lt as order_is_lt};
 ghost use Rattle.part_bounds.specs.Stored as spec;
-ghost use Rattle.part_bounds.specs.Stored.{CanBegin, InRow, stored, range_points, width, end_of, passes, owners, in_sibling, upper_of, HasPoints, IsRangeLevel, TellsEqual, RangesFit, FitsEnd, Splits};
+ghost use Rattle.part_bounds.specs.Stored.{CanBegin, InRow, stored, range_points, width, passes, owners, in_sibling, upper_of, HasPoints, IsRangeLevel, TellsEqual, RangesFit, FitsEnd, Splits};
 
+use crate::BoundSet;
+use crate::counted::{count_end, counted};
 use crate::level_kind::is_range_level;
 use crate::listing::cmp_listed_end;
-use crate::partition_bound::is_default;
-use crate::point::{Fill, cmp_points, count_end, counted};
-use crate::{Bound, BoundSet, Key, Point};
+use bound_forms::{Bound, Fill, Key, Point, cmp_points, is_default};
 use pg_values::{KeyKind, Steps};
 use std::cmp::Ordering;
 use std::sync::ledger::Ledger;

@@ -4,9 +4,9 @@ use Rattle.std.specs.List.{All}
 use Rattle.std.proofs.lemmas.Grind.{common_steps, elements}
 use Rattle.std.proofs.lemmas.List.{get_or-map, length-map}
 use Rattle.pg_values.specs.KeyKinds.{IsNotNull}
-use Rattle.part_bounds.specs.declared.partition_bound.Bound.{Bound}
-use Rattle.part_bounds.specs.declared.level.Level.{Level}
-use Rattle.part_bounds.specs.Bounds.{BoundOfKind, IsInPlainOrder}
+use Rattle.bound_forms.specs.declared.partition_bound.Bound.{Bound}
+use Rattle.bound_forms.specs.declared.level.Level.{Level}
+use Rattle.bound_forms.specs.Bounds.{BoundOfKind, IsInPlainOrder}
 use Rattle.history.specs.declared.catalogue.TableShape.TheVariants.{Leaf as LeafShape, Level as LevelShape}
 use Rattle.history.specs.declared.catalogue.Table.{Table}
 use Rattle.history.specs.declared.catalogue.Entry.{Entry}

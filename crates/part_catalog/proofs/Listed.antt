@@ -7,7 +7,7 @@ use Rattle.std.proofs.lemmas.Bool.Decides.{nat_tests}
 use Rattle.std.proofs.lemmas.List.{length-append, length-map, map-append, length-set, get_or-map}
 use Rattle.std.proofs.lemmas.List.Elements.{All-head, All-tail, filter-append}
 use Rattle.history.specs.declared.catalogue.Entry.{Entry}
-use Rattle.part_bounds.specs.Bounds.{comes_after}
+use Rattle.bound_forms.specs.Bounds.{comes_after}
 use Rattle.table_trees.specs.Histories.{children, placed, all_placed, is_under}
 use Rattle.table_trees.proofs.Order.{all_children}
 use Rattle.part_catalog.specs.declared.stored.StoredTable.{StoredTable}

@@ -1,13 +1,13 @@
 -- The bounds of one table's entries have an order.
 use Rattle.std.proofs.Common.{◌≡◌, refl, true, List}
-use Rattle.part_bounds.specs.declared.partition_bound.Bound.{Bound}
-use Rattle.part_bounds.specs.declared.partition_bound.Bound.TheVariants.{Range, List as Listed, Hash, Default}
-use Rattle.part_bounds.specs.declared.level.KeyColumn.{KeyColumn}
-use Rattle.part_bounds.specs.declared.level.Strategy.{Strategy}
-use Rattle.part_bounds.specs.declared.level.Strategy.TheVariants.{Range as ByRange, List as ByList, Hash as ByHash}
-use Rattle.part_bounds.specs.Levels.{IsBoundAt}
-use Rattle.part_bounds.specs.Ordered.{are_alike}
-use Rattle.part_bounds.proofs.LevelLaws.{level_compare, level_kind}
+use Rattle.bound_forms.specs.declared.partition_bound.Bound.{Bound}
+use Rattle.bound_forms.specs.declared.partition_bound.Bound.TheVariants.{Range, List as Listed, Hash, Default}
+use Rattle.bound_forms.specs.declared.level.KeyColumn.{KeyColumn}
+use Rattle.bound_forms.specs.declared.level.Strategy.{Strategy}
+use Rattle.bound_forms.specs.declared.level.Strategy.TheVariants.{Range as ByRange, List as ByList, Hash as ByHash}
+use Rattle.bound_forms.specs.Levels.{IsBoundAt}
+use Rattle.bound_forms.specs.Ordered.{are_alike}
+use Rattle.bound_forms.proofs.LevelLaws.{level_compare, level_kind}
 use Rattle.history.specs.declared.catalogue.TableShape.{TableShape}
 use Rattle.history.specs.declared.catalogue.TableShape.TheVariants.{Leaf, Level}
 use Rattle.history.specs.Places.{TakesBound}

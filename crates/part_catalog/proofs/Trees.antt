@@ -1,9 +1,9 @@
 -- The tree that is grown is that of the history.
 use Rattle.std.proofs.Common.{◌≡◌, ℕ, ◌<◌, arith, ap, sym, subst, ◌∙◌, Bool, true, false, List, filter, map, length, get_or}
 use Rattle.pg_values.specs.KeyKinds.{IsNotNull}
-use Rattle.part_bounds.specs.Bounds.{BoundOfKind}
-use Rattle.part_bounds.specs.declared.partition_bound.Bound.{Bound}
-use Rattle.part_bounds.proofs.LevelLaws.{level_kind}
+use Rattle.bound_forms.specs.Bounds.{BoundOfKind}
+use Rattle.bound_forms.specs.declared.partition_bound.Bound.{Bound}
+use Rattle.bound_forms.proofs.LevelLaws.{level_kind}
 use Rattle.std.specs.List.{All}
 use Rattle.std.proofs.lemmas.List.{get_or-map, length-map}
 use Rattle.history.specs.declared.catalogue.TableShape.{TableShape}

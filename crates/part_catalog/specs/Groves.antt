@@ -1,7 +1,7 @@
 -- What a tree is grown from.
 use Rattle.std.specs.Prelude.{◌≡◌, ℕ, ◌<◌, Bool, List, map, filter, length, slice_index_or}
 use Rattle.pg_values.specs.KeyKinds.{IsNotNull}
-use Rattle.part_bounds.specs.Bounds.{BoundOfKind}
+use Rattle.bound_forms.specs.Bounds.{BoundOfKind}
 use Rattle.table_trees.specs.Siblings.{AreSiblings}
 use Rattle.table_trees.specs.Histories.{children}
 use Rattle.part_catalog.specs.declared.stored.StoredTable.{StoredTable}

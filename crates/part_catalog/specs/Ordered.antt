@@ -1,9 +1,9 @@
 -- Bounds that have an order.
 use Rattle.std.specs.Prelude.{◌≡◌, ℕ, ◌<◌, Bool, true, List, length, slice_index_or}
 use Rattle.pg_values.specs.KeyKinds.{IsNotNull}
-use Rattle.part_bounds.specs.declared.partition_bound.Bound.{Bound}
-use Rattle.part_bounds.specs.Ordered.{are_alike}
-use Rattle.part_bounds.specs.Bounds.{comes_after, BoundOfKind, CanCompare}
+use Rattle.bound_forms.specs.declared.partition_bound.Bound.{Bound}
+use Rattle.bound_forms.specs.Ordered.{are_alike}
+use Rattle.bound_forms.specs.Bounds.{comes_after, BoundOfKind, CanCompare}
 use Rattle.history.specs.declared.catalogue.Entry.{Entry}
 use Rattle.part_catalog.specs.declared.stored.StoredEntry.{StoredEntry}
 use Rattle.part_catalog.specs.Kept.{no_entry}

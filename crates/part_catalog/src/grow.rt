@@ -10,8 +10,9 @@ ghost use Rattle.part_catalog.specs.Groves.{IsGrove, IsLevel};
 
 use crate::below::Below;
 use crate::stored::{StoredEntry, StoredTable};
+use bound_forms::copy_bound;
 use history::TableShape;
-use part_bounds::{BoundSet, copy_bound, set_in_order};
+use part_bounds::{BoundSet, set_in_order};
 use pg_ids::TableNo;
 use pg_values::{NoMemory, ValueKey};
 use std::alloc::Global;

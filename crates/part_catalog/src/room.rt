@@ -10,9 +10,10 @@ ghost use Rattle.part_catalog.specs.Ordered.{CanPlace, stands_behind};
 
 use crate::path::{is_set, parent_in};
 use crate::stored::StoredEntry;
+use bound_forms::comes_after;
 use history::Entry;
-use part_bounds::comes_after;
 use pg_ids::TableNo;
+use pg_values::ValueKey;
 
 /// How many of the numbers have their flag set.
 pub fn count_shown(numbers: &[u64], flags: &[bool]) -> usize
@@ -54,7 +55,11 @@ pub fn place_in(entries: &[StoredEntry], numbers: &[u64], entry: &Entry) -> usiz
     ensures within { result ≤ length numbers.now }
 {
     for (at, number) in numbers.iter().enumerate() {
-        if comes_after(&entries[*number as usize].entry.bound, &entry.bound) {
+        if comes_after(
+            &ValueKey,
+            &entries[*number as usize].entry.bound,
+            &entry.bound,
+        ) {
             return at;
         }
     }

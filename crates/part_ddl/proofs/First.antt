@@ -11,12 +11,11 @@ use Rattle.pg_ids.specs.declared.ids.TableNo.{TableNo}
 use Rattle.pg_values.specs.declared.fault.Fault.{Fault}
 use Rattle.pg_values.specs.declared.fault.Refusal.{Refusal}
 use Rattle.pg_values.specs.declared.fault.Refusal.TheVariants.{Sql}
-use Rattle.pg_values.specs.Refusals.{IsAnswer}
-use Rattle.part_bounds.specs.declared.partition_bound.Bound.{Bound}
-use Rattle.part_bounds.specs.declared.partition_bound.Bound.TheVariants.{Default}
-use Rattle.part_bounds.specs.Accepts.{is_default}
-use Rattle.part_bounds.specs.Bounds.{overlaps}
-use Rattle.part_bounds.specs.Checks.{or_first}
+use Rattle.pg_values.specs.Refusals.{IsAnswer, or_first}
+use Rattle.bound_forms.specs.declared.partition_bound.Bound.{Bound}
+use Rattle.bound_forms.specs.declared.partition_bound.Bound.TheVariants.{Default}
+use Rattle.bound_forms.specs.Accepts.{is_default}
+use Rattle.bound_forms.specs.Bounds.{overlaps}
 use Rattle.history.specs.declared.catalogue.Entry.{Entry}
 use Rattle.history.specs.History.{History}
 use Rattle.table_trees.specs.Histories.{bound_of}

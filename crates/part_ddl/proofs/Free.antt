@@ -8,16 +8,16 @@ use Rattle.std.proofs.lemmas.Bool.Decides.{nat_tests}
 use Rattle.std.proofs.lemmas.List.Elements.{All-cons, All-head, All-tail, All-nil}
 use Rattle.pg_values.specs.declared.fault.Fault.{Fault}
 use Rattle.pg_ids.specs.declared.which.Which.TheVariants.{Partitions, Levels}
-use Rattle.part_bounds.specs.declared.level.Level.{Level as OneLevel}
-use Rattle.part_bounds.specs.declared.partition_bound.Bound.{Bound}
-use Rattle.part_bounds.specs.declared.partition_bound.Bound.TheVariants.{Range, List as Listed, Hash, Default}
-use Rattle.part_bounds.specs.Accepts.{is_default}
-use Rattle.part_bounds.specs.Bounds.{comes_after, overlaps, are_siblings, BoundsFit}
-use Rattle.part_bounds.specs.Checks.{unless}
-use Rattle.part_bounds.specs.Levels.{IsOfLevel}
-use Rattle.part_bounds.specs.Moduli.{bad_modulus}
-use Rattle.part_bounds.proofs.LevelLaws.{none_tells_fit}
-use Rattle.part_bounds.proofs.OverlapLaws.{overlaps_turned}
+use Rattle.bound_forms.specs.declared.level.Level.{Level as OneLevel}
+use Rattle.bound_forms.specs.declared.partition_bound.Bound.{Bound}
+use Rattle.bound_forms.specs.declared.partition_bound.Bound.TheVariants.{Range, List as Listed, Hash, Default}
+use Rattle.bound_forms.specs.Accepts.{is_default}
+use Rattle.bound_forms.specs.Bounds.{comes_after, overlaps, are_siblings, BoundsFit}
+use Rattle.pg_values.specs.Refusals.{unless}
+use Rattle.bound_forms.specs.Levels.{IsOfLevel}
+use Rattle.bound_forms.specs.Moduli.{bad_modulus}
+use Rattle.bound_forms.proofs.LevelLaws.{none_tells_fit}
+use Rattle.bound_forms.proofs.OverlapLaws.{overlaps_turned}
 use Rattle.history.specs.declared.catalogue.Entry.{Entry}
 use Rattle.history.specs.declared.catalogue.Table.{Table}
 use Rattle.history.specs.declared.catalogue.TableShape.{TableShape}

@@ -5,13 +5,13 @@ use Rattle.std.specs.List.{All, position}
 use Rattle.std.proofs.lemmas.List.Elements.{All-cons, All-head, All-tail, All-nil}
 use Rattle.std.proofs.lemmas.List.{get_or-map, length-map}
 use Rattle.pg_values.specs.KeyKinds.{IsNotNull}
-use Rattle.part_bounds.specs.declared.partition_bound.Bound.{Bound}
-use Rattle.part_bounds.specs.declared.partition_bound.Bound.TheVariants.{Range, List as Listed, Hash, Default}
-use Rattle.part_bounds.specs.Moduli.{bad_modulus, divides, modulus_of, moduli_suit}
-use Rattle.part_bounds.specs.Bounds.{is_filled, overlaps, BoundOfKind, BoundsFit, IsInPlainOrder}
-use Rattle.part_bounds.specs.Levels.{IsOfLevel}
-use Rattle.part_bounds.proofs.LevelLaws.{level_filled, level_fits}
-use Rattle.part_bounds.proofs.OverlapLaws.{overlaps_turned}
+use Rattle.bound_forms.specs.declared.partition_bound.Bound.{Bound}
+use Rattle.bound_forms.specs.declared.partition_bound.Bound.TheVariants.{Range, List as Listed, Hash, Default}
+use Rattle.bound_forms.specs.Moduli.{bad_modulus, divides, modulus_of, moduli_suit}
+use Rattle.bound_forms.specs.Bounds.{is_filled, overlaps, BoundOfKind, BoundsFit, IsInPlainOrder}
+use Rattle.bound_forms.specs.Levels.{IsOfLevel}
+use Rattle.bound_forms.proofs.LevelLaws.{level_filled, level_fits}
+use Rattle.bound_forms.proofs.OverlapLaws.{overlaps_turned}
 use Rattle.history.specs.declared.catalogue.Entry.{Entry}
 use Rattle.table_trees.specs.Histories.{bound_of}
 use Rattle.part_ddl.specs.Placing.{modulus_told, modulus_faults, AreOfOneLevel}

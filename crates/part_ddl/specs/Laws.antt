@@ -1,7 +1,7 @@
 -- What holds where nothing stands against a further partition, and of the tables of a tree.
 use Rattle.std.specs.Prelude.{◌≡◌, ◌≢◌, ◌<◌, ◌≤◌, ℕ, zero, suc, true, false, List, [], All, Contains, length}
 use Rattle.std.specs.List.{AllPairs}
-use Rattle.part_bounds.specs.Accepts.{is_default}
+use Rattle.bound_forms.specs.Accepts.{is_default}
 use Rattle.history.specs.declared.catalogue.Entry.{Entry}
 use Rattle.history.specs.History.{History}
 use Rattle.history.specs.Places.{TakesBound, AreCatalogueSound}

@@ -4,8 +4,8 @@ use Rattle.pg_values.specs.declared.fault.Fault.{Fault}
 use Rattle.pg_ids.specs.declared.ids.TableNo.{TableNo}
 use Rattle.pg_ids.specs.declared.ids.LeafId.{LeafId}
 use Rattle.pg_ids.specs.declared.which.Which.TheVariants.{Tables}
-use Rattle.part_bounds.specs.declared.level.Level.{Level as OneLevel}
-use Rattle.part_bounds.specs.Checks.{unless}
+use Rattle.bound_forms.specs.declared.level.Level.{Level as OneLevel}
+use Rattle.pg_values.specs.Refusals.{unless}
 use Rattle.history.specs.declared.transaction.TxId.{TxId}
 use Rattle.history.specs.declared.catalogue.Column.{Column}
 use Rattle.history.specs.declared.catalogue.Table.{Table}

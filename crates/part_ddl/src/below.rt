@@ -8,8 +8,9 @@ ghost use Rattle.part_catalog.specs.Answers.{AreTogether};
 ghost use Rattle.part_catalog.specs.Stands.{CatalogueStands};
 ghost use Rattle.part_ddl.specs.Below as below;
 
+use bound_forms::Bound;
 use history::Entry;
-use part_bounds::{Bound, default_child};
+use part_bounds::default_child;
 use part_catalog::Catalog;
 use pg_ids::TableNo;
 use pg_values::NoMemory;

@@ -1,6 +1,5 @@
 ghost use Rattle.std.specs.Prelude.{◌≡◌};
-ghost use Rattle.pg_values.specs.Refusals.{IsAnswer};
-ghost use Rattle.part_bounds.specs.Checks.{or_first};
+ghost use Rattle.pg_values.specs.Refusals.{IsAnswer, or_first};
 ghost use Rattle.history.specs.History.{History};
 ghost use Rattle.tx_table.specs.Stands.{TableStands};
 ghost use Rattle.part_catalog.specs.Stands.{CatalogueStands};

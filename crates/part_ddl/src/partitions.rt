@@ -7,8 +7,8 @@ ghost use Rattle.part_ddl.specs.Made.{IsMade};
 ghost use Rattle.part_ddl.specs.Partitions.{MayMake, made_partition};
 
 use crate::make_table;
+use bound_forms::{Bound, Level};
 use history::TxId;
-use part_bounds::{Bound, Level};
 use part_catalog::{Catalog, CatalogRefused};
 use pg_ids::TableNo;
 use pg_values::{PgText, Refusal};

@@ -2,12 +2,11 @@
 
 ghost use Rattle.std.specs.Prelude.{◌≡◌, ◌<◌, ◌≤◌, ◌++◌, [], ◌∷◌, MatchResult, IfOk, OnOk, Ok, None, All, true, find, length, map, option_map};
 ghost use Rattle.pg_values.specs.KeyKinds.{IsNotNull};
-ghost use Rattle.pg_values.specs.Refusals.{IsAnswer};
-ghost use Rattle.part_bounds.specs.declared.partition_bound.Bound.TheVariants.{Default};
-ghost use Rattle.part_bounds.specs.Bounds.{is_filled, overlaps, BoundOfKind, BoundsFit};
-ghost use Rattle.part_bounds.specs.Checks.{or_first};
-ghost use Rattle.part_bounds.specs.Moduli as moduli;
-ghost use Rattle.part_bounds.specs.Moduli.{bad_modulus};
+ghost use Rattle.pg_values.specs.Refusals.{IsAnswer, or_first};
+ghost use Rattle.bound_forms.specs.declared.partition_bound.Bound.TheVariants.{Default};
+ghost use Rattle.bound_forms.specs.Bounds.{is_filled, overlaps, BoundOfKind, BoundsFit};
+ghost use Rattle.bound_forms.specs.Moduli as moduli;
+ghost use Rattle.bound_forms.specs.Moduli.{bad_modulus};
 ghost use Rattle.history.specs.History.{History};
 ghost use Rattle.history.specs.Places.{TakesBound};
 ghost use Rattle.history.specs.Presence.{entries_present};
@@ -25,10 +24,9 @@ use crate::faults::{
     bound_overlaps, modulus_does_not_suit, not_partitioned, pending_beside, second_default,
     too_many,
 };
+use bound_forms::{Bound, Level, copy_bound};
 use history::{Entry, TableShape};
-use part_bounds::{
-    Bound, BoundSet, Level, copy_bound, modulus_fault, overlap_uncounted, set_in_order,
-};
+use part_bounds::{BoundSet, modulus_fault, overlap_uncounted, set_in_order};
 use part_catalog::{Catalog, LEVEL_LIMIT, PARTITION_LIMIT};
 use pg_ids::{TableNo, Which};
 use pg_values::{NoMemory, Refusal, ValueKey};

@@ -1,6 +1,5 @@
 ghost use Rattle.std.specs.Prelude.{◌≡◌, ◌++◌, List, IfOk};
-ghost use Rattle.pg_values.specs.Refusals.{IsAnswer};
-ghost use Rattle.part_bounds.specs.Checks.{or_first};
+ghost use Rattle.pg_values.specs.Refusals.{IsAnswer, or_first};
 ghost use Rattle.history.specs.declared.catalogue.Column.{Column as OneColumn};
 ghost use Rattle.history.specs.History.{History};
 ghost use Rattle.history.specs.Places.{KeysLieIn};
@@ -10,8 +9,8 @@ ghost use Rattle.part_ddl.specs.Made.{IsMade};
 ghost use Rattle.part_ddl.specs.Tables.{KeysFit, shape_of, leaf_events, made_table, count_faults};
 
 use crate::faults::too_many;
+use bound_forms::Level;
 use history::{Columns, TableShape, TxId};
-use part_bounds::Level;
 use part_catalog::{Catalog, CatalogRefused, NewTable, TABLE_LIMIT};
 use pg_ids::{TableNo, Which};
 use pg_values::{NoMemory, PgText, Refusal};

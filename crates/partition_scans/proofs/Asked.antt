@@ -5,8 +5,8 @@ use Rattle.std.specs.List.{list_any, position, position_or_len}
 use Rattle.std.proofs.lemmas.Bool.{cases_Bool}
 use Rattle.std.proofs.lemmas.Bool.Decides.{nat_tests}
 use Rattle.pg_values.specs.declared.value.Value.{Value}
-use Rattle.part_bounds.specs.declared.partition_bound.Bound.{Bound}
-use Rattle.part_bounds.specs.Accepts.{accepts, accepts_among, is_default}
+use Rattle.bound_forms.specs.declared.partition_bound.Bound.{Bound}
+use Rattle.bound_forms.specs.Accepts.{accepts, accepts_among, is_default}
 
 none_of_place : (n m : ℕ) → is_none (if nat_lt n m then Some n else None) ≡ not (nat_lt n m)
 none_of_place n m = elim (cases_Bool (nat_lt n m)) [ inl t ↦ rw t refl | inr f ↦ rw f refl ]

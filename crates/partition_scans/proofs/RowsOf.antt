@@ -5,7 +5,7 @@ use Rattle.pg_values.specs.declared.value.Kind.TheVariants as kinds
 use Rattle.pg_values.specs.declared.value.Value.{Value}
 use Rattle.pg_values.specs.declared.value.Value.TheVariants.{Null, Int4, Int8, Text, Day, Truth}
 use Rattle.history.specs.declared.catalogue.Column.{Column}
-use Rattle.part_bounds.specs.Levels.{IsOf}
+use Rattle.bound_forms.specs.Levels.{IsOf}
 use Rattle.table_trees.specs.Trees.{IsRowOf}
 use Rattle.partition_scans.specs.Fitting.{is_of, is_row_of}
 

@@ -8,10 +8,10 @@ use Rattle.pg_values.specs.declared.value.Value.{Value}
 use Rattle.pg_ids.specs.Sets.{has, empty}
 use Rattle.pg_ids.specs.declared.ids.LeafId.{LeafId}
 use Rattle.pg_ids.specs.declared.session_set.SessionSet.{SessionSet}
-use Rattle.part_bounds.specs.Checks.{or_first}
-use Rattle.part_bounds.specs.Accepts.{accepts, accepts_among}
-use Rattle.part_bounds.specs.declared.partition_bound.Bound.{Bound}
-use Rattle.part_bounds.specs.declared.level.Level.{Level as OneLevel}
+use Rattle.pg_values.specs.Refusals.{or_first}
+use Rattle.bound_forms.specs.Accepts.{accepts, accepts_among}
+use Rattle.bound_forms.specs.declared.partition_bound.Bound.{Bound}
+use Rattle.bound_forms.specs.declared.level.Level.{Level as OneLevel}
 use Rattle.history.specs.declared.catalogue.Column.{Column}
 use Rattle.history.specs.declared.catalogue.TableShape.{TableShape}
 use Rattle.history.specs.declared.catalogue.TableShape.TheVariants.{Level}

@@ -6,10 +6,10 @@ use Rattle.pg_values.specs.declared.value.Kind.TheVariants as kinds
 use Rattle.pg_values.specs.declared.value.Value.{Value}
 use Rattle.pg_values.specs.declared.value.Value.TheVariants.{Null, Int4, Int8, Text, Day, Truth}
 use Rattle.pg_values.specs.KeyKinds.{IsNotNull}
-use Rattle.part_bounds.specs.declared.level.Level.{Level}
-use Rattle.part_bounds.specs.declared.partition_bound.Bound.{Bound}
-use Rattle.part_bounds.specs.Accepts.{is_default, FitsBound, FitsSet}
-use Rattle.part_bounds.specs.Bounds.{BoundOfKind}
+use Rattle.bound_forms.specs.declared.level.Level.{Level}
+use Rattle.bound_forms.specs.declared.partition_bound.Bound.{Bound}
+use Rattle.bound_forms.specs.Accepts.{is_default, FitsBound, FitsSet}
+use Rattle.bound_forms.specs.Bounds.{BoundOfKind}
 use Rattle.history.specs.declared.catalogue.Column.{Column}
 use Rattle.table_trees.specs.Trees.{key_of}
 

@@ -5,8 +5,8 @@ use Rattle.pg_values.specs.declared.fault.Fault.{Fault}
 use Rattle.pg_values.specs.declared.value.Value.{Value}
 use Rattle.pg_ids.specs.declared.ids.TableNo.{TableNo}
 use Rattle.value_rules.specs.FaultTexts.{fault_of}
-use Rattle.part_bounds.specs.declared.partition_bound.Bound.{Bound}
-use Rattle.part_bounds.specs.Accepts.{accepts, accepts_among}
+use Rattle.bound_forms.specs.declared.partition_bound.Bound.{Bound}
+use Rattle.bound_forms.specs.Accepts.{accepts, accepts_among}
 use Rattle.history.specs.History.{History, catalogue_events}
 use Rattle.table_trees.specs.Histories.{ddl_tree, path_of}
 use Rattle.table_trees.specs.Trees.{leaves}

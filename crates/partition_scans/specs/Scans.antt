@@ -5,7 +5,7 @@ use Rattle.pg_values.specs.declared.value.Value.{Value}
 use Rattle.pg_ids.specs.Sets.{has}
 use Rattle.pg_ids.specs.declared.ids.LeafId.{LeafId}
 use Rattle.pg_ids.specs.declared.session_set.SessionSet.{SessionSet}
-use Rattle.part_bounds.specs.Checks.{or_first}
+use Rattle.pg_values.specs.Refusals.{or_first}
 use Rattle.history.specs.declared.version.Version.{Version}
 use Rattle.history.specs.History.{History}
 use Rattle.row_store.specs.Judged.{refusing, seeing}

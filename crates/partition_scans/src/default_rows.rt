@@ -1,12 +1,12 @@
 ghost use Rattle.std.specs.Prelude.{◌≡◌, ◌||◌, not, true};
-ghost use Rattle.part_bounds.specs.Accepts.{accepts};
+ghost use Rattle.bound_forms.specs.Accepts.{accepts};
 ghost use Rattle.table_trees.specs.Trees.{key_of};
 ghost use Rattle.partition_scans.specs.Fitting as fitting;
 ghost use Rattle.partition_scans.specs.Fitting.{KeyFits};
 
 use crate::fitting::is_row_of;
+use bound_forms::{Bound, Level, bound_accepts};
 use history::Column;
-use part_bounds::{Bound, Level, bound_accepts};
 use pg_values::{Row, ValueKey};
 use row_store::RowTest;
 use table_trees::LevelKey;

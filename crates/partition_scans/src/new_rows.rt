@@ -1,17 +1,18 @@
 ghost use Rattle.std.specs.Prelude.{◌≡◌, ◌||◌, not, is_some, true, false, All};
 ghost use Rattle.std.specs.List.{list_any};
-ghost use Rattle.part_bounds.specs.Accepts.{accepts_among, is_default, FitsBound, FitsSet};
+ghost use Rattle.bound_forms.specs.Accepts.{accepts_among, is_default, FitsBound, FitsSet};
 ghost use Rattle.row_router.specs.declared.path.PathTest.TheVariants.{Bounds, Checks};
 ghost use Rattle.row_router.specs.Paths.{refused, PartFits};
 ghost use Rattle.table_trees.specs.Trees.{key_of};
 ghost use Rattle.partition_scans.specs.Fitting as fitting;
-ghost use Rattle.part_bounds.specs.Bounds.{BoundOfKind};
+ghost use Rattle.bound_forms.specs.Bounds.{BoundOfKind};
 ghost use Rattle.pg_values.specs.KeyKinds.{IsNotNull};
 ghost use Rattle.partition_scans.specs.Fitting.{KeyFits, SiblingsFit};
 
 use crate::fitting::is_row_of;
+use bound_forms::{Bound, Key, Level, bound_accepts};
 use history::Column;
-use part_bounds::{Bound, BoundSet, Key, Level, bound_accepts, find_child_uncounted};
+use part_bounds::{BoundSet, find_child_uncounted};
 use pg_values::{Row, ValueKey};
 use row_router::{PathTest, fits_path};
 use row_store::RowTest;

@@ -3,9 +3,9 @@ use Rattle.std.proofs.Common.{◌≡◌, ℕ, ◌+◌, ◌*◌, ◌^◌, ◌<◌
 use Rattle.std.specs.List.{All}
 use Rattle.std.proofs.lemmas.List.Elements.{All-head}
 use Rattle.pg_values.specs.declared.value.Value.{Value}
-use Rattle.part_bounds.specs.declared.partition_bound.Bound.{Bound}
-use Rattle.part_bounds.specs.declared.partition_bound.Bound.TheVariants.{Default}
-use Rattle.part_bounds.specs.Accepts.{is_default}
+use Rattle.bound_forms.specs.declared.partition_bound.Bound.{Bound}
+use Rattle.bound_forms.specs.declared.partition_bound.Bound.TheVariants.{Default}
+use Rattle.bound_forms.specs.Accepts.{is_default}
 use Rattle.prune_steps.specs.declared.step.ChainStep.{ChainStep}
 use Rattle.prune_steps.specs.declared.step.ListStep.{ListStep}
 use Rattle.prune_steps.specs.declared.step.Step.{Step}

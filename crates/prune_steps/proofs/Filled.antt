@@ -6,10 +6,10 @@ use Rattle.std.specs.declared.cmp.Ordering.TheVariants.{Less, Equal, Greater}
 use Rattle.pg_values.specs.declared.value.Value.{Value}
 use Rattle.pg_values.specs.Order.{order}
 use Rattle.pg_values.specs.KeyKinds.{order_total}
-use Rattle.part_bounds.specs.declared.point.Fill.{Fill}
-use Rattle.part_bounds.specs.declared.point.Fill.TheVariants.{Min, Max}
-use Rattle.part_bounds.specs.Bounds.{is_below}
-use Rattle.part_bounds.specs.Stored.{end_of}
+use Rattle.bound_forms.specs.declared.point.Fill.{Fill}
+use Rattle.bound_forms.specs.declared.point.Fill.TheVariants.{Min, Max}
+use Rattle.bound_forms.specs.Bounds.{is_below}
+use Rattle.bound_forms.specs.Points.{end_of}
 use Rattle.prune_steps.specs.declared.step.ChainOp.{ChainOp}
 use Rattle.prune_steps.specs.declared.step.ChainOp.TheVariants.{Eq, Lt, Le, Gt, Ge}
 use Rattle.prune_steps.specs.Runs.{ends_of}

@@ -2,11 +2,11 @@
 use Rattle.std.proofs.Common.{◌≡◌, ◌⊎◌, inl, inr, Bool, true, false, not, ◌&&◌, ◌||◌, List, [], ◌∷◌, true≢false, refl, sym, ap, ◌∙◌}
 use Rattle.std.specs.List.{list_any}
 use Rattle.std.specs.Ordering.{is_gt, is_le, is_lt}
-use Rattle.part_bounds.specs.declared.point.Edge.{Edge}
-use Rattle.part_bounds.specs.Points.{point_order}
-use Rattle.part_bounds.proofs.PointOrder.{point_total}
-use Rattle.part_bounds.specs.declared.partition_bound.Bound.{Bound}
-use Rattle.part_bounds.specs.declared.partition_bound.Bound.TheVariants.{Range, List as Listed, Hash, Default}
+use Rattle.bound_forms.specs.declared.point.Edge.{Edge}
+use Rattle.bound_forms.specs.Points.{point_order}
+use Rattle.bound_forms.proofs.PointOrder.{point_total}
+use Rattle.bound_forms.specs.declared.partition_bound.Bound.{Bound}
+use Rattle.bound_forms.specs.declared.partition_bound.Bound.TheVariants.{Range, List as Listed, Hash, Default}
 use Rattle.part_bounds.specs.Stored.{lies_in, upper_of}
 use Rattle.prune_steps.specs.Chains.{Chain, is_gap}
 use Rattle.prune_steps.proofs.Orders.{le_trans, le_above, not_above, above_not_le, gt_lt, lt_le, le_refl, not_le}

@@ -5,13 +5,13 @@ use Rattle.std.specs.List.{list_any}
 use Rattle.std.proofs.lemmas.Bool.Decides.{nat_tests}
 use Rattle.std.proofs.lemmas.List.Quantifiers.{position-Some}
 use Rattle.pg_values.specs.declared.value.Value.{Value}
-use Rattle.part_bounds.specs.declared.partition_bound.Bound.{Bound}
-use Rattle.part_bounds.specs.declared.partition_bound.Bound.TheVariants.{Range, List as Listed, Hash, Default}
-use Rattle.part_bounds.specs.Accepts.{accepts, accepts_among}
-use Rattle.part_bounds.specs.Bounds.{IsInPlainOrder}
-use Rattle.part_bounds.specs.Laws.{AtMostOneAccepts}
+use Rattle.bound_forms.specs.declared.partition_bound.Bound.{Bound}
+use Rattle.bound_forms.specs.declared.partition_bound.Bound.TheVariants.{Range, List as Listed, Hash, Default}
+use Rattle.bound_forms.specs.Accepts.{accepts, accepts_among}
+use Rattle.bound_forms.specs.Bounds.{IsInPlainOrder}
+use Rattle.bound_forms.specs.Laws.{AtMostOneAccepts}
 use Rattle.part_bounds.specs.Stored.{of_hashes, IsHashLevel}
-use Rattle.part_bounds.proofs.Choice.{position-None}
+use Rattle.bound_forms.proofs.Choice.{position-None}
 use Rattle.prune_steps.specs.Bits.{bit, AreBits}
 
 by_itself : (bounds : List Bound) (key : List Value) (b : Bound) → of_hashes b ≡ true → accepts_among bounds key b ≡ accepts key b

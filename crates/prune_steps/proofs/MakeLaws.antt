@@ -4,16 +4,16 @@ use Rattle.std.specs.Prelude.{◌==◌, Option, Some, None, slice_get, replicate
 use Rattle.std.specs.List.{All, AllZip}
 use Rattle.std.proofs.lemmas.Bool.Decides.{nat_tests}
 use Rattle.pg_values.specs.declared.value.Value.{Value}
-use Rattle.part_bounds.specs.declared.level.KeyColumn.{KeyColumn}
-use Rattle.part_bounds.specs.declared.level.Level.{Level}
-use Rattle.part_bounds.specs.declared.level.Strategy.TheVariants.{Range as ByRange, List as ByList, Hash as ByHash}
-use Rattle.part_bounds.specs.declared.partition_bound.Bound.{Bound}
-use Rattle.part_bounds.specs.declared.point.Edge.{Edge}
-use Rattle.part_bounds.specs.declared.point.Edge.TheVariants.{Min, At, Max}
-use Rattle.part_bounds.specs.declared.point.Fill.{Fill}
-use Rattle.part_bounds.specs.declared.point.Fill.TheVariants.{Min as WithMin, Max as WithMax}
-use Rattle.part_bounds.specs.Stored.{end_of, fill_edge}
-use Rattle.part_bounds.specs.Levels.{IsOfLevel}
+use Rattle.bound_forms.specs.declared.level.KeyColumn.{KeyColumn}
+use Rattle.bound_forms.specs.declared.level.Level.{Level}
+use Rattle.bound_forms.specs.declared.level.Strategy.TheVariants.{Range as ByRange, List as ByList, Hash as ByHash}
+use Rattle.bound_forms.specs.declared.partition_bound.Bound.{Bound}
+use Rattle.bound_forms.specs.declared.point.Edge.{Edge}
+use Rattle.bound_forms.specs.declared.point.Edge.TheVariants.{Min, At, Max}
+use Rattle.bound_forms.specs.declared.point.Fill.{Fill}
+use Rattle.bound_forms.specs.declared.point.Fill.TheVariants.{Min as WithMin, Max as WithMax}
+use Rattle.bound_forms.specs.Points.{end_of, fill_edge}
+use Rattle.bound_forms.specs.Levels.{IsOfLevel}
 use Rattle.cond_logic.specs.declared.cond.CompareOp.{CompareOp}
 use Rattle.cond_logic.specs.declared.cond.CompareOp.TheVariants.{Eq, Ne, Lt, Le, Gt, Ge}
 use Rattle.cond_logic.specs.declared.cond.Operand.{Operand}

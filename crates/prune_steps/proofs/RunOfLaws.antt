@@ -6,12 +6,12 @@ use Rattle.std.specs.declared.cmp.Ordering.TheVariants.{Less, Equal, Greater}
 use Rattle.std.proofs.lemmas.Bool.{cases_lt}
 use Rattle.std.proofs.lemmas.Bool.Decides.{nat_tests}
 use Rattle.pg_values.specs.declared.value.Value.{Value}
-use Rattle.part_bounds.specs.declared.partition_bound.Bound.{Bound}
-use Rattle.part_bounds.specs.declared.point.Edge.{Edge}
-use Rattle.part_bounds.specs.declared.point.Fill.TheVariants.{Min as WithMin}
-use Rattle.part_bounds.specs.Listed.{only}
-use Rattle.part_bounds.specs.Points.{point_of, point_order}
-use Rattle.part_bounds.specs.Stored.{stored, width, end_of, passes, Splits}
+use Rattle.bound_forms.specs.declared.partition_bound.Bound.{Bound}
+use Rattle.bound_forms.specs.declared.point.Edge.{Edge}
+use Rattle.bound_forms.specs.declared.point.Fill.TheVariants.{Min as WithMin}
+use Rattle.bound_forms.specs.Listed.{only}
+use Rattle.bound_forms.specs.Points.{point_of, point_order, end_of}
+use Rattle.part_bounds.specs.Stored.{stored, width, passes, Splits}
 use Rattle.cond_logic.specs.declared.cond.CompareOp.{CompareOp}
 use Rattle.cond_logic.specs.declared.cond.CompareOp.TheVariants.{Eq, Ne, Lt, Le, Gt, Ge}
 use Rattle.cond_logic.specs.Truths.{passes_by}

@@ -9,17 +9,17 @@ use Rattle.std.proofs.Math.Pow.{pow-lt}
 use Rattle.std.proofs.lemmas.Bool.{cases_lt}
 use Rattle.std.proofs.lemmas.Bool.Decides.{nat_tests}
 use Rattle.std.proofs.lemmas.List.Folds.{list_any_none, list_any_at}
-use Rattle.part_bounds.specs.declared.partition_bound.Bound.{Bound}
-use Rattle.part_bounds.specs.declared.partition_bound.Bound.TheVariants.{Range, Default}
-use Rattle.part_bounds.specs.declared.point.Edge.{Edge}
-use Rattle.part_bounds.specs.declared.point.Fill.{Fill}
+use Rattle.bound_forms.specs.declared.partition_bound.Bound.{Bound}
+use Rattle.bound_forms.specs.declared.partition_bound.Bound.TheVariants.{Range, Default}
+use Rattle.bound_forms.specs.declared.point.Edge.{Edge}
+use Rattle.bound_forms.specs.declared.point.Fill.{Fill}
 use Rattle.pg_values.specs.declared.value.Value.{Value}
-use Rattle.part_bounds.specs.Points.{point_order}
-use Rattle.part_bounds.specs.Accepts.{is_default}
-use Rattle.part_bounds.specs.Stored.{range_points, InRow, end_of, passes, in_sibling, upper_of, Splits}
-use Rattle.part_bounds.proofs.PointOrder.{point_total}
-use Rattle.part_bounds.proofs.OverlapLaws.{overlap_of_filled}
-use Rattle.part_bounds.proofs.TotalOrder.{le_trans, lt-gt, le-not_gt, not_gt-le}
+use Rattle.bound_forms.specs.Points.{point_order, end_of}
+use Rattle.bound_forms.specs.Accepts.{is_default}
+use Rattle.part_bounds.specs.Stored.{range_points, InRow, passes, in_sibling, upper_of, Splits}
+use Rattle.bound_forms.proofs.PointOrder.{point_total}
+use Rattle.bound_forms.proofs.OverlapLaws.{overlap_of_filled}
+use Rattle.bound_forms.proofs.TotalOrder.{le_trans, lt-gt, le-not_gt, not_gt-le}
 use Rattle.part_bounds.proofs.StoredLaws.{ChildAt, RangeAt, child_at, filled_at, is_odd, in_odd, upper_is, short}
 use Rattle.prune_steps.specs.Bits.{bit, in_run, AreBits}
 use Rattle.prune_steps.specs.Chains.{Chain, chain_keeps, is_gap}

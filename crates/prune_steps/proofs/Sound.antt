@@ -14,20 +14,20 @@ use Rattle.pg_values.specs.declared.value.Value.TheVariants.{Null, Int4, Int8, T
 use Rattle.pg_values.specs.Order.{order, are_comparable}
 use Rattle.pg_values.specs.Hash.{value_hash, next_hash, key_hash, key_hash_from}
 use Rattle.pg_values.specs.KeyKinds.{order_total, hash_alike}
-use Rattle.part_bounds.specs.declared.level.KeyColumn.{KeyColumn}
-use Rattle.part_bounds.specs.declared.level.Strategy.{Strategy}
-use Rattle.part_bounds.specs.declared.level.Strategy.TheVariants.{Range as ByRange, List as ByList, Hash as ByHash}
-use Rattle.part_bounds.specs.declared.partition_bound.Bound.{Bound}
-use Rattle.part_bounds.specs.declared.partition_bound.Bound.TheVariants.{Range, List as Listed, Hash, Default}
-use Rattle.part_bounds.specs.declared.point.Edge.{Edge}
-use Rattle.part_bounds.specs.Accepts.{accepts, accepts_among, has_null, is_default, lies_between}
-use Rattle.part_bounds.specs.Bounds.{is_below, greater, lesser}
-use Rattle.part_bounds.specs.Levels.{IsOfLevel, IsBoundAt}
-use Rattle.part_bounds.specs.Listed.{lists, only, is_same}
+use Rattle.bound_forms.specs.declared.level.KeyColumn.{KeyColumn}
+use Rattle.bound_forms.specs.declared.level.Strategy.{Strategy}
+use Rattle.bound_forms.specs.declared.level.Strategy.TheVariants.{Range as ByRange, List as ByList, Hash as ByHash}
+use Rattle.bound_forms.specs.declared.partition_bound.Bound.{Bound}
+use Rattle.bound_forms.specs.declared.partition_bound.Bound.TheVariants.{Range, List as Listed, Hash, Default}
+use Rattle.bound_forms.specs.declared.point.Edge.{Edge}
+use Rattle.bound_forms.specs.Accepts.{accepts, accepts_among, has_null, is_default, lies_between}
+use Rattle.bound_forms.specs.Bounds.{is_below, greater, lesser}
+use Rattle.bound_forms.specs.Levels.{IsOfLevel, IsBoundAt}
+use Rattle.bound_forms.specs.Listed.{lists, only, is_same}
 use Rattle.part_bounds.specs.Listings.{values_of, lists_null}
-use Rattle.part_bounds.specs.Points.{point_order, point_of, is_null}
+use Rattle.bound_forms.specs.Points.{point_order, point_of, is_null}
 use Rattle.part_bounds.specs.Stored.{lies_in, in_sibling}
-use Rattle.part_bounds.proofs.PointOrder.{point_total}
+use Rattle.bound_forms.proofs.PointOrder.{point_total}
 use Rattle.cond_logic.specs.declared.truth.Truth3.{Truth3}
 use Rattle.cond_logic.specs.declared.truth.Truth3.TheVariants.{Yes, No, Unknown}
 use Rattle.cond_logic.specs.declared.cond.CompareOp.{CompareOp}

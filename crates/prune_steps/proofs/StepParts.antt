@@ -3,10 +3,10 @@ use Rattle.std.proofs.Common.{◌≡◌, ℕ, zero, suc, ◌+◌, ◌<◌, ◌�
 use Rattle.std.specs.List.{All, list_all, list_any, AllZip}
 use Rattle.std.proofs.lemmas.List.Elements.{All-nil, All-cons, All-head, All-tail}
 use Rattle.pg_values.specs.declared.value.Value.{Value}
-use Rattle.part_bounds.specs.declared.partition_bound.Bound.{Bound}
-use Rattle.part_bounds.specs.Levels.{IsOfLevel}
-use Rattle.part_bounds.specs.Accepts.{accepts, is_default}
-use Rattle.part_bounds.specs.Listed.{only}
+use Rattle.bound_forms.specs.declared.partition_bound.Bound.{Bound}
+use Rattle.bound_forms.specs.Levels.{IsOfLevel}
+use Rattle.bound_forms.specs.Accepts.{accepts, is_default}
+use Rattle.bound_forms.specs.Listed.{only}
 use Rattle.prune_steps.specs.declared.step.ChainStep.{ChainStep}
 use Rattle.prune_steps.specs.declared.step.ListStep.{ListStep}
 use Rattle.prune_steps.specs.declared.step.Step.{Step}

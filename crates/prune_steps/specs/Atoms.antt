@@ -5,8 +5,8 @@ use Rattle.pg_values.specs.declared.value.Kind.{Kind}
 use Rattle.pg_values.specs.declared.value.Kind.TheVariants.{Int4 as KInt4, Int8 as KInt8, Text as KText, Day as KDay, Truth as KTruth}
 use Rattle.pg_values.specs.declared.value.Value.{Value}
 use Rattle.pg_values.specs.declared.value.Value.TheVariants.{Null, Int4, Int8, Text, Day, Truth}
-use Rattle.part_bounds.specs.declared.level.KeyColumn.{KeyColumn}
-use Rattle.part_bounds.specs.declared.level.Level.{Level}
+use Rattle.bound_forms.specs.declared.level.KeyColumn.{KeyColumn}
+use Rattle.bound_forms.specs.declared.level.Level.{Level}
 use Rattle.cond_logic.specs.declared.cond.CompareOp.{CompareOp}
 use Rattle.cond_logic.specs.declared.cond.CompareOp.TheVariants.{Eq, Ne, Lt, Le, Gt, Ge}
 use Rattle.cond_logic.specs.declared.cond.Operand.{Operand}

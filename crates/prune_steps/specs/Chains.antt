@@ -4,12 +4,12 @@ use Rattle.std.specs.Prelude.{ℕ, ◌-◌, Bool, true, false, not, ◌&&◌, �
 use Rattle.std.specs.List.{list_any}
 use Rattle.std.specs.Ordering.{is_lt, is_le}
 use Rattle.pg_values.specs.declared.value.Value.{Value}
-use Rattle.part_bounds.specs.declared.partition_bound.Bound.{Bound}
-use Rattle.part_bounds.specs.declared.partition_bound.Bound.TheVariants.{Range, Default}
-use Rattle.part_bounds.specs.declared.point.Edge.{Edge}
-use Rattle.part_bounds.specs.declared.point.Edge.TheVariants.{Min, At, Max}
-use Rattle.part_bounds.specs.Points.{point_order}
-use Rattle.part_bounds.specs.Bounds.{is_below, greater, lesser}
+use Rattle.bound_forms.specs.declared.partition_bound.Bound.{Bound}
+use Rattle.bound_forms.specs.declared.partition_bound.Bound.TheVariants.{Range, Default}
+use Rattle.bound_forms.specs.declared.point.Edge.{Edge}
+use Rattle.bound_forms.specs.declared.point.Edge.TheVariants.{Min, At, Max}
+use Rattle.bound_forms.specs.Points.{point_order}
+use Rattle.bound_forms.specs.Bounds.{is_below, greater, lesser}
 use Rattle.part_bounds.specs.Stored.{in_sibling}
 use Rattle.cond_logic.specs.declared.cond.CompareOp.{CompareOp}
 use Rattle.cond_logic.specs.declared.cond.CompareOp.TheVariants.{Eq, Ne, Lt, Le, Gt, Ge}

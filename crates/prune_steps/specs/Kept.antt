@@ -3,12 +3,12 @@ use Rattle.std.specs.Prelude.{ℕ, ◌+◌, nat_lt, Bool, true, false, not, ◌&
 use Rattle.std.specs.List.{list_any}
 use Rattle.pg_values.specs.declared.value.Value.{Value}
 use Rattle.pg_values.specs.Order.{order}
-use Rattle.part_bounds.specs.declared.level.Strategy.{Strategy}
-use Rattle.part_bounds.specs.declared.level.Strategy.TheVariants.{Range as ByRange, List as ByList, Hash as ByHash}
-use Rattle.part_bounds.specs.declared.partition_bound.Bound.{Bound}
-use Rattle.part_bounds.specs.declared.partition_bound.Bound.TheVariants.{Default}
-use Rattle.part_bounds.specs.Points.{is_null}
-use Rattle.part_bounds.specs.Accepts.{accepts, is_default}
+use Rattle.bound_forms.specs.declared.level.Strategy.{Strategy}
+use Rattle.bound_forms.specs.declared.level.Strategy.TheVariants.{Range as ByRange, List as ByList, Hash as ByHash}
+use Rattle.bound_forms.specs.declared.partition_bound.Bound.{Bound}
+use Rattle.bound_forms.specs.declared.partition_bound.Bound.TheVariants.{Default}
+use Rattle.bound_forms.specs.Points.{is_null}
+use Rattle.bound_forms.specs.Accepts.{accepts, is_default}
 use Rattle.part_bounds.specs.Listings.{values_of, lists_null}
 use Rattle.cond_logic.specs.declared.cond.CompareOp.{CompareOp}
 use Rattle.cond_logic.specs.declared.cond.CompareOp.TheVariants.{Eq, Ne, Lt, Le, Gt, Ge}

@@ -1,10 +1,10 @@
 -- What holds of kept children for every condition, level and row (5.11.4 Partition Pruning).
 use Rattle.std.specs.Prelude.{◌≡◌, ◌++◌, ◌<◌, true, List, map}
 use Rattle.pg_values.specs.declared.value.Value.{Value}
-use Rattle.part_bounds.specs.declared.partition_bound.Bound.{Bound}
-use Rattle.part_bounds.specs.Accepts.{accepts_among}
-use Rattle.part_bounds.specs.Levels.{IsOfLevel}
-use Rattle.part_bounds.specs.Points.{picked}
+use Rattle.bound_forms.specs.declared.partition_bound.Bound.{Bound}
+use Rattle.bound_forms.specs.Accepts.{accepts_among}
+use Rattle.bound_forms.specs.Levels.{IsOfLevel}
+use Rattle.bound_forms.specs.Points.{picked}
 use Rattle.cond_logic.specs.declared.truth.Truth3.TheVariants.{Yes}
 use Rattle.cond_logic.specs.Trees.{CondTree}
 use Rattle.cond_logic.specs.Truths.{truth}

@@ -4,13 +4,13 @@ use Rattle.std.specs.Prelude.{◌≡◌, ◌<◌, ◌≤◌, ℕ, zero, suc, ◌
 use Rattle.std.specs.List.{list_any, slice_index_or}
 use Rattle.pg_values.specs.declared.value.Value.{Value}
 use Rattle.pg_values.specs.Order.{order}
-use Rattle.part_bounds.specs.declared.partition_bound.Bound.{Bound}
-use Rattle.part_bounds.specs.declared.partition_bound.Bound.TheVariants.{Default}
-use Rattle.part_bounds.specs.declared.point.Edge.{Edge}
-use Rattle.part_bounds.specs.declared.point.Fill.TheVariants.{Min as WithMin}
-use Rattle.part_bounds.specs.Points.{is_null, point_of, point_order}
-use Rattle.part_bounds.specs.Accepts.{is_default}
-use Rattle.part_bounds.specs.Listed.{only}
+use Rattle.bound_forms.specs.declared.partition_bound.Bound.{Bound}
+use Rattle.bound_forms.specs.declared.partition_bound.Bound.TheVariants.{Default}
+use Rattle.bound_forms.specs.declared.point.Edge.{Edge}
+use Rattle.bound_forms.specs.declared.point.Fill.TheVariants.{Min as WithMin}
+use Rattle.bound_forms.specs.Points.{is_null, point_of, point_order}
+use Rattle.bound_forms.specs.Accepts.{is_default}
+use Rattle.bound_forms.specs.Listed.{only}
 use Rattle.part_bounds.specs.Listings.{values_of, lists_null}
 use Rattle.part_bounds.specs.Stored.{stored, width, FitsEnd}
 use Rattle.cond_logic.specs.declared.cond.CompareOp.{CompareOp}

@@ -1,8 +1,8 @@
 -- Which step is made of a condition.
 use Rattle.std.specs.Prelude.{◌≡◌, ◌≤◌, ℕ, Bool, true, false, List, Option, Some, None, All, slice_get}
-use Rattle.part_bounds.specs.declared.level.KeyColumn.{KeyColumn}
-use Rattle.part_bounds.specs.declared.partition_bound.Bound.{Bound}
-use Rattle.part_bounds.specs.Levels.{IsOfLevel}
+use Rattle.bound_forms.specs.declared.level.KeyColumn.{KeyColumn}
+use Rattle.bound_forms.specs.declared.partition_bound.Bound.{Bound}
+use Rattle.bound_forms.specs.Levels.{IsOfLevel}
 use Rattle.cond_logic.specs.Trees.{CondTree}
 use Rattle.prune_steps.specs.declared.reading.Reading.{Reading}
 use Rattle.prune_steps.specs.declared.reading.Reading.TheVariants.{Never, Anything, On}

@@ -2,12 +2,13 @@
 use Rattle.std.specs.Prelude.{◌≡◌, ◌<◌, ◌≤◌, ℕ, ◌-◌, Bool, true, false, List, length}
 use Rattle.std.specs.List.{slice_index_or}
 use Rattle.pg_values.specs.declared.value.Value.{Value}
-use Rattle.part_bounds.specs.declared.partition_bound.Bound.{Bound}
-use Rattle.part_bounds.specs.declared.partition_bound.Bound.TheVariants.{Default}
-use Rattle.part_bounds.specs.declared.point.Fill.{Fill}
-use Rattle.part_bounds.specs.declared.point.Fill.TheVariants.{Min, Max}
-use Rattle.part_bounds.specs.Bounds.{is_below}
-use Rattle.part_bounds.specs.Stored.{stored, range_points, in_sibling, end_of, upper_of, passes, width, FitsEnd, Splits}
+use Rattle.bound_forms.specs.declared.partition_bound.Bound.{Bound}
+use Rattle.bound_forms.specs.declared.partition_bound.Bound.TheVariants.{Default}
+use Rattle.bound_forms.specs.declared.point.Fill.{Fill}
+use Rattle.bound_forms.specs.declared.point.Fill.TheVariants.{Min, Max}
+use Rattle.bound_forms.specs.Bounds.{is_below}
+use Rattle.part_bounds.specs.Stored.{stored, range_points, in_sibling, upper_of, passes, width, FitsEnd, Splits}
+use Rattle.bound_forms.specs.Points.{end_of}
 use Rattle.prune_steps.specs.declared.step.ChainOp.{ChainOp}
 use Rattle.prune_steps.specs.declared.step.ChainOp.TheVariants.{Lt, Le, Gt, Ge}
 use Rattle.prune_steps.specs.Chains.{Chain}

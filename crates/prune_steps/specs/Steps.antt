@@ -2,11 +2,11 @@
 use Rattle.std.specs.Prelude.{◌≡◌, ◌<◌, ◌≤◌, ℕ, ◌+◌, nat_lt, Bool, true, false, List, [], ◌∷◌, ◌++◌, length, Option, Some, None, All}
 use Rattle.std.specs.List.{list_all, list_any, slice_index_or}
 use Rattle.pg_values.specs.declared.value.Value.{Value}
-use Rattle.part_bounds.specs.declared.level.Level.{Level}
-use Rattle.part_bounds.specs.declared.partition_bound.Bound.{Bound}
-use Rattle.part_bounds.specs.Levels.{IsOfLevel}
-use Rattle.part_bounds.specs.Accepts.{accepts, is_default, FitsSet}
-use Rattle.part_bounds.specs.Listed.{only}
+use Rattle.bound_forms.specs.declared.level.Level.{Level}
+use Rattle.bound_forms.specs.declared.partition_bound.Bound.{Bound}
+use Rattle.bound_forms.specs.Levels.{IsOfLevel}
+use Rattle.bound_forms.specs.Accepts.{accepts, is_default, FitsSet}
+use Rattle.bound_forms.specs.Listed.{only}
 use Rattle.part_bounds.specs.Stored.{width, stored, IsRangeLevel, IsListLevel, IsHashLevel, RangesFit}
 use Rattle.cond_logic.specs.Trees.{CondTree, CondTrees, no_more, and_more, all_of, any_of, inverted, compares, null_test, known}
 use Rattle.cond_logic.specs.Rewriting.{pushed, with_args}

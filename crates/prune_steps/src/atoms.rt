@@ -8,8 +8,8 @@ ghost use Rattle.prune_steps.specs.Atoms as spec;
 ghost use Rattle.prune_steps.specs.Atoms.{asked};
 
 use crate::reading::Reading;
+use bound_forms::Level;
 use cond_logic::{CompareOp, Cond, Operand};
-use part_bounds::Level;
 use pg_values::{Kind, NoMemory, Row, Value, copy_value};
 use std::alloc::Global;
 

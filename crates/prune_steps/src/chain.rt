@@ -1,7 +1,7 @@
 //! The chain of a comparison at a level by range.
 
 ghost use Rattle.std.specs.Prelude.{◌≡◌, ◌<◌, ◌≤◌, ◌+◌, ◌-◌, ◌*◌, ◌^◌, ℕ, false, true, length, slice_index_or};
-ghost use Rattle.part_bounds.specs.declared.partition_bound.Bound.TheVariants.{Default as ByDefault};
+ghost use Rattle.bound_forms.specs.declared.partition_bound.Bound.TheVariants.{Default as ByDefault};
 ghost use Rattle.part_bounds.specs.Stored.{stored, width, IsRangeLevel, RangesFit};
 ghost use Rattle.prune_steps.specs.Bits.{AreBits};
 ghost use Rattle.prune_steps.specs.Chains.{chain_keeps, Chain};
@@ -10,7 +10,8 @@ ghost use Rattle.prune_steps.specs.Runs.{ends_of, from_count, from_fill, to_coun
 use crate::KeptSet;
 use crate::marks::add_default;
 use crate::step::ChainOp;
-use part_bounds::{BoundSet, Fill, Key, points_below, ranges_stand_in_row, touches};
+use bound_forms::{Fill, Key};
+use part_bounds::{BoundSet, points_below, ranges_stand_in_row, touches};
 use pg_values::{KeyKind, Steps};
 use std::sync::ledger::Ledger;
 

@@ -1,8 +1,8 @@
 //! How many listed values of each child stand in a run of the sorted array.
 
 ghost use Rattle.std.specs.Prelude.{◌≡◌, ◌<◌, ◌≤◌, ◌||◌, ℕ, length, slice_index_or, not};
-ghost use Rattle.part_bounds.specs.declared.partition_bound.Bound.TheVariants.{Default as ByDefault};
-ghost use Rattle.part_bounds.specs.Points as points;
+ghost use Rattle.bound_forms.specs.declared.partition_bound.Bound.TheVariants.{Default as ByDefault};
+ghost use Rattle.bound_forms.specs.Points as points;
 ghost use Rattle.part_bounds.specs.Listings.{values_of};
 ghost use Rattle.part_bounds.specs.Stored.{stored, owners, HasPoints};
 ghost use Rattle.prune_steps.specs.Bits.{bit, AreBits};
@@ -12,7 +12,8 @@ ghost use Rattle.prune_steps.specs.Tallies.{one, tally};
 
 use crate::KeptSet;
 use crate::child_counts::Counts;
-use part_bounds::{Bound, BoundSet, bound, len, owner_of};
+use bound_forms::Bound;
+use part_bounds::{BoundSet, bound, len, owner_of};
 use pg_values::{KeyKind, Row, Value};
 
 fn one_if_not_null(value: &Value) -> usize

@@ -1,8 +1,8 @@
 //! Comparisons at a level by list.
 
 ghost use Rattle.std.specs.Prelude.{◌≡◌, ◌<◌, ◌≤◌, ◌+◌, ◌*◌, ◌^◌, ℕ, length, slice_index_or};
-ghost use Rattle.part_bounds.specs.declared.partition_bound.Bound.TheVariants.{Default as ByDefault};
-ghost use Rattle.part_bounds.specs.Listed.{only};
+ghost use Rattle.bound_forms.specs.declared.partition_bound.Bound.TheVariants.{Default as ByDefault};
+ghost use Rattle.bound_forms.specs.Listed.{only};
 ghost use Rattle.part_bounds.specs.Stored.{stored, IsListLevel};
 ghost use Rattle.cond_logic.specs.declared.cond.CompareOp.{CompareOp as Comparison};
 ghost use Rattle.cond_logic.specs.declared.cond.CompareOp.TheVariants.{Eq, Lt, Le};
@@ -14,8 +14,9 @@ ghost use Rattle.prune_steps.specs.Lists.{CanAskList};
 use crate::KeptSet;
 use crate::counts::{add_counted, counts_in};
 use crate::marks::{Mark, add_default, add_marked, any_marked};
+use bound_forms::{Fill, Key};
 use cond_logic::CompareOp;
-use part_bounds::{BoundSet, Fill, Key, points_below};
+use part_bounds::{BoundSet, points_below};
 use pg_values::{KeyKind, Steps};
 use std::sync::ledger::Ledger;
 

@@ -2,15 +2,16 @@
 
 ghost use Rattle.std.specs.Prelude.{◌≡◌, ◌≤◌, ◌&&◌, ◌||◌, length, slice_index_or};
 ghost use Rattle.std.specs.List.{list_any};
-ghost use Rattle.part_bounds.specs.declared.partition_bound.Bound.TheVariants.{Default as ByDefault};
-ghost use Rattle.part_bounds.specs.Accepts.{is_default};
-ghost use Rattle.part_bounds.specs.Points as points;
+ghost use Rattle.bound_forms.specs.declared.partition_bound.Bound.TheVariants.{Default as ByDefault};
+ghost use Rattle.bound_forms.specs.Accepts.{is_default};
+ghost use Rattle.bound_forms.specs.Points as points;
 ghost use Rattle.part_bounds.specs.Listings as listings;
 ghost use Rattle.prune_steps.specs.Bits.{bit, AreBits};
 ghost use Rattle.prune_steps.specs.Lists as spec;
 
 use crate::KeptSet;
-use part_bounds::{Bound, BoundSet, bound, len};
+use bound_forms::Bound;
+use part_bounds::{BoundSet, bound, len};
 use pg_values::{KeyKind, Row, Value};
 
 /// What a bound is marked for.

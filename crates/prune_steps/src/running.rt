@@ -3,14 +3,14 @@
 ghost use Rattle.std.specs.Prelude.{◌≡◌, ◌<◌, ◌≤◌, ◌+◌, ◌*◌, ◌^◌, ℕ, All, List, length, nat_lt, slice_index_or};
 ghost use Rattle.pg_values.specs.declared.value.Value.{Value as OneValue};
 ghost use Rattle.cond_logic.specs.Trees.{CondTree};
-ghost use Rattle.part_bounds.specs.declared.partition_bound.Bound.TheVariants.{Default as ByDefault};
-ghost use Rattle.part_bounds.specs.Accepts as accepts;
+ghost use Rattle.bound_forms.specs.declared.partition_bound.Bound.TheVariants.{Default as ByDefault};
+ghost use Rattle.bound_forms.specs.Accepts as accepts;
 ghost use Rattle.part_bounds.specs.Stored.{stored};
 ghost use Rattle.prune_steps.specs.Atoms.{Asked};
 ghost use Rattle.prune_steps.specs.Bits.{bit, AreBits};
 ghost use Rattle.prune_steps.specs.Kept as kept_spec;
 ghost use Rattle.prune_steps.specs.Steps.{step_keeps, steps_keep, atoms, comparisons, step_count, CanAskAtom, CanAskSteps, AskedByRange, AskedByList, AskedByHash, AreStepsOf};
-ghost use Rattle.part_bounds.specs.Listed.{only};
+ghost use Rattle.bound_forms.specs.Listed.{only};
 ghost use Rattle.prune_steps.specs.Chains.{chain_keeps};
 ghost use Rattle.prune_steps.specs.Kept.{list_keeps};
 ghost use Rattle.prune_steps.specs.Runs.{ends_of};
@@ -20,7 +20,8 @@ use crate::chain::keep_chain;
 use crate::lists::{keep_listed, keep_not_null, keep_null};
 use crate::marks::add_default;
 use crate::step::{ChainStep, ListStep, PruneSteps, Step};
-use part_bounds::{BoundSet, Key, at_most_one_accepts, find_child, stands_in_plain_order};
+use bound_forms::{Key, at_most_one_accepts};
+use part_bounds::{BoundSet, find_child, stands_in_plain_order};
 use pg_values::{KeyKind, Row, Steps, Value};
 use std::sync::ledger::Ledger;
 

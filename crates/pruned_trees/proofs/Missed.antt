@@ -8,11 +8,11 @@ use Rattle.std.proofs.lemmas.List.{map-append}
 use Rattle.std.proofs.lemmas.List.Elements.{All-head, All-tail, Contains-append_right}
 use Rattle.pg_values.specs.declared.value.Value.{Value}
 use Rattle.pg_ids.specs.declared.ids.LeafId.{LeafId}
-use Rattle.part_bounds.specs.declared.level.Level.{Level}
-use Rattle.part_bounds.specs.declared.partition_bound.Bound.{Bound}
-use Rattle.part_bounds.specs.declared.partition_bound.Bound.TheVariants.{Default}
-use Rattle.part_bounds.specs.Accepts.{accepts_among}
-use Rattle.part_bounds.specs.Levels.{IsOfLevel}
+use Rattle.bound_forms.specs.declared.level.Level.{Level}
+use Rattle.bound_forms.specs.declared.partition_bound.Bound.{Bound}
+use Rattle.bound_forms.specs.declared.partition_bound.Bound.TheVariants.{Default}
+use Rattle.bound_forms.specs.Accepts.{accepts_among}
+use Rattle.bound_forms.specs.Levels.{IsOfLevel}
 use Rattle.table_trees.specs.declared.node.Node.{Node}
 use Rattle.table_trees.specs.Trees.{TableTree, LeafTable, LevelTable, Trees, End, More, count, key_of, leaves, all_leaves}
 use Rattle.cond_logic.specs.declared.truth.Truth3.{Truth3}

@@ -6,8 +6,8 @@ use Rattle.std.proofs.lemmas.List.{length-map}
 use Rattle.std.proofs.lemmas.List.Elements.{All-filter, filter_passes}
 use Rattle.std.proofs.lemmas.List.Kept.{AllPairs-filter}
 use Rattle.std.proofs.lemmas.List.Sorted.{length_permutation}
-use Rattle.part_bounds.proofs.PlainOrder.{order_keeps}
-use Rattle.part_bounds.specs.Bounds.{in_plain_order}
+use Rattle.bound_forms.proofs.PlainOrder.{order_keeps}
+use Rattle.bound_forms.specs.Bounds.{in_plain_order}
 use Rattle.history.specs.declared.catalogue.Column.{Column}
 use Rattle.history.specs.declared.catalogue.Entry.{Entry}
 use Rattle.history.specs.declared.catalogue.Table.{Table}

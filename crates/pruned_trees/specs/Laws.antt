@@ -3,8 +3,8 @@ use Rattle.std.specs.Prelude.{◌≡◌, ◌<◌, ℕ, Bool, true, false, List, 
 use Rattle.std.specs.List.{All, Contains, flat_map, list_all}
 use Rattle.pg_values.specs.declared.value.Value.{Value}
 use Rattle.pg_ids.specs.declared.ids.LeafId.{LeafId}
-use Rattle.part_bounds.specs.declared.partition_bound.Bound.{Bound}
-use Rattle.part_bounds.specs.Accepts.{accepts_among}
+use Rattle.bound_forms.specs.declared.partition_bound.Bound.{Bound}
+use Rattle.bound_forms.specs.Accepts.{accepts_among}
 use Rattle.history.specs.declared.version.Version.{Version}
 use Rattle.history.specs.Snapshots.{TakenSnapshot}
 use Rattle.history.specs.History.{History, catalogue_events, seen}

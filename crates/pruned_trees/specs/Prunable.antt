@@ -1,6 +1,6 @@
 -- Which trees can be pruned.
 use Rattle.std.specs.Prelude.{◌≡◌, ◌≤◌, All, length}
-use Rattle.part_bounds.specs.Levels.{IsOfLevel}
+use Rattle.bound_forms.specs.Levels.{IsOfLevel}
 use Rattle.table_trees.specs.Trees.{TableTree, LeafTable, LevelTable, Trees, End, More, count}
 
 -- at each level there is a bound for each partition, each such as a check gives for the level, and of partitions there are

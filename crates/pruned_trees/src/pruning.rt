@@ -1,8 +1,8 @@
 //! The kept leaves of a tree, and the tables that lead to them.
 
 ghost use Rattle.std.specs.Prelude.{◌≡◌, ◌<◌, ◌≤◌, ◌++◌, ℕ, [], All, IfOk, OnOk, length, map, slice_index_or};
-ghost use Rattle.part_bounds.specs.declared.partition_bound.Bound.TheVariants.{Default as ByDefault};
-ghost use Rattle.part_bounds.specs.Levels.{IsOfLevel};
+ghost use Rattle.bound_forms.specs.declared.partition_bound.Bound.TheVariants.{Default as ByDefault};
+ghost use Rattle.bound_forms.specs.Levels.{IsOfLevel};
 ghost use Rattle.cond_logic.specs.Trees.{cond_tree};
 ghost use Rattle.table_trees.specs.Seen.{seen};
 ghost use Rattle.prune_steps.specs.Atoms.{asked};
@@ -14,8 +14,9 @@ ghost use Rattle.pruned_trees.specs.Prunable.{CanPrune};
 
 use crate::NamedLeaf;
 use crate::condition::copy_cond;
+use bound_forms::{Bound, KeyColumns, Level, Strategy};
 use cond_logic::Cond;
-use part_bounds::{Bound, BoundSet, KeyColumns, Level, Strategy, make_set};
+use part_bounds::{BoundSet, make_set};
 use pg_ids::TableNo;
 use pg_values::{NoMemory, Steps, ValueKey};
 use prune_steps::{KeptSet, make_steps, run_steps};

@@ -5,11 +5,11 @@ use Rattle.pg_values.specs.declared.value.Kind.TheVariants.{Text as KText}
 use Rattle.pg_values.specs.declared.value.Value.{Value}
 use Rattle.pg_values.specs.declared.value.Value.TheVariants.{Null, Text}
 use Rattle.pg_values.specs.declared.fault.Fault.{Fault}
-use Rattle.part_bounds.specs.declared.level.Level.{Level as OneLevel}
-use Rattle.part_bounds.specs.declared.level.Strategy.TheVariants.{Range as ByRange}
-use Rattle.part_bounds.specs.declared.partition_bound.Bound.{Bound}
-use Rattle.part_bounds.specs.declared.partition_bound.Bound.TheVariants.{Range}
-use Rattle.part_bounds.specs.declared.point.Edge.TheVariants.{Min, At}
+use Rattle.bound_forms.specs.declared.level.Level.{Level as OneLevel}
+use Rattle.bound_forms.specs.declared.level.Strategy.TheVariants.{Range as ByRange}
+use Rattle.bound_forms.specs.declared.partition_bound.Bound.{Bound}
+use Rattle.bound_forms.specs.declared.partition_bound.Bound.TheVariants.{Range}
+use Rattle.bound_forms.specs.declared.point.Edge.TheVariants.{Min, At}
 use Rattle.value_rules.specs.FaultTexts.{fault_of}
 use Rattle.history.specs.declared.catalogue.Table.{Table}
 use Rattle.history.specs.declared.catalogue.TableShape.TheVariants.{Leaf}

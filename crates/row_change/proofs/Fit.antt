@@ -8,11 +8,11 @@ use Rattle.std.proofs.lemmas.Grind.{common_steps, elements}
 use Rattle.std.proofs.lemmas.List.{length-map, length-append}
 use Rattle.std.proofs.lemmas.List.Elements.{All-cons, All-head, All-tail, All-nil}
 use Rattle.pg_values.specs.declared.value.Value.{Value}
-use Rattle.part_bounds.specs.declared.partition_bound.Bound.{Bound}
-use Rattle.part_bounds.specs.Accepts.{FitsBound}
-use Rattle.part_bounds.specs.Bounds.{comes_after, IsInPlainOrder}
-use Rattle.part_bounds.specs.Levels.{IsOfLevel}
-use Rattle.part_bounds.proofs.LevelLaws.{level_kind}
+use Rattle.bound_forms.specs.declared.partition_bound.Bound.{Bound}
+use Rattle.bound_forms.specs.Accepts.{FitsBound}
+use Rattle.bound_forms.specs.Bounds.{comes_after, IsInPlainOrder}
+use Rattle.bound_forms.specs.Levels.{IsOfLevel}
+use Rattle.bound_forms.proofs.LevelLaws.{level_kind}
 use Rattle.history.specs.declared.catalogue.Table.{Table}
 use Rattle.history.specs.declared.catalogue.TableShape.{TableShape}
 use Rattle.history.specs.declared.catalogue.TableShape.TheVariants.{Leaf, Level}

@@ -3,8 +3,7 @@ use Rattle.std.proofs.Common.{◌≡◌, ℕ, ◌+◌, ◌<◌, suc, List, [], �
 use Rattle.pg_values.specs.declared.value.Value.{Value}
 use Rattle.pg_values.specs.declared.fault.Fault.{Fault}
 use Rattle.pg_ids.specs.declared.ids.LeafId.{LeafId}
-use Rattle.part_bounds.specs.RawBounds.{faults_in, read_in}
-use Rattle.part_bounds.specs.Checks.{or_first}
+use Rattle.pg_values.specs.Refusals.{faults_in, read_in, or_first}
 
 -- of all rows, those that are left decide, and these are the leaves of the others
 pub record ArePlaced (place : List Value → Result LeafId Fault) (rows left : List (List Value)) (leaves : List LeafId) : Type 0 where

@@ -4,8 +4,7 @@ use Rattle.pg_values.specs.declared.value.Value.{Value}
 use Rattle.pg_values.specs.declared.fault.Fault.{Fault}
 use Rattle.pg_ids.specs.declared.ids.LeafId.{LeafId}
 use Rattle.pg_ids.specs.declared.ids.TableNo.{TableNo}
-use Rattle.part_bounds.specs.RawBounds.{faults_in, read_in}
-use Rattle.part_bounds.specs.Checks.{or_first}
+use Rattle.pg_values.specs.Refusals.{faults_in, read_in, or_first}
 use Rattle.history.specs.declared.catalogue.Table.{Table}
 use Rattle.history.specs.declared.catalogue.TableShape.{TableShape}
 use Rattle.history.specs.declared.catalogue.TableShape.TheVariants.{Leaf, Level}

@@ -8,8 +8,8 @@ use Rattle.pg_values.specs.declared.fault.Refusal.TheVariants.{Sql, NoMemory}
 use Rattle.pg_ids.specs.declared.ids.LeafId.{LeafId}
 use Rattle.pg_ids.specs.declared.ids.TableNo.{TableNo}
 use Rattle.pg_ids.specs.declared.which.Which.TheVariants.{Versions, BytesOfRows}
-use Rattle.part_bounds.specs.Points.{is_null}
-use Rattle.part_bounds.specs.Checks.{unless}
+use Rattle.bound_forms.specs.Points.{is_null}
+use Rattle.pg_values.specs.Refusals.{unless}
 use Rattle.history.specs.declared.transaction.TxId.{TxId}
 use Rattle.history.specs.declared.catalogue.Column.{Column}
 use Rattle.history.specs.declared.catalogue.Table.{Table}

@@ -1,8 +1,7 @@
 //! The leaf of each row.
 
 ghost use Rattle.std.specs.Prelude.{◌≡◌, ◌<◌, All, IfOk, length};
-ghost use Rattle.pg_values.specs.Refusals.{IsAnswer};
-ghost use Rattle.part_bounds.specs.Checks.{or_first};
+ghost use Rattle.pg_values.specs.Refusals.{IsAnswer, or_first};
 ghost use Rattle.history.specs.Catalogue.{tables_made};
 ghost use Rattle.history.specs.History.{History, catalogue_events};
 ghost use Rattle.history.specs.Places.{table_at};

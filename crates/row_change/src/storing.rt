@@ -1,13 +1,12 @@
 //! Rows into the store.
 
 ghost use Rattle.std.specs.Prelude.{◌≡◌, ◌<◌, [], ◌∷◌, All, IfOk, find, length};
-ghost use Rattle.pg_values.specs.Refusals.{IsAnswer};
+ghost use Rattle.pg_values.specs.Refusals.{IsAnswer, or_first};
 ghost use Rattle.history.specs.Rows.{RowBorn};
 ghost use Rattle.history.specs.Catalogue.{tables_made};
 ghost use Rattle.history.specs.History.{History, RowChange, catalogue_events};
 ghost use Rattle.tx_table.specs.Stands.{TableStands, IsOpen};
 ghost use Rattle.row_store.specs.Stands.{StoreStands, newborn};
-ghost use Rattle.part_bounds.specs.Checks.{or_first};
 ghost use Rattle.part_catalog.specs.Stands.{CatalogueStands};
 ghost use Rattle.row_change.specs.Places.{ArePlaces};
 ghost use Rattle.row_change.specs.Storing as storing;

@@ -1,9 +1,8 @@
 //! The tests of a row before it is stored.
 
 ghost use Rattle.std.specs.Prelude.{◌≡◌, ◌<◌, ◌&&◌, not, All, IfOk, length};
-ghost use Rattle.pg_values.specs.Refusals.{IsAnswer};
-ghost use Rattle.part_bounds.specs.Points as points;
-ghost use Rattle.part_bounds.specs.Checks.{or_first, unless};
+ghost use Rattle.pg_values.specs.Refusals.{IsAnswer, or_first, unless};
+ghost use Rattle.bound_forms.specs.Points as points;
 ghost use Rattle.history.specs.Catalogue.{tables_made};
 ghost use Rattle.history.specs.History.{History, catalogue_events};
 ghost use Rattle.row_router.specs.Paths.{PartFits};

@@ -1,7 +1,7 @@
 -- How many comparisons of keys the way of a row takes: each level is searched by halves.
 use Rattle.std.specs.Prelude.{ℕ, ◌+◌, ◌*◌, zero, suc, List, Option, Some, None, length}
 use Rattle.pg_values.specs.declared.value.Value.{Value}
-use Rattle.part_bounds.specs.declared.partition_bound.Bound.{Bound}
+use Rattle.bound_forms.specs.declared.partition_bound.Bound.{Bound}
 use Rattle.part_bounds.specs.Stored.{stored}
 use Rattle.table_trees.specs.Trees.{TableTree, LeafTable, LevelTable, Trees, End, More, child_of}
 

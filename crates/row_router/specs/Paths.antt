@@ -4,9 +4,9 @@ use Rattle.std.specs.List.{list_any}
 use Rattle.pg_values.specs.declared.value.Value.{Value}
 use Rattle.pg_values.specs.KeyKinds.{IsNotNull}
 use Rattle.pg_ids.specs.declared.ids.TableNo.{TableNo}
-use Rattle.part_bounds.specs.declared.partition_bound.Bound.TheVariants.{Default}
-use Rattle.part_bounds.specs.Bounds.{BoundOfKind}
-use Rattle.part_bounds.specs.Accepts.{accepts, accepts_among, FitsBound, FitsSet}
+use Rattle.bound_forms.specs.declared.partition_bound.Bound.TheVariants.{Default}
+use Rattle.bound_forms.specs.Bounds.{BoundOfKind}
+use Rattle.bound_forms.specs.Accepts.{accepts, accepts_among, FitsBound, FitsSet}
 use Rattle.history.specs.declared.catalogue.KeptCheck.{KeptCheck}
 use Rattle.table_trees.specs.declared.path_part.Place.{Place}
 use Rattle.table_trees.specs.declared.path_part.PathPart.{PathPart}

@@ -3,8 +3,9 @@ ghost use Rattle.std.specs.List.{list_any};
 ghost use Rattle.row_router.specs.Paths as paths;
 ghost use Rattle.row_router.specs.Paths.{check_refuses, place_refuses, refused, CheckFits, PartFits, PlaceFits};
 
+use bound_forms::bound_accepts;
 use history::KeptCheck;
-use part_bounds::{accepts, bound_accepts};
+use part_bounds::accepts;
 use pg_ids::TableNo;
 use pg_values::{Row, ValueKey};
 use table_trees::{LevelKey, PathPart, Place};

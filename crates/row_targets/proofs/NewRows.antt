@@ -12,7 +12,7 @@ use Rattle.value_rules.specs.Ranges.{or_fault, is_integer}
 use Rattle.value_rules.specs.declared.assignment.CoerceFault.{CoerceFault}
 use Rattle.value_rules.specs.declared.assignment.CoerceFault.TheVariants.{Kinds, Range}
 use Rattle.history.specs.declared.catalogue.Column.{Column}
-use Rattle.part_bounds.specs.Levels.{IsOf}
+use Rattle.bound_forms.specs.Levels.{IsOf}
 use Rattle.table_trees.specs.Trees.{IsRowOf}
 use Rattle.statement_asks.specs.Asked.{SettingMeant, setting_meant}
 use Rattle.statement_asks.specs.declared.change.Setting.{Setting}

@@ -8,11 +8,11 @@ ghost use Rattle.row_targets.specs.NewRows as rows;
 use crate::faults::wrong_kind;
 use cond_logic::Binding;
 use history::Column;
-use pg_values::{Kind, NoMemory, Refusal, Row, Value, copy_value};
+use pg_values::{Kind, NoMemory, Refusal, Row, Value, copy_value, kind_of};
 use scalar_values::{TableNames, scalar_value};
 use statement_asks::Setting;
 use std::alloc::Global;
-use value_rules::{CoerceFault, coerce, kind_of, out_of_range};
+use value_rules::{CoerceFault, coerce, out_of_range};
 
 fn kind_at(columns: &[Column], place: usize) -> Kind
     ensures { result ≡ rows.kind_at columns.now place }

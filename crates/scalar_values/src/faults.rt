@@ -1,9 +1,9 @@
 ghost use Rattle.std.specs.Prelude.{◌≡◌, ◌∷◌, ◌++◌, [], IfOk};
 ghost use Rattle.scalar_values.specs.Faults as faults;
 
-use pg_values::{Args, Fault, NoMemory, PgText, SqlState, Value};
+use pg_values::{Args, Fault, NoMemory, PgText, SqlState, Value, kind_of};
 use std::alloc::Global;
-use value_rules::{Arith, ArithFault, kind_of, kind_word, out_of_range, three_texts};
+use value_rules::{Arith, ArithFault, kind_word, out_of_range, three_texts};
 
 fn sign(op: Arith) -> &'static [u8]
     ensures { result.now ≡ faults.sign op }

@@ -1,43 +1,13 @@
 ghost use Rattle.std.specs.Prelude.{◌≡◌, ℕ, ◌+◌, OnOk, OnErr, slice_index_or};
 ghost use Rattle.pg_values.specs.declared.value.Value.TheVariants.{Null};
-ghost use Rattle.pg_values.specs.Order as orders;
 ghost use Rattle.cond_logic.specs.Truths as truths;
 ghost use Rattle.select_answer.specs.Keys.{null_rank, directed, value_order, keys_order, row_less};
 ghost use Rattle.select_answer.specs.Sorted.{sorted};
 
 use crate::KeyedRow;
-use pg_values::{NoMemory, Row, Value, cmp_values};
+use pg_values::{NoMemory, Row, Value, cmp_any};
 use statement_asks::SortKey;
 use std::cmp::Ordering;
-
-fn rank(value: &Value) -> u32
-    ensures { result ≡ orders.rank value.now }
-{
-    match value {
-        Value::Null => 0,
-        Value::Int4(_) => 1,
-        Value::Int8(_) => 1,
-        Value::Text(_) => 2,
-        Value::Day(_) => 3,
-        Value::Truth(_) => 4,
-    }
-}
-
-// The order of all values: those of different kinds stand in the order of their kinds.
-fn cmp_any(a: &Value, b: &Value) -> Ordering
-    ensures { result ≡ orders.order a.now b.now }
-{
-    match (a, b) {
-        (Value::Int4(_), Value::Int4(_)) => cmp_values(a, b),
-        (Value::Int4(_), Value::Int8(_)) => cmp_values(a, b),
-        (Value::Int8(_), Value::Int4(_)) => cmp_values(a, b),
-        (Value::Int8(_), Value::Int8(_)) => cmp_values(a, b),
-        (Value::Text(_), Value::Text(_)) => cmp_values(a, b),
-        (Value::Day(_), Value::Day(_)) => cmp_values(a, b),
-        (Value::Truth(_), Value::Truth(_)) => cmp_values(a, b),
-        _ => rank(a).cmp(&rank(b)),
-    }
-}
 
 fn is_null(value: &Value) -> bool
     ensures { result ≡ truths.is_null value.now }

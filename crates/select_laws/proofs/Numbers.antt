@@ -5,7 +5,7 @@ use Rattle.std.proofs.lemmas.Bool.{cases_Bool}
 use Rattle.std.proofs.lemmas.Bool.Decides.{nat_tests}
 use Rattle.std.proofs.lemmas.List.Elements.{All-head, All-tail, All-filter, filter_passes}
 use Rattle.std.proofs.lemmas.List.Kept.{AllPairs-filter}
-use Rattle.part_bounds.proofs.PlainOrder.{pairs-head, pairs-tail}
+use Rattle.bound_forms.proofs.PlainOrder.{pairs-head, pairs-tail}
 
 abbrev Differ : ℕ → ℕ → Type 0
 Differ a b = a ≢ b

@@ -1,7 +1,7 @@
 -- An entry that is added: in each world of its transaction the tables below it and above it are those that the session has.
 use Rattle.std.proofs.Common.{◌≡◌, ◌≢◌, ℕ, zero, suc, ◌+◌, arith, true, ◌∷◌, ◌⊎◌, inl, inr, refl, ap, sym, subst, ◌∙◌}
 use Rattle.history.specs.declared.catalogue.Entry.{Entry}
-use Rattle.part_bounds.specs.Accepts.{is_default}
+use Rattle.bound_forms.specs.Accepts.{is_default}
 use Rattle.history.specs.Catalogue.{CatalogueEvents, EntryAdded, tables_made, IsEntry, IsEntryEnd, IsMark}
 use Rattle.history.specs.Places.{Suits}
 use Rattle.history.specs.History.{History, tx_events, catalogue_events}

@@ -3,7 +3,7 @@ use Rattle.std.proofs.Common.{◌≡◌, ℕ, true, ◌∷◌, inl, inr, ap, sym
 use Rattle.std.proofs.lemmas.Bool.{cases_Bool}
 use Rattle.history.specs.declared.transaction.Fate.TheVariants.{Running}
 use Rattle.history.specs.declared.catalogue.Entry.{Entry}
-use Rattle.part_bounds.specs.Accepts.{is_default}
+use Rattle.bound_forms.specs.Accepts.{is_default}
 use Rattle.history.specs.Transactions.{fate}
 use Rattle.history.specs.Catalogue.{EntryAdded, IsEntry, IsEntryEnd, IsMark}
 use Rattle.history.specs.History.{History, tx_events, catalogue_events, lock_events}

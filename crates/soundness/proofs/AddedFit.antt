@@ -1,8 +1,8 @@
 -- Fit after an entry was added: the scan judged whatever may be shown below it.
 use Rattle.std.proofs.Common.{◌≡◌, ◌≢◌, ◌||◌, ℕ, suc, Bool, true, false, ◌∷◌, inl, inr, refl, ap, sym, subst, ◌∙◌, List}
 use Rattle.std.proofs.lemmas.Bool.{cases_Bool}
-use Rattle.part_bounds.specs.Accepts.{accepts, is_default}
-use Rattle.part_bounds.proofs.OverlapLaws.{default_alone}
+use Rattle.bound_forms.specs.Accepts.{accepts, is_default}
+use Rattle.bound_forms.proofs.OverlapLaws.{default_alone}
 use Rattle.pg_values.specs.declared.value.Value.{Value}
 use Rattle.history.specs.declared.transaction.Fate.{Fate}
 use Rattle.history.specs.declared.transaction.Fate.TheVariants.{Running, Committed, Aborted}

@@ -8,11 +8,11 @@ use Rattle.pg_values.specs.declared.value.Kind.TheVariants.{Int4 as KInt4}
 use Rattle.pg_values.specs.declared.value.Value.TheVariants.{Int4}
 use Rattle.pg_ids.specs.declared.ids.LeafId.{LeafId}
 use Rattle.pg_ids.specs.declared.lock_mode.LockMode.TheVariants.{RowExclusive}
-use Rattle.part_bounds.specs.declared.level.KeyColumn.{KeyColumn}
-use Rattle.part_bounds.specs.declared.level.Strategy.TheVariants.{Range as ByRange}
-use Rattle.part_bounds.specs.declared.point.Edge.TheVariants.{Min, At}
-use Rattle.part_bounds.specs.IntBounds.{int_range}
-use Rattle.part_bounds.specs.Levels.{IsPointOf}
+use Rattle.bound_forms.specs.declared.level.KeyColumn.{KeyColumn}
+use Rattle.bound_forms.specs.declared.level.Strategy.TheVariants.{Range as ByRange}
+use Rattle.bound_forms.specs.declared.partition_bound.Bound.TheVariants.{Range}
+use Rattle.bound_forms.specs.declared.point.Edge.TheVariants.{Min, At}
+use Rattle.bound_forms.specs.Levels.{IsPointOf}
 use Rattle.history.specs.declared.transaction.Fate.TheVariants.{Running, Committed}
 use Rattle.history.specs.declared.version.Version.{Version}
 use Rattle.history.specs.declared.version.End.{End}
@@ -32,7 +32,7 @@ use Rattle.history.specs.LocksSound.{IsGotSound}
 use Rattle.history.specs.Legal.{command_of, IsNotAfter, IsInOrder, IsLegal}
 use Rattle.table_trees.specs.Histories.{tree_of}
 use Rattle.table_trees.specs.Trees.{leaves}
-use Rattle.part_bounds.specs.Accepts.{accepts}
+use Rattle.bound_forms.specs.Accepts.{accepts}
 use Rattle.soundness.specs.Worlds.{view, table_in, IsMade, HasLeaf, key_at}
 use Rattle.soundness.specs.Parts.{IsKnown, AreChildren}
 use Rattle.soundness.specs.Legal.{HasTable, MayMake, MayBear, HasPlace, MayAdd, MayEndRow, OwnsNow, WritesNow, Below, ArePermitted}
@@ -58,7 +58,7 @@ five = record { id = record { number = 0 }; leaf = record { number = 0 }; row = 
 
 -- p FOR VALUES FROM (0) TO (10)
 abbrev attached : Entry
-attached = record { id = record { number = 0 }; parent = record { number = 0 }; child = record { number = 1 }; bound = int_range (pos 0) (pos 10); by = record { number = 0 }; cmd = 3 }
+attached = record { id = record { number = 0 }; parent = record { number = 0 }; child = record { number = 1 }; bound = Range (At (Int4 (pos 0)) ∷ (Min ∷ [])) (At (Int4 (pos 10)) ∷ (Min ∷ [])); by = record { number = 0 }; cmd = 3 }
 
 abbrev deleted : End
 deleted = record { by = record { number = 1 }; cmd = 1; how = Deleted }

@@ -15,7 +15,7 @@ use Rattle.history.specs.Catalogue.{CatalogueEvents}
 use Rattle.history.specs.Locks.{LockEvent, LockEvents, LockGot, LocksGivenUp, SnapshotGone, WaitBegan, WaitResumed, WaitWithdrawn, holds, wanted, is_lock, after_end, after_snapshot}
 use Rattle.history.specs.LocksSound.{IsLockSound, AreLocksSound}
 use Rattle.history.specs.History.{History, LockChange, tx_events, snapshot_events, row_events, catalogue_events, lock_events}
-use Rattle.lock_table.proofs.Holders.{none_conflict}
+use Rattle.history.proofs.Holders.{none_conflict}
 use Rattle.soundness.specs.Worlds.{World}
 use Rattle.soundness.specs.Parts.{HoldsBy, IsKnown, LocksApart, OwnsBy, WritesBy, GuardsBy, Owns, Writes, Guards, OwnsIn, WritesIn, GuardsIn, Invariant, InvariantOf}
 use Rattle.soundness.specs.Legal.{IsPermitted}

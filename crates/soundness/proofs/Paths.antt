@@ -7,9 +7,9 @@ use Rattle.std.proofs.lemmas.Bool.{cases_Bool}
 use Rattle.std.proofs.lemmas.Bool.Decides.{nat_tests}
 use Rattle.pg_values.specs.declared.value.Value.{Value}
 use Rattle.pg_ids.specs.declared.ids.TableNo.{TableNo}
-use Rattle.part_bounds.specs.declared.partition_bound.Bound.{Bound}
-use Rattle.part_bounds.specs.declared.partition_bound.Bound.TheVariants.{Default}
-use Rattle.part_bounds.specs.Accepts.{accepts, is_default, accepts_among}
+use Rattle.bound_forms.specs.declared.partition_bound.Bound.{Bound}
+use Rattle.bound_forms.specs.declared.partition_bound.Bound.TheVariants.{Default}
+use Rattle.bound_forms.specs.Accepts.{accepts, is_default, accepts_among}
 use Rattle.history.specs.declared.transaction.Fate.TheVariants.{Running}
 use Rattle.table_trees.proofs.Order.{all_children}
 use Rattle.std.proofs.lemmas.List.Elements.{All-contains}

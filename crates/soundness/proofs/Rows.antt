@@ -1,7 +1,7 @@
 -- A version that is born is fit in each world of its transaction; ends take versions away.
 use Rattle.std.proofs.Common.{◌≡◌, ◌<◌, ℕ, zero, true, ◌∷◌, inl, inr, refl, sym, subst, List}
 use Rattle.pg_values.specs.declared.value.Value.{Value}
-use Rattle.part_bounds.specs.Accepts.{is_default}
+use Rattle.bound_forms.specs.Accepts.{is_default}
 use Rattle.history.specs.declared.version.Version.{Version}
 use Rattle.history.specs.declared.version.End.{End}
 use Rattle.history.specs.declared.catalogue.Entry.{Entry}

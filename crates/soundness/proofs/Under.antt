@@ -1,9 +1,9 @@
 -- Ways through the entries of a world.
 use Rattle.std.proofs.Common.{◌≡◌, ℕ, zero, suc, true, false, ◌⊎◌, inl, inr, refl, sym, subst, List}
 use Rattle.history.specs.declared.catalogue.Entry.{Entry}
-use Rattle.part_bounds.specs.declared.partition_bound.Bound.{Bound}
+use Rattle.bound_forms.specs.declared.partition_bound.Bound.{Bound}
 use Rattle.history.specs.Catalogue.{CatalogueEvents}
-use Rattle.part_bounds.specs.Accepts.{accepts, is_default}
+use Rattle.bound_forms.specs.Accepts.{accepts, is_default}
 use Rattle.pg_values.specs.declared.value.Value.{Value}
 use Rattle.soundness.specs.Worlds.{World, Present, Under, AcceptsKey}
 

@@ -1,13 +1,13 @@
 -- The bound of a partition, or its first fault (CREATE TABLE, FOR VALUES; ALTER TABLE, ATTACH PARTITION).
 use Rattle.std.specs.Prelude.{map, Result}
 use Rattle.pg_values.specs.declared.fault.Fault.{Fault}
-use Rattle.part_bounds.specs.declared.level.Level.{Level}
-use Rattle.part_bounds.specs.declared.partition_bound.Bound.{Bound as MeantBound}
-use Rattle.part_bounds.specs.declared.raw_bound.RawEdge.{RawEdge}
-use Rattle.part_bounds.specs.declared.raw_bound.RawEdge.TheVariants.{Min, At, Max}
-use Rattle.part_bounds.specs.declared.raw_bound.RawBound.{RawBound}
-use Rattle.part_bounds.specs.declared.raw_bound.RawBound.TheVariants as raw
-use Rattle.part_bounds.specs.Checks.{checked}
+use Rattle.bound_forms.specs.declared.level.Level.{Level}
+use Rattle.bound_forms.specs.declared.partition_bound.Bound.{Bound as MeantBound}
+use Rattle.bound_checks.specs.declared.raw_bound.RawEdge.{RawEdge}
+use Rattle.bound_checks.specs.declared.raw_bound.RawEdge.TheVariants.{Min, At, Max}
+use Rattle.bound_checks.specs.declared.raw_bound.RawBound.{RawBound}
+use Rattle.bound_checks.specs.declared.raw_bound.RawBound.TheVariants as raw
+use Rattle.bound_checks.specs.Checks.{checked}
 use Rattle.sql_ast.specs.Commands.{Edge, min, max, at, Bound, range, listed, hash, other}
 use Rattle.table_binder.specs.Values.{raw_value, raw_values}
 

@@ -7,10 +7,10 @@ use Rattle.pg_values.specs.declared.value.Kind.TheVariants.{Text as KText}
 use Rattle.sql_ast.specs.declared.table_definition.Strategy.{Strategy as Word}
 use Rattle.sql_ast.specs.declared.table_definition.Strategy.TheVariants as word
 use Rattle.sql_ast.specs.declared.table_definition.Partitioning.{Partitioning}
-use Rattle.part_bounds.specs.declared.level.Strategy.{Strategy}
-use Rattle.part_bounds.specs.declared.level.Strategy.TheVariants.{Range as ByRange, List as ByList, Hash as ByHash}
-use Rattle.part_bounds.specs.declared.level.KeyColumn.{KeyColumn}
-use Rattle.part_bounds.specs.declared.level.Level.{Level}
+use Rattle.bound_forms.specs.declared.level.Strategy.{Strategy}
+use Rattle.bound_forms.specs.declared.level.Strategy.TheVariants.{Range as ByRange, List as ByList, Hash as ByHash}
+use Rattle.bound_forms.specs.declared.level.KeyColumn.{KeyColumn}
+use Rattle.bound_forms.specs.declared.level.Level.{Level}
 use Rattle.history.specs.declared.catalogue.Column.{Column}
 use Rattle.expression_binder.specs.Faults.{no_column}
 use Rattle.expression_binder.specs.Firsts.{or_first, unless}

@@ -7,8 +7,8 @@ use Rattle.pg_values.specs.declared.value.Value.{Value}
 use Rattle.sql_ast.specs.declared.leaf.Leaf.{Leaf}
 use Rattle.sql_ast.specs.declared.leaf.Leaf.TheVariants.{Text, Parameter, Column, ColumnOf}
 use Rattle.sql_ast.specs.Expressions.{Tree, Trees, no_more, and_more, leaf, call, call_of_all, negated, binary, in_list, between, is_null, inverted, all_of, any_of}
-use Rattle.part_bounds.specs.declared.raw_bound.RawValue.{RawValue}
-use Rattle.part_bounds.specs.declared.raw_bound.RawValue.TheVariants.{Literal, Given, Faulty}
+use Rattle.bound_checks.specs.declared.raw_bound.RawValue.{RawValue}
+use Rattle.bound_checks.specs.declared.raw_bound.RawValue.TheVariants.{Literal, Given, Faulty}
 use Rattle.expression_binder.specs.Constants.{constant}
 use Rattle.expression_binder.specs.Faults.{left_out}
 use Rattle.expression_binder.specs.Kinds.{kind_alone}

@@ -1,13 +1,14 @@
 ghost use Rattle.std.specs.Prelude.{◌≡◌, map, IfOk};
 ghost use Rattle.pg_values.specs.Refusals.{IsAnswer};
-ghost use Rattle.part_bounds.specs.Levels.{IsOfLevel};
+ghost use Rattle.bound_forms.specs.Levels.{IsOfLevel};
 ghost use Rattle.sql_ast.specs.Commands.{bound_tree, edge_tree, edges_of};
 ghost use Rattle.sql_ast.specs.Expressions.{tree, trees, listed};
 ghost use Rattle.table_binder.specs.Bounds as spec;
 ghost use Rattle.table_binder.specs.Values as values_spec;
 
 use crate::values::raw_value;
-use part_bounds::{Bound, Level, RawBound, RawEdge, RawEdges, RawValues, check_bound};
+use bound_checks::{RawBound, RawEdge, RawEdges, RawValues, check_bound};
+use bound_forms::{Bound, Level};
 use pg_values::{NoMemory, Refusal};
 use sql_ast::{BoundText, EdgeText, Expr};
 use std::alloc::Global;

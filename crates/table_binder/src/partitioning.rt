@@ -10,9 +10,9 @@ ghost use Rattle.table_binder.specs.Partitionings as spec;
 ghost use Rattle.table_binder.specs.States as states;
 
 use crate::faults::{list_takes_one, too_many, twice_in_key};
+use bound_forms::{KeyColumn, KeyColumns, Level, Strategy};
 use expression_binder::no_column;
 use history::Column;
-use part_bounds::{KeyColumn, KeyColumns, Level, Strategy};
 use pg_ids::Which;
 use pg_values::{NoMemory, PgText, Refusal};
 use sql_ast::{Partitioning, Strategy as Word};

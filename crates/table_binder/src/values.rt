@@ -5,10 +5,10 @@ ghost use Rattle.expression_binder.specs.Firsts.{or_first};
 ghost use Rattle.expression_binder.specs.Operands.{operand_faults};
 ghost use Rattle.table_binder.specs.Values as spec;
 
+use bound_checks::RawValue;
 use expression_binder::{
     Names, bind_constant, check_operand, condition_names, kind_alone, left_out, typed_of,
 };
-use part_bounds::RawValue;
 use pg_values::{Fault, NoMemory, Refusal, Value};
 use sql_ast::{Expr, Leaf};
 use std::alloc::Global;

@@ -1,16 +1,15 @@
 -- The answers of several tests, one after another.
 use Rattle.std.proofs.Common.{◌≡◌, ℕ, List, [], ◌∷◌, refl, ap, ◌∙◌, arith, Option, Some, Result, Ok, Err, length}
 use native.Mathlib.Nat.{ℕ_set}
-use Rattle.pg_values.specs.Refusals.{IsAnswer}
+use Rattle.pg_values.specs.Refusals.{IsAnswer, or_first}
 use Rattle.pg_values.specs.declared.fault.Fault.{Fault}
 use Rattle.pg_values.specs.declared.fault.Refusal.{Refusal}
 use Rattle.pg_values.specs.declared.fault.Refusal.TheVariants.{Sql, NoMemory}
-use Rattle.part_bounds.specs.Checks.{or_first}
-use Rattle.part_bounds.specs.declared.level.KeyColumn.{KeyColumn}
-use Rattle.part_bounds.specs.declared.level.Level.{Level}
-use Rattle.part_bounds.specs.declared.level.Strategy.{Strategy}
-use Rattle.part_bounds.specs.declared.level.Strategy.TheVariants.{Range as ByRange, List as ByList, Hash as ByHash}
-use Rattle.part_bounds.specs.declared.partition_bound.Bound.{Bound as MeantBound}
+use Rattle.bound_forms.specs.declared.level.KeyColumn.{KeyColumn}
+use Rattle.bound_forms.specs.declared.level.Level.{Level}
+use Rattle.bound_forms.specs.declared.level.Strategy.{Strategy}
+use Rattle.bound_forms.specs.declared.level.Strategy.TheVariants.{Range as ByRange, List as ByList, Hash as ByHash}
+use Rattle.bound_forms.specs.declared.partition_bound.Bound.{Bound as MeantBound}
 use Rattle.history.specs.declared.catalogue.Column.{Column}
 use Rattle.history.specs.History.{History}
 use Rattle.part_catalog.specs.Found.{made_at}

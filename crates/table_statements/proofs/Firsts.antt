@@ -2,12 +2,11 @@
 use Rattle.std.proofs.Common.{◌≡◌, ℕ, ◌<◌, Bool, true, false, List, [], ◌∷◌, refl, sym, ap, subst, arith, Option, Some, None, Result, Ok, Err}
 use Rattle.std.specs.Prelude.{is_none, nat_lt}
 use Rattle.std.proofs.lemmas.Bool.Decides.{nat_tests}
-use Rattle.pg_values.specs.Refusals.{IsAnswer}
+use Rattle.pg_values.specs.Refusals.{IsAnswer, or_first, unless}
 use Rattle.pg_values.specs.declared.fault.Fault.{Fault}
 use Rattle.pg_values.specs.declared.fault.Refusal.{Refusal}
 use Rattle.pg_values.specs.declared.fault.Refusal.TheVariants.{Sql, NoMemory}
 use Rattle.pg_ids.specs.declared.which.Which.TheVariants.{Tables}
-use Rattle.part_bounds.specs.Checks.{or_first, unless}
 use Rattle.history.specs.History.{History}
 use Rattle.part_catalog.specs.Found.{table_number}
 use Rattle.part_ddl.specs.Faults.{too_many}

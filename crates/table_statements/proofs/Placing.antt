@@ -8,11 +8,11 @@ use Rattle.std.proofs.lemmas.List.Elements.{All-head, All-tail, All-contains, Co
 use Rattle.pg_values.specs.declared.fault.Refusal.{Refusal}
 use Rattle.pg_ids.specs.declared.ids.TableNo.{TableNo}
 use Rattle.pg_ids.specs.declared.lock_mode.LockMode.TheVariants.{AccessExclusive}
-use Rattle.part_bounds.specs.declared.level.Level.{Level as OneLevel}
-use Rattle.part_bounds.specs.declared.partition_bound.Bound.{Bound}
+use Rattle.bound_forms.specs.declared.level.Level.{Level as OneLevel}
+use Rattle.bound_forms.specs.declared.partition_bound.Bound.{Bound}
 use Rattle.pg_values.specs.declared.value.Value.{Value}
-use Rattle.part_bounds.specs.Accepts.{accepts}
-use Rattle.part_bounds.specs.Levels.{IsOfLevel}
+use Rattle.bound_forms.specs.Accepts.{accepts}
+use Rattle.bound_forms.specs.Levels.{IsOfLevel}
 use Rattle.history.specs.declared.transaction.TxId.{TxId}
 use Rattle.history.specs.declared.version.Version.{Version}
 use Rattle.history.specs.declared.catalogue.Column.{Column}

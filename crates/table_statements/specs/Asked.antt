@@ -7,8 +7,8 @@ use Rattle.pg_ids.specs.declared.ids.TableNo.{TableNo}
 use Rattle.pg_ids.specs.declared.lock_mode.LockMode.TheVariants.{AccessExclusive}
 use Rattle.pg_values.specs.declared.fault.Refusal.{Refusal}
 use Rattle.pg_values.specs.declared.fault.Refusal.TheVariants.{Sql, NoMemory}
-use Rattle.part_bounds.specs.declared.level.Level.{Level}
-use Rattle.part_bounds.specs.declared.partition_bound.Bound.{Bound}
+use Rattle.bound_forms.specs.declared.level.Level.{Level}
+use Rattle.bound_forms.specs.declared.partition_bound.Bound.{Bound}
 use Rattle.history.specs.declared.catalogue.Entry.{Entry}
 use Rattle.history.specs.declared.transaction.TxId.{TxId}
 use Rattle.history.specs.History.{History, tx_events, lock_events}

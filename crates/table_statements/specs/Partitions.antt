@@ -3,8 +3,8 @@ use Rattle.std.specs.Prelude.{ℕ, List, [], Option, Some, None, Result, Ok, map
 use Rattle.pg_values.specs.declared.fault.Fault.{Fault}
 use Rattle.pg_ids.specs.declared.ids.TableNo.{TableNo}
 use Rattle.pg_ids.specs.declared.lock_mode.LockMode.TheVariants.{AccessExclusive}
-use Rattle.part_bounds.specs.declared.level.Level.{Level}
-use Rattle.part_bounds.specs.declared.partition_bound.Bound.{Bound as MeantBound}
+use Rattle.bound_forms.specs.declared.level.Level.{Level}
+use Rattle.bound_forms.specs.declared.partition_bound.Bound.{Bound as MeantBound}
 use Rattle.history.specs.History.{History}
 use Rattle.sql_ast.specs.Commands.{Bound}
 use Rattle.sql_ast.specs.declared.table_definition.Partitioning.{Partitioning}

@@ -2,10 +2,10 @@
 use Rattle.std.specs.Prelude.{◌≡◌, ℕ, List, [], ◌∷◌, Option, Some, None, Result, Ok, Err, length}
 use mathlib.Core.Path.{refl, subst}
 use Rattle.pg_values.specs.declared.fault.Fault.{Fault}
-use Rattle.part_bounds.specs.declared.level.KeyColumn.{KeyColumn}
-use Rattle.part_bounds.specs.declared.level.Level.{Level}
-use Rattle.part_bounds.specs.declared.level.Strategy.{Strategy}
-use Rattle.part_bounds.specs.declared.level.Strategy.TheVariants.{Range as ByRange, List as ByList, Hash as ByHash}
+use Rattle.bound_forms.specs.declared.level.KeyColumn.{KeyColumn}
+use Rattle.bound_forms.specs.declared.level.Level.{Level}
+use Rattle.bound_forms.specs.declared.level.Strategy.{Strategy}
+use Rattle.bound_forms.specs.declared.level.Strategy.TheVariants.{Range as ByRange, List as ByList, Hash as ByHash}
 use Rattle.history.specs.declared.catalogue.Column.{Column}
 use Rattle.history.specs.declared.transaction.TxId.{TxId}
 use Rattle.history.specs.History.{History}

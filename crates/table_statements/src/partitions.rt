@@ -24,12 +24,12 @@ ghost use Rattle.table_statements.specs.Seen.{seen_place};
 use crate::claims::claim_name;
 use crate::refused::stop_by;
 use crate::tables::level_by;
+use bound_forms::{Bound, Level};
 use course::{Caller, Stop};
 use legal_statements::{
     listed_is_there, named_is_there, new_leaf_may_follow, new_level_may_follow,
     new_partition_may_follow, none_breaks, there_is_known, tree_is_whole,
 };
-use part_bounds::{Bound, Level};
 use part_catalog::Catalog;
 use part_ddl::{
     check_count, check_place, default_of, make_partition, parent_level, passed_have_places,

@@ -14,10 +14,10 @@ ghost use Rattle.table_statements.specs.Tables.{created, table_plan};
 
 use crate::claims::claim_name;
 use crate::refused::stop_by;
+use bound_forms::Level;
 use course::{Caller, Stop};
 use history::{Column, Columns};
 use legal_statements::{new_leaf_may_follow, new_level_may_follow};
-use part_bounds::Level;
 use part_catalog::Catalog;
 use part_ddl::{check_count, make_table};
 use pg_values::{NoMemory, PgText, Refusal};

@@ -1,10 +1,10 @@
 -- A default stands last.
 use Rattle.std.proofs.Common.{◌≡◌, ℕ, ◌+◌, ◌<◌, arith, ap, refl, sym, subst, ◌∙◌, Bool, true, false, List, length, get_or, inl, inr}
 use Rattle.std.proofs.lemmas.Bool.{cases_lt}
-use Rattle.part_bounds.specs.declared.partition_bound.Bound.{Bound}
-use Rattle.part_bounds.specs.declared.partition_bound.Bound.TheVariants.{Range, List as Listed, Hash, Default}
-use Rattle.part_bounds.specs.Accepts.{is_default}
-use Rattle.part_bounds.specs.Bounds.{comes_after, overlaps, IsInPlainOrder}
+use Rattle.bound_forms.specs.declared.partition_bound.Bound.{Bound}
+use Rattle.bound_forms.specs.declared.partition_bound.Bound.TheVariants.{Range, List as Listed, Hash, Default}
+use Rattle.bound_forms.specs.Accepts.{is_default}
+use Rattle.bound_forms.specs.Bounds.{comes_after, overlaps, IsInPlainOrder}
 use Rattle.table_trees.specs.Laws.{DefaultStandsLast}
 
 -- nothing but another default stands behind a default, and the two overlap

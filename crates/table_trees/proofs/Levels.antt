@@ -5,11 +5,11 @@ use Rattle.std.proofs.lemmas.List.Quantifiers.{position-Some}
 use Rattle.std.specs.List.{All}
 use Rattle.pg_values.specs.declared.value.Value.{Value}
 use Rattle.pg_ids.specs.declared.ids.TableNo.{TableNo}
-use Rattle.part_bounds.specs.declared.partition_bound.Bound.{Bound}
-use Rattle.part_bounds.specs.declared.partition_bound.Bound.TheVariants.{Default}
-use Rattle.part_bounds.specs.declared.level.Level.{Level}
-use Rattle.part_bounds.specs.Bounds.{IsInPlainOrder}
-use Rattle.part_bounds.specs.Accepts.{accepts_among, FitsSet}
+use Rattle.bound_forms.specs.declared.partition_bound.Bound.{Bound}
+use Rattle.bound_forms.specs.declared.partition_bound.Bound.TheVariants.{Default}
+use Rattle.bound_forms.specs.declared.level.Level.{Level}
+use Rattle.bound_forms.specs.Bounds.{IsInPlainOrder}
+use Rattle.bound_forms.specs.Accepts.{accepts_among, FitsSet}
 use Rattle.table_trees.specs.declared.tree.Tree.{Tree}
 use Rattle.table_trees.specs.declared.tree.Shape.{Level as ShapeLevel}
 use Rattle.table_trees.specs.declared.tree.TreeList.{TreeList}

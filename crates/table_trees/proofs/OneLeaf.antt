@@ -6,10 +6,10 @@ use Rattle.std.specs.List.{position, position_or_len}
 use Rattle.pg_values.specs.declared.value.Value.{Value}
 use Rattle.pg_ids.specs.declared.ids.LeafId.{LeafId}
 use Rattle.pg_ids.specs.declared.ids.TableNo.{TableNo}
-use Rattle.part_bounds.specs.declared.partition_bound.Bound.{Bound}
-use Rattle.part_bounds.specs.Accepts.{accepts_among}
-use Rattle.part_bounds.specs.Bounds.{IsInPlainOrder}
-use Rattle.part_bounds.proofs.OverlapLaws.{at_most_one_among}
+use Rattle.bound_forms.specs.declared.partition_bound.Bound.{Bound}
+use Rattle.bound_forms.specs.Accepts.{accepts_among}
+use Rattle.bound_forms.specs.Bounds.{IsInPlainOrder}
+use Rattle.bound_forms.proofs.OverlapLaws.{at_most_one_among}
 use Rattle.history.specs.declared.catalogue.Column.{Column}
 use Rattle.table_trees.specs.Laws.{OneLeaf}
 use Rattle.table_trees.specs.Trees.{TableTree, LeafTable, LevelTable, Trees, End, More, count, key_of, child_of, accepting, accepting_in, routed, routed_in, found_leaf, IsSound, AreSound}

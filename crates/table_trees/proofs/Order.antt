@@ -5,11 +5,11 @@ use Rattle.std.proofs.lemmas.Bool.{cases_Bool}
 use Rattle.std.proofs.lemmas.Bool.Decides.{nat_tests}
 use Rattle.std.proofs.lemmas.List.Elements.{All-cons, All-head, All-tail, All-nil}
 use Rattle.std.proofs.lemmas.List.Kept.{AllPairs-cons}
-use Rattle.part_bounds.specs.declared.partition_bound.Bound.{Bound}
-use Rattle.part_bounds.specs.Bounds.{comes_after, with_bound, with_bounds, in_plain_order, overlaps, are_siblings, IsInPlainOrder}
-use Rattle.part_bounds.proofs.PlainOrder.{All-with_bound, sorted-with_bound, pairs-with_bound, order_sorts, plain_total}
-use Rattle.part_bounds.proofs.OverlapLaws.{overlaps_turned, siblings_turn}
-use Rattle.part_bounds.proofs.TotalOrder.{le_trans}
+use Rattle.bound_forms.specs.declared.partition_bound.Bound.{Bound}
+use Rattle.bound_forms.specs.Bounds.{comes_after, with_bound, with_bounds, in_plain_order, overlaps, are_siblings, IsInPlainOrder}
+use Rattle.bound_forms.proofs.PlainOrder.{All-with_bound, sorted-with_bound, pairs-with_bound, order_sorts, plain_total}
+use Rattle.bound_forms.proofs.OverlapLaws.{overlaps_turned, siblings_turn}
+use Rattle.bound_forms.proofs.TotalOrder.{le_trans}
 use Rattle.history.specs.declared.catalogue.Entry.{Entry}
 use Rattle.table_trees.specs.Histories.{placed, all_placed, is_under, children, bound_of}
 use Rattle.table_trees.specs.Siblings.{CanStandTogether, AreSiblings}

@@ -4,9 +4,9 @@ use Rattle.std.specs.List.{All, AllZip, slice_get}
 use Rattle.pg_values.specs.declared.value.Kind.{Kind}
 use Rattle.pg_values.specs.declared.value.Value.{Value}
 use Rattle.pg_values.specs.declared.value.Value.TheVariants.{Null}
-use Rattle.part_bounds.specs.declared.level.KeyColumn.{KeyColumn}
-use Rattle.part_bounds.specs.Levels.{IsOf}
-use Rattle.part_bounds.proofs.LevelKeys.{level_keys_sets, row_keys}
+use Rattle.bound_forms.specs.declared.level.KeyColumn.{KeyColumn}
+use Rattle.bound_forms.specs.Levels.{IsOf}
+use Rattle.bound_forms.proofs.LevelKeys.{level_keys_sets, row_keys}
 use Rattle.history.specs.declared.catalogue.Column.{Column}
 use Rattle.history.specs.Places.{LiesIn}
 use Rattle.table_trees.specs.Laws.{RowsFit}

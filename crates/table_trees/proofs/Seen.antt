@@ -1,7 +1,7 @@
 -- What a tree is seen as, at a level.
 use Rattle.std.proofs.Common.{◌≡◌, ap, ◌∙◌, List, map}
-use Rattle.part_bounds.specs.declared.partition_bound.Bound.{Bound}
-use Rattle.part_bounds.specs.declared.level.Level.{Level}
+use Rattle.bound_forms.specs.declared.partition_bound.Bound.{Bound}
+use Rattle.bound_forms.specs.declared.level.Level.{Level}
 use Rattle.table_trees.specs.declared.node.Node.{Node}
 use Rattle.table_trees.specs.declared.tree.Tree.{Tree}
 use Rattle.table_trees.specs.declared.tree.Shape.{Shape, Level as ShapeLevel}

@@ -1,9 +1,9 @@
 -- What holds of every tree of tables.
 use Rattle.std.specs.Prelude.{◌≡◌, ℕ, ◌+◌, ◌<◌, Bool, true, false, List, length, slice_index_or}
 use Rattle.pg_values.specs.declared.value.Value.{Value}
-use Rattle.part_bounds.specs.declared.partition_bound.Bound.{Bound}
-use Rattle.part_bounds.specs.Bounds.{IsInPlainOrder}
-use Rattle.part_bounds.specs.Accepts.{is_default}
+use Rattle.bound_forms.specs.declared.partition_bound.Bound.{Bound}
+use Rattle.bound_forms.specs.Bounds.{IsInPlainOrder}
+use Rattle.bound_forms.specs.Accepts.{is_default}
 use Rattle.history.specs.declared.catalogue.Column.{Column}
 use Rattle.history.specs.declared.catalogue.Entry.{Entry}
 use Rattle.history.specs.Snapshots.{TakenSnapshot}

@@ -1,7 +1,7 @@
 -- Entries that are there together (the manual, 5.11.2 Declarative Partitioning; CREATE TABLE, PARTITION OF).
 use Rattle.std.specs.Prelude.{◌≡◌, true, false, List}
 use Rattle.std.specs.List.{AllPairs}
-use Rattle.part_bounds.specs.Bounds.{overlaps, are_siblings}
+use Rattle.bound_forms.specs.Bounds.{overlaps, are_siblings}
 use Rattle.history.specs.declared.catalogue.Entry.{Entry}
 
 -- below one table the bounds of the two do not overlap, and can stand side by side: of one strategy, where each may be

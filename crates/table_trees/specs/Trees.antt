@@ -4,12 +4,12 @@ use Rattle.std.specs.List.{AllZip}
 use Rattle.pg_values.specs.declared.value.Value.{Value}
 use Rattle.pg_ids.specs.declared.ids.LeafId.{LeafId}
 use Rattle.pg_ids.specs.declared.ids.TableNo.{TableNo}
-use Rattle.part_bounds.specs.declared.partition_bound.Bound.{Bound}
-use Rattle.part_bounds.specs.declared.level.Level.{Level}
-use Rattle.part_bounds.specs.Points.{picked}
-use Rattle.part_bounds.specs.Bounds.{IsInPlainOrder}
-use Rattle.part_bounds.specs.Levels.{IsOf, IsOfLevel}
-use Rattle.part_bounds.specs.Accepts.{accepts_among, FitsSet}
+use Rattle.bound_forms.specs.declared.partition_bound.Bound.{Bound}
+use Rattle.bound_forms.specs.declared.level.Level.{Level}
+use Rattle.bound_forms.specs.Points.{picked}
+use Rattle.bound_forms.specs.Bounds.{IsInPlainOrder}
+use Rattle.bound_forms.specs.Levels.{IsOf, IsOfLevel}
+use Rattle.bound_forms.specs.Accepts.{accepts_among, FitsSet}
 use Rattle.history.specs.declared.catalogue.Column.{Column}
 use Rattle.history.specs.Places.{LiesIn}
 use Rattle.table_trees.specs.declared.node.Node.{Node}

@@ -1,7 +1,7 @@
 ghost use Rattle.std.specs.Prelude.{◌≡◌, ◌<◌, All, length, map, IfOk};
-ghost use Rattle.part_bounds.specs.Points.{picked};
+ghost use Rattle.bound_forms.specs.Points.{picked};
 
-use part_bounds::{Key, KeyColumn, KeyColumns, Level};
+use bound_forms::{Key, KeyColumn, KeyColumns, Level};
 use pg_values::{NoMemory, Row, Value};
 use std::alloc::Global;
 

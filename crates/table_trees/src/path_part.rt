@@ -1,7 +1,8 @@
 ghost use Rattle.std.specs.Prelude.{◌≡◌, ◌++◌, ◌∷◌, [], OnOk, OnErr};
 
+use bound_forms::Level;
 use history::KeptCheck;
-use part_bounds::{BoundSet, Level};
+use part_bounds::BoundSet;
 use pg_ids::TableNo;
 use pg_values::{NoMemory, ValueKey};
 use std::alloc::Global;

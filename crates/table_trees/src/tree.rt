@@ -3,7 +3,8 @@ ghost use Rattle.table_trees.specs.Trees.{LeafTable, LevelTable, trees_of};
 ghost use Rattle.table_trees.specs.Seen.{seen, items_of};
 
 use crate::Node;
-use part_bounds::{BoundSet, Level};
+use bound_forms::Level;
+use part_bounds::BoundSet;
 use pg_ids::{LeafId, TableNo};
 use pg_values::ValueKey;
 

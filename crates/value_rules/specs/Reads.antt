@@ -94,15 +94,6 @@ told kind s (Err e) = Err (read_fault kind s e)
 abbrev pub reads : Kind → List ℕ → Result Value Fault
 reads kind s = told kind s (reading kind s)
 
--- the kind of a value that is not null
-abbrev pub kind_of : Value → Kind
-kind_of Null = KText
-kind_of (Int4 n) = KInt4
-kind_of (Int8 n) = KInt8
-kind_of (Text s) = KText
-kind_of (Day d) = KDay
-kind_of (Truth p) = KTruth
-
 -- a date is one from 0001-01-01 to 9999-12-31
 abbrev pub IsCalendarDay : Value → Type 0
 IsCalendarDay (Day d) = IsDay d

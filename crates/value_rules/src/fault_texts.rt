@@ -2,24 +2,9 @@
 
 ghost use Rattle.std.specs.Prelude.{◌≡◌, ◌∷◌, [], IfOk};
 ghost use Rattle.value_rules.specs.FaultTexts as faults;
-ghost use Rattle.value_rules.specs.Reads as reads;
 
-use pg_values::{Args, Fault, Kind, NoMemory, PgText, SqlState, Value};
+use pg_values::{Args, Fault, Kind, NoMemory, PgText, SqlState};
 use std::alloc::Global;
-
-/// The kind of a value; that of null is text.
-pub fn kind_of(value: &Value) -> Kind
-    ensures { result ≡ reads.kind_of value.now }
-{
-    match value {
-        Value::Null => Kind::Text,
-        Value::Int4(_) => Kind::Int4,
-        Value::Int8(_) => Kind::Int8,
-        Value::Text(_) => Kind::Text,
-        Value::Day(_) => Kind::Day,
-        Value::Truth(_) => Kind::Truth,
-    }
-}
 
 /// The name of a kind.
 pub fn kind_word(kind: Kind) -> &'static [u8]

@@ -21,7 +21,7 @@ mod round_trip;
 
 pub use arithmetic::arith;
 pub use assignment::{CoerceFault, coerce};
-pub use fault_texts::{kind_of, kind_word, one_text, out_of_range, three_texts, two_texts};
+pub use fault_texts::{kind_word, one_text, out_of_range, three_texts, two_texts};
 pub use operators::{Arith, ArithFault};
 pub use reading::read_value;
 pub use round_trip::reads_back;

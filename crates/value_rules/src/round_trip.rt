@@ -1,12 +1,12 @@
 ghost use Rattle.std.specs.Prelude.{◌≡◌, ◌≢◌, Ok};
 ghost use Rattle.std.specs.Fmt.{signed_decimal};
-ghost use Rattle.value_rules.specs.Reads.{reads};
+ghost use Rattle.value_rules.specs.Reads.{reads, IsCalendarDay};
 ghost use Rattle.pg_values.specs.declared.value.Kind.TheVariants.{Int4 as KInt4, Int8 as KInt8, Day as KDay};
 ghost use Rattle.pg_values.specs.declared.value.Value.TheVariants.{Int4, Int8, Day};
 ghost use Rattle.pg_values.specs.declared.value.Value.TheVariants.{Null};
 ghost use Rattle.pg_values.specs.Days.{IsDay};
 ghost use Rattle.pg_values.specs.Spelling.{spelled};
-ghost use Rattle.value_rules.specs.Reads.{kind_of, IsCalendarDay};
+ghost use Rattle.pg_values.specs.Kinds.{kind_of};
 
 use jiff_core::civil::Date;
 use pg_values::Value;

@@ -1,5 +1,5 @@
 use Rattle.std.proofs.Common.{sym, subst, Err}
-use Rattle.part_bounds.specs.declared.partition_bound.Bound.{Bound}
+use Rattle.bound_forms.specs.declared.partition_bound.Bound.{Bound}
 use Rattle.sql_ast.specs.Commands.{bound_tree}
 use Rattle.statement_steps.specs.Steps.{IsStep}
 use Rattle.table_statements.proofs.Firsts.{by_view, answered_done, answered_refused}

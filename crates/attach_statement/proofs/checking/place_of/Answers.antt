@@ -2,10 +2,9 @@ use Rattle.std.proofs.Common.{◌≡◌, ◌∙◌, ◌+◌, ℕ, [], Result, Ok
 use Rattle.std.specs.Prelude.{nat_le}
 use Rattle.std.proofs.lemmas.Result.{err_from_is_err_and}
 use Rattle.pg_ids.specs.declared.which.Which.TheVariants.{Levels}
-use Rattle.pg_values.specs.Refusals.{IsAnswer}
+use Rattle.pg_values.specs.Refusals.{IsAnswer, or_first, unless}
 use Rattle.pg_values.specs.declared.fault.Refusal.{Refusal}
-use Rattle.part_bounds.specs.Checks.{or_first, unless}
-use Rattle.part_bounds.specs.declared.partition_bound.Bound.{Bound}
+use Rattle.bound_forms.specs.declared.partition_bound.Bound.{Bound}
 use Rattle.history.specs.History.{History}
 use Rattle.table_trees.specs.Histories.{ddl_tree, path_of}
 use Rattle.table_trees.specs.Seen.{seen}

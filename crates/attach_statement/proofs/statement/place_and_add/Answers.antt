@@ -1,5 +1,5 @@
 use Rattle.std.proofs.Common.{◌+◌}
-use Rattle.part_bounds.specs.declared.partition_bound.Bound.{Bound}
+use Rattle.bound_forms.specs.declared.partition_bound.Bound.{Bound}
 use Rattle.sql_ast.specs.Commands.{bound_tree}
 use Rattle.statement_steps.proofs.Steps.{then_step, stop_step}
 use Rattle.attach_statement.specs.Attached as attached

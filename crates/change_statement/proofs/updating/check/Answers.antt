@@ -1,7 +1,6 @@
 use Rattle.std.proofs.Common.{[], sym, subst, All, find, length}
 use Rattle.std.proofs.lemmas.List.Elements.{All-head}
-use Rattle.pg_values.specs.Refusals.{IsAnswer}
-use Rattle.part_bounds.specs.Checks.{or_first}
+use Rattle.pg_values.specs.Refusals.{IsAnswer, or_first}
 use Rattle.row_change.specs.Storing.{FitsTargets, IsTargetNumbered, is_into, leaf_faults}
 use Rattle.row_change.specs.Targets.{HasTarget, HasWay}
 use Rattle.insert_statement.specs.Inserted.{tables_of}

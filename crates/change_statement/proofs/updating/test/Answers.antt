@@ -1,5 +1,5 @@
 use Rattle.std.proofs.Common.{Err, sym, subst}
-use Rattle.part_bounds.specs.Checks.{or_first}
+use Rattle.pg_values.specs.Refusals.{or_first}
 use Rattle.course.specs.declared.stop.Stop.{Stop}
 use Rattle.insert_statement.specs.Inserted.{holder_faults}
 use Rattle.change_statement.specs.Gathered.{found_of}

@@ -1,4 +1,4 @@
-use Rattle.part_bounds.proofs.PlainOrder.{placed}
+use Rattle.bound_forms.proofs.PlainOrder.{placed}
 use Rattle.part_bounds.proofs.bound_set.insert_bound.Goals as goal
 
 pub returns-clause-order : goal.returns-clause-order

@@ -1,21 +1,21 @@
 use Rattle.std.proofs.Common.{◌≡◌, true, sym, ap, ◌∙◌, arith, Some, None}
 use Rattle.std.specs.List.{position}
-use Rattle.part_bounds.specs.Accepts.{leaves_remainder}
-use Rattle.part_bounds.specs.Bounds.{BoundOfKind}
-use Rattle.part_bounds.proofs.Choice.{position_none, position_at, all_at}
-use Rattle.part_bounds.proofs.LevelLaws.{kind_filled}
+use Rattle.bound_forms.specs.Accepts.{leaves_remainder}
+use Rattle.bound_forms.specs.Bounds.{BoundOfKind}
+use Rattle.bound_forms.proofs.Choice.{position_none, position_at, all_at}
+use Rattle.bound_forms.proofs.LevelLaws.{kind_filled}
 use Rattle.part_bounds.proofs.HashLaws.{by_remainder}
 use Rattle.part_bounds.proofs.search.hash_child.Goals as goal
 
-pub takes_hash-requires : goal.takes_hash-requires
-takes_hash-requires g c =
+pub leaves_remainder-requires : goal.leaves_remainder-requires
+leaves_remainder-requires g c =
     let P = g.K.KeyKind.admits c.set.inside.kind in
     kind_filled P c.b-item.result (all_at (BoundOfKind P) c.set.inside.bounds.items _ c.loop-i.i _ c.deref-b-items.ensures.value c.loop-i-test.true c.b-item.is c.set.invariant.0)
 
-pub returns-then-takes_hash : goal.returns-then-takes_hash
-returns-then-takes_hash g c =
+pub returns-then-leaves_remainder : goal.returns-then-leaves_remainder
+returns-then-leaves_remainder g c =
     let h = c.row_hash-hash.result in
-    let here : leaves_remainder h c.b-item.result ≡ true = sym c.takes_hash.ensures ∙ c.if-takes_hash.true in
+    let here : leaves_remainder h c.b-item.result ≡ true = sym c.leaves_remainder.ensures ∙ c.if-leaves_remainder.true in
     let first : Some c.loop-i.i ≡ position (leaves_remainder h) c.args.set.now =
     rw (← c.set.view_is, ← c.deref-b-items.ensures.value) (sym (position_at (leaves_remainder h) _ c.loop-i.i _ c.loop-i-test.true c.b-item.is here c.loop-i.invariant)) in
     first ∙ ap (λ n. position (leaves_remainder n) c.args.set.now) c.row_hash-hash.ensures ∙ by_remainder (g.Q.Key.values c.args.key.now) c.args.set.now c.requires

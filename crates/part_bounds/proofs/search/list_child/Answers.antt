@@ -1,6 +1,6 @@
 use Rattle.std.proofs.Common.{◌≡◌, ◌∙◌, sym, subst, false, arith}
-use Rattle.part_bounds.specs.Accepts.{has_null}
-use Rattle.part_bounds.specs.Points.{point_of}
+use Rattle.bound_forms.specs.Accepts.{has_null}
+use Rattle.bound_forms.specs.Points.{point_of}
 use Rattle.part_bounds.specs.Stored.{stored, TellsEqual}
 use Rattle.part_bounds.proofs.Strategies.{lists_have_points}
 use Rattle.part_bounds.proofs.FindLaws.{fits_key, splits_key, equal_key}

@@ -1,9 +1,9 @@
 use Rattle.std.proofs.Common.{◌≡◌, ◌∙◌, sym, false}
-use Rattle.part_bounds.specs.Accepts.{has_null}
+use Rattle.bound_forms.specs.Accepts.{has_null}
 use Rattle.part_bounds.proofs.StoredLaws.{in_row}
 use Rattle.part_bounds.proofs.FindLaws.{found, not_found, null_found, fits_key, splits_key, splits_row}
 use Rattle.part_bounds.proofs.Strategies.{ranges_have_points}
-use Rattle.part_bounds.specs.Points.{point_of}
+use Rattle.bound_forms.specs.Points.{point_of}
 use Rattle.part_bounds.proofs.search.range_child.Goals as goal
 
 pub returns-then-has_null-clause-child : goal.returns-then-has_null-clause-child

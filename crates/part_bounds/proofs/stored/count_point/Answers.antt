@@ -1,7 +1,7 @@
 use Rattle.std.proofs.Common.{◌≡◌, sym, ap, subst, ◌∙◌, [], length, get_or, arith, refl}
 use Rattle.std.specs.List.{All}
-use Rattle.part_bounds.specs.Points.{EdgeOfKind, point_order}
-use Rattle.part_bounds.specs.Stored.{stored, width, end_of}
+use Rattle.bound_forms.specs.Points.{EdgeOfKind, point_order, end_of}
+use Rattle.part_bounds.specs.Stored.{stored, width}
 use Rattle.part_bounds.specs.Listings.{mark_at}
 use Rattle.part_bounds.proofs.StoredLaws.{in_row, kinds_row}
 use Rattle.part_bounds.proofs.ListingLaws.{listed_long, listed_point}

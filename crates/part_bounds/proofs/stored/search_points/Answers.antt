@@ -1,6 +1,7 @@
 use Rattle.std.proofs.Common.{◌∙◌, ◌+◌, ◌-◌, ◌/◌, sym, [], length, get_or, arith, ◌<◌}
 use Rattle.std.proofs.lemmas.List.{get_or_default}
-use Rattle.part_bounds.specs.Stored.{stored, width, end_of, passes}
+use Rattle.part_bounds.specs.Stored.{stored, width, passes}
+use Rattle.bound_forms.specs.Points.{end_of}
 use Rattle.part_bounds.proofs.Halves.{begins, goes_up, goes_down, ends, cost_is}
 use Rattle.part_bounds.proofs.SearchLaws.{falls_stored, tells_none, tells_more, passes_is}
 use Rattle.part_bounds.proofs.stored.search_points.Goals as goal

@@ -1,5 +1,6 @@
 use Rattle.std.proofs.Common.{◌-◌}
-use Rattle.part_bounds.specs.Stored.{stored, width, end_of, passes, TellsEqual}
+use Rattle.part_bounds.specs.Stored.{stored, width, passes, TellsEqual}
+use Rattle.bound_forms.specs.Points.{end_of}
 use Rattle.part_bounds.proofs.Halves.{Stands}
 use Rattle.part_bounds.proofs.stored.search_points.Given as goal
 

@@ -1,5 +1,5 @@
 use Rattle.std.proofs.Common.{◌∙◌, Bool, true, sym, arith}
-use Rattle.part_bounds.proofs.Choice.{position_at, position_none, none_more}
+use Rattle.bound_forms.proofs.Choice.{position_at, position_none, none_more}
 use Rattle.history.specs.History.{tx_events}
 use Rattle.part_catalog.specs.declared.stored.StoredEntry.{StoredEntry}
 use Rattle.part_catalog.specs.Stands.{between_by}

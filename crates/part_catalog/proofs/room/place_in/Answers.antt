@@ -1,7 +1,7 @@
 use Rattle.std.proofs.Common.{◌≡◌, ◌∙◌, true, ap, sym, arith, length, get_or}
 use Rattle.std.proofs.lemmas.Grind.{common_steps, elements}
 use Rattle.std.proofs.lemmas.List.Sums.{position_or_len_is}
-use Rattle.part_bounds.specs.Bounds.{comes_after}
+use Rattle.bound_forms.specs.Bounds.{comes_after}
 use Rattle.part_catalog.specs.declared.stored.StoredEntry.{StoredEntry}
 use Rattle.part_catalog.specs.Kept.{no_entry}
 use Rattle.part_catalog.specs.Ordered.{CanPlace, stands_behind}

@@ -1,5 +1,5 @@
 use Rattle.std.proofs.Common.{◌≡◌, ◌∙◌, arith, sym, Some, position}
-use Rattle.part_bounds.specs.Accepts.{is_default}
+use Rattle.bound_forms.specs.Accepts.{is_default}
 use Rattle.table_trees.specs.Seen.{items_of}
 use Rattle.table_trees.proofs.Levels.{found_within}
 use Rattle.part_ddl.proofs.Defaults.{default_is, no_default, leaf_has_none}

@@ -1,4 +1,4 @@
-use Rattle.part_bounds.proofs.LevelLaws.{level_kind}
+use Rattle.bound_forms.proofs.LevelLaws.{level_kind}
 use Rattle.part_ddl.proofs.Suiting.{all_filled, all_fit}
 use Rattle.part_ddl.proofs.placing.check_beside.Goals as goal
 

@@ -2,8 +2,8 @@ use Rattle.std.proofs.Common.{◌∙◌, ◌<◌, ℕ, ap, sym, List, [], ◌∷
 use Rattle.std.specs.Option.{option_map}
 use Rattle.pg_values.specs.declared.fault.Fault.{Fault}
 use Rattle.pg_values.specs.declared.fault.Refusal.TheVariants.{Sql}
-use Rattle.part_bounds.specs.Accepts.{is_default}
-use Rattle.part_bounds.specs.Checks.{or_first}
+use Rattle.bound_forms.specs.Accepts.{is_default}
+use Rattle.pg_values.specs.Refusals.{or_first}
 use Rattle.history.specs.declared.catalogue.Entry.{Entry}
 use Rattle.part_ddl.specs.Faults.{second_default}
 use Rattle.part_ddl.specs.Placing.{pending_faults}

@@ -1,5 +1,5 @@
 use Rattle.std.proofs.Common.{◌≡◌, ◌∙◌, ◌<◌, ap, sym, Bor, length, map}
-use Rattle.part_bounds.specs.Bounds.{overlaps}
+use Rattle.bound_forms.specs.Bounds.{overlaps}
 use Rattle.history.specs.declared.catalogue.Entry.{Entry}
 use Rattle.part_ddl.specs.Faults.{bound_overlaps}
 use Rattle.part_ddl.proofs.First.{found_child, overlap_refused, overlap_passed}

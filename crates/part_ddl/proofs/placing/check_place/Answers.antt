@@ -1,8 +1,7 @@
 use Rattle.std.proofs.Common.{◌≡◌, ◌+◌, ◌∙◌, ◌<◌, ℕ, All, ap, subst, List, Bor, length, map}
 use Rattle.std.specs.Option.{option_map}
 use Rattle.pg_values.specs.declared.fault.Fault.{Fault}
-use Rattle.pg_values.specs.Refusals.{IsAnswer}
-use Rattle.part_bounds.specs.Checks.{or_first}
+use Rattle.pg_values.specs.Refusals.{IsAnswer, or_first}
 use Rattle.history.specs.declared.catalogue.Entry.{Entry}
 use Rattle.history.specs.History.{History}
 use Rattle.tx_table.specs.Stands.{TableStands}

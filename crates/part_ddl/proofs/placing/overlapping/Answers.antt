@@ -1,6 +1,6 @@
 use Rattle.std.proofs.Common.{◌≡◌, ◌∙◌, ap, true, false, sym}
 use Rattle.std.specs.Option.{option_map}
-use Rattle.part_bounds.specs.Bounds.{is_filled, overlaps, BoundsFit}
+use Rattle.bound_forms.specs.Bounds.{is_filled, overlaps, BoundsFit}
 use Rattle.part_ddl.proofs.First.{all_at, found_here, found_later, found_nowhere}
 use Rattle.part_ddl.proofs.Kids.{entry_child}
 use Rattle.part_ddl.proofs.Suiting.{one_fits, overlaps_one}

@@ -1,6 +1,6 @@
 use Rattle.std.proofs.Common.{◌≡◌, drop, map}
 use Rattle.std.specs.List.{find}
-use Rattle.part_bounds.specs.Bounds.{overlaps}
+use Rattle.bound_forms.specs.Bounds.{overlaps}
 use Rattle.part_ddl.proofs.placing.overlapping.Given as goal
 
 abbrev pub invariant-loop-entry : goal.invariant-loop-entry

@@ -1,5 +1,5 @@
 use Rattle.std.proofs.Common.{◌≡◌, ◌∙◌, true, sym}
-use Rattle.part_bounds.specs.Bounds.{is_filled}
+use Rattle.bound_forms.specs.Bounds.{is_filled}
 use Rattle.part_ddl.proofs.First.{all_at}
 use Rattle.part_ddl.proofs.Suiting.{suits_one, suits_not, bad_here, bad_later, bad_nowhere}
 use Rattle.part_ddl.proofs.placing.unsuited.Goals as goal

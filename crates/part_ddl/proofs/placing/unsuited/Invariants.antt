@@ -1,5 +1,5 @@
 use Rattle.std.proofs.Common.{◌≡◌, drop, map}
-use Rattle.part_bounds.specs.Moduli.{bad_modulus}
+use Rattle.bound_forms.specs.Moduli.{bad_modulus}
 use Rattle.table_trees.specs.Histories.{bound_of}
 use Rattle.part_ddl.proofs.placing.unsuited.Given as goal
 

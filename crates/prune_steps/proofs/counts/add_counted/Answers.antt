@@ -1,5 +1,5 @@
 use Rattle.std.specs.List.{slice_index_or}
-use Rattle.part_bounds.specs.declared.partition_bound.Bound.TheVariants.{Default}
+use Rattle.bound_forms.specs.declared.partition_bound.Bound.TheVariants.{Default}
 use Rattle.prune_steps.specs.Lists.{is_counted, count_at}
 use Rattle.prune_steps.proofs.Marking.{done_more, rest_more, counted_here}
 use Rattle.prune_steps.proofs.counts.add_counted.Goals as goal

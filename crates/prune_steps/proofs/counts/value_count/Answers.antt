@@ -1,5 +1,5 @@
 use Rattle.std.proofs.Common.{not, arith}
-use Rattle.part_bounds.specs.Points.{is_null}
+use Rattle.bound_forms.specs.Points.{is_null}
 use Rattle.prune_steps.proofs.Tallies.{counted_more, counted_most, counted_end}
 use Rattle.prune_steps.proofs.counts.value_count.Goals as goal
 

@@ -1,5 +1,5 @@
 use Rattle.std.proofs.Common.{◌≡◌, ◌+◌, ◌≤◌, not, drop}
-use Rattle.part_bounds.specs.Points.{is_null}
+use Rattle.bound_forms.specs.Points.{is_null}
 use Rattle.prune_steps.specs.Tallies.{tally}
 use Rattle.prune_steps.proofs.counts.value_count.Given as goal
 

@@ -1,4 +1,4 @@
-use Rattle.part_bounds.specs.Listed.{only}
+use Rattle.bound_forms.specs.Listed.{only}
 use Rattle.part_bounds.proofs.Strategies.{lists_have_points}
 use Rattle.prune_steps.proofs.ListLaws.{all_listed}
 use Rattle.prune_steps.proofs.lists.keep_listed.Goals as goal

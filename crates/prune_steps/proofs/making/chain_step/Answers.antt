@@ -1,5 +1,5 @@
 use Rattle.std.proofs.Common.{◌≡◌, ◌+◌, ◌++◌, [], ◌∷◌, false, length, sym, ap, ◌∙◌, rules}
-use Rattle.part_bounds.specs.declared.level.KeyColumn.{KeyColumn}
+use Rattle.bound_forms.specs.declared.level.KeyColumn.{KeyColumn}
 use Rattle.cond_logic.specs.Trees.{cond_tree}
 use Rattle.prune_steps.specs.Atoms.{asked, given, values_before}
 use Rattle.prune_steps.specs.Kept.{range_keeps}

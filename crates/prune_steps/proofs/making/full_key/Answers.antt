@@ -1,7 +1,7 @@
 use Rattle.std.proofs.Common.{true, length, ap}
 use Rattle.std.specs.Prelude.{None}
-use Rattle.part_bounds.specs.declared.level.Strategy.TheVariants.{Hash as ByHash}
-use Rattle.part_bounds.specs.declared.level.KeyColumn.{KeyColumn}
+use Rattle.bound_forms.specs.declared.level.Strategy.TheVariants.{Hash as ByHash}
+use Rattle.bound_forms.specs.declared.level.KeyColumn.{KeyColumn}
 use Rattle.cond_logic.specs.Trees.{cond_tree}
 use Rattle.prune_steps.specs.Atoms.{asked}
 use Rattle.prune_steps.specs.Kept.{full_key}

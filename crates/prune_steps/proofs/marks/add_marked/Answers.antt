@@ -1,5 +1,5 @@
 use Rattle.std.specs.List.{slice_index_or}
-use Rattle.part_bounds.specs.declared.partition_bound.Bound.TheVariants.{Default}
+use Rattle.bound_forms.specs.declared.partition_bound.Bound.TheVariants.{Default}
 use Rattle.prune_steps.specs.Lists.{is_marked}
 use Rattle.prune_steps.proofs.Marking.{test_at, done_more, rest_more}
 use Rattle.prune_steps.proofs.marks.add_marked.Goals as goal

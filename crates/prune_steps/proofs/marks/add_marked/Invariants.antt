@@ -1,6 +1,6 @@
 use Rattle.std.proofs.Common.{◌≡◌, ℕ, ◌<◌, ◌≤◌, ◌||◌}
 use Rattle.std.specs.List.{slice_index_or}
-use Rattle.part_bounds.specs.declared.partition_bound.Bound.TheVariants.{Default}
+use Rattle.bound_forms.specs.declared.partition_bound.Bound.TheVariants.{Default}
 use Rattle.prune_steps.specs.Bits.{bit}
 use Rattle.prune_steps.specs.Lists.{is_marked}
 use Rattle.prune_steps.proofs.marks.add_marked.Given as goal

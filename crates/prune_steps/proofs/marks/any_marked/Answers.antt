@@ -1,5 +1,5 @@
 use Rattle.std.proofs.Common.{sym, ◌∙◌}
-use Rattle.part_bounds.proofs.Walk.{any_found, any_passed}
+use Rattle.bound_forms.proofs.Walk.{any_found, any_passed}
 use Rattle.prune_steps.specs.Lists.{is_marked}
 use Rattle.prune_steps.proofs.marks.any_marked.Goals as goal
 

@@ -1,5 +1,5 @@
 use Rattle.std.proofs.Common.{◌≡◌, ◌+◌, length, nat_lt, slice_index_or, subst}
-use Rattle.part_bounds.specs.declared.partition_bound.Bound.TheVariants.{Default}
+use Rattle.bound_forms.specs.declared.partition_bound.Bound.TheVariants.{Default}
 use Rattle.prune_steps.specs.Bits.{AreBits}
 use Rattle.prune_steps.specs.Chains.{chain_keeps}
 use Rattle.prune_steps.specs.Runs.{ends_of}

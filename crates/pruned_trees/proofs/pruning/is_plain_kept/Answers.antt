@@ -1,5 +1,5 @@
 use Rattle.std.proofs.Common.{◌++◌, [], ◌∷◌, refl, ap, map, ◌∙◌}
-use Rattle.part_bounds.specs.declared.partition_bound.Bound.TheVariants.{Default}
+use Rattle.bound_forms.specs.declared.partition_bound.Bound.TheVariants.{Default}
 use Rattle.cond_logic.specs.Trees.{cond_tree}
 use Rattle.pruned_trees.specs.Kept.{is_kept}
 use Rattle.pruned_trees.proofs.Plain.{alone, plain_is}

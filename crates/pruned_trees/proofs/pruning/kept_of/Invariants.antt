@@ -1,6 +1,6 @@
 use Rattle.std.proofs.Common.{◌≡◌, ℕ, ◌<◌, ◌&&◌, [], drop, length, map}
 use Rattle.std.specs.List.{list_all, slice_index_or}
-use Rattle.part_bounds.specs.declared.partition_bound.Bound.TheVariants.{Default}
+use Rattle.bound_forms.specs.declared.partition_bound.Bound.TheVariants.{Default}
 use Rattle.cond_logic.specs.Trees.{cond_tree}
 use Rattle.prune_steps.specs.Atoms.{asked}
 use Rattle.prune_steps.specs.Kept.{kept}

@@ -1,5 +1,5 @@
 use Rattle.std.proofs.Common.{◌≡◌, ◌++◌, map, drop}
-use Rattle.part_bounds.specs.Points.{picked}
+use Rattle.bound_forms.specs.Points.{picked}
 use Rattle.row_change.proofs.keys.picked_key.Given as goal
 
 -- the values so far stand before the rest

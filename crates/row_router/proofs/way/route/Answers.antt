@@ -1,7 +1,7 @@
 use Rattle.std.proofs.Common.{◌≡◌, ◌<◌, ◌∙◌, ap, arith, sym, subst, List, ℕ, length, map, position}
-use Rattle.part_bounds.specs.declared.level.KeyColumn.{KeyColumn}
-use Rattle.part_bounds.specs.Points.{picked}
-use Rattle.part_bounds.specs.Accepts.{accepts_among, FitsSet}
+use Rattle.bound_forms.specs.declared.level.KeyColumn.{KeyColumn}
+use Rattle.bound_forms.specs.Points.{picked}
+use Rattle.bound_forms.specs.Accepts.{accepts_among, FitsSet}
 use Rattle.table_trees.specs.Trees.{key_of}
 use Rattle.table_trees.specs.Seen.{seen, items_of}
 use Rattle.table_trees.proofs.Levels.{here, chosen, none_chosen, found_within}

@@ -1,7 +1,7 @@
 use Rattle.std.proofs.Common.{◌≡◌, List, Option, Ok, Err, subst}
 use Rattle.std.proofs.lemmas.Result.{err_from_is_err_and}
 use Rattle.pg_values.specs.Refusals.{IsAnswer}
-use Rattle.part_bounds.specs.declared.level.Level.{Level}
+use Rattle.bound_forms.specs.declared.level.Level.{Level}
 use Rattle.history.specs.declared.catalogue.Column.{Column}
 use Rattle.table_binder.specs.Columns.{bound_columns}
 use Rattle.table_statements.specs.Seen.{seen_plan}

@@ -1,6 +1,6 @@
 use Rattle.std.proofs.Common.{◌≡◌, ◌∙◌, ap, arith, length, take}
 use Rattle.std.proofs.lemmas.Grind.{common_steps}
-use Rattle.part_bounds.specs.declared.level.KeyColumn.{KeyColumn}
+use Rattle.bound_forms.specs.declared.level.KeyColumn.{KeyColumn}
 use Rattle.table_trees.proofs.level_key.copy_level.Goals as goal
 
 pub invariant_of-result : goal.invariant_of-result

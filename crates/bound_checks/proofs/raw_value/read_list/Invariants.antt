@@ -1,0 +1,15 @@
+use Rattle.std.proofs.Common.{◌≡◌, ◌++◌, drop}
+use Rattle.std.specs.List.{All}
+use Rattle.bound_forms.specs.Levels.{IsOf}
+use Rattle.bound_checks.specs.RawBounds.{values_for, each_once}
+use Rattle.pg_values.specs.Refusals.{faults_in, read_in}
+use Rattle.bound_checks.proofs.OnceLaws.{further}
+use Rattle.bound_checks.proofs.raw_value.read_list.Given as goal
+
+-- no value so far has a fault, and those that are kept stand before the further ones of the rest
+abbrev pub invariant-loop-value : goal.invariant-loop-value
+invariant-loop-value l = record {
+  faults : faults_in (values_for l.kind (drop l.value-index l.raw)) ≡ faults_in (values_for l.kind l.raw);
+  once : l.values ++ further l.values (read_in (values_for l.kind (drop l.value-index l.raw))) ≡ each_once (read_in (values_for l.kind l.raw));
+  of_kind : All (IsOf l.kind) l.values;
+}

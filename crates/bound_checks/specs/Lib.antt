@@ -1,0 +1,4 @@
+pub mod BoundFaults
+pub mod Checks
+pub mod Laws
+pub mod RawBounds

@@ -1,0 +1,16 @@
+//! Partition bounds as they are written, and what becomes of them.
+//!
+//! A bound of CREATE TABLE or ATTACH has expressions, MINVALUE and MAXVALUE. `check_bound` gives
+//! the bound of its level that is meant, with values of the key columns' kinds, or the first of the
+//! rules of `specs/Checks.antt` that it breaks.
+#![tactic(auto)]
+
+mod bound_fault;
+mod check;
+mod laws;
+mod raw_bound;
+mod raw_value;
+
+pub use check::check_bound;
+pub use laws::level_bounds_are_checked;
+pub use raw_bound::{RawBound, RawEdge, RawEdges, RawValue, RawValues};

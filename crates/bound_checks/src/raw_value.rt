@@ -1,0 +1,94 @@
+//! What the expressions of a bound give their key columns.
+
+ghost use Rattle.std.specs.Prelude.{◌≡◌, ◌<◌, ◌∷◌, ◌++◌, [], All, OnOk, length, if◌then◌else◌};
+ghost use Rattle.value_rules.specs.Assignment.{assigned};
+ghost use Rattle.pg_values.specs.Kinds as kinds;
+ghost use Rattle.pg_values.specs.Refusals.{IsAnswer, faults_in, read_in, or_first};
+ghost use Rattle.pg_values.specs.KeyKinds.{IsNotNull};
+ghost use Rattle.bound_forms.specs.declared.point.Edge.TheVariants.{Min};
+ghost use Rattle.bound_forms.specs.Listed as listed;
+ghost use Rattle.bound_forms.specs.Listed.{ValuesFit, ValueOfKind};
+ghost use Rattle.bound_checks.specs.RawBounds.{given_to, value_for, edge_for, edges_for, values_for, each_once};
+
+use crate::bound_fault::{copy_fault, wrong_kind};
+use crate::{RawEdge, RawValue};
+use bound_forms::{Edge, KeyColumn, Point, lists};
+use pg_values::{Kind, NoMemory, Refusal, Row, Value, ValueKey, copy_value, kind_of};
+use std::alloc::Global;
+use value_rules::{CoerceFault, coerce, out_of_range, read_value};
+
+// What assigning the value to a column of the kind gives.
+fn assign(alloc: Global, kind: Kind, value: &Value) -> Result<Value, Refusal>
+    ensures { IsAnswer result (given_to (kinds.kind_of value.now) kind (assigned value.now kind)) }
+{
+    match coerce(copy_value(alloc, value)?, kind) {
+        Ok(value) => Ok(value),
+        Err((_, CoerceFault::Kinds)) => {
+            Err(Refusal::Sql(wrong_kind(alloc, kind_of(value), kind)?))
+        }
+        Err((_, CoerceFault::Range)) => Err(Refusal::Sql(out_of_range(alloc))),
+    }
+}
+
+// What the expression gives a column of the kind.
+fn read_raw(alloc: Global, kind: Kind, raw: &RawValue) -> Result<Value, Refusal>
+    ensures { IsAnswer result (value_for kind raw.now) }
+{
+    match raw {
+        RawValue::Literal(text) => read_value(alloc, kind, text.as_bytes()),
+        RawValue::Given(value) => assign(alloc, kind, value),
+        RawValue::Faulty(fault) => Err(Refusal::Sql(copy_fault(alloc, fault)?)),
+    }
+}
+
+// What the entry of FROM or TO gives a column of the kind.
+fn read_edge(alloc: Global, kind: Kind, raw: &RawEdge) -> Result<Edge, Refusal>
+    ensures { IsAnswer result (edge_for kind raw.now) }
+{
+    match raw {
+        RawEdge::Min => Ok(Edge::Min),
+        RawEdge::At(value) => Ok(Edge::At(read_raw(alloc, kind, value)?)),
+        RawEdge::Max => Ok(Edge::Max),
+    }
+}
+
+/// The point of FROM or TO, filled up with MIN.
+pub(crate) fn read_point(
+    alloc: Global,
+    columns: &[KeyColumn],
+    edges: &[RawEdge],
+) -> Result<Point, Refusal>
+    requires { length edges.now ≡ length columns.now }
+    ensures { IsAnswer result (or_first (faults_in (edges_for columns.now edges.now)) (read_in (edges_for columns.now edges.now) ++ Min ∷ [])) }
+{
+    let mut point = Point::new(alloc);
+    for (i, edge) in edges.iter().enumerate() {
+        point.push(read_edge(alloc, columns[i].kind, edge)?)?;
+    }
+    point.push(Edge::Min)?;
+    Ok(point)
+}
+
+// Adds the value, unless it is listed already.
+fn add_once(values: &mut Row, value: Value) -> Result<(), NoMemory>
+    requires fit { All (λ w. ValuesFit w value) values.old }
+    requires of_kind { All (ValueOfKind IsNotNull) values.old }
+    ensures { OnOk result (values.new ≡ (if listed.lists values.old value then values.old else values.old ++ value ∷ [])) }
+{
+    if lists(&ValueKey, values, &value) {
+        Ok(())
+    } else {
+        values.push(value)
+    }
+}
+
+/// The values of a list, each once at its first place, for a column of the kind.
+pub(crate) fn read_list(alloc: Global, kind: Kind, raw: &[RawValue]) -> Result<Row, Refusal>
+    ensures { IsAnswer result (or_first (faults_in (values_for kind raw.now)) (each_once (read_in (values_for kind raw.now)))) }
+{
+    let mut values = Row::new(alloc);
+    for value in raw {
+        add_once(&mut values, read_raw(alloc, kind, value)?)?;
+    }
+    Ok(values)
+}

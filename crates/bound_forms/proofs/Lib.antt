@@ -1,0 +1,13 @@
+pub mod Choice
+pub mod Ends
+pub mod KindLaws
+pub mod LevelKeys
+pub mod LevelLaws
+pub mod ListedLaws
+pub mod OverlapLaws
+pub mod PlainOrder
+pub mod PointOrder
+pub mod Residues
+pub mod TotalOrder
+pub mod Walk
+pub mod WithinLaws

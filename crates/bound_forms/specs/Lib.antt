@@ -1,0 +1,9 @@
+pub mod Accepts
+pub mod Bounds
+pub mod Laws
+pub mod Levels
+pub mod Listed
+pub mod Moduli
+pub mod Ordered
+pub mod Points
+pub mod Within

@@ -1,8 +1,0 @@
-use Rattle.part_bounds.proofs.LevelKeys.{level_keys, level_keys_sets}
-use Rattle.part_bounds.proofs.laws.level_keys_fit.Goals as goal
-
-pub returns-clause-each : goal.returns-clause-each
-returns-clause-each c = level_keys
-
-pub returns-clause-set : goal.returns-clause-set
-returns-clause-set c = level_keys_sets
