@@ -48,7 +48,7 @@ abbrev pub IsRunTold : {X T : Type 0} → (X → T) → Result X Stop → Stores
 IsRunTold view (Ok x) new caller h m = (m.told ≡ Ok (view x)) × WentOn h caller.session (caller.cmd + 1) [] new (m.events ++ h) × IsInRun (m.events ++ h) caller
 IsRunTold view (Err (stop.Waits None)) new caller h m = ⊥
 IsRunTold view (Err (stop.Waits (Some rest))) new caller h m = (m.told ≡ Err (Waits (Some rest))) × WentOn h caller.session (caller.cmd + 1) (caller.session ∷ []) new (m.events ++ h)
-IsRunTold view (Err (stop.Commits rest)) new caller h m = (m.told ≡ Err (Commits rest)) × WentOn h caller.session (caller.cmd + 1) [] new (m.events ++ h)
+IsRunTold view (Err (stop.Commits rest)) new caller h m = ⊥
 IsRunTold view (Err (stop.Refused f)) new caller h m = (m.told ≡ Err (Refused f)) × WentOn h caller.session (caller.cmd + 1) [] new (m.events ++ h)
 IsRunTold view (Err stop.NoMemory) new caller h m = Unit {0}
 

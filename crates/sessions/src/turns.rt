@@ -67,6 +67,7 @@ fn begin_transaction<E: Executor>(
     requires slack { E.slack executor.old ≤ E.most }
     ensures stands { OnOk result (Carries E.stands (λ v. E.course.began v session) executor.old executor.new) }
     ensures becomes { OnOk result (seen E.tree x.new ≡ spec.opened (seen E.tree x.old) phase level) }
+    ensures begins { OnOk result (x.new ≡ spec.opened x.old phase level) }
     ensures err { OnErr result (x.new ≡ x.old) }
     ensures transactions { E.in_transaction executor.new ≡ slice_set (E.in_transaction executor.old) session (has_open x.new.phase) }
     ensures slack { E.slack executor.new ≤ E.most }
@@ -122,6 +123,7 @@ fn commit<E: Executor>(executor: &mut E, session: usize, x: &mut Session<E::Stat
     ensures goes { result ≡ progress.Goes }
     ensures free { E.waiting executor.new session ≡ false }
     ensures points { points x.new ≤ points x.old + 2 }
+    ensures becomes { x.new ≡ record x.old { phase = phases.Idle } }
 {
     if x.has_open() {
         executor.commit(session);
@@ -181,7 +183,7 @@ fn set<E: Executor>(
 }
 
 // What the statement did so far is committed, and it goes on in another transaction.
-#[tactic(auto, using(crate::proofs::Weights::lower, crate::proofs::Weights::not_higher))]
+#[tactic(auto, using(crate::proofs::Again::set_again, crate::proofs::Again::again_points))]
 fn go_on_again<E: Executor>(
     executor: &mut E,
     session: usize,
