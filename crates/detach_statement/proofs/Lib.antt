@@ -1,3 +1,6 @@
 mod Refusing
 mod Defaults
+mod Checks
 mod Leaving
+mod Guards
+mod Marking

@@ -118,10 +118,10 @@ endable h s d = unless_faults (unless (is_marked_still h s d) (not_pending (name
 abbrev pub judged_still : (session : ℕ) → RestOfDetach → History → Made (Unit {0})
 judged_still s d h = answered (endable h s d)
 
--- the table keeps its CHECK, and is a partition no more
+-- the table is a partition no more, and keeps its CHECK
 abbrev pub partition_left : Caller → (parent table : ℕ) → History → Made (Unit {0})
 partition_left caller p t h =
-    made (place_ended caller.session (stamp caller h) h (table_of t) ++ check_kept caller t h (new_check h caller.session p t)) tt
+    made (check_kept caller t h (new_check h caller.session p t) ++ place_ended caller.session (stamp caller h) h (table_of t)) tt
 
 -- both tables are locked anew; either may be gone
 abbrev pub third_stage : (names : List (List ℕ)) → Caller → RestOfDetach → (parent name : List ℕ) → History → Made (Unit {0})

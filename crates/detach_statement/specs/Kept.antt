@@ -5,6 +5,7 @@ use Rattle.std.specs.List.{list_any}
 use Rattle.pg_values.specs.declared.fault.Fault.{Fault}
 use Rattle.pg_values.specs.declared.value.Kind.{Kind}
 use Rattle.pg_values.specs.declared.value.Kind.TheVariants as kinds
+use Rattle.pg_ids.specs.declared.ids.TableNo.{TableNo}
 use Rattle.part_bounds.specs.declared.level.KeyColumn.{KeyColumn}
 use Rattle.part_bounds.specs.declared.level.Level.{Level}
 use Rattle.part_bounds.specs.declared.level.Strategy.{Strategy}
@@ -14,6 +15,7 @@ use Rattle.part_bounds.specs.Within.{within}
 use Rattle.history.specs.declared.catalogue.Check.{Check}
 use Rattle.history.specs.declared.catalogue.Entry.{Entry}
 use Rattle.history.specs.declared.catalogue.KeptCheck.{KeptCheck}
+use Rattle.history.specs.declared.transaction.TxId.{TxId}
 use Rattle.history.specs.Catalogue.{CheckKept}
 use Rattle.history.specs.History.{History, CatalogueChange}
 use Rattle.history.specs.Presence.{checks_of}
@@ -78,6 +80,9 @@ unless_equal kept (Some c) = if list_any (λ k. same_check k c) kept then None e
 abbrev pub new_check : History → (session parent table : ℕ) → Option KeptCheck
 new_check h s p t = unless_equal (map kept_of (checks_of h s t)) (check_told (level_at h p) (place_below h s p t))
 
+abbrev pub check_by : TableNo → TxId → (cmd : ℕ) → Option KeptCheck → History
+check_by t by cmd None = []
+check_by t by cmd (Some c) = CatalogueChange (CheckKept (record { table = t; kept = c; by = by; cmd = cmd })) ∷ []
+
 abbrev pub check_kept : Caller → (table : ℕ) → History → Option KeptCheck → History
-check_kept caller t h None = []
-check_kept caller t h (Some c) = CatalogueChange (CheckKept (record { table = table_of t; kept = c; by = own h caller.session; cmd = caller.cmd })) ∷ []
+check_kept caller t h c = check_by (table_of t) (own h caller.session) caller.cmd c

@@ -1,20 +1,44 @@
 //! A partition that was marked pending is one no more.
 
-ghost use Rattle.std.specs.Prelude.{◌≡◌, ◌+◌, ◌<◌, Ok, length};
+ghost use Rattle.std.specs.Prelude.{◌≡◌, ◌+◌, ◌++◌, ◌<◌, IfSome, OnOk, length};
+ghost use Rattle.history.specs.Catalogue.{CheckKept};
+ghost use Rattle.history.specs.History.{History};
+ghost use Rattle.history.specs.Places.{IsCatalogueSound};
+ghost use Rattle.part_catalog.specs.Stands.{CatalogueStands};
 ghost use Rattle.course.specs.Attempts.{MayAttempt};
 ghost use Rattle.statement_steps.specs.Steps.{IsStep};
 ghost use Rattle.detach_statement.specs.Asked.{HasGuarded, IsPartition};
 ghost use Rattle.detach_statement.specs.Concurrent as concurrent;
+ghost use Rattle.detach_statement.specs.Kept as kept;
 
 use crate::keeping::new_check;
 use course::{Caller, Stop};
+use history::{KeptCheck, TxId};
 use legal_statements::{drop_may_follow, listed_is_there, nobody_else_ends};
+use part_catalog::Catalog;
 use pg_ids::TableNo;
 use pg_values::NoMemory;
 use std::alloc::Global;
 use stores::{Stores, trees_are_together};
 
-/// The last part: the table keeps its CHECK, and the entry ends by which it is a partition.
+// The table keeps the CHECK, if there is one.
+fn keep(
+    catalog: &mut Catalog,
+    table: TableNo,
+    check: Option<KeptCheck>,
+    by: TxId,
+    cmd: u32,
+) -> Result<(), NoMemory>
+    requires { (h : History) → CatalogueStands catalog.old h → IfSome check (λ c. IsCatalogueSound (CheckKept (record { table = table; kept = c; by = by; cmd = cmd })) h) }
+    ensures { OnOk result ((h : History) → CatalogueStands catalog.old h → CatalogueStands catalog.new (kept.check_by table by cmd check ++ h)) }
+{
+    match check {
+        None => Ok(()),
+        Some(check) => catalog.keep_check(table, check, by, cmd),
+    }
+}
+
+/// The last part: the entry ends by which the table is a partition, and it keeps its CHECK.
 pub(crate) fn leave_parent(
     alloc: Global,
     stores: &mut Stores,
@@ -39,13 +63,13 @@ pub(crate) fn leave_parent(
     };
     let Stores { txs, catalog, .. } = stores;
     match new_check(alloc, catalog, txs, session, parent, table) {
-        Ok(None) => {}
-        Ok(Some(check)) => match catalog.keep_check(table, check, by, caller.cmd) {
-            Ok(()) => {}
-            Err(NoMemory) => return Err(Stop::NoMemory),
-        },
-        Err(NoMemory) => return Err(Stop::NoMemory),
+        Ok(check) => {
+            catalog.end_entry(txs, parent, table, by, caller.cmd);
+            match keep(catalog, table, check, by, caller.cmd) {
+                Ok(()) => Ok(()),
+                Err(NoMemory) => Err(Stop::NoMemory),
+            }
+        }
+        Err(NoMemory) => Err(Stop::NoMemory),
     }
-    catalog.end_entry(txs, parent, table, by, caller.cmd);
-    Ok(())
 }

@@ -13,10 +13,12 @@ ghost use Rattle.detach_statement.specs.Concurrent as concurrent;
 
 use crate::checking::is_table;
 use crate::faults::{has_default, not_a_partition, pending, stop_by};
+
 use course::{Caller, Rest, RestOfDetach, Stop};
-use legal_statements::{mark_may_follow, nobody_else_marks};
+use legal_statements::{listed_is_there, mark_may_follow, nobody_else_marks};
 use part_catalog::Catalog;
 use part_ddl::{default_of, parent_level};
+use partition_scans::sessions_are_low;
 use pg_ids::{LockMode, TableNo};
 use pg_values::Refusal;
 use statement_steps::{SessionNames, lock_named};
@@ -101,6 +103,7 @@ fn mark(stores: &mut Stores, caller: Caller, parent: TableNo, table: TableNo) ->
     requires markable { MayBeMarked stores.old caller.session parent.number table.number }
     ensures { IsStep (λ u. u) (Err result) stores.old stores.new caller (caller.cmd + 1) (concurrent.place_marked caller parent.number table.number) }
 {
+    listed_is_there();
     nobody_else_marks();
     mark_may_follow();
     let Some(by) = stores.txs.open_of(caller.session) else {
@@ -113,6 +116,7 @@ fn mark(stores: &mut Stores, caller: Caller, parent: TableNo, table: TableNo) ->
         ..
     } = stores;
     let behind = locks.holders(parent);
+    sessions_are_low(behind);
     catalog.mark_pending(txs, parent, table, by, caller.cmd);
     Stop::Commits(Rest::Detach(RestOfDetach {
         parent,
