@@ -83,10 +83,9 @@ check_suits h s p t c sound is =
     let taken : TakesBound (table_at tables p).shape e.bound = subst (λ n. TakesBound (table_at tables n).shape e.bound) below.1 suits.bound in
     let of_level : IsOfLevel c.level e.bound = subst (λ x. TakesBound x e.bound) shape taken in
     let columns : HasColumnsOf (table_at tables p).columns (table_at tables t).columns =
-        subst (λ n. HasColumnsOf (table_at tables p).columns (table_at tables n).columns) child (subst (λ n. HasColumnsOf (table_at tables n).columns (table_at tables e.child.number).columns) below.1 suits.columns) in
+    subst (λ n. HasColumnsOf (table_at tables p).columns (table_at tables n).columns) child (subst (λ n. HasColumnsOf (table_at tables n).columns (table_at tables e.child.number).columns) below.1 suits.columns) in
     let keys : KeysLieIn (table_at tables p).columns (table_at tables p).shape = all_keys_lie h sound p in
-    let in_parent : All (LiesIn (table_at tables p).columns) c.level.columns = subst (KeysLieIn (table_at tables p).columns) shape keys in
-    (
+    let in_parent : All (LiesIn (table_at tables p).columns) c.level.columns = subst (KeysLieIn (table_at tables p).columns) shape keys in (
       subst (λ n. n < length tables) child suits.child,
       subst (IsOfLevel c.level) m.bound of_level,
       keys_of_child (table_at tables p).columns (table_at tables t).columns c.level columns in_parent,

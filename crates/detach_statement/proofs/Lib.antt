@@ -4,3 +4,6 @@ mod Checks
 mod Leaving
 mod Guards
 mod Marking
+mod Pending
+mod Waits
+mod Levels

@@ -46,7 +46,12 @@ pub(crate) fn not_pending(alloc: Global, table: &[u8], parent: &[u8]) -> Result<
 {
     Ok(Fault {
         code: SqlState { bytes: *b"55000" },
-        args: three_texts(alloc, b"<p> is not the pending partition of <t>", table, parent)?,
+        args: three_texts(
+            alloc,
+            b"<p> is not the pending partition of <t>",
+            table,
+            parent,
+        )?,
     })
 }
 

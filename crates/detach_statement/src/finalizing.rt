@@ -16,10 +16,13 @@ use crate::faults::{not_pending, stop_by};
 use crate::leaving::leave_parent;
 use course::{Caller, Stop};
 use history::{TxId, WaitOn};
+use legal_statements::listed_is_there;
 use part_catalog::Catalog;
 use part_ddl::parent_level;
+use partition_scans::sessions_are_low;
 use pg_ids::{LockMode, SessionSet, TableNo};
 use pg_values::Refusal;
+use soundness::legal_keeps_all;
 use statement_steps::{SessionNames, hold_if_repeatable, lock_named, wait_for};
 use std::alloc::Global;
 use stores::Stores;
@@ -63,6 +66,8 @@ fn check(
     ensures step { IsStep (λ u. u) result stores.now stores.now caller caller.cmd (finalized.judged caller.session parent.number table.number) }
     ensures partition { IfOk result (λ u. IsPartition stores.now caller.session parent table.number) }
 {
+    legal_keeps_all();
+    listed_is_there();
     let Stores { txs, catalog, .. } = stores;
     match check_pending(alloc, catalog, txs, caller.session, parent, table) {
         Ok(()) => Ok(()),
@@ -125,7 +130,9 @@ fn wait_for_snapshots(
 {
     let Stores { txs, catalog, .. } = &*stores;
     let by = catalog.mark_of(txs, caller.session, parent);
-    let others = WaitOn::Snapshots(unseeing(txs, caller.session, by));
+    let others = unseeing(txs, caller.session, by);
+    sessions_are_low(others);
+    let others = WaitOn::Snapshots(others);
     wait_for(alloc, stores, names, caller, others, None)
 }
 

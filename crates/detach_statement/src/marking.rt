@@ -13,7 +13,6 @@ ghost use Rattle.detach_statement.specs.Concurrent as concurrent;
 
 use crate::checking::is_table;
 use crate::faults::{has_default, not_a_partition, pending, stop_by};
-
 use course::{Caller, Rest, RestOfDetach, Stop};
 use legal_statements::{listed_is_there, mark_may_follow, nobody_else_marks};
 use part_catalog::Catalog;

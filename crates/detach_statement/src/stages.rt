@@ -17,9 +17,11 @@ use crate::leaving::leave_parent;
 use crate::marking::run_first_stage;
 use course::{Caller, Rest, RestOfDetach, Stop};
 use history::{TxId, WaitOn};
+use legal_statements::listed_is_there;
 use part_catalog::Catalog;
 use pg_ids::{LockMode, SessionSet};
 use pg_values::Refusal;
+use soundness::legal_keeps_all;
 use statement_steps::{SessionNames, lock_named_still, stopped_on, wait_for};
 use std::alloc::Global;
 use stores::Stores;
@@ -87,18 +89,15 @@ fn check_mark(
 }
 
 // A part: nothing stands against its end.
-fn check(
-    alloc: Global,
-    stores: &Stores,
-    caller: Caller,
-    rest: RestOfDetach,
-) -> Result<(), Stop>
+fn check(alloc: Global, stores: &Stores, caller: Caller, rest: RestOfDetach) -> Result<(), Stop>
     requires may { MayAttempt stores.now caller }
     requires parent { rest.parent.number < length stores.now.catalog.tables }
     requires table { rest.table.number < length stores.now.catalog.tables }
     ensures step { IsStep (λ u. u) result stores.now stores.now caller caller.cmd (concurrent.judged_still caller.session rest) }
     ensures partition { IfOk result (λ u. IsPartition stores.now caller.session rest.parent rest.table.number) }
 {
+    legal_keeps_all();
+    listed_is_there();
     let Stores { txs, catalog, .. } = stores;
     match check_mark(alloc, catalog, txs, caller.session, rest) {
         Ok(()) => Ok(()),

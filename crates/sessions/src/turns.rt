@@ -205,13 +205,7 @@ fn go_on_again<E: Executor>(
     ensures points { OnOk result (points x.new ≤ points x.old + 2) }
 {
     commit(executor, session, x);
-    begin_transaction(
-        executor,
-        session,
-        x,
-        Phase::Again,
-        Isolation::ReadCommitted,
-    )?;
+    begin_transaction(executor, session, x, Phase::Again, Isolation::ReadCommitted)?;
     x.keep(statement)?;
     Ok(Progress::Goes)
 }
@@ -319,12 +313,16 @@ fn perform<E: Executor>(
         Role::Rollback => Ok(roll_back(executor, session, x)),
         Role::Set => match x.phase {
             Phase::Idle => open_block(executor, session, x, statement),
-            Phase::Implicit | Phase::Again | Phase::Explicit => set(alloc, executor, session, x, &statement),
+            Phase::Implicit | Phase::Again | Phase::Explicit => set(
+                alloc, executor, session, x, &statement,
+            ),
             Phase::Failed => Ok(Progress::Goes),
         },
         Role::Query => match x.phase {
             Phase::Idle => open_block(executor, session, x, statement),
-            Phase::Implicit | Phase::Again | Phase::Explicit => run(alloc, executor, session, x, statement),
+            Phase::Implicit | Phase::Again | Phase::Explicit => run(
+                alloc, executor, session, x, statement,
+            ),
             Phase::Failed => Ok(Progress::Goes),
         },
     }
