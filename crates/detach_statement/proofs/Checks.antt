@@ -15,7 +15,8 @@ use Rattle.history.specs.declared.transaction.TxId.{TxId}
 use Rattle.history.specs.Catalogue.{CheckKept, tables_made}
 use Rattle.history.specs.History.{History, catalogue_events}
 use Rattle.history.specs.Places.{table_at, LiesIn, KeysLieIn, TakesBound, HasColumnsOf, Suits, IsCatalogueSound, AreCatalogueSound}
-use Rattle.table_trees.specs.Histories.{is_over, table_of}
+use Rattle.history.specs.Presence.{checks_of}
+use Rattle.table_trees.specs.Histories.{is_over, kept_of, table_of}
 use Rattle.table_trees.proofs.Suited.{KeysLie, all_keys_lie}
 use Rattle.part_catalog.specs.Found.{made_at}
 use Rattle.part_ddl.specs.Placing.{level_told, level_at, partitions_of}
@@ -69,11 +70,11 @@ keys_of_child parent child level like keys k d lt = ap (λ ks. slice_get ks (get
 
 -- ---- the CHECK may be kept
 
-pub check_suits : (h : History) (s p t : ℕ) (c : KeptCheck) → AreCatalogueSound h → new_check h s p t ≡ Some c
+pub told_suits : (h : History) (s p t : ℕ) (c : KeptCheck) → AreCatalogueSound h → check_told (level_at h p) (place_below h s p t) ≡ Some c
     → (t < length (tables_made (catalogue_events h))) × IsOfLevel c.level c.bound × All (LiesIn (table_at (tables_made (catalogue_events h)) t).columns) c.level.columns
-check_suits h s p t c sound is =
+told_suits h s p t c sound is =
     let tables = tables_made (catalogue_events h) in
-    let m = made_of (level_at h p) (place_below h s p t) c (of_told _ (check_told (level_at h p) (place_below h s p t)) c is) in
+    let m = made_of (level_at h p) (place_below h s p t) c is in
     let e = m.e in
     let at = found_in (is_over t) (partitions_of h s p) e m.found in
     let below = below_listed h s p e at.0 in
@@ -90,3 +91,7 @@ check_suits h s p t c sound is =
       subst (IsOfLevel c.level) m.bound of_level,
       keys_of_child (table_at tables p).columns (table_at tables t).columns c.level columns in_parent,
     )
+
+pub check_suits : (h : History) (s p t : ℕ) (c : KeptCheck) → AreCatalogueSound h → new_check h s p t ≡ Some c
+    → (t < length (tables_made (catalogue_events h))) × IsOfLevel c.level c.bound × All (LiesIn (table_at (tables_made (catalogue_events h)) t).columns) c.level.columns
+check_suits h s p t c sound is = told_suits h s p t c sound (of_told (map kept_of (checks_of h s t)) (check_told (level_at h p) (place_below h s p t)) c is)

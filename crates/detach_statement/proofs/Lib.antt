@@ -7,3 +7,4 @@ mod Marking
 mod Pending
 mod Waits
 mod Levels
+mod KeptChecks
