@@ -45,9 +45,9 @@ same_column a b = (a.position == b.position) && same_kind a.kind b.kind
 
 abbrev pub same_columns : List KeyColumn → List KeyColumn → Bool
 same_columns [] [] = true
-same_columns [] (b ∷ bs) = false
-same_columns (a ∷ as) [] = false
-same_columns (a ∷ as) (b ∷ bs) = same_column a b && same_columns as bs
+same_columns [] (y ∷ ys) = false
+same_columns (x ∷ xs) [] = false
+same_columns (x ∷ xs) (y ∷ ys) = same_column x y && same_columns xs ys
 
 abbrev pub same_level : Level → Level → Bool
 same_level a b = same_strategy a.strategy b.strategy && same_columns a.columns b.columns
