@@ -1,6 +1,6 @@
 -- The CHECK that a table keeps suits it.
-use Rattle.std.proofs.Common.{◌≡◌, ℕ, ◌==◌, ◌<◌, Bool, true, false, List, [], ◌∷◌, inl, inr, refl, sym, ap, ◌∙◌, subst, arith, Option, Some, None, Result, Ok, Err, find, map, filter, length}
-use Rattle.std.specs.List.{All, AllZip, Contains, list_any, slice_get, get_or}
+use Rattle.std.proofs.Common.{◌≡◌, ℕ, ◌<◌, List, [], ◌∷◌, inl, inr, refl, sym, ap, ◌∙◌, subst, Option, Some, None, Result, Ok, Err, map, length}
+use Rattle.std.specs.List.{All, list_any, slice_get, get_or}
 use Rattle.std.proofs.lemmas.Bool.{cases_Bool}
 use Rattle.pg_values.specs.declared.fault.Fault.{Fault}
 use Rattle.pg_values.specs.declared.value.Kind.{Kind}
@@ -11,13 +11,12 @@ use Rattle.history.specs.declared.catalogue.Entry.{Entry}
 use Rattle.history.specs.declared.catalogue.KeptCheck.{KeptCheck}
 use Rattle.history.specs.declared.catalogue.TableShape.{TableShape}
 use Rattle.history.specs.declared.catalogue.TableShape.TheVariants.{Leaf, Level}
-use Rattle.history.specs.declared.transaction.TxId.{TxId}
-use Rattle.history.specs.Catalogue.{CheckKept, tables_made}
+use Rattle.history.specs.Catalogue.{tables_made}
 use Rattle.history.specs.History.{History, catalogue_events}
-use Rattle.history.specs.Places.{table_at, LiesIn, KeysLieIn, TakesBound, HasColumnsOf, Suits, IsCatalogueSound, AreCatalogueSound}
+use Rattle.history.specs.Places.{table_at, LiesIn, KeysLieIn, TakesBound, HasColumnsOf, AreCatalogueSound}
 use Rattle.history.specs.Presence.{checks_of}
-use Rattle.table_trees.specs.Histories.{is_over, kept_of, table_of}
-use Rattle.table_trees.proofs.Suited.{KeysLie, all_keys_lie}
+use Rattle.table_trees.specs.Histories.{is_over, kept_of}
+use Rattle.table_trees.proofs.Suited.{all_keys_lie}
 use Rattle.part_catalog.specs.Found.{made_at}
 use Rattle.part_ddl.specs.Placing.{level_told, level_at, partitions_of}
 use Rattle.table_statements.proofs.Below.{found_in, below_listed, entry_suits}

@@ -1,5 +1,5 @@
 -- Tables that a session has locked so that nobody else changes their partitions.
-use Rattle.std.proofs.Common.{◌≡◌, ℕ, ◌==◌, ◌+◌, Bool, true, false, List, [], ◌∷◌, ◌++◌, inl, inr, refl, sym, ap, ◌∙◌, subst, append-nil, Option, Some, None, Result, Ok, Err}
+use Rattle.std.proofs.Common.{◌≡◌, ℕ, ◌==◌, ◌+◌, List, [], ◌++◌, inl, inr, sym, ◌∙◌, subst, append-nil, Option, Some, None, Ok}
 use Rattle.std.proofs.lemmas.Bool.{cases_Bool}
 use Rattle.pg_ids.specs.Sets.{has}
 use Rattle.pg_ids.specs.declared.ids.TableNo.{TableNo}
@@ -8,11 +8,9 @@ use Rattle.pg_ids.specs.declared.lock_mode.LockMode.TheVariants.{ShareUpdateExcl
 use Rattle.history.specs.declared.wait.Wanted.TheVariants.{Lock}
 use Rattle.history.specs.History.{History, lock_events}
 use Rattle.lock_answers.specs.Asked.{asked}
-use Rattle.legal_statements.specs.Locked.{IsGuarded}
 use Rattle.part_catalog.specs.Found.{resolved}
-use Rattle.stores.specs.Stand.{Stands}
 use Rattle.stores.specs.declared.stores.Stores.{Stores}
-use Rattle.course.specs.Made.{Made, made, behind, then_told}
+use Rattle.course.specs.Made.{Made, then_told}
 use Rattle.course.specs.Attempts.{MayAttempt, LocksStay}
 use Rattle.course.specs.declared.caller.Caller.{Caller}
 use Rattle.statement_steps.specs.Asks.{locked, meant_or_none, named, named_still, same_or_gone}

@@ -1,5 +1,5 @@
 -- Levels that are told to be the same are.
-use Rattle.std.proofs.Common.{◌≡◌, ℕ, ◌==◌, ◌&&◌, Bool, true, false, List, [], ◌∷◌, refl, sym, ap, ◌∙◌, subst}
+use Rattle.std.proofs.Common.{◌≡◌, ℕ, ◌==◌, true, List, [], ◌∷◌, refl, sym, ap, ◌∙◌, subst}
 use Rattle.std.proofs.lemmas.Bool.{and_parts}
 use Rattle.pg_values.specs.declared.value.Kind.{Kind}
 use Rattle.pg_values.specs.declared.value.Kind.TheVariants as kinds

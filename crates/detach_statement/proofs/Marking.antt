@@ -1,8 +1,7 @@
 -- The entry by which the table is a partition is marked pending.
-use Rattle.std.proofs.Common.{◌≡◌, ℕ, ◌==◌, ◌&&◌, ◌+◌, ◌≤◌, Bool, true, false, List, [], ◌∷◌, inl, inr, refl, sym, ap, ◌∙◌, subst, arith, Option, Some, None, Result, Ok, Err, find}
+use Rattle.std.proofs.Common.{◌≡◌, ℕ, ◌==◌, ◌+◌, ◌≤◌, true, false, List, ◌∷◌, inl, inr, refl, sym, ap, ◌∙◌, subst, arith, Option, Some, None, Result, Ok, Err}
 use Rattle.std.specs.List.{Contains, All}
 use Rattle.std.proofs.lemmas.Bool.{cases_Bool}
-use Rattle.std.proofs.lemmas.Grind.{common_steps}
 use Rattle.std.proofs.lemmas.Bool.Decides.{nat_tests}
 use Rattle.std.proofs.lemmas.List.Elements.{All-contains, All-contains_itself, All-filter}
 use Rattle.pg_values.specs.declared.fault.Fault.{Fault}
@@ -32,7 +31,6 @@ use Rattle.part_ddl.proofs.Standing.{same_entries, same_standing}
 use Rattle.history.specs.Catalogue.{standing}
 use Rattle.legal_statements.specs.Entries.{IsNewMark}
 use Rattle.legal_statements.specs.Laws.{ListedIsThere, NobodyElseMarks, MarkMayFollow}
-use Rattle.legal_statements.specs.Locked.{IsGuarded}
 use Rattle.soundness.proofs.Listed.{child_listed}
 use Rattle.partition_scans.specs.Sessions.{those}
 use Rattle.partition_scans.proofs.Sets.{are_those}
@@ -42,9 +40,8 @@ use Rattle.stores.specs.declared.stores.Stores.{Stores}
 use Rattle.stores.proofs.Commands.{commands_are_in_order}
 use Rattle.stores.proofs.Goodness.{legal_of, permitted_of}
 use Rattle.course.specs.Attempts.{MayAttempt}
-use Rattle.course.specs.Made.{Commits, halted}
+use Rattle.course.specs.Made.{Commits}
 use Rattle.course.specs.declared.caller.Caller.{Caller}
-use Rattle.course.specs.declared.rest.Rest.{Rest}
 use Rattle.course.specs.declared.rest.Rest.TheVariants.{Detach}
 use Rattle.course.specs.declared.rest.RestOfDetach.{RestOfDetach}
 use Rattle.course.specs.declared.stop.Stop.TheVariants as stop

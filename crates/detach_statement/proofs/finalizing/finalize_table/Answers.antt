@@ -1,8 +1,6 @@
-use Rattle.std.proofs.Common.{◌+◌, sym, subst, Ok, Err}
-use Rattle.stores.specs.declared.stores.Stores.{Stores}
+use Rattle.std.proofs.Common.{◌+◌, Ok, Err}
 use Rattle.statement_steps.specs.Steps.{follow}
 use Rattle.statement_steps.proofs.Steps.{then_step, stop_step, may_go_on}
-use Rattle.detach_statement.specs.Asked.{IsPartition}
 use Rattle.detach_statement.specs.Concurrent.{partition_left}
 use Rattle.detach_statement.specs.Finalized.{judged, mark_seen}
 use Rattle.detach_statement.proofs.Guards.{still_guards}

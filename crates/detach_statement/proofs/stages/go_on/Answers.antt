@@ -1,5 +1,4 @@
-use Rattle.std.proofs.Common.{◌+◌, ap, sym, subst, Some, Err}
-use Rattle.course.specs.declared.rest.Rest.{Rest}
+use Rattle.std.proofs.Common.{◌+◌, sym, subst, Some, Err}
 use Rattle.course.specs.declared.rest.Rest.TheVariants.{Detach}
 use Rattle.course.specs.declared.rest.RestOfDetach.{RestOfDetach}
 use Rattle.course.specs.declared.stop.Stop.{Stop}
