@@ -23,7 +23,7 @@ use Rattle.sessions.specs.declared.outcome.Outcome.TheVariants as outcomes
 use Rattle.stores.specs.Numbers.{IsAt}
 use Rattle.stores.specs.Stand.{Stands, IsSameSize}
 use Rattle.stores.specs.declared.stores.Stores.{Stores}
-use Rattle.course.specs.Made.{Made, Halt, Waits, Refused, number_after}
+use Rattle.course.specs.Made.{Made, Halt, Waits, Commits, Refused, number_after}
 use Rattle.course.specs.Attempts.{MayGoOn, WentOn, IsAttempt, GoesOn, HasCause, IsHalt}
 use Rattle.course.specs.declared.caller.Caller.{Caller}
 use Rattle.course.specs.declared.rest.Rest.{Rest}
@@ -288,6 +288,31 @@ refused_ran e a stores next rests ready' h before after m f it tells more set id
       whole = it.whole;
       tells = subst (λ events. TellOf new (events ++ (m.events ++ h))) (sym (not_done a.level a.session (slice_index_or e.rests a.session None) m.told (Refused f) told))
           (refused_tells e a stores next rests ready' h before after m f it tells more set idle (told, printed, went));
+      outcome = ap outcome_told (sym told);
+      text = printed ∙ (sym (append-nil before) ∙ ap (λ t. before ++ text_told t) (sym told));
+      commands = ap (slice_set e.commands a.session) more ∙ ap (λ t. slice_set e.commands a.session (next_command t (slice_index_or e.commands a.session 0))) (sym told);
+      cancelled = flag_stays e a.session stores ready' it;
+      rests = set ∙ ap (λ t. slice_set e.rests a.session (rest_told t)) (sym told);
+    })
+
+-- ---- what it did so far is to be committed
+
+pub commits_tells : (e : KeptSeats) (a : Asker) (stores : Stores) (next : ℕ) (rests : List (Option Rest)) (ready' : Option ℕ) (h : History) (before after : List ℕ) (m : Made (List ℕ)) (rest : Rest) → IsTried e a.session stores ready' → TellOf e h
+    → next ≡ slice_index_or e.commands a.session 0 + 1 → rests ≡ slice_set e.rests a.session (Some rest) → IsHalt (Err (stop.Commits rest)) stores a.session → IsAttempt (Err (stop.Commits rest)) stores before after (caller_in e a) h m
+    → TellOf (tried e stores (slice_set e.commands a.session next) rests e.queue ready') (m.events ++ h)
+commits_tells e a stores next rests ready' h before after m rest it tells more set halt (told, printed, went) =
+    went_tells e stores a.session (slice_index_or e.commands a.session 0 + 1) (Some rest) (slice_set e.commands a.session next) rests [] e.queue ready' m.events h it tells went
+    (idle_caused stores a.session halt.0) halt.1 (ap (slice_set e.commands a.session) more) set (sym (append-nil e.queue))
+
+pub commits_ran : (e : KeptSeats) (a : Asker) (stores : Stores) (next : ℕ) (rests : List (Option Rest)) (ready' : Option ℕ) (h : History) (before after : List ℕ) (m : Made (List ℕ)) (rest : Rest) → IsTried e a.session stores ready' → TellOf e h
+    → next ≡ slice_index_or e.commands a.session 0 + 1 → rests ≡ slice_set e.rests a.session (Some rest) → IsHalt (Err (stop.Commits rest)) stores a.session → IsAttempt (Err (stop.Commits rest)) stores before after (caller_in e a) h m
+    → Tried e (tried e stores (slice_set e.commands a.session next) rests e.queue ready') a before after outcomes.Commits h m
+commits_ran e a stores next rests ready' h before after m rest it tells more set halt (told, printed, went) =
+    let new = tried e stores (slice_set e.commands a.session next) rests e.queue ready' in
+    as_tried e new a before after outcomes.Commits h m it.flag (record {
+      whole = it.whole;
+      tells = subst (λ events. TellOf new (events ++ (m.events ++ h))) (sym (not_done a.level a.session (slice_index_or e.rests a.session None) m.told (Commits rest) told))
+          (commits_tells e a stores next rests ready' h before after m rest it tells more set halt (told, printed, went));
       outcome = ap outcome_told (sym told);
       text = printed ∙ (sym (append-nil before) ∙ ap (λ t. before ++ text_told t) (sym told));
       commands = ap (slice_set e.commands a.session) more ∙ ap (λ t. slice_set e.commands a.session (next_command t (slice_index_or e.commands a.session 0))) (sym told);

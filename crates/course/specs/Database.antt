@@ -13,7 +13,7 @@ use Rattle.sessions.specs.declared.phase.Isolation.{Isolation}
 use Rattle.sessions.specs.declared.phase.Isolation.TheVariants.{ReadCommitted, ReadUncommitted, RepeatableRead}
 use Rattle.sessions.specs.declared.settings.Settings.{Settings}
 use Rattle.stores.specs.Events.{begun, committed, aborted, let_go, withdrawn, resumed}
-use Rattle.course.specs.Made.{Made, Halt, Waits, Refused, number_after, halted}
+use Rattle.course.specs.Made.{Made, Halt, Waits, Commits, Refused, number_after, halted}
 use Rattle.course.specs.Words.{Words}
 use Rattle.course.specs.declared.caller.Caller.{Caller}
 use Rattle.course.specs.declared.rest.Rest.{Rest}
@@ -62,11 +62,13 @@ attempt_of W v a g t = unless_cancelled (is_cancelled v a.session) (W.attempted 
 abbrev pub next_command : Result (List ℕ) Halt → ℕ → ℕ
 next_command (Ok text) n = n + 1
 next_command (Err (Waits rest)) n = number_after rest n
+next_command (Err (Commits rest)) n = n + 1
 next_command (Err (Refused f)) n = n + 1
 
 abbrev pub rest_told : Result (List ℕ) Halt → Option Rest
 rest_told (Ok text) = None
 rest_told (Err (Waits rest)) = rest
+rest_told (Err (Commits rest)) = Some rest
 rest_told (Err (Refused f)) = None
 
 -- a transaction at REPEATABLE READ keeps its snapshot
@@ -91,6 +93,7 @@ goes_on v a m = record v {
 abbrev pub outcome_told : Result (List ℕ) Halt → Outcome
 outcome_told (Ok text) = outcomes.Done
 outcome_told (Err (Waits rest)) = outcomes.Waits
+outcome_told (Err (Commits rest)) = outcomes.Commits
 outcome_told (Err (Refused f)) = outcomes.Refused f
 
 abbrev pub text_told : Result (List ℕ) Halt → List ℕ

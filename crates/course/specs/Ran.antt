@@ -3,7 +3,7 @@ use Rattle.std.specs.Prelude.{◌≡◌, ℕ, Bool, true, false, List, ◌++◌,
 use Rattle.history.specs.History.{History}
 use Rattle.sessions.specs.declared.asker.Asker.{Asker}
 use Rattle.sessions.specs.declared.outcome.Outcome.{Outcome}
-use Rattle.sessions.specs.declared.outcome.Outcome.TheVariants.{Goes, Waits, Done, Refused}
+use Rattle.sessions.specs.declared.outcome.Outcome.TheVariants.{Goes, Waits, Commits, Done, Refused}
 use Rattle.sessions.specs.declared.settings.Settings.{Settings}
 use Rattle.course.specs.Made.{Made}
 use Rattle.course.specs.Words.{Words}
@@ -29,5 +29,6 @@ pub record HasRun (m : Made (List ℕ)) (a : Asker) (old new : KeptSeats) (befor
 abbrev pub waits_by : Outcome → Bool
 waits_by Goes = false
 waits_by Waits = true
+waits_by Commits = false
 waits_by Done = false
 waits_by (Refused f) = false

@@ -395,6 +395,7 @@ impl Seats {
         ensures opened { self.new.opened ≡ self.old.opened }
         ensures waits { IfOk result (λ o. waits_in self.new asker.session ≡ waits_by o) }
         ensures lower { result ≡ Ok outcomes.Waits → slack self.new ≤ slack self.old }
+        ensures once { result ≡ Ok outcomes.Commits → asker.again ≡ false }
         ensures strides { result ≡ Ok outcomes.Goes → ⊥ }
     {
         if !self.whole {
@@ -445,6 +446,16 @@ impl Seats {
                     return Err(NoMemory);
                 }
                 Ok(Outcome::Waits)
+            }
+            Err(Stop::Commits(rest)) => {
+                // A statement commits what it did first, and no more than that.
+                if asker.again {
+                    self.whole = false;
+                    return Err(NoMemory);
+                }
+                self.commands[session] = next;
+                set_rest(&mut self.rests, session, Some(rest));
+                Ok(Outcome::Commits)
             }
             Err(Stop::Refused(fault)) => {
                 self.commands[session] = next;

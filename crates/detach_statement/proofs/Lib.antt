@@ -1,3 +1,10 @@
 mod Refusing
 mod Defaults
+mod Checks
 mod Leaving
+mod Guards
+mod Marking
+mod Pending
+mod Waits
+mod Levels
+mod KeptChecks

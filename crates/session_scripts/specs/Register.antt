@@ -4,6 +4,7 @@ use Rattle.std.specs.Prelude.{◌≡◌, ℕ, ◌==◌, ◌&&◌, nat_le, nat_lt
 use Rattle.pg_values.specs.declared.fault.Fault.{Fault}
 use Rattle.schedule.specs.Lists.{first, without}
 use Rattle.sessions.specs.Course.{Course}
+use Rattle.sessions.specs.declared.asker.Asker.{Asker}
 use Rattle.sessions.specs.declared.outcome.Outcome.{Outcome}
 use Rattle.sessions.specs.declared.outcome.Outcome.TheVariants as outcomes
 use Rattle.sessions.specs.declared.phase.Isolation.TheVariants.{RepeatableRead}
@@ -11,7 +12,7 @@ use Rattle.sessions.specs.declared.role.Role.{Role}
 use Rattle.sessions.specs.declared.role.Role.TheVariants as roles
 use Rattle.sessions.specs.declared.settings.Settings.{Settings}
 use Rattle.session_scripts.specs.declared.statement.Statement.{Statement}
-use Rattle.session_scripts.specs.declared.statement.Statement.TheVariants.{Begin, BeginRepeatable, Commit, Rollback, Switch, Put, Show, Lock, Fail}
+use Rattle.session_scripts.specs.declared.statement.Statement.TheVariants.{Begin, BeginRepeatable, Commit, Rollback, Switch, Put, Show, Lock, Split, Fail}
 use Rattle.session_scripts.specs.declared.stage.Stage.{Stage}
 use Rattle.session_scripts.specs.declared.stage.Stage.TheVariants.{Running, Waiting, Woken, Cancelled}
 
@@ -52,6 +53,7 @@ statement_of b =
     else if b == 63 then Some Show
     else if b == 33 then Some Fail
     else if b == 42 then Some Lock
+    else if b == 47 then Some Split
     else if nat_le 48 b && nat_le b 57 then Some (Put b)
     else None
 
@@ -83,6 +85,7 @@ role_of (Switch on) = roles.Set
 role_of (Put b) = roles.Query
 role_of Show = roles.Query
 role_of Lock = roles.Query
+role_of Split = roles.Query
 role_of Fail = roles.Query
 
 abbrev pub looks : Statement → Bool
@@ -147,10 +150,16 @@ lock_outcome v s Cancelled = outcomes.Refused statement_cancelled
 lock_outcome v s Woken = outcomes.Done
 lock_outcome v s _ = if is_free v.holder s then outcomes.Done else outcomes.Waits
 
-abbrev pub outcome_of : Register → ℕ → Statement → Outcome
-outcome_of v s Fail = outcomes.Refused failed
-outcome_of v s Lock = lock_outcome v s (stage_at v.stages s)
-outcome_of v s _ = outcomes.Done
+-- what came before is committed, once
+abbrev pub split_outcome : (again : Bool) → Outcome
+split_outcome true = outcomes.Done
+split_outcome false = outcomes.Commits
+
+abbrev pub outcome_of : Register → Asker → Statement → Outcome
+outcome_of v a Fail = outcomes.Refused failed
+outcome_of v a Lock = lock_outcome v a.session (stage_at v.stages a.session)
+outcome_of v a Split = split_outcome a.again
+outcome_of v a _ = outcomes.Done
 
 -- what is seen, and the setting
 abbrev pub sign_of : Bool → ℕ
@@ -182,7 +191,7 @@ course = record {
   committed = λ v s. ended v s (seen_by v s);
   aborted = λ v s. ended v s v.value;
   ran = λ v a g t. puts v a.session t;
-  outcome = λ v a g t. outcome_of v a.session t;
+  outcome = λ v a g t. outcome_of v a t;
   text = λ v a g t. shown v a.session g t;
   interrupted = λ v. None;
   ready = λ v. ready_in v.holder v.stages v.queue;

@@ -277,6 +277,13 @@ impl Executor for RegisterExecutor {
                 Ok(Outcome::Done)
             }
             Statement::Lock => self.lock(alloc, asker.session),
+            Statement::Split => {
+                if asker.again {
+                    Ok(Outcome::Done)
+                } else {
+                    Ok(Outcome::Commits)
+                }
+            }
             Statement::Fail => Ok(Outcome::Refused(fault(alloc, *b"P0001"))),
             _ => Ok(Outcome::Done),
         }

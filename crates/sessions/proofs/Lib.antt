@@ -1,3 +1,4 @@
+pub mod Again
 pub mod Answered
 pub mod Fronts
 pub mod Results

@@ -11,7 +11,7 @@ use Rattle.sessions.specs.Sessions.{SessionView, State, Turn, has_open, new_sess
 use Rattle.sessions.specs.Stands.{Stands, transactions, weight}
 use Rattle.sessions.specs.Weight.{of_phase, points, weight_of}
 use Rattle.sessions.specs.declared.phase.Phase.{Phase}
-use Rattle.sessions.specs.declared.phase.Phase.TheVariants.{Idle, Implicit, Explicit, Failed}
+use Rattle.sessions.specs.declared.phase.Phase.TheVariants.{Idle, Implicit, Again, Explicit, Failed}
 
 pub transactions_set : {T : Type 0} (xs : List (SessionView T)) (s : ℕ) (y : SessionView T) → transactions (slice_set xs s y) ≡ slice_set (transactions xs) s (has_open y.phase)
 transactions_set xs s y = map-set (λ x. has_open x.phase) xs s y
@@ -57,13 +57,13 @@ weight_of_block most a n xs s x y lt is few =
     omega (arith, h, k)
 
 pub weight_of_rollback : {T : Type 0} (most a b n : ℕ) (xs : List (SessionView T)) (s : ℕ) (x y : SessionView T) → s < length xs → x ≡ slice_index_or xs s x
-    → points y ≤ points x + 1 → a ≤ most → weight most a (slice_set xs s y) ≤ weight most b xs + (n + 3) * (most + 1)
+    → points y ≤ points x + 2 → a ≤ most → weight most a (slice_set xs s y) ≤ weight most b xs + (n + 3) * (most + 1)
 weight_of_rollback most a b n xs s x y lt is few bounded =
     let h = sum_by-set (λ z. points z * (most + 1)) xs s y x lt in
     let i = ap (λ z. points z * (most + 1)) is in
     let k = mul-le-mul_right (most + 1) few in
     let l : 3 * (most + 1) ≤ (n + 3) * (most + 1) = mul-le-mul_right (most + 1) (omega arith) in
-    omega (arith, h, i, k, l, suc-mul (points x) (most + 1))
+    omega (arith, h, i, k, l, suc-mul (points x) (most + 1), suc-mul (points x + 1) (most + 1))
 
 pub if_ok_on : {T E : Type 0} (r : Result T E) (A : T → Type 0) (B : Type 0) → ((x : T) → A x → B) → IfOk r A → OnOk r B
 if_ok_on (Ok x) A B f a = f x a
@@ -116,16 +116,17 @@ begins_broken stands tree e xs s x y v k f parsed lt is made read st =
 pub transactions_stay : {T : Type 0} (xs : List (SessionView T)) (s : ℕ) (x y : SessionView T) → x ≡ slice_index_or xs s x → y.phase ≡ x.phase → transactions (slice_set xs s y) ≡ transactions xs
 transactions_stay xs s x y is e = map-set_same (λ z. has_open z.phase) xs s y x (ap has_open e ∙ ap (λ z. has_open z.phase) is)
 
-phase_points : (p : Phase) → of_phase p ≤ 1
+phase_points : (p : Phase) → of_phase p ≤ 2
 phase_points Idle = omega arith
 phase_points Implicit = omega arith
+phase_points Again = omega arith
 phase_points Explicit = omega arith
 phase_points Failed = omega arith
 
-pub block_points : {T : Type 0} (x y : SessionView T) (k : Kind) (ts : List T) (n : ℕ) → y ≡ with_block x k (Ok ts) → length ts ≤ n → points y ≤ 2 * n + 3
+pub block_points : {T : Type 0} (x y : SessionView T) (k : Kind) (ts : List T) (n : ℕ) → y ≡ with_block x k (Ok ts) → length ts ≤ n → points y ≤ 3 * n + 3
 block_points x y k ts n e few = rw e (let h = phase_points x.phase in omega (arith, h, few))
 
-pub broken_points : {T : Type 0} (x y : SessionView T) (k : Kind) (f : Fault) (n : ℕ) → y ≡ with_block x k (Err f) → points y ≤ 2 * n + 3
+pub broken_points : {T : Type 0} (x y : SessionView T) (k : Kind) (f : Fault) (n : ℕ) → y ≡ with_block x k (Err f) → points y ≤ 3 * n + 3
 broken_points x y k f n e = rw e (let h = phase_points x.phase in omega (arith, h))
 
 -- ---- new sessions

@@ -10,7 +10,7 @@ pub trait Executor: Sized + Drop {
     ghost use Rattle.schedule.specs.Rules.{Carries};
     ghost use Rattle.sessions.specs.Answers.{IsAnswerBy};
     ghost use Rattle.sessions.specs.Course.{Course};
-    ghost use Rattle.sessions.specs.declared.outcome.Outcome.TheVariants.{Goes, Waits as IsWaiting};
+    ghost use Rattle.sessions.specs.declared.outcome.Outcome.TheVariants.{Goes, Waits as IsWaiting, Commits};
 
     type Statement: Drop;
 
@@ -133,6 +133,7 @@ pub trait Executor: Sized + Drop {
         ensures text { OnOk result ((v : State) → stands self.old v → out.new.items ≡ out.old.items ++ course.text v asker settings (tree statement.now)) }
         ensures transactions { in_transaction self.new ≡ in_transaction self.old }
         ensures free { IfOk result (λ o. (o ≡ IsWaiting → ⊥) → waiting self.new asker.session ≡ false) }
+        ensures once { result ≡ Ok Commits → asker.again ≡ false }
         ensures waits { result ≡ Ok IsWaiting → waiting self.new asker.session ≡ true }
         ensures slack { slack self.old ≤ most → slack self.new ≤ most }
         ensures lower { result ≡ Ok IsWaiting → slack self.new ≤ slack self.old }

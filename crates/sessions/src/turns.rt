@@ -67,6 +67,7 @@ fn begin_transaction<E: Executor>(
     requires slack { E.slack executor.old ≤ E.most }
     ensures stands { OnOk result (Carries E.stands (λ v. E.course.began v session) executor.old executor.new) }
     ensures becomes { OnOk result (seen E.tree x.new ≡ spec.opened (seen E.tree x.old) phase level) }
+    ensures begins { OnOk result (x.new ≡ spec.opened x.old phase level) }
     ensures err { OnErr result (x.new ≡ x.old) }
     ensures transactions { E.in_transaction executor.new ≡ slice_set (E.in_transaction executor.old) session (has_open x.new.phase) }
     ensures slack { E.slack executor.new ≤ E.most }
@@ -93,14 +94,14 @@ fn begin<E: Executor>(
     ensures slack { E.slack executor.new ≤ E.most }
     ensures goes { IfOk result (λ p. p ≡ progress.Goes) }
     ensures free { E.waiting executor.new session ≡ false }
-    ensures points { OnOk result (points x.new ≤ points x.old + 1) }
+    ensures points { OnOk result (points x.new ≤ points x.old + 2) }
 {
     match x.phase {
         Phase::Idle => {
             let level = level.unwrap_or(Isolation::ReadCommitted);
             begin_transaction(executor, session, x, Phase::Explicit, level)?;
         }
-        Phase::Implicit => {
+        Phase::Implicit | Phase::Again => {
             x.phase = Phase::Explicit;
             x.level = level.unwrap_or(x.level);
         }
@@ -121,7 +122,8 @@ fn commit<E: Executor>(executor: &mut E, session: usize, x: &mut Session<E::Stat
     ensures slack { E.slack executor.new ≤ E.most }
     ensures goes { result ≡ progress.Goes }
     ensures free { E.waiting executor.new session ≡ false }
-    ensures points { points x.new ≤ points x.old + 1 }
+    ensures points { points x.new ≤ points x.old + 2 }
+    ensures becomes { x.new ≡ record x.old { phase = phases.Idle } }
 {
     if x.has_open() {
         executor.commit(session);
@@ -144,7 +146,7 @@ pub(crate) fn roll_back<E: Executor>(
     ensures slack { E.slack executor.new ≤ E.most }
     ensures goes { result ≡ progress.Goes }
     ensures free { E.waiting executor.old session ≡ false → E.waiting executor.new session ≡ false }
-    ensures points { points x.new ≤ points x.old + 1 }
+    ensures points { points x.new ≤ points x.old + 2 }
 {
     abort_open(executor, session, x);
     x.roll_back();
@@ -168,7 +170,7 @@ fn set<E: Executor>(
     ensures slack { E.slack executor.new ≤ E.most }
     ensures free { OnOk result (result ≡ Ok progress.Goes → E.waiting executor.new session ≡ false) }
     ensures strides { IfOk result (λ p. p ≡ progress.Waits → ⊥) }
-    ensures points { OnOk result (points x.new ≤ points x.old + 1) }
+    ensures points { OnOk result (points x.new ≤ points x.old + 2) }
 {
     match E::set(alloc, x.settings, statement) {
         Ok(settings) => {
@@ -178,6 +180,34 @@ fn set<E: Executor>(
         Err(Refusal::Sql(fault)) => Ok(fail(executor, session, x, fault)),
         Err(Refusal::NoMemory) => Err(NoMemory),
     }
+}
+
+// What the statement did so far is committed, and it goes on in another transaction.
+#[tactic(auto, using(crate::proofs::Again::set_again, crate::proofs::Again::again_points))]
+fn go_on_again<E: Executor>(
+    executor: &mut E,
+    session: usize,
+    x: &mut Session<E::Statement>,
+    statement: E::Statement,
+) -> Result<Progress, NoMemory>
+    requires opened { has_open x.old.phase ≡ true }
+    requires first { spec.is_again x.old.phase ≡ false }
+    requires busy { x.old.in_block ≡ true }
+    requires known { session < length (E.in_transaction executor.old) }
+    requires transaction { slice_index_or (E.in_transaction executor.old) session false ≡ has_open x.old.phase }
+    requires free { E.waiting executor.old session ≡ false }
+    requires slack { E.slack executor.old ≤ E.most }
+    ensures makes { IfOk result (λ p. Makes E.stands (λ v. spec.goes_on_again E.course session v (seen E.tree x.old) (E.tree statement)) executor.old executor.new (seen E.tree x.new) p) }
+    ensures transactions { E.in_transaction executor.new ≡ slice_set (E.in_transaction executor.old) session (has_open x.new.phase) }
+    ensures slack { E.slack executor.new ≤ E.most }
+    ensures goes { IfOk result (λ p. p ≡ progress.Goes) }
+    ensures free { E.waiting executor.new session ≡ false }
+    ensures points { OnOk result (points x.new ≤ points x.old + 2) }
+{
+    commit(executor, session, x);
+    begin_transaction(executor, session, x, Phase::Again, Isolation::ReadCommitted)?;
+    x.keep(statement)?;
+    Ok(Progress::Goes)
 }
 
 // The statement goes on by one small event.
@@ -200,8 +230,8 @@ fn run<E: Executor>(
     ensures slack { E.slack executor.new ≤ E.most }
     ensures free { result ≡ Ok progress.Goes → E.waiting executor.new session ≡ false }
     ensures waits { result ≡ Ok progress.Waits → E.waiting executor.new session ≡ true }
-    ensures weight { OnOk result (weight_of E.most (E.slack executor.new) (points x.new) ≤ weight_of E.most (E.slack executor.old) (points x.old + 2)) }
-    ensures lighter { result ≡ Ok progress.Goes → weight_of E.most (E.slack executor.new) (points x.new) < weight_of E.most (E.slack executor.old) (points x.old + 2) }
+    ensures weight { OnOk result (weight_of E.most (E.slack executor.new) (points x.new) ≤ weight_of E.most (E.slack executor.old) (points x.old + 3)) }
+    ensures lighter { result ≡ Ok progress.Goes → weight_of E.most (E.slack executor.new) (points x.new) < weight_of E.most (E.slack executor.old) (points x.old + 3) }
 {
     let asker = x.asker(session);
     match executor.run(alloc, asker, x.settings, &statement, &mut x.told)? {
@@ -213,6 +243,7 @@ fn run<E: Executor>(
             x.keep(statement)?;
             Ok(Progress::Waits)
         }
+        Outcome::Commits => go_on_again(executor, session, x, statement),
         Outcome::Done => {
             x.done(E::looks(&statement))?;
             Ok(Progress::Goes)
@@ -240,8 +271,8 @@ fn open_block<E: Executor>(
     ensures slack { E.slack executor.new ≤ E.most }
     ensures free { result ≡ Ok progress.Goes → E.waiting executor.new session ≡ false }
     ensures waits { result ≡ Ok progress.Waits → E.waiting executor.new session ≡ true }
-    ensures weight { OnOk result (weight_of E.most (E.slack executor.new) (points x.new) ≤ weight_of E.most (E.slack executor.old) (points x.old + 2)) }
-    ensures lighter { result ≡ Ok progress.Goes → weight_of E.most (E.slack executor.new) (points x.new) < weight_of E.most (E.slack executor.old) (points x.old + 2) }
+    ensures weight { OnOk result (weight_of E.most (E.slack executor.new) (points x.new) ≤ weight_of E.most (E.slack executor.old) (points x.old + 3)) }
+    ensures lighter { result ≡ Ok progress.Goes → weight_of E.most (E.slack executor.new) (points x.new) < weight_of E.most (E.slack executor.old) (points x.old + 3) }
 {
     begin_transaction(
         executor,
@@ -273,8 +304,8 @@ fn perform<E: Executor>(
     ensures slack { E.slack executor.new ≤ E.most }
     ensures free { result ≡ Ok progress.Goes → E.waiting executor.new session ≡ false }
     ensures waits { result ≡ Ok progress.Waits → E.waiting executor.new session ≡ true }
-    ensures weight { OnOk result (weight_of E.most (E.slack executor.new) (points x.new) ≤ weight_of E.most (E.slack executor.old) (points x.old + 2)) }
-    ensures lighter { result ≡ Ok progress.Goes → weight_of E.most (E.slack executor.new) (points x.new) < weight_of E.most (E.slack executor.old) (points x.old + 2) }
+    ensures weight { OnOk result (weight_of E.most (E.slack executor.new) (points x.new) ≤ weight_of E.most (E.slack executor.old) (points x.old + 3)) }
+    ensures lighter { result ≡ Ok progress.Goes → weight_of E.most (E.slack executor.new) (points x.new) < weight_of E.most (E.slack executor.old) (points x.old + 3) }
 {
     match E::role(&statement) {
         Role::Begin(level) => begin(executor, session, x, level),
@@ -282,12 +313,16 @@ fn perform<E: Executor>(
         Role::Rollback => Ok(roll_back(executor, session, x)),
         Role::Set => match x.phase {
             Phase::Idle => open_block(executor, session, x, statement),
-            Phase::Implicit | Phase::Explicit => set(alloc, executor, session, x, &statement),
+            Phase::Implicit | Phase::Again | Phase::Explicit => set(
+                alloc, executor, session, x, &statement,
+            ),
             Phase::Failed => Ok(Progress::Goes),
         },
         Role::Query => match x.phase {
             Phase::Idle => open_block(executor, session, x, statement),
-            Phase::Implicit | Phase::Explicit => run(alloc, executor, session, x, statement),
+            Phase::Implicit | Phase::Again | Phase::Explicit => run(
+                alloc, executor, session, x, statement,
+            ),
             Phase::Failed => Ok(Progress::Goes),
         },
     }
@@ -348,9 +383,12 @@ fn close<E: Executor>(executor: &mut E, session: usize, x: &mut Session<E::State
     ensures slack { E.slack executor.new ≤ E.most }
     ensures points { points x.new ≡ 0 }
 {
-    if x.phase == Phase::Implicit {
-        executor.commit(session);
-        x.phase = Phase::Idle;
+    match x.phase {
+        Phase::Implicit | Phase::Again => {
+            executor.commit(session);
+            x.phase = Phase::Idle;
+        }
+        Phase::Idle | Phase::Explicit | Phase::Failed => {}
     }
     x.in_block = false;
     Progress::Ended
@@ -361,7 +399,7 @@ fn close<E: Executor>(executor: &mut E, session: usize, x: &mut Session<E::State
 fn take_next<E: Executor>(x: &mut Session<E::Statement>) -> Option<E::Statement>
     ensures next { MatchOption result (spec.head_of (seen E.tree x.old).rest ≡ None) (λ t. spec.head_of (seen E.tree x.old).rest ≡ Some (E.tree t)) }
     ensures rest { seen E.tree x.new ≡ record (seen E.tree x.old) { rest = spec.tail (seen E.tree x.old).rest } }
-    ensures points { x.old.in_block ≡ true → IfSome result (λ t. points x.old ≡ points x.new + 2) }
+    ensures points { x.old.in_block ≡ true → IfSome result (λ t. points x.old ≡ points x.new + 3) }
     ensures others { (x.new.phase ≡ x.old.phase) × (x.new.in_block ≡ x.old.in_block) }
 {
     x.take_next()
@@ -386,8 +424,8 @@ fn meet<E: Executor>(
     ensures slack { E.slack executor.new ≤ E.most }
     ensures free { result ≡ Ok progress.Goes → E.waiting executor.new session ≡ false }
     ensures waits { result ≡ Ok progress.Waits → E.waiting executor.new session ≡ true }
-    ensures weight { OnOk result (weight_of E.most (E.slack executor.new) (points x.new) ≤ weight_of E.most (E.slack executor.old) (points x.old + 2)) }
-    ensures lighter { result ≡ Ok progress.Goes → weight_of E.most (E.slack executor.new) (points x.new) < weight_of E.most (E.slack executor.old) (points x.old + 2) }
+    ensures weight { OnOk result (weight_of E.most (E.slack executor.new) (points x.new) ≤ weight_of E.most (E.slack executor.old) (points x.old + 3)) }
+    ensures lighter { result ≡ Ok progress.Goes → weight_of E.most (E.slack executor.new) (points x.new) < weight_of E.most (E.slack executor.old) (points x.old + 3) }
 {
     match state_fault::<E>(alloc, x, &statement)? {
         Some(fault) => Ok(fail(executor, session, x, fault)),

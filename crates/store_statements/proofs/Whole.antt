@@ -26,6 +26,11 @@ silent_is (Err (stop.Waits rest)) old new caller f before step = record {
   keeps = step.keeps;
   waits = step.waits;
 }
+silent_is (Err (stop.Commits rest)) old new caller f before step = record {
+  is = λ h stands at. let t = step.is h stands at in (ap (text_told nothing) t.0, refl, t.1);
+  keeps = step.keeps;
+  waits = step.waits;
+}
 silent_is (Err (stop.Refused fault)) old new caller f before step = record {
   is = λ h stands at. let t = step.is h stands at in (ap (text_told nothing) t.0, refl, t.1);
   keeps = step.keeps;
@@ -41,6 +46,11 @@ command_is (Ok u) old new caller f before step = record {
   waits = step.waits;
 }
 command_is (Err (stop.Waits rest)) old new caller f before step = record {
+  is = λ h stands at. let t = step.is h stands at in (ap (text_told nothing) t.0, refl, t.1);
+  keeps = step.keeps;
+  waits = step.waits;
+}
+command_is (Err (stop.Commits rest)) old new caller f before step = record {
   is = λ h stands at. let t = step.is h stands at in (ap (text_told nothing) t.0, refl, t.1);
   keeps = step.keeps;
   waits = step.waits;
@@ -64,6 +74,11 @@ tabled_is a old new caller f before after printed step = record {
 pub tabled_stops : (e : Stop) (old new : Stores) (caller : Caller) (f : History → Made Answer) (before : List ℕ) → IsStep (λ (x : Answer). x) (Err e) old new caller (caller.cmd + 1) f → IsStatement (Err e) old new before before caller (tabled f)
 tabled_stops (stop.Waits rest) old new caller f before step = record {
   is = λ h stands at. let t = step.is h stands at in (ap (text_told table) t.0, refl, waits_later rest new caller h ((f h).events ++ h) t.1);
+  keeps = step.keeps;
+  waits = step.waits;
+}
+tabled_stops (stop.Commits rest) old new caller f before step = record {
+  is = λ h stands at. let t = step.is h stands at in (ap (text_told table) t.0, refl, t.1);
   keeps = step.keeps;
   waits = step.waits;
 }

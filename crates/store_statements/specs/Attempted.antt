@@ -5,7 +5,7 @@ use Rattle.history.specs.History.{History}
 use Rattle.expression_binder.specs.Faults.{left_out}
 use Rattle.sessions.specs.declared.settings.Settings.{Settings}
 use Rattle.sql_commands.specs.Trees.{CommandTree, makes_table, makes_partition, drops, attaches, detaches, locks}
-use Rattle.sql_commands.specs.declared.alter.Detachment.TheVariants.{AtOnce}
+use Rattle.sql_commands.specs.declared.alter.Detachment.TheVariants.{AtOnce, Concurrently, Finalize}
 use Rattle.sql_queries.specs.Trees.{SelectTree, RowTree, QueryTree, selects, inserts, updates, deletes, rows}
 use Rattle.sql_syntax.specs.Trees.{StatementTree, commands, queries}
 use Rattle.out_text.specs.Table.{printed_table}
@@ -21,6 +21,8 @@ use Rattle.table_statements.specs.Partitions.{partitioned}
 use Rattle.table_statements.specs.Drops.{dropped}
 use Rattle.lock_statement.specs.Locked.{locked}
 use Rattle.detach_statement.specs.Detached.{detached}
+use Rattle.detach_statement.specs.Concurrent.{detached_concurrently}
+use Rattle.detach_statement.specs.Finalized.{finalized}
 use Rattle.attach_statement.specs.Attached.{attached}
 use Rattle.store_statements.specs.LeftOut.{command_word, query_word}
 
@@ -50,14 +52,16 @@ tabled f h = text_of table (f h)
 abbrev pub omitted : (word : List ℕ) → History → Made (List ℕ)
 omitted word h = halted [] (Refused (left_out word))
 
-abbrev pub command_attempted : (names : List (List ℕ)) → Caller → CommandTree → History → Made (List ℕ)
-command_attempted names c (makes_table name columns by) = silent (created names c name columns by)
-command_attempted names c (makes_partition name parent bound by) = silent (partitioned names c name parent bound by)
-command_attempted names c (drops if_there tables) = silent (dropped names c if_there tables)
-command_attempted names c (attaches parent name bound) = silent (attached names c parent name bound)
-command_attempted names c (detaches parent name AtOnce) = silent (detached names c parent name)
-command_attempted names c (locks tables mode) = silent (locked names c.session tables mode)
-command_attempted names c t = omitted (command_word t)
+abbrev pub command_attempted : (names : List (List ℕ)) → Caller → Option Rest → CommandTree → History → Made (List ℕ)
+command_attempted names c rest (makes_table name columns by) = silent (created names c name columns by)
+command_attempted names c rest (makes_partition name parent bound by) = silent (partitioned names c name parent bound by)
+command_attempted names c rest (drops if_there tables) = silent (dropped names c if_there tables)
+command_attempted names c rest (attaches parent name bound) = silent (attached names c parent name bound)
+command_attempted names c rest (detaches parent name AtOnce) = silent (detached names c parent name)
+command_attempted names c rest (detaches parent name Concurrently) = silent (detached_concurrently names c rest parent name)
+command_attempted names c rest (detaches parent name Finalize) = silent (finalized names c parent name)
+command_attempted names c rest (locks tables mode) = silent (locked names c.session tables mode)
+command_attempted names c rest t = omitted (command_word t)
 
 abbrev pub select_attempted : (prunes : Bool) → (names : List (List ℕ)) → Caller → SelectTree → History → Made (List ℕ)
 select_attempted prunes names c s = tabled (selected prunes names c s)
@@ -74,5 +78,5 @@ query_attempted prunes names c rest t = omitted (query_word t)
 
 -- from its beginning, or from where it stood, in a session with these settings
 abbrev pub attempted : (names : List (List ℕ)) → Caller → Option Rest → Settings → StatementTree → History → Made (List ℕ)
-attempted names c rest g (commands t) = command_attempted names c t
+attempted names c rest g (commands t) = command_attempted names c rest t
 attempted names c rest g (queries t) = query_attempted g.enable_partition_pruning names c rest t

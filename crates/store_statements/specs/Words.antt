@@ -2,7 +2,8 @@
 use Rattle.std.specs.Prelude.{ℕ, ◌-◌, List, [], Option, None}
 use Rattle.pg_values.specs.declared.fault.Fault.{Fault}
 use Rattle.sessions.specs.declared.asker.Place.{Place}
-use Rattle.sql_commands.specs.Trees.{CommandTree, locks}
+use Rattle.sql_commands.specs.declared.alter.Detachment.TheVariants.{Concurrently}
+use Rattle.sql_commands.specs.Trees.{CommandTree, detaches, locks}
 use Rattle.sql_queries.specs.Trees.{RowTree, QueryTree, selects, rows}
 use Rattle.sql_syntax.specs.Trees.{StatementTree, commands, queries}
 use Rattle.block_reading.specs.Reading.{read_block}
@@ -10,12 +11,14 @@ use Rattle.statement_roles.specs.Roles.{role_of, looks, changed}
 use Rattle.out_text.specs.FaultText.{fault_text}
 use Rattle.course.specs.Words.{Words}
 use Rattle.lock_statement.specs.Places.{lock_misplaced}
+use Rattle.detach_statement.specs.Places.{detach_misplaced}
 use Rattle.select_statement.specs.Cancels.{cancelled}
 use Rattle.store_statements.specs.Attempted.{attempted}
 
--- of the statements that are run over the stores LOCK alone cannot stand everywhere
+-- of the statements that are run over the stores LOCK and a concurrent DETACH cannot stand everywhere
 abbrev pub command_misplaced : Place → CommandTree → Option Fault
 command_misplaced place (locks tables mode) = lock_misplaced place
+command_misplaced place (detaches parent name Concurrently) = detach_misplaced place
 command_misplaced place t = None
 
 abbrev pub misplaced : Place → StatementTree → Option Fault

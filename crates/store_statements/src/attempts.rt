@@ -10,7 +10,7 @@ use crate::left_out::{command_word, query_word};
 use attach_statement::attach;
 use change_statement::{delete, update};
 use course::{Caller, Rest, Stop};
-use detach_statement::detach;
+use detach_statement::{detach, detach_concurrently, finalize};
 use expression_binder::left_out;
 use insert_statement::insert;
 use lock_statement::lock;
@@ -50,11 +50,12 @@ fn attempt_command(
     stores: &mut Stores,
     names: &SessionNames,
     caller: Caller,
+    rest: Option<Rest>,
     command: &Command,
     out: &[u8],
 ) -> Result<(), Stop>
     requires { MayAttempt stores.old caller }
-    ensures { IsStatement result stores.old stores.new out.now out.now caller (attempted.command_attempted names.now caller (command_tree command.now)) }
+    ensures { IsStatement result stores.old stores.new out.now out.now caller (attempted.command_attempted names.now caller rest (command_tree command.now)) }
 {
     check_room(stores, caller);
     match command {
@@ -72,15 +73,16 @@ fn attempt_command(
             let table = name.as_bytes();
             attach(alloc, stores, names, caller, above, table, bound)
         }
-        Command::Detach(parent, name, Detachment::AtOnce) => {
-            detach(
-                alloc,
-                stores,
-                names,
-                caller,
-                parent.as_bytes(),
-                name.as_bytes(),
-            )
+        Command::Detach(parent, name, how) => {
+            let above = parent.as_bytes();
+            let table = name.as_bytes();
+            match how {
+                Detachment::AtOnce => detach(alloc, stores, names, caller, above, table),
+                Detachment::Concurrently => {
+                    detach_concurrently(alloc, stores, names, caller, rest, above, table)
+                }
+                Detachment::Finalize => finalize(alloc, stores, names, caller, above, table),
+            }
         }
         Command::Lock(tables, mode) => {
             lock(alloc, stores, names, caller, tables.as_slice(), *mode)
@@ -172,7 +174,9 @@ pub(crate) fn attempt(
     ensures { IsStatement result stores.old stores.new out.old.items out.new.items caller (attempted.attempted names.now caller rest settings (statement_tree statement.now)) }
 {
     match statement {
-        Statement::Command(command) => attempt_command(alloc, stores, names, caller, command, out),
+        Statement::Command(command) => {
+            attempt_command(alloc, stores, names, caller, rest, command, out)
+        }
         Statement::Query(query) => {
             let prunes = settings.enable_partition_pruning;
             attempt_query(alloc, stores, names, caller, prunes, rest, query, out)

@@ -3,12 +3,13 @@ ghost use Rattle.std.specs.Prelude.{◌≡◌, IfOk};
 use crate::attempts::attempt;
 use block_reading::read_block;
 use course::{Caller, Kinds, Rest, Stop};
+use detach_statement::detach_misplaced;
 use lock_statement::lock_misplaced;
 use out_text::write_fault_text;
 use pg_values::{Fault, NoMemory, Refusal};
 use select_statement::cancelled;
 use sessions::{Place, Role, Settings};
-use sql_commands::Command;
+use sql_commands::{Command, Detachment};
 use sql_queries::{Query, RowStatement};
 use sql_syntax::Statement;
 use statement_roles::{changed_settings, looks, role_of};
@@ -78,6 +79,9 @@ impl Kinds for Statements {
     ) -> Result<Option<Fault>, NoMemory> {
         match statement {
             Statement::Command(Command::Lock(_, _)) => Ok(lock_misplaced(alloc, place)),
+            Statement::Command(Command::Detach(_, _, Detachment::Concurrently)) => {
+                detach_misplaced(alloc, place)
+            }
             _ => Ok(None),
         }
     }

@@ -1,4 +1,4 @@
-use Rattle.std.proofs.Common.{rules, ◌≡◌, ◌<◌, ◌≤◌, ◌+◌, ◌++◌, ◌∷◌, [], false, refl, length, subst, sym, ap, ◌∙◌, is_some, None, Ok, Err, slice_index_or, slice_set}
+use Rattle.std.proofs.Common.{rules, ◌≡◌, ◌<◌, ◌≤◌, ◌+◌, ◌++◌, ◌∷◌, [], false, refl, length, subst, sym, ap, ◌∙◌, is_some, Some, None, Ok, Err, slice_index_or, slice_set}
 use Rattle.sessions.specs.declared.outcome.Outcome.TheVariants as outcomes
 use Rattle.stores.specs.Numbers.{IsAt}
 use Rattle.course.specs.Attempts.{MayGoOn, IsAttempt, IsHalt}
@@ -11,7 +11,7 @@ use Rattle.course.specs.contracts.seats.Seats.{the_view}
 use Rattle.course.specs.declared.stop.Stop.TheVariants as stop
 use Rattle.course.proofs.Lower.{tried_lower}
 use Rattle.course.proofs.Steps.{seats, seated_after, same_size, as_long, known_of}
-use Rattle.course.proofs.Runs.{IsTried, tried, as_meant, set_twice, cancelled_ran, cancelled_tells, done_tells, done_ran, refused_tells, refused_ran, waits_tells, waits_ran, ran_kept, goes_size, one_more}
+use Rattle.course.proofs.Runs.{IsTried, tried, as_meant, set_twice, cancelled_ran, cancelled_tells, done_tells, done_ran, refused_tells, refused_ran, commits_tells, commits_ran, waits_tells, waits_ran, ran_kept, goes_size, one_more}
 use Rattle.course.proofs.seats.Seats.run.Goals as goal
 
 pub returns-then-flag_at-clause-ran : goal.returns-then-flag_at-clause-ran
@@ -108,6 +108,41 @@ invariant_of-self-in-Err-Refused g c =
     ran_kept (the_view c.self.inside) (tried (the_view c.self.inside) c.attempt-answer.new.stores (slice_set c.self.inside.commands.items c.args.asker.session c.in-Some.next) c.take_rest-rest.new.rests.items c.self.inside.queue.items c.ready-self-inside.result) c.self.invariant c.if-not-self.false
     (seated_after (the_view c.self.inside) c.attempt-answer.new.stores _ _ _ _ _ _ _ _ c.self.invariant.seated refl (as_long _ _ _) refl (ap length c.take_rest-rest.ensures.taken ∙ as_long _ _ _) refl (goes_size c.self.inside.stores c.attempt-answer.new.stores c.args.asker.session c.attempt-answer.ensures.keeps) c.self.invariant.seated.queue (known_of (length c.attempt-answer.new.stores.locks.wants) c.ready-self-inside.result (length c.self.inside.opened.items) (c.attempt-answer.ensures.keeps.size.sessions ∙ c.self.invariant.seated.waits) c.ready-self-inside.ensures.known))
     (λ h told. (_, refused_tells (the_view c.self.inside) c.args.asker c.attempt-answer.new.stores c.in-Some.next c.take_rest-rest.new.rests.items c.ready-self-inside.result h c.args.out.now.items c.attempt-answer.new.out.items _ c.in-Err-Refused.fault it told (next ∙ ap (λ n. n + 1) number) c.take_rest-rest.ensures.taken (subst (λ x. IsHalt (Err x) c.attempt-answer.new.stores c.args.asker.session) c.in-Err-Refused.field-0-is c.in-Err-Refused.ensures.waits) (as_meant g.K.Kinds.words (g.K.Kinds.options c.args.kinds.now) (the_view c.self.inside) c.args.asker h c.args.settings (g.K.Kinds.tree c.args.statement.now) c.count-sessions.result c.number_at-cmd.result c.take_rest-rest.result (Err (stop.Refused c.in-Err-Refused.fault)) c.attempt-answer.new.stores c.args.out.now.items c.attempt-answer.new.out.items (c.count-sessions.ensures.is ∙ ap (λ v. length v.opened) (sym c.self.view_is)) number c.take_rest-rest.ensures.is (subst (λ x. IsAttempt (Err x) c.attempt-answer.new.stores c.args.out.now.items c.attempt-answer.new.out.items (record { session = c.args.asker.session; sessions = c.count-sessions.result; level = c.args.asker.level; cmd = c.number_at-cmd.result; kind = c.args.asker.kind }) h (g.K.Kinds.words.attempted (g.K.Kinds.options c.args.kinds.now) (caller_of c.count-sessions.result c.number_at-cmd.result c.args.asker) c.take_rest-rest.result h c.args.settings (g.K.Kinds.tree c.args.statement.now))) c.in-Err-Refused.field-0-is (c.in-Err-Refused.ensures.is h told.stands (subst (IsAt h c.args.asker.session) (sym number) (told.numbered c.args.asker.session)))))))
+
+pub returns-in-Err-Commits-clause-ran : goal.returns-in-Err-Commits-clause-ran
+returns-in-Err-Commits-clause-ran g c h tells =
+    let next : c.in-Some.next ≡ c.number_at-cmd.result + 1 = search rules in
+    let number = (c.number_at-cmd.ensures ∙ ap (λ xs. slice_index_or xs c.args.asker.session 0) c.deref.ensures.value) in
+    let it : IsTried (the_view c.self.inside) c.args.asker.session c.attempt-answer.new.stores c.ready-self-inside.result = record {
+      seated = c.self.invariant.seated;
+      known = (subst (λ v. c.args.asker.session < length v.opened) (sym c.self.view_is) c.requires.known);
+      whole = c.if-not-self.false;
+      flag = ap (λ xs. slice_index_or xs c.args.asker.session false) (sym c.deref-2.ensures.value) ∙ (sym c.flag_at.ensures ∙ c.if-flag_at.false);
+      goes = c.attempt-answer.ensures.keeps;
+      readies = c.ready-self-inside.ensures.is;
+    } in
+    subst (λ v. TellOf v h → HasRun (attempt_at g.K.Kinds.words (g.K.Kinds.options c.args.kinds.now) v c.args.asker h c.args.settings (g.K.Kinds.tree c.args.statement.now)) c.args.asker v
+    (tried (the_view c.self.inside) c.attempt-answer.new.stores (slice_set c.self.inside.commands.items c.args.asker.session c.in-Some.next) c.set_rest-in-Err-Commits.new.rests.items c.self.inside.queue.items c.ready-self-inside.result)
+    c.args.out.now.items c.attempt-answer.new.out.items outcomes.Commits h) c.self.view_is
+    (λ told. commits_ran (the_view c.self.inside) c.args.asker c.attempt-answer.new.stores c.in-Some.next c.set_rest-in-Err-Commits.new.rests.items c.ready-self-inside.result h c.args.out.now.items c.attempt-answer.new.out.items _ c.in-Err-Commits.rest it told (next ∙ ap (λ n. n + 1) number) (c.set_rest-in-Err-Commits.ensures ∙ (ap (λ r. slice_set c.take_rest-rest.new.rests.items c.args.asker.session (Some r)) c.in-Err-Commits.rest-is ∙ (ap (λ xs. slice_set xs c.args.asker.session (Some c.in-Err-Commits.rest)) c.take_rest-rest.ensures.taken ∙ set_twice c.self.inside.rests.items c.args.asker.session None (Some c.in-Err-Commits.rest)))) (subst (λ x. IsHalt (Err x) c.attempt-answer.new.stores c.args.asker.session) c.in-Err-Commits.field-0-is c.in-Err-Commits.ensures.waits) (as_meant g.K.Kinds.words (g.K.Kinds.options c.args.kinds.now) (the_view c.self.inside) c.args.asker h c.args.settings (g.K.Kinds.tree c.args.statement.now) c.count-sessions.result c.number_at-cmd.result c.take_rest-rest.result (Err (stop.Commits c.in-Err-Commits.rest)) c.attempt-answer.new.stores c.args.out.now.items c.attempt-answer.new.out.items (c.count-sessions.ensures.is ∙ ap (λ v. length v.opened) (sym c.self.view_is)) number c.take_rest-rest.ensures.is (subst (λ x. IsAttempt (Err x) c.attempt-answer.new.stores c.args.out.now.items c.attempt-answer.new.out.items (record { session = c.args.asker.session; sessions = c.count-sessions.result; level = c.args.asker.level; cmd = c.number_at-cmd.result; kind = c.args.asker.kind }) h (g.K.Kinds.words.attempted (g.K.Kinds.options c.args.kinds.now) (caller_of c.count-sessions.result c.number_at-cmd.result c.args.asker) c.take_rest-rest.result h c.args.settings (g.K.Kinds.tree c.args.statement.now))) c.in-Err-Commits.field-0-is (c.in-Err-Commits.ensures.is h told.stands (subst (IsAt h c.args.asker.session) (sym number) (told.numbered c.args.asker.session))))))
+    tells
+
+pub invariant_of-self-in-Err-Commits : goal.invariant_of-self-in-Err-Commits
+invariant_of-self-in-Err-Commits g c =
+    let next : c.in-Some.next ≡ c.number_at-cmd.result + 1 = search rules in
+    let number = (c.number_at-cmd.ensures ∙ ap (λ xs. slice_index_or xs c.args.asker.session 0) c.deref.ensures.value) in
+    let it : IsTried (the_view c.self.inside) c.args.asker.session c.attempt-answer.new.stores c.ready-self-inside.result = record {
+      seated = c.self.invariant.seated;
+      known = (subst (λ v. c.args.asker.session < length v.opened) (sym c.self.view_is) c.requires.known);
+      whole = c.if-not-self.false;
+      flag = ap (λ xs. slice_index_or xs c.args.asker.session false) (sym c.deref-2.ensures.value) ∙ (sym c.flag_at.ensures ∙ c.if-flag_at.false);
+      goes = c.attempt-answer.ensures.keeps;
+      readies = c.ready-self-inside.ensures.is;
+    } in
+    ran_kept (the_view c.self.inside) (tried (the_view c.self.inside) c.attempt-answer.new.stores (slice_set c.self.inside.commands.items c.args.asker.session c.in-Some.next) c.set_rest-in-Err-Commits.new.rests.items c.self.inside.queue.items c.ready-self-inside.result) c.self.invariant c.if-not-self.false
+    (seated_after (the_view c.self.inside) c.attempt-answer.new.stores _ _ _ _ _ _ _ _ c.self.invariant.seated refl (as_long _ _ _) refl (ap length c.set_rest-in-Err-Commits.ensures ∙ (as_long _ _ _ ∙ (ap length c.take_rest-rest.ensures.taken ∙ as_long _ _ _))) refl (goes_size c.self.inside.stores c.attempt-answer.new.stores c.args.asker.session c.attempt-answer.ensures.keeps)
+    c.self.invariant.seated.queue (known_of (length c.attempt-answer.new.stores.locks.wants) c.ready-self-inside.result (length c.self.inside.opened.items) (c.attempt-answer.ensures.keeps.size.sessions ∙ c.self.invariant.seated.waits) c.ready-self-inside.ensures.known))
+    (λ h told. (_, commits_tells (the_view c.self.inside) c.args.asker c.attempt-answer.new.stores c.in-Some.next c.set_rest-in-Err-Commits.new.rests.items c.ready-self-inside.result h c.args.out.now.items c.attempt-answer.new.out.items _ c.in-Err-Commits.rest it told (next ∙ ap (λ n. n + 1) number) (c.set_rest-in-Err-Commits.ensures ∙ (ap (λ r. slice_set c.take_rest-rest.new.rests.items c.args.asker.session (Some r)) c.in-Err-Commits.rest-is ∙ (ap (λ xs. slice_set xs c.args.asker.session (Some c.in-Err-Commits.rest)) c.take_rest-rest.ensures.taken ∙ set_twice c.self.inside.rests.items c.args.asker.session None (Some c.in-Err-Commits.rest)))) (subst (λ x. IsHalt (Err x) c.attempt-answer.new.stores c.args.asker.session) c.in-Err-Commits.field-0-is c.in-Err-Commits.ensures.waits) (as_meant g.K.Kinds.words (g.K.Kinds.options c.args.kinds.now) (the_view c.self.inside) c.args.asker h c.args.settings (g.K.Kinds.tree c.args.statement.now) c.count-sessions.result c.number_at-cmd.result c.take_rest-rest.result (Err (stop.Commits c.in-Err-Commits.rest)) c.attempt-answer.new.stores c.args.out.now.items c.attempt-answer.new.out.items (c.count-sessions.ensures.is ∙ ap (λ v. length v.opened) (sym c.self.view_is)) number c.take_rest-rest.ensures.is (subst (λ x. IsAttempt (Err x) c.attempt-answer.new.stores c.args.out.now.items c.attempt-answer.new.out.items (record { session = c.args.asker.session; sessions = c.count-sessions.result; level = c.args.asker.level; cmd = c.number_at-cmd.result; kind = c.args.asker.kind }) h (g.K.Kinds.words.attempted (g.K.Kinds.options c.args.kinds.now) (caller_of c.count-sessions.result c.number_at-cmd.result c.args.asker) c.take_rest-rest.result h c.args.settings (g.K.Kinds.tree c.args.statement.now))) c.in-Err-Commits.field-0-is (c.in-Err-Commits.ensures.is h told.stands (subst (IsAt h c.args.asker.session) (sym number) (told.numbered c.args.asker.session)))))))
 
 pub returns-else-is_err-clause-ran : goal.returns-else-is_err-clause-ran
 returns-else-is_err-clause-ran g c h tells =
