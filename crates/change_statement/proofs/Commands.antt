@@ -4,6 +4,7 @@ use Rattle.history.specs.History.{History}
 use Rattle.stores.specs.Numbers.{IsAt}
 use Rattle.stores.specs.declared.stores.Stores.{Stores}
 use Rattle.stores.proofs.Commands.{commands_are_in_order}
+use Rattle.course.specs.Ended.{ended}
 use Rattle.course.specs.Made.{Made, and_then, then_told, behind, number_after}
 use Rattle.course.specs.Attempts.{MayAttempt, MayGoOn, WentOn, GoesOn, IsHalt}
 use Rattle.course.specs.declared.caller.Caller.{Caller}
@@ -38,14 +39,12 @@ run_is_told : (r : Result (Unit {0}) Stop) (new : Stores) (caller : Caller) (h :
 run_is_told (Ok u) new caller h m told = (told.0, told.1)
 run_is_told (Err (stop.Waits None)) new caller h m told = absurd told
 run_is_told (Err (stop.Waits (Some rest))) new caller h m told = told
-run_is_told (Err (stop.Commits rest)) new caller h m told = absurd told
 run_is_told (Err (stop.Refused f)) new caller h m told = told
 run_is_told (Err stop.NoMemory) new caller h m told = tt
 
-is_halt : (r : Result (Unit {0}) Stop) (stores : Stores) (s : ℕ) → IsHalted r stores s → IsHalt r stores s
+is_halt : (r : Result (Unit {0}) Stop) (stores : Stores) (s : ℕ) → IsHalted r stores s → IsHalt (ended r) stores s
 is_halt (Ok u) stores s halted = halted
 is_halt (Err (stop.Waits rest)) stores s halted = halted
-is_halt (Err (stop.Commits rest)) stores s halted = halted
 is_halt (Err (stop.Refused f)) stores s halted = halted
 is_halt (Err stop.NoMemory) stores s halted = tt
 
@@ -64,8 +63,6 @@ command_behind (Ok u) mid new caller h events m first told =
     (told.0, subst (WentOn h caller.session (caller.cmd + 1) [] new) (sym (append_assoc m.events events h)) (went_on h (events ++ h) (m.events ++ (events ++ h)) caller.session caller.cmd (caller.cmd + 1) [] mid new first told.1))
 command_behind (Err (stop.Waits rest)) mid new caller h events m first told =
     (told.0, subst (WentOn h caller.session (number_after rest caller.cmd) (caller.session ∷ []) new) (sym (append_assoc m.events events h)) (went_on h (events ++ h) (m.events ++ (events ++ h)) caller.session caller.cmd (number_after rest caller.cmd) (caller.session ∷ []) mid new first told.1))
-command_behind (Err (stop.Commits rest)) mid new caller h events m first told =
-    (told.0, subst (WentOn h caller.session (caller.cmd + 1) [] new) (sym (append_assoc m.events events h)) (went_on h (events ++ h) (m.events ++ (events ++ h)) caller.session caller.cmd (caller.cmd + 1) [] mid new first told.1))
 command_behind (Err (stop.Refused f)) mid new caller h events m first told =
     (told.0, subst (WentOn h caller.session (caller.cmd + 1) [] new) (sym (append_assoc m.events events h)) (went_on h (events ++ h) (m.events ++ (events ++ h)) caller.session caller.cmd (caller.cmd + 1) [] mid new first told.1))
 command_behind (Err stop.NoMemory) mid new caller h events m first told = tt
@@ -89,13 +86,11 @@ waits_later (Some rest) new caller h g went = record { stands = went.stands; at 
 
 stop_told : {X T : Type 0} (see : X → T) (e : Stop) (new : Stores) (caller : Caller) (h : History) (m : Made T) (next : T → Made (Unit {0})) → IsTold see (Err e) new caller caller.cmd h m → IsCommandTold (Err e) new caller h (and_then m next)
 stop_told see (stop.Waits rest) new caller h m next told = subst (λ t. IsCommandTold (Err (stop.Waits rest)) new caller h (then_told t m.events next)) (sym told.0) (refl, waits_later rest new caller h (m.events ++ h) told.1)
-stop_told see (stop.Commits rest) new caller h m next told = subst (λ t. IsCommandTold (Err (stop.Commits rest)) new caller h (then_told t m.events next)) (sym told.0) (refl, told.1)
 stop_told see (stop.Refused f) new caller h m next told = subst (λ t. IsCommandTold (Err (stop.Refused f)) new caller h (then_told t m.events next)) (sym told.0) (refl, told.1)
 stop_told see stop.NoMemory new caller h m next told = tt
 
 stop_halt : (X : Type 0) (e : Stop) (stores : Stores) (s : ℕ) → IsHalted {X = X} (Err e) stores s → IsHalt (Err e) stores s
 stop_halt X (stop.Waits rest) stores s halted = halted
-stop_halt X (stop.Commits rest) stores s halted = halted
 stop_halt X (stop.Refused f) stores s halted = halted
 stop_halt X stop.NoMemory stores s halted = tt
 

@@ -23,7 +23,7 @@ use Rattle.stores.specs.Events.{held}
 use Rattle.stores.specs.Numbers.{IsAt}
 use Rattle.stores.specs.declared.stores.Stores.{Stores}
 use Rattle.stores.proofs.Meanwhile.{looks_keep_numbers}
-use Rattle.course.specs.Made.{Made, Halt, Waits, Commits, Refused, behind}
+use Rattle.course.specs.Made.{Waits, Refused, behind}
 use Rattle.course.specs.Attempts.{WentOn}
 use Rattle.course.specs.declared.caller.Caller.{Caller}
 use Rattle.course.specs.declared.rest.Rest.{Rest}
@@ -98,11 +98,6 @@ waits_there names rest s w AtOnce events told = let c = told in cc
 waits_there names rest s w (WaitsBehind others) events told = let c = told in cc
 waits_there names rest s w (ClosesCycle cycle) events told = let c = told in cc
 
-commits_there : (names : List (List ℕ)) (rest further : Rest) (s : ℕ) (w : Wanted) (v : AskedView) (events : History) → (behind events (told_by names (Some rest) (map LockChange (events_of s w v)) v)).told ≡ Err (Commits further) → ⊥
-commits_there names rest further s w AtOnce events told = let c = told in cc
-commits_there names rest further s w (WaitsBehind others) events told = let c = told in cc
-commits_there names rest further s w (ClosesCycle cycle) events told = let c = told in cc
-
 paused_told : (names : List (List ℕ)) (e : Stop) (new : Stores) (caller : Caller) (other : ℕ) (rest : RestOfRows) (h : History) → IsAt (held h caller.session (caller.cmd + 1) ++ h) caller.session (caller.cmd + 1)
     → IsTold (λ (u : Unit {0}). u) (Err e) new (following caller) (caller.cmd + 1) h (held_up names (following caller) other rest h) → IsRunTold (λ (u : Unit {0}). u) (Err e) new caller h (paused names caller other rest h)
 paused_told names (stop.Waits None) new caller other rest h at told =
@@ -110,10 +105,6 @@ paused_told names (stop.Waits None) new caller other rest h at told =
     let events = held h caller.session (caller.cmd + 1) in
     absurd (waits_there names (Rows rest) caller.session w (asked (lock_events (events ++ h)) caller.session w) events told.0)
 paused_told names (stop.Waits (Some left)) new caller other rest h at told = told
-paused_told names (stop.Commits further) new caller other rest h at told =
-    let w : Wanted = Others (Ends (only other)) in
-    let events = held h caller.session (caller.cmd + 1) in
-    absurd (commits_there names (Rows rest) further caller.session w (asked (lock_events (events ++ h)) caller.session w) events told.0)
 paused_told names (stop.Refused f) new caller other rest h at told =
     let w : Wanted = Others (Ends (only other)) in
     let events = held h caller.session (caller.cmd + 1) in

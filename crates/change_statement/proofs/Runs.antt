@@ -25,7 +25,6 @@ run_behind view (Ok x) mid new caller h events m first told =
 run_behind view (Err (stop.Waits None)) mid new caller h events m first told = told
 run_behind view (Err (stop.Waits (Some rest))) mid new caller h events m first told =
     (told.0, subst (WentOn h caller.session (caller.cmd + 1) (caller.session ∷ []) new) (sym (append_assoc m.events events h)) (went_on h (events ++ h) (m.events ++ (events ++ h)) caller.session (caller.cmd + 1) (caller.cmd + 1) (caller.session ∷ []) mid new first told.1))
-run_behind view (Err (stop.Commits rest)) mid new caller h events m first told = told
 run_behind view (Err (stop.Refused f)) mid new caller h events m first told =
     (told.0, subst (WentOn h caller.session (caller.cmd + 1) [] new) (sym (append_assoc m.events events h)) (went_on h (events ++ h) (m.events ++ (events ++ h)) caller.session (caller.cmd + 1) (caller.cmd + 1) [] mid new first told.1))
 run_behind view (Err stop.NoMemory) mid new caller h events m first told = tt
@@ -48,7 +47,6 @@ stop_run_told : {X T Y U : Type 0} (see : X → T) (view : Y → U) (e : Stop) (
     → IsRunTold see (Err e) new caller h m → IsRunTold view (Err e) new caller h (and_then m next)
 stop_run_told see view (stop.Waits None) new caller h m next told = told
 stop_run_told see view (stop.Waits (Some rest)) new caller h m next told = subst (λ t. IsRunTold view (Err (stop.Waits (Some rest))) new caller h (then_told t m.events next)) (sym told.0) (refl, told.1)
-stop_run_told see view (stop.Commits rest) new caller h m next told = told
 stop_run_told see view (stop.Refused f) new caller h m next told = subst (λ t. IsRunTold view (Err (stop.Refused f)) new caller h (then_told t m.events next)) (sym told.0) (refl, told.1)
 stop_run_told see view stop.NoMemory new caller h m next told = tt
 

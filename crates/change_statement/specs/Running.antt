@@ -20,7 +20,8 @@ use Rattle.legal_statements.specs.Locked.{IsWritable}
 use Rattle.stores.specs.Numbers.{IsAt}
 use Rattle.stores.specs.Stand.{Stands}
 use Rattle.stores.specs.declared.stores.Stores.{Stores}
-use Rattle.course.specs.Made.{Made, Waits, Commits, Refused, number_after}
+use Rattle.course.specs.Ended.{ended}
+use Rattle.course.specs.Made.{Made, Waits, Refused, number_after}
 use Rattle.course.specs.Attempts.{MayAttempt, WentOn, GoesOn, IsHalt}
 use Rattle.course.specs.declared.caller.Caller.{Caller}
 use Rattle.course.specs.declared.stop.Stop.{Stop}
@@ -48,7 +49,6 @@ abbrev pub IsRunTold : {X T : Type 0} → (X → T) → Result X Stop → Stores
 IsRunTold view (Ok x) new caller h m = (m.told ≡ Ok (view x)) × WentOn h caller.session (caller.cmd + 1) [] new (m.events ++ h) × IsInRun (m.events ++ h) caller
 IsRunTold view (Err (stop.Waits None)) new caller h m = ⊥
 IsRunTold view (Err (stop.Waits (Some rest))) new caller h m = (m.told ≡ Err (Waits (Some rest))) × WentOn h caller.session (caller.cmd + 1) (caller.session ∷ []) new (m.events ++ h)
-IsRunTold view (Err (stop.Commits rest)) new caller h m = ⊥
 IsRunTold view (Err (stop.Refused f)) new caller h m = (m.told ≡ Err (Refused f)) × WentOn h caller.session (caller.cmd + 1) [] new (m.events ++ h)
 IsRunTold view (Err stop.NoMemory) new caller h m = Unit {0}
 
@@ -69,14 +69,13 @@ pub record MayRun (stores : Stores) (caller : Caller) : Type 0 where
 abbrev pub IsCommandTold : Result (Unit {0}) Stop → Stores → Caller → History → Made (Unit {0}) → Type 0
 IsCommandTold (Ok u) new caller h m = (m.told ≡ Ok tt) × WentOn h caller.session (caller.cmd + 1) [] new (m.events ++ h)
 IsCommandTold (Err (stop.Waits rest)) new caller h m = (m.told ≡ Err (Waits rest)) × WentOn h caller.session (number_after rest caller.cmd) (caller.session ∷ []) new (m.events ++ h)
-IsCommandTold (Err (stop.Commits rest)) new caller h m = (m.told ≡ Err (Commits rest)) × WentOn h caller.session (caller.cmd + 1) [] new (m.events ++ h)
 IsCommandTold (Err (stop.Refused f)) new caller h m = (m.told ≡ Err (Refused f)) × WentOn h caller.session (caller.cmd + 1) [] new (m.events ++ h)
 IsCommandTold (Err stop.NoMemory) new caller h m = Unit {0}
 
 pub record IsCommand (result : Result (Unit {0}) Stop) (old new : Stores) (caller : Caller) (f : History → Made (Unit {0})) : Type 0 where
   pub is : (h : History) → Stands old h → IsAt h caller.session caller.cmd → IsCommandTold result new caller h (f h)
   pub keeps : GoesOn old new caller.session
-  pub waits : IsHalt result new caller.session
+  pub waits : IsHalt (ended result) new caller.session
 
 -- ---- what it has gathered
 

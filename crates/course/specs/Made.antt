@@ -4,11 +4,9 @@ use Rattle.pg_values.specs.declared.fault.Fault.{Fault}
 use Rattle.history.specs.History.{History}
 use Rattle.course.specs.declared.rest.Rest.{Rest}
 
--- it stops: it has to wait, and will go on where it stood, or else begin anew; or what it did so far is to be committed, and it
--- will go on there in another transaction; or it is refused
+-- it stops: it has to wait, and will go on where it stood, or else begin anew; or it is refused
 pub data Halt : Type 0 where
   Waits : Option Rest → Halt
-  Commits : Rest → Halt
   Refused : Fault → Halt
 
 -- the number under which a command goes on that waits: in the middle of its run it is the transaction's next one, since what

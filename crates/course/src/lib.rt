@@ -14,6 +14,7 @@
 #![tactic(auto)]
 
 mod caller;
+mod ending;
 mod executor;
 mod kinds;
 mod rest;
@@ -21,6 +22,7 @@ mod seats;
 mod stop;
 
 pub use caller::Caller;
+pub use ending::{Ending, ended};
 pub use executor::StoreExecutor;
 pub use kinds::Kinds;
 pub use rest::{Rest, RestOfDetach, RestOfRows, RowIds};

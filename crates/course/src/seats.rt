@@ -6,11 +6,11 @@ ghost use Rattle.sessions.specs.declared.outcome.Outcome.TheVariants as outcomes
 ghost use Rattle.stores.specs.Events.{begun, committed, aborted, let_go, withdrawn, resumed};
 ghost use Rattle.course.specs.Database as database;
 ghost use Rattle.course.specs.Made as made;
-ghost use Rattle.course.specs.Kept.{Adds, AreSessions, TellOf, due_in, waits_in};
+ghost use Rattle.course.specs.Kept.{Adds, AreSeated, AreSessions, TellOf, due_in, waits_in};
 ghost use Rattle.course.specs.Ran.{attempt_at, waits_by, HasRun};
 ghost use Rattle.course.specs.Weight.{slack, most};
 
-use crate::{Caller, Kinds, Rest, Stop};
+use crate::{Caller, Ending, Kinds, Rest, Stop};
 use history::{WaitOn, Wanted};
 use pg_ids::SessionSet;
 use pg_values::{Args, Fault, NoMemory, SqlState};
@@ -395,7 +395,7 @@ impl Seats {
         ensures opened { self.new.opened ≡ self.old.opened }
         ensures waits { IfOk result (λ o. waits_in self.new asker.session ≡ waits_by o) }
         ensures lower { result ≡ Ok outcomes.Waits → slack self.new ≤ slack self.old }
-        ensures once { result ≡ Ok outcomes.Commits → asker.again ≡ false }
+        ensures heard { OnOk result ((h : History) × TellOf self.old h × AreSeated self.old) }
         ensures strides { result ≡ Ok outcomes.Goes → ⊥ }
     {
         if !self.whole {
@@ -433,10 +433,15 @@ impl Seats {
         );
         self.ready = self.stores.locks.ready();
         match answer {
-            Ok(()) => {
+            Ok(Ending::Done) => {
                 self.commands[session] = next;
                 self.give_up(asker.level, session, has_stood);
                 Ok(Outcome::Done)
+            }
+            Ok(Ending::Commits(rest)) => {
+                self.commands[session] = next;
+                set_rest(&mut self.rests, session, Some(Rest::Detach(rest)));
+                Ok(Outcome::Commits)
             }
             Err(Stop::Waits(rest)) => {
                 self.commands[session] = number_after(&rest, next, cmd);
@@ -446,16 +451,6 @@ impl Seats {
                     return Err(NoMemory);
                 }
                 Ok(Outcome::Waits)
-            }
-            Err(Stop::Commits(rest)) => {
-                // A statement commits what it did first, and no more than that.
-                if asker.again {
-                    self.whole = false;
-                    return Err(NoMemory);
-                }
-                self.commands[session] = next;
-                set_rest(&mut self.rests, session, Some(rest));
-                Ok(Outcome::Commits)
             }
             Err(Stop::Refused(fault)) => {
                 self.commands[session] = next;

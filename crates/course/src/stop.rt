@@ -6,8 +6,6 @@ use pg_values::{Fault, NoMemory, Refusal};
 pub enum Stop {
     /// It has to wait. When its wait is over it goes on where it stood, or else begins anew.
     Waits(Option<Rest>),
-    /// What it did so far is to be committed, and it goes on there in another transaction.
-    Commits(Rest),
     Refused(Fault),
     NoMemory,
 }

@@ -5,6 +5,7 @@ mod Leaving
 mod Guards
 mod Marking
 mod Pending
+mod Stages
 mod Waits
 mod Levels
 mod KeptChecks

@@ -40,11 +40,8 @@ use Rattle.stores.specs.declared.stores.Stores.{Stores}
 use Rattle.stores.proofs.Commands.{commands_are_in_order}
 use Rattle.stores.proofs.Goodness.{legal_of, permitted_of}
 use Rattle.course.specs.Attempts.{MayAttempt}
-use Rattle.course.specs.Made.{Commits}
 use Rattle.course.specs.declared.caller.Caller.{Caller}
-use Rattle.course.specs.declared.rest.Rest.TheVariants.{Detach}
 use Rattle.course.specs.declared.rest.RestOfDetach.{RestOfDetach}
-use Rattle.course.specs.declared.stop.Stop.TheVariants as stop
 use Rattle.statement_steps.specs.Steps.{IsStep}
 use Rattle.statement_steps.proofs.Parts.{own_tx, locks_same}
 use Rattle.table_statements.specs.Drops.{parent_in, stamp}
@@ -220,15 +217,15 @@ module _ (laws : MarkLaws) (stores : Stores) (caller : Caller) (by : TxId) (p : 
       ∙ ap (λ (b : SessionSet). record { parent = p; table = table_of t; by = by; behind = b }) who
 
   pub marked_step : (catalog : KeptCatalogue) (behind : SessionSet) → Marks catalog → ((h : History) → Stands stores h → (k : ℕ) → has behind k ≡ holds_any (lock_events h) k p.number) → ((k : ℕ) → 128 ≤ k → has behind k ≡ false)
-      → IsStep (λ (u : Unit {0}). u) (Err (stop.Commits (Detach (left behind)))) stores (record stores { catalog = catalog }) caller (caller.cmd + 1) (place_marked caller p.number t)
+      → IsStep (λ (d : RestOfDetach). d) (Ok (left behind)) stores (record stores { catalog = catalog }) caller (caller.cmd + 1) (place_marked caller p.number t)
   marked_step catalog behind tells holders low = record {
     is = λ h stands at.
         let s = caller.session in
         let tx = own_tx stores caller h may stands in
         let deed = mark_deed catalog tells h stands at tx.0 tx.1 in (
-          ap (λ (r : RestOfDetach). Err (Commits (Detach r))) (same_rest behind holders low h stands),
+          ap (λ (r : RestOfDetach). Ok r) (same_rest behind holders low h stands),
           went (record stores { catalog = catalog }) s tx.0 caller.cmd (events h) h stands.all.txs.sound tx.1 at deed.done (deed_stands stores stores.rows catalog s tx.0 caller.cmd (events h) h stands tx.1 deed),
         );
     keeps = locks_same stores (record stores { catalog = catalog }) caller.session refl refl;
-    waits = (may.idle, tt);
+    waits = may.idle;
   }

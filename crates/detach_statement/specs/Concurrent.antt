@@ -24,8 +24,11 @@ use Rattle.part_ddl.specs.Dropped.{place_ended}
 use Rattle.part_ddl.specs.Faults.{pending_beside}
 use Rattle.part_ddl.specs.Placing.{level_at}
 use Rattle.partition_scans.specs.Sessions.{those}
-use Rattle.course.specs.Made.{Made, Commits, made, halted}
+use Rattle.course.specs.Ended.{giving}
+use Rattle.course.specs.Made.{Made, made}
 use Rattle.course.specs.declared.caller.Caller.{Caller}
+use Rattle.course.specs.declared.ending.Ending.{Ending}
+use Rattle.course.specs.declared.ending.Ending.TheVariants as endings
 use Rattle.course.specs.declared.rest.Rest.{Rest}
 use Rattle.course.specs.declared.rest.Rest.TheVariants.{Rows, Detach}
 use Rattle.course.specs.declared.rest.RestOfDetach.{RestOfDetach}
@@ -76,14 +79,14 @@ marked s (Some e) = CatalogueChange (EntryMarked e.id.number s) ∷ []
 abbrev pub rest_of : History → (session parent table : ℕ) → RestOfDetach
 rest_of h s p t = record { parent = table_of p; table = table_of t; by = own h s; behind = those (λ r. holds_any (lock_events h) r p) }
 
-abbrev pub place_marked : Caller → (parent table : ℕ) → History → Made (Unit {0})
-place_marked caller p t h = halted (marked (stamp caller h) (entry_between h caller.session p t)) (Commits (Detach (rest_of h caller.session p t)))
+abbrev pub place_marked : Caller → (parent table : ℕ) → History → Made RestOfDetach
+place_marked caller p t h = made (marked (stamp caller h) (entry_between h caller.session p t)) (rest_of h caller.session p t)
 
-abbrev pub table_marked : Caller → (parent table : ℕ) → History → Made (Unit {0})
+abbrev pub table_marked : Caller → (parent table : ℕ) → History → Made RestOfDetach
 table_marked caller p t = follow (judged caller.session p t) (λ u. place_marked caller p t)
 
 -- parent and table are locked before
-abbrev pub first_stage : (names : List (List ℕ)) → Caller → (parent name : List ℕ) → History → Made (Unit {0})
+abbrev pub first_stage : (names : List (List ℕ)) → Caller → (parent name : List ℕ) → History → Made RestOfDetach
 first_stage names caller parent name =
     follow (named names caller.session ShareUpdateExclusive parent) (λ p.
     follow (named names caller.session ShareUpdateExclusive name) (λ t.
@@ -136,8 +139,16 @@ later_stages names caller d parent name = follow (others_ended names caller.sess
 
 -- ---- the statement
 
+-- where it goes on, if it has committed its mark
+abbrev pub detach_of : Option Rest → Option RestOfDetach
+detach_of None = None
+detach_of (Some (Rows r)) = None
+detach_of (Some (Detach d)) = Some d
+
+abbrev pub by_rest : (names : List (List ℕ)) → Caller → Option RestOfDetach → (parent name : List ℕ) → History → Made Ending
+by_rest names caller None parent name h = giving endings.Commits (first_stage names caller parent name h)
+by_rest names caller (Some d) parent name h = giving (λ u. endings.Done) (going_on (Some (Detach (behind_nobody d))) (later_stages names caller d parent name h))
+
 -- ALTER TABLE parent DETACH PARTITION name CONCURRENTLY, from its beginning, or from where it stood
-abbrev pub detached_concurrently : (names : List (List ℕ)) → Caller → Option Rest → (parent name : List ℕ) → History → Made (Unit {0})
-detached_concurrently names caller None parent name h = first_stage names caller parent name h
-detached_concurrently names caller (Some (Rows r)) parent name h = first_stage names caller parent name h
-detached_concurrently names caller (Some (Detach d)) parent name h = going_on (Some (Detach (behind_nobody d))) (later_stages names caller d parent name h)
+abbrev pub detached_concurrently : (names : List (List ℕ)) → Caller → Option Rest → (parent name : List ℕ) → History → Made Ending
+detached_concurrently names caller rest parent name = by_rest names caller (detach_of rest) parent name

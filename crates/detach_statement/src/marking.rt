@@ -1,6 +1,6 @@
 //! The first stage of DETACH CONCURRENTLY.
 
-ghost use Rattle.std.specs.Prelude.{◌≡◌, ◌+◌, ◌<◌, ◌≤◌, Err, IfOk, length};
+ghost use Rattle.std.specs.Prelude.{◌≡◌, ◌+◌, ◌<◌, ◌≤◌, Ok, IfOk, length};
 ghost use Rattle.pg_values.specs.Refusals.{IsAnswer};
 ghost use Rattle.history.specs.History.{History};
 ghost use Rattle.tx_table.specs.Stands.{TableStands};
@@ -13,7 +13,7 @@ ghost use Rattle.detach_statement.specs.Concurrent as concurrent;
 
 use crate::checking::is_table;
 use crate::faults::{has_default, not_a_partition, pending, stop_by};
-use course::{Caller, Rest, RestOfDetach, Stop};
+use course::{Caller, RestOfDetach, Stop};
 use legal_statements::{listed_is_there, mark_may_follow, nobody_else_marks};
 use part_catalog::Catalog;
 use part_ddl::{default_of, parent_level};
@@ -95,12 +95,12 @@ fn check(
     }
 }
 
-// The entry is marked pending, that is committed, and all who hold a lock on the parent are waited for.
-fn mark(stores: &mut Stores, caller: Caller, parent: TableNo, table: TableNo) -> Stop
+// The entry is marked pending. All who hold a lock on the parent are to be waited for.
+fn mark(stores: &mut Stores, caller: Caller, parent: TableNo, table: TableNo) -> RestOfDetach
     requires may { MayAttempt stores.old caller }
     requires guarded { HasGuarded stores.old caller.session parent.number }
     requires markable { MayBeMarked stores.old caller.session parent.number table.number }
-    ensures { IsStep (λ u. u) (Err result) stores.old stores.new caller (caller.cmd + 1) (concurrent.place_marked caller parent.number table.number) }
+    ensures { IsStep (λ d. d) (Ok result) stores.old stores.new caller (caller.cmd + 1) (concurrent.place_marked caller parent.number table.number) }
 {
     listed_is_there();
     nobody_else_marks();
@@ -117,12 +117,12 @@ fn mark(stores: &mut Stores, caller: Caller, parent: TableNo, table: TableNo) ->
     let behind = locks.holders(parent);
     sessions_are_low(behind);
     catalog.mark_pending(txs, parent, table, by, caller.cmd);
-    Stop::Commits(Rest::Detach(RestOfDetach {
+    RestOfDetach {
         parent,
         table,
         by,
         behind,
-    }))
+    }
 }
 
 fn mark_table(
@@ -131,16 +131,16 @@ fn mark_table(
     caller: Caller,
     parent: TableNo,
     table: TableNo,
-) -> Stop
+) -> Result<RestOfDetach, Stop>
     requires may { MayAttempt stores.old caller }
     requires guarded { HasGuarded stores.old caller.session parent.number }
     requires parent { parent.number < length stores.old.catalog.tables }
     requires table { table.number < length stores.old.catalog.tables }
-    ensures { IsStep (λ u. u) (Err result) stores.old stores.new caller (caller.cmd + 1) (concurrent.table_marked caller parent.number table.number) }
+    ensures { IsStep (λ d. d) result stores.old stores.new caller (caller.cmd + 1) (concurrent.table_marked caller parent.number table.number) }
 {
     match check(alloc, stores, caller, parent, table) {
-        Ok(()) => mark(stores, caller, parent, table),
-        Err(stop) => stop,
+        Ok(()) => Ok(mark(stores, caller, parent, table)),
+        Err(stop) => Err(stop),
     }
 }
 
@@ -152,17 +152,17 @@ pub(crate) fn run_first_stage(
     caller: Caller,
     parent: &[u8],
     name: &[u8],
-) -> Stop
+) -> Result<RestOfDetach, Stop>
     requires may { MayAttempt stores.old caller }
     requires few { length stores.old.catalog.tables ≤ 4096 }
-    ensures { IsStep (λ u. u) (Err result) stores.old stores.new caller (caller.cmd + 1) (concurrent.first_stage names.now caller parent.now name.now) }
+    ensures { IsStep (λ d. d) result stores.old stores.new caller (caller.cmd + 1) (concurrent.first_stage names.now caller parent.now name.now) }
 {
     let mode = LockMode::ShareUpdateExclusive;
     match lock_named(alloc, stores, names, caller, parent, mode) {
         Ok(parent) => match lock_named(alloc, stores, names, caller, name, mode) {
             Ok(table) => mark_table(alloc, stores, caller, parent, table),
-            Err(stop) => stop,
+            Err(stop) => Err(stop),
         },
-        Err(stop) => stop,
+        Err(stop) => Err(stop),
     }
 }

@@ -15,7 +15,7 @@ use crate::checking::is_table;
 use crate::faults::{not_pending, stop_by};
 use crate::leaving::leave_parent;
 use crate::marking::run_first_stage;
-use course::{Caller, Rest, RestOfDetach, Stop};
+use course::{Caller, Ending, Rest, RestOfDetach, Stop, ended};
 use history::{TxId, WaitOn};
 use legal_statements::listed_is_there;
 use part_catalog::Catalog;
@@ -177,6 +177,16 @@ fn go_on(
     }
 }
 
+// Where it goes on, if it has committed its mark.
+fn detach_of(rest: Option<Rest>) -> Option<RestOfDetach>
+    ensures { result ≡ concurrent.detach_of rest }
+{
+    match rest {
+        Some(Rest::Detach(rest)) => Some(rest),
+        None | Some(Rest::Rows(_)) => None,
+    }
+}
+
 /// ALTER TABLE, DETACH PARTITION CONCURRENTLY, from its beginning or from where it stood. The parent is found
 /// (42P01) and locked in SHARE UPDATE EXCLUSIVE mode, then the table. It is refused where the parent is not
 /// partitioned (42809), where the table is not a partition of it (42P01), and where a partition of it is the
@@ -193,15 +203,16 @@ pub fn detach_concurrently(
     rest: Option<Rest>,
     parent: &[u8],
     name: &[u8],
-) -> Result<(), Stop>
+) -> Result<Ending, Stop>
     requires may { MayAttempt stores.old caller }
     requires few { length stores.old.catalog.tables ≤ 4096 }
-    ensures { IsStep (λ u. u) result stores.old stores.new caller (caller.cmd + 1) (concurrent.detached_concurrently names.now caller rest parent.now name.now) }
+    ensures { IsStep (λ e. e) result stores.old stores.new caller (caller.cmd + 1) (concurrent.detached_concurrently names.now caller rest parent.now name.now) }
 {
-    match rest {
-        Some(Rest::Detach(rest)) => go_on(alloc, stores, names, caller, rest, parent, name),
-        None | Some(Rest::Rows(_)) => {
-            Err(run_first_stage(alloc, stores, names, caller, parent, name))
-        }
+    match detach_of(rest) {
+        Some(rest) => ended(go_on(alloc, stores, names, caller, rest, parent, name)),
+        None => match run_first_stage(alloc, stores, names, caller, parent, name) {
+            Ok(marked) => Ok(Ending::Commits(marked)),
+            Err(stop) => Err(stop),
+        },
     }
 }

@@ -16,7 +16,6 @@ later earlier h stores s n went = record { stands = went.stands; at = one_later 
 told_later : {X T : Type 0} (view : X → T) (r : Result X Stop) (new : Stores) (caller : Caller) (h : History) (m : Made T) → IsTold view r new caller caller.cmd h m → IsTold view r new caller (caller.cmd + 1) h m
 told_later view (Ok x) new caller h m told = (told.0, later h (m.events ++ h) new caller.session caller.cmd told.1)
 told_later view (Err (stop.Waits rest)) new caller h m told = told
-told_later view (Err (stop.Commits rest)) new caller h m told = told
 told_later view (Err (stop.Refused f)) new caller h m told = told
 told_later view (Err stop.NoMemory) new caller h m told = told
 

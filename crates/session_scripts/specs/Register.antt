@@ -1,10 +1,9 @@
 -- A register that sessions read, set and lock, as an executor: the smallest one over which blocks, transactions and waits
 -- can be watched.
-use Rattle.std.specs.Prelude.{◌≡◌, ℕ, ◌==◌, ◌&&◌, nat_le, nat_lt, Bool, true, false, if◌then◌else◌, List, [], ◌∷◌, ◌++◌, Option, Some, None, Result, Ok, Err, length, replicate, slice_index_or, slice_set, unwrap_or, codes}
+use Rattle.std.specs.Prelude.{◌≡◌, ℕ, ◌==◌, ◌&&◌, not, nat_le, nat_lt, Bool, true, false, if◌then◌else◌, List, [], ◌∷◌, ◌++◌, Option, Some, None, Result, Ok, Err, length, replicate, slice_index_or, slice_set, unwrap_or, codes}
 use Rattle.pg_values.specs.declared.fault.Fault.{Fault}
 use Rattle.schedule.specs.Lists.{first, without}
 use Rattle.sessions.specs.Course.{Course}
-use Rattle.sessions.specs.declared.asker.Asker.{Asker}
 use Rattle.sessions.specs.declared.outcome.Outcome.{Outcome}
 use Rattle.sessions.specs.declared.outcome.Outcome.TheVariants as outcomes
 use Rattle.sessions.specs.declared.phase.Isolation.TheVariants.{RepeatableRead}
@@ -23,10 +22,11 @@ pub record Register : Type 0 where
   pub holder : Option ℕ  -- who has the lock
   pub queue : List ℕ  -- who waits for it, the oldest wait first
   pub stages : List Stage
+  pub split : List Bool  -- whether its `/` goes on behind what it has committed
 
 -- there is a place for each session
 abbrev pub AreSeated : Register → Type 0
-AreSeated v = (length v.own ≡ length v.opened) × (length v.stages ≡ length v.opened)
+AreSeated v = (length v.own ≡ length v.opened) × (length v.stages ≡ length v.opened) × (length v.split ≡ length v.opened)
 
 abbrev pub is_waiting : Stage → Bool
 is_waiting Running = false
@@ -117,6 +117,7 @@ ended v s value = record {
   holder = freed v.holder s;
   queue = without s v.queue;
   stages = slice_set v.stages s Running;
+  split = v.split;
 }
 
 -- ---- statements
@@ -134,9 +135,14 @@ locks v s Cancelled = record v { stages = slice_set v.stages s Running }
 locks v s Woken = takes v s true
 locks v s _ = takes v s (is_free v.holder s)
 
+-- whether its `/` has committed what came before
+abbrev pub has_split : Register → ℕ → Bool
+has_split v s = slice_index_or v.split s false
+
 abbrev pub puts : Register → ℕ → Statement → Register
 puts v s (Put b) = record v { own = slice_set v.own s (Some b) }
 puts v s Lock = locks v s (stage_at v.stages s)
+puts v s Split = record v { split = slice_set v.split s (not (has_split v s)) }
 puts v s _ = v
 
 abbrev pub failed : Fault
@@ -151,15 +157,15 @@ lock_outcome v s Woken = outcomes.Done
 lock_outcome v s _ = if is_free v.holder s then outcomes.Done else outcomes.Waits
 
 -- what came before is committed, once
-abbrev pub split_outcome : (again : Bool) → Outcome
+abbrev pub split_outcome : (has_split : Bool) → Outcome
 split_outcome true = outcomes.Done
 split_outcome false = outcomes.Commits
 
-abbrev pub outcome_of : Register → Asker → Statement → Outcome
-outcome_of v a Fail = outcomes.Refused failed
-outcome_of v a Lock = lock_outcome v a.session (stage_at v.stages a.session)
-outcome_of v a Split = split_outcome a.again
-outcome_of v a _ = outcomes.Done
+abbrev pub outcome_of : Register → ℕ → Statement → Outcome
+outcome_of v s Fail = outcomes.Refused failed
+outcome_of v s Lock = lock_outcome v s (stage_at v.stages s)
+outcome_of v s Split = split_outcome (has_split v s)
+outcome_of v s _ = outcomes.Done
 
 -- what is seen, and the setting
 abbrev pub sign_of : Bool → ℕ
@@ -177,7 +183,7 @@ ready_in (Some r) stages queue = None
 
 -- with so many sessions, before anything has happened
 abbrev pub blank : ℕ → Register
-blank n = record { value = 48; opened = replicate n false; own = replicate n None; holder = None; queue = []; stages = replicate n Running }
+blank n = record { value = 48; opened = replicate n false; own = replicate n None; holder = None; queue = []; stages = replicate n Running; split = replicate n false }
 
 abbrev pub course : Course Register Statement
 course = record {
@@ -191,7 +197,7 @@ course = record {
   committed = λ v s. ended v s (seen_by v s);
   aborted = λ v s. ended v s v.value;
   ran = λ v a g t. puts v a.session t;
-  outcome = λ v a g t. outcome_of v a t;
+  outcome = λ v a g t. outcome_of v a.session t;
   text = λ v a g t. shown v a.session g t;
   interrupted = λ v. None;
   ready = λ v. ready_in v.holder v.stages v.queue;

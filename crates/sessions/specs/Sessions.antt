@@ -15,7 +15,7 @@ use Rattle.sessions.specs.declared.outcome.Outcome.TheVariants.{Goes, Waits, Com
 use Rattle.sessions.specs.declared.phase.Isolation.{Isolation}
 use Rattle.sessions.specs.declared.phase.Isolation.TheVariants.{ReadCommitted, ReadUncommitted, RepeatableRead}
 use Rattle.sessions.specs.declared.phase.Phase.{Phase}
-use Rattle.sessions.specs.declared.phase.Phase.TheVariants.{Idle, Implicit, Again, Explicit, Failed}
+use Rattle.sessions.specs.declared.phase.Phase.TheVariants.{Idle, Implicit, Explicit, Failed}
 use Rattle.sessions.specs.declared.role.Role.{Role}
 use Rattle.sessions.specs.declared.settings.PlanCacheMode.TheVariants.{Auto}
 use Rattle.sessions.specs.declared.settings.Settings.{Settings}
@@ -64,7 +64,6 @@ tail (t ∷ ts) = ts
 abbrev pub has_open : Phase → Bool
 has_open Idle = false
 has_open Implicit = true
-has_open Again = true
 has_open Explicit = true
 has_open Failed = false
 
@@ -99,10 +98,6 @@ abbrev pub is_explicit : Phase → Bool
 is_explicit Explicit = true
 is_explicit _ = false
 
-abbrev pub is_again : Phase → Bool
-is_again Again = true
-is_again _ = false
-
 abbrev pub place_of : {T : Type 0} → SessionView T → Place
 place_of x = record { explicit = is_explicit x.phase; alone = x.alone }
 
@@ -130,7 +125,6 @@ aborted_if C s false v = v
 abbrev pub failed_phase : Phase → Phase
 failed_phase Idle = Idle
 failed_phase Implicit = Idle
-failed_phase Again = Idle
 failed_phase Explicit = Failed
 failed_phase Failed = Failed
 
@@ -162,7 +156,6 @@ opened x p l = record x { phase = p; level = l; looked = false; cmd = 0; saved =
 abbrev pub begins : {S T : Type 0} → Course S T → ℕ → S → SessionView T → Option Isolation → Phase → Turn S T
 begins C s v x l Idle = turn (C.began v s) (opened x Explicit (unwrap_or l ReadCommitted)) progress.Goes
 begins C s v x l Implicit = turn v (record x { phase = Explicit; level = unwrap_or l x.level }) progress.Goes
-begins C s v x l Again = turn v (record x { phase = Explicit; level = unwrap_or l x.level }) progress.Goes
 begins C s v x l Explicit = turn v (record x { level = unwrap_or l x.level }) progress.Goes
 begins C s v x l Failed = turn v x progress.Goes
 
@@ -170,7 +163,6 @@ begins C s v x l Failed = turn v x progress.Goes
 abbrev pub commits : {S T : Type 0} → Course S T → ℕ → S → SessionView T → Phase → Turn S T
 commits C s v x Idle = turn v x progress.Goes
 commits C s v x Implicit = turn (C.committed v s) (record x { phase = Idle }) progress.Goes
-commits C s v x Again = turn (C.committed v s) (record x { phase = Idle }) progress.Goes
 commits C s v x Explicit = turn (C.committed v s) (record x { phase = Idle }) progress.Goes
 commits C s v x Failed = turn v (record x { phase = Idle }) progress.Goes
 
@@ -184,7 +176,7 @@ rolls_back C s v x = turn (aborted_if C s (has_open x.phase) v) (back x) progres
 -- ---- statements
 
 abbrev pub asker_of : {T : Type 0} → ℕ → SessionView T → Asker
-asker_of s x = record { session = s; level = x.level; cmd = x.cmd; kind = x.kind; again = is_again x.phase }
+asker_of s x = record { session = s; level = x.level; cmd = x.cmd; kind = x.kind }
 
 abbrev pub sets : {S T : Type 0} → Course S T → ℕ → S → SessionView T → Result Settings Fault → Turn S T
 sets C s v x (Ok g) = turn v (record x { settings = g }) progress.Goes
@@ -200,7 +192,7 @@ done x looks = record x { cmd = x.cmd + 1; looked = x.looked || looks }
 
 -- what it did so far is committed, and it goes on in another transaction
 abbrev pub goes_on_again : {S T : Type 0} → Course S T → ℕ → S → SessionView T → T → Turn S T
-goes_on_again C s v x t = turn (C.began (C.committed v s) s) (kept (opened x Again ReadCommitted) t) progress.Goes
+goes_on_again C s v x t = turn (C.began (C.committed v s) s) (kept (opened x Implicit ReadCommitted) t) progress.Goes
 
 abbrev pub by_outcome : {S T : Type 0} → Course S T → ℕ → S → SessionView T → T → Outcome → Turn S T
 by_outcome C s v x t Goes = turn v (kept x t) progress.Goes
@@ -223,7 +215,6 @@ opens C s v x t = turn (C.began v s) (kept (opened x Implicit ReadCommitted) t) 
 abbrev pub unless_idle : {S T : Type 0} → Course S T → ℕ → S → SessionView T → T → Turn S T → Phase → Turn S T
 unless_idle C s v x t next Idle = opens C s v x t
 unless_idle C s v x t next Implicit = next
-unless_idle C s v x t next Again = next
 unless_idle C s v x t next Explicit = next
 unless_idle C s v x t next Failed = turn v x progress.Goes
 
@@ -245,7 +236,6 @@ meets C s v x t = unless_fault C s v x t (state_fault C x t)
 -- at the end of a block its implicit transaction is committed
 abbrev pub closes : {S T : Type 0} → Course S T → ℕ → S → SessionView T → Phase → Turn S T
 closes C s v x Implicit = turn (C.committed v s) (record x { phase = Idle; in_block = false }) progress.Ended
-closes C s v x Again = turn (C.committed v s) (record x { phase = Idle; in_block = false }) progress.Ended
 closes C s v x _ = turn v (record x { in_block = false }) progress.Ended
 
 abbrev pub by_next : {S T : Type 0} → Course S T → ℕ → S → SessionView T → Option T → Turn S T

@@ -2,14 +2,13 @@ use crate::Isolation;
 use schedule::Kind;
 
 /// For whom a statement runs: the session, the level of its transaction, how many of the transaction's
-/// statements are done, what its block is in the script, and whether it has committed what it did first.
+/// statements are done, and what its block is in the script.
 #[derive(Clone, Copy, Debug, PartialEq, Eq)]
 pub struct Asker {
     pub session: usize,
     pub level: Isolation,
     pub cmd: u32,
     pub kind: Kind,
-    pub again: bool,
 }
 
 /// Where a statement stands: in an explicit transaction, and alone in its block.

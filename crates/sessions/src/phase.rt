@@ -5,8 +5,6 @@ pub enum Phase {
     Idle,
     /// Its block is one.
     Implicit,
-    /// Its block is one statement, which has committed what it did first, and goes on in another one.
-    Again,
     /// BEGIN came.
     Explicit,
     /// A statement of its explicit transaction failed.

@@ -65,7 +65,6 @@ impl<T: Drop> Session<T> {
             level: self.level,
             cmd: self.cmd,
             kind: self.kind,
-            again: self.phase == Phase::Again,
         }
     }
 
@@ -83,7 +82,7 @@ impl<T: Drop> Session<T> {
         ensures { result ≡ spec.has_open self.now.phase }
     {
         match self.phase {
-            Phase::Implicit | Phase::Again | Phase::Explicit => true,
+            Phase::Implicit | Phase::Explicit => true,
             Phase::Idle | Phase::Failed => false,
         }
     }
@@ -187,7 +186,7 @@ impl<T: Drop> Session<T> {
     {
         self.take_settings_back();
         self.phase = match self.phase {
-            Phase::Idle | Phase::Implicit | Phase::Again => Phase::Idle,
+            Phase::Idle | Phase::Implicit => Phase::Idle,
             Phase::Explicit | Phase::Failed => Phase::Failed,
         };
         self.rest.clear();

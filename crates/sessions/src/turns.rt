@@ -1,12 +1,13 @@
-ghost use Rattle.std.specs.Prelude.{◌≡◌, ◌<◌, ◌≤◌, ◌+◌, true, false, Ok, OnOk, OnErr, IfOk, IfSome, MatchOption, Some, None, length, slice_index_or, slice_set, unwrap_or};
+ghost use Rattle.std.specs.Prelude.{◌≡◌, ◌<◌, ◌≤◌, ℕ, Bool, ◌+◌, true, false, Ok, OnOk, OnErr, IfOk, IfSome, MatchOption, Some, None, length, slice_index_or, slice_set, unwrap_or};
 ghost use Rattle.schedule.specs.Rules.{Carries};
 ghost use Rattle.schedule.specs.declared.database.Progress.TheVariants as progress;
+ghost use Rattle.sessions.specs.Commits.{AreAsBefore, OthersAreAsBefore};
 ghost use Rattle.sessions.specs.Makes.{Makes};
 ghost use Rattle.sessions.specs.Seen.{seen};
 ghost use Rattle.sessions.specs.Sessions as spec;
 ghost use Rattle.sessions.specs.Sessions.{has_open};
 ghost use Rattle.sessions.specs.declared.phase.Phase.TheVariants as phases;
-ghost use Rattle.sessions.specs.Weight.{points, weight_of};
+ghost use Rattle.sessions.specs.Weight.{most_points, points_in, points_with, weight_of};
 
 use crate::faults::{is_level, isolation_level_after_a_snapshot, the_transaction_has_failed};
 use crate::session::Session;
@@ -22,6 +23,7 @@ fn abort_open<E: Executor>(executor: &mut E, session: usize, x: &Session<E::Stat
     requires slack { E.slack executor.old ≤ E.most }
     ensures stands { Carries E.stands (λ v. spec.aborted_if E.course session (has_open x.now.phase) v) executor.old executor.new }
     ensures transactions { E.in_transaction executor.new ≡ slice_set (E.in_transaction executor.old) session false }
+    ensures committed { AreAsBefore (E.has_committed executor.old) (E.has_committed executor.new) }
     ensures slack { E.slack executor.new ≤ E.most }
     ensures free { E.waiting executor.old session ≡ false → E.waiting executor.new session ≡ false }
 {
@@ -43,8 +45,9 @@ fn fail<E: Executor>(
     ensures makes { Makes E.stands (λ v. spec.fails E.course session v (seen E.tree x.old) fault) executor.old executor.new (seen E.tree x.new) result }
     ensures ended { result ≡ progress.Ended }
     ensures transactions { E.in_transaction executor.new ≡ slice_set (E.in_transaction executor.old) session (has_open x.new.phase) }
+    ensures committed { AreAsBefore (E.has_committed executor.old) (E.has_committed executor.new) }
     ensures slack { E.slack executor.new ≤ E.most }
-    ensures points { points x.new ≡ 0 }
+    ensures points { most_points x.new ≡ 0 }
 {
     abort_open(executor, session, x);
     x.fail(fault);
@@ -70,6 +73,7 @@ fn begin_transaction<E: Executor>(
     ensures begins { OnOk result (x.new ≡ spec.opened x.old phase level) }
     ensures err { OnErr result (x.new ≡ x.old) }
     ensures transactions { E.in_transaction executor.new ≡ slice_set (E.in_transaction executor.old) session (has_open x.new.phase) }
+    ensures committed { AreAsBefore (E.has_committed executor.old) (E.has_committed executor.new) }
     ensures slack { E.slack executor.new ≤ E.most }
     ensures free { E.waiting executor.new session ≡ false }
 {
@@ -91,17 +95,18 @@ fn begin<E: Executor>(
     requires slack { E.slack executor.old ≤ E.most }
     ensures makes { IfOk result (λ p. Makes E.stands (λ v. spec.begins E.course session v (seen E.tree x.old) level x.old.phase) executor.old executor.new (seen E.tree x.new) p) }
     ensures transactions { E.in_transaction executor.new ≡ slice_set (E.in_transaction executor.old) session (has_open x.new.phase) }
+    ensures committed { AreAsBefore (E.has_committed executor.old) (E.has_committed executor.new) }
     ensures slack { E.slack executor.new ≤ E.most }
     ensures goes { IfOk result (λ p. p ≡ progress.Goes) }
     ensures free { E.waiting executor.new session ≡ false }
-    ensures points { OnOk result (points x.new ≤ points x.old + 2) }
+    ensures points { OnOk result (most_points x.new ≤ most_points x.old + 1) }
 {
     match x.phase {
         Phase::Idle => {
             let level = level.unwrap_or(Isolation::ReadCommitted);
             begin_transaction(executor, session, x, Phase::Explicit, level)?;
         }
-        Phase::Implicit | Phase::Again => {
+        Phase::Implicit => {
             x.phase = Phase::Explicit;
             x.level = level.unwrap_or(x.level);
         }
@@ -119,10 +124,11 @@ fn commit<E: Executor>(executor: &mut E, session: usize, x: &mut Session<E::Stat
     requires slack { E.slack executor.old ≤ E.most }
     ensures makes { Makes E.stands (λ v. spec.commits E.course session v (seen E.tree x.old) x.old.phase) executor.old executor.new (seen E.tree x.new) result }
     ensures transactions { E.in_transaction executor.new ≡ slice_set (E.in_transaction executor.old) session (has_open x.new.phase) }
+    ensures committed { AreAsBefore (E.has_committed executor.old) (E.has_committed executor.new) }
     ensures slack { E.slack executor.new ≤ E.most }
     ensures goes { result ≡ progress.Goes }
     ensures free { E.waiting executor.new session ≡ false }
-    ensures points { points x.new ≤ points x.old + 2 }
+    ensures points { most_points x.new ≤ most_points x.old + 1 }
     ensures becomes { x.new ≡ record x.old { phase = phases.Idle } }
 {
     if x.has_open() {
@@ -143,10 +149,11 @@ pub(crate) fn roll_back<E: Executor>(
     requires slack { E.slack executor.old ≤ E.most }
     ensures makes { Makes E.stands (λ v. spec.rolls_back E.course session v (seen E.tree x.old)) executor.old executor.new (seen E.tree x.new) result }
     ensures transactions { E.in_transaction executor.new ≡ slice_set (E.in_transaction executor.old) session (has_open x.new.phase) }
+    ensures committed { AreAsBefore (E.has_committed executor.old) (E.has_committed executor.new) }
     ensures slack { E.slack executor.new ≤ E.most }
     ensures goes { result ≡ progress.Goes }
     ensures free { E.waiting executor.old session ≡ false → E.waiting executor.new session ≡ false }
-    ensures points { points x.new ≤ points x.old + 2 }
+    ensures points { most_points x.new ≤ most_points x.old + 1 }
 {
     abort_open(executor, session, x);
     x.roll_back();
@@ -167,10 +174,11 @@ fn set<E: Executor>(
     requires slack { E.slack executor.old ≤ E.most }
     ensures makes { IfOk result (λ p. Makes E.stands (λ v. spec.sets E.course session v (seen E.tree x.old) (E.course.set x.old.settings (E.tree statement.now))) executor.old executor.new (seen E.tree x.new) p) }
     ensures transactions { E.in_transaction executor.new ≡ slice_set (E.in_transaction executor.old) session (has_open x.new.phase) }
+    ensures committed { AreAsBefore (E.has_committed executor.old) (E.has_committed executor.new) }
     ensures slack { E.slack executor.new ≤ E.most }
     ensures free { OnOk result (result ≡ Ok progress.Goes → E.waiting executor.new session ≡ false) }
     ensures strides { IfOk result (λ p. p ≡ progress.Waits → ⊥) }
-    ensures points { OnOk result (points x.new ≤ points x.old + 2) }
+    ensures points { OnOk result (most_points x.new ≤ most_points x.old + 1) }
 {
     match E::set(alloc, x.settings, statement) {
         Ok(settings) => {
@@ -183,7 +191,7 @@ fn set<E: Executor>(
 }
 
 // What the statement did so far is committed, and it goes on in another transaction.
-#[tactic(auto, using(crate::proofs::Again::set_again, crate::proofs::Again::again_points))]
+#[tactic(auto, using(crate::proofs::Again::set_again))]
 fn go_on_again<E: Executor>(
     executor: &mut E,
     session: usize,
@@ -191,7 +199,6 @@ fn go_on_again<E: Executor>(
     statement: E::Statement,
 ) -> Result<Progress, NoMemory>
     requires opened { has_open x.old.phase ≡ true }
-    requires first { spec.is_again x.old.phase ≡ false }
     requires busy { x.old.in_block ≡ true }
     requires known { session < length (E.in_transaction executor.old) }
     requires transaction { slice_index_or (E.in_transaction executor.old) session false ≡ has_open x.old.phase }
@@ -199,13 +206,20 @@ fn go_on_again<E: Executor>(
     requires slack { E.slack executor.old ≤ E.most }
     ensures makes { IfOk result (λ p. Makes E.stands (λ v. spec.goes_on_again E.course session v (seen E.tree x.old) (E.tree statement)) executor.old executor.new (seen E.tree x.new) p) }
     ensures transactions { E.in_transaction executor.new ≡ slice_set (E.in_transaction executor.old) session (has_open x.new.phase) }
+    ensures committed { AreAsBefore (E.has_committed executor.old) (E.has_committed executor.new) }
     ensures slack { E.slack executor.new ≤ E.most }
     ensures goes { IfOk result (λ p. p ≡ progress.Goes) }
     ensures free { E.waiting executor.new session ≡ false }
-    ensures points { OnOk result (points x.new ≤ points x.old + 2) }
+    ensures points { OnOk result (points_in (E.has_committed executor.new) E.tree session x.new ≤ points_with (E.has_committed executor.old session (E.tree statement)) x.old) }
 {
     commit(executor, session, x);
-    begin_transaction(executor, session, x, Phase::Again, Isolation::ReadCommitted)?;
+    begin_transaction(
+        executor,
+        session,
+        x,
+        Phase::Implicit,
+        Isolation::ReadCommitted,
+    )?;
     x.keep(statement)?;
     Ok(Progress::Goes)
 }
@@ -227,11 +241,12 @@ fn run<E: Executor>(
     requires slack { E.slack executor.old ≤ E.most }
     ensures makes { IfOk result (λ p. Makes E.stands (λ v. spec.runs E.course session v (seen E.tree x.old) (E.tree statement)) executor.old executor.new (seen E.tree x.new) p) }
     ensures transactions { E.in_transaction executor.new ≡ slice_set (E.in_transaction executor.old) session (has_open x.new.phase) }
+    ensures others { OnOk result (OthersAreAsBefore session (E.has_committed executor.old) (E.has_committed executor.new)) }
     ensures slack { E.slack executor.new ≤ E.most }
     ensures free { result ≡ Ok progress.Goes → E.waiting executor.new session ≡ false }
     ensures waits { result ≡ Ok progress.Waits → E.waiting executor.new session ≡ true }
-    ensures weight { OnOk result (weight_of E.most (E.slack executor.new) (points x.new) ≤ weight_of E.most (E.slack executor.old) (points x.old + 3)) }
-    ensures lighter { result ≡ Ok progress.Goes → weight_of E.most (E.slack executor.new) (points x.new) < weight_of E.most (E.slack executor.old) (points x.old + 3) }
+    ensures weight { OnOk result (weight_of E.most (E.slack executor.new) (points_in (E.has_committed executor.new) E.tree session x.new) ≤ weight_of E.most (E.slack executor.old) (points_with (E.has_committed executor.old session (E.tree statement)) x.old)) }
+    ensures lighter { result ≡ Ok progress.Goes → weight_of E.most (E.slack executor.new) (points_in (E.has_committed executor.new) E.tree session x.new) < weight_of E.most (E.slack executor.old) (points_with (E.has_committed executor.old session (E.tree statement)) x.old) }
 {
     let asker = x.asker(session);
     match executor.run(alloc, asker, x.settings, &statement, &mut x.told)? {
@@ -268,11 +283,12 @@ fn open_block<E: Executor>(
     requires slack { E.slack executor.old ≤ E.most }
     ensures makes { IfOk result (λ p. Makes E.stands (λ v. spec.opens E.course session v (seen E.tree x.old) (E.tree statement)) executor.old executor.new (seen E.tree x.new) p) }
     ensures transactions { E.in_transaction executor.new ≡ slice_set (E.in_transaction executor.old) session (has_open x.new.phase) }
+    ensures committed { AreAsBefore (E.has_committed executor.old) (E.has_committed executor.new) }
     ensures slack { E.slack executor.new ≤ E.most }
     ensures free { result ≡ Ok progress.Goes → E.waiting executor.new session ≡ false }
     ensures waits { result ≡ Ok progress.Waits → E.waiting executor.new session ≡ true }
-    ensures weight { OnOk result (weight_of E.most (E.slack executor.new) (points x.new) ≤ weight_of E.most (E.slack executor.old) (points x.old + 3)) }
-    ensures lighter { result ≡ Ok progress.Goes → weight_of E.most (E.slack executor.new) (points x.new) < weight_of E.most (E.slack executor.old) (points x.old + 3) }
+    ensures weight { OnOk result (weight_of E.most (E.slack executor.new) (points_in (E.has_committed executor.new) E.tree session x.new) ≤ weight_of E.most (E.slack executor.old) (points_with (E.has_committed executor.old session (E.tree statement)) x.old)) }
+    ensures lighter { result ≡ Ok progress.Goes → weight_of E.most (E.slack executor.new) (points_in (E.has_committed executor.new) E.tree session x.new) < weight_of E.most (E.slack executor.old) (points_with (E.has_committed executor.old session (E.tree statement)) x.old) }
 {
     begin_transaction(
         executor,
@@ -301,11 +317,12 @@ fn perform<E: Executor>(
     requires slack { E.slack executor.old ≤ E.most }
     ensures makes { IfOk result (λ p. Makes E.stands (λ v. spec.by_role E.course session v (seen E.tree x.old) (E.tree statement) (E.course.role (E.tree statement))) executor.old executor.new (seen E.tree x.new) p) }
     ensures transactions { E.in_transaction executor.new ≡ slice_set (E.in_transaction executor.old) session (has_open x.new.phase) }
+    ensures others { OnOk result (OthersAreAsBefore session (E.has_committed executor.old) (E.has_committed executor.new)) }
     ensures slack { E.slack executor.new ≤ E.most }
     ensures free { result ≡ Ok progress.Goes → E.waiting executor.new session ≡ false }
     ensures waits { result ≡ Ok progress.Waits → E.waiting executor.new session ≡ true }
-    ensures weight { OnOk result (weight_of E.most (E.slack executor.new) (points x.new) ≤ weight_of E.most (E.slack executor.old) (points x.old + 3)) }
-    ensures lighter { result ≡ Ok progress.Goes → weight_of E.most (E.slack executor.new) (points x.new) < weight_of E.most (E.slack executor.old) (points x.old + 3) }
+    ensures weight { OnOk result (weight_of E.most (E.slack executor.new) (points_in (E.has_committed executor.new) E.tree session x.new) ≤ weight_of E.most (E.slack executor.old) (points_with (E.has_committed executor.old session (E.tree statement)) x.old)) }
+    ensures lighter { result ≡ Ok progress.Goes → weight_of E.most (E.slack executor.new) (points_in (E.has_committed executor.new) E.tree session x.new) < weight_of E.most (E.slack executor.old) (points_with (E.has_committed executor.old session (E.tree statement)) x.old) }
 {
     match E::role(&statement) {
         Role::Begin(level) => begin(executor, session, x, level),
@@ -313,16 +330,12 @@ fn perform<E: Executor>(
         Role::Rollback => Ok(roll_back(executor, session, x)),
         Role::Set => match x.phase {
             Phase::Idle => open_block(executor, session, x, statement),
-            Phase::Implicit | Phase::Again | Phase::Explicit => set(
-                alloc, executor, session, x, &statement,
-            ),
+            Phase::Implicit | Phase::Explicit => set(alloc, executor, session, x, &statement),
             Phase::Failed => Ok(Progress::Goes),
         },
         Role::Query => match x.phase {
             Phase::Idle => open_block(executor, session, x, statement),
-            Phase::Implicit | Phase::Again | Phase::Explicit => run(
-                alloc, executor, session, x, statement,
-            ),
+            Phase::Implicit | Phase::Explicit => run(alloc, executor, session, x, statement),
             Phase::Failed => Ok(Progress::Goes),
         },
     }
@@ -380,15 +393,13 @@ fn close<E: Executor>(executor: &mut E, session: usize, x: &mut Session<E::State
     ensures makes { Makes E.stands (λ v. spec.closes E.course session v (seen E.tree x.old) x.old.phase) executor.old executor.new (seen E.tree x.new) result }
     ensures ended { result ≡ progress.Ended }
     ensures transactions { E.in_transaction executor.new ≡ slice_set (E.in_transaction executor.old) session (has_open x.new.phase) }
+    ensures committed { AreAsBefore (E.has_committed executor.old) (E.has_committed executor.new) }
     ensures slack { E.slack executor.new ≤ E.most }
-    ensures points { points x.new ≡ 0 }
+    ensures points { most_points x.new ≡ 0 }
 {
-    match x.phase {
-        Phase::Implicit | Phase::Again => {
-            executor.commit(session);
-            x.phase = Phase::Idle;
-        }
-        Phase::Idle | Phase::Explicit | Phase::Failed => {}
+    if x.phase == Phase::Implicit {
+        executor.commit(session);
+        x.phase = Phase::Idle;
     }
     x.in_block = false;
     Progress::Ended
@@ -399,7 +410,7 @@ fn close<E: Executor>(executor: &mut E, session: usize, x: &mut Session<E::State
 fn take_next<E: Executor>(x: &mut Session<E::Statement>) -> Option<E::Statement>
     ensures next { MatchOption result (spec.head_of (seen E.tree x.old).rest ≡ None) (λ t. spec.head_of (seen E.tree x.old).rest ≡ Some (E.tree t)) }
     ensures rest { seen E.tree x.new ≡ record (seen E.tree x.old) { rest = spec.tail (seen E.tree x.old).rest } }
-    ensures points { x.old.in_block ≡ true → IfSome result (λ t. points x.old ≡ points x.new + 3) }
+    ensures points { x.old.in_block ≡ true → IfSome result (λ t. (committed : ℕ → E.Tree → Bool) (s : ℕ) → points_in committed E.tree s x.old ≡ points_with (committed s (E.tree t)) x.new) }
     ensures others { (x.new.phase ≡ x.old.phase) × (x.new.in_block ≡ x.old.in_block) }
 {
     x.take_next()
@@ -421,11 +432,12 @@ fn meet<E: Executor>(
     requires slack { E.slack executor.old ≤ E.most }
     ensures makes { IfOk result (λ p. Makes E.stands (λ v. spec.meets E.course session v (seen E.tree x.old) (E.tree statement)) executor.old executor.new (seen E.tree x.new) p) }
     ensures transactions { E.in_transaction executor.new ≡ slice_set (E.in_transaction executor.old) session (has_open x.new.phase) }
+    ensures others { OnOk result (OthersAreAsBefore session (E.has_committed executor.old) (E.has_committed executor.new)) }
     ensures slack { E.slack executor.new ≤ E.most }
     ensures free { result ≡ Ok progress.Goes → E.waiting executor.new session ≡ false }
     ensures waits { result ≡ Ok progress.Waits → E.waiting executor.new session ≡ true }
-    ensures weight { OnOk result (weight_of E.most (E.slack executor.new) (points x.new) ≤ weight_of E.most (E.slack executor.old) (points x.old + 3)) }
-    ensures lighter { result ≡ Ok progress.Goes → weight_of E.most (E.slack executor.new) (points x.new) < weight_of E.most (E.slack executor.old) (points x.old + 3) }
+    ensures weight { OnOk result (weight_of E.most (E.slack executor.new) (points_in (E.has_committed executor.new) E.tree session x.new) ≤ weight_of E.most (E.slack executor.old) (points_with (E.has_committed executor.old session (E.tree statement)) x.old)) }
+    ensures lighter { result ≡ Ok progress.Goes → weight_of E.most (E.slack executor.new) (points_in (E.has_committed executor.new) E.tree session x.new) < weight_of E.most (E.slack executor.old) (points_with (E.has_committed executor.old session (E.tree statement)) x.old) }
 {
     match state_fault::<E>(alloc, x, &statement)? {
         Some(fault) => Ok(fail(executor, session, x, fault)),
@@ -448,11 +460,12 @@ fn next<E: Executor>(
     requires slack { E.slack executor.old ≤ E.most }
     ensures makes { IfOk result (λ p. Makes E.stands (λ v. spec.by_next E.course session v (seen E.tree x.old) (spec.head_of (seen E.tree x.old).rest)) executor.old executor.new (seen E.tree x.new) p) }
     ensures transactions { E.in_transaction executor.new ≡ slice_set (E.in_transaction executor.old) session (has_open x.new.phase) }
+    ensures others { OnOk result (OthersAreAsBefore session (E.has_committed executor.old) (E.has_committed executor.new)) }
     ensures slack { E.slack executor.new ≤ E.most }
     ensures free { result ≡ Ok progress.Goes → E.waiting executor.new session ≡ false }
     ensures waits { result ≡ Ok progress.Waits → E.waiting executor.new session ≡ true }
-    ensures weight { OnOk result (weight_of E.most (E.slack executor.new) (points x.new) ≤ weight_of E.most (E.slack executor.old) (points x.old)) }
-    ensures lighter { result ≡ Ok progress.Goes → weight_of E.most (E.slack executor.new) (points x.new) < weight_of E.most (E.slack executor.old) (points x.old) }
+    ensures weight { OnOk result (weight_of E.most (E.slack executor.new) (points_in (E.has_committed executor.new) E.tree session x.new) ≤ weight_of E.most (E.slack executor.old) (points_in (E.has_committed executor.old) E.tree session x.old)) }
+    ensures lighter { result ≡ Ok progress.Goes → weight_of E.most (E.slack executor.new) (points_in (E.has_committed executor.new) E.tree session x.new) < weight_of E.most (E.slack executor.old) (points_in (E.has_committed executor.old) E.tree session x.old) }
 {
     match take_next::<E>(x) {
         Some(statement) => meet(alloc, executor, session, x, statement),
@@ -474,11 +487,12 @@ pub(crate) fn turn<E: Executor>(
     requires slack { E.slack executor.old ≤ E.most }
     ensures makes { IfOk result (λ p. Makes E.stands (λ v. spec.turns E.course session v (seen E.tree x.old)) executor.old executor.new (seen E.tree x.new) p) }
     ensures transactions { E.in_transaction executor.new ≡ slice_set (E.in_transaction executor.old) session (has_open x.new.phase) }
+    ensures others { OnOk result (OthersAreAsBefore session (E.has_committed executor.old) (E.has_committed executor.new)) }
     ensures slack { E.slack executor.new ≤ E.most }
     ensures free { result ≡ Ok progress.Goes → E.waiting executor.new session ≡ false }
     ensures waits { result ≡ Ok progress.Waits → E.waiting executor.new session ≡ true }
-    ensures weight { OnOk result (weight_of E.most (E.slack executor.new) (points x.new) ≤ weight_of E.most (E.slack executor.old) (points x.old)) }
-    ensures lighter { result ≡ Ok progress.Goes → weight_of E.most (E.slack executor.new) (points x.new) < weight_of E.most (E.slack executor.old) (points x.old) }
+    ensures weight { OnOk result (weight_of E.most (E.slack executor.new) (points_in (E.has_committed executor.new) E.tree session x.new) ≤ weight_of E.most (E.slack executor.old) (points_in (E.has_committed executor.old) E.tree session x.old)) }
+    ensures lighter { result ≡ Ok progress.Goes → weight_of E.most (E.slack executor.new) (points_in (E.has_committed executor.new) E.tree session x.new) < weight_of E.most (E.slack executor.old) (points_in (E.has_committed executor.old) E.tree session x.old) }
 {
     if !x.in_block {
         return Ok(Progress::Ended);

@@ -322,7 +322,6 @@ number_done t old new caller k f first = record {
 
 number_told : (t : TableNo) (e : Stop) (new : Stores) (caller : Caller) (k : ℕ) (h : History) (m : Made (Unit {0})) → IsTold (λ (u : Unit {0}). u) (Err e) new caller k h m → IsTold (λ (t : TableNo). t.number) (Err e) new caller k h (kept_number t.number m)
 number_told t (stop.Waits rest) new caller k h m told = (ap (number_or t.number) told.0, told.1)
-number_told t (stop.Commits rest) new caller k h m told = (ap (number_or t.number) told.0, told.1)
 number_told t (stop.Refused f) new caller k h m told = (ap (number_or t.number) told.0, told.1)
 number_told t stop.NoMemory new caller k h m told = tt
 

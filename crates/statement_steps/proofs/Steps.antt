@@ -1,8 +1,9 @@
 -- Parts of a statement, one after another.
-use Rattle.std.proofs.Common.{ℕ, ◌+◌, List, [], ◌∷◌, ◌++◌, refl, ap, sym, ◌∙◌, subst, append_assoc, append-nil, Option, None, Result, Ok, Err, IsSome, slice_index_or}
+use Rattle.std.proofs.Common.{◌≡◌, ℕ, ◌+◌, List, [], ◌∷◌, ◌++◌, refl, ap, sym, ◌∙◌, subst, append_assoc, append-nil, Option, None, Result, Ok, Err, IsSome, slice_index_or}
 use Rattle.history.specs.Locks.{queue}
 use Rattle.history.specs.History.{History, lock_events}
 use Rattle.stores.specs.declared.stores.Stores.{Stores}
+use Rattle.course.specs.Ended.{told_as, giving}
 use Rattle.course.specs.Made.{Made, and_then, then_told, behind}
 use Rattle.course.specs.Attempts.{MayAttempt, MayGoOn, WentOn, GoesOn}
 use Rattle.course.specs.declared.caller.Caller.{Caller}
@@ -37,8 +38,6 @@ told_behind view (Ok x) mid new caller n h events m first told =
     (told.0, subst (WentOn h caller.session n [] new) (sym (append_assoc m.events events h)) (went_on h (events ++ h) (m.events ++ (events ++ h)) caller.session caller.cmd n [] mid new first told.1))
 told_behind view (Err (stop.Waits rest)) mid new caller n h events m first told =
     (told.0, subst (WentOn h caller.session caller.cmd (caller.session ∷ []) new) (sym (append_assoc m.events events h)) (went_on h (events ++ h) (m.events ++ (events ++ h)) caller.session caller.cmd caller.cmd (caller.session ∷ []) mid new first told.1))
-told_behind view (Err (stop.Commits rest)) mid new caller n h events m first told =
-    (told.0, subst (WentOn h caller.session (caller.cmd + 1) [] new) (sym (append_assoc m.events events h)) (went_on h (events ++ h) (m.events ++ (events ++ h)) caller.session caller.cmd (caller.cmd + 1) [] mid new first told.1))
 told_behind view (Err (stop.Refused f)) mid new caller n h events m first told =
     (told.0, subst (WentOn h caller.session (caller.cmd + 1) [] new) (sym (append_assoc m.events events h)) (went_on h (events ++ h) (m.events ++ (events ++ h)) caller.session caller.cmd (caller.cmd + 1) [] mid new first told.1))
 told_behind view (Err stop.NoMemory) mid new caller n h events m first told = tt
@@ -60,13 +59,11 @@ then_step {T} {U} see view x r old mid new caller n f next first second = record
 stop_told : {X T Y U : Type 0} (see : X → T) (view : Y → U) (e : Stop) (new : Stores) (caller : Caller) (n k : ℕ) (h : History) (m : Made T) (next : T → Made U)
     → IsTold see (Err e) new caller k h m → IsTold view (Err e) new caller n h (and_then m next)
 stop_told {U = U} see view (stop.Waits rest) new caller n k h m next told = subst (λ t. IsTold view (Err (stop.Waits rest)) new caller n h (then_told t m.events next)) (sym told.0) (refl, told.1)
-stop_told see view (stop.Commits rest) new caller n k h m next told = subst (λ t. IsTold view (Err (stop.Commits rest)) new caller n h (then_told t m.events next)) (sym told.0) (refl, told.1)
 stop_told see view (stop.Refused f) new caller n k h m next told = subst (λ t. IsTold view (Err (stop.Refused f)) new caller n h (then_told t m.events next)) (sym told.0) (refl, told.1)
 stop_told see view stop.NoMemory new caller n k h m next told = tt
 
 pub halted_same : (X Y : Type 0) (e : Stop) (stores : Stores) (s : ℕ) → IsHalted {X = X} (Err e) stores s → IsHalted {X = Y} (Err e) stores s
 halted_same X Y (stop.Waits rest) stores s waits = waits
-halted_same X Y (stop.Commits rest) stores s waits = waits
 halted_same X Y (stop.Refused f) stores s waits = waits
 halted_same X Y stop.NoMemory stores s waits = waits
 
@@ -89,13 +86,11 @@ on_done see x rest old new caller n f first = record {
 
 on_told : {X T : Type 0} (see : X → T) (e : Stop) (rest : Option Rest) (new : Stores) (caller : Caller) (n : ℕ) (h : History) (m : Made T) → IsTold see (Err e) new caller n h m → IsTold see (Err (stopped_on e rest)) new caller n h (going_on rest m)
 on_told see (stop.Waits lock) rest new caller n h m told = (ap (told_on rest) told.0, told.1)
-on_told see (stop.Commits further) rest new caller n h m told = (ap (told_on rest) told.0, told.1)
 on_told see (stop.Refused f) rest new caller n h m told = (ap (told_on rest) told.0, told.1)
 on_told see stop.NoMemory rest new caller n h m told = tt
 
 on_halted : (X : Type 0) (e : Stop) (rest : Option Rest) (stores : Stores) (s : ℕ) → MayGoOn stores rest → IsHalted {X = X} (Err e) stores s → IsHalted {X = X} (Err (stopped_on e rest)) stores s
 on_halted X (stop.Waits lock) rest stores s may halted = (halted.0, may)
-on_halted X (stop.Commits further) rest stores s may halted = halted
 on_halted X (stop.Refused f) rest stores s may halted = halted
 on_halted X stop.NoMemory rest stores s may halted = tt
 
@@ -105,6 +100,29 @@ stops_on {X} see e rest old new caller n f may first = record {
   is = λ h stands at. on_told see e rest new caller n h (f h) (first.is h stands at);
   keeps = first.keeps;
   waits = on_halted X e rest new caller.session may first.waits;
+}
+
+-- ---- what is given is told through a function
+
+pub gives_ok : {X T Y U : Type 0} (see : X → T) (view : Y → U) (f : T → U) (x : X) (y : Y) (old new : Stores) (caller : Caller) (n : ℕ) (g : History → Made T) → f (see x) ≡ view y → IsStep see (Ok x) old new caller n g
+    → IsStep view (Ok y) old new caller n (λ h. giving f (g h))
+gives_ok see view f x y old new caller n g same first = record {
+  is = λ h stands at. let t = first.is h stands at in (ap (told_as f) t.0 ∙ ap Ok same, t.1);
+  keeps = first.keeps;
+  waits = first.waits;
+}
+
+gives_told : {X T Y U : Type 0} (see : X → T) (view : Y → U) (f : T → U) (e : Stop) (new : Stores) (caller : Caller) (n : ℕ) (h : History) (m : Made T) → IsTold see (Err e) new caller n h m → IsTold view (Err e) new caller n h (giving f m)
+gives_told see view f (stop.Waits rest) new caller n h m told = (ap (told_as f) told.0, told.1)
+gives_told see view f (stop.Refused fault) new caller n h m told = (ap (told_as f) told.0, told.1)
+gives_told see view f stop.NoMemory new caller n h m told = tt
+
+pub gives_stop : {X T Y U : Type 0} (see : X → T) (view : Y → U) (f : T → U) (e : Stop) (old new : Stores) (caller : Caller) (n : ℕ) (g : History → Made T) → IsStep see (Err e) old new caller n g
+    → IsStep view (Err e) old new caller n (λ h. giving f (g h))
+gives_stop {X} {T} {Y} {U} see view f e old new caller n g first = record {
+  is = λ h stands at. gives_told see view f e new caller n h (g h) (first.is h stands at);
+  keeps = first.keeps;
+  waits = halted_same X Y e new caller.session first.waits;
 }
 
 -- ---- who may go on

@@ -5,8 +5,8 @@ use Rattle.lock_table.specs.Stands.{IsIdle}
 use Rattle.stores.specs.Stand.{Stands}
 use Rattle.stores.specs.Numbers.{IsAt}
 use Rattle.stores.specs.declared.stores.Stores.{Stores}
-use Rattle.course.specs.Made.{Made, Halt, Waits, Commits, Refused, and_then}
-use Rattle.course.specs.Attempts.{MayGoOn, IsLeft, WentOn, GoesOn, IsWaiting}
+use Rattle.course.specs.Made.{Made, Halt, Waits, Refused, and_then}
+use Rattle.course.specs.Attempts.{MayGoOn, WentOn, GoesOn, IsWaiting}
 use Rattle.course.specs.declared.caller.Caller.{Caller}
 use Rattle.course.specs.declared.rest.Rest.{Rest}
 use Rattle.course.specs.declared.stop.Stop.{Stop}
@@ -17,7 +17,6 @@ use Rattle.course.specs.declared.stop.Stop.TheVariants as stop
 abbrev pub IsTold : {X T : Type 0} → (X → T) → Result X Stop → Stores → Caller → (n : ℕ) → History → Made T → Type 0
 IsTold view (Ok x) new caller n h m = (m.told ≡ Ok (view x)) × WentOn h caller.session n [] new (m.events ++ h)
 IsTold view (Err (stop.Waits rest)) new caller n h m = (m.told ≡ Err (Waits rest)) × WentOn h caller.session caller.cmd (caller.session ∷ []) new (m.events ++ h)
-IsTold view (Err (stop.Commits rest)) new caller n h m = (m.told ≡ Err (Commits rest)) × WentOn h caller.session (caller.cmd + 1) [] new (m.events ++ h)
 IsTold view (Err (stop.Refused f)) new caller n h m = (m.told ≡ Err (Refused f)) × WentOn h caller.session (caller.cmd + 1) [] new (m.events ++ h)
 IsTold view (Err stop.NoMemory) new caller n h m = Unit {0}
 
@@ -25,7 +24,6 @@ IsTold view (Err stop.NoMemory) new caller n h m = Unit {0}
 abbrev pub IsHalted : {X : Type 0} → Result X Stop → Stores → (session : ℕ) → Type 0
 IsHalted (Ok x) stores s = IsIdle stores.locks s
 IsHalted (Err (stop.Waits rest)) stores s = IsWaiting stores s × MayGoOn stores rest
-IsHalted (Err (stop.Commits rest)) stores s = IsIdle stores.locks s × IsLeft stores rest
 IsHalted (Err (stop.Refused f)) stores s = IsIdle stores.locks s
 IsHalted (Err stop.NoMemory) stores s = Unit {0}
 
@@ -43,12 +41,10 @@ follow f next h = and_then (f h) (λ x. next x ((f h).events ++ h))
 abbrev pub told_on : {T : Type 0} → Option Rest → Result T Halt → Result T Halt
 told_on rest (Ok x) = Ok x
 told_on rest (Err (Waits lock)) = Err (Waits rest)
-told_on rest (Err (Commits further)) = Err (Commits further)
 told_on rest (Err (Refused f)) = Err (Refused f)
 
 abbrev pub stopped_on : Stop → Option Rest → Stop
 stopped_on (stop.Waits lock) rest = stop.Waits rest
-stopped_on (stop.Commits further) rest = stop.Commits further
 stopped_on (stop.Refused f) rest = stop.Refused f
 stopped_on stop.NoMemory rest = stop.NoMemory
 

@@ -9,7 +9,6 @@ pub fn stopped_on(stop: Stop, rest: Option<Rest>) -> Stop
 {
     match stop {
         Stop::Waits(_) => Stop::Waits(rest),
-        Stop::Commits(further) => Stop::Commits(further),
         Stop::Refused(fault) => Stop::Refused(fault),
         Stop::NoMemory => Stop::NoMemory,
     }

@@ -256,7 +256,6 @@ one_less start mid new caller names if_there tables n ns done o left step rest d
 -- the same for whatever is answered
 seen_told : {X Y T : Type 0} (see : X → T) (view : Y → T) (e : Stop) (new : Stores) (caller : Caller) (n : ℕ) (h : History) (m : Made T) → IsTold see (Err e) new caller n h m → IsTold view (Err e) new caller n h m
 seen_told see view (stop.Waits rest) new caller n h m told = told
-seen_told see view (stop.Commits rest) new caller n h m told = told
 seen_told see view (stop.Refused f) new caller n h m told = told
 seen_told see view stop.NoMemory new caller n h m told = tt
 

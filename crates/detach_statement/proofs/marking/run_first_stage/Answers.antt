@@ -2,6 +2,7 @@ use Rattle.std.proofs.Common.{◌+◌, Err}
 use Rattle.pg_ids.specs.declared.ids.TableNo.{TableNo}
 use Rattle.pg_ids.specs.declared.lock_mode.LockMode.TheVariants.{ShareUpdateExclusive}
 use Rattle.course.specs.Attempts.{MayAttempt}
+use Rattle.course.specs.declared.rest.RestOfDetach.{RestOfDetach}
 use Rattle.statement_steps.specs.Asks.{named}
 use Rattle.statement_steps.specs.Steps.{follow}
 use Rattle.statement_steps.proofs.Steps.{then_step, stop_step, may_go_on}
@@ -26,15 +27,20 @@ mark_table-requires-clause-guarded c =
 pub returns-in-Ok-lock_named : goal.returns-in-Ok-lock_named
 returns-in-Ok-lock_named c =
     let s = c.args.caller.session in
-    then_step (λ (t : TableNo). t.number) (λ (u : Unit {0}). u) c.in-Ok.parent (Err c.mark_table.result) c.args.stores.now c.lock_named.new.stores c.mark_table.new.stores c.args.caller (c.args.caller.cmd + 1)
+    then_step (λ (t : TableNo). t.number) (λ (d : RestOfDetach). d) c.in-Ok.parent c.mark_table.result c.args.stores.now c.lock_named.new.stores c.mark_table.new.stores c.args.caller (c.args.caller.cmd + 1)
     (named c.args.names.now s ShareUpdateExclusive c.args.parent.now) (λ p. follow (named c.args.names.now s ShareUpdateExclusive c.args.name.now) (λ t. table_marked c.args.caller p t)) c.in-Ok.ensures.step
-    (then_step (λ (t : TableNo). t.number) (λ (u : Unit {0}). u) c.in-Ok-lock_named.table (Err c.mark_table.result) c.lock_named.new.stores c.lock_named-in-Ok.new.stores c.mark_table.new.stores c.args.caller (c.args.caller.cmd + 1)
+    (then_step (λ (t : TableNo). t.number) (λ (d : RestOfDetach). d) c.in-Ok-lock_named.table c.mark_table.result c.lock_named.new.stores c.lock_named-in-Ok.new.stores c.mark_table.new.stores c.args.caller (c.args.caller.cmd + 1)
     (named c.args.names.now s ShareUpdateExclusive c.args.name.now) (λ t. table_marked c.args.caller c.in-Ok.parent.number t) c.in-Ok-lock_named.ensures.step c.mark_table.ensures)
 
 pub returns-in-Err-lock_named : goal.returns-in-Err-lock_named
 returns-in-Err-lock_named c =
     let s = c.args.caller.session in
-    then_step (λ (t : TableNo). t.number) (λ (u : Unit {0}). u) c.in-Ok.parent (Err c.in-Err-lock_named.stop) c.args.stores.now c.lock_named.new.stores c.lock_named-in-Ok.new.stores c.args.caller (c.args.caller.cmd + 1)
+    then_step (λ (t : TableNo). t.number) (λ (d : RestOfDetach). d) c.in-Ok.parent (Err c.in-Err-lock_named.stop) c.args.stores.now c.lock_named.new.stores c.lock_named-in-Ok.new.stores c.args.caller (c.args.caller.cmd + 1)
     (named c.args.names.now s ShareUpdateExclusive c.args.parent.now) (λ p. follow (named c.args.names.now s ShareUpdateExclusive c.args.name.now) (λ t. table_marked c.args.caller p t)) c.in-Ok.ensures.step
-    (stop_step (λ (t : TableNo). t.number) (λ (u : Unit {0}). u) c.in-Err-lock_named.stop c.lock_named.new.stores c.lock_named-in-Ok.new.stores c.args.caller (c.args.caller.cmd + 1) c.args.caller.cmd
+    (stop_step (λ (t : TableNo). t.number) (λ (d : RestOfDetach). d) c.in-Err-lock_named.stop c.lock_named.new.stores c.lock_named-in-Ok.new.stores c.args.caller (c.args.caller.cmd + 1) c.args.caller.cmd
     (named c.args.names.now s ShareUpdateExclusive c.args.name.now) (λ t. table_marked c.args.caller c.in-Ok.parent.number t) c.in-Err-lock_named.ensures.step)
+
+pub returns-in-Err : goal.returns-in-Err
+returns-in-Err c =
+    stop_step (λ (t : TableNo). t.number) (λ (d : RestOfDetach). d) c.in-Err.stop c.args.stores.now c.lock_named.new.stores c.args.caller (c.args.caller.cmd + 1) c.args.caller.cmd
+    (named c.args.names.now c.args.caller.session ShareUpdateExclusive c.args.parent.now) (λ p. follow (named c.args.names.now c.args.caller.session ShareUpdateExclusive c.args.name.now) (λ t. table_marked c.args.caller p t)) c.in-Err.ensures.step
