@@ -14,15 +14,8 @@ falls most s t p q few le =
     let h : (q + 1) * (most + 1) ≤ p * (most + 1) = mul-le-mul_right (most + 1) few in
     omega (arith, h, suc-mul q (most + 1))
 
-pub stays_below : (most s t p q : ℕ) → q ≤ p → t ≤ s → weight_of most t q ≤ weight_of most s p
-stays_below most s t p q few le =
-    let h : q * (most + 1) ≤ p * (most + 1) = mul-le-mul_right (most + 1) few in
-    omega (arith, h)
-
-pub slack_falls : (most s t p q : ℕ) → q ≤ p → t < s → weight_of most t q < weight_of most s p
-slack_falls most s t p q few le =
-    let h : q * (most + 1) ≤ p * (most + 1) = mul-le-mul_right (most + 1) few in
-    omega (arith, h)
+pub falls_at_least : (most s t p q : ℕ) → q + 1 ≤ p → t ≤ most → weight_of most t q ≤ weight_of most s p
+falls_at_least most s t p q few le = let h = falls most s t p q few le in omega (arith, h)
 
 pub two_at_least : (b : Bool) → 2 ≤ of_statement b
 two_at_least true = omega arith
@@ -74,21 +67,6 @@ over most s t p committed y none some le =
 
 -- ---- a statement that is kept
 
-pub statement_stays : (b d : Bool) → (b ≡ true → d ≡ true) → of_statement d ≤ of_statement b
-statement_stays true true keeps = omega arith
-statement_stays true false keeps = absurd (let c = keeps refl in cc)
-statement_stays false true keeps = omega arith
-statement_stays false false keeps = omega arith
-
-pub kept_points : {T : Type 0} (committed : T → Bool) (x y : SessionView T) (t : T) → x.in_block ≡ true → y ≡ kept x t → points committed y ≡ of_statement (committed t) + most_points x
-kept_points committed x y t busy is = rw (is, busy) (omega arith)
-
-pub kept_less : {T : Type 0} (committed : T → Bool) (x y : SessionView T) (t : T) (b : Bool) → x.in_block ≡ true → y ≡ kept x t → (b ≡ true → committed t ≡ true) → points committed y ≤ points_with b x
-kept_less committed x y t b busy is keeps =
-    let at = kept_points committed x y t busy is in
-    let less = statement_stays b (committed t) keeps in
-    omega (arith, at, less)
-
 -- a transaction begins for it
 pub opened_points : {T : Type 0} (committed : T → Bool) (x y : SessionView T) (t : T) (l : Isolation) (b : Bool) → x.in_block ≡ true → x.phase ≡ Idle → y ≡ kept (opened x Implicit l) t → committed t ≡ b → points committed y + 1 ≤ points_with b x
 opened_points committed x y t l b busy idle is same = rw (is, busy, idle, same) (omega arith)
@@ -101,6 +79,9 @@ pub again_lower : (most s t p q : ℕ) (b d : Bool) → (b ≡ false) × (d ≡ 
 again_lower most s t p q false true once few le = falls most s t (3 + p) q (omega arith) le
 again_lower most s t p q true d once few le = absurd (let c = once.0 in cc)
 again_lower most s t p q false false once few le = absurd (let c = once.1 in cc)
+
+pub again_not_higher : (most s t p q : ℕ) (b d : Bool) → (b ≡ false) × (d ≡ true) → q ≤ of_statement d + p → t ≤ most → weight_of most t q ≤ weight_of most s (of_statement b + p)
+again_not_higher most s t p q b d once few le = let h = again_lower most s t p q b d once few le in omega (arith, h)
 
 -- ---- the front of a block
 
