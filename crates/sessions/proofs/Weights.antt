@@ -1,11 +1,11 @@
 -- Weights of sessions.
-use Rattle.std.proofs.Common.{◌≡◌, ◌<◌, ◌≤◌, ◌+◌, ◌*◌, ℕ, Bool, true, false, List, [], ◌∷◌, length, refl, ap, arith, suc-mul, Option, Some, None}
+use Rattle.std.proofs.Common.{◌≡◌, ◌<◌, ◌≤◌, ◌+◌, ◌*◌, ℕ, Bool, true, false, List, [], ◌∷◌, length, arith, suc-mul}
 use Rattle.std.proofs.Math.Nat.{mul-le-mul_right}
-use Rattle.sessions.specs.Sessions.{SessionView, head_of, tail, kept, opened}
-use Rattle.sessions.specs.Weight.{of_phase, of_statement, of_rest, of_block, points, most_points, points_with, points_in, weight_of}
+use Rattle.sessions.specs.Sessions.{SessionView, kept, opened}
+use Rattle.sessions.specs.Weight.{of_statement, of_rest, of_block, points, most_points, points_with, weight_of}
 use Rattle.sessions.specs.declared.phase.Isolation.{Isolation}
 use Rattle.sessions.specs.declared.phase.Phase.{Phase}
-use Rattle.sessions.specs.declared.phase.Phase.TheVariants.{Idle, Implicit, Explicit, Failed}
+use Rattle.sessions.specs.declared.phase.Phase.TheVariants.{Idle, Implicit}
 
 -- ---- numbers
 
@@ -58,23 +58,13 @@ lower most s t committed x y b few le =
 pub not_higher : {T : Type 0} (most s t : ℕ) (committed : T → Bool) (x y : SessionView T) (b : Bool) → most_points y ≤ most_points x + 1 → t ≤ most → weight_of most t (points committed y) ≤ weight_of most s (points_with b x)
 not_higher most s t committed x y b few le = let h = lower most s t committed x y b few le in omega (arith, h)
 
--- nothing is left of the block
-pub over : {T : Type 0} (most s t p : ℕ) (committed : T → Bool) (y : SessionView T) → most_points y ≡ 0 → 1 ≤ p → t ≤ most → weight_of most t (points committed y) ≤ weight_of most s p
-over most s t p committed y none some le =
-    let a = points_few committed y in
-    let h = falls most s t p (points committed y) (omega (arith, a, none, some)) le in
-    omega (arith, h)
-
 -- ---- a statement that is kept
 
 -- a transaction begins for it
 pub opened_points : {T : Type 0} (committed : T → Bool) (x y : SessionView T) (t : T) (l : Isolation) (b : Bool) → x.in_block ≡ true → x.phase ≡ Idle → y ≡ kept (opened x Implicit l) t → committed t ≡ b → points committed y + 1 ≤ points_with b x
 opened_points committed x y t l b busy idle is same = rw (is, busy, idle, same) (omega arith)
 
--- another one, in its middle
-pub again_points : {T : Type 0} (committed : T → Bool) (x y : SessionView T) (t : T) (l : Isolation) (b : Bool) → x.in_block ≡ true → y ≡ kept (opened (record x { phase = Idle }) Implicit l) t → committed t ≡ b → points committed y ≤ points_with b x
-again_points committed x y t l b busy is same = rw (is, busy, same) (omega arith)
-
+-- another one has begun for it
 pub again_lower : (most s t p q : ℕ) (b d : Bool) → (b ≡ false) × (d ≡ true) → q ≤ of_statement d + p → t ≤ most → weight_of most t q < weight_of most s (of_statement b + p)
 again_lower most s t p q false true once few le = falls most s t (3 + p) q (omega arith) le
 again_lower most s t p q true d once few le = absurd (let c = once.0 in cc)
@@ -82,18 +72,3 @@ again_lower most s t p q false false once few le = absurd (let c = once.1 in cc)
 
 pub again_not_higher : (most s t p q : ℕ) (b d : Bool) → (b ≡ false) × (d ≡ true) → q ≤ of_statement d + p → t ≤ most → weight_of most t q ≤ weight_of most s (of_statement b + p)
 again_not_higher most s t p q b d once few le = let h = again_lower most s t p q b d once few le in omega (arith, h)
-
--- ---- the front of a block
-
-front_of : {T : Type 0} (committed : T → Bool) (ts : List T) (t : T) → head_of ts ≡ Some t → of_rest committed ts ≡ of_statement (committed t) + 3 * length (tail ts)
-front_of committed [] t is = absurd (let c = is in cc)
-front_of committed (u ∷ us) t is = let same : u ≡ t = (let c = is in cc) in ap (λ v. of_statement (committed v) + 3 * length us) same
-
-pub front_points : {T U : Type 0} (tree : T → U) (committed : ℕ → U → Bool) (s : ℕ) (x y : SessionView T) (t : T) → head_of x.rest ≡ Some t → y ≡ record x { rest = tail x.rest } → x.in_block ≡ true
-    → points_in committed tree s x ≡ points_with (committed s (tree t)) y
-front_points tree committed s x y t is took busy =
-    let h = front_of (λ u. committed s (tree u)) x.rest t is in
-    rw (took, busy) (omega (arith, h))
-
-pub some_left : {T : Type 0} (committed : T → Bool) (x : SessionView T) → x.in_block ≡ true → 1 ≤ points committed x
-some_left committed x busy = rw busy (omega arith)
