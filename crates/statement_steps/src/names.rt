@@ -109,7 +109,8 @@ fn same_or_gone(
     ensures step { IsStep (λ u. u) result stores.now stores.now caller caller.cmd (λ h. asks.same_or_gone name.now table.number found.number) }
     ensures same { OnOk result (found.number ≡ table.number) }
 {
-    if found.number == table.number {
+    let is_same = found.number == table.number;
+    if is_same {
         Ok(())
     } else {
         Err(stop_by(no_table(alloc, name)))
