@@ -27,6 +27,7 @@ use Rattle.course.specs.Ended.{Ended, Done, Commits}
 use Rattle.course.specs.Made.{Made, Halt, Waits, Refused, number_after}
 use Rattle.course.specs.Attempts.{MayGoOn, WentOn, IsAttempt, GoesOn, HasCause, IsHalt}
 use Rattle.course.specs.declared.caller.Caller.{Caller}
+use Rattle.course.specs.declared.ending.Ending.{Ending}
 use Rattle.course.specs.declared.ending.Ending.TheVariants as endings
 use Rattle.course.specs.declared.rest.Rest.{Rest}
 use Rattle.course.specs.declared.rest.Rest.TheVariants.{Detach}
@@ -221,7 +222,7 @@ caller_in e a = caller_of (length e.opened) (slice_index_or e.commands a.session
 abbrev pub meant_at : {O T : Type 0} → Words O T → O → KeptSeats → Asker → History → Settings → T → Made Ended
 meant_at W o e a h g t = W.attempted o (caller_in e a) (slice_index_or e.rests a.session None) h g t
 
-pub as_meant : {O T : Type 0} (W : Words O T) (o : O) (e : KeptSeats) (a : Asker) (h : History) (g : Settings) (t : T) (n cmd : ℕ) (rest : Option Rest) (r : Result (Unit {0}) Stop) (stores : Stores) (before after : List ℕ)
+pub as_meant : {O T : Type 0} (W : Words O T) (o : O) (e : KeptSeats) (a : Asker) (h : History) (g : Settings) (t : T) (n cmd : ℕ) (rest : Option Rest) (r : Result Ending Stop) (stores : Stores) (before after : List ℕ)
     → n ≡ length e.opened → cmd ≡ slice_index_or e.commands a.session 0 → rest ≡ slice_index_or e.rests a.session None
     → IsAttempt r stores before after (caller_of n cmd a) h (W.attempted o (caller_of n cmd a) rest h g t) → IsAttempt r stores before after (caller_in e a) h (meant_at W o e a h g t)
 as_meant W o e a h g t n cmd rest r stores before after count number taken is =

@@ -78,8 +78,8 @@ pub trait Kinds: Sized + Drop {
     ) -> Result<Vec<usize>, NoMemory>
         ensures { IfOk result (λ cut. cut.items ≡ words.cancels session sessions (tree statement.now)) };
 
-    /// A statement from its beginning, or from where it stood, up to its end or to a wait: it appends what
-    /// it prints where it is done, and prints nothing else.
+    /// A statement from its beginning, or from where it stood, up to its end, to a wait, or to where what it did
+    /// first is to be committed: it appends what it prints where it is done, and prints nothing else.
     fn attempt(
         &self,
         alloc: Global,
