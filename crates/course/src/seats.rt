@@ -433,15 +433,18 @@ impl Seats {
         );
         self.ready = self.stores.locks.ready();
         match answer {
-            Ok(Ending::Done) => {
+            Ok(ending) => {
                 self.commands[session] = next;
-                self.give_up(asker.level, session, has_stood);
-                Ok(Outcome::Done)
-            }
-            Ok(Ending::Commits(rest)) => {
-                self.commands[session] = next;
-                set_rest(&mut self.rests, session, Some(Rest::Detach(rest)));
-                Ok(Outcome::Commits)
+                match ending {
+                    Ending::Done => {
+                        self.give_up(asker.level, session, has_stood);
+                        Ok(Outcome::Done)
+                    }
+                    Ending::Commits(rest) => {
+                        set_rest(&mut self.rests, session, Some(Rest::Detach(rest)));
+                        Ok(Outcome::Commits)
+                    }
+                }
             }
             Err(Stop::Waits(rest)) => {
                 self.commands[session] = number_after(&rest, next, cmd);
