@@ -127,7 +127,7 @@ returns-in-Commits-clause-ran g c h tells =
     subst (λ v. TellOf v h → HasRun (attempt_at g.K.Kinds.words (g.K.Kinds.options c.args.kinds.now) v c.args.asker h c.args.settings (g.K.Kinds.tree c.args.statement.now)) c.args.asker v
     (tried (the_view c.self.inside) c.attempt-answer.new.stores (slice_set c.self.inside.commands.items c.args.asker.session c.in-Some.next) c.set_rest.new.rests.items c.self.inside.queue.items c.ready-self-inside.result)
     c.args.out.now.items c.attempt-answer.new.out.items outcomes.Commits h) c.self.view_is
-    (λ told. commits_ran (the_view c.self.inside) c.args.asker c.attempt-answer.new.stores c.in-Some.next c.set_rest.new.rests.items c.ready-self-inside.result h c.args.out.now.items c.attempt-answer.new.out.items _ c.in-Commits.rest it told (next ∙ ap (λ n. n + 1) number) (c.set_rest.ensures ∙ (ap (λ r. slice_set c.take_rest-rest.new.rests.items c.args.asker.session (Some (Detach r))) c.in-Commits.rest-is ∙ (ap (λ xs. slice_set xs c.args.asker.session (Some (Detach c.in-Commits.rest))) c.take_rest-rest.ensures.taken ∙ set_twice c.self.inside.rests.items c.args.asker.session None (Some (Detach c.in-Commits.rest))))) c.in-Ok.ensures.waits (as_meant g.K.Kinds.words (g.K.Kinds.options c.args.kinds.now) (the_view c.self.inside) c.args.asker h c.args.settings (g.K.Kinds.tree c.args.statement.now) c.count-sessions.result c.number_at-cmd.result c.take_rest-rest.result (Ok (endings.Commits c.in-Commits.rest)) c.attempt-answer.new.stores c.args.out.now.items c.attempt-answer.new.out.items (c.count-sessions.ensures.is ∙ ap (λ v. length v.opened) (sym c.self.view_is)) number c.take_rest-rest.ensures.is (subst (λ x. IsAttempt (Ok x) c.attempt-answer.new.stores c.args.out.now.items c.attempt-answer.new.out.items (record { session = c.args.asker.session; sessions = c.count-sessions.result; level = c.args.asker.level; cmd = c.number_at-cmd.result; kind = c.args.asker.kind }) h (g.K.Kinds.words.attempted (g.K.Kinds.options c.args.kinds.now) (caller_of c.count-sessions.result c.number_at-cmd.result c.args.asker) c.take_rest-rest.result h c.args.settings (g.K.Kinds.tree c.args.statement.now))) c.in-Commits.is (c.in-Ok.ensures.is h told.stands (subst (IsAt h c.args.asker.session) (sym number) (told.numbered c.args.asker.session))))))
+    (λ told. commits_ran (the_view c.self.inside) c.args.asker c.attempt-answer.new.stores c.in-Some.next c.set_rest.new.rests.items c.ready-self-inside.result h c.args.out.now.items c.attempt-answer.new.out.items _ c.in-Commits.rest it told (next ∙ ap (λ n. n + 1) number) (c.set_rest.ensures ∙ ((ap (λ xs. slice_set xs c.args.asker.session (Some (Detach c.in-Commits.rest))) c.take_rest-rest.ensures.taken ∙ set_twice c.self.inside.rests.items c.args.asker.session None (Some (Detach c.in-Commits.rest))))) c.in-Ok.ensures.waits (as_meant g.K.Kinds.words (g.K.Kinds.options c.args.kinds.now) (the_view c.self.inside) c.args.asker h c.args.settings (g.K.Kinds.tree c.args.statement.now) c.count-sessions.result c.number_at-cmd.result c.take_rest-rest.result (Ok (endings.Commits c.in-Commits.rest)) c.attempt-answer.new.stores c.args.out.now.items c.attempt-answer.new.out.items (c.count-sessions.ensures.is ∙ ap (λ v. length v.opened) (sym c.self.view_is)) number c.take_rest-rest.ensures.is (subst (λ x. IsAttempt (Ok x) c.attempt-answer.new.stores c.args.out.now.items c.attempt-answer.new.out.items (record { session = c.args.asker.session; sessions = c.count-sessions.result; level = c.args.asker.level; cmd = c.number_at-cmd.result; kind = c.args.asker.kind }) h (g.K.Kinds.words.attempted (g.K.Kinds.options c.args.kinds.now) (caller_of c.count-sessions.result c.number_at-cmd.result c.args.asker) c.take_rest-rest.result h c.args.settings (g.K.Kinds.tree c.args.statement.now))) c.in-Commits.is (c.in-Ok.ensures.is h told.stands (subst (IsAt h c.args.asker.session) (sym number) (told.numbered c.args.asker.session))))))
     tells
 
 pub invariant_of-self-in-Commits : goal.invariant_of-self-in-Commits
@@ -145,7 +145,7 @@ invariant_of-self-in-Commits g c =
     ran_kept (the_view c.self.inside) (tried (the_view c.self.inside) c.attempt-answer.new.stores (slice_set c.self.inside.commands.items c.args.asker.session c.in-Some.next) c.set_rest.new.rests.items c.self.inside.queue.items c.ready-self-inside.result) c.self.invariant c.if-not-self.false
     (seated_after (the_view c.self.inside) c.attempt-answer.new.stores _ _ _ _ _ _ _ _ c.self.invariant.seated refl (as_long _ _ _) refl (ap length c.set_rest.ensures ∙ (as_long _ _ _ ∙ (ap length c.take_rest-rest.ensures.taken ∙ as_long _ _ _))) refl (goes_size c.self.inside.stores c.attempt-answer.new.stores c.args.asker.session c.attempt-answer.ensures.keeps)
     c.self.invariant.seated.queue (known_of (length c.attempt-answer.new.stores.locks.wants) c.ready-self-inside.result (length c.self.inside.opened.items) (c.attempt-answer.ensures.keeps.size.sessions ∙ c.self.invariant.seated.waits) c.ready-self-inside.ensures.known))
-    (λ h told. (_, commits_tells (the_view c.self.inside) c.args.asker c.attempt-answer.new.stores c.in-Some.next c.set_rest.new.rests.items c.ready-self-inside.result h c.args.out.now.items c.attempt-answer.new.out.items _ c.in-Commits.rest it told (next ∙ ap (λ n. n + 1) number) (c.set_rest.ensures ∙ (ap (λ r. slice_set c.take_rest-rest.new.rests.items c.args.asker.session (Some (Detach r))) c.in-Commits.rest-is ∙ (ap (λ xs. slice_set xs c.args.asker.session (Some (Detach c.in-Commits.rest))) c.take_rest-rest.ensures.taken ∙ set_twice c.self.inside.rests.items c.args.asker.session None (Some (Detach c.in-Commits.rest))))) c.in-Ok.ensures.waits (as_meant g.K.Kinds.words (g.K.Kinds.options c.args.kinds.now) (the_view c.self.inside) c.args.asker h c.args.settings (g.K.Kinds.tree c.args.statement.now) c.count-sessions.result c.number_at-cmd.result c.take_rest-rest.result (Ok (endings.Commits c.in-Commits.rest)) c.attempt-answer.new.stores c.args.out.now.items c.attempt-answer.new.out.items (c.count-sessions.ensures.is ∙ ap (λ v. length v.opened) (sym c.self.view_is)) number c.take_rest-rest.ensures.is (subst (λ x. IsAttempt (Ok x) c.attempt-answer.new.stores c.args.out.now.items c.attempt-answer.new.out.items (record { session = c.args.asker.session; sessions = c.count-sessions.result; level = c.args.asker.level; cmd = c.number_at-cmd.result; kind = c.args.asker.kind }) h (g.K.Kinds.words.attempted (g.K.Kinds.options c.args.kinds.now) (caller_of c.count-sessions.result c.number_at-cmd.result c.args.asker) c.take_rest-rest.result h c.args.settings (g.K.Kinds.tree c.args.statement.now))) c.in-Commits.is (c.in-Ok.ensures.is h told.stands (subst (IsAt h c.args.asker.session) (sym number) (told.numbered c.args.asker.session)))))))
+    (λ h told. (_, commits_tells (the_view c.self.inside) c.args.asker c.attempt-answer.new.stores c.in-Some.next c.set_rest.new.rests.items c.ready-self-inside.result h c.args.out.now.items c.attempt-answer.new.out.items _ c.in-Commits.rest it told (next ∙ ap (λ n. n + 1) number) (c.set_rest.ensures ∙ ((ap (λ xs. slice_set xs c.args.asker.session (Some (Detach c.in-Commits.rest))) c.take_rest-rest.ensures.taken ∙ set_twice c.self.inside.rests.items c.args.asker.session None (Some (Detach c.in-Commits.rest))))) c.in-Ok.ensures.waits (as_meant g.K.Kinds.words (g.K.Kinds.options c.args.kinds.now) (the_view c.self.inside) c.args.asker h c.args.settings (g.K.Kinds.tree c.args.statement.now) c.count-sessions.result c.number_at-cmd.result c.take_rest-rest.result (Ok (endings.Commits c.in-Commits.rest)) c.attempt-answer.new.stores c.args.out.now.items c.attempt-answer.new.out.items (c.count-sessions.ensures.is ∙ ap (λ v. length v.opened) (sym c.self.view_is)) number c.take_rest-rest.ensures.is (subst (λ x. IsAttempt (Ok x) c.attempt-answer.new.stores c.args.out.now.items c.attempt-answer.new.out.items (record { session = c.args.asker.session; sessions = c.count-sessions.result; level = c.args.asker.level; cmd = c.number_at-cmd.result; kind = c.args.asker.kind }) h (g.K.Kinds.words.attempted (g.K.Kinds.options c.args.kinds.now) (caller_of c.count-sessions.result c.number_at-cmd.result c.args.asker) c.take_rest-rest.result h c.args.settings (g.K.Kinds.tree c.args.statement.now))) c.in-Commits.is (c.in-Ok.ensures.is h told.stands (subst (IsAt h c.args.asker.session) (sym number) (told.numbered c.args.asker.session)))))))
 
 pub returns-else-is_err-clause-ran : goal.returns-else-is_err-clause-ran
 returns-else-is_err-clause-ran g c h tells =
