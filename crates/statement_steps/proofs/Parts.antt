@@ -1,4 +1,5 @@
 -- Single parts of a statement: nothing done, a refusal, a lock, a snapshot that is kept.
+use Rattle.std.proofs.lemmas.Bool.Decides.{nat_tests}
 use Rattle.std.proofs.lemmas.List.{length-map, get_or-map}
 use Rattle.std.proofs.Common.{◌≡◌, ℕ, ◌+◌, ◌<◌, ◌==◌, ◌||◌, if◌then◌else◌, Bool, true, false, List, [], ◌∷◌, ◌++◌, refl, ap, sym, ◌∙◌, subst, arith, append-nil, Option, Some, None, Result, Ok, Err, IfOk, OnOk, map, length, slice_index_or}
 use Rattle.pg_ids.specs.declared.ids.TableNo.{TableNo}
@@ -287,12 +288,18 @@ none_found stores caller name (Err e) is may none = no_memory (λ (t : TableNo).
 abbrev same_told : List ℕ → Bool → Made (Unit {0})
 same_told name b = if b then made [] tt else halted [] (Refused (no_table name))
 
-pub same_here : (stores : Stores) (caller : Caller) (name : List ℕ) (t n : ℕ) → MayAttempt stores caller → (n == t) ≡ true → IsStep (λ (u : Unit {0}). u) (Ok tt) stores stores caller caller.cmd (λ h. same_or_gone name t n)
-same_here stores caller name t n may is = nothing_done (λ (u : Unit {0}). u) tt stores caller (λ h. same_or_gone name t n) may (λ h stands. ap (same_told name) is)
+is_same : (n t : ℕ) → n ≡ t → (n == t) ≡ true
+is_same n t same = grind (arith, nat_tests, same)
 
-pub gone_here : (stores : Stores) (caller : Caller) (name : List ℕ) (t n : ℕ) (r : Result Fault NoMemory) → IfOk r (λ f. f ≡ no_table name) → MayAttempt stores caller → (n == t) ≡ false
+is_other : (n t : ℕ) → (n ≡ t → ⊥) → (n == t) ≡ false
+is_other n t other = grind (arith, nat_tests, other)
+
+pub same_here : (stores : Stores) (caller : Caller) (name : List ℕ) (t n : ℕ) → MayAttempt stores caller → n ≡ t → IsStep (λ (u : Unit {0}). u) (Ok tt) stores stores caller caller.cmd (λ h. same_or_gone name t n)
+same_here stores caller name t n may same = nothing_done (λ (u : Unit {0}). u) tt stores caller (λ h. same_or_gone name t n) may (λ h stands. ap (same_told name) (is_same n t same))
+
+pub gone_here : (stores : Stores) (caller : Caller) (name : List ℕ) (t n : ℕ) (r : Result Fault NoMemory) → IfOk r (λ f. f ≡ no_table name) → MayAttempt stores caller → (n ≡ t → ⊥)
     → IsStep (λ (u : Unit {0}). u) (Err (stop_by r)) stores stores caller caller.cmd (λ h. same_or_gone name t n)
-gone_here stores caller name t n (Ok f) is may other = refused_here (λ (u : Unit {0}). u) f stores caller caller.cmd (λ h. same_or_gone name t n) may (λ h stands. ap (same_told name) other ∙ ap (λ x. halted [] (Refused x)) (sym is))
+gone_here stores caller name t n (Ok f) is may other = refused_here (λ (u : Unit {0}). u) f stores caller caller.cmd (λ h. same_or_gone name t n) may (λ h stands. ap (same_told name) (is_other n t other) ∙ ap (λ x. halted [] (Refused x)) (sym is))
 gone_here stores caller name t n (Err e) is may other = no_memory (λ (u : Unit {0}). u) stores stores caller caller.cmd (λ h. same_or_gone name t n) (stays stores caller.session)
 
 -- a cycle that would be closed
