@@ -1,3 +1,11 @@
 mod Refusing
 mod Defaults
+mod Checks
 mod Leaving
+mod Guards
+mod Marking
+mod Pending
+mod Stages
+mod Waits
+mod Levels
+mod KeptChecks

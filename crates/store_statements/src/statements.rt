@@ -2,13 +2,14 @@ ghost use Rattle.std.specs.Prelude.{◌≡◌, IfOk};
 
 use crate::attempts::attempt;
 use block_reading::read_block;
-use course::{Caller, Kinds, Rest, Stop};
+use course::{Caller, Ending, Kinds, Rest, Stop};
+use detach_statement::detach_misplaced;
 use lock_statement::lock_misplaced;
 use out_text::write_fault_text;
 use pg_values::{Fault, NoMemory, Refusal};
 use select_statement::cancelled;
 use sessions::{Place, Role, Settings};
-use sql_commands::Command;
+use sql_commands::{Command, Detachment};
 use sql_queries::{Query, RowStatement};
 use sql_syntax::Statement;
 use statement_roles::{changed_settings, looks, role_of};
@@ -37,6 +38,7 @@ impl Kinds for Statements {
     ghost use Rattle.std.specs.Prelude.{ℕ, List};
     ghost use Rattle.sql_syntax.specs.Trees.{StatementTree, statement_tree};
     ghost use Rattle.sql_syntax.specs.declared.parse.TheConstants.{MOST_STATEMENTS};
+    ghost use Rattle.store_statements.specs.Once.{all_once};
     ghost use Rattle.store_statements.specs.Words.{statement_words};
 
     type Statement = Statement;
@@ -50,6 +52,8 @@ impl Kinds for Statements {
     ghost options = { λ s. s.names };
 
     ghost words = { statement_words };
+
+    ghost once = { all_once };
 
     ghost most_statements = { MOST_STATEMENTS };
 
@@ -78,6 +82,9 @@ impl Kinds for Statements {
     ) -> Result<Option<Fault>, NoMemory> {
         match statement {
             Statement::Command(Command::Lock(_, _)) => Ok(lock_misplaced(alloc, place)),
+            Statement::Command(Command::Detach(_, _, Detachment::Concurrently)) => {
+                detach_misplaced(alloc, place)
+            }
             _ => Ok(None),
         }
     }
@@ -109,7 +116,7 @@ impl Kinds for Statements {
         settings: Settings,
         statement: &Statement,
         out: &mut Vec<u8>,
-    ) -> Result<(), Stop> {
+    ) -> Result<Ending, Stop> {
         let names = &self.names;
         attempt(alloc, stores, names, caller, rest, settings, statement, out)
     }
