@@ -17,7 +17,7 @@ use Rattle.statement_steps.specs.Asks.{locked, meant_or_none, named, named_still
 use Rattle.statement_steps.specs.Steps.{IsStep}
 use Rattle.table_statements.proofs.Held.{Holds, view_gets, named_held}
 use Rattle.detach_statement.specs.Asked.{HasGuarded}
-use Rattle.detach_statement.proofs.Leaving.{MayChange}
+use Rattle.detach_statement.proofs.LeftPlaces.{MayChange}
 
 pub may_change : (stores : Stores) (s : ℕ) (p : TableNo) → HasGuarded stores s p.number → MayChange stores s p
 may_change stores s p guarded h stands = inl (sym (stands.all.locks.tells.held s p.number ShareUpdateExclusive) ∙ guarded)

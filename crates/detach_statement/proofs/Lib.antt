@@ -1,11 +1,11 @@
 mod Refusing
 mod Defaults
 mod Checks
-mod Leaving
+mod LeftPlaces
 mod Guards
-mod Marking
+mod Marks
 mod Pending
-mod Stages
+mod LaterStages
 mod Waits
 mod Levels
 mod KeptChecks

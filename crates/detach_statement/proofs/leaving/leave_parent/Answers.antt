@@ -3,7 +3,7 @@ use Rattle.statement_steps.proofs.Parts.{locks_same, no_memory}
 use Rattle.stores.specs.declared.stores.Stores.{Stores}
 use Rattle.detach_statement.specs.Concurrent.{partition_left}
 use Rattle.detach_statement.proofs.Guards.{may_change}
-use Rattle.detach_statement.proofs.Leaving.{LeaveLaws, standing, keepable, kept_step}
+use Rattle.detach_statement.proofs.LeftPlaces.{LeaveLaws, standing, keepable, kept_step}
 use Rattle.detach_statement.proofs.leaving.leave_parent.Goals as goal
 
 pub new_check-requires-clause-siblings : goal.new_check-requires-clause-siblings

@@ -1,5 +1,5 @@
 use Rattle.detach_statement.proofs.Guards.{may_change}
-use Rattle.detach_statement.proofs.Marking.{MarkLaws, unmarked, marked_step}
+use Rattle.detach_statement.proofs.Marks.{MarkLaws, unmarked, marked_step}
 use Rattle.detach_statement.proofs.marking.mark.Goals as goal
 
 pub mark_pending-requires : goal.mark_pending-requires

@@ -6,7 +6,7 @@ use Rattle.course.specs.declared.stop.Stop.{Stop}
 use Rattle.statement_steps.specs.Steps.{IsStep}
 use Rattle.statement_steps.proofs.Steps.{gives_ok, gives_stop}
 use Rattle.detach_statement.specs.Concurrent.{by_rest, first_stage}
-use Rattle.detach_statement.proofs.Stages.{later_ends}
+use Rattle.detach_statement.proofs.LaterStages.{later_ends}
 use Rattle.detach_statement.proofs.stages.detach_concurrently.Goals as goal
 
 pub returns-in-Some : goal.returns-in-Some

@@ -1,6 +1,6 @@
 use Rattle.std.proofs.Common.{inl, inr}
 use Rattle.table_statements.proofs.Held.{held_at_history}
-use Rattle.detach_statement.proofs.Leaving.{LeaveLaws, standing, left_step}
+use Rattle.detach_statement.proofs.LeftPlaces.{LeaveLaws, standing, left_step}
 use Rattle.detach_statement.proofs.statement.leave_place.Goals as goal
 
 pub end_entry-requires : goal.end_entry-requires

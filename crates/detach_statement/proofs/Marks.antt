@@ -54,7 +54,7 @@ use Rattle.table_statements.proofs.Fresh.{IsOwn, own_is, own_number}
 use Rattle.detach_statement.specs.Asked.{MayBeMarked}
 use Rattle.detach_statement.specs.Concurrent.{default_faults, pending_faults, none_beside, markable, marked, rest_of, place_marked}
 use Rattle.detach_statement.specs.Detached.{not_a_partition, name_at, is_table}
-use Rattle.detach_statement.proofs.Leaving.{MayChange, Over, over_is, over_present, over_guarded, over_between}
+use Rattle.detach_statement.proofs.LeftPlaces.{MayChange, Over, over_is, over_present, over_guarded, over_between}
 use Rattle.detach_statement.proofs.Refusing.{none_against, is_parent}
 
 pub record MarkLaws : Type 0 where
