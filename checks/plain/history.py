@@ -39,13 +39,15 @@ class Table:
     def __init__(self, number, name, columns, level, tx):
         self.number, self.name, self.columns, self.level, self.tx, self.ends = number, name, columns, level, tx, []
         self.versions = []
+        self.checks = []                    # the CHECKs that were kept: (transaction, level, bound)
 
 
 class Entry:
-    """That a table is a partition of another one, with the events that end it."""
+    """That a table is a partition of another one, with the events that end it, and those that mark it pending."""
 
     def __init__(self, parent, child, bound, tx):
         self.parent, self.child, self.bound, self.tx, self.ends = parent, child, bound, tx, []
+        self.marks = []                     # (transaction, command)
 
 
 class Tree:
@@ -195,9 +197,41 @@ class History:
         found = [entry for entry in self.entries_of[table] if self.is_present(entry, session)]
         return sorted(found, key=lambda entry: entry.bound.order())
 
-    def tree(self, table, session):
-        entries = self.children(table, session)
-        return Tree(table, [entry.bound for entry in entries], [self.tree(entry.child, session) for entry in entries])
+    def tree(self, table, session, snapshot=None):
+        """The tree that a statement reads under its snapshot, or that with all pending partitions."""
+        entries = [
+            entry for entry in self.children(table, session)
+            if snapshot is None or not any(self.sees(snapshot, tx, cmd) for tx, cmd in entry.marks)
+        ]
+        children = [self.tree(entry.child, session, snapshot) for entry in entries]
+        return Tree(table, [entry.bound for entry in entries], children)
+
+    def mark(self, entry, tx, cmd):
+        entry.marks.append((tx, cmd))
+        self.changed()
+
+    def mark_of(self, entry, session):
+        """The transaction that has marked an entry pending."""
+        for tx, _ in reversed(entry.marks):
+            if self.counts(tx, session):
+                return tx
+        return None
+
+    def pending_of(self, table, session):
+        """The entry below a table that is pending."""
+        for entry in self.children(table, session):
+            if self.mark_of(entry, session) is not None:
+                return entry
+        return None
+
+    def keep_check(self, table, level, bound, tx):
+        table.checks.append((tx, level, bound))
+        self.changed()
+
+    def checks(self, table, session):
+        """The CHECKs that rows of a table have to pass, from the table upwards: whose they are, and what they are."""
+        tables = [table] + [entry.parent for entry, _ in self.path(table, session)]
+        return [(one, level, bound) for one in tables for tx, level, bound in one.checks if self.counts(tx, session)]
 
     def entry_of(self, table, session):
         """The entry by which a table is a partition."""
@@ -276,6 +310,10 @@ class History:
             if not self.causes(wait):
                 return wait
         return None
+
+    def holders(self, table):
+        """The sessions that hold a lock on a table."""
+        return [session for session, locks in self.held_locks.items() if any(held is table for held, _ in locks)]
 
     def has_lock(self, session, table, mode):
         return any(held is table and its == mode for held, its in self.held_locks[session])

@@ -42,6 +42,10 @@ KINDS = {
     "updates": {"select": 2, "insert": 2, "delete": 3, "update": 10},
     "defaults": {"select": 2, "insert": 5, "delete": 3, "partition": 6, "detach": 3, "drop": 2, "lock": 1},
     "attaches": {"select": 2, "insert": 5, "delete": 3, "attach": 6, "detach": 5, "partition": 1, "drop": 1},
+    "concurrent": {
+        "select": 6, "insert": 6, "delete": 2, "update": 3, "attach": 4, "detach": 1, "finalize": 3, "concurrently": 1,
+        "drop": 1, "lock": 1, "cancel": 2, "partition": 1,
+    },
     "cancels": {"select": 3, "insert": 4, "delete": 4, "lock": 4, "cancel": 5},
     "joins": {"join": 12, "select": 1, "lock": 4, "insert": 4, "delete": 1, "setting": 2},
     "prunes": {"select": 9, "lock": 6, "insert": 3, "setting": 2},
@@ -122,7 +126,7 @@ class Maker:
 
     def default_of_setup_chance(self):
         """(beside a default no further partition is made in kinds without it)"""
-        return 0 if self.kind == "tables" else 60 if self.default_chance() else 25
+        return {"tables": 0, "concurrent": 5}.get(self.kind, 60 if self.default_chance() else 25)
 
     def by(self, name, strategy, is_second):
         self.parents[name] = (strategy, is_second)
@@ -323,7 +327,7 @@ class Maker:
 
     def attach(self):
         numbers = self.numbers
-        if numbers.chance(25):
+        if numbers.chance(70 if self.kind == "concurrent" else 25):
             name = numbers.of(sorted(self.own_bounds))
             return f"ALTER TABLE t ATTACH PARTITION {name} {self.own_bounds[name]};"
         name = numbers.of(["x", "y"]) if numbers.chance(85) else numbers.of(self.plain + ["n1", "n2"] + self.tables)
@@ -337,6 +341,18 @@ class Maker:
         if numbers.chance(6):
             parent = self.parent()
         return f"ALTER TABLE {parent} DETACH PARTITION {name};"
+
+    def detach_in_stages(self, how):
+        numbers = self.numbers
+        if numbers.chance(15):
+            return f"{self.detach()[:-1]} {how};"
+        return f"ALTER TABLE t DETACH PARTITION {numbers.of(sorted(self.own_bounds))} {how};"
+
+    def concurrently(self):
+        return self.detach_in_stages("CONCURRENTLY")
+
+    def finalize(self):
+        return self.detach_in_stages("FINALIZE")
 
     def drop(self):
         numbers = self.numbers
@@ -382,6 +398,9 @@ class Maker:
                 found.append(self.statement() + (" " + self.statement() if numbers.chance(30 if "cancel" in self.weights else 8) else ""))
             elif self.free_bound and self.default_chance() and numbers.chance(22):
                 found += self.chain()
+            elif "concurrently" in self.weights and numbers.chance(35):
+                # (it stands alone, outside of a transaction)
+                found.append(self.concurrently() if numbers.chance(80) else self.finalize())
             elif numbers.chance(80):
                 is_open = True
                 found.append(begin + (" " + self.statement() if numbers.chance(60) else ""))

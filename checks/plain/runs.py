@@ -174,7 +174,7 @@ class Permutation:
     # ---- what has to hold after each event
 
     def watch(self):
-        """In each session's trees each row that is seen lies in a leaf that accepts it."""
+        """In each session's trees each row that is seen lies in a leaf that accepts it, and passes the CHECKs that are kept."""
         history = self.history
         if not self.watches or self.watched == history.changes:
             return
@@ -191,6 +191,15 @@ class Permutation:
                     if history.entry_of(table, session) is None:
                         for snapshot in snapshots:
                             self.look(session, history.tree(table, session), [], snapshot)
+                if table.level is None and history.is_present(table, session):
+                    for snapshot in snapshots:
+                        self.look_at_checks(session, table, snapshot)
+
+    def look_at_checks(self, session, table, snapshot):
+        for _, level, bound in self.history.checks(table, session):
+            for version in self.history.seen(table, snapshot):
+                if not bound.accepts(level.key(version.values)):
+                    raise AssertionError(f"{table.name} has a row that a kept CHECK refuses: {version.values}")
 
     def look(self, session, tree, above, snapshot):
         if tree.table.level is None:

@@ -360,8 +360,9 @@ class Reader:
                 return Statement("ATTACH", parent=parent, name=self.name(), bound=self.bound())
             self.take("detach", "partition")
             name = self.name()
-            if self.took("concurrently") or self.took("finalize"):
-                raise NotRead("a concurrent detach")
+            for word in ("concurrently", "finalize"):
+                if self.took(word):
+                    return Statement(f"DETACH {word.upper()}", parent=parent, name=name)
             return Statement("DETACH", parent=parent, name=name)
         if self.took("lock"):
             self.took("table")

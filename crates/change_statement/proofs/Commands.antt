@@ -4,6 +4,7 @@ use Rattle.history.specs.History.{History}
 use Rattle.stores.specs.Numbers.{IsAt}
 use Rattle.stores.specs.declared.stores.Stores.{Stores}
 use Rattle.stores.proofs.Commands.{commands_are_in_order}
+use Rattle.course.specs.Ended.{ended}
 use Rattle.course.specs.Made.{Made, and_then, then_told, behind, number_after}
 use Rattle.course.specs.Attempts.{MayAttempt, MayGoOn, WentOn, GoesOn, IsHalt}
 use Rattle.course.specs.declared.caller.Caller.{Caller}
@@ -13,7 +14,6 @@ use Rattle.course.specs.declared.stop.Stop.TheVariants as stop
 use Rattle.course.proofs.Numbers.{one_later}
 use Rattle.statement_steps.specs.Steps.{IsTold, IsHalted, IsStep, follow}
 use Rattle.statement_steps.proofs.Steps.{went_on, goes_on}
-use Rattle.change_statement.specs.Gathered.{told_on, stopped_on, going_on}
 use Rattle.change_statement.specs.Running.{IsInRun, IsRunTold, IsRun, IsCommandTold, IsCommand, MayRun}
 
 -- ---- the run begins
@@ -42,7 +42,7 @@ run_is_told (Err (stop.Waits (Some rest))) new caller h m told = told
 run_is_told (Err (stop.Refused f)) new caller h m told = told
 run_is_told (Err stop.NoMemory) new caller h m told = tt
 
-is_halt : (r : Result (Unit {0}) Stop) (stores : Stores) (s : ℕ) → IsHalted r stores s → IsHalt r stores s
+is_halt : (r : Result (Unit {0}) Stop) (stores : Stores) (s : ℕ) → IsHalted r stores s → IsHalt (ended r) stores s
 is_halt (Ok u) stores s halted = halted
 is_halt (Err (stop.Waits rest)) stores s halted = halted
 is_halt (Err (stop.Refused f)) stores s halted = halted
@@ -103,30 +103,3 @@ stop_command {X} see e old new caller f next first = record {
 
 pub no_memory_command : (old new : Stores) (caller : Caller) (f : History → Made (Unit {0})) → GoesOn old new caller.session → IsCommand (Err stop.NoMemory) old new caller f
 no_memory_command old new caller f keeps = record { is = λ h stands at. tt; keeps = keeps; waits = tt }
-
--- ---- a gathering in the middle of a run
-
-pub gathers_on : {X T : Type 0} (see : X → T) (x : X) (rest : Option Rest) (old new : Stores) (caller : Caller) (f : History → Made T) → IsStep see (Ok x) old new caller caller.cmd f → IsStep see (Ok x) old new caller caller.cmd (λ h. going_on rest (f h))
-gathers_on see x rest old new caller f first = record {
-  is = λ h stands at. let t = first.is h stands at in (ap (told_on rest) t.0, t.1);
-  keeps = first.keeps;
-  waits = first.waits;
-}
-
-on_told : {X T : Type 0} (see : X → T) (e : Stop) (rest : Option Rest) (new : Stores) (caller : Caller) (h : History) (m : Made T) → IsTold see (Err e) new caller caller.cmd h m → IsTold see (Err (stopped_on e rest)) new caller caller.cmd h (going_on rest m)
-on_told see (stop.Waits lock) rest new caller h m told = (ap (told_on rest) told.0, told.1)
-on_told see (stop.Refused f) rest new caller h m told = (ap (told_on rest) told.0, told.1)
-on_told see stop.NoMemory rest new caller h m told = tt
-
-on_halted : (X : Type 0) (e : Stop) (rest : Option Rest) (stores : Stores) (s : ℕ) → MayGoOn stores rest → IsHalted {X = X} (Err e) stores s → IsHalted {X = X} (Err (stopped_on e rest)) stores s
-on_halted X (stop.Waits lock) rest stores s may halted = (halted.0, may)
-on_halted X (stop.Refused f) rest stores s may halted = halted
-on_halted X stop.NoMemory rest stores s may halted = tt
-
-pub stops_on : {X T : Type 0} (see : X → T) (e : Stop) (rest : Option Rest) (old new : Stores) (caller : Caller) (f : History → Made T) → MayGoOn new rest → IsStep see (Err e) old new caller caller.cmd f
-    → IsStep see (Err (stopped_on e rest)) old new caller caller.cmd (λ h. going_on rest (f h))
-stops_on {X} see e rest old new caller f may first = record {
-  is = λ h stands at. on_told see e rest new caller h (f h) (first.is h stands at);
-  keeps = first.keeps;
-  waits = on_halted X e rest new caller.session may first.waits;
-}

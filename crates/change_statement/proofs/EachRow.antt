@@ -25,6 +25,7 @@ use Rattle.stores.specs.declared.stores.Stores.{Stores}
 use Rattle.course.specs.Made.{Refused, made, halted}
 use Rattle.course.specs.declared.caller.Caller.{Caller}
 use Rattle.course.specs.declared.rest.Rest.{Rest}
+use Rattle.course.specs.declared.rest.RestOfRows.{RestOfRows}
 use Rattle.course.specs.declared.stop.Stop.{Stop}
 use Rattle.statement_steps.specs.Faults.{stop_by}
 use Rattle.statement_steps.proofs.Parts.{stays}
@@ -45,13 +46,13 @@ IsDecided stores caller g t d = (h : History) → Stands stores h → decided h 
 pub decided_is : (stores : Stores) (caller : Caller) (g : Found) (t : TargetRow) (u : UpdaterMeant) (d : Decision) → ((h : History) → TableStands stores.txs h → u ≡ updater caller g h) → ((h : History) → TableStands stores.txs h → StoreStands stores.rows h → d ≡ decided h u t.id) → IsDecided stores caller g t d
 decided_is stores caller g t u d mine is h stands = ap (λ x. decided h x t.id) (sym (mine h stands.all.txs)) ∙ sym (is h stands.all.txs stands.all.rows)
 
-by_is : (change : Changing) (names : List (List ℕ)) (r : Result ℕ Stop) (old new : Stores) (caller : Caller) (g : Found) (t : TargetRow) (rest : Rest) (d : Decision) → IsDecided old caller g t d → IsRun (λ (n : ℕ). n) r old new caller (by_decision change names caller g t.leaf rest d)
+by_is : (change : Changing) (names : List (List ℕ)) (r : Result ℕ Stop) (old new : Stores) (caller : Caller) (g : Found) (t : TargetRow) (rest : RestOfRows) (d : Decision) → IsDecided old caller g t d → IsRun (λ (n : ℕ). n) r old new caller (by_decision change names caller g t.leaf rest d)
     → IsRun (λ (n : ℕ). n) r old new caller (one_changed change names caller g t rest)
 by_is change names r old new caller g t rest d is run =
     same_run (λ (n : ℕ). n) r old new caller (one_changed change names caller g t rest) (by_decision change names caller g t.leaf rest d) (λ h stands. ap (λ x. by_decision change names caller g t.leaf rest x h) (is h stands)) run
 
 -- a version is changed
-pub is_changed : (change : Changing) (names : List (List ℕ)) (old new : Stores) (caller : Caller) (g : Found) (t : TargetRow) (rest : Rest) (n : ℕ) (id : RowId) (row : List Value) → n ≡ rest.changed + 1 → MayRun old caller → IsDecided old caller g t (Changes id row)
+pub is_changed : (change : Changing) (names : List (List ℕ)) (old new : Stores) (caller : Caller) (g : Found) (t : TargetRow) (rest : RestOfRows) (n : ℕ) (id : RowId) (row : List Value) → n ≡ rest.changed + 1 → MayRun old caller → IsDecided old caller g t (Changes id row)
     → IsRun (λ (u : Unit {0}). u) (Ok tt) old new caller (change t.leaf id row) → IsRun (λ (m : ℕ). m) (Ok n) old new caller (one_changed change names caller g t rest)
 is_changed change names old new caller g t rest n id row count may is run =
     by_is change names (Ok n) old new caller g t rest (Changes id row) is
@@ -59,18 +60,18 @@ is_changed change names old new caller g t rest n id row count may is run =
     (nothing_run (λ (m : ℕ). m) n new caller (λ h. made [] (rest.changed + 1)) (may_run_on (λ (u : Unit {0}). u) tt old new caller (change t.leaf id row) may run) (λ h stands. ap (λ m. made [] m) (sym count))))
 
 -- it is not changed, and the statement stops
-pub is_stopped : (change : Changing) (names : List (List ℕ)) (e : Stop) (old new : Stores) (caller : Caller) (g : Found) (t : TargetRow) (rest : Rest) (id : RowId) (row : List Value) → IsDecided old caller g t (Changes id row) → IsRun (λ (u : Unit {0}). u) (Err e) old new caller (change t.leaf id row)
+pub is_stopped : (change : Changing) (names : List (List ℕ)) (e : Stop) (old new : Stores) (caller : Caller) (g : Found) (t : TargetRow) (rest : RestOfRows) (id : RowId) (row : List Value) → IsDecided old caller g t (Changes id row) → IsRun (λ (u : Unit {0}). u) (Err e) old new caller (change t.leaf id row)
     → IsRun (λ (m : ℕ). m) (Err e) old new caller (one_changed change names caller g t rest)
 is_stopped change names e old new caller g t rest id row is run =
     by_is change names (Err e) old new caller g t rest (Changes id row) is (stop_run (λ (u : Unit {0}). u) (λ (m : ℕ). m) e old new caller (change t.leaf id row) (λ u h. made [] (rest.changed + 1)) run)
 
 -- a row is passed over
-pub is_passed : (change : Changing) (names : List (List ℕ)) (old : Stores) (caller : Caller) (g : Found) (t : TargetRow) (rest : Rest) (n : ℕ) → n ≡ rest.changed → MayRun old caller → IsDecided old caller g t PassesBy → IsRun (λ (m : ℕ). m) (Ok n) old old caller (one_changed change names caller g t rest)
+pub is_passed : (change : Changing) (names : List (List ℕ)) (old : Stores) (caller : Caller) (g : Found) (t : TargetRow) (rest : RestOfRows) (n : ℕ) → n ≡ rest.changed → MayRun old caller → IsDecided old caller g t PassesBy → IsRun (λ (m : ℕ). m) (Ok n) old old caller (one_changed change names caller g t rest)
 is_passed change names old caller g t rest n count may is =
     by_is change names (Ok n) old old caller g t rest PassesBy is (nothing_run (λ (m : ℕ). m) n old caller (λ h. made [] rest.changed) may (λ h stands. ap (λ m. made [] m) (sym count)))
 
 -- it is waited for
-pub is_waited : (change : Changing) (names : List (List ℕ)) (e : Stop) (old new : Stores) (caller : Caller) (g : Found) (t : TargetRow) (rest : Rest) (other : ℕ) → IsDecided old caller g t (WaitsFor other) → IsRun (λ (u : Unit {0}). u) (Err e) old new caller (paused names caller other rest)
+pub is_waited : (change : Changing) (names : List (List ℕ)) (e : Stop) (old new : Stores) (caller : Caller) (g : Found) (t : TargetRow) (rest : RestOfRows) (other : ℕ) → IsDecided old caller g t (WaitsFor other) → IsRun (λ (u : Unit {0}). u) (Err e) old new caller (paused names caller other rest)
     → IsRun (λ (m : ℕ). m) (Err e) old new caller (one_changed change names caller g t rest)
 is_waited change names e old new caller g t rest other is run =
     by_is change names (Err e) old new caller g t rest (WaitsFor other) is (stop_run (λ (u : Unit {0}). u) (λ (m : ℕ). m) e old new caller (paused names caller other rest) (λ u h. made [] rest.changed) run)
@@ -82,7 +83,7 @@ refused_by names old caller g t conflict (Ok f) is may =
     refused_run (λ (m : ℕ). m) f old caller (λ h. halted [] (Refused (conflict_fault names g.tree t.leaf conflict h))) may (λ h stands. ap (λ x. halted [] (Refused x)) (sym (is h stands.all.catalog)))
 refused_by names old caller g t conflict (Err e) is may = no_memory_run (λ (m : ℕ). m) old old caller (λ h. halted [] (Refused (conflict_fault names g.tree t.leaf conflict h))) (stays old caller.session)
 
-pub is_refused : (change : Changing) (names : List (List ℕ)) (old : Stores) (caller : Caller) (g : Found) (t : TargetRow) (rest : Rest) (conflict : Conflict) (r : Result Fault NoMemory) → IfOk r (λ f. (h : History) → CatalogueStands old.catalog h → f ≡ conflict_fault names g.tree t.leaf conflict h) → MayRun old caller
+pub is_refused : (change : Changing) (names : List (List ℕ)) (old : Stores) (caller : Caller) (g : Found) (t : TargetRow) (rest : RestOfRows) (conflict : Conflict) (r : Result Fault NoMemory) → IfOk r (λ f. (h : History) → CatalogueStands old.catalog h → f ≡ conflict_fault names g.tree t.leaf conflict h) → MayRun old caller
     → IsDecided old caller g t (Refuses conflict) → IsRun (λ (m : ℕ). m) (Err (stop_by r)) old old caller (one_changed change names caller g t rest)
 is_refused change names old caller g t rest conflict r fault may is = by_is change names (Err (stop_by r)) old old caller g t rest (Refuses conflict) is (refused_by names old caller g t conflict r fault may)
 

@@ -27,6 +27,8 @@ use Rattle.course.specs.Made.{Waits, Refused, behind}
 use Rattle.course.specs.Attempts.{WentOn}
 use Rattle.course.specs.declared.caller.Caller.{Caller}
 use Rattle.course.specs.declared.rest.Rest.{Rest}
+use Rattle.course.specs.declared.rest.Rest.TheVariants.{Rows}
+use Rattle.course.specs.declared.rest.RestOfRows.{RestOfRows}
 use Rattle.course.specs.declared.stop.Stop.{Stop}
 use Rattle.course.specs.declared.stop.Stop.TheVariants as stop
 use Rattle.statement_steps.specs.Asks.{told_by, waited}
@@ -96,20 +98,20 @@ waits_there names rest s w AtOnce events told = let c = told in cc
 waits_there names rest s w (WaitsBehind others) events told = let c = told in cc
 waits_there names rest s w (ClosesCycle cycle) events told = let c = told in cc
 
-paused_told : (names : List (List ℕ)) (e : Stop) (new : Stores) (caller : Caller) (other : ℕ) (rest : Rest) (h : History) → IsAt (held h caller.session (caller.cmd + 1) ++ h) caller.session (caller.cmd + 1)
+paused_told : (names : List (List ℕ)) (e : Stop) (new : Stores) (caller : Caller) (other : ℕ) (rest : RestOfRows) (h : History) → IsAt (held h caller.session (caller.cmd + 1) ++ h) caller.session (caller.cmd + 1)
     → IsTold (λ (u : Unit {0}). u) (Err e) new (following caller) (caller.cmd + 1) h (held_up names (following caller) other rest h) → IsRunTold (λ (u : Unit {0}). u) (Err e) new caller h (paused names caller other rest h)
 paused_told names (stop.Waits None) new caller other rest h at told =
     let w : Wanted = Others (Ends (only other)) in
     let events = held h caller.session (caller.cmd + 1) in
-    absurd (waits_there names rest caller.session w (asked (lock_events (events ++ h)) caller.session w) events told.0)
+    absurd (waits_there names (Rows rest) caller.session w (asked (lock_events (events ++ h)) caller.session w) events told.0)
 paused_told names (stop.Waits (Some left)) new caller other rest h at told = told
 paused_told names (stop.Refused f) new caller other rest h at told =
     let w : Wanted = Others (Ends (only other)) in
     let events = held h caller.session (caller.cmd + 1) in
-    (told.0, refused_there names rest caller.session (caller.cmd + 1) w (asked (lock_events (events ++ h)) caller.session w) f new events h told.0 at told.1)
+    (told.0, refused_there names (Rows rest) caller.session (caller.cmd + 1) w (asked (lock_events (events ++ h)) caller.session w) f new events h told.0 at told.1)
 paused_told names stop.NoMemory new caller other rest h at told = tt
 
-pub paused_run : (names : List (List ℕ)) (e : Stop) (old new : Stores) (caller : Caller) (other : ℕ) (rest : Rest) → MayRun old caller → IsStep (λ (u : Unit {0}). u) (Err e) old new (following caller) (caller.cmd + 1) (held_up names (following caller) other rest)
+pub paused_run : (names : List (List ℕ)) (e : Stop) (old new : Stores) (caller : Caller) (other : ℕ) (rest : RestOfRows) → MayRun old caller → IsStep (λ (u : Unit {0}). u) (Err e) old new (following caller) (caller.cmd + 1) (held_up names (following caller) other rest)
     → IsRun (λ (u : Unit {0}). u) (Err e) old new caller (paused names caller other rest)
 paused_run names e old new caller other rest may step = record {
   is = λ h stands run.

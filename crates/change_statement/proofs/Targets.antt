@@ -20,6 +20,7 @@ use Rattle.row_targets.specs.Targets.{takes, target_of, targets_in, targets}
 use Rattle.row_targets.specs.declared.finding.TargetRow.{TargetRow}
 use Rattle.soundness.proofs.Listed.{first_in, later_in}
 use Rattle.course.specs.declared.rest.Rest.{Rest}
+use Rattle.course.specs.declared.rest.Rest.TheVariants.{Rows, Detach}
 use Rattle.change_statement.specs.Gathered.{Found}
 use Rattle.change_statement.specs.Running.{IsTargetIn}
 use Rattle.change_statement.specs.Standing.{those_left, left_of}
@@ -138,7 +139,8 @@ all_those P (t ∷ ts) (id ∷ ids) all =
 
 pub all_left : (P : TargetRow → Type 0) (rest : Option Rest) (ts : List TargetRow) → All P ts → All P (left_of rest ts)
 all_left P None ts all = all
-all_left P (Some r) ts all = all_those P ts r.left all
+all_left P (Some (Rows r)) ts all = all_those P ts r.left all
+all_left P (Some (Detach d)) ts all = all
 
 none_left : (ts : List TargetRow) → those_left ts [] ≡ []
 none_left [] = refl

@@ -22,6 +22,8 @@ use Rattle.stores.specs.Events.{tx_in, look_of, held}
 use Rattle.course.specs.Made.{Made, Refused, made, halted}
 use Rattle.course.specs.declared.caller.Caller.{Caller}
 use Rattle.course.specs.declared.rest.Rest.{Rest}
+use Rattle.course.specs.declared.rest.Rest.TheVariants.{Rows}
+use Rattle.course.specs.declared.rest.RestOfRows.{RestOfRows}
 use Rattle.statement_steps.specs.Asks.{waited}
 use Rattle.statement_steps.specs.Faults.{name_of}
 use Rattle.statement_steps.specs.Steps.{follow}
@@ -50,18 +52,18 @@ abbrev pub only : ℕ → SessionSet
 only s = record { bits = 2 ^ s }
 
 -- the statement waits for the end of the session's transaction
-abbrev pub waits_for_end : List (List ℕ) → Caller → (other : ℕ) → Rest → History → Made (Unit {0})
-waits_for_end names c other rest = waited names c.session (Ends (only other)) (Some rest)
+abbrev pub waits_for_end : List (List ℕ) → Caller → (other : ℕ) → RestOfRows → History → Made (Unit {0})
+waits_for_end names c other rest = waited names c.session (Ends (only other)) (Some (Rows rest))
 
 -- it holds the snapshot that it reads under from now on, and waits
 abbrev pub held_now : Caller → History → Made (Unit {0})
 held_now c h = made (held h c.session c.cmd) tt
 
-abbrev pub held_up : List (List ℕ) → Caller → (other : ℕ) → Rest → History → Made (Unit {0})
+abbrev pub held_up : List (List ℕ) → Caller → (other : ℕ) → RestOfRows → History → Made (Unit {0})
 held_up names c other rest = follow (held_now c) (λ u. waits_for_end names c other rest)
 
 -- under the transaction's next command, by which it goes on
-abbrev pub paused : List (List ℕ) → Caller → (other : ℕ) → Rest → History → Made (Unit {0})
+abbrev pub paused : List (List ℕ) → Caller → (other : ℕ) → RestOfRows → History → Made (Unit {0})
 paused names c other rest = held_up names (following c) other rest
 
 -- `row of <leaf> was changed by session <s>`, or `moved`, by the names of the leaf's table and of the session
@@ -72,13 +74,13 @@ abbrev pub conflict_fault : List (List ℕ) → TableTree → LeafId → Conflic
 conflict_fault names tree leaf = fault_in names (holder tree leaf)
 
 -- by what is decided; it is told how many rows are changed then
-abbrev pub by_decision : Changing → List (List ℕ) → Caller → Found → LeafId → Rest → Decision → History → Made ℕ
+abbrev pub by_decision : Changing → List (List ℕ) → Caller → Found → LeafId → RestOfRows → Decision → History → Made ℕ
 by_decision change names c g leaf rest (Changes id row) = follow (change leaf id row) (λ u h. made [] (rest.changed + 1))
 by_decision change names c g leaf rest PassesBy = λ h. made [] rest.changed
 by_decision change names c g leaf rest (WaitsFor other) = follow (paused names c other rest) (λ u h. made [] rest.changed)
 by_decision change names c g leaf rest (Refuses conflict) = λ h. halted [] (Refused (conflict_fault names g.tree leaf conflict h))
 
-abbrev pub one_changed : Changing → List (List ℕ) → Caller → Found → TargetRow → Rest → History → Made ℕ
+abbrev pub one_changed : Changing → List (List ℕ) → Caller → Found → TargetRow → RestOfRows → History → Made ℕ
 one_changed change names c g t rest h = by_decision change names c g t.leaf rest (decided h (updater c g h) t.id) h
 
 -- ---- row after row: one is finished before the next

@@ -1,6 +1,6 @@
 -- What an UPDATE or a DELETE has before it looks at rows: its table and those that it needs below it, locked, and what is asked of the rows
 -- (the manual, UPDATE; DELETE; 13.3.1 Table-Level Locks).
-use Rattle.std.specs.Prelude.{ℕ, Bool, List, [], Option, None, Result, Ok, Err, map}
+use Rattle.std.specs.Prelude.{ℕ, Bool, List, [], Option, None, map}
 use Rattle.pg_ids.specs.declared.ids.LeafId.{LeafId}
 use Rattle.pg_ids.specs.declared.ids.TableNo.{TableNo}
 use Rattle.pg_ids.specs.declared.lock_mode.LockMode.TheVariants.{RowExclusive}
@@ -20,13 +20,11 @@ use Rattle.expression_binder.specs.declared.scope.Param.{Param}
 use Rattle.statement_asks.specs.Asked.{ChangeMeant, change_meant}
 use Rattle.change_binder.specs.Changes.{bound_change}
 use Rattle.stores.specs.Events.{look_of}
-use Rattle.course.specs.Made.{Made, Halt, Waits, Refused, made}
+use Rattle.course.specs.Made.{Made, made}
 use Rattle.course.specs.declared.caller.Caller.{Caller}
 use Rattle.course.specs.declared.rest.Rest.{Rest}
-use Rattle.course.specs.declared.stop.Stop.{Stop}
-use Rattle.course.specs.declared.stop.Stop.TheVariants as stop
 use Rattle.statement_steps.specs.Asks.{named, all_locked}
-use Rattle.statement_steps.specs.Steps.{follow}
+use Rattle.statement_steps.specs.Steps.{follow, going_on}
 use Rattle.pruned_trees.specs.Kept.{Keeps}
 use Rattle.select_statement.specs.Below.{number_of}
 use Rattle.insert_statement.specs.Inserted.{answered, scope_column}
@@ -101,20 +99,6 @@ abbrev pub gathered : (prunes : Bool) → List (List ℕ) → List Param → Cal
 gathered prunes names params c table settings condition = follow (named names c.session RowExclusive table.name) (of_table prunes names params c table settings condition)
 
 -- ---- where it begins, and where it goes on
-
--- a statement that stands in the middle of its run goes on from there, whatever it has to wait for
-abbrev pub told_on : {T : Type 0} → Option Rest → Result T Halt → Result T Halt
-told_on rest (Ok x) = Ok x
-told_on rest (Err (Waits lock)) = Err (Waits rest)
-told_on rest (Err (Refused f)) = Err (Refused f)
-
-abbrev pub stopped_on : Stop → Option Rest → Stop
-stopped_on (stop.Waits lock) rest = stop.Waits rest
-stopped_on (stop.Refused f) rest = stop.Refused f
-stopped_on stop.NoMemory rest = stop.NoMemory
-
-abbrev pub going_on : {T : Type 0} → Option Rest → Made T → Made T
-going_on rest m = record { events = m.events; told = told_on rest m.told }
 
 -- where it goes on it finds the same table, and holds the locks that it asks for, but on tables that were attached meanwhile
 abbrev pub found : (prunes : Bool) → List (List ℕ) → List Param → Caller → Option Rest → NamedTable → List Setting → Option Tree → History → Made Found

@@ -20,6 +20,7 @@ use Rattle.legal_statements.specs.Locked.{IsWritable}
 use Rattle.stores.specs.Numbers.{IsAt}
 use Rattle.stores.specs.Stand.{Stands}
 use Rattle.stores.specs.declared.stores.Stores.{Stores}
+use Rattle.course.specs.Ended.{ended}
 use Rattle.course.specs.Made.{Made, Waits, Refused, number_after}
 use Rattle.course.specs.Attempts.{MayAttempt, WentOn, GoesOn, IsHalt}
 use Rattle.course.specs.declared.caller.Caller.{Caller}
@@ -74,7 +75,7 @@ IsCommandTold (Err stop.NoMemory) new caller h m = Unit {0}
 pub record IsCommand (result : Result (Unit {0}) Stop) (old new : Stores) (caller : Caller) (f : History → Made (Unit {0})) : Type 0 where
   pub is : (h : History) → Stands old h → IsAt h caller.session caller.cmd → IsCommandTold result new caller h (f h)
   pub keeps : GoesOn old new caller.session
-  pub waits : IsHalt result new caller.session
+  pub waits : IsHalt (ended result) new caller.session
 
 -- ---- what it has gathered
 

@@ -3,6 +3,8 @@ use Rattle.std.specs.Prelude.{ℕ, ◌==◌, if◌then◌else◌, List, [], ◌�
 use Rattle.pg_ids.specs.declared.ids.RowId.{RowId}
 use Rattle.row_targets.specs.declared.finding.TargetRow.{TargetRow}
 use Rattle.course.specs.declared.rest.Rest.{Rest}
+use Rattle.course.specs.declared.rest.Rest.TheVariants.{Rows, Detach}
+use Rattle.course.specs.declared.rest.RestOfRows.{RestOfRows}
 
 abbrev pub id_of : TargetRow → RowId
 id_of t = t.id
@@ -16,13 +18,15 @@ those_left (t ∷ ts) (id ∷ ids) = if t.id.number == id.number then t ∷ thos
 -- all of them, or those that were left when the statement had to wait
 abbrev pub left_of : Option Rest → List TargetRow → List TargetRow
 left_of None targets = targets
-left_of (Some rest) targets = those_left targets rest.left
+left_of (Some (Rows rest)) targets = those_left targets rest.left
+left_of (Some (Detach rest)) targets = targets
 
 -- how many rows it has changed
 abbrev pub changed_before : Option Rest → ℕ
 changed_before None = 0
-changed_before (Some rest) = rest.changed
+changed_before (Some (Rows rest)) = rest.changed
+changed_before (Some (Detach rest)) = 0
 
 -- where it stands
-abbrev pub standing : List TargetRow → (changed : ℕ) → Rest
+abbrev pub standing : List TargetRow → (changed : ℕ) → RestOfRows
 standing targets n = record { left = map id_of targets; changed = n }

@@ -3,7 +3,7 @@
 ghost use Rattle.std.specs.Prelude.{◌≡◌, IfOk, OnOk, map};
 ghost use Rattle.change_statement.specs.Standing as standing;
 
-use course::{Rest, RowIds};
+use course::{Rest, RestOfRows, RowIds};
 use pg_ids::RowId;
 use pg_values::NoMemory;
 use row_targets::TargetRow;
@@ -42,8 +42,8 @@ pub(crate) fn left_of(
     ensures { IfOk result (λ found. found.items ≡ standing.left_of rest.now targets.items) }
 {
     match rest {
-        None => Ok(targets),
-        Some(rest) => those_left(alloc, &targets, rest.left.as_slice()),
+        None | Some(Rest::Detach(_)) => Ok(targets),
+        Some(Rest::Rows(rest)) => those_left(alloc, &targets, rest.left.as_slice()),
     }
 }
 
@@ -52,8 +52,8 @@ pub(crate) fn changed_before(rest: &Option<Rest>) -> u64
     ensures { result ≡ standing.changed_before rest.now }
 {
     match rest {
-        None => 0,
-        Some(rest) => rest.changed,
+        None | Some(Rest::Detach(_)) => 0,
+        Some(Rest::Rows(rest)) => rest.changed,
     }
 }
 
@@ -68,10 +68,14 @@ fn ids_of(alloc: Global, targets: &[TargetRow]) -> Result<RowIds, NoMemory>
 }
 
 /// Where the statement stands that has these rows still to change.
-pub(crate) fn standing(alloc: Global, targets: &[TargetRow], changed: u64) -> Result<Rest, NoMemory>
+pub(crate) fn standing(
+    alloc: Global,
+    targets: &[TargetRow],
+    changed: u64,
+) -> Result<RestOfRows, NoMemory>
     ensures { IfOk result (λ rest. rest ≡ standing.standing targets.now changed) }
 {
-    Ok(Rest {
+    Ok(RestOfRows {
         left: ids_of(alloc, targets)?,
         changed,
     })

@@ -15,20 +15,9 @@ use crate::rows::change_found;
 use course::{Caller, Rest, Stop};
 use expression_binder::Param;
 use sql_ast::{Delete, Update};
-use statement_steps::{SessionNames, hold_if_repeatable};
+use statement_steps::{SessionNames, hold_if_repeatable, stopped_on};
 use std::alloc::Global;
 use stores::Stores;
-
-// A statement that stands in the middle of its run goes on from there.
-fn stopped_on(stop: Stop, rest: Option<Rest>) -> Stop
-    ensures { result ≡ gathered_spec.stopped_on stop rest }
-{
-    match stop {
-        Stop::Waits(_) => Stop::Waits(rest),
-        Stop::Refused(fault) => Stop::Refused(fault),
-        Stop::NoMemory => Stop::NoMemory,
-    }
-}
 
 // What is asked is gathered, and the rows are changed.
 fn change_from(

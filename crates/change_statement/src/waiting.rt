@@ -8,7 +8,7 @@ ghost use Rattle.change_statement.specs.Running.{IsRun, MayRun};
 ghost use Rattle.change_statement.specs.Standing as standing_spec;
 
 use crate::standing::standing;
-use course::{Caller, Rest, Stop};
+use course::{Caller, Rest, RestOfRows, Stop};
 use history::WaitOn;
 use pg_ids::SessionSet;
 use pg_values::NoMemory;
@@ -31,7 +31,7 @@ fn wait_for_end(
     names: &SessionNames,
     caller: Caller,
     other: u32,
-    rest: Rest,
+    rest: RestOfRows,
 ) -> Stop
     requires may { MayAttempt stores.old caller }
     requires another { other ≢ caller.session }
@@ -45,7 +45,7 @@ fn wait_for_end(
         names,
         caller,
         WaitOn::Ends(only(other)),
-        Some(rest),
+        Some(Rest::Rows(rest)),
     ) {
         Ok(()) => unreachable!(),
         Err(stop) => stop,
@@ -59,7 +59,7 @@ fn hold_and_wait(
     names: &SessionNames,
     caller: Caller,
     other: u32,
-    rest: Rest,
+    rest: RestOfRows,
 ) -> Stop
     requires may { MayAttempt stores.old caller }
     requires another { other ≢ caller.session }

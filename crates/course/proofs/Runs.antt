@@ -23,10 +23,15 @@ use Rattle.sessions.specs.declared.outcome.Outcome.TheVariants as outcomes
 use Rattle.stores.specs.Numbers.{IsAt}
 use Rattle.stores.specs.Stand.{Stands, IsSameSize}
 use Rattle.stores.specs.declared.stores.Stores.{Stores}
+use Rattle.course.specs.Ended.{Ended, Done, Commits}
 use Rattle.course.specs.Made.{Made, Halt, Waits, Refused, number_after}
 use Rattle.course.specs.Attempts.{MayGoOn, WentOn, IsAttempt, GoesOn, HasCause, IsHalt}
 use Rattle.course.specs.declared.caller.Caller.{Caller}
+use Rattle.course.specs.declared.ending.Ending.{Ending}
+use Rattle.course.specs.declared.ending.Ending.TheVariants as endings
 use Rattle.course.specs.declared.rest.Rest.{Rest}
+use Rattle.course.specs.declared.rest.Rest.TheVariants.{Detach}
+use Rattle.course.specs.declared.rest.RestOfDetach.{RestOfDetach}
 use Rattle.course.specs.declared.stop.Stop.{Stop}
 use Rattle.course.specs.declared.stop.Stop.TheVariants as stop
 use Rattle.course.specs.Words.{Words}
@@ -102,7 +107,7 @@ rows_grow old new events h before after = let le = versions_grow events h in let
 -- ---- what is given up
 
 -- nothing by a statement that is not done
-not_done : (level : Isolation) (s : ℕ) (o : Option Rest) (t : Result (List ℕ) Halt) (stop : Halt) → t ≡ Err stop → given_up level s o t ≡ []
+not_done : (level : Isolation) (s : ℕ) (o : Option Rest) (t : Result Ended Halt) (stop : Halt) → t ≡ Err stop → given_up level s o t ≡ []
 not_done level s o t stop e = ap (given_up level s o) e ∙ halts o
   where
     halts : (o : Option Rest) → given_up level s o (Err stop) ≡ []
@@ -113,10 +118,10 @@ not_done level s o t stop e = ap (given_up level s o) e ∙ halts o
 abbrev pub if_stood : Bool → History → History
 if_stood stood events = if stood then events else []
 
-done_gives : (level : Isolation) (s : ℕ) (o : Option Rest) (t : Result (List ℕ) Halt) (text : List ℕ) (stood : Bool) → t ≡ Ok text → stood ≡ is_some o → if_stood stood (let_go_at level s) ≡ given_up level s o t
+done_gives : (level : Isolation) (s : ℕ) (o : Option Rest) (t : Result Ended Halt) (text : List ℕ) (stood : Bool) → t ≡ Ok (Done text) → stood ≡ is_some o → if_stood stood (let_go_at level s) ≡ given_up level s o t
 done_gives level s o t text stood e is = ap (λ b. if_stood b (let_go_at level s)) is ∙ (gives o ∙ ap (given_up level s o) (sym e))
   where
-    gives : (o : Option Rest) → if_stood (is_some o) (let_go_at level s) ≡ given_up level s o (Ok text)
+    gives : (o : Option Rest) → if_stood (is_some o) (let_go_at level s) ≡ given_up level s o (Ok (Done text))
     gives None = refl
     gives (Some r) = refl
 
@@ -138,7 +143,7 @@ cancelled_tells e s next h seated lt more tells = record {
   };
 }
 
-pub cancelled_ran : (e : KeptSeats) (a : Asker) (next : ℕ) (h : History) (before : List ℕ) (f : Fault) (m : Made (List ℕ)) → AreSeated e → a.session < length e.opened → e.whole ≡ true
+pub cancelled_ran : (e : KeptSeats) (a : Asker) (next : ℕ) (h : History) (before : List ℕ) (f : Fault) (m : Made Ended) → AreSeated e → a.session < length e.opened → e.whole ≡ true
     → slice_index_or e.cancelled a.session false ≡ true → next ≡ slice_index_or e.commands a.session 0 + 1 → f ≡ statement_cancelled → TellOf e h
     → HasRun (unless_cancelled (slice_index_or e.cancelled a.session false) m) a e
     (seats e.stores e.opened (slice_set e.commands a.session next) (slice_set e.cancelled a.session false) (slice_set e.rests a.session None) e.moved e.queue e.ready e.whole) before before (outcomes.Refused f) h
@@ -214,10 +219,10 @@ abbrev pub caller_in : KeptSeats → Asker → Caller
 caller_in e a = caller_of (length e.opened) (slice_index_or e.commands a.session 0) a
 
 -- what the statement means at that history, unless its wait was cancelled
-abbrev pub meant_at : {O T : Type 0} → Words O T → O → KeptSeats → Asker → History → Settings → T → Made (List ℕ)
+abbrev pub meant_at : {O T : Type 0} → Words O T → O → KeptSeats → Asker → History → Settings → T → Made Ended
 meant_at W o e a h g t = W.attempted o (caller_in e a) (slice_index_or e.rests a.session None) h g t
 
-pub as_meant : {O T : Type 0} (W : Words O T) (o : O) (e : KeptSeats) (a : Asker) (h : History) (g : Settings) (t : T) (n cmd : ℕ) (rest : Option Rest) (r : Result (Unit {0}) Stop) (stores : Stores) (before after : List ℕ)
+pub as_meant : {O T : Type 0} (W : Words O T) (o : O) (e : KeptSeats) (a : Asker) (h : History) (g : Settings) (t : T) (n cmd : ℕ) (rest : Option Rest) (r : Result Ending Stop) (stores : Stores) (before after : List ℕ)
     → n ≡ length e.opened → cmd ≡ slice_index_or e.commands a.session 0 → rest ≡ slice_index_or e.rests a.session None
     → IsAttempt r stores before after (caller_of n cmd a) h (W.attempted o (caller_of n cmd a) rest h g t) → IsAttempt r stores before after (caller_in e a) h (meant_at W o e a h g t)
 as_meant W o e a h g t n cmd rest r stores before after count number taken is =
@@ -226,10 +231,10 @@ as_meant W o e a h g t n cmd rest r stores before after count number taken is =
     (subst (λ x. came n x (slice_index_or e.rests a.session None)) number (subst (λ x. came n cmd x) taken is))
 
 -- what has come of it, where it was not cancelled
-abbrev pub Tried : (e new : KeptSeats) → Asker → (before after : List ℕ) (o : Outcome) (h : History) → Made (List ℕ) → Type 0
+abbrev pub Tried : (e new : KeptSeats) → Asker → (before after : List ℕ) (o : Outcome) (h : History) → Made Ended → Type 0
 Tried e new a before after o h m = HasRun (unless_cancelled (slice_index_or e.cancelled a.session false) m) a e new before after o h
 
-as_tried : (e new : KeptSeats) (a : Asker) (before after : List ℕ) (o : Outcome) (h : History) (m : Made (List ℕ)) → slice_index_or e.cancelled a.session false ≡ false → HasRun m a e new before after o h → Tried e new a before after o h m
+as_tried : (e new : KeptSeats) (a : Asker) (before after : List ℕ) (o : Outcome) (h : History) (m : Made Ended) → slice_index_or e.cancelled a.session false ≡ false → HasRun m a e new before after o h → Tried e new a before after o h m
 as_tried e new a before after o h m flag ran = subst (λ b. HasRun (unless_cancelled b m) a e new before after o h) (sym flag) ran
 
 set_same : {X : Type 0} (xs : List X) (s : ℕ) (x d : X) → s < length xs → slice_index_or xs s d ≡ x → slice_set xs s x ≡ xs
@@ -245,19 +250,19 @@ number_stays e s stores next it = sym (set_same e.commands s (slice_index_or e.c
 
 -- ---- it is done
 
-pub done_tells : (e : KeptSeats) (a : Asker) (stores : Stores) (next : ℕ) (rests : List (Option Rest)) (ready' : Option ℕ) (h : History) (before after : List ℕ) (m : Made (List ℕ)) → IsTried e a.session stores ready' → TellOf e h
-    → next ≡ slice_index_or e.commands a.session 0 + 1 → rests ≡ slice_set e.rests a.session None → IsIdle stores.locks a.session → IsAttempt (Ok tt) stores before after (caller_in e a) h m
+pub done_tells : (e : KeptSeats) (a : Asker) (stores : Stores) (next : ℕ) (rests : List (Option Rest)) (ready' : Option ℕ) (h : History) (before after : List ℕ) (m : Made Ended) → IsTried e a.session stores ready' → TellOf e h
+    → next ≡ slice_index_or e.commands a.session 0 + 1 → rests ≡ slice_set e.rests a.session None → IsIdle stores.locks a.session → IsAttempt (Ok endings.Done) stores before after (caller_in e a) h m
     → TellOf (tried e stores (slice_set e.commands a.session next) rests e.queue ready') (m.events ++ h)
 done_tells e a stores next rests ready' h before after m it tells more set idle (text, told, printed, went) =
     went_tells e stores a.session (slice_index_or e.commands a.session 0 + 1) None (slice_set e.commands a.session next) rests [] e.queue ready' m.events h it tells went
     (idle_caused stores a.session idle) tt (ap (slice_set e.commands a.session) more) set (sym (append-nil e.queue))
 
 -- and has given up its snapshot
-pub done_ran : (e new : KeptSeats) (a : Asker) (stores : Stores) (next : ℕ) (rests : List (Option Rest)) (ready' : Option ℕ) (stood : Bool) (h : History) (before after : List ℕ) (m : Made (List ℕ)) → IsTried e a.session stores ready' → TellOf e h
+pub done_ran : (e new : KeptSeats) (a : Asker) (stores : Stores) (next : ℕ) (rests : List (Option Rest)) (ready' : Option ℕ) (stood : Bool) (h : History) (before after : List ℕ) (m : Made Ended) → IsTried e a.session stores ready' → TellOf e h
     → next ≡ slice_index_or e.commands a.session 0 + 1 → rests ≡ slice_set e.rests a.session None → IsIdle stores.locks a.session → stood ≡ is_some (slice_index_or e.rests a.session None)
     → Adds (tried e stores (slice_set e.commands a.session next) rests e.queue ready') new (λ h. if_stood stood (let_go_at a.level a.session))
     → new.commands ≡ slice_set e.commands a.session next → new.cancelled ≡ e.cancelled → new.rests ≡ rests
-    → IsAttempt (Ok tt) stores before after (caller_in e a) h m → Tried e new a before after outcomes.Done h m
+    → IsAttempt (Ok endings.Done) stores before after (caller_in e a) h m → Tried e new a before after outcomes.Done h m
 done_ran e new a stores next rests ready' stood h before after m it tells more set idle is adds commands cancelled left (text, told, printed, went) =
     as_tried e new a before after outcomes.Done h m it.flag (record {
       whole = adds.whole ∙ it.whole;
@@ -272,14 +277,14 @@ done_ran e new a stores next rests ready' stood h before after m it tells more s
 
 -- ---- it is refused
 
-pub refused_tells : (e : KeptSeats) (a : Asker) (stores : Stores) (next : ℕ) (rests : List (Option Rest)) (ready' : Option ℕ) (h : History) (before after : List ℕ) (m : Made (List ℕ)) (f : Fault) → IsTried e a.session stores ready' → TellOf e h
+pub refused_tells : (e : KeptSeats) (a : Asker) (stores : Stores) (next : ℕ) (rests : List (Option Rest)) (ready' : Option ℕ) (h : History) (before after : List ℕ) (m : Made Ended) (f : Fault) → IsTried e a.session stores ready' → TellOf e h
     → next ≡ slice_index_or e.commands a.session 0 + 1 → rests ≡ slice_set e.rests a.session None → IsIdle stores.locks a.session → IsAttempt (Err (stop.Refused f)) stores before after (caller_in e a) h m
     → TellOf (tried e stores (slice_set e.commands a.session next) rests e.queue ready') (m.events ++ h)
 refused_tells e a stores next rests ready' h before after m f it tells more set idle (told, printed, went) =
     went_tells e stores a.session (slice_index_or e.commands a.session 0 + 1) None (slice_set e.commands a.session next) rests [] e.queue ready' m.events h it tells went
     (idle_caused stores a.session idle) tt (ap (slice_set e.commands a.session) more) set (sym (append-nil e.queue))
 
-pub refused_ran : (e : KeptSeats) (a : Asker) (stores : Stores) (next : ℕ) (rests : List (Option Rest)) (ready' : Option ℕ) (h : History) (before after : List ℕ) (m : Made (List ℕ)) (f : Fault) → IsTried e a.session stores ready' → TellOf e h
+pub refused_ran : (e : KeptSeats) (a : Asker) (stores : Stores) (next : ℕ) (rests : List (Option Rest)) (ready' : Option ℕ) (h : History) (before after : List ℕ) (m : Made Ended) (f : Fault) → IsTried e a.session stores ready' → TellOf e h
     → next ≡ slice_index_or e.commands a.session 0 + 1 → rests ≡ slice_set e.rests a.session None → IsIdle stores.locks a.session → IsAttempt (Err (stop.Refused f)) stores before after (caller_in e a) h m
     → Tried e (tried e stores (slice_set e.commands a.session next) rests e.queue ready') a before after (outcomes.Refused f) h m
 refused_ran e a stores next rests ready' h before after m f it tells more set idle (told, printed, went) =
@@ -295,16 +300,48 @@ refused_ran e a stores next rests ready' h before after m f it tells more set id
       rests = set ∙ ap (λ t. slice_set e.rests a.session (rest_told t)) (sym told);
     })
 
+-- ---- what it did so far is to be committed
+
+commits_nothing : (level : Isolation) (s : ℕ) (o : Option Rest) (t : Result Ended Halt) (d : RestOfDetach) → t ≡ Ok (Commits d) → given_up level s o t ≡ []
+commits_nothing level s o t d e = ap (given_up level s o) e ∙ gives o
+  where
+    gives : (o : Option Rest) → given_up level s o (Ok (Commits d)) ≡ []
+    gives None = refl
+    gives (Some r) = refl
+
+pub commits_tells : (e : KeptSeats) (a : Asker) (stores : Stores) (next : ℕ) (rests : List (Option Rest)) (ready' : Option ℕ) (h : History) (before after : List ℕ) (m : Made Ended) (d : RestOfDetach) → IsTried e a.session stores ready' → TellOf e h
+    → next ≡ slice_index_or e.commands a.session 0 + 1 → rests ≡ slice_set e.rests a.session (Some (Detach d)) → IsIdle stores.locks a.session → IsAttempt (Ok (endings.Commits d)) stores before after (caller_in e a) h m
+    → TellOf (tried e stores (slice_set e.commands a.session next) rests e.queue ready') (m.events ++ h)
+commits_tells e a stores next rests ready' h before after m d it tells more set idle (told, printed, went) =
+    went_tells e stores a.session (slice_index_or e.commands a.session 0 + 1) (Some (Detach d)) (slice_set e.commands a.session next) rests [] e.queue ready' m.events h it tells went
+    (idle_caused stores a.session idle) tt (ap (slice_set e.commands a.session) more) set (sym (append-nil e.queue))
+
+pub commits_ran : (e : KeptSeats) (a : Asker) (stores : Stores) (next : ℕ) (rests : List (Option Rest)) (ready' : Option ℕ) (h : History) (before after : List ℕ) (m : Made Ended) (d : RestOfDetach) → IsTried e a.session stores ready' → TellOf e h
+    → next ≡ slice_index_or e.commands a.session 0 + 1 → rests ≡ slice_set e.rests a.session (Some (Detach d)) → IsIdle stores.locks a.session → IsAttempt (Ok (endings.Commits d)) stores before after (caller_in e a) h m
+    → Tried e (tried e stores (slice_set e.commands a.session next) rests e.queue ready') a before after outcomes.Commits h m
+commits_ran e a stores next rests ready' h before after m d it tells more set idle (told, printed, went) =
+    let new = tried e stores (slice_set e.commands a.session next) rests e.queue ready' in
+    as_tried e new a before after outcomes.Commits h m it.flag (record {
+      whole = it.whole;
+      tells = subst (λ events. TellOf new (events ++ (m.events ++ h))) (sym (commits_nothing a.level a.session (slice_index_or e.rests a.session None) m.told d told))
+          (commits_tells e a stores next rests ready' h before after m d it tells more set idle (told, printed, went));
+      outcome = ap outcome_told (sym told);
+      text = printed ∙ (sym (append-nil before) ∙ ap (λ t. before ++ text_told t) (sym told));
+      commands = ap (slice_set e.commands a.session) more ∙ ap (λ t. slice_set e.commands a.session (next_command t (slice_index_or e.commands a.session 0))) (sym told);
+      cancelled = flag_stays e a.session stores ready' it;
+      rests = set ∙ ap (λ t. slice_set e.rests a.session (rest_told t)) (sym told);
+    })
+
 -- ---- it waits
 
-pub waits_tells : (e : KeptSeats) (a : Asker) (stores : Stores) (n : ℕ) (rest : Option Rest) (rests : List (Option Rest)) (q : List ℕ) (ready' : Option ℕ) (h : History) (before after : List ℕ) (m : Made (List ℕ)) → IsTried e a.session stores ready' → TellOf e h
+pub waits_tells : (e : KeptSeats) (a : Asker) (stores : Stores) (n : ℕ) (rest : Option Rest) (rests : List (Option Rest)) (q : List ℕ) (ready' : Option ℕ) (h : History) (before after : List ℕ) (m : Made Ended) → IsTried e a.session stores ready' → TellOf e h
     → n ≡ number_after rest (slice_index_or e.commands a.session 0) → rests ≡ slice_set e.rests a.session rest → IsHalt (Err (stop.Waits rest)) stores a.session → q ≡ e.queue ++ a.session ∷ [] → IsAttempt (Err (stop.Waits rest)) stores before after (caller_in e a) h m
     → TellOf (tried e stores (slice_set e.commands a.session n) rests q ready') (m.events ++ h)
 waits_tells e a stores n rest rests q ready' h before after m it tells number set halt left (told, printed, went) =
     went_tells e stores a.session (number_after rest (slice_index_or e.commands a.session 0)) rest (slice_set e.commands a.session n) rests (a.session ∷ []) q ready' m.events h it tells went
     (waiting_caused stores a.session halt.0.0 halt.0.1 halt.0.2) halt.1 (ap (slice_set e.commands a.session) number) set left
 
-pub waits_ran : (e : KeptSeats) (a : Asker) (stores : Stores) (n : ℕ) (rest : Option Rest) (rests : List (Option Rest)) (q : List ℕ) (ready' : Option ℕ) (h : History) (before after : List ℕ) (m : Made (List ℕ)) → IsTried e a.session stores ready' → TellOf e h
+pub waits_ran : (e : KeptSeats) (a : Asker) (stores : Stores) (n : ℕ) (rest : Option Rest) (rests : List (Option Rest)) (q : List ℕ) (ready' : Option ℕ) (h : History) (before after : List ℕ) (m : Made Ended) → IsTried e a.session stores ready' → TellOf e h
     → n ≡ number_after rest (slice_index_or e.commands a.session 0) → rests ≡ slice_set e.rests a.session rest → IsHalt (Err (stop.Waits rest)) stores a.session → q ≡ e.queue ++ a.session ∷ [] → IsAttempt (Err (stop.Waits rest)) stores before after (caller_in e a) h m
     → Tried e (tried e stores (slice_set e.commands a.session n) rests q ready') a before after outcomes.Waits h m
 waits_ran e a stores n rest rests q ready' h before after m it tells number set halt left (told, printed, went) =
@@ -332,7 +369,7 @@ one_more q xs s n is all lt = subst (All (λ r. r < n)) (sym is) (All-append (λ
 
 -- ---- the database that it stands for
 
-abbrev attempt_by : {O T : Type 0} → Words O T → Asker → History → Settings → T → O → ℕ → List ℕ → List Bool → List (Option Rest) → Made (List ℕ)
+abbrev attempt_by : {O T : Type 0} → Words O T → Asker → History → Settings → T → O → ℕ → List ℕ → List Bool → List (Option Rest) → Made Ended
 attempt_by W a h g t o n commands cancelled rests = unless_cancelled (slice_index_or cancelled a.session false) (W.attempted o (caller_of n (slice_index_or commands a.session 0) a) (slice_index_or rests a.session None) h g t)
 
 same_attempt : {O T : Type 0} (W : Words O T) (o : O) (e : KeptSeats) (a : Asker) (g : Settings) (t : T) (cut : List ℕ) (v : Database O) → StandsFor o e cut v → attempt_at W o e a v.history g t ≡ attempt_of W v a g t
@@ -344,7 +381,7 @@ same_attempt W o e a g t cut v stands =
     ∙ ap (λ x. attempt_by W a v.history g t v.options v.sessions v.commands v.cancelled x) stands.rests)))
 
 -- what has happened after it
-abbrev history_by : Asker → History → List (Option Rest) → Made (List ℕ) → History
+abbrev history_by : Asker → History → List (Option Rest) → Made Ended → History
 history_by a h rests m = given_up a.level a.session (slice_index_or rests a.session None) m.told ++ (m.events ++ h)
 
 pub stands_ran : {O T : Type 0} (W : Words O T) (o : O) (old new : KeptSeats) (a : Asker) (g : Settings) (t : T) (before after : List ℕ) (x : Outcome) (cut : List ℕ) (v : Database O)

@@ -24,6 +24,7 @@ use Rattle.stores.specs.Stand.{AllStand, Stands, AddsGood, IsSameSize}
 use Rattle.stores.specs.declared.stores.Stores.{Stores}
 use Rattle.course.specs.Attempts.{MayGoOn}
 use Rattle.course.specs.declared.rest.Rest.{Rest}
+use Rattle.course.specs.declared.rest.Rest.TheVariants.{Rows, Detach}
 use Rattle.course.specs.Kept.{KeptSeats, AreSeated, AreWaits, TellOf, AreKept, Adds}
 use Rattle.course.proofs.Numbers.{Ends, at_lock, at_dropped, at_begun, at_ended}
 use Rattle.course.proofs.Waiting.{same_rest, given_up_standing, snapshot_standing, resumed_standing, withdrawn_standing}
@@ -77,7 +78,8 @@ over_caused old new s r v idle others is before =
 -- there are more row versions, or as many
 pub more_left : (old new : Stores) (rest : Option Rest) → length old.rows.stored ≤ length new.rows.stored → MayGoOn old rest → MayGoOn new rest
 more_left old new None le may = may
-more_left old new (Some r) le may = λ i d lt. let below = may i d lt in omega (arith, below, le)
+more_left old new (Some (Rows r)) le may = λ i d lt. let below = may i d lt in omega (arith, below, le)
+more_left old new (Some (Detach d)) le may = tt
 
 pub same_left : (old new : Stores) (rest : Option Rest) → new.rows ≡ old.rows → MayGoOn old rest → MayGoOn new rest
 same_left old new rest same may = more_left old new rest (let at : length new.rows.stored ≡ length old.rows.stored = ap (λ rows. length rows.stored) same in omega (arith, at)) may

@@ -11,9 +11,13 @@ use Rattle.lock_table.specs.Stands.{IsIdle, OthersWait, SameSize, names}
 use Rattle.stores.specs.Stand.{Stands}
 use Rattle.stores.specs.Numbers.{IsAt}
 use Rattle.stores.specs.declared.stores.Stores.{Stores}
+use Rattle.course.specs.Ended.{Ended, Done, Commits}
 use Rattle.course.specs.Made.{Made, Waits, Refused, number_after}
 use Rattle.course.specs.declared.caller.Caller.{Caller}
+use Rattle.course.specs.declared.ending.Ending.{Ending}
+use Rattle.course.specs.declared.ending.Ending.TheVariants as endings
 use Rattle.course.specs.declared.rest.Rest.{Rest}
+use Rattle.course.specs.declared.rest.Rest.TheVariants.{Rows, Detach}
 use Rattle.course.specs.declared.stop.Stop.{Stop}
 use Rattle.course.specs.declared.stop.Stop.TheVariants as stop
 
@@ -32,8 +36,12 @@ pub record MayAttempt (stores : Stores) (caller : Caller) : Type 0 where
   pub tables : stores.locks.tables ≡ 4096
 
 -- the row versions that are left are there
+abbrev pub IsLeft : Stores → Rest → Type 0
+IsLeft stores (Rows r) = All (λ id. id.number < length stores.rows.stored) r.left
+IsLeft stores (Detach d) = Unit {0}
+
 abbrev pub MayGoOn : Stores → Option Rest → Type 0
-MayGoOn stores rest = IfSome rest (λ r. All (λ id. id.number < length stores.rows.stored) r.left)
+MayGoOn stores rest = IfSome rest (IsLeft stores)
 
 -- the history went on from the earlier one: the session's next command has that number, those of others keep theirs, and
 -- these sessions wait behind those that waited before
@@ -44,8 +52,9 @@ pub record WentOn (earlier : History) (session cmd : ℕ) (waiting : List ℕ) (
   pub queue : queue (lock_events h) ≡ queue (lock_events earlier) ++ waiting
 
 -- want of memory apart, what came of it is what is told; a statement that is done prints, and counts as a command
-abbrev pub IsAttempt : Result (Unit {0}) Stop → Stores → (before after : List ℕ) → Caller → History → Made (List ℕ) → Type 0
-IsAttempt (Ok u) new before after caller h m = (text : List ℕ) × (m.told ≡ Ok text) × (after ≡ before ++ text) × WentOn h caller.session (caller.cmd + 1) [] new (m.events ++ h)
+abbrev pub IsAttempt : Result Ending Stop → Stores → (before after : List ℕ) → Caller → History → Made Ended → Type 0
+IsAttempt (Ok endings.Done) new before after caller h m = (text : List ℕ) × (m.told ≡ Ok (Done text)) × (after ≡ before ++ text) × WentOn h caller.session (caller.cmd + 1) [] new (m.events ++ h)
+IsAttempt (Ok (endings.Commits d)) new before after caller h m = (m.told ≡ Ok (Commits d)) × (after ≡ before) × WentOn h caller.session (caller.cmd + 1) [] new (m.events ++ h)
 IsAttempt (Err (stop.Waits rest)) new before after caller h m = (m.told ≡ Err (Waits rest)) × (after ≡ before) × WentOn h caller.session (number_after rest caller.cmd) (caller.session ∷ []) new (m.events ++ h)
 IsAttempt (Err (stop.Refused f)) new before after caller h m = (m.told ≡ Err (Refused f)) × (after ≡ before) × WentOn h caller.session (caller.cmd + 1) [] new (m.events ++ h)
 IsAttempt (Err stop.NoMemory) new before after caller h m = Unit {0}
@@ -71,8 +80,8 @@ abbrev pub IsWaiting : Stores → (session : ℕ) → Type 0
 IsWaiting stores s = (w : Wanted) × (slice_index_or stores.locks.wants s None ≡ Some w) × HasCause w
 
 -- it does just where the answer says so, and can go on from where it stands
-abbrev pub IsHalt : Result (Unit {0}) Stop → Stores → (session : ℕ) → Type 0
-IsHalt (Ok u) stores s = IsIdle stores.locks s
+abbrev pub IsHalt : Result Ending Stop → Stores → (session : ℕ) → Type 0
+IsHalt (Ok e) stores s = IsIdle stores.locks s
 IsHalt (Err (stop.Waits rest)) stores s = IsWaiting stores s × MayGoOn stores rest
 IsHalt (Err (stop.Refused f)) stores s = IsIdle stores.locks s
 IsHalt (Err stop.NoMemory) stores s = Unit {0}

@@ -13,10 +13,12 @@ use Rattle.sessions.specs.declared.phase.Isolation.{Isolation}
 use Rattle.sessions.specs.declared.phase.Isolation.TheVariants.{ReadCommitted, ReadUncommitted, RepeatableRead}
 use Rattle.sessions.specs.declared.settings.Settings.{Settings}
 use Rattle.stores.specs.Events.{begun, committed, aborted, let_go, withdrawn, resumed}
+use Rattle.course.specs.Ended.{Ended, Done, Commits}
 use Rattle.course.specs.Made.{Made, Halt, Waits, Refused, number_after, halted}
 use Rattle.course.specs.Words.{Words}
 use Rattle.course.specs.declared.caller.Caller.{Caller}
 use Rattle.course.specs.declared.rest.Rest.{Rest}
+use Rattle.course.specs.declared.rest.Rest.TheVariants.{Detach}
 
 -- all that has happened; of each session how many commands of its transaction have begun and ended, whether the
 -- wait of its statement was cancelled, and where a statement stands that waits in the middle of its run; and whose
@@ -51,21 +53,22 @@ abbrev pub caller_of : (sessions cmd : ℕ) → Asker → Caller
 caller_of n cmd a = record { session = a.session; sessions = n; level = a.level; cmd = cmd; kind = a.kind }
 
 -- a statement whose wait was cancelled is refused
-abbrev pub unless_cancelled : Bool → Made (List ℕ) → Made (List ℕ)
+abbrev pub unless_cancelled : Bool → Made Ended → Made Ended
 unless_cancelled true m = halted [] (Refused statement_cancelled)
 unless_cancelled false m = m
 
-abbrev pub attempt_of : {O T : Type 0} → Words O T → Database O → Asker → Settings → T → Made (List ℕ)
+abbrev pub attempt_of : {O T : Type 0} → Words O T → Database O → Asker → Settings → T → Made Ended
 attempt_of W v a g t = unless_cancelled (is_cancelled v a.session) (W.attempted v.options (caller_of v.sessions (command_of v a.session) a) (rest_of v a.session) v.history g t)
 
 -- a command that is to begin anew keeps its number
-abbrev pub next_command : Result (List ℕ) Halt → ℕ → ℕ
-next_command (Ok text) n = n + 1
+abbrev pub next_command : Result Ended Halt → ℕ → ℕ
+next_command (Ok e) n = n + 1
 next_command (Err (Waits rest)) n = number_after rest n
 next_command (Err (Refused f)) n = n + 1
 
-abbrev pub rest_told : Result (List ℕ) Halt → Option Rest
-rest_told (Ok text) = None
+abbrev pub rest_told : Result Ended Halt → Option Rest
+rest_told (Ok (Done text)) = None
+rest_told (Ok (Commits d)) = Some (Detach d)
 rest_told (Err (Waits rest)) = rest
 rest_told (Err (Refused f)) = None
 
@@ -76,11 +79,11 @@ let_go_at ReadUncommitted s = let_go s
 let_go_at RepeatableRead s = []
 
 -- a statement that waited in the middle of its run has held its snapshot, and gives it up where it is done
-abbrev pub given_up : Isolation → (session : ℕ) → Option Rest → Result (List ℕ) Halt → History
-given_up level s (Some rest) (Ok text) = let_go_at level s
+abbrev pub given_up : Isolation → (session : ℕ) → Option Rest → Result Ended Halt → History
+given_up level s (Some rest) (Ok (Done text)) = let_go_at level s
 given_up level s rest told = []
 
-abbrev pub goes_on : {O : Type 0} → Database O → Asker → Made (List ℕ) → Database O
+abbrev pub goes_on : {O : Type 0} → Database O → Asker → Made Ended → Database O
 goes_on v a m = record v {
   history = given_up a.level a.session (rest_of v a.session) m.told ++ (m.events ++ v.history);
   commands = slice_set v.commands a.session (next_command m.told (command_of v a.session));
@@ -88,13 +91,15 @@ goes_on v a m = record v {
   rests = slice_set v.rests a.session (rest_told m.told);
 }
 
-abbrev pub outcome_told : Result (List ℕ) Halt → Outcome
-outcome_told (Ok text) = outcomes.Done
+abbrev pub outcome_told : Result Ended Halt → Outcome
+outcome_told (Ok (Done text)) = outcomes.Done
+outcome_told (Ok (Commits d)) = outcomes.Commits
 outcome_told (Err (Waits rest)) = outcomes.Waits
 outcome_told (Err (Refused f)) = outcomes.Refused f
 
-abbrev pub text_told : Result (List ℕ) Halt → List ℕ
-text_told (Ok text) = text
+abbrev pub text_told : Result Ended Halt → List ℕ
+text_told (Ok (Done text)) = text
+text_told (Ok (Commits d)) = []
 text_told (Err stop) = []
 
 -- ---- what happens

@@ -1,4 +1,5 @@
 pub mod Made
+pub mod Ended
 pub mod Words
 pub mod Database
 pub mod Attempts
@@ -6,3 +7,4 @@ pub mod Kept
 pub mod Weight
 pub mod Ran
 pub mod Moments
+pub mod Once

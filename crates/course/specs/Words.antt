@@ -5,6 +5,7 @@ use Rattle.history.specs.History.{History}
 use Rattle.sessions.specs.declared.asker.Place.{Place}
 use Rattle.sessions.specs.declared.role.Role.{Role}
 use Rattle.sessions.specs.declared.settings.Settings.{Settings}
+use Rattle.course.specs.Ended.{Ended}
 use Rattle.course.specs.Made.{Made}
 use Rattle.course.specs.declared.caller.Caller.{Caller}
 use Rattle.course.specs.declared.rest.Rest.{Rest}
@@ -17,5 +18,6 @@ pub record Words (O T : Type 0) : Type 0 where
   pub misplaced : Place → T → Option Fault  -- why it may not stand there
   pub set : Settings → T → Result Settings Fault  -- the settings after a SET or RESET
   pub cancels : (session sessions : ℕ) → T → List ℕ  -- the sessions whose waits it cancels, one after the other
-  pub attempted : O → Caller → Option Rest → History → Settings → T → Made (List ℕ)  -- from the beginning, or from where it stood, up to a wait or its end, and what it prints
+  pub has_committed : Option Rest → T → Bool  -- it has committed what it did first, and goes on from there
+  pub attempted : O → Caller → Option Rest → History → Settings → T → Made Ended  -- from the beginning, or from where it stood, up to a wait or its end
   pub fault_text : Fault → List ℕ

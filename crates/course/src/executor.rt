@@ -49,6 +49,7 @@ impl<K: Kinds> StoreExecutor<K> {
     fn interrupt(&mut self, session: usize) -> Result<(), NoMemory>
         ensures kinds { self.new.kinds ≡ self.old.kinds }
         ensures opened { self.new.seats.opened ≡ self.old.seats.opened }
+        ensures rests { self.new.seats.rests ≡ self.old.seats.rests }
         ensures stands { OnOk result ((v : Database K.Options) → StandsFor (K.options self.old.kinds) self.old.seats self.old.cut.items v →
             StandsFor (K.options self.new.kinds) self.new.seats self.new.cut.items (cuts v session)) }
         ensures others { (s : ℕ) → waits_in self.old.seats s ≡ false → waits_in self.new.seats s ≡ false }
@@ -66,6 +67,7 @@ impl<K: Kinds> StoreExecutor<K> {
     fn interrupt_all(&mut self, sessions: &[usize]) -> Result<(), NoMemory>
         ensures kinds { self.new.kinds ≡ self.old.kinds }
         ensures opened { self.new.seats.opened ≡ self.old.seats.opened }
+        ensures rests { self.new.seats.rests ≡ self.old.seats.rests }
         ensures stands { OnOk result ((v : Database K.Options) → StandsFor (K.options self.old.kinds) self.old.seats self.old.cut.items v →
             StandsFor (K.options self.new.kinds) self.new.seats self.new.cut.items (all_cut v sessions.now)) }
         ensures others { (s : ℕ) → waits_in self.old.seats s ≡ false → waits_in self.new.seats s ≡ false }
@@ -102,6 +104,7 @@ fn first_cancelled(seats: &Seats, cut: &[usize]) -> Option<usize>
 }
 
 impl<K: Kinds> Executor for StoreExecutor<K> {
+    ghost use Rattle.std.specs.Prelude.{None, slice_index_or};
     ghost use Rattle.course.specs.Database.{Database, course};
     ghost use Rattle.course.specs.Kept.{StandsFor, waits_in, may_go_on};
     ghost use Rattle.course.specs.Moments.{AlwaysInOneLeaf, good_rows};
@@ -128,6 +131,8 @@ impl<K: Kinds> Executor for StoreExecutor<K> {
     ghost waiting = { λ e s. waits_in e.seats s };
 
     ghost due = { λ e s. may_go_on e.seats e.cut.items s };
+
+    ghost has_committed = { λ e s t. K.words.has_committed (slice_index_or e.seats.rests s None) t };
 
     ghost slack = { λ e. weights.left e.seats e.cut.items };
 

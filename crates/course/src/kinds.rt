@@ -1,6 +1,6 @@
 ghost use Rattle.std.specs.Prelude.{◌≡◌};
 
-use crate::{Caller, Rest, Stop};
+use crate::{Caller, Ending, Rest, Stop};
 use pg_values::{Fault, NoMemory, Refusal};
 use sessions::{Place, Role, Settings};
 use std::alloc::Global;
@@ -13,6 +13,7 @@ pub trait Kinds: Sized + Drop {
     ghost use Rattle.sessions.specs.Answers.{IsAnswerBy};
     ghost use Rattle.stores.specs.Stand.{Stands};
     ghost use Rattle.stores.specs.Numbers.{IsAt};
+    ghost use Rattle.course.specs.Once.{AllCommitOnce};
     ghost use Rattle.course.specs.Words.{Words};
     ghost use Rattle.course.specs.Attempts.{MayAttempt, MayGoOn, IsAttempt, IsHalt, GoesOn};
 
@@ -30,6 +31,9 @@ pub trait Kinds: Sized + Drop {
 
     /// What statements mean.
     ghost words: { Words Options Tree };
+
+    /// A statement commits in its middle once at most, and goes on from there up to its end.
+    ghost once: { AllCommitOnce words };
 
     /// The most statements of a block.
     ghost most_statements: { ℕ };
@@ -74,8 +78,8 @@ pub trait Kinds: Sized + Drop {
     ) -> Result<Vec<usize>, NoMemory>
         ensures { IfOk result (λ cut. cut.items ≡ words.cancels session sessions (tree statement.now)) };
 
-    /// A statement from its beginning, or from where it stood, up to its end or to a wait: it appends what
-    /// it prints where it is done, and prints nothing else.
+    /// A statement from its beginning, or from where it stood, up to its end, to a wait, or to where what it did
+    /// first is to be committed: it appends what it prints where it is done, and prints nothing else.
     fn attempt(
         &self,
         alloc: Global,
@@ -85,7 +89,7 @@ pub trait Kinds: Sized + Drop {
         settings: Settings,
         statement: &Self::Statement,
         out: &mut Vec<u8>,
-    ) -> Result<(), Stop>
+    ) -> Result<Ending, Stop>
         requires may { MayAttempt stores.old caller }
         requires rest { MayGoOn stores.old rest }
         ensures is { (h : History) → Stands stores.old h → IsAt h caller.session caller.cmd →

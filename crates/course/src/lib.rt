@@ -3,8 +3,9 @@
 //! What has happened is one history: transactions, row versions, tables and locks. A statement is run
 //! from its beginning up to its end or to a wait, in one go; what it does on the way is put before the
 //! history. Where it had to wait for a lock, it begins anew when its wait is over, with the locks that
-//! it has got; where it had to wait for a row, it goes on where it stood. Where its wait was cancelled, it
-//! is refused. A statement can cancel the waits of other sessions: these end before it is attempted, and
+//! it has got; where it had to wait for a row, it goes on where it stood. It may also ask that what it did so
+//! far is committed, and go on from there in another transaction. Where its wait was cancelled, it is refused.
+//! A statement can cancel the waits of other sessions: these end before it is attempted, and
 //! those sessions go on before any other whose wait is over.
 //!
 //! Which statements there are is not said here: `Kinds` says how they are read and what each makes of
@@ -13,6 +14,7 @@
 #![tactic(auto)]
 
 mod caller;
+mod ending;
 mod executor;
 mod kinds;
 mod rest;
@@ -20,8 +22,9 @@ mod seats;
 mod stop;
 
 pub use caller::Caller;
+pub use ending::{Ending, ended};
 pub use executor::StoreExecutor;
 pub use kinds::Kinds;
-pub use rest::{Rest, RowIds};
+pub use rest::{Rest, RestOfDetach, RestOfRows, RowIds};
 pub use seats::statement_cancelled;
 pub use stop::Stop;

@@ -1,6 +1,7 @@
 ghost use Rattle.std.specs.Prelude.{◌≡◌, ◌++◌, ◌∷◌, [], OnOk, OnErr};
 
-use pg_ids::RowId;
+use history::TxId;
+use pg_ids::{RowId, SessionSet, TableNo};
 use pg_values::NoMemory;
 use std::alloc::Global;
 use std::marker::Model;
@@ -44,10 +45,27 @@ impl RowIds {
     }
 }
 
-/// Where a statement stands that waits for a row in the middle of its run: the row versions that it has
-/// still to look at, that for which it waits first, and how many rows it has changed.
+/// Of rows that are changed: the row versions that are still to be looked at, that for which the statement
+/// waits first, and how many rows it has changed.
 #[derive(Debug, Drop)]
-pub struct Rest {
+pub struct RestOfRows {
     pub left: RowIds,
     pub changed: u64,
+}
+
+/// Of a partition that is detached concurrently: its parent and the partition, the transaction that has
+/// marked it pending, and the sessions whose transactions are still to end before it is one no more.
+#[derive(Clone, Copy, Debug)]
+pub struct RestOfDetach {
+    pub parent: TableNo,
+    pub table: TableNo,
+    pub by: TxId,
+    pub behind: SessionSet,
+}
+
+/// Where a statement stands in the middle of its run.
+#[derive(Debug, Drop)]
+pub enum Rest {
+    Rows(RestOfRows),
+    Detach(RestOfDetach),
 }

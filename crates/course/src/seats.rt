@@ -6,11 +6,11 @@ ghost use Rattle.sessions.specs.declared.outcome.Outcome.TheVariants as outcomes
 ghost use Rattle.stores.specs.Events.{begun, committed, aborted, let_go, withdrawn, resumed};
 ghost use Rattle.course.specs.Database as database;
 ghost use Rattle.course.specs.Made as made;
-ghost use Rattle.course.specs.Kept.{Adds, AreSessions, TellOf, due_in, waits_in};
+ghost use Rattle.course.specs.Kept.{Adds, AreSeated, AreSessions, TellOf, due_in, waits_in};
 ghost use Rattle.course.specs.Ran.{attempt_at, waits_by, HasRun};
 ghost use Rattle.course.specs.Weight.{slack, most};
 
-use crate::{Caller, Kinds, Rest, Stop};
+use crate::{Caller, Ending, Kinds, Rest, Stop};
 use history::{WaitOn, Wanted};
 use pg_ids::SessionSet;
 use pg_values::{Args, Fault, NoMemory, SqlState};
@@ -395,6 +395,7 @@ impl Seats {
         ensures opened { self.new.opened ≡ self.old.opened }
         ensures waits { IfOk result (λ o. waits_in self.new asker.session ≡ waits_by o) }
         ensures lower { result ≡ Ok outcomes.Waits → slack self.new ≤ slack self.old }
+        ensures heard { OnOk result ((h : History) × TellOf self.old h × AreSeated self.old) }
         ensures strides { result ≡ Ok outcomes.Goes → ⊥ }
     {
         if !self.whole {
@@ -432,10 +433,18 @@ impl Seats {
         );
         self.ready = self.stores.locks.ready();
         match answer {
-            Ok(()) => {
+            Ok(ending) => {
                 self.commands[session] = next;
-                self.give_up(asker.level, session, has_stood);
-                Ok(Outcome::Done)
+                match ending {
+                    Ending::Done => {
+                        self.give_up(asker.level, session, has_stood);
+                        Ok(Outcome::Done)
+                    }
+                    Ending::Commits(rest) => {
+                        set_rest(&mut self.rests, session, Some(Rest::Detach(rest)));
+                        Ok(Outcome::Commits)
+                    }
+                }
             }
             Err(Stop::Waits(rest)) => {
                 self.commands[session] = number_after(&rest, next, cmd);

@@ -1,3 +1,11 @@
 mod Refusing
 mod Defaults
-mod Leaving
+mod Checks
+mod LeftPlaces
+mod Guards
+mod Marks
+mod Pending
+mod LaterStages
+mod Waits
+mod Levels
+mod KeptChecks

@@ -13,11 +13,11 @@ use Rattle.table_statements.proofs.Ends.{same_number}
 use Rattle.table_statements.proofs.Firsts.{both_told, none_told}
 use Rattle.detach_statement.specs.Detached.{not_a_partition, name_at, is_table, detachable}
 
-none_against : (b : Bool) (f : Fault) → unless b f ≡ [] → b ≡ true
+pub none_against : (b : Bool) (f : Fault) → unless b f ≡ [] → b ≡ true
 none_against true f e = refl
 none_against false f e = absurd (let c = e in cc)
 
-is_parent : (o : Option TableNo) (p : TableNo) → is_table o p.number ≡ true → o ≡ Some p
+pub is_parent : (o : Option TableNo) (p : TableNo) → is_table o p.number ≡ true → o ≡ Some p
 is_parent None p e = absurd (let c = e in cc)
 is_parent (Some x) p e = ap (λ (n : ℕ). Some (record { number = n })) (same_number x.number p.number e)
 

@@ -20,7 +20,7 @@ use std::alloc::Global;
 use stores::Stores;
 use tx_table::TxTable;
 
-fn is_table(found: Option<TableNo>, table: TableNo) -> bool
+pub(crate) fn is_table(found: Option<TableNo>, table: TableNo) -> bool
     ensures { result ≡ detached.is_table found table.number }
 {
     match found {

@@ -20,4 +20,5 @@ mod scans;
 mod texts;
 
 pub use judging::{judge_default, judge_table};
+pub use low::sessions_are_low;
 pub use scans::wait_for_snapshots;

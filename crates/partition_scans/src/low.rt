@@ -4,6 +4,6 @@ ghost use Rattle.pg_ids.specs.Sets.{has};
 use pg_ids::SessionSet;
 
 /// The sessions of a set are numbers below 128.
-pub(crate) fn sessions_are_low(set: SessionSet)
+pub fn sessions_are_low(set: SessionSet)
     ensures { (k : ℕ) → 128 ≤ k → has set k ≡ false }
 {}

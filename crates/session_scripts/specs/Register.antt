@@ -1,6 +1,6 @@
 -- A register that sessions read, set and lock, as an executor: the smallest one over which blocks, transactions and waits
 -- can be watched.
-use Rattle.std.specs.Prelude.{◌≡◌, ℕ, ◌==◌, ◌&&◌, nat_le, nat_lt, Bool, true, false, if◌then◌else◌, List, [], ◌∷◌, ◌++◌, Option, Some, None, Result, Ok, Err, length, replicate, slice_index_or, slice_set, unwrap_or, codes}
+use Rattle.std.specs.Prelude.{◌≡◌, ℕ, ◌==◌, ◌&&◌, not, nat_le, nat_lt, Bool, true, false, if◌then◌else◌, List, [], ◌∷◌, ◌++◌, Option, Some, None, Result, Ok, Err, length, replicate, slice_index_or, slice_set, unwrap_or, codes}
 use Rattle.pg_values.specs.declared.fault.Fault.{Fault}
 use Rattle.schedule.specs.Lists.{first, without}
 use Rattle.sessions.specs.Course.{Course}
@@ -11,7 +11,7 @@ use Rattle.sessions.specs.declared.role.Role.{Role}
 use Rattle.sessions.specs.declared.role.Role.TheVariants as roles
 use Rattle.sessions.specs.declared.settings.Settings.{Settings}
 use Rattle.session_scripts.specs.declared.statement.Statement.{Statement}
-use Rattle.session_scripts.specs.declared.statement.Statement.TheVariants.{Begin, BeginRepeatable, Commit, Rollback, Switch, Put, Show, Lock, Fail}
+use Rattle.session_scripts.specs.declared.statement.Statement.TheVariants.{Begin, BeginRepeatable, Commit, Rollback, Switch, Put, Show, Lock, Split, Fail}
 use Rattle.session_scripts.specs.declared.stage.Stage.{Stage}
 use Rattle.session_scripts.specs.declared.stage.Stage.TheVariants.{Running, Waiting, Woken, Cancelled}
 
@@ -22,10 +22,11 @@ pub record Register : Type 0 where
   pub holder : Option ℕ  -- who has the lock
   pub queue : List ℕ  -- who waits for it, the oldest wait first
   pub stages : List Stage
+  pub split : List Bool  -- whether its `/` goes on behind what it has committed
 
 -- there is a place for each session
 abbrev pub AreSeated : Register → Type 0
-AreSeated v = (length v.own ≡ length v.opened) × (length v.stages ≡ length v.opened)
+AreSeated v = (length v.own ≡ length v.opened) × (length v.stages ≡ length v.opened) × (length v.split ≡ length v.opened)
 
 abbrev pub is_waiting : Stage → Bool
 is_waiting Running = false
@@ -52,6 +53,7 @@ statement_of b =
     else if b == 63 then Some Show
     else if b == 33 then Some Fail
     else if b == 42 then Some Lock
+    else if b == 47 then Some Split
     else if nat_le 48 b && nat_le b 57 then Some (Put b)
     else None
 
@@ -83,6 +85,7 @@ role_of (Switch on) = roles.Set
 role_of (Put b) = roles.Query
 role_of Show = roles.Query
 role_of Lock = roles.Query
+role_of Split = roles.Query
 role_of Fail = roles.Query
 
 abbrev pub looks : Statement → Bool
@@ -114,6 +117,7 @@ ended v s value = record {
   holder = freed v.holder s;
   queue = without s v.queue;
   stages = slice_set v.stages s Running;
+  split = v.split;
 }
 
 -- ---- statements
@@ -131,9 +135,14 @@ locks v s Cancelled = record v { stages = slice_set v.stages s Running }
 locks v s Woken = takes v s true
 locks v s _ = takes v s (is_free v.holder s)
 
+-- whether its `/` has committed what came before
+abbrev pub has_split : Register → ℕ → Bool
+has_split v s = slice_index_or v.split s false
+
 abbrev pub puts : Register → ℕ → Statement → Register
 puts v s (Put b) = record v { own = slice_set v.own s (Some b) }
 puts v s Lock = locks v s (stage_at v.stages s)
+puts v s Split = record v { split = slice_set v.split s (not (has_split v s)) }
 puts v s _ = v
 
 abbrev pub failed : Fault
@@ -147,9 +156,15 @@ lock_outcome v s Cancelled = outcomes.Refused statement_cancelled
 lock_outcome v s Woken = outcomes.Done
 lock_outcome v s _ = if is_free v.holder s then outcomes.Done else outcomes.Waits
 
+-- what came before is committed, once
+abbrev pub split_outcome : (has_split : Bool) → Outcome
+split_outcome true = outcomes.Done
+split_outcome false = outcomes.Commits
+
 abbrev pub outcome_of : Register → ℕ → Statement → Outcome
 outcome_of v s Fail = outcomes.Refused failed
 outcome_of v s Lock = lock_outcome v s (stage_at v.stages s)
+outcome_of v s Split = split_outcome (has_split v s)
 outcome_of v s _ = outcomes.Done
 
 -- what is seen, and the setting
@@ -168,7 +183,7 @@ ready_in (Some r) stages queue = None
 
 -- with so many sessions, before anything has happened
 abbrev pub blank : ℕ → Register
-blank n = record { value = 48; opened = replicate n false; own = replicate n None; holder = None; queue = []; stages = replicate n Running }
+blank n = record { value = 48; opened = replicate n false; own = replicate n None; holder = None; queue = []; stages = replicate n Running; split = replicate n false }
 
 abbrev pub course : Course Register Statement
 course = record {

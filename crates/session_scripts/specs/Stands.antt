@@ -10,3 +10,4 @@ pub record Stands (r : RegisterExecutor) (v : Register) : Type 0 where
   pub holder : r.holder ≡ v.holder
   pub queue : r.queue.items ≡ v.queue
   pub stages : r.stages.items ≡ v.stages
+  pub split : r.split.items ≡ v.split

@@ -89,10 +89,12 @@ impl RegisterExecutor {
         let mut opened = Vec::new(alloc);
         let mut own = Vec::new(alloc);
         let mut stages = Vec::new(alloc);
+        let mut split = Vec::new(alloc);
         for _ in 0..sessions {
             opened.push(false)?;
             own.push(None)?;
             stages.push(Stage::Running)?;
+            split.push(false)?;
         }
         Ok(RegisterExecutor {
             value: b'0',
@@ -101,6 +103,7 @@ impl RegisterExecutor {
             holder: None,
             queue: Vec::new(alloc),
             stages,
+            split,
         })
     }
 
@@ -119,6 +122,7 @@ impl RegisterExecutor {
         ensures ended { (v : Register) → Stands self.old v → Stands self.new (spec.ended v session value) }
         ensures opened { self.new.opened.items ≡ slice_set self.old.opened.items session false }
         ensures stages { self.new.stages.items ≡ slice_set self.old.stages.items session stages.Running }
+        ensures split { self.new.split.items ≡ self.old.split.items }
     {
         self.value = value;
         self.opened[session] = false;
@@ -141,6 +145,8 @@ impl RegisterExecutor {
         ensures waits { result ≡ Ok outcomes.Waits → spec.waits_at self.new.stages.items session ≡ true }
         ensures lower { spec.waits_at self.old.stages.items session ≡ false → result ≡ Ok outcomes.Waits → of_stages self.new.stages.items ≤ of_stages self.old.stages.items }
         ensures strides { IfOk result (λ o. o ≡ outcomes.Goes → ⊥) }
+        ensures whole { IfOk result (λ o. o ≡ outcomes.Commits → ⊥) }
+        ensures split { self.new.split.items ≡ self.old.split.items }
     {
         match self.stages[session] {
             Stage::Cancelled => {
@@ -166,7 +172,7 @@ impl Executor for RegisterExecutor {
     ghost use Rattle.session_scripts.specs.Register.{AreSeated, Register, course, waits_at};
     ghost use Rattle.session_scripts.specs.Stands.{Stands};
     ghost use Rattle.session_scripts.specs.declared.statement.Statement.{Statement as Tree};
-    ghost use Rattle.std.specs.Prelude.{◌&&◌, is_none, length};
+    ghost use Rattle.std.specs.Prelude.{◌&&◌, is_none, length, slice_index_or};
     ghost use Rattle.std.proofs.Common.{ap, sym, ◌∙◌};
     ghost use Rattle.session_scripts.specs.Weight.{of_stages};
 
@@ -184,13 +190,15 @@ impl Executor for RegisterExecutor {
 
     ghost good = { AreSeated };
 
-    ghost stands_are_good = { λ r v st. (ap length (sym st.own) ∙ (r.owned ∙ ap length st.opened), ap length (sym st.stages) ∙ (r.staged ∙ ap length st.opened)) };
+    ghost stands_are_good = { λ r v st. (ap length (sym st.own) ∙ (r.owned ∙ ap length st.opened), ap length (sym st.stages) ∙ (r.staged ∙ ap length st.opened), ap length (sym st.split) ∙ (r.halved ∙ ap length st.opened)) };
 
     ghost in_transaction = { λ r. r.opened.items };
 
     ghost waiting = { λ r s. waits_at r.stages.items s };
 
     ghost due = { λ r s. waits_at r.stages.items s && is_none r.holder };
+
+    ghost has_committed = { λ r s t. slice_index_or r.split.items s false };
 
     ghost slack = { λ r. of_stages r.stages.items };
 
@@ -277,6 +285,15 @@ impl Executor for RegisterExecutor {
                 Ok(Outcome::Done)
             }
             Statement::Lock => self.lock(alloc, asker.session),
+            Statement::Split => {
+                let has_split = self.split[asker.session];
+                self.split[asker.session] = !has_split;
+                if has_split {
+                    Ok(Outcome::Done)
+                } else {
+                    Ok(Outcome::Commits)
+                }
+            }
             Statement::Fail => Ok(Outcome::Refused(fault(alloc, *b"P0001"))),
             _ => Ok(Outcome::Done),
         }

@@ -3,8 +3,8 @@
 //!
 //! A block is a row of statements of one letter each: `b` is BEGIN, `r` BEGIN ISOLATION LEVEL REPEATABLE
 //! READ, `c` COMMIT, `k` ROLLBACK, `+` and `-` are a SET, a digit sets the register, `?` reads it and
-//! prints it with what was SET, `*` locks it until the transaction ends, `!` fails; any other letter is no
-//! SQL.
+//! prints it with what was SET, `*` locks it until the transaction ends, `/` goes on in another transaction once what
+//! came before it is committed, `!` fails; any other letter is no SQL.
 #![tactic(auto)]
 
 mod executor;

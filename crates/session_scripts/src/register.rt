@@ -11,8 +11,10 @@ pub struct RegisterExecutor {
     pub holder: Option<usize>,
     pub queue: Vec<usize>,
     pub stages: Vec<Stage>,
+    pub split: Vec<bool>,
     ghost owned: { length own.items ≡ length opened.items },
     ghost staged: { length stages.items ≡ length opened.items },
+    ghost halved: { length split.items ≡ length opened.items },
     ghost few: { length opened.items ≤ 65 },
     ghost queued: { All (λ s. s < length opened.items) queue.items },
 }

@@ -18,6 +18,8 @@ pub enum Statement {
     Show,
     /// The register is locked.
     Lock,
+    /// What came before is committed, and it goes on in another transaction.
+    Split,
     Fail,
 }
 
@@ -42,6 +44,8 @@ pub(crate) fn statement_of(byte: u8) -> Option<Statement>
         Some(Statement::Fail)
     } else if byte == b'*' {
         Some(Statement::Lock)
+    } else if byte == b'/' {
+        Some(Statement::Split)
     } else if byte.is_ascii_digit() {
         Some(Statement::Put(byte))
     } else {
@@ -58,6 +62,10 @@ pub(crate) fn role_of(statement: Statement) -> Role
         Statement::Commit => Role::Commit,
         Statement::Rollback => Role::Rollback,
         Statement::Switch(_) => Role::Set,
-        Statement::Put(_) | Statement::Show | Statement::Lock | Statement::Fail => Role::Query,
+        Statement::Put(_)
+        | Statement::Show
+        | Statement::Lock
+        | Statement::Split
+        | Statement::Fail => Role::Query,
     }
 }

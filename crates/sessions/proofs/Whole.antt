@@ -1,17 +1,19 @@
 -- Sessions in their list.
-use Rattle.std.proofs.Common.{◌≡◌, ◌≤◌, ◌<◌, ◌+◌, ◌*◌, ◌==◌, ℕ, zero, suc, true, false, List, [], ◌∷◌, None, map, length, replicate, slice_index_or, slice_set, ap, sym, ◌∙◌, arith, suc-mul, Result, Ok, Err, IfOk, OnOk}
+use Rattle.std.proofs.Common.{◌≡◌, ◌≤◌, ◌<◌, ◌+◌, ◌*◌, ◌==◌, ℕ, zero, suc, Bool, true, false, List, [], ◌∷◌, None, map, length, replicate, slice_index_or, slice_set, refl, ap, sym, ◌∙◌, arith, suc-mul, Result, Ok, Err, IfOk, OnOk}
 use Rattle.std.proofs.lemmas.List.{map-set, get_or-map, length-map}
-use Rattle.std.proofs.lemmas.List.Sums.{sum_by-set}
 use Rattle.std.proofs.Math.Nat.{mul-le-mul_right}
 use Rattle.std.proofs.Math.Seq.{map-set_same}
 use Rattle.pg_values.specs.declared.fault.Fault.{Fault}
 use Rattle.schedule.specs.declared.block.Kind.{Kind}
+use Rattle.sessions.specs.Commits.{AreAsBefore, OthersAreAsBefore}
 use Rattle.sessions.specs.Seen.{seen}
 use Rattle.sessions.specs.Sessions.{SessionView, State, Turn, has_open, new_session, session_at, with_block, with_session}
 use Rattle.sessions.specs.Stands.{Stands, transactions, weight}
-use Rattle.sessions.specs.Weight.{of_phase, points, weight_of}
+use Rattle.sessions.specs.Weight.{of_phase, most_points, points_in, weight_of}
 use Rattle.sessions.specs.declared.phase.Phase.{Phase}
 use Rattle.sessions.specs.declared.phase.Phase.TheVariants.{Idle, Implicit, Explicit, Failed}
+use Rattle.sessions.proofs.Points.{one_set}
+use Rattle.sessions.proofs.Weights.{points_few, most_few}
 
 pub transactions_set : {T : Type 0} (xs : List (SessionView T)) (s : ℕ) (y : SessionView T) → transactions (slice_set xs s y) ≡ slice_set (transactions xs) s (has_open y.phase)
 transactions_set xs s y = map-set (λ x. has_open x.phase) xs s y
@@ -35,35 +37,38 @@ goes_on stands tree old new xs s x y v f lt is st m =
     })
 
 -- what is left to happen, with one session changed
-pub weight_falls : {T : Type 0} (most a b : ℕ) (xs : List (SessionView T)) (s : ℕ) (x y : SessionView T) → s < length xs → x ≡ slice_index_or xs s x
-    → weight_of most a (points y) < weight_of most b (points x) → weight most a (slice_set xs s y) < weight most b xs
-weight_falls most a b xs s x y lt is less =
-    let h = sum_by-set (λ z. points z * (most + 1)) xs s y x lt in
-    let k = ap (λ z. points z * (most + 1)) is in
-    omega (arith, h, k, less)
+pub weight_falls : {T U : Type 0} (most a b : ℕ) (tree : T → U) (f g : ℕ → U → Bool) (xs : List (SessionView T)) (s : ℕ) (x y : SessionView T) → s < length xs → x ≡ slice_index_or xs s x → OthersAreAsBefore s f g
+    → weight_of most a (points_in g tree s y) < weight_of most b (points_in f tree s x) → weight most a g tree (slice_set xs s y) < weight most b f tree xs
+weight_falls most a b tree f g xs s x y lt is others less =
+    let h = ap (λ n. n * (most + 1)) (one_set tree f g s xs x y lt is others) in
+    omega (arith, h, less)
 
-pub weight_stays : {T : Type 0} (most a b : ℕ) (xs : List (SessionView T)) (s : ℕ) (x y : SessionView T) → s < length xs → x ≡ slice_index_or xs s x
-    → weight_of most a (points y) ≤ weight_of most b (points x) → weight most a (slice_set xs s y) ≤ weight most b xs
-weight_stays most a b xs s x y lt is less =
-    let h = sum_by-set (λ z. points z * (most + 1)) xs s y x lt in
-    let k = ap (λ z. points z * (most + 1)) is in
-    omega (arith, h, k, less)
+pub weight_stays : {T U : Type 0} (most a b : ℕ) (tree : T → U) (f g : ℕ → U → Bool) (xs : List (SessionView T)) (s : ℕ) (x y : SessionView T) → s < length xs → x ≡ slice_index_or xs s x → OthersAreAsBefore s f g
+    → weight_of most a (points_in g tree s y) ≤ weight_of most b (points_in f tree s x) → weight most a g tree (slice_set xs s y) ≤ weight most b f tree xs
+weight_stays most a b tree f g xs s x y lt is others less =
+    let h = ap (λ n. n * (most + 1)) (one_set tree f g s xs x y lt is others) in
+    omega (arith, h, less)
 
-pub weight_of_block : {T : Type 0} (most a n : ℕ) (xs : List (SessionView T)) (s : ℕ) (x y : SessionView T) → s < length xs → x ≡ slice_index_or xs s x
-    → points y ≤ n → weight most a (slice_set xs s y) ≤ weight most a xs + n * (most + 1)
-weight_of_block most a n xs s x y lt is few =
-    let h = sum_by-set (λ z. points z * (most + 1)) xs s y x lt in
-    let k = mul-le-mul_right (most + 1) few in
+as_ever : {U : Type 0} (s : ℕ) (f : ℕ → U → Bool) → OthersAreAsBefore s f f
+as_ever s f = λ r u other. refl
+
+pub weight_of_block : {T U : Type 0} (most a n : ℕ) (tree : T → U) (f : ℕ → U → Bool) (xs : List (SessionView T)) (s : ℕ) (x y : SessionView T) → s < length xs → x ≡ slice_index_or xs s x
+    → most_points y ≤ n → weight most a f tree (slice_set xs s y) ≤ weight most a f tree xs + n * (most + 1)
+weight_of_block most a n tree f xs s x y lt is few =
+    let h = ap (λ k. k * (most + 1)) (one_set tree f f s xs x y lt is (as_ever s f)) in
+    let less = points_few (λ t. f s (tree t)) y in
+    let k : points_in f tree s y * (most + 1) ≤ n * (most + 1) = mul-le-mul_right (most + 1) (omega (arith, few, less)) in
     omega (arith, h, k)
 
-pub weight_of_rollback : {T : Type 0} (most a b n : ℕ) (xs : List (SessionView T)) (s : ℕ) (x y : SessionView T) → s < length xs → x ≡ slice_index_or xs s x
-    → points y ≤ points x + 1 → a ≤ most → weight most a (slice_set xs s y) ≤ weight most b xs + (n + 3) * (most + 1)
-weight_of_rollback most a b n xs s x y lt is few bounded =
-    let h = sum_by-set (λ z. points z * (most + 1)) xs s y x lt in
-    let i = ap (λ z. points z * (most + 1)) is in
-    let k = mul-le-mul_right (most + 1) few in
+pub weight_of_rollback : {T U : Type 0} (most a b n : ℕ) (tree : T → U) (f g : ℕ → U → Bool) (xs : List (SessionView T)) (s : ℕ) (x y : SessionView T) → s < length xs → x ≡ slice_index_or xs s x → AreAsBefore f g
+    → most_points y ≤ most_points x + 1 → a ≤ most → weight most a g tree (slice_set xs s y) ≤ weight most b f tree xs + (n + 3) * (most + 1)
+weight_of_rollback most a b n tree f g xs s x y lt is same few bounded =
+    let h = ap (λ k. k * (most + 1)) (one_set tree f g s xs x y lt is (λ r u other. same r u)) in
+    let less = points_few (λ t. g s (tree t)) y in
+    let more = most_few (λ t. f s (tree t)) x in
+    let k : points_in g tree s y * (most + 1) ≤ (points_in f tree s x + 2) * (most + 1) = mul-le-mul_right (most + 1) (omega (arith, few, less, more)) in
     let l : 3 * (most + 1) ≤ (n + 3) * (most + 1) = mul-le-mul_right (most + 1) (omega arith) in
-    omega (arith, h, i, k, l, suc-mul (points x) (most + 1))
+    omega (arith, h, k, l, suc-mul (points_in f tree s x) (most + 1), suc-mul (points_in f tree s x + 1) (most + 1))
 
 pub if_ok_on : {T E : Type 0} (r : Result T E) (A : T → Type 0) (B : Type 0) → ((x : T) → A x → B) → IfOk r A → OnOk r B
 if_ok_on (Ok x) A B f a = f x a
@@ -122,10 +127,10 @@ phase_points Implicit = omega arith
 phase_points Explicit = omega arith
 phase_points Failed = omega arith
 
-pub block_points : {T : Type 0} (x y : SessionView T) (k : Kind) (ts : List T) (n : ℕ) → y ≡ with_block x k (Ok ts) → length ts ≤ n → points y ≤ 2 * n + 3
+pub block_points : {T : Type 0} (x y : SessionView T) (k : Kind) (ts : List T) (n : ℕ) → y ≡ with_block x k (Ok ts) → length ts ≤ n → most_points y ≤ 3 * n + 3
 block_points x y k ts n e few = rw e (let h = phase_points x.phase in omega (arith, h, few))
 
-pub broken_points : {T : Type 0} (x y : SessionView T) (k : Kind) (f : Fault) (n : ℕ) → y ≡ with_block x k (Err f) → points y ≤ 2 * n + 3
+pub broken_points : {T : Type 0} (x y : SessionView T) (k : Kind) (f : Fault) (n : ℕ) → y ≡ with_block x k (Err f) → most_points y ≤ 3 * n + 3
 broken_points x y k f n e = rw e (let h = phase_points x.phase in omega (arith, h))
 
 -- ---- new sessions

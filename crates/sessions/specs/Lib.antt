@@ -1,4 +1,5 @@
 pub mod Answers
+pub mod Commits
 pub mod Course
 pub mod Makes
 pub mod Seen

@@ -11,7 +11,7 @@ use Rattle.sessions.specs.Course.{Course}
 use Rattle.sessions.specs.declared.asker.Asker.{Asker}
 use Rattle.sessions.specs.declared.asker.Place.{Place}
 use Rattle.sessions.specs.declared.outcome.Outcome.{Outcome}
-use Rattle.sessions.specs.declared.outcome.Outcome.TheVariants.{Goes, Waits, Done, Refused}
+use Rattle.sessions.specs.declared.outcome.Outcome.TheVariants.{Goes, Waits, Commits, Done, Refused}
 use Rattle.sessions.specs.declared.phase.Isolation.{Isolation}
 use Rattle.sessions.specs.declared.phase.Isolation.TheVariants.{ReadCommitted, ReadUncommitted, RepeatableRead}
 use Rattle.sessions.specs.declared.phase.Phase.{Phase}
@@ -190,9 +190,14 @@ kept x t = record x { rest = t ∷ x.rest }
 abbrev pub done : {T : Type 0} → SessionView T → Bool → SessionView T
 done x looks = record x { cmd = x.cmd + 1; looked = x.looked || looks }
 
+-- what it did so far is committed, and it goes on in another transaction
+abbrev pub goes_on_again : {S T : Type 0} → Course S T → ℕ → S → SessionView T → T → Turn S T
+goes_on_again C s v x t = turn (C.began (C.committed v s) s) (kept (opened x Implicit ReadCommitted) t) progress.Goes
+
 abbrev pub by_outcome : {S T : Type 0} → Course S T → ℕ → S → SessionView T → T → Outcome → Turn S T
 by_outcome C s v x t Goes = turn v (kept x t) progress.Goes
 by_outcome C s v x t Waits = turn v (kept x t) progress.Waits
+by_outcome C s v x t Commits = goes_on_again C s v x t
 by_outcome C s v x t Done = turn v (done x (C.looks t)) progress.Goes
 by_outcome C s v x t (Refused f) = fails C s v x f
 

@@ -17,4 +17,4 @@ abbrev pub count : {E T : Type 0} (g : Ghosts E T) → Sessions E T g → ℕ
 count {E} {T} g d = length d.sessions.items
 
 abbrev pub weight_in : {E T : Type 0} (g : Ghosts E T) → Sessions E T g → ℕ
-weight_in {E} {T} g d = weight g.most (g.slack d.executor) d.sessions.items
+weight_in {E} {T} g d = weight g.most (g.slack d.executor) (g.has_committed d.executor) g.tree d.sessions.items

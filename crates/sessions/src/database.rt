@@ -55,7 +55,7 @@ impl<E: Executor> Database for Sessions<E> {
 
     ghost weight = { weight_in E.Executor };
 
-    ghost cost = { (2 * E.most_statements + 3) * (E.most + 1) };
+    ghost cost = { (3 * E.most_statements + 3) * (E.most + 1) };
 
     fn sessions(&self) -> usize {
         self.sessions.len()

@@ -9,6 +9,7 @@ pub trait Executor: Sized + Drop {
     ghost use Rattle.std.specs.Prelude.{◌≡◌, ◌<◌, ◌≤◌, ◌++◌, ℕ, Bool, true, false, List, Ok, IfOk, OnOk, OnErr, IfSome, length, map, replicate, slice_index_or, slice_set};
     ghost use Rattle.schedule.specs.Rules.{Carries};
     ghost use Rattle.sessions.specs.Answers.{IsAnswerBy};
+    ghost use Rattle.sessions.specs.Commits.{CommitsOnce, AreAsBefore, OthersAreAsBefore};
     ghost use Rattle.sessions.specs.Course.{Course};
     ghost use Rattle.sessions.specs.declared.outcome.Outcome.TheVariants.{Goes, Waits as IsWaiting};
 
@@ -38,6 +39,9 @@ pub trait Executor: Sized + Drop {
 
     /// Whether the session's wait is over.
     ghost due: { Self → ℕ → Bool };
+
+    /// Whether the session's statement has committed what it did first, and goes on from there.
+    ghost has_committed: { Self → ℕ → Tree → Bool };
 
     /// What can still happen before a statement is done or refused, as a number, and the most that it
     /// can be.
@@ -94,6 +98,7 @@ pub trait Executor: Sized + Drop {
         ensures stands { OnOk result (Carries stands (λ v. course.began v session) self.old self.new) }
         ensures transactions { OnOk result (in_transaction self.new ≡ slice_set (in_transaction self.old) session true) }
         ensures err { OnErr result (in_transaction self.new ≡ in_transaction self.old) }
+        ensures committed { AreAsBefore (has_committed self.old) (has_committed self.new) }
         ensures free { waiting self.new session ≡ false }
         ensures slack { slack self.old ≤ most → slack self.new ≤ most };
 
@@ -104,6 +109,7 @@ pub trait Executor: Sized + Drop {
         requires free { waiting self.old session ≡ false }
         ensures stands { Carries stands (λ v. course.committed v session) self.old self.new }
         ensures transactions { in_transaction self.new ≡ slice_set (in_transaction self.old) session false }
+        ensures committed { AreAsBefore (has_committed self.old) (has_committed self.new) }
         ensures free { waiting self.new session ≡ false }
         ensures slack { slack self.old ≤ most → slack self.new ≤ most };
 
@@ -113,6 +119,7 @@ pub trait Executor: Sized + Drop {
         requires transaction { slice_index_or (in_transaction self.old) session false ≡ true }
         ensures stands { Carries stands (λ v. course.aborted v session) self.old self.new }
         ensures transactions { in_transaction self.new ≡ slice_set (in_transaction self.old) session false }
+        ensures committed { AreAsBefore (has_committed self.old) (has_committed self.new) }
         ensures free { waiting self.new session ≡ false }
         ensures slack { slack self.old ≤ most → slack self.new ≤ most };
 
@@ -132,6 +139,8 @@ pub trait Executor: Sized + Drop {
         ensures outcome { IfOk result (λ o. (v : State) → stands self.old v → o ≡ course.outcome v asker settings (tree statement.now)) }
         ensures text { OnOk result ((v : State) → stands self.old v → out.new.items ≡ out.old.items ++ course.text v asker settings (tree statement.now)) }
         ensures transactions { in_transaction self.new ≡ in_transaction self.old }
+        ensures once { IfOk result (λ o. CommitsOnce (has_committed self.old asker.session (tree statement.now)) (has_committed self.new asker.session (tree statement.now)) o) }
+        ensures others { OnOk result (OthersAreAsBefore asker.session (has_committed self.old) (has_committed self.new)) }
         ensures free { IfOk result (λ o. (o ≡ IsWaiting → ⊥) → waiting self.new asker.session ≡ false) }
         ensures waits { result ≡ Ok IsWaiting → waiting self.new asker.session ≡ true }
         ensures slack { slack self.old ≤ most → slack self.new ≤ most }
@@ -157,6 +166,7 @@ pub trait Executor: Sized + Drop {
         requires due { due self.old session ≡ true }
         ensures stands { Carries stands (λ v. course.resumed v session) self.old self.new }
         ensures transactions { in_transaction self.new ≡ in_transaction self.old }
+        ensures committed { AreAsBefore (has_committed self.old) (has_committed self.new) }
         ensures free { waiting self.new session ≡ false }
         ensures lowers { slack self.new < slack self.old };
 
@@ -179,6 +189,7 @@ pub trait Executor: Sized + Drop {
         requires waiting { waiting self.old session ≡ true }
         ensures stands { Carries stands (λ v. course.cancelled v session) self.old self.new }
         ensures transactions { in_transaction self.new ≡ in_transaction self.old }
+        ensures committed { AreAsBefore (has_committed self.old) (has_committed self.new) }
         ensures free { waiting self.new session ≡ false }
         ensures lowers { slack self.new < slack self.old };
 

@@ -7,6 +7,8 @@ pub enum Outcome {
     Goes,
     /// It waits.
     Waits,
+    /// What it did so far is to be committed, and it goes on in another transaction.
+    Commits,
     /// It is done.
     Done,
     Refused(Fault),

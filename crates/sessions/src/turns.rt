@@ -1,12 +1,13 @@
-ghost use Rattle.std.specs.Prelude.{◌≡◌, ◌<◌, ◌≤◌, ◌+◌, true, false, Ok, OnOk, OnErr, IfOk, IfSome, MatchOption, Some, None, length, slice_index_or, slice_set, unwrap_or};
+ghost use Rattle.std.specs.Prelude.{◌≡◌, ◌<◌, ◌≤◌, ℕ, Bool, ◌+◌, true, false, Ok, OnOk, OnErr, IfOk, IfSome, MatchOption, Some, None, length, slice_index_or, slice_set, unwrap_or};
 ghost use Rattle.schedule.specs.Rules.{Carries};
 ghost use Rattle.schedule.specs.declared.database.Progress.TheVariants as progress;
+ghost use Rattle.sessions.specs.Commits.{AreAsBefore, OthersAreAsBefore};
 ghost use Rattle.sessions.specs.Makes.{Makes};
 ghost use Rattle.sessions.specs.Seen.{seen};
 ghost use Rattle.sessions.specs.Sessions as spec;
 ghost use Rattle.sessions.specs.Sessions.{has_open};
 ghost use Rattle.sessions.specs.declared.phase.Phase.TheVariants as phases;
-ghost use Rattle.sessions.specs.Weight.{points, weight_of};
+ghost use Rattle.sessions.specs.Weight.{most_points, points_in, points_with, weight_of};
 
 use crate::faults::{is_level, isolation_level_after_a_snapshot, the_transaction_has_failed};
 use crate::session::Session;
@@ -22,6 +23,7 @@ fn abort_open<E: Executor>(executor: &mut E, session: usize, x: &Session<E::Stat
     requires slack { E.slack executor.old ≤ E.most }
     ensures stands { Carries E.stands (λ v. spec.aborted_if E.course session (has_open x.now.phase) v) executor.old executor.new }
     ensures transactions { E.in_transaction executor.new ≡ slice_set (E.in_transaction executor.old) session false }
+    ensures committed { AreAsBefore (E.has_committed executor.old) (E.has_committed executor.new) }
     ensures slack { E.slack executor.new ≤ E.most }
     ensures free { E.waiting executor.old session ≡ false → E.waiting executor.new session ≡ false }
 {
@@ -43,8 +45,9 @@ fn fail<E: Executor>(
     ensures makes { Makes E.stands (λ v. spec.fails E.course session v (seen E.tree x.old) fault) executor.old executor.new (seen E.tree x.new) result }
     ensures ended { result ≡ progress.Ended }
     ensures transactions { E.in_transaction executor.new ≡ slice_set (E.in_transaction executor.old) session (has_open x.new.phase) }
+    ensures committed { AreAsBefore (E.has_committed executor.old) (E.has_committed executor.new) }
     ensures slack { E.slack executor.new ≤ E.most }
-    ensures points { points x.new ≡ 0 }
+    ensures points { most_points x.new ≡ 0 }
 {
     abort_open(executor, session, x);
     x.fail(fault);
@@ -67,8 +70,10 @@ fn begin_transaction<E: Executor>(
     requires slack { E.slack executor.old ≤ E.most }
     ensures stands { OnOk result (Carries E.stands (λ v. E.course.began v session) executor.old executor.new) }
     ensures becomes { OnOk result (seen E.tree x.new ≡ spec.opened (seen E.tree x.old) phase level) }
+    ensures begins { OnOk result (x.new ≡ spec.opened x.old phase level) }
     ensures err { OnErr result (x.new ≡ x.old) }
     ensures transactions { E.in_transaction executor.new ≡ slice_set (E.in_transaction executor.old) session (has_open x.new.phase) }
+    ensures committed { AreAsBefore (E.has_committed executor.old) (E.has_committed executor.new) }
     ensures slack { E.slack executor.new ≤ E.most }
     ensures free { E.waiting executor.new session ≡ false }
 {
@@ -90,10 +95,11 @@ fn begin<E: Executor>(
     requires slack { E.slack executor.old ≤ E.most }
     ensures makes { IfOk result (λ p. Makes E.stands (λ v. spec.begins E.course session v (seen E.tree x.old) level x.old.phase) executor.old executor.new (seen E.tree x.new) p) }
     ensures transactions { E.in_transaction executor.new ≡ slice_set (E.in_transaction executor.old) session (has_open x.new.phase) }
+    ensures committed { AreAsBefore (E.has_committed executor.old) (E.has_committed executor.new) }
     ensures slack { E.slack executor.new ≤ E.most }
     ensures goes { IfOk result (λ p. p ≡ progress.Goes) }
     ensures free { E.waiting executor.new session ≡ false }
-    ensures points { OnOk result (points x.new ≤ points x.old + 1) }
+    ensures points { OnOk result (most_points x.new ≤ most_points x.old + 1) }
 {
     match x.phase {
         Phase::Idle => {
@@ -118,10 +124,12 @@ fn commit<E: Executor>(executor: &mut E, session: usize, x: &mut Session<E::Stat
     requires slack { E.slack executor.old ≤ E.most }
     ensures makes { Makes E.stands (λ v. spec.commits E.course session v (seen E.tree x.old) x.old.phase) executor.old executor.new (seen E.tree x.new) result }
     ensures transactions { E.in_transaction executor.new ≡ slice_set (E.in_transaction executor.old) session (has_open x.new.phase) }
+    ensures committed { AreAsBefore (E.has_committed executor.old) (E.has_committed executor.new) }
     ensures slack { E.slack executor.new ≤ E.most }
     ensures goes { result ≡ progress.Goes }
     ensures free { E.waiting executor.new session ≡ false }
-    ensures points { points x.new ≤ points x.old + 1 }
+    ensures points { most_points x.new ≤ most_points x.old + 1 }
+    ensures becomes { x.new ≡ record x.old { phase = phases.Idle } }
 {
     if x.has_open() {
         executor.commit(session);
@@ -141,10 +149,11 @@ pub(crate) fn roll_back<E: Executor>(
     requires slack { E.slack executor.old ≤ E.most }
     ensures makes { Makes E.stands (λ v. spec.rolls_back E.course session v (seen E.tree x.old)) executor.old executor.new (seen E.tree x.new) result }
     ensures transactions { E.in_transaction executor.new ≡ slice_set (E.in_transaction executor.old) session (has_open x.new.phase) }
+    ensures committed { AreAsBefore (E.has_committed executor.old) (E.has_committed executor.new) }
     ensures slack { E.slack executor.new ≤ E.most }
     ensures goes { result ≡ progress.Goes }
     ensures free { E.waiting executor.old session ≡ false → E.waiting executor.new session ≡ false }
-    ensures points { points x.new ≤ points x.old + 1 }
+    ensures points { most_points x.new ≤ most_points x.old + 1 }
 {
     abort_open(executor, session, x);
     x.roll_back();
@@ -165,10 +174,11 @@ fn set<E: Executor>(
     requires slack { E.slack executor.old ≤ E.most }
     ensures makes { IfOk result (λ p. Makes E.stands (λ v. spec.sets E.course session v (seen E.tree x.old) (E.course.set x.old.settings (E.tree statement.now))) executor.old executor.new (seen E.tree x.new) p) }
     ensures transactions { E.in_transaction executor.new ≡ slice_set (E.in_transaction executor.old) session (has_open x.new.phase) }
+    ensures committed { AreAsBefore (E.has_committed executor.old) (E.has_committed executor.new) }
     ensures slack { E.slack executor.new ≤ E.most }
     ensures free { OnOk result (result ≡ Ok progress.Goes → E.waiting executor.new session ≡ false) }
     ensures strides { IfOk result (λ p. p ≡ progress.Waits → ⊥) }
-    ensures points { OnOk result (points x.new ≤ points x.old + 1) }
+    ensures points { OnOk result (most_points x.new ≤ most_points x.old + 1) }
 {
     match E::set(alloc, x.settings, statement) {
         Ok(settings) => {
@@ -178,6 +188,40 @@ fn set<E: Executor>(
         Err(Refusal::Sql(fault)) => Ok(fail(executor, session, x, fault)),
         Err(Refusal::NoMemory) => Err(NoMemory),
     }
+}
+
+// What the statement did so far is committed, and it goes on in another transaction.
+#[tactic(auto, using(crate::proofs::Again::set_again))]
+fn go_on_again<E: Executor>(
+    executor: &mut E,
+    session: usize,
+    x: &mut Session<E::Statement>,
+    statement: E::Statement,
+) -> Result<Progress, NoMemory>
+    requires opened { has_open x.old.phase ≡ true }
+    requires busy { x.old.in_block ≡ true }
+    requires known { session < length (E.in_transaction executor.old) }
+    requires transaction { slice_index_or (E.in_transaction executor.old) session false ≡ has_open x.old.phase }
+    requires free { E.waiting executor.old session ≡ false }
+    requires slack { E.slack executor.old ≤ E.most }
+    ensures makes { IfOk result (λ p. Makes E.stands (λ v. spec.goes_on_again E.course session v (seen E.tree x.old) (E.tree statement)) executor.old executor.new (seen E.tree x.new) p) }
+    ensures transactions { E.in_transaction executor.new ≡ slice_set (E.in_transaction executor.old) session (has_open x.new.phase) }
+    ensures committed { AreAsBefore (E.has_committed executor.old) (E.has_committed executor.new) }
+    ensures slack { E.slack executor.new ≤ E.most }
+    ensures goes { IfOk result (λ p. p ≡ progress.Goes) }
+    ensures free { E.waiting executor.new session ≡ false }
+    ensures points { OnOk result (points_in (E.has_committed executor.new) E.tree session x.new ≤ points_with (E.has_committed executor.old session (E.tree statement)) x.old) }
+{
+    commit(executor, session, x);
+    begin_transaction(
+        executor,
+        session,
+        x,
+        Phase::Implicit,
+        Isolation::ReadCommitted,
+    )?;
+    x.keep(statement)?;
+    Ok(Progress::Goes)
 }
 
 // The statement goes on by one small event.
@@ -197,11 +241,12 @@ fn run<E: Executor>(
     requires slack { E.slack executor.old ≤ E.most }
     ensures makes { IfOk result (λ p. Makes E.stands (λ v. spec.runs E.course session v (seen E.tree x.old) (E.tree statement)) executor.old executor.new (seen E.tree x.new) p) }
     ensures transactions { E.in_transaction executor.new ≡ slice_set (E.in_transaction executor.old) session (has_open x.new.phase) }
+    ensures others { OnOk result (OthersAreAsBefore session (E.has_committed executor.old) (E.has_committed executor.new)) }
     ensures slack { E.slack executor.new ≤ E.most }
     ensures free { result ≡ Ok progress.Goes → E.waiting executor.new session ≡ false }
     ensures waits { result ≡ Ok progress.Waits → E.waiting executor.new session ≡ true }
-    ensures weight { OnOk result (weight_of E.most (E.slack executor.new) (points x.new) ≤ weight_of E.most (E.slack executor.old) (points x.old + 2)) }
-    ensures lighter { result ≡ Ok progress.Goes → weight_of E.most (E.slack executor.new) (points x.new) < weight_of E.most (E.slack executor.old) (points x.old + 2) }
+    ensures weight { OnOk result (weight_of E.most (E.slack executor.new) (points_in (E.has_committed executor.new) E.tree session x.new) ≤ weight_of E.most (E.slack executor.old) (points_with (E.has_committed executor.old session (E.tree statement)) x.old)) }
+    ensures lighter { result ≡ Ok progress.Goes → weight_of E.most (E.slack executor.new) (points_in (E.has_committed executor.new) E.tree session x.new) < weight_of E.most (E.slack executor.old) (points_with (E.has_committed executor.old session (E.tree statement)) x.old) }
 {
     let asker = x.asker(session);
     match executor.run(alloc, asker, x.settings, &statement, &mut x.told)? {
@@ -213,6 +258,7 @@ fn run<E: Executor>(
             x.keep(statement)?;
             Ok(Progress::Waits)
         }
+        Outcome::Commits => go_on_again(executor, session, x, statement),
         Outcome::Done => {
             x.done(E::looks(&statement))?;
             Ok(Progress::Goes)
@@ -237,11 +283,12 @@ fn open_block<E: Executor>(
     requires slack { E.slack executor.old ≤ E.most }
     ensures makes { IfOk result (λ p. Makes E.stands (λ v. spec.opens E.course session v (seen E.tree x.old) (E.tree statement)) executor.old executor.new (seen E.tree x.new) p) }
     ensures transactions { E.in_transaction executor.new ≡ slice_set (E.in_transaction executor.old) session (has_open x.new.phase) }
+    ensures committed { AreAsBefore (E.has_committed executor.old) (E.has_committed executor.new) }
     ensures slack { E.slack executor.new ≤ E.most }
     ensures free { result ≡ Ok progress.Goes → E.waiting executor.new session ≡ false }
     ensures waits { result ≡ Ok progress.Waits → E.waiting executor.new session ≡ true }
-    ensures weight { OnOk result (weight_of E.most (E.slack executor.new) (points x.new) ≤ weight_of E.most (E.slack executor.old) (points x.old + 2)) }
-    ensures lighter { result ≡ Ok progress.Goes → weight_of E.most (E.slack executor.new) (points x.new) < weight_of E.most (E.slack executor.old) (points x.old + 2) }
+    ensures weight { OnOk result (weight_of E.most (E.slack executor.new) (points_in (E.has_committed executor.new) E.tree session x.new) ≤ weight_of E.most (E.slack executor.old) (points_with (E.has_committed executor.old session (E.tree statement)) x.old)) }
+    ensures lighter { result ≡ Ok progress.Goes → weight_of E.most (E.slack executor.new) (points_in (E.has_committed executor.new) E.tree session x.new) < weight_of E.most (E.slack executor.old) (points_with (E.has_committed executor.old session (E.tree statement)) x.old) }
 {
     begin_transaction(
         executor,
@@ -270,11 +317,12 @@ fn perform<E: Executor>(
     requires slack { E.slack executor.old ≤ E.most }
     ensures makes { IfOk result (λ p. Makes E.stands (λ v. spec.by_role E.course session v (seen E.tree x.old) (E.tree statement) (E.course.role (E.tree statement))) executor.old executor.new (seen E.tree x.new) p) }
     ensures transactions { E.in_transaction executor.new ≡ slice_set (E.in_transaction executor.old) session (has_open x.new.phase) }
+    ensures others { OnOk result (OthersAreAsBefore session (E.has_committed executor.old) (E.has_committed executor.new)) }
     ensures slack { E.slack executor.new ≤ E.most }
     ensures free { result ≡ Ok progress.Goes → E.waiting executor.new session ≡ false }
     ensures waits { result ≡ Ok progress.Waits → E.waiting executor.new session ≡ true }
-    ensures weight { OnOk result (weight_of E.most (E.slack executor.new) (points x.new) ≤ weight_of E.most (E.slack executor.old) (points x.old + 2)) }
-    ensures lighter { result ≡ Ok progress.Goes → weight_of E.most (E.slack executor.new) (points x.new) < weight_of E.most (E.slack executor.old) (points x.old + 2) }
+    ensures weight { OnOk result (weight_of E.most (E.slack executor.new) (points_in (E.has_committed executor.new) E.tree session x.new) ≤ weight_of E.most (E.slack executor.old) (points_with (E.has_committed executor.old session (E.tree statement)) x.old)) }
+    ensures lighter { result ≡ Ok progress.Goes → weight_of E.most (E.slack executor.new) (points_in (E.has_committed executor.new) E.tree session x.new) < weight_of E.most (E.slack executor.old) (points_with (E.has_committed executor.old session (E.tree statement)) x.old) }
 {
     match E::role(&statement) {
         Role::Begin(level) => begin(executor, session, x, level),
@@ -345,8 +393,9 @@ fn close<E: Executor>(executor: &mut E, session: usize, x: &mut Session<E::State
     ensures makes { Makes E.stands (λ v. spec.closes E.course session v (seen E.tree x.old) x.old.phase) executor.old executor.new (seen E.tree x.new) result }
     ensures ended { result ≡ progress.Ended }
     ensures transactions { E.in_transaction executor.new ≡ slice_set (E.in_transaction executor.old) session (has_open x.new.phase) }
+    ensures committed { AreAsBefore (E.has_committed executor.old) (E.has_committed executor.new) }
     ensures slack { E.slack executor.new ≤ E.most }
-    ensures points { points x.new ≡ 0 }
+    ensures points { most_points x.new ≡ 0 }
 {
     if x.phase == Phase::Implicit {
         executor.commit(session);
@@ -361,7 +410,7 @@ fn close<E: Executor>(executor: &mut E, session: usize, x: &mut Session<E::State
 fn take_next<E: Executor>(x: &mut Session<E::Statement>) -> Option<E::Statement>
     ensures next { MatchOption result (spec.head_of (seen E.tree x.old).rest ≡ None) (λ t. spec.head_of (seen E.tree x.old).rest ≡ Some (E.tree t)) }
     ensures rest { seen E.tree x.new ≡ record (seen E.tree x.old) { rest = spec.tail (seen E.tree x.old).rest } }
-    ensures points { x.old.in_block ≡ true → IfSome result (λ t. points x.old ≡ points x.new + 2) }
+    ensures points { x.old.in_block ≡ true → IfSome result (λ t. (committed : ℕ → E.Tree → Bool) (s : ℕ) → points_in committed E.tree s x.old ≡ points_with (committed s (E.tree t)) x.new) }
     ensures others { (x.new.phase ≡ x.old.phase) × (x.new.in_block ≡ x.old.in_block) }
 {
     x.take_next()
@@ -383,11 +432,12 @@ fn meet<E: Executor>(
     requires slack { E.slack executor.old ≤ E.most }
     ensures makes { IfOk result (λ p. Makes E.stands (λ v. spec.meets E.course session v (seen E.tree x.old) (E.tree statement)) executor.old executor.new (seen E.tree x.new) p) }
     ensures transactions { E.in_transaction executor.new ≡ slice_set (E.in_transaction executor.old) session (has_open x.new.phase) }
+    ensures others { OnOk result (OthersAreAsBefore session (E.has_committed executor.old) (E.has_committed executor.new)) }
     ensures slack { E.slack executor.new ≤ E.most }
     ensures free { result ≡ Ok progress.Goes → E.waiting executor.new session ≡ false }
     ensures waits { result ≡ Ok progress.Waits → E.waiting executor.new session ≡ true }
-    ensures weight { OnOk result (weight_of E.most (E.slack executor.new) (points x.new) ≤ weight_of E.most (E.slack executor.old) (points x.old + 2)) }
-    ensures lighter { result ≡ Ok progress.Goes → weight_of E.most (E.slack executor.new) (points x.new) < weight_of E.most (E.slack executor.old) (points x.old + 2) }
+    ensures weight { OnOk result (weight_of E.most (E.slack executor.new) (points_in (E.has_committed executor.new) E.tree session x.new) ≤ weight_of E.most (E.slack executor.old) (points_with (E.has_committed executor.old session (E.tree statement)) x.old)) }
+    ensures lighter { result ≡ Ok progress.Goes → weight_of E.most (E.slack executor.new) (points_in (E.has_committed executor.new) E.tree session x.new) < weight_of E.most (E.slack executor.old) (points_with (E.has_committed executor.old session (E.tree statement)) x.old) }
 {
     match state_fault::<E>(alloc, x, &statement)? {
         Some(fault) => Ok(fail(executor, session, x, fault)),
@@ -410,11 +460,12 @@ fn next<E: Executor>(
     requires slack { E.slack executor.old ≤ E.most }
     ensures makes { IfOk result (λ p. Makes E.stands (λ v. spec.by_next E.course session v (seen E.tree x.old) (spec.head_of (seen E.tree x.old).rest)) executor.old executor.new (seen E.tree x.new) p) }
     ensures transactions { E.in_transaction executor.new ≡ slice_set (E.in_transaction executor.old) session (has_open x.new.phase) }
+    ensures others { OnOk result (OthersAreAsBefore session (E.has_committed executor.old) (E.has_committed executor.new)) }
     ensures slack { E.slack executor.new ≤ E.most }
     ensures free { result ≡ Ok progress.Goes → E.waiting executor.new session ≡ false }
     ensures waits { result ≡ Ok progress.Waits → E.waiting executor.new session ≡ true }
-    ensures weight { OnOk result (weight_of E.most (E.slack executor.new) (points x.new) ≤ weight_of E.most (E.slack executor.old) (points x.old)) }
-    ensures lighter { result ≡ Ok progress.Goes → weight_of E.most (E.slack executor.new) (points x.new) < weight_of E.most (E.slack executor.old) (points x.old) }
+    ensures weight { OnOk result (weight_of E.most (E.slack executor.new) (points_in (E.has_committed executor.new) E.tree session x.new) ≤ weight_of E.most (E.slack executor.old) (points_in (E.has_committed executor.old) E.tree session x.old)) }
+    ensures lighter { result ≡ Ok progress.Goes → weight_of E.most (E.slack executor.new) (points_in (E.has_committed executor.new) E.tree session x.new) < weight_of E.most (E.slack executor.old) (points_in (E.has_committed executor.old) E.tree session x.old) }
 {
     match take_next::<E>(x) {
         Some(statement) => meet(alloc, executor, session, x, statement),
@@ -436,11 +487,12 @@ pub(crate) fn turn<E: Executor>(
     requires slack { E.slack executor.old ≤ E.most }
     ensures makes { IfOk result (λ p. Makes E.stands (λ v. spec.turns E.course session v (seen E.tree x.old)) executor.old executor.new (seen E.tree x.new) p) }
     ensures transactions { E.in_transaction executor.new ≡ slice_set (E.in_transaction executor.old) session (has_open x.new.phase) }
+    ensures others { OnOk result (OthersAreAsBefore session (E.has_committed executor.old) (E.has_committed executor.new)) }
     ensures slack { E.slack executor.new ≤ E.most }
     ensures free { result ≡ Ok progress.Goes → E.waiting executor.new session ≡ false }
     ensures waits { result ≡ Ok progress.Waits → E.waiting executor.new session ≡ true }
-    ensures weight { OnOk result (weight_of E.most (E.slack executor.new) (points x.new) ≤ weight_of E.most (E.slack executor.old) (points x.old)) }
-    ensures lighter { result ≡ Ok progress.Goes → weight_of E.most (E.slack executor.new) (points x.new) < weight_of E.most (E.slack executor.old) (points x.old) }
+    ensures weight { OnOk result (weight_of E.most (E.slack executor.new) (points_in (E.has_committed executor.new) E.tree session x.new) ≤ weight_of E.most (E.slack executor.old) (points_in (E.has_committed executor.old) E.tree session x.old)) }
+    ensures lighter { result ≡ Ok progress.Goes → weight_of E.most (E.slack executor.new) (points_in (E.has_committed executor.new) E.tree session x.new) < weight_of E.most (E.slack executor.old) (points_in (E.has_committed executor.old) E.tree session x.old) }
 {
     if !x.in_block {
         return Ok(Progress::Ended);

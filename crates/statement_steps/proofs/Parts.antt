@@ -1,6 +1,7 @@
 -- Single parts of a statement: nothing done, a refusal, a lock, a snapshot that is kept.
+use Rattle.std.proofs.lemmas.Bool.Decides.{nat_tests}
 use Rattle.std.proofs.lemmas.List.{length-map, get_or-map}
-use Rattle.std.proofs.Common.{◌≡◌, ℕ, ◌+◌, ◌<◌, ◌||◌, Bool, true, false, List, [], ◌∷◌, ◌++◌, refl, ap, sym, ◌∙◌, subst, arith, append-nil, Option, Some, None, Result, Ok, Err, IfOk, map, length, slice_index_or}
+use Rattle.std.proofs.Common.{◌≡◌, ℕ, ◌+◌, ◌<◌, ◌==◌, ◌||◌, if◌then◌else◌, Bool, true, false, List, [], ◌∷◌, ◌++◌, refl, ap, sym, ◌∙◌, subst, arith, append-nil, Option, Some, None, Result, Ok, Err, IfOk, OnOk, map, length, slice_index_or}
 use Rattle.pg_ids.specs.declared.ids.TableNo.{TableNo}
 use Rattle.pg_ids.specs.declared.session_set.SessionSet.{SessionSet}
 use Rattle.pg_ids.specs.declared.session_list.SessionList.{SessionList}
@@ -46,7 +47,7 @@ use Rattle.course.proofs.Numbers.{at_lock, one_later}
 use Rattle.statement_steps.proofs.Steps.{halted_same}
 use Rattle.statement_steps.proofs.Known.{some_of, has_known}
 use Rattle.statement_steps.specs.Faults.{no_table, deadlock, stop_by}
-use Rattle.statement_steps.specs.Asks.{told_by, found, meant_or_none, number_or, kept_number}
+use Rattle.statement_steps.specs.Asks.{told_by, found, meant_or_none, number_or, kept_number, same_or_gone}
 use Rattle.statement_steps.specs.Known.{maker_of, IsKnownTo}
 use Rattle.statement_steps.specs.Steps.{IsTold, IsStep}
 
@@ -283,6 +284,24 @@ pub none_found : (stores : Stores) (caller : Caller) (name : List ℕ) (r : Resu
 none_found stores caller name (Ok f) is may none = refused_here (λ (t : TableNo). t.number) f stores caller caller.cmd (found caller.session name) may (λ h stands. ap (meant_or_none name) (none h stands) ∙ ap (λ x. halted [] (Refused x)) (sym is))
 none_found stores caller name (Err e) is may none = no_memory (λ (t : TableNo). t.number) stores stores caller caller.cmd (found caller.session name) (stays stores caller.session)
 
+-- a name that means the same table still, or another one
+abbrev same_told : List ℕ → Bool → Made (Unit {0})
+same_told name b = if b then made [] tt else halted [] (Refused (no_table name))
+
+is_same : (n t : ℕ) → n ≡ t → (n == t) ≡ true
+is_same n t same = grind (arith, nat_tests, same)
+
+is_other : (n t : ℕ) → (n ≡ t → ⊥) → (n == t) ≡ false
+is_other n t other = grind (arith, nat_tests, other)
+
+pub same_here : (stores : Stores) (caller : Caller) (name : List ℕ) (t n : ℕ) → MayAttempt stores caller → n ≡ t → IsStep (λ (u : Unit {0}). u) (Ok tt) stores stores caller caller.cmd (λ h. same_or_gone name t n)
+same_here stores caller name t n may same = nothing_done (λ (u : Unit {0}). u) tt stores caller (λ h. same_or_gone name t n) may (λ h stands. ap (same_told name) (is_same n t same))
+
+pub gone_here : (stores : Stores) (caller : Caller) (name : List ℕ) (t n : ℕ) (r : Result Fault NoMemory) → IfOk r (λ f. f ≡ no_table name) → MayAttempt stores caller → (n ≡ t → ⊥)
+    → IsStep (λ (u : Unit {0}). u) (Err (stop_by r)) stores stores caller caller.cmd (λ h. same_or_gone name t n)
+gone_here stores caller name t n (Ok f) is may other = refused_here (λ (u : Unit {0}). u) f stores caller caller.cmd (λ h. same_or_gone name t n) may (λ h stands. ap (same_told name) (is_other n t other) ∙ ap (λ x. halted [] (Refused x)) (sym is))
+gone_here stores caller name t n (Err e) is may other = no_memory (λ (u : Unit {0}). u) stores stores caller caller.cmd (λ h. same_or_gone name t n) (stays stores caller.session)
+
 -- a cycle that would be closed
 pub closed : (names : List (List ℕ)) (old new : Stores) (caller : Caller) (w : Wanted) (rest : Option Rest) (cycle : SessionList) (r : Result Fault NoMemory) → IfOk r (λ f. f ≡ deadlock names (listed cycle)) → MayAttempt old caller
     → HasAsked old new caller w (Deadlock cycle) → IsStep (λ (u : Unit {0}). u) (Err (stop_by r)) old new caller caller.cmd (asked_for names caller.session w rest)
@@ -309,6 +328,11 @@ known_by stores h s x stands lt known =
       made = lt;
       own = λ runs. stands.all.txs.current s ∙ (known.1 (ap (fate (tx_events h)) by ∙ (sym (stands.all.txs.fates (maker_of stores x)) ∙ runs)) ∙ ap Some by);
     }
+
+-- whatever is answered to a request
+pub known_on : (old new : Stores) (s x : ℕ) (r : Result (Unit {0}) Stop) → new ≡ record old { locks = new.locks } → IsKnownTo old s x → OnOk r (IsKnownTo new s x)
+known_on old new s x (Ok u) rest known = let same : IsKnownTo (record old { locks = new.locks }) s x = record { made = known.made; own = known.own } in subst (λ (st : Stores). IsKnownTo st s x) (sym rest) same
+known_on old new s x (Err e) rest known = tt
 
 -- ---- a table that is found, and then locked
 

@@ -1,14 +1,16 @@
 -- Parts of a statement, one after another.
-use Rattle.std.proofs.Common.{ℕ, ◌+◌, List, [], ◌∷◌, ◌++◌, refl, ap, sym, ◌∙◌, subst, append_assoc, append-nil, None, Result, Ok, Err, IsSome, slice_index_or}
+use Rattle.std.proofs.Common.{◌≡◌, ℕ, ◌+◌, List, [], ◌∷◌, ◌++◌, refl, ap, sym, ◌∙◌, subst, append_assoc, append-nil, Option, None, Result, Ok, Err, IsSome, slice_index_or}
 use Rattle.history.specs.Locks.{queue}
 use Rattle.history.specs.History.{History, lock_events}
 use Rattle.stores.specs.declared.stores.Stores.{Stores}
+use Rattle.course.specs.Ended.{told_as, giving}
 use Rattle.course.specs.Made.{Made, and_then, then_told, behind}
-use Rattle.course.specs.Attempts.{MayAttempt, WentOn, GoesOn}
+use Rattle.course.specs.Attempts.{MayAttempt, MayGoOn, WentOn, GoesOn}
 use Rattle.course.specs.declared.caller.Caller.{Caller}
+use Rattle.course.specs.declared.rest.Rest.{Rest}
 use Rattle.course.specs.declared.stop.Stop.{Stop}
 use Rattle.course.specs.declared.stop.Stop.TheVariants as stop
-use Rattle.statement_steps.specs.Steps.{IsTold, IsHalted, IsStep, follow}
+use Rattle.statement_steps.specs.Steps.{IsTold, IsHalted, IsStep, follow, told_on, stopped_on, going_on}
 
 -- ---- histories that go on
 
@@ -69,6 +71,56 @@ pub stop_step : {X T Y U : Type 0} (see : X → T) (view : Y → U) (e : Stop) (
     → IsStep see (Err e) old new caller k f → IsStep view (Err e) old new caller n (follow f next)
 stop_step {X} {T} {Y} {U} see view e old new caller n k f next first = record {
   is = λ h stands at. stop_told see view e new caller n k h (f h) (λ y. next y ((f h).events ++ h)) (first.is h stands at);
+  keeps = first.keeps;
+  waits = halted_same X Y e new caller.session first.waits;
+}
+
+-- ---- a part in the middle of a run
+
+pub on_done : {X T : Type 0} (see : X → T) (x : X) (rest : Option Rest) (old new : Stores) (caller : Caller) (n : ℕ) (f : History → Made T) → IsStep see (Ok x) old new caller n f → IsStep see (Ok x) old new caller n (λ h. going_on rest (f h))
+on_done see x rest old new caller n f first = record {
+  is = λ h stands at. let t = first.is h stands at in (ap (told_on rest) t.0, t.1);
+  keeps = first.keeps;
+  waits = first.waits;
+}
+
+on_told : {X T : Type 0} (see : X → T) (e : Stop) (rest : Option Rest) (new : Stores) (caller : Caller) (n : ℕ) (h : History) (m : Made T) → IsTold see (Err e) new caller n h m → IsTold see (Err (stopped_on e rest)) new caller n h (going_on rest m)
+on_told see (stop.Waits lock) rest new caller n h m told = (ap (told_on rest) told.0, told.1)
+on_told see (stop.Refused f) rest new caller n h m told = (ap (told_on rest) told.0, told.1)
+on_told see stop.NoMemory rest new caller n h m told = tt
+
+on_halted : (X : Type 0) (e : Stop) (rest : Option Rest) (stores : Stores) (s : ℕ) → MayGoOn stores rest → IsHalted {X = X} (Err e) stores s → IsHalted {X = X} (Err (stopped_on e rest)) stores s
+on_halted X (stop.Waits lock) rest stores s may halted = (halted.0, may)
+on_halted X (stop.Refused f) rest stores s may halted = halted
+on_halted X stop.NoMemory rest stores s may halted = tt
+
+pub stops_on : {X T : Type 0} (see : X → T) (e : Stop) (rest : Option Rest) (old new : Stores) (caller : Caller) (n : ℕ) (f : History → Made T) → MayGoOn new rest → IsStep see (Err e) old new caller n f
+    → IsStep see (Err (stopped_on e rest)) old new caller n (λ h. going_on rest (f h))
+stops_on {X} see e rest old new caller n f may first = record {
+  is = λ h stands at. on_told see e rest new caller n h (f h) (first.is h stands at);
+  keeps = first.keeps;
+  waits = on_halted X e rest new caller.session may first.waits;
+}
+
+-- ---- what is given is told through a function
+
+pub gives_ok : {X T Y U : Type 0} (see : X → T) (view : Y → U) (f : T → U) (x : X) (y : Y) (old new : Stores) (caller : Caller) (n : ℕ) (g : History → Made T) → f (see x) ≡ view y → IsStep see (Ok x) old new caller n g
+    → IsStep view (Ok y) old new caller n (λ h. giving f (g h))
+gives_ok see view f x y old new caller n g same first = record {
+  is = λ h stands at. let t = first.is h stands at in (ap (told_as f) t.0 ∙ ap Ok same, t.1);
+  keeps = first.keeps;
+  waits = first.waits;
+}
+
+gives_told : {X T Y U : Type 0} (see : X → T) (view : Y → U) (f : T → U) (e : Stop) (new : Stores) (caller : Caller) (n : ℕ) (h : History) (m : Made T) → IsTold see (Err e) new caller n h m → IsTold view (Err e) new caller n h (giving f m)
+gives_told see view f (stop.Waits rest) new caller n h m told = (ap (told_as f) told.0, told.1)
+gives_told see view f (stop.Refused fault) new caller n h m told = (ap (told_as f) told.0, told.1)
+gives_told see view f stop.NoMemory new caller n h m told = tt
+
+pub gives_stop : {X T Y U : Type 0} (see : X → T) (view : Y → U) (f : T → U) (e : Stop) (old new : Stores) (caller : Caller) (n : ℕ) (g : History → Made T) → IsStep see (Err e) old new caller n g
+    → IsStep view (Err e) old new caller n (λ h. giving f (g h))
+gives_stop {X} {T} {Y} {U} see view f e old new caller n g first = record {
+  is = λ h stands at. gives_told see view f e new caller n h (g h) (first.is h stands at);
   keeps = first.keeps;
   waits = halted_same X Y e new caller.session first.waits;
 }

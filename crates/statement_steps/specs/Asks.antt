@@ -1,5 +1,5 @@
 -- Tables by their names, locks on them, and waits for other sessions (the manual, 13.3.1 Table-Level Locks; LOCK).
-use Rattle.std.specs.Prelude.{ℕ, List, [], ◌∷◌, Option, Some, None, Result, Ok, Err, map}
+use Rattle.std.specs.Prelude.{ℕ, ◌==◌, if◌then◌else◌, List, [], ◌∷◌, Option, Some, None, Result, Ok, Err, map}
 use Rattle.pg_ids.specs.declared.lock_mode.LockMode.{LockMode}
 use Rattle.history.specs.declared.wait.WaitOn.{WaitOn}
 use Rattle.history.specs.declared.wait.Wanted.TheVariants.{Lock, Others}
@@ -59,6 +59,13 @@ kept_number t m = record { events = m.events; told = number_or t m.told }
 -- the table of that name, locked
 abbrev pub named : List (List ℕ) → (session : ℕ) → LockMode → (name : List ℕ) → History → Made ℕ
 named names s m name = follow (found s name) (λ t h. kept_number t (locked names s t m h))
+
+-- the table of that number, locked, where the name means it still
+abbrev pub same_or_gone : (name : List ℕ) → (table found : ℕ) → Made (Unit {0})
+same_or_gone name t n = if n == t then made [] tt else halted [] (Refused (no_table name))
+
+abbrev pub named_still : List (List ℕ) → (session : ℕ) → LockMode → (name : List ℕ) → (table : ℕ) → History → Made (Unit {0})
+named_still names s m name t = follow (found s name) (λ n. follow (λ h. same_or_gone name t n) (λ u. locked names s t m))
 
 -- ---- the snapshot that a transaction at REPEATABLE READ takes before its first statement waits
 

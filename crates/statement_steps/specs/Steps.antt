@@ -1,13 +1,14 @@
 -- A part of a statement that runs over the stores: what is told of it, by a function of the history.
-use Rattle.std.specs.Prelude.{◌≡◌, ℕ, ◌+◌, [], ◌∷◌, ◌++◌, Result, Ok, Err}
+use Rattle.std.specs.Prelude.{◌≡◌, ℕ, ◌+◌, [], ◌∷◌, ◌++◌, Option, Result, Ok, Err}
 use Rattle.history.specs.History.{History}
 use Rattle.lock_table.specs.Stands.{IsIdle}
 use Rattle.stores.specs.Stand.{Stands}
 use Rattle.stores.specs.Numbers.{IsAt}
 use Rattle.stores.specs.declared.stores.Stores.{Stores}
-use Rattle.course.specs.Made.{Made, Waits, Refused, and_then}
+use Rattle.course.specs.Made.{Made, Halt, Waits, Refused, and_then}
 use Rattle.course.specs.Attempts.{MayGoOn, WentOn, GoesOn, IsWaiting}
 use Rattle.course.specs.declared.caller.Caller.{Caller}
+use Rattle.course.specs.declared.rest.Rest.{Rest}
 use Rattle.course.specs.declared.stop.Stop.{Stop}
 use Rattle.course.specs.declared.stop.Stop.TheVariants as stop
 
@@ -35,3 +36,17 @@ pub record IsStep {X T : Type 0} (view : X → T) (result : Result X Stop) (old 
 -- one part after another, which begins with what the first gave, at the history that it left
 abbrev pub follow : {T U : Type 0} → (History → Made T) → (T → History → Made U) → History → Made U
 follow f next h = and_then (f h) (λ x. next x ((f h).events ++ h))
+
+-- a statement that stands in the middle of its run goes on from there, whatever it has to wait for
+abbrev pub told_on : {T : Type 0} → Option Rest → Result T Halt → Result T Halt
+told_on rest (Ok x) = Ok x
+told_on rest (Err (Waits lock)) = Err (Waits rest)
+told_on rest (Err (Refused f)) = Err (Refused f)
+
+abbrev pub stopped_on : Stop → Option Rest → Stop
+stopped_on (stop.Waits lock) rest = stop.Waits rest
+stopped_on (stop.Refused f) rest = stop.Refused f
+stopped_on stop.NoMemory rest = stop.NoMemory
+
+abbrev pub going_on : {T : Type 0} → Option Rest → Made T → Made T
+going_on rest m = record { events = m.events; told = told_on rest m.told }

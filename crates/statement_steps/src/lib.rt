@@ -7,10 +7,12 @@
 #![tactic(auto)]
 
 mod faults;
+mod going_on;
 mod holding;
 mod locking;
 mod names;
 
+pub use going_on::stopped_on;
 pub use holding::{hold, hold_if_repeatable};
 pub use locking::{lock_table, lock_tables, wait_for};
-pub use names::{SessionNames, find_table, lock_named};
+pub use names::{SessionNames, find_table, lock_named, lock_named_still};

@@ -95,3 +95,49 @@ pub fn lock_named(
         Err(stop) => Err(stop),
     }
 }
+
+// The table that was found is that one: another one of its name is none.
+fn same_or_gone(
+    alloc: Global,
+    stores: &Stores,
+    caller: Caller,
+    name: &[u8],
+    table: TableNo,
+    found: TableNo,
+) -> Result<(), Stop>
+    requires { MayAttempt stores.now caller }
+    ensures step { IsStep (λ u. u) result stores.now stores.now caller caller.cmd (λ h. asks.same_or_gone name.now table.number found.number) }
+    ensures same { OnOk result (found.number ≡ table.number) }
+{
+    let is_same = found.number == table.number;
+    if is_same {
+        Ok(())
+    } else {
+        Err(stop_by(no_table(alloc, name)))
+    }
+}
+
+/// That table, locked in that mode, where the name means it still, or 42P01.
+pub fn lock_named_still(
+    alloc: Global,
+    stores: &mut Stores,
+    names: &SessionNames,
+    caller: Caller,
+    name: &[u8],
+    table: TableNo,
+    mode: LockMode,
+) -> Result<(), Stop>
+    requires may { MayAttempt stores.old caller }
+    requires few { length stores.old.catalog.tables ≤ 4096 }
+    ensures step { IsStep (λ u. u) result stores.old stores.new caller caller.cmd (asks.named_still names.now caller.session mode name.now table.number) }
+    ensures known { OnOk result (IsKnownTo stores.new caller.session table.number) }
+    ensures rest { stores.new ≡ record stores.old { locks = stores.new.locks } }
+{
+    match find_table(alloc, stores, caller, name) {
+        Ok(found) => match same_or_gone(alloc, stores, caller, name, table, found) {
+            Ok(()) => lock_table(alloc, stores, names, caller, table, mode),
+            Err(stop) => Err(stop),
+        },
+        Err(stop) => Err(stop),
+    }
+}

@@ -1,15 +1,17 @@
 -- A statement that has run, with what it has printed.
-use Rattle.std.specs.Prelude.{◌≡◌, ℕ, List, Result}
+use Rattle.std.specs.Prelude.{ℕ, List, Result}
 use Rattle.history.specs.History.{History}
 use Rattle.stores.specs.Stand.{Stands}
 use Rattle.stores.specs.Numbers.{IsAt}
 use Rattle.stores.specs.declared.stores.Stores.{Stores}
+use Rattle.course.specs.Ended.{Ended}
 use Rattle.course.specs.Made.{Made}
 use Rattle.course.specs.Attempts.{IsAttempt, IsHalt, GoesOn}
 use Rattle.course.specs.declared.caller.Caller.{Caller}
+use Rattle.course.specs.declared.ending.Ending.{Ending}
 use Rattle.course.specs.declared.stop.Stop.{Stop}
 
-pub record IsStatement (result : Result (Unit {0}) Stop) (old new : Stores) (before after : List ℕ) (caller : Caller) (f : History → Made (List ℕ)) : Type 0 where
+pub record IsStatement (result : Result Ending Stop) (old new : Stores) (before after : List ℕ) (caller : Caller) (f : History → Made Ended) : Type 0 where
   pub is : (h : History) → Stands old h → IsAt h caller.session caller.cmd → IsAttempt result new before after caller h (f h)
   pub keeps : GoesOn old new caller.session
   pub waits : IsHalt result new caller.session

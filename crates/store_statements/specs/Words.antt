@@ -1,26 +1,40 @@
 -- What the statements of a run mean. The run is told the names of its sessions.
-use Rattle.std.specs.Prelude.{ℕ, ◌-◌, List, [], Option, None}
+use Rattle.std.specs.Prelude.{ℕ, ◌-◌, Bool, false, List, [], Option, None, is_some}
 use Rattle.pg_values.specs.declared.fault.Fault.{Fault}
 use Rattle.sessions.specs.declared.asker.Place.{Place}
-use Rattle.sql_ast.specs.Commands.{CommandTree, locks}
+use Rattle.sql_ast.specs.declared.detachment.Detachment.TheVariants.{Concurrently}
+use Rattle.sql_ast.specs.Commands.{CommandTree, detaches, locks}
 use Rattle.sql_ast.specs.Queries.{RowTree, QueryTree, selects, rows}
 use Rattle.sql_ast.specs.Statements.{StatementTree, commands, queries}
 use Rattle.block_reading.specs.Reading.{read_block}
 use Rattle.statement_roles.specs.Roles.{role_of, looks, changed}
 use Rattle.out_text.specs.FaultText.{fault_text}
 use Rattle.course.specs.Words.{Words}
+use Rattle.course.specs.declared.rest.Rest.{Rest}
 use Rattle.lock_statement.specs.Places.{lock_misplaced}
+use Rattle.detach_statement.specs.Concurrent.{detach_of}
+use Rattle.detach_statement.specs.Places.{detach_misplaced}
 use Rattle.select_statement.specs.Cancels.{cancelled}
 use Rattle.store_statements.specs.Attempted.{attempted}
 
--- of the statements that are run over the stores LOCK alone cannot stand everywhere
+-- of the statements that are run over the stores LOCK and a concurrent DETACH cannot stand everywhere
 abbrev pub command_misplaced : Place → CommandTree → Option Fault
 command_misplaced place (locks tables mode) = lock_misplaced place
+command_misplaced place (detaches parent name Concurrently) = detach_misplaced place
 command_misplaced place t = None
 
 abbrev pub misplaced : Place → StatementTree → Option Fault
 misplaced place (commands t) = command_misplaced place t
 misplaced place (queries t) = None
+
+-- a concurrent DETACH alone commits what it did first
+abbrev pub command_committed : Option Rest → CommandTree → Bool
+command_committed rest (detaches parent name Concurrently) = is_some (detach_of rest)
+command_committed rest t = false
+
+abbrev pub has_committed : Option Rest → StatementTree → Bool
+has_committed rest (commands t) = command_committed rest t
+has_committed rest (queries t) = false
 
 -- a SELECT alone cancels waits
 abbrev pub row_cancelled : (session sessions : ℕ) → RowTree → List ℕ
@@ -44,6 +58,7 @@ statement_words = record {
   misplaced = misplaced;
   set = changed;
   cancels = statement_cancelled;
+  has_committed = has_committed;
   attempted = λ names c rest h settings t. attempted names c rest settings t h;
   fault_text = fault_text;
 }

@@ -3,14 +3,15 @@ ghost use Rattle.sql_ast.specs.Commands.{command_tree};
 ghost use Rattle.sql_ast.specs.Queries.{query_tree, row_tree, select_tree};
 ghost use Rattle.sql_ast.specs.Statements.{statement_tree};
 ghost use Rattle.course.specs.Attempts.{MayAttempt, MayGoOn};
+ghost use Rattle.course.specs.Ended.{ended};
 ghost use Rattle.store_statements.specs.Attempted as attempted;
 ghost use Rattle.store_statements.specs.Printed.{IsStatement};
 
 use crate::left_out::{command_word, query_word};
 use attach_statement::attach;
 use change_statement::{delete, update};
-use course::{Caller, Rest, Stop};
-use detach_statement::detach;
+use course::{Caller, Ending, Rest, Stop, ended};
+use detach_statement::{detach, detach_concurrently, finalize};
 use expression_binder::left_out;
 use insert_statement::insert;
 use lock_statement::lock;
@@ -35,7 +36,7 @@ fn check_room(stores: &Stores, caller: Caller)
 // It is refused, and told by that word.
 fn omit(alloc: Global, stores: &Stores, caller: Caller, word: &[u8], out: &[u8]) -> Result<(), Stop>
     requires { MayAttempt stores.now caller }
-    ensures { IsStatement result stores.now stores.now out.now out.now caller (attempted.omitted word.now) }
+    ensures { IsStatement (ended result) stores.now stores.now out.now out.now caller (attempted.omitted word.now) }
 {
     match left_out(alloc, word) {
         Ok(fault) => Err(Stop::Refused(fault)),
@@ -48,42 +49,48 @@ fn attempt_command(
     stores: &mut Stores,
     names: &SessionNames,
     caller: Caller,
+    rest: Option<Rest>,
     command: &Command,
     out: &[u8],
-) -> Result<(), Stop>
+) -> Result<Ending, Stop>
     requires { MayAttempt stores.old caller }
-    ensures { IsStatement result stores.old stores.new out.now out.now caller (attempted.command_attempted names.now caller (command_tree command.now)) }
+    ensures { IsStatement result stores.old stores.new out.now out.now caller (attempted.command_attempted names.now caller rest (command_tree command.now)) }
 {
     check_room(stores, caller);
     match command {
-        Command::CreateTable(name, columns, by) => {
-            create_table(alloc, stores, names, caller, name, columns, by)
-        }
-        Command::CreatePartition(name, parent, bound, by) => {
-            create_partition(alloc, stores, names, caller, name, parent, bound, by)
-        }
+        Command::CreateTable(name, columns, by) => ended(create_table(
+            alloc, stores, names, caller, name, columns, by,
+        )),
+        Command::CreatePartition(name, parent, bound, by) => ended(create_partition(
+            alloc, stores, names, caller, name, parent, bound, by,
+        )),
         Command::DropTables(if_there, tables) => {
-            drop_tables(alloc, stores, names, caller, *if_there, tables.as_slice())
+            let tables = tables.as_slice();
+            ended(drop_tables(alloc, stores, names, caller, *if_there, tables))
         }
         Command::Attach(parent, name, bound) => {
             let above = parent.as_bytes();
             let table = name.as_bytes();
-            attach(alloc, stores, names, caller, above, table, bound)
+            ended(attach(alloc, stores, names, caller, above, table, bound))
         }
-        Command::Detach(parent, name, Detachment::AtOnce) => {
-            detach(
-                alloc,
-                stores,
-                names,
-                caller,
-                parent.as_bytes(),
-                name.as_bytes(),
-            )
+        Command::Detach(parent, name, how) => {
+            let above = parent.as_bytes();
+            let table = name.as_bytes();
+            match how {
+                Detachment::AtOnce => ended(detach(alloc, stores, names, caller, above, table)),
+                Detachment::Concurrently => {
+                    detach_concurrently(alloc, stores, names, caller, rest, above, table)
+                }
+                Detachment::Finalize => {
+                    ended(finalize(alloc, stores, names, caller, above, table))
+                }
+            }
         }
         Command::Lock(tables, mode) => {
-            lock(alloc, stores, names, caller, tables.as_slice(), *mode)
+            let tables = tables.as_slice();
+            ended(lock(alloc, stores, names, caller, tables, *mode))
         }
-        _ => omit(alloc, stores, caller, command_word(command), out),
+        _ => ended(omit(alloc, stores, caller, command_word(command), out)),
     }
 }
 
@@ -98,7 +105,7 @@ fn attempt_select(
     out: &mut Vec<u8>,
 ) -> Result<(), Stop>
     requires { MayAttempt stores.old caller }
-    ensures { IsStatement result stores.old stores.new out.old.items out.new.items caller (attempted.select_attempted prunes names.now caller (select_tree statement.now)) }
+    ensures { IsStatement (ended result) stores.old stores.new out.old.items out.new.items caller (attempted.select_attempted prunes names.now caller (select_tree statement.now)) }
 {
     check_room(stores, caller);
     match select(alloc, stores, names, caller, prunes, statement) {
@@ -122,7 +129,7 @@ fn attempt_rows(
 ) -> Result<(), Stop>
     requires may { MayAttempt stores.old caller }
     requires rest { MayGoOn stores.old rest }
-    ensures { IsStatement result stores.old stores.new out.old.items out.new.items caller (attempted.row_attempted prunes names.now caller rest (row_tree statement.now)) }
+    ensures { IsStatement (ended result) stores.old stores.new out.old.items out.new.items caller (attempted.row_attempted prunes names.now caller rest (row_tree statement.now)) }
 {
     check_room(stores, caller);
     match statement {
@@ -145,7 +152,7 @@ fn attempt_query(
 ) -> Result<(), Stop>
     requires may { MayAttempt stores.old caller }
     requires rest { MayGoOn stores.old rest }
-    ensures { IsStatement result stores.old stores.new out.old.items out.new.items caller (attempted.query_attempted prunes names.now caller rest (query_tree query.now)) }
+    ensures { IsStatement (ended result) stores.old stores.new out.old.items out.new.items caller (attempted.query_attempted prunes names.now caller rest (query_tree query.now)) }
 {
     match query {
         Query::Rows(s) => attempt_rows(alloc, stores, names, caller, prunes, rest, s, out),
@@ -164,16 +171,19 @@ pub(crate) fn attempt(
     settings: Settings,
     statement: &Statement,
     out: &mut Vec<u8>,
-) -> Result<(), Stop>
+) -> Result<Ending, Stop>
     requires may { MayAttempt stores.old caller }
     requires rest { MayGoOn stores.old rest }
     ensures { IsStatement result stores.old stores.new out.old.items out.new.items caller (attempted.attempted names.now caller rest settings (statement_tree statement.now)) }
 {
     match statement {
-        Statement::Command(command) => attempt_command(alloc, stores, names, caller, command, out),
+        Statement::Command(command) => {
+            attempt_command(alloc, stores, names, caller, rest, command, out)
+        }
         Statement::Query(query) => {
             let prunes = settings.enable_partition_pruning;
-            attempt_query(alloc, stores, names, caller, prunes, rest, query, out)
-        },
+            let done = attempt_query(alloc, stores, names, caller, prunes, rest, query, out);
+            ended(done)
+        }
     }
 }

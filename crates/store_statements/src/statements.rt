@@ -2,13 +2,14 @@ ghost use Rattle.std.specs.Prelude.{◌≡◌, IfOk};
 
 use crate::attempts::attempt;
 use block_reading::read_block;
-use course::{Caller, Kinds, Rest, Stop};
+use course::{Caller, Ending, Kinds, Rest, Stop};
+use detach_statement::detach_misplaced;
 use lock_statement::lock_misplaced;
 use out_text::write_fault_text;
 use pg_values::{Fault, NoMemory, Refusal};
 use select_statement::cancelled;
 use sessions::{Place, Role, Settings};
-use sql_ast::{Command, Query, RowStatement, Statement};
+use sql_ast::{Command, Detachment, Query, RowStatement, Statement};
 use statement_roles::{changed_settings, looks, role_of};
 use statement_steps::SessionNames;
 use std::alloc::Global;
@@ -35,6 +36,7 @@ impl Kinds for Statements {
     ghost use Rattle.std.specs.Prelude.{ℕ, List};
     ghost use Rattle.sql_ast.specs.Statements.{StatementTree, statement_tree};
     ghost use Rattle.sql_syntax.specs.declared.parse.TheConstants.{MOST_STATEMENTS};
+    ghost use Rattle.store_statements.specs.Once.{all_once};
     ghost use Rattle.store_statements.specs.Words.{statement_words};
 
     type Statement = Statement;
@@ -48,6 +50,8 @@ impl Kinds for Statements {
     ghost options = { λ s. s.names };
 
     ghost words = { statement_words };
+
+    ghost once = { all_once };
 
     ghost most_statements = { MOST_STATEMENTS };
 
@@ -76,6 +80,9 @@ impl Kinds for Statements {
     ) -> Result<Option<Fault>, NoMemory> {
         match statement {
             Statement::Command(Command::Lock(_, _)) => Ok(lock_misplaced(alloc, place)),
+            Statement::Command(Command::Detach(_, _, Detachment::Concurrently)) => {
+                detach_misplaced(alloc, place)
+            }
             _ => Ok(None),
         }
     }
@@ -107,7 +114,7 @@ impl Kinds for Statements {
         settings: Settings,
         statement: &Statement,
         out: &mut Vec<u8>,
-    ) -> Result<(), Stop> {
+    ) -> Result<Ending, Stop> {
         let names = &self.names;
         attempt(alloc, stores, names, caller, rest, settings, statement, out)
     }

@@ -40,10 +40,10 @@ itself : (n : ℕ) → (n == n) ≡ true
 itself n = grind (arith, nat_tests)
 
 -- the history after an answer
-abbrev after_view : List (List ℕ) → (s t : ℕ) → LockMode → AskedView → History → History
+abbrev pub after_view : List (List ℕ) → (s t : ℕ) → LockMode → AskedView → History → History
 after_view names s t m v h = (told_of names (map LockChange (events_of s (Lock (record { number = t }) m) v)) v).events ++ h
 
-abbrev Holds : History → (s t : ℕ) → LockMode → Type 0
+abbrev pub Holds : History → (s t : ℕ) → LockMode → Type 0
 Holds h s t m = holds (lock_events h) s t m ≡ true
 
 view_keeps : (names : List (List ℕ)) (s t : ℕ) (m : LockMode) (h : History) (r x : ℕ) (k : LockMode) (v : AskedView) → Holds h r x k → Holds (after_view names s t m v h) r x k
@@ -51,7 +51,7 @@ view_keeps names s t m h r x k AtOnce held = or_right _ _ held
 view_keeps names s t m h r x k (WaitsBehind others) held = held
 view_keeps names s t m h r x k (ClosesCycle cycle) held = held
 
-view_gets : (names : List (List ℕ)) (s t : ℕ) (m : LockMode) (h : History) (v : AskedView) → (told_of names (map LockChange (events_of s (Lock (record { number = t }) m) v)) v).told ≡ Ok tt → Holds (after_view names s t m v h) s t m
+pub view_gets : (names : List (List ℕ)) (s t : ℕ) (m : LockMode) (h : History) (v : AskedView) → (told_of names (map LockChange (events_of s (Lock (record { number = t }) m) v)) v).told ≡ Ok tt → Holds (after_view names s t m v h) s t m
 view_gets names s t m h AtOnce told = or_left _ _ (all_three (s == s) (t == t) (same_mode m m) (itself s) (itself t) (itself (rank m)))
 view_gets names s t m h (WaitsBehind others) told = absurd (let c = told in cc)
 view_gets names s t m h (ClosesCycle cycle) told = absurd (let c = told in cc)
@@ -101,10 +101,10 @@ number_told x n (Ok u) e = (refl, let c = e in cc)
 number_told x n (Err stop) e = absurd (let c = e in cc)
 
 -- what comes of the name, and the lock behind it
-abbrev named_by : List (List ℕ) → (s : ℕ) → LockMode → (name : List ℕ) → History → Option ℕ → Made ℕ
+abbrev pub named_by : List (List ℕ) → (s : ℕ) → LockMode → (name : List ℕ) → History → Option ℕ → Made ℕ
 named_by names s m name h o = then_told (meant_or_none name o).told (meant_or_none name o).events (λ x. kept_number x (locked names s x m ((meant_or_none name o).events ++ h)))
 
-named_held : (names : List (List ℕ)) (s : ℕ) (m : LockMode) (name : List ℕ) (h : History) (o : Option ℕ) (n : ℕ) → (named_by names s m name h o).told ≡ Ok n → Holds ((named_by names s m name h o).events ++ h) s n m
+pub named_held : (names : List (List ℕ)) (s : ℕ) (m : LockMode) (name : List ℕ) (h : History) (o : Option ℕ) (n : ℕ) → (named_by names s m name h o).told ≡ Ok n → Holds ((named_by names s m name h o).events ++ h) s n m
 named_held names s m name h None n told = absurd (let c = told in cc)
 named_held names s m name h (Some x) n told =
     let one = locked names s x m h in

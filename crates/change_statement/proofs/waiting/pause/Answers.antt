@@ -1,7 +1,7 @@
 use Rattle.std.proofs.Common.{rules, ◌≡◌, ◌+◌, ◌<◌, All, Err, length, sym, subst}
 use Rattle.pg_ids.specs.declared.ids.RowId.{RowId}
 use Rattle.course.specs.Attempts.{MayAttempt}
-use Rattle.course.specs.declared.rest.Rest.{Rest}
+use Rattle.course.specs.declared.rest.RestOfRows.{RestOfRows}
 use Rattle.statement_steps.proofs.Parts.{stays}
 use Rattle.statement_steps.specs.Steps.{IsStep}
 use Rattle.change_statement.specs.Changed.{held_up, paused}
@@ -17,7 +17,7 @@ hold_and_wait-requires-clause-may c =
 
 pub hold_and_wait-requires-clause-left : goal.hold_and_wait-requires-clause-left
 hold_and_wait-requires-clause-left c =
-    subst (λ (r : Rest). All (λ (id : RowId). id.number < length c.args.stores.now.rows.stored) r.left) (sym c.in-Ok.ensures) (all_there (length c.args.stores.now.rows.stored) c.args.left.now c.requires.left)
+    subst (λ (r : RestOfRows). All (λ (id : RowId). id.number < length c.args.stores.now.rows.stored) r.left) (sym c.in-Ok.ensures) (all_there (length c.args.stores.now.rows.stored) c.args.left.now c.requires.left)
 
 pub returns-in-Ok : goal.returns-in-Ok
 returns-in-Ok c =

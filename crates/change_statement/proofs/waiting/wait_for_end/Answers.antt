@@ -2,6 +2,7 @@ use Rattle.std.proofs.Common.{◌≡◌, Ok, Err, Some, sym, subst, false}
 use Rattle.pg_ids.specs.Sets.{has}
 use Rattle.pg_ids.specs.declared.session_set.SessionSet.{SessionSet}
 use Rattle.history.specs.declared.wait.WaitOn.TheVariants.{Ends}
+use Rattle.course.specs.declared.rest.Rest.TheVariants.{Rows}
 use Rattle.statement_steps.specs.Asks.{waited}
 use Rattle.statement_steps.specs.Steps.{IsStep}
 use Rattle.change_statement.proofs.Pausing.{has_to_wait, only_others}
@@ -13,9 +14,9 @@ wait_for-requires-clause-others c = subst (λ (s : SessionSet). has s c.args.cal
 pub unreachable-requires : goal.unreachable-requires
 unreachable-requires c =
     let s = c.requires.may.sound in
-    let step = subst (λ (o : SessionSet). IsStep (λ (u : Unit {0}). u) (Ok tt) c.args.stores.now c.wait_for.new.stores c.args.caller c.args.caller.cmd (waited c.args.names.now c.args.caller.session (Ends o) (Some c.args.rest))) c.only.ensures c.in-Ok.ensures.step in
-    has_to_wait c.args.names.now c.args.rest s.0 c.args.caller.session c.args.other c.requires.known (step.is s.0 s.1 s.2).0
+    let step = subst (λ (o : SessionSet). IsStep (λ (u : Unit {0}). u) (Ok tt) c.args.stores.now c.wait_for.new.stores c.args.caller c.args.caller.cmd (waited c.args.names.now c.args.caller.session (Ends o) (Some (Rows c.args.rest)))) c.only.ensures c.in-Ok.ensures.step in
+    has_to_wait c.args.names.now (Rows c.args.rest) s.0 c.args.caller.session c.args.other c.requires.known (step.is s.0 s.1 s.2).0
 
 pub returns : goal.returns
 returns c =
-    subst (λ (o : SessionSet). IsStep (λ (u : Unit {0}). u) (Err c.in-Err.stop) c.args.stores.now c.wait_for.new.stores c.args.caller c.args.caller.cmd (waited c.args.names.now c.args.caller.session (Ends o) (Some c.args.rest))) c.only.ensures c.in-Err.ensures.step
+    subst (λ (o : SessionSet). IsStep (λ (u : Unit {0}). u) (Err c.in-Err.stop) c.args.stores.now c.wait_for.new.stores c.args.caller c.args.caller.cmd (waited c.args.names.now c.args.caller.session (Ends o) (Some (Rows c.args.rest)))) c.only.ensures c.in-Err.ensures.step

@@ -10,6 +10,7 @@ loop-session-preserved g c =
     record {
       kinds = e.kinds ∙ i.kinds;
       opened = e.opened ∙ i.opened;
+      rests = e.rests ∙ i.rests;
       stands = λ v s. let x = i.stands v s in
           next_cut (λ y. StandsFor (g.K.Kinds.options c.interrupt.new.self.kinds) c.interrupt.new.self.seats c.interrupt.new.self.cut.items y) v x.0 c.args.sessions.now c.loop-session.session-index
           (get_or c.args.sessions.now c.loop-session.session-index 0) (omega arith) refl x.2 (e.stands x.0 x.1);

@@ -1,7 +1,8 @@
-use Rattle.std.proofs.Common.{◌∙◌}
+use Rattle.std.proofs.Common.{◌<◌, ◌∙◌, length, sym, subst}
 use Rattle.course.specs.Database.{cut_by}
 use Rattle.course.proofs.Cuts.{run_lower}
 use Rattle.course.proofs.Runs.{if_on, if_ok, after_cuts, stands_ran, outcome_ran, text_ran}
+use Rattle.course.proofs.Once.{once_on, others_on}
 use Rattle.course.proofs.executor.StoreExecutorExecutor.run.Goals as goal
 
 pub returns-clause-stands : goal.returns-clause-stands
@@ -30,3 +31,13 @@ returns-clause-text g c = if_on c.run-ran.result _ _ c.run-ran.ensures.ran
 
 pub returns-clause-lower : goal.returns-clause-lower
 returns-clause-lower g c = λ waits. run_lower c.args.self.now.seats c.interrupt_all.new.self.seats c.run-ran.new.self c.args.self.now.cut.items c.interrupt_all.new.self.cut.items c.in_ok-interrupt_all.ensures.lower (c.run-ran.ensures.lower waits) c.run-ran.ensures.opened
+
+pub returns-clause-once : goal.returns-clause-once
+returns-clause-once g c =
+    once_on g.K.Kinds.words (g.K.Kinds.options c.interrupt_all.new.self.kinds) c.args.self.now.seats c.interrupt_all.new.self.seats c.run-ran.new.self c.args.asker c.args.settings (g.K.Kinds.tree c.args.statement.now) c.args.out.now.items c.run-ran.new.out.items c.run-ran.result
+    g.K.Kinds.once c.in_ok-interrupt_all.ensures.rests (subst (λ xs. c.args.asker.session < length xs) (sym c.in_ok-interrupt_all.ensures.opened) c.requires.known) c.run-ran.ensures.ran c.run-ran.ensures.heard
+
+pub returns-clause-others : goal.returns-clause-others
+returns-clause-others g c =
+    others_on g.K.Kinds.words (g.K.Kinds.options c.interrupt_all.new.self.kinds) c.args.self.now.seats c.interrupt_all.new.self.seats c.run-ran.new.self c.args.asker c.args.settings (g.K.Kinds.tree c.args.statement.now) c.args.out.now.items c.run-ran.new.out.items c.run-ran.result
+    c.in_ok-interrupt_all.ensures.rests c.run-ran.ensures.ran c.run-ran.ensures.heard

@@ -7,4 +7,5 @@ invariant-loop l = record {
   opened : l.opened.items ≡ replicate l.counter false;
   own : l.own.items ≡ replicate l.counter None;
   stages : l.stages.items ≡ replicate l.counter Running;
+  split : l.split.items ≡ replicate l.counter false;
 }

@@ -17,7 +17,7 @@ returns-in-Ok-clause-stands g c v st =
 
 pub returns-in-Ok-clause-weight : goal.returns-in-Ok-clause-weight
 returns-in-Ok-clause-weight g c =
-    weight_of_block _ _ _ _ _ _ _ c.requires.known c.index_mut.ensures.value (block_points c.index_mut.result.now _ _ _ _ c.take_block.ensures c.in-Ok.ensures.few)
+    weight_of_block _ _ _ g.E.Executor.tree (g.E.Executor.has_committed c.args.self.now.executor) _ _ _ _ c.requires.known c.index_mut.ensures.value (block_points c.index_mut.result.now _ _ _ _ c.take_block.ensures c.in-Ok.ensures.few)
 
 pub returns-in-Err-Sql-clause-stands : goal.returns-in-Err-Sql-clause-stands
 returns-in-Err-Sql-clause-stands g c v st =
@@ -25,4 +25,4 @@ returns-in-Err-Sql-clause-stands g c v st =
 
 pub returns-in-Err-Sql-clause-weight : goal.returns-in-Err-Sql-clause-weight
 returns-in-Err-Sql-clause-weight g c =
-    weight_of_block _ _ _ _ _ _ _ c.requires.known c.index_mut-in-Err-Sql.ensures.value (broken_points c.index_mut-in-Err-Sql.result.now _ _ _ g.E.Executor.most_statements c.take_broken.ensures)
+    weight_of_block _ _ _ g.E.Executor.tree (g.E.Executor.has_committed c.args.self.now.executor) _ _ _ _ c.requires.known c.index_mut-in-Err-Sql.ensures.value (broken_points c.index_mut-in-Err-Sql.result.now _ _ _ g.E.Executor.most_statements c.take_broken.ensures)

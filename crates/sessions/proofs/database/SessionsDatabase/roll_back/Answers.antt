@@ -14,4 +14,4 @@ returns-clause-stands g c v st =
 
 pub returns-clause-weight : goal.returns-clause-weight
 returns-clause-weight g c =
-    weight_of_rollback _ _ _ (2 * g.E.Executor.most_statements) _ _ _ _ c.requires.known c.index_mut.ensures.value c.roll_back.ensures.points c.roll_back.ensures.slack
+    weight_of_rollback g.E.Executor.most _ _ (3 * g.E.Executor.most_statements) g.E.Executor.tree (g.E.Executor.has_committed c.args.self.now.executor) (g.E.Executor.has_committed c.roll_back.new.executor) _ _ _ _ c.requires.known c.index_mut.ensures.value c.roll_back.ensures.committed c.roll_back.ensures.points c.roll_back.ensures.slack

@@ -1,0 +1,14 @@
+-- Statements that commit what they did first, and go on in another transaction.
+use Rattle.std.specs.Prelude.{Option}
+use Rattle.history.specs.History.{History}
+use Rattle.sessions.specs.Commits.{CommitsOnce}
+use Rattle.sessions.specs.declared.settings.Settings.{Settings}
+use Rattle.course.specs.Words.{Words}
+use Rattle.course.specs.Database.{outcome_told, rest_told}
+use Rattle.course.specs.declared.caller.Caller.{Caller}
+use Rattle.course.specs.declared.rest.Rest.{Rest}
+
+-- each statement commits in its middle once at most, and goes on from there up to its end
+abbrev pub AllCommitOnce : {O T : Type 0} → Words O T → Type 0
+AllCommitOnce {O} {T} W = (o : O) (c : Caller) (rest : Option Rest) (h : History) (g : Settings) (t : T)
+    → CommitsOnce (W.has_committed rest t) (W.has_committed (rest_told (W.attempted o c rest h g t).told) t) (outcome_told (W.attempted o c rest h g t).told)

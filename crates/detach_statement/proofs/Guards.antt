@@ -1,0 +1,61 @@
+-- Tables that a session has locked so that nobody else changes their partitions.
+use Rattle.std.proofs.Common.{◌≡◌, ℕ, ◌==◌, ◌+◌, List, [], ◌++◌, inl, inr, sym, ◌∙◌, subst, append-nil, Option, Some, None, Ok}
+use Rattle.std.proofs.lemmas.Bool.{cases_Bool}
+use Rattle.pg_ids.specs.Sets.{has}
+use Rattle.pg_ids.specs.declared.ids.TableNo.{TableNo}
+use Rattle.pg_ids.specs.declared.lock_mode.LockMode.{LockMode}
+use Rattle.pg_ids.specs.declared.lock_mode.LockMode.TheVariants.{ShareUpdateExclusive}
+use Rattle.history.specs.declared.wait.Wanted.TheVariants.{Lock}
+use Rattle.history.specs.History.{History, lock_events}
+use Rattle.lock_answers.specs.Asked.{asked}
+use Rattle.part_catalog.specs.Found.{resolved}
+use Rattle.stores.specs.declared.stores.Stores.{Stores}
+use Rattle.course.specs.Made.{Made, then_told}
+use Rattle.course.specs.Attempts.{MayAttempt, LocksStay}
+use Rattle.course.specs.declared.caller.Caller.{Caller}
+use Rattle.statement_steps.specs.Asks.{locked, meant_or_none, named, named_still, same_or_gone}
+use Rattle.statement_steps.specs.Steps.{IsStep}
+use Rattle.table_statements.proofs.Held.{Holds, view_gets, named_held}
+use Rattle.detach_statement.specs.Asked.{HasGuarded}
+use Rattle.detach_statement.proofs.LeftPlaces.{MayChange}
+
+pub may_change : (stores : Stores) (s : ℕ) (p : TableNo) → HasGuarded stores s p.number → MayChange stores s p
+may_change stores s p guarded h stands = inl (sym (stands.all.locks.tells.held s p.number ShareUpdateExclusive) ∙ guarded)
+
+pub still_guards : (old new : Stores) (s t : ℕ) → LocksStay old new → HasGuarded old s t → HasGuarded new s t
+still_guards old new s t stay guarded = stay s t ShareUpdateExclusive guarded
+
+-- a table by its name
+pub named_guards : (names : List (List ℕ)) (old new : Stores) (caller : Caller) (name : List ℕ) (table : TableNo) → MayAttempt old caller
+    → IsStep (λ (t : TableNo). t.number) (Ok table) old new caller caller.cmd (named names caller.session ShareUpdateExclusive name) → HasGuarded new caller.session table.number
+named_guards names old new caller name table may step =
+    let s = may.sound in
+    let a = step.is s.0 s.1 s.2 in
+    a.1.stands.all.locks.tells.held caller.session table.number ShareUpdateExclusive ∙ named_held names caller.session ShareUpdateExclusive name s.0 (resolved s.0 caller.session name) table.number a.0
+
+-- and one that the name means still
+abbrev locked_then : List (List ℕ) → (s t : ℕ) → LockMode → History → Made (Unit {0}) → Made (Unit {0})
+locked_then names s t m h first = then_told first.told first.events (λ u. locked names s t m (first.events ++ h))
+
+abbrev still_by : List (List ℕ) → (s : ℕ) → LockMode → (name : List ℕ) → (t : ℕ) → History → Option ℕ → Made (Unit {0})
+still_by names s m name t h o = then_told (meant_or_none name o).told (meant_or_none name o).events (λ n. locked_then names s t m ((meant_or_none name o).events ++ h) (same_or_gone name t n))
+
+still_held : (names : List (List ℕ)) (s : ℕ) (m : LockMode) (name : List ℕ) (t : ℕ) (h : History) (o : Option ℕ) → (still_by names s m name t h o).told ≡ Ok tt → Holds ((still_by names s m name t h o).events ++ h) s t m
+still_held names s m name t h None told = absurd (let c = told in cc)
+still_held names s m name t h (Some n) told = elim (cases_Bool (n == t)) [
+  | inl same ↦
+      let one = locked names s t m h in
+      let view = asked (lock_events h) s (Lock (record { number = t }) m) in
+      let got : one.told ≡ Ok tt = rw same at told in
+      let held : Holds (one.events ++ h) s t m = view_gets names s t m h view got in
+      let events : (one.events ++ []) ++ [] ≡ one.events = append-nil (one.events ++ []) ∙ append-nil one.events in
+      rw same (subst (λ (g : History). Holds (g ++ h) s t m) (sym events) held)
+  | inr other ↦ absurd (let c = (rw other at told) in cc)
+]
+
+pub still_named_guards : (names : List (List ℕ)) (old new : Stores) (caller : Caller) (name : List ℕ) (t : ℕ) → MayAttempt old caller
+    → IsStep (λ (u : Unit {0}). u) (Ok tt) old new caller caller.cmd (named_still names caller.session ShareUpdateExclusive name t) → HasGuarded new caller.session t
+still_named_guards names old new caller name t may step =
+    let s = may.sound in
+    let a = step.is s.0 s.1 s.2 in
+    a.1.stands.all.locks.tells.held caller.session t ShareUpdateExclusive ∙ still_held names caller.session ShareUpdateExclusive name t s.0 (resolved s.0 caller.session name) a.0

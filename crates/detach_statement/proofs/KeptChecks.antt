@@ -1,0 +1,92 @@
+-- The CHECKs that a table keeps are of the levels that they name.
+use Rattle.std.proofs.Common.{◌≡◌, ℕ, true, false, if◌then◌else◌, refl, ap, sym, subst, ◌∙◌, List, [], ◌∷◌, map, Option, Some, None, Result, Ok, Err, IfOk, slice_get}
+use Rattle.std.specs.List.{All, list_any}
+use Rattle.std.proofs.lemmas.List.Elements.{All-append, All-cons, All-head, All-tail, All-nil, All-filter}
+use Rattle.pg_values.specs.declared.fault.Fault.{Fault}
+use Rattle.pg_values.specs.declared.fault.Refusal.{Refusal}
+use Rattle.pg_values.specs.declared.fault.Refusal.TheVariants.{Sql}
+use Rattle.bound_forms.specs.declared.level.Level.{Level as OneLevel}
+use Rattle.bound_forms.specs.Levels.{IsOfLevel}
+use Rattle.history.specs.declared.catalogue.Check.{Check}
+use Rattle.history.specs.declared.catalogue.Entry.{Entry}
+use Rattle.history.specs.declared.catalogue.KeptCheck.{KeptCheck}
+use Rattle.history.specs.Catalogue.{CheckKept, tables_made, checks_kept}
+use Rattle.history.specs.History.{History, CatalogueChange, tx_events, catalogue_events}
+use Rattle.history.specs.Places.{AreCatalogueSound}
+use Rattle.history.specs.Presence.{entries_present, checks_of, is_check_of}
+use Rattle.table_trees.specs.declared.path_part.PathPart.{PathPart}
+use Rattle.table_trees.specs.Histories.{above, kept_of, parent_in, part_of, path_of, upwards}
+use Rattle.part_ddl.specs.Placing.{IsFault}
+use Rattle.detach_statement.specs.Kept.{check_told, same_check, unless_equal}
+
+abbrev pub IsKeptOfLevel : KeptCheck → Type 0
+IsKeptOfLevel k = IsOfLevel k.level k.bound
+
+abbrev HasLevel : Check → Type 0
+HasLevel c = IsKeptOfLevel (kept_of c)
+
+all_have_levels : (h : History) → AreCatalogueSound h → All HasLevel (checks_kept (catalogue_events h))
+all_have_levels [] sound = All-nil HasLevel
+all_have_levels (CatalogueChange (CheckKept c) ∷ h) sound = All-append HasLevel (checks_kept (catalogue_events h)) (c ∷ []) (all_have_levels h sound.1) (All-cons HasLevel c [] sound.0.1 (All-nil HasLevel))
+all_have_levels (CatalogueChange e ∷ h) sound = all_have_levels h sound.1
+all_have_levels (_ ∷ h) sound = all_have_levels h sound
+
+all_kept : (cs : List Check) → All HasLevel cs → All IsKeptOfLevel (map kept_of cs)
+all_kept [] all = All-nil IsKeptOfLevel
+all_kept (c ∷ cs) all = All-cons IsKeptOfLevel (kept_of c) (map kept_of cs) (All-head HasLevel c cs all) (all_kept cs (All-tail HasLevel c cs all))
+
+pub kept_have_levels : (h : History) (s t : ℕ) → AreCatalogueSound h → All IsKeptOfLevel (map kept_of (checks_of h s t))
+kept_have_levels h s t sound = all_kept (checks_of h s t) (All-filter (is_check_of (tx_events h) s t) HasLevel (checks_kept (catalogue_events h)) (all_have_levels h sound))
+
+-- a path begins at the table itself
+pub path_starts : (h : History) (s t : ℕ) → (ps : List PathPart) × (path_of h s t ≡ part_of (tables_made (catalogue_events h)) (entries_present h s) (checks_of h s) t ∷ ps)
+unfolding Rattle.table_trees.specs.Histories.path_of
+path_starts h s t = (upwards 7 (part_of (tables_made (catalogue_events h)) (entries_present h s) (checks_of h s)) (above (entries_present h s)) (parent_in (above (entries_present h s) t)), refl)
+
+-- ---- what is told of the partition's place
+
+-- at a level
+pub told_no_place : (level : OneLevel) (o : Option Entry) → o ≡ None → None ≡ check_told (Ok level) o
+told_no_place level o none = ap (check_told (Ok level)) (sym none)
+
+pub told_place : (level : OneLevel) (o : Option Entry) (e : Entry) (c : KeptCheck) → o ≡ Some e → c ≡ record { level = level; bound = e.bound } → Some c ≡ check_told (Ok level) o
+told_place level o e c found is = ap Some is ∙ ap (check_told (Ok level)) (sym found)
+
+-- the parent has a level, or has none
+pub told_of_level : (told : Result OneLevel Fault) (level : OneLevel) (o : Option Entry) (c : Option KeptCheck) → told ≡ Ok level → c ≡ check_told (Ok level) o → c ≡ check_told told o
+told_of_level told level o c is made = made ∙ ap (λ l. check_told l o) (sym is)
+
+pub told_no_level : (e : Refusal) (f : Fault) (told : Result OneLevel Fault) (o : Option Entry) → e ≡ Sql f → IsFault e told → None ≡ check_told told o
+told_no_level e f told o is fault = let none : told ≡ Err f = subst (λ x. IsFault x told) is fault in ap (λ l. check_told l o) (sym none)
+
+-- ---- what is kept at the front of the path
+
+pub first_part : (h : History) (s t : ℕ) (parts : List PathPart) (part : PathPart) → parts ≡ path_of h s t → slice_get parts 0 ≡ Some part → part.checks ≡ map kept_of (checks_of h s t)
+first_part h s t parts part is at =
+    let path = path_starts h s t in
+    let front = part_of (tables_made (catalogue_events h)) (entries_present h s) (checks_of h s) t in
+    let first : Some front ≡ Some part = ap (λ ps. slice_get ps 0) (sym (is ∙ path.1)) ∙ at in
+    let same : part ≡ front = cc in
+    ap (λ (x : PathPart). x.checks) same
+
+pub never_empty : (h : History) (s t : ℕ) (parts : List PathPart) → parts ≡ path_of h s t → slice_get parts 0 ≡ None → ⊥
+never_empty h s t parts is at =
+    let path = path_starts h s t in
+    let first : Some (part_of (tables_made (catalogue_events h)) (entries_present h s) (checks_of h s) t) ≡ None = ap (λ ps. slice_get ps 0) (sym (is ∙ path.1)) ∙ at in
+    cc
+
+-- ---- the new one
+
+-- where none is told, or an equal one is kept, or none is
+pub none_new : (kept : List KeptCheck) (o : Option KeptCheck) → None ≡ o → None ≡ unless_equal kept o
+none_new kept o none = ap (unless_equal kept) none
+
+pub equal_kept : (kept : List KeptCheck) (o : Option KeptCheck) (c : KeptCheck) → Some c ≡ o → true ≡ list_any (λ k. same_check k c) kept → None ≡ unless_equal kept o
+equal_kept kept o c told is = ap (λ b. if b then None else Some c) is ∙ ap (unless_equal kept) told
+
+pub new_told : (kept : List KeptCheck) (o : Option KeptCheck) (c : KeptCheck) → Some c ≡ o → false ≡ list_any (λ k. same_check k c) kept → Some c ≡ unless_equal kept o
+new_told kept o c told is = ap (λ b. if b then None else Some c) is ∙ ap (unless_equal kept) told
+
+pub if_ok_more : {T E : Type 0} (r : Result T E) (A B : T → Type 0) → ((x : T) → A x → B x) → IfOk r A → IfOk r B
+if_ok_more (Ok x) A B f a = f x a
+if_ok_more (Err e) A B f a = tt

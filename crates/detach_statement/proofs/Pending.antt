@@ -1,0 +1,97 @@
+-- The pending partition of a table is a partition of it.
+use Rattle.std.proofs.Common.{◌≡◌, ℕ, ◌==◌, true, List, refl, ap, ◌∙◌, subst, Option, Some, None, Ok}
+use Rattle.std.specs.List.{Contains}
+use Rattle.std.proofs.lemmas.Bool.{and_parts}
+use Rattle.pg_ids.specs.declared.ids.TableNo.{TableNo}
+use Rattle.history.specs.declared.catalogue.Entry.{Entry}
+use Rattle.history.specs.Catalogue.{entries_added, marks, counted_of}
+use Rattle.history.specs.History.{History, tx_events, catalogue_events}
+use Rattle.history.specs.Presence.{counts, stamp_counts, entries_present, is_present, is_pending}
+use Rattle.table_trees.specs.Histories.{above}
+use Rattle.tx_table.specs.Stands.{TableStands}
+use Rattle.part_catalog.specs.Answers.{child_told, parent_told, marker_told, is_pending_below, pending_entry}
+use Rattle.part_catalog.specs.Stands.{CatalogueStands}
+use Rattle.part_ddl.specs.Placing.{level_at}
+use Rattle.part_ddl.proofs.Standing.{same_entries}
+use Rattle.pg_values.specs.Refusals.{unless}
+use Rattle.legal_statements.specs.Laws.{ListedIsThere}
+use Rattle.legal_statements.proofs.Adding.{present_for}
+use Rattle.soundness.specs.Laws.{LegalKeepsAll}
+use Rattle.soundness.proofs.Sound.{sound_of}
+use Rattle.soundness.proofs.Listed.{kept_in}
+use Rattle.soundness.proofs.Looking.{counts_world}
+use Rattle.soundness.proofs.Paths.{found_above}
+use Rattle.stores.specs.declared.stores.Stores.{Stores}
+use Rattle.course.specs.Attempts.{MayAttempt}
+use Rattle.course.specs.declared.caller.Caller.{Caller}
+use Rattle.course.specs.declared.rest.RestOfDetach.{RestOfDetach}
+use Rattle.table_statements.specs.Refused.{unless_faults}
+use Rattle.table_statements.proofs.Below.{found_in, here_of}
+use Rattle.table_statements.proofs.Ends.{same_number}
+use Rattle.table_statements.proofs.Firsts.{both_told, none_told}
+use Rattle.detach_statement.specs.Asked.{IsPartition}
+use Rattle.detach_statement.specs.Concurrent.{is_by, is_marked_still, not_pending, endable}
+use Rattle.detach_statement.specs.Detached.{name_at, is_table}
+use Rattle.detach_statement.specs.Finalized.{finalizable}
+use Rattle.detach_statement.proofs.Refusing.{none_against}
+
+-- ---- what is known where nothing stands against it
+
+pub finalizable_is : (h : History) (s p t : ℕ) → finalizable h s p t ≡ Ok tt → is_table (child_told (pending_entry h s p)) t ≡ true
+finalizable_is h s p t e =
+    let is = is_table (child_told (pending_entry h s p)) t in
+    let f = not_pending (name_at h t) (name_at h p) in
+    let level = both_told (level_at h p) (λ l. unless_faults (unless is f) (Ok tt)) tt e in
+    none_against is f (none_told (unless is f) (Ok tt) tt level.2).0
+
+pub endable_is : (h : History) (s : ℕ) (d : RestOfDetach) → endable h s d ≡ Ok tt → is_table (child_told (pending_entry h s d.parent.number)) d.table.number ≡ true
+endable_is h s d e =
+    let is = is_table (child_told (pending_entry h s d.parent.number)) d.table.number in
+    let f = not_pending (name_at h d.table.number) (name_at h d.parent.number) in
+    (and_parts is (is_by (marker_told h (pending_entry h s d.parent.number)) d.by) (none_against (is_marked_still h s d) f (none_told (unless (is_marked_still h s d) f) (Ok tt) tt e).0)).0
+
+-- ---- the pending entry
+
+pub record IsPendingOver (h : History) (s p t : ℕ) : Type 0 where
+  pub entry : Entry
+  pub present : Contains (entries_present h s) entry
+  pub parent : entry.parent.number ≡ p
+  pub child : entry.child.number ≡ t
+
+over_found : (h : History) (s p t : ℕ) (e : Entry) → Contains (entries_added (catalogue_events h)) e × (is_pending_below h s p e ≡ true) → (e.child.number == t) ≡ true → IsPendingOver h s p t
+over_found h s p t e found child =
+    let marked = stamp_counts (tx_events h) s (counted_of (tx_events h) (marks (catalogue_events h)) e.id.number) in
+    let below = and_parts (e.parent.number == p) (is_pending h s e) found.1 in
+    let there = and_parts (is_present h s e) marked below.1 in
+    record {
+      entry = e;
+      present = kept_in (is_present h s) (entries_added (catalogue_events h)) e found.0 there.0;
+      parent = same_number e.parent.number p below.0;
+      child = same_number e.child.number t child;
+    }
+
+over_told : (h : History) (s p t : ℕ) (o : Option Entry) → pending_entry h s p ≡ o → is_table (child_told o) t ≡ true → IsPendingOver h s p t
+over_told h s p t None is e = absurd (let c = e in cc)
+over_told h s p t (Some e) is child = over_found h s p t e (found_in (is_pending_below h s p) (entries_added (catalogue_events h)) e is) child
+
+-- ---- it is a partition of the table
+
+pub pending_is_partition : LegalKeepsAll → ListedIsThere → (stores : Stores) (caller : Caller) (p : TableNo) (t : ℕ) → MayAttempt stores caller
+    → ((g : History) → TableStands stores.txs g → CatalogueStands stores.catalog g → is_table (child_told (pending_entry g caller.session p.number)) t ≡ true) → IsPartition stores caller.session p t
+pending_is_partition keeps listed stores caller p t may told = λ h txs catalog.
+    let s = caller.session in
+    let g = may.sound.0 in
+    let stands = may.sound.1 in
+    let here = here_of stores caller g may stands in
+    let o = over_told g s p.number t (pending_entry g s p.number) refl (told g stands.all.txs stands.all.catalog) in
+    let has = (listed g s here.0 o.entry here.1.legal here.1.permitted here.1.own o.present).0 in
+    let present = present_for g s here.0 o.entry here.1.legal here.1.own has in
+    let world = counts_world (tx_events g) s (sound_of g here.1.legal) in
+    let siblings = (keeps g here.1.legal here.1.permitted).siblings (counts (tx_events g) s) world in
+    let found : above (entries_present g s) t ≡ Some o.entry = found_above g s t o.entry here.1.legal siblings present o.child in
+    let same = same_entries stores.txs stores.catalog g h stands.all.txs txs stands.all.catalog catalog s in
+    ap parent_told (subst (λ (es : List Entry). above es t ≡ Some o.entry) same found) ∙ ap (λ (n : ℕ). Some (record { number = n })) o.parent
+
+-- further locks leave it so
+pub still_partition : (old new : Stores) (s : ℕ) (p : TableNo) (t : ℕ) → new ≡ record old { locks = new.locks } → IsPartition old s p t → IsPartition new s p t
+still_partition old new s p t rest is = λ h txs catalog. is h (subst (λ (x : Stores). TableStands x.txs h) rest txs) (subst (λ (x : Stores). CatalogueStands x.catalog h) rest catalog)

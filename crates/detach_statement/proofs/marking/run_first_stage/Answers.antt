@@ -1,0 +1,46 @@
+use Rattle.std.proofs.Common.{◌+◌, Err}
+use Rattle.pg_ids.specs.declared.ids.TableNo.{TableNo}
+use Rattle.pg_ids.specs.declared.lock_mode.LockMode.TheVariants.{ShareUpdateExclusive}
+use Rattle.course.specs.Attempts.{MayAttempt}
+use Rattle.course.specs.declared.rest.RestOfDetach.{RestOfDetach}
+use Rattle.statement_steps.specs.Asks.{named}
+use Rattle.statement_steps.specs.Steps.{follow}
+use Rattle.statement_steps.proofs.Steps.{then_step, stop_step, may_go_on}
+use Rattle.detach_statement.specs.Concurrent.{table_marked}
+use Rattle.detach_statement.proofs.Guards.{named_guards, still_guards}
+use Rattle.detach_statement.proofs.marking.run_first_stage.Goals as goal
+use Rattle.detach_statement.proofs.marking.run_first_stage.Goals.{In-Ok}
+
+behind : (c : In-Ok) → MayAttempt c.lock_named.new.stores c.args.caller
+behind c = may_go_on (λ (t : TableNo). t.number) c.in-Ok.parent c.args.stores.now c.lock_named.new.stores c.args.caller (named c.args.names.now c.args.caller.session ShareUpdateExclusive c.args.parent.now) c.requires.may c.in-Ok.ensures.step
+
+pub mark_table-requires-clause-may : goal.mark_table-requires-clause-may
+mark_table-requires-clause-may c =
+    may_go_on (λ (t : TableNo). t.number) c.in-Ok-lock_named.table c.lock_named.new.stores c.lock_named-in-Ok.new.stores c.args.caller (named c.args.names.now c.args.caller.session ShareUpdateExclusive c.args.name.now)
+    (behind (goal.at.mark_table-requires-clause-may c).In-Ok) c.in-Ok-lock_named.ensures.step
+
+pub mark_table-requires-clause-guarded : goal.mark_table-requires-clause-guarded
+mark_table-requires-clause-guarded c =
+    still_guards c.lock_named.new.stores c.lock_named-in-Ok.new.stores c.args.caller.session c.in-Ok.parent.number c.in-Ok-lock_named.ensures.step.keeps.locks
+    (named_guards c.args.names.now c.args.stores.now c.lock_named.new.stores c.args.caller c.args.parent.now c.in-Ok.parent c.requires.may c.in-Ok.ensures.step)
+
+pub returns-in-Ok-lock_named : goal.returns-in-Ok-lock_named
+returns-in-Ok-lock_named c =
+    let s = c.args.caller.session in
+    then_step (λ (t : TableNo). t.number) (λ (d : RestOfDetach). d) c.in-Ok.parent c.mark_table.result c.args.stores.now c.lock_named.new.stores c.mark_table.new.stores c.args.caller (c.args.caller.cmd + 1)
+    (named c.args.names.now s ShareUpdateExclusive c.args.parent.now) (λ p. follow (named c.args.names.now s ShareUpdateExclusive c.args.name.now) (λ t. table_marked c.args.caller p t)) c.in-Ok.ensures.step
+    (then_step (λ (t : TableNo). t.number) (λ (d : RestOfDetach). d) c.in-Ok-lock_named.table c.mark_table.result c.lock_named.new.stores c.lock_named-in-Ok.new.stores c.mark_table.new.stores c.args.caller (c.args.caller.cmd + 1)
+    (named c.args.names.now s ShareUpdateExclusive c.args.name.now) (λ t. table_marked c.args.caller c.in-Ok.parent.number t) c.in-Ok-lock_named.ensures.step c.mark_table.ensures)
+
+pub returns-in-Err-lock_named : goal.returns-in-Err-lock_named
+returns-in-Err-lock_named c =
+    let s = c.args.caller.session in
+    then_step (λ (t : TableNo). t.number) (λ (d : RestOfDetach). d) c.in-Ok.parent (Err c.in-Err-lock_named.stop) c.args.stores.now c.lock_named.new.stores c.lock_named-in-Ok.new.stores c.args.caller (c.args.caller.cmd + 1)
+    (named c.args.names.now s ShareUpdateExclusive c.args.parent.now) (λ p. follow (named c.args.names.now s ShareUpdateExclusive c.args.name.now) (λ t. table_marked c.args.caller p t)) c.in-Ok.ensures.step
+    (stop_step (λ (t : TableNo). t.number) (λ (d : RestOfDetach). d) c.in-Err-lock_named.stop c.lock_named.new.stores c.lock_named-in-Ok.new.stores c.args.caller (c.args.caller.cmd + 1) c.args.caller.cmd
+    (named c.args.names.now s ShareUpdateExclusive c.args.name.now) (λ t. table_marked c.args.caller c.in-Ok.parent.number t) c.in-Err-lock_named.ensures.step)
+
+pub returns-in-Err : goal.returns-in-Err
+returns-in-Err c =
+    stop_step (λ (t : TableNo). t.number) (λ (d : RestOfDetach). d) c.in-Err.stop c.args.stores.now c.lock_named.new.stores c.args.caller (c.args.caller.cmd + 1) c.args.caller.cmd
+    (named c.args.names.now c.args.caller.session ShareUpdateExclusive c.args.parent.now) (λ p. follow (named c.args.names.now c.args.caller.session ShareUpdateExclusive c.args.name.now) (λ t. table_marked c.args.caller p t)) c.in-Err.ensures.step

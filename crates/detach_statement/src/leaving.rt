@@ -1,0 +1,75 @@
+//! A partition that was marked pending is one no more.
+
+ghost use Rattle.std.specs.Prelude.{◌≡◌, ◌+◌, ◌++◌, ◌<◌, IfSome, OnOk, length};
+ghost use Rattle.history.specs.Catalogue.{CheckKept};
+ghost use Rattle.history.specs.History.{History};
+ghost use Rattle.history.specs.Places.{IsCatalogueSound};
+ghost use Rattle.part_catalog.specs.Stands.{CatalogueStands};
+ghost use Rattle.course.specs.Attempts.{MayAttempt};
+ghost use Rattle.statement_steps.specs.Steps.{IsStep};
+ghost use Rattle.detach_statement.specs.Asked.{HasGuarded, IsPartition};
+ghost use Rattle.detach_statement.specs.Concurrent as concurrent;
+ghost use Rattle.detach_statement.specs.Kept as kept;
+
+use crate::keeping::new_check;
+use course::{Caller, Stop};
+use history::{KeptCheck, TxId};
+use legal_statements::{drop_may_follow, listed_is_there, nobody_else_ends};
+use part_catalog::Catalog;
+use pg_ids::TableNo;
+use pg_values::NoMemory;
+use std::alloc::Global;
+use stores::{Stores, trees_are_together};
+
+// The table keeps the CHECK, if there is one.
+fn keep(
+    catalog: &mut Catalog,
+    table: TableNo,
+    check: Option<KeptCheck>,
+    by: TxId,
+    cmd: u32,
+) -> Result<(), NoMemory>
+    requires { (h : History) → CatalogueStands catalog.old h → IfSome check (λ c. IsCatalogueSound (CheckKept (record { table = table; kept = c; by = by; cmd = cmd })) h) }
+    ensures { OnOk result ((h : History) → CatalogueStands catalog.old h → CatalogueStands catalog.new (kept.check_by table by cmd check ++ h)) }
+{
+    match check {
+        None => Ok(()),
+        Some(check) => catalog.keep_check(table, check, by, cmd),
+    }
+}
+
+/// The last part: the entry ends by which the table is a partition, and it keeps its CHECK.
+pub(crate) fn leave_parent(
+    alloc: Global,
+    stores: &mut Stores,
+    caller: Caller,
+    parent: TableNo,
+    table: TableNo,
+) -> Result<(), Stop>
+    requires may { MayAttempt stores.old caller }
+    requires guarded { HasGuarded stores.old caller.session parent.number }
+    requires parent { parent.number < length stores.old.catalog.tables }
+    requires table { table.number < length stores.old.catalog.tables }
+    requires partition { IsPartition stores.old caller.session parent table.number }
+    ensures { IsStep (λ u. u) result stores.old stores.new caller (caller.cmd + 1) (concurrent.partition_left caller parent.number table.number) }
+{
+    trees_are_together();
+    listed_is_there();
+    nobody_else_ends();
+    drop_may_follow();
+    let session = caller.session;
+    let Some(by) = stores.txs.open_of(session) else {
+        unreachable!()
+    };
+    let Stores { txs, catalog, .. } = stores;
+    match new_check(alloc, catalog, txs, session, parent, table) {
+        Ok(check) => {
+            catalog.end_entry(txs, parent, table, by, caller.cmd);
+            match keep(catalog, table, check, by, caller.cmd) {
+                Ok(()) => Ok(()),
+                Err(NoMemory) => Err(Stop::NoMemory),
+            }
+        }
+        Err(NoMemory) => Err(Stop::NoMemory),
+    }
+}

@@ -1,0 +1,19 @@
+ghost use Rattle.std.specs.Prelude.{◌≡◌, IfOk};
+ghost use Rattle.detach_statement.specs.Places as places;
+
+use crate::faults::inside_a_transaction;
+use pg_values::{Fault, NoMemory};
+use sessions::Place;
+use std::alloc::Global;
+
+/// Why DETACH CONCURRENTLY may not stand there: in an explicit transaction, or beside another statement of
+/// its block (25001).
+pub fn detach_misplaced(alloc: Global, place: Place) -> Result<Option<Fault>, NoMemory>
+    ensures { IfOk result (λ f. f ≡ places.detach_misplaced place) }
+{
+    if place.explicit || !place.alone {
+        Ok(Some(inside_a_transaction(alloc)?))
+    } else {
+        Ok(None)
+    }
+}

@@ -1,0 +1,6 @@
+use Rattle.sessions.proofs.Points.{slack_lower}
+use Rattle.sessions.proofs.database.SessionsDatabase.cancel.Goals as goal
+
+pub returns-clause-lighter : goal.returns-clause-lighter
+returns-clause-lighter g c =
+    slack_lower g.E.Executor.most _ _ g.E.Executor.tree (g.E.Executor.has_committed c.args.self.now.executor) (g.E.Executor.has_committed c.cancel.new.self) c.args.self.now.sessions.items c.cancel.ensures.committed c.cancel.ensures.lowers
