@@ -188,7 +188,7 @@ by_plan_plain prunes names c m trees h same =
     ∙ sym (ap (λ (r : Rows). outcome (plainly (c.sessions - 1) m r trees)) rows))
 
 pub one_table_plain : GoodIsLegal → LeavesAreFew → OneItemIsReadOnce → PrunedIsPlain → OneTableIsPlain
-one_table_plain lawful small once pruned prunes names c t table h good looks made = by (bound_select (items_of 0 (from_of t) trees) [] c.session t)
+one_table_plain lawful small once pruned h good prunes names c t table looks made = by (bound_select (items_of 0 (from_of t) trees) [] c.session t)
   where
     trees : List TableTree
     trees = trees_for c (table ∷ []) h
