@@ -1,4 +1,5 @@
-pub mod LeftOut
 pub mod Attempted
-pub mod Words
+pub mod LeftOut
+pub mod Moments
 pub mod Printed
+pub mod Words
