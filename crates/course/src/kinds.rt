@@ -35,10 +35,10 @@ pub trait Kinds: Sized + Drop {
     /// The most statements of a block.
     ghost most_statements: { ℕ };
 
-    /// What holds of statements in each history of a run.
+    /// What holds of statements at each moment of a run.
     ghost Holds: { History → Type 0 };
 
-    /// It does.
+    /// It holds of each history for which the stores can stand.
     ghost holds: { (h : History) → IsGood h → Holds h };
 
     fn copy(&self, alloc: Global) -> Result<Self, NoMemory>

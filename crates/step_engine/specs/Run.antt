@@ -20,7 +20,7 @@ rules = rules_of (course statement_words)
 abbrev pub RowsInOneLeaf : RunState → Type 0
 RowsInOneLeaf v = AlwaysInOneLeaf v.executor.history
 
--- and each statement that a session might run there, over the leaves that its conditions keep, does what it would do over all
+-- and SELECT, UPDATE and DELETE do there over the leaves that they read what they would do over all leaves
 abbrev pub NoneIsMissed : RunState → Type 0
 NoneIsMissed v = Always StatementsArePlain v.executor.history
 
