@@ -7,3 +7,4 @@ pub mod Deleted
 pub mod Updated
 pub mod Changing
 pub mod Laws
+pub mod Moments

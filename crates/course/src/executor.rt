@@ -107,7 +107,7 @@ impl<K: Kinds> Executor for StoreExecutor<K> {
     ghost use Rattle.std.specs.Prelude.{None, slice_index_or};
     ghost use Rattle.course.specs.Database.{Database, course};
     ghost use Rattle.course.specs.Kept.{StandsFor, waits_in, may_go_on};
-    ghost use Rattle.course.specs.Moments.{AlwaysInOneLeaf, good_rows};
+    ghost use Rattle.course.specs.Moments.{Always, AlwaysInOneLeaf, good_always, good_rows};
     ghost use Rattle.course.specs.Weight as weights;
 
     type Statement = K::Statement;
@@ -122,9 +122,9 @@ impl<K: Kinds> Executor for StoreExecutor<K> {
 
     ghost stands = { λ e v. StandsFor (K.options e.kinds) e.seats e.cut.items v };
 
-    ghost good = { λ v. AlwaysInOneLeaf v.history };
+    ghost good = { λ v. AlwaysInOneLeaf v.history × Always K.Holds v.history };
 
-    ghost stands_are_good = { λ e v st. good_rows v.history st.tells.stands.good };
+    ghost stands_are_good = { λ e v st. (good_rows v.history st.tells.stands.good, good_always K.Holds K.holds v.history st.tells.stands.good) };
 
     ghost in_transaction = { λ e. e.seats.opened };
 

@@ -11,6 +11,7 @@ pub trait Kinds: Sized + Drop {
     ghost use Rattle.std.specs.Prelude.{◌≡◌, ◌≤◌, ◌<◌, ◌++◌, ℕ, List, IfOk, OnOk, length, map};
     ghost use Rattle.history.specs.History.{History};
     ghost use Rattle.sessions.specs.Answers.{IsAnswerBy};
+    ghost use Rattle.stores.specs.Good.{IsGood};
     ghost use Rattle.stores.specs.Stand.{Stands};
     ghost use Rattle.stores.specs.Numbers.{IsAt};
     ghost use Rattle.course.specs.Once.{AllCommitOnce};
@@ -37,6 +38,12 @@ pub trait Kinds: Sized + Drop {
 
     /// The most statements of a block.
     ghost most_statements: { ℕ };
+
+    /// What holds of statements at each moment of a run.
+    ghost Holds: { History → Type 0 };
+
+    /// It holds of each history for which the stores can stand.
+    ghost holds: { (h : History) → IsGood h → Holds h };
 
     fn copy(&self, alloc: Global) -> Result<Self, NoMemory>
         ensures { IfOk result (λ k. options k ≡ options self.now) };

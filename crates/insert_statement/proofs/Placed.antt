@@ -6,7 +6,7 @@ use Rattle.history.specs.History.{History, catalogue_events}
 use Rattle.history.specs.Places.{AreCatalogueSound}
 use Rattle.table_trees.specs.declared.path_part.PathPart.{PathPart}
 use Rattle.table_trees.specs.Histories.{tree_of, path_of}
-use Rattle.table_trees.specs.Trees.{TableTree, Fits}
+use Rattle.table_trees.specs.Trees.{TableTree}
 use Rattle.row_change.specs.declared.target.Target.{Target}
 use Rattle.row_change.specs.Placing.{CanBePlaced, IsNumbered, IsPartNumbered}
 use Rattle.row_change.specs.Storing.{FitsTargets, IsTargetNumbered}
@@ -47,9 +47,6 @@ takes stores caller tree path rows h stands it =
       above = subst (λ pa. All (IsPartNumbered (length stores.catalog.tables)) pa) (sym p) (subst (λ n. All (IsPartNumbered n) (path_of h s it.table.number)) (sym same) (paths_are_made h s it.table sound made));
       known = subst (λ tr. IsNumbered (length stores.catalog.tables) tr) (sym t) (subst (λ n. IsNumbered n (tree_of h s it.table.number look)) (sym same) (trees_are_made h s it.table look sound made).0);
     }
-
-pub rows_fit : (n : ℕ) (tree : TableTree) (path : List PathPart) (rows : List (List Value)) → Takes n tree path rows → All (λ row. Fits row tree) rows
-rows_fit n tree path rows it = λ i d lt. (it.fits i d lt).0
 
 -- ---- the targets of their leaves
 

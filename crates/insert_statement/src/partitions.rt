@@ -1,20 +1,17 @@
 //! Rows into a partitioned table.
 
-ghost use Rattle.std.specs.Prelude.{◌≡◌, ◌+◌, ◌<◌, ◌≤◌, All, IfOk, length, map};
+ghost use Rattle.std.specs.Prelude.{◌≡◌, ◌+◌, ◌<◌, ◌≤◌, ◌++◌, All, IfOk, OnOk, length};
 ghost use Rattle.pg_values.specs.Refusals.{IsAnswer};
 ghost use Rattle.bound_forms.specs.declared.level.Level.{Level as OneLevel};
-ghost use Rattle.pg_ids.specs.declared.lock_mode.LockMode.TheVariants.{RowExclusive};
 ghost use Rattle.history.specs.declared.catalogue.TableShape.TheVariants.{Level};
 ghost use Rattle.history.specs.History.{History};
 ghost use Rattle.part_catalog.specs.Found.{made_at};
 ghost use Rattle.part_catalog.specs.Stands.{CatalogueStands};
 ghost use Rattle.table_trees.specs.Seen.{seen};
-ghost use Rattle.table_trees.specs.Trees.{Fits};
 ghost use Rattle.row_change.specs.Placing.{all_placed, CanBePlaced, IsNumbered, IsPartNumbered};
 ghost use Rattle.row_change.specs.Targets.{HasWay};
 ghost use Rattle.row_change.specs.Ways.{AllTables, ways_below};
 ghost use Rattle.course.specs.Attempts.{MayAttempt};
-ghost use Rattle.statement_steps.specs.Asks.{all_locked};
 ghost use Rattle.statement_steps.specs.Known.{IsKnownTo};
 ghost use Rattle.statement_steps.specs.Steps.{IsStep};
 ghost use Rattle.insert_statement.specs.Inserted as inserted;
@@ -27,7 +24,7 @@ use course::{Caller, Stop};
 use part_catalog::Catalog;
 use pg_ids::{LeafId, LockMode, TableNo};
 use pg_values::{NoMemory, Refusal, Row, Steps};
-use row_change::{LeafList, all_ways, leaf_targets, place_rows};
+use row_change::{LeafList, leaf_targets, place_rows};
 use statement_steps::{SessionNames, lock_tables};
 use std::alloc::Global;
 use std::marker::Brand;
@@ -41,6 +38,7 @@ fn place_from<L: Ledger>(
     tree: &Tree,
     path: &[PathPart],
     rows: &[Row],
+    ways: &mut Vec<TableNo>,
     blank: Blank,
 ) -> Result<LeafList, Refusal>
     requires fits { All (CanBePlaced (seen tree.now) path.now) rows.now }
@@ -51,9 +49,29 @@ fn place_from<L: Ledger>(
     requires some { 0 < blank.parts }
     ensures told { (h : History) → CatalogueStands catalog.now h → IsAnswer result (all_placed (tables_of h) (seen tree.now) path.now rows.now) }
     ensures ways { IfOk result (λ leaves. All (HasWay (seen tree.now)) leaves) }
+    ensures tables { OnOk result (ways.new.items ≡ ways.old.items ++ ways_below (seen tree.now) rows.now) }
 {
     let mut steps = Steps::<L>::new(blank);
-    place_rows(alloc, catalog, tree, path, rows, &mut steps)
+    place_rows(alloc, catalog, tree, path, rows, ways, &mut steps)
+}
+
+// The leaf of each row, or the first refusal; the tables on the ways of the rows are put behind the list.
+fn leaves_and_ways(
+    alloc: Global,
+    catalog: &Catalog,
+    tree: &Tree,
+    path: &[PathPart],
+    rows: &[Row],
+    ways: &mut Vec<TableNo>,
+) -> Result<LeafList, Refusal>
+    requires fits { All (CanBePlaced (seen tree.now) path.now) rows.now }
+    requires path { All (IsPartNumbered (length catalog.now.tables)) path.now }
+    requires known { IsNumbered (length catalog.now.tables) (seen tree.now) }
+    ensures told { (h : History) → CatalogueStands catalog.now h → IsAnswer result (all_placed (tables_of h) (seen tree.now) path.now rows.now) }
+    ensures ways { IfOk result (λ leaves. All (HasWay (seen tree.now)) leaves) }
+    ensures tables { OnOk result (ways.new.items ≡ ways.old.items ++ ways_below (seen tree.now) rows.now) }
+{
+    place_from::<Brand>(alloc, catalog, tree, path, rows, ways, Blank::new(1))
 }
 
 /// The leaf of each row, or the first refusal.
@@ -70,31 +88,8 @@ pub fn leaves_of(
     ensures told { (h : History) → CatalogueStands catalog.now h → IsAnswer result (all_placed (tables_of h) (seen tree.now) path.now rows.now) }
     ensures ways { IfOk result (λ leaves. All (HasWay (seen tree.now)) leaves) }
 {
-    place_from::<Brand>(alloc, catalog, tree, path, rows, Blank::new(1))
-}
-
-fn ways_from<L: Ledger>(
-    alloc: Global,
-    tree: &Tree,
-    rows: &[Row],
-    blank: Blank,
-) -> Result<Vec<TableNo>, NoMemory>
-    requires fits { All (λ row. Fits row (seen tree.now)) rows.now }
-    requires name { blank.name ≡ L.name }
-    requires parts { blank.parts ≡ L.parts }
-    requires some { 0 < blank.parts }
-    ensures { IfOk result (λ tables. tables.items ≡ ways_below (seen tree.now) rows.now) }
-{
-    let mut steps = Steps::<L>::new(blank);
-    all_ways(alloc, tree, rows, &mut steps)
-}
-
-// The tables on the ways of the rows.
-fn ways_of(alloc: Global, tree: &Tree, rows: &[Row]) -> Result<Vec<TableNo>, NoMemory>
-    requires { All (λ row. Fits row (seen tree.now)) rows.now }
-    ensures { IfOk result (λ tables. tables.items ≡ ways_below (seen tree.now) rows.now) }
-{
-    ways_from::<Brand>(alloc, tree, rows, Blank::new(1))
+    let mut ways = Vec::new(alloc);
+    leaves_and_ways(alloc, catalog, tree, path, rows, &mut ways)
 }
 
 // Each row into the leaf where it was placed; the tables on the ways are locked.
@@ -120,27 +115,6 @@ fn store_in_leaves(
     }
 }
 
-// The tables on the ways of the rows are locked.
-fn lock_ways(
-    alloc: Global,
-    stores: &mut Stores,
-    names: &SessionNames,
-    caller: Caller,
-    tree: &Tree,
-    rows: &[Row],
-) -> Result<(), Stop>
-    requires may { MayAttempt stores.old caller }
-    requires fits { All (λ row. Fits row (seen tree.now)) rows.now }
-    requires tables { AllTables (MayLock stores.old caller.session) (seen tree.now) }
-    ensures step { IsStep (λ u. u) result stores.old stores.new caller caller.cmd (all_locked names.now caller.session RowExclusive (map (λ t. t.number) (ways_below (seen tree.now) rows.now))) }
-    ensures rest { stores.new ≡ record stores.old { locks = stores.new.locks } }
-{
-    match ways_of(alloc, tree, rows) {
-        Ok(ways) => lock_tables(alloc, stores, names, caller, &ways, LockMode::RowExclusive),
-        Err(NoMemory) => Err(Stop::NoMemory),
-    }
-}
-
 // The tables on the ways of the rows are locked, and the rows stored.
 fn lock_and_store(
     alloc: Global,
@@ -149,14 +123,16 @@ fn lock_and_store(
     caller: Caller,
     tree: &Tree,
     leaves: &[LeafId],
+    ways: &[TableNo],
     rows: &[Row],
 ) -> Result<(), Stop>
     requires may { MayAttempt stores.old caller }
     requires tables { AllTables (MayLock stores.old caller.session) (seen tree.now) }
+    requires ways { ways.now ≡ ways_below (seen tree.now) rows.now }
     requires placed { ArePlaced stores.old.txs stores.old.catalog caller (seen tree.now) leaves.now rows.now }
     ensures { IsStep (λ u. u) result stores.old stores.new caller (caller.cmd + 1) (inserted.locked_into names.now caller (seen tree.now) leaves.now rows.now) }
 {
-    match lock_ways(alloc, stores, names, caller, tree, rows) {
+    match lock_tables(alloc, stores, names, caller, ways, LockMode::RowExclusive) {
         Ok(()) => store_in_leaves(alloc, stores, caller, tree, leaves, rows),
         Err(stop) => Err(stop),
     }
@@ -177,8 +153,18 @@ fn store_by_tree(
     requires tree { IsTreeFor stores.old.txs stores.old.catalog caller (seen tree.now) path.now rows.now }
     ensures { IsStep (λ u. u) result stores.old stores.new caller (caller.cmd + 1) (inserted.below names.now caller (seen tree.now) path.now rows.now) }
 {
-    match leaves_of(alloc, &stores.catalog, tree, path, rows) {
-        Ok(leaves) => lock_and_store(alloc, stores, names, caller, tree, leaves.as_slice(), rows),
+    let mut ways = Vec::new(alloc);
+    match leaves_and_ways(alloc, &stores.catalog, tree, path, rows, &mut ways) {
+        Ok(leaves) => lock_and_store(
+            alloc,
+            stores,
+            names,
+            caller,
+            tree,
+            leaves.as_slice(),
+            &ways,
+            rows,
+        ),
         Err(refusal) => Err(stop_by(refusal)),
     }
 }

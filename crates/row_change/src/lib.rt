@@ -3,7 +3,7 @@
 //! A row of an INSERT has values for the named columns; `full_row` makes the row of the table of them. In a
 //! partitioned table PostgreSQL routes a row at the moment at which it stores it. Here all rows are placed
 //! first (`place_rows`): the bounds of the named table and of the tables above it are asked, then the row
-//! goes down to the leaf that accepts it. So the leaves, and the tables on the ways to them (`all_ways`), are
+//! goes down to the leaf that accepts it. So the leaves, and the tables on the ways to them, are
 //! known, and can be locked, before a row is stored. The answer is the leaf of each row, or the first refusal
 //! in the order of the rows.
 //!
@@ -44,4 +44,4 @@ pub use storing::{check_leaf, store_rows};
 pub use succession::succeed_row;
 pub use target::Target;
 pub use testing::check_row;
-pub use way::{all_ways, leaf_way, push_way};
+pub use way::leaf_way;

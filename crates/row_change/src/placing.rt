@@ -1,7 +1,8 @@
 //! The leaf of each row.
 
-ghost use Rattle.std.specs.Prelude.{◌≡◌, ◌<◌, All, IfOk, length};
-ghost use Rattle.pg_values.specs.Refusals.{IsAnswer, or_first};
+ghost use Rattle.std.specs.Prelude.{◌≡◌, ◌<◌, ◌++◌, All, IfOk, OnOk, length};
+ghost use Rattle.pg_values.specs.Refusals.{IsAnswer};
+ghost use Rattle.pg_values.specs.Refusals.{or_first};
 ghost use Rattle.history.specs.Catalogue.{tables_made};
 ghost use Rattle.history.specs.History.{History, catalogue_events};
 ghost use Rattle.history.specs.Places.{table_at};
@@ -15,14 +16,16 @@ ghost use Rattle.row_change.specs.Placing as placing;
 ghost use Rattle.row_change.specs.Placing.{name_at, all_placed, bounds_faults, way_told, CanBePlaced, IsNumbered, IsPartNumbered};
 ghost use Rattle.row_change.specs.Refusals as refusals;
 ghost use Rattle.row_change.specs.Targets.{HasWay};
+ghost use Rattle.row_change.specs.Ways.{way_below, ways_below};
 
 use crate::LeafList;
 use crate::faults::{does_not_accept, no_partition};
 use crate::keys::{key_above, key_in};
+use crate::way::push_way;
 use part_catalog::Catalog;
 use pg_ids::{LeafId, TableNo};
 use pg_values::{Fault, NoMemory, Refusal, Row, Steps};
-use row_router::{PathTest, fits_path, route};
+use row_router::{PathTest, fits_path};
 use std::alloc::Global;
 use std::slice::from_ref;
 use std::sync::ledger::Ledger;
@@ -88,6 +91,7 @@ fn leaf_of<L: Ledger>(
     catalog: &Catalog,
     tree: &Tree,
     row: &Row,
+    ways: &mut Vec<TableNo>,
     steps: &mut Steps<L>,
 ) -> Result<LeafId, Refusal>
     requires fits { Fits row.now (seen tree.now) }
@@ -95,8 +99,9 @@ fn leaf_of<L: Ledger>(
     ensures told { (h : History) → CatalogueStands catalog.now h →
         IsAnswer result (way_told (tables_made (catalogue_events h)) row.now (routed row.now (seen tree.now))) }
     ensures way { IfOk result (λ leaf. HasWay (seen tree.now) leaf) }
+    ensures tables { OnOk result (ways.new.items ≡ ways.old.items ++ way_below row.now (seen tree.now)) }
 {
-    match route(tree, row, steps) {
+    match push_way(tree, row, steps, ways)? {
         Ok(leaf) => Ok(leaf),
         Err(lost) => Err(Refusal::Sql(lost_at(alloc, catalog, lost.table, row)?)),
     }
@@ -110,6 +115,7 @@ fn place_row<L: Ledger>(
     tree: &Tree,
     path: &[PathPart],
     row: &Row,
+    ways: &mut Vec<TableNo>,
     steps: &mut Steps<L>,
 ) -> Result<LeafId, Refusal>
     requires fits { CanBePlaced (seen tree.now) path.now row.now }
@@ -118,13 +124,15 @@ fn place_row<L: Ledger>(
     ensures told { (h : History) → CatalogueStands catalog.now h →
         IsAnswer result (placing.placed (tables_made (catalogue_events h)) (seen tree.now) path.now row.now) }
     ensures way { IfOk result (λ leaf. HasWay (seen tree.now) leaf) }
+    ensures tables { OnOk result (ways.new.items ≡ ways.old.items ++ way_below row.now (seen tree.now)) }
 {
     check_bounds(alloc, catalog, path, row)?;
-    leaf_of(alloc, catalog, tree, row, steps)
+    leaf_of(alloc, catalog, tree, row, ways, steps)
 }
 
 /// The leaf of each row below the table of the tree, or the first refusal: 23514. Each row is asked of the
-/// bounds along the path, which is that of the table, before it goes down.
+/// bounds along the path, which is that of the table, before it goes down. The tables on the ways of the rows are put
+/// behind the list, in the order of the rows.
 #[tactic(auto, using(crate::proofs::Placed::next_placed, crate::proofs::Placed::none_placed, crate::proofs::Placed::refused_here, crate::proofs::Placed::all_have, crate::proofs::Targets::one_more_of))]
 pub fn place_rows<L: Ledger>(
     alloc: Global,
@@ -132,6 +140,7 @@ pub fn place_rows<L: Ledger>(
     tree: &Tree,
     path: &[PathPart],
     rows: &[Row],
+    ways: &mut Vec<TableNo>,
     steps: &mut Steps<L>,
 ) -> Result<LeafList, Refusal>
     requires fits { All (CanBePlaced (seen tree.now) path.now) rows.now }
@@ -140,10 +149,11 @@ pub fn place_rows<L: Ledger>(
     ensures told { (h : History) → CatalogueStands catalog.now h →
         IsAnswer result (all_placed (tables_made (catalogue_events h)) (seen tree.now) path.now rows.now) }
     ensures ways { IfOk result (λ leaves. All (HasWay (seen tree.now)) leaves) }
+    ensures tables { OnOk result (ways.new.items ≡ ways.old.items ++ ways_below (seen tree.now) rows.now) }
 {
     let mut leaves = LeafList::new(alloc);
     for row in rows {
-        let leaf = place_row(alloc, catalog, tree, path, row, steps)?;
+        let leaf = place_row(alloc, catalog, tree, path, row, ways, steps)?;
         leaves.push(leaf)?;
     }
     Ok(leaves)

@@ -1,32 +1,33 @@
-//! The tables on the way of a row, and of all rows.
+//! The tables on the way of a row, and to a leaf.
 
-ghost use Rattle.std.specs.Prelude.{◌≡◌, ◌++◌, true, false, Some, None, All, OnOk, IfOk, MatchOption};
-ghost use Rattle.table_trees.specs.Trees.{Fits};
+ghost use Rattle.std.specs.Prelude.{◌≡◌, ◌++◌, true, false, Some, None, OnOk, IfOk, MatchOption};
+ghost use Rattle.table_trees.specs.Trees.{routed, Fits};
 ghost use Rattle.table_trees.specs.Seen.{seen};
-ghost use Rattle.row_change.specs.Ways.{way_below, ways_below, way_to};
+ghost use Rattle.row_change.specs.Ways.{way_below, way_to};
 
 use part_bounds::{find_child, stands_in_plain_order};
 use pg_ids::{LeafId, TableNo};
 use pg_values::{NoMemory, Row, Steps};
 use std::alloc::Global;
 use std::sync::ledger::Ledger;
-use table_trees::{LevelKey, Shape, Tree};
+use table_trees::{LevelKey, NoPartition, Shape, Tree};
 
-/// Puts the tables below the tree's own that a row comes to behind the list, each before those below it. The
-/// last is that of the leaf which accepts the row, or the one at which it is lost.
-pub fn push_way<L: Ledger>(
+/// The leaf of a row, or the table at which it is lost: each level on the way is searched by halves. The tables
+/// below the tree's own that the row comes to are put behind the list, each before those below it.
+pub(crate) fn push_way<L: Ledger>(
     tree: &Tree,
     row: &Row,
     steps: &mut Steps<L>,
     out: &mut Vec<TableNo>,
-) -> Result<(), NoMemory>
+) -> Result<Result<LeafId, NoPartition>, NoMemory>
     requires { Fits row.now (seen tree.now) }
-    ensures { OnOk result (out.new.items ≡ out.old.items ++ way_below row.now (seen tree.now)) }
+    ensures leaf { IfOk result (λ found. found ≡ routed row.now (seen tree.now)) }
+    ensures tables { OnOk result (out.new.items ≡ out.old.items ++ way_below row.now (seen tree.now)) }
 {
     let mut node = tree;
     loop {
         match &node.shape {
-            Shape::Leaf(_) => return Ok(()),
+            Shape::Leaf(leaf) => return Ok(Ok(*leaf)),
             Shape::Level(level, bounds, children) => {
                 stands_in_plain_order(bounds);
                 let columns = level.columns.as_slice();
@@ -35,28 +36,15 @@ pub fn push_way<L: Ledger>(
                         node = children.at(child);
                         out.push(node.node.table)?;
                     }
-                    None => return Ok(()),
+                    None => {
+                        return Ok(Err(NoPartition {
+                            table: node.node.table,
+                        }));
+                    }
                 }
             }
         }
     }
-}
-
-/// The tables on the ways of all rows, in the order of the rows.
-pub fn all_ways<L: Ledger>(
-    alloc: Global,
-    tree: &Tree,
-    rows: &[Row],
-    steps: &mut Steps<L>,
-) -> Result<Vec<TableNo>, NoMemory>
-    requires { All (λ row. Fits row (seen tree.now)) rows.now }
-    ensures { IfOk result (λ tables. tables.items ≡ ways_below (seen tree.now) rows.now) }
-{
-    let mut tables = Vec::new(alloc);
-    for row in rows {
-        push_way(tree, row, steps, &mut tables)?;
-    }
-    Ok(tables)
 }
 
 // Puts the way to a leaf behind the list, where a table of the tree has it.

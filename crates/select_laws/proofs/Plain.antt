@@ -110,7 +110,7 @@ few_made (CatalogueChange (CheckKept c) ∷ h) good = few_made h good.1
 -- ---- the answer
 
 pub tables_plain : GoodIsLegal → PrunedIsPlain → TablesArePlain
-tables_plain lawful pruned prunes c m ns h good looks low made =
+tables_plain lawful pruned h good prunes c m ns looks low made =
     let legal = lawful h good in
     elim (pruned prunes (c.sessions - 1) m [] h c.session ns (look_of h c.session c.cmd) legal.0 legal.1 looks low made) [
       | inl same ↦ inl (ap outcome same)
@@ -188,7 +188,7 @@ by_plan_plain prunes names c m trees h same =
     ∙ sym (ap (λ (r : Rows). outcome (plainly (c.sessions - 1) m r trees)) rows))
 
 pub one_table_plain : GoodIsLegal → LeavesAreFew → OneItemIsReadOnce → PrunedIsPlain → OneTableIsPlain
-one_table_plain lawful small once pruned prunes names c t table h good looks made = by (bound_select (items_of 0 (from_of t) trees) [] c.session t)
+one_table_plain lawful small once pruned h good prunes names c t table looks made = by (bound_select (items_of 0 (from_of t) trees) [] c.session t)
   where
     trees : List TableTree
     trees = trees_for c (table ∷ []) h

@@ -33,10 +33,14 @@ LeavesAreFew = (h : History) (session table : ℕ) (s : TakenSnapshot) → IsLeg
 abbrev pub Looks : Caller → History → Type 0
 Looks c h = IsLooking h c.session (look_of h c.session c.cmd)
 
--- in each history of a run a SELECT of one table makes of it what a SELECT makes that scans all leaves
-abbrev pub OneTableIsPlain : Type 0
-OneTableIsPlain = (prunes : Bool) (names : List (List ℕ)) (c : Caller) (t : SelectTree) (table : ℕ) (h : History) → IsGood h → Looks c h → IsMade (catalogue_events h) table
+-- a SELECT of one table makes of the history what a SELECT makes that scans all leaves
+abbrev pub OneTableIsPlainIn : History → Type 0
+OneTableIsPlainIn h = (prunes : Bool) (names : List (List ℕ)) (c : Caller) (t : SelectTree) (table : ℕ) → Looks c h → IsMade (catalogue_events h) table
     → of_tables prunes names c t (table ∷ []) h ≡ selected_plainly prunes names c t (table ∷ []) h
+
+-- in each history of a run
+abbrev pub OneTableIsPlain : Type 0
+OneTableIsPlain = (h : History) → IsGood h → OneTableIsPlainIn h
 
 -- the answer by the plan over several tables is the plain one too, or the plan makes more scans than a statement may: then
 -- that is the fault
@@ -46,5 +50,8 @@ IsPlainOrTooMuch prunes c m ns h =
     ⊎ ((SCAN_LIMIT < length (plan_reads prunes m (shown h (look_of h c.session c.cmd)) (trees_for c ns h)))
     × (answered c m (plan_for prunes m.conditions (trees_for c ns h)) h ≡ halted [] (Refused (too_many Scans))))
 
+abbrev pub TablesArePlainIn : History → Type 0
+TablesArePlainIn h = (prunes : Bool) (c : Caller) (m : SelectMeant) (ns : List ℕ) → Looks c h → length ns ≤ 4 → All (IsMade (catalogue_events h)) ns → IsPlainOrTooMuch prunes c m ns h
+
 abbrev pub TablesArePlain : Type 0
-TablesArePlain = (prunes : Bool) (c : Caller) (m : SelectMeant) (ns : List ℕ) (h : History) → IsGood h → Looks c h → length ns ≤ 4 → All (IsMade (catalogue_events h)) ns → IsPlainOrTooMuch prunes c m ns h
+TablesArePlain = (h : History) → IsGood h → TablesArePlainIn h

@@ -5,8 +5,9 @@ use Rattle.spec_reader.specs.declared.spec.Spec.{Spec}
 use Rattle.spec_reader.specs.declared.spec.SessionSpec.{SessionSpec}
 use Rattle.sessions.specs.Sessions.{State, new_session, rules_of}
 use Rattle.course.specs.Database.{Database, course, empty}
-use Rattle.course.specs.Moments.{AlwaysInOneLeaf}
+use Rattle.course.specs.Moments.{Always, AlwaysInOneLeaf}
 use Rattle.sql_ast.specs.Statements.{StatementTree}
+use Rattle.store_statements.specs.Moments.{StatementsArePlain}
 use Rattle.store_statements.specs.Words.{statement_words}
 
 abbrev pub RunState : Type 0
@@ -18,6 +19,14 @@ rules = rules_of (course statement_words)
 -- at each moment up to now, each row that a tree shows to a session lies in the one leaf of the tree that accepts it
 abbrev pub RowsInOneLeaf : RunState → Type 0
 RowsInOneLeaf v = AlwaysInOneLeaf v.executor.history
+
+-- and SELECT, UPDATE and DELETE do there over the leaves that they read what they would do over all leaves
+abbrev pub NoneIsMissed : RunState → Type 0
+NoneIsMissed v = Always StatementsArePlain v.executor.history
+
+-- what holds in each world of the run
+abbrev pub HoldsThroughout : RunState → Type 0
+HoldsThroughout v = RowsInOneLeaf v × NoneIsMissed v
 
 -- a script's sessions by their numbers, the control session first
 abbrev pub name_of : SessionSpec → List ℕ

@@ -50,7 +50,7 @@ pub fn partscript_run<S: Source, K: Sink, E: Sink>(
     out: &mut K,
     err: &mut E,
 ) -> Ended
-    ensures { Calls S.Source K.Sink E.Sink (TextEnds run.rules run.RowsInOneLeaf run.opened) (TextBegins run.rules run.RowsInOneLeaf run.opened) (map string_bytes words.now) input.old input.new out.old out.new err.old err.new result }
+    ensures { Calls S.Source K.Sink E.Sink (TextEnds run.rules run.HoldsThroughout run.opened) (TextBegins run.rules run.HoldsThroughout run.opened) (map string_bytes words.now) input.old input.new out.old out.new err.old err.new result }
 {
     run_program::<OpensStores, S, K, E>(alloc, words, input, out, err)
 }

@@ -36,6 +36,7 @@ impl Kinds for Statements {
     ghost use Rattle.std.specs.Prelude.{ℕ, List};
     ghost use Rattle.sql_ast.specs.Statements.{StatementTree, statement_tree};
     ghost use Rattle.sql_syntax.specs.declared.parse.TheConstants.{MOST_STATEMENTS};
+    ghost use Rattle.store_statements.specs.Moments.{StatementsArePlain, good_statements};
     ghost use Rattle.store_statements.specs.Once.{all_once};
     ghost use Rattle.store_statements.specs.Words.{statement_words};
 
@@ -54,6 +55,10 @@ impl Kinds for Statements {
     ghost once = { all_once };
 
     ghost most_statements = { MOST_STATEMENTS };
+
+    ghost Holds = { StatementsArePlain };
+
+    ghost holds = { good_statements };
 
     fn copy(&self, alloc: Global) -> Result<Self, NoMemory> {
         Ok(Statements {

@@ -5,7 +5,7 @@ use Rattle.bound_forms.specs.Points.{picked}
 use Rattle.bound_forms.specs.Accepts.{accepts_among, FitsSet}
 use Rattle.table_trees.specs.Trees.{key_of}
 use Rattle.table_trees.specs.Seen.{seen, items_of}
-use Rattle.table_trees.proofs.Levels.{here, chosen, found_within}
+use Rattle.table_trees.proofs.Levels.{here, chosen, none_chosen, found_within}
 use Rattle.row_change.specs.Ways.{way_below}
 use Rattle.row_change.proofs.Walk.{way_step, way_end}
 use Rattle.row_change.proofs.way.push_way.Goals as goal
@@ -39,12 +39,19 @@ loop-node-preserved g c =
     let s = way_step c.loop-node.node.now c.args.row.now c.in-Level.level c.in-Level.bounds c.in-Level.children c.in-Some.child c.at-node.result.now c.in-Level.is found lt c.at-node.ensures in
     record {
       fits = x.fits;
+      leaf = sym x.way ∙ i.leaf;
       way = ap (λ (ts : List TableNo). ts ++ way_below c.args.row.now (seen c.at-node.result.now)) c.in_ok-push-in-Some.ensures.items
           ∙ (append_assoc c.loop-node.out.items (c.at-node.result.now.node.table ∷ []) (way_below c.args.row.now (seen c.at-node.result.now)) ∙ (ap (λ (ts : List TableNo). c.loop-node.out.items ++ ts) (sym s) ∙ i.way));
     }
 
-pub returns-in-None : goal.returns-in-None
-returns-in-None g c =
+pub returns-in-None-clause-leaf : goal.returns-in-None-clause-leaf
+returns-in-None-clause-leaf g c =
+    let found = c.in-None.ensures.child ∙ ap (λ (cs : List KeyColumn). position (accepts_among c.in-Level.bounds (picked c.args.row.now (map (λ x. x.position) cs))) c.in-Level.bounds) c.as_slice-columns.ensures in
+    let i = c.loop-node.invariant in
+    sym (none_chosen c.loop-node.node.now c.args.row.now c.in-Level.level c.in-Level.bounds c.in-Level.children c.in-Level.is i.fits c.stands_in_plain_order.ensures found).0 ∙ i.leaf
+
+pub returns-in-None-clause-tables : goal.returns-in-None-clause-tables
+returns-in-None-clause-tables g c =
     let found = c.in-None.ensures.child ∙ ap (λ (cs : List KeyColumn). position (accepts_among c.in-Level.bounds (picked c.args.row.now (map (λ x. x.position) cs))) c.in-Level.bounds) c.as_slice-columns.ensures in
     let i = c.loop-node.invariant in
     let e = way_end c.loop-node.node.now c.args.row.now c.in-Level.level c.in-Level.bounds c.in-Level.children c.in-Level.is found in

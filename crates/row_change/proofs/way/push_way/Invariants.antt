@@ -1,5 +1,5 @@
 use Rattle.std.proofs.Common.{◌≡◌, ◌++◌}
-use Rattle.table_trees.specs.Trees.{Fits, height}
+use Rattle.table_trees.specs.Trees.{routed, Fits, height}
 use Rattle.table_trees.specs.Seen.{seen}
 use Rattle.row_change.specs.Ways.{way_below}
 use Rattle.row_change.proofs.way.push_way.Given as goal
@@ -8,6 +8,7 @@ use Rattle.row_change.proofs.way.push_way.Given as goal
 abbrev pub invariant-loop-node : goal.invariant-loop-node
 invariant-loop-node g l = record {
   fits : Fits l.row (seen l.node);
+  leaf : routed l.row (seen l.node) ≡ routed l.row (seen l.fn.tree);
   way : l.out.items ++ way_below l.row (seen l.node) ≡ l.initial.out.items ++ way_below l.row (seen l.fn.tree);
 }
 

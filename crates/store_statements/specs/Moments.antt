@@ -1,0 +1,12 @@
+-- What holds of statements at each moment of a run: the leaves that they leave out change nothing.
+use Rattle.history.specs.History.{History}
+use Rattle.stores.specs.Good.{IsGood}
+use Rattle.select_laws.specs.Moments.{SelectsArePlain, good_selects}
+use Rattle.change_statement.specs.Moments.{ChangesArePlain, good_changes}
+
+-- SELECT, UPDATE and DELETE do over the leaves that they read what they would do over all
+abbrev pub StatementsArePlain : History → Type 0
+StatementsArePlain h = SelectsArePlain h × ChangesArePlain h
+
+pub good_statements : (h : History) → IsGood h → StatementsArePlain h
+good_statements h good = (good_selects h good, good_changes h good)
