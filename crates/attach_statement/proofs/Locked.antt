@@ -17,10 +17,10 @@ use Rattle.part_catalog.specs.Stands.{CatalogueStands}
 use Rattle.bound_forms.specs.declared.partition_bound.Bound.{Bound}
 use Rattle.part_ddl.specs.Below.{tables_from, IsTreeOf}
 use Rattle.stores.specs.declared.stores.Stores.{Stores}
-use Rattle.course.specs.Made.{Made, Halt, then_told}
-use Rattle.course.specs.Attempts.{MayAttempt, LocksStay}
-use Rattle.course.specs.declared.caller.Caller.{Caller}
-use Rattle.course.specs.declared.stop.Stop.{Stop}
+use Rattle.statement_steps.specs.Made.{Made, Halt, then_told}
+use Rattle.statement_steps.specs.Attempts.{MayAttempt, LocksStay}
+use Rattle.statement_steps.specs.declared.caller.Caller.{Caller}
+use Rattle.statement_steps.specs.declared.stop.Stop.{Stop}
 use Rattle.statement_steps.specs.Asks.{told_of, locked, all_locked, meant_or_none, kept_number, number_or, named}
 use Rattle.statement_steps.specs.Known.{IsKnownTo}
 use Rattle.statement_steps.specs.Steps.{IsStep}

@@ -22,8 +22,8 @@ use Rattle.stores.specs.declared.stores.Stores.{Stores}
 use Rattle.part_catalog.specs.Found.{made_at}
 use Rattle.part_catalog.specs.Kept.{KeptCatalogue}
 use Rattle.part_catalog.specs.Stands.{CatalogueStands}
-use Rattle.course.specs.Attempts.{MayAttempt}
-use Rattle.course.specs.declared.caller.Caller.{Caller}
+use Rattle.statement_steps.specs.Attempts.{MayAttempt}
+use Rattle.statement_steps.specs.declared.caller.Caller.{Caller}
 use Rattle.partition_scans.specs.Sessions.{joined_by, those_below, those}
 use Rattle.partition_scans.specs.Scans.{Scan, fault_told, refusals, watches, judged}
 use Rattle.attach_statement.specs.Asked.{HasPlace}

@@ -12,8 +12,8 @@ use Rattle.part_ddl.specs.Below.{default_of}
 use Rattle.partition_scans.specs.Places.{place_scan, default_scan}
 use Rattle.partition_scans.specs.Scans.{Scan}
 use Rattle.partition_scans.specs.Waited.{scanned}
-use Rattle.course.specs.Made.{Made, made}
-use Rattle.course.specs.declared.caller.Caller.{Caller}
+use Rattle.statement_steps.specs.Made.{Made, made}
+use Rattle.statement_steps.specs.declared.caller.Caller.{Caller}
 use Rattle.statement_steps.specs.Asks.{named, held_at, all_locked}
 use Rattle.statement_steps.specs.Steps.{follow}
 use Rattle.table_statements.specs.Partitions.{default_locked, numbers_under}

@@ -7,7 +7,7 @@ ghost use Rattle.part_ddl.specs.Below.{IsTreeOf};
 ghost use Rattle.partition_scans.specs.Data.{DataStand};
 ghost use Rattle.partition_scans.specs.Scans.{judged, watches};
 ghost use Rattle.sql_ast.specs.Commands.{bound_tree};
-ghost use Rattle.course.specs.Attempts.{MayAttempt};
+ghost use Rattle.statement_steps.specs.Attempts.{MayAttempt};
 ghost use Rattle.statement_steps.specs.Known.{IsKnownTo};
 ghost use Rattle.statement_steps.specs.Steps.{IsStep};
 ghost use Rattle.table_statements.specs.Asked.{IsLockedNamed};
@@ -16,7 +16,6 @@ ghost use Rattle.attach_statement.specs.Attached as attached;
 
 use crate::checking::place_found;
 use bound_forms::Bound;
-use course::{Caller, Stop};
 use legal_statements::{
     attach_may_follow, listed_is_there, named_is_there, none_breaks, there_is_known, tree_is_whole,
 };
@@ -27,7 +26,7 @@ use pg_ids::{LockMode, SessionSet, TableNo};
 use pg_values::{NoMemory, Refusal};
 use soundness::{legal_keeps_all, sessions_have_siblings};
 use sql_ast::BoundText;
-use statement_steps::{SessionNames, hold_if_repeatable, lock_named, lock_tables};
+use statement_steps::{Caller, SessionNames, Stop, hold_if_repeatable, lock_named, lock_tables};
 use std::alloc::Global;
 use stores::{Stores, trees_are_together};
 use table_statements::{lock_default, tables_from};

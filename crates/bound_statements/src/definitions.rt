@@ -1,7 +1,7 @@
 use crate::bound::{write_between, write_row};
 use crate::trees::{write_literal, write_number};
-use history::{Column, Columns};
 use bound_forms::{Bound, Edge, Level, Point, Strategy};
+use history::{Column, Columns};
 use pg_values::{NoMemory, Refusal};
 use sql_ast::{BoundText, ColumnList, Partitioning};
 use std::alloc::Global;

@@ -39,11 +39,11 @@ use Rattle.stores.specs.declared.stores.Stores.{Stores}
 use Rattle.stores.proofs.Calls.{look_is_past}
 use Rattle.stores.proofs.Commands.{look_is_own}
 use Rattle.stores.proofs.Goodness.{legal_of, permitted_of}
-use Rattle.course.specs.Made.{Refused}
-use Rattle.course.specs.Attempts.{WentOn}
-use Rattle.course.specs.declared.caller.Caller.{Caller}
-use Rattle.course.specs.declared.stop.Stop.{Stop}
-use Rattle.course.specs.declared.stop.Stop.TheVariants as stop
+use Rattle.statement_steps.specs.Made.{Refused}
+use Rattle.statement_steps.specs.Attempts.{WentOn}
+use Rattle.statement_steps.specs.declared.caller.Caller.{Caller}
+use Rattle.statement_steps.specs.declared.stop.Stop.{Stop}
+use Rattle.statement_steps.specs.declared.stop.Stop.TheVariants as stop
 use Rattle.insert_statement.specs.Asked.{stopped}
 use Rattle.insert_statement.specs.Born.{unless_refused}
 use Rattle.insert_statement.specs.Inserted.{tables_of}

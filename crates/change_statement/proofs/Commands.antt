@@ -4,14 +4,14 @@ use Rattle.history.specs.History.{History}
 use Rattle.stores.specs.Numbers.{IsAt}
 use Rattle.stores.specs.declared.stores.Stores.{Stores}
 use Rattle.stores.proofs.Commands.{commands_are_in_order}
-use Rattle.course.specs.Ended.{ended}
-use Rattle.course.specs.Made.{Made, and_then, then_told, behind, number_after}
-use Rattle.course.specs.Attempts.{MayAttempt, MayGoOn, WentOn, GoesOn, IsHalt}
-use Rattle.course.specs.declared.caller.Caller.{Caller}
-use Rattle.course.specs.declared.rest.Rest.{Rest}
-use Rattle.course.specs.declared.stop.Stop.{Stop}
-use Rattle.course.specs.declared.stop.Stop.TheVariants as stop
-use Rattle.course.proofs.Numbers.{one_later}
+use Rattle.statement_steps.specs.Ended.{ended}
+use Rattle.statement_steps.specs.Made.{Made, and_then, then_told, behind, number_after}
+use Rattle.statement_steps.specs.Attempts.{MayAttempt, MayGoOn, WentOn, GoesOn, IsHalt}
+use Rattle.statement_steps.specs.declared.caller.Caller.{Caller}
+use Rattle.statement_steps.specs.declared.rest.Rest.{Rest}
+use Rattle.statement_steps.specs.declared.stop.Stop.{Stop}
+use Rattle.statement_steps.specs.declared.stop.Stop.TheVariants as stop
+use Rattle.statement_steps.proofs.Numbers.{one_later}
 use Rattle.statement_steps.specs.Steps.{IsTold, IsHalted, IsStep, follow}
 use Rattle.statement_steps.proofs.Steps.{went_on, goes_on}
 use Rattle.change_statement.specs.Running.{IsInRun, IsRunTold, IsRun, IsCommandTold, IsCommand, MayRun}

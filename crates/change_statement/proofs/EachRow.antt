@@ -22,11 +22,11 @@ use Rattle.row_targets.specs.declared.verdicts.Conflict.{Conflict}
 use Rattle.stores.specs.Events.{look_of}
 use Rattle.stores.specs.Stand.{Stands}
 use Rattle.stores.specs.declared.stores.Stores.{Stores}
-use Rattle.course.specs.Made.{Refused, made, halted}
-use Rattle.course.specs.declared.caller.Caller.{Caller}
-use Rattle.course.specs.declared.rest.Rest.{Rest}
-use Rattle.course.specs.declared.rest.RestOfRows.{RestOfRows}
-use Rattle.course.specs.declared.stop.Stop.{Stop}
+use Rattle.statement_steps.specs.Made.{Refused, made, halted}
+use Rattle.statement_steps.specs.declared.caller.Caller.{Caller}
+use Rattle.statement_steps.specs.declared.rest.Rest.{Rest}
+use Rattle.statement_steps.specs.declared.rest.RestOfRows.{RestOfRows}
+use Rattle.statement_steps.specs.declared.stop.Stop.{Stop}
 use Rattle.statement_steps.specs.Faults.{stop_by}
 use Rattle.statement_steps.proofs.Parts.{stays}
 use Rattle.insert_statement.proofs.Tables.{IsMade, tables_kept}

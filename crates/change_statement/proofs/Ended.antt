@@ -32,9 +32,9 @@ use Rattle.stores.specs.Stand.{AllStand, Stands}
 use Rattle.stores.specs.declared.stores.Stores.{Stores}
 use Rattle.stores.proofs.Goodness.{legal_of}
 use Rattle.stores.proofs.Standing.{catalogue_stands}
-use Rattle.course.specs.Made.{made}
-use Rattle.course.specs.Attempts.{WentOn, GoesOn}
-use Rattle.course.specs.declared.caller.Caller.{Caller}
+use Rattle.statement_steps.specs.Made.{made}
+use Rattle.statement_steps.specs.Attempts.{WentOn, GoesOn}
+use Rattle.statement_steps.specs.declared.caller.Caller.{Caller}
 use Rattle.insert_statement.specs.Inserted.{own}
 use Rattle.insert_statement.proofs.Births.{Quiet}
 use Rattle.change_statement.specs.Deleted.{ended}

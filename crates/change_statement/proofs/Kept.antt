@@ -27,8 +27,8 @@ use Rattle.stores.specs.Stand.{Stands}
 use Rattle.stores.specs.declared.stores.Stores.{Stores}
 use Rattle.stores.proofs.Goodness.{legal_of, permitted_of}
 use Rattle.stores.proofs.Housed.{leaves_are_housed}
-use Rattle.course.specs.Attempts.{LocksStay}
-use Rattle.course.specs.declared.caller.Caller.{Caller}
+use Rattle.statement_steps.specs.Attempts.{LocksStay}
+use Rattle.statement_steps.specs.declared.caller.Caller.{Caller}
 use Rattle.statement_steps.specs.Known.{IsKnownTo}
 use Rattle.insert_statement.specs.Asked.{IsReadOf}
 use Rattle.insert_statement.proofs.Tables.{IsMade, tables_kept, shown_made}

@@ -23,14 +23,14 @@ use Rattle.stores.specs.Events.{held}
 use Rattle.stores.specs.Numbers.{IsAt}
 use Rattle.stores.specs.declared.stores.Stores.{Stores}
 use Rattle.stores.proofs.Meanwhile.{looks_keep_numbers}
-use Rattle.course.specs.Made.{Waits, Refused, behind}
-use Rattle.course.specs.Attempts.{WentOn}
-use Rattle.course.specs.declared.caller.Caller.{Caller}
-use Rattle.course.specs.declared.rest.Rest.{Rest}
-use Rattle.course.specs.declared.rest.Rest.TheVariants.{Rows}
-use Rattle.course.specs.declared.rest.RestOfRows.{RestOfRows}
-use Rattle.course.specs.declared.stop.Stop.{Stop}
-use Rattle.course.specs.declared.stop.Stop.TheVariants as stop
+use Rattle.statement_steps.specs.Made.{Waits, Refused, behind}
+use Rattle.statement_steps.specs.Attempts.{WentOn}
+use Rattle.statement_steps.specs.declared.caller.Caller.{Caller}
+use Rattle.statement_steps.specs.declared.rest.Rest.{Rest}
+use Rattle.statement_steps.specs.declared.rest.Rest.TheVariants.{Rows}
+use Rattle.statement_steps.specs.declared.rest.RestOfRows.{RestOfRows}
+use Rattle.statement_steps.specs.declared.stop.Stop.{Stop}
+use Rattle.statement_steps.specs.declared.stop.Stop.TheVariants as stop
 use Rattle.statement_steps.specs.Asks.{told_by, waited}
 use Rattle.statement_steps.specs.Steps.{IsTold, IsStep}
 use Rattle.statement_steps.proofs.Parts.{own_tx}

@@ -31,8 +31,8 @@ use Rattle.stores.specs.Events.{look_of}
 use Rattle.stores.specs.Stand.{Stands}
 use Rattle.stores.specs.declared.stores.Stores.{Stores}
 use Rattle.stores.proofs.Goodness.{legal_of, permitted_of}
-use Rattle.course.specs.declared.caller.Caller.{Caller}
-use Rattle.course.specs.declared.stop.Stop.{Stop}
+use Rattle.statement_steps.specs.declared.caller.Caller.{Caller}
+use Rattle.statement_steps.specs.declared.stop.Stop.{Stop}
 use Rattle.insert_statement.specs.Asked.{AreRowsOf, stopped}
 use Rattle.insert_statement.specs.Inserted.{answered, tables_of, holder_faults}
 use Rattle.insert_statement.proofs.Tables.{tables_kept}

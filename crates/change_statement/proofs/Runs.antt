@@ -4,11 +4,11 @@ use Rattle.pg_values.specs.declared.fault.Fault.{Fault}
 use Rattle.history.specs.History.{History}
 use Rattle.stores.specs.Stand.{Stands}
 use Rattle.stores.specs.declared.stores.Stores.{Stores}
-use Rattle.course.specs.Made.{Made, Refused, made, halted, and_then, then_told, behind}
-use Rattle.course.specs.Attempts.{WentOn, GoesOn}
-use Rattle.course.specs.declared.caller.Caller.{Caller}
-use Rattle.course.specs.declared.stop.Stop.{Stop}
-use Rattle.course.specs.declared.stop.Stop.TheVariants as stop
+use Rattle.statement_steps.specs.Made.{Made, Refused, made, halted, and_then, then_told, behind}
+use Rattle.statement_steps.specs.Attempts.{WentOn, GoesOn}
+use Rattle.statement_steps.specs.declared.caller.Caller.{Caller}
+use Rattle.statement_steps.specs.declared.stop.Stop.{Stop}
+use Rattle.statement_steps.specs.declared.stop.Stop.TheVariants as stop
 use Rattle.statement_steps.specs.Steps.{follow}
 use Rattle.statement_steps.proofs.Parts.{still_on, stays}
 use Rattle.statement_steps.proofs.Steps.{went_on, goes_on, halted_same}

@@ -53,7 +53,7 @@ use Rattle.stores.specs.Events.{look_of}
 use Rattle.stores.specs.Stand.{Stands}
 use Rattle.stores.specs.declared.stores.Stores.{Stores}
 use Rattle.stores.proofs.Goodness.{legal_of, permitted_of}
-use Rattle.course.specs.declared.caller.Caller.{Caller}
+use Rattle.statement_steps.specs.declared.caller.Caller.{Caller}
 use Rattle.insert_statement.proofs.Tables.{tables_kept}
 use Rattle.change_statement.specs.Gathered.{Found}
 use Rattle.change_statement.specs.Kept.{is_set, sets_key, sets_key_of}

@@ -19,11 +19,11 @@ use Rattle.row_targets.specs.declared.verdicts.Conflict.{Conflict}
 use Rattle.sessions.specs.declared.phase.Isolation.{Isolation}
 use Rattle.sessions.specs.declared.phase.Isolation.TheVariants.{ReadCommitted, ReadUncommitted, RepeatableRead}
 use Rattle.stores.specs.Events.{tx_in, look_of, held}
-use Rattle.course.specs.Made.{Made, Refused, made, halted}
-use Rattle.course.specs.declared.caller.Caller.{Caller}
-use Rattle.course.specs.declared.rest.Rest.{Rest}
-use Rattle.course.specs.declared.rest.Rest.TheVariants.{Rows}
-use Rattle.course.specs.declared.rest.RestOfRows.{RestOfRows}
+use Rattle.statement_steps.specs.Made.{Made, Refused, made, halted}
+use Rattle.statement_steps.specs.declared.caller.Caller.{Caller}
+use Rattle.statement_steps.specs.declared.rest.Rest.{Rest}
+use Rattle.statement_steps.specs.declared.rest.Rest.TheVariants.{Rows}
+use Rattle.statement_steps.specs.declared.rest.RestOfRows.{RestOfRows}
 use Rattle.statement_steps.specs.Asks.{waited}
 use Rattle.statement_steps.specs.Faults.{name_of}
 use Rattle.statement_steps.specs.Steps.{follow}

@@ -1,5 +1,5 @@
 -- What an UPDATE or a DELETE makes of a version that it changes.
-use Rattle.course.specs.declared.caller.Caller.{Caller}
+use Rattle.statement_steps.specs.declared.caller.Caller.{Caller}
 use Rattle.change_statement.specs.Gathered.{Found}
 use Rattle.change_statement.specs.Changed.{Changing}
 use Rattle.change_statement.specs.Deleted.{deleting}

@@ -8,9 +8,9 @@ use Rattle.history.specs.History.{History, RowChange}
 use Rattle.sql_ast.specs.Expressions.{Tree}
 use Rattle.sql_ast.specs.declared.named_table.NamedTable.{NamedTable}
 use Rattle.expression_binder.specs.declared.scope.Param.{Param}
-use Rattle.course.specs.Made.{Made, made}
-use Rattle.course.specs.declared.caller.Caller.{Caller}
-use Rattle.course.specs.declared.rest.Rest.{Rest}
+use Rattle.statement_steps.specs.Made.{Made, made}
+use Rattle.statement_steps.specs.declared.caller.Caller.{Caller}
+use Rattle.statement_steps.specs.declared.rest.Rest.{Rest}
 use Rattle.statement_steps.specs.Asks.{held_at}
 use Rattle.statement_steps.specs.Steps.{follow}
 use Rattle.insert_statement.specs.Inserted.{own}

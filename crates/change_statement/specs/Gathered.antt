@@ -20,9 +20,9 @@ use Rattle.expression_binder.specs.declared.scope.Param.{Param}
 use Rattle.statement_asks.specs.Asked.{ChangeMeant, change_meant}
 use Rattle.change_binder.specs.Changes.{bound_change}
 use Rattle.stores.specs.Events.{look_of}
-use Rattle.course.specs.Made.{Made, made}
-use Rattle.course.specs.declared.caller.Caller.{Caller}
-use Rattle.course.specs.declared.rest.Rest.{Rest}
+use Rattle.statement_steps.specs.Made.{Made, made}
+use Rattle.statement_steps.specs.declared.caller.Caller.{Caller}
+use Rattle.statement_steps.specs.declared.rest.Rest.{Rest}
 use Rattle.statement_steps.specs.Asks.{named, all_locked}
 use Rattle.statement_steps.specs.Steps.{follow, going_on}
 use Rattle.pruned_trees.specs.Kept.{Keeps}

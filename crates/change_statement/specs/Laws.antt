@@ -12,9 +12,9 @@ use Rattle.soundness.specs.Laws.{IsLooking}
 use Rattle.row_targets.specs.Targets.{targets}
 use Rattle.statement_asks.specs.Asked.{ChangeMeant}
 use Rattle.stores.specs.Events.{look_of}
-use Rattle.course.specs.Made.{Made}
-use Rattle.course.specs.declared.caller.Caller.{Caller}
-use Rattle.course.specs.declared.rest.Rest.{Rest}
+use Rattle.statement_steps.specs.Made.{Made}
+use Rattle.statement_steps.specs.declared.caller.Caller.{Caller}
+use Rattle.statement_steps.specs.declared.rest.Rest.{Rest}
 use Rattle.change_statement.specs.Changed.{Changing, changed_from, changed_in}
 use Rattle.change_statement.specs.Gathered.{Found, found_by}
 use Rattle.change_statement.specs.Kept.{keeps_for, leaves_read}

@@ -11,8 +11,8 @@ use Rattle.statement_asks.specs.Asked.{ChangeMeant}
 use Rattle.stores.specs.Events.{look_of}
 use Rattle.stores.specs.Good.{IsGood}
 use Rattle.stores.proofs.Goodness.{legal_of, permitted_of}
-use Rattle.course.specs.declared.caller.Caller.{Caller}
-use Rattle.course.specs.declared.rest.Rest.{Rest}
+use Rattle.statement_steps.specs.declared.caller.Caller.{Caller}
+use Rattle.statement_steps.specs.declared.rest.Rest.{Rest}
 use Rattle.change_statement.specs.Changed.{Changing, changed_from}
 use Rattle.change_statement.specs.Laws.{gathered_of, plainly_changed}
 use Rattle.change_statement.proofs.Pruned.{pruned_plain}

@@ -20,12 +20,12 @@ use Rattle.legal_statements.specs.Locked.{IsWritable}
 use Rattle.stores.specs.Numbers.{IsAt}
 use Rattle.stores.specs.Stand.{Stands}
 use Rattle.stores.specs.declared.stores.Stores.{Stores}
-use Rattle.course.specs.Ended.{ended}
-use Rattle.course.specs.Made.{Made, Waits, Refused, number_after}
-use Rattle.course.specs.Attempts.{MayAttempt, WentOn, GoesOn, IsHalt}
-use Rattle.course.specs.declared.caller.Caller.{Caller}
-use Rattle.course.specs.declared.stop.Stop.{Stop}
-use Rattle.course.specs.declared.stop.Stop.TheVariants as stop
+use Rattle.statement_steps.specs.Ended.{ended}
+use Rattle.statement_steps.specs.Made.{Made, Waits, Refused, number_after}
+use Rattle.statement_steps.specs.Attempts.{MayAttempt, WentOn, GoesOn, IsHalt}
+use Rattle.statement_steps.specs.declared.caller.Caller.{Caller}
+use Rattle.statement_steps.specs.declared.stop.Stop.{Stop}
+use Rattle.statement_steps.specs.declared.stop.Stop.TheVariants as stop
 use Rattle.statement_steps.specs.Known.{IsKnownTo}
 use Rattle.statement_steps.specs.Steps.{IsHalted}
 use Rattle.insert_statement.specs.Asked.{IsReadOf}

@@ -2,9 +2,9 @@
 use Rattle.std.specs.Prelude.{ℕ, ◌==◌, if◌then◌else◌, List, [], ◌∷◌, Option, Some, None, map}
 use Rattle.pg_ids.specs.declared.ids.RowId.{RowId}
 use Rattle.row_targets.specs.declared.finding.TargetRow.{TargetRow}
-use Rattle.course.specs.declared.rest.Rest.{Rest}
-use Rattle.course.specs.declared.rest.Rest.TheVariants.{Rows, Detach}
-use Rattle.course.specs.declared.rest.RestOfRows.{RestOfRows}
+use Rattle.statement_steps.specs.declared.rest.Rest.{Rest}
+use Rattle.statement_steps.specs.declared.rest.Rest.TheVariants.{Rows, Detach}
+use Rattle.statement_steps.specs.declared.rest.RestOfRows.{RestOfRows}
 
 abbrev pub id_of : TargetRow → RowId
 id_of t = t.id

@@ -6,13 +6,12 @@ ghost use Rattle.expression_binder.specs.Firsts.{IsAnswerBy};
 ghost use Rattle.statement_asks.specs.Asked.{change_meant};
 ghost use Rattle.change_binder.specs.Changes.{bound_change};
 ghost use Rattle.sql_binder.specs.From.{item_name};
-ghost use Rattle.course.specs.Attempts.{MayAttempt};
+ghost use Rattle.statement_steps.specs.Attempts.{MayAttempt};
 ghost use Rattle.statement_steps.specs.Steps.{IsStep};
 ghost use Rattle.insert_statement.specs.Asked.{stopped};
 ghost use Rattle.change_statement.specs.Gathered as gathered;
 
 use change_binder::{bind_delete, bind_update};
-use course::{Caller, Stop};
 use expression_binder::{Param, ScopeItem};
 use history::Column;
 use insert_statement::scope_columns;
@@ -20,6 +19,7 @@ use pg_ids::TableNo;
 use pg_values::{NoMemory, PgText, Refusal};
 use sql_ast::{Delete, NamedTable, Update};
 use statement_asks::ChangeAsk;
+use statement_steps::{Caller, Stop};
 use std::alloc::Global;
 use stores::Stores;
 

@@ -4,12 +4,12 @@ ghost use Rattle.std.specs.Prelude.{◌≡◌, ◌<◌, true, Ok, length};
 ghost use Rattle.history.specs.declared.version.Ending.TheVariants.{Deleted};
 ghost use Rattle.history.specs.History.{History, stands};
 ghost use Rattle.row_change.specs.Succession.{KeepsVersions};
-ghost use Rattle.course.specs.Attempts.{MayAttempt};
+ghost use Rattle.statement_steps.specs.Attempts.{MayAttempt};
 ghost use Rattle.change_statement.specs.Deleted.{ended};
 ghost use Rattle.change_statement.specs.Running.{IsRun, MayEndIn, MayRun};
 
-use course::Caller;
 use pg_ids::RowId;
+use statement_steps::Caller;
 use stores::Stores;
 
 /// The version ends as deleted.

@@ -3,10 +3,10 @@
 ghost use Rattle.std.specs.Prelude.{◌≡◌, IfOk, OnOk, map};
 ghost use Rattle.change_statement.specs.Standing as standing;
 
-use course::{Rest, RestOfRows, RowIds};
 use pg_ids::RowId;
 use pg_values::NoMemory;
 use row_targets::TargetRow;
+use statement_steps::{Rest, RestOfRows, RowIds};
 use std::alloc::Global;
 
 // Those of the targets that are left.

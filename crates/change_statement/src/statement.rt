@@ -1,6 +1,6 @@
 ghost use Rattle.std.specs.Prelude.{◌≡◌, ◌≤◌, length, map};
 ghost use Rattle.sql_ast.specs.Queries.{maybe_tree, setting};
-ghost use Rattle.course.specs.Attempts.{MayAttempt, MayGoOn};
+ghost use Rattle.statement_steps.specs.Attempts.{MayAttempt, MayGoOn};
 ghost use Rattle.statement_steps.specs.Steps.{follow};
 ghost use Rattle.change_statement.specs.Changed.{changed_from};
 ghost use Rattle.change_statement.specs.Changing.{changing};
@@ -12,10 +12,9 @@ ghost use Rattle.change_statement.specs.Updated.{updated};
 use crate::asking::Change;
 use crate::gathering::gather;
 use crate::rows::change_found;
-use course::{Caller, Rest, Stop};
 use expression_binder::Param;
 use sql_ast::{Delete, Update};
-use statement_steps::{SessionNames, hold_if_repeatable, stopped_on};
+use statement_steps::{Caller, Rest, SessionNames, Stop, hold_if_repeatable, stopped_on};
 use std::alloc::Global;
 use stores::Stores;
 

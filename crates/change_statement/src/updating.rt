@@ -24,7 +24,6 @@ ghost use Rattle.change_statement.specs.Updated as updated;
 
 use crate::asking::stop_by;
 use crate::gathering::Gathered;
-use course::{Caller, Stop};
 use history::Column;
 use insert_statement::leaves_of;
 use part_catalog::Catalog;
@@ -32,6 +31,7 @@ use pg_ids::{LeafId, RowId};
 use pg_values::{Kind, Refusal, Row, Value, kind_of};
 use row_change::{check_leaf, leaf_targets, succeed_row};
 use row_targets::new_row;
+use statement_steps::{Caller, Stop};
 use std::alloc::Global;
 use std::slice::from_ref;
 use stores::{Stores, trees_are_together};

@@ -1,19 +1,18 @@
 //! A row that another transaction is changing.
 
 ghost use Rattle.std.specs.Prelude.{◌≡◌, ◌≢◌, ◌<◌, All, Err, length};
-ghost use Rattle.course.specs.Attempts.{MayAttempt};
+ghost use Rattle.statement_steps.specs.Attempts.{MayAttempt};
 ghost use Rattle.statement_steps.specs.Steps.{IsStep};
 ghost use Rattle.change_statement.specs.Changed as changed_spec;
 ghost use Rattle.change_statement.specs.Running.{IsRun, MayRun};
 ghost use Rattle.change_statement.specs.Standing as standing_spec;
 
 use crate::standing::standing;
-use course::{Caller, Rest, RestOfRows, Stop};
 use history::WaitOn;
 use pg_ids::SessionSet;
 use pg_values::NoMemory;
 use row_targets::TargetRow;
-use statement_steps::{SessionNames, hold, wait_for};
+use statement_steps::{Caller, Rest, RestOfRows, SessionNames, Stop, hold, wait_for};
 use std::alloc::Global;
 use stores::Stores;
 

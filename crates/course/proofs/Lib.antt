@@ -1,6 +1,5 @@
 mod Cuts
 mod Lower
-pub mod Numbers
 mod Once
 mod Runs
 mod Steps

@@ -17,11 +17,11 @@ use Rattle.schedule.specs.Lists.{head_of}
 use Rattle.stores.specs.Events.{resumed, withdrawn}
 use Rattle.stores.specs.Stand.{Stands, AddsGood}
 use Rattle.stores.specs.declared.stores.Stores.{Stores}
-use Rattle.course.specs.Attempts.{LocksStay}
+use Rattle.statement_steps.specs.Attempts.{LocksStay}
 use Rattle.course.specs.Database.{is_ready}
 use Rattle.course.specs.Kept.{KeptSeats, TellOf, AreKept, due_in, waits_in}
 use Rattle.course.specs.Weight.{of_mark, unheld, slack}
-use Rattle.course.specs.declared.rest.Rest.{Rest}
+use Rattle.statement_steps.specs.declared.rest.Rest.{Rest}
 use Rattle.course.proofs.Steps.{seats}
 use Rattle.course.proofs.Waiting.{lacks_wanted, ready_names, ready_waits, first_waits, got_it, still_holds}
 use Rattle.course.proofs.Weights.{unheld_less, unheld_mono, flag_set_less, mark_cleared}

@@ -6,14 +6,14 @@ use Rattle.sessions.specs.Commits.{CommitsOnce, AreAsBefore, OthersAreAsBefore}
 use Rattle.sessions.specs.declared.asker.Asker.{Asker}
 use Rattle.sessions.specs.declared.outcome.Outcome.{Outcome}
 use Rattle.sessions.specs.declared.settings.Settings.{Settings}
-use Rattle.course.specs.Ended.{Ended}
-use Rattle.course.specs.Made.{Made}
+use Rattle.statement_steps.specs.Ended.{Ended}
+use Rattle.statement_steps.specs.Made.{Made}
 use Rattle.course.specs.Words.{Words}
 use Rattle.course.specs.Once.{AllCommitOnce}
 use Rattle.course.specs.Database.{caller_of, unless_cancelled, rest_told, outcome_told}
 use Rattle.course.specs.Kept.{KeptSeats, AreSeated, TellOf}
 use Rattle.course.specs.Ran.{attempt_at, HasRun}
-use Rattle.course.specs.declared.rest.Rest.{Rest}
+use Rattle.statement_steps.specs.declared.rest.Rest.{Rest}
 
 -- ---- where statements stand
 

@@ -23,22 +23,23 @@ use Rattle.sessions.specs.declared.outcome.Outcome.TheVariants as outcomes
 use Rattle.stores.specs.Numbers.{IsAt}
 use Rattle.stores.specs.Stand.{Stands, IsSameSize}
 use Rattle.stores.specs.declared.stores.Stores.{Stores}
-use Rattle.course.specs.Ended.{Ended, Done, Commits}
-use Rattle.course.specs.Made.{Made, Halt, Waits, Refused, number_after}
-use Rattle.course.specs.Attempts.{MayGoOn, WentOn, IsAttempt, GoesOn, HasCause, IsHalt}
-use Rattle.course.specs.declared.caller.Caller.{Caller}
-use Rattle.course.specs.declared.ending.Ending.{Ending}
-use Rattle.course.specs.declared.ending.Ending.TheVariants as endings
-use Rattle.course.specs.declared.rest.Rest.{Rest}
-use Rattle.course.specs.declared.rest.Rest.TheVariants.{Detach}
-use Rattle.course.specs.declared.rest.RestOfDetach.{RestOfDetach}
-use Rattle.course.specs.declared.stop.Stop.{Stop}
-use Rattle.course.specs.declared.stop.Stop.TheVariants as stop
+use Rattle.statement_steps.specs.Ended.{Ended, Done, Commits}
+use Rattle.statement_steps.specs.Made.{Made, Halt, Waits, Refused, number_after}
+use Rattle.statement_steps.specs.Attempts.{MayGoOn, WentOn, IsAttempt, GoesOn, HasCause, IsHalt}
+use Rattle.statement_steps.specs.declared.caller.Caller.{Caller}
+use Rattle.statement_steps.specs.declared.ending.Ending.{Ending}
+use Rattle.statement_steps.specs.declared.ending.Ending.TheVariants as endings
+use Rattle.statement_steps.specs.declared.rest.Rest.{Rest}
+use Rattle.statement_steps.specs.declared.rest.Rest.TheVariants.{Detach}
+use Rattle.statement_steps.specs.declared.rest.RestOfDetach.{RestOfDetach}
+use Rattle.statement_steps.specs.declared.stop.Stop.{Stop}
+use Rattle.statement_steps.specs.declared.stop.Stop.TheVariants as stop
 use Rattle.course.specs.Words.{Words}
-use Rattle.course.specs.Database.{Database, statement_cancelled, unless_cancelled, caller_of, attempt_of, next_command, rest_told, let_go_at, given_up, outcome_told, text_told, all_cut, cut_by, goes_on as goes_on_to}
+use Rattle.course.specs.Database.{Database, unless_cancelled, caller_of, attempt_of, next_command, rest_told, let_go_at, given_up, outcome_told, text_told, all_cut, cut_by, goes_on as goes_on_to}
+use Rattle.statement_steps.specs.Faults.{statement_cancelled}
 use Rattle.course.specs.Kept.{KeptSeats, AreSeated, TellOf, AreKept, Adds, StandsFor}
 use Rattle.course.specs.Ran.{attempt_at, HasRun}
-use Rattle.course.proofs.Numbers.{one_later}
+use Rattle.statement_steps.proofs.Numbers.{one_later}
 use Rattle.course.proofs.Steps.{seats, more_left}
 
 pub number_own : (xs : List ℕ) (s n : ℕ) → s < length xs → slice_index_or (slice_set xs s n) s 0 ≡ n

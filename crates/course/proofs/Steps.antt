@@ -22,11 +22,11 @@ use Rattle.stores.specs.Good.{IsGood}
 use Rattle.stores.specs.Numbers.{IsAt}
 use Rattle.stores.specs.Stand.{AllStand, Stands, AddsGood, IsSameSize}
 use Rattle.stores.specs.declared.stores.Stores.{Stores}
-use Rattle.course.specs.Attempts.{MayGoOn}
-use Rattle.course.specs.declared.rest.Rest.{Rest}
-use Rattle.course.specs.declared.rest.Rest.TheVariants.{Rows, Detach}
+use Rattle.statement_steps.specs.Attempts.{MayGoOn}
+use Rattle.statement_steps.specs.declared.rest.Rest.{Rest}
+use Rattle.statement_steps.specs.declared.rest.Rest.TheVariants.{Rows, Detach}
 use Rattle.course.specs.Kept.{KeptSeats, AreSeated, AreWaits, TellOf, AreKept, Adds}
-use Rattle.course.proofs.Numbers.{Ends, at_lock, at_dropped, at_begun, at_ended}
+use Rattle.statement_steps.proofs.Numbers.{Ends, at_lock, at_dropped, at_begun, at_ended}
 use Rattle.course.proofs.Waiting.{same_rest, given_up_standing, snapshot_standing, resumed_standing, withdrawn_standing}
 
 abbrev pub seats : Stores → List Bool → List ℕ → List Bool → List (Option Rest) → List Bool → List ℕ → Option ℕ → Bool → KeptSeats

@@ -1,5 +1,5 @@
 -- The run of statements over a history: what each call of a session makes of it (the manual, 13.2 and 13.3).
-use Rattle.std.specs.Prelude.{ℕ, ◌+◌, ◌==◌, Bool, true, false, if◌then◌else◌, List, [], ◌∷◌, ◌++◌, Option, Some, None, Result, Ok, Err, is_some, replicate, slice_index_or, slice_set, codes}
+use Rattle.std.specs.Prelude.{ℕ, ◌+◌, ◌==◌, Bool, true, false, if◌then◌else◌, List, [], ◌∷◌, ◌++◌, Option, Some, None, Result, Ok, Err, is_some, replicate, slice_index_or, slice_set}
 use Rattle.pg_values.specs.declared.fault.Fault.{Fault}
 use Rattle.history.specs.History.{History, lock_events}
 use Rattle.history.specs.Locks.{wanted, queue}
@@ -13,12 +13,13 @@ use Rattle.sessions.specs.declared.phase.Isolation.{Isolation}
 use Rattle.sessions.specs.declared.phase.Isolation.TheVariants.{ReadCommitted, ReadUncommitted, RepeatableRead}
 use Rattle.sessions.specs.declared.settings.Settings.{Settings}
 use Rattle.stores.specs.Events.{begun, committed, aborted, let_go, withdrawn, resumed}
-use Rattle.course.specs.Ended.{Ended, Done, Commits}
-use Rattle.course.specs.Made.{Made, Halt, Waits, Refused, number_after, halted}
+use Rattle.statement_steps.specs.Ended.{Ended, Done, Commits}
+use Rattle.statement_steps.specs.Faults.{statement_cancelled}
+use Rattle.statement_steps.specs.Made.{Made, Halt, Waits, Refused, number_after, halted}
 use Rattle.course.specs.Words.{Words}
-use Rattle.course.specs.declared.caller.Caller.{Caller}
-use Rattle.course.specs.declared.rest.Rest.{Rest}
-use Rattle.course.specs.declared.rest.Rest.TheVariants.{Detach}
+use Rattle.statement_steps.specs.declared.caller.Caller.{Caller}
+use Rattle.statement_steps.specs.declared.rest.Rest.{Rest}
+use Rattle.statement_steps.specs.declared.rest.Rest.TheVariants.{Detach}
 
 -- all that has happened; of each session how many commands of its transaction have begun and ended, whether the
 -- wait of its statement was cancelled, and where a statement stands that waits in the middle of its run; and whose
@@ -45,9 +46,6 @@ abbrev pub rest_of : {O : Type 0} → Database O → ℕ → Option Rest
 rest_of v s = slice_index_or v.rests s None
 
 -- ---- a statement
-
-abbrev pub statement_cancelled : Fault
-statement_cancelled = record { code = record { bytes = codes "57014" }; args = [] }
 
 abbrev pub caller_of : (sessions cmd : ℕ) → Asker → Caller
 caller_of n cmd a = record { session = a.session; sessions = n; level = a.level; cmd = cmd; kind = a.kind }

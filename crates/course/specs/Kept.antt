@@ -11,9 +11,9 @@ use Rattle.lock_table.specs.Stands.{TableStands as LocksStand, names}
 use Rattle.stores.specs.Stand.{Stands}
 use Rattle.stores.specs.Numbers.{IsAt}
 use Rattle.stores.specs.declared.stores.Stores.{Stores}
-use Rattle.course.specs.Attempts.{MayGoOn}
+use Rattle.statement_steps.specs.Attempts.{MayGoOn}
 use Rattle.course.specs.Database.{Database, is_ready}
-use Rattle.course.specs.declared.rest.Rest.{Rest}
+use Rattle.statement_steps.specs.declared.rest.Rest.{Rest}
 
 -- who has a transaction, how many commands of it were tried, whose wait was cancelled, and where a statement stands that
 -- waits in the middle of its run; since whose last step something was given up; who waits, the oldest wait first, and which

@@ -1,8 +1,5 @@
-pub mod Made
-pub mod Ended
 pub mod Words
 pub mod Database
-pub mod Attempts
 pub mod Kept
 pub mod Weight
 pub mod Ran

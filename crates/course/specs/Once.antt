@@ -5,8 +5,8 @@ use Rattle.sessions.specs.Commits.{CommitsOnce}
 use Rattle.sessions.specs.declared.settings.Settings.{Settings}
 use Rattle.course.specs.Words.{Words}
 use Rattle.course.specs.Database.{outcome_told, rest_told}
-use Rattle.course.specs.declared.caller.Caller.{Caller}
-use Rattle.course.specs.declared.rest.Rest.{Rest}
+use Rattle.statement_steps.specs.declared.caller.Caller.{Caller}
+use Rattle.statement_steps.specs.declared.rest.Rest.{Rest}
 
 -- each statement commits in its middle once at most, and goes on from there up to its end
 abbrev pub AllCommitOnce : {O T : Type 0} → Words O T → Type 0

@@ -5,8 +5,8 @@ use Rattle.sessions.specs.declared.asker.Asker.{Asker}
 use Rattle.sessions.specs.declared.outcome.Outcome.{Outcome}
 use Rattle.sessions.specs.declared.outcome.Outcome.TheVariants.{Goes, Waits, Commits, Done, Refused}
 use Rattle.sessions.specs.declared.settings.Settings.{Settings}
-use Rattle.course.specs.Ended.{Ended}
-use Rattle.course.specs.Made.{Made}
+use Rattle.statement_steps.specs.Ended.{Ended}
+use Rattle.statement_steps.specs.Made.{Made}
 use Rattle.course.specs.Words.{Words}
 use Rattle.course.specs.Database.{caller_of, unless_cancelled, next_command, rest_told, given_up, outcome_told, text_told}
 use Rattle.course.specs.Kept.{KeptSeats, TellOf}

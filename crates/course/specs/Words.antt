@@ -5,10 +5,10 @@ use Rattle.history.specs.History.{History}
 use Rattle.sessions.specs.declared.asker.Place.{Place}
 use Rattle.sessions.specs.declared.role.Role.{Role}
 use Rattle.sessions.specs.declared.settings.Settings.{Settings}
-use Rattle.course.specs.Ended.{Ended}
-use Rattle.course.specs.Made.{Made}
-use Rattle.course.specs.declared.caller.Caller.{Caller}
-use Rattle.course.specs.declared.rest.Rest.{Rest}
+use Rattle.statement_steps.specs.Ended.{Ended}
+use Rattle.statement_steps.specs.Made.{Made}
+use Rattle.statement_steps.specs.declared.caller.Caller.{Caller}
+use Rattle.statement_steps.specs.declared.rest.Rest.{Rest}
 
 -- O are the options of a run, T statements
 pub record Words (O T : Type 0) : Type 0 where

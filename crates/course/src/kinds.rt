@@ -1,8 +1,8 @@
 ghost use Rattle.std.specs.Prelude.{◌≡◌};
 
-use crate::{Caller, Ending, Rest, Stop};
 use pg_values::{Fault, NoMemory, Refusal};
 use sessions::{Place, Role, Settings};
+use statement_steps::{Caller, Ending, Rest, Stop};
 use std::alloc::Global;
 use stores::Stores;
 
@@ -16,7 +16,7 @@ pub trait Kinds: Sized + Drop {
     ghost use Rattle.stores.specs.Numbers.{IsAt};
     ghost use Rattle.course.specs.Once.{AllCommitOnce};
     ghost use Rattle.course.specs.Words.{Words};
-    ghost use Rattle.course.specs.Attempts.{MayAttempt, MayGoOn, IsAttempt, IsHalt, GoesOn};
+    ghost use Rattle.statement_steps.specs.Attempts.{MayAttempt, MayGoOn, IsAttempt, IsHalt, GoesOn};
 
     type Statement: Drop;
 

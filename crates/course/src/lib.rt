@@ -13,18 +13,9 @@
 //! makes of these what `sessions` asks of an executor.
 #![tactic(auto)]
 
-mod caller;
-mod ending;
 mod executor;
 mod kinds;
-mod rest;
 mod seats;
-mod stop;
 
-pub use caller::Caller;
-pub use ending::{Ending, ended};
 pub use executor::StoreExecutor;
 pub use kinds::Kinds;
-pub use rest::{Rest, RestOfDetach, RestOfRows, RowIds};
-pub use seats::statement_cancelled;
-pub use stop::Stop;

@@ -5,17 +5,18 @@ ghost use Rattle.schedule.specs.Lists.{head_of};
 ghost use Rattle.sessions.specs.declared.outcome.Outcome.TheVariants as outcomes;
 ghost use Rattle.stores.specs.Events.{begun, committed, aborted, let_go, withdrawn, resumed};
 ghost use Rattle.course.specs.Database as database;
-ghost use Rattle.course.specs.Made as made;
+ghost use Rattle.statement_steps.specs.Made as made;
 ghost use Rattle.course.specs.Kept.{Adds, AreSeated, AreSessions, TellOf, due_in, waits_in};
 ghost use Rattle.course.specs.Ran.{attempt_at, waits_by, HasRun};
 ghost use Rattle.course.specs.Weight.{slack, most};
 
-use crate::{Caller, Ending, Kinds, Rest, Stop};
+use crate::Kinds;
 use history::{WaitOn, Wanted};
 use pg_ids::SessionSet;
-use pg_values::{Args, Fault, NoMemory, SqlState};
+use pg_values::NoMemory;
 use schedule::leave;
 use sessions::{Asker, Isolation, Outcome, Settings};
+use statement_steps::{Caller, Ending, Rest, Stop, statement_cancelled};
 use std::alloc::Global;
 use std::marker::Model;
 use stores::Stores;
@@ -48,16 +49,6 @@ impl Model for Seats {
     ghost view = { λ e. record { stores = e.stores; opened = e.opened.items; commands = e.commands.items; cancelled = e.cancelled.items; rests = e.rests.items; moved = e.moved.items; queue = e.queue.items; ready = e.ready; whole = e.whole } };
 
     ghost invariant = { λ e. AreKept (record { stores = e.stores; opened = e.opened.items; commands = e.commands.items; cancelled = e.cancelled.items; rests = e.rests.items; moved = e.moved.items; queue = e.queue.items; ready = e.ready; whole = e.whole }) };
-}
-
-/// The fault of a statement that was cancelled.
-pub fn statement_cancelled(alloc: Global) -> Fault
-    ensures { result ≡ database.statement_cancelled }
-{
-    Fault {
-        code: SqlState { bytes: *b"57014" },
-        args: Args::new(alloc),
-    }
 }
 
 // No statement stands in the middle of its run.

@@ -7,8 +7,8 @@ use Rattle.part_ddl.proofs.Making.{table_count}
 use Rattle.legal_statements.specs.Laws.{ListedIsThere, ThereIsKnown}
 use Rattle.stores.specs.Stand.{Stands}
 use Rattle.stores.specs.declared.stores.Stores.{Stores}
-use Rattle.course.specs.Attempts.{MayAttempt}
-use Rattle.course.specs.declared.caller.Caller.{Caller}
+use Rattle.statement_steps.specs.Attempts.{MayAttempt}
+use Rattle.statement_steps.specs.declared.caller.Caller.{Caller}
 use Rattle.statement_steps.specs.Known.{IsKnownTo}
 use Rattle.statement_steps.proofs.Parts.{known_by}
 use Rattle.table_statements.proofs.Below.{default_entry, here_of}

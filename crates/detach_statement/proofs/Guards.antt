@@ -10,9 +10,9 @@ use Rattle.history.specs.History.{History, lock_events}
 use Rattle.lock_answers.specs.Asked.{asked}
 use Rattle.part_catalog.specs.Found.{resolved}
 use Rattle.stores.specs.declared.stores.Stores.{Stores}
-use Rattle.course.specs.Made.{Made, then_told}
-use Rattle.course.specs.Attempts.{MayAttempt, LocksStay}
-use Rattle.course.specs.declared.caller.Caller.{Caller}
+use Rattle.statement_steps.specs.Made.{Made, then_told}
+use Rattle.statement_steps.specs.Attempts.{MayAttempt, LocksStay}
+use Rattle.statement_steps.specs.declared.caller.Caller.{Caller}
 use Rattle.statement_steps.specs.Asks.{locked, meant_or_none, named, named_still, same_or_gone}
 use Rattle.statement_steps.specs.Steps.{IsStep}
 use Rattle.table_statements.proofs.Held.{Holds, view_gets, named_held}

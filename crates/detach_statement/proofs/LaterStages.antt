@@ -2,13 +2,13 @@
 use Rattle.std.proofs.Common.{ℕ, ◌+◌, List, refl, Option, Some, Result, Ok, Err}
 use Rattle.history.specs.History.{History}
 use Rattle.stores.specs.declared.stores.Stores.{Stores}
-use Rattle.course.specs.Ended.{ended}
-use Rattle.course.specs.declared.caller.Caller.{Caller}
-use Rattle.course.specs.declared.ending.Ending.{Ending}
-use Rattle.course.specs.declared.ending.Ending.TheVariants as endings
-use Rattle.course.specs.declared.rest.Rest.TheVariants.{Detach}
-use Rattle.course.specs.declared.rest.RestOfDetach.{RestOfDetach}
-use Rattle.course.specs.declared.stop.Stop.{Stop}
+use Rattle.statement_steps.specs.Ended.{ended}
+use Rattle.statement_steps.specs.declared.caller.Caller.{Caller}
+use Rattle.statement_steps.specs.declared.ending.Ending.{Ending}
+use Rattle.statement_steps.specs.declared.ending.Ending.TheVariants as endings
+use Rattle.statement_steps.specs.declared.rest.Rest.TheVariants.{Detach}
+use Rattle.statement_steps.specs.declared.rest.RestOfDetach.{RestOfDetach}
+use Rattle.statement_steps.specs.declared.stop.Stop.{Stop}
 use Rattle.statement_steps.specs.Steps.{IsStep, going_on}
 use Rattle.statement_steps.proofs.Steps.{gives_ok, gives_stop}
 use Rattle.detach_statement.specs.Concurrent.{behind_nobody, by_rest, later_stages}

@@ -22,9 +22,9 @@ use Rattle.soundness.proofs.Listed.{kept_in}
 use Rattle.soundness.proofs.Looking.{counts_world}
 use Rattle.soundness.proofs.Paths.{found_above}
 use Rattle.stores.specs.declared.stores.Stores.{Stores}
-use Rattle.course.specs.Attempts.{MayAttempt}
-use Rattle.course.specs.declared.caller.Caller.{Caller}
-use Rattle.course.specs.declared.rest.RestOfDetach.{RestOfDetach}
+use Rattle.statement_steps.specs.Attempts.{MayAttempt}
+use Rattle.statement_steps.specs.declared.caller.Caller.{Caller}
+use Rattle.statement_steps.specs.declared.rest.RestOfDetach.{RestOfDetach}
 use Rattle.table_statements.specs.Refused.{unless_faults}
 use Rattle.table_statements.proofs.Below.{found_in, here_of}
 use Rattle.table_statements.proofs.Ends.{same_number}

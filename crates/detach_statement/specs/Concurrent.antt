@@ -24,14 +24,14 @@ use Rattle.part_ddl.specs.Dropped.{place_ended}
 use Rattle.part_ddl.specs.Faults.{pending_beside}
 use Rattle.part_ddl.specs.Placing.{level_at}
 use Rattle.partition_scans.specs.Sessions.{those}
-use Rattle.course.specs.Ended.{giving}
-use Rattle.course.specs.Made.{Made, made}
-use Rattle.course.specs.declared.caller.Caller.{Caller}
-use Rattle.course.specs.declared.ending.Ending.{Ending}
-use Rattle.course.specs.declared.ending.Ending.TheVariants as endings
-use Rattle.course.specs.declared.rest.Rest.{Rest}
-use Rattle.course.specs.declared.rest.Rest.TheVariants.{Rows, Detach}
-use Rattle.course.specs.declared.rest.RestOfDetach.{RestOfDetach}
+use Rattle.statement_steps.specs.Ended.{giving}
+use Rattle.statement_steps.specs.Made.{Made, made}
+use Rattle.statement_steps.specs.declared.caller.Caller.{Caller}
+use Rattle.statement_steps.specs.declared.ending.Ending.{Ending}
+use Rattle.statement_steps.specs.declared.ending.Ending.TheVariants as endings
+use Rattle.statement_steps.specs.declared.rest.Rest.{Rest}
+use Rattle.statement_steps.specs.declared.rest.Rest.TheVariants.{Rows, Detach}
+use Rattle.statement_steps.specs.declared.rest.RestOfDetach.{RestOfDetach}
 use Rattle.statement_steps.specs.Asks.{named, named_still, waited}
 use Rattle.statement_steps.specs.Steps.{follow, going_on}
 use Rattle.table_statements.specs.Drops.{parent_in, stamp}

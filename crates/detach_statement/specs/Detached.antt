@@ -14,8 +14,8 @@ use Rattle.part_ddl.specs.Below.{default_of}
 use Rattle.part_ddl.specs.Dropped.{place_ended}
 use Rattle.part_ddl.specs.Faults.{pending_beside}
 use Rattle.part_ddl.specs.Placing.{level_at}
-use Rattle.course.specs.Made.{Made, made}
-use Rattle.course.specs.declared.caller.Caller.{Caller}
+use Rattle.statement_steps.specs.Made.{Made, made}
+use Rattle.statement_steps.specs.declared.caller.Caller.{Caller}
 use Rattle.statement_steps.specs.Asks.{locked, named, held_at}
 use Rattle.statement_steps.specs.Steps.{follow}
 use Rattle.table_statements.specs.Drops.{parent_in, stamp}

@@ -21,7 +21,7 @@ use Rattle.history.specs.History.{History, CatalogueChange}
 use Rattle.history.specs.Presence.{checks_of}
 use Rattle.table_trees.specs.Histories.{is_over, kept_of, table_of}
 use Rattle.part_ddl.specs.Placing.{level_at, partitions_of}
-use Rattle.course.specs.declared.caller.Caller.{Caller}
+use Rattle.statement_steps.specs.declared.caller.Caller.{Caller}
 use Rattle.table_statements.specs.Tables.{own}
 
 -- ---- equal CHECKs

@@ -5,8 +5,8 @@ ghost use Rattle.detach_statement.specs.Detached as detached;
 ghost use Rattle.detach_statement.specs.Places as places;
 ghost use Rattle.table_statements.specs.Asked.{stopped};
 
-use course::Stop;
 use pg_values::{Fault, NoMemory, Refusal, SqlState};
+use statement_steps::Stop;
 use std::alloc::Global;
 use value_rules::{one_text, three_texts};
 

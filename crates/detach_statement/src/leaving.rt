@@ -5,19 +5,19 @@ ghost use Rattle.history.specs.Catalogue.{CheckKept};
 ghost use Rattle.history.specs.History.{History};
 ghost use Rattle.history.specs.Places.{IsCatalogueSound};
 ghost use Rattle.part_catalog.specs.Stands.{CatalogueStands};
-ghost use Rattle.course.specs.Attempts.{MayAttempt};
+ghost use Rattle.statement_steps.specs.Attempts.{MayAttempt};
 ghost use Rattle.statement_steps.specs.Steps.{IsStep};
 ghost use Rattle.detach_statement.specs.Asked.{HasGuarded, IsPartition};
 ghost use Rattle.detach_statement.specs.Concurrent as concurrent;
 ghost use Rattle.detach_statement.specs.Kept as kept;
 
 use crate::keeping::new_check;
-use course::{Caller, Stop};
 use history::{KeptCheck, TxId};
 use legal_statements::{drop_may_follow, listed_is_there, nobody_else_ends};
 use part_catalog::Catalog;
 use pg_ids::TableNo;
 use pg_values::NoMemory;
+use statement_steps::{Caller, Stop};
 use std::alloc::Global;
 use stores::{Stores, trees_are_together};
 

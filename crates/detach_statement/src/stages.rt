@@ -5,8 +5,8 @@ ghost use Rattle.pg_values.specs.Refusals.{IsAnswer};
 ghost use Rattle.history.specs.History.{History};
 ghost use Rattle.tx_table.specs.Stands.{TableStands};
 ghost use Rattle.part_catalog.specs.Stands.{CatalogueStands};
-ghost use Rattle.course.specs.Attempts.{MayAttempt};
-ghost use Rattle.course.specs.declared.rest.Rest.TheVariants.{Detach};
+ghost use Rattle.statement_steps.specs.Attempts.{MayAttempt};
+ghost use Rattle.statement_steps.specs.declared.rest.Rest.TheVariants.{Detach};
 ghost use Rattle.statement_steps.specs.Steps.{IsStep, going_on};
 ghost use Rattle.detach_statement.specs.Asked.{IsPartition};
 ghost use Rattle.detach_statement.specs.Concurrent as concurrent;
@@ -15,14 +15,16 @@ use crate::checking::is_table;
 use crate::faults::{not_pending, stop_by};
 use crate::leaving::leave_parent;
 use crate::marking::run_first_stage;
-use course::{Caller, Ending, Rest, RestOfDetach, Stop, ended};
 use history::{TxId, WaitOn};
 use legal_statements::listed_is_there;
 use part_catalog::Catalog;
 use pg_ids::{LockMode, SessionSet};
 use pg_values::Refusal;
 use soundness::legal_keeps_all;
-use statement_steps::{SessionNames, lock_named_still, stopped_on, wait_for};
+use statement_steps::{
+    Caller, Ending, Rest, RestOfDetach, SessionNames, Stop, ended, lock_named_still, stopped_on,
+    wait_for,
+};
 use std::alloc::Global;
 use stores::Stores;
 use tx_table::TxTable;

@@ -1,17 +1,16 @@
 ghost use Rattle.std.specs.Prelude.{◌≡◌, ◌+◌, ◌<◌, ◌≤◌, Ok, length};
-ghost use Rattle.course.specs.Attempts.{MayAttempt};
+ghost use Rattle.statement_steps.specs.Attempts.{MayAttempt};
 ghost use Rattle.statement_steps.specs.Steps.{IsStep};
 ghost use Rattle.table_statements.specs.Asked.{IsLocked, IsLockedNamed};
 ghost use Rattle.detach_statement.specs.Asked.{IsPartition};
 ghost use Rattle.detach_statement.specs.Detached as detached;
 
 use crate::checking::check;
-use course::{Caller, Stop};
 use legal_statements::{drop_may_follow, listed_is_there, nobody_else_ends, there_is_known};
 use part_ddl::default_of;
 use pg_ids::{LockMode, TableNo};
 use pg_values::NoMemory;
-use statement_steps::{SessionNames, hold_if_repeatable, lock_named, lock_table};
+use statement_steps::{Caller, SessionNames, Stop, hold_if_repeatable, lock_named, lock_table};
 use std::alloc::Global;
 use stores::{Stores, trees_are_together};
 

@@ -19,7 +19,7 @@ use Rattle.legal_statements.specs.Follows.{MayCome, MayFollow}
 use Rattle.legal_statements.specs.Rows.{rows_born}
 use Rattle.stores.specs.Good.{IsGood}
 use Rattle.stores.specs.Numbers.{IsBefore}
-use Rattle.course.specs.Made.{Made}
+use Rattle.statement_steps.specs.Made.{Made}
 use Rattle.statement_steps.specs.Steps.{follow}
 use Rattle.insert_statement.specs.Born.{unless_refused, all_born}
 use Rattle.insert_statement.specs.Asked.{Each}

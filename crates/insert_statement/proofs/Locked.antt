@@ -14,10 +14,10 @@ use Rattle.part_catalog.specs.Found.{resolved}
 use Rattle.legal_statements.specs.Locked.{IsWritable}
 use Rattle.stores.specs.Stand.{Stands}
 use Rattle.stores.specs.declared.stores.Stores.{Stores}
-use Rattle.course.specs.Made.{Made, Halt, then_told}
-use Rattle.course.specs.Attempts.{MayAttempt}
-use Rattle.course.specs.declared.caller.Caller.{Caller}
-use Rattle.course.specs.declared.stop.Stop.{Stop}
+use Rattle.statement_steps.specs.Made.{Made, Halt, then_told}
+use Rattle.statement_steps.specs.Attempts.{MayAttempt}
+use Rattle.statement_steps.specs.declared.caller.Caller.{Caller}
+use Rattle.statement_steps.specs.declared.stop.Stop.{Stop}
 use Rattle.statement_steps.specs.Asks.{told_of, locked, all_locked, meant_or_none, kept_number, number_or, named}
 use Rattle.statement_steps.specs.Steps.{IsStep}
 use Rattle.insert_statement.specs.Asked.{MayWrite}

@@ -17,8 +17,8 @@ use Rattle.statement_asks.specs.Asked.{InsertMeant, insert_meant}
 use Rattle.statement_asks.specs.declared.insert.InsertAsk.{InsertAsk}
 use Rattle.row_change.specs.FullRows.{full_row}
 use Rattle.stores.specs.declared.stores.Stores.{Stores}
-use Rattle.course.specs.Attempts.{MayAttempt}
-use Rattle.course.specs.declared.caller.Caller.{Caller}
+use Rattle.statement_steps.specs.Attempts.{MayAttempt}
+use Rattle.statement_steps.specs.declared.caller.Caller.{Caller}
 use Rattle.statement_steps.specs.Steps.{IsStep}
 use Rattle.insert_statement.specs.Inserted.{whole, whole_rows, rows_meant}
 use Rattle.insert_statement.specs.Asked.{stopped}

@@ -39,8 +39,8 @@ use Rattle.stores.proofs.Calls.{look_is_past}
 use Rattle.stores.proofs.Commands.{look_is_own}
 use Rattle.stores.proofs.Goodness.{legal_of, permitted_of}
 use Rattle.stores.proofs.Housed.{leaves_are_housed}
-use Rattle.course.specs.Attempts.{MayAttempt}
-use Rattle.course.specs.declared.caller.Caller.{Caller}
+use Rattle.statement_steps.specs.Attempts.{MayAttempt}
+use Rattle.statement_steps.specs.declared.caller.Caller.{Caller}
 use Rattle.statement_steps.proofs.Parts.{own_tx}
 use Rattle.insert_statement.specs.Inserted.{tables_of}
 use Rattle.insert_statement.specs.Asked.{AreRowsOf, IsOwnTarget, MayGo, MayPut, MayStore, MayWrite}

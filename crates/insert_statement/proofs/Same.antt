@@ -10,7 +10,7 @@ use Rattle.history.specs.History.{Event, History, RowChange}
 use Rattle.row_store.specs.Stands.{newborn}
 use Rattle.row_change.specs.declared.target.Target.{Target}
 use Rattle.row_change.specs.Storing.{Made as RowsMade, made_by, made_after, all_stored, is_into, leaf_faults, full_faults}
-use Rattle.course.specs.Made.{Made, Halt, Refused}
+use Rattle.statement_steps.specs.Made.{Made, Halt, Refused}
 use Rattle.statement_steps.specs.Steps.{follow}
 use Rattle.insert_statement.specs.Born.{unless_refused, born, all_born}
 use Rattle.insert_statement.specs.Inserted.{tables_of}

@@ -29,8 +29,8 @@ use Rattle.stores.specs.declared.stores.Stores.{Stores}
 use Rattle.stores.proofs.Goodness.{legal_of, permitted_of}
 use Rattle.stores.proofs.Standing.{catalogue_stands}
 use Rattle.stores.proofs.Commands.{goes_on, commands_are_in_order}
-use Rattle.course.specs.Attempts.{MayAttempt, WentOn, GoesOn}
-use Rattle.course.specs.declared.caller.Caller.{Caller}
+use Rattle.statement_steps.specs.Attempts.{MayAttempt, WentOn, GoesOn}
+use Rattle.statement_steps.specs.declared.caller.Caller.{Caller}
 use Rattle.statement_steps.specs.Steps.{IsStep}
 use Rattle.statement_steps.proofs.Parts.{no_memory}
 use Rattle.insert_statement.specs.Born.{all_born}

@@ -18,8 +18,8 @@ use Rattle.row_change.specs.declared.target.Target.{Target}
 use Rattle.row_change.specs.Storing.{is_into, leaf_faults, own_null_faults, check_told}
 use Rattle.row_change.specs.Targets.{HasTarget, IsTargetOf, last_table}
 use Rattle.row_change.specs.Ways.{root}
-use Rattle.course.specs.Made.{Made, Halt, behind, then_told}
-use Rattle.course.specs.declared.caller.Caller.{Caller}
+use Rattle.statement_steps.specs.Made.{Made, Halt, behind, then_told}
+use Rattle.statement_steps.specs.declared.caller.Caller.{Caller}
 use Rattle.statement_steps.specs.Steps.{follow}
 use Rattle.insert_statement.specs.Born.{table_faults, born, all_born}
 use Rattle.insert_statement.specs.Inserted.{tables_of, own, last_or, holder, holder_faults, into_leaf, into_leaves}

@@ -19,10 +19,10 @@ use Rattle.row_change.specs.declared.target.Target.{Target}
 use Rattle.row_change.specs.Targets.{HasTarget, IsTargetOf}
 use Rattle.stores.specs.Stand.{AllStand, Stands}
 use Rattle.stores.specs.declared.stores.Stores.{Stores}
-use Rattle.course.specs.Made.{Made}
-use Rattle.course.specs.Attempts.{MayAttempt}
-use Rattle.course.specs.declared.caller.Caller.{Caller}
-use Rattle.course.specs.declared.stop.Stop.{Stop}
+use Rattle.statement_steps.specs.Made.{Made}
+use Rattle.statement_steps.specs.Attempts.{MayAttempt}
+use Rattle.statement_steps.specs.declared.caller.Caller.{Caller}
+use Rattle.statement_steps.specs.declared.stop.Stop.{Stop}
 use Rattle.statement_steps.specs.Steps.{IsTold, IsStep}
 use Rattle.statement_steps.proofs.Parts.{stays, nothing_done, refused_here, no_memory}
 use Rattle.insert_statement.specs.Inserted.{answered, below, into, into_leaf, into_leaves, into_partitions, into_shape}

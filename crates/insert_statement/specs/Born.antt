@@ -12,7 +12,7 @@ use Rattle.table_trees.specs.declared.path_part.PathPart.{PathPart}
 use Rattle.row_store.specs.Stands.{newborn}
 use Rattle.row_change.specs.Placing.{bounds_faults}
 use Rattle.row_change.specs.Storing.{own_null_faults, check_faults, full_faults}
-use Rattle.course.specs.Made.{Made, Refused, made, halted}
+use Rattle.statement_steps.specs.Made.{Made, Refused, made, halted}
 use Rattle.statement_steps.specs.Steps.{follow}
 
 -- why a table does not take a row: NOT NULL of its columns, then the CHECKs kept along its path, then the bounds there where

@@ -25,8 +25,8 @@ use Rattle.expression_binder.specs.declared.scope.ScopeColumn.{ScopeColumn}
 use Rattle.statement_asks.specs.Asked.{InsertMeant}
 use Rattle.change_binder.specs.Inserts.{bound_insert}
 use Rattle.stores.specs.Events.{tx_in, look_of}
-use Rattle.course.specs.Made.{Made, Refused, made, halted}
-use Rattle.course.specs.declared.caller.Caller.{Caller}
+use Rattle.statement_steps.specs.Made.{Made, Refused, made, halted}
+use Rattle.statement_steps.specs.declared.caller.Caller.{Caller}
 use Rattle.statement_steps.specs.Asks.{named, held_at, all_locked}
 use Rattle.statement_steps.specs.Steps.{follow}
 use Rattle.insert_statement.specs.Born.{table_faults, all_born}

@@ -4,7 +4,7 @@ ghost use Rattle.std.specs.Prelude.{◌≡◌, ◌+◌, ◌<◌, ◌∷◌, [], 
 ghost use Rattle.history.specs.declared.catalogue.TableShape.TheVariants.{Leaf};
 ghost use Rattle.history.specs.History.{History};
 ghost use Rattle.part_catalog.specs.Stands.{CatalogueStands};
-ghost use Rattle.course.specs.Attempts.{MayAttempt};
+ghost use Rattle.statement_steps.specs.Attempts.{MayAttempt};
 ghost use Rattle.statement_steps.specs.Steps.{IsStep};
 ghost use Rattle.part_catalog.specs.Found.{made_at};
 ghost use Rattle.insert_statement.specs.Inserted.{into_leaf};
@@ -12,10 +12,10 @@ ghost use Rattle.stores.specs.Stand.{AllStand, IsSound};
 ghost use Rattle.insert_statement.specs.Asked.{AreRowsOf, IsOwnTarget, MayWrite};
 
 use crate::storing::put_rows;
-use course::{Caller, Stop};
 use pg_ids::{LeafId, TableNo};
 use pg_values::{NoMemory, Row};
 use row_change::{LeafList, Target};
+use statement_steps::{Caller, Stop};
 use std::alloc::Global;
 use std::slice::from_ref;
 use stores::Stores;

@@ -11,7 +11,7 @@ ghost use Rattle.table_trees.specs.Seen.{seen};
 ghost use Rattle.row_change.specs.Placing.{all_placed, CanBePlaced, IsNumbered, IsPartNumbered};
 ghost use Rattle.row_change.specs.Targets.{HasWay};
 ghost use Rattle.row_change.specs.Ways.{AllTables, ways_below};
-ghost use Rattle.course.specs.Attempts.{MayAttempt};
+ghost use Rattle.statement_steps.specs.Attempts.{MayAttempt};
 ghost use Rattle.statement_steps.specs.Known.{IsKnownTo};
 ghost use Rattle.statement_steps.specs.Steps.{IsStep};
 ghost use Rattle.insert_statement.specs.Inserted as inserted;
@@ -20,12 +20,11 @@ ghost use Rattle.insert_statement.specs.Asked.{ArePlaced, AreRowsOf, IsReadOf, I
 
 use crate::stopping::stop_by;
 use crate::storing::put_rows;
-use course::{Caller, Stop};
 use part_catalog::Catalog;
 use pg_ids::{LeafId, LockMode, TableNo};
 use pg_values::{NoMemory, Refusal, Row, Steps};
 use row_change::{LeafList, leaf_targets, place_rows};
-use statement_steps::{SessionNames, lock_tables};
+use statement_steps::{Caller, SessionNames, Stop, lock_tables};
 use std::alloc::Global;
 use std::marker::Brand;
 use std::sync::ledger::{Blank, Ledger};

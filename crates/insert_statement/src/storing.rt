@@ -1,13 +1,13 @@
 ghost use Rattle.std.specs.Prelude.{◌+◌};
-ghost use Rattle.course.specs.Attempts.{MayAttempt};
+ghost use Rattle.statement_steps.specs.Attempts.{MayAttempt};
 ghost use Rattle.statement_steps.specs.Steps.{IsStep};
 ghost use Rattle.insert_statement.specs.Asked.{MayStore, put};
 
 use crate::stopping::stop_by;
-use course::{Caller, Stop};
 use pg_ids::LeafId;
 use pg_values::Row;
 use row_change::{Target, store_rows};
+use statement_steps::{Caller, Stop};
 use std::alloc::Global;
 use stores::Stores;
 

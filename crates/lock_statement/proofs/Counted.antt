@@ -2,12 +2,12 @@
 use Rattle.std.proofs.Common.{ℕ, ◌+◌, ◌++◌, [], Result, Ok, Err}
 use Rattle.history.specs.History.{History}
 use Rattle.stores.specs.declared.stores.Stores.{Stores}
-use Rattle.course.specs.Made.{Made}
-use Rattle.course.specs.Attempts.{WentOn}
-use Rattle.course.specs.declared.caller.Caller.{Caller}
-use Rattle.course.specs.declared.stop.Stop.{Stop}
-use Rattle.course.specs.declared.stop.Stop.TheVariants as stop
-use Rattle.course.proofs.Numbers.{one_later}
+use Rattle.statement_steps.specs.Made.{Made}
+use Rattle.statement_steps.specs.Attempts.{WentOn}
+use Rattle.statement_steps.specs.declared.caller.Caller.{Caller}
+use Rattle.statement_steps.specs.declared.stop.Stop.{Stop}
+use Rattle.statement_steps.specs.declared.stop.Stop.TheVariants as stop
+use Rattle.statement_steps.proofs.Numbers.{one_later}
 use Rattle.statement_steps.specs.Steps.{IsTold, IsStep}
 
 later : (earlier h : History) (stores : Stores) (s n : ℕ) → WentOn earlier s n [] stores h → WentOn earlier s (n + 1) [] stores h

@@ -9,10 +9,10 @@ use Rattle.lock_table.specs.Kept.{KeptLocks}
 use Rattle.part_catalog.specs.Stands.{CatalogueStands}
 use Rattle.part_ddl.specs.Below.{tables_under}
 use Rattle.stores.specs.declared.stores.Stores.{Stores}
-use Rattle.course.specs.Made.{made}
-use Rattle.course.specs.Attempts.{MayAttempt}
-use Rattle.course.specs.declared.caller.Caller.{Caller}
-use Rattle.course.specs.declared.stop.Stop.{Stop}
+use Rattle.statement_steps.specs.Made.{made}
+use Rattle.statement_steps.specs.Attempts.{MayAttempt}
+use Rattle.statement_steps.specs.declared.caller.Caller.{Caller}
+use Rattle.statement_steps.specs.declared.stop.Stop.{Stop}
 use Rattle.statement_steps.specs.Known.{IsKnownTo}
 use Rattle.statement_steps.specs.Asks.{all_locked}
 use Rattle.statement_steps.specs.Steps.{IsTold, IsStep}

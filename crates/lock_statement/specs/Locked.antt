@@ -4,7 +4,7 @@ use Rattle.pg_ids.specs.declared.lock_mode.LockMode.{LockMode}
 use Rattle.history.specs.History.{History}
 use Rattle.part_ddl.specs.Below.{tables_under}
 use Rattle.sql_ast.specs.declared.locked_table.LockedTable.{LockedTable}
-use Rattle.course.specs.Made.{Made, made}
+use Rattle.statement_steps.specs.Made.{Made, made}
 use Rattle.statement_steps.specs.Asks.{named, all_locked}
 use Rattle.statement_steps.specs.Steps.{follow}
 

@@ -1,16 +1,15 @@
 ghost use Rattle.std.specs.Prelude.{◌≡◌, ◌≤◌, ◌++◌, All, IfOk, IfSome, OnOk, length};
 ghost use Rattle.std.specs.Option.{option_to_list};
-ghost use Rattle.course.specs.Attempts.{MayAttempt};
+ghost use Rattle.statement_steps.specs.Attempts.{MayAttempt};
 ghost use Rattle.statement_steps.specs.Known.{IsKnownTo};
 ghost use Rattle.statement_steps.specs.Steps.{IsStep};
 ghost use Rattle.lock_statement.specs.Locked as locked;
 ghost use Rattle.lock_statement.specs.Seen.{one_or_none, numbers};
 
-use course::{Caller, Stop};
 use pg_ids::{LockMode, TableNo};
 use pg_values::NoMemory;
 use sql_ast::LockedTable;
-use statement_steps::{SessionNames, lock_named};
+use statement_steps::{Caller, SessionNames, Stop, lock_named};
 use std::alloc::Global;
 use stores::Stores;
 

@@ -1,14 +1,13 @@
 ghost use Rattle.std.specs.Prelude.{◌+◌, ◌≤◌, length};
-ghost use Rattle.course.specs.Attempts.{MayAttempt};
+ghost use Rattle.statement_steps.specs.Attempts.{MayAttempt};
 ghost use Rattle.statement_steps.specs.Steps.{IsStep};
 ghost use Rattle.lock_statement.specs.Locked as locked;
 
 use crate::named::lock_all;
 use crate::under::lock_all_below;
-use course::{Caller, Stop};
 use pg_ids::LockMode;
 use sql_ast::LockedTable;
-use statement_steps::SessionNames;
+use statement_steps::{Caller, SessionNames, Stop};
 use std::alloc::Global;
 use stores::Stores;
 

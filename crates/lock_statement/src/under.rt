@@ -1,14 +1,13 @@
 ghost use Rattle.std.specs.Prelude.{◌≡◌, ◌≤◌, All, length, map};
-ghost use Rattle.course.specs.Attempts.{MayAttempt};
+ghost use Rattle.statement_steps.specs.Attempts.{MayAttempt};
 ghost use Rattle.statement_steps.specs.Known.{IsKnownTo};
 ghost use Rattle.statement_steps.specs.Steps.{IsStep};
 ghost use Rattle.lock_statement.specs.Locked as locked;
 
-use course::{Caller, Stop};
 use part_ddl::tables_below;
 use pg_ids::{LockMode, TableNo};
 use pg_values::NoMemory;
-use statement_steps::{SessionNames, lock_tables};
+use statement_steps::{Caller, SessionNames, Stop, lock_tables};
 use std::alloc::Global;
 use stores::Stores;
 

@@ -15,9 +15,9 @@ use Rattle.tx_table.specs.Stands.{TableStands}
 use Rattle.part_catalog.specs.Stands.{CatalogueStands}
 use Rattle.stores.specs.Events.{tx_in}
 use Rattle.stores.specs.declared.stores.Stores.{Stores}
-use Rattle.course.specs.Attempts.{MayAttempt}
-use Rattle.course.specs.declared.caller.Caller.{Caller}
-use Rattle.course.specs.declared.stop.Stop.{Stop}
+use Rattle.statement_steps.specs.Attempts.{MayAttempt}
+use Rattle.statement_steps.specs.declared.caller.Caller.{Caller}
+use Rattle.statement_steps.specs.declared.stop.Stop.{Stop}
 use Rattle.partition_scans.specs.Data.{DataStand}
 use Rattle.partition_scans.specs.Sessions.{those}
 use Rattle.partition_scans.specs.Scans.{Scan, fault_told, refusals, watches, judged, IsClean}

@@ -12,9 +12,9 @@ use Rattle.history.specs.History.{History, LockChange, lock_events}
 use Rattle.history.specs.Waits.{is_cause, waits_with}
 use Rattle.lock_answers.specs.Asked.{AskedView, AtOnce, WaitsBehind, ClosesCycle, asked, asked_events, cycle_or_wait, least_cycle, those}
 use Rattle.stores.specs.declared.stores.Stores.{Stores}
-use Rattle.course.specs.Attempts.{MayAttempt}
-use Rattle.course.specs.declared.caller.Caller.{Caller}
-use Rattle.course.specs.declared.stop.Stop.{Stop}
+use Rattle.statement_steps.specs.Attempts.{MayAttempt}
+use Rattle.statement_steps.specs.declared.caller.Caller.{Caller}
+use Rattle.statement_steps.specs.declared.stop.Stop.{Stop}
 use Rattle.statement_steps.specs.Asks.{told_by, waited}
 use Rattle.statement_steps.specs.Steps.{IsStep}
 

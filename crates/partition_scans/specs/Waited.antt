@@ -4,7 +4,7 @@ use Rattle.pg_values.specs.declared.fault.Fault.{Fault}
 use Rattle.pg_ids.specs.declared.session_set.SessionSet.{SessionSet}
 use Rattle.history.specs.declared.wait.WaitOn.TheVariants.{Snapshots}
 use Rattle.history.specs.History.{History}
-use Rattle.course.specs.Made.{Made, Refused, halted}
+use Rattle.statement_steps.specs.Made.{Made, Refused, halted}
 use Rattle.statement_steps.specs.Asks.{waited}
 use Rattle.partition_scans.specs.Scans.{Scan, judged}
 

@@ -3,7 +3,7 @@ ghost use Rattle.pg_ids.specs.Sets.{has};
 ghost use Rattle.pg_ids.specs.declared.session_set.SessionSet.{SessionSet as SetOfSessions};
 ghost use Rattle.pg_values.specs.Refusals.{IsAnswer};
 ghost use Rattle.history.specs.History.{History};
-ghost use Rattle.course.specs.Attempts.{MayAttempt};
+ghost use Rattle.statement_steps.specs.Attempts.{MayAttempt};
 ghost use Rattle.statement_steps.specs.Steps.{IsStep};
 ghost use Rattle.stores.specs.Stand.{Stands};
 ghost use Rattle.partition_scans.specs.Scans as scans;
@@ -11,11 +11,10 @@ ghost use Rattle.partition_scans.specs.Scans.{Scan};
 ghost use Rattle.partition_scans.specs.Waited.{scanned};
 
 use crate::low::sessions_are_low;
-use course::{Caller, Stop};
 use history::WaitOn;
 use pg_ids::SessionSet;
 use pg_values::Refusal;
-use statement_steps::{SessionNames, wait_for};
+use statement_steps::{Caller, SessionNames, Stop, wait_for};
 use std::alloc::Global;
 use stores::Stores;
 

@@ -28,8 +28,8 @@ use Rattle.select_answer.specs.Laws.{OneItemIsReadOnce, PrunedIsPlain, plainly, 
 use Rattle.stores.specs.Events.{look_of}
 use Rattle.stores.specs.Good.{IsGood}
 use Rattle.stores.specs.Laws.{GoodIsLegal}
-use Rattle.course.specs.Made.{Made, Halt, behind, then_told, and_then}
-use Rattle.course.specs.declared.caller.Caller.{Caller}
+use Rattle.statement_steps.specs.Made.{Made, Halt, behind, then_told, and_then}
+use Rattle.statement_steps.specs.declared.caller.Caller.{Caller}
 use Rattle.statement_steps.specs.Asks.{told_of, locked, all_locked}
 use Rattle.select_statement.specs.Below.{number_of}
 use Rattle.select_statement.specs.Items.{items_of}

@@ -19,8 +19,8 @@ use Rattle.select_answer.specs.Faults.{too_many}
 use Rattle.select_answer.specs.Laws.{plan_reads}
 use Rattle.stores.specs.Events.{look_of}
 use Rattle.stores.specs.Good.{IsGood}
-use Rattle.course.specs.Made.{Refused, halted}
-use Rattle.course.specs.declared.caller.Caller.{Caller}
+use Rattle.statement_steps.specs.Made.{Refused, halted}
+use Rattle.statement_steps.specs.declared.caller.Caller.{Caller}
 use Rattle.select_statement.specs.Selected.{answered, of_tables, trees_for}
 use Rattle.select_laws.specs.Plain.{answered_plainly, selected_plainly}
 

@@ -15,7 +15,7 @@ use Rattle.select_answer.proofs.ReadLeaves.{reads_plain}
 use Rattle.stores.specs.Events.{look_of}
 use Rattle.stores.specs.Good.{IsGood}
 use Rattle.stores.proofs.Goodness.{legal_of, permitted_of}
-use Rattle.course.specs.declared.caller.Caller.{Caller}
+use Rattle.statement_steps.specs.declared.caller.Caller.{Caller}
 use Rattle.select_statement.specs.Selected.{trees_for}
 use Rattle.select_laws.specs.Laws.{Looks, OneTableIsPlainIn, TablesArePlainIn}
 use Rattle.select_laws.proofs.Few.{leaves_few}

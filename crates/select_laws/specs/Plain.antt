@@ -11,8 +11,8 @@ use Rattle.statement_asks.specs.Asked.{SelectMeant}
 use Rattle.plan_tree.specs.Plans.{plan_for, plan_tables}
 use Rattle.select_answer.specs.Laws.{plainly}
 use Rattle.stores.specs.Events.{look_of}
-use Rattle.course.specs.Made.{Made}
-use Rattle.course.specs.declared.caller.Caller.{Caller}
+use Rattle.statement_steps.specs.Made.{Made}
+use Rattle.statement_steps.specs.declared.caller.Caller.{Caller}
 use Rattle.statement_steps.specs.Steps.{follow}
 use Rattle.select_statement.specs.Items.{items_of}
 use Rattle.select_statement.specs.Selected.{outcome, meant, locked_below, trees_for}

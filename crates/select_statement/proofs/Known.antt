@@ -26,7 +26,7 @@ use Rattle.stores.specs.Laws.{LeavesAreHoused}
 use Rattle.stores.specs.Stand.{Stands}
 use Rattle.stores.specs.declared.stores.Stores.{Stores}
 use Rattle.stores.proofs.Goodness.{legal_of, permitted_of}
-use Rattle.course.specs.declared.caller.Caller.{Caller}
+use Rattle.statement_steps.specs.declared.caller.Caller.{Caller}
 use Rattle.statement_steps.specs.Known.{IsKnownTo}
 use Rattle.statement_steps.proofs.Parts.{known_by}
 use Rattle.select_statement.specs.Lent.{AreThere, MayLock, IsTreeFor, IsLookFor}

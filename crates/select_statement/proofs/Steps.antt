@@ -18,11 +18,11 @@ use Rattle.select_answer.specs.Answer.{AreLent, answer_of, select_course}
 use Rattle.stores.specs.Events.{look_of}
 use Rattle.stores.specs.Stand.{Stands}
 use Rattle.stores.specs.declared.stores.Stores.{Stores}
-use Rattle.course.specs.Made.{Made}
-use Rattle.course.specs.Attempts.{MayAttempt}
-use Rattle.course.specs.declared.caller.Caller.{Caller}
-use Rattle.course.specs.declared.stop.Stop.{Stop}
-use Rattle.course.proofs.Numbers.{one_later}
+use Rattle.statement_steps.specs.Made.{Made}
+use Rattle.statement_steps.specs.Attempts.{MayAttempt}
+use Rattle.statement_steps.specs.declared.caller.Caller.{Caller}
+use Rattle.statement_steps.specs.declared.stop.Stop.{Stop}
+use Rattle.statement_steps.proofs.Numbers.{one_later}
 use Rattle.statement_steps.specs.Steps.{IsTold, IsStep}
 use Rattle.statement_steps.proofs.Parts.{stays, still_on, nothing_done, refused_here, no_memory}
 use Rattle.select_statement.specs.Halts.{stop_of}

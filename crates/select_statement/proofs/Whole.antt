@@ -35,12 +35,12 @@ use Rattle.stores.specs.Events.{look_of}
 use Rattle.stores.specs.Laws.{LeavesAreHoused}
 use Rattle.stores.specs.Stand.{AllStand, Stands, IsSound}
 use Rattle.stores.specs.declared.stores.Stores.{Stores}
-use Rattle.course.specs.Made.{Made, Refused, halted}
-use Rattle.course.specs.Attempts.{MayAttempt}
-use Rattle.course.specs.Database.{statement_cancelled}
-use Rattle.course.specs.declared.caller.Caller.{Caller}
-use Rattle.course.specs.declared.stop.Stop.{Stop}
-use Rattle.course.specs.declared.stop.Stop.TheVariants as stop
+use Rattle.statement_steps.specs.Made.{Made, Refused, halted}
+use Rattle.statement_steps.specs.Attempts.{MayAttempt}
+use Rattle.statement_steps.specs.Faults.{statement_cancelled}
+use Rattle.statement_steps.specs.declared.caller.Caller.{Caller}
+use Rattle.statement_steps.specs.declared.stop.Stop.{Stop}
+use Rattle.statement_steps.specs.declared.stop.Stop.TheVariants as stop
 use Rattle.statement_steps.specs.Known.{IsKnownTo}
 use Rattle.statement_steps.specs.Steps.{IsStep, follow}
 use Rattle.statement_steps.proofs.Parts.{refused_here}

@@ -10,7 +10,7 @@ use Rattle.pruned_trees.specs.Kept.{Leaf, id_of}
 use Rattle.pruned_trees.specs.Prunable.{CanPrune}
 use Rattle.stores.specs.Events.{look_of}
 use Rattle.stores.specs.declared.stores.Stores.{Stores}
-use Rattle.course.specs.declared.caller.Caller.{Caller}
+use Rattle.statement_steps.specs.declared.caller.Caller.{Caller}
 use Rattle.statement_steps.specs.Known.{IsKnownTo}
 use Rattle.select_statement.specs.Below.{below}
 

@@ -15,9 +15,9 @@ use Rattle.sql_binder.specs.Selects.{from_of, bound_select}
 use Rattle.plan_tree.specs.Plans.{Planned, plan_for, plan_tables}
 use Rattle.select_answer.specs.Answer.{answer_of, select_course}
 use Rattle.stores.specs.Events.{look_of}
-use Rattle.course.specs.Made.{Made, Refused, made, halted}
-use Rattle.course.specs.Database.{statement_cancelled}
-use Rattle.course.specs.declared.caller.Caller.{Caller}
+use Rattle.statement_steps.specs.Made.{Made, Refused, made, halted}
+use Rattle.statement_steps.specs.Faults.{statement_cancelled}
+use Rattle.statement_steps.specs.declared.caller.Caller.{Caller}
 use Rattle.statement_steps.specs.Asks.{named, held_at, all_locked}
 use Rattle.statement_steps.specs.Steps.{follow}
 use Rattle.select_statement.specs.Below.{number_of}

@@ -1,3 +1,4 @@
+pub mod Numbers
 mod Known
 mod Left
 pub mod Parts

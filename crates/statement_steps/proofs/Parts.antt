@@ -37,13 +37,13 @@ use Rattle.stores.specs.Numbers.{IsAt}
 use Rattle.stores.specs.declared.stores.Stores.{Stores}
 use Rattle.lock_answers.specs.Laws.{AnswerIsTold, HistoryIsTold}
 use Rattle.lock_answers.specs.Asked.{asked, asked_view, asked_events, asked_history, AskedView, AtOnce, WaitsBehind, ClosesCycle}
-use Rattle.course.specs.Made.{Made, Waits, Refused, made, halted}
-use Rattle.course.specs.Attempts.{MayAttempt, MayGoOn, WentOn, GoesOn, HasCause, LocksStay}
-use Rattle.course.specs.declared.rest.Rest.{Rest}
-use Rattle.course.specs.declared.caller.Caller.{Caller}
-use Rattle.course.specs.declared.stop.Stop.{Stop}
-use Rattle.course.specs.declared.stop.Stop.TheVariants as stop
-use Rattle.course.proofs.Numbers.{at_lock, one_later}
+use Rattle.statement_steps.specs.Made.{Made, Waits, Refused, made, halted}
+use Rattle.statement_steps.specs.Attempts.{MayAttempt, MayGoOn, WentOn, GoesOn, HasCause, LocksStay}
+use Rattle.statement_steps.specs.declared.rest.Rest.{Rest}
+use Rattle.statement_steps.specs.declared.caller.Caller.{Caller}
+use Rattle.statement_steps.specs.declared.stop.Stop.{Stop}
+use Rattle.statement_steps.specs.declared.stop.Stop.TheVariants as stop
+use Rattle.statement_steps.proofs.Numbers.{at_lock, one_later}
 use Rattle.statement_steps.proofs.Steps.{halted_same}
 use Rattle.statement_steps.proofs.Known.{some_of, has_known}
 use Rattle.statement_steps.specs.Faults.{no_table, deadlock, stop_by}

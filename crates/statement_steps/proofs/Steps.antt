@@ -3,13 +3,13 @@ use Rattle.std.proofs.Common.{◌≡◌, ℕ, ◌+◌, List, [], ◌∷◌, ◌+
 use Rattle.history.specs.Locks.{queue}
 use Rattle.history.specs.History.{History, lock_events}
 use Rattle.stores.specs.declared.stores.Stores.{Stores}
-use Rattle.course.specs.Ended.{told_as, giving}
-use Rattle.course.specs.Made.{Made, and_then, then_told, behind}
-use Rattle.course.specs.Attempts.{MayAttempt, MayGoOn, WentOn, GoesOn}
-use Rattle.course.specs.declared.caller.Caller.{Caller}
-use Rattle.course.specs.declared.rest.Rest.{Rest}
-use Rattle.course.specs.declared.stop.Stop.{Stop}
-use Rattle.course.specs.declared.stop.Stop.TheVariants as stop
+use Rattle.statement_steps.specs.Ended.{told_as, giving}
+use Rattle.statement_steps.specs.Made.{Made, and_then, then_told, behind}
+use Rattle.statement_steps.specs.Attempts.{MayAttempt, MayGoOn, WentOn, GoesOn}
+use Rattle.statement_steps.specs.declared.caller.Caller.{Caller}
+use Rattle.statement_steps.specs.declared.rest.Rest.{Rest}
+use Rattle.statement_steps.specs.declared.stop.Stop.{Stop}
+use Rattle.statement_steps.specs.declared.stop.Stop.TheVariants as stop
 use Rattle.statement_steps.specs.Steps.{IsTold, IsHalted, IsStep, follow, told_on, stopped_on, going_on}
 
 -- ---- histories that go on

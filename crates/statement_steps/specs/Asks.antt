@@ -9,8 +9,8 @@ use Rattle.lock_answers.specs.Asked.{AskedView, AtOnce, WaitsBehind, ClosesCycle
 use Rattle.sessions.specs.declared.phase.Isolation.{Isolation}
 use Rattle.sessions.specs.declared.phase.Isolation.TheVariants.{ReadCommitted, ReadUncommitted, RepeatableRead}
 use Rattle.stores.specs.Events.{held}
-use Rattle.course.specs.Made.{Made, Halt, Waits, Refused, made, halted}
-use Rattle.course.specs.declared.rest.Rest.{Rest}
+use Rattle.statement_steps.specs.Made.{Made, Halt, Waits, Refused, made, halted}
+use Rattle.statement_steps.specs.declared.rest.Rest.{Rest}
 use Rattle.statement_steps.specs.Faults.{no_table, deadlock}
 use Rattle.statement_steps.specs.Steps.{follow}
 

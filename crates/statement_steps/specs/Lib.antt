@@ -1,3 +1,6 @@
+pub mod Made
+pub mod Ended
+pub mod Attempts
 pub mod Faults
 pub mod Known
 pub mod Steps

@@ -5,12 +5,12 @@ use Rattle.lock_table.specs.Stands.{IsIdle}
 use Rattle.stores.specs.Stand.{Stands}
 use Rattle.stores.specs.Numbers.{IsAt}
 use Rattle.stores.specs.declared.stores.Stores.{Stores}
-use Rattle.course.specs.Made.{Made, Halt, Waits, Refused, and_then}
-use Rattle.course.specs.Attempts.{MayGoOn, WentOn, GoesOn, IsWaiting}
-use Rattle.course.specs.declared.caller.Caller.{Caller}
-use Rattle.course.specs.declared.rest.Rest.{Rest}
-use Rattle.course.specs.declared.stop.Stop.{Stop}
-use Rattle.course.specs.declared.stop.Stop.TheVariants as stop
+use Rattle.statement_steps.specs.Made.{Made, Halt, Waits, Refused, and_then}
+use Rattle.statement_steps.specs.Attempts.{MayGoOn, WentOn, GoesOn, IsWaiting}
+use Rattle.statement_steps.specs.declared.caller.Caller.{Caller}
+use Rattle.statement_steps.specs.declared.rest.Rest.{Rest}
+use Rattle.statement_steps.specs.declared.stop.Stop.{Stop}
+use Rattle.statement_steps.specs.declared.stop.Stop.TheVariants as stop
 
 -- want of memory apart, what came of it is what is told, and the stores stand for the history with its events; the next
 -- command has the number n where the part is done

@@ -2,8 +2,7 @@ ghost use Rattle.std.specs.Prelude.{◌≡◌, IfOk, map};
 ghost use Rattle.pg_ids.specs.Lists.{listed};
 ghost use Rattle.statement_steps.specs.Faults as faults;
 
-use crate::SessionNames;
-use course::Stop;
+use crate::{SessionNames, Stop};
 use pg_ids::SessionList;
 use pg_values::{Args, Fault, NoMemory, PgText, SqlState};
 use std::alloc::Global;
@@ -16,6 +15,16 @@ pub(crate) fn stop_by(fault: Result<Fault, NoMemory>) -> Stop
     match fault {
         Ok(fault) => Stop::Refused(fault),
         Err(NoMemory) => Stop::NoMemory,
+    }
+}
+
+/// The fault of a statement that was cancelled.
+pub fn statement_cancelled(alloc: Global) -> Fault
+    ensures { result ≡ faults.statement_cancelled }
+{
+    Fault {
+        code: SqlState { bytes: *b"57014" },
+        args: Args::new(alloc),
     }
 }
 

@@ -1,7 +1,7 @@
 ghost use Rattle.std.specs.Prelude.{◌≡◌};
 ghost use Rattle.statement_steps.specs.Steps as steps;
 
-use course::{Rest, Stop};
+use crate::{Rest, Stop};
 
 /// A statement that stands in the middle of its run goes on from there, whatever it has to wait for.
 pub fn stopped_on(stop: Stop, rest: Option<Rest>) -> Stop

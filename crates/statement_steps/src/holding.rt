@@ -1,11 +1,11 @@
 ghost use Rattle.std.specs.Prelude.{◌≡◌};
 ghost use Rattle.stores.specs.Events.{held};
-ghost use Rattle.course.specs.Attempts.{MayAttempt};
-ghost use Rattle.course.specs.Made.{made};
+ghost use Rattle.statement_steps.specs.Attempts.{MayAttempt};
+ghost use Rattle.statement_steps.specs.Made.{made};
 ghost use Rattle.statement_steps.specs.Asks as asks;
 ghost use Rattle.statement_steps.specs.Steps.{IsStep};
 
-use course::{Caller, Stop};
+use crate::{Caller, Stop};
 use pg_values::NoMemory;
 use sessions::Isolation;
 use std::alloc::Global;

@@ -1,13 +1,12 @@
 ghost use Rattle.std.specs.Prelude.{◌≡◌, ◌<◌, false, All, map};
 ghost use Rattle.lock_table.specs.Stands as stands;
-ghost use Rattle.course.specs.Attempts.{MayAttempt, MayGoOn};
+ghost use Rattle.statement_steps.specs.Attempts.{MayAttempt, MayGoOn};
 ghost use Rattle.statement_steps.specs.Asks as asks;
 ghost use Rattle.statement_steps.specs.Known.{IsKnownTo};
 ghost use Rattle.statement_steps.specs.Steps.{IsStep};
 
-use crate::SessionNames;
 use crate::faults::{deadlock, stop_by};
-use course::{Caller, Rest, Stop};
+use crate::{Caller, Rest, SessionNames, Stop};
 use history::WaitOn;
 use lock_answers::answer_is_told;
 use lock_table::Asked;

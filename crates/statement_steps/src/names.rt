@@ -1,13 +1,12 @@
 ghost use Rattle.std.specs.Prelude.{◌≡◌, ◌≤◌, ◌++◌, ◌∷◌, [], Some, None, IfOk, OnOk, OnErr, length};
 ghost use Rattle.pg_ids.specs.declared.lock_mode.LockMode.{LockMode};
-ghost use Rattle.course.specs.Attempts.{MayAttempt};
+ghost use Rattle.statement_steps.specs.Attempts.{MayAttempt};
 ghost use Rattle.statement_steps.specs.Asks as asks;
 ghost use Rattle.statement_steps.specs.Known.{IsKnownTo};
 ghost use Rattle.statement_steps.specs.Steps.{IsStep};
 
 use crate::faults::{no_table, stop_by};
-use crate::lock_table;
-use course::{Caller, Stop};
+use crate::{Caller, Stop, lock_table};
 use legal_statements::named_is_there;
 use pg_ids::{LockMode, TableNo};
 use pg_values::{NoMemory, PgText};

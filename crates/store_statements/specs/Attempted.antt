@@ -9,11 +9,11 @@ use Rattle.sql_ast.specs.declared.detachment.Detachment.TheVariants.{AtOnce, Con
 use Rattle.sql_ast.specs.Queries.{SelectTree, RowTree, QueryTree, selects, inserts, updates, deletes, rows}
 use Rattle.sql_ast.specs.Statements.{StatementTree, commands, queries}
 use Rattle.out_text.specs.Table.{printed_table}
-use Rattle.course.specs.Ended.{Ended, Done, silent_end, giving}
-use Rattle.course.specs.Made.{Made, Refused, halted}
-use Rattle.course.specs.declared.caller.Caller.{Caller}
-use Rattle.course.specs.declared.ending.Ending.{Ending}
-use Rattle.course.specs.declared.rest.Rest.{Rest}
+use Rattle.statement_steps.specs.Ended.{Ended, Done, silent_end, giving}
+use Rattle.statement_steps.specs.Made.{Made, Refused, halted}
+use Rattle.statement_steps.specs.declared.caller.Caller.{Caller}
+use Rattle.statement_steps.specs.declared.ending.Ending.{Ending}
+use Rattle.statement_steps.specs.declared.rest.Rest.{Rest}
 use Rattle.select_statement.specs.Selected.{selected}
 use Rattle.insert_statement.specs.Inserted.{inserted}
 use Rattle.change_statement.specs.Deleted.{deleted}

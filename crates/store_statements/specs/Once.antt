@@ -9,14 +9,14 @@ use Rattle.sql_ast.specs.declared.detachment.Detachment.TheVariants.{AtOnce, Con
 use Rattle.sql_ast.specs.Queries.{RowTree, QueryTree, selects, inserts, updates, deletes, rows, prepares, executes, explains_select, explains_execute}
 use Rattle.sql_ast.specs.Statements.{StatementTree, commands, queries}
 use Rattle.course.specs.Database.{outcome_told, rest_told}
-use Rattle.course.specs.Ended.{Done, silent_end, told_as}
-use Rattle.course.specs.Made.{Halt, Waits, Refused}
+use Rattle.statement_steps.specs.Ended.{Done, silent_end, told_as}
+use Rattle.statement_steps.specs.Made.{Halt, Waits, Refused}
 use Rattle.course.specs.Once.{AllCommitOnce}
-use Rattle.course.specs.declared.caller.Caller.{Caller}
-use Rattle.course.specs.declared.ending.Ending.TheVariants as endings
-use Rattle.course.specs.declared.rest.Rest.{Rest}
-use Rattle.course.specs.declared.rest.Rest.TheVariants.{Detach}
-use Rattle.course.specs.declared.rest.RestOfDetach.{RestOfDetach}
+use Rattle.statement_steps.specs.declared.caller.Caller.{Caller}
+use Rattle.statement_steps.specs.declared.ending.Ending.TheVariants as endings
+use Rattle.statement_steps.specs.declared.rest.Rest.{Rest}
+use Rattle.statement_steps.specs.declared.rest.Rest.TheVariants.{Detach}
+use Rattle.statement_steps.specs.declared.rest.RestOfDetach.{RestOfDetach}
 use Rattle.statement_steps.specs.Steps.{told_on}
 use Rattle.select_statement.specs.Selected.{selected}
 use Rattle.insert_statement.specs.Inserted.{inserted}

@@ -4,12 +4,12 @@ use Rattle.history.specs.History.{History}
 use Rattle.stores.specs.Stand.{Stands}
 use Rattle.stores.specs.Numbers.{IsAt}
 use Rattle.stores.specs.declared.stores.Stores.{Stores}
-use Rattle.course.specs.Ended.{Ended}
-use Rattle.course.specs.Made.{Made}
-use Rattle.course.specs.Attempts.{IsAttempt, IsHalt, GoesOn}
-use Rattle.course.specs.declared.caller.Caller.{Caller}
-use Rattle.course.specs.declared.ending.Ending.{Ending}
-use Rattle.course.specs.declared.stop.Stop.{Stop}
+use Rattle.statement_steps.specs.Ended.{Ended}
+use Rattle.statement_steps.specs.Made.{Made}
+use Rattle.statement_steps.specs.Attempts.{IsAttempt, IsHalt, GoesOn}
+use Rattle.statement_steps.specs.declared.caller.Caller.{Caller}
+use Rattle.statement_steps.specs.declared.ending.Ending.{Ending}
+use Rattle.statement_steps.specs.declared.stop.Stop.{Stop}
 
 pub record IsStatement (result : Result Ending Stop) (old new : Stores) (before after : List ℕ) (caller : Caller) (f : History → Made Ended) : Type 0 where
   pub is : (h : History) → Stands old h → IsAt h caller.session caller.cmd → IsAttempt result new before after caller h (f h)

@@ -10,7 +10,7 @@ use Rattle.block_reading.specs.Reading.{read_block}
 use Rattle.statement_roles.specs.Roles.{role_of, looks, changed}
 use Rattle.out_text.specs.FaultText.{fault_text}
 use Rattle.course.specs.Words.{Words}
-use Rattle.course.specs.declared.rest.Rest.{Rest}
+use Rattle.statement_steps.specs.declared.rest.Rest.{Rest}
 use Rattle.lock_statement.specs.Places.{lock_misplaced}
 use Rattle.detach_statement.specs.Concurrent.{detach_of}
 use Rattle.detach_statement.specs.Places.{detach_misplaced}

@@ -2,7 +2,7 @@ ghost use Rattle.std.specs.Prelude.{◌≡◌, IfOk};
 
 use crate::attempts::attempt;
 use block_reading::read_block;
-use course::{Caller, Ending, Kinds, Rest, Stop};
+use course::Kinds;
 use detach_statement::detach_misplaced;
 use lock_statement::lock_misplaced;
 use out_text::write_fault_text;
@@ -11,7 +11,7 @@ use select_statement::cancelled;
 use sessions::{Place, Role, Settings};
 use sql_ast::{Command, Detachment, Query, RowStatement, Statement};
 use statement_roles::{changed_settings, looks, role_of};
-use statement_steps::SessionNames;
+use statement_steps::{Caller, Ending, Rest, SessionNames, Stop};
 use std::alloc::Global;
 use stores::Stores;
 

@@ -41,9 +41,9 @@ use Rattle.row_store.specs.Judged.{refusing}
 use Rattle.stores.specs.Events.{tx_in}
 use Rattle.stores.specs.Stand.{Stands}
 use Rattle.stores.specs.declared.stores.Stores.{Stores}
-use Rattle.course.specs.Attempts.{MayAttempt, LocksStay}
-use Rattle.course.specs.declared.caller.Caller.{Caller}
-use Rattle.course.specs.declared.stop.Stop.{Stop}
+use Rattle.statement_steps.specs.Attempts.{MayAttempt, LocksStay}
+use Rattle.statement_steps.specs.declared.caller.Caller.{Caller}
+use Rattle.statement_steps.specs.declared.stop.Stop.{Stop}
 use Rattle.statement_steps.specs.Asks.{all_locked}
 use Rattle.statement_steps.specs.Steps.{IsStep}
 use Rattle.table_statements.specs.Asked.{AreLocked, HasDefaultLocked, IsLocked, family_of}

@@ -25,9 +25,9 @@ use Rattle.stores.specs.Numbers.{IsEarlier, IsBefore, IsAt}
 use Rattle.stores.specs.Stand.{Stands}
 use Rattle.stores.specs.declared.stores.Stores.{Stores}
 use Rattle.stores.proofs.Commands.{goes_on}
-use Rattle.course.specs.Made.{Made, made}
-use Rattle.course.specs.Attempts.{MayAttempt, WentOn}
-use Rattle.course.specs.declared.caller.Caller.{Caller}
+use Rattle.statement_steps.specs.Made.{Made, made}
+use Rattle.statement_steps.specs.Attempts.{MayAttempt, WentOn}
+use Rattle.statement_steps.specs.declared.caller.Caller.{Caller}
 use Rattle.statement_steps.specs.Steps.{IsStep}
 use Rattle.statement_steps.proofs.Parts.{own_tx, locks_same, no_memory}
 use Rattle.table_statements.specs.Asked.{stopped}

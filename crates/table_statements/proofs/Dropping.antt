@@ -41,7 +41,7 @@ use Rattle.stores.specs.Stand.{Stands}
 use Rattle.stores.specs.declared.stores.Stores.{Stores}
 use Rattle.stores.proofs.Commands.{commands_are_in_order}
 use Rattle.stores.proofs.Goodness.{legal_of, permitted_of}
-use Rattle.course.specs.declared.caller.Caller.{Caller}
+use Rattle.statement_steps.specs.declared.caller.Caller.{Caller}
 use Rattle.table_statements.specs.Asked.{MayDropTable, IsGoing, MayGo}
 use Rattle.table_statements.specs.Drops.{stamp, is_meant_still, is_left, dropped_one}
 use Rattle.table_statements.proofs.Below.{found_in, mapped_in, from_numbers}

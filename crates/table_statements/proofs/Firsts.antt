@@ -14,10 +14,10 @@ use Rattle.part_ddl.specs.Tables.{count_faults}
 use Rattle.expression_binder.specs.Firsts.{IsAnswerBy}
 use Rattle.stores.specs.Stand.{Stands}
 use Rattle.stores.specs.declared.stores.Stores.{Stores}
-use Rattle.course.specs.Attempts.{MayAttempt}
-use Rattle.course.specs.Made.{Made}
-use Rattle.course.specs.declared.caller.Caller.{Caller}
-use Rattle.course.specs.declared.stop.Stop.{Stop}
+use Rattle.statement_steps.specs.Attempts.{MayAttempt}
+use Rattle.statement_steps.specs.Made.{Made}
+use Rattle.statement_steps.specs.declared.caller.Caller.{Caller}
+use Rattle.statement_steps.specs.declared.stop.Stop.{Stop}
 use Rattle.statement_steps.specs.Steps.{IsTold, IsStep}
 use Rattle.statement_steps.proofs.Parts.{stays, nothing_done, refused_here, no_memory}
 use Rattle.table_statements.specs.Asked.{stopped}

@@ -15,9 +15,9 @@ use Rattle.part_catalog.specs.Found.{resolved}
 use Rattle.part_catalog.specs.Stands.{CatalogueStands}
 use Rattle.stores.specs.Stand.{Stands}
 use Rattle.stores.specs.declared.stores.Stores.{Stores}
-use Rattle.course.specs.Made.{Made, Halt, then_told}
-use Rattle.course.specs.Attempts.{MayAttempt, LocksStay}
-use Rattle.course.specs.declared.caller.Caller.{Caller}
+use Rattle.statement_steps.specs.Made.{Made, Halt, then_told}
+use Rattle.statement_steps.specs.Attempts.{MayAttempt, LocksStay}
+use Rattle.statement_steps.specs.declared.caller.Caller.{Caller}
 use Rattle.statement_steps.specs.Asks.{told_of, locked, all_locked, meant_or_none, kept_number, number_or, named}
 use Rattle.statement_steps.specs.Known.{IsKnownTo}
 use Rattle.statement_steps.specs.Steps.{IsStep}

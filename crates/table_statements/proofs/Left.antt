@@ -28,11 +28,11 @@ use Rattle.legal_statements.specs.Laws.{TreeIsWhole}
 use Rattle.stores.specs.Numbers.{IsAt}
 use Rattle.stores.specs.Stand.{Stands}
 use Rattle.stores.specs.declared.stores.Stores.{Stores}
-use Rattle.course.specs.Made.{Made, Halt, made, behind, and_then}
-use Rattle.course.specs.Attempts.{MayAttempt, GoesOn, LocksStay}
-use Rattle.course.specs.declared.caller.Caller.{Caller}
-use Rattle.course.specs.declared.stop.Stop.{Stop}
-use Rattle.course.specs.declared.stop.Stop.TheVariants as stop
+use Rattle.statement_steps.specs.Made.{Made, Halt, made, behind, and_then}
+use Rattle.statement_steps.specs.Attempts.{MayAttempt, GoesOn, LocksStay}
+use Rattle.statement_steps.specs.declared.caller.Caller.{Caller}
+use Rattle.statement_steps.specs.declared.stop.Stop.{Stop}
+use Rattle.statement_steps.specs.declared.stop.Stop.TheVariants as stop
 use Rattle.statement_steps.specs.Asks.{all_locked, found, meant_or_none}
 use Rattle.statement_steps.specs.Steps.{IsTold, IsStep, follow}
 use Rattle.statement_steps.proofs.Parts.{stays, nothing_done, locks_same, no_memory}

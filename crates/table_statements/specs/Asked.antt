@@ -30,9 +30,9 @@ use Rattle.partition_scans.specs.Data.{DataStand}
 use Rattle.partition_scans.specs.Places.{default_scan}
 use Rattle.partition_scans.specs.Scans.{IsClean}
 use Rattle.stores.specs.declared.stores.Stores.{Stores}
-use Rattle.course.specs.declared.caller.Caller.{Caller}
-use Rattle.course.specs.declared.stop.Stop.{Stop}
-use Rattle.course.specs.declared.stop.Stop.TheVariants.{Refused, NoMemory as OutOfMemory}
+use Rattle.statement_steps.specs.declared.caller.Caller.{Caller}
+use Rattle.statement_steps.specs.declared.stop.Stop.{Stop}
+use Rattle.statement_steps.specs.declared.stop.Stop.TheVariants.{Refused, NoMemory as OutOfMemory}
 use Rattle.table_statements.specs.Drops.{parent_in, default_beside}
 
 -- ---- tables that are made

@@ -10,8 +10,8 @@ use Rattle.part_catalog.specs.Answers.{parent_told}
 use Rattle.part_catalog.specs.Found.{made_at, resolved}
 use Rattle.part_ddl.specs.Below.{default_of, tables_from}
 use Rattle.part_ddl.specs.Dropped.{drop_events}
-use Rattle.course.specs.Made.{Made, Refused, made, halted}
-use Rattle.course.specs.declared.caller.Caller.{Caller}
+use Rattle.statement_steps.specs.Made.{Made, Refused, made, halted}
+use Rattle.statement_steps.specs.declared.caller.Caller.{Caller}
 use Rattle.statement_steps.specs.Asks.{held_at, all_locked}
 use Rattle.statement_steps.specs.Faults.{no_table}
 use Rattle.statement_steps.specs.Steps.{follow}

@@ -16,8 +16,8 @@ use Rattle.part_ddl.specs.Placing.{level_at, place_faults}
 use Rattle.part_ddl.specs.Tables.{count_faults}
 use Rattle.partition_scans.specs.Places.{default_scan}
 use Rattle.partition_scans.specs.Waited.{scanned}
-use Rattle.course.specs.Made.{Made, made}
-use Rattle.course.specs.declared.caller.Caller.{Caller}
+use Rattle.statement_steps.specs.Made.{Made, made}
+use Rattle.statement_steps.specs.declared.caller.Caller.{Caller}
 use Rattle.statement_steps.specs.Asks.{named, held_at, all_locked}
 use Rattle.statement_steps.specs.Steps.{follow}
 use Rattle.table_statements.specs.Claims.{name_claimed}

@@ -1,7 +1,7 @@
 -- The order of refusals: the first fault, or else what comes of it.
 use Rattle.std.specs.Prelude.{List, [], ◌∷◌, Result, Ok, Err}
 use Rattle.pg_values.specs.declared.fault.Fault.{Fault}
-use Rattle.course.specs.Made.{Made, Refused, made, halted}
+use Rattle.statement_steps.specs.Made.{Made, Refused, made, halted}
 
 -- one answer after another
 abbrev pub next_answer : {T U : Type 0} → Result T Fault → (T → Result U Fault) → Result U Fault

@@ -16,8 +16,8 @@ use Rattle.table_binder.specs.Partitionings.{Key, bound_key}
 use Rattle.table_binder.specs.States.{list_takes_one}
 use Rattle.part_ddl.specs.Tables.{count_faults, table_events}
 use Rattle.stores.specs.Events.{tx_in}
-use Rattle.course.specs.Made.{Made, made}
-use Rattle.course.specs.declared.caller.Caller.{Caller}
+use Rattle.statement_steps.specs.Made.{Made, made}
+use Rattle.statement_steps.specs.declared.caller.Caller.{Caller}
 use Rattle.statement_steps.specs.Asks.{held_at}
 use Rattle.statement_steps.specs.Steps.{follow}
 use Rattle.table_statements.specs.Claims.{name_claimed}

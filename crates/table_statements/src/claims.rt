@@ -9,18 +9,17 @@ ghost use Rattle.history.specs.History.{History};
 ghost use Rattle.tx_table.specs.Stands.{TableStands};
 ghost use Rattle.part_catalog.specs.Found.{taken_by};
 ghost use Rattle.part_catalog.specs.Stands.{CatalogueStands};
-ghost use Rattle.course.specs.Attempts.{MayAttempt};
+ghost use Rattle.statement_steps.specs.Attempts.{MayAttempt};
 ghost use Rattle.statement_steps.specs.Steps.{IsStep};
 ghost use Rattle.table_statements.specs.Asked.{IsFree};
 ghost use Rattle.table_statements.specs.Claims as claims;
 
 use crate::refused::stop_by;
-use course::{Caller, Stop};
 use history::WaitOn;
 use part_ddl::check_name;
 use pg_ids::SessionSet;
 use pg_values::NoMemory;
-use statement_steps::{SessionNames, wait_for};
+use statement_steps::{Caller, SessionNames, Stop, wait_for};
 use std::alloc::Global;
 use stores::Stores;
 

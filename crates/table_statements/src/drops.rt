@@ -7,14 +7,13 @@ ghost use Rattle.part_catalog.specs.Found.{resolved};
 ghost use Rattle.part_catalog.specs.Stands.{CatalogueStands};
 ghost use Rattle.statement_steps.specs.Known.{IsKnownTo};
 ghost use Rattle.stores.specs.Stand.{Stands};
-ghost use Rattle.course.specs.Attempts.{MayAttempt};
+ghost use Rattle.statement_steps.specs.Attempts.{MayAttempt};
 ghost use Rattle.statement_steps.specs.Steps.{IsStep};
 ghost use Rattle.table_statements.specs.Asked.{IsGoing, MayDropTable, MayGo, one_or_none, numbers, to_lock};
 ghost use Rattle.table_statements.specs.Drops as drops;
 ghost use Rattle.table_statements.specs.Drops.{dropped};
 
 use crate::partitions::tables_from;
-use course::{Caller, Stop};
 use drop_laws::locked_tables_may_go;
 use history::TxId;
 use legal_statements::{
@@ -25,7 +24,7 @@ use part_ddl::{default_of, drop_table};
 use pg_ids::{LockMode, TableNo};
 use pg_values::{NoMemory, PgText};
 use soundness::legal_keeps_all;
-use statement_steps::{SessionNames, find_table, hold_if_repeatable, lock_tables};
+use statement_steps::{Caller, SessionNames, Stop, find_table, hold_if_repeatable, lock_tables};
 use std::alloc::Global;
 use stores::{Stores, trees_are_together};
 use tx_table::TxTable;

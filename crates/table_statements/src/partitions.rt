@@ -12,7 +12,7 @@ ghost use Rattle.sql_ast.specs.Commands.{bound_tree};
 ghost use Rattle.partition_scans.specs.Data.{DataStand};
 ghost use Rattle.partition_scans.specs.Places.{default_scan};
 ghost use Rattle.partition_scans.specs.Scans.{judged, watches};
-ghost use Rattle.course.specs.Attempts.{MayAttempt};
+ghost use Rattle.statement_steps.specs.Attempts.{MayAttempt};
 ghost use Rattle.statement_steps.specs.Steps.{IsStep};
 ghost use Rattle.table_statements.specs.Partitions as partitions;
 ghost use Rattle.table_statements.specs.Partitions.{partitioned, partition_place};
@@ -25,7 +25,6 @@ use crate::claims::claim_name;
 use crate::refused::stop_by;
 use crate::tables::level_by;
 use bound_forms::{Bound, Level};
-use course::{Caller, Stop};
 use legal_statements::{
     listed_is_there, named_is_there, new_leaf_may_follow, new_level_may_follow,
     new_partition_may_follow, none_breaks, there_is_known, tree_is_whole,
@@ -40,7 +39,7 @@ use pg_ids::{LockMode, SessionSet, TableNo};
 use pg_values::{NoMemory, PgText, Refusal};
 use soundness::{legal_keeps_all, sessions_have_siblings};
 use sql_ast::{BoundText, Partitioning};
-use statement_steps::{SessionNames, hold_if_repeatable, lock_named, lock_tables};
+use statement_steps::{Caller, SessionNames, Stop, hold_if_repeatable, lock_named, lock_tables};
 use std::alloc::Global;
 use stores::{Stores, leaves_are_housed, trees_are_together};
 use table_binder::bind_bound;

@@ -1,8 +1,8 @@
 ghost use Rattle.std.specs.Prelude.{◌≡◌};
 ghost use Rattle.table_statements.specs.Asked.{stopped};
 
-use course::Stop;
 use pg_values::Refusal;
+use statement_steps::Stop;
 
 /// A refusal ends the statement.
 pub(crate) fn stop_by(refusal: Refusal) -> Stop

@@ -1,5 +1,5 @@
 use Rattle.std.proofs.Common.{rules, ◌≡◌, ◌≢◌, ◌+◌, refl, sym, ◌∙◌, subst, Ok, Err}
-use Rattle.course.specs.declared.stop.Stop.{Stop}
+use Rattle.statement_steps.specs.declared.stop.Stop.{Stop}
 use Rattle.insert_statement.specs.Asked.{stopped}
 use Rattle.row_targets.specs.Verdicts.{updater_meant, Changes, PassesBy, WaitsFor, Refuses}
 use Rattle.change_statement.specs.Changing.{changing}

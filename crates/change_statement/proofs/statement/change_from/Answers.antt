@@ -1,6 +1,6 @@
 use Rattle.std.proofs.Common.{Err, sym, subst}
 use Rattle.stores.specs.declared.stores.Stores.{Stores}
-use Rattle.course.specs.Attempts.{MayGoOn}
+use Rattle.statement_steps.specs.Attempts.{MayGoOn}
 use Rattle.statement_steps.specs.Steps.{follow, stopped_on}
 use Rattle.statement_steps.proofs.Steps.{may_go_on, on_done, stops_on}
 use Rattle.change_statement.specs.Changed.{changed_from}

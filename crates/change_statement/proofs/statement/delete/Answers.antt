@@ -1,7 +1,7 @@
 use Rattle.std.proofs.Common.{◌≤◌, [], length, sym, subst}
 use Rattle.sql_ast.specs.Queries.{maybe_tree}
 use Rattle.stores.specs.declared.stores.Stores.{Stores}
-use Rattle.course.specs.Attempts.{MayGoOn}
+use Rattle.statement_steps.specs.Attempts.{MayGoOn}
 use Rattle.statement_steps.specs.Asks.{held_at}
 use Rattle.statement_steps.specs.Steps.{follow}
 use Rattle.statement_steps.proofs.Steps.{may_go_on}

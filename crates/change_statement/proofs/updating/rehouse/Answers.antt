@@ -4,7 +4,7 @@ use Rattle.pg_ids.specs.declared.ids.LeafId.{LeafId}
 use Rattle.pg_values.specs.Refusals.{IsAnswer}
 use Rattle.row_change.specs.Placing.{placed, all_placed, CanBePlaced, IsPartNumbered}
 use Rattle.row_change.specs.Targets.{HasWay}
-use Rattle.course.specs.declared.stop.Stop.{Stop}
+use Rattle.statement_steps.specs.declared.stop.Stop.{Stop}
 use Rattle.history.specs.History.{History}
 use Rattle.part_catalog.specs.Stands.{CatalogueStands}
 use Rattle.insert_statement.specs.Inserted.{tables_of}

@@ -2,7 +2,7 @@ use Rattle.std.proofs.Common.{Ok, Err, sym, ◌∙◌, subst}
 use Rattle.row_store.proofs.Changes.{standing_is}
 use Rattle.insert_statement.specs.Inserted.{tables_of}
 use Rattle.insert_statement.proofs.Ways.{is_placed}
-use Rattle.course.specs.declared.stop.Stop.{Stop}
+use Rattle.statement_steps.specs.declared.stop.Stop.{Stop}
 use Rattle.change_statement.specs.Gathered.{found_of}
 use Rattle.change_statement.specs.Running.{IsRun}
 use Rattle.change_statement.specs.Updated.{succeeded}

@@ -1,6 +1,6 @@
 use Rattle.std.proofs.Common.{Err, sym, subst}
 use Rattle.pg_values.specs.Refusals.{or_first}
-use Rattle.course.specs.declared.stop.Stop.{Stop}
+use Rattle.statement_steps.specs.declared.stop.Stop.{Stop}
 use Rattle.insert_statement.specs.Inserted.{holder_faults}
 use Rattle.change_statement.specs.Gathered.{found_of}
 use Rattle.change_statement.specs.Running.{IsRun}

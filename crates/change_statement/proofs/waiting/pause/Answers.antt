@@ -1,7 +1,7 @@
 use Rattle.std.proofs.Common.{rules, ◌≡◌, ◌+◌, ◌<◌, All, Err, length, sym, subst}
 use Rattle.pg_ids.specs.declared.ids.RowId.{RowId}
-use Rattle.course.specs.Attempts.{MayAttempt}
-use Rattle.course.specs.declared.rest.RestOfRows.{RestOfRows}
+use Rattle.statement_steps.specs.Attempts.{MayAttempt}
+use Rattle.statement_steps.specs.declared.rest.RestOfRows.{RestOfRows}
 use Rattle.statement_steps.proofs.Parts.{stays}
 use Rattle.statement_steps.specs.Steps.{IsStep}
 use Rattle.change_statement.specs.Changed.{held_up, paused}

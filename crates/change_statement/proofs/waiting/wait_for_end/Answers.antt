@@ -2,7 +2,7 @@ use Rattle.std.proofs.Common.{◌≡◌, Ok, Err, Some, sym, subst, false}
 use Rattle.pg_ids.specs.Sets.{has}
 use Rattle.pg_ids.specs.declared.session_set.SessionSet.{SessionSet}
 use Rattle.history.specs.declared.wait.WaitOn.TheVariants.{Ends}
-use Rattle.course.specs.declared.rest.Rest.TheVariants.{Rows}
+use Rattle.statement_steps.specs.declared.rest.Rest.TheVariants.{Rows}
 use Rattle.statement_steps.specs.Asks.{waited}
 use Rattle.statement_steps.specs.Steps.{IsStep}
 use Rattle.change_statement.proofs.Pausing.{has_to_wait, only_others}

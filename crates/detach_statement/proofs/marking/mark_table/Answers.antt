@@ -1,5 +1,5 @@
 use Rattle.std.proofs.Common.{◌+◌, Ok}
-use Rattle.course.specs.declared.rest.RestOfDetach.{RestOfDetach}
+use Rattle.statement_steps.specs.declared.rest.RestOfDetach.{RestOfDetach}
 use Rattle.statement_steps.proofs.Steps.{then_step, stop_step}
 use Rattle.detach_statement.specs.Concurrent.{judged, place_marked}
 use Rattle.detach_statement.proofs.marking.mark_table.Goals as goal

@@ -1,8 +1,8 @@
 use Rattle.std.proofs.Common.{◌+◌, Ok, Err, Some, None, refl, sym, subst, Option, Result}
-use Rattle.course.specs.declared.ending.Ending.{Ending}
-use Rattle.course.specs.declared.ending.Ending.TheVariants as endings
-use Rattle.course.specs.declared.rest.RestOfDetach.{RestOfDetach}
-use Rattle.course.specs.declared.stop.Stop.{Stop}
+use Rattle.statement_steps.specs.declared.ending.Ending.{Ending}
+use Rattle.statement_steps.specs.declared.ending.Ending.TheVariants as endings
+use Rattle.statement_steps.specs.declared.rest.RestOfDetach.{RestOfDetach}
+use Rattle.statement_steps.specs.declared.stop.Stop.{Stop}
 use Rattle.statement_steps.specs.Steps.{IsStep}
 use Rattle.statement_steps.proofs.Steps.{gives_ok, gives_stop}
 use Rattle.detach_statement.specs.Concurrent.{by_rest, first_stage}

@@ -1,7 +1,7 @@
 use Rattle.std.proofs.Common.{◌+◌, sym, subst, Some, Err}
-use Rattle.course.specs.declared.rest.Rest.TheVariants.{Detach}
-use Rattle.course.specs.declared.rest.RestOfDetach.{RestOfDetach}
-use Rattle.course.specs.declared.stop.Stop.{Stop}
+use Rattle.statement_steps.specs.declared.rest.Rest.TheVariants.{Detach}
+use Rattle.statement_steps.specs.declared.rest.RestOfDetach.{RestOfDetach}
+use Rattle.statement_steps.specs.declared.stop.Stop.{Stop}
 use Rattle.statement_steps.specs.Steps.{IsStep, stopped_on, going_on}
 use Rattle.statement_steps.proofs.Steps.{on_done, stops_on}
 use Rattle.detach_statement.specs.Concurrent.{behind_nobody, later_stages}

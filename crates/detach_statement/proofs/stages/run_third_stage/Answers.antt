@@ -1,6 +1,6 @@
 use Rattle.std.proofs.Common.{◌+◌, Err}
 use Rattle.pg_ids.specs.declared.lock_mode.LockMode.TheVariants.{ShareUpdateExclusive, AccessExclusive}
-use Rattle.course.specs.Attempts.{MayAttempt}
+use Rattle.statement_steps.specs.Attempts.{MayAttempt}
 use Rattle.statement_steps.specs.Asks.{named_still}
 use Rattle.statement_steps.specs.Steps.{follow}
 use Rattle.statement_steps.proofs.Steps.{then_step, stop_step, may_go_on}

@@ -1,5 +1,5 @@
 use Rattle.std.proofs.Common.{◌+◌, Ok, Err}
-use Rattle.course.specs.Attempts.{MayAttempt}
+use Rattle.statement_steps.specs.Attempts.{MayAttempt}
 use Rattle.statement_steps.specs.Steps.{follow}
 use Rattle.statement_steps.proofs.Steps.{then_step, stop_step, may_go_on}
 use Rattle.table_statements.proofs.Held.{still_named}

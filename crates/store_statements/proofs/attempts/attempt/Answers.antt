@@ -2,8 +2,8 @@ use Rattle.std.proofs.Common.{Result, sym, subst}
 use Rattle.sql_ast.specs.Statements.{statement_tree}
 use Rattle.sql_ast.specs.declared.statement.Statement.{Statement}
 use Rattle.sql_ast.specs.Queries.{query_tree}
-use Rattle.course.specs.declared.ending.Ending.{Ending}
-use Rattle.course.specs.declared.stop.Stop.{Stop}
+use Rattle.statement_steps.specs.declared.ending.Ending.{Ending}
+use Rattle.statement_steps.specs.declared.stop.Stop.{Stop}
 use Rattle.store_statements.specs.Attempted.{attempted, query_attempted}
 use Rattle.store_statements.specs.Printed.{IsStatement}
 use Rattle.store_statements.proofs.attempts.attempt.Goals as goal

@@ -3,7 +3,7 @@ use Rattle.sql_ast.specs.Commands.{bound_tree, command_tree, detaches}
 use Rattle.sql_ast.specs.declared.detachment.Detachment.{Detachment}
 use Rattle.sql_ast.specs.declared.locked_table.LockedTable.{LockedTable}
 use Rattle.sql_ast.specs.declared.command.Command.{Command}
-use Rattle.course.specs.declared.ending.Ending.{Ending}
+use Rattle.statement_steps.specs.declared.ending.Ending.{Ending}
 use Rattle.statement_steps.specs.Steps.{IsStep}
 use Rattle.table_statements.specs.Tables.{created}
 use Rattle.table_statements.specs.Partitions.{partitioned}

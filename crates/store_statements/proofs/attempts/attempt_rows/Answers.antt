@@ -2,7 +2,7 @@ use Rattle.std.proofs.Common.{[], map, sym, subst}
 use Rattle.sql_ast.specs.Expressions.{trees}
 use Rattle.sql_ast.specs.Queries.{maybe_tree, row_tree, setting}
 use Rattle.sql_ast.specs.declared.query.RowStatement.{RowStatement}
-use Rattle.course.specs.Ended.{ended}
+use Rattle.statement_steps.specs.Ended.{ended}
 use Rattle.insert_statement.specs.Inserted.{inserted}
 use Rattle.store_statements.specs.Attempted.{row_attempted}
 use Rattle.store_statements.specs.Printed.{IsStatement}

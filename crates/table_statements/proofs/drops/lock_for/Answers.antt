@@ -2,7 +2,7 @@ use Rattle.std.proofs.Common.{◌≡◌, ◌∙◌, ◌<◌, sym, subst, All, Li
 use Rattle.pg_ids.specs.declared.ids.TableNo.{TableNo}
 use Rattle.pg_ids.specs.declared.lock_mode.LockMode.TheVariants.{AccessExclusive}
 use Rattle.stores.specs.declared.stores.Stores.{Stores}
-use Rattle.course.specs.declared.stop.Stop.{Stop}
+use Rattle.statement_steps.specs.declared.stop.Stop.{Stop}
 use Rattle.statement_steps.specs.Asks.{all_locked}
 use Rattle.statement_steps.specs.Steps.{IsStep}
 use Rattle.statement_steps.specs.Known.{IsKnownTo}

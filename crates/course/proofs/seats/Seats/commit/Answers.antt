@@ -5,7 +5,7 @@ use Rattle.history.specs.History.{tx_events}
 use Rattle.stores.specs.Events.{tx_in, committed}
 use Rattle.course.specs.Kept.{KeptSeats, Adds}
 use Rattle.course.specs.contracts.seats.Seats.{the_view}
-use Rattle.course.proofs.Numbers.{ends_commit}
+use Rattle.statement_steps.proofs.Numbers.{ends_commit}
 use Rattle.course.proofs.Steps.{seats, kept_after, seated_after, ended_adds, as_long, all_set, all_marked, known_of}
 use Rattle.course.proofs.seats.Seats.commit.Goals as goal
 

@@ -2,16 +2,16 @@ use Rattle.std.proofs.Common.{rules, ◌≡◌, ◌<◌, ◌≤◌, ◌+◌, ◌
 use Rattle.history.specs.History.{History}
 use Rattle.sessions.specs.declared.outcome.Outcome.TheVariants as outcomes
 use Rattle.stores.specs.Numbers.{IsAt}
-use Rattle.course.specs.Attempts.{MayGoOn, IsAttempt, IsHalt}
+use Rattle.statement_steps.specs.Attempts.{MayGoOn, IsAttempt, IsHalt}
 use Rattle.course.specs.Database.{caller_of}
-use Rattle.course.specs.Made.{number_after}
+use Rattle.statement_steps.specs.Made.{number_after}
 use Rattle.course.specs.Kept.{AreSeated, TellOf}
 use Rattle.course.specs.Ran.{attempt_at, HasRun}
 use Rattle.course.specs.Weight.{slack}
 use Rattle.course.specs.contracts.seats.Seats.{the_view}
-use Rattle.course.specs.declared.ending.Ending.TheVariants as endings
-use Rattle.course.specs.declared.rest.Rest.TheVariants.{Detach}
-use Rattle.course.specs.declared.stop.Stop.TheVariants as stop
+use Rattle.statement_steps.specs.declared.ending.Ending.TheVariants as endings
+use Rattle.statement_steps.specs.declared.rest.Rest.TheVariants.{Detach}
+use Rattle.statement_steps.specs.declared.stop.Stop.TheVariants as stop
 use Rattle.course.proofs.Lower.{tried_lower}
 use Rattle.course.proofs.Steps.{seats, seated_after, same_size, as_long, known_of}
 use Rattle.course.proofs.Runs.{IsTried, tried, as_meant, set_twice, cancelled_ran, cancelled_tells, done_tells, done_ran, refused_tells, refused_ran, commits_tells, commits_ran, waits_tells, waits_ran, ran_kept, goes_size, one_more}

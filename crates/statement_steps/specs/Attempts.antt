@@ -11,15 +11,15 @@ use Rattle.lock_table.specs.Stands.{IsIdle, OthersWait, SameSize, names}
 use Rattle.stores.specs.Stand.{Stands}
 use Rattle.stores.specs.Numbers.{IsAt}
 use Rattle.stores.specs.declared.stores.Stores.{Stores}
-use Rattle.course.specs.Ended.{Ended, Done, Commits}
-use Rattle.course.specs.Made.{Made, Waits, Refused, number_after}
-use Rattle.course.specs.declared.caller.Caller.{Caller}
-use Rattle.course.specs.declared.ending.Ending.{Ending}
-use Rattle.course.specs.declared.ending.Ending.TheVariants as endings
-use Rattle.course.specs.declared.rest.Rest.{Rest}
-use Rattle.course.specs.declared.rest.Rest.TheVariants.{Rows, Detach}
-use Rattle.course.specs.declared.stop.Stop.{Stop}
-use Rattle.course.specs.declared.stop.Stop.TheVariants as stop
+use Rattle.statement_steps.specs.Ended.{Ended, Done, Commits}
+use Rattle.statement_steps.specs.Made.{Made, Waits, Refused, number_after}
+use Rattle.statement_steps.specs.declared.caller.Caller.{Caller}
+use Rattle.statement_steps.specs.declared.ending.Ending.{Ending}
+use Rattle.statement_steps.specs.declared.ending.Ending.TheVariants as endings
+use Rattle.statement_steps.specs.declared.rest.Rest.{Rest}
+use Rattle.statement_steps.specs.declared.rest.Rest.TheVariants.{Rows, Detach}
+use Rattle.statement_steps.specs.declared.stop.Stop.{Stop}
+use Rattle.statement_steps.specs.declared.stop.Stop.TheVariants as stop
 
 -- the stores stand for a history in which the commands of the session's transaction are below that number
 abbrev pub AreSound : Stores → (session cmd : ℕ) → Type 0

@@ -1,5 +1,5 @@
 ghost use Rattle.std.specs.Prelude.{◌≡◌};
-ghost use Rattle.course.specs.Ended as spec;
+ghost use Rattle.statement_steps.specs.Ended as spec;
 
 use crate::{RestOfDetach, Stop};
 

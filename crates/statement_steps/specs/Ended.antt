@@ -1,10 +1,10 @@
 -- How a run of a statement ends.
 use Rattle.std.specs.Prelude.{ℕ, List, [], Result, Ok, Err}
-use Rattle.course.specs.Made.{Made, Halt}
-use Rattle.course.specs.declared.ending.Ending.{Ending}
-use Rattle.course.specs.declared.ending.Ending.TheVariants as endings
-use Rattle.course.specs.declared.rest.RestOfDetach.{RestOfDetach}
-use Rattle.course.specs.declared.stop.Stop.{Stop}
+use Rattle.statement_steps.specs.Made.{Made, Halt}
+use Rattle.statement_steps.specs.declared.ending.Ending.{Ending}
+use Rattle.statement_steps.specs.declared.ending.Ending.TheVariants as endings
+use Rattle.statement_steps.specs.declared.rest.RestOfDetach.{RestOfDetach}
+use Rattle.statement_steps.specs.declared.stop.Stop.{Stop}
 
 -- it is done, and prints a text; or what it did so far is to be committed, and it goes on there in another transaction
 pub data Ended : Type 0 where
