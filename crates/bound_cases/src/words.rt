@@ -106,7 +106,8 @@ pub(crate) fn bound_of(alloc: Global, words: &str) -> Result<RawBound, NoMemory>
 
 fn columns(alloc: Global, kinds: &str) -> Result<KeyColumns, NoMemory> {
     let mut columns = KeyColumns::new(alloc);
-    for (position, letter) in kinds.chars().enumerate() {
+    for letter in kinds.chars() {
+        let position = columns.as_slice().len();
         let kind = kind(letter);
         columns.push(KeyColumn { position, kind })?;
     }

@@ -1,2 +1,6 @@
+mod Alike
+mod Behind
 mod Marks
+mod Moved
+mod Once
 mod Ways

@@ -30,7 +30,7 @@ use Rattle.part_catalog.specs.Stands.{CatalogueStands}
 use Rattle.part_ddl.specs.Below.{tables_from}
 use Rattle.part_ddl.specs.Dropped.{MayDrop, drop_events}
 use Rattle.part_ddl.proofs.Making.{table_count}
-use Rattle.drop_laws.specs.Laws.{LockedTablesMayGo}
+use Rattle.table_statements.specs.Laws.{LockedTablesMayGo}
 use Rattle.legal_statements.specs.Drops.{IsTableDrop}
 use Rattle.legal_statements.specs.Follows.{MayFollow}
 use Rattle.legal_statements.specs.Laws.{NamedIsThere, TreeIsWhole, TableDropMayFollow}

@@ -1,13 +1,15 @@
-pub mod Chains
-pub mod Taken
 pub mod Below
 pub mod Beside
+pub mod Chains
 pub mod Deeds
 pub mod Dropping
 pub mod Ends
 pub mod Firsts
+pub mod Free
 pub mod Fresh
 pub mod Held
+pub mod Led
 pub mod Left
 pub mod Placing
 pub mod Same
+pub mod Taken

@@ -1,7 +1,8 @@
-pub mod Refused
-pub mod Claims
-pub mod Tables
-pub mod Partitions
-pub mod Drops
 pub mod Asked
+pub mod Claims
+pub mod Drops
+pub mod Laws
+pub mod Partitions
+pub mod Refused
 pub mod Seen
+pub mod Tables

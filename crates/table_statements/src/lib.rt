@@ -9,10 +9,12 @@
 
 mod claims;
 mod drops;
+mod laws;
 mod partitions;
 mod refused;
 mod tables;
 
 pub use drops::drop_tables;
+pub use laws::locked_tables_may_go;
 pub use partitions::{create_partition, lock_default, tables_from};
 pub use tables::create_table;

@@ -23,7 +23,7 @@ use Rattle.history.specs.Places.{table_at}
 use Rattle.table_trees.specs.Trees.{TableTree}
 use Rattle.table_trees.specs.declared.path_part.PathPart.{PathPart}
 use Rattle.table_trees.specs.Histories.{placed, all_placed, is_under, is_over, is_entry, children, above, parent_in, place_among, place_of, upwards, bound_of, child_of_entry, node_at, grown, tree_within}
-use Rattle.drop_laws.proofs.Behind.{other_number}
+use Rattle.detach_laws.proofs.Behind.{other_number}
 
 -- ---- two entries that are placed
 

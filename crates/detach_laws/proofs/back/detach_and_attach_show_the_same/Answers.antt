@@ -1,7 +1,7 @@
 use Rattle.soundness.proofs.Sound.{catalogue_sound_of}
-use Rattle.drop_laws.proofs.Moved.{same_trees, same_paths, same_seen}
-use Rattle.drop_laws.proofs.Once.{one_over}
-use Rattle.drop_laws.proofs.back.detach_and_attach_show_the_same.Goals as goal
+use Rattle.detach_laws.proofs.Moved.{same_trees, same_paths, same_seen}
+use Rattle.detach_laws.proofs.Once.{one_over}
+use Rattle.detach_laws.proofs.back.detach_and_attach_show_the_same.Goals as goal
 
 pub returns : goal.returns
 returns c = λ g h session table leaf s legal permitted back.

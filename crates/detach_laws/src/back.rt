@@ -1,4 +1,4 @@
-ghost use Rattle.drop_laws.specs.Back.{DetachAndAttachShowTheSame};
+ghost use Rattle.detach_laws.specs.Back.{DetachAndAttachShowTheSame};
 
 use soundness::sessions_have_siblings;
 

@@ -14,8 +14,8 @@ use Rattle.soundness.proofs.Listed.{kept_in}
 use Rattle.soundness.proofs.Looking.{counts_world}
 use Rattle.soundness.proofs.Presence.{all_present}
 use Rattle.soundness.proofs.Sound.{sound_of, catalogue_sound_of}
-use Rattle.drop_laws.specs.Back.{IsBackAgain}
-use Rattle.drop_laws.proofs.Behind.{entries_both}
+use Rattle.detach_laws.specs.Back.{IsBackAgain}
+use Rattle.detach_laws.proofs.Behind.{entries_both}
 
 -- the old one is there
 old_present : (g h : History) (session : ℕ) (back : IsBackAgain g h) → Contains (entries_present h session) back.old

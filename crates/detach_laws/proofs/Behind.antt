@@ -12,7 +12,7 @@ use Rattle.history.specs.Transactions.{TxEvents, was_aborted}
 use Rattle.history.specs.Catalogue.{CatalogueEvents, TableMade, TableDropped, EntryAdded, EntryEnded, EntryMarked, CheckKept, Stamps, tables_made, entries_added, checks_kept, entry_ends, marks, counted_of}
 use Rattle.history.specs.History.{History, TxChange, SnapshotChange, RowChange, LockChange, CatalogueChange, catalogue_events}
 use Rattle.history.specs.Places.{AreCatalogueSound}
-use Rattle.drop_laws.specs.Back.{number_behind, entry_behind, event_behind}
+use Rattle.detach_laws.specs.Back.{number_behind, entry_behind, event_behind}
 
 -- ---- lists of both parts
 

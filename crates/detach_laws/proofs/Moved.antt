@@ -31,9 +31,9 @@ use Rattle.table_trees.specs.Histories.{table_of, kept_of, children, above, pare
 use Rattle.table_trees.proofs.Order.{siblings_kept, all_kept}
 use Rattle.table_trees.proofs.Suited.{all_suit}
 use Rattle.soundness.proofs.Listed.{cases_in, none_in}
-use Rattle.drop_laws.specs.Back.{IsBackAgain, number_behind, entry_behind, event_behind}
-use Rattle.drop_laws.proofs.Alike.{StandsApart, trees_alike, children_alike, AreLike, like_append, like_trees, like_found, like_place, like_parent, same_upwards, moved_found}
-use Rattle.drop_laws.proofs.Behind.{Earlier, earlier, Numbers, numbers_tested, stamp_behind, newer_or, other_number, itself, low_stays, high_goes_on, tables_both, tables_behind, checks_both, checks_behind, entries_both, entries_behind, ends_both, ends_behind, marks_both, marks_behind, counted_both, counted_behind, none_of_that, none_newer}
+use Rattle.detach_laws.specs.Back.{IsBackAgain, number_behind, entry_behind, event_behind}
+use Rattle.detach_laws.proofs.Alike.{StandsApart, trees_alike, children_alike, AreLike, like_append, like_trees, like_found, like_place, like_parent, same_upwards, moved_found}
+use Rattle.detach_laws.proofs.Behind.{Earlier, earlier, Numbers, numbers_tested, stamp_behind, newer_or, other_number, itself, low_stays, high_goes_on, tables_both, tables_behind, checks_both, checks_behind, entries_both, entries_behind, ends_both, ends_behind, marks_both, marks_behind, counted_both, counted_behind, none_of_that, none_newer}
 
 -- ---- what is present, and passes a test of its mark, of the events alone
 

@@ -31,8 +31,8 @@ use Rattle.part_ddl.specs.Dropped.{AreTwo, IsNotDropped, KeepsPlaces}
 use Rattle.part_ddl.specs.Laws.{IsWay, IsForest}
 use Rattle.part_ddl.proofs.Forest.{tables_stand_once}
 use Rattle.part_ddl.proofs.Standing.{numbered}
-use Rattle.drop_laws.specs.Laws.{HasLocked, LockedTablesMayGo}
-use Rattle.drop_laws.proofs.Led.{IsLed, all_led}
+use Rattle.table_statements.specs.Laws.{HasLocked, LockedTablesMayGo}
+use Rattle.table_statements.proofs.Led.{IsLed, all_led}
 
 turned : (b : Bool) → not b ≡ true → b ≡ false
 turned true e = absurd (cc)

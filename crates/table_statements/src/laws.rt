@@ -1,4 +1,4 @@
-ghost use Rattle.drop_laws.specs.Laws.{LockedTablesMayGo};
+ghost use Rattle.table_statements.specs.Laws.{LockedTablesMayGo};
 
 /// Where the session's transaction has locked a table, those below it and the one above it, as DROP TABLE
 /// does, `drop_table` may be called, whatever happened before in a sound history.
