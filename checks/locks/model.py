@@ -28,6 +28,13 @@ CONFLICTS = {
 SCHEDULES, STEPS, SESSIONS, TABLES = 3000, 18, 6, 4
 # How often each kind of step is drawn, in a hundred.
 KINDS = "r" * 60 + "e" * 5 + "s" * 5 + "n" * 12 + "x" * 8 + "c" * 5 + "g" * 5
+# Schedules whose answers were worked out by hand: steps, and then the answers; they come first. In the first, two sessions
+# read a table each, and each then wants the other's whole. In the second, a read waits behind an earlier waiter that
+# wants the table whole, and a wait for a snapshot goes on when that has gone, and not when locks are given up.
+BY_HAND = [
+    ("r100 r210 r117 r207 n x2 n", "g g w2 d21 - 1 h1 h1 h h"),
+    ("r100 r507 r300 s41. x1 n n g1 n", "g w1 w5 w1 5 - 4 h5 h h h"),
+]
 
 
 def wanted(history, x):
@@ -129,54 +136,87 @@ def ask(history, x, want):
     return "w" + "".join(map(str, sorted(behind))), after[-1], 0
 
 
+def wish(step):
+    """What a step wants, if it wants something."""
+    if step[0] == "r":
+        return "lock", int(step[2]), MODES[int(step[3])]
+    if step[0] in "es":
+        return "ends" if step[0] == "e" else "snapshots", {int(y) for y in step[2:-1]}
+    return None
+
+
+def act(history, step):
+    """The answer to a step or none, its event or none, and how many shortest cycles there are."""
+    if step == "n":
+        first = ready(history)
+        return ("-", None, 0) if first is None else (str(first), ("resumed", first), 0)
+    want = wish(step)
+    if want:
+        return ask(history, int(step[1]), want)
+    return "", ({"x": "given up", "c": "withdrawn", "g": "gone"}[step[0]], int(step[1])), 0
+
+
+def drawn(numbers, history, tables, modes):
+    """A step, or none where the session that would ask waits already."""
+    kind = numbers.of(KINDS)
+    x = numbers.below(SESSIONS)
+    if kind == "n":
+        return "n"
+    if kind in "xcg":
+        return kind + str(x)
+    if wanted(history, x) is not None:
+        return None
+    if kind == "r":
+        table, mode = numbers.below(tables), numbers.of(modes)
+        return f"r{x}{table}{MODES.index(mode)}"
+    others = {y for y in range(SESSIONS) if y != x and numbers.below(10) < 3}
+    return kind + str(x) + "".join(map(str, sorted(others))) + "."
+
+
+def holders(history):
+    """The answers that stand last: who holds each table."""
+    for table in range(TABLES):
+        yield "h" + "".join(str(x) for x in range(SESSIONS) if any(holds(history, x, table, mode) for mode in MODES))
+
+
 def schedule(numbers):
     """A line of steps, the line of their answers, and the numbers of shortest cycles that were met."""
     history, steps, answers, met = [], [], [], []
     tables = 1 + numbers.below(TABLES)
     modes = numbers.of([MODES, MODES, MODES[:4], MODES[3:], ["AS", "AE"], ["RE", "S", "AE"]])
     while len(steps) < STEPS:
-        kind = numbers.of(KINDS)
-        x = numbers.below(SESSIONS)
-        idle = wanted(history, x) is None
-        answer, event = "", None
-        if kind in "res" and idle:
-            if kind == "r":
-                table, mode = numbers.below(tables), numbers.of(modes)
-                step = f"r{x}{table}{MODES.index(mode)}"
-                want = ("lock", table, mode)
-            else:
-                others = {y for y in range(SESSIONS) if y != x and numbers.below(10) < 3}
-                step = kind + str(x) + "".join(map(str, sorted(others))) + "."
-                want = ("ends" if kind == "e" else "snapshots", others)
-            answer, event, several = ask(history, x, want)
-            if several:
-                met.append(several)
-        elif kind == "n":
-            step = "n"
-            first = ready(history)
-            answer = "-" if first is None else str(first)
-            event = None if first is None else ("resumed", first)
-        elif kind in "xcg":
-            step = kind + str(x)
-            event = ({"x": "given up", "c": "withdrawn", "g": "gone"}[kind], x)
-        else:
+        step = drawn(numbers, history, tables, modes)
+        if step is None:
             continue
+        answer, event, several = act(history, step)
         steps.append(step)
+        if several:
+            met.append(several)
         if event:
             history.append(event)
         if answer:
             answers.append(answer)
-    for table in range(TABLES):
-        holders = [x for x in range(SESSIONS) if any(holds(history, x, table, mode) for mode in MODES)]
-        answers.append("h" + "".join(map(str, holders)))
-    return "".join(steps), " ".join(answers), met
+    return "".join(steps), " ".join(answers + list(holders(history))), met
+
+
+def by_hand(steps, answers):
+    """A schedule that was worked out by hand; its answers have to be those of the definitions."""
+    history, found = [], []
+    for step in steps.split():
+        answer, event, _ = act(history, step)
+        if event:
+            history.append(event)
+        if answer:
+            found.append(answer)
+    assert " ".join(found + list(holders(history))) == answers, steps
+    return steps.replace(" ", ""), answers
 
 
 def main():
     folder = sys.argv[1]
     numbers = Numbers(16)
     lines = [schedule(numbers) for _ in range(SCHEDULES)]
-    write(folder, lines)
+    write(folder, [by_hand(*schedule) for schedule in BY_HAND] + lines)
     met = [several for line in lines for several in line[2]]
     print(f"{SCHEDULES} schedules, {sum(bool(line[2]) for line in lines)} with a cycle, {len(met)} cycles,", end=" ")
     print(f"{sum(several > 1 for several in met)} of them one of several shortest")

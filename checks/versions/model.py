@@ -18,6 +18,18 @@ sys.path.insert(0, os.path.dirname(os.path.dirname(os.path.abspath(__file__))))
 from schedules import Numbers, fate, given, held_by, open_of, owners, sees, write, written
 
 SCHEDULES, STEPS, SESSIONS, LEAVES = 2200, 40, 5, 3
+# Schedules whose answers were worked out by hand, each step before a dash and its answer behind it; they come first. The
+# first has the three schedules of docs/snapshots.md, one behind the other: a version has its number as its value. In the
+# second a snapshot that is held does not see what is committed behind it, and sees what its own transaction stored before
+# its number; in the third it is given again, until it is dropped.
+BY_HAND = [
+    """l-0l b2-0b p2000-+ c2-+ b0-1b b1-2b h100-+ s100-00s r0001-+ s001-11s s101-00s c0-+ s101-00s
+    b0-3b s000-11s d1-+ c1-+ b1-4b s100-11s e010-+ s001-s s101-11s a0-+
+    b0-5b s000-11s s101-11s e111-+ s000-11s c1-+ s000-s p0002-+ s000-s s001-22s p0013-+ p0014-+ s001-22s s002-223344s
+    e022-+ s002-223344s s003-3344s""",
+    "l-0l b0-0b b1-1b p0000-+ h103-+ c0-+ s103-s p1021-+ p1032-+ s103-11s d1-+ s107-001122s f0-0c f1-1r o1-1o",
+    "l-0l b0-0b h005-+ o0-0h5o d0-+ o0-0o a0-+ f0-0a",
+]
 # How often each kind of step is drawn: for a session with a transaction, for one that holds a snapshot
 # besides, and for one without a transaction.
 BUSY = "p" * 12 + "r" * 16 + "e" * 8 + "m" * 8 + "s" * 14 + "n" * 10 + "h" * 14 + "d" + "c" * 10 + "a" * 9 + "fob"
@@ -198,6 +210,21 @@ def schedule(numbers, counts):
     return "".join(steps), "".join(answers) + written(trail)
 
 
+def by_hand(text):
+    """A schedule that was worked out by hand and the line of its answers, which have to be those of the definitions."""
+    history, steps, answers, trail = [], [], [], []
+    for pair in text.split():
+        now, wanted = pair.split("-")
+        letter, numbers, events = step(history, now[0], *[ord(byte) - ord("0") for byte in now[1:]])
+        assert written(numbers + [letter]) == wanted, pair
+        if letter == "s":
+            trail.append(ord(now[2]) - ord("0"))
+        history += events
+        steps.append(now)
+        answers.append(wanted + " ")
+    return "".join(steps), "".join(answers) + written(trail)
+
+
 def tally(counts, history, now, told):
     """Counts the scans that show something else than other rules would."""
     _, session, leaf, cmd = now
@@ -214,7 +241,7 @@ def main():
     folder = sys.argv[1]
     numbers, counts = Numbers(13), {}
     lines = [schedule(numbers, counts) for _ in range(SCHEDULES)]
-    write(folder, lines)
+    write(folder, [by_hand(text) for text in BY_HAND] + lines)
     print(f"{SCHEDULES} schedules, {counts['s']} scans: {counts['held']} see something else than by a fresh", end=" ")
     print(f"snapshot, {counts['undone']} a version whose end was undone; answers by their letters:", end=" ")
     print(", ".join(f"{letter} {counts[letter]}" for letter in sorted(counts) if len(letter) == 1))

@@ -30,7 +30,28 @@ step q: SELECT * FROM t WHERE a = 10;
 
 const REFUSED: &str = "line 1: unexpected token\n";
 
-/// How the objects around a call behave: the calls that fail, and the most bytes of each call.
+/// A script that writes to both outputs.
+const BOTH: &str = "teardown { DROP TABLE t; }
+session s
+step q { SELECT 1; }
+permutation q
+";
+
+const BOTH_PRINTED: &str = "Parsed test spec with 1 sessions
+
+starting permutation: q
+step q: SELECT 1;
+?column?
+--------
+       1
+(1 row)
+
+";
+
+const BOTH_REFUSED: &str = "teardown of control failed: 42P01 no table t\n";
+
+/// How the objects around a call behave: the calls that fail, the most bytes of each call, and how many
+/// bytes the standard output has room for.
 #[derive(Clone, Copy)]
 struct Around<'a> {
     read_fails: &'a [u64],
@@ -38,6 +59,7 @@ struct Around<'a> {
     out_takes_nothing: &'a [u64],
     err_fails: &'a [u64],
     most: usize,
+    room: usize,
     with_a_word: bool,
 }
 
@@ -57,6 +79,17 @@ impl Outcome {
             && self.out.bytes() == out.as_bytes()
             && self.err.bytes() == err.as_bytes()
     }
+
+    // A write failed when so many of these bytes were written.
+    fn is_cut(&self, out: &str, out_count: usize, err: &str, err_count: usize) -> bool {
+        self.ended == Ended::WriteFault
+            && begins(out, self.out.bytes(), out_count)
+            && begins(err, self.err.bytes(), err_count)
+    }
+}
+
+fn begins(whole: &str, taken: &[u8], count: usize) -> bool {
+    taken.len() == count && whole.as_bytes().starts_with(taken)
 }
 
 fn call(alloc: Global, script: &[u8], around: &Around<'_>) -> Result<Outcome, NoMemory>
@@ -72,7 +105,7 @@ fn call(alloc: Global, script: &[u8], around: &Around<'_>) -> Result<Outcome, No
     let nothing = Vec::from_slice(alloc, around.out_takes_nothing)?;
     let err_fails = Vec::from_slice(alloc, around.err_fails)?;
     let mut source = BytesSource::new(bytes, read_fails, around.most);
-    let mut out = ListSink::new(alloc, 1000, out_fails, nothing, around.most)?;
+    let mut out = ListSink::new(alloc, around.room, out_fails, nothing, around.most)?;
     let mut err = ListSink::new(alloc, 1000, err_fails, Vec::new(alloc), around.most)?;
     let ended = partscript_run(alloc, &words, &mut source, &mut out, &mut err);
     Ok(Outcome { ended, out, err })
@@ -87,6 +120,7 @@ fn no_fault(most: usize) -> Around<'static>
         out_takes_nothing: NO_CALL,
         err_fails: NO_CALL,
         most,
+        room: 1000,
         with_a_word: false,
     }
 }
@@ -120,6 +154,10 @@ fn a_failed_write_ends_the_call(rt: HostRuntime) {
     let failed = call(alloc, THREE_ROWS.as_bytes(), &around).expect(&rt, "memory");
     assert!(rt; failed.is(Ended::WriteFault, "Parsed ", ""));
     around = no_fault(7);
+    around.room = 8;
+    let failed = call(alloc, THREE_ROWS.as_bytes(), &around).expect(&rt, "memory");
+    assert!(rt; failed.is(Ended::WriteFault, "Parsed t", ""));
+    around = no_fault(7);
     around.err_fails = &[1];
     let failed = call(alloc, b"", &around).expect(&rt, "memory");
     assert!(rt; failed.is(Ended::WriteFault, "", "line 1:"));
@@ -141,4 +179,33 @@ fn a_long_input_is_refused_and_a_failed_read_within_it(rt: HostRuntime) {
     around.read_fails = &[1025];
     let large = call(alloc, &long, &around).expect(&rt, "memory");
     assert!(rt; large.is(Ended::TooLarge, "", "input over 4194304 bytes\n"));
+}
+
+// One byte is read or written at a time, so that each has a call of its own; a last read finds the end.
+#[test]
+fn each_failed_read_and_write_is_answered(rt: HostRuntime) {
+    let alloc = rt.alloc();
+    let whole = call(alloc, BOTH.as_bytes(), &no_fault(1)).expect(&rt, "memory");
+    assert!(rt; whole.is(Ended::ScriptRefused, BOTH_PRINTED, BOTH_REFUSED));
+    for read in 0..=BOTH.len() {
+        let mut around = no_fault(1);
+        let fails = [read as u64];
+        around.read_fails = &fails;
+        let failed = call(alloc, BOTH.as_bytes(), &around).expect(&rt, "memory");
+        assert!(rt; failed.is(Ended::ReadFault, "", "read failed\n"));
+    }
+    for write in 0..BOTH_PRINTED.len() {
+        let mut around = no_fault(1);
+        let fails = [write as u64];
+        around.out_fails = &fails;
+        let failed = call(alloc, BOTH.as_bytes(), &around).expect(&rt, "memory");
+        assert!(rt; failed.is_cut(BOTH_PRINTED, write, "", 0));
+    }
+    for write in 0..BOTH_REFUSED.len() {
+        let mut around = no_fault(1);
+        let fails = [write as u64];
+        around.err_fails = &fails;
+        let failed = call(alloc, BOTH.as_bytes(), &around).expect(&rt, "memory");
+        assert!(rt; failed.is_cut(BOTH_PRINTED, BOTH_PRINTED.len(), BOTH_REFUSED, write));
+    }
 }
