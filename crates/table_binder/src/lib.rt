@@ -21,6 +21,3 @@ pub use bounds::bind_bound;
 pub use columns::{bind_columns, kind_named};
 pub use faults::no_type;
 pub use partitioning::bind_partitioning;
-
-#[cfg(test)]
-mod tests;
