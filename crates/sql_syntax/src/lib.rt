@@ -13,6 +13,3 @@ mod statements;
 
 pub use parse::{MOST_STATEMENTS, no_two_blocks, parse_block, refused_blocks_stop_there};
 pub use statement::Statement;
-
-#[cfg(test)]
-mod tests;
