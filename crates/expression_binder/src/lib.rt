@@ -32,6 +32,3 @@ pub use operands::{check_item, check_look_up, check_operand, typed_of};
 pub use scalars::{bind_constant, bind_scalar, store};
 pub use scope::{Allowed, Names, Param, ScopeColumn, ScopeItem, condition_names, nothing_more};
 pub use typed::{Given, Typed};
-
-#[cfg(test)]
-mod tests;
