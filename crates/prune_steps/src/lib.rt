@@ -24,8 +24,6 @@ mod marks;
 mod reading;
 mod running;
 mod step;
-#[cfg(test)]
-mod tests;
 
 pub use kept_set::KeptSet;
 pub use laws::pruning_is_sound;
