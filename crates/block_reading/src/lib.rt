@@ -10,6 +10,3 @@ mod faults;
 mod reading;
 
 pub use reading::read_block;
-
-#[cfg(test)]
-mod tests;

@@ -34,6 +34,3 @@ pub use parameters::bind_params;
 pub use pushing::push_not;
 pub use scalar::Scalar;
 pub use truth::Truth3;
-
-#[cfg(test)]
-mod tests;

@@ -21,8 +21,6 @@ mod changes;
 mod cycle;
 mod laws;
 mod table;
-#[cfg(test)]
-mod tests;
 
 pub use asked::Asked;
 pub use laws::{

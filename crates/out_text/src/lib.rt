@@ -15,6 +15,3 @@ mod width;
 pub use column::Column;
 pub use fault_text::{write_fault, write_fault_text};
 pub use table::write_table;
-
-#[cfg(test)]
-mod tests;

@@ -19,6 +19,3 @@ pub use lock_mode::{LockMode, conflicts_are_mutual};
 pub use session_list::SessionList;
 pub use session_set::SessionSet;
 pub use which::Which;
-
-#[cfg(test)]
-mod tests;

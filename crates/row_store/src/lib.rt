@@ -14,8 +14,6 @@
 #![tactic(auto)]
 
 mod judge;
-#[cfg(test)]
-mod judge_tests;
 mod leaf;
 mod newest;
 mod refused;
@@ -23,8 +21,6 @@ mod scan;
 mod slot;
 mod store;
 mod stored;
-#[cfg(test)]
-mod tests;
 mod trail;
 
 pub use judge::{RowTest, Verdict};

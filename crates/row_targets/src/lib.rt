@@ -26,6 +26,3 @@ pub use finding::{TargetRow, find_targets};
 pub use settings::new_row;
 pub use updater::Updater;
 pub use verdicts::{Conflict, Verdict};
-
-#[cfg(test)]
-mod tests;

@@ -15,6 +15,3 @@ mod table_names;
 
 pub use computing::{column_value, scalar_value, table_value};
 pub use table_names::TableNames;
-
-#[cfg(test)]
-mod tests;

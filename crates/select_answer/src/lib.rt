@@ -32,6 +32,3 @@ pub const TUPLE_LIMIT: usize = 1_000_000;
 
 /// How many bytes their values have at most: a value counts 16 bytes, and a text its length besides.
 pub const TUPLE_BYTES_LIMIT: u64 = 268_435_456;
-
-#[cfg(test)]
-mod tests;

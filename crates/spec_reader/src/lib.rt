@@ -48,6 +48,3 @@ pub use spec::{
     BlockList, Marker, Markers, PermutationList, SessionSpec, SessionSpecs, Spec, StepSpec,
     StepSpecs, StepUse, UseList,
 };
-
-#[cfg(test)]
-mod tests;

@@ -11,6 +11,3 @@ mod parse;
 mod statements;
 
 pub use parse::{MOST_STATEMENTS, no_two_blocks, parse_block, refused_blocks_stop_there};
-
-#[cfg(test)]
-mod tests;

@@ -36,6 +36,3 @@ pub use reader::read_tokens;
 pub use token::Token;
 pub use words::word_kind;
 pub use written::{names_read_back, strings_read_back};
-
-#[cfg(test)]
-mod tests;

@@ -16,8 +16,6 @@ mod laws;
 mod locks;
 mod snapshots;
 mod stores;
-#[cfg(test)]
-mod tests;
 mod transactions;
 mod trees;
 

@@ -13,8 +13,6 @@
 
 mod snapshot;
 mod table;
-#[cfg(test)]
-mod tests;
 
 pub use snapshot::{Snapshot, number_is_set};
 pub use table::TxTable;

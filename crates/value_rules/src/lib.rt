@@ -25,6 +25,3 @@ pub use fault_texts::{kind_word, one_text, out_of_range, three_texts, two_texts}
 pub use operators::{Arith, ArithFault};
 pub use reading::read_value;
 pub use round_trip::reads_back;
-
-#[cfg(test)]
-mod tests;
