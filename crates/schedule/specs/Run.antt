@@ -3,9 +3,9 @@
 -- after a launch does, before the next one.
 use Rattle.std.specs.Prelude.{◌≡◌, ℕ, ◌==◌, ◌&&◌, ◌||◌, not, Bool, true, false, if◌then◌else◌, List, [], ◌∷◌, ◌++◌, Option, Some, None, length, slice_set, replicate}
 use Rattle.pg_values.specs.declared.fault.Fault.{Fault}
-use Rattle.schedule.specs.Blocks.{BlockView, Seated, no_seat, seat_at, seat_of}
+use Rattle.schedule.specs.Blocks.{BlockView, Seated, is_step, no_seat, seat_at, seat_of}
 use Rattle.schedule.specs.Lines.{permutation_lines, waiting_line, end_lines, teardown_lines}
-use Rattle.schedule.specs.Lists.{first, head_of, is_in, any_of, without}
+use Rattle.schedule.specs.Lists.{first, is_in, any_of, without}
 use Rattle.schedule.specs.Rules.{Rules}
 use Rattle.schedule.specs.declared.block.Kind.{Kind}
 use Rattle.schedule.specs.declared.block.Kind.TheVariants.{Setup, Step, Teardown, ControlTeardown}
@@ -46,9 +46,16 @@ is_open_at (x ∷ xs) step = (x.is_open && (x.step == step)) || is_open_at xs st
 abbrev pub is_held_back : List Seated → ℕ → ℕ → Seated → Bool
 is_held_back seats last s seat = (seat.starred && (last == s)) || any_of (is_open_at seats) seat.behind
 
+-- markers hold up to the end of the steps
+abbrev pub markers_hold : List Task → Bool
+markers_hold [] = false
+markers_hold (Launch b ∷ ts) = is_step b.kind
+markers_hold (Settle ∷ ts) = true
+markers_hold (RollBack s ∷ ts) = false
+
 -- the first end that no marker holds back any more
-abbrev pub tellable : List Seated → ℕ → List ℕ → Option ℕ
-tellable seats last held = first (λ s. not (is_held_back seats last s (seat_at seats s))) held
+abbrev pub tellable : List Task → List Seated → ℕ → List ℕ → Option ℕ
+tellable tasks seats last held = first (λ s. not (markers_hold tasks && is_held_back seats last s (seat_at seats s))) held
 
 -- What is printed of an event, in the world after it.
 
@@ -192,16 +199,15 @@ next_launch true h s = Cancels s
 next_launch false true s = Tells s
 next_launch false false s = Launches
 
--- at the end of the steps the oldest wait is cancelled, until none waits, and then the held reports are told
-abbrev pub next_settle : Option ℕ → Option ℕ → Event
-next_settle (Some s) h = Cancels s
-next_settle None (Some s) = Tells s
-next_settle None None = Settles
+-- at the end of the steps the oldest wait is cancelled, until none waits: then no marker holds any more
+abbrev pub next_settle : Option ℕ → Event
+next_settle (Some s) = Cancels s
+next_settle None = Settles
 
 abbrev pub next_task : {S : Type 0} → Rules S → World S → List Task → Option Event
 next_task R w [] = next_permutation w.permutations
 next_task R w (Launch b ∷ ts) = Some (next_launch (R.waits w.db b.session) (is_in b.session w.held) b.session)
-next_task R w (Settle ∷ ts) = Some (next_settle (R.oldest w.db) (head_of w.held))
+next_task R w (Settle ∷ ts) = Some (next_settle (R.oldest w.db))
 next_task R w (RollBack s ∷ ts) = Some (RollsBack s)
 
 -- who has the turn goes on; then one whose wait a statement has cancelled; then a report that no marker holds; then the
@@ -215,7 +221,7 @@ next_from R w None None None None = next_task R w w.tasks
 
 -- a failed setup, or a failed teardown of the control session, ends the run
 abbrev pub next_of : {S : Type 0} → Rules S → World S → RunEnd → Option Event
-next_of R w All = next_from R w w.turn (R.interrupted w.db) (tellable w.seats w.last w.held) (R.ready w.db)
+next_of R w All = next_from R w w.turn (R.interrupted w.db) (tellable w.tasks w.seats w.last w.held) (R.ready w.db)
 next_of R w (SetupFailed s fault) = None
 next_of R w (TeardownFailed fault) = None
 

@@ -1,9 +1,10 @@
 ghost use Rattle.std.specs.Prelude.{◌≡◌, ◌<◌, ◌≤◌, ℕ, true, All, length, IfSome};
 ghost use Rattle.schedule.specs.Lists.{is_in, any_of, without};
 ghost use Rattle.schedule.specs.Blocks.{seat_at};
-ghost use Rattle.schedule.specs.Run.{is_open_at, is_held_back, tellable};
+ghost use Rattle.schedule.specs.Run.{is_open_at, is_held_back, markers_hold, tellable};
 
-use crate::seat::Seat;
+use crate::seat::{Seat, is_step};
+use crate::task::Task;
 
 // Whether a use of the step was launched and its end was not printed.
 fn is_open_at(seats: &[Seat<'_>], step: usize) -> bool
@@ -38,15 +39,32 @@ pub(crate) fn is_held_back(seats: &[Seat<'_>], last: usize, session: usize) -> b
     (seat.starred() && last == session) || is_any_open(seats, seat.behind())
 }
 
+// Whether the steps have not ended yet.
+fn markers_hold(tasks: &[Task<'_>]) -> bool
+    ensures { result ≡ markers_hold tasks.now }
+{
+    match tasks.split_first() {
+        Some((Task::Launch { block }, _)) => is_step(block.kind()),
+        Some((Task::Settle, _)) => true,
+        Some((Task::RollBack { .. }, _)) | None => false,
+    }
+}
+
 /// The first end whose report no marker holds back.
-pub(crate) fn tellable(seats: &[Seat<'_>], last: usize, held: &[usize]) -> Option<usize>
+pub(crate) fn tellable(
+    tasks: &[Task<'_>],
+    seats: &[Seat<'_>],
+    last: usize,
+    held: &[usize],
+) -> Option<usize>
     requires { All (λ s. s < length seats.now) held.now }
-    ensures is { result ≡ tellable seats.now last held.now }
+    ensures is { result ≡ tellable tasks.now seats.now last held.now }
     ensures held { IfSome result (λ s. is_in s held.now ≡ true) }
     ensures known { IfSome result (λ s. s < length seats.now) }
 {
+    let holds = markers_hold(tasks);
     for session in held {
-        if !is_held_back(seats, last, *session) {
+        if !(holds && is_held_back(seats, last, *session)) {
             return Some(*session);
         }
     }

@@ -1,5 +1,5 @@
 ghost use Rattle.std.specs.Prelude.{◌≡◌, ◌<◌, [], None, length, IfSome};
-ghost use Rattle.schedule.specs.Lists.{head_of, is_in};
+ghost use Rattle.schedule.specs.Lists.{is_in};
 ghost use Rattle.schedule.specs.Run.{World, tellable, next_permutation, next_launch, next_settle, next_task, next_from, next};
 ghost use Rattle.schedule.specs.Stands.{Stands, MayCome, IsLaunch};
 
@@ -28,7 +28,7 @@ impl<'e, 's, D: Database> Engine<'e, 's, D> {
     // What happens next where nobody has the turn.
     fn next_idle(&self) -> Option<Event>
         requires idle { self.now.turn ≡ None }
-        ensures is { (w : World D.State) → Stands D.Database self.now w → result ≡ next_from D.rules w None (D.rules.interrupted w.db) (tellable w.seats w.last w.held) (D.rules.ready w.db) }
+        ensures is { (w : World D.State) → Stands D.Database self.now w → result ≡ next_from D.rules w None (D.rules.interrupted w.db) (tellable w.tasks w.seats w.last w.held) (D.rules.ready w.db) }
         ensures may { IfSome result (MayCome D.Database self.now) }
     {
         match self.db.interrupted() {
@@ -40,10 +40,10 @@ impl<'e, 's, D: Database> Engine<'e, 's, D> {
     // What happens next where no statement has cancelled another session's wait.
     fn next_undisturbed(&self) -> Option<Event>
         requires idle { self.now.turn ≡ None }
-        ensures is { (w : World D.State) → Stands D.Database self.now w → result ≡ next_from D.rules w None None (tellable w.seats w.last w.held) (D.rules.ready w.db) }
+        ensures is { (w : World D.State) → Stands D.Database self.now w → result ≡ next_from D.rules w None None (tellable w.tasks w.seats w.last w.held) (D.rules.ready w.db) }
         ensures may { IfSome result (MayCome D.Database self.now) }
     {
-        match tellable(&self.seats, self.last, &self.held) {
+        match tellable(self.tasks, &self.seats, self.last, &self.held) {
             Some(session) => Some(Event::Tells { session }),
             None => match self.db.ready() {
                 Some(session) => Some(Event::Resumes { session }),
@@ -100,15 +100,12 @@ impl<'e, 's, D: Database> Engine<'e, 's, D> {
     fn next_settle(&self) -> Event
         requires idle { self.now.turn ≡ None }
         requires some { 0 < length self.now.tasks.now }
-        ensures is { (w : World D.State) → Stands D.Database self.now w → result ≡ next_settle (D.rules.oldest w.db) (head_of w.held) }
+        ensures is { (w : World D.State) → Stands D.Database self.now w → result ≡ next_settle (D.rules.oldest w.db) }
         ensures may { MayCome D.Database self.now result }
     {
         match self.db.oldest() {
             Some(session) => Event::Cancels { session },
-            None => match self.held.first() {
-                Some(session) => Event::Tells { session: *session },
-                None => Event::Settles,
-            },
+            None => Event::Settles,
         }
     }
 }

@@ -4,7 +4,8 @@ ghost use Rattle.schedule.specs.Blocks.{no_seat, seat_of, is_step};
 use crate::block::{Block, Kind};
 use std::marker::Model;
 
-fn is_step(kind: Kind) -> bool
+/// Whether the block is that of a step.
+pub(crate) fn is_step(kind: Kind) -> bool
     ensures { result ≡ is_step kind }
 {
     match kind {

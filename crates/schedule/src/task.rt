@@ -10,7 +10,7 @@ use std::marker::Model;
 pub enum Task<'s> {
     /// A block is launched.
     Launch { block: Block<'s> },
-    /// The steps have ended: what waits is cancelled, and what is held back is told.
+    /// The steps have ended: what waits is cancelled, and then no marker holds any more.
     Settle,
     /// What the session has open is rolled back.
     RollBack { session: usize },
