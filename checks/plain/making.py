@@ -1,5 +1,7 @@
 """Makes scripts from numbers that are the same on every machine: small partitioned tables, a few sessions whose
 transactions get in one another's way, and permutations of their steps."""
+import re
+
 from bounds import key_hash
 from runs import Permutation
 from script import Script, Session, Step, Use
@@ -411,11 +413,15 @@ class Maker:
                 found.append(self.outside() + (" " + self.statement() if numbers.chance(10) else ""))
         return found
 
-    def marked(self, name, others):
+    def marked(self, name, others, chance):
+        """With markers by such a chance, mostly more than one."""
         numbers = self.numbers
-        if not numbers.chance(4) or not others:
+        if not numbers.chance(chance) or not others:
             return name
-        return name + ("(*)" if numbers.chance(40) else f"({numbers.of(others)})")
+        markers = [numbers.of(others) for _ in range(1 + numbers.below(4))]
+        if numbers.chance(30):
+            markers[numbers.below(len(markers))] = "*"
+        return f"{name}({','.join(markers)})"
 
     def permutation(self, setup, sessions, goes_on):
         """The sessions' steps, each session's in their order, mixed. Where `goes_on`, a session that waits is mostly
@@ -424,6 +430,8 @@ class Maker:
         script = Script()
         script.setups, script.sessions = [" ".join(setup)], [Session(f"s{place + 1}") for place in range(len(sessions))]
         run = Permutation(script, [], lambda text: None, False)
+        # (in some permutations nearly each step has markers)
+        marks = 70 if numbers.chance(30) else 4
         if goes_on:
             run.begin()
         while any(left):
@@ -436,7 +444,7 @@ class Maker:
                 continue
             name, block = left[session].pop(0)
             others = [name for place, steps in enumerate(sessions) if place != session for name, _ in steps]
-            uses.append(self.marked(name, others))
+            uses.append(self.marked(name, others, marks))
             if goes_on:
                 run.launch(Use(Step(name, block, session + 1), False, []))
                 run.settle()
@@ -477,7 +485,7 @@ def script_of(made):
 
 def alone(setup, sessions, uses):
     """A script of one permutation, of the steps that it uses or names."""
-    named = {name for use in uses for name in use.replace("(", " ").replace(")", " ").split()}
+    named = {name for use in uses for name in re.findall(r"\w+", use)}
     lines = ["setup {\n  " + "\n  ".join(setup) + "\n}"]
     for place, steps in enumerate(sessions):
         lines.append(f"session s{place + 1}")

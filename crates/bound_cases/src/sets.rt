@@ -12,7 +12,10 @@ use bound_checks::check_bound;
 use bound_forms::{
     Bound, Key, Level, level_bounds_compare, level_bounds_have_a_kind, level_keys_fit, within,
 };
-use part_bounds::{BoundSet, accepts, add_bound, bound, find_child_uncounted, len, modulus_fault, overlap_uncounted};
+use part_bounds::{
+    BoundSet, accepts, add_bound, bound, find_child_uncounted, len, modulus_fault,
+    overlap_uncounted,
+};
 use pg_values::{NoMemory, Refusal};
 use std::alloc::Global;
 use std::cell::Cell;
