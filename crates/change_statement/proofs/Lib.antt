@@ -1,6 +1,7 @@
 pub mod Births
 pub mod Homes
 pub mod Kept
+pub mod Moments
 pub mod Renewed
 pub mod Runs
 pub mod Ended

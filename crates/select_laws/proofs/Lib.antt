@@ -1,3 +1,4 @@
 pub mod Few
+pub mod Moments
 pub mod Numbers
 pub mod Plain

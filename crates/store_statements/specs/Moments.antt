@@ -1,8 +1,10 @@
 -- What holds of statements at each moment of a run: the leaves that they leave out change nothing.
 use Rattle.history.specs.History.{History}
 use Rattle.stores.specs.Good.{IsGood}
-use Rattle.select_laws.specs.Moments.{SelectsArePlain, good_selects}
-use Rattle.change_statement.specs.Moments.{ChangesArePlain, good_changes}
+use Rattle.select_laws.specs.Moments.{SelectsArePlain}
+use Rattle.select_laws.proofs.Moments.{good_selects}
+use Rattle.change_statement.specs.Moments.{ChangesArePlain}
+use Rattle.change_statement.proofs.Moments.{good_changes}
 
 -- SELECT, UPDATE and DELETE do over the leaves that they read what they would do over all
 abbrev pub StatementsArePlain : History → Type 0
