@@ -33,7 +33,6 @@ use Rattle.legal_statements.specs.Entries.{IsNewMark}
 use Rattle.legal_statements.specs.Laws.{ListedIsThere, NobodyElseMarks, MarkMayFollow}
 use Rattle.soundness.proofs.Listed.{child_listed}
 use Rattle.partition_scans.specs.Sessions.{those}
-use Rattle.partition_scans.proofs.Sets.{are_those}
 use Rattle.stores.specs.Numbers.{IsAt}
 use Rattle.stores.specs.Stand.{Stands}
 use Rattle.stores.specs.declared.stores.Stores.{Stores}
@@ -56,6 +55,7 @@ use Rattle.detach_statement.specs.Concurrent.{default_faults, pending_faults, no
 use Rattle.detach_statement.specs.Detached.{not_a_partition, name_at, is_table}
 use Rattle.detach_statement.proofs.LeftPlaces.{MayChange, Over, over_is, over_present, over_guarded, over_between}
 use Rattle.detach_statement.proofs.Refusing.{none_against, is_parent}
+use Rattle.detach_statement.proofs.SessionSets.{are_those}
 
 pub record MarkLaws : Type 0 where
   pub listed : ListedIsThere
