@@ -68,9 +68,9 @@ no_default : (h : History) (p : ℕ) (o : Option TableNo) (rest : Result (Unit {
 no_default h p None rest e = (refl, e)
 no_default h p (Some d) rest e = absurd (let c = e in cc)
 
-no_pending : (h : History) (p : ℕ) (o : Option TableNo) → unless_faults (pending_faults h p o) (Ok tt) ≡ Ok tt → o ≡ None
-no_pending h p None e = refl
-no_pending h p (Some t) e = absurd (let c = e in cc)
+no_pending : (h : History) (p : ℕ) (o : Option TableNo) (rest : Result (Unit {0}) Fault) → unless_faults (pending_faults h p o) rest ≡ Ok tt → o ≡ None
+no_pending h p None rest e = refl
+no_pending h p (Some t) rest e = absurd (let c = e in cc)
 
 none_told_below : (o : Option Entry) → child_told o ≡ None → o ≡ None
 none_told_below None e = refl
@@ -92,7 +92,7 @@ is_markable h s t p e =
     record {
       parent = is_parent (parent_in h s t) p (none_against is other first.0);
       no_default = second.0;
-      no_pending = none_told_below (pending_entry h s p.number) (no_pending h p.number (child_told (pending_entry h s p.number)) second.1);
+      no_pending = none_told_below (pending_entry h s p.number) (no_pending h p.number (child_told (pending_entry h s p.number)) (Ok tt) second.1);
     }
 
 -- ---- what is known of the others
