@@ -1,9 +1,7 @@
 -- The default partition of a table, which the session may ask for.
-use Rattle.std.proofs.Common.{◌≡◌, ℕ, ◌<◌, subst, arith, Some, length}
+use Rattle.std.proofs.Common.{◌≡◌, ℕ, subst, arith, Some}
 use Rattle.pg_ids.specs.declared.ids.TableNo.{TableNo}
 use Rattle.history.specs.History.{History}
-use Rattle.part_catalog.specs.Kept.{KeptCatalogue}
-use Rattle.part_catalog.specs.Stands.{CatalogueStands}
 use Rattle.part_ddl.specs.Below.{default_of}
 use Rattle.part_ddl.proofs.Making.{table_count}
 use Rattle.legal_statements.specs.Laws.{ListedIsThere, ThereIsKnown}
@@ -13,7 +11,7 @@ use Rattle.course.specs.Attempts.{MayAttempt}
 use Rattle.course.specs.declared.caller.Caller.{Caller}
 use Rattle.statement_steps.specs.Known.{IsKnownTo}
 use Rattle.statement_steps.proofs.Parts.{known_by}
-use Rattle.table_statements.proofs.Below.{default_entry, entry_suits, here_of}
+use Rattle.table_statements.proofs.Below.{default_entry, here_of}
 
 pub default_known : ListedIsThere → ThereIsKnown → (stores : Stores) (caller : Caller) (h : History) (p : ℕ) (d : TableNo) → MayAttempt stores caller → Stands stores h → default_of h caller.session p ≡ Some d → IsKnownTo stores caller.session d.number
 default_known listed there stores caller h p d may stands is =
@@ -24,11 +22,3 @@ default_known listed there stores caller h p d may stands is =
     let made = known.0 in
     let count = table_count stores.catalog h stands.all.catalog in
     subst (λ (x : TableNo). IsKnownTo stores s x.number) e.2 (known_by stores h s e.0.child.number stands (omega (arith, made, count)) known)
-
--- it is made
-pub default_made : (catalog : KeptCatalogue) (h : History) (s p : ℕ) (d : TableNo) → CatalogueStands catalog h → default_of h s p ≡ Some d → d.number < length catalog.tables
-default_made catalog h s p d stands is =
-    let e = default_entry h s p d is in
-    let made = (entry_suits h s e.0 stands.sound e.1).child in
-    let count = table_count catalog h stands in
-    subst (λ (x : TableNo). x.number < length catalog.tables) e.2 (omega (arith, made, count))
