@@ -1,5 +1,5 @@
 -- The entry by which a table is a partition ends.
-use Rattle.std.proofs.Common.{◌≡◌, ◌≢◌, ℕ, ◌+◌, ◌<◌, List, [], ◌∷◌, ◌++◌, refl, sym, ap, ◌∙◌, subst, Option, Some, None, IfSome, Ok, All, length}
+use Rattle.std.proofs.Common.{◌≡◌, ◌≢◌, ℕ, ◌+◌, ◌<◌, List, [], ◌∷◌, ◌++◌, inl, inr, refl, sym, ap, ◌∙◌, subst, Option, Some, None, IfSome, Ok, All, length}
 use Rattle.std.specs.List.{Contains}
 use Rattle.pg_ids.specs.declared.ids.TableNo.{TableNo}
 use Rattle.bound_forms.specs.Levels.{IsOfLevel}

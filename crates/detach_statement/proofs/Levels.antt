@@ -1,5 +1,5 @@
 -- Levels that are told to be the same are.
-use Rattle.std.proofs.Common.{◌≡◌, ℕ, ◌==◌, true, List, [], ◌∷◌, refl, sym, ap, ◌∙◌, subst}
+use Rattle.std.proofs.Common.{◌≡◌, ℕ, ◌<◌, ◌==◌, true, false, arith, List, [], ◌∷◌, drop, drop-cons, length, refl, sym, ap, ◌∙◌, subst}
 use Rattle.std.proofs.lemmas.Bool.{and_parts}
 use Rattle.pg_values.specs.declared.value.Kind.{Kind}
 use Rattle.pg_values.specs.declared.value.Kind.TheVariants as kinds
@@ -71,3 +71,14 @@ of_same_level a b x e is =
     let parts = and_parts (same_strategy a.strategy b.strategy) (same_columns a.columns b.columns) e in
     let columns : List KeyColumn = a.columns in
     subst (λ (s : Strategy). IsBoundAt s columns x) (sym (strategy_is a.strategy b.strategy parts.0)) (subst (λ (cs : List KeyColumn). IsBoundAt b.strategy cs x) (sym (columns_are a.columns b.columns parts.1)) is)
+
+-- ---- columns one by one
+
+pub no_columns : (xs : List KeyColumn) → length xs ≡ 0 → xs ≡ []
+no_columns [] e = refl
+no_columns (x ∷ xs) e = absurd (omega (arith, e))
+
+-- one that is left has none beside it
+pub none_beside : (a : List KeyColumn) (k : ℕ) → k < length a → same_columns (drop k a) [] ≡ false
+none_beside [] k lt = absurd (omega (arith, lt))
+none_beside (x ∷ a) k lt = ap (λ (xs : List KeyColumn). same_columns xs []) (drop-cons (x ∷ a) k x lt)

@@ -9,3 +9,4 @@ mod LaterStages
 mod Waits
 mod Levels
 mod KeptChecks
+mod SessionSets

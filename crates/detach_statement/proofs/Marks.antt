@@ -33,7 +33,6 @@ use Rattle.legal_statements.specs.Entries.{IsNewMark}
 use Rattle.legal_statements.specs.Laws.{ListedIsThere, NobodyElseMarks, MarkMayFollow}
 use Rattle.soundness.proofs.Listed.{child_listed}
 use Rattle.partition_scans.specs.Sessions.{those}
-use Rattle.partition_scans.proofs.Sets.{are_those}
 use Rattle.stores.specs.Numbers.{IsAt}
 use Rattle.stores.specs.Stand.{Stands}
 use Rattle.stores.specs.declared.stores.Stores.{Stores}
@@ -56,6 +55,7 @@ use Rattle.detach_statement.specs.Concurrent.{default_faults, pending_faults, no
 use Rattle.detach_statement.specs.Detached.{not_a_partition, name_at, is_table}
 use Rattle.detach_statement.proofs.LeftPlaces.{MayChange, Over, over_is, over_present, over_guarded, over_between}
 use Rattle.detach_statement.proofs.Refusing.{none_against, is_parent}
+use Rattle.detach_statement.proofs.SessionSets.{are_those}
 
 pub record MarkLaws : Type 0 where
   pub listed : ListedIsThere
@@ -68,9 +68,9 @@ no_default : (h : History) (p : ℕ) (o : Option TableNo) (rest : Result (Unit {
 no_default h p None rest e = (refl, e)
 no_default h p (Some d) rest e = absurd (let c = e in cc)
 
-no_pending : (h : History) (p : ℕ) (o : Option TableNo) → unless_faults (pending_faults h p o) (Ok tt) ≡ Ok tt → o ≡ None
-no_pending h p None e = refl
-no_pending h p (Some t) e = absurd (let c = e in cc)
+no_pending : (h : History) (p : ℕ) (o : Option TableNo) (rest : Result (Unit {0}) Fault) → unless_faults (pending_faults h p o) rest ≡ Ok tt → o ≡ None
+no_pending h p None rest e = refl
+no_pending h p (Some t) rest e = absurd (let c = e in cc)
 
 none_told_below : (o : Option Entry) → child_told o ≡ None → o ≡ None
 none_told_below None e = refl
@@ -92,7 +92,7 @@ is_markable h s t p e =
     record {
       parent = is_parent (parent_in h s t) p (none_against is other first.0);
       no_default = second.0;
-      no_pending = none_told_below (pending_entry h s p.number) (no_pending h p.number (child_told (pending_entry h s p.number)) second.1);
+      no_pending = none_told_below (pending_entry h s p.number) (no_pending h p.number (child_told (pending_entry h s p.number)) (Ok tt) second.1);
     }
 
 -- ---- what is known of the others

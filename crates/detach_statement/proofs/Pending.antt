@@ -1,7 +1,8 @@
 -- The pending partition of a table is a partition of it.
-use Rattle.std.proofs.Common.{◌≡◌, ℕ, ◌==◌, true, List, refl, ap, ◌∙◌, subst, Option, Some, None, Ok}
+use Rattle.std.proofs.Common.{◌≡◌, ℕ, ◌<◌, ◌==◌, arith, true, List, refl, sym, ap, ◌∙◌, subst, Option, Some, None, Ok, length}
 use Rattle.std.specs.List.{Contains}
 use Rattle.std.proofs.lemmas.Bool.{and_parts}
+use Rattle.std.proofs.lemmas.Bool.Decides.{nat_tests}
 use Rattle.pg_ids.specs.declared.ids.TableNo.{TableNo}
 use Rattle.history.specs.declared.catalogue.Entry.{Entry}
 use Rattle.history.specs.Catalogue.{entries_added, marks, counted_of}
@@ -10,8 +11,10 @@ use Rattle.history.specs.Presence.{counts, stamp_counts, entries_present, is_pre
 use Rattle.table_trees.specs.Histories.{above}
 use Rattle.tx_table.specs.Stands.{TableStands}
 use Rattle.part_catalog.specs.Answers.{child_told, parent_told, marker_told, is_pending_below, pending_entry}
+use Rattle.part_catalog.specs.Kept.{KeptCatalogue}
 use Rattle.part_catalog.specs.Stands.{CatalogueStands}
 use Rattle.part_ddl.specs.Placing.{level_at}
+use Rattle.part_ddl.proofs.Making.{table_count}
 use Rattle.part_ddl.proofs.Standing.{same_entries}
 use Rattle.pg_values.specs.Refusals.{unless}
 use Rattle.legal_statements.specs.Laws.{ListedIsThere}
@@ -26,7 +29,7 @@ use Rattle.statement_steps.specs.Attempts.{MayAttempt}
 use Rattle.statement_steps.specs.declared.caller.Caller.{Caller}
 use Rattle.statement_steps.specs.declared.rest.RestOfDetach.{RestOfDetach}
 use Rattle.table_statements.specs.Refused.{unless_faults}
-use Rattle.table_statements.proofs.Below.{found_in, here_of}
+use Rattle.table_statements.proofs.Below.{found_in, entry_suits, here_of}
 use Rattle.table_statements.proofs.Ends.{same_number}
 use Rattle.table_statements.proofs.Firsts.{both_told, none_told}
 use Rattle.detach_statement.specs.Asked.{IsPartition}
@@ -73,6 +76,17 @@ over_found h s p t e found child =
 over_told : (h : History) (s p t : ℕ) (o : Option Entry) → pending_entry h s p ≡ o → is_table (child_told o) t ≡ true → IsPendingOver h s p t
 over_told h s p t None is e = absurd (let c = e in cc)
 over_told h s p t (Some e) is child = over_found h s p t e (found_in (is_pending_below h s p) (entries_added (catalogue_events h)) e is) child
+
+itself : (n : ℕ) → (n == n) ≡ true
+itself n = grind (arith, nat_tests)
+
+-- its table is made
+pub pending_made : (catalog : KeptCatalogue) (h : History) (s p : ℕ) (t : TableNo) → CatalogueStands catalog h → Some t ≡ child_told (pending_entry h s p) → t.number < length catalog.tables
+pending_made catalog h s p t stands is =
+    let o = over_told h s p t.number (pending_entry h s p) refl (ap (λ (x : Option TableNo). is_table x t.number) (sym is) ∙ itself t.number) in
+    let made = (entry_suits h s o.entry stands.sound o.present).child in
+    let count = table_count catalog h stands in
+    subst (λ (n : ℕ). n < length catalog.tables) o.child (omega (arith, made, count))
 
 -- ---- it is a partition of the table
 

@@ -16,8 +16,8 @@ returns-in-None c = λ h txs catalog.
     let none : place_below h s p t ≡ None = (let found = c.in-None.ensures in cc) in
     told_no_place c.args.level.now (place_below h s p t) none
 
-pub returns-in-Some : goal.returns-in-Some
-returns-in-Some c = λ h txs catalog.
+pub returns : goal.returns
+returns c = λ h txs catalog.
     let s = c.args.session in
     let p = c.args.parent.number in
     let t = c.args.table.number in
@@ -26,4 +26,4 @@ returns-in-Some c = λ h txs catalog.
     let same = c.deref.ensures.value in
     let found : place_below h s p t ≡ Some e = (let at = c.in-Some.ensures in cc) in
     let made : OneLevel → Bound → KeptCheck = λ l b. record { level = l; bound = b } in
-    told_place c.args.level.now (place_below h s p t) e (made c.in_ok-level.level c.in_ok-bound.bound) found (ap (λ l. made l c.in_ok-bound.bound) c.in_ok-level.ensures ∙ ap (made c.args.level.now) c.in_ok-bound.ensures)
+    told_place c.args.level.now (place_below h s p t) e (made c.in_ok-level-in-Some.level c.in_ok-bound-in-Some.bound) found (ap (λ l. made l c.in_ok-bound-in-Some.bound) c.in_ok-level-in-Some.ensures ∙ ap (made c.args.level.now) c.in_ok-bound-in-Some.ensures)

@@ -10,14 +10,14 @@ has_equal-requires-clause-all c =
     let a = c.requires.siblings in
     let s = c.args.session in
     let t = c.args.table.number in
-    subst (All IsKeptOfLevel) (sym (c.as_slice.ensures ∙ first_part a.h s t c.in_ok-path.path.items c.in-Some.part.now (c.in_ok-path.ensures a.h a.txs a.catalogue) (ap (λ xs. slice_get xs 0) (sym c.deref.ensures.value) ∙ c.in-Some.ensures)))
+    subst (All IsKeptOfLevel) (sym (c.as_slice.ensures ∙ first_part a.h s t c.in_ok-path.path.items c.in-Some.part.now (c.in_ok-path.ensures a.h a.txs a.catalogue) (ap (λ xs. slice_get xs 0) (sym c.deref.ensures.value) ∙ sym c.in-Some.ensures.value)))
     (kept_have_levels a.h s t a.catalogue.sound)
 
 pub returns-in-None : goal.returns-in-None
-returns-in-None c = λ h txs catalog. absurd (never_empty h c.args.session c.args.table.number c.in_ok-path.path.items (c.in_ok-path.ensures h txs catalog) (ap (λ xs. slice_get xs 0) (sym c.deref.ensures.value) ∙ c.in-None.ensures))
+returns-in-None c = λ h txs catalog. absurd (never_empty h c.args.session c.args.table.number c.in_ok-path.path.items (c.in_ok-path.ensures h txs catalog) (ap (λ xs. slice_get xs 0) (sym c.deref.ensures.value) ∙ sym c.in-None.ensures.value))
 
-pub returns-in-Some : goal.returns-in-Some
-returns-in-Some c = λ h txs catalog.
+pub returns : goal.returns
+returns c = λ h txs catalog.
     let s = c.args.session in
     let t = c.args.table.number in
-    c.has_equal.ensures ∙ ap (list_any (λ k. same_check k c.args.check.now)) (c.as_slice.ensures ∙ first_part h s t c.in_ok-path.path.items c.in-Some.part.now (c.in_ok-path.ensures h txs catalog) (ap (λ xs. slice_get xs 0) (sym c.deref.ensures.value) ∙ c.in-Some.ensures))
+    c.has_equal.ensures ∙ ap (list_any (λ k. same_check k c.args.check.now)) (c.as_slice.ensures ∙ first_part h s t c.in_ok-path.path.items c.in-Some.part.now (c.in_ok-path.ensures h txs catalog) (ap (λ xs. slice_get xs 0) (sym c.deref.ensures.value) ∙ sym c.in-Some.ensures.value))

@@ -10,22 +10,22 @@ use Rattle.detach_statement.proofs.keeping.new_check.Goals as goal
 pub is_kept-requires-clause-own : goal.is_kept-requires-clause-own
 is_kept-requires-clause-own c =
     let a = c.requires.siblings in
-    (told_suits a.h c.args.session c.args.parent.number c.args.table.number c.in-Some.check a.catalogue.sound (sym (c.in-Some.ensures a.h a.txs a.catalogue))).1
+    (told_suits a.h c.args.session c.args.parent.number c.args.table.number c.in-Some.check a.catalogue.sound (sym (sym c.in-Some.is ∙ c.in_ok-told_check.ensures a.h a.txs a.catalogue))).1
 
 pub returns-in-None : goal.returns-in-None
 returns-in-None c = λ h txs catalog.
     let s = c.args.session in
     let t = c.args.table.number in
-    none_new (map kept_of (checks_of h s t)) (check_told (level_at h c.args.parent.number) (place_below h s c.args.parent.number t)) (c.in-None.ensures h txs catalog)
+    none_new (map kept_of (checks_of h s t)) (check_told (level_at h c.args.parent.number) (place_below h s c.args.parent.number t)) (sym c.in-None.is ∙ c.in_ok-told_check.ensures h txs catalog)
 
-pub returns-then-is_kept : goal.returns-then-is_kept
-returns-then-is_kept c = λ h txs catalog.
+pub returns-then-is_there : goal.returns-then-is_there
+returns-then-is_there c = λ h txs catalog.
     let s = c.args.session in
     let t = c.args.table.number in
-    equal_kept (map kept_of (checks_of h s t)) (check_told (level_at h c.args.parent.number) (place_below h s c.args.parent.number t)) c.in-Some.check (c.in-Some.ensures h txs catalog) (sym c.if-is_kept.true ∙ c.in_ok-is_kept.ensures h txs catalog)
+    equal_kept (map kept_of (checks_of h s t)) (check_told (level_at h c.args.parent.number) (place_below h s c.args.parent.number t)) c.in-Some.check (sym c.in-Some.is ∙ c.in_ok-told_check.ensures h txs catalog) (sym c.if-is_there.true ∙ c.in_ok-is_there-in-Some.ensures h txs catalog)
 
-pub returns-else-is_kept : goal.returns-else-is_kept
-returns-else-is_kept c = λ h txs catalog.
+pub returns-else-is_there : goal.returns-else-is_there
+returns-else-is_there c = λ h txs catalog.
     let s = c.args.session in
     let t = c.args.table.number in
-    new_told (map kept_of (checks_of h s t)) (check_told (level_at h c.args.parent.number) (place_below h s c.args.parent.number t)) c.in-Some.check (c.in-Some.ensures h txs catalog) (sym c.if-is_kept.false ∙ c.in_ok-is_kept.ensures h txs catalog)
+    new_told (map kept_of (checks_of h s t)) (check_told (level_at h c.args.parent.number) (place_below h s c.args.parent.number t)) c.in-Some.check (sym c.in-Some.is ∙ c.in_ok-told_check.ensures h txs catalog) (sym c.if-is_there.false ∙ c.in_ok-is_there-in-Some.ensures h txs catalog)

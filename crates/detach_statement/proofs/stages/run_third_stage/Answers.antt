@@ -7,15 +7,13 @@ use Rattle.statement_steps.proofs.Steps.{then_step, stop_step, may_go_on}
 use Rattle.detach_statement.specs.Concurrent.{judged_still, partition_left}
 use Rattle.detach_statement.proofs.Guards.{still_named_guards, still_guards}
 use Rattle.detach_statement.proofs.stages.run_third_stage.Goals as goal
-use Rattle.detach_statement.proofs.stages.run_third_stage.Goals.{In-Ok, In-Ok-lock_named_still}
-
-behind : (c : In-Ok) → MayAttempt c.lock_named_still.new.stores c.args.caller
-behind c = may_go_on (λ (u : Unit {0}). u) tt c.args.stores.now c.lock_named_still.new.stores c.args.caller (named_still c.args.names.now c.args.caller.session ShareUpdateExclusive c.args.parent.now c.args.rest.parent.number) c.requires.may c.in-Ok.ensures.step
+use Rattle.detach_statement.proofs.stages.run_third_stage.Goals.{In-Ok-lock_named_still}
 
 both : (c : In-Ok-lock_named_still) → MayAttempt c.lock_named_still-in-Ok.new.stores c.args.caller
 both c =
     may_go_on (λ (u : Unit {0}). u) tt c.lock_named_still.new.stores c.lock_named_still-in-Ok.new.stores c.args.caller (named_still c.args.names.now c.args.caller.session AccessExclusive c.args.name.now c.args.rest.table.number)
-    (behind c.In-Ok) c.in-Ok-lock_named_still.ensures.step
+    (may_go_on (λ (u : Unit {0}). u) tt c.args.stores.now c.lock_named_still.new.stores c.args.caller (named_still c.args.names.now c.args.caller.session ShareUpdateExclusive c.args.parent.now c.args.rest.parent.number) c.requires.may c.in-Ok.ensures.step)
+    c.in-Ok-lock_named_still.ensures.step
 
 pub check-requires-clause-may : goal.check-requires-clause-may
 check-requires-clause-may c = both (goal.at.check-requires-clause-may c).In-Ok-lock_named_still
