@@ -80,16 +80,16 @@ impl Outcome {
             && self.err.bytes() == err.as_bytes()
     }
 
-    // A write failed when so many of these bytes were written.
-    fn is_cut(&self, out: &str, out_count: usize, err: &str, err_count: usize) -> bool {
+    // A write failed when so many bytes had been printed, and so many told.
+    fn is_cut(&self, printed: u64, told: u64) -> bool {
         self.ended == Ended::WriteFault
-            && begins(out, self.out.bytes(), out_count)
-            && begins(err, self.err.bytes(), err_count)
+            && begins(BOTH_PRINTED, self.out.bytes(), printed)
+            && begins(BOTH_REFUSED, self.err.bytes(), told)
     }
 }
 
-fn begins(whole: &str, taken: &[u8], count: usize) -> bool {
-    taken.len() == count && whole.as_bytes().starts_with(taken)
+fn begins(whole: &str, taken: &[u8], count: u64) -> bool {
+    taken.len() as u64 == count && whole.as_bytes().starts_with(taken)
 }
 
 fn call(alloc: Global, script: &[u8], around: &Around<'_>) -> Result<Outcome, NoMemory>
@@ -111,7 +111,7 @@ fn call(alloc: Global, script: &[u8], around: &Around<'_>) -> Result<Outcome, No
     Ok(Outcome { ended, out, err })
 }
 
-fn no_fault(most: usize) -> Around<'static>
+fn no_fault<'a>(most: usize) -> Around<'a>
     ensures { result.most ≡ most }
 {
     Around {
@@ -181,31 +181,36 @@ fn a_long_input_is_refused_and_a_failed_read_within_it(rt: HostRuntime) {
     assert!(rt; large.is(Ended::TooLarge, "", "input over 4194304 bytes\n"));
 }
 
-// One byte is read or written at a time, so that each has a call of its own; a last read finds the end.
+// One byte is read or written at a time, so that each has a call of its own: the script has 72 bytes, and a last read
+// finds the end; 112 bytes are printed, and 45 told.
 #[test]
 fn each_failed_read_and_write_is_answered(rt: HostRuntime) {
     let alloc = rt.alloc();
-    let whole = call(alloc, BOTH.as_bytes(), &no_fault(1)).expect(&rt, "memory");
-    assert!(rt; whole.is(Ended::ScriptRefused, BOTH_PRINTED, BOTH_REFUSED));
-    for read in 0..=BOTH.len() {
+    for read in 0..73_u64 {
+        let fails = [read];
         let mut around = no_fault(1);
-        let fails = [read as u64];
         around.read_fails = &fails;
         let failed = call(alloc, BOTH.as_bytes(), &around).expect(&rt, "memory");
         assert!(rt; failed.is(Ended::ReadFault, "", "read failed\n"));
     }
-    for write in 0..BOTH_PRINTED.len() {
+    for write in 0..112_u64 {
+        let fails = [write];
         let mut around = no_fault(1);
-        let fails = [write as u64];
         around.out_fails = &fails;
         let failed = call(alloc, BOTH.as_bytes(), &around).expect(&rt, "memory");
-        assert!(rt; failed.is_cut(BOTH_PRINTED, write, "", 0));
+        assert!(rt; failed.is_cut(write, 0));
     }
-    for write in 0..BOTH_REFUSED.len() {
+    for write in 0..45_u64 {
+        let fails = [write];
         let mut around = no_fault(1);
-        let fails = [write as u64];
         around.err_fails = &fails;
         let failed = call(alloc, BOTH.as_bytes(), &around).expect(&rt, "memory");
-        assert!(rt; failed.is_cut(BOTH_PRINTED, BOTH_PRINTED.len(), BOTH_REFUSED, write));
+        assert!(rt; failed.is_cut(112, write));
     }
+    let mut around = no_fault(1);
+    around.read_fails = &[73];
+    around.out_fails = &[112];
+    around.err_fails = &[45];
+    let whole = call(alloc, BOTH.as_bytes(), &around).expect(&rt, "memory");
+    assert!(rt; whole.is(Ended::ScriptRefused, BOTH_PRINTED, BOTH_REFUSED));
 }
