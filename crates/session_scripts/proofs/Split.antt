@@ -1,5 +1,5 @@
 -- Statements that have committed what came before.
-use Rattle.std.proofs.Common.{◌≡◌, ◌≢◌, ℕ, zero, suc, Bool, true, false, not, List, [], ◌∷◌, refl, ap, subst, sym, Result, Ok, Err, IfOk, OnOk, slice_index_or, slice_set}
+use Rattle.std.proofs.Common.{◌≡◌, ℕ, Bool, false, List, refl, ap, subst, sym, Result, Ok, Err, IfOk, OnOk, slice_index_or}
 use Rattle.pg_values.specs.declared.text.NoMemory.{NoMemory}
 use Rattle.sessions.specs.Commits.{CommitsOnce, OthersAreAsBefore}
 use Rattle.sessions.specs.declared.outcome.Outcome.{Outcome}
@@ -24,10 +24,3 @@ lock_once old new s (Err e) same whole = tt
 pub lock_others : (old new : List Bool) (s : ℕ) (r : Result Outcome NoMemory) → new ≡ old → OnOk r (OthersAreAsBefore s (split_in old) (split_in new))
 lock_others old new s (Ok o) same = λ k t other. ap (λ xs. slice_index_or xs k false) same
 lock_others old new s (Err e) same = tt
-
-pub set_other : (xs : List Bool) (s r : ℕ) (b : Bool) → r ≢ s → slice_index_or (slice_set xs s b) r false ≡ slice_index_or xs r false
-set_other [] s r b other = refl
-set_other (y ∷ ys) zero zero b other = absurd (other refl)
-set_other (y ∷ ys) zero (suc r) b other = refl
-set_other (y ∷ ys) (suc s) zero b other = refl
-set_other (y ∷ ys) (suc s) (suc r) b other = set_other ys s r b (λ e. other (ap suc e))
