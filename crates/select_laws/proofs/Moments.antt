@@ -9,6 +9,7 @@ use Rattle.select_answer.proofs.Pruned.{pruned_plain}
 use Rattle.select_answer.proofs.ReadLeaves.{reads_plain}
 use Rattle.stores.specs.Events.{look_of}
 use Rattle.stores.specs.Good.{IsGood}
+use Rattle.stores.specs.Laws.{GoodIsLegal}
 use Rattle.stores.proofs.Goodness.{legal_of, permitted_of}
 use Rattle.select_laws.specs.Moments.{ReadsArePlainIn, SelectsArePlain}
 use Rattle.select_laws.proofs.Few.{leaves_few}
@@ -19,6 +20,6 @@ good_reads h good prunes c m ns = reads_plain none_missed shown_right trees_prun
 
 pub good_selects : (h : History) → IsGood h → SelectsArePlain h
 good_selects h good =
-    let lawful = λ (e : History) (is : IsGood e). (legal_of e is, permitted_of e is) in
+    let lawful : GoodIsLegal = λ e is. (legal_of e is, permitted_of e is) in
     let pruned = pruned_plain none_missed shown_right trees_prunable in
     (good_reads h good, one_table_plain lawful leaves_few read_once pruned h good, tables_plain lawful pruned h good)
