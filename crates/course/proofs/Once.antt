@@ -49,7 +49,7 @@ once_ran : {O T : Type 0} (W : Words O T) (o : O) (old new : KeptSeats) (a : Ask
 once_ran W o old new a h g t before after x law seated known ran =
     let c = caller_of (length old.opened) (slice_index_or old.commands a.session 0) a in
     let rest = slice_index_or old.rests a.session None in
-    once_made W (slice_index_or old.cancelled a.session false) (W.attempted o c rest h g t) t (W.has_committed rest t) x (slice_index_or new.rests a.session None) (law o c rest h g t) ran.outcome
+    once_made W (slice_index_or old.cancelled a.session false) (W.attempted o c rest h g t) t (W.has_committed rest t) x (slice_index_or new.rests a.session None) (law.each o c rest h g t) ran.outcome
     (ap (λ rests. slice_index_or rests a.session None) ran.rests ∙ set_own old.rests a.session (rest_told (attempt_at W o old a h g t).told) None (rw seated.rests known))
 
 others_ran : {O T : Type 0} (W : Words O T) (m : Made Ended) (old new : KeptSeats) (a : Asker) (h : History) (before after : List ℕ) (x : Outcome) → HasRun m a old new before after x h → OthersAreAsBefore a.session (committed_in W old.rests) (committed_in W new.rests)

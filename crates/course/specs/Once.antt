@@ -9,6 +9,5 @@ use Rattle.statement_steps.specs.declared.caller.Caller.{Caller}
 use Rattle.statement_steps.specs.declared.rest.Rest.{Rest}
 
 -- each statement commits in its middle once at most, and goes on from there up to its end
-abbrev pub AllCommitOnce : {O T : Type 0} → Words O T → Type 0
-AllCommitOnce {O} {T} W = (o : O) (c : Caller) (rest : Option Rest) (h : History) (g : Settings) (t : T)
-    → CommitsOnce (W.has_committed rest t) (W.has_committed (rest_told (W.attempted o c rest h g t).told) t) (outcome_told (W.attempted o c rest h g t).told)
+pub record AllCommitOnce {O T : Type 0} (W : Words O T) : Type 0 where
+  pub each : (o : O) (c : Caller) (rest : Option Rest) (h : History) (g : Settings) (t : T) → CommitsOnce (W.has_committed rest t) (W.has_committed (rest_told (W.attempted o c rest h g t).told) t) (outcome_told (W.attempted o c rest h g t).told)

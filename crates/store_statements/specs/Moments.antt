@@ -7,8 +7,9 @@ use Rattle.change_statement.specs.Moments.{ChangesArePlain}
 use Rattle.change_statement.proofs.Moments.{good_changes}
 
 -- SELECT, UPDATE and DELETE do over the leaves that they read what they would do over all
-abbrev pub StatementsArePlain : History → Type 0
-StatementsArePlain h = SelectsArePlain h × ChangesArePlain h
+pub record StatementsArePlain (h : History) : Type 0 where
+  pub selects : SelectsArePlain h
+  pub changes : ChangesArePlain h
 
 pub good_statements : (h : History) → IsGood h → StatementsArePlain h
-good_statements h good = (good_selects h good, good_changes h good)
+good_statements h good = record { selects = good_selects h good; changes = good_changes h good }

@@ -31,7 +31,7 @@ use Rattle.detach_statement.specs.Detached.{detached}
 use Rattle.detach_statement.specs.Finalized.{finalized}
 use Rattle.attach_statement.specs.Attached.{attached}
 use Rattle.store_statements.specs.Attempted.{command_attempted, row_attempted, query_attempted, table}
-use Rattle.store_statements.specs.Words.{command_committed, statement_words}
+use Rattle.store_statements.specs.Words.{statement_attempted, command_committed, statement_words}
 
 -- one that is done, or stops
 plain_once : {T : Type 0} (committed : Option Rest → Bool) (text : T → List ℕ) (t : Result T Halt) → CommitsOnce false (committed (rest_told (told_as (λ x. Done (text x)) t))) (outcome_told (told_as (λ x. Done (text x)) t))
@@ -91,6 +91,11 @@ query_once prunes names c rest h (executes name values) = tt
 query_once prunes names c rest h (explains_select costs s) = tt
 query_once prunes names c rest h (explains_execute costs name values) = tt
 
+each_once : (names : List (List ℕ)) (c : Caller) (rest : Option Rest) (h : History) (g : Settings) (t : StatementTree)
+    → CommitsOnce (statement_words.has_committed rest t) (statement_words.has_committed (rest_told (statement_words.attempted names c rest h g t).told) t) (outcome_told (statement_words.attempted names c rest h g t).told)
+unfolding statement_attempted
+each_once names c rest h g (commands t) = command_once names c rest h t
+each_once names c rest h g (queries t) = query_once g.enable_partition_pruning names c rest h t
+
 pub all_once : AllCommitOnce statement_words
-all_once names c rest h g (commands t) = command_once names c rest h t
-all_once names c rest h g (queries t) = query_once g.enable_partition_pruning names c rest h t
+all_once = record { each = each_once }

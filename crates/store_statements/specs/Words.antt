@@ -1,7 +1,9 @@
 -- What the statements of a run mean. The run is told the names of its sessions.
 use Rattle.std.specs.Prelude.{ℕ, ◌-◌, Bool, false, List, [], Option, None, is_some}
 use Rattle.pg_values.specs.declared.fault.Fault.{Fault}
+use Rattle.history.specs.History.{History}
 use Rattle.sessions.specs.declared.asker.Place.{Place}
+use Rattle.sessions.specs.declared.settings.Settings.{Settings}
 use Rattle.sql_ast.specs.declared.detachment.Detachment.TheVariants.{Concurrently}
 use Rattle.sql_ast.specs.Commands.{CommandTree, detaches, locks}
 use Rattle.sql_ast.specs.Queries.{RowTree, QueryTree, selects, rows}
@@ -10,6 +12,9 @@ use Rattle.block_reading.specs.Reading.{read_block}
 use Rattle.statement_roles.specs.Roles.{role_of, looks, changed}
 use Rattle.out_text.specs.FaultText.{fault_text}
 use Rattle.course.specs.Words.{Words}
+use Rattle.statement_steps.specs.Ended.{Ended}
+use Rattle.statement_steps.specs.Made.{Made}
+use Rattle.statement_steps.specs.declared.caller.Caller.{Caller}
 use Rattle.statement_steps.specs.declared.rest.Rest.{Rest}
 use Rattle.lock_statement.specs.Places.{lock_misplaced}
 use Rattle.detach_statement.specs.Concurrent.{detach_of}
@@ -50,6 +55,10 @@ abbrev pub statement_cancelled : (session sessions : ℕ) → StatementTree → 
 statement_cancelled s sessions (commands t) = []
 statement_cancelled s sessions (queries t) = query_cancelled s (sessions - 1) t
 
+-- what a statement does: its definition is opened where that matters alone
+unfoldable pub statement_attempted : List (List ℕ) → Caller → Option Rest → History → Settings → StatementTree → Made Ended
+statement_attempted names c rest h settings t = attempted names c rest settings t h
+
 abbrev pub statement_words : Words (List (List ℕ)) StatementTree
 statement_words = record {
   parsed = read_block;
@@ -59,6 +68,6 @@ statement_words = record {
   set = changed;
   cancels = statement_cancelled;
   has_committed = has_committed;
-  attempted = λ names c rest h settings t. attempted names c rest settings t h;
+  attempted = statement_attempted;
   fault_text = fault_text;
 }
