@@ -5,8 +5,8 @@ use Rattle.std.specs.List.{Contains, list_any}
 use Rattle.std.proofs.lemmas.List.{length-map}
 use Rattle.std.proofs.lemmas.List.Elements.{All-contains}
 use Rattle.pg_values.specs.declared.value.Value.{Value}
-use Rattle.pg_ids.specs.declared.ids.TableNo.{TableNo}
-use Rattle.pg_ids.specs.declared.lock_mode.LockMode.TheVariants.{ShareUpdateExclusive, AccessExclusive}
+use Rattle.pg_values.specs.declared.ids.TableNo.{TableNo}
+use Rattle.pg_values.specs.declared.lock_mode.LockMode.TheVariants.{ShareUpdateExclusive, AccessExclusive}
 use Rattle.bound_forms.specs.declared.partition_bound.Bound.{Bound}
 use Rattle.bound_forms.specs.Accepts.{accepts, accepts_among, is_default}
 use Rattle.history.specs.declared.transaction.TxId.{TxId}
@@ -40,7 +40,7 @@ use Rattle.legal_statements.specs.Below.{numbers_from}
 use Rattle.legal_statements.specs.Entries.{IsDefaultOf, IsScanned, IsNewPlace, IsAttached}
 use Rattle.legal_statements.specs.Laws.{NamedIsThere, AttachMayFollow, NoneBreaks}
 use Rattle.legal_statements.proofs.Adding.{listed_for}
-use Rattle.pg_ids.specs.declared.which.Which.{Which}
+use Rattle.pg_values.specs.declared.which.Which.{Which}
 use Rattle.part_catalog.specs.declared.new_table.CatalogRefused.TheVariants.{Full}
 use Rattle.stores.specs.Events.{tx_in}
 use Rattle.stores.specs.Numbers.{IsAt}

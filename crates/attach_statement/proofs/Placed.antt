@@ -7,8 +7,8 @@ use Rattle.pg_values.specs.Refusals.{IsAnswer, or_first, unless}
 use Rattle.pg_values.specs.declared.fault.Fault.{Fault}
 use Rattle.pg_values.specs.declared.fault.Refusal.{Refusal}
 use Rattle.pg_values.specs.declared.fault.Refusal.TheVariants.{Sql, NoMemory}
-use Rattle.pg_ids.specs.declared.ids.TableNo.{TableNo}
-use Rattle.pg_ids.specs.declared.which.Which.TheVariants.{Partitions, Levels}
+use Rattle.pg_values.specs.declared.ids.TableNo.{TableNo}
+use Rattle.pg_values.specs.declared.which.Which.TheVariants.{Partitions, Levels}
 use Rattle.bound_forms.specs.Levels.{IsOfLevel}
 use Rattle.bound_forms.specs.declared.level.Level.{Level}
 use Rattle.bound_forms.specs.declared.partition_bound.Bound.{Bound as MeantBound}

@@ -9,9 +9,9 @@ use Rattle.pg_values.specs.Refusals.{IsAnswer, or_first}
 use Rattle.pg_values.specs.declared.fault.Fault.{Fault}
 use Rattle.pg_values.specs.declared.fault.Refusal.{Refusal}
 use Rattle.pg_values.specs.declared.fault.Refusal.TheVariants.{Sql, NoMemory}
-use Rattle.pg_ids.specs.Sets.{has, empty}
-use Rattle.pg_ids.specs.declared.session_set.SessionSet.{SessionSet}
-use Rattle.pg_ids.proofs.Bits.{set_has}
+use Rattle.pg_values.specs.Sets.{has, empty}
+use Rattle.pg_values.specs.declared.session_set.SessionSet.{SessionSet}
+use Rattle.pg_values.proofs.Bits.{set_has}
 use Rattle.bound_forms.specs.declared.partition_bound.Bound.{Bound}
 use Rattle.history.specs.History.{History}
 use Rattle.history.specs.Places.{table_at, TakesBound}

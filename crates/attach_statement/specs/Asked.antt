@@ -1,9 +1,9 @@
 -- What is asked of a table that is attached.
 use Rattle.std.specs.Prelude.{◌≡◌, ℕ, ◌<◌, true, [], None, Some, List, length}
 use Rattle.std.specs.List.{Contains}
-use Rattle.pg_ids.specs.Sets.{has}
-use Rattle.pg_ids.specs.declared.ids.TableNo.{TableNo}
-use Rattle.pg_ids.specs.declared.lock_mode.LockMode.TheVariants.{ShareUpdateExclusive}
+use Rattle.pg_values.specs.Sets.{has}
+use Rattle.pg_values.specs.declared.ids.TableNo.{TableNo}
+use Rattle.pg_values.specs.declared.lock_mode.LockMode.TheVariants.{ShareUpdateExclusive}
 use Rattle.bound_forms.specs.declared.partition_bound.Bound.{Bound}
 use Rattle.history.specs.History.{History}
 use Rattle.history.specs.Places.{TakesBound, HasColumnsOf}

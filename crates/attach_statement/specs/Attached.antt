@@ -1,7 +1,7 @@
 -- ALTER TABLE, ATTACH PARTITION of a session (the manual, ALTER TABLE; 5.11.2.2 Partition Maintenance; 13.3.1 Table-Level
 -- Locks).
 use Rattle.std.specs.Prelude.{ℕ, List, [], ◌∷◌, Some, length}
-use Rattle.pg_ids.specs.declared.lock_mode.LockMode.TheVariants.{ShareUpdateExclusive, AccessExclusive}
+use Rattle.pg_values.specs.declared.lock_mode.LockMode.TheVariants.{ShareUpdateExclusive, AccessExclusive}
 use Rattle.bound_forms.specs.declared.partition_bound.Bound.{Bound as MeantBound}
 use Rattle.history.specs.declared.catalogue.Entry.{Entry}
 use Rattle.history.specs.Catalogue.{EntryAdded, entries_added}

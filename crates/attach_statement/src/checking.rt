@@ -3,7 +3,7 @@
 ghost use Rattle.std.specs.Prelude.{◌≡◌, ◌==◌, ◌<◌, ◌+◌, IfOk, is_some, length, nat_le};
 ghost use Rattle.std.specs.List.{list_any};
 ghost use Rattle.pg_values.specs.Refusals.{IsAnswer, or_first, unless};
-ghost use Rattle.pg_ids.specs.declared.which.Which.TheVariants.{Levels};
+ghost use Rattle.pg_values.specs.declared.which.Which.TheVariants.{Levels};
 ghost use Rattle.history.specs.History.{History};
 ghost use Rattle.tx_table.specs.Stands.{TableStands};
 ghost use Rattle.table_trees.specs.Seen.{seen};
@@ -24,8 +24,7 @@ use crate::faults::{already_a_partition, is_above, stop_by, too_many};
 use bound_forms::Bound;
 use part_catalog::{Catalog, LEVEL_LIMIT};
 use part_ddl::{check_place, parent_level};
-use pg_ids::{TableNo, Which};
-use pg_values::Refusal;
+use pg_values::{Refusal, TableNo, Which};
 use sql_ast::BoundText;
 use statement_steps::{Caller, Stop};
 use std::alloc::Global;

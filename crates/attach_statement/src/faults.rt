@@ -3,8 +3,7 @@ ghost use Rattle.table_statements.specs.Asked.{stopped};
 ghost use Rattle.part_ddl.specs.Faults as refusals;
 ghost use Rattle.attach_statement.specs.Faults as faults;
 
-use pg_ids::Which;
-use pg_values::{Fault, NoMemory, Refusal, SqlState};
+use pg_values::{Fault, NoMemory, Refusal, SqlState, Which};
 use statement_steps::Stop;
 use std::alloc::Global;
 use value_rules::{one_text, three_texts, two_texts};

@@ -1,5 +1,5 @@
 ghost use Rattle.std.specs.Prelude.{◌≡◌, ◌<◌, ◌≤◌, ◌+◌, ℕ, false, IfOk, length};
-ghost use Rattle.pg_ids.specs.Sets.{has};
+ghost use Rattle.pg_values.specs.Sets.{has};
 ghost use Rattle.pg_values.specs.Refusals.{IsAnswer};
 ghost use Rattle.history.specs.History.{History};
 ghost use Rattle.table_trees.specs.Seen.{seen};
@@ -22,8 +22,7 @@ use legal_statements::{
 use part_catalog::CatalogRefused;
 use part_ddl::passed_have_places;
 use partition_scans::{judge_default, judge_table, wait_for_snapshots};
-use pg_ids::{LockMode, SessionSet, TableNo};
-use pg_values::{NoMemory, Refusal};
+use pg_values::{LockMode, NoMemory, Refusal, SessionSet, TableNo};
 use soundness::{legal_keeps_all, sessions_have_siblings};
 use sql_ast::BoundText;
 use statement_steps::{Caller, SessionNames, Stop, hold_if_repeatable, lock_named, lock_tables};

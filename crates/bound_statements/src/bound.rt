@@ -1,8 +1,7 @@
 use crate::trees::{write_column, write_cond, write_literal, write_number, write_scalar};
-use cond_logic::Cond;
+use cond_logic::{ChangeAsk, Cond, InsertAsk, Output, SelectAsk, Setting, SortBy, SortKey};
 use expression_binder::Param;
 use pg_values::{NoMemory, Row};
-use statement_asks::{ChangeAsk, InsertAsk, Output, SelectAsk, Setting, SortBy, SortKey};
 use std::alloc::Global;
 use value_rules::kind_word;
 

@@ -7,7 +7,7 @@ use Rattle.expression_binder.proofs.Firsts.{value_of}
 use Rattle.sql_ast.specs.declared.changes.Assignment.{Assignment}
 use Rattle.sql_ast.specs.Queries.{setting}
 use Rattle.change_binder.specs.Changes.{new_value, meant_if, settings_constants, settings_meant}
-use Rattle.statement_asks.specs.Asked.{SettingMeant}
+use Rattle.cond_logic.specs.Asked.{SettingMeant}
 use Rattle.change_binder.specs.Inserts.{place_of, place_or}
 use Rattle.expression_binder.proofs.Lists.{later_step}
 

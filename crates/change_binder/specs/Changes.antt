@@ -19,7 +19,7 @@ use Rattle.expression_binder.specs.Meanings as meanings
 use Rattle.expression_binder.specs.Operands.{operand_faults, typed}
 use Rattle.expression_binder.specs.Scopes.{Item, Scope, condition_scope}
 use Rattle.change_binder.specs.Inserts.{place_of, place_or, target_faults, kind_at}
-use Rattle.statement_asks.specs.Asked.{SettingMeant, ChangeMeant}
+use Rattle.cond_logic.specs.Asked.{SettingMeant, ChangeMeant}
 
 abbrev pub column_set : Written → List ℕ
 column_set w = w.0

@@ -16,7 +16,7 @@ use Rattle.expression_binder.specs.Kinds.{assigned_faults, count_faults}
 use Rattle.expression_binder.specs.Operands.{operand_faults, typed}
 use Rattle.expression_binder.specs.Scopes.{Scope, condition_scope, is_called}
 use Rattle.change_binder.specs.States.{set_twice}
-use Rattle.statement_asks.specs.Asked.{InsertMeant}
+use Rattle.cond_logic.specs.Asked.{InsertMeant}
 
 -- ---- columns
 

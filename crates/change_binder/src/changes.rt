@@ -12,17 +12,16 @@ ghost use Rattle.expression_binder.specs.Operands.{operand_faults, typed};
 ghost use Rattle.change_binder.specs.Changes as changes;
 ghost use Rattle.change_binder.specs.Changes.{bound_change};
 ghost use Rattle.change_binder.specs.Inserts as inserts;
-ghost use Rattle.statement_asks.specs.Asked.{change_meant, maybe_cond, setting_meant};
+ghost use Rattle.cond_logic.specs.Asked.{change_meant, maybe_cond, setting_meant};
 
 use crate::inserts::{check_target, check_value, kind_at, place_in};
-use cond_logic::{Cond, Scalar};
+use cond_logic::{ChangeAsk, Cond, Scalar, Setting};
 use expression_binder::{
     Allowed, Names, Param, ScopeItem, bind_condition, bind_scalar, check_condition,
     condition_names, store,
 };
 use pg_values::{Kind, NoMemory, Refusal};
 use sql_ast::{Assignment, Delete, Expr, Update};
-use statement_asks::{ChangeAsk, Setting};
 use std::alloc::Global;
 use std::slice::from_ref;
 

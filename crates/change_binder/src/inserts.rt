@@ -8,16 +8,16 @@ ghost use Rattle.expression_binder.specs.Kinds as kinds_spec;
 ghost use Rattle.expression_binder.specs.Operands.{operand_faults, typed};
 ghost use Rattle.change_binder.specs.Inserts as inserts;
 ghost use Rattle.change_binder.specs.Inserts.{bound_insert};
-ghost use Rattle.statement_asks.specs.Asked.{insert_meant};
+ghost use Rattle.cond_logic.specs.Asked.{insert_meant};
 
 use crate::faults::set_twice;
+use cond_logic::InsertAsk;
 use expression_binder::{
     Names, Param, ScopeColumn, bind_constant, check_assigned, check_count, check_operand,
     condition_names, no_column, store, typed_of,
 };
 use pg_values::{Kind, NoMemory, PgText, Refusal, Row, RowList, Value};
 use sql_ast::{Expr, ExprList, Insert, NameList};
-use statement_asks::InsertAsk;
 use std::alloc::Global;
 
 // ---- columns

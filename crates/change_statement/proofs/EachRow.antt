@@ -4,8 +4,8 @@ use Rattle.std.proofs.lemmas.List.Elements.{All-tail}
 use Rattle.pg_values.specs.declared.value.Value.{Value}
 use Rattle.pg_values.specs.declared.fault.Fault.{Fault}
 use Rattle.pg_values.specs.declared.text.NoMemory.{NoMemory}
-use Rattle.pg_ids.specs.declared.ids.RowId.{RowId}
-use Rattle.pg_ids.specs.declared.ids.TableNo.{TableNo}
+use Rattle.pg_values.specs.declared.ids.RowId.{RowId}
+use Rattle.pg_values.specs.declared.ids.TableNo.{TableNo}
 use Rattle.history.specs.History.{History}
 use Rattle.tx_table.specs.Stands.{TableStands, sees_now_by}
 use Rattle.row_store.specs.declared.scan.SeenRow.{SeenRow}
@@ -15,10 +15,10 @@ use Rattle.row_change.specs.Succession.{KeepsVersions}
 use Rattle.row_change.specs.Ways.{AllTables, AllTablesOf}
 use Rattle.table_trees.specs.Trees.{TableTree, LeafTable, LevelTable, Trees, End, More}
 use Rattle.part_catalog.specs.Stands.{CatalogueStands}
-use Rattle.row_targets.specs.Targets.{targets}
-use Rattle.row_targets.specs.Verdicts.{UpdaterMeant, Decision, Changes, PassesBy, WaitsFor, Refuses, decided, MayEnd}
-use Rattle.row_targets.specs.declared.finding.TargetRow.{TargetRow}
-use Rattle.row_targets.specs.declared.verdicts.Conflict.{Conflict}
+use Rattle.change_statement.specs.Targets.{targets}
+use Rattle.change_statement.specs.Verdicts.{UpdaterMeant, Decision, Changes, PassesBy, WaitsFor, Refuses, decided, MayEnd}
+use Rattle.change_statement.specs.declared.finding.TargetRow.{TargetRow}
+use Rattle.change_statement.specs.declared.verdicts.Conflict.{Conflict}
 use Rattle.stores.specs.Events.{look_of}
 use Rattle.stores.specs.Stand.{Stands}
 use Rattle.stores.specs.declared.stores.Stores.{Stores}

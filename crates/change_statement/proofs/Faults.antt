@@ -1,8 +1,8 @@
 -- The table that has a leaf of a tree, and the fault that names it.
 use Rattle.std.proofs.Common.{◌≡◌, List, [], ◌∷◌, refl, ap, sym, Option, Some, None, All, unwrap_or}
 use Rattle.std.proofs.lemmas.List.Elements.{All-head, All-tail}
-use Rattle.pg_ids.specs.declared.ids.LeafId.{LeafId}
-use Rattle.pg_ids.specs.declared.ids.TableNo.{TableNo}
+use Rattle.pg_values.specs.declared.ids.LeafId.{LeafId}
+use Rattle.pg_values.specs.declared.ids.TableNo.{TableNo}
 use Rattle.table_trees.specs.Trees.{TableTree}
 use Rattle.row_change.specs.Ways.{AllTables, root, way_to}
 use Rattle.row_change.proofs.Ways.{all_root, all_to}

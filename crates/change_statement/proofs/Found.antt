@@ -5,15 +5,15 @@ use Rattle.std.proofs.lemmas.List.Elements.{All-cons, All-head}
 use Rattle.pg_values.specs.declared.fault.Fault.{Fault}
 use Rattle.pg_values.specs.declared.fault.Refusal.{Refusal}
 use Rattle.pg_values.specs.declared.fault.Refusal.TheVariants.{Sql, NoMemory}
-use Rattle.pg_ids.specs.declared.ids.LeafId.{LeafId}
-use Rattle.pg_ids.specs.declared.ids.TableNo.{TableNo}
+use Rattle.pg_values.specs.declared.ids.LeafId.{LeafId}
+use Rattle.pg_values.specs.declared.ids.TableNo.{TableNo}
 use Rattle.history.specs.declared.catalogue.Column.{Column}
 use Rattle.history.specs.Catalogue.{tables_made}
 use Rattle.history.specs.History.{History, catalogue_events}
 use Rattle.table_trees.specs.declared.path_part.PathPart.{PathPart}
 use Rattle.table_trees.specs.Histories.{path_of}
 use Rattle.table_trees.specs.Trees.{TableTree, leaves}
-use Rattle.pruned_trees.specs.Kept.{Keeps, Leaf, id_of, kept_leaves, kept_tables}
+use Rattle.plan_tree.specs.Kept.{Keeps, Leaf, id_of, kept_leaves, kept_tables}
 use Rattle.part_catalog.specs.Found.{made_at}
 use Rattle.part_catalog.specs.Stands.{CatalogueStands}
 use Rattle.sql_ast.specs.Expressions.{Tree}
@@ -21,10 +21,10 @@ use Rattle.sql_ast.specs.Queries.{Setting}
 use Rattle.sql_ast.specs.declared.named_table.NamedTable.{NamedTable}
 use Rattle.expression_binder.specs.Firsts.{IsAnswerBy}
 use Rattle.expression_binder.specs.declared.scope.Param.{Param}
-use Rattle.pruned_trees.specs.Laws.{TreesCanBePruned}
-use Rattle.pruned_trees.specs.Prunable.{CanPrune}
-use Rattle.statement_asks.specs.Asked.{ChangeMeant, SettingMeant, change_meant}
-use Rattle.statement_asks.specs.declared.change.ChangeAsk.{ChangeAsk}
+use Rattle.plan_tree.specs.Laws.{TreesCanBePruned}
+use Rattle.plan_tree.specs.Prunable.{CanPrune}
+use Rattle.cond_logic.specs.Asked.{ChangeMeant, SettingMeant, change_meant}
+use Rattle.cond_logic.specs.declared.change.ChangeAsk.{ChangeAsk}
 use Rattle.change_binder.specs.Changes.{bound_change}
 use Rattle.row_change.specs.Ways.{AllTables, root}
 use Rattle.soundness.specs.Worlds.{HasLeaf}

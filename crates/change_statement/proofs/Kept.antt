@@ -1,10 +1,10 @@
 -- What was gathered stays, whatever rows are changed; and what the session may write.
 use Rattle.std.proofs.Common.{◌≡◌, ℕ, zero, suc, ◌<◌, true, List, [], ◌∷◌, inl, inr, refl, ap, sym, ◌∙◌, subst, arith, Some, None, All, map, length, slice_index_or}
 use Rattle.std.specs.List.{Contains}
-use Rattle.pg_ids.specs.declared.ids.LeafId.{LeafId}
-use Rattle.pg_ids.specs.declared.ids.TableNo.{TableNo}
-use Rattle.pg_ids.specs.declared.lock_mode.LockMode.{LockMode}
-use Rattle.pg_ids.specs.declared.lock_mode.LockMode.TheVariants.{RowExclusive, AccessExclusive}
+use Rattle.pg_values.specs.declared.ids.LeafId.{LeafId}
+use Rattle.pg_values.specs.declared.ids.TableNo.{TableNo}
+use Rattle.pg_values.specs.declared.lock_mode.LockMode.{LockMode}
+use Rattle.pg_values.specs.declared.lock_mode.LockMode.TheVariants.{RowExclusive, AccessExclusive}
 use Rattle.history.specs.declared.catalogue.TableShape.TheVariants.{Leaf}
 use Rattle.history.specs.Transactions.{open_of}
 use Rattle.history.specs.Locks.{holds}
@@ -17,7 +17,7 @@ use Rattle.table_trees.specs.Histories.{table_of}
 use Rattle.part_catalog.specs.Kept.{KeptCatalogue, table_in}
 use Rattle.row_store.specs.Kept.{KeptRows}
 use Rattle.row_change.specs.Succession.{KeepsVersions}
-use Rattle.row_targets.specs.declared.finding.TargetRow.{TargetRow}
+use Rattle.change_statement.specs.declared.finding.TargetRow.{TargetRow}
 use Rattle.soundness.specs.Worlds.{HasLeaf}
 use Rattle.soundness.proofs.All.{legal_keeps_all}
 use Rattle.soundness.proofs.Presence.{all_more}

@@ -1,8 +1,8 @@
 -- Of each good history all this holds.
 use Rattle.history.specs.History.{History}
-use Rattle.pruned_trees.proofs.Missed.{none_missed}
-use Rattle.pruned_trees.proofs.Right.{shown_right}
-use Rattle.pruned_trees.proofs.Small.{trees_prunable}
+use Rattle.plan_tree.proofs.Missed.{none_missed}
+use Rattle.plan_tree.proofs.Right.{shown_right}
+use Rattle.plan_tree.proofs.Small.{trees_prunable}
 use Rattle.stores.specs.Good.{IsGood}
 use Rattle.stores.proofs.Goodness.{legal_of, permitted_of}
 use Rattle.change_statement.specs.Moments.{ChangesArePlain}

@@ -7,18 +7,18 @@ use Rattle.std.proofs.lemmas.Grind.{common_steps}
 use Rattle.std.proofs.lemmas.Nat.Bits.{bit_at-pow_same, bit_at-pow_other, bit_at-lt, same_from_bits}
 use Rattle.std.proofs.lemmas.List.Elements.{All-nil, All-cons, All-head, All-tail}
 use Rattle.pg_values.specs.declared.fault.Fault.{Fault}
-use Rattle.pg_ids.specs.declared.ids.RowId.{RowId}
-use Rattle.row_targets.specs.declared.finding.TargetRow.{TargetRow}
-use Rattle.pg_ids.specs.Sets.{has, nobody}
-use Rattle.pg_ids.specs.declared.session_set.SessionSet.{SessionSet}
-use Rattle.pg_ids.proofs.Bits.{nobody_is}
+use Rattle.pg_values.specs.declared.ids.RowId.{RowId}
+use Rattle.change_statement.specs.declared.finding.TargetRow.{TargetRow}
+use Rattle.pg_values.specs.Sets.{has, nobody}
+use Rattle.pg_values.specs.declared.session_set.SessionSet.{SessionSet}
+use Rattle.pg_values.proofs.Bits.{nobody_is}
 use Rattle.history.specs.declared.wait.Wanted.{Wanted}
 use Rattle.history.specs.declared.wait.Wanted.TheVariants.{Others}
 use Rattle.history.specs.declared.wait.WaitOn.TheVariants.{Ends}
 use Rattle.history.specs.Waits.{is_cause, waits_with}
 use Rattle.history.specs.Locks.{LockEvents}
 use Rattle.history.specs.History.{History, LockChange, lock_events}
-use Rattle.lock_answers.specs.Asked.{AskedView, AtOnce, WaitsBehind, ClosesCycle, asked, events_of, cycle_or_wait, least_cycle, those}
+use Rattle.lock_table.specs.Asked.{AskedView, AtOnce, WaitsBehind, ClosesCycle, asked, events_of, cycle_or_wait, least_cycle, those}
 use Rattle.stores.specs.Events.{held}
 use Rattle.stores.specs.Numbers.{IsAt}
 use Rattle.stores.specs.declared.stores.Stores.{Stores}

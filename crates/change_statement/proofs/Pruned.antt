@@ -15,12 +15,12 @@ use Rattle.cond_logic.specs.declared.truth.Truth3.TheVariants.{Yes, No, Unknown}
 use Rattle.cond_logic.specs.Trees.{CondTree}
 use Rattle.cond_logic.specs.Truths.{truth}
 use Rattle.cond_logic.specs.Tuples.{no_rows, put}
-use Rattle.pruned_trees.specs.Kept.{Leaf, Keeps, id_of, leaf_of, named_leaves, all_named_leaves, keeps_plain, leaves_below, leaves_among, kept_leaves}
-use Rattle.pruned_trees.specs.Laws.{is_yes, passes_beside, passing_in, row_of, shown, NoneIsMissed, ShownLieRight, TreesCanBePruned}
-use Rattle.pruned_trees.proofs.Missed.{ids_named}
-use Rattle.row_targets.specs.Targets as targets_spec
-use Rattle.row_targets.specs.Targets.{takes, target_of, targets, targets_in}
-use Rattle.row_targets.specs.declared.finding.TargetRow.{TargetRow}
+use Rattle.plan_tree.specs.Kept.{Leaf, Keeps, id_of, leaf_of, named_leaves, all_named_leaves, keeps_plain, leaves_below, leaves_among, kept_leaves}
+use Rattle.plan_tree.specs.Laws.{is_yes, passes_beside, passing_in, row_of, shown, NoneIsMissed, ShownLieRight, TreesCanBePruned}
+use Rattle.plan_tree.proofs.Missed.{ids_named}
+use Rattle.change_statement.specs.Targets as targets_spec
+use Rattle.change_statement.specs.Targets.{takes, target_of, targets, targets_in}
+use Rattle.change_statement.specs.declared.finding.TargetRow.{TargetRow}
 use Rattle.change_statement.specs.Kept.{condition_or_all, keeps_for}
 use Rattle.stores.specs.Events.{look_of}
 use Rattle.change_statement.specs.Changed.{all_changed}

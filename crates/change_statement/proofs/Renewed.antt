@@ -6,9 +6,9 @@ use Rattle.pg_values.specs.declared.fault.Fault.{Fault}
 use Rattle.pg_values.specs.declared.fault.Refusal.{Refusal}
 use Rattle.pg_values.specs.declared.fault.Refusal.TheVariants.{Sql, NoMemory}
 use Rattle.pg_values.specs.Refusals.{IsAnswer, or_first, faults_in, read_in}
-use Rattle.pg_ids.specs.declared.ids.LeafId.{LeafId}
-use Rattle.pg_ids.specs.declared.ids.RowId.{RowId}
-use Rattle.pg_ids.specs.declared.ids.TableNo.{TableNo}
+use Rattle.pg_values.specs.declared.ids.LeafId.{LeafId}
+use Rattle.pg_values.specs.declared.ids.RowId.{RowId}
+use Rattle.pg_values.specs.declared.ids.TableNo.{TableNo}
 use Rattle.history.specs.declared.catalogue.Column.{Column}
 use Rattle.history.specs.Catalogue.{tables_made}
 use Rattle.history.specs.History.{History, catalogue_events}
@@ -25,7 +25,7 @@ use Rattle.row_change.specs.Targets.{HasTarget, IsTargetOf}
 use Rattle.row_change.proofs.Fit.{rows_can_be_placed}
 use Rattle.row_change.proofs.Made.{paths_are_made, trees_are_made}
 use Rattle.row_change.proofs.Targets.{targets_fit}
-use Rattle.row_targets.specs.NewRows.{new_row}
+use Rattle.change_statement.specs.NewRows.{new_row}
 use Rattle.soundness.proofs.OneLeaf.{sessions_have_siblings}
 use Rattle.stores.specs.Events.{look_of}
 use Rattle.stores.specs.Stand.{Stands}

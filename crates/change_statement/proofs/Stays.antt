@@ -9,8 +9,8 @@ use Rattle.std.proofs.lemmas.List.Elements.{All-append, All-cons, All-nil}
 use Rattle.pg_values.specs.declared.fault.Fault.{Fault}
 use Rattle.pg_values.specs.declared.value.Value.{Value}
 use Rattle.pg_values.specs.declared.value.Value.TheVariants.{Null}
-use Rattle.pg_ids.specs.declared.ids.LeafId.{LeafId}
-use Rattle.pg_ids.specs.declared.ids.TableNo.{TableNo}
+use Rattle.pg_values.specs.declared.ids.LeafId.{LeafId}
+use Rattle.pg_values.specs.declared.ids.TableNo.{TableNo}
 use Rattle.bound_forms.specs.declared.level.KeyColumn.{KeyColumn}
 use Rattle.bound_forms.specs.Accepts.{accepts_among}
 use Rattle.bound_forms.specs.Points.{picked}
@@ -32,10 +32,10 @@ use Rattle.table_trees.proofs.OneLeaf.{one_leaf}
 use Rattle.table_trees.proofs.Sound.{tree_sound}
 use Rattle.row_store.specs.declared.scan.SeenRow.{SeenRow}
 use Rattle.row_store.specs.Kept.{blank, stored_at}
-use Rattle.row_targets.specs.NewRows.{new_row, set_in, set_value, with_value}
-use Rattle.row_targets.specs.Verdicts.{MayEnd}
-use Rattle.row_targets.specs.declared.finding.TargetRow.{TargetRow}
-use Rattle.statement_asks.specs.Asked.{SettingMeant}
+use Rattle.change_statement.specs.NewRows.{new_row, set_in, set_value, with_value}
+use Rattle.change_statement.specs.Verdicts.{MayEnd}
+use Rattle.change_statement.specs.declared.finding.TargetRow.{TargetRow}
+use Rattle.cond_logic.specs.Asked.{SettingMeant}
 use Rattle.soundness.specs.Legal.{ArePermitted}
 use Rattle.soundness.specs.Parts.{InvariantOf}
 use Rattle.soundness.specs.Shown.{MayShow}

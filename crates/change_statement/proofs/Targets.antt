@@ -6,8 +6,8 @@ use Rattle.std.proofs.lemmas.Bool.{cases_Bool, cases_lt, and_parts}
 use Rattle.std.proofs.lemmas.Bool.Decides.{nat_tests}
 use Rattle.std.proofs.lemmas.Grind.{common_steps, elements}
 use Rattle.std.proofs.lemmas.List.Elements.{All-nil, All-cons, All-head, All-tail, All-append}
-use Rattle.pg_ids.specs.declared.ids.LeafId.{LeafId}
-use Rattle.pg_ids.specs.declared.ids.RowId.{RowId}
+use Rattle.pg_values.specs.declared.ids.LeafId.{LeafId}
+use Rattle.pg_values.specs.declared.ids.RowId.{RowId}
 use Rattle.history.specs.declared.version.Version.{Version}
 use Rattle.history.specs.Rows.{LeafAdded, RowBorn, RowEnded}
 use Rattle.history.specs.RowsSound.{AreRowsSound}
@@ -16,8 +16,8 @@ use Rattle.history.specs.History.{History, TxChange, SnapshotChange, RowChange, 
 use Rattle.cond_logic.specs.Trees.{CondTree}
 use Rattle.row_store.specs.Kept.{KeptRows, blank, version_of, stored_at}
 use Rattle.row_store.specs.Stands.{StoreStands}
-use Rattle.row_targets.specs.Targets.{takes, target_of, targets_in, targets}
-use Rattle.row_targets.specs.declared.finding.TargetRow.{TargetRow}
+use Rattle.change_statement.specs.Targets.{takes, target_of, targets_in, targets}
+use Rattle.change_statement.specs.declared.finding.TargetRow.{TargetRow}
 use Rattle.soundness.proofs.Listed.{first_in, later_in}
 use Rattle.statement_steps.specs.declared.rest.Rest.{Rest}
 use Rattle.statement_steps.specs.declared.rest.Rest.TheVariants.{Rows, Detach}

@@ -3,19 +3,19 @@
 use Rattle.std.specs.Prelude.{ℕ, ◌+◌, ◌^◌, Bool, true, false, List, [], ◌∷◌, Option, Some}
 use Rattle.pg_values.specs.declared.value.Value.{Value}
 use Rattle.pg_values.specs.declared.fault.Fault.{Fault}
-use Rattle.pg_ids.specs.declared.ids.LeafId.{LeafId}
-use Rattle.pg_ids.specs.declared.ids.RowId.{RowId}
-use Rattle.pg_ids.specs.declared.ids.TableNo.{TableNo}
-use Rattle.pg_ids.specs.declared.session_set.SessionSet.{SessionSet}
+use Rattle.pg_values.specs.declared.ids.LeafId.{LeafId}
+use Rattle.pg_values.specs.declared.ids.RowId.{RowId}
+use Rattle.pg_values.specs.declared.ids.TableNo.{TableNo}
+use Rattle.pg_values.specs.declared.session_set.SessionSet.{SessionSet}
 use Rattle.history.specs.declared.wait.WaitOn.TheVariants.{Ends}
 use Rattle.history.specs.History.{History}
 use Rattle.table_trees.specs.Trees.{TableTree}
 use Rattle.row_change.specs.Placing.{name_at}
-use Rattle.row_targets.specs.Faults.{could_not_serialize, conflict_session}
-use Rattle.row_targets.specs.Targets.{targets}
-use Rattle.row_targets.specs.Verdicts.{UpdaterMeant, Decision, Changes, PassesBy, WaitsFor, Refuses, decided}
-use Rattle.row_targets.specs.declared.finding.TargetRow.{TargetRow}
-use Rattle.row_targets.specs.declared.verdicts.Conflict.{Conflict}
+use Rattle.change_statement.specs.Faults.{could_not_serialize, conflict_session}
+use Rattle.change_statement.specs.Targets.{targets}
+use Rattle.change_statement.specs.Verdicts.{UpdaterMeant, Decision, Changes, PassesBy, WaitsFor, Refuses, decided}
+use Rattle.change_statement.specs.declared.finding.TargetRow.{TargetRow}
+use Rattle.change_statement.specs.declared.verdicts.Conflict.{Conflict}
 use Rattle.sessions.specs.declared.phase.Isolation.{Isolation}
 use Rattle.sessions.specs.declared.phase.Isolation.TheVariants.{ReadCommitted, ReadUncommitted, RepeatableRead}
 use Rattle.stores.specs.Events.{tx_in, look_of, held}

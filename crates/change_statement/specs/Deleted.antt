@@ -1,6 +1,6 @@
 -- DELETE of a session (the manual, DELETE).
 use Rattle.std.specs.Prelude.{ℕ, Bool, List, [], ◌∷◌, Option}
-use Rattle.pg_ids.specs.declared.ids.RowId.{RowId}
+use Rattle.pg_values.specs.declared.ids.RowId.{RowId}
 use Rattle.history.specs.declared.version.Ending.{Ending}
 use Rattle.history.specs.declared.version.Ending.TheVariants.{Deleted}
 use Rattle.history.specs.Rows.{RowEnded}

@@ -1,9 +1,9 @@
 -- What an UPDATE or a DELETE has before it looks at rows: its table and those that it needs below it, locked, and what is asked of the rows
 -- (the manual, UPDATE; DELETE; 13.3.1 Table-Level Locks).
 use Rattle.std.specs.Prelude.{ℕ, Bool, List, [], Option, None, map}
-use Rattle.pg_ids.specs.declared.ids.LeafId.{LeafId}
-use Rattle.pg_ids.specs.declared.ids.TableNo.{TableNo}
-use Rattle.pg_ids.specs.declared.lock_mode.LockMode.TheVariants.{RowExclusive}
+use Rattle.pg_values.specs.declared.ids.LeafId.{LeafId}
+use Rattle.pg_values.specs.declared.ids.TableNo.{TableNo}
+use Rattle.pg_values.specs.declared.lock_mode.LockMode.TheVariants.{RowExclusive}
 use Rattle.history.specs.declared.catalogue.Column.{Column}
 use Rattle.history.specs.History.{History}
 use Rattle.table_trees.specs.declared.path_part.PathPart.{PathPart}
@@ -17,7 +17,7 @@ use Rattle.sql_ast.specs.declared.named_table.NamedTable.{NamedTable}
 use Rattle.sql_binder.specs.From.{item_name}
 use Rattle.expression_binder.specs.Scopes.{Item}
 use Rattle.expression_binder.specs.declared.scope.Param.{Param}
-use Rattle.statement_asks.specs.Asked.{ChangeMeant, change_meant}
+use Rattle.cond_logic.specs.Asked.{ChangeMeant, change_meant}
 use Rattle.change_binder.specs.Changes.{bound_change}
 use Rattle.stores.specs.Events.{look_of}
 use Rattle.statement_steps.specs.Made.{Made, made}
@@ -25,7 +25,7 @@ use Rattle.statement_steps.specs.declared.caller.Caller.{Caller}
 use Rattle.statement_steps.specs.declared.rest.Rest.{Rest}
 use Rattle.statement_steps.specs.Asks.{named, all_locked}
 use Rattle.statement_steps.specs.Steps.{follow, going_on}
-use Rattle.pruned_trees.specs.Kept.{Keeps}
+use Rattle.plan_tree.specs.Kept.{Keeps}
 use Rattle.select_statement.specs.Below.{number_of}
 use Rattle.insert_statement.specs.Inserted.{answered, scope_column}
 use Rattle.change_statement.specs.Kept.{keeps_for, leaves_read, moves, tables_locked}

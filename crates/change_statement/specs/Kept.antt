@@ -2,14 +2,14 @@
 -- Pruning; 13.3.1 Table-Level Locks).
 use Rattle.std.specs.Prelude.{◌==◌, ◌||◌, Bool, false, if◌then◌else◌, List, [], ◌∷◌, map, Option, Some, None}
 use Rattle.std.specs.List.{list_any}
-use Rattle.pg_ids.specs.declared.ids.LeafId.{LeafId}
-use Rattle.pg_ids.specs.declared.ids.TableNo.{TableNo}
+use Rattle.pg_values.specs.declared.ids.LeafId.{LeafId}
+use Rattle.pg_values.specs.declared.ids.TableNo.{TableNo}
 use Rattle.bound_forms.specs.declared.level.KeyColumn.{KeyColumn}
 use Rattle.table_trees.specs.Trees.{TableTree, LeafTable, LevelTable, Trees, End, More}
 use Rattle.cond_logic.specs.Trees.{CondTree}
-use Rattle.pruned_trees.specs.Conditions.{all_hold}
-use Rattle.pruned_trees.specs.Kept.{Keeps, keeps_by, id_of, kept_leaves, kept_tables}
-use Rattle.statement_asks.specs.Asked.{SettingMeant}
+use Rattle.plan_tree.specs.Conditions.{all_hold}
+use Rattle.plan_tree.specs.Kept.{Keeps, keeps_by, id_of, kept_leaves, kept_tables}
+use Rattle.cond_logic.specs.Asked.{SettingMeant}
 use Rattle.select_statement.specs.Below.{below}
 
 -- ---- what the condition keeps

@@ -9,8 +9,8 @@ use Rattle.cond_logic.specs.Trees.{CondTree}
 use Rattle.soundness.specs.Worlds.{IsMade}
 use Rattle.soundness.specs.Legal.{ArePermitted}
 use Rattle.soundness.specs.Laws.{IsLooking}
-use Rattle.row_targets.specs.Targets.{targets}
-use Rattle.statement_asks.specs.Asked.{ChangeMeant}
+use Rattle.change_statement.specs.Targets.{targets}
+use Rattle.cond_logic.specs.Asked.{ChangeMeant}
 use Rattle.stores.specs.Events.{look_of}
 use Rattle.statement_steps.specs.Made.{Made}
 use Rattle.statement_steps.specs.declared.caller.Caller.{Caller}

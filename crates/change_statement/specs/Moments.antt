@@ -4,7 +4,7 @@ use Rattle.std.specs.Prelude.{◌≡◌, ℕ, Bool, List, Option}
 use Rattle.history.specs.History.{History, catalogue_events}
 use Rattle.soundness.specs.Worlds.{IsMade}
 use Rattle.soundness.specs.Laws.{IsLooking}
-use Rattle.statement_asks.specs.Asked.{ChangeMeant}
+use Rattle.cond_logic.specs.Asked.{ChangeMeant}
 use Rattle.stores.specs.Events.{look_of}
 use Rattle.statement_steps.specs.declared.caller.Caller.{Caller}
 use Rattle.statement_steps.specs.declared.rest.Rest.{Rest}

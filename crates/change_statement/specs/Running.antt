@@ -2,8 +2,8 @@
 use Rattle.std.specs.Prelude.{◌≡◌, ℕ, ◌+◌, ◌<◌, true, false, List, [], ◌∷◌, ◌++◌, Some, None, Result, Ok, Err, All, length, slice_index_or}
 use Rattle.std.specs.List.{Contains}
 use Rattle.pg_values.specs.declared.value.Value.{Value}
-use Rattle.pg_ids.specs.declared.ids.LeafId.{LeafId}
-use Rattle.pg_ids.specs.declared.ids.RowId.{RowId}
+use Rattle.pg_values.specs.declared.ids.LeafId.{LeafId}
+use Rattle.pg_values.specs.declared.ids.RowId.{RowId}
 use Rattle.history.specs.Transactions.{open_of}
 use Rattle.history.specs.History.{History, tx_events, catalogue_events, stands}
 use Rattle.history.specs.Legal.{IsInOrder}
@@ -15,7 +15,7 @@ use Rattle.soundness.specs.Worlds.{HasLeaf}
 use Rattle.part_catalog.specs.Stands.{CatalogueStands}
 use Rattle.row_change.specs.Placing.{placed}
 use Rattle.row_change.specs.Targets.{HasWay}
-use Rattle.row_targets.specs.declared.finding.TargetRow.{TargetRow}
+use Rattle.change_statement.specs.declared.finding.TargetRow.{TargetRow}
 use Rattle.legal_statements.specs.Locked.{IsWritable}
 use Rattle.stores.specs.Numbers.{IsAt}
 use Rattle.stores.specs.Stand.{Stands}

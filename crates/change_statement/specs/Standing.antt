@@ -1,7 +1,7 @@
 -- The rows that an UPDATE or a DELETE has still to change (the manual, 13.2.1 Read Committed Isolation Level).
 use Rattle.std.specs.Prelude.{ℕ, ◌==◌, if◌then◌else◌, List, [], ◌∷◌, Option, Some, None, map}
-use Rattle.pg_ids.specs.declared.ids.RowId.{RowId}
-use Rattle.row_targets.specs.declared.finding.TargetRow.{TargetRow}
+use Rattle.pg_values.specs.declared.ids.RowId.{RowId}
+use Rattle.change_statement.specs.declared.finding.TargetRow.{TargetRow}
 use Rattle.statement_steps.specs.declared.rest.Rest.{Rest}
 use Rattle.statement_steps.specs.declared.rest.Rest.TheVariants.{Rows, Detach}
 use Rattle.statement_steps.specs.declared.rest.RestOfRows.{RestOfRows}

@@ -1,8 +1,8 @@
 -- UPDATE of a session (the manual, UPDATE; 5.11.2 Declarative Partitioning).
 use Rattle.std.specs.Prelude.{ℕ, Bool, List, Option}
 use Rattle.pg_values.specs.declared.value.Value.{Value}
-use Rattle.pg_ids.specs.declared.ids.LeafId.{LeafId}
-use Rattle.pg_ids.specs.declared.ids.RowId.{RowId}
+use Rattle.pg_values.specs.declared.ids.LeafId.{LeafId}
+use Rattle.pg_values.specs.declared.ids.RowId.{RowId}
 use Rattle.pg_values.specs.Refusals.{or_first}
 use Rattle.history.specs.declared.transaction.TxId.{TxId}
 use Rattle.history.specs.History.{History}
@@ -11,7 +11,7 @@ use Rattle.row_store.specs.Stands.{newborn}
 use Rattle.row_change.specs.Placing.{placed}
 use Rattle.row_change.specs.Storing.{full_faults}
 use Rattle.row_change.specs.Succession.{follows}
-use Rattle.row_targets.specs.NewRows.{new_row}
+use Rattle.change_statement.specs.NewRows.{new_row}
 use Rattle.sql_ast.specs.Expressions.{Tree}
 use Rattle.sql_ast.specs.Queries.{Setting}
 use Rattle.sql_ast.specs.declared.named_table.NamedTable.{NamedTable}

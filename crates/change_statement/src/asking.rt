@@ -3,7 +3,7 @@
 ghost use Rattle.std.specs.Prelude.{◌≡◌, ◌<◌, IfOk, length};
 ghost use Rattle.pg_values.specs.Refusals.{IsAnswer};
 ghost use Rattle.expression_binder.specs.Firsts.{IsAnswerBy};
-ghost use Rattle.statement_asks.specs.Asked.{change_meant};
+ghost use Rattle.cond_logic.specs.Asked.{change_meant};
 ghost use Rattle.change_binder.specs.Changes.{bound_change};
 ghost use Rattle.sql_binder.specs.From.{item_name};
 ghost use Rattle.statement_steps.specs.Attempts.{MayAttempt};
@@ -12,13 +12,12 @@ ghost use Rattle.insert_statement.specs.Asked.{stopped};
 ghost use Rattle.change_statement.specs.Gathered as gathered;
 
 use change_binder::{bind_delete, bind_update};
+use cond_logic::ChangeAsk;
 use expression_binder::{Param, ScopeItem};
 use history::Column;
 use insert_statement::scope_columns;
-use pg_ids::TableNo;
-use pg_values::{NoMemory, PgText, Refusal};
+use pg_values::{NoMemory, PgText, Refusal, TableNo};
 use sql_ast::{Delete, NamedTable, Update};
-use statement_asks::ChangeAsk;
 use statement_steps::{Caller, Stop};
 use std::alloc::Global;
 use stores::Stores;

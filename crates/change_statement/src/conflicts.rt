@@ -9,11 +9,10 @@ ghost use Rattle.statement_steps.specs.Faults as faults;
 ghost use Rattle.insert_statement.specs.Inserted as inserted;
 ghost use Rattle.change_statement.specs.Changed as changed;
 
+use crate::{Conflict, could_not_serialize};
 use part_catalog::Catalog;
-use pg_ids::{LeafId, TableNo};
-use pg_values::{Fault, NoMemory, PgText};
+use pg_values::{Fault, LeafId, NoMemory, PgText, TableNo};
 use row_change::leaf_way;
-use row_targets::{Conflict, could_not_serialize};
 use statement_steps::SessionNames;
 use std::alloc::Global;
 use table_trees::Tree;

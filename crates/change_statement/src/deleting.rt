@@ -8,7 +8,7 @@ ghost use Rattle.statement_steps.specs.Attempts.{MayAttempt};
 ghost use Rattle.change_statement.specs.Deleted.{ended};
 ghost use Rattle.change_statement.specs.Running.{IsRun, MayEndIn, MayRun};
 
-use pg_ids::RowId;
+use pg_values::RowId;
 use statement_steps::Caller;
 use stores::Stores;
 

@@ -2,8 +2,8 @@
 
 ghost use Rattle.std.specs.Prelude.{◌≡◌, ◌<◌, ◌≤◌, ◌∷◌, [], All, IfOk, length, map};
 ghost use Rattle.table_trees.specs.Seen.{seen};
-ghost use Rattle.statement_asks.specs.Asked.{change_meant};
-ghost use Rattle.pruned_trees.specs.Prunable.{CanPrune};
+ghost use Rattle.cond_logic.specs.Asked.{change_meant};
+ghost use Rattle.plan_tree.specs.Prunable.{CanPrune};
 ghost use Rattle.row_change.specs.Ways.{AllTables};
 ghost use Rattle.statement_steps.specs.Attempts.{MayAttempt};
 ghost use Rattle.statement_steps.specs.Known.{IsKnownTo};
@@ -15,12 +15,11 @@ ghost use Rattle.change_statement.specs.Running.{IsGathered};
 
 use crate::asking::{Change, bind, table_named};
 use crate::keeping::keep;
+use cond_logic::ChangeAsk;
 use expression_binder::Param;
 use insert_statement::tree_and_path;
-use pg_ids::{LeafId, LockMode, TableNo};
-use pg_values::NoMemory;
-use pruned_trees::trees_can_be_pruned;
-use statement_asks::ChangeAsk;
+use pg_values::{LeafId, LockMode, NoMemory, TableNo};
+use plan_tree::trees_can_be_pruned;
 use statement_steps::{Caller, SessionNames, Stop, lock_named, lock_tables};
 use std::alloc::Global;
 use stores::Stores;

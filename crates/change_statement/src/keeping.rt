@@ -3,19 +3,17 @@
 ghost use Rattle.std.specs.Prelude.{◌≡◌, IfOk, map};
 ghost use Rattle.std.specs.List.{list_any};
 ghost use Rattle.table_trees.specs.Seen.{seen};
-ghost use Rattle.pruned_trees.specs.Kept.{id_of, kept_leaves, kept_tables};
-ghost use Rattle.pruned_trees.specs.Prunable.{CanPrune};
-ghost use Rattle.statement_asks.specs.Asked.{change_meant, maybe_cond, setting_meant};
+ghost use Rattle.plan_tree.specs.Kept.{id_of, kept_leaves, kept_tables};
+ghost use Rattle.plan_tree.specs.Prunable.{CanPrune};
+ghost use Rattle.cond_logic.specs.Asked.{change_meant, maybe_cond, setting_meant};
 ghost use Rattle.change_statement.specs.Kept as kept_spec;
 ghost use Rattle.change_statement.specs.Kept.{keeps_for};
 
 use bound_forms::KeyColumn;
-use cond_logic::Cond;
-use pg_ids::{LeafId, TableNo};
-use pg_values::NoMemory;
-use pruned_trees::{KeptParts, NamedLeaf, all_hold, prune_tree};
+use cond_logic::{ChangeAsk, Cond, Setting};
+use pg_values::{LeafId, NoMemory, TableNo};
+use plan_tree::{KeptParts, NamedLeaf, all_hold, prune_tree};
 use select_statement::tables_below;
-use statement_asks::{ChangeAsk, Setting};
 use std::alloc::Global;
 use table_trees::{Shape, Tree};
 

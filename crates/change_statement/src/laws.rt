@@ -1,6 +1,6 @@
 ghost use Rattle.change_statement.specs.Laws.{KeptHaveAllTargets, PrunedChangesArePlain};
 
-use pruned_trees::{none_is_missed, shown_lie_right, trees_can_be_pruned};
+use plan_tree::{none_is_missed, shown_lie_right, trees_can_be_pruned};
 
 /// In each history of the stores the rows that an UPDATE or a DELETE finds in the leaves that its condition
 /// keeps are those that it would find in all leaves of the tree, in the same order.

@@ -3,9 +3,8 @@
 ghost use Rattle.std.specs.Prelude.{◌≡◌, IfOk, OnOk, map};
 ghost use Rattle.change_statement.specs.Standing as standing;
 
-use pg_ids::RowId;
-use pg_values::NoMemory;
-use row_targets::TargetRow;
+use crate::TargetRow;
+use pg_values::{NoMemory, RowId};
 use statement_steps::{Rest, RestOfRows, RowIds};
 use std::alloc::Global;
 

@@ -7,11 +7,10 @@ ghost use Rattle.change_statement.specs.Changed as changed_spec;
 ghost use Rattle.change_statement.specs.Running.{IsRun, MayRun};
 ghost use Rattle.change_statement.specs.Standing as standing_spec;
 
+use crate::TargetRow;
 use crate::standing::standing;
 use history::WaitOn;
-use pg_ids::SessionSet;
-use pg_values::NoMemory;
-use row_targets::TargetRow;
+use pg_values::{NoMemory, SessionSet};
 use statement_steps::{Caller, Rest, RestOfRows, SessionNames, Stop, hold, wait_for};
 use std::alloc::Global;
 use stores::Stores;

@@ -1,3 +1,3 @@
-pub mod Lists
 pub mod Bound
+pub mod Lists
 pub mod Pushed

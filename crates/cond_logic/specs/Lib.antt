@@ -1,7 +1,12 @@
+pub mod Asked
 pub mod Columns
+pub mod Faults
 pub mod Laws
+pub mod Lent
 pub mod Rewriting
 pub mod Scalars
+pub mod Tables
 pub mod Trees
 pub mod Truths
 pub mod Tuples
+pub mod Values

@@ -10,22 +10,48 @@
 //!
 //! Contracts speak of the tree of a condition (`cond_tree`), without where it lies in memory.
 //! Functions call themselves once for each level of nesting, and never along a list.
+//!
+//! What the expressions of a select list and of SET are worth for a tuple of rows.
+//!
+//! A tuple lends a row for each FROM item (`cond_logic::Binding`) and the names of the tables in which
+//! these rows lie (`TableNames`), since `tableoid::regclass` names the leaf of a row and not the table
+//! that the statement names. `scalar_value` computes one expression, left before right; the first fault
+//! refuses, as 22003, 22008 or 22012.
+//!
+//! `pg_cancel_backend` only answers here whether there is a session of that number: who runs the
+//! statement makes the cancel.
+//!
+//! What a statement asks for once its names are bound: the rows of a SELECT, the rows of an INSERT, and
+//! the changes of an UPDATE or a DELETE, by places and values.
+//!
+//! The binder makes these, and what plans and runs statements takes them. They know neither texts nor
+//! trees of SQL. Contracts speak of them without where they lie in memory (`select_meant`,
+//! `insert_meant`, `change_meant`).
 #![tactic(auto)]
 
 mod binding;
+mod change;
 mod columns;
+mod computing;
 mod cond;
 mod evaluate;
+mod faults;
+mod insert;
 mod laws;
 mod parameters;
 mod pushing;
 mod scalar;
+mod select;
+mod table_names;
 mod truth;
 
 pub use binding::Binding;
+pub use change::{ChangeAsk, Setting};
 pub use columns::columns_used;
+pub use computing::{column_value, scalar_value, table_value};
 pub use cond::{ColumnId, CompareOp, Cond, CondList, Operand};
 pub use evaluate::eval;
+pub use insert::InsertAsk;
 pub use laws::{
     binding_keeps_truth, binding_leaves_no_given_parameter, not_stands_over_null_tests,
     pushing_keeps_truth,
@@ -33,4 +59,6 @@ pub use laws::{
 pub use parameters::bind_params;
 pub use pushing::push_not;
 pub use scalar::Scalar;
+pub use select::{Output, SelectAsk, SortBy, SortKey};
+pub use table_names::TableNames;
 pub use truth::Truth3;

@@ -1,7 +1,7 @@
 -- Which partitions a tree shows (the manual, ALTER TABLE, DETACH PARTITION; 13.6).
 use Rattle.std.specs.Prelude.{◌≡◌, ◌<◌, ℕ, zero, suc, false, [], ◌∷◌, ◌⊎◌}
 use Rattle.std.specs.List.{Contains}
-use Rattle.pg_ids.specs.declared.ids.LeafId.{LeafId}
+use Rattle.pg_values.specs.declared.ids.LeafId.{LeafId}
 use Rattle.history.specs.declared.catalogue.Entry.{Entry}
 use Rattle.history.specs.declared.catalogue.Stamp.{Stamp}
 use Rattle.history.specs.Transactions.{was_aborted}

@@ -1,6 +1,6 @@
 -- The default partition of a table, which the session may ask for.
 use Rattle.std.proofs.Common.{◌≡◌, ℕ, subst, arith, Some}
-use Rattle.pg_ids.specs.declared.ids.TableNo.{TableNo}
+use Rattle.pg_values.specs.declared.ids.TableNo.{TableNo}
 use Rattle.history.specs.History.{History}
 use Rattle.part_ddl.specs.Below.{default_of}
 use Rattle.part_ddl.proofs.Making.{table_count}

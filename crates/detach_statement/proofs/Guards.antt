@@ -1,13 +1,13 @@
 -- Tables that a session has locked so that nobody else changes their partitions.
 use Rattle.std.proofs.Common.{◌≡◌, ℕ, ◌==◌, ◌+◌, List, [], ◌++◌, inl, inr, sym, ◌∙◌, subst, append-nil, Option, Some, None, Ok}
 use Rattle.std.proofs.lemmas.Bool.{cases_Bool}
-use Rattle.pg_ids.specs.Sets.{has}
-use Rattle.pg_ids.specs.declared.ids.TableNo.{TableNo}
-use Rattle.pg_ids.specs.declared.lock_mode.LockMode.{LockMode}
-use Rattle.pg_ids.specs.declared.lock_mode.LockMode.TheVariants.{ShareUpdateExclusive}
+use Rattle.pg_values.specs.Sets.{has}
+use Rattle.pg_values.specs.declared.ids.TableNo.{TableNo}
+use Rattle.pg_values.specs.declared.lock_mode.LockMode.{LockMode}
+use Rattle.pg_values.specs.declared.lock_mode.LockMode.TheVariants.{ShareUpdateExclusive}
 use Rattle.history.specs.declared.wait.Wanted.TheVariants.{Lock}
 use Rattle.history.specs.History.{History, lock_events}
-use Rattle.lock_answers.specs.Asked.{asked}
+use Rattle.lock_table.specs.Asked.{asked}
 use Rattle.part_catalog.specs.Found.{resolved}
 use Rattle.stores.specs.declared.stores.Stores.{Stores}
 use Rattle.statement_steps.specs.Made.{Made, then_told}

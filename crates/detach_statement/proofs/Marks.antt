@@ -5,9 +5,9 @@ use Rattle.std.proofs.lemmas.Bool.{cases_Bool}
 use Rattle.std.proofs.lemmas.Bool.Decides.{nat_tests}
 use Rattle.std.proofs.lemmas.List.Elements.{All-contains, All-contains_itself, All-filter}
 use Rattle.pg_values.specs.declared.fault.Fault.{Fault}
-use Rattle.pg_ids.specs.Sets.{has}
-use Rattle.pg_ids.specs.declared.ids.TableNo.{TableNo}
-use Rattle.pg_ids.specs.declared.session_set.SessionSet.{SessionSet}
+use Rattle.pg_values.specs.Sets.{has}
+use Rattle.pg_values.specs.declared.ids.TableNo.{TableNo}
+use Rattle.pg_values.specs.declared.session_set.SessionSet.{SessionSet}
 use Rattle.bound_forms.specs.Accepts.{is_default}
 use Rattle.pg_values.specs.Refusals.{unless}
 use Rattle.history.specs.declared.catalogue.Entry.{Entry}

@@ -1,7 +1,7 @@
 -- What is known of a table that nothing stands against.
 use Rattle.std.proofs.Common.{◌≡◌, ℕ, not, Bool, true, false, [], refl, ap, Option, Some, None, Ok}
 use Rattle.pg_values.specs.declared.fault.Fault.{Fault}
-use Rattle.pg_ids.specs.declared.ids.TableNo.{TableNo}
+use Rattle.pg_values.specs.declared.ids.TableNo.{TableNo}
 use Rattle.pg_values.specs.Refusals.{unless}
 use Rattle.history.specs.History.{History}
 use Rattle.part_catalog.specs.Answers.{child_told, pending_entry}

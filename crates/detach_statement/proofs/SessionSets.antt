@@ -5,9 +5,9 @@ use Rattle.std.proofs.lemmas.Grind.{common_steps}
 use Rattle.std.proofs.lemmas.Bool.{cases_Bool, cases_lt}
 use Rattle.std.proofs.lemmas.Bool.Decides.{nat_tests}
 use Rattle.std.proofs.lemmas.Nat.Bits.{bit_at-zero, bit_at-lt, same_from_bits}
-use Rattle.pg_ids.specs.Sets.{has, empty}
-use Rattle.pg_ids.specs.declared.session_set.SessionSet.{SessionSet}
-use Rattle.pg_ids.proofs.Bits.{set_has}
+use Rattle.pg_values.specs.Sets.{has, empty}
+use Rattle.pg_values.specs.declared.session_set.SessionSet.{SessionSet}
+use Rattle.pg_values.proofs.Bits.{set_has}
 use Rattle.partition_scans.specs.Sessions.{joined_by, those_below, those}
 
 none_has : (k : ℕ) → has empty k ≡ false

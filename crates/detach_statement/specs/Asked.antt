@@ -1,8 +1,8 @@
 -- What is asked of a table that leaves its place.
 use Rattle.std.specs.Prelude.{◌≡◌, ℕ, true, Some, Ok}
-use Rattle.pg_ids.specs.Sets.{has}
-use Rattle.pg_ids.specs.declared.ids.TableNo.{TableNo}
-use Rattle.pg_ids.specs.declared.lock_mode.LockMode.TheVariants.{ShareUpdateExclusive}
+use Rattle.pg_values.specs.Sets.{has}
+use Rattle.pg_values.specs.declared.ids.TableNo.{TableNo}
+use Rattle.pg_values.specs.declared.lock_mode.LockMode.TheVariants.{ShareUpdateExclusive}
 use Rattle.history.specs.History.{History}
 use Rattle.lock_table.specs.Kept.{held_at}
 use Rattle.tx_table.specs.Stands.{TableStands}

@@ -1,7 +1,7 @@
 -- ALTER TABLE, DETACH PARTITION FINALIZE of a session (the manual, ALTER TABLE; 13.2; 13.3.1 Table-Level Locks).
 use Rattle.std.specs.Prelude.{ℕ, ◌==◌, ◌&&◌, Bool, false, not, List, Option, Some, None, Result, Ok}
 use Rattle.pg_values.specs.declared.fault.Fault.{Fault}
-use Rattle.pg_ids.specs.declared.lock_mode.LockMode.TheVariants.{ShareUpdateExclusive, AccessExclusive}
+use Rattle.pg_values.specs.declared.lock_mode.LockMode.TheVariants.{ShareUpdateExclusive, AccessExclusive}
 use Rattle.pg_values.specs.Refusals.{unless}
 use Rattle.history.specs.declared.transaction.TxId.{TxId}
 use Rattle.history.specs.declared.wait.WaitOn.TheVariants.{Snapshots}

@@ -2,7 +2,7 @@
 
 ghost use Rattle.std.specs.Prelude.{◌≡◌, ◌+◌, ◌<◌, ◌≤◌, ◌==◌, ◌&&◌, ℕ, IfOk, length};
 ghost use Rattle.pg_values.specs.Refusals.{IsAnswer};
-ghost use Rattle.pg_ids.specs.Sets.{has};
+ghost use Rattle.pg_values.specs.Sets.{has};
 ghost use Rattle.history.specs.History.{History};
 ghost use Rattle.tx_table.specs.Stands.{TableStands};
 ghost use Rattle.part_catalog.specs.Stands.{CatalogueStands};
@@ -19,8 +19,7 @@ use legal_statements::listed_is_there;
 use part_catalog::Catalog;
 use part_ddl::parent_level;
 use partition_scans::sessions_are_low;
-use pg_ids::{LockMode, SessionSet, TableNo};
-use pg_values::Refusal;
+use pg_values::{LockMode, Refusal, SessionSet, TableNo};
 use soundness::legal_keeps_all;
 use statement_steps::{Caller, SessionNames, Stop, hold_if_repeatable, lock_named, wait_for};
 use std::alloc::Global;

@@ -18,8 +18,7 @@ use crate::marking::run_first_stage;
 use history::{TxId, WaitOn};
 use legal_statements::listed_is_there;
 use part_catalog::Catalog;
-use pg_ids::{LockMode, SessionSet};
-use pg_values::Refusal;
+use pg_values::{LockMode, Refusal, SessionSet};
 use soundness::legal_keeps_all;
 use statement_steps::{
     Caller, Ending, Rest, RestOfDetach, SessionNames, Stop, ended, lock_named_still, stopped_on,

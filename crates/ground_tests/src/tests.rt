@@ -2,11 +2,11 @@ use cond_logic::{
     Binding, ColumnId, CompareOp, Cond, CondList, Operand, Truth3, bind_params, columns_used, eval,
     push_not,
 };
-use grammar_rules::Refused;
-use grammar_rules::example::{Entry, Kind as Sort, Token, no_list_has_two_values, parse_entries};
-use pg_ids::{LeafId, Which};
+use grammar::Refused;
+use grammar::example::{Entry, Kind as Sort, Token, no_list_has_two_values, parse_entries};
 use pg_values::{
-    DayKey, IntKey, KeyKind, Kind, NoMemory, PgText, Row, TextKey, TruthKey, Value, ValueKey,
+    DayKey, IntKey, KeyKind, Kind, LeafId, NoMemory, PgText, Row, TextKey, TruthKey, Value,
+    ValueKey, Which,
 };
 use row_store::{PutCause, PutRefused, RowStore};
 use std::alloc::Global;

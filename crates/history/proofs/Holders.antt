@@ -4,11 +4,11 @@ use Rattle.std.specs.List.{list_any}
 use Rattle.std.proofs.lemmas.Grind.{common_steps}
 use Rattle.std.proofs.lemmas.Bool.{cases_Bool, cases_eq, and_parts}
 use Rattle.std.proofs.lemmas.Bool.Decides.{nat_tests}
-use Rattle.pg_ids.specs.Modes.{same_mode, conflicting, conflicts}
-use Rattle.pg_ids.specs.declared.lock_mode.LockMode.{LockMode}
-use Rattle.pg_ids.specs.Sets.{nobody}
-use Rattle.pg_ids.proofs.Modes.{both_ways, rank_tells}
-use Rattle.pg_ids.proofs.Bits.{nobody_is}
+use Rattle.pg_values.specs.Modes.{same_mode, conflicting, conflicts}
+use Rattle.pg_values.specs.declared.lock_mode.LockMode.{LockMode}
+use Rattle.pg_values.specs.Sets.{nobody}
+use Rattle.pg_values.proofs.Modes.{both_ways, rank_tells}
+use Rattle.pg_values.proofs.Bits.{nobody_is}
 use Rattle.history.specs.declared.wait.WaitOn.TheVariants.{Ends, Snapshots}
 use Rattle.history.specs.declared.wait.Wanted.{Wanted}
 use Rattle.history.specs.declared.wait.Wanted.TheVariants.{Lock, Others}

@@ -8,8 +8,8 @@ use Rattle.history.specs.Snapshots.{TakenSnapshot, held_by}
 use Rattle.history.specs.Rows.{RowBorn, RowEnded}
 use Rattle.history.specs.History.{Event, History, TxChange, RowChange, tx_events, snapshot_events, versions, end_of, sees_end, is_seen, seen}
 use Rattle.history.specs.Legal.{IsLegal}
-use Rattle.pg_ids.specs.Modes.{conflicts}
-use Rattle.pg_ids.specs.declared.lock_mode.LockMode.{LockMode}
+use Rattle.pg_values.specs.Modes.{conflicts}
+use Rattle.pg_values.specs.declared.lock_mode.LockMode.{LockMode}
 use Rattle.history.specs.Locks.{LockEvents, holds}
 use Rattle.history.specs.LocksSound.{AreLocksSound}
 

@@ -5,9 +5,9 @@
 -- its locks at that one's depth, and a session can wait for the end of another session's part alone.
 use Rattle.std.specs.Prelude.{ℕ, ◌==◌, ◌&&◌, ◌||◌, not, Bool, false, if◌then◌else◌, List, [], ◌∷◌, ◌++◌, Option, Some, None, filter}
 use Rattle.std.specs.List.{list_any}
-use Rattle.pg_ids.specs.Modes.{same_mode, conflicting, every_mode}
-use Rattle.pg_ids.specs.Sets.{without}
-use Rattle.pg_ids.specs.declared.lock_mode.LockMode.{LockMode}
+use Rattle.pg_values.specs.Modes.{same_mode, conflicting, every_mode}
+use Rattle.pg_values.specs.Sets.{without}
+use Rattle.pg_values.specs.declared.lock_mode.LockMode.{LockMode}
 use Rattle.history.specs.declared.wait.WaitOn.{WaitOn}
 use Rattle.history.specs.declared.wait.WaitOn.TheVariants.{Ends, Snapshots}
 use Rattle.history.specs.declared.wait.Wanted.{Wanted}

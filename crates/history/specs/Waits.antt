@@ -3,9 +3,9 @@
 -- A session that waits for the end of another's part of a transaction will be a further cause here.
 use Rattle.std.specs.Prelude.{◌≡◌, ℕ, nat_eq, ◌==◌, ◌&&◌, ◌||◌, not, Bool, true, false, nat_lt, ◌≤◌, if◌then◌else◌, List, [], ◌∷◌, length, Option, Some, None, find}
 use Rattle.std.specs.List.{list_any}
-use Rattle.pg_ids.specs.Modes.{conflicts}
-use Rattle.pg_ids.specs.Sets.{has, nobody}
-use Rattle.pg_ids.specs.declared.lock_mode.LockMode.{LockMode}
+use Rattle.pg_values.specs.Modes.{conflicts}
+use Rattle.pg_values.specs.Sets.{has, nobody}
+use Rattle.pg_values.specs.declared.lock_mode.LockMode.{LockMode}
 use Rattle.history.specs.declared.wait.WaitOn.TheVariants.{Ends, Snapshots}
 use Rattle.history.specs.declared.wait.Wanted.{Wanted}
 use Rattle.history.specs.declared.wait.Wanted.TheVariants.{Lock, Others}

@@ -2,8 +2,7 @@ ghost use Rattle.std.specs.Prelude.{◌≡◌, ◌++◌, ◌∷◌, [], length, 
 
 use crate::TxId;
 use bound_forms::{Bound, Level};
-use pg_ids::{LeafId, TableNo};
-use pg_values::{Kind, NoMemory, PgText};
+use pg_values::{Kind, LeafId, NoMemory, PgText, TableNo};
 use std::alloc::Global;
 use std::marker::Model;
 

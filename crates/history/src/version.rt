@@ -1,6 +1,5 @@
 use crate::TxId;
-use pg_ids::{LeafId, RowId};
-use pg_values::Row;
+use pg_values::{LeafId, Row, RowId};
 
 /// A row version as it was born: its leaf, its values, and the transaction and command that made it.
 #[derive(Debug, Drop)]

@@ -1,4 +1,4 @@
-use pg_ids::{LockMode, SessionSet, TableNo};
+use pg_values::{LockMode, SessionSet, TableNo};
 
 /// What other sessions have to give up before a session goes on: their transactions, or their open
 /// snapshots.

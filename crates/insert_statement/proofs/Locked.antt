@@ -2,14 +2,14 @@
 use Rattle.std.proofs.Common.{◌≡◌, ℕ, ◌==◌, ◌&&◌, ◌||◌, Bool, true, false, List, [], ◌∷◌, ◌++◌, inl, refl, sym, ◌∙◌, subst, arith, append_assoc, append-nil, Option, Some, None, Result, Ok, Err, All, map}
 use Rattle.std.proofs.lemmas.Bool.Decides.{nat_tests}
 use Rattle.std.proofs.lemmas.List.Elements.{All-nil, All-cons}
-use Rattle.pg_ids.specs.Modes.{same_mode, rank}
-use Rattle.pg_ids.specs.declared.ids.TableNo.{TableNo}
-use Rattle.pg_ids.specs.declared.lock_mode.LockMode.{LockMode}
-use Rattle.pg_ids.specs.declared.lock_mode.LockMode.TheVariants.{RowExclusive}
+use Rattle.pg_values.specs.Modes.{same_mode, rank}
+use Rattle.pg_values.specs.declared.ids.TableNo.{TableNo}
+use Rattle.pg_values.specs.declared.lock_mode.LockMode.{LockMode}
+use Rattle.pg_values.specs.declared.lock_mode.LockMode.TheVariants.{RowExclusive}
 use Rattle.history.specs.declared.wait.Wanted.TheVariants.{Lock}
 use Rattle.history.specs.Locks.{holds}
 use Rattle.history.specs.History.{History, LockChange, lock_events}
-use Rattle.lock_answers.specs.Asked.{AskedView, AtOnce, WaitsBehind, ClosesCycle, asked, events_of}
+use Rattle.lock_table.specs.Asked.{AskedView, AtOnce, WaitsBehind, ClosesCycle, asked, events_of}
 use Rattle.part_catalog.specs.Found.{resolved}
 use Rattle.legal_statements.specs.Locked.{IsWritable}
 use Rattle.stores.specs.Stand.{Stands}

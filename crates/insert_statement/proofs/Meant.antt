@@ -5,7 +5,7 @@ use Rattle.pg_values.specs.declared.value.Value.{Value}
 use Rattle.pg_values.specs.declared.fault.Fault.{Fault}
 use Rattle.pg_values.specs.declared.fault.Refusal.{Refusal}
 use Rattle.pg_values.specs.declared.fault.Refusal.TheVariants.{Sql, NoMemory}
-use Rattle.pg_ids.specs.declared.ids.TableNo.{TableNo}
+use Rattle.pg_values.specs.declared.ids.TableNo.{TableNo}
 use Rattle.history.specs.declared.catalogue.Column.{Column}
 use Rattle.history.specs.History.{History}
 use Rattle.part_catalog.specs.Found.{made_at}
@@ -13,8 +13,8 @@ use Rattle.part_catalog.specs.Stands.{CatalogueStands}
 use Rattle.sql_ast.specs.Expressions.{Trees}
 use Rattle.expression_binder.specs.Firsts.{IsAnswerBy}
 use Rattle.expression_binder.specs.declared.scope.Param.{Param}
-use Rattle.statement_asks.specs.Asked.{InsertMeant, insert_meant}
-use Rattle.statement_asks.specs.declared.insert.InsertAsk.{InsertAsk}
+use Rattle.cond_logic.specs.Asked.{InsertMeant, insert_meant}
+use Rattle.cond_logic.specs.declared.insert.InsertAsk.{InsertAsk}
 use Rattle.row_change.specs.FullRows.{full_row}
 use Rattle.stores.specs.declared.stores.Stores.{Stores}
 use Rattle.statement_steps.specs.Attempts.{MayAttempt}

@@ -2,7 +2,7 @@
 use Rattle.std.proofs.Common.{List, [], ◌∷◌, All, map}
 use Rattle.std.proofs.lemmas.List.Elements.{All-nil, All-cons, All-head, All-tail}
 use Rattle.pg_values.specs.declared.value.Value.{Value}
-use Rattle.pg_ids.specs.declared.ids.LeafId.{LeafId}
+use Rattle.pg_values.specs.declared.ids.LeafId.{LeafId}
 use Rattle.insert_statement.specs.Asked.{Each}
 
 pub each_same : (P : LeafId → List Value → Type 0) (leaf : LeafId) (rows : List (List Value)) → ((row : List Value) → P leaf row) → Each P (map (λ row. leaf) rows) rows

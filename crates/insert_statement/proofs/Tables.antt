@@ -1,7 +1,7 @@
 -- Which tables are made, and which the session may lock.
 use Rattle.std.proofs.Common.{◌≡◌, ℕ, ◌<◌, ◌≤◌, List, sym, ap, ◌∙◌, subst, arith, Some, All, length}
 use Rattle.std.proofs.lemmas.List.{length-map}
-use Rattle.pg_ids.specs.declared.ids.TableNo.{TableNo}
+use Rattle.pg_values.specs.declared.ids.TableNo.{TableNo}
 use Rattle.history.specs.declared.catalogue.Entry.{Entry}
 use Rattle.history.specs.Transactions.{open_of}
 use Rattle.history.specs.Snapshots.{TakenSnapshot}

@@ -5,8 +5,8 @@ use Rattle.pg_values.specs.declared.value.Value.{Value}
 use Rattle.pg_values.specs.declared.fault.Fault.{Fault}
 use Rattle.pg_values.specs.declared.fault.Refusal.{Refusal}
 use Rattle.pg_values.specs.declared.fault.Refusal.TheVariants.{Sql, NoMemory}
-use Rattle.pg_ids.specs.declared.ids.LeafId.{LeafId}
-use Rattle.pg_ids.specs.declared.ids.TableNo.{TableNo}
+use Rattle.pg_values.specs.declared.ids.LeafId.{LeafId}
+use Rattle.pg_values.specs.declared.ids.TableNo.{TableNo}
 use Rattle.history.specs.declared.catalogue.TableShape.TheVariants.{Leaf, Level}
 use Rattle.history.specs.History.{History}
 use Rattle.bound_forms.specs.declared.level.Level.{Level as OneLevel}

@@ -6,7 +6,7 @@ use Rattle.pg_values.specs.declared.value.Kind.{Kind}
 use Rattle.pg_values.specs.declared.value.Value.{Value}
 use Rattle.pg_values.specs.declared.value.Value.TheVariants.{Null, Int4, Int8, Text, Day, Truth}
 use Rattle.pg_values.specs.declared.fault.Fault.{Fault}
-use Rattle.pg_ids.specs.declared.ids.TableNo.{TableNo}
+use Rattle.pg_values.specs.declared.ids.TableNo.{TableNo}
 use Rattle.bound_forms.specs.Levels.{IsOf}
 use Rattle.history.specs.declared.catalogue.Column.{Column}
 use Rattle.history.specs.Catalogue.{tables_made}
@@ -18,10 +18,10 @@ use Rattle.part_catalog.specs.Stands.{CatalogueStands}
 use Rattle.sql_ast.specs.Expressions.{Trees}
 use Rattle.expression_binder.specs.declared.scope.Param.{Param}
 use Rattle.expression_binder.specs.declared.scope.ScopeColumn.{ScopeColumn}
-use Rattle.statement_asks.specs.Asked.{InsertMeant}
+use Rattle.cond_logic.specs.Asked.{InsertMeant}
 use Rattle.binding_laws.specs.Fitting.{IsOf as IsOfKind}
 use Rattle.change_binder.specs.Inserts.{bound_insert, kind_at, kinds_of}
-use Rattle.ask_laws.specs.Fitting.{RowFits, RowsFit, InsertsFit}
+use Rattle.binding_laws.specs.FittingAsks.{RowFits, RowsFit, InsertsFit}
 use Rattle.row_change.specs.FullRows.{value_for, full_row}
 use Rattle.stores.proofs.Goodness.{same_session}
 use Rattle.insert_statement.specs.Inserted.{scope_column, whole, whole_rows}

@@ -2,9 +2,9 @@
 use Rattle.std.specs.Prelude.{ℕ, true, false, List, [], ◌∷◌, Option, Result, Ok, Err, map, length, unwrap_or}
 use Rattle.pg_values.specs.declared.value.Value.{Value}
 use Rattle.pg_values.specs.declared.fault.Fault.{Fault}
-use Rattle.pg_ids.specs.declared.ids.LeafId.{LeafId}
-use Rattle.pg_ids.specs.declared.ids.TableNo.{TableNo}
-use Rattle.pg_ids.specs.declared.lock_mode.LockMode.TheVariants.{RowExclusive}
+use Rattle.pg_values.specs.declared.ids.LeafId.{LeafId}
+use Rattle.pg_values.specs.declared.ids.TableNo.{TableNo}
+use Rattle.pg_values.specs.declared.lock_mode.LockMode.TheVariants.{RowExclusive}
 use Rattle.history.specs.declared.transaction.TxId.{TxId}
 use Rattle.history.specs.declared.catalogue.Column.{Column}
 use Rattle.history.specs.declared.catalogue.Table.{Table}
@@ -22,7 +22,7 @@ use Rattle.row_change.specs.Ways.{root, way_to, ways_below}
 use Rattle.sql_ast.specs.Expressions.{Trees}
 use Rattle.expression_binder.specs.declared.scope.Param.{Param}
 use Rattle.expression_binder.specs.declared.scope.ScopeColumn.{ScopeColumn}
-use Rattle.statement_asks.specs.Asked.{InsertMeant}
+use Rattle.cond_logic.specs.Asked.{InsertMeant}
 use Rattle.change_binder.specs.Inserts.{bound_insert}
 use Rattle.stores.specs.Events.{tx_in, look_of}
 use Rattle.statement_steps.specs.Made.{Made, Refused, made, halted}

@@ -12,8 +12,7 @@ ghost use Rattle.stores.specs.Stand.{AllStand, IsSound};
 ghost use Rattle.insert_statement.specs.Asked.{AreRowsOf, IsOwnTarget, MayWrite};
 
 use crate::storing::put_rows;
-use pg_ids::{LeafId, TableNo};
-use pg_values::{NoMemory, Row};
+use pg_values::{LeafId, NoMemory, Row, TableNo};
 use row_change::{LeafList, Target};
 use statement_steps::{Caller, Stop};
 use std::alloc::Global;

@@ -21,8 +21,7 @@ ghost use Rattle.insert_statement.specs.Asked.{ArePlaced, AreRowsOf, IsReadOf, I
 use crate::stopping::stop_by;
 use crate::storing::put_rows;
 use part_catalog::Catalog;
-use pg_ids::{LeafId, LockMode, TableNo};
-use pg_values::{NoMemory, Refusal, Row, Steps};
+use pg_values::{LeafId, LockMode, NoMemory, Refusal, Row, Steps, TableNo};
 use row_change::{LeafList, leaf_targets, place_rows};
 use statement_steps::{Caller, SessionNames, Stop, lock_tables};
 use std::alloc::Global;

@@ -3,7 +3,7 @@
 ghost use Rattle.std.specs.Prelude.{◌≡◌, ◌<◌, ◌++◌, ◌∷◌, [], IfOk, OnOk, map, length};
 ghost use Rattle.sql_ast.specs.Expressions.{trees};
 ghost use Rattle.pg_values.specs.Refusals.{IsAnswer};
-ghost use Rattle.statement_asks.specs.Asked.{insert_meant};
+ghost use Rattle.cond_logic.specs.Asked.{insert_meant};
 ghost use Rattle.row_change.specs.FullRows as full_rows;
 ghost use Rattle.statement_steps.specs.Attempts.{MayAttempt};
 ghost use Rattle.statement_steps.specs.Steps.{IsStep};
@@ -11,15 +11,14 @@ ghost use Rattle.insert_statement.specs.Inserted as inserted;
 ghost use Rattle.insert_statement.specs.Asked.{AreRowsOf};
 
 use crate::stopping::stop_by;
-use ask_laws::inserts_fit;
+use binding_laws::inserts_fit;
 use change_binder::bind_insert;
+use cond_logic::InsertAsk;
 use expression_binder::{Param, ScopeColumn};
 use history::Column;
-use pg_ids::TableNo;
-use pg_values::{NoMemory, Refusal, Row, RowList};
+use pg_values::{NoMemory, Refusal, Row, RowList, TableNo};
 use row_change::full_row;
 use sql_ast::Insert;
-use statement_asks::InsertAsk;
 use statement_steps::{Caller, Stop};
 use std::alloc::Global;
 use stores::Stores;

@@ -4,8 +4,7 @@ ghost use Rattle.statement_steps.specs.Steps.{IsStep};
 ghost use Rattle.insert_statement.specs.Asked.{MayStore, put};
 
 use crate::stopping::stop_by;
-use pg_ids::LeafId;
-use pg_values::Row;
+use pg_values::{LeafId, Row};
 use row_change::{Target, store_rows};
 use statement_steps::{Caller, Stop};
 use std::alloc::Global;

@@ -1,15 +1,15 @@
 -- What comes of asking may follow.
 use Rattle.std.proofs.Common.{◌≡◌, ℕ, ◌++◌, refl, map}
-use Rattle.pg_ids.specs.declared.ids.TableNo.{TableNo}
-use Rattle.pg_ids.specs.declared.lock_mode.LockMode.{LockMode}
+use Rattle.pg_values.specs.declared.ids.TableNo.{TableNo}
+use Rattle.pg_values.specs.declared.lock_mode.LockMode.{LockMode}
 use Rattle.history.specs.declared.wait.Wanted.{Wanted}
 use Rattle.history.specs.declared.wait.Wanted.TheVariants.{Lock, Others}
 use Rattle.history.specs.LocksSound.{AreLocksSound}
 use Rattle.history.specs.History.{History, LockChange, tx_events, lock_events, catalogue_events}
 use Rattle.soundness.specs.Parts.{IsKnown}
 use Rattle.soundness.proofs.Sound.{locks_sound_of}
-use Rattle.lock_answers.specs.Asked.{AskedView, AtOnce, WaitsBehind, ClosesCycle, asked, events_of}
-use Rattle.lock_answers.proofs.MayCome.{may_come}
+use Rattle.lock_table.specs.Asked.{AskedView, AtOnce, WaitsBehind, ClosesCycle, asked, events_of}
+use Rattle.lock_table.proofs.MayCome.{may_come}
 use Rattle.legal_statements.specs.Follows.{MayFollow}
 use Rattle.legal_statements.specs.Laws.{AskedMayFollow}
 use Rattle.legal_statements.proofs.Following.{no_command}

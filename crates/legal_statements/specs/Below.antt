@@ -1,7 +1,7 @@
 -- The tables of a tree (the manual, 5.11.2 Declarative Partitioning).
 use Rattle.std.specs.Prelude.{◌≢◌, ℕ, List, [], ◌∷◌, ◌++◌, map}
 use Rattle.std.specs.List.{AllPairs, Contains}
-use Rattle.pg_ids.specs.declared.ids.TableNo.{TableNo}
+use Rattle.pg_values.specs.declared.ids.TableNo.{TableNo}
 use Rattle.history.specs.History.{History}
 use Rattle.table_trees.specs.Trees.{TableTree, LeafTable, LevelTable, Trees, End, More}
 use Rattle.table_trees.specs.Histories.{ddl_tree}

@@ -2,9 +2,9 @@
 use Rattle.std.specs.Prelude.{◌≡◌, ℕ, ◌<◌, Bool, List, [], ◌∷◌, ◌++◌, Some, None, false, map}
 use Rattle.std.specs.List.{Contains}
 use Rattle.pg_values.specs.declared.value.Value.{Value}
-use Rattle.pg_ids.specs.declared.ids.LeafId.{LeafId}
-use Rattle.pg_ids.specs.declared.ids.TableNo.{TableNo}
-use Rattle.pg_ids.specs.declared.lock_mode.LockMode.{LockMode}
+use Rattle.pg_values.specs.declared.ids.LeafId.{LeafId}
+use Rattle.pg_values.specs.declared.ids.TableNo.{TableNo}
+use Rattle.pg_values.specs.declared.lock_mode.LockMode.{LockMode}
 use Rattle.bound_forms.specs.declared.level.Level.{Level}
 use Rattle.history.specs.declared.catalogue.Entry.{Entry}
 use Rattle.history.specs.declared.catalogue.Stamp.{Stamp}
@@ -28,7 +28,7 @@ use Rattle.row_store.specs.Judged.{refusing, seeing}
 use Rattle.soundness.specs.Legal.{ArePermitted, Has, HasTable}
 use Rattle.soundness.specs.Parts.{IsKnown}
 use Rattle.part_catalog.specs.Found.{resolved}
-use Rattle.lock_answers.specs.Asked.{asked_events}
+use Rattle.lock_table.specs.Asked.{asked_events}
 use Rattle.legal_statements.specs.Follows.{MayFollow}
 use Rattle.legal_statements.specs.Below.{numbers_from, IsWholeTree}
 use Rattle.legal_statements.specs.Locked.{IsOwned, IsGuarded}

@@ -1,7 +1,7 @@
 -- What a session has locked for its open transaction (the manual, 13.3.1). A table that the transaction has made needs no
 -- lock: nobody else knows it.
 use Rattle.std.specs.Prelude.{◌≡◌, ℕ, true, ◌⊎◌, Some}
-use Rattle.pg_ids.specs.declared.lock_mode.LockMode.TheVariants.{RowExclusive, ShareUpdateExclusive, AccessExclusive}
+use Rattle.pg_values.specs.declared.lock_mode.LockMode.TheVariants.{RowExclusive, ShareUpdateExclusive, AccessExclusive}
 use Rattle.history.specs.Transactions.{open_of}
 use Rattle.history.specs.Locks.{holds}
 use Rattle.history.specs.History.{History, tx_events, lock_events, catalogue_events}

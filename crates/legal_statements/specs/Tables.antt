@@ -1,6 +1,6 @@
 -- Which tables a statement of a session may make (the manual, CREATE TABLE).
 use Rattle.std.specs.Prelude.{◌≡◌, ◌≢◌, ℕ, ◌<◌, List, [], ◌∷◌, Some, None, length}
-use Rattle.pg_ids.specs.declared.ids.LeafId.{LeafId}
+use Rattle.pg_values.specs.declared.ids.LeafId.{LeafId}
 use Rattle.history.specs.declared.catalogue.Table.{Table}
 use Rattle.history.specs.declared.catalogue.TableShape.TheVariants.{Leaf}
 use Rattle.history.specs.Transactions.{open_of}

@@ -10,8 +10,7 @@
 
 use history::WaitOn;
 use lock_table::{Asked, LockTable};
-use pg_ids::{LockMode, SessionSet, TableNo};
-use pg_values::NoMemory;
+use pg_values::{LockMode, NoMemory, SessionSet, TableNo};
 use std::alloc::Global;
 use std::io::{self, BufRead, BufReader, BufWriter, Write};
 use std::process::ExitCode;

@@ -4,9 +4,9 @@ use Rattle.std.proofs.lemmas.Grind.{common_steps, elements}
 use Rattle.std.proofs.lemmas.Bool.{cases_lt, cases_Bool, cases_eq, and_parts, lt-ltb, le-ltb}
 use Rattle.std.proofs.lemmas.Bool.Decides.{nat_tests}
 use Rattle.std.proofs.lemmas.Nat.Bits.{bit_at-zero}
-use Rattle.pg_ids.specs.Sets.{has, empty, nobody}
-use Rattle.pg_ids.specs.declared.session_set.SessionSet.{SessionSet}
-use Rattle.pg_ids.proofs.Bits.{nobody_is, somebody_is, nobody_none, has_below}
+use Rattle.pg_values.specs.Sets.{has, empty, nobody}
+use Rattle.pg_values.specs.declared.session_set.SessionSet.{SessionSet}
+use Rattle.pg_values.proofs.Bits.{nobody_is, somebody_is, nobody_none, has_below}
 use Rattle.lock_table.specs.Graph.{edge, leads, IsShortest}
 use Rattle.lock_table.proofs.Ways.{IsFreeOfCycles, IsLeastNext, IsLeastWay}
 

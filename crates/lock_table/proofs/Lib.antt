@@ -1,9 +1,15 @@
+pub mod AnswersTold
+pub mod Causes
 pub mod Chains
+pub mod Cycles
 pub mod Lists
+pub mod MayCome
 pub mod Queues
 pub mod Readiness
 pub mod Rows
 pub mod Searches
+pub mod Sessions
+pub mod Straight
 pub mod Tables
 pub mod Told
 pub mod Walks

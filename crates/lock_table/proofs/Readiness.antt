@@ -4,8 +4,8 @@ use Rattle.std.specs.List.{list_any}
 use Rattle.std.proofs.lemmas.Grind.{common_steps}
 use Rattle.std.proofs.lemmas.Bool.{cases_Bool, cases_eq}
 use Rattle.std.proofs.lemmas.Bool.Decides.{nat_tests}
-use Rattle.pg_ids.specs.Sets.{nobody}
-use Rattle.pg_ids.proofs.Bits.{nobody_is, somebody_is}
+use Rattle.pg_values.specs.Sets.{nobody}
+use Rattle.pg_values.proofs.Bits.{nobody_is, somebody_is}
 use Rattle.history.specs.Locks.{LockEvent, LockEvents, LockGot, LocksGivenUp, SnapshotGone, WaitBegan, WaitResumed, WaitWithdrawn, queue, removed}
 use Rattle.history.specs.Waits.{before, waits_for, ready}
 use Rattle.history.proofs.Holders.{ready_nobody}

@@ -5,10 +5,10 @@ use Rattle.std.proofs.lemmas.Grind.{common_steps, elements}
 use Rattle.std.proofs.lemmas.Bool.{cases_lt, cases_Bool, cases_eq}
 use Rattle.std.proofs.lemmas.Bool.Decides.{nat_tests}
 use Rattle.std.proofs.lemmas.List.Folds.{list_any-append}
-use Rattle.pg_ids.specs.Numbers.{AreBelow65}
-use Rattle.pg_ids.specs.Sets.{has, empty}
-use Rattle.pg_ids.specs.declared.session_set.SessionSet.{SessionSet}
-use Rattle.pg_ids.proofs.Distinct.{distinct-none, distinct-behind, below-behind, room_behind}
+use Rattle.pg_values.specs.Numbers.{AreBelow65}
+use Rattle.pg_values.specs.Sets.{has, empty}
+use Rattle.pg_values.specs.declared.session_set.SessionSet.{SessionSet}
+use Rattle.pg_values.proofs.Distinct.{distinct-none, distinct-behind, below-behind, room_behind}
 use Rattle.lock_table.specs.Graph.{edge, leads, IsShortest}
 use Rattle.lock_table.proofs.Chains.{leads_below, near_more, only_more, not_more}
 use Rattle.lock_table.proofs.Ways.{IsSearched}

@@ -1,8 +1,8 @@
 -- Answers of a search, at what a history tells.
 use Rattle.std.proofs.Common.{◌≡◌, ℕ, Bool, List, Option, Some, None, IfSome, sym, ap, subst}
-use Rattle.pg_ids.specs.Lists.{listed}
-use Rattle.pg_ids.specs.declared.session_list.SessionList.{SessionList}
-use Rattle.pg_ids.specs.declared.session_set.SessionSet.{SessionSet}
+use Rattle.pg_values.specs.Lists.{listed}
+use Rattle.pg_values.specs.declared.session_list.SessionList.{SessionList}
+use Rattle.pg_values.specs.declared.session_set.SessionSet.{SessionSet}
 use Rattle.history.specs.declared.wait.Wanted.{Wanted}
 use Rattle.history.specs.Locks.{LockEvents}
 use Rattle.history.specs.Waits.{waits_for, IsCycle, IsLeastCycle}

@@ -5,8 +5,8 @@ use Rattle.std.proofs.lemmas.Grind.{common_steps}
 use Rattle.std.proofs.lemmas.Bool.{cases_lt, cases_Bool, cases_eq}
 use Rattle.std.proofs.lemmas.Bool.Decides.{nat_tests}
 use Rattle.std.proofs.lemmas.List.Folds.{list_any-append}
-use Rattle.pg_ids.specs.declared.session_set.SessionSet.{SessionSet}
-use Rattle.pg_ids.specs.Sets.{has, empty}
+use Rattle.pg_values.specs.declared.session_set.SessionSet.{SessionSet}
+use Rattle.pg_values.specs.Sets.{has, empty}
 use Rattle.history.specs.Waits.{IsChain, IsCycle, IsLeastCycle, precedes}
 use Rattle.lock_table.specs.Graph.{edge, leads, IsShortest, AreLevels}
 use Rattle.lock_table.proofs.Chains.{chain, first_wait, leads_below, leads_more, way_more, way_none}

@@ -1,9 +1,9 @@
 -- Shortest cycles, and the way along them, by chains of so many waits.
 use Rattle.std.proofs.Common.{◌≡◌, ℕ, zero, suc, ◌+◌, ◌<◌, ◌≤◌, ◌&&◌, Bool, true, false, List, [], ◌∷◌, ◌++◌, nat_eq, length, slice_index_or}
 use Rattle.std.specs.List.{list_any, IsDistinct}
-use Rattle.pg_ids.specs.Numbers.{AreBelow65}
-use Rattle.pg_ids.specs.Sets.{has, empty}
-use Rattle.pg_ids.specs.declared.session_set.SessionSet.{SessionSet}
+use Rattle.pg_values.specs.Numbers.{AreBelow65}
+use Rattle.pg_values.specs.Sets.{has, empty}
+use Rattle.pg_values.specs.declared.session_set.SessionSet.{SessionSet}
 use Rattle.lock_table.specs.Graph.{edge, leads, AreLevels}
 
 -- no cycle goes through s

@@ -1,8 +1,8 @@
 -- What comes of asking.
 use Rattle.std.specs.Prelude.{◌≡◌, ℕ, true, ◌∷◌, Option, Some, None}
-use Rattle.pg_ids.specs.Lists.{listed}
-use Rattle.pg_ids.specs.Sets.{has}
-use Rattle.pg_ids.specs.declared.session_set.SessionSet.{SessionSet}
+use Rattle.pg_values.specs.Lists.{listed}
+use Rattle.pg_values.specs.Sets.{has}
+use Rattle.pg_values.specs.declared.session_set.SessionSet.{SessionSet}
 use Rattle.history.specs.declared.wait.Wanted.{Wanted}
 use Rattle.history.specs.declared.wait.Wanted.TheVariants.{Lock, Others}
 use Rattle.history.specs.Locks.{LockEvents, LockGot, WaitBegan}

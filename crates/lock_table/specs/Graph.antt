@@ -1,7 +1,7 @@
 -- Who waits for whom, as rows of sets, and chains of waits.
 use Rattle.std.specs.Prelude.{◌≡◌, ℕ, zero, suc, ◌+◌, ◌<◌, ◌==◌, ◌&&◌, not, Bool, true, false, List, slice_index_or}
-use Rattle.pg_ids.specs.Sets.{has, empty, nobody}
-use Rattle.pg_ids.specs.declared.session_set.SessionSet.{SessionSet}
+use Rattle.pg_values.specs.Sets.{has, empty, nobody}
+use Rattle.pg_values.specs.declared.session_set.SessionSet.{SessionSet}
 
 -- row x has those for whom x waits
 abbrev pub edge : List SessionSet → ℕ → ℕ → Bool

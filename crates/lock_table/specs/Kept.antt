@@ -1,9 +1,9 @@
 -- What the lock table keeps.
 use Rattle.std.specs.Prelude.{ℕ, ◌+◌, ◌*◌, List, Option, slice_index_or}
-use Rattle.pg_ids.specs.Modes.{rank}
-use Rattle.pg_ids.specs.Sets.{empty}
-use Rattle.pg_ids.specs.declared.lock_mode.LockMode.{LockMode}
-use Rattle.pg_ids.specs.declared.session_set.SessionSet.{SessionSet}
+use Rattle.pg_values.specs.Modes.{rank}
+use Rattle.pg_values.specs.Sets.{empty}
+use Rattle.pg_values.specs.declared.lock_mode.LockMode.{LockMode}
+use Rattle.pg_values.specs.declared.session_set.SessionSet.{SessionSet}
 use Rattle.history.specs.declared.wait.Wanted.{Wanted}
 
 -- how many tables there are; who holds each mode, table by table, as far as a lock was ever held; what each

@@ -1,9 +1,9 @@
 -- What holds of all locks and waits.
 use Rattle.std.specs.Prelude.{◌≡◌, ◌≢◌, ℕ, ◌<◌, nat_eq, true, false, List, ◌∷◌, Some}
 use Rattle.std.specs.List.{list_any}
-use Rattle.pg_ids.specs.Modes.{conflicts}
-use Rattle.pg_ids.specs.declared.ids.TableNo.{TableNo}
-use Rattle.pg_ids.specs.declared.lock_mode.LockMode.{LockMode}
+use Rattle.pg_values.specs.Modes.{conflicts}
+use Rattle.pg_values.specs.declared.ids.TableNo.{TableNo}
+use Rattle.pg_values.specs.declared.lock_mode.LockMode.{LockMode}
 use Rattle.history.specs.declared.wait.Wanted.TheVariants.{Lock}
 use Rattle.history.specs.Locks.{LockEvent, LockEvents, holds, holds_against, wanted, queue}
 use Rattle.history.specs.Waits.{before, is_cause, waits_for, ready, IsLeastCycle}

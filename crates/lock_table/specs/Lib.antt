@@ -1,4 +1,6 @@
+pub mod AnswerLaws
 pub mod Answers
+pub mod Asked
 pub mod Graph
 pub mod Kept
 pub mod Laws

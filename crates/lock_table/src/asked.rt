@@ -1,4 +1,4 @@
-use pg_ids::{SessionList, SessionSet};
+use pg_values::{SessionList, SessionSet};
 
 /// What comes of asking: it is granted; the session waits behind others; or it would close a cycle of
 /// waits and is refused.

@@ -1,8 +1,8 @@
 ghost use Rattle.std.specs.Prelude.{◌≡◌, ℕ, ◌+◌, ◌*◌, ◌≤◌, ◌<◌, ◌==◌, ◌&&◌, ◌||◌, true, List, Option, Some, None, IfSome, length, slice_index_or, nat_eq};
 ghost use Rattle.std.specs.List.{list_any};
-ghost use Rattle.pg_ids.specs.Modes.{rank};
-ghost use Rattle.pg_ids.specs.Sets.{has, empty};
-ghost use Rattle.pg_ids.specs.declared.session_set.SessionSet.{SessionSet};
+ghost use Rattle.pg_values.specs.Modes.{rank};
+ghost use Rattle.pg_values.specs.Sets.{has, empty};
+ghost use Rattle.pg_values.specs.declared.session_set.SessionSet.{SessionSet};
 ghost use Rattle.history.specs.declared.wait.Wanted.{Wanted};
 ghost use Rattle.history.specs.declared.wait.Wanted.TheVariants.{Lock};
 ghost use Rattle.history.specs.Locks.{LockEvents, wanted, holds_one_of, holds_against};
@@ -11,7 +11,7 @@ ghost use Rattle.lock_table.specs.Kept.{held_at};
 ghost use Rattle.lock_table.specs.Stands.{Tells};
 
 use history::{WaitOn, Wanted};
-use pg_ids::{LockMode, SessionSet, TableNo};
+use pg_values::{LockMode, SessionSet, TableNo};
 
 // The place of those who hold the mode on the table.
 pub(crate) fn place(table: u32, mode: LockMode) -> usize

@@ -1,14 +1,14 @@
 ghost use Rattle.std.specs.Prelude.{◌≡◌, ℕ, ◌+◌, ◌*◌, ◌≤◌, ◌<◌, ◌==◌, ◌&&◌, ◌||◌, not, None, Option, length, slice_index_or, vec_capacity};
-ghost use Rattle.pg_ids.specs.Modes.{same_mode};
-ghost use Rattle.pg_ids.specs.Sets.{has, empty};
-ghost use Rattle.pg_ids.specs.declared.lock_mode.LockMode.{LockMode as Mode};
+ghost use Rattle.pg_values.specs.Modes.{same_mode};
+ghost use Rattle.pg_values.specs.Sets.{has, empty};
+ghost use Rattle.pg_values.specs.declared.lock_mode.LockMode.{LockMode as Mode};
 ghost use Rattle.history.specs.Locks.{is_lock, after_end, after_snapshot};
 ghost use Rattle.lock_table.specs.Kept.{held_at};
 ghost use Rattle.lock_table.specs.Stands.{IsPlaced};
 
 use crate::causes::place;
 use history::{WaitOn, Wanted};
-use pg_ids::{LockMode, SessionSet};
+use pg_values::{LockMode, SessionSet};
 
 // The sets reach beyond the place, with empty ones where they did not.
 fn reach(held: &mut Vec<SessionSet>, place: usize)

@@ -1,6 +1,6 @@
 ghost use Rattle.std.specs.Prelude.{◌≡◌, ℕ, ◌+◌, ◌≤◌, ◌<◌, ◌==◌, ◌&&◌, ◌||◌, not, Bool, true, false, List, IfSome, None, length};
-ghost use Rattle.pg_ids.specs.Lists.{listed};
-ghost use Rattle.pg_ids.specs.Sets.{has, nobody};
+ghost use Rattle.pg_values.specs.Lists.{listed};
+ghost use Rattle.pg_values.specs.Sets.{has, nobody};
 ghost use Rattle.history.specs.Locks.{LockEvents};
 ghost use Rattle.history.specs.Waits.{waits_for, IsCycle, IsLeastCycle};
 ghost use Rattle.lock_table.specs.Graph.{edge, leads, IsShortest, AreLevels};
@@ -8,7 +8,7 @@ ghost use Rattle.lock_table.specs.Stands.{Tells};
 
 use crate::causes::{nth_set, wait_causes};
 use history::Wanted;
-use pg_ids::{SessionList, SessionSet};
+use pg_values::{SessionList, SessionSet};
 
 // A set for each session, with nobody in it.
 fn no_sets() -> [SessionSet; 65]

@@ -13,8 +13,16 @@
 //! All places are reserved when the table is made, so nothing after that takes memory. The sets reach
 //! only as far as a lock was ever held, and past their end nobody holds one: so the end of a transaction
 //! goes over the tables that were locked, and not over all that there may be.
+//!
+//! The answers of a lock table as functions of what happened.
+//!
+//! `lock_table` answers a request by a relation: the lock is free, or these are the causes to wait and
+//! no cycle is closed, or this is the least cycle. Here the same stands as a function, with the cycle
+//! found by going through all of them, the shortest first and of one length the least first. So what a
+//! whole run means can be said without the table. The laws stand on definitions alone.
 #![tactic(auto)]
 
+mod answer_laws;
 mod asked;
 mod causes;
 mod changes;
@@ -22,6 +30,7 @@ mod cycle;
 mod laws;
 mod table;
 
+pub use answer_laws::{answer_is_told, what_is_asked_may_come};
 pub use asked::Asked;
 pub use laws::{
     first_come_first_served, one_cycle_is_told, ready_has_no_cause, waiters_keep_their_place,

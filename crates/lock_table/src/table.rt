@@ -1,9 +1,9 @@
 ghost use Rattle.std.specs.Prelude.{◌≡◌, ◌≢◌, ℕ, ◌≤◌, ◌<◌, ◌==◌, ◌&&◌, ◌||◌, false, List, [], ◌∷◌, Some, None, IfOk, IfSome, length, slice_index_or, nat_eq};
 ghost use Rattle.std.specs.List.{list_any};
-ghost use Rattle.pg_ids.specs.Lists.{listed};
-ghost use Rattle.pg_ids.specs.Sets.{has};
+ghost use Rattle.pg_values.specs.Lists.{listed};
+ghost use Rattle.pg_values.specs.Sets.{has};
 ghost use Rattle.history.specs.declared.wait.Wanted.TheVariants.{Lock, Others};
-ghost use Rattle.pg_ids.specs.declared.lock_mode.LockMode.{LockMode as Mode};
+ghost use Rattle.pg_values.specs.declared.lock_mode.LockMode.{LockMode as Mode};
 ghost use Rattle.history.specs.Locks.{LockEvents, LocksGivenUp, SnapshotGone, WaitResumed, WaitWithdrawn, wanted, is_lock, holds, holds_any, after_end, after_snapshot};
 ghost use Rattle.history.specs.Waits.{is_cause, waits_for, ready, IsCycle, IsLeastCycle};
 ghost use Rattle.history.specs.History.{History, LockChange, lock_events};
@@ -16,8 +16,7 @@ use crate::causes::{causes, first_ready, holding, set_at, want_of};
 use crate::changes::{clear_ends, clear_held, clear_snapshots, grant};
 use crate::cycle::{least_cycle, rows_of};
 use history::{WaitOn, Wanted};
-use pg_ids::{LockMode, SessionList, SessionSet, TableNo};
-use pg_values::NoMemory;
+use pg_values::{LockMode, NoMemory, SessionList, SessionSet, TableNo};
 use std::alloc::Global;
 use std::marker::Model;
 

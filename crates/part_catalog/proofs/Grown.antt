@@ -11,7 +11,7 @@ use Rattle.history.specs.declared.catalogue.TableShape.TheVariants.{Leaf as Leaf
 use Rattle.history.specs.declared.catalogue.Table.{Table}
 use Rattle.history.specs.declared.catalogue.Entry.{Entry}
 use Rattle.history.specs.Places.{table_at, no_table}
-use Rattle.pg_ids.specs.declared.ids.LeafId.{LeafId}
+use Rattle.pg_values.specs.declared.ids.LeafId.{LeafId}
 use Rattle.table_trees.specs.declared.node.Node.{Node}
 use Rattle.table_trees.specs.Trees.{TableTree, LeafTable, LevelTable, trees_of}
 use Rattle.table_trees.specs.Histories.{tree_within, node_at, children, bound_of, child_of_entry, grown}

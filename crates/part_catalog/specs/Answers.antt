@@ -1,6 +1,6 @@
 -- What the catalogue answers.
 use Rattle.std.specs.Prelude.{◌≡◌, ℕ, ◌==◌, ◌&&◌, Bool, Option, Some, None, find, option_map}
-use Rattle.pg_ids.specs.declared.ids.TableNo.{TableNo}
+use Rattle.pg_values.specs.declared.ids.TableNo.{TableNo}
 use Rattle.history.specs.declared.transaction.TxId.{TxId}
 use Rattle.history.specs.declared.catalogue.Entry.{Entry}
 use Rattle.history.specs.Catalogue.{entries_added, entry_ends, marks, counted_of}

@@ -1,6 +1,6 @@
 -- Why the catalogue does not take a table or an entry.
 use Rattle.std.specs.Prelude.{◌≡◌, ℕ, zero, suc, ◌+◌, ◌<◌, ◌≤◌, ◌⊎◌, Option, Some, None, length}
-use Rattle.pg_ids.specs.declared.which.Which.TheVariants.{Tables, Partitions, Levels}
+use Rattle.pg_values.specs.declared.which.Which.TheVariants.{Tables, Partitions, Levels}
 use Rattle.history.specs.declared.catalogue.Entry.{Entry}
 use Rattle.history.specs.Transactions.{session_of}
 use Rattle.history.specs.History.{History, tx_events, catalogue_events}

@@ -17,8 +17,7 @@ use crate::stored::{StoredEntry, StoredTable};
 use crate::{Catalog, CatalogRefused, LEVEL_LIMIT, NewTable, PARTITION_LIMIT, TABLE_LIMIT, see};
 use bound_forms::Bound;
 use history::{Check, Entry, EntryId, KeptCheck, Table, TxId};
-use pg_ids::{TableNo, Which};
-use pg_values::NoMemory;
+use pg_values::{NoMemory, TableNo, Which};
 use table_trees::height_up_to;
 use tx_table::TxTable;
 

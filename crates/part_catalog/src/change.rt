@@ -12,7 +12,7 @@ ghost use Rattle.part_catalog.specs.Stands.{CatalogueStands, between_by};
 use crate::stored::StoredEntry;
 use crate::{Catalog, see};
 use history::{Stamp, TxId};
-use pg_ids::TableNo;
+use pg_values::TableNo;
 use tx_table::TxTable;
 
 impl Catalog {

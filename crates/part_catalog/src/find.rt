@@ -9,7 +9,7 @@ ghost use Rattle.part_catalog.specs.Found.{resolved, taken_by};
 use crate::stored::StoredTable;
 use crate::{Catalog, see};
 use history::{Fate, TxId};
-use pg_ids::TableNo;
+use pg_values::TableNo;
 use tx_table::TxTable;
 
 impl Catalog {

@@ -13,8 +13,7 @@ use crate::stored::{StoredEntry, StoredTable};
 use bound_forms::copy_bound;
 use history::TableShape;
 use part_bounds::{BoundSet, set_in_order};
-use pg_ids::TableNo;
-use pg_values::{NoMemory, ValueKey};
+use pg_values::{NoMemory, TableNo, ValueKey};
 use std::alloc::Global;
 use table_trees::{Node, Tree, copy_level};
 

@@ -1,6 +1,5 @@
 use history::{Columns, TableShape};
-use pg_ids::Which;
-use pg_values::{NoMemory, PgText};
+use pg_values::{NoMemory, PgText, Which};
 
 /// A table as it is to be made.
 #[derive(Debug, Drop)]

@@ -12,8 +12,7 @@ use crate::path::{is_set, parent_in};
 use crate::stored::StoredEntry;
 use bound_forms::comes_after;
 use history::Entry;
-use pg_ids::TableNo;
-use pg_values::ValueKey;
+use pg_values::{TableNo, ValueKey};
 
 /// How many of the numbers have their flag set.
 pub fn count_shown(numbers: &[u64], flags: &[bool]) -> usize

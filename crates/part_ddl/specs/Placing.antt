@@ -4,7 +4,7 @@ use Rattle.std.specs.Prelude.{◌≡◌, ℕ, ◌+◌, List, [], ◌∷◌, ◌+
 use Rattle.pg_values.specs.declared.fault.Fault.{Fault}
 use Rattle.pg_values.specs.declared.fault.Refusal.{Refusal}
 use Rattle.pg_values.specs.declared.fault.Refusal.TheVariants.{Sql, NoMemory}
-use Rattle.pg_ids.specs.declared.which.Which.TheVariants.{Partitions, Levels}
+use Rattle.pg_values.specs.declared.which.Which.TheVariants.{Partitions, Levels}
 use Rattle.bound_forms.specs.declared.level.Level.{Level as OneLevel}
 use Rattle.bound_forms.specs.declared.partition_bound.Bound.{Bound}
 use Rattle.bound_forms.specs.declared.partition_bound.Bound.TheVariants.{Hash, Default}

@@ -1,9 +1,9 @@
 -- Which table CREATE TABLE makes, and why it makes none (the manual, CREATE TABLE).
 use Rattle.std.specs.Prelude.{ℕ, List, [], ◌∷◌, Option, Some, None, is_none, nat_lt}
 use Rattle.pg_values.specs.declared.fault.Fault.{Fault}
-use Rattle.pg_ids.specs.declared.ids.TableNo.{TableNo}
-use Rattle.pg_ids.specs.declared.ids.LeafId.{LeafId}
-use Rattle.pg_ids.specs.declared.which.Which.TheVariants.{Tables}
+use Rattle.pg_values.specs.declared.ids.TableNo.{TableNo}
+use Rattle.pg_values.specs.declared.ids.LeafId.{LeafId}
+use Rattle.pg_values.specs.declared.which.Which.TheVariants.{Tables}
 use Rattle.bound_forms.specs.declared.level.Level.{Level as OneLevel}
 use Rattle.pg_values.specs.Refusals.{unless}
 use Rattle.history.specs.declared.transaction.TxId.{TxId}

@@ -10,8 +10,7 @@ ghost use Rattle.part_ddl.specs.Dropped.{place_ended, places_ended, tables_dropp
 use crate::below::push_tables;
 use history::TxId;
 use part_catalog::Catalog;
-use pg_ids::TableNo;
-use pg_values::NoMemory;
+use pg_values::{NoMemory, TableNo};
 use std::alloc::Global;
 use tx_table::TxTable;
 

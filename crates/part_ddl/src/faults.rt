@@ -4,8 +4,7 @@ ghost use Rattle.std.specs.Prelude.{◌≡◌, IfOk};
 ghost use Rattle.std.specs.Fmt.{decimal};
 ghost use Rattle.part_ddl.specs.Faults as refusals;
 
-use pg_ids::Which;
-use pg_values::{Fault, NoMemory, PgText, SqlState};
+use pg_values::{Fault, NoMemory, PgText, SqlState, Which};
 use std::alloc::Global;
 use value_rules::{one_text, three_texts, two_texts};
 

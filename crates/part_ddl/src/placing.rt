@@ -28,8 +28,7 @@ use bound_forms::{Bound, Level, copy_bound};
 use history::{Entry, TableShape};
 use part_bounds::{BoundSet, modulus_fault, overlap_uncounted, set_in_order};
 use part_catalog::{Catalog, LEVEL_LIMIT, PARTITION_LIMIT};
-use pg_ids::{TableNo, Which};
-use pg_values::{NoMemory, Refusal, ValueKey};
+use pg_values::{NoMemory, Refusal, TableNo, ValueKey, Which};
 use std::alloc::Global;
 use tx_table::TxTable;
 

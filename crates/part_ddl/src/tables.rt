@@ -12,8 +12,7 @@ use crate::faults::too_many;
 use bound_forms::Level;
 use history::{Columns, TableShape, TxId};
 use part_catalog::{Catalog, CatalogRefused, NewTable, TABLE_LIMIT};
-use pg_ids::{TableNo, Which};
-use pg_values::{NoMemory, PgText, Refusal};
+use pg_values::{NoMemory, PgText, Refusal, TableNo, Which};
 use row_store::RowStore;
 use std::alloc::Global;
 

@@ -3,8 +3,8 @@ use Rattle.std.proofs.Common.{◌≡◌, ℕ, ◌==◌, ◌&&◌, ◌||◌, not,
 use Rattle.std.proofs.lemmas.Bool.Decides.{nat_tests}
 use Rattle.pg_values.specs.Refusals.{IsAnswer, or_first}
 use Rattle.pg_values.specs.declared.fault.Refusal.{Refusal}
-use Rattle.pg_ids.specs.Sets.{has}
-use Rattle.pg_ids.specs.declared.session_set.SessionSet.{SessionSet}
+use Rattle.pg_values.specs.Sets.{has}
+use Rattle.pg_values.specs.declared.session_set.SessionSet.{SessionSet}
 use Rattle.pg_values.specs.declared.fault.Fault.{Fault}
 use Rattle.pg_values.specs.declared.value.Value.{Value}
 use Rattle.history.specs.declared.version.Version.{Version}

@@ -2,15 +2,15 @@
 use Rattle.std.proofs.Common.{◌≡◌, ℕ, ◌≤◌, Bool, true, false, if◌then◌else◌, List, inl, inr, refl, Option, Some, None, Result, Ok, Err, IfOk, map}
 use Rattle.std.proofs.lemmas.Bool.{cases_lt}
 use Rattle.pg_values.specs.declared.fault.Refusal.{Refusal}
-use Rattle.pg_ids.specs.Sets.{has, nobody}
-use Rattle.pg_ids.specs.declared.session_set.SessionSet.{SessionSet}
-use Rattle.pg_ids.proofs.Bits.{nobody_is}
+use Rattle.pg_values.specs.Sets.{has, nobody}
+use Rattle.pg_values.specs.declared.session_set.SessionSet.{SessionSet}
+use Rattle.pg_values.proofs.Bits.{nobody_is}
 use Rattle.history.specs.declared.wait.Wanted.{Wanted}
 use Rattle.history.specs.declared.wait.Wanted.TheVariants.{Others}
 use Rattle.history.specs.declared.wait.WaitOn.TheVariants.{Snapshots}
 use Rattle.history.specs.History.{History, LockChange, lock_events}
 use Rattle.history.specs.Waits.{is_cause, waits_with}
-use Rattle.lock_answers.specs.Asked.{AskedView, AtOnce, WaitsBehind, ClosesCycle, asked, asked_events, cycle_or_wait, least_cycle, those}
+use Rattle.lock_table.specs.Asked.{AskedView, AtOnce, WaitsBehind, ClosesCycle, asked, asked_events, cycle_or_wait, least_cycle, those}
 use Rattle.stores.specs.declared.stores.Stores.{Stores}
 use Rattle.statement_steps.specs.Attempts.{MayAttempt}
 use Rattle.statement_steps.specs.declared.caller.Caller.{Caller}

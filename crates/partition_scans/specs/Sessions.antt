@@ -1,8 +1,8 @@
 -- The set of the sessions that pass a test.
 use Rattle.std.specs.Prelude.{ℕ, zero, suc, ◌*◌, ◌^◌, ◌%◌, Bool, if◌then◌else◌}
 use Rattle.std.specs.Int.RustNames.{bit_or}
-use Rattle.pg_ids.specs.Sets.{empty}
-use Rattle.pg_ids.specs.declared.session_set.SessionSet.{SessionSet}
+use Rattle.pg_values.specs.Sets.{empty}
+use Rattle.pg_values.specs.declared.session_set.SessionSet.{SessionSet}
 
 -- the set with one session more
 abbrev pub joined_by : SessionSet → ℕ → SessionSet

@@ -1,7 +1,7 @@
 -- A statement that has judged the rows (the manual, 13.3).
 use Rattle.std.specs.Prelude.{ℕ, List, [], None, Result, Ok, Err}
 use Rattle.pg_values.specs.declared.fault.Fault.{Fault}
-use Rattle.pg_ids.specs.declared.session_set.SessionSet.{SessionSet}
+use Rattle.pg_values.specs.declared.session_set.SessionSet.{SessionSet}
 use Rattle.history.specs.declared.wait.WaitOn.TheVariants.{Snapshots}
 use Rattle.history.specs.History.{History}
 use Rattle.statement_steps.specs.Made.{Made, Refused, halted}

@@ -1,5 +1,5 @@
 ghost use Rattle.std.specs.Prelude.{◌≡◌, ◌<◌, ◌∷◌, ℕ, [], None, Some, IfOk, MatchResult, All, length};
-ghost use Rattle.pg_ids.specs.Sets.{has};
+ghost use Rattle.pg_values.specs.Sets.{has};
 ghost use Rattle.pg_values.specs.Refusals.{IsAnswer};
 ghost use Rattle.history.specs.History.{History};
 ghost use Rattle.bound_forms.specs.Levels.{IsOfLevel};
@@ -27,8 +27,7 @@ use crate::new_rows::NewRows;
 use bound_forms::{Bound, Level};
 use part_bounds::BoundSet;
 use part_ddl::default_in;
-use pg_ids::{LeafId, SessionSet, TableNo};
-use pg_values::{NoMemory, Refusal, Row, ValueKey};
+use pg_values::{LeafId, NoMemory, Refusal, Row, SessionSet, TableNo, ValueKey};
 use row_change::rows_fit_paths;
 use row_store::{RowTest, Verdict};
 use soundness::sessions_have_siblings;

@@ -1,7 +1,7 @@
 ghost use Rattle.std.specs.Prelude.{◌≡◌, ◌≤◌, ℕ, false};
-ghost use Rattle.pg_ids.specs.Sets.{has};
+ghost use Rattle.pg_values.specs.Sets.{has};
 
-use pg_ids::SessionSet;
+use pg_values::SessionSet;
 
 /// The sessions of a set are numbers below 128.
 pub fn sessions_are_low(set: SessionSet)

@@ -1,6 +1,6 @@
 ghost use Rattle.std.specs.Prelude.{◌≡◌, ℕ, List, false, Ok, IfOk};
-ghost use Rattle.pg_ids.specs.Sets.{has};
-ghost use Rattle.pg_ids.specs.declared.session_set.SessionSet.{SessionSet as SetOfSessions};
+ghost use Rattle.pg_values.specs.Sets.{has};
+ghost use Rattle.pg_values.specs.declared.session_set.SessionSet.{SessionSet as SetOfSessions};
 ghost use Rattle.pg_values.specs.Refusals.{IsAnswer};
 ghost use Rattle.history.specs.History.{History};
 ghost use Rattle.statement_steps.specs.Attempts.{MayAttempt};
@@ -12,8 +12,7 @@ ghost use Rattle.partition_scans.specs.Waited.{scanned};
 
 use crate::low::sessions_are_low;
 use history::WaitOn;
-use pg_ids::SessionSet;
-use pg_values::Refusal;
+use pg_values::{Refusal, SessionSet};
 use statement_steps::{Caller, SessionNames, Stop, wait_for};
 use std::alloc::Global;
 use stores::Stores;

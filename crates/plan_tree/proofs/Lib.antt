@@ -1,4 +1,12 @@
+pub mod Conditions
+pub mod Missed
+pub mod Nodes
+pub mod Numbered
 pub mod Places
+pub mod Plain
 pub mod Pools
+pub mod Pushing
+pub mod Right
+pub mod Small
 pub mod Truths
 pub mod Weights

@@ -1,3 +1,7 @@
 pub mod Beside
+pub mod Conditions
 pub mod Conjuncts
+pub mod Kept
+pub mod Laws
 pub mod Plans
+pub mod Prunable

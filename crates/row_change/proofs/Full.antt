@@ -4,8 +4,8 @@ use Rattle.std.proofs.lemmas.Bool.{le-leb, lt-leb}
 use Rattle.pg_values.specs.declared.value.Value.{Value}
 use Rattle.pg_values.specs.declared.fault.Fault.{Fault}
 use Rattle.pg_values.specs.declared.fault.Refusal.TheVariants.{Sql}
-use Rattle.pg_ids.specs.declared.which.Which.{Which}
-use Rattle.pg_ids.specs.declared.which.Which.TheVariants.{Versions, BytesOfRows}
+use Rattle.pg_values.specs.declared.which.Which.{Which}
+use Rattle.pg_values.specs.declared.which.Which.TheVariants.{Versions, BytesOfRows}
 use Rattle.pg_values.specs.Refusals.{unless}
 use Rattle.history.specs.History.{History, Event, versions}
 use Rattle.row_store.specs.declared.TheConstants.{VERSION_LIMIT, BYTES_LIMIT}

@@ -6,7 +6,7 @@ use Rattle.std.specs.List.{list_any}
 use Rattle.std.proofs.Math.Seq.{take-suc}
 use Rattle.std.proofs.lemmas.List.{length-append, length-take-le}
 use Rattle.std.proofs.lemmas.List.Folds.{find-append}
-use Rattle.pg_ids.specs.declared.ids.LeafId.{LeafId}
+use Rattle.pg_values.specs.declared.ids.LeafId.{LeafId}
 use Rattle.row_change.specs.declared.by_leaf.ByLeaf.{ByLeaf}
 use Rattle.row_change.specs.declared.target.Target.{Target}
 use Rattle.row_change.specs.Places.{noted, at_place, ArePlaces}

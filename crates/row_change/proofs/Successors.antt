@@ -5,8 +5,8 @@ use Rattle.std.proofs.lemmas.List.{get_or_append_left, length-append}
 use Rattle.pg_values.specs.declared.value.Value.{Value}
 use Rattle.pg_values.specs.declared.fault.Refusal.{Refusal}
 use Rattle.pg_values.specs.declared.fault.Refusal.TheVariants.{Sql, NoMemory}
-use Rattle.pg_ids.specs.declared.ids.LeafId.{LeafId}
-use Rattle.pg_ids.specs.declared.ids.RowId.{RowId}
+use Rattle.pg_values.specs.declared.ids.LeafId.{LeafId}
+use Rattle.pg_values.specs.declared.ids.RowId.{RowId}
 use Rattle.history.specs.declared.transaction.TxId.{TxId}
 use Rattle.history.specs.declared.version.Version.{Version}
 use Rattle.history.specs.declared.version.End.{End}

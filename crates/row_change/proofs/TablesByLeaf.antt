@@ -2,8 +2,8 @@
 use Rattle.std.proofs.Common.{◌≡◌, ℕ, ◌+◌, ◌<◌, ◌==◌, ap, refl, sym, ◌∙◌, if◌then◌else◌, Bool, true, false, List, [], ◌∷◌, Option, Some, None, map, length, drop, get_or, drop-cons, add-one, suc}
 use Rattle.std.specs.Prelude.{is_some, option_map}
 use Rattle.std.specs.Option.{option_or}
-use Rattle.pg_ids.specs.declared.ids.LeafId.{LeafId}
-use Rattle.pg_ids.specs.declared.ids.TableNo.{TableNo}
+use Rattle.pg_values.specs.declared.ids.LeafId.{LeafId}
+use Rattle.pg_values.specs.declared.ids.TableNo.{TableNo}
 use Rattle.table_trees.specs.declared.node.Node.{Node}
 use Rattle.table_trees.specs.declared.tree.Tree.{Tree}
 use Rattle.table_trees.specs.Trees.{TableTree, LeafTable, LevelTable, Trees, End, More, trees_of}

@@ -5,9 +5,9 @@ use Rattle.pg_values.specs.declared.value.Value.{Value}
 use Rattle.pg_values.specs.declared.fault.Fault.{Fault}
 use Rattle.pg_values.specs.declared.fault.Refusal.{Refusal}
 use Rattle.pg_values.specs.declared.fault.Refusal.TheVariants.{Sql, NoMemory}
-use Rattle.pg_ids.specs.declared.ids.LeafId.{LeafId}
-use Rattle.pg_ids.specs.declared.ids.TableNo.{TableNo}
-use Rattle.pg_ids.specs.declared.which.Which.TheVariants.{Versions, BytesOfRows}
+use Rattle.pg_values.specs.declared.ids.LeafId.{LeafId}
+use Rattle.pg_values.specs.declared.ids.TableNo.{TableNo}
+use Rattle.pg_values.specs.declared.which.Which.TheVariants.{Versions, BytesOfRows}
 use Rattle.bound_forms.specs.Points.{is_null}
 use Rattle.pg_values.specs.Refusals.{unless}
 use Rattle.history.specs.declared.transaction.TxId.{TxId}

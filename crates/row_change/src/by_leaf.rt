@@ -1,10 +1,9 @@
 ghost use Rattle.std.specs.Prelude.{◌≡◌, ◌<◌, ◌==◌, if◌then◌else◌, None, Some, OnOk, length};
 ghost use Rattle.std.specs.Option.{option_or};
-ghost use Rattle.pg_ids.specs.declared.ids.LeafId.{LeafId};
+ghost use Rattle.pg_values.specs.declared.ids.LeafId.{LeafId};
 ghost use Rattle.row_change.specs.Places.{noted};
 
-use pg_ids::LeafId;
-use pg_values::NoMemory;
+use pg_values::{LeafId, NoMemory};
 use std::alloc::Global;
 
 /// What was noted first of each leaf, at the place of its number: a run numbers its leaves from 0 on.

@@ -4,8 +4,7 @@ ghost use Rattle.std.specs.Prelude.{◌≡◌, IfOk};
 ghost use Rattle.row_change.specs.Refusals as refusals;
 
 use crate::texts::row_text;
-use pg_ids::Which;
-use pg_values::{Fault, NoMemory, SqlState, Value};
+use pg_values::{Fault, NoMemory, SqlState, Value, Which};
 use std::alloc::Global;
 use value_rules::{one_text, three_texts, two_texts};
 

@@ -1,13 +1,12 @@
 ghost use Rattle.std.specs.Prelude.{◌≡◌, IfOk, OnOk};
 ghost use Rattle.std.specs.Option.{option_or};
-ghost use Rattle.pg_ids.specs.declared.ids.LeafId.{LeafId};
+ghost use Rattle.pg_values.specs.declared.ids.LeafId.{LeafId};
 ghost use Rattle.table_trees.specs.Seen.{seen};
 ghost use Rattle.row_change.specs.Places.{noted, AreHolders};
 ghost use Rattle.row_change.specs.Targets.{holder_in};
 
 use crate::by_leaf::ByLeaf;
-use pg_ids::TableNo;
-use pg_values::NoMemory;
+use pg_values::{NoMemory, TableNo};
 use std::alloc::Global;
 use table_trees::{Shape, Tree};
 

@@ -1,7 +1,6 @@
 ghost use Rattle.std.specs.Prelude.{◌≡◌, ◌++◌, ◌∷◌, [], OnOk};
 
-use pg_ids::LeafId;
-use pg_values::NoMemory;
+use pg_values::{LeafId, NoMemory};
 use std::alloc::Global;
 use std::marker::Model;
 
@@ -13,7 +12,7 @@ pub struct LeafList {
 
 impl Model for LeafList {
     ghost use Rattle.std.specs.Prelude.{List};
-    ghost use Rattle.pg_ids.specs.declared.ids.LeafId.{LeafId};
+    ghost use Rattle.pg_values.specs.declared.ids.LeafId.{LeafId};
 
     ghost Value = { List LeafId };
 

@@ -1,7 +1,7 @@
 //! What a statement that names a table knows of the leaves below it.
 
 ghost use Rattle.std.specs.Prelude.{◌≡◌, ◌<◌, Some, All, IfOk, OnOk, length};
-ghost use Rattle.pg_ids.specs.declared.ids.LeafId.{LeafId};
+ghost use Rattle.pg_values.specs.declared.ids.LeafId.{LeafId};
 ghost use Rattle.history.specs.History.{History};
 ghost use Rattle.tx_table.specs.Stands.{TableStands};
 ghost use Rattle.table_trees.specs.Histories.{path_of};
@@ -17,8 +17,7 @@ use crate::Target;
 use crate::by_leaf::ByLeaf;
 use crate::holders::holders_of;
 use part_catalog::Catalog;
-use pg_ids::{LeafId, TableNo};
-use pg_values::NoMemory;
+use pg_values::{LeafId, NoMemory, TableNo};
 use std::alloc::Global;
 use table_trees::{PathPart, Tree};
 use tx_table::TxTable;

@@ -10,8 +10,7 @@ ghost use Rattle.row_change.specs.Succession.{succeeded, KeepsVersions};
 
 use crate::storing::refused;
 use history::TxId;
-use pg_ids::{LeafId, RowId};
-use pg_values::{Refusal, Row};
+use pg_values::{LeafId, Refusal, Row, RowId};
 use row_store::RowStore;
 use std::alloc::Global;
 use tx_table::TxTable;

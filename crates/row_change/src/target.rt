@@ -1,4 +1,4 @@
-use pg_ids::{LeafId, TableNo};
+use pg_values::{LeafId, TableNo};
 use table_trees::PathPart;
 
 /// A leaf that takes rows: its table, what of the path from the table upwards is asked of a row, and whether

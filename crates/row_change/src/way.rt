@@ -6,8 +6,7 @@ ghost use Rattle.table_trees.specs.Seen.{seen};
 ghost use Rattle.row_change.specs.Ways.{way_below, way_to};
 
 use part_bounds::{find_child, stands_in_plain_order};
-use pg_ids::{LeafId, TableNo};
-use pg_values::{NoMemory, Row, Steps};
+use pg_values::{LeafId, NoMemory, Row, Steps, TableNo};
 use std::alloc::Global;
 use std::sync::ledger::Ledger;
 use table_trees::{LevelKey, NoPartition, Shape, Tree};

@@ -6,8 +6,7 @@ ghost use Rattle.row_router.specs.Paths.{check_refuses, place_refuses, refused, 
 use bound_forms::bound_accepts;
 use history::KeptCheck;
 use part_bounds::accepts;
-use pg_ids::TableNo;
-use pg_values::{Row, ValueKey};
+use pg_values::{Row, TableNo, ValueKey};
 use table_trees::{LevelKey, PathPart, Place};
 
 /// What of a path is tested.

@@ -4,8 +4,7 @@ ghost use Rattle.table_trees.specs.Seen.{seen};
 ghost use Rattle.row_router.specs.Costs.{way_outcomes};
 
 use part_bounds::{find_child, stands_in_plain_order};
-use pg_ids::LeafId;
-use pg_values::{Row, Steps};
+use pg_values::{LeafId, Row, Steps};
 use std::sync::ledger::Ledger;
 use table_trees::{LevelKey, NoPartition, Shape, Tree};
 

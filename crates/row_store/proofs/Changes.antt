@@ -6,8 +6,8 @@ use Rattle.std.proofs.lemmas.Option.{slice_get_within}
 use Rattle.std.proofs.lemmas.Bool.{cases_Bool, lt-ltb, ltb-true, and_parts}
 use Rattle.std.proofs.lemmas.Bool.Decides.{nat_tests}
 use Rattle.pg_values.specs.declared.value.Value.{Value}
-use Rattle.pg_ids.specs.declared.ids.LeafId.{LeafId}
-use Rattle.pg_ids.specs.declared.ids.RowId.{RowId}
+use Rattle.pg_values.specs.declared.ids.LeafId.{LeafId}
+use Rattle.pg_values.specs.declared.ids.RowId.{RowId}
 use Rattle.history.specs.declared.transaction.TxId.{TxId}
 use Rattle.history.specs.declared.transaction.Fate.{Fate}
 use Rattle.history.specs.declared.transaction.Fate.TheVariants.{Running, Committed, Aborted}

@@ -8,10 +8,10 @@ use Rattle.std.proofs.lemmas.List.{map-append, length-map, take_more, append-nil
 use Rattle.std.proofs.lemmas.List.Folds.{find-append, list_any-append}
 use Rattle.std.proofs.lemmas.List.Concat.{flat_map-append}
 use Rattle.pg_values.specs.declared.value.Value.{Value}
-use Rattle.pg_ids.specs.declared.ids.LeafId.{LeafId}
-use Rattle.pg_ids.specs.declared.ids.RowId.{RowId}
-use Rattle.pg_ids.specs.declared.session_set.SessionSet.{SessionSet}
-use Rattle.pg_ids.specs.Sets.{has}
+use Rattle.pg_values.specs.declared.ids.LeafId.{LeafId}
+use Rattle.pg_values.specs.declared.ids.RowId.{RowId}
+use Rattle.pg_values.specs.declared.session_set.SessionSet.{SessionSet}
+use Rattle.pg_values.specs.Sets.{has}
 use Rattle.history.specs.declared.transaction.Fate.TheVariants.{Running, Aborted}
 use Rattle.history.specs.declared.version.Version.{Version}
 use Rattle.history.specs.declared.version.End.{End}

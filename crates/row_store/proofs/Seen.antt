@@ -5,7 +5,7 @@ use Rattle.std.specs.List.{list_any}
 use Rattle.history.specs.declared.transaction.Fate.TheVariants.{Running}
 use Rattle.history.specs.Transactions.{is_committed}
 use Rattle.pg_values.specs.declared.value.Value.{Value}
-use Rattle.pg_ids.specs.declared.ids.RowId.{RowId}
+use Rattle.pg_values.specs.declared.ids.RowId.{RowId}
 use Rattle.tx_table.specs.Kept.{KeptTable, KeptSnapshot}
 use Rattle.tx_table.specs.Stands.{sees_now_by}
 use Rattle.row_store.specs.declared.stored.Stored.{Stored}

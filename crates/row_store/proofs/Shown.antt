@@ -2,7 +2,7 @@
 use Rattle.std.proofs.Common.{◌≡◌, ℕ, ◌<◌, ◌==◌, ◌&&◌, not, zero, suc, arith, ap, sym, ◌∙◌, refl, List, [], ◌∷◌, Option, Some, None, map, filter, true, false, Bool, if◌then◌else◌, inl, inr, length, slice_index_or, subst, All}
 use Rattle.std.proofs.lemmas.Bool.{cases_Bool}
 use Rattle.pg_values.specs.declared.value.Value.{Value}
-use Rattle.pg_ids.specs.declared.ids.RowId.{RowId}
+use Rattle.pg_values.specs.declared.ids.RowId.{RowId}
 use Rattle.history.specs.declared.transaction.Fate.TheVariants.{Running, Aborted}
 use Rattle.history.specs.declared.version.Version.{Version}
 use Rattle.history.specs.declared.version.End.{End}

@@ -1,7 +1,7 @@
 -- What the row store and a trail keep.
 use Rattle.std.specs.Prelude.{◌≡◌, ℕ, ◌+◌, ◌<◌, ◌==◌, Bool, List, [], Option, Some, None, map, filter, length, slice_index_or, slice_set, ◌∷◌, ◌++◌}
-use Rattle.pg_ids.specs.declared.ids.LeafId.{LeafId}
-use Rattle.pg_ids.specs.declared.ids.RowId.{RowId}
+use Rattle.pg_values.specs.declared.ids.LeafId.{LeafId}
+use Rattle.pg_values.specs.declared.ids.RowId.{RowId}
 use Rattle.history.specs.declared.version.Version.{Version}
 use Rattle.history.specs.declared.version.End.{End}
 use Rattle.history.specs.RowsSound.{IsEndingKnown}

@@ -1,8 +1,8 @@
 -- Why a version is not stored, or a scan not made.
 use Rattle.std.specs.Prelude.{◌≡◌, ◌<◌, ◌≤◌, List, length}
 use Rattle.pg_values.specs.declared.value.Value.{Value}
-use Rattle.pg_ids.specs.declared.which.Which.{Which}
-use Rattle.pg_ids.specs.declared.which.Which.TheVariants.{Versions, BytesOfRows}
+use Rattle.pg_values.specs.declared.which.Which.{Which}
+use Rattle.pg_values.specs.declared.which.Which.TheVariants.{Versions, BytesOfRows}
 use Rattle.row_store.specs.declared.refused.PutCause.{PutCause}
 use Rattle.row_store.specs.declared.refused.PutCause.TheVariants.{Full, NoMemory}
 use Rattle.row_store.specs.declared.TheConstants.{VERSION_LIMIT}

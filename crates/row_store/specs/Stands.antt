@@ -1,8 +1,8 @@
 -- When a store stands for what happened, and what a scan of it shows.
 use Rattle.std.specs.Prelude.{◌≡◌, ℕ, ◌+◌, ◌&&◌, not, Bool, true, false, List, Option, Some, None, map, filter, slice_index_or}
 use Rattle.pg_values.specs.declared.value.Value.{Value}
-use Rattle.pg_ids.specs.declared.ids.LeafId.{LeafId}
-use Rattle.pg_ids.specs.declared.ids.RowId.{RowId}
+use Rattle.pg_values.specs.declared.ids.LeafId.{LeafId}
+use Rattle.pg_values.specs.declared.ids.RowId.{RowId}
 use Rattle.history.specs.declared.transaction.TxId.{TxId}
 use Rattle.history.specs.declared.transaction.Fate.{Fate}
 use Rattle.history.specs.declared.transaction.Fate.TheVariants.{Running, Committed, Aborted}

@@ -1,6 +1,6 @@
 ghost use Rattle.std.specs.Prelude.{◌≡◌, ◌<◌, ◌==◌, ◌&&◌, not, ℕ, true, false, Some, None, MatchOption, MatchResult, IfOk, IfSome, All, length, map, slice_index_or};
 ghost use Rattle.std.specs.List.{Contains};
-ghost use Rattle.pg_ids.specs.Sets.{has};
+ghost use Rattle.pg_values.specs.Sets.{has};
 ghost use Rattle.history.specs.declared.version.Version.{Version};
 ghost use Rattle.row_store.specs.declared.stored.Stored.{Stored};
 ghost use Rattle.row_store.specs.Kept.{AreBelow, AreListed, no_id, stored_at, version_of};
@@ -10,8 +10,7 @@ use crate::leaf::Leaf;
 use crate::scan::{is_shown, version_at};
 use crate::slot::{ShortId, Slot};
 use history::{Fate, TxId};
-use pg_ids::{LeafId, SessionSet};
-use pg_values::Row;
+use pg_values::{LeafId, Row, SessionSet};
 use tx_table::TxTable;
 
 /// A test of rows.

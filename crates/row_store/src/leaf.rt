@@ -13,7 +13,7 @@ pub struct Leaf {
 
 impl Model for Leaf {
     ghost use Rattle.std.specs.Prelude.{List};
-    ghost use Rattle.pg_ids.specs.declared.ids.RowId.{RowId};
+    ghost use Rattle.pg_values.specs.declared.ids.RowId.{RowId};
 
     ghost Value = { List RowId };
 

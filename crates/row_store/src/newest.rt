@@ -1,6 +1,5 @@
 use history::TxId;
-use pg_ids::{LeafId, RowId};
-use pg_values::Row;
+use pg_values::{LeafId, Row, RowId};
 
 /// What became of a version: it stands, with its row; a transaction that is still open has ended
 /// it; or a committed one has deleted it, moved it to another leaf, or replaced it by a version.

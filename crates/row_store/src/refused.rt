@@ -1,5 +1,4 @@
-use pg_ids::Which;
-use pg_values::Row;
+use pg_values::{Row, Which};
 
 /// Why a row was not stored, with the row.
 #[derive(Debug, Drop)]

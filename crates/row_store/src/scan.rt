@@ -6,8 +6,7 @@ ghost use Rattle.row_store.specs.Stands.{shows_by, rows_left, shown_stored};
 
 use crate::slot::{ShortId, Slot};
 use history::Fate;
-use pg_ids::RowId;
-use pg_values::Row;
+use pg_values::{Row, RowId};
 use std::marker::Model;
 use tx_table::{Snapshot, TxTable};
 
@@ -30,7 +29,7 @@ pub struct Scan<'s> {
 impl<'s> Model for Scan<'s> {
     ghost use Rattle.std.specs.Prelude.{List};
     ghost use Rattle.pg_values.specs.declared.value.Value.{Value as OneValue};
-    ghost use Rattle.pg_ids.specs.declared.ids.RowId.{RowId};
+    ghost use Rattle.pg_values.specs.declared.ids.RowId.{RowId};
     ghost use Rattle.row_store.specs.Kept.{AreBelow};
     ghost use Rattle.row_store.specs.Stands.{rows_left};
 

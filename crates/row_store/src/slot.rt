@@ -2,8 +2,7 @@ ghost use Rattle.std.specs.Prelude.{◌≡◌, ℕ, ◌<◌, Some, None};
 ghost use Rattle.row_store.specs.Slots.{HasShortId, kept_end};
 
 use history::{End, Ending, TxId, Version};
-use pg_ids::{LeafId, RowId};
-use pg_values::Row;
+use pg_values::{LeafId, Row, RowId};
 use std::marker::Model;
 
 /// The number of a version in 32 bits, seen as its `RowId`.
@@ -13,7 +12,7 @@ pub struct ShortId {
 }
 
 impl Model for ShortId {
-    ghost use Rattle.pg_ids.specs.declared.ids.RowId.{RowId};
+    ghost use Rattle.pg_values.specs.declared.ids.RowId.{RowId};
 
     ghost Value = { RowId };
 

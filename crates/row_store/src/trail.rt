@@ -1,8 +1,7 @@
 ghost use Rattle.std.specs.Prelude.{◌≡◌, ◌+◌, ◌<◌, ◌≤◌, [], ◌∷◌, ◌++◌, IfOk, OnOk, OnErr, IfErr, length, max};
 
 use crate::{SCAN_LIMIT, TrailRefused};
-use pg_ids::LeafId;
-use pg_values::NoMemory;
+use pg_values::{LeafId, NoMemory};
 use std::alloc::Global;
 use std::marker::Model;
 

@@ -1,7 +1,9 @@
 pub mod Answers
 pub mod Causes
 pub mod Endings
+pub mod Known
 pub mod Limits
+pub mod Numbered
 pub mod Pieces
 pub mod RunEndings
 pub mod Runs

@@ -8,7 +8,7 @@ use Rattle.schedule.specs.Printed.{IsPrinted, IsPartlyPrinted}
 use Rattle.schedule.specs.Rules.{Rules}
 use Rattle.schedule.specs.Run.{World, start}
 use Rattle.schedule.specs.declared.run_end.RunEnd.TheVariants.{All, SetupFailed, TeardownFailed}
-use Rattle.script_tasks.specs.Tasks.{permutations_of}
+use Rattle.script_program.specs.Tasks.{permutations_of}
 use Rattle.spec_reader.specs.declared.spec.Spec.{Spec}
 use Rattle.script_program.specs.Lines.{setup_line, teardown_line}
 use Rattle.script_program.specs.Outcomes.{IsTold, Takes, Ends, Written, CutOnOut, Stopped, refusal}

@@ -8,7 +8,7 @@ use Rattle.schedule.specs.Run.{World, start}
 use Rattle.schedule.specs.declared.run_end.RunEnd.{RunEnd}
 use Rattle.schedule.specs.declared.run_end.RunEnd.TheVariants.{All, SetupFailed, TeardownFailed}
 use Rattle.schedule.proofs.Ends as runs
-use Rattle.script_tasks.specs.Tasks.{permutations_of}
+use Rattle.script_program.specs.Tasks.{permutations_of}
 use Rattle.spec_reader.specs.declared.spec.Spec.{Spec}
 use Rattle.script_program.specs.Outcomes.{Outcome}
 use Rattle.script_program.specs.Texts.{beginning, printed, outcome_of, RunEnds, RunBegins}

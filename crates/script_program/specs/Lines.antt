@@ -1,6 +1,6 @@
 -- The lines on `err`.
 use Rattle.std.specs.Prelude.{ℕ, ◌-◌, ◌==◌, if◌then◌else◌, List, [], ◌++◌, Option, Some, None, codes, decimal, slice_get}
-use Rattle.pg_ids.specs.Words.{which_word}
+use Rattle.pg_values.specs.Words.{which_word}
 use Rattle.pg_values.specs.declared.fault.Fault.{Fault}
 use Rattle.schedule.specs.Rules.{Rules}
 use Rattle.spec_reader.specs.declared.fault.SpecFault.{SpecFault}

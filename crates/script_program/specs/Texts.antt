@@ -5,7 +5,7 @@ use Rattle.schedule.specs.Rules.{Rules}
 use Rattle.schedule.specs.Run.{World, Reaches, Runs, Throughout, start}
 use Rattle.schedule.specs.declared.run_end.RunEnd.{RunEnd}
 use Rattle.schedule.specs.declared.run_end.RunEnd.TheVariants.{All, SetupFailed, TeardownFailed}
-use Rattle.script_tasks.specs.Tasks.{permutations_of}
+use Rattle.script_program.specs.Tasks.{permutations_of}
 use Rattle.spec_reader.specs.Specs.{IsScript, IsRefused}
 use Rattle.spec_reader.specs.declared.fault.SpecFault.{SpecFault}
 use Rattle.spec_reader.specs.declared.fault.SpecFault.TheVariants as faults

@@ -9,6 +9,13 @@
 //! What comes of a text, that is the run of a script and how it ends, stands apart in
 //! `specs/Texts.antt`. `Ends` in `specs/Outcomes.antt` says what was written where a write failed or
 //! memory ran out before.
+//!
+//! The permutations of a script, as tasks of its run.
+//!
+//! A permutation of a script names steps. Before them stand the setups, behind them the teardowns:
+//! first of the control session, then of each session, at the end the other way round
+//! (`specs/Tasks.antt`). Steps are known by their numbers over all sessions, so that markers are
+//! compared by numbers (`specs/Steps.antt`). `run_script` runs a script over a database.
 #![tactic(auto)]
 
 mod ended;
@@ -17,8 +24,12 @@ mod laws;
 mod line;
 mod opener;
 mod output;
+mod permutations;
 mod program;
 mod script_run;
+mod step;
+mod tasks;
+mod whole;
 
 pub use ended::Ended;
 pub use input::INPUT_LIMIT;
@@ -27,4 +38,6 @@ pub use laws::{
     scripts_are_run,
 };
 pub use opener::Opener;
+pub use permutations::permutations_of;
 pub use program::run_program;
+pub use whole::run_script;

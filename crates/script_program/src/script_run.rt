@@ -7,9 +7,9 @@ use crate::ended::Ended;
 use crate::line::{fault_line, setup_line, teardown_line};
 use crate::opener::Opener;
 use crate::output::answer;
+use crate::run_script;
 use pg_values::{NoMemory, Sink};
 use schedule::{Database, RunEnd, RunRefused};
-use script_tasks::run_script;
 use spec_reader::{Spec, read_spec};
 use std::alloc::Global;
 

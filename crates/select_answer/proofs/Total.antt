@@ -5,7 +5,7 @@ use Rattle.std.specs.Cmp.{IsTotalOrder, IsStrictWeakOrder, on_total, then_total,
 use Rattle.std.proofs.lemmas.List.Sorted.{ranks_by}
 use Rattle.pg_values.specs.declared.value.Value.TheVariants.{Null}
 use Rattle.pg_values.specs.KeyKinds.{order_total}
-use Rattle.statement_asks.specs.declared.select.SortKey.{SortKey}
+use Rattle.cond_logic.specs.declared.select.SortKey.{SortKey}
 use Rattle.select_answer.specs.Keys.{null_rank, directed, value_order, keys_order, row_less, same}
 
 directed_total : (d : Bool) → IsTotalOrder (directed d)

@@ -1,8 +1,8 @@
 -- The fault of a limit (Appendix A. PostgreSQL Error Codes).
 use Rattle.std.specs.Prelude.{[], ◌∷◌, codes}
 use Rattle.pg_values.specs.declared.fault.Fault.{Fault}
-use Rattle.pg_ids.specs.Words.{which_word}
-use Rattle.pg_ids.specs.declared.which.Which.{Which}
+use Rattle.pg_values.specs.Words.{which_word}
+use Rattle.pg_values.specs.declared.which.Which.{Which}
 use Rattle.value_rules.specs.FaultTexts.{fault_of}
 
 -- `too many <which>`

@@ -7,7 +7,7 @@ use Rattle.pg_values.specs.declared.value.Value.{Value}
 use Rattle.pg_values.specs.declared.value.Value.TheVariants.{Null}
 use Rattle.pg_values.specs.Order.{order}
 use Rattle.cond_logic.specs.Truths.{is_null}
-use Rattle.statement_asks.specs.declared.select.SortKey.{SortKey}
+use Rattle.cond_logic.specs.declared.select.SortKey.{SortKey}
 use Rattle.select_answer.specs.declared.keyed_row.KeyedRow.{KeyedRow}
 
 -- nulls stand before all others, or behind them

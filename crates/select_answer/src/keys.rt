@@ -5,8 +5,8 @@ ghost use Rattle.select_answer.specs.Keys.{null_rank, directed, value_order, key
 ghost use Rattle.select_answer.specs.Sorted.{sorted};
 
 use crate::KeyedRow;
+use cond_logic::SortKey;
 use pg_values::{NoMemory, Row, Value, cmp_any};
-use statement_asks::SortKey;
 use std::cmp::Ordering;
 
 fn is_null(value: &Value) -> bool

@@ -2,7 +2,7 @@
 use Rattle.std.proofs.Common.{◌≡◌, ℕ, ◌<◌, ◌≤◌, ◌||◌, true, List, ap, sym, subst, ◌∙◌, arith, Option, Some, None, All, length}
 use Rattle.std.proofs.lemmas.Bool.Decides.{nat_tests}
 use Rattle.std.proofs.lemmas.List.{length-map}
-use Rattle.pg_ids.specs.declared.ids.LeafId.{LeafId}
+use Rattle.pg_values.specs.declared.ids.LeafId.{LeafId}
 use Rattle.history.specs.declared.catalogue.Entry.{Entry}
 use Rattle.history.specs.declared.transaction.Fate.{Fate}
 use Rattle.history.specs.declared.transaction.Fate.TheVariants.{Running, Committed, Aborted}
@@ -20,8 +20,8 @@ use Rattle.soundness.proofs.Looking.{counts_world}
 use Rattle.soundness.proofs.Presence.{all_more, all_shown}
 use Rattle.soundness.proofs.Sound.{sound_of, catalogue_sound_of}
 use Rattle.part_catalog.specs.Kept.{table_in as kept_table}
-use Rattle.pruned_trees.specs.Kept.{Leaf}
-use Rattle.pruned_trees.specs.Laws.{TreesCanBePruned}
+use Rattle.plan_tree.specs.Kept.{Leaf}
+use Rattle.plan_tree.specs.Laws.{TreesCanBePruned}
 use Rattle.stores.specs.Laws.{LeavesAreHoused}
 use Rattle.stores.specs.Stand.{Stands}
 use Rattle.stores.specs.declared.stores.Stores.{Stores}

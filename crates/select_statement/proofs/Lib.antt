@@ -1,7 +1,11 @@
+pub mod Few
 mod Kept
 mod Known
+pub mod Moments
 mod Naming
 mod Nodes
+pub mod Numbers
+pub mod Plain
 mod Scopes
 mod Steps
 mod Trees

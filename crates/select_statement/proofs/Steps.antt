@@ -6,13 +6,13 @@ use Rattle.pg_values.specs.declared.fault.Fault.{Fault}
 use Rattle.pg_values.specs.declared.fault.Refusal.{Refusal}
 use Rattle.pg_values.specs.declared.fault.Refusal.TheVariants.{Sql, NoMemory}
 use Rattle.pg_values.specs.declared.value.Value.{Value}
-use Rattle.pg_ids.specs.declared.ids.LeafId.{LeafId}
+use Rattle.pg_values.specs.declared.ids.LeafId.{LeafId}
 use Rattle.history.specs.History.{History}
 use Rattle.history.specs.Snapshots.{TakenSnapshot}
 use Rattle.tx_table.specs.Kept.{KeptSnapshot}
-use Rattle.pruned_trees.specs.Laws.{shown}
+use Rattle.plan_tree.specs.Laws.{shown}
 use Rattle.expression_binder.specs.Firsts.{IsAnswerBy}
-use Rattle.statement_asks.specs.Asked.{SelectMeant}
+use Rattle.cond_logic.specs.Asked.{SelectMeant}
 use Rattle.plan_tree.specs.Plans.{Planned}
 use Rattle.select_answer.specs.Answer.{AreLent, answer_of, select_course}
 use Rattle.stores.specs.Events.{look_of}

@@ -7,8 +7,8 @@ use Rattle.std.proofs.lemmas.List.{length-map, map-append, drop_more}
 use Rattle.std.proofs.lemmas.List.Elements.{All-nil, All-cons, All-head, All-tail, All-append}
 use Rattle.pg_values.specs.declared.answer.Answer.{Answer}
 use Rattle.pg_values.specs.declared.fault.Fault.{Fault}
-use Rattle.pg_ids.specs.declared.ids.TableNo.{TableNo}
-use Rattle.pg_ids.specs.declared.which.Which.TheVariants.{TablesInFrom}
+use Rattle.pg_values.specs.declared.ids.TableNo.{TableNo}
+use Rattle.pg_values.specs.declared.which.Which.TheVariants.{TablesInFrom}
 use Rattle.history.specs.Transactions.{IsPast}
 use Rattle.history.specs.Snapshots.{TakenSnapshot}
 use Rattle.history.specs.History.{History, tx_events}
@@ -17,10 +17,10 @@ use Rattle.tx_table.specs.Stands.{SnapshotStands}
 use Rattle.table_trees.specs.Trees.{TableTree}
 use Rattle.table_trees.specs.Histories.{tree_of}
 use Rattle.cond_logic.specs.Trees.{CondTree}
-use Rattle.pruned_trees.specs.Kept.{kept_tables}
-use Rattle.pruned_trees.specs.Laws.{TreesCanBePruned}
-use Rattle.statement_asks.specs.Asked.{SelectMeant}
-use Rattle.pruned_trees.specs.Prunable.{CanPrune}
+use Rattle.plan_tree.specs.Kept.{kept_tables}
+use Rattle.plan_tree.specs.Laws.{TreesCanBePruned}
+use Rattle.cond_logic.specs.Asked.{SelectMeant}
+use Rattle.plan_tree.specs.Prunable.{CanPrune}
 use Rattle.soundness.proofs.Presence.{all_more}
 use Rattle.sql_ast.specs.Queries.{Joined, SelectTree, selected as selects}
 use Rattle.expression_binder.specs.Firsts.{or_first, unless}

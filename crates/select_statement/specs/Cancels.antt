@@ -7,12 +7,12 @@ use Rattle.pg_values.specs.declared.value.Value.TheVariants.{Null, Int4, Int8, T
 use Rattle.history.specs.Waits.{before}
 use Rattle.cond_logic.specs.Scalars.{ScalarTree, column, literal, table_name, computes, cancels}
 use Rattle.cond_logic.specs.Tuples.{no_rows}
-use Rattle.scalar_values.specs.Tables.{no_tables}
-use Rattle.scalar_values.specs.Values.{is_session, value_for}
+use Rattle.cond_logic.specs.Tables.{no_tables}
+use Rattle.cond_logic.specs.Values.{is_session, value_for}
 use Rattle.sql_ast.specs.Queries.{Joined, SelectTree}
 use Rattle.sql_binder.specs.Selects.{from_of, bound_select}
 use Rattle.select_answer.specs.Tuples.{no_tuple, passes}
-use Rattle.statement_asks.specs.Asked.{OutputTree, SelectMeant}
+use Rattle.cond_logic.specs.Asked.{OutputTree, SelectMeant}
 
 -- ---- a call of pg_cancel_backend
 

@@ -1,13 +1,13 @@
 -- What is known of a tree and of a snapshot while the stores are those that they were read from, but for locks.
 use Rattle.std.specs.Prelude.{◌<◌, All, List, map}
-use Rattle.pg_ids.specs.declared.ids.TableNo.{TableNo}
+use Rattle.pg_values.specs.declared.ids.TableNo.{TableNo}
 use Rattle.history.specs.Transactions.{IsPast}
 use Rattle.history.specs.History.{History, tx_events}
 use Rattle.tx_table.specs.Kept.{KeptSnapshot}
 use Rattle.tx_table.specs.Stands.{TableStands, SnapshotStands}
 use Rattle.table_trees.specs.Trees.{TableTree, leaves}
-use Rattle.pruned_trees.specs.Kept.{Leaf, id_of}
-use Rattle.pruned_trees.specs.Prunable.{CanPrune}
+use Rattle.plan_tree.specs.Kept.{Leaf, id_of}
+use Rattle.plan_tree.specs.Prunable.{CanPrune}
 use Rattle.stores.specs.Events.{look_of}
 use Rattle.stores.specs.declared.stores.Stores.{Stores}
 use Rattle.statement_steps.specs.declared.caller.Caller.{Caller}

@@ -2,5 +2,8 @@ pub mod Below
 pub mod Cancels
 pub mod Halts
 pub mod Items
+pub mod Laws
 pub mod Lent
+pub mod Moments
+pub mod Plain
 pub mod Selected

@@ -2,15 +2,15 @@
 use Rattle.std.specs.Prelude.{ℕ, ◌-◌, Bool, true, false, List, [], ◌∷◌, ◌++◌, map, Result, Ok, Err}
 use Rattle.pg_values.specs.declared.answer.Answer.{Answer}
 use Rattle.pg_values.specs.declared.fault.Fault.{Fault}
-use Rattle.pg_ids.specs.declared.ids.TableNo.{TableNo}
-use Rattle.pg_ids.specs.declared.lock_mode.LockMode.TheVariants.{AccessShare}
+use Rattle.pg_values.specs.declared.ids.TableNo.{TableNo}
+use Rattle.pg_values.specs.declared.lock_mode.LockMode.TheVariants.{AccessShare}
 use Rattle.history.specs.History.{History}
 use Rattle.table_trees.specs.Trees.{TableTree}
 use Rattle.table_trees.specs.Histories.{tree_of}
-use Rattle.pruned_trees.specs.Laws.{shown}
+use Rattle.plan_tree.specs.Laws.{shown}
 use Rattle.sql_ast.specs.Queries.{Joined, SelectTree}
 use Rattle.expression_binder.specs.Scopes.{Item}
-use Rattle.statement_asks.specs.Asked.{SelectMeant}
+use Rattle.cond_logic.specs.Asked.{SelectMeant}
 use Rattle.sql_binder.specs.Selects.{from_of, bound_select}
 use Rattle.plan_tree.specs.Plans.{Planned, plan_for, plan_tables}
 use Rattle.select_answer.specs.Answer.{answer_of, select_course}

@@ -3,8 +3,7 @@ ghost use Rattle.table_trees.specs.Seen.{seen};
 ghost use Rattle.legal_statements.specs.Below.{tables_in};
 ghost use Rattle.select_statement.specs.Below.{below};
 
-use pg_ids::TableNo;
-use pg_values::NoMemory;
+use pg_values::{NoMemory, TableNo};
 use std::alloc::Global;
 use table_trees::{Shape, Tree};
 

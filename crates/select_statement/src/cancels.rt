@@ -5,15 +5,15 @@ ghost use Rattle.cond_logic.specs.Trees.{cond_tree};
 ghost use Rattle.history.specs.Waits as waits;
 ghost use Rattle.select_answer.specs.Tuples as tuples;
 ghost use Rattle.sql_ast.specs.Queries.{select_tree};
-ghost use Rattle.statement_asks.specs.Asked.{output_tree, select_meant};
+ghost use Rattle.cond_logic.specs.Asked.{output_tree, select_meant};
 ghost use Rattle.select_statement.specs.Cancels as cancels;
 
-use cond_logic::{Binding, Cond, Scalar, Truth3, eval};
+use cond_logic::{
+    Binding, Cond, Output, Scalar, SelectAsk, TableNames, Truth3, eval, scalar_value,
+};
 use pg_values::{NoMemory, Refusal, Value};
-use scalar_values::{TableNames, scalar_value};
 use sql_ast::Select;
 use sql_binder::bind_select;
-use statement_asks::{Output, SelectAsk};
 use std::alloc::Global;
 
 fn session_of(sessions: u32, n: i32) -> Option<usize>

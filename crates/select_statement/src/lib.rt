@@ -7,15 +7,24 @@
 //! before those below it, with those of the kept leaves; none, where an item keeps no leaf. Then the plan is
 //! run over the rows that the snapshot shows. A session that prunes nothing keeps all leaves. A part that
 //! waits or is refused ends the statement, which keeps the locks that it has got.
+//!
+//! What a SELECT of a run answers: what a plain scan of all leaves gives.
+//!
+//! `select_answer` has that of a plan, which is refused where it makes too many scans. A plan over one table reads
+//! each leaf of its tree once at most, and in a run there are fewer tables than scans that a statement may make:
+//! so a SELECT of one table makes of the history just what it would make where nothing but its locks went by the
+//! plan. Of several tables the same holds, but for the refusal of too many scans.
 #![tactic(auto)]
 
 mod below;
 mod cancels;
 mod items;
+mod laws;
 mod parts;
 mod statement;
 mod tables;
 
 pub use below::tables_below;
 pub use cancels::cancelled;
+pub use laws::{leaves_are_few, one_table_is_plain, tables_are_plain};
 pub use statement::select;

@@ -1,6 +1,6 @@
 ghost use Rattle.std.specs.Prelude.{◌≡◌, ◌+◌, [], All};
 ghost use Rattle.sql_ast.specs.Queries.{select_tree};
-ghost use Rattle.statement_asks.specs.Asked.{select_meant};
+ghost use Rattle.cond_logic.specs.Asked.{select_meant};
 ghost use Rattle.plan_tree.specs.Plans.{CanRead, planned};
 ghost use Rattle.statement_steps.specs.Attempts.{MayAttempt};
 ghost use Rattle.statement_steps.specs.Steps.{IsStep};
@@ -8,15 +8,14 @@ ghost use Rattle.select_statement.specs.Halts as halts;
 ghost use Rattle.select_statement.specs.Lent.{IsLookFor, MayLock};
 ghost use Rattle.select_statement.specs.Selected as selected;
 
+use cond_logic::SelectAsk;
 use expression_binder::ScopeItem;
-use pg_ids::{LockMode, TableNo};
-use pg_values::{Answer, NoMemory, Refusal};
+use pg_values::{Answer, LockMode, NoMemory, Refusal, TableNo};
 use plan_tree::Plan;
 use row_store::Trail;
 use select_answer::run_select;
 use sql_ast::Select;
 use sql_binder::bind_select;
-use statement_asks::SelectAsk;
 use statement_steps::{Caller, SessionNames, Stop, lock_tables};
 use std::alloc::Global;
 use stores::Stores;

@@ -14,9 +14,8 @@ ghost use Rattle.select_statement.specs.Below.{number_of};
 ghost use Rattle.select_statement.specs.Lent.{IsTreeFor, IsLookFor};
 ghost use Rattle.select_statement.specs.Selected as selected;
 
-use pg_ids::{LockMode, TableNo};
-use pg_values::NoMemory;
-use pruned_trees::trees_can_be_pruned;
+use pg_values::{LockMode, NoMemory, TableNo};
+use plan_tree::trees_can_be_pruned;
 use sql_ast::FromItem;
 use statement_steps::{Caller, SessionNames, Stop, lock_named};
 use std::alloc::Global;

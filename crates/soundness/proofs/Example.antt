@@ -6,8 +6,8 @@ use Rattle.std.proofs.lemmas.Grind.{common_steps}
 use Rattle.std.proofs.lemmas.List.Elements.{All-cons, All-nil}
 use Rattle.pg_values.specs.declared.value.Kind.TheVariants.{Int4 as KInt4}
 use Rattle.pg_values.specs.declared.value.Value.TheVariants.{Int4}
-use Rattle.pg_ids.specs.declared.ids.LeafId.{LeafId}
-use Rattle.pg_ids.specs.declared.lock_mode.LockMode.TheVariants.{RowExclusive}
+use Rattle.pg_values.specs.declared.ids.LeafId.{LeafId}
+use Rattle.pg_values.specs.declared.lock_mode.LockMode.TheVariants.{RowExclusive}
 use Rattle.bound_forms.specs.declared.level.KeyColumn.{KeyColumn}
 use Rattle.bound_forms.specs.declared.level.Strategy.TheVariants.{Range as ByRange}
 use Rattle.bound_forms.specs.declared.partition_bound.Bound.TheVariants.{Range}

@@ -1,8 +1,8 @@
 -- What transactions hold, in a world.
 use Rattle.std.proofs.Common.{◌≡◌, ℕ, true, false, inl, inr, refl, ap, sym, subst, ◌∙◌, Some}
-use Rattle.pg_ids.specs.declared.lock_mode.LockMode.{LockMode}
-use Rattle.pg_ids.specs.declared.lock_mode.LockMode.TheVariants.{RowExclusive, ShareUpdateExclusive, AccessExclusive}
-use Rattle.pg_ids.specs.Modes.{conflicts}
+use Rattle.pg_values.specs.declared.lock_mode.LockMode.{LockMode}
+use Rattle.pg_values.specs.declared.lock_mode.LockMode.TheVariants.{RowExclusive, ShareUpdateExclusive, AccessExclusive}
+use Rattle.pg_values.specs.Modes.{conflicts}
 use Rattle.history.specs.declared.transaction.Fate.TheVariants.{Running}
 use Rattle.history.specs.Transactions.{TxEvents, open_of, fate, IsRunning}
 use Rattle.history.specs.Catalogue.{CatalogueEvents}

@@ -2,7 +2,7 @@
 use Rattle.std.proofs.Common.{◌≡◌, ℕ, zero, suc, ◌≤◌, arith, List, [], ◌∷◌, inl, inr, refl, ap, sym, subst, ◌∙◌, map}
 use Rattle.std.specs.List.{Contains}
 use Rattle.std.proofs.lemmas.List.Elements.{Contains-append_left, Contains-append_right}
-use Rattle.pg_ids.specs.declared.ids.LeafId.{LeafId}
+use Rattle.pg_values.specs.declared.ids.LeafId.{LeafId}
 use Rattle.history.specs.declared.catalogue.TableShape.{TableShape}
 use Rattle.history.specs.declared.catalogue.TableShape.TheVariants.{Leaf, Level}
 use Rattle.history.specs.declared.catalogue.Entry.{Entry}

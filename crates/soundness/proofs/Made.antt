@@ -4,7 +4,7 @@ use Rattle.std.proofs.lemmas.Grind.{common_steps, elements}
 use Rattle.std.proofs.lemmas.Bool.{cases_lt}
 use Rattle.std.proofs.lemmas.List.{length-append}
 use Rattle.pg_values.specs.declared.value.Value.{Value}
-use Rattle.pg_ids.specs.declared.ids.LeafId.{LeafId}
+use Rattle.pg_values.specs.declared.ids.LeafId.{LeafId}
 use Rattle.history.specs.declared.catalogue.Table.{Table}
 use Rattle.history.specs.declared.catalogue.TableShape.TheVariants.{Leaf}
 use Rattle.history.specs.declared.catalogue.Entry.{Entry}

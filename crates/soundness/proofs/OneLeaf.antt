@@ -4,7 +4,7 @@ use Rattle.std.specs.List.{All, Contains}
 use Rattle.std.proofs.lemmas.Bool.{and_parts}
 use Rattle.std.proofs.lemmas.Bool.Decides.{nat_tests}
 use Rattle.std.proofs.lemmas.List.Elements.{All-append, All-cons, All-nil, All-filter, filter_passes}
-use Rattle.pg_ids.specs.declared.ids.LeafId.{LeafId}
+use Rattle.pg_values.specs.declared.ids.LeafId.{LeafId}
 use Rattle.history.specs.declared.version.Version.{Version}
 use Rattle.history.specs.Snapshots.{TakenSnapshot}
 use Rattle.history.specs.Rows.{RowEvents, LeafAdded, RowBorn, RowEnded, births}

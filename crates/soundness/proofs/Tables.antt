@@ -9,7 +9,7 @@ use Rattle.history.specs.Transactions.{TxEvents, open_of, fate}
 use Rattle.history.specs.Catalogue.{CatalogueEvents, TableMade, TableDropped, tables_made}
 use Rattle.history.specs.Locks.{LockEvents}
 use Rattle.history.specs.History.{History, tx_events, snapshot_events, row_events, catalogue_events, lock_events}
-use Rattle.pg_ids.specs.declared.ids.LeafId.{LeafId}
+use Rattle.pg_values.specs.declared.ids.LeafId.{LeafId}
 use Rattle.soundness.specs.Worlds.{World, same_tx, IsWorld, table_in, IsMade, HasLeaf, Present, IsThere, Under, AcceptsKey, key_at}
 use Rattle.soundness.specs.Parts.{IsMaker, IsKnown, OwnsBy, WritesBy, GuardsBy, Owns, Writes, Guards, OwnsIn, WritesIn, GuardsIn, Invariant, InvariantOf}
 use Rattle.soundness.specs.Legal.{MayMake, MayDrop}

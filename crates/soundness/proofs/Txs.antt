@@ -10,8 +10,8 @@ use Rattle.history.specs.Rows.{RowEvents}
 use Rattle.soundness.specs.Versions.{IsVersion}
 use Rattle.history.specs.Catalogue.{CatalogueEvents}
 use Rattle.history.specs.Locks.{LockEvents}
-use Rattle.pg_ids.specs.declared.lock_mode.LockMode.{LockMode}
-use Rattle.pg_ids.specs.declared.lock_mode.LockMode.TheVariants.{RowExclusive, ShareUpdateExclusive, AccessExclusive}
+use Rattle.pg_values.specs.declared.lock_mode.LockMode.{LockMode}
+use Rattle.pg_values.specs.declared.lock_mode.LockMode.TheVariants.{RowExclusive, ShareUpdateExclusive, AccessExclusive}
 use Rattle.soundness.specs.Worlds.{World, same_tx, IsWorld, IsPart, table_in}
 use Rattle.soundness.specs.Shown.{MayShow}
 use Rattle.soundness.proofs.Worlds.{runs_too}

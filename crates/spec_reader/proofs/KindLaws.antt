@@ -1,9 +1,9 @@
 -- A fact about every kind, by computation over their list; and the side conditions of laws, which are such facts.
 use Rattle.std.proofs.Common.{◌≡◌, ℕ, zero, suc, ◌<◌, lit<, arith, length, get_or, Bool, true, false, ◌&&◌, ◌||◌, not, List, [], ◌∷◌, refl}
-use Rattle.grammar_rules.specs.KindClasses.{every}
-use Rattle.grammar_rules.specs.Reading.{Class}
-use Rattle.grammar_rules.proofs.KindClasses as sides
-use Rattle.grammar_rules.proofs.Laws.{Disjoint, Within}
+use Rattle.grammar.specs.KindClasses.{every}
+use Rattle.grammar.specs.Reading.{Class}
+use Rattle.grammar.proofs.KindClasses as sides
+use Rattle.grammar.proofs.Laws.{Disjoint, Within}
 use Rattle.spec_reader.specs.Words.{kinds_list}
 use Rattle.spec_reader.specs.declared.kind.Kind.{Kind}
 use Rattle.spec_reader.specs.declared.kind.Kind.TheVariants as kinds

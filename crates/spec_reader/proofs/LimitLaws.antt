@@ -2,7 +2,7 @@
 use Rattle.std.proofs.Common.{◌≡◌, ◌<◌, ◌≤◌, ℕ, ◌+◌, ◌-◌, Bool, false, nat_le, nat_lt, List, [], ◌∷◌, ◌++◌, length, take, drop, get_or, None, refl, sym, ◌∙◌, ap, subst, arith}
 use Rattle.std.proofs.lemmas.List.{take_more, length-take-le}
 use Rattle.std.specs.Option.{option_or}
-use Rattle.pg_ids.specs.declared.which.Which.TheVariants as which
+use Rattle.pg_values.specs.declared.which.Which.TheVariants as which
 use Rattle.spec_reader.specs.Faults.{told, first_behind, steps_in, session_limit}
 use Rattle.spec_reader.specs.Finds.{Found}
 use Rattle.spec_reader.specs.declared.fault.SpecFault.{SpecFault}

@@ -4,15 +4,15 @@ use Rattle.std.specs.List.{list_all, prefix_len}
 use Rattle.std.proofs.lemmas.Bool.{lt-ltb}
 use Rattle.std.proofs.lemmas.List.{drop-drop}
 use Rattle.std.proofs.Math.Seq.{take-append_seam, drop-append_seam}
-use Rattle.grammar_rules.specs.Reading.{Rule, both, behind, as_value}
+use Rattle.grammar.specs.Reading.{Rule, both, behind, as_value}
 use Rattle.spec_reader.specs.declared.bytes.Run.TheVariants as runs
 use Rattle.spec_reader.specs.declared.kind.Kind.{Kind}
 use Rattle.spec_reader.specs.declared.kind.Kind.TheVariants as kinds
 use Rattle.spec_reader.specs.declared.token.Token.{Token}
 use Rattle.spec_reader.specs.Bytes.{goes_on, trimmed}
-use Rattle.text_pieces.specs.Places.{inside, slice}
-use Rattle.text_pieces.specs.Quotes.{closing, doubled, undoubled}
-use Rattle.text_pieces.proofs.QuotedBack.{closing_doubled, inside-quoted, length_quoted, undoubled-doubled}
+use Rattle.grammar.specs.TextPlaces.{inside, slice}
+use Rattle.grammar.specs.Quotes.{closing, doubled, undoubled}
+use Rattle.grammar.proofs.QuotedBack.{closing_doubled, inside-quoted, length_quoted, undoubled-doubled}
 use Rattle.spec_reader.specs.Pieces.{piece_of, token, gap, quoted_to, fault}
 use Rattle.spec_reader.specs.Pieces as pieces
 use Rattle.spec_reader.specs.Tokens.{tokens_from}

@@ -3,9 +3,9 @@ use Rattle.std.proofs.Common.{◌≡◌, ◌≢◌, ◌<◌, ℕ, ◌+◌, Bool,
 use Rattle.std.proofs.Math.Seq.{drop-append_seam}
 use Rattle.std.proofs.lemmas.List.{append-nil}
 use Rattle.spec_reader.specs.Pieces.{piece_of, token}
-use Rattle.grammar_rules.specs.Reading.{Class, Rule, one, both, as_value, behind, before}
-use Rattle.grammar_rules.specs.Repeats.{many, many_texts, repeats_texts, all_repeats, always}
-use Rattle.grammar_words.specs.Words as words
+use Rattle.grammar.specs.Reading.{Class, Rule, one, both, as_value, behind, before}
+use Rattle.grammar.specs.Repeats.{many, many_texts, repeats_texts, all_repeats, always}
+use Rattle.grammar.specs.Words as words
 use Rattle.spec_reader.specs.Scripts.{a, a_name, name, block, block_of, maybe_block, setup, step_of, step, session_of, session, marker, markers, or_none, maybe_markers, use_of, one_use, permutation, script_of, script, marker_of, notices, Says as IsSaid}
 use Rattle.spec_reader.specs.Specs.{markers_of, spec_of, uses_of, IsScript}
 use Rattle.spec_reader.specs.Specs as specs

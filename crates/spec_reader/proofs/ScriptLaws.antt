@@ -1,10 +1,10 @@
 -- The productions of scripts keep the law: one token of look-ahead decides how their texts are read.
 use Rattle.std.proofs.Common.{◌≡◌, ℕ, true, false, ◌||◌, List, refl}
-use Rattle.grammar_rules.specs.Reading.{Class}
-use Rattle.grammar_rules.proofs.Build.{token, valued, wide, seq, alt, opt, repeated, after_token}
-use Rattle.grammar_rules.proofs.Chain.{none}
-use Rattle.grammar_rules.proofs.Laws.{Law}
-use Rattle.grammar_words.proofs.WordLaws.{means_law, between_law, separated_law, some_law}
+use Rattle.grammar.specs.Reading.{Class}
+use Rattle.grammar.proofs.Build.{token, valued, wide, seq, alt, opt, repeated, after_token}
+use Rattle.grammar.proofs.Chain.{none}
+use Rattle.grammar.proofs.Laws.{Law}
+use Rattle.grammar.proofs.WordLaws.{means_law, between_law, separated_law, some_law}
 use Rattle.spec_reader.specs.Contents.{name_in, block_in}
 use Rattle.spec_reader.specs.Scripts.{a, a_name, name, block, block_of, maybe_block, step_of, step, session_of, session, notices, marker_of, named_marker, marker, markers, or_none, maybe_markers, use_of, one_use, permutation, script_of, script}
 use Rattle.spec_reader.specs.Words.{is}

@@ -1,14 +1,14 @@
 -- What a text is read as, or why it is refused.
 use Rattle.std.proofs.Common.{Result, IfOk, ◌≡◌, ℕ, inl, inr, List, [], ◌∷◌, ◌++◌, Option, Some, None, Ok, Err, refl, sym, ◌∙◌, ap, subst}
 use Rattle.std.specs.Prelude.{◌⊎◌}
-use Rattle.grammar_rules.specs.Gives.{Refuses}
-use Rattle.grammar_rules.specs.Parses.{FailsAt, SameNext}
-use Rattle.grammar_rules.specs.Reading.{read_whole}
-use Rattle.grammar_rules.specs.declared.refused.Refused.{Refused}
-use Rattle.grammar_rules.specs.declared.refused.Refused.TheVariants as refused
-use Rattle.grammar_rules.proofs.Whole.{parses, one_value}
-use Rattle.grammar_words.specs.Places.{token_at, StopsWith}
-use Rattle.grammar_words.proofs.PlaceLaws.{stops, no_text, one_place}
+use Rattle.grammar.specs.Gives.{Refuses}
+use Rattle.grammar.specs.Parses.{FailsAt, SameNext}
+use Rattle.grammar.specs.Reading.{read_whole}
+use Rattle.grammar.specs.declared.refused.Refused.{Refused}
+use Rattle.grammar.specs.declared.refused.Refused.TheVariants as refused
+use Rattle.grammar.proofs.Whole.{parses, one_value}
+use Rattle.grammar.specs.Places.{token_at, StopsWith}
+use Rattle.grammar.proofs.PlaceLaws.{stops, no_text, one_place}
 use Rattle.spec_reader.specs.Faults.{fault}
 use Rattle.spec_reader.specs.Finds.{Found, Finds}
 use Rattle.spec_reader.specs.Scripts.{Says, script}

@@ -1,7 +1,7 @@
 -- What a token says.
 use Rattle.std.specs.Prelude.{ℕ, false, if◌then◌else◌, List}
-use Rattle.text_pieces.specs.Places.{inside, slice}
-use Rattle.text_pieces.specs.Quotes.{undoubled}
+use Rattle.grammar.specs.TextPlaces.{inside, slice}
+use Rattle.grammar.specs.Quotes.{undoubled}
 use Rattle.spec_reader.specs.declared.kind.Kind.TheVariants as kinds
 use Rattle.spec_reader.specs.declared.token.Token.{Token}
 use Rattle.spec_reader.specs.Bytes.{trimmed}

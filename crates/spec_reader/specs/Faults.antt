@@ -6,7 +6,7 @@ use Rattle.std.specs.List.{list_any}
 use Rattle.std.specs.Map.{lookup}
 use Rattle.std.specs.Option.{option_or}
 use Rattle.std.specs.Str.{bytes_eq}
-use Rattle.pg_ids.specs.declared.which.Which.TheVariants as which
+use Rattle.pg_values.specs.declared.which.Which.TheVariants as which
 use Rattle.spec_reader.specs.declared.fault.SpecFault.{SpecFault}
 use Rattle.spec_reader.specs.declared.fault.SpecFault.TheVariants.{Limit, DoubleName, NoPermutation, UnknownStep, UnknownMarker}
 use Rattle.spec_reader.specs.declared.limits.TheConstants.{MOST_SETUP_BLOCKS, MOST_SESSIONS, MOST_STEPS, MOST_PERMUTATIONS, MOST_USES, MOST_MARKERS}

@@ -6,7 +6,7 @@ use Rattle.spec_reader.specs.declared.kind.Kind.{Kind}
 use Rattle.spec_reader.specs.declared.kind.Kind.TheVariants as kinds
 use Rattle.spec_reader.specs.declared.piece.Piece.{Piece}
 use Rattle.spec_reader.specs.Bytes.{is_blank, is_digit, begins_name, goes_on}
-use Rattle.text_pieces.specs.Quotes.{closing}
+use Rattle.grammar.specs.Quotes.{closing}
 use Rattle.spec_reader.specs.Words.{word_kind}
 
 -- blanks or a comment, of so many bytes

@@ -11,9 +11,9 @@
 --
 -- What a name or a block says stands in the text, so rules take the text.
 use Rattle.std.specs.Prelude.{ℕ, List, [], Option, Some, None}
-use Rattle.grammar_rules.specs.Reading.{Class, Rule, one, as_value, optional, either}
-use Rattle.grammar_rules.specs.Repeats.{many}
-use Rattle.grammar_words.specs.Words.{◌>>◌, ◌&◌, means, between, separated, some}
+use Rattle.grammar.specs.Reading.{Class, Rule, one, as_value, optional, either}
+use Rattle.grammar.specs.Repeats.{many}
+use Rattle.grammar.specs.Words.{◌>>◌, ◌&◌, means, between, separated, some}
 use Rattle.spec_reader.specs.Contents.{name_in, block_in}
 use Rattle.spec_reader.specs.Tokens.{tokens_of}
 use Rattle.spec_reader.specs.Words.{is, is_name}

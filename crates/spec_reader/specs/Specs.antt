@@ -1,8 +1,8 @@
 -- Scripts: what a text says as a script, and why it is none.
 use Rattle.std.specs.Prelude.{◌≡◌, ℕ, suc, ◌==◌, List, [], ◌∷◌, length, map, take, filter, Option, Some, None, Result, Ok, Err}
-use Rattle.grammar_rules.specs.declared.refused.Refused.{Refused}
-use Rattle.grammar_rules.specs.declared.refused.Refused.TheVariants as refused
-use Rattle.grammar_words.specs.Places.{StopsAt, token_at}
+use Rattle.grammar.specs.declared.refused.Refused.{Refused}
+use Rattle.grammar.specs.declared.refused.Refused.TheVariants as refused
+use Rattle.grammar.specs.Places.{StopsAt, token_at}
 use Rattle.spec_reader.specs.Faults.{fault}
 use Rattle.spec_reader.specs.Scripts.{Says, script}
 use Rattle.spec_reader.specs.Tokens.{tokens_of}

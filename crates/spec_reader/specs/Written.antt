@@ -1,7 +1,7 @@
 -- How names are written between quotes and blocks between braces, so that they are read back.
 use Rattle.std.specs.Prelude.{◌≡◌, ℕ, true, not, ◌==◌, List, [], ◌∷◌, ◌++◌}
 use Rattle.std.specs.List.{list_all}
-use Rattle.text_pieces.specs.Quotes as quotes
+use Rattle.grammar.specs.Quotes as quotes
 use Rattle.spec_reader.specs.Bytes.{trimmed}
 
 -- a name between quotes, each quote in it twice, and a block between braces

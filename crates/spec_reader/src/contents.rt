@@ -4,9 +4,9 @@ ghost use Rattle.spec_reader.specs.Contents as contents;
 use crate::bytes::trimmed;
 use crate::kind::{Kind, same_kind};
 use crate::token::Token;
+use grammar::{inside_of, slice, undoubled};
 use pg_values::{NoMemory, PgText};
 use std::alloc::Global;
-use text_pieces::{inside_of, slice, undoubled};
 
 /// The name that a token says.
 pub fn name_of(alloc: Global, text: &[u8], token: Token) -> Result<PgText, NoMemory>

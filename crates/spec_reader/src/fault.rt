@@ -1,6 +1,5 @@
-use grammar_rules::Refused;
-use pg_ids::Which;
-use pg_values::{NoMemory, PgText};
+use grammar::Refused;
+use pg_values::{NoMemory, PgText, Which};
 use std::alloc::{AllocError, AllocFailed};
 
 /// Why a text is no script: the first of these that holds, and of one of them the first place in

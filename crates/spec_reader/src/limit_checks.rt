@@ -10,8 +10,7 @@ use crate::limits::{
 };
 use crate::spec::SessionSpec;
 use crate::written::{WrittenSpec, WrittenUse};
-use pg_ids::Which;
-use pg_values::PgText;
+use pg_values::{PgText, Which};
 use std::alloc::Global;
 
 fn past(is_past: bool, which: Which) -> Result<(), SpecFault>

@@ -4,7 +4,7 @@ ghost use Rattle.spec_reader.specs.Pieces as pieces;
 use crate::bytes::{Run, begins_name, is_blank, is_digit, run_len};
 use crate::kind::Kind;
 use crate::words::word_kind;
-use text_pieces::closing;
+use grammar::closing;
 
 /// What stands at the front of a text: a token of a kind, or a gap between tokens; and its length.
 #[derive(Clone, Copy)]

@@ -1,6 +1,6 @@
 //! A function for each production of `specs/Scripts.antt`.
 
-ghost use Rattle.grammar_rules.specs.Gives.{Gives};
+ghost use Rattle.grammar.specs.Gives.{Gives};
 ghost use Rattle.spec_reader.specs.Scripts as scripts;
 
 use crate::contents::{block_of, name_of};
@@ -9,8 +9,7 @@ use crate::kind::Kind;
 use crate::spec::{SessionSpec, StepSpec};
 use crate::token::Token;
 use crate::written::{WrittenMarker, WrittenSpec, WrittenUse};
-use grammar_rules::Refused;
-use grammar_words::{Begun, Part, any, comes, name_comes, separated, some, word};
+use grammar::{Begun, Part, Refused, any, comes, name_comes, separated, some, word};
 use pg_values::PgText;
 use std::alloc::Global;
 
@@ -21,7 +20,7 @@ fn name<'t>(
 ) -> Result<(PgText, &'t [Token]), Refused>
     ensures { Gives (λ x. (x.0, x.1.now)) result ((scripts.name text.now).read tokens.now) }
 {
-    let (token, rest) = grammar_words::name(tokens)?;
+    let (token, rest) = grammar::name(tokens)?;
     Ok((name_of(alloc, text, token)?, rest))
 }
 

@@ -13,8 +13,7 @@ use crate::spec::{Marker, PermutationList, Spec, StepUse};
 use crate::token::Token;
 use crate::use_checks::permutation_checks;
 use crate::written::{WrittenMarker, WrittenSpec, WrittenUse};
-use grammar_rules::Refused;
-use grammar_words::{token_at, whole};
+use grammar::{Refused, token_at, whole};
 use pg_values::NoMemory;
 use std::alloc::Global;
 

@@ -1,6 +1,6 @@
 -- Commands as trees, without where they lie in memory (VI. SQL Commands).
 use Rattle.std.specs.Prelude.{ℕ, Bool, List, Option, map}
-use Rattle.pg_ids.specs.declared.lock_mode.LockMode.{LockMode}
+use Rattle.pg_values.specs.declared.lock_mode.LockMode.{LockMode}
 use Rattle.sql_ast.specs.Expressions.{Tree, Trees, tree, trees}
 use Rattle.sql_ast.specs.declared.bound.BoundText.{BoundText}
 use Rattle.sql_ast.specs.declared.bound.BoundText.TheVariants as bounds

@@ -2,8 +2,7 @@ use crate::{
     BoundText, ColumnList, Detachment, Isolation, LockedTableList, NameList, Partitioning,
     SettingValue,
 };
-use pg_ids::LockMode;
-use pg_values::PgText;
+use pg_values::{LockMode, PgText};
 
 /// A statement that reads and changes no rows, as its text says it.
 #[derive(Debug, Drop)]

@@ -14,7 +14,7 @@ use Rattle.sql_binder.specs.Keys.{keys_constants, sort_keys}
 use Rattle.sql_binder.specs.Selects as selects
 use Rattle.sql_binder.specs.Selects.{Front, Tail, list_scope, count_scope}
 use Rattle.sql_binder.specs.States.{negative_limit, negative_offset}
-use Rattle.statement_asks.specs.Asked.{SelectMeant}
+use Rattle.cond_logic.specs.Asked.{SelectMeant}
 
 both_parts : {A B C : Type 0} (f : A → B → C) (xs ys : List Fault) (a c : A) (b d : B) → or_first xs a ≡ Ok c → or_first ys b ≡ Ok d → or_first (xs ++ ys) (f a b) ≡ Ok (f c d)
 both_parts f xs ys a c b d p q =

@@ -15,7 +15,7 @@ use Rattle.expression_binder.specs.Firsts.{fault_in}
 use Rattle.expression_binder.specs.Kinds.{kind_alone}
 use Rattle.expression_binder.specs.Operands.{operand_faults, typed, item_faults}
 use Rattle.expression_binder.specs.Scopes.{Item, Scope, item_called}
-use Rattle.statement_asks.specs.Asked.{OutputTree}
+use Rattle.cond_logic.specs.Asked.{OutputTree}
 
 -- calls stand in a SELECT without FROM alone
 abbrev pub has_none : List Item → Bool

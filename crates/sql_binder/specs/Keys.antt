@@ -14,9 +14,9 @@ use Rattle.expression_binder.specs.Firsts.{unless}
 use Rattle.expression_binder.specs.Kinds.{is_arithmetic}
 use Rattle.expression_binder.specs.Operands.{operand_faults, look_up_faults}
 use Rattle.expression_binder.specs.Scopes.{Item, Scope, look_up, look_up_in, item_called}
-use Rattle.statement_asks.specs.declared.select.SortBy.{SortBy}
-use Rattle.statement_asks.specs.declared.select.SortBy.TheVariants as by
-use Rattle.statement_asks.specs.declared.select.SortKey.{SortKey}
+use Rattle.cond_logic.specs.declared.select.SortBy.{SortBy}
+use Rattle.cond_logic.specs.declared.select.SortBy.TheVariants as by
+use Rattle.cond_logic.specs.declared.select.SortKey.{SortKey}
 use Rattle.sql_binder.specs.declared.keys.Named.{Named}
 use Rattle.sql_binder.specs.declared.keys.Named.TheVariants as named
 use Rattle.sql_binder.specs.States.{no_output}

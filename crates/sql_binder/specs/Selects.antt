@@ -11,8 +11,8 @@ use Rattle.sql_binder.specs.From.{from_faults, all_conditions, condition_faults,
 use Rattle.sql_binder.specs.Items.{in_a_select_list, list_faults, list_constants, list_names, list_outputs}
 use Rattle.sql_binder.specs.Keys.{keys_faults, keys_constants, sort_keys}
 use Rattle.sql_binder.specs.States.{negative_limit, negative_offset}
-use Rattle.statement_asks.specs.Asked.{OutputTree, SelectMeant}
-use Rattle.statement_asks.specs.declared.select.SortKey.{SortKey}
+use Rattle.cond_logic.specs.Asked.{OutputTree, SelectMeant}
+use Rattle.cond_logic.specs.declared.select.SortKey.{SortKey}
 
 -- ---- scopes
 

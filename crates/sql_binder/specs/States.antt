@@ -2,8 +2,8 @@
 use Rattle.std.specs.Prelude.{ℕ, List, [], ◌∷◌, codes}
 use Rattle.std.specs.Fmt.{decimal}
 use Rattle.pg_values.specs.declared.fault.Fault.{Fault}
-use Rattle.pg_ids.specs.Words.{which_word}
-use Rattle.pg_ids.specs.declared.which.Which.{Which}
+use Rattle.pg_values.specs.Words.{which_word}
+use Rattle.pg_values.specs.declared.which.Which.{Which}
 use Rattle.value_rules.specs.FaultTexts.{fault_of}
 
 -- `too many <which>`

@@ -1,8 +1,7 @@
 ghost use Rattle.std.specs.Prelude.{◌≡◌, IfOk};
 ghost use Rattle.sql_binder.specs.States as states;
 
-use pg_ids::Which;
-use pg_values::{Args, Fault, NoMemory, SqlState};
+use pg_values::{Args, Fault, NoMemory, SqlState, Which};
 use std::alloc::Global;
 use value_rules::one_text;
 

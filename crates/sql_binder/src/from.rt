@@ -10,8 +10,7 @@ ghost use Rattle.sql_binder.specs.From as from;
 use crate::faults::{name_twice, too_many};
 use cond_logic::Cond;
 use expression_binder::{Param, ScopeItem, bind_condition, check_condition, condition_names};
-use pg_ids::Which;
-use pg_values::{NoMemory, Refusal};
+use pg_values::{NoMemory, Refusal, Which};
 use sql_ast::{Expr, FromItem};
 use std::alloc::Global;
 

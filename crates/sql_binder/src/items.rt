@@ -8,16 +8,15 @@ ghost use Rattle.expression_binder.specs.Kinds as kinds;
 ghost use Rattle.expression_binder.specs.Operands.{typed};
 ghost use Rattle.expression_binder.specs.Scopes as scopes;
 ghost use Rattle.sql_binder.specs.Items as items_of;
-ghost use Rattle.statement_asks.specs.Asked.{output_tree};
+ghost use Rattle.cond_logic.specs.Asked.{output_tree};
 
-use cond_logic::{ColumnId, Scalar};
+use cond_logic::{ColumnId, Output, Scalar};
 use expression_binder::{
     Allowed, Names, ScopeColumn, ScopeItem, bind_scalar, check_item, check_operand, item_called,
     kind_alone, left_out, typed_of,
 };
 use pg_values::{NoMemory, PgText, Refusal};
 use sql_ast::{Expr, Leaf, SelectItem};
-use statement_asks::Output;
 use std::alloc::Global;
 
 /// What may stand in a select list.

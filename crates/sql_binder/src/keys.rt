@@ -10,13 +10,13 @@ ghost use Rattle.expression_binder.specs.Operands.{operand_faults};
 ghost use Rattle.sql_binder.specs.Keys as keys;
 
 use crate::faults::no_output;
+use cond_logic::{SortBy, SortKey};
 use expression_binder::{
     Lookup, Names, ScopeItem, ambiguous, check_condition, check_look_up, check_operand,
     is_arithmetic, item_called, left_out, look_up, look_up_in,
 };
 use pg_values::{NoMemory, PgText, Refusal};
 use sql_ast::{Expr, Leaf, SortKey as Key};
-use statement_asks::{SortBy, SortKey};
 use std::alloc::Global;
 use value_rules::out_of_range;
 

@@ -9,7 +9,7 @@ ghost use Rattle.sql_binder.specs.Items as items_of;
 ghost use Rattle.sql_binder.specs.Keys as keys;
 ghost use Rattle.sql_binder.specs.Selects as selects;
 ghost use Rattle.sql_binder.specs.Selects.{bound_select};
-ghost use Rattle.statement_asks.specs.Asked.{output_tree, select_meant};
+ghost use Rattle.cond_logic.specs.Asked.{output_tree, select_meant};
 ghost use Rattle.sql_binder.specs.States as states;
 
 use crate::counts::{bind_count, check_count_of};
@@ -17,11 +17,10 @@ use crate::faults::{negative_limit, negative_offset};
 use crate::from::{bind_conditions, check_conditions, check_from};
 use crate::items::{bind_list, check_list, in_a_select_list, output_names};
 use crate::keys::{bind_keys, check_keys};
-use cond_logic::Cond;
+use cond_logic::{Cond, Output, SelectAsk, SortKey};
 use expression_binder::{Names, Param, ScopeItem, condition_names};
 use pg_values::{NoMemory, PgText, Refusal};
 use sql_ast::Select;
-use statement_asks::{Output, SelectAsk, SortKey};
 use std::alloc::Global;
 
 fn list_scope<'a>(items: &'a [ScopeItem], params: &'a [Param], session: u32) -> Names<'a>

@@ -1,31 +1,31 @@
 -- Each production keeps the law: one token of look-ahead decides how its texts are read.
 use Rattle.std.proofs.Common.{◌≡◌, ℕ, Bool, true, false, ◌&&◌, ◌||◌, List, [], ◌∷◌, None, refl}
-use Rattle.grammar_rules.specs.Reading.{Class, one, as_value}
-use Rattle.grammar_rules.specs.Repeats.{second_of}
-use Rattle.grammar_rules.proofs.Laws.{Law, Within}
-use Rattle.grammar_rules.proofs.Chain.{none}
-use Rattle.grammar_rules.proofs.Build.{token, empty, valued, wide, seq, then_by, alt, opt, after_token, before_token, more}
+use Rattle.grammar.specs.Reading.{Class, one, as_value}
+use Rattle.grammar.specs.Repeats.{second_of}
+use Rattle.grammar.proofs.Laws.{Law, Within}
+use Rattle.grammar.proofs.Chain.{none}
+use Rattle.grammar.proofs.Build.{token, empty, valued, wide, seq, then_by, alt, opt, after_token, before_token, more}
 use Rattle.sql_tokens.specs.Contents.{bytes_of, name_in}
 use Rattle.sql_tokens.specs.Words as words
 use Rattle.sql_tokens.specs.declared.kind.Kind.TheVariants as word
 use Rattle.sql_tokens.specs.declared.token.Token.{Token}
 use Rattle.sql_expressions.specs.Grammar.{expression}
 use Rattle.sql_expressions.specs.Levels.{begins_expression}
-use Rattle.grammar_words.specs.Words.{◌>>◌, one_of, means, snoc}
+use Rattle.grammar.specs.Words.{◌>>◌, one_of, means, snoc}
 use Rattle.sql_tokens.specs.Classes.{a, a_name}
 use Rattle.sql_expressions.specs.Words.{either_if, is_long_name}
 use Rattle.sql_expressions.proofs.LevelLaws.{after_expression}
 use Rattle.sql_expressions.proofs.RuleLaws.{expression_law}
 use Rattle.sql_expressions.proofs.WordLaws.{sample, apart, within, no_longer_law, name_law, string_law}
 use Rattle.sql_ast.specs.Commands.{resets, deallocates, deallocates_all, other}
-use Rattle.grammar_words.proofs.WordLaws.{means_law, maybe_law}
-use Rattle.sql_lists.proofs.ListLaws.{in_law, commas_law, plain_name_law, number_law, other_name_law}
-use Rattle.sql_lists.specs.Lists as lists
+use Rattle.grammar.proofs.WordLaws.{means_law, maybe_law}
+use Rattle.sql_expressions.proofs.ListLaws.{in_law, commas_law, plain_name_law, number_law, other_name_law}
+use Rattle.sql_expressions.specs.Lists as lists
 use Rattle.sql_commands.specs.Grammar as grammar
 use Rattle.sql_ast.specs.declared.isolation.Isolation.TheVariants as isolation
 use Rattle.sql_ast.specs.declared.setting_value.SettingValue.TheVariants as setting
-use Rattle.pg_ids.specs.declared.lock_mode.LockMode.{LockMode}
-use Rattle.pg_ids.specs.declared.lock_mode.LockMode.TheVariants as mode
+use Rattle.pg_values.specs.declared.lock_mode.LockMode.{LockMode}
+use Rattle.pg_values.specs.declared.lock_mode.LockMode.TheVariants as mode
 use Rattle.sql_commands.proofs.NameFirst.{dropped_texts, dropped_free, prepared_texts, prepared_free, read_as_law}
 use Rattle.sql_commands.proofs.TextLaws.{by_text_law}
 

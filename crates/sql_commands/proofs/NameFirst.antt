@@ -3,20 +3,20 @@
 use Rattle.std.proofs.Common.{◌≡◌, ℕ, Bool, true, false, ◌&&◌, not, List, [], ◌∷◌, ◌++◌, Option, Some, None, inl, inr, refl, sym, ◌∙◌, ap, subst}
 use Rattle.std.proofs.lemmas.List.{append-nil, append_assoc}
 use Rattle.std.specs.Prelude.{◌⊎◌}
-use Rattle.grammar_rules.specs.Reading.{Class, Rule, one_texts, nothing_texts, both_texts, follow_texts, value_texts, either_texts, as_value}
-use Rattle.grammar_rules.specs.Repeats.{repeats_texts, always, second_of}
-use Rattle.grammar_rules.proofs.Depths.{Inside}
-use Rattle.grammar_rules.proofs.Build.{said}
-use Rattle.grammar_rules.proofs.Laws.{Law, pair_eq}
+use Rattle.grammar.specs.Reading.{Class, Rule, one_texts, nothing_texts, both_texts, follow_texts, value_texts, either_texts, as_value}
+use Rattle.grammar.specs.Repeats.{repeats_texts, always, second_of}
+use Rattle.grammar.proofs.Depths.{Inside}
+use Rattle.grammar.proofs.Build.{said}
+use Rattle.grammar.proofs.Laws.{Law, pair_eq}
 use Rattle.sql_tokens.specs.Words as words
 use Rattle.sql_tokens.specs.declared.kind.Kind.{Kind}
 use Rattle.sql_tokens.specs.declared.kind.Kind.TheVariants as word
 use Rattle.sql_tokens.specs.declared.token.Token.{Token}
-use Rattle.grammar_words.specs.Words.{◌>>◌, only, snoc}
+use Rattle.grammar.specs.Words.{◌>>◌, only, snoc}
 use Rattle.sql_tokens.specs.Classes.{a, a_name}
 use Rattle.sql_expressions.specs.Words.{either_if, is_long_name, named, name}
 use Rattle.sql_expressions.proofs.WordLaws.{within}
-use Rattle.sql_lists.specs.Lists as lists
+use Rattle.sql_expressions.specs.Lists as lists
 use Rattle.sql_commands.specs.Grammar as grammar
 use Rattle.sql_ast.specs.Commands.{CommandTree, deallocates, deallocates_all}
 

@@ -1,8 +1,8 @@
 -- A rule whose values depend on their texts keeps the law.
 use Rattle.std.proofs.Common.{◌≡◌, ◌-◌, Bool, List, ◌∷◌, ◌++◌, length, take, Ok, Err, refl, sym, ◌∙◌, ap, arith, length-append}
 use Rattle.std.proofs.Math.Seq.{take-append_seam}
-use Rattle.grammar_rules.specs.Reading.{Class, Reading, Rule, syntax_at, limit_at, ◌>>=◌}
-use Rattle.grammar_rules.proofs.Laws.{Law, Reads}
+use Rattle.grammar.specs.Reading.{Class, Reading, Rule, syntax_at, limit_at, ◌>>=◌}
+use Rattle.grammar.proofs.Laws.{Law, Reads}
 use Rattle.sql_tokens.specs.declared.token.Token.{Token}
 use Rattle.sql_commands.specs.Grammar.{by_text}
 

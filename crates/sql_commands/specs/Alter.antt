@@ -1,12 +1,12 @@
 -- ATTACH and DETACH (VI. SQL Commands: ALTER TABLE).
 use Rattle.std.specs.Prelude.{ℕ, if◌then◌else◌, List, Option, Some, None}
-use Rattle.grammar_rules.specs.Reading.{Class, Rule, follow, as_value, either}
-use Rattle.grammar_rules.specs.Repeats.{second_of}
+use Rattle.grammar.specs.Reading.{Class, Rule, follow, as_value, either}
+use Rattle.grammar.specs.Repeats.{second_of}
 use Rattle.sql_tokens.specs.declared.kind.Kind.TheVariants as word
 use Rattle.sql_tokens.specs.declared.token.Token.{Token}
-use Rattle.grammar_words.specs.Words.{◌>>◌, ◌&◌, one_of, maybe}
+use Rattle.grammar.specs.Words.{◌>>◌, ◌&◌, one_of, maybe}
 use Rattle.sql_tokens.specs.Classes.{a}
-use Rattle.sql_lists.specs.Lists.{plain_name}
+use Rattle.sql_expressions.specs.Lists.{plain_name}
 use Rattle.sql_ast.specs.Commands.{Bound, CommandTree, attaches, detaches}
 use Rattle.sql_ast.specs.declared.detachment.Detachment.{Detachment}
 use Rattle.sql_ast.specs.declared.detachment.Detachment.TheVariants as detachment

@@ -1,13 +1,13 @@
 -- Bounds of partitions (VI. SQL Commands: CREATE TABLE).
 use Rattle.std.specs.Prelude.{◌≡◌, ℕ, ◌-◌, if◌then◌else◌, List, [], ◌∷◌, length, take, Ok}
-use Rattle.grammar_rules.specs.Reading.{Rule, one, as_value, either, ◌>>=◌}
+use Rattle.grammar.specs.Reading.{Rule, one, as_value, either, ◌>>=◌}
 use Rattle.sql_tokens.specs.declared.kind.Kind.TheVariants as word
 use Rattle.sql_tokens.specs.declared.token.Token.{Token}
 use Rattle.sql_expressions.specs.Grammar.{expression}
 use Rattle.sql_ast.specs.Expressions.{Tree, listed as list_of_trees}
-use Rattle.grammar_words.specs.Words.{◌>>◌, ◌<<◌, ◌&◌, means}
+use Rattle.grammar.specs.Words.{◌>>◌, ◌<<◌, ◌&◌, means}
 use Rattle.sql_tokens.specs.Classes.{a}
-use Rattle.sql_lists.specs.Lists.{in_parentheses, commas, number}
+use Rattle.sql_expressions.specs.Lists.{in_parentheses, commas, number}
 use Rattle.sql_ast.specs.Commands.{Edge, min, max, at, Bound, range, listed, hash, other}
 
 -- edge = "MINVALUE" | "MAXVALUE" | expr, where an edge that is one of these words alone is that word

@@ -1,13 +1,13 @@
 -- Tables and partitions (VI. SQL Commands: CREATE TABLE).
 use Rattle.std.specs.Prelude.{ℕ, Bool, true, false, ◌||◌, if◌then◌else◌, List, Option}
-use Rattle.grammar_rules.specs.Reading.{Class, Rule, one, nothing, follow, as_value, either, optional}
-use Rattle.grammar_rules.specs.Repeats.{second_of}
+use Rattle.grammar.specs.Reading.{Class, Rule, one, nothing, follow, as_value, either, optional}
+use Rattle.grammar.specs.Repeats.{second_of}
 use Rattle.sql_tokens.specs.declared.kind.Kind.TheVariants as word
 use Rattle.sql_tokens.specs.declared.token.Token.{Token}
-use Rattle.grammar_words.specs.Words.{◌>>◌, ◌&◌, means}
+use Rattle.grammar.specs.Words.{◌>>◌, ◌&◌, means}
 use Rattle.sql_tokens.specs.Classes.{a}
 use Rattle.sql_expressions.specs.Words.{name}
-use Rattle.sql_lists.specs.Lists.{in_parentheses, commas, plain_name}
+use Rattle.sql_expressions.specs.Lists.{in_parentheses, commas, plain_name}
 use Rattle.sql_ast.specs.Commands.{Bound, CommandTree, makes_table, makes_partition}
 use Rattle.sql_ast.specs.declared.table_definition.Strategy.{Strategy}
 use Rattle.sql_ast.specs.declared.table_definition.Strategy.TheVariants as strategy

@@ -1,15 +1,15 @@
 -- DEALLOCATE (VI. SQL Commands).
 use Rattle.std.specs.Prelude.{ℕ, Bool, true, false, List, Option, Some, None}
-use Rattle.grammar_rules.specs.Reading.{Rule, one, nothing, follow, as_value, either, optional}
-use Rattle.grammar_rules.specs.Repeats.{second_of}
+use Rattle.grammar.specs.Reading.{Rule, one, nothing, follow, as_value, either, optional}
+use Rattle.grammar.specs.Repeats.{second_of}
 use Rattle.sql_tokens.specs.Words as words
 use Rattle.sql_tokens.specs.declared.kind.Kind.{Kind}
 use Rattle.sql_tokens.specs.declared.kind.Kind.TheVariants as word
 use Rattle.sql_tokens.specs.declared.token.Token.{Token}
-use Rattle.grammar_words.specs.Words.{◌>>◌, means}
+use Rattle.grammar.specs.Words.{◌>>◌, means}
 use Rattle.sql_tokens.specs.Classes.{a}
 use Rattle.sql_expressions.specs.Words.{name}
-use Rattle.sql_lists.specs.Lists.{plain_name, name_word, is_other_name, other_name, read_as}
+use Rattle.sql_expressions.specs.Lists.{plain_name, name_word, is_other_name, other_name, read_as}
 use Rattle.sql_ast.specs.Commands.{CommandTree, deallocates, deallocates_all}
 
 -- dealloc = "DEALLOCATE" [ "PREPARE" ] ( name | "ALL" ), where TRANSACTION is no name behind PREPARE

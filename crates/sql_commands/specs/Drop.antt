@@ -1,15 +1,15 @@
 -- DROP TABLE (VI. SQL Commands).
 use Rattle.std.specs.Prelude.{ℕ, Bool, true, false, List, [], ◌∷◌, Option}
-use Rattle.grammar_rules.specs.Reading.{Class, Rule, one, nothing, follow, as_value, either}
-use Rattle.grammar_rules.specs.Repeats.{second_of}
+use Rattle.grammar.specs.Reading.{Class, Rule, one, nothing, follow, as_value, either}
+use Rattle.grammar.specs.Repeats.{second_of}
 use Rattle.sql_tokens.specs.Words as words
 use Rattle.sql_tokens.specs.declared.kind.Kind.{Kind}
 use Rattle.sql_tokens.specs.declared.kind.Kind.TheVariants as word
 use Rattle.sql_tokens.specs.declared.token.Token.{Token}
-use Rattle.grammar_words.specs.Words.{◌>>◌, ◌&◌, one_of, means, maybe}
+use Rattle.grammar.specs.Words.{◌>>◌, ◌&◌, one_of, means, maybe}
 use Rattle.sql_tokens.specs.Classes.{a}
 use Rattle.sql_expressions.specs.Words.{either_if, name}
-use Rattle.sql_lists.specs.Lists.{commas, more_commas, plain_name, name_word, read_as}
+use Rattle.sql_expressions.specs.Lists.{commas, more_commas, plain_name, name_word, read_as}
 use Rattle.sql_ast.specs.Commands.{CommandTree, drops}
 
 -- drop = "DROP" "TABLE" [ "IF" "EXISTS" ] name { "," name } [ "CASCADE" | "RESTRICT" ]

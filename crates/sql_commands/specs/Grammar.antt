@@ -1,7 +1,7 @@
 -- The grammar of commands (VI. SQL Commands: BEGIN, COMMIT, ROLLBACK, SET, RESET, CREATE TABLE, DROP TABLE, ALTER TABLE, LOCK, DEALLOCATE).
 -- What a name or a number says stands in the text, so rules of names take the text.
 use Rattle.std.specs.Prelude.{ℕ, ◌||◌, List}
-use Rattle.grammar_rules.specs.Reading.{Class, Rule, either}
+use Rattle.grammar.specs.Reading.{Class, Rule, either}
 use Rattle.sql_tokens.specs.declared.kind.Kind.TheVariants as word
 use Rattle.sql_tokens.specs.declared.token.Token.{Token}
 use Rattle.sql_tokens.specs.Classes.{a}

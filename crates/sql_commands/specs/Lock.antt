@@ -1,15 +1,15 @@
 -- LOCK (VI. SQL Commands).
 use Rattle.std.specs.Prelude.{ℕ, true, false, if◌then◌else◌, List, Option, Some, None}
-use Rattle.grammar_rules.specs.Reading.{Class, Rule, one, nothing, as_value, either}
+use Rattle.grammar.specs.Reading.{Class, Rule, one, nothing, as_value, either}
 use Rattle.sql_tokens.specs.declared.kind.Kind.TheVariants as word
 use Rattle.sql_tokens.specs.declared.token.Token.{Token}
-use Rattle.grammar_words.specs.Words.{◌>>◌, ◌<<◌, ◌&◌, one_of, means, maybe}
+use Rattle.grammar.specs.Words.{◌>>◌, ◌<<◌, ◌&◌, one_of, means, maybe}
 use Rattle.sql_tokens.specs.Classes.{a}
 use Rattle.sql_expressions.specs.Words.{name}
-use Rattle.sql_lists.specs.Lists.{commas, plain_name}
+use Rattle.sql_expressions.specs.Lists.{commas, plain_name}
 use Rattle.sql_ast.specs.Commands.{CommandTree, locks}
-use Rattle.pg_ids.specs.declared.lock_mode.LockMode.{LockMode}
-use Rattle.pg_ids.specs.declared.lock_mode.LockMode.TheVariants as mode
+use Rattle.pg_values.specs.declared.lock_mode.LockMode.{LockMode}
+use Rattle.pg_values.specs.declared.lock_mode.LockMode.TheVariants as mode
 use Rattle.sql_ast.specs.declared.locked_table.LockedTable.{LockedTable}
 
 -- lock = "LOCK" [ "TABLE" ] [ "ONLY" ] name { "," [ "ONLY" ] name } [ "IN" mode "MODE" ]

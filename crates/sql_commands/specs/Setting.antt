@@ -1,13 +1,13 @@
 -- Settings (VI. SQL Commands: SET, RESET).
 use Rattle.std.specs.Prelude.{ℕ, ◌||◌, if◌then◌else◌, ◌==◌, List, [], ◌∷◌}
-use Rattle.grammar_rules.specs.Reading.{Class, Rule, one, as_value, either}
+use Rattle.grammar.specs.Reading.{Class, Rule, one, as_value, either}
 use Rattle.sql_tokens.specs.Contents.{bytes_of, name_in}
 use Rattle.sql_tokens.specs.declared.kind.Kind.TheVariants as word
 use Rattle.sql_tokens.specs.declared.token.Token.{Token}
-use Rattle.grammar_words.specs.Words.{◌>>◌, ◌&◌, one_of}
+use Rattle.grammar.specs.Words.{◌>>◌, ◌&◌, one_of}
 use Rattle.sql_tokens.specs.Classes.{a, a_name}
 use Rattle.sql_expressions.specs.Words.{is_long_name, no_longer, string}
-use Rattle.sql_lists.specs.Lists.{plain_name, other_name}
+use Rattle.sql_expressions.specs.Lists.{plain_name, other_name}
 use Rattle.sql_ast.specs.Commands.{CommandTree, sets, resets}
 use Rattle.sql_ast.specs.declared.setting_value.SettingValue.{SettingValue}
 use Rattle.sql_ast.specs.declared.setting_value.SettingValue.TheVariants as setting

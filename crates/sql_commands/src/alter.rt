@@ -1,14 +1,13 @@
 ghost use Rattle.std.specs.Prelude.{◌≡◌};
-ghost use Rattle.grammar_rules.specs.Gives.{Gives};
+ghost use Rattle.grammar.specs.Gives.{Gives};
 ghost use Rattle.sql_commands.specs.Alter as grammar;
 ghost use Rattle.sql_ast.specs.Commands.{command_tree};
 
 use crate::bound::bound;
-use grammar_rules::Refused;
-use grammar_words::{comes, word};
+use grammar::{Refused, comes, word};
 use pg_values::PgText;
 use sql_ast::{Command, Detachment};
-use sql_lists::{maybe_one_of, plain_name};
+use sql_expressions::{maybe_one_of, plain_name};
 use sql_tokens::{Kind, Token, same_kind};
 use std::alloc::Global;
 

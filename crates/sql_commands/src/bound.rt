@@ -1,14 +1,12 @@
 ghost use Rattle.std.specs.Prelude.{◌≡◌, map, take};
-ghost use Rattle.grammar_rules.specs.Gives.{Gives};
+ghost use Rattle.grammar.specs.Gives.{Gives};
 ghost use Rattle.sql_ast.specs.Expressions.{tree};
 ghost use Rattle.sql_commands.specs.Bound as grammar;
 ghost use Rattle.sql_ast.specs.Commands.{bound_tree, edge_tree};
 
-use grammar_rules::Refused;
-use grammar_words::{Part, comes, separated, word};
+use grammar::{Part, Refused, comes, separated, word};
 use sql_ast::{BoundText, EdgeList, EdgeText, Expr, ExprList};
-use sql_expressions::{ExprPart, expression};
-use sql_lists::number;
+use sql_expressions::{ExprPart, expression, number};
 use sql_tokens::{Kind, Token, same_kind};
 use std::alloc::Global;
 

@@ -1,8 +1,8 @@
 ghost use Rattle.std.specs.Prelude.{◌≡◌, ℕ, List, Result};
-ghost use Rattle.grammar_rules.specs.Gives.{Gives};
-ghost use Rattle.grammar_rules.specs.Parses.{Parses};
-ghost use Rattle.grammar_rules.specs.Reading.{begins_in, read_whole};
-ghost use Rattle.grammar_rules.specs.declared.refused.Refused.{Refused as OneRefusal};
+ghost use Rattle.grammar.specs.Gives.{Gives};
+ghost use Rattle.grammar.specs.Parses.{Parses};
+ghost use Rattle.grammar.specs.Reading.{begins_in, read_whole};
+ghost use Rattle.grammar.specs.declared.refused.Refused.{Refused as OneRefusal};
 ghost use Rattle.sql_commands.specs.Grammar as grammar;
 ghost use Rattle.sql_ast.specs.Commands.{CommandTree, command_tree};
 ghost use Rattle.sql_tokens.specs.declared.token.Token.{Token as OneToken};
@@ -14,10 +14,9 @@ use crate::drop::drop_tables;
 use crate::lock::lock;
 use crate::setting::set;
 use crate::transaction::{begin, finish, finish_comes};
-use grammar_rules::Refused;
-use grammar_words::comes;
+use grammar::{Refused, comes};
 use sql_ast::Command;
-use sql_lists::one_of_comes;
+use sql_expressions::one_of_comes;
 use sql_tokens::{Kind, Token};
 use std::alloc::Global;
 

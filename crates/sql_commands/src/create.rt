@@ -1,13 +1,12 @@
-ghost use Rattle.grammar_rules.specs.Gives.{Gives};
+ghost use Rattle.grammar.specs.Gives.{Gives};
 ghost use Rattle.sql_commands.specs.Create as grammar;
 ghost use Rattle.sql_ast.specs.Commands.{command_tree};
 
 use crate::bound::bound;
-use grammar_rules::{Refused, split};
-use grammar_words::{Part, comes, separated, word};
+use grammar::{Part, Refused, comes, separated, split, word};
 use pg_values::PgText;
 use sql_ast::{ColumnDefinition, ColumnList, Command, NameList, Partitioning, Strategy};
-use sql_lists::{names, plain_name};
+use sql_expressions::{names, plain_name};
 use sql_tokens::{Kind, Token, same_kind};
 use std::alloc::Global;
 

@@ -1,13 +1,11 @@
-ghost use Rattle.grammar_rules.specs.Gives.{Gives};
+ghost use Rattle.grammar.specs.Gives.{Gives};
 ghost use Rattle.sql_commands.specs.Deallocate as grammar;
 ghost use Rattle.sql_ast.specs.Commands.{command_tree};
 
-use grammar_rules::Refused;
-use grammar_words::{comes, word};
+use grammar::{Refused, comes, word};
 use pg_values::PgText;
 use sql_ast::Command;
-use sql_expressions::name;
-use sql_lists::{other_name, other_name_comes};
+use sql_expressions::{name, other_name, other_name_comes};
 use sql_tokens::{Kind, Token, same_kind};
 use std::alloc::Global;
 

@@ -1,12 +1,11 @@
-ghost use Rattle.grammar_rules.specs.Gives.{Gives};
+ghost use Rattle.grammar.specs.Gives.{Gives};
 ghost use Rattle.sql_commands.specs.Lock as grammar;
 ghost use Rattle.sql_ast.specs.Commands.{command_tree};
 
-use grammar_rules::Refused;
-use grammar_words::{Part, comes, maybe_word, separated, word};
-use pg_ids::LockMode;
+use grammar::{Part, Refused, comes, maybe_word, separated, word};
+use pg_values::LockMode;
 use sql_ast::{Command, LockedTable, LockedTableList};
-use sql_lists::{one_of, plain_name};
+use sql_expressions::{one_of, plain_name};
 use sql_tokens::{Kind, Token, same_kind};
 use std::alloc::Global;
 

@@ -1,15 +1,13 @@
 ghost use Rattle.std.specs.Prelude.{◌≡◌};
-ghost use Rattle.grammar_rules.specs.Gives.{Gives};
+ghost use Rattle.grammar.specs.Gives.{Gives};
 ghost use Rattle.sql_commands.specs.Setting as grammar;
 ghost use Rattle.sql_ast.specs.Commands.{command_tree};
 ghost use Rattle.sql_tokens.specs.Contents as contents;
 
-use grammar_rules::{Refused, split};
-use grammar_words::{comes, word};
+use grammar::{Refused, comes, split, word};
 use pg_values::PgText;
 use sql_ast::{Command, SettingValue};
-use sql_expressions::{MOST_NAME_BYTES, string};
-use sql_lists::{one_of, other_name, plain_name};
+use sql_expressions::{MOST_NAME_BYTES, one_of, other_name, plain_name, string};
 use sql_tokens::{Kind, Token, is_name, name_of, same_kind};
 use std::alloc::Global;
 

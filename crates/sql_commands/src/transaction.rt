@@ -1,13 +1,12 @@
 ghost use Rattle.std.specs.Prelude.{◌≡◌};
-ghost use Rattle.grammar_rules.specs.Gives.{Gives};
-ghost use Rattle.grammar_rules.specs.Reading.{begins_in, read_one};
+ghost use Rattle.grammar.specs.Gives.{Gives};
+ghost use Rattle.grammar.specs.Reading.{begins_in, read_one};
 ghost use Rattle.sql_commands.specs.Transaction as grammar;
 ghost use Rattle.sql_ast.specs.Commands.{command_tree};
 
-use grammar_rules::{Refused, split};
-use grammar_words::{comes, word};
+use grammar::{Refused, comes, split, word};
 use sql_ast::{Command, Isolation};
-use sql_lists::{maybe_one_of, one_of_comes};
+use sql_expressions::{maybe_one_of, one_of_comes};
 use sql_tokens::{Kind, Token, same_kind};
 
 /// What stands behind READ.

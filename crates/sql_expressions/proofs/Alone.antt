@@ -1,7 +1,7 @@
 -- A chain whose first part was read: it goes on behind that part, and ends there where no sign comes.
 use Rattle.std.proofs.Common.{◌≡◌, ℕ, zero, suc, Bool, false, List, length, refl, ap, ◌∙◌, Ok}
-use Rattle.grammar_rules.specs.Reading.{Class, Reading, Rule, as_value, begins_in}
-use Rattle.grammar_rules.specs.Repeats.{chain_by, read_repeats, read_step, repeats}
+use Rattle.grammar.specs.Reading.{Class, Reading, Rule, as_value, begins_in}
+use Rattle.grammar.specs.Repeats.{chain_by, read_repeats, read_step, repeats}
 use Rattle.sql_tokens.specs.declared.token.Token.{Token}
 use Rattle.sql_expressions.specs.Levels.{Deep, only_part}
 use Rattle.sql_expressions.specs.Views.{joint_value}

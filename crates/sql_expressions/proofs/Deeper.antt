@@ -1,10 +1,10 @@
 -- The readers of one depth, by those of the depth below.
 use Rattle.std.proofs.Common.{◌≡◌, ℕ, suc, ◌<◌, Bool, true, List, length, refl, sym, subst, arith, Ok, Err}
-use Rattle.grammar_rules.specs.Reading.{Class, Reading, Rule, given, ◌>>=◌, begins_in}
-use Rattle.grammar_rules.specs.Gives.{Gives}
-use Rattle.grammar_rules.specs.Repeats.{second_of, chain_by, read_repeats}
-use Rattle.grammar_rules.specs.declared.refused.Refused.{Refused}
-use Rattle.grammar_rules.proofs.Whole.{gives_by}
+use Rattle.grammar.specs.Reading.{Class, Reading, Rule, given, ◌>>=◌, begins_in}
+use Rattle.grammar.specs.Gives.{Gives}
+use Rattle.grammar.specs.Repeats.{second_of, chain_by, read_repeats}
+use Rattle.grammar.specs.declared.refused.Refused.{Refused}
+use Rattle.grammar.proofs.Whole.{gives_by}
 use Rattle.std.specs.Prelude.{Result}
 use Rattle.sql_tokens.specs.declared.kind.Kind.{Kind}
 use Rattle.sql_tokens.specs.declared.kind.Kind.TheVariants as word

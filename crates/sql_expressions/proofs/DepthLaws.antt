@@ -1,10 +1,10 @@
 -- Expressions without limits are what their levels make of them: no depth is passed by one level more.
 use Rattle.std.proofs.Common.{ℕ, zero, suc, Bool, true, false, List, [], inl, inr}
-use Rattle.grammar_rules.specs.Depths.{AtSome}
-use Rattle.grammar_rules.specs.Reading.{Class, one_texts, nothing_texts, both_texts, follow_texts, value_texts, either_texts, one, as_value}
-use Rattle.grammar_rules.specs.Repeats.{repeats_texts, always, second_of}
-use Rattle.grammar_rules.proofs.Depths.{Inside, Grows, Union, grows_by, fixed, follow_union, both_union, value_union, either_union, repeats_union}
-use Rattle.grammar_rules.proofs.Depths as depths
+use Rattle.grammar.specs.Depths.{AtSome}
+use Rattle.grammar.specs.Reading.{Class, one_texts, nothing_texts, both_texts, follow_texts, value_texts, either_texts, one, as_value}
+use Rattle.grammar.specs.Repeats.{repeats_texts, always, second_of}
+use Rattle.grammar.proofs.Depths.{Inside, Grows, Union, grows_by, fixed, follow_union, both_union, value_union, either_union, repeats_union}
+use Rattle.grammar.proofs.Depths as depths
 use Rattle.sql_tokens.specs.declared.kind.Kind.{Kind}
 use Rattle.sql_tokens.specs.declared.kind.Kind.TheVariants as word
 use Rattle.sql_tokens.specs.declared.token.Token.{Token}

@@ -1,11 +1,11 @@
 -- Each level keeps the law, in any room, if its operands do; where no more has room, they need not.
 use Rattle.std.proofs.Common.{◌≡◌, ℕ, Bool, true, false, ◌||◌, List, [], ◌∷◌, ◌++◌, inl, inr, refl, sym, ◌∙◌, ap, subst}
 use Rattle.std.proofs.lemmas.List.{append-nil}
-use Rattle.grammar_rules.specs.Reading.{Class, Rule, one, one_texts, nothing, both_texts, value_texts, either_texts, as_value, either}
-use Rattle.grammar_rules.specs.Repeats.{second_of, always}
-use Rattle.grammar_rules.proofs.Laws.{Law, Disjoint, head_eq, or_true_left, or_true_right}
-use Rattle.grammar_rules.proofs.Chain.{none, with, or_false}
-use Rattle.grammar_rules.proofs.Build.{token, empty, valued, wide, seq, then_by, alt, after_token, before_token, chained_by}
+use Rattle.grammar.specs.Reading.{Class, Rule, one, one_texts, nothing, both_texts, value_texts, either_texts, as_value, either}
+use Rattle.grammar.specs.Repeats.{second_of, always}
+use Rattle.grammar.proofs.Laws.{Law, Disjoint, head_eq, or_true_left, or_true_right}
+use Rattle.grammar.proofs.Chain.{none, with, or_false}
+use Rattle.grammar.proofs.Build.{token, empty, valued, wide, seq, then_by, alt, after_token, before_token, chained_by}
 use Rattle.sql_tokens.specs.declared.kind.Kind.{Kind}
 use Rattle.sql_tokens.specs.declared.kind.Kind.TheVariants as word
 use Rattle.sql_tokens.specs.declared.token.Token.{Token}

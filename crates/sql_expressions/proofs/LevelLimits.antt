@@ -1,9 +1,9 @@
 -- Each level keeps the limits. Where the texts of what it begins with are those without limits of a depth of at most n,
 -- and the texts of its other operands those less deep than n, its own are those of a depth of at most n.
 use Rattle.std.proofs.Common.{◌≡◌, ℕ, suc, ◌<◌, ◌≤◌, max, zero-le, Bool, true, false, List, [], ◌∷◌, ◌++◌, inl, inr, refl, sym, ap, subst, arith}
-use Rattle.grammar_rules.specs.Reading.{Class, Rule, one_texts, both_texts, value_texts, either_texts, as_value}
-use Rattle.grammar_rules.specs.Repeats.{always, second_of}
-use Rattle.grammar_rules.proofs.Laws.{Disjoint}
+use Rattle.grammar.specs.Reading.{Class, Rule, one_texts, both_texts, value_texts, either_texts, as_value}
+use Rattle.grammar.specs.Repeats.{always, second_of}
+use Rattle.grammar.proofs.Laws.{Disjoint}
 use Rattle.sql_tokens.specs.declared.kind.Kind.{Kind}
 use Rattle.sql_tokens.specs.declared.kind.Kind.TheVariants as word
 use Rattle.sql_tokens.specs.declared.token.Token.{Token}
@@ -11,7 +11,7 @@ use Rattle.sql_expressions.specs.Grammar.{below}
 use Rattle.sql_expressions.specs.Levels.{Deep, Parts, Rules, flat, under, deeper, itself, join, only_part, add_part, node_of, has_room, parts_room, list_of, all_call, call_value, arguments, call_of, behind_name, named_leaf, nested, unary, chain, is_comparison, in_value, between_value, in_or_between, tested, maybe_tested, test, compared_value, compared, maybe_compared, comparison, said, null_or_not, null_join, nullity, inverted_by, negation, parts, all_value, any_value, conjunction, disjunction}
 use Rattle.sql_expressions.specs.Limits.{IsShort}
 use Rattle.sql_ast.specs.Expressions.{Tree, negated, inverted, all_of, any_of, listed}
-use Rattle.grammar_words.specs.Words.{◌>>◌, ◌<<◌, ◌&◌}
+use Rattle.grammar.specs.Words.{◌>>◌, ◌<<◌, ◌&◌}
 use Rattle.sql_tokens.specs.Classes.{a}
 use Rattle.sql_expressions.proofs.LevelLaws.{within_any}
 use Rattle.sql_expressions.proofs.Limited.{Of, Joins, Limited, adapt, given, granted, one_limited, nothing_limited, both_limited, follow_limited, value_limited, sign_limited, behind_limited, before_limited, either_limited, room_limited, chain_limited}

@@ -3,9 +3,9 @@
 use Rattle.std.proofs.Common.{◌≡◌, ℕ, zero, suc, Bool, true, false, not, ◌&&◌, ◌||◌, List, [], ◌∷◌, inl, inr, refl, sym}
 use Rattle.std.specs.Prelude.{◌⊎◌}
 use Rattle.std.proofs.lemmas.List.{append-nil}
-use Rattle.grammar_rules.specs.Depths.{AtSome}
-use Rattle.grammar_rules.specs.Reading.{Class, Rule, nothing_texts, follow_texts, value_texts, either_texts, nothing, as_value}
-use Rattle.grammar_rules.specs.Repeats.{always, second_of}
+use Rattle.grammar.specs.Depths.{AtSome}
+use Rattle.grammar.specs.Reading.{Class, Rule, nothing_texts, follow_texts, value_texts, either_texts, nothing, as_value}
+use Rattle.grammar.specs.Repeats.{always, second_of}
 use Rattle.sql_tokens.specs.Contents.{string_in}
 use Rattle.sql_tokens.specs.Words as words
 use Rattle.sql_tokens.specs.declared.kind.Kind.{Kind}

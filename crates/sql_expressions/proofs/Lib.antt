@@ -5,6 +5,7 @@ pub mod LevelLaws
 pub mod LevelLimits
 pub mod LevelPlaces
 pub mod Limited
+pub mod ListLaws
 pub mod ParseLaws
 pub mod Places
 pub mod RoomLaws

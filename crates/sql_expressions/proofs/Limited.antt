@@ -2,9 +2,9 @@
 use Rattle.std.proofs.Common.{◌≡◌, Bool, true, false, ◌&&◌, not, List, [], ◌∷◌, ◌++◌, inl, inr, refl, sym, ◌∙◌, subst}
 use Rattle.std.proofs.lemmas.List.Elements.{All-nil, All-cons, All-head, All-tail}
 use Rattle.std.specs.Prelude.{All}
-use Rattle.grammar_rules.specs.Reading.{Class, one_texts, nothing_texts, both_texts, follow_texts, value_texts, either_texts}
-use Rattle.grammar_rules.specs.Repeats.{all_repeats, repeats_texts, always, step_to, second_of}
-use Rattle.grammar_rules.proofs.Depths.{Inside}
+use Rattle.grammar.specs.Reading.{Class, one_texts, nothing_texts, both_texts, follow_texts, value_texts, either_texts}
+use Rattle.grammar.specs.Repeats.{all_repeats, repeats_texts, always, step_to, second_of}
+use Rattle.grammar.proofs.Depths.{Inside}
 use Rattle.sql_tokens.specs.declared.token.Token.{Token}
 use Rattle.sql_expressions.specs.Levels.{room_texts}
 use Rattle.sql_expressions.specs.Words.{no_longer}

@@ -1,18 +1,18 @@
 -- What a text is read as, or where it is refused, from the law of its rule.
 use Rattle.std.proofs.Common.{◌≡◌, ℕ, Bool, true, false, cond, List, [], ◌∷◌, Option, Some, None, Result, Ok, Err, refl, sym, subst}
 use Rattle.std.specs.Prelude.{MatchResult}
-use Rattle.grammar_rules.specs.Gives.{Gives, Refuses}
-use Rattle.grammar_rules.specs.Parses.{FailsAt, Parses, SameNext}
-use Rattle.grammar_rules.specs.Reading.{Class, Rule, read_whole}
-use Rattle.grammar_rules.specs.declared.refused.Refused.{Refused}
-use Rattle.grammar_rules.specs.declared.refused.Refused.TheVariants as refused
-use Rattle.grammar_rules.proofs.Laws.{Law}
-use Rattle.grammar_rules.proofs.Whole.{parses}
+use Rattle.grammar.specs.Gives.{Gives, Refuses}
+use Rattle.grammar.specs.Parses.{FailsAt, Parses, SameNext}
+use Rattle.grammar.specs.Reading.{Class, Rule, read_whole}
+use Rattle.grammar.specs.declared.refused.Refused.{Refused}
+use Rattle.grammar.specs.declared.refused.Refused.TheVariants as refused
+use Rattle.grammar.proofs.Laws.{Law}
+use Rattle.grammar.proofs.Whole.{parses}
 use Rattle.sql_tokens.specs.Contents.{called}
 use Rattle.sql_tokens.specs.Tokens.{tokens_of}
 use Rattle.sql_tokens.specs.Words.{is_left_out}
 use Rattle.sql_tokens.specs.declared.token.Token.{Token}
-use Rattle.grammar_words.specs.Places.{token_at}
+use Rattle.grammar.specs.Places.{token_at}
 use Rattle.sql_expressions.specs.Parsed.{IsRefused, ParsesText, LimitOf, misfit, refusal_of}
 use Rattle.sql_expressions.specs.declared.refused.ParseRefused.{ParseRefused}
 use Rattle.sql_expressions.specs.declared.refused.ParseRefused.TheVariants as refusals

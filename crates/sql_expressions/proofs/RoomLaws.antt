@@ -1,10 +1,10 @@
 -- A rule that stands only where there is room keeps the law.
 use Rattle.std.proofs.Common.{◌≡◌, Bool, true, false, ◌&&◌, ◌||◌, List, [], ◌∷◌, ◌++◌, length, Ok, Err, cond, inl, inr, refl, sym, ◌∙◌, subst}
-use Rattle.grammar_rules.specs.Reading.{Class, Reading, syntax_at, limit_at, Rule, begins_in, either_texts, barred}
-use Rattle.grammar_rules.proofs.Laws.{Stops, SameHead, Fails, Reads, Law, Disjoint, or_true_left, or_true_right, head_eq, same_head, stops_left, stops_right, stops_if}
-use Rattle.grammar_rules.proofs.Either.{either_law, either_goes_on}
-use Rattle.grammar_rules.proofs.Build.{said, wide}
-use Rattle.grammar_rules.proofs.Depths.{Inside}
+use Rattle.grammar.specs.Reading.{Class, Reading, syntax_at, limit_at, Rule, begins_in, either_texts, barred}
+use Rattle.grammar.proofs.Laws.{Stops, SameHead, Fails, Reads, Law, Disjoint, or_true_left, or_true_right, head_eq, same_head, stops_left, stops_right, stops_if}
+use Rattle.grammar.proofs.Either.{either_law, either_goes_on}
+use Rattle.grammar.proofs.Build.{said, wide}
+use Rattle.grammar.proofs.Depths.{Inside}
 use Rattle.sql_tokens.specs.declared.token.Token.{Token}
 use Rattle.sql_expressions.specs.Levels.{if_room}
 

@@ -1,8 +1,8 @@
 -- Expressions of each depth keep the law, and so does the rule of expressions.
 use Rattle.std.proofs.Common.{◌≡◌, ℕ, zero, suc, true, false, List, [], ◌∷◌, inr, refl, sym}
 use Rattle.std.proofs.lemmas.List.{append-nil}
-use Rattle.grammar_rules.proofs.Laws.{Law}
-use Rattle.grammar_rules.proofs.Build.{said, valued}
+use Rattle.grammar.proofs.Laws.{Law}
+use Rattle.grammar.proofs.Build.{said, valued}
 use Rattle.sql_tokens.specs.declared.kind.Kind.TheVariants as word
 use Rattle.sql_tokens.specs.declared.token.Token.{Token}
 use Rattle.sql_ast.specs.declared.leaf.Leaf.TheVariants as leaf

@@ -4,7 +4,7 @@ use lib.ListN.{length-map}
 use Rattle.std.specs.Char.{to_ascii_lowercase}
 use Rattle.std.specs.Prelude.{Contains, nat_lt}
 use Rattle.std.specs.Str.{is_utf8}
-use Rattle.grammar_rules.specs.Reading.{Class}
+use Rattle.grammar.specs.Reading.{Class}
 use Rattle.sql_tokens.specs.Bytes.{belongs, past}
 use Rattle.sql_tokens.specs.Comments.{closed, comment_end, minus, slash}
 use Rattle.sql_tokens.specs.Contents.{bytes_of}

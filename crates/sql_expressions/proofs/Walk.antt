@@ -3,11 +3,11 @@
 use Rattle.std.proofs.Common.{◌≡◌, ℕ, zero, suc, Bool, true, false, not, ◌||◌, if◌then◌else◌, List, [], ◌∷◌, ◌++◌, inl, inr, refl, sym, ◌∙◌, ap, subst, eqb-true}
 use Rattle.std.specs.Prelude.{◌⊎◌, nat_eq}
 use Rattle.std.proofs.lemmas.List.{append-nil, append_assoc}
-use Rattle.grammar_rules.specs.KindClasses.{every}
-use Rattle.grammar_rules.specs.Reading.{Class, one_texts, nothing_texts, both_texts, follow_texts, value_texts, either_texts}
-use Rattle.grammar_rules.specs.Repeats.{all_repeats, repeats_texts, step_to, second_of}
-use Rattle.grammar_rules.proofs.Depths.{Inside, value_inside}
-use Rattle.grammar_rules.proofs.Laws.{head_eq, tail_eq}
+use Rattle.grammar.specs.KindClasses.{every}
+use Rattle.grammar.specs.Reading.{Class, one_texts, nothing_texts, both_texts, follow_texts, value_texts, either_texts}
+use Rattle.grammar.specs.Repeats.{all_repeats, repeats_texts, step_to, second_of}
+use Rattle.grammar.proofs.Depths.{Inside, value_inside}
+use Rattle.grammar.proofs.Laws.{head_eq, tail_eq}
 use Rattle.sql_tokens.specs.Words as words
 use Rattle.sql_tokens.specs.declared.kind.Kind.{Kind}
 use Rattle.sql_tokens.specs.declared.kind.Kind.TheVariants as word

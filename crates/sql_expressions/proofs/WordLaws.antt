@@ -1,12 +1,12 @@
 -- Rules of one token or a few keep the law.
 use Rattle.std.proofs.Common.{◌≡◌, ℕ, Bool, true, false, ◌&&◌, ◌||◌, not, List, [], refl, sym, subst}
-use Rattle.grammar_rules.specs.KindClasses.{every}
-use Rattle.grammar_rules.specs.Reading.{Class, Rule, one_texts, nothing, as_value}
-use Rattle.grammar_rules.specs.Repeats.{second_of}
-use Rattle.grammar_rules.proofs.Laws.{Law, Disjoint, Within, head_eq}
-use Rattle.grammar_rules.proofs.Chain.{none}
-use Rattle.grammar_rules.proofs.KindClasses as sides
-use Rattle.grammar_rules.proofs.Build.{token, empty, valued, wide, then_by, alt, after_token, bar}
+use Rattle.grammar.specs.KindClasses.{every}
+use Rattle.grammar.specs.Reading.{Class, Rule, one_texts, nothing, as_value}
+use Rattle.grammar.specs.Repeats.{second_of}
+use Rattle.grammar.proofs.Laws.{Law, Disjoint, Within, head_eq}
+use Rattle.grammar.proofs.Chain.{none}
+use Rattle.grammar.proofs.KindClasses as sides
+use Rattle.grammar.proofs.Build.{token, empty, valued, wide, then_by, alt, after_token, bar}
 use Rattle.sql_tokens.specs.Contents.{string_in}
 use Rattle.sql_tokens.specs.Words as words
 use Rattle.sql_tokens.specs.declared.kind.Kind.{Kind}

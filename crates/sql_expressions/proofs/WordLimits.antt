@@ -1,9 +1,9 @@
 -- Rules of one token or a few have no tokens that are too long, and those without limits have no others.
 use Rattle.std.proofs.Common.{◌≡◌, ℕ, Bool, true, false, ◌&&◌, ◌||◌, not, List, refl, eqb-true}
 use Rattle.std.specs.Prelude.{Contains}
-use Rattle.grammar_rules.specs.Reading.{Class, Rule, nothing, as_value}
-use Rattle.grammar_rules.specs.Repeats.{second_of}
-use Rattle.grammar_rules.proofs.Laws.{Disjoint}
+use Rattle.grammar.specs.Reading.{Class, Rule, nothing, as_value}
+use Rattle.grammar.specs.Repeats.{second_of}
+use Rattle.grammar.proofs.Laws.{Disjoint}
 use Rattle.sql_tokens.specs.Contents.{string_in}
 use Rattle.sql_tokens.specs.Tokens.{tokens_of}
 use Rattle.sql_tokens.specs.Words as words

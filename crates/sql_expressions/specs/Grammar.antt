@@ -1,7 +1,7 @@
 -- Expressions of any depth, and those of a depth of at most n (4.2 Value Expressions).
 use Rattle.std.specs.Prelude.{ℕ, zero, suc, true, false, nat_lt, List, Err, ◌⊎◌}
-use Rattle.grammar_rules.specs.Depths.{AtSome}
-use Rattle.grammar_rules.specs.Reading.{Rule, syntax_at, as_value}
+use Rattle.grammar.specs.Depths.{AtSome}
+use Rattle.grammar.specs.Reading.{Rule, syntax_at, as_value}
 use Rattle.sql_tokens.specs.declared.token.Token.{Token}
 use Rattle.sql_ast.specs.Expressions.{Tree}
 use Rattle.sql_expressions.specs.Levels.{Deep, Room, Rules, unary, chain, is_product, is_sum, test, comparison, nullity, negation, conjunction, disjunction}

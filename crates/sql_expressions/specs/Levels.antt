@@ -1,8 +1,8 @@
 -- The levels of expressions, from the tightest to the loosest (4.1.6 Operator Precedence). Each level takes the rules
 -- of its operands, and says by `room` where one more operator, call or pair of parentheses may stand.
 use Rattle.std.specs.Prelude.{ℕ, suc, Bool, true, false, ◌||◌, if◌then◌else◌, List, [], ◌∷◌, ◌++◌, length, max, Err}
-use Rattle.grammar_rules.specs.Reading.{Class, Rule, one, nothing, follow, as_value, either, either_texts, begins_in, limit_at}
-use Rattle.grammar_rules.specs.Repeats.{second_of, chain_by, always}
+use Rattle.grammar.specs.Reading.{Class, Rule, one, nothing, follow, as_value, either, either_texts, begins_in, limit_at}
+use Rattle.grammar.specs.Repeats.{second_of, chain_by, always}
 use Rattle.sql_tokens.specs.declared.kind.Kind.{Kind}
 use Rattle.sql_tokens.specs.declared.kind.Kind.TheVariants as word
 use Rattle.sql_tokens.specs.declared.token.Token.{Token}
@@ -10,7 +10,7 @@ use Rattle.sql_ast.specs.declared.leaf.Leaf.{Leaf}
 use Rattle.sql_ast.specs.declared.leaf.Operator.{Operator}
 use Rattle.sql_ast.specs.declared.leaf.Operator.TheVariants as operator
 use Rattle.sql_ast.specs.Expressions.{Tree, leaf, call, call_of_all, negated, binary, in_list, between, is_null, inverted, all_of, any_of, listed}
-use Rattle.grammar_words.specs.Words.{◌>>◌, ◌<<◌, ◌&◌}
+use Rattle.grammar.specs.Words.{◌>>◌, ◌<<◌, ◌&◌}
 use Rattle.sql_tokens.specs.Classes.{a, a_name}
 use Rattle.sql_expressions.specs.Words.{name, literal, a_literal, column}
 

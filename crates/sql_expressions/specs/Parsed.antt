@@ -1,12 +1,12 @@
 -- What a parser of a text of SQL promises: the one value of the text, or the refusal at the first token that does not fit.
 use Rattle.std.specs.Prelude.{◌≡◌, ℕ, if◌then◌else◌, List, length, Option, Some, None, Result, Ok, Err}
-use Rattle.grammar_rules.specs.Parses.{IsOnly, FailsAt, GoesOn}
-use Rattle.grammar_rules.specs.Reading.{Rule}
-use Rattle.grammar_rules.specs.declared.refused.Refused.{Refused}
-use Rattle.grammar_rules.specs.declared.refused.Refused.TheVariants as refused
-use Rattle.grammar_words.specs.Places.{token_at}
-use Rattle.pg_ids.specs.declared.which.Which.{Which}
-use Rattle.pg_ids.specs.declared.which.Which.TheVariants as which
+use Rattle.grammar.specs.Parses.{IsOnly, FailsAt, GoesOn}
+use Rattle.grammar.specs.Reading.{Rule}
+use Rattle.grammar.specs.declared.refused.Refused.{Refused}
+use Rattle.grammar.specs.declared.refused.Refused.TheVariants as refused
+use Rattle.grammar.specs.Places.{token_at}
+use Rattle.pg_values.specs.declared.which.Which.{Which}
+use Rattle.pg_values.specs.declared.which.Which.TheVariants as which
 use Rattle.sql_tokens.specs.Contents.{called}
 use Rattle.sql_tokens.specs.Tokens.{tokens_of}
 use Rattle.sql_tokens.specs.Words.{is_left_out}

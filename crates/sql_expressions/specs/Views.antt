@@ -1,11 +1,11 @@
 -- How the code sees what it reads, and its levels by number.
 use Rattle.std.specs.Prelude.{◌≡◌, ◌<◌, ◌≤◌, ◌⊎◌, ℕ, List, length, map}
-use Rattle.grammar_rules.specs.Reading.{Class, Rule}
+use Rattle.grammar.specs.Reading.{Class, Rule}
 use Rattle.sql_tokens.specs.declared.kind.Kind.TheVariants as word
 use Rattle.sql_tokens.specs.declared.token.Token.{Token}
 use Rattle.sql_expressions.specs.Levels as level
-use Rattle.grammar_rules.specs.Reading.{as_value}
-use Rattle.grammar_rules.specs.Repeats.{repeats}
+use Rattle.grammar.specs.Reading.{as_value}
+use Rattle.grammar.specs.Repeats.{repeats}
 use Rattle.sql_expressions.specs.Grammar.{any, below, comparison_at, freed, nullity_at, rules, under_depth}
 use Rattle.sql_ast.specs.Expressions.{tree}
 use Rattle.sql_tokens.specs.Classes.{a}

@@ -1,9 +1,9 @@
 -- Rules of one token or a few: words and signs, names, and expressions without operands (4.1 Lexical Structure; 4.2.1 Column References).
 -- What a name or a number says stands in the text, so rules of names take the text.
 use Rattle.std.specs.Prelude.{ℕ, Bool, true, false, ◌&&◌, ◌||◌, not, if◌then◌else◌, nat_lt, List, length}
-use Rattle.grammar_rules.specs.Reading.{Class, Rule, one, one_texts, nothing, follow, as_value, either, barred}
-use Rattle.grammar_rules.specs.Repeats.{second_of}
-use Rattle.grammar_words.specs.Words.{◌>>◌}
+use Rattle.grammar.specs.Reading.{Class, Rule, one, one_texts, nothing, follow, as_value, either, barred}
+use Rattle.grammar.specs.Repeats.{second_of}
+use Rattle.grammar.specs.Words.{◌>>◌}
 use Rattle.sql_tokens.specs.Classes.{a, a_name}
 use Rattle.sql_tokens.specs.Contents.{name_in, number_in, string_in}
 use Rattle.sql_tokens.specs.Words as words

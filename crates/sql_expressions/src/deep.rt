@@ -1,11 +1,11 @@
 ghost use Rattle.std.specs.Prelude.{◌≡◌, ◌<◌, ◌≤◌, ◌⊎◌, MatchResult, ℕ, length};
-ghost use Rattle.grammar_rules.specs.declared.refused.Refused.TheVariants as refusals;
+ghost use Rattle.grammar.specs.declared.refused.Refused.TheVariants as refusals;
 ghost use Rattle.sql_expressions.specs.Levels as levels;
 ghost use Rattle.sql_ast.specs.Expressions as trees_of;
 ghost use Rattle.sql_expressions.specs.Views as views;
 
 use crate::signs::Joint;
-use grammar_rules::Refused;
+use grammar::Refused;
 use sql_ast::{Expr, ExprList, Operator};
 use std::alloc::Global;
 

@@ -1,4 +1,4 @@
-ghost use Rattle.grammar_rules.specs.Gives.{Gives};
+ghost use Rattle.grammar.specs.Gives.{Gives};
 ghost use Rattle.sql_expressions.specs.Grammar as grammar;
 ghost use Rattle.sql_ast.specs.Expressions as trees_of;
 
@@ -10,7 +10,7 @@ mod operands;
 mod sums;
 
 use conjunctions::disjunction;
-use grammar_rules::Refused;
+use grammar::Refused;
 use sql_ast::Expr;
 use sql_tokens::Token;
 use std::alloc::Global;

@@ -9,11 +9,18 @@
 //!
 //! Three answers are told apart, each at the first token that does not fit: no expression goes on
 //! with it, or what it begins is left out by name, or one goes on with it that only a limit bars.
+//!
+//! Reads what all statements of SQL are made of: one word of two, names, whole numbers, and lists of
+//! names.
+//!
+//! Each function answers as the reader of its rule in `specs/Lists.antt` does.
 #![tactic(auto)]
 
 mod deep;
 mod laws;
 mod levels;
+mod list_words;
+mod name_list;
 mod parse;
 mod refused;
 mod signs;
@@ -21,6 +28,10 @@ mod words;
 
 pub use laws::{no_two_trees, the_limits};
 pub use levels::expression;
+pub use list_words::{
+    maybe_one_of, name_but, number, one_of, one_of_comes, other_name, other_name_comes, plain_name,
+};
+pub use name_list::{names, with_more_names};
 pub use parse::{ExprPart, parse_expression, refusal};
 pub use refused::ParseRefused;
 pub use words::{MOST_NAME_BYTES, name, string};

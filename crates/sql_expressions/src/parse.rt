@@ -6,10 +6,8 @@ ghost use Rattle.sql_expressions.specs.Words as words;
 
 use crate::words::{MOST_NAME_BYTES, MOST_TEXT_BYTES};
 use crate::{ParseRefused, expression};
-use grammar_rules::Refused;
-use grammar_words::{Part, token_at, whole};
-use pg_ids::Which;
-use pg_values::NoMemory;
+use grammar::{Part, Refused, token_at, whole};
+use pg_values::{NoMemory, Which};
 use sql_ast::Expr;
 use sql_tokens::{
     Kind, Token, called, is_left_out, is_name, name_of, read_tokens, same_kind, string_of,

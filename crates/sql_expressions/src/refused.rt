@@ -1,5 +1,4 @@
-use pg_ids::Which;
-use pg_values::{NoMemory, PgText};
+use pg_values::{NoMemory, PgText, Which};
 
 /// Why a text was not read.
 #[derive(Debug, Drop)]

@@ -1,12 +1,11 @@
 ghost use Rattle.std.specs.Prelude.{◌≡◌, ◌∷◌, [], MatchResult};
-ghost use Rattle.grammar_rules.specs.Reading.{begins_in};
-ghost use Rattle.grammar_rules.specs.declared.refused.Refused.TheVariants as refusals;
+ghost use Rattle.grammar.specs.Reading.{begins_in};
+ghost use Rattle.grammar.specs.declared.refused.Refused.TheVariants as refusals;
 ghost use Rattle.sql_expressions.specs.Levels as levels;
 ghost use Rattle.sql_expressions.specs.Views as views;
 
 use crate::words::literal_comes;
-use grammar_rules::{Refused, split};
-use grammar_words::{comes, name_comes};
+use grammar::{Refused, comes, name_comes, split};
 use sql_ast::Operator;
 use sql_tokens::{Kind, Token};
 

@@ -1,10 +1,9 @@
 ghost use Rattle.std.specs.Prelude.{◌≡◌};
-ghost use Rattle.grammar_rules.specs.Gives.{Gives};
-ghost use Rattle.grammar_rules.specs.Reading.{begins_in};
+ghost use Rattle.grammar.specs.Gives.{Gives};
+ghost use Rattle.grammar.specs.Reading.{begins_in};
 ghost use Rattle.sql_expressions.specs.Words as words;
 
-use grammar_rules::{Refused, split};
-use grammar_words::{comes, word};
+use grammar::{Refused, comes, split, word};
 use pg_values::PgText;
 use sql_ast::Leaf;
 use sql_tokens::{Kind, Token, is_name, name_of, number_of, same_kind, string_of};

@@ -10,7 +10,7 @@ use pg_values::NoMemory;
 use sql_ast::Statement;
 use sql_expressions::ParseRefused;
 use sql_syntax::parse_block;
-use statements_written::write_statement;
+use sql_written::write_statement;
 use std::alloc::Global;
 use std::io::{self, ErrorKind, Write};
 

@@ -1,9 +1,9 @@
 -- What the code finds at a place, from what stands there and what is read before it.
 use Rattle.std.proofs.Common.{◌≡◌, ℕ, Bool, true, List, ◌∷◌, take, drop, Result, Err, refl, sym, subst, ◌∙◌}
-use Rattle.grammar_rules.specs.Gives.{Refuses}
-use Rattle.grammar_rules.specs.Reading.{Reading, Stop, syntax_at, limit_at}
-use Rattle.grammar_rules.specs.declared.refused.Refused.{Refused}
-use Rattle.grammar_rules.specs.declared.refused.Refused.TheVariants as refused
+use Rattle.grammar.specs.Gives.{Refuses}
+use Rattle.grammar.specs.Reading.{Reading, Stop, syntax_at, limit_at}
+use Rattle.grammar.specs.declared.refused.Refused.{Refused}
+use Rattle.grammar.specs.declared.refused.Refused.TheVariants as refused
 use Rattle.sql_tokens.specs.declared.kind.Kind.TheVariants as word
 use Rattle.sql_tokens.specs.declared.token.Token.{Token}
 use Rattle.sql_expressions.specs.Grammar.{expression}

@@ -1,7 +1,7 @@
 -- The word BETWEEN at or before the place where a reader stopped, with an expression before it: where one stands it is found.
 use Rattle.std.proofs.Common.{◌≡◌, ℕ, suc, ◌-◌, ◌≤◌, Bool, true, false, cond, List, [], ◌∷◌, ◌++◌, length, take, drop, Option, Some, None, Ok, Err, refl, sym, ◌∙◌, ap, subst, arith, length-append, length-take-le, take-append-drop, take_at, drop_at}
-use Rattle.grammar_rules.specs.Reading.{Class, Reading, begins_in}
-use Rattle.grammar_rules.proofs.Laws.{Stops, SameHead, Within, head_eq, tail_eq}
+use Rattle.grammar.specs.Reading.{Class, Reading, begins_in}
+use Rattle.grammar.proofs.Laws.{Stops, SameHead, Within, head_eq, tail_eq}
 use Rattle.sql_tokens.specs.declared.kind.Kind.TheVariants as word
 use Rattle.sql_tokens.specs.declared.token.Token.{Token}
 use Rattle.sql_expressions.specs.Grammar.{expression}

@@ -1,10 +1,10 @@
 -- The items of a SELECT keep the law.
 use Rattle.std.proofs.Common.{◌≡◌, ℕ, ◌-◌, Bool, true, false, cond, ◌&&◌, ◌||◌, not, List, [], ◌∷◌, ◌++◌, length, take, drop, Option, Some, None, Ok, Err, inl, inr, refl, sym, ◌∙◌, ap, subst, append_assoc, append-nil, take-append-drop}
-use Rattle.grammar_rules.specs.Reading.{Class, Reading, Stop, syntax_at, limit_at, Rule, one_texts, both_texts, value_texts, as_value, begins_in, given}
-use Rattle.grammar_rules.proofs.Laws.{Law, Reads, Took, Failed, Fails, Shape, Stops, SameHead, Within, head_eq, tail_eq, and_true}
-use Rattle.grammar_rules.proofs.Chain.{none, or_false}
-use Rattle.grammar_rules.proofs.Follow.{follow_shape}
-use Rattle.grammar_rules.proofs.Build.{token, valued, wide, alt, opt, after_token, before_token}
+use Rattle.grammar.specs.Reading.{Class, Reading, Stop, syntax_at, limit_at, Rule, one_texts, both_texts, value_texts, as_value, begins_in, given}
+use Rattle.grammar.proofs.Laws.{Law, Reads, Took, Failed, Fails, Shape, Stops, SameHead, Within, head_eq, tail_eq, and_true}
+use Rattle.grammar.proofs.Chain.{none, or_false}
+use Rattle.grammar.proofs.Follow.{follow_shape}
+use Rattle.grammar.proofs.Build.{token, valued, wide, alt, opt, after_token, before_token}
 use Rattle.sql_tokens.specs.Contents.{name_in}
 use Rattle.sql_tokens.specs.declared.kind.Kind.TheVariants as word
 use Rattle.sql_tokens.specs.declared.token.Token.{Token}
@@ -17,8 +17,8 @@ use Rattle.sql_expressions.proofs.LevelLaws.{after_expression}
 use Rattle.sql_expressions.proofs.Places as places
 use Rattle.sql_expressions.proofs.RuleLaws.{expression_law}
 use Rattle.sql_expressions.proofs.WordLaws.{sample, apart, within}
-use Rattle.sql_lists.specs.Lists as lists
-use Rattle.sql_lists.proofs.ListLaws.{plain_name_law, name_but_law}
+use Rattle.sql_expressions.specs.Lists as lists
+use Rattle.sql_expressions.proofs.ListLaws.{plain_name_law, name_but_law}
 use Rattle.sql_ast.specs.Queries.{Output, Item, columns_of, one_column}
 use Rattle.sql_queries.specs.Items.{maybe_alias, begins_operand, left_of, stop_at, ended_at, place_of_word, before_word, behind_output, output, starred, is_starred, all_of_them, starred_or_output, item}
 use Rattle.sql_queries.proofs.WordBehind.{Stands, whole_read, read_is, reads_both, lone_word, stops_there, stops_behind}

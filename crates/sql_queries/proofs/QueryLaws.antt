@@ -1,10 +1,10 @@
 -- Each production keeps the law: one token of look-ahead decides how its texts are read.
 use Rattle.std.proofs.Common.{ℕ, Bool, true, false, ◌||◌, List, None, Some, refl}
-use Rattle.grammar_rules.specs.Reading.{Class}
-use Rattle.grammar_rules.specs.Repeats.{second_of}
-use Rattle.grammar_rules.proofs.Laws.{Law}
-use Rattle.grammar_rules.proofs.Chain.{none}
-use Rattle.grammar_rules.proofs.Build.{token, empty, valued, wide, seq, then_by, alt, opt, after_token, repeated}
+use Rattle.grammar.specs.Reading.{Class}
+use Rattle.grammar.specs.Repeats.{second_of}
+use Rattle.grammar.proofs.Laws.{Law}
+use Rattle.grammar.proofs.Chain.{none}
+use Rattle.grammar.proofs.Build.{token, empty, valued, wide, seq, then_by, alt, opt, after_token, repeated}
 use Rattle.sql_tokens.specs.declared.kind.Kind.TheVariants as word
 use Rattle.sql_tokens.specs.declared.token.Token.{Token}
 use Rattle.sql_expressions.specs.Levels.{begins_expression}
@@ -13,9 +13,9 @@ use Rattle.sql_tokens.specs.Classes.{a, a_name}
 use Rattle.sql_expressions.proofs.LevelLaws.{after_expression}
 use Rattle.sql_expressions.proofs.RuleLaws.{expression_law}
 use Rattle.sql_expressions.proofs.WordLaws.{sample, apart, within}
-use Rattle.grammar_words.specs.Words.{one_of}
-use Rattle.grammar_words.proofs.WordLaws.{means_law, maybe_law}
-use Rattle.sql_lists.proofs.ListLaws.{in_law, commas_law, plain_name_law, other_name_law}
+use Rattle.grammar.specs.Words.{one_of}
+use Rattle.grammar.proofs.WordLaws.{means_law, maybe_law}
+use Rattle.sql_expressions.proofs.ListLaws.{in_law, commas_law, plain_name_law, other_name_law}
 use Rattle.sql_queries.specs.Grammar as grammar
 use Rattle.sql_ast.specs.Queries.{selects, rows, explains_select}
 use Rattle.sql_queries.proofs.ItemLaws.{begins_alias, after_item, item_law}

@@ -1,9 +1,9 @@
 -- The settings of an UPDATE keep the law: the reader looks behind a word SET, and its texts are the manual's.
 use Rattle.std.proofs.Common.{◌≡◌, ℕ, Bool, true, false, ◌&&◌, ◌||◌, not, List, [], ◌∷◌, ◌++◌, Option, Some, None, ◌⊎◌, inl, inr, refl, sym, ◌∙◌, ap, subst}
-use Rattle.grammar_rules.specs.Reading.{Class, Rule, both, behind, one_texts, nothing_texts, both_texts, follow_texts, value_texts, either_texts}
-use Rattle.grammar_rules.specs.Repeats.{always, repeats_texts, second_of}
-use Rattle.grammar_rules.proofs.Laws.{Law, Within, pair_eq}
-use Rattle.grammar_rules.proofs.Build.{token, valued, wide, seq, then_by, alt, after_token, more, chained_after, said}
+use Rattle.grammar.specs.Reading.{Class, Rule, both, behind, one_texts, nothing_texts, both_texts, follow_texts, value_texts, either_texts}
+use Rattle.grammar.specs.Repeats.{always, repeats_texts, second_of}
+use Rattle.grammar.proofs.Laws.{Law, Within, pair_eq}
+use Rattle.grammar.proofs.Build.{token, valued, wide, seq, then_by, alt, after_token, more, chained_after, said}
 use Rattle.sql_tokens.specs.Contents.{name_in}
 use Rattle.sql_tokens.specs.declared.kind.Kind.{Kind}
 use Rattle.sql_tokens.specs.declared.kind.Kind.TheVariants as word
@@ -15,9 +15,9 @@ use Rattle.sql_expressions.specs.Words.{is_long_name}
 use Rattle.sql_expressions.proofs.LevelLaws.{after_expression}
 use Rattle.sql_expressions.proofs.RuleLaws.{expression_law}
 use Rattle.sql_expressions.proofs.WordLaws.{sample, apart, within}
-use Rattle.sql_lists.specs.Lists as lists
-use Rattle.grammar_words.specs.Words.{only, snoc}
-use Rattle.sql_lists.proofs.ListLaws.{commas_law, plain_name_law, name_but_law, other_name_law}
+use Rattle.sql_expressions.specs.Lists as lists
+use Rattle.grammar.specs.Words.{only, snoc}
+use Rattle.sql_expressions.proofs.ListLaws.{commas_law, plain_name_law, name_but_law, other_name_law}
 use Rattle.sql_queries.specs.Grammar as grammar
 use Rattle.sql_ast.specs.Queries.{Setting}
 

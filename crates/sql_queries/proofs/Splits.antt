@@ -1,6 +1,6 @@
 -- Two splits of one list: they are the same, or one front is longer.
 use Rattle.std.proofs.Common.{◌≡◌, List, [], ◌∷◌, ◌++◌, refl, sym, ◌∙◌, ap, append_assoc}
-use Rattle.grammar_rules.proofs.Laws.{SameHead, head_eq, tail_eq}
+use Rattle.grammar.proofs.Laws.{SameHead, head_eq, tail_eq}
 
 pub data Split {T : Type 0} (x y u v : List T) : Type 0 where
   same : x ≡ u → y ≡ v → Split x y u v

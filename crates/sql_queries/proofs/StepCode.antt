@@ -1,12 +1,12 @@
 -- What stands behind a word is read in one step, or in two.
 use Rattle.std.proofs.Common.{◌≡◌, List, Ok, Err, Result, refl, sym, subst}
-use Rattle.grammar_rules.specs.Gives.{Gives}
-use Rattle.grammar_rules.specs.declared.refused.Refused.{Refused}
-use Rattle.grammar_rules.specs.Reading.{Reading, Rule, given, read_one, as_value, follow, ◌>>=◌}
-use Rattle.grammar_rules.specs.Repeats.{second_of}
+use Rattle.grammar.specs.Gives.{Gives}
+use Rattle.grammar.specs.declared.refused.Refused.{Refused}
+use Rattle.grammar.specs.Reading.{Reading, Rule, given, read_one, as_value, follow, ◌>>=◌}
+use Rattle.grammar.specs.Repeats.{second_of}
 use Rattle.sql_tokens.specs.declared.kind.Kind.{Kind}
 use Rattle.sql_tokens.specs.declared.token.Token.{Token}
-use Rattle.grammar_words.specs.Words.{◌>>◌}
+use Rattle.grammar.specs.Words.{◌>>◌}
 use Rattle.sql_tokens.specs.Classes.{a}
 
 module _ {A B C : Type 0} (g : B → C) (k : Kind) (p : Rule Token A) (q : A → Rule Token B) where

@@ -2,16 +2,16 @@
 -- What a name says stands in the text, so rules of names take the text.
 use Rattle.std.specs.Prelude.{ℕ, Bool, true, false, ◌||◌, List, [], ◌∷◌, Option, Some, None}
 use Rattle.std.specs.List.{list_any}
-use Rattle.grammar_rules.specs.Reading.{Class, Rule, one, nothing, follow, as_value, either, optional}
-use Rattle.grammar_rules.specs.Repeats.{second_of, many, chain_after}
+use Rattle.grammar.specs.Reading.{Class, Rule, one, nothing, follow, as_value, either, optional}
+use Rattle.grammar.specs.Repeats.{second_of, many, chain_after}
 use Rattle.sql_tokens.specs.Contents.{name_in}
 use Rattle.sql_tokens.specs.declared.kind.Kind.TheVariants as word
 use Rattle.sql_tokens.specs.declared.token.Token.{Token}
 use Rattle.sql_expressions.specs.Grammar.{expression}
 use Rattle.sql_ast.specs.Expressions.{Tree, Trees, no_more, listed}
-use Rattle.grammar_words.specs.Words.{◌>>◌, ◌&◌, one_of, means, maybe, only, snoc}
+use Rattle.grammar.specs.Words.{◌>>◌, ◌&◌, one_of, means, maybe, only, snoc}
 use Rattle.sql_tokens.specs.Classes.{a, a_name}
-use Rattle.sql_lists.specs.Lists.{in_parentheses, commas, more_commas, plain_name, name_but, other_name}
+use Rattle.sql_expressions.specs.Lists.{in_parentheses, commas, more_commas, plain_name, name_but, other_name}
 use Rattle.sql_ast.specs.Queries.{Item, Joined, Key, Setting, SelectTree, selected, RowTree, selects, inserts, updates, deletes, QueryTree, rows, prepares, executes, explains_select, explains_execute}
 use Rattle.sql_queries.specs.Items.{item}
 use Rattle.sql_ast.specs.declared.named_table.NamedTable.{NamedTable}

@@ -1,7 +1,7 @@
 -- The items of a SELECT (VI. SELECT, SELECT List). Without AS every word that may be a name is an alias, and BETWEEN is such
 -- a word: behind an expression it is an operator if an operand follows, and else an alias.
 use Rattle.std.specs.Prelude.{ℕ, Bool, false, ◌-◌, ◌&&◌, ◌||◌, not, if◌then◌else◌, List, [], ◌∷◌, length, take, drop, Option, Some, None, Ok, Err}
-use Rattle.grammar_rules.specs.Reading.{Class, Reading, Rule, Stop, syntax_at, limit_at, one, both_texts, as_value, either, either_texts, optional, begins_in, given, ◌>>=◌}
+use Rattle.grammar.specs.Reading.{Class, Reading, Rule, Stop, syntax_at, limit_at, one, both_texts, as_value, either, either_texts, optional, begins_in, given, ◌>>=◌}
 use Rattle.sql_tokens.specs.Contents.{name_in}
 use Rattle.sql_tokens.specs.declared.kind.Kind.TheVariants as word
 use Rattle.sql_tokens.specs.declared.token.Token.{Token}
@@ -9,10 +9,10 @@ use Rattle.sql_expressions.specs.Grammar.{expression}
 use Rattle.sql_expressions.specs.Levels.{begins_nested}
 use Rattle.sql_ast.specs.Expressions.{Tree}
 use Rattle.sql_ast.specs.Queries.{Output, Item, all_columns, columns_of, one_column}
-use Rattle.grammar_words.specs.Words.{◌>>◌, ◌<<◌}
+use Rattle.grammar.specs.Words.{◌>>◌, ◌<<◌}
 use Rattle.sql_tokens.specs.Classes.{a, a_name}
 use Rattle.sql_expressions.specs.Words.{a_literal, is_long_name}
-use Rattle.sql_lists.specs.Lists.{plain_name, name_but}
+use Rattle.sql_expressions.specs.Lists.{plain_name, name_but}
 
 -- [ [ "AS" ] name ], where no word BETWEEN is too long
 abbrev pub maybe_alias : List ℕ → Rule Token (Option (List ℕ))

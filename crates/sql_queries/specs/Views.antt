@@ -1,14 +1,14 @@
 -- How the code sees what it reads.
 use Rattle.std.specs.Prelude.{ℕ, List, Option}
-use Rattle.grammar_rules.specs.declared.refused.Refused.{Refused}
-use Rattle.grammar_rules.specs.declared.refused.Refused.TheVariants as refused
-use Rattle.grammar_rules.specs.Reading.{Rule, Stop, syntax_at, limit_at, as_value, follow}
-use Rattle.grammar_rules.specs.Repeats.{second_of}
+use Rattle.grammar.specs.declared.refused.Refused.{Refused}
+use Rattle.grammar.specs.declared.refused.Refused.TheVariants as refused
+use Rattle.grammar.specs.Reading.{Rule, Stop, syntax_at, limit_at, as_value, follow}
+use Rattle.grammar.specs.Repeats.{second_of}
 use Rattle.sql_tokens.specs.declared.kind.Kind.TheVariants as word
 use Rattle.sql_tokens.specs.declared.token.Token.{Token}
 use Rattle.sql_expressions.specs.Grammar.{expression}
 use Rattle.sql_ast.specs.Expressions.{tree}
-use Rattle.grammar_words.specs.Words.{◌>>◌}
+use Rattle.grammar.specs.Words.{◌>>◌}
 use Rattle.sql_tokens.specs.Classes.{a}
 use Rattle.sql_queries.specs.Grammar.{more_settings, unaliased}
 use Rattle.sql_ast.specs.Queries.{Output as OutputTree, Setting}

@@ -1,20 +1,18 @@
 ghost use Rattle.std.specs.Prelude.{◌≡◌, ◌∷◌, [], map};
-ghost use Rattle.grammar_rules.specs.Gives.{Gives};
+ghost use Rattle.grammar.specs.Gives.{Gives};
 ghost use Rattle.sql_ast.specs.Expressions.{tree, trees};
-ghost use Rattle.sql_lists.specs.Lists as lists;
+ghost use Rattle.sql_expressions.specs.Lists as lists;
 ghost use Rattle.sql_queries.specs.Grammar as grammar;
 ghost use Rattle.sql_ast.specs.Queries.{row_tree, setting};
 ghost use Rattle.sql_queries.specs.Views.{column_in_steps, value_and_more};
 
 use crate::from::{condition, named_table};
-use grammar_rules::Refused;
-use grammar_words::{Part, comes, more_parts, separated, word};
+use grammar::{Part, Refused, comes, more_parts, separated, word};
 use pg_values::PgText;
 use sql_ast::{
     Assignment, Delete, Expr, ExprList, Insert, ListOf, NameList, NamedTable, RowStatement, Update,
 };
-use sql_expressions::{ExprPart, expression};
-use sql_lists::{name_but, names, other_name, plain_name};
+use sql_expressions::{ExprPart, expression, name_but, names, other_name, plain_name};
 use sql_tokens::{Kind, Token, name_of};
 use std::alloc::Global;
 

@@ -1,15 +1,13 @@
 ghost use Rattle.std.specs.Prelude.{◌≡◌, ◌∷◌, [], length, map};
-ghost use Rattle.grammar_rules.specs.Gives.{Gives};
-ghost use Rattle.grammar_rules.specs.Reading.{begins_in};
+ghost use Rattle.grammar.specs.Gives.{Gives};
+ghost use Rattle.grammar.specs.Reading.{begins_in};
 ghost use Rattle.sql_queries.specs.Grammar as grammar;
 ghost use Rattle.sql_ast.specs.Queries.{joined_tree, maybe_tree};
 
-use grammar_rules::Refused;
-use grammar_words::{Begun, Part, comes, many, name_comes, word};
+use grammar::{Begun, Part, Refused, comes, many, name_comes, word};
 use pg_values::PgText;
 use sql_ast::{Expr, FromItem, NamedTable};
-use sql_expressions::expression;
-use sql_lists::plain_name;
+use sql_expressions::{expression, plain_name};
 use sql_tokens::{Kind, Token};
 use std::alloc::Global;
 

@@ -1,17 +1,15 @@
 ghost use Rattle.std.specs.Prelude.{◌≡◌, ◌-◌, false, true, drop, length, take, IfOk, MatchOption, None, Ok, Some};
-ghost use Rattle.grammar_rules.specs.Gives.{Gives};
-ghost use Rattle.grammar_rules.specs.Reading.{begins_in};
+ghost use Rattle.grammar.specs.Gives.{Gives};
+ghost use Rattle.grammar.specs.Reading.{begins_in};
 ghost use Rattle.sql_ast.specs.Expressions.{tree};
 ghost use Rattle.sql_queries.specs.Items as items;
 ghost use Rattle.sql_ast.specs.Queries.{columns_of, item_tree};
 ghost use Rattle.sql_queries.specs.Views.{output_tree, stop_of};
 
-use grammar_rules::{Refused, split};
-use grammar_words::{Part, comes, name_comes, word};
+use grammar::{Part, Refused, comes, name_comes, split, word};
 use pg_values::{NoMemory, PgText};
 use sql_ast::{Expr, SelectItem};
-use sql_expressions::{MOST_NAME_BYTES, expression};
-use sql_lists::{name_but, plain_name};
+use sql_expressions::{MOST_NAME_BYTES, expression, name_but, plain_name};
 use sql_tokens::{Kind, Token, is_name, name_of, same_kind};
 use std::alloc::Global;
 

@@ -1,18 +1,16 @@
 ghost use Rattle.std.specs.Prelude.{◌≡◌, map};
-ghost use Rattle.grammar_rules.specs.Gives.{Gives};
-ghost use Rattle.grammar_rules.specs.Reading.{read_one};
+ghost use Rattle.grammar.specs.Gives.{Gives};
+ghost use Rattle.grammar.specs.Reading.{read_one};
 ghost use Rattle.sql_ast.specs.Expressions.{trees};
 ghost use Rattle.sql_queries.specs.Grammar as grammar;
 ghost use Rattle.sql_ast.specs.Queries.{query_tree, row_tree};
 
 use crate::changes::{delete, insert, update};
 use crate::selects::select;
-use grammar_rules::{Refused, split};
-use grammar_words::{Part, comes, separated, word};
+use grammar::{Part, Refused, comes, separated, split, word};
 use pg_values::PgText;
 use sql_ast::{ExprList, NameList, Query, RowStatement};
-use sql_expressions::ExprPart;
-use sql_lists::{names, other_name, plain_name};
+use sql_expressions::{ExprPart, names, other_name, plain_name};
 use sql_tokens::{Kind, Token, same_kind};
 use std::alloc::Global;
 

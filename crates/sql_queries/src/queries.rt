@@ -1,15 +1,14 @@
 ghost use Rattle.std.specs.Prelude.{◌≡◌, ℕ, List, Result};
-ghost use Rattle.grammar_rules.specs.Gives.{Gives};
-ghost use Rattle.grammar_rules.specs.Parses.{Parses};
-ghost use Rattle.grammar_rules.specs.Reading.{begins_in, read_whole};
-ghost use Rattle.grammar_rules.specs.declared.refused.Refused.{Refused as OneRefusal};
+ghost use Rattle.grammar.specs.Gives.{Gives};
+ghost use Rattle.grammar.specs.Parses.{Parses};
+ghost use Rattle.grammar.specs.Reading.{begins_in, read_whole};
+ghost use Rattle.grammar.specs.declared.refused.Refused.{Refused as OneRefusal};
 ghost use Rattle.sql_tokens.specs.declared.token.Token.{Token as OneToken};
 ghost use Rattle.sql_queries.specs.Grammar as grammar;
 ghost use Rattle.sql_ast.specs.Queries.{QueryTree, query_tree};
 
 use crate::prepared::{execute, explain, prepare, row_statement};
-use grammar_rules::Refused;
-use grammar_words::comes;
+use grammar::{Refused, comes};
 use sql_ast::Query;
 use sql_tokens::{Kind, Token};
 use std::alloc::Global;

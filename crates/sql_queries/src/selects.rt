@@ -1,15 +1,13 @@
 ghost use Rattle.std.specs.Prelude.{◌≡◌, map};
-ghost use Rattle.grammar_rules.specs.Gives.{Gives};
+ghost use Rattle.grammar.specs.Gives.{Gives};
 ghost use Rattle.sql_queries.specs.Grammar as grammar;
 ghost use Rattle.sql_ast.specs.Queries.{key_tree, maybe_tree, select_tree};
 
 use crate::from::{condition, from};
 use crate::items::EachItem;
-use grammar_rules::Refused;
-use grammar_words::{Part, comes, separated, word};
+use grammar::{Part, Refused, comes, separated, word};
 use sql_ast::{Expr, ListOf, Select, SortKey};
-use sql_expressions::expression;
-use sql_lists::{maybe_one_of, one_of};
+use sql_expressions::{expression, maybe_one_of, one_of};
 use sql_tokens::{Kind, Token, same_kind};
 use std::alloc::Global;
 

@@ -1,7 +1,7 @@
 -- Where a block is refused, there is one that begins as it does.
 use Rattle.std.proofs.Common.{◌≡◌, ℕ, List, ◌++◌, inl, inr, refl}
 use Rattle.std.specs.Prelude.{◌⊎◌}
-use Rattle.grammar_rules.specs.Parses.{FailsAt}
+use Rattle.grammar.specs.Parses.{FailsAt}
 use Rattle.sql_tokens.specs.Tokens.{tokens_of}
 use Rattle.sql_expressions.specs.Parsed.{IsRefused}
 use Rattle.sql_expressions.specs.declared.refused.ParseRefused.{ParseRefused}

@@ -1,17 +1,17 @@
 -- Every first word of a statement begins one.
 use Rattle.std.proofs.Common.{ℕ, Bool, ◌||◌, List, [], None, inr, refl}
-use Rattle.grammar_rules.specs.Reading.{Class, Rule, as_value}
-use Rattle.grammar_rules.specs.Repeats.{second_of}
-use Rattle.grammar_rules.proofs.Laws.{Law}
-use Rattle.grammar_rules.proofs.Build.{token, seq}
+use Rattle.grammar.specs.Reading.{Class, Rule, as_value}
+use Rattle.grammar.specs.Repeats.{second_of}
+use Rattle.grammar.proofs.Laws.{Law}
+use Rattle.grammar.proofs.Build.{token, seq}
 use Rattle.sql_tokens.specs.declared.kind.Kind.{Kind}
 use Rattle.sql_tokens.specs.declared.kind.Kind.TheVariants as word
 use Rattle.sql_tokens.specs.declared.token.Token.{Token}
-use Rattle.grammar_words.specs.Words.{◌>>◌}
+use Rattle.grammar.specs.Words.{◌>>◌}
 use Rattle.sql_tokens.specs.Classes.{a}
 use Rattle.sql_expressions.proofs.WordLaws.{sample}
-use Rattle.grammar_words.proofs.WordLaws.{maybe_law}
-use Rattle.sql_lists.proofs.ListLaws.{other_name_law, plain_name_law}
+use Rattle.grammar.proofs.WordLaws.{maybe_law}
+use Rattle.sql_expressions.proofs.ListLaws.{other_name_law, plain_name_law}
 use Rattle.sql_commands.specs.Grammar as commands
 use Rattle.sql_ast.specs.Commands.{resets}
 use Rattle.sql_commands.proofs.CommandLaws.{setting_value_law, create_law, drop_law, alter_law, lock_law, deallocate_law}

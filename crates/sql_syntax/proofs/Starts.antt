@@ -1,6 +1,6 @@
 -- With each token of a class some text begins.
 use Rattle.std.proofs.Common.{◌≡◌, Bool, true, false, ◌||◌, List, [], ◌∷◌, ◌++◌, inl, inr, refl}
-use Rattle.grammar_rules.specs.Reading.{Class, one_texts, both_texts, value_texts, either_texts}
+use Rattle.grammar.specs.Reading.{Class, one_texts, both_texts, value_texts, either_texts}
 use Rattle.sql_tokens.specs.declared.token.Token.{Token}
 
 abbrev Of : Type 0 → Type 1

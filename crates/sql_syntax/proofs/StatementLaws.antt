@@ -1,10 +1,10 @@
 -- Statements and blocks keep the law: one token of look-ahead decides how they are read.
 use Rattle.std.proofs.Common.{ℕ, true, false, ◌||◌, List, length, Some, None, nat_lt, refl}
-use Rattle.grammar_rules.specs.Reading.{Class, nothing}
-use Rattle.grammar_rules.specs.Repeats.{always}
-use Rattle.grammar_rules.proofs.Laws.{Law}
-use Rattle.grammar_rules.proofs.Chain.{none}
-use Rattle.grammar_rules.proofs.Build.{empty, valued, wide, alt, chained_by}
+use Rattle.grammar.specs.Reading.{Class, nothing}
+use Rattle.grammar.specs.Repeats.{always}
+use Rattle.grammar.proofs.Laws.{Law}
+use Rattle.grammar.proofs.Chain.{none}
+use Rattle.grammar.proofs.Build.{empty, valued, wide, alt, chained_by}
 use Rattle.sql_tokens.specs.declared.kind.Kind.TheVariants as word
 use Rattle.sql_tokens.specs.declared.token.Token.{Token}
 use Rattle.sql_tokens.specs.Classes.{a}

@@ -1,9 +1,9 @@
 -- A block of statements, the limit that one passes, and where a text stops to begin one.
 use Rattle.std.specs.Prelude.{ℕ, ◌-◌, Bool, ◌&&◌, ◌||◌, if◌then◌else◌, ◌==◌, List, length, drop}
-use Rattle.grammar_rules.specs.Parses.{FailsAt}
-use Rattle.grammar_rules.specs.Reading.{begins_in}
-use Rattle.pg_ids.specs.declared.which.Which.{Which}
-use Rattle.pg_ids.specs.declared.which.Which.TheVariants as which
+use Rattle.grammar.specs.Parses.{FailsAt}
+use Rattle.grammar.specs.Reading.{begins_in}
+use Rattle.pg_values.specs.declared.which.Which.{Which}
+use Rattle.pg_values.specs.declared.which.Which.TheVariants as which
 use Rattle.sql_tokens.specs.Classes.{a}
 use Rattle.sql_tokens.specs.Tokens.{tokens_of}
 use Rattle.sql_tokens.specs.declared.kind.Kind.TheVariants as word

@@ -7,10 +7,8 @@ ghost use Rattle.sql_syntax.specs.Grammar as grammar;
 ghost use Rattle.sql_ast.specs.Statements.{StatementTree, statement_tree};
 
 use crate::statements::{BlockPart, statement_comes};
-use grammar_rules::Refused;
-use grammar_words::{comes, whole};
-use pg_ids::Which;
-use pg_values::NoMemory;
+use grammar::{Refused, comes, whole};
+use pg_values::{NoMemory, Which};
 use sql_ast::Statement;
 use sql_expressions::{ParseRefused, refusal};
 use sql_tokens::{Kind, Token, read_tokens};

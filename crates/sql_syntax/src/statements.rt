@@ -1,19 +1,18 @@
 ghost use Rattle.std.specs.Prelude.{◌≡◌, IfOk, length, map};
-ghost use Rattle.grammar_rules.specs.Gives.{Gives};
-ghost use Rattle.grammar_rules.specs.Reading.{begins_in};
-ghost use Rattle.grammar_rules.specs.Repeats.{always, read_repeats, read_step};
+ghost use Rattle.grammar.specs.Gives.{Gives};
+ghost use Rattle.grammar.specs.Reading.{begins_in};
+ghost use Rattle.grammar.specs.Repeats.{always, read_repeats, read_step};
 ghost use Rattle.sql_tokens.specs.Classes.{a};
 ghost use Rattle.sql_syntax.specs.Grammar as grammar;
 ghost use Rattle.sql_ast.specs.Statements.{statement_tree};
 ghost use Rattle.sql_syntax.specs.Views.{maybe_tree};
 
 use crate::MOST_STATEMENTS;
-use grammar_rules::Refused;
-use grammar_words::{Part, comes, word};
+use grammar::{Part, Refused, comes, word};
 use pg_values::NoMemory;
 use sql_ast::Statement;
 use sql_commands::{command, command_comes};
-use sql_lists::one_of_comes;
+use sql_expressions::one_of_comes;
 use sql_queries::query;
 use sql_tokens::{Kind, Token};
 use std::alloc::Global;
@@ -69,7 +68,7 @@ fn maybe_statement<'a>(
     Ok((Some(statement), rest))
 }
 
-#[tactic(auto, unfolding(grammar_rules::specs::Repeats::read_step))]
+#[tactic(auto, unfolding(grammar::specs::Repeats::read_step))]
 fn next_statement<'a>(
     alloc: Global,
     text: &[u8],

@@ -11,8 +11,8 @@ use Rattle.sql_tokens.specs.Quotes.{closed_name, closed_string, inside, quoted_n
 use Rattle.sql_tokens.specs.Tokens.{tokens_by, tokens_of}
 use Rattle.sql_tokens.specs.Written.{IsToken, doubled, quoted, whole}
 use Rattle.sql_tokens.proofs.Steps.{none_left, step}
-use Rattle.text_pieces.proofs.QuotedBack.{inside-quoted, length_quoted}
-pub use Rattle.text_pieces.proofs.QuotedBack.{closing_doubled, undoubled-doubled}
+use Rattle.grammar.proofs.QuotedBack.{inside-quoted, length_quoted}
+pub use Rattle.grammar.proofs.QuotedBack.{closing_doubled, undoubled-doubled}
 
 all_of : (z : List ℕ) → take (length z - 0) (drop 0 z) ≡ z
 all_of z = grind (arith, common_steps)

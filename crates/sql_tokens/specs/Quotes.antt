@@ -1,7 +1,7 @@
 -- Strings and quoted names (4.1.2.1 String Constants, 4.1.1 Identifiers and Key Words).
 use Rattle.std.specs.Prelude.{ℕ, false, if◌then◌else◌, ◌==◌, List, Option, Some, None, drop}
-pub use Rattle.text_pieces.specs.Places.{inside, slice}
-pub use Rattle.text_pieces.specs.Quotes.{closing, kept, undoubled}
+pub use Rattle.grammar.specs.TextPlaces.{inside, slice}
+pub use Rattle.grammar.specs.Quotes.{closing, kept, undoubled}
 use Rattle.sql_tokens.specs.declared.kind.Kind.TheVariants.{Text, QuotedName}
 use Rattle.sql_tokens.specs.declared.piece.Piece.{Piece}
 use Rattle.sql_tokens.specs.declared.piece.Piece.TheVariants.{Lexeme, Broken}

@@ -1,6 +1,6 @@
 -- Texts as they are written between quotes (4.1.2.1 String Constants, 4.1.1 Identifiers and Key Words).
 use Rattle.std.specs.Prelude.{◌≡◌, ℕ, List, [], ◌∷◌, length}
-pub use Rattle.text_pieces.specs.Quotes.{doubled, quoted}
+pub use Rattle.grammar.specs.Quotes.{doubled, quoted}
 use Rattle.sql_tokens.specs.declared.kind.Kind.{Kind}
 use Rattle.sql_tokens.specs.declared.token.Token.{Token}
 use Rattle.sql_tokens.specs.Tokens.{tokens_of}

@@ -5,7 +5,7 @@ ghost use Rattle.sql_tokens.specs.Pieces as pieces;
 use crate::Kind;
 use crate::bytes::{Class, past};
 use crate::piece::Piece;
-use text_pieces::byte;
+use grammar::byte;
 
 /// `-`, or a comment that goes to the end of its line.
 #[tactic(auto, unfolding(crate::specs::Comments::minus))]

@@ -4,9 +4,9 @@ ghost use Rattle.sql_tokens.specs.Contents as contents;
 
 use crate::numbers::number_of_digits;
 use crate::{Kind, Token, same_kind};
+use grammar::{inside_of, slice, undoubled};
 use pg_values::{NoMemory, PgText};
 use std::alloc::Global;
-use text_pieces::{inside_of, slice, undoubled};
 
 fn bytes_of(text: &[u8], token: Token) -> &[u8]
     ensures { result.now ≡ contents.bytes_of text.now token }

@@ -6,7 +6,7 @@ ghost use Rattle.sql_tokens.specs.Words.{is};
 use crate::Kind;
 use crate::bytes::{Class, belongs, past};
 use crate::piece::Piece;
-use text_pieces::byte;
+use grammar::byte;
 
 /// The largest number of a parameter.
 pub const MOST_PARAMETER: u64 = 4_294_967_295;

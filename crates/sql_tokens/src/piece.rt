@@ -9,7 +9,7 @@ use crate::numbers::{begins_number, number, parameter};
 use crate::quotes::{quoted_name, string};
 use crate::signs::sign;
 use crate::words::word_kind;
-use text_pieces::byte;
+use grammar::byte;
 
 /// What stands at the front of a text, with its length in bytes.
 #[derive(Clone, Copy, Debug)]

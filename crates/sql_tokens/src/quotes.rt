@@ -4,7 +4,7 @@ ghost use Rattle.sql_tokens.specs.Quotes as quotes;
 
 use crate::Kind;
 use crate::piece::Piece;
-use text_pieces::closing;
+use grammar::closing;
 
 /// A string, from its opening quote on.
 #[tactic(auto, unfolding(crate::specs::Quotes::string))]

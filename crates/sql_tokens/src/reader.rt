@@ -4,9 +4,9 @@ ghost use Rattle.sql_tokens.specs.Tokens as tokens;
 
 use crate::piece::{Piece, next_piece};
 use crate::{Kind, Token};
+use grammar::behind;
 use pg_values::NoMemory;
 use std::alloc::Global;
-use text_pieces::behind;
 
 /// Notes the token of the piece at the front, and answers the piece's length where reading goes on.
 fn read_piece(told: &mut Vec<Token>, at: usize, z: &[u8]) -> Result<Option<usize>, NoMemory>

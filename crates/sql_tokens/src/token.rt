@@ -1,5 +1,5 @@
 use crate::{Kind, is_name, same_kind};
-use grammar_words::Lexeme;
+use grammar::Lexeme;
 
 /// A token and its places in the text: its first byte, and the byte behind its last.
 ///

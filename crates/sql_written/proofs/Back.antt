@@ -1,8 +1,8 @@
 -- What is written of a tree is a text of it, of the depth that the tree has as it is written.
 use Rattle.std.proofs.Common.{◌≡◌, ℕ, suc, Bool, true, false, max, List, [], ◌∷◌, ◌++◌, inl, inr, refl, sym, ap, ◌∙◌, subst, arith, append_assoc, append-nil}
 use Rattle.std.specs.Prelude.{codes}
-use Rattle.grammar_rules.specs.Reading.{one_texts, both_texts}
-use Rattle.grammar_rules.specs.Repeats.{repeats_texts, always}
+use Rattle.grammar.specs.Reading.{one_texts, both_texts}
+use Rattle.grammar.specs.Repeats.{repeats_texts, always}
 use Rattle.sql_tokens.specs.Words.{is}
 use Rattle.sql_tokens.specs.declared.kind.Kind.{Kind}
 use Rattle.sql_tokens.specs.declared.kind.Kind.TheVariants as kinds

@@ -2,7 +2,7 @@
 use Rattle.std.proofs.Common.{◌≡◌, ℕ, ◌≤◌, Bool, true, false, cond, List, [], ◌∷◌, ◌++◌, length, inl, inr, refl, sym, ap, ◌∙◌, subst, arith, append-nil}
 use Rattle.std.specs.Fmt.{decimal}
 use Rattle.std.specs.Prelude.{codes, nat_lt}
-use Rattle.grammar_rules.specs.Reading.{Rule, Class}
+use Rattle.grammar.specs.Reading.{Rule, Class}
 use Rattle.sql_tokens.specs.Contents.{bytes_of, name_in, number_in, string_in}
 use Rattle.sql_tokens.specs.Numbers.{number_of_digits}
 use Rattle.sql_tokens.specs.Quotes.{inside, undoubled}

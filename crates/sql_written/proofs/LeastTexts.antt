@@ -1,8 +1,8 @@
 -- Every text of a level without limits has at least the parentheses and the depth of what is written of its tree.
 use Rattle.std.proofs.Common.{◌≡◌, ℕ, zero, suc, ◌+◌, ◌≤◌, Bool, true, false, cond, not, ◌&&◌, ◌||◌, max, List, [], ◌∷◌, ◌++◌, inl, inr, ◌⊎◌, refl, sym, ap, ◌∙◌, subst, arith}
-use Rattle.grammar_rules.specs.Depths.{AtSome}
-use Rattle.grammar_rules.specs.Reading.{Class, Rule, as_value, nothing, one_texts, nothing_texts, both_texts, follow_texts, value_texts, either_texts}
-use Rattle.grammar_rules.specs.Repeats.{all_repeats, always, second_of}
+use Rattle.grammar.specs.Depths.{AtSome}
+use Rattle.grammar.specs.Reading.{Class, Rule, as_value, nothing, one_texts, nothing_texts, both_texts, follow_texts, value_texts, either_texts}
+use Rattle.grammar.specs.Repeats.{all_repeats, always, second_of}
 use Rattle.sql_tokens.specs.Contents.{name_in, number_in, string_in}
 use Rattle.sql_tokens.specs.Words.{is}
 use Rattle.sql_tokens.specs.declared.kind.Kind.{Kind}

@@ -1,8 +1,8 @@
 -- What is written of a tree that can be written is a text of it within the limits.
 use Rattle.std.proofs.Common.{◌≡◌, ℕ, false, List, Result, subst, sym}
 use Rattle.std.specs.Prelude.{MatchResult}
-use Rattle.grammar_rules.specs.Parses.{IsOnly}
-use Rattle.grammar_rules.proofs.Whole.{one_value}
+use Rattle.grammar.specs.Parses.{IsOnly}
+use Rattle.grammar.proofs.Whole.{one_value}
 use Rattle.sql_tokens.specs.Tokens.{tokens_of}
 use Rattle.sql_tokens.specs.declared.token.Token.{Token}
 use Rattle.sql_expressions.specs.Grammar.{any, deep_expression, expression}

@@ -1,7 +1,16 @@
+pub mod Bare
 pub mod Chains
+pub mod Commands
+pub mod Lists
 pub mod Marks
 pub mod Parentheses
 pub mod Precedence
+pub mod Queries
 pub mod Spelling
+pub mod Statements
+pub mod Words
 pub mod Writable
+pub mod WritableCommands
+pub mod WritableQueries
+pub mod WritableStatements
 pub mod Written

@@ -1,4 +1,4 @@
-ghost use Rattle.grammar_rules.specs.Parses.{IsOnly};
+ghost use Rattle.grammar.specs.Parses.{IsOnly};
 ghost use Rattle.sql_expressions.specs.Grammar as grammar;
 ghost use Rattle.sql_expressions.specs.Limits.{StandIn};
 ghost use Rattle.sql_expressions.specs.Parsed.{ParsesText, passed};

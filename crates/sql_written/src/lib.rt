@@ -13,14 +13,37 @@
 //! `parses_can_be_written` says that these are all that a parse gives, `reads_back` that the text of
 //! such a tree is read as that tree and no other, `no_fewer_parentheses` that no text of the tree opens
 //! fewer, and `quotes_are_needed` that a name in quotes is said by no token without.
+//!
+//! Writes statements of SQL back as text: what a careful person would write.
+//!
+//! `specs/Commands.antt` and `specs/Queries.antt` say what is written of each statement, as a list of
+//! marks: words in capitals, names, constants, signs, and the blanks between them. What is said by
+//! leaving it out is left out. `specs/Words.antt` has the words, and names that stand in quotes because
+//! the word would be read as another thing. `specs/Writable.antt` says which statements can be written.
+//!
+//! `blocks_can_be_written` says that these are all that a parse gives, `statements_read_back` that what is
+//! written of one is a block of that statement alone, `no_fewer_parentheses` that no block of it alone opens
+//! fewer, and `quotes_are_needed` that a name in quotes needs them.
 #![tactic(auto)]
 
+mod block_laws;
 mod chain;
+mod commands;
 mod laws;
+mod parts;
 mod precedence;
+mod queries;
+mod query_parts;
 mod spelling;
+mod statements;
+mod words;
 mod write;
 
+pub use block_laws::{
+    blocks_can_be_written, blocks_have_no_fewer_parentheses, quotes_in_blocks_are_needed,
+    statements_read_back,
+};
 pub use laws::{no_fewer_parentheses, parses_can_be_written, quotes_are_needed, reads_back};
 pub use spelling::{is_plain, write_name, write_name_if, write_number, write_quoted};
+pub use statements::write_statement;
 pub use write::write_expression;

@@ -4,8 +4,8 @@ use Rattle.std.proofs.lemmas.Grind.{common_steps}
 use Rattle.std.proofs.lemmas.Bool.Decides.{nat_tests}
 use Rattle.std.proofs.lemmas.List.{map-append, take_all, take_more, length-take}
 use Rattle.std.proofs.lemmas.Option.{slice_get_cases}
-use Rattle.pg_ids.specs.Lists.{listed}
-use Rattle.pg_ids.specs.declared.session_list.SessionList.{SessionList}
+use Rattle.pg_values.specs.Lists.{listed}
+use Rattle.pg_values.specs.declared.session_list.SessionList.{SessionList}
 use Rattle.history.specs.Transactions.{open_of, is_committed}
 use Rattle.history.specs.History.{History, tx_events, catalogue_events}
 use Rattle.soundness.specs.Worlds.{same_tx, table_in}

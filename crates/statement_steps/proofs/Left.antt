@@ -1,8 +1,8 @@
 -- Locks that are still to be asked for, one after the other.
 use Rattle.std.proofs.Common.{◌≡◌, ℕ, ◌<◌, List, [], ◌∷◌, refl, sym, ◌∙◌, ap, subst, Result, Ok, Err, All, map, length, arith, slice_index_or}
 use Rattle.std.proofs.lemmas.List.Elements.{All-tail}
-use Rattle.pg_ids.specs.declared.ids.TableNo.{TableNo}
-use Rattle.pg_ids.specs.declared.lock_mode.LockMode.{LockMode}
+use Rattle.pg_values.specs.declared.ids.TableNo.{TableNo}
+use Rattle.pg_values.specs.declared.lock_mode.LockMode.{LockMode}
 use Rattle.stores.specs.declared.stores.Stores.{Stores}
 use Rattle.lock_table.specs.Kept.{KeptLocks}
 use Rattle.statement_steps.specs.Made.{made}

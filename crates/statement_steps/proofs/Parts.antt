@@ -2,11 +2,11 @@
 use Rattle.std.proofs.lemmas.Bool.Decides.{nat_tests}
 use Rattle.std.proofs.lemmas.List.{length-map, get_or-map}
 use Rattle.std.proofs.Common.{◌≡◌, ℕ, ◌+◌, ◌<◌, ◌==◌, ◌||◌, if◌then◌else◌, Bool, true, false, List, [], ◌∷◌, ◌++◌, refl, ap, sym, ◌∙◌, subst, arith, append-nil, Option, Some, None, Result, Ok, Err, IfOk, OnOk, map, length, slice_index_or}
-use Rattle.pg_ids.specs.declared.ids.TableNo.{TableNo}
-use Rattle.pg_ids.specs.declared.session_set.SessionSet.{SessionSet}
-use Rattle.pg_ids.specs.declared.session_list.SessionList.{SessionList}
-use Rattle.pg_ids.specs.Lists.{listed}
-use Rattle.pg_ids.specs.Sets.{has, sessions}
+use Rattle.pg_values.specs.declared.ids.TableNo.{TableNo}
+use Rattle.pg_values.specs.declared.session_set.SessionSet.{SessionSet}
+use Rattle.pg_values.specs.declared.session_list.SessionList.{SessionList}
+use Rattle.pg_values.specs.Lists.{listed}
+use Rattle.pg_values.specs.Sets.{has, sessions}
 use Rattle.pg_values.specs.declared.fault.Fault.{Fault}
 use Rattle.pg_values.specs.declared.text.NoMemory.{NoMemory}
 use Rattle.history.specs.declared.wait.WaitOn.TheVariants.{Ends, Snapshots}
@@ -35,8 +35,8 @@ use Rattle.part_catalog.proofs.Found.{last_is}
 use Rattle.stores.specs.Stand.{AllStand, Stands, IsSameSize}
 use Rattle.stores.specs.Numbers.{IsAt}
 use Rattle.stores.specs.declared.stores.Stores.{Stores}
-use Rattle.lock_answers.specs.Laws.{AnswerIsTold, HistoryIsTold}
-use Rattle.lock_answers.specs.Asked.{asked, asked_view, asked_events, asked_history, AskedView, AtOnce, WaitsBehind, ClosesCycle}
+use Rattle.lock_table.specs.AnswerLaws.{AnswerIsTold, HistoryIsTold}
+use Rattle.lock_table.specs.Asked.{asked, asked_view, asked_events, asked_history, AskedView, AtOnce, WaitsBehind, ClosesCycle}
 use Rattle.statement_steps.specs.Made.{Made, Waits, Refused, made, halted}
 use Rattle.statement_steps.specs.Attempts.{MayAttempt, MayGoOn, WentOn, GoesOn, HasCause, LocksStay}
 use Rattle.statement_steps.specs.declared.rest.Rest.{Rest}

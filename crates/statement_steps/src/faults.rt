@@ -1,10 +1,9 @@
 ghost use Rattle.std.specs.Prelude.{◌≡◌, IfOk, map};
-ghost use Rattle.pg_ids.specs.Lists.{listed};
+ghost use Rattle.pg_values.specs.Lists.{listed};
 ghost use Rattle.statement_steps.specs.Faults as faults;
 
 use crate::{SessionNames, Stop};
-use pg_ids::SessionList;
-use pg_values::{Args, Fault, NoMemory, PgText, SqlState};
+use pg_values::{Args, Fault, NoMemory, PgText, SessionList, SqlState};
 use std::alloc::Global;
 use value_rules::two_texts;
 

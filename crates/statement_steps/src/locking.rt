@@ -8,9 +8,8 @@ ghost use Rattle.statement_steps.specs.Steps.{IsStep};
 use crate::faults::{deadlock, stop_by};
 use crate::{Caller, Rest, SessionNames, Stop};
 use history::WaitOn;
-use lock_answers::answer_is_told;
-use lock_table::Asked;
-use pg_ids::{LockMode, TableNo};
+use lock_table::{Asked, answer_is_told};
+use pg_values::{LockMode, TableNo};
 use std::alloc::Global;
 use stores::Stores;
 

@@ -1,5 +1,5 @@
 ghost use Rattle.std.specs.Prelude.{◌≡◌, ◌≤◌, ◌++◌, ◌∷◌, [], Some, None, IfOk, OnOk, OnErr, length};
-ghost use Rattle.pg_ids.specs.declared.lock_mode.LockMode.{LockMode};
+ghost use Rattle.pg_values.specs.declared.lock_mode.LockMode.{LockMode};
 ghost use Rattle.statement_steps.specs.Attempts.{MayAttempt};
 ghost use Rattle.statement_steps.specs.Asks as asks;
 ghost use Rattle.statement_steps.specs.Known.{IsKnownTo};
@@ -8,8 +8,7 @@ ghost use Rattle.statement_steps.specs.Steps.{IsStep};
 use crate::faults::{no_table, stop_by};
 use crate::{Caller, Stop, lock_table};
 use legal_statements::named_is_there;
-use pg_ids::{LockMode, TableNo};
-use pg_values::{NoMemory, PgText};
+use pg_values::{LockMode, NoMemory, PgText, TableNo};
 use std::alloc::Global;
 use std::marker::Model;
 use stores::Stores;

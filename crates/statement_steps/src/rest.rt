@@ -1,8 +1,7 @@
 ghost use Rattle.std.specs.Prelude.{◌≡◌, ◌++◌, ◌∷◌, [], OnOk, OnErr};
 
 use history::TxId;
-use pg_ids::{RowId, SessionSet, TableNo};
-use pg_values::NoMemory;
+use pg_values::{NoMemory, RowId, SessionSet, TableNo};
 use std::alloc::Global;
 use std::marker::Model;
 
@@ -14,7 +13,7 @@ pub struct RowIds {
 
 impl Model for RowIds {
     ghost use Rattle.std.specs.Prelude.{List};
-    ghost use Rattle.pg_ids.specs.declared.ids.RowId.{RowId};
+    ghost use Rattle.pg_values.specs.declared.ids.RowId.{RowId};
 
     ghost Value = { List RowId };
 

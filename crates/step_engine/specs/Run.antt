@@ -4,11 +4,11 @@ use Rattle.schedule.specs.Rules.{Rules}
 use Rattle.spec_reader.specs.declared.spec.Spec.{Spec}
 use Rattle.spec_reader.specs.declared.spec.SessionSpec.{SessionSpec}
 use Rattle.sessions.specs.Sessions.{State, new_session, rules_of}
-use Rattle.course.specs.Database.{Database, course, empty}
-use Rattle.course.specs.Moments.{Always, AlwaysInOneLeaf}
+use Rattle.statement_runs.specs.Database.{Database, course, empty}
+use Rattle.statement_runs.specs.Moments.{Always, AlwaysInOneLeaf}
 use Rattle.sql_ast.specs.Statements.{StatementTree}
-use Rattle.store_statements.specs.Moments.{StatementsArePlain}
-use Rattle.store_statements.specs.Words.{statement_words}
+use Rattle.statement_runs.specs.ReadMoments.{StatementsArePlain}
+use Rattle.statement_runs.specs.StatementWords.{statement_words}
 
 abbrev pub RunState : Type 0
 RunState = State (Database (List (List ℕ))) StatementTree

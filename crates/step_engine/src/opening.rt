@@ -3,15 +3,14 @@ ghost use Rattle.script_program.specs.Program.{Calls};
 ghost use Rattle.script_program.specs.Texts.{TextBegins, TextEnds};
 ghost use Rattle.step_engine.specs.Run as run;
 
-use course::StoreExecutor;
 use pg_values::{NoMemory, PgText, Sink, Source};
 use schedule::Database;
 use script_program::{Ended, Opener, run_program};
 use sessions::Sessions;
 use spec_reader::Spec;
+use statement_runs::{Statements, StoreExecutor};
 use statement_steps::SessionNames;
 use std::alloc::Global;
-use store_statements::Statements;
 
 fn session_names(alloc: Global, script: &Spec) -> Result<SessionNames, NoMemory>
     ensures { IfOk result (λ names. names ≡ run.session_names script.now) }

@@ -1,7 +1,7 @@
 -- The leaf of each table was added, and there are not too many tables.
 use Rattle.std.proofs.Common.{◌≡◌, ◌≤◌, ◌<◌, ℕ, [], ◌∷◌, inl, inr, sym, ◌∙◌, ap, subst, arith, length}
 use Rattle.std.proofs.lemmas.List.{length-append, length-map}
-use Rattle.pg_ids.specs.declared.ids.LeafId.{LeafId}
+use Rattle.pg_values.specs.declared.ids.LeafId.{LeafId}
 use Rattle.history.specs.declared.catalogue.TableShape.TheVariants.{Leaf}
 use Rattle.history.specs.Rows.{LeafAdded, RowBorn, RowEnded}
 use Rattle.history.specs.Catalogue.{tables_made, TableMade, TableDropped, EntryAdded, EntryEnded, EntryMarked, CheckKept}

@@ -1,6 +1,6 @@
 -- What holds of every good history.
 use Rattle.std.specs.Prelude.{◌≡◌, ◌≢◌, ◌≤◌, ◌<◌, ℕ, ◌∷◌, ◌++◌, Some, All, length}
-use Rattle.pg_ids.specs.declared.ids.LeafId.{LeafId}
+use Rattle.pg_values.specs.declared.ids.LeafId.{LeafId}
 use Rattle.history.specs.Transactions.{open_of}
 use Rattle.history.specs.Rows.{leaf_count}
 use Rattle.history.specs.Snapshots.{TakenSnapshot, SnapshotHeld, held_by}

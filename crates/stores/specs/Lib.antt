@@ -1,5 +1,6 @@
 pub mod Events
 pub mod Good
 pub mod Laws
+pub mod LockLaws
 pub mod Numbers
 pub mod Stand

@@ -10,9 +10,16 @@
 //! and after it all four stand for one history, whose new events the definitions in `specs/Events.antt`
 //! tell, and which stays such a one as the laws of `soundness` speak of. So a tree of tables can be asked
 //! for without a word on siblings.
+//!
+//! What an open transaction has changed its session has locked.
+//!
+//! The invariant of `soundness` speaks of locks as a history has them. Here it is said of the stores of a run:
+//! whatever the open transaction of a session has done to rows and partitions, the lock table has the session's
+//! lock for it, unless that transaction made the table.
 #![tactic(auto)]
 
 mod laws;
+mod lock_laws;
 mod locks;
 mod snapshots;
 mod stores;
@@ -24,4 +31,5 @@ pub use laws::{
     holding_keeps_looks, leaves_are_housed, locks_keep_numbers, looks_are_open, looks_keep_numbers,
     others_keep_numbers, tables_are_few, trees_are_together,
 };
+pub use lock_laws::changes_are_locked;
 pub use stores::Stores;

@@ -11,7 +11,7 @@ ghost use Rattle.stores.specs.Stand.{AllStand, Stands, Adds, AddsGood, IsSameSiz
 use crate::Stores;
 use history::WaitOn;
 use lock_table::Asked;
-use pg_ids::{LockMode, SessionList, TableNo};
+use pg_values::{LockMode, SessionList, TableNo};
 
 impl Stores {
     /// A session that does not wait asks for a lock on a table.

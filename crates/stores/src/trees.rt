@@ -8,8 +8,7 @@ ghost use Rattle.table_trees.specs.Histories.{tree_of, ddl_tree, path_of};
 ghost use Rattle.stores.specs.Stand.{AllStand, IsSound};
 
 use crate::{Stores, trees_are_together};
-use pg_ids::TableNo;
-use pg_values::NoMemory;
+use pg_values::{NoMemory, TableNo};
 use std::alloc::Global;
 use table_trees::{PathPart, Tree};
 use tx_table::Snapshot;

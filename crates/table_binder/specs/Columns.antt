@@ -1,7 +1,7 @@
 -- The columns of a table, or their first fault (CREATE TABLE; 8 Data Types).
 use Rattle.std.specs.Prelude.{ℕ, nat_le, if◌then◌else◌, List, [], ◌∷◌, ◌++◌, Option, Some, None, is_some, unwrap_or, map, length, codes, Result}
 use Rattle.std.specs.Str.{bytes_eq}
-use Rattle.pg_ids.specs.declared.which.Which.TheVariants.{Columns as WhichColumns}
+use Rattle.pg_values.specs.declared.which.Which.TheVariants.{Columns as WhichColumns}
 use Rattle.pg_values.specs.declared.fault.Fault.{Fault}
 use Rattle.pg_values.specs.declared.value.Kind.{Kind}
 use Rattle.pg_values.specs.declared.value.Kind.TheVariants.{Int4 as KInt4, Int8 as KInt8, Text as KText, Day as KDay, Truth as KTruth}

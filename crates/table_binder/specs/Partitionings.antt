@@ -1,7 +1,7 @@
 -- The partition key of a table, or its first fault (CREATE TABLE, PARTITION BY; 5.11.2 Declarative Partitioning).
 use Rattle.std.specs.Prelude.{ℕ, ◌==◌, nat_le, List, [], ◌∷◌, ◌++◌, Option, is_some, unwrap_or, map, length, position, slice_index_or, Result}
 use Rattle.std.specs.Str.{bytes_eq}
-use Rattle.pg_ids.specs.declared.which.Which.TheVariants.{KeyColumns as WhichKeyColumns}
+use Rattle.pg_values.specs.declared.which.Which.TheVariants.{KeyColumns as WhichKeyColumns}
 use Rattle.pg_values.specs.declared.fault.Fault.{Fault}
 use Rattle.pg_values.specs.declared.value.Kind.TheVariants.{Text as KText}
 use Rattle.sql_ast.specs.declared.table_definition.Strategy.{Strategy as Word}

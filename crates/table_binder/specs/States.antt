@@ -1,8 +1,8 @@
 -- The faults of a table as it is made (Appendix A. PostgreSQL Error Codes). Where a state has several texts, the text
 -- with holes stands before what fills them.
 use Rattle.std.specs.Prelude.{ℕ, List, [], ◌∷◌, codes}
-use Rattle.pg_ids.specs.Words.{which_word}
-use Rattle.pg_ids.specs.declared.which.Which.{Which}
+use Rattle.pg_values.specs.Words.{which_word}
+use Rattle.pg_values.specs.declared.which.Which.{Which}
 use Rattle.pg_values.specs.declared.fault.Fault.{Fault}
 use Rattle.value_rules.specs.FaultTexts.{fault_of}
 

@@ -1,7 +1,7 @@
 ghost use Rattle.std.specs.Prelude.{◌≡◌, ◌++◌, ◌∷◌, [], map, nat_le, length, unwrap_or, OnOk, IfOk};
 ghost use Rattle.std.specs.List.{list_any};
 ghost use Rattle.std.specs.Str.{bytes_eq};
-ghost use Rattle.pg_ids.specs.declared.which.Which.TheVariants.{Columns as WhichColumns};
+ghost use Rattle.pg_values.specs.declared.which.Which.TheVariants.{Columns as WhichColumns};
 ghost use Rattle.pg_values.specs.Refusals.{IsAnswer};
 ghost use Rattle.expression_binder.specs.Firsts.{or_first, unless};
 ghost use Rattle.table_binder.specs.Columns as spec;
@@ -10,8 +10,7 @@ ghost use Rattle.table_binder.specs.States as states;
 
 use crate::faults::{column_twice, no_type, too_many};
 use history::{Column, Columns};
-use pg_ids::Which;
-use pg_values::{Kind, NoMemory, Refusal};
+use pg_values::{Kind, NoMemory, Refusal, Which};
 use sql_ast::{ColumnDefinition, ColumnList};
 use std::alloc::Global;
 

@@ -1,7 +1,7 @@
 ghost use Rattle.std.specs.Prelude.{◌≡◌, ◌++◌, ◌∷◌, [], All, map, nat_le, length, position, unwrap_or, OnOk, IfOk};
 ghost use Rattle.std.specs.List.{list_any};
 ghost use Rattle.std.specs.Str.{bytes_eq};
-ghost use Rattle.pg_ids.specs.declared.which.Which.TheVariants.{KeyColumns as WhichKeyColumns};
+ghost use Rattle.pg_values.specs.declared.which.Which.TheVariants.{KeyColumns as WhichKeyColumns};
 ghost use Rattle.pg_values.specs.Refusals.{IsAnswer};
 ghost use Rattle.history.specs.Places.{LiesIn};
 ghost use Rattle.expression_binder.specs.Firsts.{or_first, unless, IsAnswerBy};
@@ -13,8 +13,7 @@ use crate::faults::{list_takes_one, too_many, twice_in_key};
 use bound_forms::{KeyColumn, KeyColumns, Level, Strategy};
 use expression_binder::no_column;
 use history::Column;
-use pg_ids::Which;
-use pg_values::{NoMemory, PgText, Refusal};
+use pg_values::{NoMemory, PgText, Refusal, Which};
 use sql_ast::{Partitioning, Strategy as Word};
 use std::alloc::Global;
 

@@ -6,7 +6,7 @@ use Rattle.pg_values.specs.Refusals.{IsAnswer, or_first, unless}
 use Rattle.pg_values.specs.declared.fault.Fault.{Fault}
 use Rattle.pg_values.specs.declared.fault.Refusal.{Refusal}
 use Rattle.pg_values.specs.declared.fault.Refusal.TheVariants.{Sql, NoMemory}
-use Rattle.pg_ids.specs.declared.which.Which.TheVariants.{Tables}
+use Rattle.pg_values.specs.declared.which.Which.TheVariants.{Tables}
 use Rattle.history.specs.History.{History}
 use Rattle.part_catalog.specs.Found.{table_number}
 use Rattle.part_ddl.specs.Faults.{too_many}

@@ -6,9 +6,9 @@ use Rattle.std.proofs.lemmas.Bool.{cases_eq, cases_Bool}
 use Rattle.std.proofs.lemmas.Bool.Decides.{nat_tests}
 use Rattle.std.proofs.lemmas.Grind.{common_steps}
 use Rattle.std.proofs.lemmas.Nat.Bits.{bit_at-pow_same, bit_at-pow_other, bit_at-lt, same_from_bits}
-use Rattle.pg_ids.specs.Sets.{has, nobody}
-use Rattle.pg_ids.specs.declared.session_set.SessionSet.{SessionSet}
-use Rattle.pg_ids.proofs.Bits.{nobody_is}
+use Rattle.pg_values.specs.Sets.{has, nobody}
+use Rattle.pg_values.specs.declared.session_set.SessionSet.{SessionSet}
+use Rattle.pg_values.proofs.Bits.{nobody_is}
 use Rattle.history.specs.declared.transaction.Fate.{Fate}
 use Rattle.history.specs.declared.transaction.Fate.TheVariants.{Running, Committed, Aborted}
 use Rattle.history.specs.declared.catalogue.Table.{Table}
@@ -21,7 +21,7 @@ use Rattle.history.specs.History.{History, TxChange, SnapshotChange, RowChange, 
 use Rattle.history.specs.Presence.{is_own}
 use Rattle.history.specs.Waits.{is_cause, waits_with}
 use Rattle.soundness.proofs.Made.{made_was, same_table}
-use Rattle.lock_answers.specs.Asked.{AskedView, AtOnce, WaitsBehind, ClosesCycle, asked, asked_events, cycle_or_wait, least_cycle, those}
+use Rattle.lock_table.specs.Asked.{AskedView, AtOnce, WaitsBehind, ClosesCycle, asked, asked_events, cycle_or_wait, least_cycle, those}
 use Rattle.part_catalog.specs.Stands.{is_running}
 use Rattle.part_catalog.specs.Names.{last_below}
 use Rattle.part_catalog.specs.Found.{made_at, table_number, is_made_elsewhere, taken_by}

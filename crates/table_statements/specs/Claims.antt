@@ -1,6 +1,6 @@
 -- The name of a new table (the manual, CREATE TABLE; Index Uniqueness Checks).
 use Rattle.std.specs.Prelude.{ℕ, ◌^◌, List, [], Option, Some, None, Ok}
-use Rattle.pg_ids.specs.declared.session_set.SessionSet.{SessionSet}
+use Rattle.pg_values.specs.declared.session_set.SessionSet.{SessionSet}
 use Rattle.history.specs.declared.wait.WaitOn.TheVariants.{Ends}
 use Rattle.history.specs.History.{History}
 use Rattle.part_catalog.specs.Found.{taken_by}

@@ -1,7 +1,7 @@
 -- DROP TABLE of a session (the manual, DROP TABLE; 13.3.1 Table-Level Locks).
 use Rattle.std.specs.Prelude.{ℕ, ◌==◌, Bool, true, false, if◌then◌else◌, List, [], ◌∷◌, ◌++◌, Option, Some, None, map}
-use Rattle.pg_ids.specs.declared.ids.TableNo.{TableNo}
-use Rattle.pg_ids.specs.declared.lock_mode.LockMode.TheVariants.{AccessExclusive}
+use Rattle.pg_values.specs.declared.ids.TableNo.{TableNo}
+use Rattle.pg_values.specs.declared.lock_mode.LockMode.TheVariants.{AccessExclusive}
 use Rattle.history.specs.declared.catalogue.Stamp.{Stamp}
 use Rattle.history.specs.History.{History}
 use Rattle.history.specs.Presence.{entries_present}

@@ -2,7 +2,10 @@ pub mod Asked
 pub mod Claims
 pub mod Drops
 pub mod Laws
+pub mod Locked
 pub mod Partitions
+pub mod Places
 pub mod Refused
 pub mod Seen
+pub mod SeenLocks
 pub mod Tables

@@ -1,8 +1,8 @@
 -- CREATE TABLE, PARTITION OF, of a session (the manual, CREATE TABLE; 13.3.1 Table-Level Locks).
 use Rattle.std.specs.Prelude.{ℕ, List, [], Option, Some, None, Result, Ok, map}
 use Rattle.pg_values.specs.declared.fault.Fault.{Fault}
-use Rattle.pg_ids.specs.declared.ids.TableNo.{TableNo}
-use Rattle.pg_ids.specs.declared.lock_mode.LockMode.TheVariants.{AccessExclusive}
+use Rattle.pg_values.specs.declared.ids.TableNo.{TableNo}
+use Rattle.pg_values.specs.declared.lock_mode.LockMode.TheVariants.{AccessExclusive}
 use Rattle.bound_forms.specs.declared.level.Level.{Level}
 use Rattle.bound_forms.specs.declared.partition_bound.Bound.{Bound as MeantBound}
 use Rattle.history.specs.History.{History}

@@ -21,8 +21,7 @@ use legal_statements::{
 };
 use part_catalog::Catalog;
 use part_ddl::{default_of, drop_table};
-use pg_ids::{LockMode, TableNo};
-use pg_values::{NoMemory, PgText};
+use pg_values::{LockMode, NoMemory, PgText, TableNo};
 use soundness::legal_keeps_all;
 use statement_steps::{Caller, SessionNames, Stop, find_table, hold_if_repeatable, lock_tables};
 use std::alloc::Global;

@@ -1,5 +1,5 @@
 ghost use Rattle.std.specs.Prelude.{◌≡◌, ◌+◌, ◌<◌, ◌≤◌, ℕ, [], IfOk, length};
-ghost use Rattle.pg_ids.specs.Sets.{has};
+ghost use Rattle.pg_values.specs.Sets.{has};
 ghost use Rattle.pg_values.specs.Refusals.{IsAnswer};
 ghost use Rattle.history.specs.History.{History};
 ghost use Rattle.tx_table.specs.Stands.{TableStands};
@@ -35,8 +35,7 @@ use part_ddl::{
     tables_below,
 };
 use partition_scans::{judge_default, wait_for_snapshots};
-use pg_ids::{LockMode, SessionSet, TableNo};
-use pg_values::{NoMemory, PgText, Refusal};
+use pg_values::{LockMode, NoMemory, PgText, Refusal, SessionSet, TableNo};
 use soundness::{legal_keeps_all, sessions_have_siblings};
 use sql_ast::{BoundText, Partitioning};
 use statement_steps::{Caller, SessionNames, Stop, hold_if_repeatable, lock_named, lock_tables};

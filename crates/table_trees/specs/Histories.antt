@@ -2,7 +2,7 @@
 -- ALTER TABLE, DETACH PARTITION).
 use Rattle.std.specs.Prelude.{ℕ, zero, suc, ◌==◌, Bool, if◌then◌else◌, List, [], ◌∷◌, Option, Some, None, filter, find, map}
 use Rattle.std.specs.List.{position_or_len}
-use Rattle.pg_ids.specs.declared.ids.TableNo.{TableNo}
+use Rattle.pg_values.specs.declared.ids.TableNo.{TableNo}
 use Rattle.bound_forms.specs.declared.partition_bound.Bound.{Bound}
 use Rattle.bound_forms.specs.Bounds.{comes_after}
 use Rattle.history.specs.declared.catalogue.Table.{Table}

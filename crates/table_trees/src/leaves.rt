@@ -3,8 +3,7 @@ ghost use Rattle.table_trees.specs.Trees.{leaves};
 ghost use Rattle.table_trees.specs.Seen.{seen};
 
 use crate::{Shape, Tree};
-use pg_ids::LeafId;
-use pg_values::NoMemory;
+use pg_values::{LeafId, NoMemory};
 
 /// Puts the leaves of a tree behind the list, in plain order.
 pub fn push_leaves(tree: &Tree, out: &mut Vec<LeafId>) -> Result<(), NoMemory>

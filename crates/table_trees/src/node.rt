@@ -1,8 +1,7 @@
 ghost use Rattle.std.specs.Prelude.{◌≡◌, IfOk};
 
 use history::Columns;
-use pg_ids::TableNo;
-use pg_values::{NoMemory, PgText};
+use pg_values::{NoMemory, PgText, TableNo};
 use std::alloc::Global;
 
 /// What a tree says of a table by itself.

@@ -3,8 +3,7 @@ ghost use Rattle.std.specs.Prelude.{◌≡◌, ◌++◌, ◌∷◌, [], OnOk, On
 use bound_forms::Level;
 use history::KeptCheck;
 use part_bounds::BoundSet;
-use pg_ids::TableNo;
-use pg_values::{NoMemory, ValueKey};
+use pg_values::{NoMemory, TableNo, ValueKey};
 use std::alloc::Global;
 use std::marker::Model;
 

@@ -5,8 +5,7 @@ ghost use Rattle.table_trees.specs.Seen.{seen, items_of};
 use crate::Node;
 use bound_forms::Level;
 use part_bounds::BoundSet;
-use pg_ids::{LeafId, TableNo};
-use pg_values::ValueKey;
+use pg_values::{LeafId, TableNo, ValueKey};
 
 /// A table with what stands below it.
 #[cycle(tree)]

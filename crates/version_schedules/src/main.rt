@@ -28,8 +28,7 @@
 #![tactic(auto)]
 
 use history::{Fate, TxId};
-use pg_ids::{LeafId, RowId};
-use pg_values::{NoMemory, Row, Value};
+use pg_values::{LeafId, NoMemory, Row, RowId, Value};
 use row_store::{Newest, PutCause, PutRefused, RowStore, Trail};
 use std::alloc::Global;
 use std::io::{self, BufRead, BufReader, BufWriter, Write};

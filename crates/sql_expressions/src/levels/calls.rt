@@ -1,6 +1,6 @@
 ghost use Rattle.std.specs.Prelude.{◌<◌, ◌≤◌, ◌+◌, IfOk, length};
-ghost use Rattle.grammar_rules.specs.Gives.{Gives};
-ghost use Rattle.grammar_rules.specs.Repeats.{always, read_repeats, read_step};
+ghost use Rattle.grammar.specs.Gives.{Gives};
+ghost use Rattle.grammar.specs.Repeats.{always, read_repeats, read_step};
 ghost use Rattle.sql_expressions.specs.Grammar as grammar;
 ghost use Rattle.sql_expressions.specs.Levels as levels;
 ghost use Rattle.sql_expressions.specs.Views as views;
@@ -9,8 +9,7 @@ ghost use Rattle.sql_tokens.specs.Classes.{a};
 use crate::deep::{Deep, Parts, only_part};
 use crate::levels::conjunctions::disjunction;
 use crate::signs::expression_comes;
-use grammar_rules::Refused;
-use grammar_words::{comes, word};
+use grammar::{Refused, comes, word};
 use pg_values::PgText;
 use sql_ast::{Expr, ExprList};
 use sql_tokens::{Kind, Token};
@@ -87,7 +86,7 @@ pub(crate) fn list<'a>(
 }
 
 #[cycle(levels)]
-#[tactic(auto, unfolding(grammar_rules::specs::Repeats::read_step))]
+#[tactic(auto, unfolding(grammar::specs::Repeats::read_step))]
 fn item_step<'a>(
     alloc: Global,
     text: &[u8],

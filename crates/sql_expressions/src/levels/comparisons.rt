@@ -1,6 +1,6 @@
 ghost use Rattle.std.specs.Prelude.{◌≡◌, ◌<◌, ◌≤◌, ◌+◌, IfOk, true};
-ghost use Rattle.grammar_rules.specs.Gives.{Gives};
-ghost use Rattle.grammar_rules.specs.Reading.{begins_in};
+ghost use Rattle.grammar.specs.Gives.{Gives};
+ghost use Rattle.grammar.specs.Reading.{begins_in};
 ghost use Rattle.sql_expressions.specs.Grammar as grammar;
 ghost use Rattle.sql_expressions.specs.Levels as levels;
 ghost use Rattle.sql_expressions.specs.Views as views;
@@ -9,8 +9,7 @@ use crate::deep::{Deep, between, binary, in_list};
 use crate::levels::calls::list;
 use crate::levels::sums::chain_of_operators;
 use crate::signs::{Chain, comparison_comes, operator_of, sign, test_comes};
-use grammar_rules::Refused;
-use grammar_words::{comes, word};
+use grammar::{Refused, comes, word};
 use sql_tokens::{Kind, Token};
 use std::alloc::Global;
 

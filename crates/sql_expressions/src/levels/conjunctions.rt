@@ -1,6 +1,6 @@
 ghost use Rattle.std.specs.Prelude.{◌<◌, ◌≤◌, IfOk, length};
-ghost use Rattle.grammar_rules.specs.Gives.{Gives};
-ghost use Rattle.grammar_rules.specs.Repeats.{read_repeats, read_step};
+ghost use Rattle.grammar.specs.Gives.{Gives};
+ghost use Rattle.grammar.specs.Repeats.{read_repeats, read_step};
 ghost use Rattle.sql_expressions.specs.Grammar as grammar;
 ghost use Rattle.sql_expressions.specs.Levels as levels;
 ghost use Rattle.sql_expressions.specs.Views as views;
@@ -8,7 +8,7 @@ ghost use Rattle.sql_expressions.specs.Views as views;
 use crate::deep::{Deep, Parts, node_of, only_part};
 use crate::levels::negations::negation;
 use crate::signs::{Joint, joint_comes, sign};
-use grammar_rules::Refused;
+use grammar::Refused;
 use sql_tokens::Token;
 use std::alloc::Global;
 
@@ -84,7 +84,7 @@ fn more_of_joint<'a>(
 }
 
 #[cycle(levels)]
-#[tactic(auto, unfolding(grammar_rules::specs::Repeats::read_step))]
+#[tactic(auto, unfolding(grammar::specs::Repeats::read_step))]
 fn part_step<'a>(
     alloc: Global,
     text: &[u8],

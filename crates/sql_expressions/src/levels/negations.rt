@@ -1,6 +1,6 @@
 ghost use Rattle.std.specs.Prelude.{◌<◌, ◌≤◌, ◌+◌, IfOk, length};
-ghost use Rattle.grammar_rules.specs.Gives.{Gives};
-ghost use Rattle.grammar_rules.specs.Repeats.{read_repeats, read_step};
+ghost use Rattle.grammar.specs.Gives.{Gives};
+ghost use Rattle.grammar.specs.Repeats.{read_repeats, read_step};
 ghost use Rattle.sql_expressions.specs.Grammar as grammar;
 ghost use Rattle.sql_expressions.specs.Levels as levels;
 ghost use Rattle.sql_expressions.specs.Views as views;
@@ -8,8 +8,7 @@ ghost use Rattle.sql_tokens.specs.Classes.{a};
 
 use crate::deep::{Deep, inverted, is_null};
 use crate::levels::comparisons::comparison;
-use grammar_rules::Refused;
-use grammar_words::{comes, word};
+use grammar::{Refused, comes, word};
 use sql_tokens::{Kind, Token};
 use std::alloc::Global;
 
@@ -26,7 +25,7 @@ fn null_or_not(tokens: &[Token]) -> Result<(bool, &[Token]), Refused>
     Ok((false, rest))
 }
 
-#[tactic(auto, unfolding(grammar_rules::specs::Repeats::read_step))]
+#[tactic(auto, unfolding(grammar::specs::Repeats::read_step))]
 fn null_step<'a>(
     alloc: Global,
     left: Deep,

@@ -1,5 +1,5 @@
 ghost use Rattle.std.specs.Prelude.{◌<◌, ◌≤◌, ◌+◌, IfOk};
-ghost use Rattle.grammar_rules.specs.Gives.{Gives};
+ghost use Rattle.grammar.specs.Gives.{Gives};
 ghost use Rattle.sql_expressions.specs.Grammar as grammar;
 ghost use Rattle.sql_expressions.specs.Levels as levels;
 ghost use Rattle.sql_expressions.specs.Views as views;
@@ -9,8 +9,7 @@ use crate::levels::calls::called;
 use crate::levels::conjunctions::disjunction;
 use crate::signs::nested_comes;
 use crate::words::{column, literal, name};
-use grammar_rules::Refused;
-use grammar_words::{comes, name_comes, word};
+use grammar::{Refused, comes, name_comes, word};
 use sql_ast::Expr;
 use sql_tokens::{Kind, Token};
 use std::alloc::Global;

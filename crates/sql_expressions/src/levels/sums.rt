@@ -1,6 +1,6 @@
 ghost use Rattle.std.specs.Prelude.{◌<◌, ◌≤◌, IfOk, length};
-ghost use Rattle.grammar_rules.specs.Gives.{Gives};
-ghost use Rattle.grammar_rules.specs.Repeats.{read_repeats, read_step};
+ghost use Rattle.grammar.specs.Gives.{Gives};
+ghost use Rattle.grammar.specs.Repeats.{read_repeats, read_step};
 ghost use Rattle.sql_expressions.specs.Grammar as grammar;
 ghost use Rattle.sql_expressions.specs.Levels as levels;
 ghost use Rattle.sql_expressions.specs.Views as views;
@@ -8,7 +8,7 @@ ghost use Rattle.sql_expressions.specs.Views as views;
 use crate::deep::{Deep, binary};
 use crate::levels::operands::unary;
 use crate::signs::{Chain, operator_of, sign, sign_comes};
-use grammar_rules::Refused;
+use grammar::Refused;
 use sql_tokens::Token;
 use std::alloc::Global;
 
@@ -64,7 +64,7 @@ pub(crate) fn chain_of_operators<'a>(
 }
 
 #[cycle(levels)]
-#[tactic(auto, unfolding(grammar_rules::specs::Repeats::read_step))]
+#[tactic(auto, unfolding(grammar::specs::Repeats::read_step))]
 fn operand_step<'a>(
     alloc: Global,
     text: &[u8],

@@ -1,7 +1,7 @@
 use Rattle.std.proofs.Common.{◌≡◌, ◌∙◌, ◌+◌, ℕ, [], Result, Ok, Err, refl, ap, subst, arith, length}
 use Rattle.std.specs.Prelude.{nat_le}
 use Rattle.std.proofs.lemmas.Result.{err_from_is_err_and}
-use Rattle.pg_ids.specs.declared.which.Which.TheVariants.{Levels}
+use Rattle.pg_values.specs.declared.which.Which.TheVariants.{Levels}
 use Rattle.pg_values.specs.Refusals.{IsAnswer, or_first, unless}
 use Rattle.pg_values.specs.declared.fault.Refusal.{Refusal}
 use Rattle.bound_forms.specs.declared.partition_bound.Bound.{Bound}

@@ -1,5 +1,5 @@
 use Rattle.change_binder.proofs.Settings.{faults_next, made_next}
-use Rattle.statement_asks.specs.Asked.{setting_meant}
+use Rattle.cond_logic.specs.Asked.{setting_meant}
 use Rattle.change_binder.proofs.changes.bind_settings.Goals as goal
 
 pub loop-assignment-preserved : goal.loop-assignment-preserved

@@ -1,7 +1,7 @@
 use Rattle.std.proofs.Common.{◌≡◌, ◌++◌, map, drop}
 use Rattle.sql_ast.specs.Queries.{setting}
 use Rattle.change_binder.specs.Changes.{settings_constants, settings_meant}
-use Rattle.statement_asks.specs.Asked.{setting_meant}
+use Rattle.cond_logic.specs.Asked.{setting_meant}
 use Rattle.change_binder.proofs.changes.bind_settings.Given as goal
 
 -- no setting so far has a fault, and they stand before the rest

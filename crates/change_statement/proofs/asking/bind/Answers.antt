@@ -1,6 +1,6 @@
 use Rattle.std.proofs.Common.{ap, sym, subst, ◌∙◌, Err}
 use Rattle.history.specs.declared.catalogue.Table.{Table}
-use Rattle.statement_asks.specs.Asked.{change_meant}
+use Rattle.cond_logic.specs.Asked.{change_meant}
 use Rattle.statement_steps.specs.Steps.{IsStep}
 use Rattle.change_statement.specs.Gathered.{meant, table_named, settings_of, condition_of}
 use Rattle.change_statement.proofs.Found.{bound_done, bound_refused}

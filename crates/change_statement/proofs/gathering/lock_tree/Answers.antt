@@ -1,6 +1,6 @@
 use Rattle.std.proofs.Common.{◌∙◌, [], ap, subst, Ok, Err}
 use Rattle.table_trees.specs.Seen.{seen}
-use Rattle.statement_asks.specs.Asked.{change_meant}
+use Rattle.cond_logic.specs.Asked.{change_meant}
 use Rattle.statement_steps.specs.Made.{made}
 use Rattle.statement_steps.proofs.Parts.{nothing_done, no_memory, stays}
 use Rattle.statement_steps.proofs.Steps.{then_step, stop_step, may_go_on}

@@ -1,5 +1,5 @@
 use Rattle.std.proofs.Common.{◌≡◌, ◌++◌, drop, map}
-use Rattle.pruned_trees.specs.Kept.{id_of}
+use Rattle.plan_tree.specs.Kept.{id_of}
 use Rattle.change_statement.proofs.keeping.ids_of.Given as goal
 
 abbrev pub invariant-loop-leaf : goal.invariant-loop-leaf

@@ -1,5 +1,5 @@
 use Rattle.std.proofs.Common.{◌≡◌, drop, map}
-use Rattle.statement_asks.specs.Asked.{setting_meant}
+use Rattle.cond_logic.specs.Asked.{setting_meant}
 use Rattle.change_statement.specs.Kept.{is_set}
 use Rattle.change_statement.proofs.keeping.is_set.Given as goal
 

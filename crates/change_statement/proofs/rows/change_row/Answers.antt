@@ -1,7 +1,7 @@
 use Rattle.std.proofs.Common.{rules, ◌≡◌, ◌≢◌, ◌+◌, refl, sym, ◌∙◌, subst, Ok, Err}
 use Rattle.statement_steps.specs.declared.stop.Stop.{Stop}
 use Rattle.insert_statement.specs.Asked.{stopped}
-use Rattle.row_targets.specs.Verdicts.{updater_meant, Changes, PassesBy, WaitsFor, Refuses}
+use Rattle.change_statement.specs.Verdicts.{updater_meant, Changes, PassesBy, WaitsFor, Refuses}
 use Rattle.change_statement.specs.Changing.{changing}
 use Rattle.change_statement.specs.Gathered.{found_of}
 use Rattle.change_statement.specs.Running.{IsRun}

@@ -1,5 +1,5 @@
 use Rattle.std.proofs.Common.{◌<◌, All, sym, subst}
-use Rattle.pg_ids.specs.declared.ids.LeafId.{LeafId}
+use Rattle.pg_values.specs.declared.ids.LeafId.{LeafId}
 use Rattle.change_statement.specs.Gathered.{found_of}
 use Rattle.change_statement.proofs.Kept.{leaves_there}
 use Rattle.change_statement.proofs.rows.find.Goals as goal

@@ -1,6 +1,6 @@
 use Rattle.std.proofs.Common.{◌≡◌, [], ◌∷◌, List, ◌∙◌, Ok, Err, sym, subst, All, length}
 use Rattle.std.proofs.lemmas.List.Elements.{All-cons, All-nil, All-head}
-use Rattle.pg_ids.specs.declared.ids.LeafId.{LeafId}
+use Rattle.pg_values.specs.declared.ids.LeafId.{LeafId}
 use Rattle.pg_values.specs.Refusals.{IsAnswer}
 use Rattle.row_change.specs.Placing.{placed, all_placed, CanBePlaced, IsPartNumbered}
 use Rattle.row_change.specs.Targets.{HasWay}

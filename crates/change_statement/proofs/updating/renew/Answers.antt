@@ -3,8 +3,8 @@ use Rattle.pg_values.specs.declared.value.Value.{Value}
 use Rattle.pg_values.specs.Refusals.{IsAnswer}
 use Rattle.history.specs.declared.catalogue.Table.{Table}
 use Rattle.part_catalog.specs.Found.{made_at}
-use Rattle.row_targets.specs.NewRows.{new_row}
-use Rattle.statement_asks.specs.Asked.{change_meant, setting_meant}
+use Rattle.change_statement.specs.NewRows.{new_row}
+use Rattle.cond_logic.specs.Asked.{change_meant, setting_meant}
 use Rattle.change_statement.proofs.Renewed.{same_or_none, only_rows}
 use Rattle.change_statement.proofs.updating.renew.Goals as goal
 

@@ -1,5 +1,5 @@
 use Rattle.std.proofs.Common.{refl}
-use Rattle.pg_ids.specs.declared.ids.LeafId.{LeafId}
+use Rattle.pg_values.specs.declared.ids.LeafId.{LeafId}
 use Rattle.row_change.proofs.Successors.{keeps_all}
 use Rattle.change_statement.specs.Gathered.{found_of}
 use Rattle.change_statement.specs.Updated.{rehoused, stored_in}

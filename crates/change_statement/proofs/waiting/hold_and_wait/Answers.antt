@@ -1,5 +1,5 @@
 use Rattle.std.proofs.Common.{◌<◌, All, Err, length, sym, subst}
-use Rattle.pg_ids.specs.declared.ids.RowId.{RowId}
+use Rattle.pg_values.specs.declared.ids.RowId.{RowId}
 use Rattle.stores.specs.declared.stores.Stores.{Stores}
 use Rattle.statement_steps.proofs.Steps.{then_step, stop_step, may_go_on}
 use Rattle.change_statement.specs.Changed.{held_now, waits_for_end}

@@ -1,5 +1,5 @@
 use Rattle.std.proofs.Common.{ℕ, Bool, ◌&&◌, ◌||◌, nat_lt, ap, ◌∙◌}
-use Rattle.pg_ids.specs.Sets.{has}
+use Rattle.pg_values.specs.Sets.{has}
 use Rattle.detach_statement.specs.Finalized.{is_unseeing}
 use Rattle.detach_statement.proofs.Waits.{one_more}
 use Rattle.detach_statement.proofs.finalizing.all_unseeing.Goals as goal

@@ -1,5 +1,5 @@
 use Rattle.std.proofs.Common.{◌≡◌, ℕ, ◌&&◌, nat_lt}
-use Rattle.pg_ids.specs.Sets.{has}
+use Rattle.pg_values.specs.Sets.{has}
 use Rattle.history.specs.History.{History}
 use Rattle.tx_table.specs.Stands.{TableStands}
 use Rattle.detach_statement.specs.Finalized.{is_unseeing}

@@ -1,5 +1,5 @@
 use Rattle.std.proofs.Common.{◌+◌, Err}
-use Rattle.pg_ids.specs.declared.lock_mode.LockMode.TheVariants.{ShareUpdateExclusive, AccessExclusive}
+use Rattle.pg_values.specs.declared.lock_mode.LockMode.TheVariants.{ShareUpdateExclusive, AccessExclusive}
 use Rattle.statement_steps.specs.Attempts.{MayAttempt}
 use Rattle.statement_steps.specs.Asks.{named_still}
 use Rattle.statement_steps.specs.Steps.{follow}

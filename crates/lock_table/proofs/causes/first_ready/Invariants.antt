@@ -1,5 +1,5 @@
 use Rattle.std.proofs.Common.{◌≡◌, drop, find}
-use Rattle.pg_ids.specs.Sets.{nobody}
+use Rattle.pg_values.specs.Sets.{nobody}
 use Rattle.history.specs.Locks.{LockEvents}
 use Rattle.history.specs.Waits.{waits_for, ready}
 use Rattle.lock_table.specs.Stands.{Tells}

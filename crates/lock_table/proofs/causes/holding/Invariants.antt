@@ -1,5 +1,5 @@
 use Rattle.std.proofs.Common.{◌≡◌, ℕ, List, Option, take}
-use Rattle.pg_ids.specs.Sets.{has}
+use Rattle.pg_values.specs.Sets.{has}
 use Rattle.history.specs.declared.wait.Wanted.{Wanted}
 use Rattle.history.specs.Locks.{LockEvents, holds_one_of}
 use Rattle.lock_table.specs.Stands.{Tells}

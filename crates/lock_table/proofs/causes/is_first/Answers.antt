@@ -1,6 +1,6 @@
 use Rattle.std.proofs.Common.{◌≡◌, ◌==◌, true, sym, ap, ◌∙◌, refl, arith}
 use Rattle.std.proofs.lemmas.Bool.Decides.{nat_tests}
-use Rattle.pg_ids.specs.Modes.{conflicts}
+use Rattle.pg_values.specs.Modes.{conflicts}
 use Rattle.history.specs.Locks.{holds_against}
 use Rattle.lock_table.proofs.causes.is_first.Goals as goal
 

@@ -1,6 +1,6 @@
 use Rattle.std.proofs.Common.{◌≡◌, ℕ, ◌&&◌, ◌||◌, drop, nat_eq}
 use Rattle.std.specs.List.{list_any}
-use Rattle.pg_ids.specs.Sets.{has}
+use Rattle.pg_values.specs.Sets.{has}
 use Rattle.history.specs.Locks.{LockEvents, holds_against, wanted, queue}
 use Rattle.history.specs.Waits.{wants_against, before}
 use Rattle.lock_table.specs.Stands.{Tells}

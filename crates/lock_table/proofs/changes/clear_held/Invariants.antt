@@ -1,6 +1,6 @@
 use Rattle.std.proofs.Common.{◌≡◌, ◌==◌, ◌&&◌, not, ◌<◌, ◌≤◌, ℕ, length, slice_index_or}
 use Rattle.std.specs.Prelude.{vec_capacity}
-use Rattle.pg_ids.specs.Sets.{has, empty}
+use Rattle.pg_values.specs.Sets.{has, empty}
 use Rattle.lock_table.proofs.changes.clear_held.Given as goal
 
 abbrev pub invariant-loop-i : goal.invariant-loop-i

@@ -1,5 +1,5 @@
 use Rattle.std.proofs.Common.{◌≡◌, ◌≤◌, ◌&&◌, arith}
-use Rattle.pg_ids.specs.Sets.{nobody}
+use Rattle.pg_values.specs.Sets.{nobody}
 use Rattle.lock_table.specs.Graph.{edge}
 use Rattle.lock_table.proofs.Chains.{all_rows, row_more}
 use Rattle.lock_table.proofs.cycle.behind.Goals as goal

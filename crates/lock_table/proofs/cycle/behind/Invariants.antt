@@ -1,5 +1,5 @@
 use Rattle.std.proofs.Common.{◌≡◌, ℕ, Bool, ◌&&◌, not, nat_lt}
-use Rattle.pg_ids.specs.Sets.{has, nobody}
+use Rattle.pg_values.specs.Sets.{has, nobody}
 use Rattle.lock_table.specs.Graph.{edge}
 use Rattle.lock_table.proofs.cycle.behind.Given as goal
 

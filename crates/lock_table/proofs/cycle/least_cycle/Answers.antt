@@ -1,7 +1,7 @@
 use Rattle.std.proofs.Common.{◌≡◌, ◌+◌, ◌<◌, ◌==◌, ◌||◌, ℕ, Bool, true, false, sym, ap, ◌∙◌, arith}
 use Rattle.std.proofs.lemmas.Grind.{common_steps}
 use Rattle.std.proofs.lemmas.Bool.Decides.{nat_tests}
-use Rattle.pg_ids.specs.Sets.{has}
+use Rattle.pg_values.specs.Sets.{has}
 use Rattle.lock_table.specs.Graph.{leads}
 use Rattle.lock_table.proofs.Chains.{leads_more, free_of}
 use Rattle.lock_table.proofs.Searches.{searched_first, searched_more, found_room, shortest_of}

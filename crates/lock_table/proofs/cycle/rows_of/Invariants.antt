@@ -1,5 +1,5 @@
 use Rattle.std.proofs.Common.{◌≡◌, ◌<◌, ◌≤◌, ℕ, length, slice_index_or}
-use Rattle.pg_ids.specs.Sets.{empty}
+use Rattle.pg_values.specs.Sets.{empty}
 use Rattle.history.specs.Locks.{LockEvents}
 use Rattle.history.specs.Waits.{waits_for}
 use Rattle.lock_table.specs.Graph.{edge}

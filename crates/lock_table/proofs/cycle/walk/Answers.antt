@@ -1,5 +1,5 @@
 use Rattle.std.proofs.Common.{◌≡◌, ◌-◌, ◌+◌, ◌<◌, ◌≤◌, true, [], ◌∷◌, ◌++◌, refl, sym, ap, ◌∙◌, arith}
-use Rattle.pg_ids.specs.Lists.{listed}
+use Rattle.pg_values.specs.Lists.{listed}
 use Rattle.lock_table.specs.Graph.{edge, leads}
 use Rattle.lock_table.proofs.Chains.{leads_below}
 use Rattle.lock_table.proofs.Walks.{begun_first, begun_more, begun_new, begun_last, level_on, level_least, level_none}

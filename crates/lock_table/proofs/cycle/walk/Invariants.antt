@@ -1,4 +1,4 @@
-use Rattle.pg_ids.specs.Lists.{listed}
+use Rattle.pg_values.specs.Lists.{listed}
 use Rattle.lock_table.proofs.Ways.{IsBegun}
 use Rattle.lock_table.proofs.cycle.walk.Given as goal
 

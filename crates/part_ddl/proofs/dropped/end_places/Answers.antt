@@ -1,6 +1,6 @@
 use Rattle.std.proofs.Common.{◌≡◌, ◌+◌, ◌∷◌, [], List, drop, get_or, refl, subst}
 use Rattle.std.proofs.lemmas.List.{drop_more, drop_all}
-use Rattle.pg_ids.specs.declared.ids.TableNo.{TableNo}
+use Rattle.pg_values.specs.declared.ids.TableNo.{TableNo}
 use Rattle.history.specs.declared.catalogue.Stamp.{Stamp}
 use Rattle.history.specs.History.{tx_events}
 use Rattle.history.specs.Transactions.{session_of}

@@ -1,6 +1,6 @@
 use Rattle.std.proofs.Common.{◌≡◌, ◌+◌, ◌∷◌, List, drop, get_or, subst}
 use Rattle.std.proofs.lemmas.List.{drop_more}
-use Rattle.pg_ids.specs.declared.ids.TableNo.{TableNo}
+use Rattle.pg_values.specs.declared.ids.TableNo.{TableNo}
 use Rattle.history.specs.declared.catalogue.Stamp.{Stamp}
 use Rattle.part_ddl.specs.Dropped.{MayDropAll}
 use Rattle.part_ddl.proofs.Going.{Dropping, first_there, rest_droppable, dropping_next}

@@ -1,5 +1,5 @@
 use Rattle.std.proofs.Common.{◌≡◌, ◌<◌, List, ◌++◌, ◌∙◌, ap, sym, subst, All}
-use Rattle.pg_ids.specs.declared.ids.LeafId.{LeafId}
+use Rattle.pg_values.specs.declared.ids.LeafId.{LeafId}
 use Rattle.table_trees.specs.Histories.{ddl_tree}
 use Rattle.table_trees.specs.Seen.{seen}
 use Rattle.table_trees.specs.Trees.{leaves}

@@ -1,8 +1,8 @@
 use Rattle.std.proofs.Common.{◌<◌, ◌^◌, inl, inr, arith}
 use Rattle.std.proofs.lemmas.Bool.{cases_Bool}
 use Rattle.std.proofs.lemmas.Grind.{common_steps}
-use Rattle.pg_ids.specs.Sets.{has}
-use Rattle.pg_ids.proofs.Bits.{has_below}
+use Rattle.pg_values.specs.Sets.{has}
+use Rattle.pg_values.proofs.Bits.{has_below}
 use Rattle.partition_scans.proofs.low.sessions_are_low.Goals as goal
 
 pub returns : goal.returns

@@ -1,6 +1,6 @@
 use Rattle.std.proofs.Common.{◌≡◌, map, drop}
 use Rattle.std.specs.Option.{option_or}
-use Rattle.pg_ids.specs.declared.ids.LeafId.{LeafId}
+use Rattle.pg_values.specs.declared.ids.LeafId.{LeafId}
 use Rattle.table_trees.specs.Trees.{trees_of}
 use Rattle.table_trees.specs.Seen.{seen}
 use Rattle.row_change.specs.Places.{noted}

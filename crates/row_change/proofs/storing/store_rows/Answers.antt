@@ -3,7 +3,7 @@ use Rattle.std.specs.List.{All}
 use Rattle.std.proofs.lemmas.Grind.{common_steps}
 use Rattle.std.proofs.Common.{arith}
 use Rattle.std.proofs.lemmas.List.Elements.{All-tail}
-use Rattle.pg_ids.specs.declared.ids.LeafId.{LeafId}
+use Rattle.pg_values.specs.declared.ids.LeafId.{LeafId}
 use Rattle.row_change.specs.Storing.{all_stored, FitsTargets, IsLeafKnown}
 use Rattle.row_change.proofs.Rows.{row_stored, rows_done}
 use Rattle.row_change.proofs.storing.store_rows.Goals as goal

@@ -1,7 +1,7 @@
 use Rattle.std.proofs.Common.{◌≡◌, ◌<◌, [], map, length, slice_index_or, arith}
 use Rattle.std.proofs.lemmas.Grind.{common_steps, elements}
 use Rattle.std.proofs.lemmas.List.Elements.{Contains-get_or}
-use Rattle.pg_ids.specs.declared.ids.LeafId.{LeafId}
+use Rattle.pg_values.specs.declared.ids.LeafId.{LeafId}
 use Rattle.row_store.specs.Kept.{stored_at}
 use Rattle.row_store.proofs.Judging.{no_leaf, listed_kept, numbers_below, leaf_suits, leaf_passes, leaf_seen, leaf_refuses}
 use Rattle.row_store.proofs.judge.judge_leaves.Goals as goal

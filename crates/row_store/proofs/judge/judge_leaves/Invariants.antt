@@ -1,5 +1,5 @@
 use Rattle.std.proofs.Common.{◌≡◌, ℕ, None, take}
-use Rattle.pg_ids.specs.Sets.{has}
+use Rattle.pg_values.specs.Sets.{has}
 use Rattle.row_store.specs.Judged.{all_kept_in, refusing_by, seeing_by}
 use Rattle.row_store.proofs.judge.judge_leaves.Given as goal
 

@@ -1,5 +1,5 @@
 use Rattle.std.proofs.Common.{◌≡◌, ℕ, None, map, take}
-use Rattle.pg_ids.specs.Sets.{has}
+use Rattle.pg_values.specs.Sets.{has}
 use Rattle.row_store.specs.Kept.{stored_at}
 use Rattle.row_store.specs.Judged.{refusing_by, seeing_by}
 use Rattle.row_store.proofs.judge.judge_versions.Given as goal

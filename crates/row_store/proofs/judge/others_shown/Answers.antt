@@ -1,5 +1,5 @@
 use Rattle.std.proofs.Common.{◌==◌, ◌&&◌, not, arith}
-use Rattle.pg_ids.specs.Sets.{has}
+use Rattle.pg_values.specs.Sets.{has}
 use Rattle.row_store.specs.Judged.{is_held_shown}
 use Rattle.row_store.proofs.Judging.{next_session, all_sessions}
 use Rattle.row_store.proofs.judge.others_shown.Goals as goal

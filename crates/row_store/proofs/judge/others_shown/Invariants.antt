@@ -1,5 +1,5 @@
 use Rattle.std.proofs.Common.{◌≡◌, ℕ, ◌==◌, ◌&&◌, not, nat_lt}
-use Rattle.pg_ids.specs.Sets.{has}
+use Rattle.pg_values.specs.Sets.{has}
 use Rattle.row_store.specs.Judged.{is_held_shown}
 use Rattle.row_store.proofs.judge.others_shown.Given as goal
 

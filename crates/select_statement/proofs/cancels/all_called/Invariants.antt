@@ -1,5 +1,5 @@
 use Rattle.std.proofs.Common.{◌≡◌, ◌++◌, drop, map}
-use Rattle.statement_asks.specs.Asked.{output_tree}
+use Rattle.cond_logic.specs.Asked.{output_tree}
 use Rattle.select_statement.specs.Cancels as cancels
 use Rattle.select_statement.proofs.cancels.all_called.Given as goal
 

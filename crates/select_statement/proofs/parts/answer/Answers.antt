@@ -1,6 +1,6 @@
 use Rattle.std.proofs.Common.{◌+◌}
 use Rattle.pg_values.specs.declared.answer.Answer.{Answer}
-use Rattle.statement_asks.specs.Asked.{select_meant}
+use Rattle.cond_logic.specs.Asked.{select_meant}
 use Rattle.plan_tree.specs.Plans.{planned}
 use Rattle.statement_steps.proofs.Parts.{stays, no_memory}
 use Rattle.select_statement.specs.Selected.{answered}

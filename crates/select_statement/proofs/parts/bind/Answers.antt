@@ -1,7 +1,7 @@
 use Rattle.std.proofs.Common.{[], sym, subst, Err}
 use Rattle.sql_ast.specs.Queries.{select_tree}
 use Rattle.sql_binder.specs.Selects.{bound_select}
-use Rattle.statement_asks.specs.Asked.{select_meant}
+use Rattle.cond_logic.specs.Asked.{select_meant}
 use Rattle.statement_steps.specs.Steps.{IsStep}
 use Rattle.select_statement.specs.Selected.{meant}
 use Rattle.select_statement.proofs.Steps.{outcome_done, outcome_refused}

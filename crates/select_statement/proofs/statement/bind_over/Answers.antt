@@ -2,7 +2,7 @@ use Rattle.std.proofs.Common.{[], ◌≤◌, arith, map, length, subst, sym}
 use Rattle.table_trees.specs.Seen.{seen}
 use Rattle.sql_ast.specs.Queries.{select_tree}
 use Rattle.sql_binder.specs.Selects.{from_of}
-use Rattle.statement_asks.specs.Asked.{select_meant}
+use Rattle.cond_logic.specs.Asked.{select_meant}
 use Rattle.statement_steps.specs.Steps.{IsStep}
 use Rattle.select_statement.specs.Items.{items_of}
 use Rattle.select_statement.proofs.Whole.{too_many_meant, none_meant}

@@ -2,7 +2,7 @@ use Rattle.std.proofs.Common.{◌+◌, ◌∙◌, ap, map, subst}
 use Rattle.pg_values.specs.declared.answer.Answer.{Answer}
 use Rattle.table_trees.specs.Seen.{seen}
 use Rattle.cond_logic.specs.Trees.{cond_tree}
-use Rattle.statement_asks.specs.Asked.{select_meant}
+use Rattle.cond_logic.specs.Asked.{select_meant}
 use Rattle.plan_tree.specs.Plans.{Planned, plan_for}
 use Rattle.statement_steps.specs.Steps.{IsStep}
 use Rattle.statement_steps.proofs.Parts.{stays, no_memory}

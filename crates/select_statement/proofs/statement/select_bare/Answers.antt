@@ -1,7 +1,7 @@
 use Rattle.std.proofs.Common.{◌+◌, ◌-◌, []}
 use Rattle.pg_values.specs.declared.answer.Answer.{Answer}
 use Rattle.sql_ast.specs.Queries.{select_tree}
-use Rattle.statement_asks.specs.Asked.{select_meant}
+use Rattle.cond_logic.specs.Asked.{select_meant}
 use Rattle.statement_steps.proofs.Steps.{then_step, stop_step}
 use Rattle.select_statement.specs.Cancels.{cancels_itself}
 use Rattle.select_statement.specs.Selected.{meant, answered, bare_plan, uncancelled}

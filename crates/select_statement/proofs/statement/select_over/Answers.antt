@@ -3,7 +3,7 @@ use Rattle.pg_values.specs.declared.answer.Answer.{Answer}
 use Rattle.table_trees.specs.Seen.{seen}
 use Rattle.sql_ast.specs.Queries.{select_tree}
 use Rattle.sql_binder.specs.Selects.{from_of}
-use Rattle.statement_asks.specs.Asked.{select_meant}
+use Rattle.cond_logic.specs.Asked.{select_meant}
 use Rattle.plan_tree.specs.Plans.{plan_for}
 use Rattle.statement_steps.proofs.Steps.{then_step, stop_step}
 use Rattle.select_statement.specs.Items.{items_of}

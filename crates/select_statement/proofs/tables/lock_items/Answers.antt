@@ -1,7 +1,7 @@
 use Rattle.std.proofs.Common.{rules, ◌≡◌, ◌∷◌, ◌++◌, [], ap, arith, length, map, refl, subst, Ok, Err}
 use Rattle.std.proofs.lemmas.List.{length-map, nil_from_length}
-use Rattle.pg_ids.specs.declared.ids.TableNo.{TableNo}
-use Rattle.pg_ids.specs.declared.lock_mode.LockMode.TheVariants.{AccessShare}
+use Rattle.pg_values.specs.declared.ids.TableNo.{TableNo}
+use Rattle.pg_values.specs.declared.lock_mode.LockMode.TheVariants.{AccessShare}
 use Rattle.sql_ast.specs.Queries.{joined_tree}
 use Rattle.statement_steps.specs.Asks.{named}
 use Rattle.statement_steps.specs.Steps.{IsStep}

@@ -1,5 +1,5 @@
 use Rattle.std.proofs.Common.{◌≡◌, List, None, subst, nat_lt}
-use Rattle.pg_ids.specs.declared.which.Which.TheVariants as which
+use Rattle.pg_values.specs.declared.which.Which.TheVariants as which
 use Rattle.spec_reader.specs.Faults.{first_told, permutation_limit, session_limit, setup_limit, told}
 use Rattle.spec_reader.specs.Finds.{Finds}
 use Rattle.spec_reader.specs.declared.fault.SpecFault.TheVariants.{Limit}

@@ -1,6 +1,6 @@
 use Rattle.std.proofs.Common.{◌≡◌, ◌++◌, map, drop}
 use Rattle.sql_binder.specs.Items.{all_outputs}
-use Rattle.statement_asks.specs.Asked.{output_tree}
+use Rattle.cond_logic.specs.Asked.{output_tree}
 use Rattle.sql_binder.proofs.items.add_all_outputs.Given as goal
 
 -- the columns so far stand before the rest

@@ -1,7 +1,7 @@
 use Rattle.std.proofs.Common.{◌≡◌, ◌++◌, map, drop}
 use Rattle.sql_ast.specs.Queries.{item_tree}
 use Rattle.sql_binder.specs.Items.{list_constants, list_outputs}
-use Rattle.statement_asks.specs.Asked.{output_tree}
+use Rattle.cond_logic.specs.Asked.{output_tree}
 use Rattle.sql_binder.proofs.items.bind_list.Given as goal
 
 -- no item so far has a fault, and its columns stand before those of the rest

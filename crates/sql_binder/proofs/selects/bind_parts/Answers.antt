@@ -1,7 +1,7 @@
 use Rattle.std.proofs.Common.{map}
 use Rattle.cond_logic.specs.Trees.{cond_tree}
 use Rattle.sql_ast.specs.Queries.{item_tree, joined_tree, key_tree, maybe_tree}
-use Rattle.statement_asks.specs.Asked.{output_tree}
+use Rattle.cond_logic.specs.Asked.{output_tree}
 use Rattle.sql_binder.proofs.Parts.{bound_parts}
 use Rattle.sql_binder.proofs.selects.bind_parts.Goals as goal
 

@@ -1,11 +1,11 @@
 use Rattle.std.proofs.Common.{◌-◌, ◌+◌, length, arith, ap, sym, subst, ◌∙◌, Ok}
 use Rattle.std.proofs.lemmas.Result.{err_from_is_err_and}
-use Rattle.grammar_rules.specs.Gives.{Refuses}
-use Rattle.grammar_rules.proofs.Steps.{repeats_more, repeats_done, repeats_end, repeats_fail}
-use Rattle.grammar_rules.proofs.Whole.{gives_by}
+use Rattle.grammar.specs.Gives.{Refuses}
+use Rattle.grammar.proofs.Steps.{repeats_more, repeats_done, repeats_end, repeats_fail}
+use Rattle.grammar.proofs.Whole.{gives_by}
 use Rattle.sql_expressions.proofs.Alone.{alone, goes_on, single, valued_alone}
 use Rattle.sql_expressions.proofs.Deeper.{chain_gives, comparison_deeper, named_deeper, negation_deeper, operand_deeper, part_deeper, test_deeper, unary_deeper}
-use Rattle.grammar_rules.specs.Repeats.{always}
+use Rattle.grammar.specs.Repeats.{always}
 use Rattle.sql_tokens.specs.Classes.{a}
 use Rattle.sql_tokens.specs.declared.kind.Kind.TheVariants as kinds
 use Rattle.sql_expressions.specs.Grammar as grammar

@@ -1,5 +1,5 @@
 use Rattle.std.proofs.Common.{◌≡◌, ◌≤◌, ℕ, ◌+◌, ◌-◌, ◌*◌, length}
-use Rattle.grammar_rules.specs.Repeats.{always, read_repeats}
+use Rattle.grammar.specs.Repeats.{always, read_repeats}
 use Rattle.sql_tokens.specs.Classes.{a}
 use Rattle.sql_tokens.specs.declared.kind.Kind.TheVariants as kinds
 use Rattle.sql_expressions.specs.Grammar as grammar

@@ -1,5 +1,5 @@
 use Rattle.std.proofs.Common.{◌≡◌, ◌-◌, length, map}
-use Rattle.grammar_rules.specs.Repeats.{always, read_repeats}
+use Rattle.grammar.specs.Repeats.{always, read_repeats}
 use Rattle.sql_tokens.specs.declared.kind.Kind.TheVariants as kinds
 use Rattle.sql_tokens.specs.Classes.{a}
 use Rattle.sql_syntax.specs.Grammar as grammar

@@ -1,6 +1,6 @@
 use Rattle.std.proofs.Common.{◌∙◌, ap, map, rules}
 use Rattle.std.proofs.lemmas.List.{take_all}
-use Rattle.pg_ids.specs.Lists.{listed}
+use Rattle.pg_values.specs.Lists.{listed}
 use Rattle.statement_steps.specs.Faults as faults
 use Rattle.statement_steps.proofs.Known.{none_left, one_more_taken, few_listed}
 use Rattle.statement_steps.proofs.faults.names_of.Goals as goal

@@ -1,5 +1,5 @@
 use Rattle.std.proofs.Common.{◌≡◌, map, take}
-use Rattle.pg_ids.specs.Lists.{listed}
+use Rattle.pg_values.specs.Lists.{listed}
 use Rattle.statement_steps.specs.Faults as faults
 use Rattle.statement_steps.proofs.faults.names_of.Given as goal
 

@@ -2,7 +2,7 @@ use Rattle.std.proofs.Common.{◌≡◌, sym, subst, ap, ◌∙◌, Some, Err, o
 use Rattle.history.specs.History.{History}
 use Rattle.part_catalog.specs.Found.{resolved}
 use Rattle.stores.specs.Stand.{Stands}
-use Rattle.pg_ids.specs.declared.ids.TableNo.{TableNo}
+use Rattle.pg_values.specs.declared.ids.TableNo.{TableNo}
 use Rattle.statement_steps.specs.Asks.{found}
 use Rattle.statement_steps.specs.Steps.{IsStep}
 use Rattle.statement_steps.proofs.Parts.{found_below, found_known, none_found, known_by}

@@ -1,4 +1,4 @@
-use Rattle.pg_ids.specs.declared.ids.TableNo.{TableNo}
+use Rattle.pg_values.specs.declared.ids.TableNo.{TableNo}
 use Rattle.statement_steps.specs.Asks.{found, locked, kept_number}
 use Rattle.statement_steps.proofs.Parts.{number_done, number_stops}
 use Rattle.statement_steps.proofs.Steps.{then_step}

@@ -1,5 +1,5 @@
 use Rattle.std.proofs.Common.{◌<◌, length, arith, subst, Err}
-use Rattle.pg_ids.specs.declared.ids.TableNo.{TableNo}
+use Rattle.pg_values.specs.declared.ids.TableNo.{TableNo}
 use Rattle.statement_steps.specs.Asks.{found, locked, same_or_gone}
 use Rattle.statement_steps.specs.Known.{IsKnownTo}
 use Rattle.statement_steps.specs.Steps.{follow}

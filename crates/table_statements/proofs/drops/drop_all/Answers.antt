@@ -1,5 +1,5 @@
 use Rattle.std.proofs.Common.{◌≡◌, ◌∷◌, [], List, rules, subst}
-use Rattle.pg_ids.specs.declared.ids.TableNo.{TableNo}
+use Rattle.pg_values.specs.declared.ids.TableNo.{TableNo}
 use Rattle.table_statements.proofs.Left.{IsGoneSoFar, none_gone, may_go, one_gone, gone_out, all_gone, no_tables}
 use Rattle.table_statements.proofs.drops.drop_all.Goals as goal
 use Rattle.table_statements.proofs.drops.drop_all.Goals.{In-Some-split_first}

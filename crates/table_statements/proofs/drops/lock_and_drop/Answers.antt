@@ -1,5 +1,5 @@
 use Rattle.std.proofs.Common.{◌+◌, List, All, sym, subst, map}
-use Rattle.pg_ids.specs.declared.ids.TableNo.{TableNo}
+use Rattle.pg_values.specs.declared.ids.TableNo.{TableNo}
 use Rattle.statement_steps.specs.Steps.{IsStep}
 use Rattle.statement_steps.proofs.Steps.{then_step, stop_step, may_go_on}
 use Rattle.table_statements.specs.Asked.{numbers, MayDropTable}

@@ -1,5 +1,5 @@
 use Rattle.std.proofs.Common.{◌≡◌, subst}
-use Rattle.pg_ids.specs.declared.ids.TableNo.{TableNo}
+use Rattle.pg_values.specs.declared.ids.TableNo.{TableNo}
 use Rattle.table_statements.specs.Asked.{MayDropTable}
 use Rattle.table_statements.proofs.Left.{none_found, not_locked, one_locked}
 use Rattle.table_statements.proofs.drops.lock_to_drop.Goals as goal

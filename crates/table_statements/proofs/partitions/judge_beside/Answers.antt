@@ -1,6 +1,6 @@
 use Rattle.std.proofs.Common.{◌≡◌, ◌∙◌, ℕ, zero, suc, Bool, false, [], refl, ap, sym, subst, Option, Ok}
-use Rattle.pg_ids.specs.Sets.{empty}
-use Rattle.pg_ids.specs.declared.ids.TableNo.{TableNo}
+use Rattle.pg_values.specs.Sets.{empty}
+use Rattle.pg_values.specs.declared.ids.TableNo.{TableNo}
 use Rattle.history.specs.History.{History}
 use Rattle.partition_scans.specs.Places.{default_scan}
 use Rattle.partition_scans.specs.Scans.{judged, watches}

@@ -1,5 +1,5 @@
 use Rattle.std.proofs.Common.{◌∙◌, ◌<◌, refl, sym, subst, All, List}
-use Rattle.pg_ids.specs.declared.ids.TableNo.{TableNo}
+use Rattle.pg_values.specs.declared.ids.TableNo.{TableNo}
 use Rattle.statement_steps.specs.Known.{IsKnownTo}
 use Rattle.statement_steps.proofs.Parts.{stays, no_memory}
 use Rattle.part_ddl.specs.Below.{default_of}

@@ -1,5 +1,5 @@
 use Rattle.std.proofs.Common.{◌≡◌, ◌<◌, true, false, List, [], ◌∷◌, ℕ, length, slice_index_or, None, Some, sym, ap, subst, ◌∙◌, refl, arith}
-use Rattle.pg_ids.specs.Lists.{listed}
+use Rattle.pg_values.specs.Lists.{listed}
 use Rattle.history.specs.Locks.{WaitBegan}
 use Rattle.history.specs.Waits.{is_cause, waits_for, IsCycle, IsFree, ClosesNone, IsLeastCycle}
 use Rattle.history.specs.History.{History, lock_events}

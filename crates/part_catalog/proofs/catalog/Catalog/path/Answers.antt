@@ -1,5 +1,5 @@
 use Rattle.std.proofs.Common.{◌≡◌, ◌∙◌, ◌++◌, ◌-◌, ◌+◌, ◌<◌, IfSome, Option, List, Bool, ap, sym, subst, length, map, filter}
-use Rattle.pg_ids.specs.declared.ids.TableNo.{TableNo}
+use Rattle.pg_values.specs.declared.ids.TableNo.{TableNo}
 use Rattle.history.specs.declared.catalogue.Check.{Check}
 use Rattle.history.specs.Catalogue.{tables_made}
 use Rattle.history.specs.History.{tx_events, catalogue_events}

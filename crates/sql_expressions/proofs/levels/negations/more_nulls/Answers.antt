@@ -1,7 +1,7 @@
 use Rattle.std.proofs.Common.{◌-◌, ◌+◌, length, arith, sym, subst, ◌∙◌}
 use Rattle.std.proofs.lemmas.Result.{err_from_is_err_and}
-use Rattle.grammar_rules.specs.Gives.{Refuses}
-use Rattle.grammar_rules.proofs.Steps.{repeats_more, repeats_done, repeats_end, repeats_fail}
+use Rattle.grammar.specs.Gives.{Refuses}
+use Rattle.grammar.proofs.Steps.{repeats_more, repeats_done, repeats_end, repeats_fail}
 use Rattle.sql_expressions.proofs.levels.negations.more_nulls.Goals as goal
 
 pub returns-in_err-more-clause-reads : goal.returns-in_err-more-clause-reads

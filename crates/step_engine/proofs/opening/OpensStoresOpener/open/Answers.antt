@@ -1,6 +1,6 @@
 use Rattle.std.proofs.Common.{◌≡◌, ◌+◌, ◌∙◌, ℕ, List, ap, length}
 use Rattle.std.proofs.lemmas.List.{length-replicate}
-use Rattle.course.specs.Database.{empty}
+use Rattle.statement_runs.specs.Database.{empty}
 use Rattle.step_engine.specs.Run.{session_names}
 use Rattle.step_engine.proofs.Opened.{opened_so}
 use Rattle.step_engine.proofs.opening.OpensStoresOpener.open.Goals as goal

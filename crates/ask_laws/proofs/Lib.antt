@@ -1,4 +1,0 @@
-pub mod Inserts
-pub mod Selects
-pub mod Settings
-pub mod Statements

@@ -1,0 +1,16 @@
+ghost use Rattle.binding_laws.specs.FittingAsks.{ChangesFit, InsertsFit, SelectsFit};
+
+/// What a SELECT asks for fits the items of its FROM.
+pub fn selects_fit()
+    ensures { SelectsFit }
+{}
+
+/// What an INSERT asks for fits its table.
+pub fn inserts_fit()
+    ensures { InsertsFit }
+{}
+
+/// What an UPDATE or a DELETE asks for fits its table.
+pub fn changes_fit()
+    ensures { ChangesFit }
+{}

@@ -1,7 +1,0 @@
-mod Cuts
-mod Lower
-mod Once
-mod Runs
-mod Steps
-mod Waiting
-mod Weights

@@ -1,5 +1,0 @@
-use Rattle.course.proofs.Cuts.{left_most}
-use Rattle.course.proofs.executor.StoreExecutor.weigh.Goals as goal
-
-pub returns : goal.returns
-returns g c = left_most c.args.self.now.seats c.args.self.now.cut.items c.weigh.ensures.slack c.weigh.ensures.few

@@ -1,5 +1,0 @@
-use Rattle.course.proofs.Once.{same_rests}
-use Rattle.course.proofs.executor.StoreExecutorExecutor.abort.Goals as goal
-
-pub returns-clause-committed : goal.returns-clause-committed
-returns-clause-committed g c = same_rests g.K.Kinds.words c.args.self.now.seats.rests c.abort.new.self.rests c.abort.ensures.rests

@@ -1,6 +1,0 @@
-use Rattle.std.proofs.Common.{◌≡◌, drop}
-use Rattle.course.specs.Kept.{interrupted_in}
-use Rattle.course.proofs.executor.first_cancelled.Given as goal
-
-abbrev pub invariant-loop-session : goal.invariant-loop-session
-invariant-loop-session l = interrupted_in l.seats (drop l.session-index l.cut) ≡ interrupted_in l.seats l.cut

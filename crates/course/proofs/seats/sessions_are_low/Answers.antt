@@ -1,7 +1,0 @@
-use Rattle.std.proofs.Common.{arith}
-use Rattle.std.proofs.lemmas.Grind.{common_steps}
-use Rattle.pg_ids.proofs.Bits.{has_below}
-use Rattle.course.proofs.seats.sessions_are_low.Goals as goal
-
-pub returns : goal.returns
-returns c k t = has_below c.args.set.bits k (grind (arith, common_steps)) t

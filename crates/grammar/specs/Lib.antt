@@ -1,0 +1,12 @@
+pub mod Depths
+pub mod Example
+pub mod Gives
+pub mod KindClasses
+pub mod Parses
+pub mod Places
+pub mod Quotes
+pub mod Reading
+pub mod Repeats
+pub mod Steps
+pub mod TextPlaces
+pub mod Words

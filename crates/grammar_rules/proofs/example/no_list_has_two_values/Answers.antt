@@ -1,6 +1,0 @@
-use Rattle.grammar_rules.proofs.ExampleLaws.{list_law}
-use Rattle.grammar_rules.proofs.Whole.{one_value}
-use Rattle.grammar_rules.proofs.example.no_list_has_two_values.Goals as goal
-
-pub returns : goal.returns
-returns c ts xs ys w v = one_value list_law ts xs ys w (list_law.shape.within ts ys v)

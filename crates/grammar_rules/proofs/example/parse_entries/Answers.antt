@@ -1,6 +1,0 @@
-use Rattle.grammar_rules.proofs.ExampleLaws.{list_law}
-use Rattle.grammar_rules.proofs.Whole.{parses}
-use Rattle.grammar_rules.proofs.example.parse_entries.Goals as goal
-
-pub returns : goal.returns
-returns c = parses (λ v. v.items) c.args.tokens.now _ list_law c.read_all.ensures

@@ -1,5 +1,0 @@
-use Rattle.lock_answers.proofs.MayCome.{may_come}
-use Rattle.lock_answers.proofs.laws.what_is_asked_may_come.Goals as goal
-
-pub returns : goal.returns
-returns c = may_come

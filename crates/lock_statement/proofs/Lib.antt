@@ -1,4 +1,0 @@
-mod Below
-mod Counted
-mod Finding
-mod Locking

@@ -1,0 +1,16 @@
+use Rattle.std.proofs.Common.{◌+◌, ◌*◌, map}
+use Rattle.cond_logic.specs.Trees.{cond_tree}
+use Rattle.table_trees.specs.Seen.{seen}
+use Rattle.table_trees.specs.Trees.{height}
+use Rattle.plan_tree.specs.Kept.{keeps_for}
+use Rattle.plan_tree.proofs.Pushing.{Going}
+use Rattle.plan_tree.proofs.pruning.+pruning.Given as goal
+
+abbrev pub decreases-push_below : goal.decreases-push_below
+decreases-push_below l = 2 * height (seen l.tree.now)
+
+abbrev pub decreases-push_led : goal.decreases-push_led
+decreases-push_led l = 2 * height (seen l.tree.now) + 1
+
+abbrev pub invariant-push_below-loop-k : goal.invariant-push_below-loop-k
+invariant-push_below-loop-k l = Going (keeps_for l.prunes l.item (map cond_tree l.conds)) (seen l.fn.tree) l.child-items l.kept.items l.k l.tables.items l.fn.tables.items l.leaves.items l.fn.leaves.items

@@ -1,6 +1,0 @@
-use Rattle.cond_logic.specs.Trees.{cond_tree}
-use Rattle.pruned_trees.proofs.Conditions.{copied}
-use Rattle.pruned_trees.proofs.condition.copy_cond.Goals as goal
-
-pub returns : goal.returns
-returns c = copied c.bind_params.result (cond_tree c.args.cond.now) c.bind_params.ensures

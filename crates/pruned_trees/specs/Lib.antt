@@ -1,4 +1,0 @@
-pub mod Conditions
-pub mod Kept
-pub mod Laws
-pub mod Prunable

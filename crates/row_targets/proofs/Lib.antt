@@ -1,4 +1,0 @@
-pub mod Chains
-pub mod NewRows
-pub mod Taken
-pub mod Waiting

@@ -1,8 +1,0 @@
-use Rattle.std.proofs.Common.{◌≡◌, ◌++◌}
-use Rattle.statement_asks.specs.Asked.{maybe_cond}
-use Rattle.row_targets.specs.Targets.{taken}
-use Rattle.row_targets.proofs.finding.push_all_taken.Given as goal
-
--- the rows that are left give what all give
-abbrev pub invariant-loop-seen : goal.invariant-loop-seen
-invariant-loop-seen l = l.found.items ++ taken (maybe_cond l.condition) l.leaf l.seen-iterator ≡ l.fn.found.items ++ taken (maybe_cond l.condition) l.leaf l.fn.scan

@@ -1,4 +1,0 @@
-pub mod Faults
-pub mod Lent
-pub mod Tables
-pub mod Values

@@ -1,7 +1,0 @@
-use Rattle.std.proofs.Common.{◌≡◌, drop}
-use Rattle.std.specs.List.{list_any}
-use Rattle.script_tasks.specs.Tasks.{is_waiting}
-use Rattle.script_tasks.proofs.tasks.is_starred.Given as goal
-
-abbrev pub invariant-loop-marker : goal.invariant-loop-marker
-invariant-loop-marker l = list_any is_waiting (drop l.marker-index l.markers) ≡ list_any is_waiting l.markers

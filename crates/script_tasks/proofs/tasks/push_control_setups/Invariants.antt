@@ -1,8 +1,0 @@
-use Rattle.std.proofs.Common.{◌≡◌, ◌++◌, map, take, codes}
-use Rattle.schedule.specs.declared.block.Kind.{Kind}
-use Rattle.schedule.specs.declared.block.Kind.TheVariants.{Setup}
-use Rattle.script_tasks.specs.Tasks.{plain}
-use Rattle.script_tasks.proofs.tasks.push_control_setups.Given as goal
-
-abbrev pub invariant-loop-text : goal.invariant-loop-text
-invariant-loop-text l = l.out ≡ l.initial.out ++ map (plain Setup 0 (codes "control")) (take l.text-index l.setups)

@@ -1,4 +1,0 @@
-pub mod Few
-pub mod Moments
-pub mod Numbers
-pub mod Plain

@@ -1,5 +1,0 @@
-use Rattle.select_laws.proofs.Few.{leaves_few}
-use Rattle.select_laws.proofs.laws.leaves_are_few.Goals as goal
-
-pub returns : goal.returns
-returns c = leaves_few

@@ -1,5 +1,0 @@
-use Rattle.select_laws.proofs.Plain.{tables_plain}
-use Rattle.select_laws.proofs.laws.tables_are_plain.Goals as goal
-
-pub returns : goal.returns
-returns c = tables_plain c.good_is_legal.ensures c.pruned_is_plain.ensures

@@ -1,0 +1,198 @@
+-- A SELECT by its plan is one that scans all leaves.
+use Rattle.std.proofs.Common.{◌≡◌, ℕ, ◌+◌, ◌-◌, ◌≤◌, ◌&&◌, not, arith, Bool, true, false, if◌then◌else◌, List, [], ◌∷◌, ◌++◌, inl, inr, refl, ap, sym, ◌∙◌, length, map}
+use Rattle.std.specs.Prelude.{Result, Ok, Err}
+use Rattle.std.proofs.lemmas.List.{length-append, length-map, map-append}
+use Rattle.std.proofs.lemmas.List.Elements.{All-cons, All-nil}
+use Rattle.pg_values.specs.declared.fault.Fault.{Fault}
+use Rattle.pg_values.specs.declared.lock_mode.LockMode.{LockMode}
+use Rattle.pg_values.specs.declared.lock_mode.LockMode.TheVariants.{AccessShare}
+use Rattle.bound_forms.specs.declared.partition_bound.Bound.{Bound}
+use Rattle.history.specs.Catalogue.{tables_made, TableMade, TableDropped, EntryAdded, EntryEnded, EntryMarked, CheckKept}
+use Rattle.history.specs.Locks.{LockEvent}
+use Rattle.history.specs.History.{History, TxChange, SnapshotChange, RowChange, CatalogueChange, LockChange, catalogue_events, lock_events}
+use Rattle.history.specs.declared.wait.Wanted.TheVariants.{Lock}
+use Rattle.row_store.specs.declared.TheConstants.{SCAN_LIMIT}
+use Rattle.table_trees.specs.Histories.{tree_of}
+use Rattle.table_trees.specs.Trees.{TableTree, LeafTable, LevelTable, Trees, End, More, leaves, all_leaves}
+use Rattle.soundness.specs.Worlds.{IsMade}
+use Rattle.cond_logic.specs.Trees.{CondTree}
+use Rattle.plan_tree.specs.Kept.{Keeps, id_of, leaf_of, keeps_plain, leaves_below, leaves_among, kept_leaves}
+use Rattle.plan_tree.specs.Laws.{Rows, shown}
+use Rattle.lock_table.specs.Asked.{AskedView, AtOnce, WaitsBehind, ClosesCycle, asked, asked_events}
+use Rattle.sql_binder.specs.Selects.{from_of, bound_select}
+use Rattle.cond_logic.specs.Asked.{SelectMeant}
+use Rattle.plan_tree.specs.Conjuncts.{pool, lies_within, asked_at, asked_later}
+use Rattle.plan_tree.specs.Plans.{keeps_first, is_joined, item_for, plan_for, plan_tables}
+use Rattle.select_answer.specs.Answer.{answer_of, select_course}
+use Rattle.select_answer.specs.Laws.{OneItemIsReadOnce, PrunedIsPlain, plainly, plan_reads}
+use Rattle.stores.specs.Events.{look_of}
+use Rattle.stores.specs.Good.{IsGood}
+use Rattle.stores.specs.Laws.{GoodIsLegal}
+use Rattle.statement_steps.specs.Made.{Made, Halt, behind, then_told, and_then}
+use Rattle.statement_steps.specs.declared.caller.Caller.{Caller}
+use Rattle.statement_steps.specs.Asks.{told_of, locked, all_locked}
+use Rattle.select_statement.specs.Below.{number_of}
+use Rattle.select_statement.specs.Items.{items_of}
+use Rattle.select_statement.specs.Selected.{outcome, answered, by_plan, locked_below, trees_for}
+use Rattle.select_statement.specs.Plain.{answered_plainly, locked_plainly}
+use Rattle.select_statement.specs.Laws.{LeavesAreFew, OneTableIsPlain, TablesArePlain, Looks}
+
+-- ---- a plan over one tree reads no more leaves than the tree has
+
+module _ (keeps : Keeps) where
+  mutual
+    below_few : (t : TableTree) → length (leaves_below keeps t) ≤ length (leaves t)
+    below_few (LeafTable node leaf) = omega arith
+    below_few (LevelTable node level bounds kids) = among_few (keeps level bounds) bounds kids
+
+    among_few : (test : Bound → Bool) (bs : List Bound) (ks : Trees) → length (leaves_among keeps test bs ks) ≤ length (all_leaves ks)
+    among_few test bs End = omega arith
+    among_few test [] (More k ks) = omega arith
+    among_few test (b ∷ bs) (More k ks) = by (test b) (below_few k) (among_few test bs ks)
+      where
+        by : (v : Bool) → length (leaves_below keeps k) ≤ length (leaves k) → length (leaves_among keeps test bs ks) ≤ length (all_leaves ks)
+            → length ((if v then leaves_below keeps k else []) ++ leaves_among keeps test bs ks) ≤ length (leaves k ++ all_leaves ks)
+        by true first rest =
+            let some = length-append (leaves_below keeps k) (leaves_among keeps test bs ks) in
+            let all = length-append (leaves k) (all_leaves ks) in
+            omega (arith, first, rest, some, all)
+        by false first rest = let all = length-append (leaves k) (all_leaves ks) in omega (arith, rest, all)
+
+  kept_few : (t : TableTree) → length (kept_leaves keeps t) ≤ length (leaves t)
+  kept_few (LeafTable node leaf) = by (keeps_plain keeps)
+    where
+      by : (v : Bool) → length (if v then leaf_of node leaf ∷ [] else []) ≤ 1
+      by true = omega arith
+      by false = omega arith
+  kept_few (LevelTable node level bounds kids) = below_few (LevelTable node level bounds kids)
+
+-- no conjunct joins the first item with those before
+none_joined : (cs : List CondTree) → is_joined 0 (asked_at 0 cs) ≡ false
+none_joined [] = refl
+none_joined (c ∷ cs) = by (lies_within 0 0 c) refl (none_joined cs)
+  where
+    by : (v : Bool) → lies_within 0 0 c ≡ v → is_joined 0 (asked_at 0 cs) ≡ false → is_joined 0 (if v then c ∷ asked_at 0 cs else asked_at 0 cs) ≡ false
+    by true is go = rw is go
+    by false is go = go
+
+and_false : (a b : Bool) → b ≡ false → (a && b) ≡ false
+and_false true b is = is
+and_false false b is = refl
+
+few_reads : OneItemIsReadOnce → (prunes : Bool) (m : SelectMeant) (rows : Rows) (tree : TableTree) → length (plan_reads prunes m rows (tree ∷ [])) ≤ length (leaves tree)
+few_reads once prunes m rows tree =
+    let cs = pool m.conditions in
+    let item = item_for prunes 0 (asked_at 0 cs) tree in
+    let read = once [] rows item (asked_later 0 cs) (and_false prunes (is_joined 0 (asked_at 0 cs)) (none_joined (pool m.conditions))) in
+    let count = ap length read ∙ length-map item.leaves id_of in
+    let few = kept_few (keeps_first prunes 0 (asked_at 0 cs)) tree in
+    omega (arith, count, few)
+
+-- ---- there are not too many tables
+
+few_made : (h : History) → IsGood h → length (tables_made (catalogue_events h)) ≤ 4096
+few_made [] good = omega arith
+few_made (TxChange e ∷ h) good = few_made h good.1
+few_made (SnapshotChange e ∷ h) good = few_made h good.1
+few_made (LockChange e ∷ h) good = few_made h good.1
+few_made (RowChange e ∷ h) good = few_made h good.1
+few_made (CatalogueChange (TableMade t) ∷ h) good =
+    let next = good.0.legal.0 in
+    let few = good.0.housed.few in
+    let more = length-append (tables_made (catalogue_events h)) (t ∷ []) in
+    omega (arith, next, few, more)
+few_made (CatalogueChange (TableDropped k s) ∷ h) good = few_made h good.1
+few_made (CatalogueChange (EntryAdded e) ∷ h) good = few_made h good.1
+few_made (CatalogueChange (EntryEnded k s) ∷ h) good = few_made h good.1
+few_made (CatalogueChange (EntryMarked k s) ∷ h) good = few_made h good.1
+few_made (CatalogueChange (CheckKept c) ∷ h) good = few_made h good.1
+
+-- ---- the answer
+
+pub tables_plain : GoodIsLegal → PrunedIsPlain → TablesArePlain
+tables_plain lawful pruned h good prunes c m ns looks low made =
+    let legal = lawful h good in
+    elim (pruned prunes (c.sessions - 1) m [] h c.session ns (look_of h c.session c.cmd) legal.0 legal.1 looks low made) [
+      | inl same ↦ inl (ap outcome same)
+      | inr full ↦ let many = full.0 in inr (omega (arith, many), ap outcome full.1)
+    ]
+
+one_plain : GoodIsLegal → LeavesAreFew → OneItemIsReadOnce → PrunedIsPlain → (prunes : Bool) (c : Caller) (m : SelectMeant) (table : ℕ) (h : History) → IsGood h → Looks c h → IsMade (catalogue_events h) table
+    → answered c m (plan_for prunes m.conditions (trees_for c (table ∷ []) h)) h ≡ answered_plainly c m (trees_for c (table ∷ []) h) h
+one_plain lawful small once pruned prunes c m table h good looks made =
+    let legal = lawful h good in
+    let snap = look_of h c.session c.cmd in
+    let tree = tree_of h c.session table snap in
+    let all = All-cons (IsMade (catalogue_events h)) table [] made (All-nil (IsMade (catalogue_events h))) in
+    elim (pruned prunes (c.sessions - 1) m [] h c.session (table ∷ []) snap legal.0 legal.1 looks (omega arith) all) [
+      | inl same ↦ ap outcome same
+      | inr full ↦
+          let many = full.0 in
+          let few = few_reads once prunes m (shown h snap) tree in
+          let some = small h c.session table snap legal.0 legal.1 made in
+          let tables = few_made h good in
+          let limit : SCAN_LIMIT ≡ 1000000 = refl in
+          absurd (omega (arith, many, few, some, tables, limit))
+    ]
+
+-- ---- locks change nothing of what is shown
+
+locks_show : (h : History) (s cmd : ℕ) (ls : List LockEvent) → shown (map LockChange ls ++ h) (look_of (map LockChange ls ++ h) s cmd) ≡ shown h (look_of h s cmd)
+locks_show h s cmd [] = refl
+locks_show h s cmd (l ∷ ls) = locks_show h s cmd ls
+
+-- the events are those of locks alone
+abbrev AreLocks : {T : Type 0} → Made T → Type 0
+AreLocks m = (ls : List LockEvent) × (m.events ≡ map LockChange ls)
+
+told_locks : (names : List (List ℕ)) (ls : List LockEvent) (v : AskedView) → AreLocks (told_of names (map LockChange ls) v)
+told_locks names ls AtOnce = (ls, refl)
+told_locks names ls (WaitsBehind others) = (ls, refl)
+told_locks names ls (ClosesCycle cycle) = (ls, refl)
+
+locked_locks : (names : List (List ℕ)) (s t : ℕ) (mode : LockMode) (h : History) → AreLocks (locked names s t mode h)
+locked_locks names s t mode h = told_locks names (asked_events (lock_events h) s (Lock (record { number = t }) mode)) (asked (lock_events h) s (Lock (record { number = t }) mode))
+
+both_locks : {T U : Type 0} (m : Made T) (next : T → Made U) → AreLocks m → ((x : T) → AreLocks (next x)) → AreLocks (and_then m next)
+both_locks {T = T} {U = U} m next first rest = by m.told
+  where
+    by : (r : Result T Halt) → AreLocks {T = U} (then_told r m.events next)
+    by (Ok x) =
+        let later = rest x in
+        (later.0 ++ first.0, ap (λ (es : History). es ++ m.events) later.1 ∙ ap (λ (es : History). map LockChange later.0 ++ es) first.1 ∙ sym (map-append LockChange later.0 first.0))
+    by (Err stop) = first
+
+all_locks : (names : List (List ℕ)) (s : ℕ) (mode : LockMode) (ts : List ℕ) (h : History) → AreLocks (all_locked names s mode ts h)
+all_locks names s mode [] h = ([], refl)
+all_locks names s mode (t ∷ ts) h = both_locks (locked names s t mode h) (λ u. all_locked names s mode ts ((locked names s t mode h).events ++ h)) (locked_locks names s t mode h) (λ u. all_locks names s mode ts ((locked names s t mode h).events ++ h))
+
+same_then : {T U : Type 0} (m : Made T) (f g : T → Made U) → ((x : T) → f x ≡ g x) → and_then m f ≡ and_then m g
+same_then {T = T} m f g same = by m.told
+  where
+    by : (r : Result T Halt) → then_told r m.events f ≡ then_told r m.events g
+    by (Ok x) = ap (behind m.events) (same x)
+    by (Err stop) = refl
+
+-- ---- the statement
+
+by_plan_plain : (prunes : Bool) (names : List (List ℕ)) (c : Caller) (m : SelectMeant) (trees : List TableTree) (h : History)
+    → answered c m (plan_for prunes m.conditions trees) h ≡ answered_plainly c m trees h → by_plan names c m (plan_for prunes m.conditions trees) h ≡ locked_plainly prunes names c trees m h
+by_plan_plain prunes names c m trees h same =
+    let plan = plan_for prunes m.conditions trees in
+    let locks = locked_below names c (plan_tables plan) h in
+    let its = all_locks names c.session AccessShare (map number_of (plan_tables plan)) h in
+    let rows : shown (locks.events ++ h) (look_of (locks.events ++ h) c.session c.cmd) ≡ shown h (look_of h c.session c.cmd) =
+    ap (λ (es : History). shown (es ++ h) (look_of (es ++ h) c.session c.cmd)) its.1 ∙ locks_show h c.session c.cmd its.0 in
+    same_then locks (λ u. answered c m plan (locks.events ++ h)) (λ u. answered_plainly c m trees (locks.events ++ h)) (λ u.
+    ap (λ (r : Rows). outcome (answer_of m (select_course (c.sessions - 1) [] m r plan []))) rows ∙ same
+    ∙ sym (ap (λ (r : Rows). outcome (plainly (c.sessions - 1) m r trees)) rows))
+
+pub one_table_plain : GoodIsLegal → LeavesAreFew → OneItemIsReadOnce → PrunedIsPlain → OneTableIsPlain
+one_table_plain lawful small once pruned h good prunes names c t table looks made = by (bound_select (items_of 0 (from_of t) trees) [] c.session t)
+  where
+    trees : List TableTree
+    trees = trees_for c (table ∷ []) h
+
+    by : (r : Result SelectMeant Fault) → and_then (outcome r) (λ m. by_plan names c m (plan_for prunes m.conditions trees) ((outcome r).events ++ h)) ≡ and_then (outcome r) (λ m. locked_plainly prunes names c trees m ((outcome r).events ++ h))
+    by (Ok m) = ap (behind []) (by_plan_plain prunes names c m trees h (one_plain lawful small once pruned prunes c m table h good looks made))
+    by (Err f) = refl

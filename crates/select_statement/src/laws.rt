@@ -1,0 +1,28 @@
+ghost use Rattle.select_statement.specs.Laws.{LeavesAreFew, OneTableIsPlain, TablesArePlain};
+
+use select_answer::{one_item_is_read_once, pruned_is_plain};
+use stores::good_is_legal;
+
+/// A tree has no more leaves than there are tables.
+pub fn leaves_are_few()
+    ensures { LeavesAreFew }
+{}
+
+/// In each history of a run a SELECT of one table, once that is locked, does and answers what a SELECT with the
+/// same locks does that scans all leaves of its tree.
+pub fn one_table_is_plain()
+    ensures { OneTableIsPlain }
+{
+    good_is_legal();
+    leaves_are_few();
+    one_item_is_read_once();
+    pruned_is_plain();
+}
+
+/// So does a SELECT of several tables, or it makes too many scans, and is refused for that.
+pub fn tables_are_plain()
+    ensures { TablesArePlain }
+{
+    good_is_legal();
+    pruned_is_plain();
+}

@@ -1,3 +1,0 @@
-mod Blocks
-mod Split
-mod Weights

@@ -1,3 +1,0 @@
-pub mod Register
-pub mod Stands
-pub mod Weight

@@ -1,0 +1,11 @@
+pub mod Counted
+mod Cuts
+pub mod Fixed
+mod Lower
+mod Once
+mod Runs
+mod Steps
+pub mod TextReadings
+mod Waiting
+mod Weights
+pub mod Whole

@@ -1,0 +1,72 @@
+-- What has come of a statement that commits what it did first.
+use Rattle.std.proofs.Common.{◌≡◌, ◌≢◌, ◌∙◌, ℕ, zero, suc, ◌<◌, Bool, true, false, List, [], ◌∷◌, refl, ap, sym, subst, arith, Option, Some, None, Result, Ok, Err, IfOk, OnOk, length, slice_index_or, slice_set}
+use Rattle.pg_values.specs.declared.text.NoMemory.{NoMemory}
+use Rattle.history.specs.History.{History}
+use Rattle.sessions.specs.Commits.{CommitsOnce, AreAsBefore, OthersAreAsBefore}
+use Rattle.sessions.specs.declared.asker.Asker.{Asker}
+use Rattle.sessions.specs.declared.outcome.Outcome.{Outcome}
+use Rattle.sessions.specs.declared.settings.Settings.{Settings}
+use Rattle.statement_steps.specs.Ended.{Ended}
+use Rattle.statement_steps.specs.Made.{Made}
+use Rattle.statement_runs.specs.Words.{Words}
+use Rattle.statement_runs.specs.Once.{AllCommitOnce}
+use Rattle.statement_runs.specs.Database.{caller_of, unless_cancelled, rest_told, outcome_told}
+use Rattle.statement_runs.specs.Kept.{KeptSeats, AreSeated, TellOf}
+use Rattle.statement_runs.specs.Ran.{attempt_at, HasRun}
+use Rattle.statement_steps.specs.declared.rest.Rest.{Rest}
+
+-- ---- where statements stand
+
+set_own : {X : Type 0} (xs : List X) (s : ℕ) (x d : X) → s < length xs → slice_index_or (slice_set xs s x) s d ≡ x
+set_own [] s x d lt = absurd (omega arith)
+set_own (y ∷ ys) zero x d lt = refl
+set_own (y ∷ ys) (suc s) x d lt = set_own ys s x d (omega arith)
+
+set_other : {X : Type 0} (xs : List X) (s r : ℕ) (x d : X) → r ≢ s → slice_index_or (slice_set xs s x) r d ≡ slice_index_or xs r d
+set_other [] s r x d other = refl
+set_other (y ∷ ys) zero zero x d other = absurd (other refl)
+set_other (y ∷ ys) zero (suc r) x d other = refl
+set_other (y ∷ ys) (suc s) zero x d other = refl
+set_other (y ∷ ys) (suc s) (suc r) x d other = set_other ys s r x d (λ e. other (ap suc e))
+
+-- whether the statement of a session has committed what it did first
+abbrev pub committed_in : {O T : Type 0} → Words O T → List (Option Rest) → ℕ → T → Bool
+committed_in W rests s t = W.has_committed (slice_index_or rests s None) t
+
+pub same_rests : {O T : Type 0} (W : Words O T) (old new : List (Option Rest)) → new ≡ old → AreAsBefore (committed_in W old) (committed_in W new)
+same_rests W old new same = λ s t. ap (λ rests. committed_in W rests s t) same
+
+-- ---- a statement was run
+
+once_made : {O T : Type 0} (W : Words O T) (b : Bool) (m : Made Ended) (t : T) (before : Bool) (x : Outcome) (rest : Option Rest)
+    → CommitsOnce before (W.has_committed (rest_told m.told) t) (outcome_told m.told) → x ≡ outcome_told (unless_cancelled b m).told → rest ≡ rest_told (unless_cancelled b m).told → CommitsOnce before (W.has_committed rest t) x
+once_made W true m t before x rest once is at = subst (CommitsOnce before (W.has_committed rest t)) (sym is) tt
+once_made W false m t before x rest once is at =
+    subst (CommitsOnce before (W.has_committed rest t)) (sym is) (subst (λ r. CommitsOnce before (W.has_committed r t) (outcome_told m.told)) (sym at) once)
+
+once_ran : {O T : Type 0} (W : Words O T) (o : O) (old new : KeptSeats) (a : Asker) (h : History) (g : Settings) (t : T) (before after : List ℕ) (x : Outcome) → AllCommitOnce W → AreSeated old → a.session < length old.opened
+    → HasRun (attempt_at W o old a h g t) a old new before after x h → CommitsOnce (committed_in W old.rests a.session t) (committed_in W new.rests a.session t) x
+once_ran W o old new a h g t before after x law seated known ran =
+    let c = caller_of (length old.opened) (slice_index_or old.commands a.session 0) a in
+    let rest = slice_index_or old.rests a.session None in
+    once_made W (slice_index_or old.cancelled a.session false) (W.attempted o c rest h g t) t (W.has_committed rest t) x (slice_index_or new.rests a.session None) (law.each o c rest h g t) ran.outcome
+    (ap (λ rests. slice_index_or rests a.session None) ran.rests ∙ set_own old.rests a.session (rest_told (attempt_at W o old a h g t).told) None (rw seated.rests known))
+
+others_ran : {O T : Type 0} (W : Words O T) (m : Made Ended) (old new : KeptSeats) (a : Asker) (h : History) (before after : List ℕ) (x : Outcome) → HasRun m a old new before after x h → OthersAreAsBefore a.session (committed_in W old.rests) (committed_in W new.rests)
+others_ran W m old new a h before after x ran = λ s t other.
+    ap (λ rest. W.has_committed rest t) (ap (λ rests. slice_index_or rests s None) ran.rests ∙ set_other old.rests a.session s (rest_told m.told) None other)
+
+-- behind the waits that it has cancelled, which left all statements where they stood
+pub once_on : {O T : Type 0} (W : Words O T) (o : O) (first old new : KeptSeats) (a : Asker) (g : Settings) (t : T) (before after : List ℕ) (r : Result Outcome NoMemory) → AllCommitOnce W → old.rests ≡ first.rests → a.session < length old.opened
+    → IfOk r (λ x. (h : History) → TellOf old h → HasRun (attempt_at W o old a h g t) a old new before after x h) → OnOk r ((h : History) × TellOf old h × AreSeated old)
+    → IfOk r (λ x. CommitsOnce (committed_in W first.rests a.session t) (committed_in W new.rests a.session t) x)
+once_on W o first old new a g t before after (Ok x) law same known ran (h, tells, seated) =
+    subst (λ rests. CommitsOnce (committed_in W rests a.session t) (committed_in W new.rests a.session t) x) same (once_ran W o old new a h g t before after x law seated known (ran h tells))
+once_on W o first old new a g t before after (Err e) law same known ran heard = tt
+
+pub others_on : {O T : Type 0} (W : Words O T) (o : O) (first old new : KeptSeats) (a : Asker) (g : Settings) (t : T) (before after : List ℕ) (r : Result Outcome NoMemory) → old.rests ≡ first.rests
+    → IfOk r (λ x. (h : History) → TellOf old h → HasRun (attempt_at W o old a h g t) a old new before after x h) → OnOk r ((h : History) × TellOf old h × AreSeated old)
+    → OnOk r (OthersAreAsBefore a.session (committed_in W first.rests) (committed_in W new.rests))
+others_on W o first old new a g t before after (Ok x) same ran (h, tells, seated) =
+    subst (λ rests. OthersAreAsBefore a.session (committed_in W rests) (committed_in W new.rests)) same (others_ran W (attempt_at W o old a h g t) old new a h before after x (ran h tells))
+others_on W o first old new a g t before after (Err e) same ran heard = tt

@@ -1,0 +1,425 @@
+-- What is kept tells of the history after a statement was run.
+use Rattle.std.proofs.Common.{◌≡◌, ◌≢◌, ℕ, zero, suc, ◌+◌, ◌<◌, ◌≤◌, Bool, true, false, if◌then◌else◌, List, [], ◌∷◌, ◌++◌, refl, ap, sym, ◌∙◌, subst, arith, inl, inr, append-nil, Option, Some, None, Result, Ok, Err, All, IfOk, OnOk, is_some, length, slice_index_or, slice_set}
+use Rattle.std.proofs.lemmas.Grind.{common_steps, elements}
+use Rattle.std.proofs.lemmas.Bool.{cases_eq}
+use Rattle.std.proofs.lemmas.Bool.Decides.{nat_tests}
+use Rattle.std.proofs.lemmas.List.{length-append, length-map}
+use Rattle.std.proofs.lemmas.List.Elements.{All-nil, All-cons, All-append}
+use Rattle.pg_values.specs.declared.fault.Fault.{Fault}
+use Rattle.history.specs.declared.wait.WaitOn.{WaitOn}
+use Rattle.history.specs.declared.wait.Wanted.{Wanted}
+use Rattle.history.specs.declared.wait.Wanted.TheVariants.{Lock, Others}
+use Rattle.history.specs.Rows.{LeafAdded, RowBorn, RowEnded}
+use Rattle.history.specs.Locks.{wanted}
+use Rattle.history.specs.Waits.{ready}
+use Rattle.history.specs.History.{History, TxChange, SnapshotChange, RowChange, LockChange, CatalogueChange, lock_events, versions}
+use Rattle.row_store.specs.Kept.{version_of}
+use Rattle.lock_table.specs.Stands.{IsIdle, TableStands as LocksStand, names}
+use Rattle.sessions.specs.declared.asker.Asker.{Asker}
+use Rattle.sessions.specs.declared.outcome.Outcome.{Outcome}
+use Rattle.sessions.specs.declared.phase.Isolation.{Isolation}
+use Rattle.sessions.specs.declared.settings.Settings.{Settings}
+use Rattle.sessions.specs.declared.outcome.Outcome.TheVariants as outcomes
+use Rattle.stores.specs.Numbers.{IsAt}
+use Rattle.stores.specs.Stand.{Stands, IsSameSize}
+use Rattle.stores.specs.declared.stores.Stores.{Stores}
+use Rattle.statement_steps.specs.Ended.{Ended, Done, Commits}
+use Rattle.statement_steps.specs.Made.{Made, Halt, Waits, Refused, number_after}
+use Rattle.statement_steps.specs.Attempts.{MayGoOn, WentOn, IsAttempt, GoesOn, HasCause, IsHalt}
+use Rattle.statement_steps.specs.declared.caller.Caller.{Caller}
+use Rattle.statement_steps.specs.declared.ending.Ending.{Ending}
+use Rattle.statement_steps.specs.declared.ending.Ending.TheVariants as endings
+use Rattle.statement_steps.specs.declared.rest.Rest.{Rest}
+use Rattle.statement_steps.specs.declared.rest.Rest.TheVariants.{Detach}
+use Rattle.statement_steps.specs.declared.rest.RestOfDetach.{RestOfDetach}
+use Rattle.statement_steps.specs.declared.stop.Stop.{Stop}
+use Rattle.statement_steps.specs.declared.stop.Stop.TheVariants as stop
+use Rattle.statement_runs.specs.Words.{Words}
+use Rattle.statement_runs.specs.Database.{Database, unless_cancelled, caller_of, attempt_of, next_command, rest_told, let_go_at, given_up, outcome_told, text_told, all_cut, cut_by, goes_on as goes_on_to}
+use Rattle.statement_steps.specs.Faults.{statement_cancelled}
+use Rattle.statement_runs.specs.Kept.{KeptSeats, AreSeated, TellOf, AreKept, Adds, StandsFor}
+use Rattle.statement_runs.specs.Ran.{attempt_at, HasRun}
+use Rattle.statement_steps.proofs.Numbers.{one_later}
+use Rattle.statement_runs.proofs.Steps.{seats, more_left}
+
+pub number_own : (xs : List ℕ) (s n : ℕ) → s < length xs → slice_index_or (slice_set xs s n) s 0 ≡ n
+number_own xs s n lt = grind (arith, common_steps, elements, nat_tests)
+
+pub number_other : (xs : List ℕ) (s r n : ℕ) → s ≢ r → slice_index_or (slice_set xs s n) r 0 ≡ slice_index_or xs r 0
+number_other xs s r n other = grind (arith, common_steps, elements, nat_tests)
+
+flag_own : (xs : List Bool) (s : ℕ) → slice_index_or (slice_set xs s false) s false ≡ false
+flag_own xs s = grind (arith, common_steps, elements, nat_tests)
+
+flag_other : (xs : List Bool) (s r : ℕ) (b : Bool) → s ≢ r → slice_index_or (slice_set xs s b) r false ≡ slice_index_or xs r false
+flag_other xs s r b other = grind (arith, common_steps, elements, nat_tests)
+
+-- a number that the session's command has got, and those of the others
+numbered : (commands new : List ℕ) (h : History) (s n : ℕ) → s < length commands → new ≡ slice_set commands s n → IsAt h s n
+    → ((r : ℕ) → s ≢ r → IsAt h r (slice_index_or commands r 0)) → (r : ℕ) → IsAt h r (slice_index_or new r 0)
+numbered commands new h s n lt is own others r =
+    elim (cases_eq s r) [
+      | inl same ↦ subst (λ x. IsAt h x (slice_index_or new x 0)) same (subst (IsAt h s) (sym (ap (λ xs. slice_index_or xs s 0) is ∙ number_own commands s n lt)) own)
+      | inr other ↦ subst (IsAt h r) (sym (ap (λ xs. slice_index_or xs r 0) is ∙ number_other commands s r n other)) (others r other)
+    ]
+
+-- a flag that is taken away
+untold : (cancelled : List Bool) (h : History) (s r : ℕ) → ((r : ℕ) → is_some (wanted (lock_events h) r) ≡ true → slice_index_or cancelled r false ≡ false)
+    → is_some (wanted (lock_events h) r) ≡ true → slice_index_or (slice_set cancelled s false) r false ≡ false
+untold cancelled h s r standing w =
+    elim (cases_eq s r) [
+      | inl same ↦ subst (λ x. slice_index_or (slice_set cancelled s false) x false ≡ false) same (flag_own cancelled s)
+      | inr other ↦ flag_other cancelled s r false other ∙ standing r w
+    ]
+
+-- what is left to one statement is there, and to the others what was left
+pub at_set : {X : Type 0} (P : X → Type 0) (xs : List X) (s : ℕ) (x d : X) → ((r : ℕ) → P (slice_index_or xs r d)) → P x → (r : ℕ) → P (slice_index_or (slice_set xs s x) r d)
+at_set P [] s x d all it r = all r
+at_set P (y ∷ ys) zero x d all it zero = it
+at_set P (y ∷ ys) zero x d all it (suc r) = all (suc r)
+at_set P (y ∷ ys) (suc s) x d all it zero = all zero
+at_set P (y ∷ ys) (suc s) x d all it (suc r) = at_set P ys s x d (λ k. all (suc k)) it r
+
+pub set_twice : {X : Type 0} (xs : List X) (s : ℕ) (x y : X) → slice_set (slice_set xs s x) s y ≡ slice_set xs s y
+set_twice [] s x y = refl
+set_twice (z ∷ zs) zero x y = refl
+set_twice (z ∷ zs) (suc s) x y = ap (λ ys. z ∷ ys) (set_twice zs s x y)
+
+-- row versions stay
+versions_grow : (events h : History) → length (versions h) ≤ length (versions (events ++ h))
+versions_grow [] h = omega arith
+versions_grow (TxChange e ∷ es) h = versions_grow es h
+versions_grow (SnapshotChange e ∷ es) h = versions_grow es h
+versions_grow (LockChange e ∷ es) h = versions_grow es h
+versions_grow (CatalogueChange e ∷ es) h = versions_grow es h
+versions_grow (RowChange (LeafAdded l) ∷ es) h = versions_grow es h
+versions_grow (RowChange (RowEnded k e) ∷ es) h = versions_grow es h
+versions_grow (RowChange (RowBorn v) ∷ es) h =
+    let le = versions_grow es h in
+    let more : length (versions (es ++ h) ++ v ∷ []) ≡ length (versions (es ++ h)) + 1 = length-append (versions (es ++ h)) (v ∷ []) in
+    omega (arith, le, more)
+
+stored_count : (stores : Stores) (h : History) → Stands stores h → length stores.rows.stored ≡ length (versions h)
+stored_count stores h stands = sym (length-map stores.rows.stored version_of) ∙ ap length stands.all.rows.births
+
+rows_grow : (old new : Stores) (events h : History) → Stands old h → Stands new (events ++ h) → length old.rows.stored ≤ length new.rows.stored
+rows_grow old new events h before after = let le = versions_grow events h in let a = stored_count old h before in let b = stored_count new (events ++ h) after in omega (arith, le, a, b)
+
+-- ---- what is given up
+
+-- nothing by a statement that is not done
+not_done : (level : Isolation) (s : ℕ) (o : Option Rest) (t : Result Ended Halt) (stop : Halt) → t ≡ Err stop → given_up level s o t ≡ []
+not_done level s o t stop e = ap (given_up level s o) e ∙ halts o
+  where
+    halts : (o : Option Rest) → given_up level s o (Err stop) ≡ []
+    halts None = refl
+    halts (Some r) = refl
+
+-- and by one that is done where it has stood
+abbrev pub if_stood : Bool → History → History
+if_stood stood events = if stood then events else []
+
+done_gives : (level : Isolation) (s : ℕ) (o : Option Rest) (t : Result Ended Halt) (text : List ℕ) (stood : Bool) → t ≡ Ok (Done text) → stood ≡ is_some o → if_stood stood (let_go_at level s) ≡ given_up level s o t
+done_gives level s o t text stood e is = ap (λ b. if_stood b (let_go_at level s)) is ∙ (gives o ∙ ap (given_up level s o) (sym e))
+  where
+    gives : (o : Option Rest) → if_stood (is_some o) (let_go_at level s) ≡ given_up level s o (Ok (Done text))
+    gives None = refl
+    gives (Some r) = refl
+
+-- ---- a statement whose wait was cancelled
+
+pub cancelled_tells : (e : KeptSeats) (s next : ℕ) (h : History) → AreSeated e → s < length e.opened → next ≡ slice_index_or e.commands s 0 + 1 → TellOf e h
+    → TellOf (seats e.stores e.opened (slice_set e.commands s next) (slice_set e.cancelled s false) (slice_set e.rests s None) e.moved e.queue e.ready e.whole) h
+cancelled_tells e s next h seated lt more tells = record {
+  stands = tells.stands;
+  opened = tells.opened;
+  numbered = numbered e.commands (slice_set e.commands s next) h s next (rw seated.commands lt) refl
+      (subst (IsAt h s) (sym more) (one_later h s (slice_index_or e.commands s 0) (tells.numbered s))) (λ r other. tells.numbered r);
+  queue = tells.queue;
+  ready = tells.ready;
+  waits = record {
+    caused = tells.waits.caused;
+    going_on = at_set (MayGoOn e.stores) e.rests s None None tells.waits.going_on tt;
+    standing = λ r w. untold e.cancelled h s r tells.waits.standing w;
+  };
+}
+
+pub cancelled_ran : (e : KeptSeats) (a : Asker) (next : ℕ) (h : History) (before : List ℕ) (f : Fault) (m : Made Ended) → AreSeated e → a.session < length e.opened → e.whole ≡ true
+    → slice_index_or e.cancelled a.session false ≡ true → next ≡ slice_index_or e.commands a.session 0 + 1 → f ≡ statement_cancelled → TellOf e h
+    → HasRun (unless_cancelled (slice_index_or e.cancelled a.session false) m) a e
+    (seats e.stores e.opened (slice_set e.commands a.session next) (slice_set e.cancelled a.session false) (slice_set e.rests a.session None) e.moved e.queue e.ready e.whole) before before (outcomes.Refused f) h
+cancelled_ran e a next h before f m seated lt whole flag more fault tells =
+    let new = seats e.stores e.opened (slice_set e.commands a.session next) (slice_set e.cancelled a.session false) (slice_set e.rests a.session None) e.moved e.queue e.ready e.whole in
+    let none = not_done a.level a.session (slice_index_or e.rests a.session None) (Err (Refused statement_cancelled)) (Refused statement_cancelled) refl in
+    subst (λ b. HasRun (unless_cancelled b m) a e new before before (outcomes.Refused f) h) (sym flag)
+    (record {
+      whole = whole;
+      tells = subst (λ events. TellOf new (events ++ h)) (sym none) (cancelled_tells e a.session next h seated lt more tells);
+      outcome = ap outcomes.Refused fault;
+      text = sym (append-nil before);
+      commands = ap (slice_set e.commands a.session) more;
+      cancelled = refl;
+      rests = refl;
+    })
+
+-- ---- a statement that was tried
+
+-- it was not cancelled, and the stores are as the statement left them
+pub record IsTried (e : KeptSeats) (s : ℕ) (stores : Stores) (next : Option ℕ) : Type 0 where
+  pub seated : AreSeated e
+  pub known : s < length e.opened
+  pub whole : e.whole ≡ true
+  pub flag : slice_index_or e.cancelled s false ≡ false
+  pub goes : GoesOn e.stores stores s
+  pub readies : (k : History) → LocksStand stores.locks k → next ≡ ready (lock_events k)
+
+-- what is kept then
+abbrev pub tried : (e : KeptSeats) (stores : Stores) (commands : List ℕ) (rests : List (Option Rest)) (queue : List ℕ) (next : Option ℕ) → KeptSeats
+tried e stores commands rests queue next = seats stores e.opened commands e.cancelled rests e.moved queue next e.whole
+
+-- the session has a cause where it waits for others
+abbrev pub IsCaused : Stores → ℕ → Type 0
+IsCaused stores s = (v : WaitOn) → slice_index_or stores.locks.wants s None ≡ Some (Others v) → (y : ℕ) × (names v y ≡ true)
+
+pub idle_caused : (stores : Stores) (s : ℕ) → IsIdle stores.locks s → IsCaused stores s
+idle_caused stores s idle v is = absurd (let c = sym idle ∙ is in cc)
+
+waiting_caused : (stores : Stores) (s : ℕ) (w : Wanted) → slice_index_or stores.locks.wants s None ≡ Some w → HasCause w → IsCaused stores s
+waiting_caused stores s (Lock t m) e cause v is = absurd (let c = sym e ∙ is in cc)
+waiting_caused stores s (Others u) e cause v is = let c : Some (Others u) ≡ Some (Others v) = sym e ∙ is in let same : u ≡ v = cc in subst (λ x. (y : ℕ) × (names x y ≡ true)) same cause
+
+other_wants : (e : KeptSeats) (stores : Stores) (s r : ℕ) (h g : History) → s ≢ r → TellOf e h → GoesOn e.stores stores s → LocksStand stores.locks g → wanted (lock_events g) r ≡ wanted (lock_events h) r
+other_wants e stores s r h g other tells goes stand = sym (stand.tells.wants r) ∙ (goes.others r (λ same. other (sym same)) ∙ tells.stands.all.locks.tells.wants r)
+
+pub went_tells : (e : KeptSeats) (stores : Stores) (s n : ℕ) (rest : Option Rest) (commands : List ℕ) (rests : List (Option Rest)) (waiting q : List ℕ) (next : Option ℕ) (events h : History)
+    → IsTried e s stores next → TellOf e h → WentOn h s n waiting stores (events ++ h) → IsCaused stores s → MayGoOn stores rest
+    → commands ≡ slice_set e.commands s n → rests ≡ slice_set e.rests s rest → q ≡ e.queue ++ waiting
+    → TellOf (tried e stores commands rests q next) (events ++ h)
+went_tells e stores s n rest commands rests waiting q next events h it tells went own may numbers set left = record {
+  stands = went.stands;
+  opened = λ r. tells.opened r ∙ ap (λ c. is_some (slice_index_or c r None)) (sym it.goes.transactions);
+  numbered = numbered e.commands commands (events ++ h) s n (rw it.seated.commands it.known) numbers went.at (λ r other. went.others r (slice_index_or e.commands r 0) (λ same. other (sym same)) (tells.numbered r));
+  queue = left ∙ (ap (λ xs. xs ++ waiting) tells.queue ∙ sym went.queue);
+  ready = it.readies;
+  waits = record {
+    caused = λ r v is off. elim (cases_eq s r) [
+      | inl same ↦ own v (subst (λ x. slice_index_or stores.locks.wants x None ≡ Some (Others v)) (sym same) is)
+      | inr other ↦ tells.waits.caused r v (sym (it.goes.others r (λ same. other (sym same))) ∙ is) off
+    ];
+    going_on = λ r. subst (λ xs. MayGoOn stores (slice_index_or xs r None)) (sym set)
+        (at_set (MayGoOn stores) e.rests s rest None (λ k. more_left e.stores stores (slice_index_or e.rests k None) (rows_grow e.stores stores events h tells.stands went.stands) (tells.waits.going_on k)) may r);
+    standing = λ r is. elim (cases_eq s r) [
+      | inl same ↦ subst (λ x. slice_index_or e.cancelled x false ≡ false) same it.flag
+      | inr other ↦ tells.waits.standing r (ap is_some (sym (other_wants e stores s r h (events ++ h) other tells it.goes went.stands.all.locks)) ∙ is)
+    ];
+  };
+}
+
+-- the caller of a statement
+abbrev pub caller_in : KeptSeats → Asker → Caller
+caller_in e a = caller_of (length e.opened) (slice_index_or e.commands a.session 0) a
+
+-- what the statement means at that history, unless its wait was cancelled
+abbrev pub meant_at : {O T : Type 0} → Words O T → O → KeptSeats → Asker → History → Settings → T → Made Ended
+meant_at W o e a h g t = W.attempted o (caller_in e a) (slice_index_or e.rests a.session None) h g t
+
+pub as_meant : {O T : Type 0} (W : Words O T) (o : O) (e : KeptSeats) (a : Asker) (h : History) (g : Settings) (t : T) (n cmd : ℕ) (rest : Option Rest) (r : Result Ending Stop) (stores : Stores) (before after : List ℕ)
+    → n ≡ length e.opened → cmd ≡ slice_index_or e.commands a.session 0 → rest ≡ slice_index_or e.rests a.session None
+    → IsAttempt r stores before after (caller_of n cmd a) h (W.attempted o (caller_of n cmd a) rest h g t) → IsAttempt r stores before after (caller_in e a) h (meant_at W o e a h g t)
+as_meant W o e a h g t n cmd rest r stores before after count number taken is =
+    let came : ℕ → ℕ → Option Rest → Type 0 = λ n cmd rest. IsAttempt r stores before after (caller_of n cmd a) h (W.attempted o (caller_of n cmd a) rest h g t) in
+    subst (λ x. came x (slice_index_or e.commands a.session 0) (slice_index_or e.rests a.session None)) count
+    (subst (λ x. came n x (slice_index_or e.rests a.session None)) number (subst (λ x. came n cmd x) taken is))
+
+-- what has come of it, where it was not cancelled
+abbrev pub Tried : (e new : KeptSeats) → Asker → (before after : List ℕ) (o : Outcome) (h : History) → Made Ended → Type 0
+Tried e new a before after o h m = HasRun (unless_cancelled (slice_index_or e.cancelled a.session false) m) a e new before after o h
+
+as_tried : (e new : KeptSeats) (a : Asker) (before after : List ℕ) (o : Outcome) (h : History) (m : Made Ended) → slice_index_or e.cancelled a.session false ≡ false → HasRun m a e new before after o h → Tried e new a before after o h m
+as_tried e new a before after o h m flag ran = subst (λ b. HasRun (unless_cancelled b m) a e new before after o h) (sym flag) ran
+
+set_same : {X : Type 0} (xs : List X) (s : ℕ) (x d : X) → s < length xs → slice_index_or xs s d ≡ x → slice_set xs s x ≡ xs
+set_same [] s x d lt is = absurd (omega (arith, lt))
+set_same (y ∷ xs) zero x d lt is = ap (λ z. z ∷ xs) (sym is)
+set_same (y ∷ xs) (suc s) x d lt is = ap (λ zs. y ∷ zs) (set_same xs s x d (omega (arith, lt)) is)
+
+flag_stays : (e : KeptSeats) (s : ℕ) (stores : Stores) (next : Option ℕ) → IsTried e s stores next → e.cancelled ≡ slice_set e.cancelled s false
+flag_stays e s stores next it = sym (set_same e.cancelled s false false (rw it.seated.cancelled it.known) it.flag)
+
+number_stays : (e : KeptSeats) (s : ℕ) (stores : Stores) (next : Option ℕ) → IsTried e s stores next → e.commands ≡ slice_set e.commands s (slice_index_or e.commands s 0)
+number_stays e s stores next it = sym (set_same e.commands s (slice_index_or e.commands s 0) 0 (rw it.seated.commands it.known) refl)
+
+-- ---- it is done
+
+pub done_tells : (e : KeptSeats) (a : Asker) (stores : Stores) (next : ℕ) (rests : List (Option Rest)) (ready' : Option ℕ) (h : History) (before after : List ℕ) (m : Made Ended) → IsTried e a.session stores ready' → TellOf e h
+    → next ≡ slice_index_or e.commands a.session 0 + 1 → rests ≡ slice_set e.rests a.session None → IsIdle stores.locks a.session → IsAttempt (Ok endings.Done) stores before after (caller_in e a) h m
+    → TellOf (tried e stores (slice_set e.commands a.session next) rests e.queue ready') (m.events ++ h)
+done_tells e a stores next rests ready' h before after m it tells more set idle (text, told, printed, went) =
+    went_tells e stores a.session (slice_index_or e.commands a.session 0 + 1) None (slice_set e.commands a.session next) rests [] e.queue ready' m.events h it tells went
+    (idle_caused stores a.session idle) tt (ap (slice_set e.commands a.session) more) set (sym (append-nil e.queue))
+
+-- and has given up its snapshot
+pub done_ran : (e new : KeptSeats) (a : Asker) (stores : Stores) (next : ℕ) (rests : List (Option Rest)) (ready' : Option ℕ) (stood : Bool) (h : History) (before after : List ℕ) (m : Made Ended) → IsTried e a.session stores ready' → TellOf e h
+    → next ≡ slice_index_or e.commands a.session 0 + 1 → rests ≡ slice_set e.rests a.session None → IsIdle stores.locks a.session → stood ≡ is_some (slice_index_or e.rests a.session None)
+    → Adds (tried e stores (slice_set e.commands a.session next) rests e.queue ready') new (λ h. if_stood stood (let_go_at a.level a.session))
+    → new.commands ≡ slice_set e.commands a.session next → new.cancelled ≡ e.cancelled → new.rests ≡ rests
+    → IsAttempt (Ok endings.Done) stores before after (caller_in e a) h m → Tried e new a before after outcomes.Done h m
+done_ran e new a stores next rests ready' stood h before after m it tells more set idle is adds commands cancelled left (text, told, printed, went) =
+    as_tried e new a before after outcomes.Done h m it.flag (record {
+      whole = adds.whole ∙ it.whole;
+      tells = subst (λ events. TellOf new (events ++ (m.events ++ h))) (done_gives a.level a.session (slice_index_or e.rests a.session None) m.told text stood told is)
+          (adds.tells it.whole (m.events ++ h) (done_tells e a stores next rests ready' h before after m it tells more set idle (text, told, printed, went)));
+      outcome = ap outcome_told (sym told);
+      text = printed ∙ ap (λ t. before ++ text_told t) (sym told);
+      commands = commands ∙ (ap (slice_set e.commands a.session) more ∙ ap (λ t. slice_set e.commands a.session (next_command t (slice_index_or e.commands a.session 0))) (sym told));
+      cancelled = cancelled ∙ flag_stays e a.session stores ready' it;
+      rests = left ∙ (set ∙ ap (λ t. slice_set e.rests a.session (rest_told t)) (sym told));
+    })
+
+-- ---- it is refused
+
+pub refused_tells : (e : KeptSeats) (a : Asker) (stores : Stores) (next : ℕ) (rests : List (Option Rest)) (ready' : Option ℕ) (h : History) (before after : List ℕ) (m : Made Ended) (f : Fault) → IsTried e a.session stores ready' → TellOf e h
+    → next ≡ slice_index_or e.commands a.session 0 + 1 → rests ≡ slice_set e.rests a.session None → IsIdle stores.locks a.session → IsAttempt (Err (stop.Refused f)) stores before after (caller_in e a) h m
+    → TellOf (tried e stores (slice_set e.commands a.session next) rests e.queue ready') (m.events ++ h)
+refused_tells e a stores next rests ready' h before after m f it tells more set idle (told, printed, went) =
+    went_tells e stores a.session (slice_index_or e.commands a.session 0 + 1) None (slice_set e.commands a.session next) rests [] e.queue ready' m.events h it tells went
+    (idle_caused stores a.session idle) tt (ap (slice_set e.commands a.session) more) set (sym (append-nil e.queue))
+
+pub refused_ran : (e : KeptSeats) (a : Asker) (stores : Stores) (next : ℕ) (rests : List (Option Rest)) (ready' : Option ℕ) (h : History) (before after : List ℕ) (m : Made Ended) (f : Fault) → IsTried e a.session stores ready' → TellOf e h
+    → next ≡ slice_index_or e.commands a.session 0 + 1 → rests ≡ slice_set e.rests a.session None → IsIdle stores.locks a.session → IsAttempt (Err (stop.Refused f)) stores before after (caller_in e a) h m
+    → Tried e (tried e stores (slice_set e.commands a.session next) rests e.queue ready') a before after (outcomes.Refused f) h m
+refused_ran e a stores next rests ready' h before after m f it tells more set idle (told, printed, went) =
+    let new = tried e stores (slice_set e.commands a.session next) rests e.queue ready' in
+    as_tried e new a before after (outcomes.Refused f) h m it.flag (record {
+      whole = it.whole;
+      tells = subst (λ events. TellOf new (events ++ (m.events ++ h))) (sym (not_done a.level a.session (slice_index_or e.rests a.session None) m.told (Refused f) told))
+          (refused_tells e a stores next rests ready' h before after m f it tells more set idle (told, printed, went));
+      outcome = ap outcome_told (sym told);
+      text = printed ∙ (sym (append-nil before) ∙ ap (λ t. before ++ text_told t) (sym told));
+      commands = ap (slice_set e.commands a.session) more ∙ ap (λ t. slice_set e.commands a.session (next_command t (slice_index_or e.commands a.session 0))) (sym told);
+      cancelled = flag_stays e a.session stores ready' it;
+      rests = set ∙ ap (λ t. slice_set e.rests a.session (rest_told t)) (sym told);
+    })
+
+-- ---- what it did so far is to be committed
+
+commits_nothing : (level : Isolation) (s : ℕ) (o : Option Rest) (t : Result Ended Halt) (d : RestOfDetach) → t ≡ Ok (Commits d) → given_up level s o t ≡ []
+commits_nothing level s o t d e = ap (given_up level s o) e ∙ gives o
+  where
+    gives : (o : Option Rest) → given_up level s o (Ok (Commits d)) ≡ []
+    gives None = refl
+    gives (Some r) = refl
+
+pub commits_tells : (e : KeptSeats) (a : Asker) (stores : Stores) (next : ℕ) (rests : List (Option Rest)) (ready' : Option ℕ) (h : History) (before after : List ℕ) (m : Made Ended) (d : RestOfDetach) → IsTried e a.session stores ready' → TellOf e h
+    → next ≡ slice_index_or e.commands a.session 0 + 1 → rests ≡ slice_set e.rests a.session (Some (Detach d)) → IsIdle stores.locks a.session → IsAttempt (Ok (endings.Commits d)) stores before after (caller_in e a) h m
+    → TellOf (tried e stores (slice_set e.commands a.session next) rests e.queue ready') (m.events ++ h)
+commits_tells e a stores next rests ready' h before after m d it tells more set idle (told, printed, went) =
+    went_tells e stores a.session (slice_index_or e.commands a.session 0 + 1) (Some (Detach d)) (slice_set e.commands a.session next) rests [] e.queue ready' m.events h it tells went
+    (idle_caused stores a.session idle) tt (ap (slice_set e.commands a.session) more) set (sym (append-nil e.queue))
+
+pub commits_ran : (e : KeptSeats) (a : Asker) (stores : Stores) (next : ℕ) (rests : List (Option Rest)) (ready' : Option ℕ) (h : History) (before after : List ℕ) (m : Made Ended) (d : RestOfDetach) → IsTried e a.session stores ready' → TellOf e h
+    → next ≡ slice_index_or e.commands a.session 0 + 1 → rests ≡ slice_set e.rests a.session (Some (Detach d)) → IsIdle stores.locks a.session → IsAttempt (Ok (endings.Commits d)) stores before after (caller_in e a) h m
+    → Tried e (tried e stores (slice_set e.commands a.session next) rests e.queue ready') a before after outcomes.Commits h m
+commits_ran e a stores next rests ready' h before after m d it tells more set idle (told, printed, went) =
+    let new = tried e stores (slice_set e.commands a.session next) rests e.queue ready' in
+    as_tried e new a before after outcomes.Commits h m it.flag (record {
+      whole = it.whole;
+      tells = subst (λ events. TellOf new (events ++ (m.events ++ h))) (sym (commits_nothing a.level a.session (slice_index_or e.rests a.session None) m.told d told))
+          (commits_tells e a stores next rests ready' h before after m d it tells more set idle (told, printed, went));
+      outcome = ap outcome_told (sym told);
+      text = printed ∙ (sym (append-nil before) ∙ ap (λ t. before ++ text_told t) (sym told));
+      commands = ap (slice_set e.commands a.session) more ∙ ap (λ t. slice_set e.commands a.session (next_command t (slice_index_or e.commands a.session 0))) (sym told);
+      cancelled = flag_stays e a.session stores ready' it;
+      rests = set ∙ ap (λ t. slice_set e.rests a.session (rest_told t)) (sym told);
+    })
+
+-- ---- it waits
+
+pub waits_tells : (e : KeptSeats) (a : Asker) (stores : Stores) (n : ℕ) (rest : Option Rest) (rests : List (Option Rest)) (q : List ℕ) (ready' : Option ℕ) (h : History) (before after : List ℕ) (m : Made Ended) → IsTried e a.session stores ready' → TellOf e h
+    → n ≡ number_after rest (slice_index_or e.commands a.session 0) → rests ≡ slice_set e.rests a.session rest → IsHalt (Err (stop.Waits rest)) stores a.session → q ≡ e.queue ++ a.session ∷ [] → IsAttempt (Err (stop.Waits rest)) stores before after (caller_in e a) h m
+    → TellOf (tried e stores (slice_set e.commands a.session n) rests q ready') (m.events ++ h)
+waits_tells e a stores n rest rests q ready' h before after m it tells number set halt left (told, printed, went) =
+    went_tells e stores a.session (number_after rest (slice_index_or e.commands a.session 0)) rest (slice_set e.commands a.session n) rests (a.session ∷ []) q ready' m.events h it tells went
+    (waiting_caused stores a.session halt.0.0 halt.0.1 halt.0.2) halt.1 (ap (slice_set e.commands a.session) number) set left
+
+pub waits_ran : (e : KeptSeats) (a : Asker) (stores : Stores) (n : ℕ) (rest : Option Rest) (rests : List (Option Rest)) (q : List ℕ) (ready' : Option ℕ) (h : History) (before after : List ℕ) (m : Made Ended) → IsTried e a.session stores ready' → TellOf e h
+    → n ≡ number_after rest (slice_index_or e.commands a.session 0) → rests ≡ slice_set e.rests a.session rest → IsHalt (Err (stop.Waits rest)) stores a.session → q ≡ e.queue ++ a.session ∷ [] → IsAttempt (Err (stop.Waits rest)) stores before after (caller_in e a) h m
+    → Tried e (tried e stores (slice_set e.commands a.session n) rests q ready') a before after outcomes.Waits h m
+waits_ran e a stores n rest rests q ready' h before after m it tells number set halt left (told, printed, went) =
+    let new = tried e stores (slice_set e.commands a.session n) rests q ready' in
+    as_tried e new a before after outcomes.Waits h m it.flag (record {
+      whole = it.whole;
+      tells = subst (λ events. TellOf new (events ++ (m.events ++ h))) (sym (not_done a.level a.session (slice_index_or e.rests a.session None) m.told (Waits rest) told))
+          (waits_tells e a stores n rest rests q ready' h before after m it tells number set halt left (told, printed, went));
+      outcome = ap outcome_told (sym told);
+      text = printed ∙ (sym (append-nil before) ∙ ap (λ t. before ++ text_told t) (sym told));
+      commands = ap (slice_set e.commands a.session) number ∙ ap (λ t. slice_set e.commands a.session (next_command t (slice_index_or e.commands a.session 0))) (sym told);
+      cancelled = flag_stays e a.session stores ready' it;
+      rests = set ∙ ap (λ t. slice_set e.rests a.session (rest_told t)) (sym told);
+    })
+
+-- the history that what is kept tells of goes on
+pub ran_kept : (e new : KeptSeats) → AreKept e → e.whole ≡ true → AreSeated new → ((h : History) → TellOf e h → (g : History) × TellOf new g) → AreKept new
+ran_kept e new kept whole seated on = record { seated = seated; sound = λ w. let s = kept.sound whole in on s.0 s.1 }
+
+pub goes_size : (old new : Stores) (s : ℕ) → GoesOn old new s → IsSameSize old new
+goes_size old new s goes = record { txs = ap length goes.transactions; waits = goes.size.sessions; tables = goes.size.tables }
+
+pub one_more : (q xs : List ℕ) (s n : ℕ) → xs ≡ q ++ s ∷ [] → All (λ r. r < n) q → s < n → All (λ r. r < n) xs
+one_more q xs s n is all lt = subst (All (λ r. r < n)) (sym is) (All-append (λ r. r < n) q (s ∷ []) all (All-cons (λ r. r < n) s [] lt (All-nil (λ r. r < n))))
+
+-- ---- the database that it stands for
+
+abbrev attempt_by : {O T : Type 0} → Words O T → Asker → History → Settings → T → O → ℕ → List ℕ → List Bool → List (Option Rest) → Made Ended
+attempt_by W a h g t o n commands cancelled rests = unless_cancelled (slice_index_or cancelled a.session false) (W.attempted o (caller_of n (slice_index_or commands a.session 0) a) (slice_index_or rests a.session None) h g t)
+
+same_attempt : {O T : Type 0} (W : Words O T) (o : O) (e : KeptSeats) (a : Asker) (g : Settings) (t : T) (cut : List ℕ) (v : Database O) → StandsFor o e cut v → attempt_at W o e a v.history g t ≡ attempt_of W v a g t
+same_attempt W o e a g t cut v stands =
+    ap (λ x. attempt_by W a v.history g t x (length e.opened) e.commands e.cancelled e.rests) stands.options
+    ∙ (ap (λ x. attempt_by W a v.history g t v.options x e.commands e.cancelled e.rests) stands.sessions
+    ∙ (ap (λ x. attempt_by W a v.history g t v.options v.sessions x e.cancelled e.rests) stands.commands
+    ∙ (ap (λ x. attempt_by W a v.history g t v.options v.sessions v.commands x e.rests) stands.cancelled
+    ∙ ap (λ x. attempt_by W a v.history g t v.options v.sessions v.commands v.cancelled x) stands.rests)))
+
+-- what has happened after it
+abbrev history_by : Asker → History → List (Option Rest) → Made Ended → History
+history_by a h rests m = given_up a.level a.session (slice_index_or rests a.session None) m.told ++ (m.events ++ h)
+
+pub stands_ran : {O T : Type 0} (W : Words O T) (o : O) (old new : KeptSeats) (a : Asker) (g : Settings) (t : T) (before after : List ℕ) (x : Outcome) (cut : List ℕ) (v : Database O)
+    → StandsFor o old cut v → HasRun (attempt_at W o old a v.history g t) a old new before after x v.history → new.opened ≡ old.opened
+    → StandsFor o new cut (goes_on_to v a (attempt_of W v a g t))
+stands_ran W o old new a g t before after x cut v stands ran same =
+    let meant = same_attempt W o old a g t cut v stands in
+    record {
+      whole = ran.whole;
+      options = stands.options;
+      sessions = ap length same ∙ stands.sessions;
+      tells = subst (λ rests. TellOf new (history_by a v.history rests (attempt_of W v a g t))) stands.rests (subst (λ m. TellOf new (history_by a v.history old.rests m)) meant ran.tells);
+      commands = ran.commands ∙ (ap (λ m. slice_set old.commands a.session (next_command m.told (slice_index_or old.commands a.session 0))) meant
+          ∙ ap (λ cs. slice_set cs a.session (next_command (attempt_of W v a g t).told (slice_index_or cs a.session 0))) stands.commands);
+      cancelled = ran.cancelled ∙ ap (λ cs. slice_set cs a.session false) stands.cancelled;
+      rests = ran.rests ∙ (ap (λ m. slice_set old.rests a.session (rest_told m.told)) meant ∙ ap (λ rs. slice_set rs a.session (rest_told (attempt_of W v a g t).told)) stands.rests);
+      cut = stands.cut;
+    }
+
+pub outcome_ran : {O T : Type 0} (W : Words O T) (o : O) (old new : KeptSeats) (a : Asker) (g : Settings) (t : T) (before after : List ℕ) (x : Outcome) (cut : List ℕ) (v : Database O)
+    → StandsFor o old cut v → HasRun (attempt_at W o old a v.history g t) a old new before after x v.history → x ≡ outcome_told (attempt_of W v a g t).told
+outcome_ran W o old new a g t before after x cut v stands ran = ran.outcome ∙ ap (λ m. outcome_told m.told) (same_attempt W o old a g t cut v stands)
+
+pub text_ran : {O T : Type 0} (W : Words O T) (o : O) (old new : KeptSeats) (a : Asker) (g : Settings) (t : T) (before after : List ℕ) (x : Outcome) (cut : List ℕ) (v : Database O)
+    → StandsFor o old cut v → HasRun (attempt_at W o old a v.history g t) a old new before after x v.history → after ≡ before ++ text_told (attempt_of W v a g t).told
+text_ran W o old new a g t before after x cut v stands ran = ran.text ∙ ap (λ m. before ++ text_told m.told) (same_attempt W o old a g t cut v stands)
+
+-- the waits that it cancels have ended before
+pub after_cuts : {O T : Type 0} (W : Words O T) (o p : O) (old mid : KeptSeats) (before cut : List ℕ) (others : List ℕ) (n : ℕ) (a : Asker) (t : T) (v : Database O)
+    → others ≡ W.cancels a.session n t → n ≡ length old.opened → StandsFor o old before v → StandsFor p mid cut (all_cut v others) → StandsFor p mid cut (cut_by W v a t)
+after_cuts W o p old mid before cut others n a t v are count stands ended =
+    subst (λ ss. StandsFor p mid cut (all_cut v ss)) (are ∙ ap (λ k. W.cancels a.session k t) (count ∙ stands.sessions)) ended
+
+pub if_on : {X E : Type 0} (r : Result X E) (P : X → Type 0) (Q : Type 0) → IfOk r P → ((x : X) → P x → Q) → OnOk r Q
+if_on (Ok x) P Q p f = f x p
+if_on (Err e) P Q p f = tt
+
+pub if_ok : {X E : Type 0} (r : Result X E) (P Q : X → Type 0) → IfOk r P → ((x : X) → P x → Q x) → IfOk r Q
+if_ok (Ok x) P Q p f = f x p
+if_ok (Err e) P Q p f = tt

@@ -1,0 +1,16 @@
+use Rattle.std.proofs.Common.{◌≡◌, ◌≤◌, ℕ, false, drop}
+use Rattle.statement_runs.specs.Database.{Database, all_cut}
+use Rattle.statement_runs.specs.Kept.{StandsFor, waits_in}
+use Rattle.statement_runs.specs.Weight.{left}
+use Rattle.statement_runs.proofs.executor.StoreExecutor.interrupt_all.Given as goal
+
+abbrev pub invariant-loop-session : goal.invariant-loop-session
+invariant-loop-session g l = record {
+  kinds : l.self.kinds ≡ l.fn.self.kinds;
+  opened : l.self.seats.opened ≡ l.fn.self.seats.opened;
+  rests : l.self.seats.rests ≡ l.fn.self.seats.rests;
+  stands : (v : Database g.K.Kinds.Options) → StandsFor (g.K.Kinds.options l.fn.self.kinds) l.fn.self.seats l.fn.self.cut.items v
+      → (w : Database g.K.Kinds.Options) × StandsFor (g.K.Kinds.options l.self.kinds) l.self.seats l.self.cut.items w × (all_cut w (drop l.session-index l.sessions) ≡ all_cut v l.sessions);
+  others : (s : ℕ) → waits_in l.fn.self.seats s ≡ false → waits_in l.self.seats s ≡ false;
+  lower : left l.self.seats l.self.cut.items ≤ left l.fn.self.seats l.fn.self.cut.items;
+}

@@ -1,0 +1,164 @@
+-- The run of statements over a history: what each call of a session makes of it (the manual, 13.2 and 13.3).
+use Rattle.std.specs.Prelude.{ℕ, ◌+◌, ◌==◌, Bool, true, false, if◌then◌else◌, List, [], ◌∷◌, ◌++◌, Option, Some, None, Result, Ok, Err, is_some, replicate, slice_index_or, slice_set}
+use Rattle.pg_values.specs.declared.fault.Fault.{Fault}
+use Rattle.history.specs.History.{History, lock_events}
+use Rattle.history.specs.Locks.{wanted, queue}
+use Rattle.history.specs.Waits.{ready}
+use Rattle.schedule.specs.Lists.{first, head_of, without}
+use Rattle.sessions.specs.Course.{Course}
+use Rattle.sessions.specs.declared.asker.Asker.{Asker}
+use Rattle.sessions.specs.declared.outcome.Outcome.{Outcome}
+use Rattle.sessions.specs.declared.outcome.Outcome.TheVariants as outcomes
+use Rattle.sessions.specs.declared.phase.Isolation.{Isolation}
+use Rattle.sessions.specs.declared.phase.Isolation.TheVariants.{ReadCommitted, ReadUncommitted, RepeatableRead}
+use Rattle.sessions.specs.declared.settings.Settings.{Settings}
+use Rattle.stores.specs.Events.{begun, committed, aborted, let_go, withdrawn, resumed}
+use Rattle.statement_steps.specs.Ended.{Ended, Done, Commits}
+use Rattle.statement_steps.specs.Faults.{statement_cancelled}
+use Rattle.statement_steps.specs.Made.{Made, Halt, Waits, Refused, number_after, halted}
+use Rattle.statement_runs.specs.Words.{Words}
+use Rattle.statement_steps.specs.declared.caller.Caller.{Caller}
+use Rattle.statement_steps.specs.declared.rest.Rest.{Rest}
+use Rattle.statement_steps.specs.declared.rest.Rest.TheVariants.{Detach}
+
+-- all that has happened; of each session how many commands of its transaction have begun and ended, whether the
+-- wait of its statement was cancelled, and where a statement stands that waits in the middle of its run; and whose
+-- waits statements of others have cancelled, in this order, as long as these have not gone on
+pub record Database (O : Type 0) : Type 0 where
+  pub options : O
+  pub sessions : ℕ
+  pub history : History
+  pub commands : List ℕ
+  pub cancelled : List Bool
+  pub rests : List (Option Rest)
+  pub cut : List ℕ
+
+abbrev pub empty : {O : Type 0} → O → ℕ → Database O
+empty o n = record { options = o; sessions = n; history = []; commands = replicate n 0; cancelled = replicate n false; rests = replicate n None; cut = [] }
+
+abbrev pub command_of : {O : Type 0} → Database O → ℕ → ℕ
+command_of v s = slice_index_or v.commands s 0
+
+abbrev pub is_cancelled : {O : Type 0} → Database O → ℕ → Bool
+is_cancelled v s = slice_index_or v.cancelled s false
+
+abbrev pub rest_of : {O : Type 0} → Database O → ℕ → Option Rest
+rest_of v s = slice_index_or v.rests s None
+
+-- ---- a statement
+
+abbrev pub caller_of : (sessions cmd : ℕ) → Asker → Caller
+caller_of n cmd a = record { session = a.session; sessions = n; level = a.level; cmd = cmd; kind = a.kind }
+
+-- a statement whose wait was cancelled is refused
+abbrev pub unless_cancelled : Bool → Made Ended → Made Ended
+unless_cancelled true m = halted [] (Refused statement_cancelled)
+unless_cancelled false m = m
+
+abbrev pub attempt_of : {O T : Type 0} → Words O T → Database O → Asker → Settings → T → Made Ended
+attempt_of W v a g t = unless_cancelled (is_cancelled v a.session) (W.attempted v.options (caller_of v.sessions (command_of v a.session) a) (rest_of v a.session) v.history g t)
+
+-- a command that is to begin anew keeps its number
+abbrev pub next_command : Result Ended Halt → ℕ → ℕ
+next_command (Ok e) n = n + 1
+next_command (Err (Waits rest)) n = number_after rest n
+next_command (Err (Refused f)) n = n + 1
+
+abbrev pub rest_told : Result Ended Halt → Option Rest
+rest_told (Ok (Done text)) = None
+rest_told (Ok (Commits d)) = Some (Detach d)
+rest_told (Err (Waits rest)) = rest
+rest_told (Err (Refused f)) = None
+
+-- a transaction at REPEATABLE READ keeps its snapshot
+abbrev pub let_go_at : Isolation → (session : ℕ) → History
+let_go_at ReadCommitted s = let_go s
+let_go_at ReadUncommitted s = let_go s
+let_go_at RepeatableRead s = []
+
+-- a statement that waited in the middle of its run has held its snapshot, and gives it up where it is done
+abbrev pub given_up : Isolation → (session : ℕ) → Option Rest → Result Ended Halt → History
+given_up level s (Some rest) (Ok (Done text)) = let_go_at level s
+given_up level s rest told = []
+
+abbrev pub goes_on : {O : Type 0} → Database O → Asker → Made Ended → Database O
+goes_on v a m = record v {
+  history = given_up a.level a.session (rest_of v a.session) m.told ++ (m.events ++ v.history);
+  commands = slice_set v.commands a.session (next_command m.told (command_of v a.session));
+  cancelled = slice_set v.cancelled a.session false;
+  rests = slice_set v.rests a.session (rest_told m.told);
+}
+
+abbrev pub outcome_told : Result Ended Halt → Outcome
+outcome_told (Ok (Done text)) = outcomes.Done
+outcome_told (Ok (Commits d)) = outcomes.Commits
+outcome_told (Err (Waits rest)) = outcomes.Waits
+outcome_told (Err (Refused f)) = outcomes.Refused f
+
+abbrev pub text_told : Result Ended Halt → List ℕ
+text_told (Ok (Done text)) = text
+text_told (Ok (Commits d)) = []
+text_told (Err stop) = []
+
+-- ---- what happens
+
+abbrev pub happened : {O : Type 0} → Database O → History → Database O
+happened v events = record v { history = events ++ v.history }
+
+abbrev pub waits : {O : Type 0} → Database O → ℕ → Bool
+waits v s = is_some (wanted (lock_events v.history) s)
+
+-- the session's wait ends, and its statement is to be refused
+abbrev pub cancels : {O : Type 0} → Database O → ℕ → Database O
+cancels v s = record (happened v (withdrawn s)) { cancelled = slice_set v.cancelled s true }
+
+-- ---- a statement cancels the waits of others: before it is attempted, these end at once, one after the other
+
+abbrev pub cuts : {O : Type 0} → Database O → ℕ → Database O
+cuts v s = if waits v s then record (cancels v s) { cut = v.cut ++ s ∷ [] } else v
+
+abbrev pub all_cut : {O : Type 0} → Database O → List ℕ → Database O
+all_cut v [] = v
+all_cut v (s ∷ ss) = all_cut (cuts v s) ss
+
+abbrev pub cut_by : {O T : Type 0} → Words O T → Database O → Asker → T → Database O
+cut_by W v a t = all_cut v (W.cancels a.session v.sessions t)
+
+-- the first of these whose statement is still to be refused
+abbrev pub interrupted : {O : Type 0} → Database O → Option ℕ
+interrupted v = first (is_cancelled v) v.cut
+
+-- ---- a session goes on: the first of these, or one whose wait is over
+
+abbrev pub is_ready : Option ℕ → ℕ → Bool
+is_ready None s = false
+is_ready (Some r) s = r == s
+
+abbrev pub resumes : {O : Type 0} → Database O → ℕ → Database O
+resumes v s = if is_ready (interrupted v) s then record v { cut = without s v.cut } else happened v (resumed s)
+
+-- ---- the calls
+
+-- sessions over a history
+abbrev pub course : {O T : Type 0} → Words O T → Course (Database O) T
+course W = record {
+  fresh = λ v. empty v.options v.sessions;
+  parsed = W.parsed;
+  role = W.role;
+  looks = W.looks;
+  misplaced = W.misplaced;
+  set = W.set;
+  began = λ v s. record (happened v (begun v.history s)) { commands = slice_set v.commands s 0 };
+  committed = λ v s. happened v (committed v.history s);
+  aborted = λ v s. happened v (aborted v.history s);
+  ran = λ v a g t. goes_on (cut_by W v a t) a (attempt_of W (cut_by W v a t) a g t);
+  outcome = λ v a g t. outcome_told (attempt_of W (cut_by W v a t) a g t).told;
+  text = λ v a g t. text_told (attempt_of W (cut_by W v a t) a g t).told;
+  interrupted = interrupted;
+  ready = λ v. ready (lock_events v.history);
+  resumed = resumes;
+  waits = waits;
+  oldest = λ v. head_of (queue (lock_events v.history));
+  cancelled = cancels;
+  fault_text = W.fault_text;
+}

@@ -1,0 +1,35 @@
+-- What running a statement of a session makes of what is kept.
+use Rattle.std.specs.Prelude.{◌≡◌, ℕ, Bool, true, false, List, ◌++◌, None, length, slice_index_or, slice_set}
+use Rattle.history.specs.History.{History}
+use Rattle.sessions.specs.declared.asker.Asker.{Asker}
+use Rattle.sessions.specs.declared.outcome.Outcome.{Outcome}
+use Rattle.sessions.specs.declared.outcome.Outcome.TheVariants.{Goes, Waits, Commits, Done, Refused}
+use Rattle.sessions.specs.declared.settings.Settings.{Settings}
+use Rattle.statement_steps.specs.Ended.{Ended}
+use Rattle.statement_steps.specs.Made.{Made}
+use Rattle.statement_runs.specs.Words.{Words}
+use Rattle.statement_runs.specs.Database.{caller_of, unless_cancelled, next_command, rest_told, given_up, outcome_told, text_told}
+use Rattle.statement_runs.specs.Kept.{KeptSeats, TellOf}
+
+-- what the statement means at that history
+abbrev pub attempt_at : {O T : Type 0} → Words O T → O → KeptSeats → Asker → History → Settings → T → Made Ended
+attempt_at W o kept a h g t =
+    unless_cancelled (slice_index_or kept.cancelled a.session false) (W.attempted o (caller_of (length kept.opened) (slice_index_or kept.commands a.session 0) a) (slice_index_or kept.rests a.session None) h g t)
+
+-- that has come of it: its events, what it comes to and prints, and whether it counts as a command
+pub record HasRun (m : Made Ended) (a : Asker) (old new : KeptSeats) (before after : List ℕ) (o : Outcome) (h : History) : Type 0 where
+  pub whole : new.whole ≡ true
+  pub tells : TellOf new (given_up a.level a.session (slice_index_or old.rests a.session None) m.told ++ (m.events ++ h))
+  pub outcome : o ≡ outcome_told m.told
+  pub text : after ≡ before ++ text_told m.told
+  pub commands : new.commands ≡ slice_set old.commands a.session (next_command m.told (slice_index_or old.commands a.session 0))
+  pub cancelled : new.cancelled ≡ slice_set old.cancelled a.session false
+  pub rests : new.rests ≡ slice_set old.rests a.session (rest_told m.told)
+
+-- the session waits after it
+abbrev pub waits_by : Outcome → Bool
+waits_by Goes = false
+waits_by Waits = true
+waits_by Commits = false
+waits_by Done = false
+waits_by (Refused f) = false

@@ -1,0 +1,101 @@
+-- A statement commits what it did first once at most.
+use Rattle.std.specs.Prelude.{ℕ, List, [], Bool, true, false, refl, Option, Some, None, is_some, Result, Ok, Err}
+use Rattle.std.proofs.lemmas.Bool.{false≢true}
+use Rattle.history.specs.History.{History}
+use Rattle.sessions.specs.Commits.{CommitsOnce}
+use Rattle.sessions.specs.declared.settings.Settings.{Settings}
+use Rattle.sql_ast.specs.Commands.{CommandTree, begins, commits, rolls_back, sets, resets, makes_table, makes_partition, drops, attaches, detaches, locks, deallocates, deallocates_all}
+use Rattle.sql_ast.specs.declared.detachment.Detachment.TheVariants.{AtOnce, Concurrently, Finalize}
+use Rattle.sql_ast.specs.Queries.{RowTree, QueryTree, selects, inserts, updates, deletes, rows, prepares, executes, explains_select, explains_execute}
+use Rattle.sql_ast.specs.Statements.{StatementTree, commands, queries}
+use Rattle.statement_runs.specs.Database.{outcome_told, rest_told}
+use Rattle.statement_steps.specs.Ended.{Done, silent_end, told_as}
+use Rattle.statement_steps.specs.Made.{Halt, Waits, Refused}
+use Rattle.statement_runs.specs.Once.{AllCommitOnce}
+use Rattle.statement_steps.specs.declared.caller.Caller.{Caller}
+use Rattle.statement_steps.specs.declared.ending.Ending.TheVariants as endings
+use Rattle.statement_steps.specs.declared.rest.Rest.{Rest}
+use Rattle.statement_steps.specs.declared.rest.Rest.TheVariants.{Detach}
+use Rattle.statement_steps.specs.declared.rest.RestOfDetach.{RestOfDetach}
+use Rattle.statement_steps.specs.Steps.{told_on}
+use Rattle.select_statement.specs.Selected.{selected}
+use Rattle.insert_statement.specs.Inserted.{inserted}
+use Rattle.change_statement.specs.Deleted.{deleted}
+use Rattle.change_statement.specs.Updated.{updated}
+use Rattle.table_statements.specs.Tables.{created}
+use Rattle.table_statements.specs.Partitions.{partitioned}
+use Rattle.table_statements.specs.Drops.{dropped}
+use Rattle.table_statements.specs.Locked.{locked}
+use Rattle.detach_statement.specs.Concurrent.{behind_nobody, by_rest, detach_of, first_stage, later_stages}
+use Rattle.detach_statement.specs.Detached.{detached}
+use Rattle.detach_statement.specs.Finalized.{finalized}
+use Rattle.attach_statement.specs.Attached.{attached}
+use Rattle.statement_runs.specs.Attempted.{command_attempted, row_attempted, query_attempted, table}
+use Rattle.statement_runs.specs.StatementWords.{statement_attempted, command_committed, statement_words}
+
+-- one that is done, or stops
+plain_once : {T : Type 0} (committed : Option Rest → Bool) (text : T → List ℕ) (t : Result T Halt) → CommitsOnce false (committed (rest_told (told_as (λ x. Done (text x)) t))) (outcome_told (told_as (λ x. Done (text x)) t))
+plain_once committed text (Ok x) = tt
+plain_once committed text (Err (Waits rest)) = λ e. absurd (false≢true e)
+plain_once committed text (Err (Refused f)) = tt
+
+-- a concurrent DETACH at its beginning
+first_once : (t : Result RestOfDetach Halt) → CommitsOnce false (is_some (detach_of (rest_told (told_as silent_end (told_as endings.Commits t))))) (outcome_told (told_as silent_end (told_as endings.Commits t)))
+first_once (Ok d) = (refl, refl)
+first_once (Err (Waits rest)) = λ e. absurd (false≢true e)
+first_once (Err (Refused f)) = tt
+
+-- and behind its mark
+later_once : (d : RestOfDetach) (t : Result (Unit {0}) Halt)
+    → CommitsOnce true (is_some (detach_of (rest_told (told_as silent_end (told_as (λ u. endings.Done) (told_on (Some (Detach d)) t)))))) (outcome_told (told_as silent_end (told_as (λ u. endings.Done) (told_on (Some (Detach d)) t))))
+later_once d (Ok u) = tt
+later_once d (Err (Waits rest)) = λ e. refl
+later_once d (Err (Refused f)) = tt
+
+-- ---- each statement
+
+command_once : (names : List (List ℕ)) (c : Caller) (rest : Option Rest) (h : History) (t : CommandTree)
+    → CommitsOnce (command_committed rest t) (command_committed (rest_told (command_attempted names c rest t h).told) t) (outcome_told (command_attempted names c rest t h).told)
+command_once names c rest h (makes_table name columns by) = plain_once (λ r. false) (λ (u : Unit {0}). []) (created names c name columns by h).told
+command_once names c rest h (makes_partition name parent bound by) = plain_once (λ r. false) (λ (u : Unit {0}). []) (partitioned names c name parent bound by h).told
+command_once names c rest h (drops if_there tables) = plain_once (λ r. false) (λ (u : Unit {0}). []) (dropped names c if_there tables h).told
+command_once names c rest h (attaches parent name bound) = plain_once (λ r. false) (λ (u : Unit {0}). []) (attached names c parent name bound h).told
+command_once names c rest h (detaches parent name AtOnce) = plain_once (λ r. false) (λ (u : Unit {0}). []) (detached names c parent name h).told
+command_once names c rest h (detaches parent name Concurrently) = by (detach_of rest)
+  where
+    by : (o : Option RestOfDetach) → CommitsOnce (is_some o) (is_some (detach_of (rest_told (told_as silent_end (by_rest names c o parent name h).told)))) (outcome_told (told_as silent_end (by_rest names c o parent name h).told))
+    by None = first_once (first_stage names c parent name h).told
+    by (Some d) = later_once (behind_nobody d) (later_stages names c d parent name h).told
+command_once names c rest h (detaches parent name Finalize) = plain_once (λ r. false) (λ (u : Unit {0}). []) (finalized names c parent name h).told
+command_once names c rest h (locks tables mode) = plain_once (λ r. false) (λ (u : Unit {0}). []) (locked names c.session tables mode h).told
+command_once names c rest h (begins level) = tt
+command_once names c rest h commits = tt
+command_once names c rest h rolls_back = tt
+command_once names c rest h (sets name value) = tt
+command_once names c rest h (resets name) = tt
+command_once names c rest h (deallocates name) = tt
+command_once names c rest h deallocates_all = tt
+
+row_once : (prunes : Bool) (names : List (List ℕ)) (c : Caller) (rest : Option Rest) (h : History) (t : RowTree)
+    → CommitsOnce false false (outcome_told (row_attempted prunes names c rest t h).told)
+row_once prunes names c rest h (selects s) = plain_once (λ r. false) table (selected prunes names c s h).told
+row_once prunes names c rest h (inserts name columns values) = plain_once (λ r. false) (λ (u : Unit {0}). []) (inserted names [] c name columns values h).told
+row_once prunes names c rest h (updates name settings condition) = plain_once (λ r. false) (λ (u : Unit {0}). []) (updated prunes names [] c rest name settings condition h).told
+row_once prunes names c rest h (deletes name condition) = plain_once (λ r. false) (λ (u : Unit {0}). []) (deleted prunes names [] c rest name condition h).told
+
+query_once : (prunes : Bool) (names : List (List ℕ)) (c : Caller) (rest : Option Rest) (h : History) (t : QueryTree)
+    → CommitsOnce false false (outcome_told (query_attempted prunes names c rest t h).told)
+query_once prunes names c rest h (rows r) = row_once prunes names c rest h r
+query_once prunes names c rest h (prepares name kinds r) = tt
+query_once prunes names c rest h (executes name values) = tt
+query_once prunes names c rest h (explains_select costs s) = tt
+query_once prunes names c rest h (explains_execute costs name values) = tt
+
+each_once : (names : List (List ℕ)) (c : Caller) (rest : Option Rest) (h : History) (g : Settings) (t : StatementTree)
+    → CommitsOnce (statement_words.has_committed rest t) (statement_words.has_committed (rest_told (statement_words.attempted names c rest h g t).told) t) (outcome_told (statement_words.attempted names c rest h g t).told)
+unfolding statement_attempted
+each_once names c rest h g (commands t) = command_once names c rest h t
+each_once names c rest h g (queries t) = query_once g.enable_partition_pruning names c rest h t
+
+pub all_once : AllCommitOnce statement_words
+all_once = record { each = each_once }

@@ -1,0 +1,187 @@
+ghost use Rattle.std.specs.Prelude.{◌≡◌, ◌≤◌, length};
+ghost use Rattle.sql_ast.specs.Commands.{command_tree};
+ghost use Rattle.sql_ast.specs.Queries.{query_tree, row_tree, select_tree};
+ghost use Rattle.sql_ast.specs.Statements.{statement_tree};
+ghost use Rattle.statement_steps.specs.Attempts.{MayAttempt, MayGoOn};
+ghost use Rattle.statement_steps.specs.Ended.{ended};
+ghost use Rattle.statement_runs.specs.Attempted as attempted;
+ghost use Rattle.statement_runs.specs.Printed.{IsStatement};
+
+use crate::left_out::{command_word, query_word};
+use attach_statement::attach;
+use change_statement::{delete, update};
+use detach_statement::{detach, detach_concurrently, finalize};
+use expression_binder::left_out;
+use insert_statement::insert;
+use out_text::write_table;
+use pg_values::NoMemory;
+use select_statement::select;
+use sessions::Settings;
+use sql_ast::{Command, Detachment, Query, RowStatement, Select, Statement};
+use statement_steps::{Caller, Ending, Rest, SessionNames, Stop, ended};
+use std::alloc::Global;
+use stores::{Stores, tables_are_few};
+use table_statements::{create_partition, create_table, drop_tables, lock};
+
+// There is a lock for each table.
+fn check_room(stores: &Stores, caller: Caller)
+    requires { MayAttempt stores.now caller }
+    ensures { length stores.now.catalog.tables ≤ 4096 }
+{
+    tables_are_few();
+}
+
+// It is refused, and told by that word.
+fn omit(alloc: Global, stores: &Stores, caller: Caller, word: &[u8], out: &[u8]) -> Result<(), Stop>
+    requires { MayAttempt stores.now caller }
+    ensures { IsStatement (ended result) stores.now stores.now out.now out.now caller (attempted.omitted word.now) }
+{
+    match left_out(alloc, word) {
+        Ok(fault) => Err(Stop::Refused(fault)),
+        Err(NoMemory) => Err(Stop::NoMemory),
+    }
+}
+
+fn attempt_command(
+    alloc: Global,
+    stores: &mut Stores,
+    names: &SessionNames,
+    caller: Caller,
+    rest: Option<Rest>,
+    command: &Command,
+    out: &[u8],
+) -> Result<Ending, Stop>
+    requires { MayAttempt stores.old caller }
+    ensures { IsStatement result stores.old stores.new out.now out.now caller (attempted.command_attempted names.now caller rest (command_tree command.now)) }
+{
+    check_room(stores, caller);
+    match command {
+        Command::CreateTable(name, columns, by) => ended(create_table(
+            alloc, stores, names, caller, name, columns, by,
+        )),
+        Command::CreatePartition(name, parent, bound, by) => ended(create_partition(
+            alloc, stores, names, caller, name, parent, bound, by,
+        )),
+        Command::DropTables(if_there, tables) => {
+            let tables = tables.as_slice();
+            ended(drop_tables(alloc, stores, names, caller, *if_there, tables))
+        }
+        Command::Attach(parent, name, bound) => {
+            let above = parent.as_bytes();
+            let table = name.as_bytes();
+            ended(attach(alloc, stores, names, caller, above, table, bound))
+        }
+        Command::Detach(parent, name, how) => {
+            let above = parent.as_bytes();
+            let table = name.as_bytes();
+            match how {
+                Detachment::AtOnce => ended(detach(alloc, stores, names, caller, above, table)),
+                Detachment::Concurrently => {
+                    detach_concurrently(alloc, stores, names, caller, rest, above, table)
+                }
+                Detachment::Finalize => {
+                    ended(finalize(alloc, stores, names, caller, above, table))
+                }
+            }
+        }
+        Command::Lock(tables, mode) => {
+            let tables = tables.as_slice();
+            ended(lock(alloc, stores, names, caller, tables, *mode))
+        }
+        _ => ended(omit(alloc, stores, caller, command_word(command), out)),
+    }
+}
+
+// The answer is printed as a table.
+fn attempt_select(
+    alloc: Global,
+    stores: &mut Stores,
+    names: &SessionNames,
+    caller: Caller,
+    prunes: bool,
+    statement: &Select,
+    out: &mut Vec<u8>,
+) -> Result<(), Stop>
+    requires { MayAttempt stores.old caller }
+    ensures { IsStatement (ended result) stores.old stores.new out.old.items out.new.items caller (attempted.select_attempted prunes names.now caller (select_tree statement.now)) }
+{
+    check_room(stores, caller);
+    match select(alloc, stores, names, caller, prunes, statement) {
+        Ok(answer) => match write_table(alloc, &answer, out) {
+            Ok(()) => Ok(()),
+            Err(NoMemory) => Err(Stop::NoMemory),
+        },
+        Err(stop) => Err(stop),
+    }
+}
+
+fn attempt_rows(
+    alloc: Global,
+    stores: &mut Stores,
+    names: &SessionNames,
+    caller: Caller,
+    prunes: bool,
+    rest: Option<Rest>,
+    statement: &RowStatement,
+    out: &mut Vec<u8>,
+) -> Result<(), Stop>
+    requires may { MayAttempt stores.old caller }
+    requires rest { MayGoOn stores.old rest }
+    ensures { IsStatement (ended result) stores.old stores.new out.old.items out.new.items caller (attempted.row_attempted prunes names.now caller rest (row_tree statement.now)) }
+{
+    check_room(stores, caller);
+    match statement {
+        RowStatement::Select(s) => attempt_select(alloc, stores, names, caller, prunes, s, out),
+        RowStatement::Insert(s) => insert(alloc, stores, names, &[], caller, s),
+        RowStatement::Update(s) => update(alloc, stores, names, &[], caller, prunes, rest, s),
+        RowStatement::Delete(s) => delete(alloc, stores, names, &[], caller, prunes, rest, s),
+    }
+}
+
+fn attempt_query(
+    alloc: Global,
+    stores: &mut Stores,
+    names: &SessionNames,
+    caller: Caller,
+    prunes: bool,
+    rest: Option<Rest>,
+    query: &Query,
+    out: &mut Vec<u8>,
+) -> Result<(), Stop>
+    requires may { MayAttempt stores.old caller }
+    requires rest { MayGoOn stores.old rest }
+    ensures { IsStatement (ended result) stores.old stores.new out.old.items out.new.items caller (attempted.query_attempted prunes names.now caller rest (query_tree query.now)) }
+{
+    match query {
+        Query::Rows(s) => attempt_rows(alloc, stores, names, caller, prunes, rest, s, out),
+        _ => omit(alloc, stores, caller, query_word(query), out),
+    }
+}
+
+/// A statement from its beginning, or from where it stood, up to its end or to a wait. Where it is done it
+/// prints its answer, if it has one.
+pub(crate) fn attempt(
+    alloc: Global,
+    stores: &mut Stores,
+    names: &SessionNames,
+    caller: Caller,
+    rest: Option<Rest>,
+    settings: Settings,
+    statement: &Statement,
+    out: &mut Vec<u8>,
+) -> Result<Ending, Stop>
+    requires may { MayAttempt stores.old caller }
+    requires rest { MayGoOn stores.old rest }
+    ensures { IsStatement result stores.old stores.new out.old.items out.new.items caller (attempted.attempted names.now caller rest settings (statement_tree statement.now)) }
+{
+    match statement {
+        Statement::Command(command) => {
+            attempt_command(alloc, stores, names, caller, rest, command, out)
+        }
+        Statement::Query(query) => {
+            let prunes = settings.enable_partition_pruning;
+            let done = attempt_query(alloc, stores, names, caller, prunes, rest, query, out);
+            ended(done)
+        }
+    }
+}

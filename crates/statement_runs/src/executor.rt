@@ -1,0 +1,245 @@
+ghost use Rattle.std.specs.Prelude.{◌≡◌, ◌≤◌, ◌<◌, ℕ, IfOk, IfSome, OnOk, length, replicate, true, false};
+ghost use Rattle.statement_runs.specs.Database as database;
+ghost use Rattle.statement_runs.specs.Database.{Database, empty, cuts, all_cut};
+ghost use Rattle.statement_runs.specs.Kept.{StandsFor, waits_in, interrupted_in};
+ghost use Rattle.statement_runs.specs.Weight.{left, most_left};
+
+use crate::Kinds;
+use crate::seats::Seats;
+use pg_values::{Fault, NoMemory, Refusal};
+use schedule::leave;
+use sessions::{Asker, Executor, Outcome, Place, Role, Settings};
+use std::alloc::Global;
+
+/// The sessions of a run over the stores, with the statements that there are.
+#[derive(Drop)]
+pub struct StoreExecutor<K: Kinds> {
+    pub kinds: K,
+    pub seats: Seats,
+    /// Whose waits statements of others have cancelled, in this order, as long as these have not gone on.
+    pub cut: Vec<usize>,
+}
+
+impl<K: Kinds> StoreExecutor<K> {
+    /// So many sessions in which nothing has happened.
+    pub fn new(alloc: Global, kinds: K, sessions: usize) -> Result<Self, NoMemory>
+        requires { sessions ≤ 65 }
+        ensures stands { IfOk result (λ e. StandsFor (K.options e.kinds) e.seats e.cut.items (empty (K.options kinds) sessions)) }
+        ensures opened { IfOk result (λ e. e.seats.opened ≡ replicate sessions false) }
+        ensures left { IfOk result (λ e. left e.seats e.cut.items ≤ most_left) }
+    {
+        let seats = Seats::new(alloc, sessions)?;
+        let executor = StoreExecutor {
+            kinds,
+            seats,
+            cut: Vec::new(alloc),
+        };
+        executor.weigh();
+        Ok(executor)
+    }
+
+    // What can still happen before a statement is done is bounded.
+    fn weigh(&self)
+        ensures { left self.now.seats self.now.cut.items ≤ most_left }
+    {
+        self.seats.weigh();
+    }
+
+    // The wait of the session ends, if it waits, and its statement is to be refused.
+    fn interrupt(&mut self, session: usize) -> Result<(), NoMemory>
+        ensures kinds { self.new.kinds ≡ self.old.kinds }
+        ensures opened { self.new.seats.opened ≡ self.old.seats.opened }
+        ensures rests { self.new.seats.rests ≡ self.old.seats.rests }
+        ensures stands { OnOk result ((v : Database K.Options) → StandsFor (K.options self.old.kinds) self.old.seats self.old.cut.items v →
+            StandsFor (K.options self.new.kinds) self.new.seats self.new.cut.items (cuts v session)) }
+        ensures others { (s : ℕ) → waits_in self.old.seats s ≡ false → waits_in self.new.seats s ≡ false }
+        ensures lower { left self.new.seats self.new.cut.items ≤ left self.old.seats self.old.cut.items }
+    {
+        if !self.seats.is_waiting(session) {
+            return Ok(());
+        }
+        self.cut.push(session)?;
+        self.seats.cancel(session);
+        Ok(())
+    }
+
+    // Those of these sessions, one after the other.
+    fn interrupt_all(&mut self, sessions: &[usize]) -> Result<(), NoMemory>
+        ensures kinds { self.new.kinds ≡ self.old.kinds }
+        ensures opened { self.new.seats.opened ≡ self.old.seats.opened }
+        ensures rests { self.new.seats.rests ≡ self.old.seats.rests }
+        ensures stands { OnOk result ((v : Database K.Options) → StandsFor (K.options self.old.kinds) self.old.seats self.old.cut.items v →
+            StandsFor (K.options self.new.kinds) self.new.seats self.new.cut.items (all_cut v sessions.now)) }
+        ensures others { (s : ℕ) → waits_in self.old.seats s ≡ false → waits_in self.new.seats s ≡ false }
+        ensures lower { left self.new.seats self.new.cut.items ≤ left self.old.seats self.old.cut.items }
+    {
+        for session in sessions {
+            self.interrupt(*session)?;
+        }
+        Ok(())
+    }
+}
+
+fn is_ready(ready: Option<usize>, session: usize) -> bool
+    ensures { result ≡ database.is_ready ready session }
+{
+    match ready {
+        Some(first) => first == session,
+        None => false,
+    }
+}
+
+// The first of them whose statement is to be refused.
+fn first_cancelled(seats: &Seats, cut: &[usize]) -> Option<usize>
+    ensures is { result ≡ interrupted_in seats.now cut.now }
+    ensures known { IfSome result (λ s. s < length seats.now.opened) }
+    ensures idle { IfSome result (λ s. waits_in seats.now s ≡ false) }
+{
+    for session in cut {
+        if seats.is_cancelled(*session) {
+            return Some(*session);
+        }
+    }
+    None
+}
+
+impl<K: Kinds> Executor for StoreExecutor<K> {
+    ghost use Rattle.std.specs.Prelude.{None, slice_index_or};
+    ghost use Rattle.statement_runs.specs.Database.{Database, course};
+    ghost use Rattle.statement_runs.specs.Kept.{StandsFor, waits_in, may_go_on};
+    ghost use Rattle.statement_runs.specs.Moments.{Always, AlwaysInOneLeaf, good_always, good_rows};
+    ghost use Rattle.statement_runs.specs.Weight as weights;
+
+    type Statement = K::Statement;
+
+    ghost Tree = { K.Tree };
+
+    ghost tree = { K.tree };
+
+    ghost State = { Database K.Options };
+
+    ghost course = { course K.words };
+
+    ghost stands = { λ e v. StandsFor (K.options e.kinds) e.seats e.cut.items v };
+
+    ghost good = { λ v. AlwaysInOneLeaf v.history × Always K.Holds v.history };
+
+    ghost stands_are_good = { λ e v st. (good_rows v.history st.tells.stands.good, good_always K.Holds K.holds v.history st.tells.stands.good) };
+
+    ghost in_transaction = { λ e. e.seats.opened };
+
+    ghost waiting = { λ e s. waits_in e.seats s };
+
+    ghost due = { λ e s. may_go_on e.seats e.cut.items s };
+
+    ghost has_committed = { λ e s t. K.words.has_committed (slice_index_or e.seats.rests s None) t };
+
+    ghost slack = { λ e. weights.left e.seats e.cut.items };
+
+    ghost most = { weights.most_left };
+
+    ghost most_statements = { K.most_statements };
+
+    fn sessions(&self) -> usize {
+        self.seats.count()
+    }
+
+    fn fresh(&self, alloc: Global) -> Result<Self, NoMemory> {
+        StoreExecutor::new(alloc, self.kinds.copy(alloc)?, self.seats.count())
+    }
+
+    fn parse(alloc: Global, text: &[u8]) -> Result<Vec<K::Statement>, Refusal> {
+        K::parse(alloc, text)
+    }
+
+    fn role(statement: &K::Statement) -> Role {
+        K::role(statement)
+    }
+
+    fn looks(statement: &K::Statement) -> bool {
+        K::looks(statement)
+    }
+
+    fn misplaced(
+        alloc: Global,
+        place: Place,
+        statement: &K::Statement,
+    ) -> Result<Option<Fault>, NoMemory> {
+        K::misplaced(alloc, place, statement)
+    }
+
+    fn set(
+        alloc: Global,
+        settings: Settings,
+        statement: &K::Statement,
+    ) -> Result<Settings, Refusal> {
+        K::set(alloc, settings, statement)
+    }
+
+    fn begin(&mut self, session: usize) -> Result<(), NoMemory> {
+        let begun = self.seats.begin(session);
+        self.weigh();
+        begun
+    }
+
+    fn commit(&mut self, session: usize) {
+        self.seats.commit(session);
+        self.weigh();
+    }
+
+    fn abort(&mut self, session: usize) {
+        self.seats.abort(session);
+        self.weigh();
+    }
+
+    fn run(
+        &mut self,
+        alloc: Global,
+        asker: Asker,
+        settings: Settings,
+        statement: &K::Statement,
+        out: &mut Vec<u8>,
+    ) -> Result<Outcome, NoMemory> {
+        let sessions = self.seats.count() as u32;
+        let others = K::cancels(alloc, asker.session as u32, sessions, statement)?;
+        self.interrupt_all(&others)?;
+        let ran = self
+            .seats
+            .run(alloc, &self.kinds, asker, settings, statement, out);
+        self.weigh();
+        ran
+    }
+
+    fn interrupted(&self) -> Option<usize> {
+        first_cancelled(&self.seats, &self.cut)
+    }
+
+    fn ready(&self) -> Option<usize> {
+        self.seats.ready()
+    }
+
+    fn resume(&mut self, session: usize) {
+        let first = first_cancelled(&self.seats, &self.cut);
+        if is_ready(first, session) {
+            leave(session, &mut self.cut);
+            return;
+        }
+        self.seats.resume(session);
+    }
+
+    fn waits(&self, session: usize) -> bool {
+        self.seats.waits(session)
+    }
+
+    fn oldest(&self) -> Option<usize> {
+        self.seats.oldest()
+    }
+
+    fn cancel(&mut self, _alloc: Global, session: usize) {
+        self.seats.cancel(session);
+    }
+
+    fn write_fault(alloc: Global, fault: &Fault, out: &mut Vec<u8>) -> Result<(), NoMemory> {
+        K::write_fault(alloc, fault, out)
+    }
+}

@@ -1,0 +1,55 @@
+//! Statements of sessions over the stores: an executor that is the same for every kind of statement.
+//!
+//! What has happened is one history: transactions, row versions, tables and locks. A statement is run
+//! from its beginning up to its end or to a wait, in one go; what it does on the way is put before the
+//! history. Where it had to wait for a lock, it begins anew when its wait is over, with the locks that
+//! it has got; where it had to wait for a row, it goes on where it stood. It may also ask that what it did so
+//! far is committed, and go on from there in another transaction. Where its wait was cancelled, it is refused.
+//! A statement can cancel the waits of other sessions: these end before it is attempted, and
+//! those sessions go on before any other whose wait is over.
+//!
+//! Which statements there are is not said here: `Kinds` says how they are read and what each makes of
+//! the stores, and `Words` what that means, as pure functions of the history. `specs/Database.antt`
+//! makes of these what `sessions` asks of an executor.
+//!
+//! The statements of sessions over the stores: how a block is read, what each statement is for its
+//! session, what it makes of the stores, and what it prints.
+//!
+//! A kind of statement is one case here, which leads to a crate of its own. What has no case yet is
+//! refused with 0A000 by its first word.
+//!
+//! What a statement is in the course of a session: transaction control, a setting, or a statement that is
+//! run over the stores.
+//!
+//! The settings of a session by their names: what SET and RESET make of them.
+//!
+//! Names are those of PostgreSQL. Switches take the words on, off, true, false, yes, no, 1 and 0, in any
+//! case; two settings take any value and have no effect here.
+//!
+//! Reads the SQL of a block as a session asks for it: its statements, or the fault that they are refused with.
+//!
+//! `sql_syntax` says of each answer which text it is of. Here the answer is a function of the text
+//! (`read_block` in `specs/Reading.antt`), so that what a run does can be computed from its script: the
+//! statements where the whole text is read, else the fault at the first token that does not fit, which is
+//! told by its byte, by its word, or by the limit that it passes.
+#![tactic(auto)]
+
+mod attempts;
+mod changes;
+mod executor;
+mod faults;
+mod kinds;
+mod left_out;
+mod names;
+mod reading;
+mod roles;
+mod seats;
+mod statements;
+
+pub use changes::{reset, set};
+pub use executor::StoreExecutor;
+pub use kinds::Kinds;
+pub use names::SettingName;
+pub use reading::read_block;
+pub use roles::{changed_settings, looks, role_of};
+pub use statements::Statements;

@@ -1,5 +1,0 @@
-use Rattle.statements_written.proofs.GivesBlocks.{no_fewer}
-use Rattle.statements_written.proofs.laws.no_fewer_parentheses.Goals as goal
-
-pub returns : goal.returns
-returns c tree text tokens w h = no_fewer text tree tokens w h

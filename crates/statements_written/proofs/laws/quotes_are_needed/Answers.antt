@@ -1,6 +1,0 @@
-use Rattle.sql_tokens.specs.declared.kind.Kind.TheVariants.{Local, Transaction}
-use Rattle.statements_written.proofs.Bare.{edge_bare, other_bare, plain_bare, word_bare}
-use Rattle.statements_written.proofs.laws.quotes_are_needed.Goals as goal
-
-pub returns : goal.returns
-returns c = record { anywhere = plain_bare; setting = other_bare Local; value = word_bare; edge = edge_bare; prepared = other_bare Transaction }

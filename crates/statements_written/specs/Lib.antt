@@ -1,9 +1,0 @@
-pub mod Bare
-pub mod Commands
-pub mod Lists
-pub mod Queries
-pub mod Statements
-pub mod Words
-pub mod Writable
-pub mod WritableCommands
-pub mod WritableQueries

@@ -1,0 +1,32 @@
+ghost use Rattle.std.specs.Prelude.{◌+◌, ◌≤◌, length};
+ghost use Rattle.statement_steps.specs.Attempts.{MayAttempt};
+ghost use Rattle.statement_steps.specs.Steps.{IsStep};
+ghost use Rattle.table_statements.specs.Locked as locked;
+
+use crate::named::lock_all;
+use crate::under::lock_all_below;
+use pg_values::LockMode;
+use sql_ast::LockedTable;
+use statement_steps::{Caller, SessionNames, Stop};
+use std::alloc::Global;
+use stores::Stores;
+
+/// LOCK TABLE. Each named table is found (42P01) and locked in the mode that is written, one after the other;
+/// then the tables under those without ONLY are.
+pub fn lock(
+    alloc: Global,
+    stores: &mut Stores,
+    names: &SessionNames,
+    caller: Caller,
+    tables: &[LockedTable],
+    mode: LockMode,
+) -> Result<(), Stop>
+    requires may { MayAttempt stores.old caller }
+    requires few { length stores.old.catalog.tables ≤ 4096 }
+    ensures { IsStep (λ u. u) result stores.old stores.new caller (caller.cmd + 1) (locked.locked names.now caller.session tables.now mode) }
+{
+    match lock_all(alloc, stores, names, caller, tables, mode) {
+        Ok(whole) => lock_all_below(alloc, stores, names, caller, &whole, mode),
+        Err(stop) => Err(stop),
+    }
+}
