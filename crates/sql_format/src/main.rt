@@ -1,7 +1,7 @@
 //! Reads blocks of SQL from standard input, one in each line, and writes each as one line: its
 //! statements, with semicolons between, or why it is refused.
 //!
-//! That what is written says the same is proved in `statements_written`, and where a block is refused
+//! That what is written says the same is proved in `sql_written`, and where a block is refused
 //! in `sql_syntax`. Here both are seen: `stdin` has the blocks, and `stdout` what was worked by hand
 //! from the grammar.
 #![tactic(auto)]
