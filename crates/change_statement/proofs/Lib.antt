@@ -16,4 +16,4 @@ pub mod Runs
 pub mod Stays
 pub mod Taken
 pub mod Targets
-pub mod Waiting
+pub mod WaitedFor
