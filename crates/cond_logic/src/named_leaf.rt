@@ -2,14 +2,14 @@ use pg_values::{LeafId, PgText};
 use std::marker::Model;
 
 /// A leaf, and the name of its table, lent.
-#[derive(Debug, Drop)]
+#[derive(Clone, Copy, Debug)]
 pub struct NamedLeaf<'t> {
     pub id: LeafId,
     pub name: &'t PgText,
 }
 
 impl<'t> Model for NamedLeaf<'t> {
-    ghost use Rattle.plan_tree.specs.Kept.{Leaf};
+    ghost use Rattle.cond_logic.specs.Tables.{Leaf};
 
     ghost Value = { Leaf };
 
