@@ -6,7 +6,7 @@ ghost use Rattle.cond_logic.specs.Asked.{setting_meant};
 ghost use Rattle.change_statement.specs.NewRows as rows;
 
 use crate::row_faults::wrong_kind;
-use cond_logic::{Binding, Setting, RowTables, scalar_value};
+use cond_logic::{Binding, RowTables, Setting, scalar_value};
 use history::Column;
 use pg_values::{Kind, NoMemory, Refusal, Row, Value, copy_value, kind_of};
 use std::alloc::Global;

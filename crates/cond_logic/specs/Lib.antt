@@ -2,6 +2,7 @@ pub mod Asked
 pub mod Columns
 pub mod Faults
 pub mod Laws
+pub mod Lent
 pub mod Rewriting
 pub mod Scalars
 pub mod Tables

@@ -2,7 +2,7 @@ use pg_values::{LeafId, PgText};
 use std::marker::Model;
 
 /// A leaf, and the name of its table, lent.
-#[derive(Clone, Copy, Debug)]
+#[derive(Debug, Drop)]
 pub struct NamedLeaf<'t> {
     pub id: LeafId,
     pub name: &'t PgText,

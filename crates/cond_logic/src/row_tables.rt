@@ -2,24 +2,26 @@ ghost use Rattle.std.specs.Prelude.{◌≡◌};
 ghost use Rattle.cond_logic.specs.Tables.{no_tables, with_table, table};
 
 use crate::NamedLeaf;
+use pg_values::{LeafId, PgText};
 use std::marker::Model;
 
 /// The leaves in which the rows of a tuple lie, with the names of their tables. There are four places,
 /// one for each FROM item, seen as a record.
 #[derive(Debug, Drop)]
 pub struct RowTables<'a> {
-    first: Option<NamedLeaf<'a>>,
-    second: Option<NamedLeaf<'a>>,
-    third: Option<NamedLeaf<'a>>,
-    fourth: Option<NamedLeaf<'a>>,
+    first: Option<(LeafId, &'a PgText)>,
+    second: Option<(LeafId, &'a PgText)>,
+    third: Option<(LeafId, &'a PgText)>,
+    fourth: Option<(LeafId, &'a PgText)>,
 }
 
 impl<'a> Model for RowTables<'a> {
     ghost use Rattle.cond_logic.specs.Tables.{Tables};
+    ghost use Rattle.cond_logic.specs.Lent.{lent_leaf};
 
     ghost Value = { Tables };
 
-    ghost view = { λ t. record { first = t.first; second = t.second; third = t.third; fourth = t.fourth } };
+    ghost view = { λ t. record { first = lent_leaf t.first; second = lent_leaf t.second; third = lent_leaf t.third; fourth = lent_leaf t.fourth } };
 }
 
 impl<'a> RowTables<'a> {
@@ -36,15 +38,16 @@ impl<'a> RowTables<'a> {
     }
 
     /// The same tables with this one in the place of that item. There is no place past the fourth.
-    pub fn with(self, item: u32, table: NamedLeaf<'a>) -> RowTables<'a>
+    pub fn with(self, item: u32, table: &NamedLeaf<'a>) -> RowTables<'a>
         ensures { result ≡ with_table self.entry item table.now }
     {
         let mut tables = self;
+        let lent = Some((table.id, table.name));
         match item {
-            0 => tables.first = Some(table),
-            1 => tables.second = Some(table),
-            2 => tables.third = Some(table),
-            3 => tables.fourth = Some(table),
+            0 => tables.first = lent,
+            1 => tables.second = lent,
+            2 => tables.third = lent,
+            3 => tables.fourth = lent,
             _ => {}
         }
         tables
@@ -66,12 +69,16 @@ impl<'a> RowTables<'a> {
     pub fn table(&self, item: u32) -> Option<NamedLeaf<'a>>
         ensures { result ≡ table self.now item }
     {
-        match item {
+        let lent = match item {
             0 => self.first,
             1 => self.second,
             2 => self.third,
             3 => self.fourth,
             _ => None,
+        };
+        match lent {
+            Some((id, name)) => Some(NamedLeaf { id, name }),
+            None => None,
         }
     }
 }
