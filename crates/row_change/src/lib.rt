@@ -44,4 +44,4 @@ pub use storing::{check_leaf, store_rows};
 pub use succession::succeed_row;
 pub use target::Target;
 pub use testing::check_row;
-pub use way::leaf_way;
+pub use way::{leaf_way, push_way};

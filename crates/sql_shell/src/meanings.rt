@@ -21,25 +21,17 @@
 //! That the first rule that is broken is told is proved in `sql_binder`, `change_binder` and `table_binder`, and that
 //! the first place counts in `parameter_kinds`. Here the rules are seen: `stdin` has the statements, and `stdout` what
 //! was worked out by hand from them.
-#![tactic(auto)]
 
-mod bound;
-mod definitions;
-mod kinds;
-mod tables;
-mod trees;
-
-use bound::{write_change, write_insert, write_params, write_select};
+use crate::bound::{write_change, write_insert, write_params, write_select};
+use crate::definitions::{write_partition, write_table};
+use crate::kinds::{write_bound, write_kinds};
+use crate::tables::{columns_of, item_of, items_of, params};
 use change_binder::{Wanted, bind_arguments, bind_delete, bind_insert, bind_update};
-use definitions::{write_partition, write_table};
-use kinds::{write_bound, write_kinds};
 use pg_values::{Fault, Kind, NoMemory, Refusal};
 use sql_ast::{Command, Delete, ExprList, Insert, Query, RowStatement, Select, Statement, Update};
 use sql_binder::bind_select;
 use sql_syntax::parse_block;
 use std::alloc::Global;
-use std::io::{self, ErrorKind, Write};
-use tables::{columns_of, item_of, items_of, params};
 
 const SESSION: u32 = 1;
 
@@ -144,7 +136,8 @@ fn written(
     }
 }
 
-fn answer(alloc: Global, line: &[u8]) -> Result<Vec<u8>, NoMemory> {
+/// What the last statement of a line means.
+pub(crate) fn meaning(alloc: Global, line: &[u8]) -> Result<Vec<u8>, NoMemory> {
     let mut out = Vec::new(alloc);
     let (last, before) = statements_of(alloc, line);
     let Some(statement) = last else {
@@ -157,16 +150,4 @@ fn answer(alloc: Global, line: &[u8]) -> Result<Vec<u8>, NoMemory> {
         Err(Refusal::NoMemory) => return Err(NoMemory),
     }
     Ok(out)
-}
-
-fn main(rt: HostRuntime) -> io::Result<()> {
-    let mut out = rt.stdout();
-    for line in rt.lines(rt.alloc()) {
-        let Ok(answer) = answer(rt.alloc(), line?.as_bytes()) else {
-            return Err(io::Error::from(ErrorKind::OutOfMemory));
-        };
-        out.write_all(&answer)?;
-        out.write_all(b"\n")?;
-    }
-    Ok(())
 }

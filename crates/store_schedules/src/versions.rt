@@ -25,14 +25,10 @@
 //! Where a call may not be made, the answer is the first letter of what is in the way: a transaction that is
 //! Open, no Transaction, a snapshot that is Held, no Leaf, no Version, a Birth unseen, an End. The leaves
 //! that were scanned stand last.
-#![tactic(auto)]
-
 use history::{Fate, TxId};
 use pg_values::{LeafId, NoMemory, Row, RowId, Value};
 use row_store::{Newest, PutCause, PutRefused, RowStore, Trail};
 use std::alloc::Global;
-use std::io::{self, BufRead, BufReader, BufWriter, Write};
-use std::process::ExitCode;
 use tx_table::TxTable;
 
 const SESSIONS: u32 = 5;
@@ -270,7 +266,7 @@ fn run(
 }
 
 // The answers to a line of steps, and the leaves that were scanned.
-fn schedule(alloc: Global, line: &[u8], out: &mut Vec<u8>) -> Result<(), NoMemory> {
+pub(crate) fn schedule(alloc: Global, line: &[u8], out: &mut Vec<u8>) -> Result<(), NoMemory> {
     let mut txs = TxTable::new(alloc, SESSIONS)?;
     let mut store = RowStore::new(alloc)?;
     let mut trail = Trail::new(alloc)?;
@@ -289,17 +285,4 @@ fn schedule(alloc: Global, line: &[u8], out: &mut Vec<u8>) -> Result<(), NoMemor
     }
     out.push(b'\n')?;
     Ok(())
-}
-
-fn main(rt: HostRuntime) -> io::Result<ExitCode> {
-    let mut writer = BufWriter::new(rt.alloc(), io::writer(&rt))?;
-    for line in BufReader::new(rt.alloc(), rt.reader())?.lines(rt.alloc()) {
-        let mut out = Vec::new(rt.alloc());
-        if schedule(rt.alloc(), line?.as_bytes(), &mut out).is_err() {
-            return Ok(ExitCode::from(6));
-        }
-        writer.write_all(&out)?;
-    }
-    writer.flush()?;
-    Ok(ExitCode::from(0))
 }

@@ -9,7 +9,7 @@ pub struct NamedLeaf<'t> {
 }
 
 impl<'t> Model for NamedLeaf<'t> {
-    ghost use Rattle.plan_tree.specs.Kept.{Leaf};
+    ghost use Rattle.cond_logic.specs.Tables.{Leaf};
 
     ghost Value = { Leaf };
 

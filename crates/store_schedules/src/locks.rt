@@ -6,14 +6,10 @@
 //! session, others and a point asks to wait for their transactions or snapshots; `n` resumes who is ready;
 //! `x`, `g` or `c` and a session says that its transaction has ended, its snapshot has gone, or its wait
 //! is withdrawn.
-#![tactic(auto)]
-
 use history::WaitOn;
 use lock_table::{Asked, LockTable};
 use pg_values::{LockMode, NoMemory, SessionSet, TableNo};
 use std::alloc::Global;
-use std::io::{self, BufRead, BufReader, BufWriter, Write};
-use std::process::ExitCode;
 
 const SESSIONS: u32 = 6;
 
@@ -142,7 +138,7 @@ fn run(table: &mut LockTable, step: &Step, out: &mut Vec<u8>) -> Result<(), NoMe
 }
 
 // The answers to a line of steps, and who holds each table in the end.
-fn schedule(alloc: Global, line: &[u8], out: &mut Vec<u8>) -> Result<(), NoMemory> {
+pub(crate) fn schedule(alloc: Global, line: &[u8], out: &mut Vec<u8>) -> Result<(), NoMemory> {
     let mut table = LockTable::new(alloc, SESSIONS, TABLES)?;
     let mut step = new_step(b'.');
     for byte in line {
@@ -160,17 +156,4 @@ fn schedule(alloc: Global, line: &[u8], out: &mut Vec<u8>) -> Result<(), NoMemor
         out.push(if number + 1 < TABLES { b' ' } else { b'\n' })?;
     }
     Ok(())
-}
-
-fn main(rt: HostRuntime) -> io::Result<ExitCode> {
-    let mut writer = BufWriter::new(rt.alloc(), io::writer(&rt))?;
-    for line in BufReader::new(rt.alloc(), rt.reader())?.lines(rt.alloc()) {
-        let mut out = Vec::new(rt.alloc());
-        if schedule(rt.alloc(), line?.as_bytes(), &mut out).is_err() {
-            return Ok(ExitCode::from(6));
-        }
-        writer.write_all(&out)?;
-    }
-    writer.flush()?;
-    Ok(ExitCode::from(0))
 }

@@ -1,4 +1,5 @@
-use crate::trees::{write_column, write_cond, write_literal, write_number, write_scalar};
+use crate::bound_trees::{write_column, write_cond, write_literal, write_scalar};
+use crate::trees::write_number;
 use cond_logic::{ChangeAsk, Cond, InsertAsk, Output, SelectAsk, Setting, SortBy, SortKey};
 use expression_binder::Param;
 use pg_values::{NoMemory, Row};

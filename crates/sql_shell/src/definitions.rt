@@ -1,5 +1,6 @@
 use crate::bound::{write_between, write_row};
-use crate::trees::{write_literal, write_number};
+use crate::bound_trees::write_literal;
+use crate::trees::write_number;
 use bound_forms::{Bound, Edge, Level, Point, Strategy};
 use history::{Column, Columns};
 use pg_values::{NoMemory, Refusal};

@@ -1,3 +1,4 @@
+use crate::trees::write_number;
 use cond_logic::{ColumnId, CompareOp, Cond, Operand, Scalar, Truth3};
 use pg_values::{NoMemory, Value, write_value};
 use std::alloc::Global;
@@ -10,12 +11,6 @@ enum Piece<'a> {
     Cond(&'a Cond),
     List(&'a [Cond]),
     Sign(&'static [u8]),
-}
-
-pub(crate) fn write_number(n: u64, out: &mut Vec<u8>) -> Result<(), NoMemory> {
-    let mut digits = itoa::Buffer::new();
-    out.extend_from_slice(digits.format(n).as_bytes())?;
-    Ok(())
 }
 
 pub(crate) fn write_column(column: ColumnId, out: &mut Vec<u8>) -> Result<(), NoMemory> {
