@@ -1,7 +1,7 @@
 -- The refusals of ALTER TABLE, ATTACH PARTITION (Appendix A. PostgreSQL Error Codes).
 use Rattle.std.specs.Prelude.{ℕ, List, [], ◌∷◌, codes}
 use Rattle.pg_values.specs.declared.fault.Fault.{Fault}
-use Rattle.value_rules.specs.FaultTexts.{fault_of}
+use Rattle.refusals.specs.Refusals.{fault_of}
 
 -- `<t> is already a partition`
 abbrev pub already_a_partition : List ℕ → Fault

@@ -3,7 +3,8 @@ use Rattle.std.specs.Prelude.{ℕ, List, [], ◌∷◌, codes}
 use Rattle.std.specs.Fmt.{decimal}
 use Rattle.pg_values.specs.declared.value.Kind.{Kind}
 use Rattle.pg_values.specs.declared.fault.Fault.{Fault}
-use Rattle.value_rules.specs.FaultTexts.{fault_of, kind_word}
+use Rattle.refusals.specs.Kinds.{kind_word}
+use Rattle.refusals.specs.Refusals.{fault_of}
 use Rattle.bound_forms.specs.declared.level.Strategy.{Strategy}
 use Rattle.bound_forms.specs.declared.level.Strategy.TheVariants.{Range as ByRange, List as ByList, Hash as ByHash}
 

@@ -8,13 +8,14 @@
 
 ghost use Rattle.std.specs.Prelude.{◌≡◌, IfOk, codes};
 ghost use Rattle.std.specs.Fmt.{decimal};
-ghost use Rattle.value_rules.specs.FaultTexts.{fault_of};
+ghost use Rattle.refusals.specs.Refusals.{fault_of};
 ghost use Rattle.bound_checks.specs.BoundFaults as faults;
 
 use bound_forms::Strategy;
 use pg_values::{Args, Fault, Kind, NoMemory, PgText, SqlState};
+use refusals::kind_word;
 use std::alloc::Global;
-use value_rules::{kind_word, one_text, three_texts, two_texts};
+use value_rules::{one_text, three_texts, two_texts};
 
 // A bound of the wrong form.
 fn form_fault(args: Args) -> Fault

@@ -14,8 +14,9 @@ use crate::bound_fault::{copy_fault, wrong_kind};
 use crate::{RawEdge, RawValue};
 use bound_forms::{Edge, KeyColumn, Point, lists};
 use pg_values::{Kind, NoMemory, Refusal, Row, Value, ValueKey, copy_value, kind_of};
+use refusals::out_of_range;
 use std::alloc::Global;
-use value_rules::{CoerceFault, coerce, out_of_range, read_value};
+use value_rules::{CoerceFault, coerce, read_value};
 
 // What assigning the value to a column of the kind gives.
 fn assign(alloc: Global, kind: Kind, value: &Value) -> Result<Value, Refusal>

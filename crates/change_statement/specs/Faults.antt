@@ -3,7 +3,8 @@
 use Rattle.std.specs.Prelude.{ℕ, List, [], ◌∷◌, codes}
 use Rattle.pg_values.specs.declared.fault.Fault.{Fault}
 use Rattle.pg_values.specs.declared.value.Kind.{Kind}
-use Rattle.value_rules.specs.FaultTexts.{kind_word, fault_of}
+use Rattle.refusals.specs.Kinds.{kind_word}
+use Rattle.refusals.specs.Refusals.{fault_of}
 use Rattle.change_statement.specs.declared.verdicts.Conflict.{Conflict}
 use Rattle.change_statement.specs.declared.verdicts.Conflict.TheVariants.{Changed, Moved}
 

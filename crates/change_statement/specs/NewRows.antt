@@ -5,8 +5,8 @@ use Rattle.pg_values.specs.declared.value.Kind.{Kind}
 use Rattle.pg_values.specs.declared.value.Kind.TheVariants.{Text as KText}
 use Rattle.pg_values.specs.declared.value.Value.{Value}
 use Rattle.value_rules.specs.Assignment.{assigned}
-use Rattle.value_rules.specs.FaultTexts.{out_of_range}
 use Rattle.pg_values.specs.Kinds.{kind_of}
+use Rattle.refusals.specs.Refusals.{out_of_range}
 use Rattle.value_rules.specs.declared.assignment.CoerceFault.{CoerceFault}
 use Rattle.value_rules.specs.declared.assignment.CoerceFault.TheVariants.{Kinds, Range}
 use Rattle.history.specs.declared.catalogue.Column.{Column}

@@ -3,8 +3,9 @@ ghost use Rattle.change_statement.specs.Faults as faults;
 
 use crate::Conflict;
 use pg_values::{Fault, Kind, NoMemory, SqlState};
+use refusals::kind_word;
 use std::alloc::Global;
-use value_rules::{kind_word, three_texts};
+use value_rules::three_texts;
 
 impl Conflict {
     /// The session that was there before.

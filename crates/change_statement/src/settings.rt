@@ -9,8 +9,9 @@ use crate::row_faults::wrong_kind;
 use cond_logic::{Binding, Setting, TableNames, scalar_value};
 use history::Column;
 use pg_values::{Kind, NoMemory, Refusal, Row, Value, copy_value, kind_of};
+use refusals::out_of_range;
 use std::alloc::Global;
-use value_rules::{CoerceFault, coerce, out_of_range};
+use value_rules::{CoerceFault, coerce};
 
 fn kind_at(columns: &[Column], place: usize) -> Kind
     ensures { result ≡ rows.kind_at columns.now place }

@@ -2,8 +2,9 @@
 use Rattle.std.specs.Prelude.{ℕ, List, [], ◌∷◌, codes}
 use Rattle.pg_values.specs.declared.fault.Fault.{Fault}
 use Rattle.pg_values.specs.declared.value.Value.{Value}
-use Rattle.value_rules.specs.FaultTexts.{kind_word, fault_of, out_of_range}
 use Rattle.pg_values.specs.Kinds.{kind_of}
+use Rattle.refusals.specs.Kinds.{kind_word}
+use Rattle.refusals.specs.Refusals.{fault_of, out_of_range}
 use Rattle.value_rules.specs.declared.operators.Arith.{Arith}
 use Rattle.value_rules.specs.declared.operators.Arith.TheVariants.{Add, Sub, Mul, Div, Rem}
 use Rattle.value_rules.specs.declared.operators.ArithFault.{ArithFault}

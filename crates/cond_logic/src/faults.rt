@@ -1,9 +1,10 @@
-ghost use Rattle.std.specs.Prelude.{◌≡◌, ◌∷◌, ◌++◌, [], IfOk};
+ghost use Rattle.std.specs.Prelude.{◌≡◌, [], IfOk};
 ghost use Rattle.cond_logic.specs.Faults as faults;
 
 use pg_values::{Args, Fault, NoMemory, PgText, SqlState, Value, kind_of};
+use refusals::{kind_word, out_of_range};
 use std::alloc::Global;
-use value_rules::{Arith, ArithFault, kind_word, out_of_range, three_texts};
+use value_rules::{Arith, ArithFault, three_texts};
 
 fn sign(op: Arith) -> &'static [u8]
     ensures { result.now ≡ faults.sign op }

@@ -4,8 +4,8 @@ use Rattle.std.specs.Prelude.{ℕ, ◌==◌, Bool, false, not, List, [], ◌∷�
 use Rattle.pg_values.specs.declared.fault.Fault.{Fault}
 use Rattle.pg_values.specs.declared.ids.TableNo.{TableNo}
 use Rattle.pg_values.specs.declared.lock_mode.LockMode.TheVariants.{AccessExclusive}
-use Rattle.value_rules.specs.FaultTexts.{fault_of}
 use Rattle.pg_values.specs.Refusals.{unless}
+use Rattle.refusals.specs.Refusals.{fault_of}
 use Rattle.history.specs.History.{History}
 use Rattle.table_trees.specs.Histories.{table_of}
 use Rattle.part_catalog.specs.Answers.{child_told, pending_entry}

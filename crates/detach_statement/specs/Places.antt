@@ -1,7 +1,7 @@
 -- Where a concurrent DETACH may stand (the manual, ALTER TABLE; Appendix A).
 use Rattle.std.specs.Prelude.{[], ◌∷◌, ◌||◌, not, if◌then◌else◌, Option, Some, None, codes}
 use Rattle.pg_values.specs.declared.fault.Fault.{Fault}
-use Rattle.value_rules.specs.FaultTexts.{fault_of}
+use Rattle.refusals.specs.Refusals.{fault_of}
 use Rattle.sessions.specs.declared.asker.Place.{Place}
 
 -- `concurrent detach inside a transaction`

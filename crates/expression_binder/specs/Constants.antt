@@ -6,6 +6,7 @@ use Rattle.pg_values.specs.declared.value.Kind.{Kind}
 use Rattle.pg_values.specs.declared.value.Kind.TheVariants.{Int4 as KInt4, Text as KText, Day as KDay}
 use Rattle.pg_values.specs.declared.value.Value.{Value}
 use Rattle.pg_values.specs.declared.value.Value.TheVariants as value
+use Rattle.refusals.specs.Refusals.{out_of_range}
 use Rattle.value_rules.specs.Reads.{reads}
 use Rattle.value_rules.specs.Arithmetic as arithmetic
 use Rattle.value_rules.specs.Assignment.{assigned}
@@ -24,7 +25,6 @@ use Rattle.cond_logic.specs.Scalars.{ScalarTree, column, literal, table_name, co
 use Rattle.expression_binder.specs.declared.scope.Param.{Param}
 use Rattle.expression_binder.specs.declared.naming.Lookup.{Lookup}
 use Rattle.expression_binder.specs.declared.naming.Lookup.TheVariants.{Missing, One, Several}
-use Rattle.value_rules.specs.FaultTexts.{out_of_range}
 use Rattle.expression_binder.specs.Faults.{date_range, zero_divisor, no_operator, wrong_kind}
 use Rattle.expression_binder.specs.Kinds.{kind_beside}
 use Rattle.expression_binder.specs.Operands.{typed, zero_typed, is_pid}

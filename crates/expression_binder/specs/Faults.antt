@@ -4,7 +4,8 @@ use Rattle.std.specs.Prelude.{ℕ, List, [], ◌∷◌, codes}
 use Rattle.std.specs.Fmt.{decimal}
 use Rattle.pg_values.specs.declared.value.Kind.{Kind}
 use Rattle.pg_values.specs.declared.fault.Fault.{Fault}
-use Rattle.value_rules.specs.FaultTexts.{kind_word, fault_of}
+use Rattle.refusals.specs.Kinds.{kind_word}
+use Rattle.refusals.specs.Refusals.{fault_of}
 use Rattle.sql_ast.specs.declared.leaf.Operator.{Operator}
 use Rattle.sql_ast.specs.declared.leaf.Operator.TheVariants as op
 

@@ -13,9 +13,10 @@ use crate::naming::{item_called, look_up, look_up_in, param};
 use crate::{Lookup, Names, Param, ScopeItem};
 use cond_logic::Scalar;
 use pg_values::{Fault, Kind, NoMemory, Refusal, Value, copy_value};
+use refusals::out_of_range;
 use sql_ast::{Leaf, Operator};
 use std::alloc::Global;
-use value_rules::{Arith, ArithFault, arith, out_of_range, read_value};
+use value_rules::{Arith, ArithFault, arith, read_value};
 
 pub(crate) fn number_value(alloc: Global, n: u64) -> Result<Value, Refusal>
     ensures { IsAnswer result (constants.number_value n) }

@@ -1,11 +1,12 @@
-ghost use Rattle.std.specs.Prelude.{◌≡◌, ◌∷◌, [], IfOk};
+ghost use Rattle.std.specs.Prelude.{◌≡◌, IfOk};
 ghost use Rattle.std.specs.Fmt.{decimal};
 ghost use Rattle.expression_binder.specs.Faults as faults;
 
 use pg_values::{Args, Fault, Kind, NoMemory, PgText, SqlState};
+use refusals::kind_word;
 use sql_ast::Operator;
 use std::alloc::Global;
-use value_rules::{kind_word, one_text, three_texts, two_texts};
+use value_rules::{one_text, three_texts, two_texts};
 
 pub(crate) fn sign(operator: Operator) -> &'static [u8]
     ensures { result.now ≡ faults.sign operator }

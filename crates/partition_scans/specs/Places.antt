@@ -4,7 +4,7 @@ use Rattle.std.specs.Prelude.{ℕ, Bool, not, ◌||◌, is_some, List, [], ◌�
 use Rattle.pg_values.specs.declared.fault.Fault.{Fault}
 use Rattle.pg_values.specs.declared.value.Value.{Value}
 use Rattle.pg_values.specs.declared.ids.TableNo.{TableNo}
-use Rattle.value_rules.specs.FaultTexts.{fault_of}
+use Rattle.refusals.specs.Refusals.{fault_of}
 use Rattle.bound_forms.specs.declared.partition_bound.Bound.{Bound}
 use Rattle.bound_forms.specs.Accepts.{accepts, accepts_among}
 use Rattle.history.specs.History.{History, catalogue_events}

@@ -5,7 +5,7 @@ use Rattle.pg_values.specs.declared.value.Value.{Value}
 use Rattle.pg_values.specs.declared.fault.Fault.{Fault}
 use Rattle.pg_values.specs.declared.which.Which.{Which}
 use Rattle.pg_values.specs.Words.{which_word}
-use Rattle.value_rules.specs.FaultTexts.{fault_of}
+use Rattle.refusals.specs.Refusals.{fault_of}
 use Rattle.row_change.specs.RowTexts.{row_text}
 
 -- `<t> does not accept <key>`

@@ -16,9 +16,9 @@ use expression_binder::{
     is_arithmetic, item_called, left_out, look_up, look_up_in,
 };
 use pg_values::{NoMemory, PgText, Refusal};
+use refusals::out_of_range;
 use sql_ast::{Expr, Leaf, SortKey as Key};
 use std::alloc::Global;
-use value_rules::out_of_range;
 
 /// The output columns that have a name.
 #[derive(Clone, Copy, Debug, PartialEq, Eq)]

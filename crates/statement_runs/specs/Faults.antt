@@ -4,9 +4,9 @@ use Rattle.std.specs.Prelude.{ℕ, List, [], ◌∷◌, Option, Some, None, code
 use Rattle.pg_values.specs.Words.{which_word}
 use Rattle.pg_values.specs.declared.which.Which.{Which}
 use Rattle.pg_values.specs.declared.fault.Fault.{Fault}
+use Rattle.refusals.specs.Refusals.{fault_of}
 use Rattle.sql_expressions.specs.declared.refused.ParseRefused.{ParseRefused}
 use Rattle.sql_expressions.specs.declared.refused.ParseRefused.TheVariants.{NoMemory, Syntax, Left, TooMany}
-use Rattle.value_rules.specs.FaultTexts.{fault_of}
 
 -- `syntax error at byte <n>`
 abbrev pub syntax_error : ℕ → Fault

@@ -4,7 +4,7 @@ use Rattle.std.specs.Prelude.{ℕ, List, [], ◌∷◌, codes}
 use Rattle.pg_values.specs.Words.{which_word}
 use Rattle.pg_values.specs.declared.which.Which.{Which}
 use Rattle.pg_values.specs.declared.fault.Fault.{Fault}
-use Rattle.value_rules.specs.FaultTexts.{fault_of}
+use Rattle.refusals.specs.Refusals.{fault_of}
 
 -- `too many <which>`
 abbrev pub too_many : Which → Fault
