@@ -1,5 +1,5 @@
 use Rattle.std.proofs.Common.{◌≡◌, take}
-use Rattle.bound_checks.proofs.bound_fault.copy_fault.Given as goal
+use Rattle.bound_checks.proofs.raw_value.copy_fault.Given as goal
 
 -- the texts so far are copied
 abbrev pub invariant-loop-text : goal.invariant-loop-text
