@@ -14,9 +14,10 @@ use crate::faults::set_twice;
 use cond_logic::InsertAsk;
 use expression_binder::{
     Names, Param, ScopeColumn, bind_constant, check_assigned, check_count, check_operand,
-    condition_names, no_column, store, typed_of,
+    condition_names, store, typed_of,
 };
 use pg_values::{Kind, NoMemory, PgText, Refusal, Row, RowList, Value};
+use refusals::no_column;
 use sql_ast::{Expr, ExprList, Insert, NameList};
 use std::alloc::Global;
 

@@ -4,6 +4,7 @@ use Rattle.std.specs.Str.{bytes_eq}
 use Rattle.pg_values.specs.declared.which.Which.TheVariants.{KeyColumns as WhichKeyColumns}
 use Rattle.pg_values.specs.declared.fault.Fault.{Fault}
 use Rattle.pg_values.specs.declared.value.Kind.TheVariants.{Text as KText}
+use Rattle.refusals.specs.Refusals.{no_column}
 use Rattle.sql_ast.specs.declared.table_definition.Strategy.{Strategy as Word}
 use Rattle.sql_ast.specs.declared.table_definition.Strategy.TheVariants as word
 use Rattle.sql_ast.specs.declared.table_definition.Partitioning.{Partitioning}
@@ -12,7 +13,6 @@ use Rattle.bound_forms.specs.declared.level.Strategy.TheVariants.{Range as ByRan
 use Rattle.bound_forms.specs.declared.level.KeyColumn.{KeyColumn}
 use Rattle.bound_forms.specs.declared.level.Level.{Level}
 use Rattle.history.specs.declared.catalogue.Column.{Column}
-use Rattle.expression_binder.specs.Faults.{no_column}
 use Rattle.expression_binder.specs.Firsts.{or_first, unless}
 use Rattle.table_binder.specs.Names.{twice_faults}
 use Rattle.table_binder.specs.States.{too_many, list_takes_one, twice_in_key}

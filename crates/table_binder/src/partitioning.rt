@@ -11,9 +11,9 @@ ghost use Rattle.table_binder.specs.States as states;
 
 use crate::faults::{list_takes_one, too_many, twice_in_key};
 use bound_forms::{KeyColumn, KeyColumns, Level, Strategy};
-use expression_binder::no_column;
 use history::Column;
 use pg_values::{NoMemory, PgText, Refusal, Which};
+use refusals::no_column;
 use sql_ast::{Partitioning, Strategy as Word};
 use std::alloc::Global;
 
