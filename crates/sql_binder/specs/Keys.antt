@@ -2,7 +2,7 @@
 use Rattle.std.specs.Prelude.{ℕ, ◌+◌, ◌-◌, ◌&&◌, ◌||◌, not, nat_le, Bool, true, false, if◌then◌else◌, List, [], ◌∷◌, ◌++◌, Option, Some, None, length, codes}
 use Rattle.std.specs.Str.{bytes_eq}
 use Rattle.pg_values.specs.declared.fault.Fault.{Fault}
-use Rattle.refusals.specs.Refusals.{out_of_range, left_out, ambiguous}
+use Rattle.refusals.specs.Refusals.{out_of_range, left_out, ambiguous, no_output}
 use Rattle.sql_ast.specs.declared.leaf.Leaf.TheVariants.{Number, Column, ColumnOf, TableName, TableNameOf}
 use Rattle.sql_ast.specs.Expressions.{Tree, leaf, binary, in_list, between, is_null, inverted, all_of, any_of}
 use Rattle.sql_ast.specs.Queries.{Key}
@@ -18,7 +18,6 @@ use Rattle.cond_logic.specs.declared.select.SortBy.TheVariants as by
 use Rattle.cond_logic.specs.declared.select.SortKey.{SortKey}
 use Rattle.sql_binder.specs.declared.keys.Named.{Named}
 use Rattle.sql_binder.specs.declared.keys.Named.TheVariants as named
-use Rattle.sql_binder.specs.States.{no_output}
 
 abbrev pub with_output : Bool → (place : ℕ) → Named → Named
 with_output false place found = found

@@ -9,14 +9,13 @@ ghost use Rattle.expression_binder.specs.Lent.{option_now};
 ghost use Rattle.expression_binder.specs.Operands.{operand_faults};
 ghost use Rattle.sql_binder.specs.Keys as keys;
 
-use crate::faults::no_output;
 use cond_logic::{SortBy, SortKey};
 use expression_binder::{
     Lookup, Names, ScopeItem, check_condition, check_look_up, check_operand, is_arithmetic,
     item_called, look_up, look_up_in,
 };
 use pg_values::{NoMemory, PgText, Refusal};
-use refusals::{ambiguous, left_out, out_of_range};
+use refusals::{ambiguous, left_out, no_output, out_of_range};
 use sql_ast::{Expr, Leaf, SortKey as Key};
 use std::alloc::Global;
 
