@@ -6,8 +6,10 @@ use Rattle.std.specs.Fmt.{decimal}
 use Rattle.pg_values.specs.Words.{which_word}
 use Rattle.pg_values.specs.declared.fault.Fault.{Fault}
 use Rattle.pg_values.specs.declared.value.Kind.{Kind}
+use Rattle.pg_values.specs.declared.value.Value.{Value}
 use Rattle.pg_values.specs.declared.which.Which.{Which}
 use Rattle.refusals.specs.Kinds.{kind_word}
+use Rattle.refusals.specs.RowTexts.{row_text}
 
 -- a fault of this state that tells these texts
 abbrev pub fault_of : List ℕ → List (List ℕ) → Fault
@@ -53,31 +55,31 @@ no_value v setting = fault_of (codes "22023") (v ∷ setting ∷ [])
 abbrev pub no_such_value : List ℕ → Kind → Fault
 no_such_value text kind = fault_of (codes "22P02") (text ∷ kind_word kind ∷ [])
 
--- ---- Class 23: integrity constraint violation. Rows and keys are told as texts.
+-- ---- Class 23: integrity constraint violation
 
 -- `column <c> of <leaf> is null`
 abbrev pub null_column : List ℕ → List ℕ → Fault
 null_column c leaf = fault_of (codes "23502") (c ∷ leaf ∷ [])
 
 -- `no partition of <t> accepts <key>`
-abbrev pub no_partition : List ℕ → List ℕ → Fault
-no_partition t key = fault_of (codes "23514") (codes "no partition of <t> accepts <key>" ∷ t ∷ key ∷ [])
+abbrev pub no_partition : List ℕ → List Value → Fault
+no_partition t key = fault_of (codes "23514") (codes "no partition of <t> accepts <key>" ∷ t ∷ row_text key ∷ [])
 
 -- `<t> does not accept <key>`
-abbrev pub does_not_accept : List ℕ → List ℕ → Fault
-does_not_accept t key = fault_of (codes "23514") (codes "<t> does not accept <key>" ∷ t ∷ key ∷ [])
+abbrev pub does_not_accept : List ℕ → List Value → Fault
+does_not_accept t key = fault_of (codes "23514") (codes "<t> does not accept <key>" ∷ t ∷ row_text key ∷ [])
 
 -- `<t> has the row <row> outside its new bounds`
-abbrev pub outside_new_bounds : List ℕ → List ℕ → Fault
-outside_new_bounds t row = fault_of (codes "23514") (codes "<t> has the row <row> outside its new bounds" ∷ t ∷ row ∷ [])
+abbrev pub outside_new_bounds : List ℕ → List Value → Fault
+outside_new_bounds t row = fault_of (codes "23514") (codes "<t> has the row <row> outside its new bounds" ∷ t ∷ row_text row ∷ [])
 
 -- `default <d> has the row <row> for <p>`
-abbrev pub default_has_row : List ℕ → List ℕ → List ℕ → Fault
-default_has_row d row p = fault_of (codes "23514") (codes "default <d> has the row <row> for <p>" ∷ d ∷ row ∷ p ∷ [])
+abbrev pub default_has_row : List ℕ → List Value → List ℕ → Fault
+default_has_row d row p = fault_of (codes "23514") (codes "default <d> has the row <row> for <p>" ∷ d ∷ row_text row ∷ p ∷ [])
 
 -- `<t> has a kept CHECK that refuses <row>`
-abbrev pub kept_check : List ℕ → List ℕ → Fault
-kept_check t row = fault_of (codes "23514") (codes "<t> has a kept CHECK that refuses <row>" ∷ t ∷ row ∷ [])
+abbrev pub kept_check : List ℕ → List Value → Fault
+kept_check t row = fault_of (codes "23514") (codes "<t> has a kept CHECK that refuses <row>" ∷ t ∷ row_text row ∷ [])
 
 -- ---- Class 25: invalid transaction state
 

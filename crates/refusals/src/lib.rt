@@ -1,18 +1,21 @@
 //! Why statements are refused: each SQLSTATE with its texts, and a maker for each.
 //!
-//! `specs/Refusals.antt` is the table, in the order of the manual's "Appendix A. PostgreSQL Error Codes": for each
-//! refusal its state, its text and what the text tells of. A `Fault` holds the state and the words that fill the
-//! holes of its text. Where a state has several texts, the text itself stands first, with its holes: 42P16
-//! `the bound has <n> values for <m>`, `1`, `2` is printed as `the bound has 1 values for 2`.
+//! `specs/Refusals.antt` is the table, in the order of the manual's "Appendix A. PostgreSQL Error
+//! Codes": for each refusal its state, its text and what the text tells of. A `Fault` holds the
+//! state and the words that fill the holes of its text. Where a state has several texts, the text
+//! itself stands first, with its holes: 42P16 `the bound has <n> values for <m>`, `1`, `2` is
+//! printed as `the bound has 1 values for 2`. Kinds are told by their names in SQL, rows and keys
+//! as their values in parentheses.
 //!
-//! Each maker says of its result that it is that line of the table; only want of memory is free. A maker that
-//! tells no word takes no memory and cannot fail.
+//! Each maker says of its result that it is that line of the table; only want of memory is free. A
+//! maker that tells no word takes no memory and cannot fail.
 #![tactic(auto)]
 
 mod bounds;
 mod kinds;
 mod limits;
 mod names;
+mod row_texts;
 mod rows;
 mod tables;
 mod told;

@@ -1,10 +1,11 @@
-//! Rows that a table does not take (class 23). Rows and keys are told as texts.
+//! Rows that a table does not take (class 23).
 
 ghost use Rattle.std.specs.Prelude.{◌≡◌, IfOk};
 ghost use Rattle.refusals.specs.Refusals as refusals;
 
+use crate::row_texts::row_text;
 use crate::told::{of_four, of_three, of_two};
-use pg_values::{Fault, NoMemory};
+use pg_values::{Fault, NoMemory, Row};
 use std::alloc::Global;
 
 /// `column <c> of <leaf> is null`
@@ -15,35 +16,38 @@ pub fn null_column(alloc: Global, column: &[u8], leaf: &[u8]) -> Result<Fault, N
 }
 
 /// `no partition of <t> accepts <key>`
-pub fn no_partition(alloc: Global, table: &[u8], key: &[u8]) -> Result<Fault, NoMemory>
+pub fn no_partition(alloc: Global, table: &[u8], key: &Row) -> Result<Fault, NoMemory>
     ensures { IfOk result (λ f. f ≡ refusals.no_partition table.now key.now) }
 {
+    let key = row_text(alloc, key.as_slice())?;
     of_three(
         alloc,
         *b"23514",
         b"no partition of <t> accepts <key>",
         table,
-        key,
+        &key,
     )
 }
 
 /// `<t> does not accept <key>`
-pub fn does_not_accept(alloc: Global, table: &[u8], key: &[u8]) -> Result<Fault, NoMemory>
+pub fn does_not_accept(alloc: Global, table: &[u8], key: &Row) -> Result<Fault, NoMemory>
     ensures { IfOk result (λ f. f ≡ refusals.does_not_accept table.now key.now) }
 {
-    of_three(alloc, *b"23514", b"<t> does not accept <key>", table, key)
+    let key = row_text(alloc, key.as_slice())?;
+    of_three(alloc, *b"23514", b"<t> does not accept <key>", table, &key)
 }
 
 /// `<t> has the row <row> outside its new bounds`
-pub fn outside_new_bounds(alloc: Global, table: &[u8], row: &[u8]) -> Result<Fault, NoMemory>
+pub fn outside_new_bounds(alloc: Global, table: &[u8], row: &Row) -> Result<Fault, NoMemory>
     ensures { IfOk result (λ f. f ≡ refusals.outside_new_bounds table.now row.now) }
 {
+    let row = row_text(alloc, row.as_slice())?;
     of_three(
         alloc,
         *b"23514",
         b"<t> has the row <row> outside its new bounds",
         table,
-        row,
+        &row,
     )
 }
 
@@ -51,30 +55,32 @@ pub fn outside_new_bounds(alloc: Global, table: &[u8], row: &[u8]) -> Result<Fau
 pub fn default_has_row(
     alloc: Global,
     default: &[u8],
-    row: &[u8],
+    row: &Row,
     partition: &[u8],
 ) -> Result<Fault, NoMemory>
     ensures { IfOk result (λ f. f ≡ refusals.default_has_row default.now row.now partition.now) }
 {
+    let row = row_text(alloc, row.as_slice())?;
     of_four(
         alloc,
         *b"23514",
         b"default <d> has the row <row> for <p>",
         default,
-        row,
+        &row,
         partition,
     )
 }
 
 /// `<t> has a kept CHECK that refuses <row>`
-pub fn kept_check(alloc: Global, table: &[u8], row: &[u8]) -> Result<Fault, NoMemory>
+pub fn kept_check(alloc: Global, table: &[u8], row: &Row) -> Result<Fault, NoMemory>
     ensures { IfOk result (λ f. f ≡ refusals.kept_check table.now row.now) }
 {
+    let row = row_text(alloc, row.as_slice())?;
     of_three(
         alloc,
         *b"23514",
         b"<t> has a kept CHECK that refuses <row>",
         table,
-        row,
+        &row,
     )
 }

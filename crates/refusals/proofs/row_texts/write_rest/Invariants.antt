@@ -1,8 +1,8 @@
 use Rattle.std.proofs.Common.{◌≡◌, ◌++◌, drop}
 use Rattle.std.specs.Prelude.{codes}
 use Rattle.std.specs.List.{flat_map}
-use Rattle.row_change.specs.RowTexts as texts
-use Rattle.row_change.proofs.texts.write_rest.Given as goal
+use Rattle.refusals.specs.RowTexts as texts
+use Rattle.refusals.proofs.row_texts.write_rest.Given as goal
 
 -- what was written so far stands before the rest
 abbrev pub invariant-loop-value : goal.invariant-loop-value

@@ -1,4 +1,4 @@
--- How a row or a key is told in a fault.
+-- How a row or a key is told in a refusal.
 use Rattle.std.specs.Prelude.{ℕ, List, ◌++◌, codes}
 use Rattle.std.specs.List.{join_by}
 use Rattle.pg_values.specs.declared.value.Value.{Value}

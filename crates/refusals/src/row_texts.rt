@@ -1,8 +1,8 @@
-//! Rows as faults tell them, in the same form as those that a table refuses.
+//! Rows and keys as refusals tell them.
 
 ghost use Rattle.std.specs.Prelude.{◌≡◌, ◌++◌, codes, IfOk, OnOk};
 ghost use Rattle.std.specs.List.{flat_map, join_by};
-ghost use Rattle.row_change.specs.RowTexts as texts;
+ghost use Rattle.refusals.specs.RowTexts as texts;
 
 use pg_values::{NoMemory, Value, write_value};
 use std::alloc::Global;
