@@ -4,6 +4,7 @@ ghost use Rattle.std.specs.Prelude.{◌≡◌, ◌==◌, ◌<◌, ◌+◌, IfOk,
 ghost use Rattle.std.specs.List.{list_any};
 ghost use Rattle.pg_values.specs.Refusals.{IsAnswer, or_first, unless};
 ghost use Rattle.pg_values.specs.declared.which.Which.TheVariants.{Levels};
+ghost use Rattle.refusals.specs.Refusals.{too_many as levels_passed};
 ghost use Rattle.history.specs.History.{History};
 ghost use Rattle.tx_table.specs.Stands.{TableStands};
 ghost use Rattle.table_trees.specs.Seen.{seen};
@@ -11,7 +12,6 @@ ghost use Rattle.table_trees.specs.Trees.{height};
 ghost use Rattle.part_catalog.specs.Answers.{AreTogether};
 ghost use Rattle.part_catalog.specs.Stands.{CatalogueStands};
 ghost use Rattle.part_ddl.specs.Below as below;
-ghost use Rattle.part_ddl.specs.Faults.{too_many as levels_passed};
 ghost use Rattle.sql_ast.specs.Commands.{bound_tree};
 ghost use Rattle.statement_steps.specs.Attempts.{MayAttempt};
 ghost use Rattle.statement_steps.specs.Steps.{IsStep};

@@ -1,6 +1,6 @@
 ghost use Rattle.std.specs.Prelude.{◌≡◌, IfOk};
+ghost use Rattle.refusals.specs.Refusals as refusals;
 ghost use Rattle.table_statements.specs.Asked.{stopped};
-ghost use Rattle.part_ddl.specs.Faults as refusals;
 ghost use Rattle.attach_statement.specs.Faults as faults;
 
 use pg_values::{Fault, NoMemory, Refusal, SqlState, Which};

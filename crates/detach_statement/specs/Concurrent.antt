@@ -9,7 +9,7 @@ use Rattle.pg_values.specs.Sets.{empty, without}
 use Rattle.pg_values.specs.declared.ids.TableNo.{TableNo}
 use Rattle.pg_values.specs.declared.lock_mode.LockMode.TheVariants.{ShareUpdateExclusive, AccessExclusive}
 use Rattle.pg_values.specs.Refusals.{unless}
-use Rattle.refusals.specs.Refusals.{fault_of}
+use Rattle.refusals.specs.Refusals.{fault_of, partition_is_pending}
 use Rattle.history.specs.declared.catalogue.Entry.{Entry}
 use Rattle.history.specs.declared.catalogue.Stamp.{Stamp}
 use Rattle.history.specs.declared.transaction.TxId.{TxId}
@@ -21,7 +21,6 @@ use Rattle.table_trees.specs.Histories.{table_of}
 use Rattle.part_catalog.specs.Answers.{child_told, entry_between, marker_told, pending_entry}
 use Rattle.part_ddl.specs.Below.{default_of}
 use Rattle.part_ddl.specs.Dropped.{place_ended}
-use Rattle.part_ddl.specs.Faults.{pending_beside}
 use Rattle.part_ddl.specs.Placing.{level_at}
 use Rattle.partition_scans.specs.Sessions.{those}
 use Rattle.statement_steps.specs.Ended.{giving}
@@ -52,7 +51,7 @@ default_faults h p (Some d) = has_default (name_at h p) (name_at h d.number) ∷
 
 abbrev pub pending_faults : History → (parent : ℕ) → Option TableNo → List Fault
 pending_faults h p None = []
-pending_faults h p (Some t) = pending_beside (name_at h t.number) (name_at h p) ∷ []
+pending_faults h p (Some t) = partition_is_pending (name_at h t.number) (name_at h p) ∷ []
 
 -- no partition of the parent is the default or pending
 abbrev pub none_beside : History → (session parent : ℕ) → Result (Unit {0}) Fault

@@ -5,14 +5,13 @@ use Rattle.pg_values.specs.declared.fault.Fault.{Fault}
 use Rattle.pg_values.specs.declared.ids.TableNo.{TableNo}
 use Rattle.pg_values.specs.declared.lock_mode.LockMode.TheVariants.{AccessExclusive}
 use Rattle.pg_values.specs.Refusals.{unless}
-use Rattle.refusals.specs.Refusals.{fault_of}
+use Rattle.refusals.specs.Refusals.{fault_of, partition_is_pending}
 use Rattle.history.specs.History.{History}
 use Rattle.table_trees.specs.Histories.{table_of}
 use Rattle.part_catalog.specs.Answers.{child_told, pending_entry}
 use Rattle.part_catalog.specs.Found.{made_at}
 use Rattle.part_ddl.specs.Below.{default_of}
 use Rattle.part_ddl.specs.Dropped.{place_ended}
-use Rattle.part_ddl.specs.Faults.{pending_beside}
 use Rattle.part_ddl.specs.Placing.{level_at}
 use Rattle.statement_steps.specs.Made.{Made, made}
 use Rattle.statement_steps.specs.declared.caller.Caller.{Caller}
@@ -48,7 +47,7 @@ abbrev pub detachable : History → (session parent table : ℕ) → Result (Uni
 detachable h s p t =
     next_answer (level_at h p) (λ level.
     unless_faults (unless (is_table (parent_in h s t) p) (not_a_partition (name_at h t) (name_at h p))) (
-    unless_faults (unless (not (is_table (child_told (pending_entry h s p)) t)) (pending_beside (name_at h t) (name_at h p))) (Ok tt)))
+    unless_faults (unless (not (is_table (child_told (pending_entry h s p)) t)) (partition_is_pending (name_at h t) (name_at h p))) (Ok tt)))
 
 abbrev pub checked : (session parent table : ℕ) → History → Made (Unit {0})
 checked s p t h = answered (detachable h s p t)

@@ -1,5 +1,5 @@
 ghost use Rattle.std.specs.Prelude.{◌≡◌, IfOk};
-ghost use Rattle.part_ddl.specs.Faults.{pending_beside};
+ghost use Rattle.refusals.specs.Refusals.{partition_is_pending};
 ghost use Rattle.detach_statement.specs.Concurrent as concurrent;
 ghost use Rattle.detach_statement.specs.Detached as detached;
 ghost use Rattle.detach_statement.specs.Places as places;
@@ -22,7 +22,7 @@ pub(crate) fn not_a_partition(alloc: Global, table: &[u8], parent: &[u8]) -> Res
 
 /// `partition <p> of <t> is pending`
 pub(crate) fn pending(alloc: Global, table: &[u8], parent: &[u8]) -> Result<Fault, NoMemory>
-    ensures { IfOk result (λ f. f ≡ pending_beside table.now parent.now) }
+    ensures { IfOk result (λ f. f ≡ partition_is_pending table.now parent.now) }
 {
     Ok(Fault {
         code: SqlState { bytes: *b"55000" },
