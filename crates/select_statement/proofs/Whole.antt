@@ -9,7 +9,7 @@ use Rattle.pg_values.specs.declared.answer.Answer.{Answer}
 use Rattle.pg_values.specs.declared.fault.Fault.{Fault}
 use Rattle.pg_values.specs.declared.ids.TableNo.{TableNo}
 use Rattle.pg_values.specs.declared.which.Which.TheVariants.{TablesInFrom}
-use Rattle.refusals.specs.Refusals.{too_many}
+use Rattle.refusals.specs.Refusals.{too_many, statement_cancelled}
 use Rattle.history.specs.Transactions.{IsPast}
 use Rattle.history.specs.Snapshots.{TakenSnapshot}
 use Rattle.history.specs.History.{History, tx_events}
@@ -37,7 +37,6 @@ use Rattle.stores.specs.Stand.{AllStand, Stands, IsSound}
 use Rattle.stores.specs.declared.stores.Stores.{Stores}
 use Rattle.statement_steps.specs.Made.{Made, Refused, halted}
 use Rattle.statement_steps.specs.Attempts.{MayAttempt}
-use Rattle.statement_steps.specs.Faults.{statement_cancelled}
 use Rattle.statement_steps.specs.declared.caller.Caller.{Caller}
 use Rattle.statement_steps.specs.declared.stop.Stop.{Stop}
 use Rattle.statement_steps.specs.declared.stop.Stop.TheVariants as stop
