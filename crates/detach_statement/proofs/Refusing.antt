@@ -3,7 +3,7 @@ use Rattle.std.proofs.Common.{◌≡◌, ℕ, not, Bool, true, false, [], refl, 
 use Rattle.pg_values.specs.declared.fault.Fault.{Fault}
 use Rattle.pg_values.specs.declared.ids.TableNo.{TableNo}
 use Rattle.pg_values.specs.Refusals.{unless}
-use Rattle.refusals.specs.Refusals.{partition_is_pending}
+use Rattle.refusals.specs.Refusals.{partition_is_pending, not_a_partition}
 use Rattle.history.specs.History.{History}
 use Rattle.part_catalog.specs.Answers.{child_told, pending_entry}
 use Rattle.part_ddl.specs.Placing.{level_at}
@@ -11,7 +11,7 @@ use Rattle.table_statements.specs.Drops.{parent_in}
 use Rattle.table_statements.specs.Refused.{unless_faults}
 use Rattle.table_statements.proofs.Ends.{same_number}
 use Rattle.table_statements.proofs.Firsts.{both_told, none_told}
-use Rattle.detach_statement.specs.Detached.{not_a_partition, name_at, is_table, detachable}
+use Rattle.detach_statement.specs.Detached.{name_at, is_table, detachable}
 
 pub none_against : (b : Bool) (f : Fault) → unless b f ≡ [] → b ≡ true
 none_against true f e = refl

@@ -1,11 +1,11 @@
 -- ALTER TABLE, DETACH PARTITION of a session (the manual, ALTER TABLE; 5.11.2.2 Partition Maintenance; 13.3.1 Table-Level
 -- Locks).
-use Rattle.std.specs.Prelude.{ℕ, ◌==◌, Bool, false, not, List, [], ◌∷◌, Option, Some, None, Result, Ok, codes}
+use Rattle.std.specs.Prelude.{ℕ, ◌==◌, Bool, false, not, List, [], Option, Some, None, Result, Ok}
 use Rattle.pg_values.specs.declared.fault.Fault.{Fault}
 use Rattle.pg_values.specs.declared.ids.TableNo.{TableNo}
 use Rattle.pg_values.specs.declared.lock_mode.LockMode.TheVariants.{AccessExclusive}
 use Rattle.pg_values.specs.Refusals.{unless}
-use Rattle.refusals.specs.Refusals.{fault_of, partition_is_pending}
+use Rattle.refusals.specs.Refusals.{partition_is_pending, not_a_partition}
 use Rattle.history.specs.History.{History}
 use Rattle.table_trees.specs.Histories.{table_of}
 use Rattle.part_catalog.specs.Answers.{child_told, pending_entry}
@@ -30,10 +30,6 @@ abbrev pub default_locked : List (List ℕ) → (session parent : ℕ) → Histo
 default_locked names s p h = locked_or_none names s (default_of h s p) h
 
 -- ---- the refusals
-
--- `<p> is not a partition of <t>`
-abbrev pub not_a_partition : List ℕ → List ℕ → Fault
-not_a_partition p t = fault_of (codes "42P01") (codes "<p> is not a partition of <t>" ∷ p ∷ t ∷ [])
 
 abbrev pub name_at : History → (table : ℕ) → List ℕ
 name_at h t = (made_at h t).name
