@@ -9,7 +9,7 @@ use Rattle.pg_values.specs.declared.fault.Refusal.{Refusal}
 use Rattle.pg_values.specs.declared.fault.Refusal.TheVariants.{Sql, NoMemory}
 use Rattle.pg_values.specs.declared.ids.TableNo.{TableNo}
 use Rattle.pg_values.specs.declared.which.Which.TheVariants.{Partitions, Levels}
-use Rattle.refusals.specs.Refusals.{too_many}
+use Rattle.refusals.specs.Refusals.{too_many, already_a_partition, is_above}
 use Rattle.bound_forms.specs.Levels.{IsOfLevel}
 use Rattle.bound_forms.specs.declared.level.Level.{Level}
 use Rattle.bound_forms.specs.declared.partition_bound.Bound.{Bound as MeantBound}
@@ -36,7 +36,6 @@ use Rattle.table_statements.proofs.Firsts.{to_answer, past_ok, past_none}
 use Rattle.table_statements.proofs.Placing.{takes_bound}
 use Rattle.attach_statement.specs.Asked.{MayBeAttached}
 use Rattle.attach_statement.specs.Columns.{column_faults}
-use Rattle.attach_statement.specs.Faults.{already_a_partition, is_above}
 use Rattle.attach_statement.specs.Places.{name_at, stands_above, table_faults, attach_place}
 use Rattle.attach_statement.proofs.Columned.{columns_of}
 

@@ -1,10 +1,8 @@
-ghost use Rattle.std.specs.Prelude.{◌≡◌, IfOk};
-ghost use Rattle.refusals.specs.Refusals as refusals;
+ghost use Rattle.std.specs.Prelude.{◌≡◌};
 ghost use Rattle.table_statements.specs.Asked.{stopped};
 
-use pg_values::{NoMemory, Refusal};
+use pg_values::Refusal;
 use statement_steps::Stop;
-use std::alloc::Global;
 
 /// A refusal ends the statement.
 pub(crate) fn stop_by(refusal: Refusal) -> Stop
