@@ -5,11 +5,10 @@ ghost use Rattle.table_trees.specs.Trees.{IsRowOf};
 ghost use Rattle.cond_logic.specs.Asked.{setting_meant};
 ghost use Rattle.change_statement.specs.NewRows as rows;
 
-use crate::row_faults::wrong_kind;
 use cond_logic::{Binding, Setting, TableNames, scalar_value};
 use history::Column;
 use pg_values::{Kind, NoMemory, Refusal, Row, Value, copy_value, kind_of};
-use refusals::out_of_range;
+use refusals::{out_of_range, wrong_kind};
 use std::alloc::Global;
 use value_rules::{CoerceFault, coerce};
 
