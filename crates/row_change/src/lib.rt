@@ -18,7 +18,6 @@
 #![tactic(auto)]
 
 mod by_leaf;
-mod faults;
 mod full_rows;
 mod holders;
 mod keys;
@@ -30,7 +29,6 @@ mod storing;
 mod succession;
 mod target;
 mod testing;
-mod texts;
 mod way;
 
 pub use full_rows::full_row;

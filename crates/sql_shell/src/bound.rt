@@ -3,8 +3,8 @@ use crate::trees::write_number;
 use cond_logic::{ChangeAsk, Cond, InsertAsk, Output, SelectAsk, Setting, SortBy, SortKey};
 use expression_binder::Param;
 use pg_values::{NoMemory, Row};
+use refusals::kind_word;
 use std::alloc::Global;
-use value_rules::kind_word;
 
 /// Before every part but the first.
 pub(crate) fn write_between(

@@ -4,10 +4,10 @@ use crate::trees::write_number;
 use bound_forms::{Bound, Edge, Level, Point, Strategy};
 use history::{Column, Columns};
 use pg_values::{NoMemory, Refusal};
+use refusals::kind_word;
 use sql_ast::{BoundText, ColumnList, Partitioning};
 use std::alloc::Global;
 use table_binder::{bind_bound, bind_columns, bind_partitioning};
-use value_rules::kind_word;
 
 fn write_column(column: &Column, out: &mut Vec<u8>) -> Result<(), NoMemory> {
     out.extend_from_slice(column.name.as_bytes())?;

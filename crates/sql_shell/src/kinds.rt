@@ -3,9 +3,9 @@ use crate::tables::{columns_of, item_of, items_of};
 use expression_binder::{Given, ScopeItem};
 use parameter_kinds::{bind_parameters, kind_in_statement};
 use pg_values::{Kind, NoMemory, PgText, Refusal};
+use refusals::kind_word;
 use sql_ast::{ExprList, RowStatement};
 use std::alloc::Global;
-use value_rules::kind_word;
 
 // What the arguments are: the first is an integer, the others are string literals.
 const GIVENS: [Given; 4] = [
