@@ -2,7 +2,7 @@
 //!
 //! That what is written says the same is proved in `sql_written`, and where a block is refused in `sql_syntax`.
 
-use crate::refusals::write_refusal;
+use crate::refused::write_refusal;
 use pg_values::NoMemory;
 use sql_ast::Statement;
 use sql_syntax::parse_block;

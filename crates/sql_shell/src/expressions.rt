@@ -7,7 +7,7 @@
 //! That a text has this tree alone, and where a text is refused, is proved in `sql_expressions`. Here both
 //! are seen: `stdin` has the texts, and `stdout` what was worked by hand from the grammar.
 
-use crate::refusals::write_refusal;
+use crate::refused::write_refusal;
 use crate::repeats::spelled_out;
 use crate::trees::{write_number, write_tree};
 use pg_values::NoMemory;

@@ -13,7 +13,7 @@ mod definitions;
 mod expressions;
 mod kinds;
 mod meanings;
-mod refusals;
+mod refused;
 mod repeats;
 mod tables;
 mod trees;
