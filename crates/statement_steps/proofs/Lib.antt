@@ -3,3 +3,4 @@ mod Known
 mod Left
 pub mod Parts
 pub mod Steps
+pub mod Waiting
