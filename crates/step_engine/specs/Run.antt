@@ -1,5 +1,6 @@
 -- The run of a script over the stores: what its database is before anything has happened, and what happens in it.
-use Rattle.std.specs.Prelude.{ℕ, ◌+◌, List, ◌∷◌, length, map, replicate, codes}
+use Rattle.std.specs.Prelude.{ℕ, ◌+◌, List, ◌∷◌, Option, Some, None, Result, Ok, Err, length, map, replicate, codes}
+use Rattle.pg_values.specs.declared.fault.Fault.{Fault}
 use Rattle.schedule.specs.Rules.{Rules}
 use Rattle.spec_reader.specs.declared.spec.Spec.{Spec}
 use Rattle.spec_reader.specs.declared.spec.SessionSpec.{SessionSpec}
@@ -8,6 +9,7 @@ use Rattle.statement_runs.specs.Database.{Database, course, empty}
 use Rattle.statement_runs.specs.Moments.{Always, AlwaysInOneLeaf}
 use Rattle.sql_ast.specs.Statements.{StatementTree}
 use Rattle.statement_runs.specs.ReadMoments.{StatementsArePlain}
+use Rattle.statement_runs.specs.Reading.{read_block}
 use Rattle.statement_runs.specs.StatementWords.{statement_words}
 
 abbrev pub RunState : Type 0
@@ -41,3 +43,12 @@ opened script = record {
   executor = empty (session_names script) (length script.sessions + 1);
   sessions = replicate (length script.sessions + 1) new_session;
 }
+
+-- why a block is refused, if it is
+abbrev pub fault_in : {T : Type 0} → Result T Fault → Option Fault
+fault_in (Ok statements) = None
+fault_in (Err fault) = Some fault
+
+-- the grammar refuses a text that is no list of statements (VI. SQL Commands)
+unfoldable pub refused : (text : List ℕ) → Option Fault
+refused text = fault_in (read_block text)
