@@ -32,7 +32,7 @@ some_eq : {A : Type 0} (a b : A) → Some a ≡ Some b → a ≡ b
 some_eq a b e = cc
 
 module _ {A : Type 0} (limit : parsed.LimitOf) (rule : List ℕ → Rule Token A) (text : List ℕ) (f : Class Token) (n : Bool) (c : Class Token) (law : Law (rule text) f n c) where
-  pub MatchRead : Result A Fault → Type 0
+  abbrev pub MatchRead : Result A Fault → Type 0
   MatchRead (Ok a) = IsOnly (rule text).texts (rule text).free (tokens_of text) a
   MatchRead (Err g) = (r : ParseRefused) × parsed.IsRefused limit rule text r × (fault r ≡ Some g)
 
