@@ -33,30 +33,6 @@ const REFUSED: &str = "line 1: unexpected token\n";
 const USAGE: &str =
     "usage: partscript [--mode run|check|gen|dump] [--today DATE] [--trail] [--seed N]\n";
 
-/// A script with blocks that the grammar refuses.
-const WITH_REFUSED_BLOCKS: &str = "setup { SELEC 1; }
-setup { CREATE TABLE t (a int); }
-teardown { DROP; }
-session s1
-setup { SELECT * FROM t LEFT JOIN t u ON t.a = u.a; }
-step q { SELECT 1; }
-step r { INSERT INTO t; }
-session s2
-step p { SELECT 1; SELEC; }
-teardown { SELECT; FROM; }
-permutation q p
-permutation p
-";
-
-const CHECKED: &str = "setup: ERROR:  42601 syntax error at byte 0
-teardown: ERROR:  42601 syntax error at byte 4
-setup: ERROR:  0A000 LEFT is not in this profile
-r: ERROR:  42601 syntax error at byte 13
-p: ERROR:  42601 syntax error at byte 10
-teardown: ERROR:  42601 syntax error at byte 6
-checked 2 sessions, 3 steps, 2 permutations
-";
-
 /// A script that writes to both outputs.
 const BOTH: &str = "teardown { DROP TABLE t; }
 session s
@@ -87,7 +63,7 @@ struct Around<'a> {
     err_fails: &'a [u64],
     most: usize,
     room: usize,
-    words: &'a [&'a str],
+    with_a_word: bool,
 }
 
 const NO_CALL: &[u64] = &[];
@@ -123,8 +99,8 @@ fn call(alloc: Global, script: &[u8], around: &Around<'_>) -> Result<Outcome, No
     requires { 0 < around.now.most }
 {
     let mut words = Vec::new(alloc);
-    for word in around.words {
-        words.push(String::from_str(alloc, *word)?)?;
+    if around.with_a_word {
+        words.push(String::from_str(alloc, "--mode=walk")?)?;
     }
     let bytes = Vec::from_slice(alloc, script)?;
     let read_fails = Vec::from_slice(alloc, around.read_fails)?;
@@ -148,7 +124,7 @@ fn no_fault<'a>(most: usize) -> Around<'a>
         err_fails: NO_CALL,
         most,
         room: 1000,
-        words: &[],
+        with_a_word: false,
     }
 }
 
@@ -162,38 +138,11 @@ fn a_script_is_run_and_a_wrong_one_refused(rt: HostRuntime) {
 }
 
 #[test]
-fn words_that_ask_for_nothing_are_refused(rt: HostRuntime) {
+fn a_word_is_refused(rt: HostRuntime) {
     let mut around = no_fault(7);
-    around.words = &["--mode=walk"];
+    around.with_a_word = true;
     let usage = call(rt.alloc(), THREE_ROWS.as_bytes(), &around).expect(&rt, "memory");
     assert!(rt; usage.is(Ended::Usage, "", USAGE));
-    around.words = &["--today", "2024-13-01"];
-    let usage = call(rt.alloc(), THREE_ROWS.as_bytes(), &around).expect(&rt, "memory");
-    assert!(rt; usage.is(Ended::Usage, "", USAGE));
-}
-
-#[test]
-fn blocks_are_read_and_not_run_where_words_ask_for_it(rt: HostRuntime) {
-    let mut around = no_fault(7);
-    around.words = &["--mode", "check"];
-    let script = THREE_ROWS.as_bytes();
-    let checked = call(rt.alloc(), script, &around).expect(&rt, "memory");
-    assert!(rt;
-        checked.is(
-            Ended::Done,
-            "checked 1 sessions, 1 steps, 1 permutations\n",
-            ""
-        )
-    );
-    let script = WITH_REFUSED_BLOCKS.as_bytes();
-    let checked = call(rt.alloc(), script, &around).expect(&rt, "memory");
-    assert!(rt; checked.is(Ended::Done, CHECKED, ""));
-    around.out_fails = &[2];
-    let failed = call(rt.alloc(), script, &around).expect(&rt, "memory");
-    assert!(rt; failed.is(Ended::WriteFault, "setup: ERROR: ", ""));
-    around.out_fails = NO_CALL;
-    let refused = call(rt.alloc(), b"", &around).expect(&rt, "memory");
-    assert!(rt; refused.is(Ended::ScriptRefused, "", REFUSED));
 }
 
 #[test]
