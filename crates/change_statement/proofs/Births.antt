@@ -19,7 +19,7 @@ use Rattle.history.specs.Rows.{RowEvent, RowBorn, RowEnded}
 use Rattle.history.specs.History.{History, RowChange, tx_events, catalogue_events, versions}
 use Rattle.history.specs.Legal.{IsInOrder}
 use Rattle.table_trees.specs.Trees.{TableTree, LeafTable, LevelTable, Trees, End as NoTrees, More, leaves, all_leaves, routed, routed_in, child_of}
-use Rattle.row_router.specs.declared.path.PathTest.TheVariants.{Bounds, Checks}
+use Rattle.row_router.specs.declared.path.PathTest.TheVariants.{Bounds}
 use Rattle.row_router.specs.Paths.{refused}
 use Rattle.tx_table.specs.Stands.{TableStands}
 use Rattle.row_store.specs.Kept.{KeptRows, stored_at}

@@ -2,6 +2,7 @@ mod Refusing
 mod Defaults
 mod Checks
 mod LeftPlaces
+mod KeptPlaces
 mod Guards
 mod Marks
 mod Pending
@@ -9,4 +10,5 @@ mod LaterStages
 mod Waits
 mod Levels
 mod KeptChecks
+mod SameChecks
 mod SessionSets

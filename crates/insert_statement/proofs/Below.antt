@@ -38,7 +38,7 @@ use Rattle.stores.proofs.Housed.{leaves_are_housed}
 use Rattle.statement_steps.specs.Attempts.{MayAttempt}
 use Rattle.statement_steps.specs.declared.caller.Caller.{Caller}
 use Rattle.statement_steps.proofs.Parts.{own_tx}
-use Rattle.insert_statement.specs.Inserted.{tables_of, holder_faults}
+use Rattle.insert_statement.specs.Inserted.{tables_of}
 use Rattle.insert_statement.specs.Asked.{Each, ArePlaced, MayGo, MayPut, MayStore, MayWrite}
 use Rattle.insert_statement.proofs.OwnLeaf.{none_refuses}
 use Rattle.insert_statement.proofs.Pairs.{each_all, each_with}
