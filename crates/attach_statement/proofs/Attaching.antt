@@ -145,7 +145,7 @@ module _ (laws : AttachLaws) (stores : Stores) (caller : Caller) (p t : ℕ) (b 
             inr (two.0, λ f present under. none_of_all key (partitions_of h caller.session p) f none (child_listed (entries_present h caller.session) p f (listed_for h caller.session (tx_in h caller.session) f (legal_of h stands.good) ours present) under))
       ]
 
-  scanned : (v : Version) → IsScanned h caller.session (tx_in h caller.session) t v → Takes h (tx_in h caller.session) (new_entry caller p t b h) v.row × (refused Bounds v.row (path_of h caller.session p) ≡ None)
+  scanned : (v : Version) → IsScanned h caller.session (tx_in h caller.session) t v → Takes h (tx_in h caller.session) (new_entry caller p t b h) v.row × (refused Bounds v.row (path_of h caller.session p) ≡ None) × (refused Checks v.row (path_of h caller.session p) ≡ None)
   scanned v it =
       let first = clean_first h caller.session (place_scan h caller.session p t b) (default_scan h caller.session p b (name_at h t) (default_of h caller.session p)) clean in
       let breaks = laws.none h caller.session (tx_in h caller.session) t (breaks_place h caller.session p b) first.0 first.1 v it in
@@ -153,6 +153,7 @@ module _ (laws : AttachLaws) (stores : Stores) (caller : Caller) (p t : ℕ) (b 
       let parts = three_false (not (is_row_of (made_at h p).columns v.row)) (not (accepts_among (bounds_below h caller.session p) key b)) (is_refused_above h caller.session p v.row) breaks in (
         takes_row v.row (not_true (accepts_among (bounds_below h caller.session p) key b) parts.1),
         none_refused (refused Bounds v.row (path_of h caller.session p)) (left_of (is_some (refused Bounds v.row (path_of h caller.session p))) (is_some (refused Checks v.row (path_of h caller.session p))) parts.2),
+        none_refused (refused Checks v.row (path_of h caller.session p)) (right_of (is_some (refused Bounds v.row (path_of h caller.session p))) (is_some (refused Checks v.row (path_of h caller.session p))) parts.2),
       )
 
   place : IsNewPlace h caller.session (new_entry caller p t b h)
