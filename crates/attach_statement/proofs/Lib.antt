@@ -3,3 +3,5 @@ mod Columned
 mod Locked
 mod Placed
 mod Scanned
+mod Skipping
+

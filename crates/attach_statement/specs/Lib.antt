@@ -3,3 +3,4 @@ pub mod Columns
 pub mod Places
 pub mod Attached
 pub mod Asked
+pub mod Skipped

@@ -1,6 +1,6 @@
 mod Refusing
 mod Defaults
-mod Checks
+pub mod Checks
 mod LeftPlaces
 mod KeptPlaces
 mod Guards
@@ -8,7 +8,7 @@ mod Marks
 mod Pending
 mod LaterStages
 mod Waits
-mod Levels
-mod KeptChecks
+pub mod Levels
+pub mod KeptChecks
 mod SameChecks
 mod SessionSets
