@@ -70,7 +70,7 @@ use Rattle.attach_statement.specs.Asked.{MayBeAttached, HasPlace, HasLockedAll, 
 use Rattle.attach_statement.specs.Attached.{new_entry, entry_added, own_scan, scans}
 use Rattle.attach_statement.specs.Skipped.{is_skipped}
 use Rattle.attach_statement.specs.Places.{name_at}
-use Rattle.attach_statement.proofs.Skipping.{left_out, rest_clean}
+use Rattle.attach_statement.proofs.LeftOut.{left_out, rest_clean}
 
 pub record AttachLaws : Type 0 where
   pub named : NamedIsThere

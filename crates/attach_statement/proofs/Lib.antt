@@ -3,5 +3,4 @@ mod Columned
 mod Locked
 mod Placed
 mod Scanned
-mod Skipping
-
+mod LeftOut

@@ -18,6 +18,7 @@ use Rattle.table_trees.specs.Histories.{above, is_over, kept_of, table_of}
 use Rattle.tx_table.specs.Kept.{KeptTable}
 use Rattle.tx_table.specs.Stands.{TableStands}
 use Rattle.part_catalog.specs.Answers.{entry_between, IsStanding}
+use Rattle.part_catalog.specs.Found.{made_at}
 use Rattle.part_catalog.specs.Kept.{KeptCatalogue}
 use Rattle.part_catalog.specs.Stands.{CatalogueStands}
 use Rattle.part_ddl.specs.Dropped.{ended, place_ended}
@@ -153,7 +154,7 @@ module _ (laws : KeepLaws) (stores : Stores) (caller : Caller) (by : TxId) (p : 
       let found = found_in (is_over t) (partitions_of h s p.number) e m.found in
       let below = below_listed h s p.number e found.0 in
       let child : e.child.number ≡ t = same_number e.child.number t found.1 in
-      let shape : (table_at (tables_made (catalogue_events h)) p.number).shape ≡ Level c.level = shape_at _ _ c.level m.at_level in
+      let shape : (table_at (tables_made (catalogue_events h)) p.number).shape ≡ Level c.level = shape_at (made_at h p.number).name (made_at h p.number).shape c.level m.at_level in
       let named : is_default e.bound ≡ false = pending_is_named h s by.number p.number t e laws.keeps laws.leave.listed legal permitted own (pending h stands.all.txs stands.all.catalog) below.0 child in
       let repeats : Repeats (catalogue_events h) (record { table = table_of t; kept = c; by = by; cmd = caller.cmd }) e = record {
         child = child;
@@ -196,14 +197,14 @@ module _ (laws : KeepLaws) (stores : Stores) (caller : Caller) (by : TxId) (p : 
       let stands = may.sound.1 in
       let f = check_by (table_of t) by caller.cmd check ++ g in
       let there : CatalogueStands mid f = keeps g stands.all.catalog in
-      let then : TableStands stores.txs f = table_behind stores.txs (table_of t) by caller.cmd check g stands.all.txs in
+      let txs_then : TableStands stores.txs f = table_behind stores.txs (table_of t) by caller.cmd check g stands.all.txs in
       let a = over laws.leave stores caller by p t may mine locked partition g stands.all.txs stands.all.catalog in
       let e = a.entry in
       let none : counted_of (tx_events g) (entry_ends (catalogue_events g)) e.id.number ≡ None = not_ended laws.leave stores caller by p t may mine locked partition g stands.all.txs stands.all.catalog in
-      let entries : entries_present g s ≡ entries_present h s = sym (entries_behind (table_of t) by caller.cmd check g s) ∙ same_entries stores.txs mid f h then txs there catalog s in
+      let entries : entries_present g s ≡ entries_present h s = sym (entries_behind (table_of t) by caller.cmd check g s) ∙ same_entries stores.txs mid f h txs_then txs there catalog s in
       let found : above (entries_present h s) t ≡ Some e = subst (λ (es : List Entry). above es t ≡ Some e) entries a.found in
       let ends : counted_of (tx_events h) (entry_ends (catalogue_events h)) e.id.number ≡ None =
-      sym (same_ended stores.txs mid f h then txs there catalog e.id.number) ∙ (ended_behind (table_of t) by caller.cmd check g e.id.number ∙ none) in
+      sym (same_ended stores.txs mid f h txs_then txs there catalog e.id.number) ∙ (ended_behind (table_of t) by caller.cmd check g e.id.number ∙ none) in
       subst (λ (n : ℕ). IsStanding h n p.number t) (sym (owner laws.leave stores caller by p t may mine locked partition h txs)) (e, between_behind h s e found a.parent, ends)
 
   keep_deed : (mid last : KeptCatalogue) → Keeps mid → Ends mid last → (h : History) (stands : Stands stores h) → IsAt h caller.session caller.cmd → (n : ℕ) → open_of (tx_events h) caller.session ≡ Some n
@@ -224,12 +225,12 @@ module _ (laws : KeepLaws) (stores : Stores) (caller : Caller) (by : TxId) (p : 
       let second : MayFollow (CatalogueChange (EntryEnded e.id.number st) ∷ []) g =
       laws.leave.follow g s st (e.id.number ∷ []) [] good.0 good.1 (drop_behind (table_of t) by caller.cmd check h s st e.id.number (ap (λ (x : TxId). x.number) same) refl drop) in
       let there : CatalogueStands mid g = keeps h stands.all.catalog in
-      let then : TableStands stores.txs g = table_behind stores.txs (table_of t) by caller.cmd check h stands.all.txs in
+      let txs_then : TableStands stores.txs g = table_behind stores.txs (table_of t) by caller.cmd check h stands.all.txs in
       let found : above (entries_present g s) t ≡ Some e = subst (λ (es : List Entry). above es t ≡ Some e) (sym (entries_behind (table_of t) by caller.cmd check h s)) a.found in
       let between : entry_between g (session_of (tx_events g) by.number) p.number t ≡ Some e =
-      subst (λ (m : ℕ). entry_between g m p.number t ≡ Some e) (sym (owner laws.leave stores caller by p t may mine locked partition g then)) (between_behind g s e found a.parent) in
+      subst (λ (m : ℕ). entry_between g m p.number t ≡ Some e) (sym (owner laws.leave stores caller by p t may mine locked partition g txs_then)) (between_behind g s e found a.parent) in
       let last_stands : CatalogueStands last (CatalogueChange (EntryEnded e.id.number st) ∷ g) =
-      subst (λ (x : TxId). CatalogueStands last (CatalogueChange (EntryEnded e.id.number (record { by = x; cmd = caller.cmd })) ∷ g)) same (ends g e then there between) in
+      subst (λ (x : TxId). CatalogueStands last (CatalogueChange (EntryEnded e.id.number (record { by = x; cmd = caller.cmd })) ∷ g)) same (ends g e txs_then there between) in
       let deed = deed_of stores.rows last (table_of t) by n caller.cmd e.id.number check st h number own refl first second last_stands stands.all.rows in
       subst (λ (x : TxId). IsDeed stores.rows last n caller.cmd (place_ended s st h (table_of t) ++ check_by (table_of t) x caller.cmd (new_check h s p.number t)) h) same
       (subst (λ (o : Option KeptCheck). IsDeed stores.rows last n caller.cmd (place_ended s st h (table_of t) ++ check_by (table_of t) by caller.cmd o) h) (is_new h stands.all.txs stands.all.catalog)

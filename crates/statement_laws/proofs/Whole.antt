@@ -271,14 +271,14 @@ module _ (prunes : Bool) (names : List (List ℕ)) (params : List Param) (c : Ca
       let own = named_locks names c.session RowExclusive table.name h in
       let one = done_by first (λ t. of_table prunes names params c table settings condition t (first.events ++ h)) g e in
       let t = one.x in
-      let then = first.events ++ h in
-      let tree = tree_of then c.session t (look_of then c.session c.cmd) in
-      let path = path_of then c.session t in
-      let second = meant params c table settings condition t then in
-      let two = done_by second (λ m. changes.locked prunes names c t tree path m (second.events ++ then)) g one.later in
+      let there_after = first.events ++ h in
+      let tree = tree_of there_after c.session t (look_of there_after c.session c.cmd) in
+      let path = path_of there_after c.session t in
+      let second = meant params c table settings condition t there_after in
+      let two = done_by second (λ m. changes.locked prunes names c t tree path m (second.events ++ there_after)) g one.later in
       let m = two.x in
       let keeps = keeps_for prunes m.condition in
-      let third = locked_all names c (tables_locked keeps m.settings tree) (second.events ++ then) in
+      let third = locked_all names c (tables_locked keeps m.settings tree) (second.events ++ there_after) in
       let three = done_by third (λ u. made [] (found_by keeps (table_of t) tree path m)) g two.later in
       let found_is : found_by keeps (table_of t) tree path m ≡ g = (let d = three.later in cc) in
       let last = whole.events ++ h in
@@ -304,21 +304,21 @@ changed_plain : (change : Found → Changing) (h : History) → IsGood h → (pr
     → follow (held_at c.level c.session c.cmd) (λ u. follow (changes.found prunes names params c rest table settings condition) (λ g. changed_from (change g) names c rest g)) before ≡ all_changed_by change prunes names params c rest table settings condition before
 changed_plain change h good prunes names params c rest table settings condition before is call =
     let begun = held_at c.level c.session c.cmd before in
-    let then = begun.events ++ before in
-    let gathers = changes.found prunes names params c rest table settings condition then in
-    let whole = λ (u : Unit {0}). follow (changes.found prunes names params c rest table settings condition) (λ g. changed_from (change g) names c rest g) then in
-    same_after begun whole (λ u. follow (changes.found prunes names params c rest table settings condition) (λ g. plainly_changed (change g) names c rest g) then) (λ u told.
+    let there_after = begun.events ++ before in
+    let gathers = changes.found prunes names params c rest table settings condition there_after in
+    let whole = λ (u : Unit {0}). follow (changes.found prunes names params c rest table settings condition) (λ g. changed_from (change g) names c rest g) there_after in
+    same_after begun whole (λ u. follow (changes.found prunes names params c rest table settings condition) (λ g. plainly_changed (change g) names c rest g) there_after) (λ u told.
     let goes = went_on h before begun whole u told is in
     let good_before : IsGood before = good_after (and_then begun whole).events before (subst IsGood is good) in
-    let call_then : IsCaller c then = held_call c c.level before good_before call in
-    same_after gathers (λ g. changed_from (change g) names c rest g (gathers.events ++ then)) (λ g. plainly_changed (change g) names c rest g (gathers.events ++ then)) (λ g found_told.
-    let there = gathered_there prunes names params c table settings condition then g (done_on rest (gathered prunes names params c table settings condition then).told g found_told) in
-    let locks = gathered_locks prunes names params c table settings condition then in
-    let last = gathers.events ++ then in
-    let on = went_on h then gathers (λ x. changed_from (change x) names c rest x last) g found_told goes in
+    let call_then : IsCaller c there_after = held_call c c.level before good_before call in
+    same_after gathers (λ g. changed_from (change g) names c rest g (gathers.events ++ there_after)) (λ g. plainly_changed (change g) names c rest g (gathers.events ++ there_after)) (λ g found_told.
+    let there = gathered_there prunes names params c table settings condition there_after g (done_on rest (gathered prunes names params c table settings condition there_after).told g found_told) in
+    let locks = gathered_locks prunes names params c table settings condition there_after in
+    let last = gathers.events ++ there_after in
+    let on = went_on h there_after gathers (λ x. changed_from (change x) names c rest x last) g found_told goes in
     let good_last : IsGood last = good_after (changed_from (change g) names c rest g last).events last (subst IsGood on good) in
-    let call_last : IsCaller c last = subst (λ (es : History). IsCaller c (es ++ then)) (sym locks.1) (locks_call c locks.0 then call_then) in
-    let same : catalogue_events last ≡ catalogue_events then = ap (λ (es : History). catalogue_events (es ++ then)) locks.1 ∙ locks_catalogue locks.0 then in
+    let call_last : IsCaller c last = subst (λ (es : History). IsCaller c (es ++ there_after)) (sym locks.1) (locks_call c locks.0 there_after call_then) in
+    let same : catalogue_events last ≡ catalogue_events there_after = ap (λ (es : History). catalogue_events (es ++ there_after)) locks.1 ∙ locks_catalogue locks.0 there_after in
     let made_last : IsMade (catalogue_events last) there.table = subst (λ (cats : CatalogueEvents). IsMade cats there.table) (sym same) there.made in
     let plain = good_changes last good_last prunes (change g) names c rest there.table there.asked (looks c last good_last call_last) made_last in
     subst (λ (x : Found). changed_from (change g) names c rest x last ≡ plainly_changed (change g) names c rest x last) (sym there.is) plain))

@@ -2,7 +2,7 @@ use Rattle.std.proofs.Common.{◌==◌, ap, sym, ◌∙◌, length}
 use Rattle.std.specs.Prelude.{is_some}
 use Rattle.table_statements.specs.Drops.{parent_in}
 use Rattle.attach_statement.specs.Skipped.{kept_for}
-use Rattle.attach_statement.proofs.Skipping.{partly, wholly}
+use Rattle.attach_statement.proofs.LeftOut.{partly, wholly}
 use Rattle.attach_statement.proofs.skipping.asks_nothing.Goals as goal
 
 pub returns-then-is_there : goal.returns-then-is_there

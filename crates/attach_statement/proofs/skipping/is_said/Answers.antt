@@ -6,7 +6,7 @@ use Rattle.part_ddl.specs.Placing.{level_at}
 use Rattle.detach_statement.proofs.Checks.{shape_at}
 use Rattle.detach_statement.proofs.KeptChecks.{if_ok_more}
 use Rattle.attach_statement.specs.Skipped.{kept_for}
-use Rattle.attach_statement.proofs.Skipping.{said_at, none_said}
+use Rattle.attach_statement.proofs.LeftOut.{said_at, none_said}
 use Rattle.attach_statement.proofs.skipping.is_said.Goals as goal
 
 pub is_implied-requires-clause-own : goal.is_implied-requires-clause-own

@@ -4,7 +4,7 @@ use Rattle.table_trees.specs.Trees.{height}
 use Rattle.partition_scans.specs.Places.{place_scan}
 use Rattle.attach_statement.specs.Skipped.{is_skipped}
 use Rattle.attach_statement.proofs.Scanned.{takes_always}
-use Rattle.attach_statement.proofs.Skipping.{made_judged, made_watches, nobody_judged, nobody_watches}
+use Rattle.attach_statement.proofs.LeftOut.{made_judged, made_watches, nobody_judged, nobody_watches}
 use Rattle.attach_statement.proofs.statement.judge_own.Goals as goal
 
 pub is_skipped-known-requires-clause-siblings : goal.is_skipped-known-requires-clause-siblings

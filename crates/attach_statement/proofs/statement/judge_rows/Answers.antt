@@ -9,7 +9,7 @@ use Rattle.partition_scans.specs.Scans.{judged, watches}
 use Rattle.attach_statement.specs.Places.{name_at}
 use Rattle.attach_statement.specs.Skipped.{is_skipped}
 use Rattle.attach_statement.proofs.Scanned.{takes_always}
-use Rattle.attach_statement.proofs.Skipping.{own_refuses, rest_refuses, none_refuses, all_watch}
+use Rattle.attach_statement.proofs.LeftOut.{own_refuses, rest_refuses, none_refuses, all_watch}
 use Rattle.attach_statement.proofs.statement.judge_rows.Goals as goal
 
 pub judge_default-requires-clause-takes : goal.judge_default-requires-clause-takes

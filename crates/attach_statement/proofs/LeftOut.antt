@@ -1,5 +1,5 @@
 -- What it says that the rows of the table need not be judged.
-use Rattle.std.proofs.Common.{◌≡◌, ◌≤◌, ℕ, ◌==◌, ◌&&◌, ◌||◌, Bool, true, false, List, [], ◌∷◌, ◌++◌, inl, inr, refl, sym, ap, ◌∙◌, subst, Option, Some, None, Result, Ok, Err, length, map, slice_get}
+use Rattle.std.proofs.Common.{◌≡◌, ◌≤◌, ℕ, ◌==◌, ◌&&◌, ◌||◌, Bool, true, false, List, [], ◌∷◌, ◌++◌, inl, inr, refl, sym, ap, ◌∙◌, subst, Option, Some, None, Result, Ok, Err, length, map}
 use Rattle.std.specs.Prelude.{IfOk, is_some, is_none}
 use Rattle.std.specs.List.{Contains, list_any}
 use Rattle.std.proofs.lemmas.Bool.{and_parts, cases_Bool}
@@ -19,8 +19,7 @@ use Rattle.history.specs.declared.catalogue.KeptCheck.{KeptCheck}
 use Rattle.history.specs.declared.catalogue.TableShape.TheVariants.{Level}
 use Rattle.history.specs.History.{History}
 use Rattle.history.specs.Presence.{entries_present, checks_of}
-use Rattle.table_trees.specs.declared.path_part.PathPart.{PathPart}
-use Rattle.table_trees.specs.Histories.{above, kept_of, path_of}
+use Rattle.table_trees.specs.Histories.{above, kept_of}
 use Rattle.part_catalog.specs.Answers.{parent_told}
 use Rattle.part_catalog.specs.Found.{made_at}
 use Rattle.part_ddl.specs.Placing.{IsFault, level_at}
@@ -32,7 +31,6 @@ use Rattle.stores.specs.declared.stores.Stores.{Stores}
 use Rattle.table_statements.specs.Drops.{parent_in}
 use Rattle.detach_statement.specs.Kept.{implies, same_columns, same_level, same_strategy}
 use Rattle.detach_statement.proofs.Checks.{shape_at}
-use Rattle.detach_statement.proofs.KeptChecks.{first_part}
 use Rattle.detach_statement.proofs.Levels.{columns_are}
 use Rattle.attach_statement.specs.Attached.{own_scan}
 use Rattle.attach_statement.specs.Skipped.{asks_nothing, is_implied, is_skipped, kept_for}
@@ -47,10 +45,6 @@ partly (Some t) b e = refl
 pub wholly : (o : Option TableNo) (a b : Bool) → is_some o ≡ false → a ≡ b → a ≡ (is_none o && b)
 wholly None a b e same = same
 wholly (Some t) a b e same = absurd (let c = e in cc)
-
--- by the first part of the path
-pub first_checks : (h : History) (s t n : ℕ) (parts : List PathPart) (part : PathPart) → parts ≡ path_of h s t → slice_get parts 0 ≡ Some part → (length part.checks == 0) ≡ (length (kept_for h s t) == 0)
-first_checks h s t n parts part is at = ap (λ (cs : List KeptCheck). length cs == 0) (first_part h s t parts part is at)
 
 -- at the level of the parent
 pub said_at : (told : Result OneLevel Fault) (level : OneLevel) (b : Bound) (kept : List KeptCheck) (is : Bool) → told ≡ Ok level → is ≡ list_any (implies level b) kept → is ≡ is_implied told b kept
