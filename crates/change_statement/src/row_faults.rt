@@ -2,9 +2,9 @@ ghost use Rattle.std.specs.Prelude.{◌≡◌, IfOk};
 ghost use Rattle.change_statement.specs.Faults as faults;
 
 use crate::Conflict;
-use pg_values::{Fault, Kind, NoMemory, SqlState};
+use pg_values::{Fault, NoMemory};
+use refusals::{row_was_changed, row_was_moved};
 use std::alloc::Global;
-use value_rules::{kind_word, three_texts};
 
 impl Conflict {
     /// The session that was there before.
@@ -18,15 +18,6 @@ impl Conflict {
     }
 }
 
-fn conflict_text(conflict: Conflict) -> &'static [u8]
-    ensures { result.now ≡ faults.conflict_text conflict }
-{
-    match conflict {
-        Conflict::Changed(_) => b"row of <leaf> was changed by session <s>",
-        Conflict::Moved(_) => b"row of <leaf> was moved by session <s>",
-    }
-}
-
 /// `row of <leaf> was changed by session <s>`, or `moved`, by the names of the leaf and the session.
 pub fn could_not_serialize(
     alloc: Global,
@@ -36,19 +27,8 @@ pub fn could_not_serialize(
 ) -> Result<Fault, NoMemory>
     ensures { IfOk result (λ f. f ≡ faults.could_not_serialize conflict leaf.now session.now) }
 {
-    Ok(Fault {
-        code: SqlState { bytes: *b"40001" },
-        args: three_texts(alloc, conflict_text(conflict), leaf, session)?,
-    })
-}
-
-/// `<kind> where <kind> is wanted`
-pub(crate) fn wrong_kind(alloc: Global, given: Kind, wanted: Kind) -> Result<Fault, NoMemory>
-    ensures { IfOk result (λ f. f ≡ faults.wrong_kind given wanted) }
-{
-    let text = b"<kind> where <kind> is wanted";
-    Ok(Fault {
-        code: SqlState { bytes: *b"42804" },
-        args: three_texts(alloc, text, kind_word(given), kind_word(wanted))?,
-    })
+    match conflict {
+        Conflict::Changed(_) => row_was_changed(alloc, leaf, session),
+        Conflict::Moved(_) => row_was_moved(alloc, leaf, session),
+    }
 }

@@ -22,7 +22,6 @@ mod stop;
 
 pub use caller::Caller;
 pub use ending::{Ending, ended};
-pub use faults::statement_cancelled;
 pub use going_on::stopped_on;
 pub use holding::{hold, hold_if_repeatable};
 pub use locking::{lock_table, lock_tables, wait_for};

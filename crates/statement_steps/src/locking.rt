@@ -5,7 +5,7 @@ ghost use Rattle.statement_steps.specs.Asks as asks;
 ghost use Rattle.statement_steps.specs.Known.{IsKnownTo};
 ghost use Rattle.statement_steps.specs.Steps.{IsStep};
 
-use crate::faults::{deadlock, stop_by};
+use crate::faults::{deadlock_of, stop_by};
 use crate::{Caller, Rest, SessionNames, Stop};
 use history::WaitOn;
 use lock_table::{Asked, answer_is_told};
@@ -33,7 +33,7 @@ pub fn lock_table(
     match answer {
         Asked::Granted => Ok(()),
         Asked::Waits { .. } => Err(Stop::Waits(None)),
-        Asked::Deadlock { cycle } => Err(stop_by(deadlock(alloc, names, cycle))),
+        Asked::Deadlock { cycle } => Err(stop_by(deadlock_of(alloc, names, cycle))),
     }
 }
 
@@ -58,7 +58,7 @@ pub fn wait_for(
     match answer {
         Asked::Granted => Ok(()),
         Asked::Waits { .. } => Err(Stop::Waits(rest)),
-        Asked::Deadlock { cycle } => Err(stop_by(deadlock(alloc, names, cycle))),
+        Asked::Deadlock { cycle } => Err(stop_by(deadlock_of(alloc, names, cycle))),
     }
 }
 
