@@ -7,11 +7,11 @@ use Rattle.attach_statement.proofs.Scanned.{takes_always}
 use Rattle.attach_statement.proofs.LeftOut.{made_judged, made_watches, nobody_judged, nobody_watches}
 use Rattle.attach_statement.proofs.statement.judge_own.Goals as goal
 
-pub is_skipped-known-requires-clause-siblings : goal.is_skipped-known-requires-clause-siblings
-is_skipped-known-requires-clause-siblings c = c.trees_are_together.ensures c.args.stores.now c.requires.may.sound.0 c.args.caller.session c.requires.may.sound.1
+pub is_skipped-requires-clause-siblings : goal.is_skipped-requires-clause-siblings
+is_skipped-requires-clause-siblings c = c.trees_are_together.ensures c.args.stores.now c.requires.may.sound.0 c.args.caller.session c.requires.may.sound.1
 
-pub is_skipped-known-requires-clause-takes : goal.is_skipped-known-requires-clause-takes
-is_skipped-known-requires-clause-takes c = takes_always c.args.stores.now c.args.caller c.args.parent.number c.args.table.number c.args.bound.now c.requires.may c.requires.place
+pub is_skipped-requires-clause-takes : goal.is_skipped-requires-clause-takes
+is_skipped-requires-clause-takes c = takes_always c.args.stores.now c.args.caller c.args.parent.number c.args.table.number c.args.bound.now c.requires.may c.requires.place
 
 pub judge_table-requires-clause-takes : goal.judge_table-requires-clause-takes
 judge_table-requires-clause-takes c = takes_always c.args.stores.now c.args.caller c.args.parent.number c.args.table.number c.args.bound.now c.requires.may c.requires.place
