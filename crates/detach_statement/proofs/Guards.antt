@@ -1,5 +1,5 @@
 -- Tables that a session has locked so that nobody else changes their partitions.
-use Rattle.std.proofs.Common.{◌≡◌, ℕ, ◌==◌, ◌+◌, List, [], ◌++◌, inl, inr, sym, ◌∙◌, subst, append-nil, Option, Some, None, Ok}
+use Rattle.std.proofs.Common.{◌≡◌, ℕ, ◌==◌, ◌+◌, true, List, [], ◌++◌, inl, inr, sym, ◌∙◌, subst, append-nil, Option, Some, None, Ok}
 use Rattle.std.proofs.lemmas.Bool.{cases_Bool}
 use Rattle.pg_values.specs.Sets.{has}
 use Rattle.pg_values.specs.declared.ids.TableNo.{TableNo}
