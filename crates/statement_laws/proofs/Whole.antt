@@ -13,7 +13,7 @@ use Rattle.history.specs.Snapshots.{TakenSnapshot}
 use Rattle.history.specs.Transactions.{TxEvents, open_of}
 use Rattle.history.specs.History.{History, LockChange, tx_events, catalogue_events}
 use Rattle.expression_binder.specs.declared.scope.Param.{Param}
-use Rattle.part_catalog.specs.Found.{is_meant, resolved, table_number}
+use Rattle.part_catalog.specs.Found.{made_at, is_meant, resolved, table_number}
 use Rattle.part_catalog.proofs.Found.{last_is}
 use Rattle.plan_tree.specs.Laws.{Rows, shown}
 use Rattle.plan_tree.specs.Plans.{plan_for, plan_tables}
@@ -49,7 +49,8 @@ use Rattle.select_statement.proofs.Plain.{AreLocks, all_locks, both_locks, by_pl
 use Rattle.insert_statement.specs.Inserted.{answered as answered_by}
 use Rattle.change_statement.specs.Changed.{Changing, changed_from}
 use Rattle.change_statement.specs.Deleted.{deleting}
-use Rattle.change_statement.specs.Gathered.{Found, found_by, gathered, locked_all, meant, of_table}
+use Rattle.change_binder.specs.Changes.{bound_change}
+use Rattle.change_statement.specs.Gathered.{Found, found_by, gathered, item_of, locked_all, meant, of_table}
 use Rattle.change_statement.specs.Gathered as changes
 use Rattle.change_statement.specs.Kept.{keeps_for, tables_locked}
 use Rattle.change_statement.specs.Laws.{gathered_of, plainly_changed}
@@ -254,14 +255,14 @@ module _ (prunes : Bool) (names : List (List ℕ)) (params : List Param) (c : Ca
   over_locks : (h : History) (t : ℕ) (tree : TableTree) (path : List PathPart) → AreLocks (changes.over prunes names params c table settings condition t tree path h)
   over_locks h t tree path =
       let first = meant params c table settings condition t h in
-      both_locks first (λ m. changes.locked prunes names c t tree path m (first.events ++ h)) (answered_locks _) (λ m.
+      both_locks first (λ m. changes.locked prunes names c t tree path m (first.events ++ h)) (answered_locks (bound_change (item_of table (made_at h t).columns) params c.session settings condition)) (λ m.
       let all = locked_all names c (tables_locked (keeps_for prunes m.condition) m.settings tree) (first.events ++ h) in
       both_locks all (λ u. made [] (found_by (keeps_for prunes m.condition) (table_of t) tree path m)) (all_locks names c.session RowExclusive (map number_of (tables_locked (keeps_for prunes m.condition) m.settings tree)) (first.events ++ h)) (λ u. ([], refl)))
 
   gathered_locks : (h : History) → AreLocks (gathered prunes names params c table settings condition h)
   gathered_locks h =
       let first = named names c.session RowExclusive table.name h in
-      both_locks first (λ t. of_table prunes names params c table settings condition t (first.events ++ h)) (named_locks names c.session RowExclusive table.name h) (λ t. over_locks (first.events ++ h) t _ _)
+      both_locks first (λ t. of_table prunes names params c table settings condition t (first.events ++ h)) (named_locks names c.session RowExclusive table.name h) (λ t. over_locks (first.events ++ h) t (tree_of (first.events ++ h) c.session t (look_of (first.events ++ h) c.session c.cmd)) (path_of (first.events ++ h) c.session t))
 
   gathered_there : (h : History) (g : Found) → (gathered prunes names params c table settings condition h).told ≡ Ok g → IsGatheredOf prunes c h ((gathered prunes names params c table settings condition h).events ++ h) g
   gathered_there h g e =
