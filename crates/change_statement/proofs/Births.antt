@@ -88,7 +88,7 @@ written_there stores caller g leaf row may its place goes =
 
 -- ---- nothing stands against the row
 
-none_of : (fs : List Fault) → (answered (or_first fs tt)).told ≡ Ok tt → fs ≡ []
+none_of : (fs : List Fault) → (answered (or_first {T = Unit {0}} fs tt)).told ≡ Ok tt → fs ≡ []
 none_of [] told = refl
 none_of (f ∷ fs) told = absurd (let c = told in cc)
 
