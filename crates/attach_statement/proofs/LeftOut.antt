@@ -1,5 +1,5 @@
 -- What it says that the rows of the table need not be judged.
-use Rattle.std.proofs.Common.{◌≡◌, ◌≤◌, ℕ, ◌==◌, ◌&&◌, ◌||◌, Bool, true, false, List, [], ◌∷◌, ◌++◌, inl, inr, refl, sym, ap, ◌∙◌, subst, Option, Some, None, Result, Ok, Err, length, map}
+use Rattle.std.proofs.Common.{◌≡◌, ◌≤◌, ℕ, ◌==◌, ◌&&◌, ◌||◌, Bool, true, false, List, [], ◌∷◌, ◌++◌, inl, inr, refl, sym, ap, ◌∙◌, subst, arith, Option, Some, None, Result, Ok, Err, length, map}
 use Rattle.std.specs.Prelude.{IfOk, is_some, is_none}
 use Rattle.std.specs.List.{Contains, list_any}
 use Rattle.std.proofs.lemmas.Bool.{and_parts, cases_Bool}
@@ -29,6 +29,7 @@ use Rattle.partition_scans.proofs.Cleaning.{clean_rest}
 use Rattle.soundness.proofs.Listed.{first_in, later_in}
 use Rattle.stores.specs.declared.stores.Stores.{Stores}
 use Rattle.table_statements.specs.Drops.{parent_in}
+use Rattle.table_statements.proofs.Ends.{same_number}
 use Rattle.detach_statement.specs.Kept.{implies, same_columns, same_level, same_strategy}
 use Rattle.detach_statement.proofs.Checks.{shape_at}
 use Rattle.detach_statement.proofs.Levels.{columns_are}
@@ -67,9 +68,16 @@ no_parent : (o : Option Entry) → is_none (parent_told o) ≡ true → o ≡ No
 no_parent None e = refl
 no_parent (Some x) e = absurd (let c = e in cc)
 
+no_kept : (ks : List KeptCheck) → (length ks == 0) ≡ true → ks ≡ []
+no_kept [] e = refl
+no_kept (k ∷ ks) e = absurd (omega (arith, same_number (length (k ∷ ks)) 0 e))
+
+none_mapped : (cs : List Check) → map kept_of cs ≡ [] → cs ≡ []
+none_mapped [] e = refl
+none_mapped (c ∷ cs) e = absurd (let d = e in cc)
+
 none_kept : (cs : List Check) → (length (map kept_of cs) == 0) ≡ true → cs ≡ []
-none_kept [] e = refl
-none_kept (c ∷ cs) e = absurd (let d = e in cc)
+none_kept cs e = none_mapped cs (no_kept (map kept_of cs) e)
 
 pub record IsSaid (h : History) (s p t : ℕ) (b : Bound) : Type 0 where
   pub check : Check

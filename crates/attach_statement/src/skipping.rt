@@ -1,6 +1,6 @@
 //! Whether the rows of the table need not be judged.
 
-ghost use Rattle.std.specs.Prelude.{◌≡◌, ◌<◌, ◌==◌, IfOk, length};
+ghost use Rattle.std.specs.Prelude.{◌≡◌, ◌<◌, ◌==◌, ℕ, IfOk, length};
 ghost use Rattle.history.specs.History.{History};
 ghost use Rattle.history.specs.Places.{TakesBound};
 ghost use Rattle.tx_table.specs.Stands.{TableStands};
