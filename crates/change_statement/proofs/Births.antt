@@ -10,6 +10,7 @@ use Rattle.pg_values.specs.declared.fault.Refusal.TheVariants.{Sql, NoMemory}
 use Rattle.pg_values.specs.declared.ids.LeafId.{LeafId}
 use Rattle.pg_values.specs.declared.ids.RowId.{RowId}
 use Rattle.pg_values.specs.declared.ids.TableNo.{TableNo}
+use Rattle.pg_values.specs.Refusals.{or_first}
 use Rattle.history.specs.declared.transaction.TxId.{TxId}
 use Rattle.history.specs.declared.version.Version.{Version}
 use Rattle.history.specs.declared.version.End.{End}
@@ -29,6 +30,7 @@ use Rattle.row_change.specs.Storing.{IsMade, full_faults, made_by}
 use Rattle.row_change.specs.Succession as rows_spec
 use Rattle.row_change.specs.Succession.{ending_to, follows}
 use Rattle.soundness.specs.Worlds.{HasLeaf}
+use Rattle.soundness.proofs.All.{legal_keeps_all}
 use Rattle.soundness.proofs.Listed.{first_in}
 use Rattle.legal_statements.specs.Rows.{IsNewRow, IsOldRow}
 use Rattle.legal_statements.proofs.Storing.{new_row_may_follow, old_row_may_follow}
@@ -46,13 +48,14 @@ use Rattle.statement_steps.specs.declared.stop.Stop.{Stop}
 use Rattle.statement_steps.specs.declared.stop.Stop.TheVariants as stop
 use Rattle.insert_statement.specs.Asked.{stopped}
 use Rattle.insert_statement.specs.Born.{unless_refused}
-use Rattle.insert_statement.specs.Inserted.{tables_of}
+use Rattle.insert_statement.specs.Inserted.{answered, holder_faults, tables_of}
 use Rattle.insert_statement.proofs.OwnLeaf.{none_refuses}
-use Rattle.insert_statement.proofs.Tables.{tables_kept}
+use Rattle.insert_statement.proofs.Passing.{holder_passes}
+use Rattle.insert_statement.proofs.Tables.{IsMade as IsMadeIn, shown_made, tables_kept}
 use Rattle.insert_statement.proofs.Ways.{is_placed}
 use Rattle.change_statement.specs.Gathered.{Found}
-use Rattle.change_statement.specs.Running.{IsGathered, IsInRun, IsPlacedIn, IsRun, IsRunTold, MayEndIn, MayPlace, MayRun, MayWriteIn}
-use Rattle.change_statement.specs.Updated.{succeeded, succeeded_by}
+use Rattle.change_statement.specs.Running.{IsGathered, IsInRun, IsPlacedIn, IsRun, IsRunTold, IsTakenIn, MayEndIn, MayPlace, MayRun, MayWriteIn}
+use Rattle.change_statement.specs.Updated.{succeeded, succeeded_by, tested}
 use Rattle.change_statement.proofs.Ended.{Came, came_one, came_on, got_at, own_is, rows_keep}
 use Rattle.change_statement.proofs.Kept.{leaf_is_there, one_of}
 use Rattle.change_statement.proofs.Runs.{no_memory_run}
@@ -83,24 +86,38 @@ written_there stores caller g leaf row may its place goes =
       | inr still ↦ place still leaf way.routed
     ]
 
+-- ---- nothing stands against the row
+
+none_of : (fs : List Fault) → (answered (or_first {T = Unit {0}} fs tt)).told ≡ Ok tt → fs ≡ []
+none_of [] told = refl
+none_of (f ∷ fs) told = absurd (let c = told in cc)
+
+-- where it was tested
+pub none_stands : (stores : Stores) (caller : Caller) (g : Found) (leaf : LeafId) (row : List Value) → IsRun (λ (u : Unit {0}). u) (Ok tt) stores stores caller (tested caller g leaf row) → IsTakenIn stores caller g leaf row
+none_stands stores caller g leaf row ran h stands run = none_of (holder_faults h caller.session g.tree leaf row) (ran.is h stands run).0
+
 -- ---- the row that is born
 
-new_row_in : (stores : Stores) (caller : Caller) (g : Found) (leaf : LeafId) (row : List Value) (by : TxId) (h : History) → Stands stores h → IsInRun h caller → IsGathered stores caller g → IsPlacedIn stores caller.session g leaf row → open_of (tx_events h) caller.session ≡ Some by.number
+new_row_in : (stores : Stores) (caller : Caller) (g : Found) (leaf : LeafId) (row : List Value) (by : TxId) (h : History) → Stands stores h → IsInRun h caller → IsGathered stores caller g → IsPlacedIn stores caller.session g leaf row → IsTakenIn stores caller g leaf row → open_of (tx_events h) caller.session ≡ Some by.number
     → IsNewRow h caller.session g.table.number (look_of h caller.session caller.cmd) (newborn h leaf row by caller.cmd)
-new_row_in stores caller g leaf row by h stands run its at mine =
+new_row_in stores caller g leaf row by h stands run its at taken mine =
     let s = caller.session in
+    let look = look_of h s caller.cmd in
+    let i = legal_keeps_all h (legal_of h stands.good) (permitted_of h stands.good) in
     let placed = is_placed (tables_of h) g.tree g.path row leaf (at.placed h stands.all.catalog) in
     let among = routed_among row g.tree leaf placed.routed in
     let kept = tables_kept stores.catalog h stands.all.catalog in
     let known = its.known.made in
+    let made : IsMadeIn h g.table = omega (arith, kept, known) in
     record {
       look = record { own = mine ∙ ap Some (sym (look_is_own h s by.number caller.cmd stands.good mine)); past = look_is_past stores.txs h s caller.cmd stands.all.txs };
       own = mine;
       command = run.order by.number mine;
-      made = omega (arith, kept, known);
+      made = made;
       stored = record {
         placed = subst (λ p. refused Bounds row p ≡ None) (its.read.is_path h stands.all.txs stands.all.catalog) (none_refuses (tables_of h) row g.path placed.bounds);
         routed = subst (λ x. routed row x ≡ Ok leaf) (its.read.is_tree h stands.all.txs stands.all.catalog) placed.routed;
+        passes = λ x has. holder_passes h s g.table.number look g.tree leaf row (its.read.is_tree h stands.all.txs stands.all.catalog) (shown_made h s look stands.good) made i.tables.one_home at.way (taken h stands run) x has;
         locked = λ x has. at.written h stands x has;
         leaf = subst (λ n. leaf.number < n) stands.all.rows.leaves (leaf_is_there stores caller g h leaf stands its among);
       };
@@ -149,12 +166,12 @@ nothing_came h caller good run = record {
   quiet = record { txs = refl; snapshots = refl; locks = refl; catalogue = refl; sound = λ s. s };
 }
 
-follows_came : (stores : Stores) (rows : KeptRows) (caller : Caller) (g : Found) (from : LeafId) (id : RowId) (leaf : LeafId) (row : List Value) (by : TxId) (h : History) → Stands stores h → IsInRun h caller → IsGathered stores caller g → MayEndIn stores caller id → IsPlacedIn stores caller.session g leaf row
+follows_came : (stores : Stores) (rows : KeptRows) (caller : Caller) (g : Found) (from : LeafId) (id : RowId) (leaf : LeafId) (row : List Value) (by : TxId) (h : History) → Stands stores h → IsInRun h caller → IsGathered stores caller g → MayEndIn stores caller id → IsPlacedIn stores caller.session g leaf row → IsTakenIn stores caller g leaf row
     → open_of (tx_events h) caller.session ≡ Some by.number → StoreStands rows (follows from id (newborn h leaf row by caller.cmd) ++ h) → Came h caller (follows from id (newborn h leaf row by caller.cmd) ++ h)
-follows_came stores rows caller g from id leaf row by h stands run its may at mine store =
+follows_came stores rows caller g from id leaf row by h stands run its may at taken mine store =
     let v = newborn h leaf row by caller.cmd in
     let e : End = record { by = by; cmd = caller.cmd; how = ending_to from leaf v.id } in
-    let born = new_row_may_follow h caller.session g.table.number (look_of h caller.session caller.cmd) v (legal_of h stands.good) (permitted_of h stands.good) (new_row_in stores caller g leaf row by h stands run its at mine) in
+    let born = new_row_may_follow h caller.session g.table.number (look_of h caller.session caller.cmd) v (legal_of h stands.good) (permitted_of h stands.good) (new_row_in stores caller g leaf row by h stands run its at taken mine) in
     let first = came_one (RowBorn v) h caller by.number mine refl born stands.good run in
     let h1 = RowChange (RowBorn v) ∷ h in
     let ended = old_row_may_follow h1 caller.session id.number e (legal_of h1 first.good) (old_row_behind stores rows caller id e v h stands first.run may mine refl store) in
@@ -179,20 +196,20 @@ abbrev pub ends : Result (Unit {0}) Refusal → Result (Unit {0}) Stop
 ends (Ok u) = Ok tt
 ends (Err r) = Err (stopped r)
 
-pub succeeded_run : (r : Result (Unit {0}) Refusal) (old : Stores) (rows : KeptRows) (caller : Caller) (g : Found) (from : LeafId) (id : RowId) (leaf : LeafId) (row : List Value) (by : TxId) → MayRun old caller → IsGathered old caller g → MayEndIn old caller id → IsPlacedIn old caller.session g leaf row
+pub succeeded_run : (r : Result (Unit {0}) Refusal) (old : Stores) (rows : KeptRows) (caller : Caller) (g : Found) (from : LeafId) (id : RowId) (leaf : LeafId) (row : List Value) (by : TxId) → MayRun old caller → IsGathered old caller g → MayEndIn old caller id → IsPlacedIn old caller.session g leaf row → IsTakenIn old caller g leaf row
     → slice_index_or old.txs.current caller.session None ≡ Some by.number → ((h : History) → TableStands old.txs h → StoreStands old.rows h → IsMade r rows h (rows_spec.succeeded h from id leaf row by caller.cmd))
     → IsRun (λ (u : Unit {0}). u) (ends r) old (record old { rows = rows }) caller (succeeded caller from id leaf row)
-succeeded_run (Ok u) old rows caller g from id leaf row by may its version at mine added = record {
+succeeded_run (Ok u) old rows caller g from id leaf row by may its version at taken mine added = record {
   is = λ h stands run.
       let new = record old { rows = rows } in
       let open_in : open_of (tx_events h) caller.session ≡ Some by.number = sym (stands.all.txs.current caller.session) ∙ mine in
       subst (λ (b : TxId). IsRunTold (λ (x : Unit {0}). x) (Ok tt) new caller h (succeeded_by b caller from id leaf row h)) (own_is h caller.session by open_in)
       (stands_made (full_faults h row) (follows from id (newborn h leaf row by caller.cmd)) h rows new caller (added h stands.all.txs stands.all.rows)
-      (λ store. let came = follows_came old rows caller g from id leaf row by h stands run its version at open_in store in (came_on old rows caller h (follows from id (newborn h leaf row by caller.cmd) ++ h) stands came store, came.run)));
+      (λ store. let came = follows_came old rows caller g from id leaf row by h stands run its version at taken open_in store in (came_on old rows caller h (follows from id (newborn h leaf row by caller.cmd) ++ h) stands came store, came.run)));
   keeps = rows_keep old rows caller.session;
   waits = may.may.idle;
 }
-succeeded_run (Err (Sql f)) old rows caller g from id leaf row by may its version at mine added = record {
+succeeded_run (Err (Sql f)) old rows caller g from id leaf row by may its version at taken mine added = record {
   is = λ h stands run.
       let new = record old { rows = rows } in
       let open_in : open_of (tx_events h) caller.session ≡ Some by.number = sym (stands.all.txs.current caller.session) ∙ mine in
@@ -202,4 +219,4 @@ succeeded_run (Err (Sql f)) old rows caller g from id leaf row by may its versio
   keeps = rows_keep old rows caller.session;
   waits = may.may.idle;
 }
-succeeded_run (Err NoMemory) old rows caller g from id leaf row by may its version at mine added = no_memory_run (λ (u : Unit {0}). u) old (record old { rows = rows }) caller (succeeded caller from id leaf row) (rows_keep old rows caller.session)
+succeeded_run (Err NoMemory) old rows caller g from id leaf row by may its version at taken mine added = no_memory_run (λ (u : Unit {0}). u) old (record old { rows = rows }) caller (succeeded caller from id leaf row) (rows_keep old rows caller.session)

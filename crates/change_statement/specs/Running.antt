@@ -29,7 +29,7 @@ use Rattle.statement_steps.specs.declared.stop.Stop.TheVariants as stop
 use Rattle.statement_steps.specs.Known.{IsKnownTo}
 use Rattle.statement_steps.specs.Steps.{IsHalted}
 use Rattle.insert_statement.specs.Asked.{IsReadOf}
-use Rattle.insert_statement.specs.Inserted.{tables_of}
+use Rattle.insert_statement.specs.Inserted.{holder_faults, tables_of}
 use Rattle.change_statement.specs.Gathered.{Found}
 use Rattle.change_statement.specs.Kept.{sets_key}
 
@@ -119,3 +119,7 @@ pub record IsPlacedIn (stores : Stores) (session : ℕ) (g : Found) (leaf : Leaf
   pub placed : (h : History) → CatalogueStands stores.catalog h → placed (tables_of h) g.tree g.path row ≡ Ok leaf
   pub way : HasWay g.tree leaf
   pub written : MayWriteIn stores session leaf
+
+-- nothing in the table that has the leaf stands against the row
+abbrev pub IsTakenIn : Stores → Caller → Found → LeafId → (row : List Value) → Type 0
+IsTakenIn stores c g leaf row = (h : History) → Stands stores h → IsInRun h c → holder_faults h c.session g.tree leaf row ≡ []

@@ -19,7 +19,7 @@ ghost use Rattle.stores.specs.Stand.{Stands};
 ghost use Rattle.insert_statement.specs.Asked.{AreRowsOf};
 ghost use Rattle.insert_statement.specs.Inserted.{holder_faults, tables_of};
 ghost use Rattle.change_statement.specs.Gathered.{found_of};
-ghost use Rattle.change_statement.specs.Running.{IsGathered, IsPlacedIn, IsRun, MayEndIn, MayPlace, MayRun};
+ghost use Rattle.change_statement.specs.Running.{IsGathered, IsPlacedIn, IsRun, IsTakenIn, MayEndIn, MayPlace, MayRun};
 ghost use Rattle.change_statement.specs.Updated as updated;
 
 use crate::asking::stop_by;
@@ -182,6 +182,7 @@ fn succeed(
     requires version { MayEndIn stores.old caller id }
     requires own { (stored_at stores.old.rows.stored id).version.leaf ≡ from }
     requires placed { IsPlacedIn stores.old caller.session (found_of gathered.now) leaf row }
+    requires taken { IsTakenIn stores.old caller (found_of gathered.now) leaf row }
     ensures run { IsRun (λ u. u) result stores.old stores.new caller (updated.succeeded caller from id leaf row) }
     ensures rest { stores.new ≡ record stores.old { rows = stores.new.rows } }
     ensures keeps { KeepsVersions stores.old.rows stores.new.rows }

@@ -137,12 +137,12 @@ one_plain lawful small once pruned prunes c m table h good looks made =
 
 -- ---- locks change nothing of what is shown
 
-locks_show : (h : History) (s cmd : ℕ) (ls : List LockEvent) → shown (map LockChange ls ++ h) (look_of (map LockChange ls ++ h) s cmd) ≡ shown h (look_of h s cmd)
+pub locks_show : (h : History) (s cmd : ℕ) (ls : List LockEvent) → shown (map LockChange ls ++ h) (look_of (map LockChange ls ++ h) s cmd) ≡ shown h (look_of h s cmd)
 locks_show h s cmd [] = refl
 locks_show h s cmd (l ∷ ls) = locks_show h s cmd ls
 
 -- the events are those of locks alone
-abbrev AreLocks : {T : Type 0} → Made T → Type 0
+abbrev pub AreLocks : {T : Type 0} → Made T → Type 0
 AreLocks m = (ls : List LockEvent) × (m.events ≡ map LockChange ls)
 
 told_locks : (names : List (List ℕ)) (ls : List LockEvent) (v : AskedView) → AreLocks (told_of names (map LockChange ls) v)
@@ -150,10 +150,10 @@ told_locks names ls AtOnce = (ls, refl)
 told_locks names ls (WaitsBehind others) = (ls, refl)
 told_locks names ls (ClosesCycle cycle) = (ls, refl)
 
-locked_locks : (names : List (List ℕ)) (s t : ℕ) (mode : LockMode) (h : History) → AreLocks (locked names s t mode h)
+pub locked_locks : (names : List (List ℕ)) (s t : ℕ) (mode : LockMode) (h : History) → AreLocks (locked names s t mode h)
 locked_locks names s t mode h = told_locks names (asked_events (lock_events h) s (Lock (record { number = t }) mode)) (asked (lock_events h) s (Lock (record { number = t }) mode))
 
-both_locks : {T U : Type 0} (m : Made T) (next : T → Made U) → AreLocks m → ((x : T) → AreLocks (next x)) → AreLocks (and_then m next)
+pub both_locks : {T U : Type 0} (m : Made T) (next : T → Made U) → AreLocks m → ((x : T) → AreLocks (next x)) → AreLocks (and_then m next)
 both_locks {T = T} {U = U} m next first rest = by m.told
   where
     by : (r : Result T Halt) → AreLocks {T = U} (then_told r m.events next)
@@ -162,11 +162,11 @@ both_locks {T = T} {U = U} m next first rest = by m.told
         (later.0 ++ first.0, ap (λ (es : History). es ++ m.events) later.1 ∙ ap (λ (es : History). map LockChange later.0 ++ es) first.1 ∙ sym (map-append LockChange later.0 first.0))
     by (Err stop) = first
 
-all_locks : (names : List (List ℕ)) (s : ℕ) (mode : LockMode) (ts : List ℕ) (h : History) → AreLocks (all_locked names s mode ts h)
+pub all_locks : (names : List (List ℕ)) (s : ℕ) (mode : LockMode) (ts : List ℕ) (h : History) → AreLocks (all_locked names s mode ts h)
 all_locks names s mode [] h = ([], refl)
 all_locks names s mode (t ∷ ts) h = both_locks (locked names s t mode h) (λ u. all_locked names s mode ts ((locked names s t mode h).events ++ h)) (locked_locks names s t mode h) (λ u. all_locks names s mode ts ((locked names s t mode h).events ++ h))
 
-same_then : {T U : Type 0} (m : Made T) (f g : T → Made U) → ((x : T) → f x ≡ g x) → and_then m f ≡ and_then m g
+pub same_then : {T U : Type 0} (m : Made T) (f g : T → Made U) → ((x : T) → f x ≡ g x) → and_then m f ≡ and_then m g
 same_then {T = T} m f g same = by m.told
   where
     by : (r : Result T Halt) → then_told r m.events f ≡ then_told r m.events g
@@ -175,7 +175,7 @@ same_then {T = T} m f g same = by m.told
 
 -- ---- the statement
 
-by_plan_plain : (prunes : Bool) (names : List (List ℕ)) (c : Caller) (m : SelectMeant) (trees : List TableTree) (h : History)
+pub by_plan_plain : (prunes : Bool) (names : List (List ℕ)) (c : Caller) (m : SelectMeant) (trees : List TableTree) (h : History)
     → answered c m (plan_for prunes m.conditions trees) h ≡ answered_plainly c m trees h → by_plan names c m (plan_for prunes m.conditions trees) h ≡ locked_plainly prunes names c trees m h
 by_plan_plain prunes names c m trees h same =
     let plan = plan_for prunes m.conditions trees in
