@@ -6,7 +6,7 @@ use Rattle.cond_logic.specs.Asked.{select_meant}
 use Rattle.statement_steps.specs.Steps.{IsStep}
 use Rattle.select_statement.specs.Items.{items_of}
 use Rattle.select_statement.proofs.Whole.{too_many_meant, none_meant}
-use Rattle.select_statement.proofs.statement.bind_over.Goals as goal
+use Rattle.select_statement.proofs.gathering.bind_over.Goals as goal
 
 pub returns-then-trees-gt4-clause-step : goal.returns-then-trees-gt4-clause-step
 returns-then-trees-gt4-clause-step c =
