@@ -1,0 +1,146 @@
+-- Parts of statements ask.
+use Rattle.std.proofs.Common.{◌≡◌, ◌≢◌, ◌<◌, ◌≤◌, ℕ, ◌==◌, ◌||◌, Bool, true, false, List, [], ◌∷◌, ◌++◌, Option, Some, None, Result, Ok, Err, refl, ap, sym, subst, ◌∙◌, if◌then◌else◌, map, arith, append_assoc}
+use Rattle.std.proofs.lemmas.Grind.{common_steps}
+use Rattle.std.proofs.lemmas.Bool.Decides.{nat_tests}
+use Rattle.pg_values.specs.declared.lock_mode.LockMode.{LockMode}
+use Rattle.history.specs.declared.wait.WaitOn.{WaitOn}
+use Rattle.history.specs.declared.wait.WaitOn.TheVariants.{Ends, Snapshots}
+use Rattle.history.specs.declared.wait.Wanted.{Wanted}
+use Rattle.history.specs.declared.wait.Wanted.TheVariants.{Lock, Others}
+use Rattle.history.specs.Catalogue.{CatalogueEvents}
+use Rattle.history.specs.History.{History, LockChange, lock_events, catalogue_events}
+use Rattle.history.specs.Locks.{LockEvents, LockGot, WaitBegan, wanted, holds}
+use Rattle.history.specs.LocksSound.{AreLocksSound}
+use Rattle.history.specs.Waits.{is_cause}
+use Rattle.lock_table.specs.AnswerLaws.{WhatIsAskedMayCome}
+use Rattle.lock_table.specs.Asked.{AskedView, AtOnce, WaitsBehind, ClosesCycle, asked, events_of, asked_events}
+use Rattle.lock_table.specs.Stands.{names as named_in}
+use Rattle.statement_steps.specs.Asks.{locked, waited, told_by}
+use Rattle.statement_steps.specs.Attempts.{HasCause}
+use Rattle.statement_steps.specs.Made.{Made, Halt, Waits, Refused, and_then, then_told, behind, halted}
+use Rattle.statement_steps.specs.Steps.{follow}
+use Rattle.statement_steps.specs.declared.rest.Rest.{Rest}
+use Rattle.statement_ends.specs.Asking.{IsBounded, IsWaiting, WaitsAsTold, MayAsk, Asks}
+use Rattle.statement_ends.specs.Parts.{PartsFollow}
+
+-- ---- events of locks
+
+lock_events_of : (es : LockEvents) (h : History) → lock_events (map LockChange es ++ h) ≡ es ++ lock_events h
+lock_events_of [] h = refl
+lock_events_of (e ∷ es) h = ap (λ l. e ∷ l) (lock_events_of es h)
+
+catalogue_of : (es : LockEvents) (h : History) → catalogue_events (map LockChange es ++ h) ≡ catalogue_events h
+catalogue_of [] h = refl
+catalogue_of (e ∷ es) h = catalogue_of es h
+
+or_true : (b : Bool) → (b || true) ≡ true
+or_true true = refl
+or_true false = refl
+
+got_stays : (l : LockEvents) (s t : ℕ) (m : LockMode) (x i : ℕ) (k : LockMode) → holds l x i k ≡ true → holds (LockGot s t m ∷ l) x i k ≡ true
+got_stays l s t m x i k e = rw e (or_true _)
+
+began_own : (l : LockEvents) (s : ℕ) (w : Wanted) → wanted (WaitBegan s w ∷ l) s ≡ Some w
+began_own l s w = grind (arith, common_steps, nat_tests)
+
+began_other : (l : LockEvents) (s x : ℕ) (w : Wanted) → x ≢ s → wanted (WaitBegan s w ∷ l) x ≡ wanted l x
+began_other l s x w other = grind (arith, common_steps, nat_tests, other)
+
+named_cause : (l : LockEvents) (s y : ℕ) (v : WaitOn) → is_cause l s (Others v) y ≡ named_in v y
+named_cause l s y (Ends of) = refl
+named_cause l s y (Snapshots of) = refl
+
+cause_of : (l : LockEvents) (s : ℕ) (w : Wanted) → (y : ℕ) × (is_cause l s w y ≡ true) → HasCause w
+cause_of l s (Lock t m) c = tt
+cause_of l s (Others v) c = (c.0, sym (named_cause l s c.0 v) ∙ c.1)
+
+-- ---- the answers
+
+module _ (tables : CatalogueEvents → ℕ) (names : List (List ℕ)) (s : ℕ) (rest : Option Rest) (h : History) (may : MayAsk s h) where
+  abbrev l : LockEvents
+  l = lock_events h
+
+  -- nothing happens
+  nothing_asks : {T : Type 0} (m : Made T) → m.events ≡ [] → WaitsAsTold tables s h h m.told → Asks tables s h m
+  nothing_asks m none told = record {
+    sound = subst (λ es. AreLocksSound (lock_events (es ++ h))) (sym none) may.sound;
+    stay = λ x i k e. ap (λ es. holds (lock_events (es ++ h)) x i k) none ∙ e;
+    others = λ x other. ap (λ es. wanted (lock_events (es ++ h)) x) none;
+    told = subst (λ es. WaitsAsTold tables s h (es ++ h) m.told) (sym none) told;
+  }
+
+  got_asks : (t : ℕ) (m : LockMode) → AreLocksSound (LockGot s t m ∷ l) → Asks tables s h (told_by names rest (map LockChange (LockGot s t m ∷ [])) AtOnce)
+  got_asks t m sound = record {
+    sound = sound;
+    stay = λ x i k e. got_stays l s t m x i k e;
+    others = λ x other. refl;
+    told = may.idle;
+  }
+
+  wait_asks : (w : Wanted) (others : List ℕ) → IsBounded (tables (catalogue_events h)) w → AreLocksSound (WaitBegan s w ∷ l) → Asks tables s h (told_by names rest (map LockChange (WaitBegan s w ∷ [])) (WaitsBehind others))
+  wait_asks w others bounded sound = record {
+    sound = sound;
+    stay = λ x i k e. e;
+    others = λ x other. began_other l s x w other;
+    told = record { what = w; waits = began_own l s w; bounded = bounded; caused = cause_of l s w sound.0.cause; no_more = omega arith };
+  }
+
+  answer_asks : (w : Wanted) (a : AskedView) → IsBounded (tables (catalogue_events h)) w → AreLocksSound (events_of s w a ++ l) → Asks tables s h (told_by names rest (map LockChange (events_of s w a)) a)
+  answer_asks (Lock t m) AtOnce bounded sound = got_asks t.number m sound
+  answer_asks (Others v) AtOnce bounded sound = nothing_asks (told_by names rest [] AtOnce) refl may.idle
+  answer_asks (Lock t m) (WaitsBehind others) bounded sound = wait_asks (Lock t m) others bounded sound
+  answer_asks (Others v) (WaitsBehind others) bounded sound = wait_asks (Others v) others bounded sound
+  answer_asks (Lock t m) (ClosesCycle cycle) bounded sound = nothing_asks (told_by names rest [] (ClosesCycle cycle)) refl may.idle
+  answer_asks (Others v) (ClosesCycle cycle) bounded sound = nothing_asks (told_by names rest [] (ClosesCycle cycle)) refl may.idle
+
+pub locked_asks : WhatIsAskedMayCome → (tables : CatalogueEvents → ℕ) (names : List (List ℕ)) (s t : ℕ) (m : LockMode) (h : History) → MayAsk s h → t < tables (catalogue_events h) → Asks tables s h (locked names s t m h)
+locked_asks come tables names s t m h may low =
+    let w = Lock (record { number = t }) m in
+    answer_asks tables names s None h may w (asked (lock_events h) s w) low (come (lock_events h) s w may.sound may.known may.idle)
+
+pub waited_asks : WhatIsAskedMayCome → (tables : CatalogueEvents → ℕ) (names : List (List ℕ)) (s : ℕ) (what : WaitOn) (rest : Option Rest) (h : History) → MayAsk s h → IsBounded (tables (catalogue_events h)) (Others what) → Asks tables s h (waited names s what rest h)
+waited_asks come tables names s what rest h may low =
+    answer_asks tables names s rest h may (Others what) (asked (lock_events h) s (Others what)) low (come (lock_events h) s (Others what) may.sound may.known may.idle)
+
+-- ---- one part after another
+
+-- behind a part that is done
+behind_asks : {U : Type 0} (tables : CatalogueEvents → ℕ) (s : ℕ) (es : History) (m : Made U) (h : History) → ((x t : ℕ) (k : LockMode) → holds (lock_events h) x t k ≡ true → holds (lock_events (es ++ h)) x t k ≡ true)
+    → ((x : ℕ) → x ≢ s → wanted (lock_events (es ++ h)) x ≡ wanted (lock_events h) x) → catalogue_events (es ++ h) ≡ catalogue_events h → Asks tables s (es ++ h) m → Asks tables s h (behind es m)
+behind_asks {U} tables s es m h stay others same asks =
+    let e = append_assoc m.events es h in
+    record {
+      sound = subst (λ g. AreLocksSound (lock_events g)) (sym e) asks.sound;
+      stay = λ x t k held. subst (λ g. holds (lock_events g) x t k ≡ true) (sym e) (asks.stay x t k (stay x t k held));
+      others = λ x other. ap (λ g. wanted (lock_events g) x) e ∙ (asks.others x other ∙ others x other);
+      told = subst (λ g. WaitsAsTold tables s h g m.told) (sym e) (by m.told asks.told);
+    }
+  where
+    by : (r : Result U Halt) → WaitsAsTold tables s (es ++ h) (m.events ++ (es ++ h)) r → WaitsAsTold tables s h (m.events ++ (es ++ h)) r
+    by (Ok x) told = told
+    by (Err (Refused f)) told = told
+    by (Err (Waits rest)) told = record {
+      what = told.what;
+      waits = told.waits;
+      bounded = subst (λ c. IsBounded (tables c) told.what) same told.bounded;
+      caused = told.caused;
+      no_more = subst (λ c. tables (catalogue_events (m.events ++ (es ++ h))) ≤ tables c) same told.no_more;
+    }
+
+pub follow_asks : (T U : Type 0) → PartsFollow T U
+follow_asks T U tables s f next h may asks same then = by (f h).told refl
+  where
+    e : History
+    e = (f h).events
+
+    by : (r : Result T Halt) → (f h).told ≡ r → Asks tables s h (then_told r e (λ x. next x (e ++ h)))
+    by (Ok x) is =
+        let told : WaitsAsTold tables s h (e ++ h) (Ok x) = subst (λ r. WaitsAsTold tables s h (e ++ h) r) is asks.told in
+        behind_asks tables s e (next x (e ++ h)) h asks.stay asks.others same (then x is (record { known = may.known; sound = asks.sound; idle = told }))
+    by (Err stop) is =
+        let told : WaitsAsTold tables s h (e ++ h) (Err stop) = subst (λ r. WaitsAsTold tables s h (e ++ h) r) is asks.told in
+        record { sound = asks.sound; stay = asks.stay; others = asks.others; told = halts stop told }
+      where
+        halts : (stop : Halt) → WaitsAsTold {T = T} tables s h (e ++ h) (Err stop) → WaitsAsTold {T = U} tables s h (e ++ h) (Err stop)
+        halts (Waits rest) told = told
+        halts (Refused f) told = told

@@ -1,0 +1,16 @@
+//! Every run of statements over one history comes to its end.
+//!
+//! Of statements it is asked what they do to locks and waits: nobody has lost a lock by one, other sessions wait as they
+//! did, and its own session waits just where that is told; and that a statement commits in its middle once at most. Then
+//! the database of a run has a rank: the locks that sessions could still get, the waits that could still be cancelled,
+//! and the sessions that could go on since something was given up.
+//!
+//! Statements are made of parts. That a lock is asked for, that others are waited for, and that one part follows another
+//! is such a part, whatever statement it is of.
+#![tactic(auto)]
+
+mod laws;
+mod parts;
+
+pub use laws::{AskingStatements, Running, statements_come_to_an_end};
+pub use parts::{locks_are_asked_for, others_are_waited_for, parts_follow};
