@@ -25,14 +25,6 @@ use Rattle.statement_ends.specs.Parts.{PartsFollow}
 
 -- ---- events of locks
 
-lock_events_of : (es : LockEvents) (h : History) → lock_events (map LockChange es ++ h) ≡ es ++ lock_events h
-lock_events_of [] h = refl
-lock_events_of (e ∷ es) h = ap (λ l. e ∷ l) (lock_events_of es h)
-
-catalogue_of : (es : LockEvents) (h : History) → catalogue_events (map LockChange es ++ h) ≡ catalogue_events h
-catalogue_of [] h = refl
-catalogue_of (e ∷ es) h = catalogue_of es h
-
 or_true : (b : Bool) → (b || true) ≡ true
 or_true true = refl
 or_true false = refl
@@ -128,19 +120,16 @@ behind_asks {U} tables s es m h stay others same asks =
     }
 
 pub follow_asks : (T U : Type 0) → PartsFollow T U
-follow_asks T U tables s f next h may asks same then = by (f h).told refl
+follow_asks T U tables s f next h may asks same on = by (f h).told refl
   where
-    e : History
-    e = (f h).events
-
-    by : (r : Result T Halt) → (f h).told ≡ r → Asks tables s h (then_told r e (λ x. next x (e ++ h)))
+    by : (r : Result T Halt) → (f h).told ≡ r → Asks tables s h (then_told r (f h).events (λ x. next x ((f h).events ++ h)))
     by (Ok x) is =
-        let told : WaitsAsTold tables s h (e ++ h) (Ok x) = subst (λ r. WaitsAsTold tables s h (e ++ h) r) is asks.told in
-        behind_asks tables s e (next x (e ++ h)) h asks.stay asks.others same (then x is (record { known = may.known; sound = asks.sound; idle = told }))
+        let told : WaitsAsTold {T = T} tables s h ((f h).events ++ h) (Ok x) = subst (λ r. WaitsAsTold {T = T} tables s h ((f h).events ++ h) r) is asks.told in
+        behind_asks tables s (f h).events (next x ((f h).events ++ h)) h asks.stay asks.others same (on x is (record { known = may.known; sound = asks.sound; idle = told }))
     by (Err stop) is =
-        let told : WaitsAsTold tables s h (e ++ h) (Err stop) = subst (λ r. WaitsAsTold tables s h (e ++ h) r) is asks.told in
+        let told : WaitsAsTold {T = T} tables s h ((f h).events ++ h) (Err stop) = subst (λ r. WaitsAsTold {T = T} tables s h ((f h).events ++ h) r) is asks.told in
         record { sound = asks.sound; stay = asks.stay; others = asks.others; told = halts stop told }
       where
-        halts : (stop : Halt) → WaitsAsTold {T = T} tables s h (e ++ h) (Err stop) → WaitsAsTold {T = U} tables s h (e ++ h) (Err stop)
+        halts : (stop : Halt) → WaitsAsTold {T = T} tables s h ((f h).events ++ h) (Err stop) → WaitsAsTold {T = U} tables s h ((f h).events ++ h) (Err stop)
         halts (Waits rest) told = told
         halts (Refused f) told = told

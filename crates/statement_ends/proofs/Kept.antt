@@ -73,6 +73,20 @@ idle_on (Some s) n old new f h = (h.0, idle_after old new s f h.1)
 others_lie : (a : Wanted) (v : WaitOn) → a ≡ Others v → HasCause a → (y : ℕ) × (names v y ≡ true)
 others_lie a v e h = subst HasCause e h
 
+-- something was given up: all are marked
+pub given_up_waits : (n : ℕ) (old new : LockEvents) (bound more : ℕ) (cancelled flags moved : List Bool) → bound ≤ more → Shrinks old new → ((s : ℕ) (w : Wanted) → wanted new s ≡ Some w → slice_index_or cancelled s false ≡ false → slice_index_or flags s false ≡ false)
+    → ((s : ℕ) (w : Wanted) → wanted old s ≡ Some w → Stands n bound cancelled moved s w) → (s : ℕ) (w : Wanted) → wanted new s ≡ Some w → Stands n more flags (replicate n true) s w
+given_up_waits n old new bound more cancelled flags moved le f off stand s w is =
+    let r = f s w is in
+    let h = stand s r.0 r.1 in
+    record { known = h.known; standing = off s w is h.standing; bounded = bounded_below bound more w le (r.2 bound h.bounded); caused = all_marked n s (HasCause w) h.known }
+
+marks_fall : (moved : List Bool) (s : ℕ) → s < length moved → slice_index_or moved s false ≡ true → sum_by of_mark (slice_set moved s false) + 1 ≡ sum_by of_mark moved
+marks_fall moved s lt on = let a = mark_cleared moved s lt in let one : of_mark (slice_index_or moved s false) ≡ 1 = ap of_mark on in omega (arith, a, one)
+
+marks_no_more : (moved : List Bool) (s : ℕ) → s < length moved → sum_by of_mark (slice_set moved s false) ≤ sum_by of_mark moved
+marks_no_more moved s lt = let a = mark_cleared moved s lt in omega (arith, a)
+
 module _ {O : Type 0} (tables : CatalogueEvents → ℕ) (n : ℕ) where
   pub ranked : (v : Database O) (turn : Option ℕ) (os : List Bool) (bound : ℕ) (moved : List Bool) → IsKept tables n bound moved v turn → HasRank (IsRanked {O = O} tables n) v turn os
   ranked v turn os bound moved h = record { rank = slack n bound moved v; ranked = record { bound = bound; moved = moved; kept = h; rank = refl } }
@@ -92,7 +106,7 @@ module _ {O : Type 0} (tables : CatalogueEvents → ℕ) (n : ℕ) where
     sound = tt;
     waits = λ s w is. absurd (cc);
     room = omega arith;
-    turn = tt;
+    goes_on = tt;
   }
 
   -- ---- the turn
@@ -107,18 +121,10 @@ module _ {O : Type 0} (tables : CatalogueEvents → ℕ) (n : ℕ) where
     sound = h.sound;
     waits = h.waits;
     room = h.room;
-    turn = turn;
+    goes_on = turn;
   }
 
   -- ---- transactions
-
-  -- something was given up: all are marked
-  pub given_up_waits : (old new : LockEvents) (bound more : ℕ) (cancelled flags moved : List Bool) → bound ≤ more → Shrinks old new → ((s : ℕ) (w : Wanted) → wanted new s ≡ Some w → slice_index_or cancelled s false ≡ false → slice_index_or flags s false ≡ false)
-      → ((s : ℕ) (w : Wanted) → wanted old s ≡ Some w → Stands n bound cancelled moved s w) → (s : ℕ) (w : Wanted) → wanted new s ≡ Some w → Stands n more flags (replicate n true) s w
-  given_up_waits old new bound more cancelled flags moved le f off stand s w is =
-      let r = f s w is in
-      let h = stand s r.0 r.1 in
-      record { known = h.known; standing = off s w is h.standing; bounded = bounded_below bound more w le (r.2 bound h.bounded); caused = all_marked n s (HasCause w) h.known }
 
   pub ended_kept : (v : Database O) (old new : Option ℕ) (bound : ℕ) (moved : List Bool) (e : TxEvent) (s : ℕ) → IsKept tables n bound moved v old → IfSome new (λ r. (r < n) × (wanted (lock_events v.history) r ≡ None))
       → IsKept tables n bound (replicate n true) (happened v (ended e s)) new
@@ -129,9 +135,9 @@ module _ {O : Type 0} (tables : CatalogueEvents → ℕ) (n : ℕ) where
     rests = h.rests;
     marks = length-replicate n true;
     sound = (tt, (tt, (tt, h.sound)));
-    waits = given_up_waits (lock_events v.history) (lock_events (ended e s ++ v.history)) bound bound v.cancelled v.cancelled moved (omega arith) (given_up_shrinks s (lock_events v.history)) (λ r w is off. off) h.waits;
+    waits = given_up_waits n (lock_events v.history) (lock_events (ended e s ++ v.history)) bound bound v.cancelled v.cancelled moved (omega arith) (given_up_shrinks s (lock_events v.history)) (λ r w is off. off) h.waits;
     room = h.room;
-    turn = idle_on new n (lock_events v.history) (lock_events (ended e s ++ v.history)) (given_up_shrinks s (lock_events v.history)) turn;
+    goes_on = idle_on new n (lock_events v.history) (lock_events (ended e s ++ v.history)) (given_up_shrinks s (lock_events v.history)) turn;
   }
 
   -- ---- a wait is withdrawn
@@ -150,7 +156,7 @@ module _ {O : Type 0} (tables : CatalogueEvents → ℕ) (n : ℕ) where
         let k = h.waits r w l.1 in
         record { known = k.known; standing = set_apart v.cancelled s r true l.0 k.standing; bounded = k.bounded; caused = k.caused };
     room = h.room;
-    turn = turn;
+    goes_on = turn;
   }
 
   flag_falls : (v : Database O) (turn : Option ℕ) (bound : ℕ) (moved : List Bool) (s : ℕ) (w : Wanted) → IsKept tables n bound moved v turn → wanted (lock_events v.history) s ≡ Some w → sum_by of_flag (slice_set v.cancelled s true) < sum_by of_flag v.cancelled
@@ -179,8 +185,8 @@ module _ {O : Type 0} (tables : CatalogueEvents → ℕ) (n : ℕ) where
   one_cut v s x bound moved false is h = (h, omega arith)
   one_cut v s x bound moved true is h =
       let u = is_there (wanted (lock_events v.history) x) is in
-      let k = cancels_kept v (Some s) (Some s) bound moved x h (h.turn.0, idle_after (lock_events v.history) (WaitWithdrawn x ∷ lock_events v.history) s (λ r w e. (w, (over_left x r (wanted (lock_events v.history) r) w e).1, λ m b. b)) h.turn.1) in (
-        record { few = k.few; sessions = k.sessions; cancelled = k.cancelled; rests = k.rests; marks = k.marks; sound = k.sound; waits = k.waits; room = k.room; turn = k.turn },
+      let k = cancels_kept v (Some s) (Some s) bound moved x h (h.goes_on.0, idle_after (lock_events v.history) (WaitWithdrawn x ∷ lock_events v.history) s (λ r w e. (w, (over_left x r (wanted (lock_events v.history) r) w e).1, λ m b. b)) h.goes_on.1) in (
+        record { few = k.few; sessions = k.sessions; cancelled = k.cancelled; rests = k.rests; marks = k.marks; sound = k.sound; waits = k.waits; room = k.room; goes_on = k.goes_on },
         cut_no_higher (unheld n bound (lock_events v.history)) (unheld n bound (lock_events v.history)) (sum_by of_flag v.cancelled) (sum_by of_flag (slice_set v.cancelled x true)) _ _ _ (omega arith) (flag_falls v (Some s) bound moved x u.0 h u.1) (cut_added n x v.cut),
       )
 
@@ -210,14 +216,8 @@ module _ {O : Type 0} (tables : CatalogueEvents → ℕ) (n : ℕ) where
         let k = h.waits r u l.1 in
         record { known = k.known; standing = k.standing; bounded = k.bounded; caused = λ off. k.caused (sym (get_or-set_other moved s r false false (λ same. l.0 (sym same))) ∙ off) };
     room = h.room;
-    turn = ((h.waits s w waits).known, resumed_own (lock_events v.history) s);
+    goes_on = ((h.waits s w waits).known, resumed_own (lock_events v.history) s);
   }
-
-  marks_fall : (moved : List Bool) (s : ℕ) → s < length moved → slice_index_or moved s false ≡ true → sum_by of_mark (slice_set moved s false) + 1 ≡ sum_by of_mark moved
-  marks_fall moved s lt on = let a = mark_cleared moved s lt in let one : of_mark (slice_index_or moved s false) ≡ 1 = ap of_mark on in omega (arith, a, one)
-
-  marks_no_more : (moved : List Bool) (s : ℕ) → s < length moved → sum_by of_mark (slice_set moved s false) ≤ sum_by of_mark moved
-  marks_no_more moved s lt = let a = mark_cleared moved s lt in omega (arith, a)
 
   resumed_less : (v : Database O) (turn : Option ℕ) (bound : ℕ) (moved : List Bool) (s : ℕ) (w : Wanted) → IsKept tables n bound moved v turn → ready (lock_events v.history) ≡ Some s → wanted (lock_events v.history) s ≡ Some w
       → slack n bound (slice_set moved s false) (happened v (resumed s)) < slack n bound moved v
@@ -248,7 +248,7 @@ module _ {O : Type 0} (tables : CatalogueEvents → ℕ) (n : ℕ) where
       let lt : s < n = subst (λ m. s < m) h.kept.cancelled (there v.cancelled s flag) in
       let w = record v { cut = without s v.cut } in
       lower w (Some s) os h.bound h.moved k
-      (record { few = h.kept.few; sessions = h.kept.sessions; cancelled = h.kept.cancelled; rests = h.kept.rests; marks = h.kept.marks; sound = h.kept.sound; waits = h.kept.waits; room = h.kept.room; turn = (lt, idle (wanted (lock_events v.history) s) refl flag) })
+      (record { few = h.kept.few; sessions = h.kept.sessions; cancelled = h.kept.cancelled; rests = h.kept.rests; marks = h.kept.marks; sound = h.kept.sound; waits = h.kept.waits; room = h.kept.room; goes_on = (lt, idle (wanted (lock_events v.history) s) refl flag) })
       (subst (λ m. slack n h.bound h.moved w < m) h.rank (cut_lower (unheld n h.bound (lock_events v.history)) _ _ _ _ (cut_gone n s v.cut lt (first_in (is_cancelled v) v.cut s e))))
     where
       idle : (o : Option Wanted) → wanted (lock_events v.history) s ≡ o → is_cancelled v s ≡ true → wanted (lock_events v.history) s ≡ None

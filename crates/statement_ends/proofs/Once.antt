@@ -49,7 +49,7 @@ module _ {O T : Type 0} (W : Words O T) (tables : CatalogueEvents → ℕ) (n : 
         let w = cut_by W v a t in
         let rests = all_cut_rests (W.cancels a.session v.sessions t) v in
         let m = attempt_of W w a g t in
-        let lt : a.session < length w.rests = subst (λ l. a.session < l) (sym (ap length rests ∙ h.kept.rests)) h.kept.turn.0 in
+        let lt : a.session < length w.rests = subst (λ l. a.session < l) (sym (ap length rests ∙ h.kept.rests)) h.kept.goes_on.0 in
         let after : slice_index_or (slice_set w.rests a.session (rest_told m.told)) a.session None ≡ rest_told m.told = get_or-set_same w.rests a.session (rest_told m.told) None lt in
         let before : rest_of w a.session ≡ rest_of v a.session = ap (λ l. slice_index_or l a.session None) rests in
         subst (λ r. CommitsOnce (W.has_committed r t) (W.has_committed (slice_index_or (slice_set w.rests a.session (rest_told m.told)) a.session None) t) (outcome_told m.told)) before

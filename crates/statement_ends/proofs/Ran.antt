@@ -47,16 +47,16 @@ given_waits level s (Some rest) (Err stop) e = refl
 
 -- ---- whether it waits
 
-waits_told : {s : ℕ} (tables : CatalogueEvents → ℕ) (earlier later : History) (r : Result Ended Halt) → outcome_told r ≡ outcomes.Waits → WaitsAsTold tables s earlier later r → IsWaiting tables s earlier later
-waits_told tables earlier later (Ok (Done text)) e h = absurd (cc)
-waits_told tables earlier later (Ok (Commits d)) e h = absurd (cc)
-waits_told tables earlier later (Err (Waits rest)) e h = h
-waits_told tables earlier later (Err (Refused f)) e h = absurd (cc)
+waits_told : (s : ℕ) (tables : CatalogueEvents → ℕ) (earlier later : History) (r : Result Ended Halt) → outcome_told r ≡ outcomes.Waits → WaitsAsTold tables s earlier later r → IsWaiting tables s earlier later
+waits_told s tables earlier later (Ok (Done text)) e h = absurd (cc)
+waits_told s tables earlier later (Ok (Commits d)) e h = absurd (cc)
+waits_told s tables earlier later (Err (Waits rest)) e h = h
+waits_told s tables earlier later (Err (Refused f)) e h = absurd (cc)
 
-idle_told : {s : ℕ} (tables : CatalogueEvents → ℕ) (earlier later : History) (r : Result Ended Halt) → (outcome_told r ≡ outcomes.Waits → ⊥) → WaitsAsTold tables s earlier later r → wanted (lock_events later) s ≡ None
-idle_told tables earlier later (Ok x) e h = h
-idle_told tables earlier later (Err (Waits rest)) e h = absurd (e refl)
-idle_told tables earlier later (Err (Refused f)) e h = h
+idle_told : (s : ℕ) (tables : CatalogueEvents → ℕ) (earlier later : History) (r : Result Ended Halt) → (outcome_told r ≡ outcomes.Waits → ⊥) → WaitsAsTold tables s earlier later r → wanted (lock_events later) s ≡ None
+idle_told s tables earlier later (Ok x) e h = h
+idle_told s tables earlier later (Err (Waits rest)) e h = absurd (e refl)
+idle_told s tables earlier later (Err (Refused f)) e h = h
 
 pub never_goes : (r : Result Ended Halt) → outcome_told r ≡ outcomes.Goes → ⊥
 never_goes (Ok (Done text)) e = absurd (cc)
@@ -66,6 +66,13 @@ never_goes (Err (Refused f)) e = absurd (cc)
 
 some_is : (a b : Wanted) → Some a ≡ Some b → a ≡ b
 some_is a b e = cc
+
+-- its session waits, and no more is left than that
+pub record Waited {O : Type 0} (tables : CatalogueEvents → ℕ) (n bound : ℕ) (moved : List Bool) (session limit : ℕ) (w : Database O) : Type 0 where
+  pub kept : IsKept tables n bound moved w None
+  pub what : Wanted
+  pub waits : wanted (lock_events w.history) session ≡ Some what
+  pub no_higher : slack n bound moved w ≤ limit
 
 module _ {O : Type 0} (tables : CatalogueEvents → ℕ) (n : ℕ) (v : Database O) (a : Asker) (bound : ℕ) (moved : List Bool) (h : IsKept tables n bound moved v (Some a.session)) where
   abbrev s : ℕ
@@ -81,7 +88,7 @@ module _ {O : Type 0} (tables : CatalogueEvents → ℕ) (n : ℕ) (v : Database
   }
 
   own : s < length v.cancelled
-  own = subst (λ m. s < m) (sym h.cancelled) h.turn.0
+  own = subst (λ m. s < m) (sym h.cancelled) h.goes_on.0
 
   -- ---- it waits
 
@@ -92,7 +99,7 @@ module _ {O : Type 0} (tables : CatalogueEvents → ℕ) (n : ℕ) (v : Database
         | inl same ↦
             let at : wanted (lock_events (m.events ++ v.history)) s ≡ Some w = subst (λ x. wanted (lock_events (m.events ++ v.history)) x ≡ Some w) same is in
             let what : waits.what ≡ w = some_is waits.what w (sym waits.waits ∙ at) in
-            let k : Stands n bound (slice_set v.cancelled s false) moved s waits.what = record { known = h.turn.0; standing = cleared v.cancelled s own; bounded = bounded_below (tables (catalogue_events v.history)) bound waits.what h.room waits.bounded; caused = λ off. waits.caused } in
+            let k : Stands n bound (slice_set v.cancelled s false) moved s waits.what = record { known = h.goes_on.0; standing = cleared v.cancelled s own; bounded = bounded_below (tables (catalogue_events v.history)) bound waits.what h.room waits.bounded; caused = λ off. waits.caused } in
             subst (λ x. Stands n bound (slice_set v.cancelled s false) moved x w) (sym same) (subst (λ u. Stands n bound (slice_set v.cancelled s false) moved s u) what k)
         | inr other ↦
             let k = h.waits r w (sym (asks.others r other) ∙ is) in
@@ -109,7 +116,7 @@ module _ {O : Type 0} (tables : CatalogueEvents → ℕ) (n : ℕ) (v : Database
     sound = asks.sound;
     waits = waits_stand m asks waits;
     room = (let le = waits.no_more in let room = h.room in omega (arith, le, room));
-    turn = tt;
+    goes_on = tt;
   }
 
   waiting_no_higher : (m : Made Ended) → Asks tables s v.history m → is_cancelled v s ≡ false → slack n bound moved (left_at (m.events ++ v.history) m) ≤ slack n bound moved v
@@ -117,18 +124,12 @@ module _ {O : Type 0} (tables : CatalogueEvents → ℕ) (n : ℕ) (v : Database
       lock_no_higher (unheld n bound (lock_events v.history)) (unheld n bound (lock_events (m.events ++ v.history))) (sum_by of_flag v.cancelled) (sum_by of_flag (slice_set v.cancelled s false)) _ _
       (unheld_mono n bound (lock_events v.history) (lock_events (m.events ++ v.history)) asks.stay) (flags_same v.cancelled s false off)
 
-  pub record Waited (w : Database O) : Type 0 where
-    pub kept : IsKept tables n bound moved w None
-    pub what : Wanted
-    pub waits : wanted (lock_events w.history) s ≡ Some what
-    pub no_higher : slack n bound moved w ≤ slack n bound moved v
-
-  pub run_waits : (b : Bool) (m : Made Ended) → is_cancelled v s ≡ b → Asks tables s v.history m → outcome_told (unless_cancelled b m).told ≡ outcomes.Waits → Waited (goes_on v a (unless_cancelled b m))
+  pub run_waits : (b : Bool) (m : Made Ended) → is_cancelled v s ≡ b → Asks tables s v.history m → outcome_told (unless_cancelled b m).told ≡ outcomes.Waits → Waited tables n bound moved s (slack n bound moved v) (goes_on v a (unless_cancelled b m))
   run_waits true m is asks e = absurd (cc)
   run_waits false m is asks e =
-      let waits = waits_told tables v.history (m.events ++ v.history) m.told e asks.told in
+      let waits = waits_told s tables v.history (m.events ++ v.history) m.told e asks.told in
       let none = given_waits a.level s (rest_of v s) m.told e in
-      subst (λ g. Waited (left_at (g ++ (m.events ++ v.history)) m)) (sym none)
+      subst (λ g. Waited tables n bound moved s (slack n bound moved v) (left_at (g ++ (m.events ++ v.history)) m)) (sym none)
       (record { kept = waiting_kept m asks waits; what = waits.what; waits = waits.waits; no_higher = waiting_no_higher m asks is })
 
   -- ---- it does not
@@ -137,7 +138,7 @@ module _ {O : Type 0} (tables : CatalogueEvents → ℕ) (n : ℕ) (v : Database
   idle_kept : (g : History) (m : Made Ended) → AreLocksSound (lock_events g) → Shrinks (lock_events v.history) (lock_events g)
       → IsKept tables n (bound + tables (catalogue_events g)) (replicate n true) (left_at g m) (Some s)
   idle_kept g m sound shrinks =
-      let idle = idle_after (lock_events v.history) (lock_events g) s shrinks h.turn.1 in
+      let idle = idle_after (lock_events v.history) (lock_events g) s shrinks h.goes_on.1 in
       record {
         few = h.few;
         sessions = h.sessions;
@@ -145,13 +146,13 @@ module _ {O : Type 0} (tables : CatalogueEvents → ℕ) (n : ℕ) (v : Database
         rests = length-set v.rests s (rest_told m.told) ∙ h.rests;
         marks = length-replicate n true;
         sound = sound;
-        waits = given_up_waits {O = O} tables n (lock_events v.history) (lock_events g) bound (bound + tables (catalogue_events g)) v.cancelled (slice_set v.cancelled s false) moved (omega arith) shrinks
+        waits = given_up_waits n (lock_events v.history) (lock_events g) bound (bound + tables (catalogue_events g)) v.cancelled (slice_set v.cancelled s false) moved (omega arith) shrinks
             (λ r w is off. elim (cases_eq r s) [
               | inl same ↦ absurd (let c : None ≡ Some w = sym idle ∙ subst (λ x. wanted (lock_events g) x ≡ Some w) same is in cc)
               | inr other ↦ set_apart v.cancelled s r false (λ same. other (sym same)) off
             ]) h.waits;
         room = omega arith;
-        turn = (h.turn.0, idle);
+        goes_on = (h.goes_on.0, idle);
       }
 
   given_kept : (given g : History) (m : Made Ended) → (given ≡ []) ⊎ (given ≡ let_go s) → AreLocksSound (lock_events g) → Shrinks (lock_events v.history) (lock_events g)
@@ -178,4 +179,4 @@ module _ {O : Type 0} (tables : CatalogueEvents → ℕ) (n : ℕ) (v : Database
       given_kept (given_up a.level s (rest_of v s) x.told) v.history x (given_is a.level s (rest_of v s) x.told) h.sound (λ r w waits. (w, waits, λ k b. b))
   run_goes false m is asks e =
       given_kept (given_up a.level s (rest_of v s) m.told) (m.events ++ v.history) m (given_is a.level s (rest_of v s) m.told) asks.sound
-      (stay_waits m asks (idle_told tables v.history (m.events ++ v.history) m.told e asks.told))
+      (stay_waits m asks (idle_told s tables v.history (m.events ++ v.history) m.told e asks.told))

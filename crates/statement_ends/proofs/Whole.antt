@@ -27,22 +27,17 @@ module _ {O T : Type 0} (W : Words O T) (tables : CatalogueEvents → ℕ) (asks
       → Asks tables a.session w.history (W.attempted w.options (caller_of w.sessions (command_of w a.session) a) (rest_of w a.session) w.history g t)
   asked w a g t bound moved h =
       asks.each w.options (caller_of w.sessions (command_of w a.session) a) (rest_of w a.session) w.history g t
-      (record { known = (let few = h.few in let lt = h.turn.0 in omega (arith, few, lt)); sound = h.sound; idle = h.turn.1 })
+      (record { known = (let few = h.few in let lt = h.goes_on.0 in omega (arith, few, lt)); sound = h.sound; idle = h.goes_on.1 })
 
   waited : (v : Database O) (os : List Bool) (k : ℕ) (a : Asker) (g : Settings) (t : T) (h : Q v (Some a.session) os k) → outcome_told (attempt_of W (cut_by W v a t) a g t).told ≡ outcomes.Waits
-      → Waited tables n (cut_by W v a t) a h.bound h.moved (all_cut_kept tables n (W.cancels a.session v.sessions t) v a.session h.bound h.moved h.kept).0 (goes_on (cut_by W v a t) a (attempt_of W (cut_by W v a t) a g t))
+      → Waited tables n h.bound h.moved a.session k (goes_on (cut_by W v a t) a (attempt_of W (cut_by W v a t) a g t))
   waited v os k a g t h e =
       let w = cut_by W v a t in
       let cut = all_cut_kept tables n (W.cancels a.session v.sessions t) v a.session h.bound h.moved h.kept in
-      run_waits tables n w a h.bound h.moved cut.0 (is_cancelled w a.session) (W.attempted w.options (caller_of w.sessions (command_of w a.session) a) (rest_of w a.session) w.history g t) refl (asked w a g t h.bound h.moved cut.0) e
-
-  no_higher : (v : Database O) (os : List Bool) (k : ℕ) (a : Asker) (g : Settings) (t : T) (h : Q v (Some a.session) os k) → outcome_told (attempt_of W (cut_by W v a t) a g t).told ≡ outcomes.Waits
-      → slack n h.bound h.moved (goes_on (cut_by W v a t) a (attempt_of W (cut_by W v a t) a g t)) ≤ k
-  no_higher v os k a g t h e =
-      let cut = all_cut_kept tables n (W.cancels a.session v.sessions t) v a.session h.bound h.moved h.kept in
-      thrice (waited v os k a g t h e).no_higher cut.1 h.rank
+      let r = run_waits tables n w a h.bound h.moved cut.0 (is_cancelled w a.session) (W.attempted w.options (caller_of w.sessions (command_of w a.session) a) (rest_of w a.session) w.history g t) refl (asked w a g t h.bound h.moved cut.0) e in
+      record { kept = r.kept; what = r.what; waits = r.waits; no_higher = thrice r.no_higher cut.1 h.rank }
     where
-      thrice : {a b c d : ℕ} → a ≤ b → b ≤ c → c ≡ d → a ≤ d
+      thrice : {x y z u : ℕ} → x ≤ y → y ≤ z → z ≡ u → x ≤ u
       thrice p q r = omega (arith, p, q, r)
 
   goes : (v : Database O) (os : List Bool) (k : ℕ) (a : Asker) (g : Settings) (t : T) → Q v (Some a.session) os k → (outcome_told (attempt_of W (cut_by W v a t) a g t).told ≡ outcomes.Waits → ⊥)
@@ -60,17 +55,17 @@ module _ {O T : Type 0} (W : Words O T) (tables : CatalogueEvents → ℕ) (asks
     gives_up = λ v os k s h. record { bound = h.bound; moved = h.moved; kept = turned tables n v (Some s) None h.bound h.moved h.kept tt; rank = h.rank };
     began = λ v os k s h closed.
         ranked tables n ((course W).began v s) (Some s) _ h.bound h.moved
-        (record { few = h.kept.few; sessions = h.kept.sessions; cancelled = h.kept.cancelled; rests = h.kept.rests; marks = h.kept.marks; sound = h.kept.sound; waits = h.kept.waits; room = h.kept.room; turn = h.kept.turn });
-    committed = λ v os k s h held. ranked tables n ((course W).committed v s) (Some s) _ h.bound (replicate n true) (ended_kept tables n v (Some s) (Some s) h.bound h.moved (TxCommitted s (tx_in v.history s)) s h.kept h.kept.turn);
-    aborted = λ v os k s h held. ranked tables n ((course W).aborted v s) (Some s) _ h.bound (replicate n true) (ended_kept tables n v (Some s) (Some s) h.bound h.moved (TxAborted s (tx_in v.history s)) s h.kept h.kept.turn);
+        (record { few = h.kept.few; sessions = h.kept.sessions; cancelled = h.kept.cancelled; rests = h.kept.rests; marks = h.kept.marks; sound = h.kept.sound; waits = h.kept.waits; room = h.kept.room; goes_on = h.kept.goes_on });
+    committed = λ v os k s h held. ranked tables n ((course W).committed v s) (Some s) _ h.bound (replicate n true) (ended_kept tables n v (Some s) (Some s) h.bound h.moved (TxCommitted s (tx_in v.history s)) s h.kept h.kept.goes_on);
+    aborted = λ v os k s h held. ranked tables n ((course W).aborted v s) (Some s) _ h.bound (replicate n true) (ended_kept tables n v (Some s) (Some s) h.bound h.moved (TxAborted s (tx_in v.history s)) s h.kept h.kept.goes_on);
     rolled_back = λ v os k s h lt held. ranked tables n ((course W).aborted v s) None _ h.bound (replicate n true) (ended_kept tables n v None None h.bound h.moved (TxAborted s (tx_in v.history s)) s h.kept tt);
     goes = λ v os k a g t h held is. absurd (never_goes (attempt_of W (cut_by W v a t) a g t).told is);
     waits = λ v os k a g t h held is.
         let r = waited v os k a g t h is in
-        record { rank = slack n h.bound h.moved ((course W).ran v a g t); ranked = record { bound = h.bound; moved = h.moved; kept = r.kept; rank = refl }; not_above = no_higher v os k a g t h is };
+        record { rank = slack n h.bound h.moved ((course W).ran v a g t); ranked = record { bound = h.bound; moved = h.moved; kept = r.kept; rank = refl }; not_above = r.no_higher };
     paused = λ v os k a g t h held is.
         let r = waited v os k a g t h is in
-        own_cancelled tables n ((course W).ran v a g t) None os h.bound h.moved a.session k r.what r.kept r.waits (no_higher v os k a g t h is);
+        own_cancelled tables n ((course W).ran v a g t) None os h.bound h.moved a.session k r.what r.kept r.waits r.no_higher;
     commits = λ v os k a g t h held is. goes v os k a g t h (λ e. absurd (let c = sym is ∙ e in cc));
     done = λ v os k a g t h held is. goes v os k a g t h (λ e. absurd (let c = sym is ∙ e in cc));
     refused = λ v os k a g t f h held is. goes v os k a g t h (λ e. absurd (let c = sym is ∙ e in cc));

@@ -39,7 +39,7 @@ pub record IsKept {O : Type 0} (tables : CatalogueEvents → ℕ) (n bound : ℕ
   pub sound : AreLocksSound (lock_events v.history)
   pub waits : (s : ℕ) (w : Wanted) → wanted (lock_events v.history) s ≡ Some w → Stands n bound v.cancelled moved s w
   pub room : tables (catalogue_events v.history) ≤ bound
-  pub turn : IfSome turn (λ s. (s < n) × (wanted (lock_events v.history) s ≡ None))
+  pub goes_on : IfSome turn (λ s. (s < n) × (wanted (lock_events v.history) s ≡ None))
 
 pub record IsRanked {O : Type 0} (tables : CatalogueEvents → ℕ) (n : ℕ) (v : Database O) (turn : Option ℕ) (opened : List Bool) (k : ℕ) : Type 0 where
   pub bound : ℕ

@@ -13,4 +13,4 @@ mod laws;
 mod parts;
 
 pub use laws::{AskingStatements, Running, statements_come_to_an_end};
-pub use parts::{locks_are_asked_for, others_are_waited_for, parts_follow};
+pub use parts::{Given, locks_are_asked_for, others_are_waited_for, parts_follow};
