@@ -1,19 +1,16 @@
 -- What each call that runs no statement leaves of a rank.
-use Rattle.std.proofs.Common.{◌≡◌, ◌≢◌, ◌<◌, ◌≤◌, ℕ, ◌+◌, ◌==◌, ◌⊎◌, Bool, true, false, List, [], ◌∷◌, ◌++◌, Option, Some, None, refl, ap, sym, subst, ◌∙◌, inl, inr, if◌then◌else◌, IfSome, is_some, length, replicate, slice_index_or, slice_set, arith, length-set, get_or-set_other, get_or-set_same}
+use Rattle.std.proofs.Common.{◌≡◌, ◌≢◌, ◌<◌, ◌≤◌, ℕ, ◌+◌, ◌⊎◌, Bool, true, false, List, [], ◌∷◌, ◌++◌, Option, Some, None, refl, ap, sym, subst, ◌∙◌, inl, inr, if◌then◌else◌, IfSome, is_some, length, replicate, slice_index_or, slice_set, arith, length-set, get_or-set_other, get_or-set_same}
 use Rattle.std.specs.List.{sum_by}
 use Rattle.std.proofs.lemmas.Grind.{common_steps}
-use Rattle.std.proofs.lemmas.Bool.{cases_Bool, cases_eq, cases_lt}
+use Rattle.std.proofs.lemmas.Bool.{cases_lt}
 use Rattle.std.proofs.lemmas.Bool.Decides.{nat_tests}
 use Rattle.std.proofs.lemmas.List.{length-replicate, get_or-replicate, get_or_past}
-use Rattle.pg_values.specs.declared.ids.TableNo.{TableNo}
-use Rattle.pg_values.specs.declared.lock_mode.LockMode.{LockMode}
 use Rattle.history.specs.declared.wait.WaitOn.{WaitOn}
 use Rattle.history.specs.declared.wait.Wanted.{Wanted}
 use Rattle.history.specs.declared.wait.Wanted.TheVariants.{Lock, Others}
 use Rattle.history.specs.Catalogue.{CatalogueEvents}
-use Rattle.history.specs.History.{lock_events, catalogue_events}
+use Rattle.history.specs.History.{lock_events}
 use Rattle.history.specs.Locks.{LockEvents, WaitResumed, WaitWithdrawn, wanted, queue}
-use Rattle.history.specs.LocksSound.{AreLocksSound}
 use Rattle.history.specs.Transactions.{TxEvent}
 use Rattle.history.specs.Waits.{ready}
 use Rattle.lock_table.specs.Stands.{names}
@@ -25,7 +22,6 @@ use Rattle.statement_runs.specs.Weight.{of_flag, of_mark}
 use Rattle.statement_ends.proofs.Cutting.{is_itself, ready_some, first_passes, first_in, cut_added, cut_gone}
 use Rattle.statement_ends.proofs.Waiting.{lacks_wanted, ready_names, ready_waits, first_waits, got_it, still_holds}
 use Rattle.run_ends.specs.Executors.{HasRank, HasLower}
-use Rattle.statement_ends.specs.Asking.{IsBounded}
 use Rattle.statement_ends.specs.Rank.{unheld, slack, Stands, IsKept, IsRanked}
 use Rattle.statement_ends.proofs.Shrinking.{Shrinks, bounded_below, over_left, given_up_shrinks, idle_after}
 use Rattle.statement_ends.proofs.Sums.{flag_set_less, mark_cleared, unheld_mono, unheld_less, flag_lower, cut_no_higher, lock_lower, mark_lower, cut_lower}

@@ -6,4 +6,4 @@ pub mod Kept
 pub mod Ran
 pub mod Once
 pub mod Whole
-pub mod Joined
+pub mod Asked

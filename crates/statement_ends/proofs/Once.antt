@@ -1,5 +1,5 @@
 -- A statement of the course commits what it did first once at most.
-use Rattle.std.proofs.Common.{◌≡◌, ◌≢◌, ◌<◌, ℕ, Bool, true, false, List, [], ◌∷◌, ◌++◌, Option, Some, None, refl, ap, sym, subst, ◌∙◌, if◌then◌else◌, length, slice_index_or, slice_set, get_or-set_other, get_or-set_same}
+use Rattle.std.proofs.Common.{◌≡◌, ◌<◌, ℕ, Bool, true, false, List, [], ◌∷◌, ◌++◌, Option, None, refl, ap, sym, subst, ◌∙◌, if◌then◌else◌, length, slice_index_or, slice_set, get_or-set_other, get_or-set_same}
 use Rattle.history.specs.Catalogue.{CatalogueEvents}
 use Rattle.schedule.specs.Lists.{without}
 use Rattle.sessions.specs.Commits.{CommitsOnce}
@@ -7,8 +7,6 @@ use Rattle.sessions.specs.declared.asker.Asker.{Asker}
 use Rattle.sessions.specs.declared.settings.Settings.{Settings}
 use Rattle.stores.specs.Events.{resumed}
 use Rattle.statement_steps.specs.declared.rest.Rest.{Rest}
-use Rattle.statement_steps.specs.Ended.{Ended}
-use Rattle.statement_steps.specs.Made.{Made}
 use Rattle.statement_runs.specs.Database.{Database, course, waits, cancels, cuts, all_cut, cut_by, interrupted, is_ready, happened, caller_of, command_of, is_cancelled, rest_of, rest_told, outcome_told, attempt_of, unless_cancelled}
 use Rattle.statement_runs.specs.Once.{AllCommitOnce}
 use Rattle.statement_runs.specs.Words.{Words}

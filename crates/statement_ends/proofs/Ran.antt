@@ -1,5 +1,5 @@
 -- What a statement leaves of a rank.
-use Rattle.std.proofs.Common.{◌≡◌, ◌≢◌, ◌<◌, ◌≤◌, ℕ, ◌+◌, ◌⊎◌, Bool, true, false, List, [], ◌∷◌, ◌++◌, Option, Some, None, Result, Ok, Err, refl, ap, sym, subst, ◌∙◌, inl, inr, length, replicate, slice_index_or, slice_set, arith, length-set}
+use Rattle.std.proofs.Common.{◌≡◌, ◌<◌, ◌≤◌, ℕ, ◌+◌, ◌⊎◌, Bool, true, false, List, [], ◌∷◌, ◌++◌, Option, Some, None, Result, Ok, Err, refl, sym, subst, ◌∙◌, inl, inr, length, replicate, slice_set, arith, length-set}
 use Rattle.std.specs.List.{sum_by}
 use Rattle.std.proofs.lemmas.Bool.{cases_eq}
 use Rattle.std.proofs.lemmas.List.{length-replicate}
@@ -7,10 +7,9 @@ use Rattle.refusals.specs.Refusals.{statement_cancelled}
 use Rattle.history.specs.declared.wait.Wanted.{Wanted}
 use Rattle.history.specs.Catalogue.{CatalogueEvents}
 use Rattle.history.specs.History.{History, lock_events, catalogue_events}
-use Rattle.history.specs.Locks.{LockEvents, SnapshotGone, wanted}
+use Rattle.history.specs.Locks.{SnapshotGone, wanted}
 use Rattle.history.specs.LocksSound.{AreLocksSound}
 use Rattle.sessions.specs.declared.asker.Asker.{Asker}
-use Rattle.sessions.specs.declared.outcome.Outcome.{Outcome}
 use Rattle.sessions.specs.declared.outcome.Outcome.TheVariants as outcomes
 use Rattle.sessions.specs.declared.phase.Isolation.{Isolation}
 use Rattle.sessions.specs.declared.phase.Isolation.TheVariants.{ReadCommitted, ReadUncommitted, RepeatableRead}
@@ -18,10 +17,10 @@ use Rattle.stores.specs.Events.{let_go}
 use Rattle.statement_steps.specs.Ended.{Ended, Done, Commits}
 use Rattle.statement_steps.specs.Made.{Made, Halt, Waits, Refused, halted}
 use Rattle.statement_steps.specs.declared.rest.Rest.{Rest}
-use Rattle.statement_runs.specs.Database.{Database, is_cancelled, rest_of, command_of, goes_on, given_up, let_go_at, next_command, rest_told, outcome_told, unless_cancelled, all_cut}
+use Rattle.statement_runs.specs.Database.{Database, is_cancelled, rest_of, command_of, goes_on, given_up, let_go_at, next_command, rest_told, outcome_told, unless_cancelled}
 use Rattle.statement_runs.specs.Weight.{of_flag}
-use Rattle.statement_ends.specs.Asking.{IsBounded, IsWaiting, WaitsAsTold, Asks}
-use Rattle.statement_ends.specs.Rank.{unheld, slack, Stands, IsKept, IsRanked}
+use Rattle.statement_ends.specs.Asking.{IsWaiting, WaitsAsTold, Asks}
+use Rattle.statement_ends.specs.Rank.{unheld, slack, Stands, IsKept}
 use Rattle.statement_ends.proofs.Shrinking.{Shrinks, bounded_below, snapshot_shrinks, shrinks_twice, idle_after}
 use Rattle.statement_ends.proofs.Kept.{set_apart, cleared, given_up_waits}
 use Rattle.statement_ends.proofs.Sums.{unheld_mono, flags_same, lock_no_higher}

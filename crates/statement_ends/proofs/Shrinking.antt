@@ -1,5 +1,5 @@
 -- What is left of waits as others go on.
-use Rattle.std.proofs.Common.{◌≡◌, ◌≢◌, ◌<◌, ◌≤◌, ℕ, ◌==◌, ◌&&◌, Bool, true, false, List, ◌∷◌, Option, Some, None, refl, inl, inr, ap, sym, subst, ◌∙◌, if◌then◌else◌, is_some, arith}
+use Rattle.std.proofs.Common.{◌≡◌, ◌≢◌, ◌≤◌, ℕ, ◌==◌, true, ◌∷◌, Option, Some, None, refl, inl, inr, ap, sym, subst, ◌∙◌, if◌then◌else◌, arith}
 use Rattle.std.proofs.lemmas.Grind.{common_steps}
 use Rattle.std.proofs.lemmas.Bool.{and_parts, cases_Bool}
 use Rattle.std.proofs.lemmas.Bool.Decides.{nat_tests}
@@ -11,7 +11,7 @@ use Rattle.std.specs.Prelude.{◌-◌, ◌*◌, ◌^◌, ◌%◌}
 use Rattle.history.specs.declared.wait.WaitOn.TheVariants.{Ends, Snapshots}
 use Rattle.history.specs.declared.wait.Wanted.{Wanted}
 use Rattle.history.specs.declared.wait.Wanted.TheVariants.{Lock, Others}
-use Rattle.history.specs.Locks.{LockEvents, LocksGivenUp, SnapshotGone, WaitResumed, WaitWithdrawn, wanted, after_end, after_snapshot}
+use Rattle.history.specs.Locks.{LockEvents, LocksGivenUp, SnapshotGone, WaitWithdrawn, wanted, after_end, after_snapshot}
 use Rattle.statement_ends.specs.Asking.{IsBounded}
 
 -- who waits after the events waited before, for as much at least

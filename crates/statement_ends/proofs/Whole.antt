@@ -1,18 +1,16 @@
 -- Each call of the course lowers the rank.
-use Rattle.std.proofs.Common.{◌≡◌, ◌<◌, ◌≤◌, ℕ, Bool, true, false, List, [], Option, Some, None, refl, ap, sym, subst, ◌∙◌, replicate, slice_index_or, arith}
+use Rattle.std.proofs.Common.{◌≡◌, ◌≤◌, ℕ, Bool, true, false, List, [], Option, Some, None, refl, sym, ◌∙◌, replicate, arith}
 use Rattle.history.specs.Catalogue.{CatalogueEvents}
 use Rattle.history.specs.Transactions.{TxCommitted, TxAborted}
-use Rattle.history.specs.History.{History, lock_events}
+use Rattle.history.specs.History.{lock_events}
 use Rattle.history.specs.Locks.{wanted}
 use Rattle.sessions.specs.declared.asker.Asker.{Asker}
 use Rattle.sessions.specs.declared.outcome.Outcome.TheVariants as outcomes
 use Rattle.sessions.specs.declared.settings.Settings.{Settings}
 use Rattle.stores.specs.Events.{tx_in}
-use Rattle.statement_steps.specs.Ended.{Ended}
-use Rattle.statement_steps.specs.Made.{Made}
 use Rattle.statement_runs.specs.Database.{Database, course, cut_by, caller_of, command_of, is_cancelled, rest_of, outcome_told, attempt_of, goes_on, empty}
 use Rattle.statement_runs.specs.Words.{Words}
-use Rattle.run_ends.specs.Executors.{HasRank, HasLower, HasNotHigher, LowersIn}
+use Rattle.run_ends.specs.Executors.{HasRank, LowersIn}
 use Rattle.statement_ends.specs.Asking.{Asks, AllAsk}
 use Rattle.statement_ends.specs.Rank.{slack, IsKept, IsRanked}
 use Rattle.statement_ends.proofs.Kept.{ranked, empty_kept, turned, ended_kept, own_cancelled, all_cut_kept, resumes_lower, cancelled_lower, is_none}

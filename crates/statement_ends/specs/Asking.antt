@@ -4,7 +4,7 @@ use Rattle.pg_values.specs.declared.lock_mode.LockMode.{LockMode}
 use Rattle.history.specs.declared.wait.Wanted.{Wanted}
 use Rattle.history.specs.declared.wait.Wanted.TheVariants.{Lock, Others}
 use Rattle.history.specs.Catalogue.{CatalogueEvents}
-use Rattle.history.specs.Locks.{LockEvents, wanted, holds}
+use Rattle.history.specs.Locks.{wanted, holds}
 use Rattle.history.specs.LocksSound.{AreLocksSound}
 use Rattle.history.specs.History.{History, lock_events, catalogue_events}
 use Rattle.lock_table.specs.Stands.{names}

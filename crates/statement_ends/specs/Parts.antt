@@ -1,13 +1,11 @@
 -- The parts of which statements are made do to locks and waits what a statement may (the manual, 13.3.1 Table-Level Locks).
-use Rattle.std.specs.Prelude.{◌≡◌, ◌<◌, ℕ, List, Option, ◌++◌, Ok}
+use Rattle.std.specs.Prelude.{◌<◌, ℕ, List, Option}
 use Rattle.pg_values.specs.declared.lock_mode.LockMode.{LockMode}
 use Rattle.history.specs.declared.wait.WaitOn.{WaitOn}
 use Rattle.history.specs.declared.wait.Wanted.TheVariants.{Others}
 use Rattle.history.specs.Catalogue.{CatalogueEvents}
 use Rattle.history.specs.History.{History, catalogue_events}
 use Rattle.statement_steps.specs.Asks.{locked, waited}
-use Rattle.statement_steps.specs.Made.{Made}
-use Rattle.statement_steps.specs.Steps.{follow}
 use Rattle.statement_steps.specs.declared.rest.Rest.{Rest}
 use Rattle.statement_ends.specs.Asking.{IsBounded, MayAsk, Asks}
 
@@ -18,9 +16,3 @@ LocksAreAskedFor = (tables : CatalogueEvents → ℕ) (names : List (List ℕ)) 
 -- a wait for others that are sessions
 abbrev pub OthersAreWaitedFor : Type 0
 OthersAreWaitedFor = (tables : CatalogueEvents → ℕ) (names : List (List ℕ)) (s : ℕ) (what : WaitOn) (rest : Option Rest) (h : History) → MayAsk s h → IsBounded (tables (catalogue_events h)) (Others what) → Asks tables s h (waited names s what rest h)
-
--- one part after another, where the first one leaves the catalogue as it was
-abbrev pub PartsFollow : (T U : Type 0) → Type 0
-PartsFollow T U =
-    (tables : CatalogueEvents → ℕ) (s : ℕ) (f : History → Made T) (next : T → History → Made U) (h : History) → MayAsk s h → Asks tables s h (f h) → catalogue_events ((f h).events ++ h) ≡ catalogue_events h
-    → ((x : T) → (f h).told ≡ Ok x → MayAsk s ((f h).events ++ h) → Asks tables s ((f h).events ++ h) (next x ((f h).events ++ h))) → Asks tables s h (follow f next h)

@@ -5,12 +5,11 @@
 //! the database of a run has a rank: the locks that sessions could still get, the waits that could still be cancelled,
 //! and the sessions that could go on since something was given up.
 //!
-//! Statements are made of parts. That a lock is asked for, that others are waited for, and that one part follows another
-//! is such a part, whatever statement it is of.
+//! Where a lock is asked for, or others are waited for, locks and waits are as that asks, whatever statement it is a part of.
 #![tactic(auto)]
 
 mod laws;
 mod parts;
 
 pub use laws::{AskingStatements, Running, statements_come_to_an_end};
-pub use parts::{Given, locks_are_asked_for, others_are_waited_for, parts_follow};
+pub use parts::{locks_are_asked_for, others_are_waited_for};

@@ -1,4 +1,4 @@
-ghost use Rattle.statement_ends.specs.Parts.{LocksAreAskedFor, OthersAreWaitedFor, PartsFollow};
+ghost use Rattle.statement_ends.specs.Parts.{LocksAreAskedFor, OthersAreWaitedFor};
 
 use lock_table::what_is_asked_may_come;
 
@@ -15,15 +15,3 @@ pub fn others_are_waited_for()
 {
     what_is_asked_may_come();
 }
-
-/// What two parts give: an empty type stands for them.
-pub trait Given {
-    ghost First: { Type 0 };
-
-    ghost Second: { Type 0 };
-}
-
-/// Parts that follow one another are a part.
-pub fn parts_follow<G: Given>()
-    ensures { PartsFollow G.First G.Second }
-{}

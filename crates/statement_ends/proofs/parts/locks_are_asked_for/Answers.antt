@@ -1,4 +1,4 @@
-use Rattle.statement_ends.proofs.Joined.{locked_asks}
+use Rattle.statement_ends.proofs.Asked.{locked_asks}
 use Rattle.statement_ends.proofs.parts.locks_are_asked_for.Goals as goal
 
 pub returns : goal.returns

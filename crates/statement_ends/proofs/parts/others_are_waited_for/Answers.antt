@@ -1,4 +1,4 @@
-use Rattle.statement_ends.proofs.Joined.{waited_asks}
+use Rattle.statement_ends.proofs.Asked.{waited_asks}
 use Rattle.statement_ends.proofs.parts.others_are_waited_for.Goals as goal
 
 pub returns : goal.returns

@@ -1,5 +1,5 @@
 -- Parts of statements ask.
-use Rattle.std.proofs.Common.{◌≡◌, ◌≢◌, ◌<◌, ◌≤◌, ℕ, ◌==◌, ◌||◌, Bool, true, false, List, [], ◌∷◌, ◌++◌, Option, Some, None, Result, Ok, Err, refl, ap, sym, subst, ◌∙◌, if◌then◌else◌, map, arith, append_assoc}
+use Rattle.std.proofs.Common.{◌≡◌, ◌≢◌, ◌<◌, ℕ, ◌||◌, Bool, true, false, List, [], ◌∷◌, ◌++◌, Option, Some, None, refl, ap, sym, subst, ◌∙◌, map, arith}
 use Rattle.std.proofs.lemmas.Grind.{common_steps}
 use Rattle.std.proofs.lemmas.Bool.Decides.{nat_tests}
 use Rattle.pg_values.specs.declared.lock_mode.LockMode.{LockMode}
@@ -13,15 +13,13 @@ use Rattle.history.specs.Locks.{LockEvents, LockGot, WaitBegan, wanted, holds}
 use Rattle.history.specs.LocksSound.{AreLocksSound}
 use Rattle.history.specs.Waits.{is_cause}
 use Rattle.lock_table.specs.AnswerLaws.{WhatIsAskedMayCome}
-use Rattle.lock_table.specs.Asked.{AskedView, AtOnce, WaitsBehind, ClosesCycle, asked, events_of, asked_events}
+use Rattle.lock_table.specs.Asked.{AskedView, AtOnce, WaitsBehind, ClosesCycle, asked, events_of}
 use Rattle.lock_table.specs.Stands.{names as named_in}
 use Rattle.statement_steps.specs.Asks.{locked, waited, told_by}
 use Rattle.statement_steps.specs.Attempts.{HasCause}
-use Rattle.statement_steps.specs.Made.{Made, Halt, Waits, Refused, and_then, then_told, behind, halted}
-use Rattle.statement_steps.specs.Steps.{follow}
+use Rattle.statement_steps.specs.Made.{Made}
 use Rattle.statement_steps.specs.declared.rest.Rest.{Rest}
-use Rattle.statement_ends.specs.Asking.{IsBounded, IsWaiting, WaitsAsTold, MayAsk, Asks}
-use Rattle.statement_ends.specs.Parts.{PartsFollow}
+use Rattle.statement_ends.specs.Asking.{IsBounded, WaitsAsTold, MayAsk, Asks}
 
 -- ---- events of locks
 
@@ -93,43 +91,3 @@ locked_asks come tables names s t m h may low =
 pub waited_asks : WhatIsAskedMayCome → (tables : CatalogueEvents → ℕ) (names : List (List ℕ)) (s : ℕ) (what : WaitOn) (rest : Option Rest) (h : History) → MayAsk s h → IsBounded (tables (catalogue_events h)) (Others what) → Asks tables s h (waited names s what rest h)
 waited_asks come tables names s what rest h may low =
     answer_asks tables names s rest h may (Others what) (asked (lock_events h) s (Others what)) low (come (lock_events h) s (Others what) may.sound may.known may.idle)
-
--- ---- one part after another
-
--- behind a part that is done
-behind_asks : {U : Type 0} (tables : CatalogueEvents → ℕ) (s : ℕ) (es : History) (m : Made U) (h : History) → ((x t : ℕ) (k : LockMode) → holds (lock_events h) x t k ≡ true → holds (lock_events (es ++ h)) x t k ≡ true)
-    → ((x : ℕ) → x ≢ s → wanted (lock_events (es ++ h)) x ≡ wanted (lock_events h) x) → catalogue_events (es ++ h) ≡ catalogue_events h → Asks tables s (es ++ h) m → Asks tables s h (behind es m)
-behind_asks {U} tables s es m h stay others same asks =
-    let e = append_assoc m.events es h in
-    record {
-      sound = subst (λ g. AreLocksSound (lock_events g)) (sym e) asks.sound;
-      stay = λ x t k held. subst (λ g. holds (lock_events g) x t k ≡ true) (sym e) (asks.stay x t k (stay x t k held));
-      others = λ x other. ap (λ g. wanted (lock_events g) x) e ∙ (asks.others x other ∙ others x other);
-      told = subst (λ g. WaitsAsTold tables s h g m.told) (sym e) (by m.told asks.told);
-    }
-  where
-    by : (r : Result U Halt) → WaitsAsTold tables s (es ++ h) (m.events ++ (es ++ h)) r → WaitsAsTold tables s h (m.events ++ (es ++ h)) r
-    by (Ok x) told = told
-    by (Err (Refused f)) told = told
-    by (Err (Waits rest)) told = record {
-      what = told.what;
-      waits = told.waits;
-      bounded = subst (λ c. IsBounded (tables c) told.what) same told.bounded;
-      caused = told.caused;
-      no_more = subst (λ c. tables (catalogue_events (m.events ++ (es ++ h))) ≤ tables c) same told.no_more;
-    }
-
-pub follow_asks : (T U : Type 0) → PartsFollow T U
-follow_asks T U tables s f next h may asks same on = by (f h).told refl
-  where
-    by : (r : Result T Halt) → (f h).told ≡ r → Asks tables s h (then_told r (f h).events (λ x. next x ((f h).events ++ h)))
-    by (Ok x) is =
-        let told : WaitsAsTold {T = T} tables s h ((f h).events ++ h) (Ok x) = subst (λ r. WaitsAsTold {T = T} tables s h ((f h).events ++ h) r) is asks.told in
-        behind_asks tables s (f h).events (next x ((f h).events ++ h)) h asks.stay asks.others same (on x is (record { known = may.known; sound = asks.sound; idle = told }))
-    by (Err stop) is =
-        let told : WaitsAsTold {T = T} tables s h ((f h).events ++ h) (Err stop) = subst (λ r. WaitsAsTold {T = T} tables s h ((f h).events ++ h) r) is asks.told in
-        record { sound = asks.sound; stay = asks.stay; others = asks.others; told = halts stop told }
-      where
-        halts : (stop : Halt) → WaitsAsTold {T = T} tables s h ((f h).events ++ h) (Err stop) → WaitsAsTold {T = U} tables s h ((f h).events ++ h) (Err stop)
-        halts (Waits rest) told = told
-        halts (Refused f) told = told
