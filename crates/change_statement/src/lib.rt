@@ -38,6 +38,7 @@ mod settings;
 mod standing;
 mod statement;
 mod step;
+mod turn;
 mod updater;
 mod updating;
 mod verdicts;
@@ -45,7 +46,7 @@ mod waiting;
 
 pub use deciding::decide;
 pub use faults::could_not_serialize;
-pub use finding::{TargetRow, find_targets};
+pub use finding::find_targets;
 pub use laws::{kept_have_all_targets, pruned_changes_are_plain};
 pub use settings::new_row;
 pub use statement::{delete, update};

@@ -39,7 +39,7 @@ pub use laws::{
 };
 pub use leaf_list::LeafList;
 pub use leaves_below::leaf_targets;
-pub use placing::place_rows;
+pub use placing::{check_bounds, place_rows};
 pub use storing::{check_leaf, store_rows};
 pub use succession::succeed_row;
 pub use target::Target;

@@ -5,3 +5,5 @@ pub mod Faults
 pub mod Known
 pub mod Steps
 pub mod Asks
+pub mod Waiting
+pub mod Gathered

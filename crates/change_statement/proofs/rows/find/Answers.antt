@@ -1,7 +1,11 @@
 use Rattle.std.proofs.Common.{◌<◌, All, sym, subst}
+use Rattle.std.proofs.lemmas.Result.{IfOk-weaker}
 use Rattle.pg_values.specs.declared.ids.LeafId.{LeafId}
-use Rattle.change_statement.specs.Gathered.{found_of}
+use Rattle.stores.specs.Events.{look_of}
+use Rattle.statement_steps.specs.Gathered.{found_of}
+use Rattle.change_statement.specs.Running.{IsTargetIn}
 use Rattle.change_statement.proofs.Kept.{leaves_there}
+use Rattle.change_statement.proofs.Targets.{all_targets}
 use Rattle.change_statement.proofs.rows.find.Goals as goal
 
 pub find_targets-requires : goal.find_targets-requires
