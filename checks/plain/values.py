@@ -78,10 +78,17 @@ def judge_assignment(kind, wanted):
 class Bound:
     """An expression whose names and kinds were judged. `kind` is None for null, "literal" for a string
     whose place has given it no kind yet; `of` computes the value of a tuple: for each item of FROM a row, a list
-    of values, and the name of the leaf that it lies in. A column is known by its item's number and its place."""
+    of values, and the leaf that it lies in (`lying`). A column is known by its item's number and its place, a table by
+    its item's number."""
 
-    def __init__(self, kind, of, is_constant, text=None, item=None, place=None):
-        self.kind, self.of, self.is_constant, self.text, self.item, self.place = kind, of, is_constant, text, item, place
+    def __init__(self, kind, of, is_constant, text=None, item=None, place=None, table=None):
+        self.kind, self.of, self.is_constant, self.text = kind, of, is_constant, text
+        self.item, self.place, self.table = item, place, table
+
+
+def lying(values, table):
+    """A row of an item: its values, and the name of its table and that one's place among all that were made."""
+    return values, table.name, table.number
 
 
 class Test:
@@ -167,7 +174,7 @@ class Scope:
             return Bound(kind, lambda row: row[item][0][place], False, item=item, place=place)
         if sort == "regclass":
             number = self.only(self.called(written[1]), "tableoid")[0]
-            return Bound("text", lambda row: row[number][1], False)
+            return Bound("text", lambda row: row[number][1], False, table=number)
         if sort == "arithmetic":
             return self.arithmetic(written)
         if sort == "call":

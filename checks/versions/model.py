@@ -6,7 +6,7 @@ A history is the list of all events so far. What became of a transaction, what a
 snapshot sees of a leaf and what became of a version are looked up in that list, event by event, as
 `crates/history/specs` defines them in `Transactions.antt`, `Snapshots.antt`, `Rows.antt` and
 `History.antt`; a snapshot's place is the number of events before it. Nothing here is kept from one
-question to the next. The form of the steps and the answers stands in `crates/version_schedules/src/main.rt`.
+question to the next. The form of the steps and the answers stands in `crates/store_schedules/src/versions.rt`.
 
     checks/versions/model.py FOLDER     writes FOLDER/stdin, the schedules, and FOLDER/stdout, the answers
 """

@@ -5,10 +5,10 @@ use Rattle.std.proofs.lemmas.Bool.{cases_Bool}
 use Rattle.std.proofs.lemmas.Slice.Eq.{bytes_eq-Decides}
 use Rattle.pg_values.specs.declared.value.Kind.{Kind}
 use Rattle.pg_values.specs.declared.value.Kind.TheVariants as kinds
+use Rattle.refusals.specs.Refusals.{column_does_not_match}
 use Rattle.history.specs.declared.catalogue.Column.{Column}
 use Rattle.history.specs.Places.{IsColumnOf, HasColumnsOf}
 use Rattle.attach_statement.specs.Columns.{same_kind, matches, column_faults}
-use Rattle.attach_statement.specs.Faults.{does_not_match}
 
 both : (a b : Bool) → (a && b) ≡ true → (a ≡ true) × (b ≡ true)
 both true b e = (refl, e)
@@ -57,5 +57,5 @@ columns_of t [] (c ∷ cs) e = absurd (let d = e in cc)
 columns_of t (p ∷ ps) [] e = absurd (let d = e in cc)
 columns_of t (p ∷ ps) (c ∷ cs) e = elim (cases_Bool (matches p c)) [
   | inl y ↦ (column_of p c y, columns_of t ps cs (rw y at e))
-  | inr n ↦ absurd (let d : (does_not_match p.name t ∷ []) ≡ [] = rw n at e in cc)
+  | inr n ↦ absurd (let d : (column_does_not_match p.name t ∷ []) ≡ [] = rw n at e in cc)
 ]

@@ -9,6 +9,7 @@ use Rattle.pg_values.specs.declared.fault.Refusal.{Refusal}
 use Rattle.pg_values.specs.declared.fault.Refusal.TheVariants.{Sql, NoMemory}
 use Rattle.pg_values.specs.declared.ids.TableNo.{TableNo}
 use Rattle.pg_values.specs.declared.which.Which.TheVariants.{Partitions, Levels}
+use Rattle.refusals.specs.Refusals.{too_many, already_a_partition, is_above}
 use Rattle.bound_forms.specs.Levels.{IsOfLevel}
 use Rattle.bound_forms.specs.declared.level.Level.{Level}
 use Rattle.bound_forms.specs.declared.partition_bound.Bound.{Bound as MeantBound}
@@ -26,7 +27,6 @@ use Rattle.part_catalog.specs.Answers.{parent_told}
 use Rattle.part_catalog.specs.Found.{made_at}
 use Rattle.part_catalog.specs.Full.{tables_up, tables_above}
 use Rattle.part_ddl.specs.Below.{tables_from}
-use Rattle.part_ddl.specs.Faults.{too_many}
 use Rattle.part_ddl.specs.Placing.{level_at, partitions_of, pending_name, names_below, bounds_below, bound_faults, place_faults}
 use Rattle.expression_binder.specs.Firsts.{IsAnswerBy}
 use Rattle.legal_statements.specs.Below.{numbers_from}
@@ -36,7 +36,6 @@ use Rattle.table_statements.proofs.Firsts.{to_answer, past_ok, past_none}
 use Rattle.table_statements.proofs.Placing.{takes_bound}
 use Rattle.attach_statement.specs.Asked.{MayBeAttached}
 use Rattle.attach_statement.specs.Columns.{column_faults}
-use Rattle.attach_statement.specs.Faults.{already_a_partition, is_above}
 use Rattle.attach_statement.specs.Places.{name_at, stands_above, table_faults, attach_place}
 use Rattle.attach_statement.proofs.Columned.{columns_of}
 

@@ -3,8 +3,8 @@ use Rattle.std.specs.Prelude.{ℕ, Bool, true, false, ◌&&◌, ◌||◌, not, i
 use Rattle.pg_values.specs.declared.value.Kind.{Kind}
 use Rattle.pg_values.specs.declared.value.Kind.TheVariants as kinds
 use Rattle.pg_values.specs.declared.fault.Fault.{Fault}
+use Rattle.refusals.specs.Refusals.{column_does_not_match}
 use Rattle.history.specs.declared.catalogue.Column.{Column}
-use Rattle.attach_statement.specs.Faults.{does_not_match}
 
 abbrev pub same_kind : Kind → Kind → Bool
 same_kind kinds.Int4 kinds.Int4 = true
@@ -22,6 +22,6 @@ matches p c = bytes_eq p.name c.name && (same_kind p.kind c.kind && (not p.not_n
 -- parent has not
 abbrev pub column_faults : (table : List ℕ) → (parent own : List Column) → List Fault
 column_faults t [] [] = []
-column_faults t [] (c ∷ cs) = does_not_match c.name t ∷ []
-column_faults t (p ∷ ps) [] = does_not_match p.name t ∷ []
-column_faults t (p ∷ ps) (c ∷ cs) = if matches p c then column_faults t ps cs else does_not_match p.name t ∷ []
+column_faults t [] (c ∷ cs) = column_does_not_match c.name t ∷ []
+column_faults t (p ∷ ps) [] = column_does_not_match p.name t ∷ []
+column_faults t (p ∷ ps) (c ∷ cs) = if matches p c then column_faults t ps cs else column_does_not_match p.name t ∷ []

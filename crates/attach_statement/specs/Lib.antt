@@ -1,4 +1,3 @@
-pub mod Faults
 pub mod Columns
 pub mod Places
 pub mod Attached

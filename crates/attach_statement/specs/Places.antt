@@ -4,6 +4,7 @@ use Rattle.std.specs.List.{list_any}
 use Rattle.pg_values.specs.declared.fault.Fault.{Fault}
 use Rattle.bound_forms.specs.declared.partition_bound.Bound.{Bound as MeantBound}
 use Rattle.pg_values.specs.Refusals.{unless}
+use Rattle.refusals.specs.Refusals.{already_a_partition, is_above}
 use Rattle.history.specs.History.{History}
 use Rattle.table_trees.specs.Histories.{ddl_tree}
 use Rattle.table_trees.specs.Trees.{height}
@@ -14,7 +15,6 @@ use Rattle.part_ddl.specs.Below.{tables_from}
 use Rattle.part_ddl.specs.Placing.{level_at, place_faults}
 use Rattle.table_statements.specs.Drops.{parent_in}
 use Rattle.table_statements.specs.Refused.{next_answer, unless_faults}
-use Rattle.attach_statement.specs.Faults.{already_a_partition, is_above}
 use Rattle.attach_statement.specs.Columns.{column_faults}
 
 abbrev pub name_at : History → (table : ℕ) → List ℕ

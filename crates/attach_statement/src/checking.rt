@@ -4,6 +4,7 @@ ghost use Rattle.std.specs.Prelude.{◌≡◌, ◌==◌, ◌<◌, ◌+◌, IfOk,
 ghost use Rattle.std.specs.List.{list_any};
 ghost use Rattle.pg_values.specs.Refusals.{IsAnswer, or_first, unless};
 ghost use Rattle.pg_values.specs.declared.which.Which.TheVariants.{Levels};
+ghost use Rattle.refusals.specs.Refusals as refusals;
 ghost use Rattle.history.specs.History.{History};
 ghost use Rattle.tx_table.specs.Stands.{TableStands};
 ghost use Rattle.table_trees.specs.Seen.{seen};
@@ -11,7 +12,6 @@ ghost use Rattle.table_trees.specs.Trees.{height};
 ghost use Rattle.part_catalog.specs.Answers.{AreTogether};
 ghost use Rattle.part_catalog.specs.Stands.{CatalogueStands};
 ghost use Rattle.part_ddl.specs.Below as below;
-ghost use Rattle.part_ddl.specs.Faults.{too_many as levels_passed};
 ghost use Rattle.sql_ast.specs.Commands.{bound_tree};
 ghost use Rattle.statement_steps.specs.Attempts.{MayAttempt};
 ghost use Rattle.statement_steps.specs.Steps.{IsStep};
@@ -20,11 +20,12 @@ ghost use Rattle.attach_statement.specs.Attached as attached;
 ghost use Rattle.attach_statement.specs.Places.{attach_place, table_faults};
 
 use crate::columns::check_columns;
-use crate::faults::{already_a_partition, is_above, stop_by, too_many};
+use crate::faults::stop_by;
 use bound_forms::Bound;
 use part_catalog::{Catalog, LEVEL_LIMIT};
 use part_ddl::{check_place, parent_level};
 use pg_values::{Refusal, TableNo, Which};
+use refusals::{already_a_partition, is_above, too_many};
 use sql_ast::BoundText;
 use statement_steps::{Caller, Stop};
 use std::alloc::Global;
@@ -75,7 +76,7 @@ fn check_table(
 // A path has 8 tables at most.
 fn check_levels(alloc: Global, above: usize, own: &Tree) -> Result<(), Refusal>
     requires { above < 9 }
-    ensures { IsAnswer result (or_first (unless (nat_le (above + height (seen own.now)) 8) (levels_passed Levels)) tt) }
+    ensures { IsAnswer result (or_first (unless (nat_le (above + height (seen own.now)) 8) (refusals.too_many Levels)) tt) }
 {
     if above + height_up_to(own, LEVEL_LIMIT + 1) > LEVEL_LIMIT {
         return Err(Refusal::Sql(too_many(alloc, Which::Levels)?));

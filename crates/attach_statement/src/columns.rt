@@ -1,11 +1,11 @@
 ghost use Rattle.std.specs.Prelude.{◌≡◌, Err};
-ghost use Rattle.attach_statement.specs.Faults.{does_not_match as does_not_match_column};
 ghost use Rattle.pg_values.specs.Refusals.{IsAnswer, or_first};
+ghost use Rattle.refusals.specs.Refusals as refusals;
 ghost use Rattle.attach_statement.specs.Columns as spec;
 
-use crate::faults::does_not_match;
 use history::Column;
 use pg_values::{Kind, NoMemory, Refusal};
+use refusals::column_does_not_match;
 use std::alloc::Global;
 
 fn same_kind(kind: Kind, other: Kind) -> bool
@@ -31,9 +31,9 @@ fn matches(parent: &Column, own: &Column) -> bool
 
 // Why the table is refused for that column.
 fn unmatched(alloc: Global, column: &Column, table: &[u8]) -> Refusal
-    ensures { IsAnswer {T = Unit {0}} (Err result) (Err (does_not_match_column column.now.name table.now)) }
+    ensures { IsAnswer {T = Unit {0}} (Err result) (Err (refusals.column_does_not_match column.now.name table.now)) }
 {
-    match does_not_match(alloc, column.name.as_bytes(), table) {
+    match column_does_not_match(alloc, column.name.as_bytes(), table) {
         Ok(fault) => Refusal::Sql(fault),
         Err(NoMemory) => Refusal::NoMemory,
     }

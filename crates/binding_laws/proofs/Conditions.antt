@@ -24,7 +24,6 @@ use Rattle.expression_binder.specs.declared.typed.Given.TheVariants.{Of, Quoted,
 use Rattle.expression_binder.specs.declared.typed.Typed.{Typed}
 use Rattle.expression_binder.specs.Conditions.{in_op, from_op, to_op, list_faults, end_faults, cond_faults, part_faults, alone_faults}
 use Rattle.expression_binder.specs.Constants.{scalar}
-use Rattle.expression_binder.specs.Faults.{no_operator, wrong_kind}
 use Rattle.expression_binder.specs.Firsts.{unless, fault_in}
 use Rattle.expression_binder.specs.Kinds.{is_arithmetic, kind_made, kind_beside, given_by, are_alike, kind_alone, side_kind, is_truth, truth_faults, comparison_faults}
 use Rattle.expression_binder.specs.Meanings.{as_operand, operand_of, param_operand, operand, side, alone, compare_op, side_faults, or_null, comparison, each_side_faults, comparisons, inverted_if, any_of, all_of, in_meaning, is_true, leaf_meaning, constant_faults, constants_faults, meaning, meanings}

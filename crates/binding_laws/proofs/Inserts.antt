@@ -5,10 +5,10 @@ use Rattle.std.specs.List.{list_any}
 use Rattle.std.specs.Str.{bytes_eq}
 use Rattle.pg_values.specs.declared.fault.Fault.{Fault}
 use Rattle.pg_values.specs.declared.value.Kind.{Kind}
+use Rattle.refusals.specs.Refusals.{wrong_count}
 use Rattle.sql_ast.specs.Expressions.{Trees, no_more, and_more}
 use Rattle.expression_binder.specs.declared.scope.ScopeColumn.{ScopeColumn}
 use Rattle.expression_binder.specs.Constants.{constant}
-use Rattle.expression_binder.specs.Faults.{wrong_count}
 use Rattle.expression_binder.specs.Firsts.{fault_in}
 use Rattle.expression_binder.specs.Kinds.{count_faults}
 use Rattle.expression_binder.specs.Scopes.{Scope}

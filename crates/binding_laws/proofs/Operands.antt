@@ -6,6 +6,7 @@ use Rattle.pg_values.specs.declared.value.Kind.{Kind}
 use Rattle.pg_values.specs.declared.value.Kind.TheVariants.{Int4 as KInt4, Int8 as KInt8, Text as KText, Day as KDay, Truth as KTruth}
 use Rattle.pg_values.specs.declared.value.Value.{Value}
 use Rattle.pg_values.specs.declared.value.Value.TheVariants as value
+use Rattle.refusals.specs.Refusals.{left_out, no_function}
 use Rattle.value_rules.specs.Arithmetic as arithmetic
 use Rattle.value_rules.specs.Reads.{reads}
 use Rattle.value_rules.specs.declared.operators.ArithFault.{ArithFault}
@@ -24,7 +25,7 @@ use Rattle.expression_binder.specs.declared.typed.Given.{Given}
 use Rattle.expression_binder.specs.declared.typed.Given.TheVariants.{Of, Quoted, Nothing}
 use Rattle.expression_binder.specs.declared.typed.Typed.{Typed}
 use Rattle.expression_binder.specs.Constants.{literal_of, number_value, param_value, found_column, row_table, item_table, arith_of, or_arith, as_literal, operated_by, operated, with_right, with_left, zero_scalar, cancel_of, scalar, first_argument}
-use Rattle.expression_binder.specs.Faults.{no_operator, left_out, sign, no_function}
+use Rattle.expression_binder.specs.Signs.{sign}
 use Rattle.expression_binder.specs.Firsts.{unless}
 use Rattle.expression_binder.specs.Kinds.{fixed, number_kind, is_arithmetic, kind_made, kind_beside, kind_alone, side_kind, joined, given_by, join_faults, arithmetic_faults}
 use Rattle.expression_binder.specs.Operands.{look_up_faults, in_item_faults, param_faults, row_table_faults, item_faults, table_name_faults, look_up_given, param_given, varying, is_pid, is_cancel, is_aggregate, is_session_function, is_session_number, suit, session_call_faults, call_faults, call_typed, star_faults, zero_typed, typed, all_typed, operand_faults, operands_faults}

@@ -1,13 +1,12 @@
 -- Values are of the kinds that they are read as and computed to.
 use Rattle.std.proofs.Common.{◌≡◌, ℕ, ◌+◌, ℤ, ◌+ℤ◌, ◌-ℤ◌, pos, nat_le, Bool, true, false, ◌&&◌, ◌||◌, List, [], ◌∷◌, ◌++◌, Option, Some, None, Result, Ok, Err, refl, sym, ap, subst, ◌∙◌, if◌then◌else◌}
 use Rattle.pg_values.specs.Days.{is_day}
-use Rattle.pg_values.specs.declared.fault.Fault.{Fault}
 use Rattle.pg_values.specs.declared.value.Kind.{Kind}
 use Rattle.pg_values.specs.declared.value.Kind.TheVariants.{Int4 as KInt4, Int8 as KInt8, Text as KText, Day as KDay, Truth as KTruth}
 use Rattle.pg_values.specs.declared.value.Value.{Value}
 use Rattle.pg_values.specs.declared.value.Value.TheVariants.{Null, Int4, Int8, Text, Day, Truth}
+use Rattle.refusals.specs.Refusals.{out_of_range}
 use Rattle.value_rules.specs.Arithmetic.{whole, moved, moved_by, apart, number, computed}
-use Rattle.value_rules.specs.FaultTexts.{out_of_range}
 use Rattle.value_rules.specs.Ranges.{fitted, dated, or_fault, is_integer, is_bigint}
 use Rattle.value_rules.specs.Reads.{reads, told, reading, in_range, integer_of}
 use Rattle.value_rules.specs.declared.operators.ArithFault.{ArithFault}

@@ -2,7 +2,8 @@
 
 use bound_checks::{RawBound, RawEdge, RawEdges, RawValue, RawValues};
 use bound_forms::{KeyColumn, KeyColumns, Level, Strategy};
-use pg_values::{Args, Fault, Kind, NoMemory, PgText, SqlState, Value};
+use pg_values::{Kind, NoMemory, PgText, Value};
+use refusals::left_out;
 use std::alloc::Global;
 
 /// The number that the word spells.
@@ -29,12 +30,7 @@ fn value(alloc: Global, word: &str) -> Result<RawValue, NoMemory> {
         return Ok(RawValue::Literal(text(alloc, literal)?));
     }
     if let Some(name) = word.strip_prefix('?') {
-        let mut args = Args::new(alloc);
-        args.push(text(alloc, name)?)?;
-        return Ok(RawValue::Faulty(Fault {
-            code: SqlState { bytes: *b"0A000" },
-            args,
-        }));
+        return Ok(RawValue::Faulty(left_out(alloc, name.as_bytes())?));
     }
     if let Some(given) = word.strip_prefix("s:") {
         return Ok(RawValue::Given(Value::Text(text(alloc, given)?)));

@@ -9,6 +9,7 @@ use Rattle.pg_values.specs.declared.fault.Refusal.{Refusal}
 use Rattle.pg_values.specs.Refusals.{IsAnswer, faults_in, read_in, unless}
 use Rattle.pg_values.specs.declared.value.Kind.{Kind}
 use Rattle.pg_values.specs.declared.value.Value.{Value}
+use Rattle.refusals.specs.Refusals.{wrong_bound_count, null_in_range, empty_range, bad_remainder}
 use Rattle.bound_forms.specs.declared.level.Level.{Level}
 use Rattle.bound_forms.specs.declared.level.Strategy.{Strategy}
 use Rattle.bound_forms.specs.declared.level.Strategy.TheVariants.{Range as ByRange, List as ByList, Hash as ByHash}
@@ -24,7 +25,6 @@ use Rattle.bound_forms.specs.Listed.{is_same}
 use Rattle.bound_forms.specs.Bounds.{is_below, is_filled}
 use Rattle.bound_checks.specs.RawBounds.{value_for, edges_for, values_for, point_for, each_once}
 use Rattle.bound_forms.specs.Levels.{only_kind, IsOf, IsBoundAt, IsOfLevel}
-use Rattle.bound_checks.specs.BoundFaults.{wrong_count, null_in_range, empty_range, bad_remainder}
 use Rattle.bound_checks.specs.Checks.{count_faults, has_null_edge, word_faults, range_faults, is_remainder, checked}
 use Rattle.bound_checks.proofs.CheckLaws.{none_found, answered, kept, none_left, none_behind}
 use Rattle.bound_checks.proofs.RawLaws.{value_is}
@@ -49,10 +49,10 @@ range_at columns lower upper h =
     let hu = none_behind l (u ++ z) hl in
     let hz = none_behind u z hu in
     let nulls = no_null (has_null_edge lower) (has_null_edge upper) null_in_range (none_left n (l ++ (u ++ z)) hn) in
-    let long = eqb-true (length lower) (length columns) (kept (length lower == length columns) (wrong_count (length lower) (length columns)) (none_left a (b ++ (c ++ (d ++ (n ++ (l ++ (u ++ z)))))) h)) in
+    let long = eqb-true (length lower) (length columns) (kept (length lower == length columns) (wrong_bound_count (length lower) (length columns)) (none_left a (b ++ (c ++ (d ++ (n ++ (l ++ (u ++ z)))))) h)) in
     let named = none_left l (u ++ z) hl in
     let repeated = none_left u z hu in
-    let wide = eqb-true (length upper) (length columns) (kept (length upper == length columns) (wrong_count (length upper) (length columns)) (none_left b (c ++ (d ++ (n ++ (l ++ (u ++ z))))) hb)) in (
+    let wide = eqb-true (length upper) (length columns) (kept (length upper == length columns) (wrong_bound_count (length upper) (length columns)) (none_left b (c ++ (d ++ (n ++ (l ++ (u ++ z))))) hb)) in (
       point_at columns lower long (none_left c (d ++ (n ++ (l ++ (u ++ z)))) hc) nulls.0 named,
       point_at columns upper wide (none_left d (n ++ (l ++ (u ++ z))) hd) nulls.1 repeated,
       kept (is_below (point_for columns lower) (point_for columns upper)) empty_range hz,

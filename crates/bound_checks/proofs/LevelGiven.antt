@@ -25,7 +25,7 @@ use Rattle.bound_forms.specs.Bounds.{is_below, is_filled}
 use Rattle.bound_checks.specs.RawBounds.{value_for, edge_for, edges_for, values_for, point_for, each_once}
 use Rattle.bound_forms.specs.Levels.{only_kind, IsOf, IsEdgeOf, HasEdges, Repeats, IsPointOf, AreOf, IsBoundAt}
 use Rattle.pg_values.specs.Refusals.{faults_in, read_in, unless, or_first}
-use Rattle.bound_checks.specs.BoundFaults.{wrong_count, null_in_range, empty_range, bad_remainder}
+use Rattle.refusals.specs.Refusals.{wrong_bound_count, null_in_range, empty_range, bad_remainder}
 use Rattle.bound_checks.specs.Checks.{count_faults, is_null_edge, has_null_edge, repeat_faults, word_faults, is_remainder, checked}
 use Rattle.bound_checks.specs.Laws.{LevelBoundsAreChecked}
 use Rattle.bound_checks.proofs.CheckLaws.{all_kept}
@@ -103,7 +103,7 @@ holds : (t : Bool) → t ≡ true → (f : Fault) → unless t f ≡ []
 holds t h f = rw h refl
 
 counted : (n m : ℕ) → n ≡ m → count_faults n m ≡ []
-counted n m h = holds (n == m) (eq-eqb n m h) (wrong_count n m)
+counted n m h = holds (n == m) (eq-eqb n m h) (wrong_bound_count n m)
 
 range_given : (columns : List KeyColumn) (l u : List Edge) → IsPointOf columns l → IsPointOf columns u → is_below l u ≡ true → (raw : RawBound) × (checked ByRange columns raw ≡ Ok (Range l u))
 range_given columns l u h k below =

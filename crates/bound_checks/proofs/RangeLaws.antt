@@ -5,6 +5,7 @@ use Rattle.pg_values.specs.declared.fault.Fault.{Fault}
 use Rattle.pg_values.specs.declared.fault.Refusal.{Refusal}
 use Rattle.pg_values.specs.Refusals.{IsAnswer, faults_in, read_in, or_first, unless}
 use Rattle.pg_values.specs.declared.value.Value.{Value}
+use Rattle.refusals.specs.Refusals.{null_in_range, empty_range, wrong_bound_count}
 use Rattle.bound_checks.specs.declared.raw_bound.RawValue.{RawValue}
 use Rattle.bound_forms.specs.declared.level.KeyColumn.{KeyColumn}
 use Rattle.bound_checks.specs.declared.raw_bound.RawEdge.{RawEdge}
@@ -14,14 +15,13 @@ use Rattle.bound_forms.specs.declared.point.Edge.{Edge}
 use Rattle.bound_forms.specs.Bounds.{is_below}
 use Rattle.bound_checks.specs.RawBounds.{edges_for, values_for, point_for, each_once}
 use Rattle.bound_forms.specs.Levels.{only_kind, HasEdges}
-use Rattle.bound_checks.specs.BoundFaults.{null_in_range, empty_range, wrong_count}
 use Rattle.bound_checks.specs.Checks.{count_faults, has_null_edge, word_faults, range_faults, list_faults}
 use Rattle.bound_checks.proofs.CheckLaws.{none_found, answered, kept, last, all_kept}
 use Rattle.bound_checks.proofs.RawLaws.{point_is}
 
 -- as many as are wanted
 pub count_is : {T : Type 0} (given wanted : ℕ) (u w : T) → or_first (count_faults given wanted) u ≡ Ok w → given ≡ wanted
-count_is given wanted u w h = eqb-true given wanted (kept (given == wanted) (wrong_count given wanted) (none_found (count_faults given wanted) u w h))
+count_is given wanted u w h = eqb-true given wanted (kept (given == wanted) (wrong_bound_count given wanted) (none_found (count_faults given wanted) u w h))
 
 -- no null on either side
 pub no_null : (s t : Bool) (f : Fault) → unless (not (s || t)) f ≡ [] → (s ≡ false) × (t ≡ false)

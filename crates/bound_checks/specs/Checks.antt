@@ -19,11 +19,11 @@ use Rattle.bound_forms.specs.Bounds.{is_below}
 use Rattle.bound_checks.specs.RawBounds.{edges_for, values_for, point_for, each_once}
 use Rattle.bound_forms.specs.Levels.{only_kind}
 use Rattle.pg_values.specs.Refusals.{unless, or_first, faults_in, read_in}
-use Rattle.bound_checks.specs.BoundFaults.{does_not_suit, wrong_count, null_in_range, not_repeated, bad_remainder, no_hash_default, empty_range}
+use Rattle.refusals.specs.Refusals.{bound_does_not_suit, wrong_bound_count, null_in_range, not_repeated, bad_remainder, no_hash_default, empty_range}
 
 -- so many values are given where so many are wanted
 abbrev pub count_faults : ℕ → ℕ → List Fault
-count_faults given wanted = unless (given == wanted) (wrong_count given wanted)
+count_faults given wanted = unless (given == wanted) (wrong_bound_count given wanted)
 
 abbrev pub is_null_value : RawValue → Bool
 is_null_value (Literal s) = false
@@ -73,24 +73,29 @@ range_faults columns lower upper =
 
 -- a list of no value is none
 abbrev pub list_faults : List KeyColumn → List RawValue → List Fault
-list_faults columns [] = wrong_count 0 1 ∷ []
+list_faults columns [] = wrong_bound_count 0 1 ∷ []
 list_faults columns (x ∷ values) = faults_in (values_for (only_kind columns) (x ∷ values))
 
 abbrev pub is_remainder : ℕ → ℕ → Bool
 is_remainder modulus remainder = nat_le modulus MOST_MODULUS && nat_lt remainder modulus
 
+abbrev pub strategy_word : Strategy → List ℕ
+strategy_word ByRange = codes "RANGE"
+strategy_word ByList = codes "LIST"
+strategy_word ByHash = codes "HASH"
+
 -- the faults of a bound, the first one first
 abbrev pub faults : Strategy → List KeyColumn → RawBound → List Fault
 faults ByRange columns (RawRange lower upper) = range_faults columns lower upper
-faults ByRange columns (RawList values) = does_not_suit ByRange ∷ []
-faults ByRange columns (RawHash modulus remainder) = does_not_suit ByRange ∷ []
+faults ByRange columns (RawList values) = bound_does_not_suit (strategy_word ByRange) ∷ []
+faults ByRange columns (RawHash modulus remainder) = bound_does_not_suit (strategy_word ByRange) ∷ []
 faults ByRange columns RawDefault = []
-faults ByList columns (RawRange lower upper) = does_not_suit ByList ∷ []
+faults ByList columns (RawRange lower upper) = bound_does_not_suit (strategy_word ByList) ∷ []
 faults ByList columns (RawList values) = list_faults columns values
-faults ByList columns (RawHash modulus remainder) = does_not_suit ByList ∷ []
+faults ByList columns (RawHash modulus remainder) = bound_does_not_suit (strategy_word ByList) ∷ []
 faults ByList columns RawDefault = []
-faults ByHash columns (RawRange lower upper) = does_not_suit ByHash ∷ []
-faults ByHash columns (RawList values) = does_not_suit ByHash ∷ []
+faults ByHash columns (RawRange lower upper) = bound_does_not_suit (strategy_word ByHash) ∷ []
+faults ByHash columns (RawList values) = bound_does_not_suit (strategy_word ByHash) ∷ []
 faults ByHash columns (RawHash modulus remainder) = unless (is_remainder modulus remainder) bad_remainder
 faults ByHash columns RawDefault = no_hash_default ∷ []
 

@@ -1,4 +1,3 @@
-pub mod BoundFaults
 pub mod Checks
 pub mod Laws
 pub mod RawBounds

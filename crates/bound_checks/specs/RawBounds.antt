@@ -6,6 +6,7 @@ use Rattle.pg_values.specs.declared.fault.Fault.{Fault}
 use Rattle.pg_values.specs.Refusals.{read_in}
 use Rattle.value_rules.specs.Reads.{reads}
 use Rattle.pg_values.specs.Kinds.{kind_of}
+use Rattle.refusals.specs.Refusals.{out_of_range, wrong_kind}
 use Rattle.value_rules.specs.Assignment.{assigned}
 use Rattle.value_rules.specs.declared.assignment.CoerceFault.{CoerceFault}
 use Rattle.value_rules.specs.declared.assignment.CoerceFault.TheVariants.{Kinds, Range as PastRange}
@@ -17,8 +18,6 @@ use Rattle.bound_checks.specs.declared.raw_bound.RawEdge.TheVariants.{Min as Raw
 use Rattle.bound_forms.specs.declared.point.Edge.{Edge}
 use Rattle.bound_forms.specs.declared.point.Edge.TheVariants.{Min, At, Max}
 use Rattle.bound_forms.specs.Listed.{is_same}
-use Rattle.value_rules.specs.FaultTexts.{out_of_range}
-use Rattle.bound_checks.specs.BoundFaults.{wrong_kind}
 
 -- a column of the kind gets the value that assignment gives it, or the value does not go there
 abbrev pub given_to : Kind → Kind → Result Value CoerceFault → Result Value Fault

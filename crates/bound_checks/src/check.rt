@@ -8,6 +8,7 @@
 ghost use Rattle.std.specs.Prelude.{◌≡◌, ◌<◌, ◌||◌, not, [], All, IfOk, length};
 ghost use Rattle.pg_values.specs.Refusals.{IsAnswer, read_in, or_first, unless};
 ghost use Rattle.pg_values.specs.KeyKinds.{IsNotNull};
+ghost use Rattle.refusals.specs.Refusals as refusals;
 ghost use Rattle.bound_forms.specs.declared.partition_bound.Bound.TheVariants.{Range, List as Listed, Hash};
 ghost use Rattle.bound_forms.specs.Points.{EdgeOfKind, PointsFit};
 ghost use Rattle.bound_forms.specs.Bounds.{is_below};
@@ -15,16 +16,15 @@ ghost use Rattle.bound_checks.specs.RawBounds.{values_for, each_once, point_for}
 ghost use Rattle.bound_forms.specs.Levels.{only_kind, IsOfLevel};
 ghost use Rattle.bound_checks.specs.Checks as checks;
 ghost use Rattle.bound_checks.specs.Checks.{count_faults, has_null_edge, repeat_faults, word_faults, range_faults, list_faults, is_remainder, checked};
-ghost use Rattle.bound_checks.specs.BoundFaults as faults;
 
-use crate::bound_fault::{
-    bad_remainder, does_not_suit, empty_range, no_hash_default, not_repeated, null_in_range,
-    wrong_count,
-};
 use crate::raw_value::{read_list, read_point};
 use crate::{RawBound, RawEdge, RawValue};
 use bound_forms::{Bound, KeyColumn, Level, MOST_MODULUS, Point, Strategy, cmp_points, is_null};
 use pg_values::{Refusal, ValueKey};
+use refusals::{
+    bad_remainder, bound_does_not_suit, empty_range, no_hash_default, not_repeated, null_in_range,
+    wrong_bound_count,
+};
 use std::alloc::Global;
 
 // So many values are given where so many are wanted.
@@ -34,7 +34,7 @@ fn check_count(alloc: Global, given: usize, wanted: usize) -> Result<(), Refusal
     if given == wanted {
         Ok(())
     } else {
-        Err(Refusal::Sql(wrong_count(alloc, given, wanted)?))
+        Err(Refusal::Sql(wrong_bound_count(alloc, given as u64, wanted as u64)?))
     }
 }
 
@@ -66,7 +66,7 @@ fn has_null_edge(edges: &[RawEdge]) -> bool
 
 // No entry of FROM or TO is null.
 fn check_nulls(alloc: Global, lower: &[RawEdge], upper: &[RawEdge]) -> Result<(), Refusal>
-    ensures { IsAnswer result (or_first (unless (not (has_null_edge lower.now || has_null_edge upper.now)) faults.null_in_range) tt) }
+    ensures { IsAnswer result (or_first (unless (not (has_null_edge lower.now || has_null_edge upper.now)) refusals.null_in_range) tt) }
 {
     if has_null_edge(lower) || has_null_edge(upper) {
         Err(Refusal::Sql(null_in_range(alloc)?))
@@ -89,7 +89,7 @@ fn is_max(edge: &RawEdge) -> bool
 
 // The word, unless it is repeated.
 fn check_repeat(alloc: Global, repeated: bool, word: &[u8]) -> Result<(), Refusal>
-    ensures { IsAnswer result (or_first (unless repeated (faults.not_repeated word.now)) tt) }
+    ensures { IsAnswer result (or_first (unless repeated (refusals.not_repeated word.now)) tt) }
 {
     if repeated {
         Ok(())
@@ -123,7 +123,7 @@ fn check_words(alloc: Global, edges: &[RawEdge]) -> Result<(), Refusal>
 fn check_filled(alloc: Global, lower: &Point, upper: &Point) -> Result<(), Refusal>
     requires fit { PointsFit lower.now upper.now }
     requires of_kind { All (EdgeOfKind IsNotNull) lower.now }
-    ensures { IsAnswer result (or_first (unless (is_below lower.now upper.now) faults.empty_range) tt) }
+    ensures { IsAnswer result (or_first (unless (is_below lower.now upper.now) refusals.empty_range) tt) }
 {
     if cmp_points(&ValueKey, lower, upper).is_lt() {
         Ok(())
@@ -159,14 +159,14 @@ fn check_list(alloc: Global, columns: &[KeyColumn], values: &[RawValue]) -> Resu
     ensures { IsAnswer result (or_first (list_faults columns.now values.now) (Listed (each_once (read_in (values_for (only_kind columns.now) values.now))))) }
 {
     if values.is_empty() {
-        return Err(Refusal::Sql(wrong_count(alloc, 0, 1)?));
+        return Err(Refusal::Sql(wrong_bound_count(alloc, 0, 1)?));
     }
     let values = read_list(alloc, columns[0].kind, values)?;
     Ok(Bound::List { values })
 }
 
 fn check_remainder(alloc: Global, modulus: u64, remainder: u64) -> Result<Bound, Refusal>
-    ensures { IsAnswer result (or_first (unless (is_remainder modulus remainder) faults.bad_remainder) (Hash modulus remainder)) }
+    ensures { IsAnswer result (or_first (unless (is_remainder modulus remainder) refusals.bad_remainder) (Hash modulus remainder)) }
 {
     if modulus <= MOST_MODULUS as u64 && remainder < modulus {
         Ok(Bound::Hash {
@@ -189,6 +189,16 @@ fn check_default(alloc: Global, strategy: Strategy) -> Result<Bound, Refusal>
     }
 }
 
+fn strategy_word(strategy: Strategy) -> &'static [u8]
+    ensures { result.now ≡ checks.strategy_word strategy }
+{
+    match strategy {
+        Strategy::Range => b"RANGE",
+        Strategy::List => b"LIST",
+        Strategy::Hash => b"HASH",
+    }
+}
+
 fn check_at(alloc: Global, level: &Level, raw: &RawBound) -> Result<Bound, Refusal>
     ensures { IsAnswer result (checked level.now.strategy level.now.columns raw.now) }
 {
@@ -204,7 +214,7 @@ fn check_at(alloc: Global, level: &Level, raw: &RawBound) -> Result<Bound, Refus
             check_remainder(alloc, *modulus, *remainder)
         }
         (strategy, RawBound::Default) => check_default(alloc, strategy),
-        (strategy, _) => Err(Refusal::Sql(does_not_suit(alloc, strategy)?)),
+        (strategy, _) => Err(Refusal::Sql(bound_does_not_suit(alloc, strategy_word(strategy))?)),
     }
 }
 

@@ -5,7 +5,6 @@
 //! rules of `specs/Checks.antt` that it breaks.
 #![tactic(auto)]
 
-mod bound_fault;
 mod check;
 mod laws;
 mod raw_bound;

@@ -1,6 +1,6 @@
 //! What the expressions of a bound give their key columns.
 
-ghost use Rattle.std.specs.Prelude.{◌≡◌, ◌<◌, ◌∷◌, ◌++◌, [], All, OnOk, length, if◌then◌else◌};
+ghost use Rattle.std.specs.Prelude.{◌≡◌, ◌<◌, ◌∷◌, ◌++◌, [], All, IfOk, OnOk, length, if◌then◌else◌};
 ghost use Rattle.value_rules.specs.Assignment.{assigned};
 ghost use Rattle.pg_values.specs.Kinds as kinds;
 ghost use Rattle.pg_values.specs.Refusals.{IsAnswer, faults_in, read_in, or_first};
@@ -10,12 +10,26 @@ ghost use Rattle.bound_forms.specs.Listed as listed;
 ghost use Rattle.bound_forms.specs.Listed.{ValuesFit, ValueOfKind};
 ghost use Rattle.bound_checks.specs.RawBounds.{given_to, value_for, edge_for, edges_for, values_for, each_once};
 
-use crate::bound_fault::{copy_fault, wrong_kind};
 use crate::{RawEdge, RawValue};
 use bound_forms::{Edge, KeyColumn, Point, lists};
-use pg_values::{Kind, NoMemory, Refusal, Row, Value, ValueKey, copy_value, kind_of};
+use pg_values::{Args, Fault, Kind, NoMemory, Refusal, Row, Value, ValueKey, copy_value, kind_of};
+use refusals::{out_of_range, wrong_kind};
 use std::alloc::Global;
-use value_rules::{CoerceFault, coerce, out_of_range, read_value};
+use value_rules::{CoerceFault, coerce, read_value};
+
+// A fault equal to `fault`.
+fn copy_fault(alloc: Global, fault: &Fault) -> Result<Fault, NoMemory>
+    ensures { IfOk result (λ copy. copy ≡ fault.now) }
+{
+    let mut args = Args::new(alloc);
+    for text in fault.args.as_slice() {
+        args.push(text.copy(alloc)?)?;
+    }
+    Ok(Fault {
+        code: fault.code,
+        args,
+    })
+}
 
 // What assigning the value to a column of the kind gives.
 fn assign(alloc: Global, kind: Kind, value: &Value) -> Result<Value, Refusal>

@@ -6,16 +6,15 @@ use Rattle.pg_values.specs.declared.fault.Fault.{Fault}
 use Rattle.pg_values.specs.declared.value.Kind.{Kind}
 use Rattle.pg_values.specs.declared.value.Kind.TheVariants.{Text as KText}
 use Rattle.pg_values.specs.declared.value.Value.{Value}
+use Rattle.refusals.specs.Refusals.{no_column, set_twice}
 use Rattle.sql_ast.specs.Expressions.{Tree, Trees, no_more, and_more}
 use Rattle.expression_binder.specs.declared.scope.Param.{Param}
 use Rattle.expression_binder.specs.declared.scope.ScopeColumn.{ScopeColumn}
 use Rattle.expression_binder.specs.Constants.{constant, stored}
-use Rattle.expression_binder.specs.Faults.{no_column}
 use Rattle.expression_binder.specs.Firsts.{or_first, fault_in}
 use Rattle.expression_binder.specs.Kinds.{assigned_faults, count_faults}
 use Rattle.expression_binder.specs.Operands.{operand_faults, typed}
 use Rattle.expression_binder.specs.Scopes.{Scope, condition_scope, is_called}
-use Rattle.change_binder.specs.States.{set_twice}
 use Rattle.cond_logic.specs.Asked.{InsertMeant}
 
 -- ---- columns

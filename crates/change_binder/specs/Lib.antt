@@ -1,4 +1,3 @@
 pub mod Arguments
 pub mod Changes
 pub mod Inserts
-pub mod States

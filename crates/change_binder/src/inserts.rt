@@ -10,13 +10,13 @@ ghost use Rattle.change_binder.specs.Inserts as inserts;
 ghost use Rattle.change_binder.specs.Inserts.{bound_insert};
 ghost use Rattle.cond_logic.specs.Asked.{insert_meant};
 
-use crate::faults::set_twice;
 use cond_logic::InsertAsk;
 use expression_binder::{
     Names, Param, ScopeColumn, bind_constant, check_assigned, check_count, check_operand,
-    condition_names, no_column, store, typed_of,
+    condition_names, store, typed_of,
 };
 use pg_values::{Kind, NoMemory, PgText, Refusal, Row, RowList, Value};
+use refusals::{no_column, set_twice};
 use sql_ast::{Expr, ExprList, Insert, NameList};
 use std::alloc::Global;
 

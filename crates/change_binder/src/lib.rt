@@ -12,7 +12,6 @@
 
 mod arguments;
 mod changes;
-mod faults;
 mod inserts;
 
 pub use arguments::{Wanted, bind_arguments};

@@ -13,7 +13,8 @@ use Rattle.history.specs.History.{History, catalogue_events}
 use Rattle.table_trees.specs.declared.path_part.PathPart.{PathPart}
 use Rattle.table_trees.specs.Histories.{path_of}
 use Rattle.table_trees.specs.Trees.{TableTree, leaves}
-use Rattle.plan_tree.specs.Kept.{Keeps, Leaf, id_of, kept_leaves, kept_tables}
+use Rattle.cond_logic.specs.Tables.{Leaf}
+use Rattle.plan_tree.specs.Kept.{Keeps, id_of, kept_leaves, kept_tables}
 use Rattle.part_catalog.specs.Found.{made_at}
 use Rattle.part_catalog.specs.Stands.{CatalogueStands}
 use Rattle.sql_ast.specs.Expressions.{Tree}

@@ -18,4 +18,4 @@ pub mod Stays
 pub mod Still
 pub mod Taken
 pub mod Targets
-pub mod Waiting
+pub mod WaitedFor

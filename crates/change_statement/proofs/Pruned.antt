@@ -15,7 +15,8 @@ use Rattle.cond_logic.specs.declared.truth.Truth3.TheVariants.{Yes, No, Unknown}
 use Rattle.cond_logic.specs.Trees.{CondTree}
 use Rattle.cond_logic.specs.Truths.{truth}
 use Rattle.cond_logic.specs.Tuples.{no_rows, put}
-use Rattle.plan_tree.specs.Kept.{Leaf, Keeps, id_of, leaf_of, named_leaves, all_named_leaves, keeps_plain, leaves_below, leaves_among, kept_leaves}
+use Rattle.cond_logic.specs.Tables.{Leaf}
+use Rattle.plan_tree.specs.Kept.{Keeps, id_of, leaf_of, named_leaves, all_named_leaves, keeps_plain, leaves_below, leaves_among, kept_leaves}
 use Rattle.plan_tree.specs.Laws.{is_yes, passes_beside, passing_in, row_of, shown, NoneIsMissed, ShownLieRight, TreesCanBePruned}
 use Rattle.plan_tree.proofs.Missed.{ids_named}
 use Rattle.change_statement.specs.Targets as targets_spec

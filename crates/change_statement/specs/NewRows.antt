@@ -5,8 +5,8 @@ use Rattle.pg_values.specs.declared.value.Kind.{Kind}
 use Rattle.pg_values.specs.declared.value.Kind.TheVariants.{Text as KText}
 use Rattle.pg_values.specs.declared.value.Value.{Value}
 use Rattle.value_rules.specs.Assignment.{assigned}
-use Rattle.value_rules.specs.FaultTexts.{out_of_range}
 use Rattle.pg_values.specs.Kinds.{kind_of}
+use Rattle.refusals.specs.Refusals.{out_of_range, wrong_kind}
 use Rattle.value_rules.specs.declared.assignment.CoerceFault.{CoerceFault}
 use Rattle.value_rules.specs.declared.assignment.CoerceFault.TheVariants.{Kinds, Range}
 use Rattle.history.specs.declared.catalogue.Column.{Column}
@@ -14,7 +14,6 @@ use Rattle.cond_logic.specs.Tuples.{no_rows, put}
 use Rattle.cond_logic.specs.Tables.{no_tables}
 use Rattle.cond_logic.specs.Values.{value_for}
 use Rattle.cond_logic.specs.Asked.{SettingMeant}
-use Rattle.change_statement.specs.Faults.{wrong_kind}
 
 abbrev pub kind_at : List Column → ℕ → Kind
 kind_at columns place = slice_index_or (map (λ c. c.kind) columns) place KText

@@ -11,9 +11,9 @@ ghost use Rattle.change_statement.specs.Kept.{keeps_for};
 ghost use Rattle.statement_steps.specs.Gathered.{is_set, sets_key};
 
 use bound_forms::KeyColumn;
-use cond_logic::{ChangeAsk, Cond, Setting};
+use cond_logic::{ChangeAsk, Cond, NamedLeaf, Setting};
 use pg_values::{LeafId, NoMemory, TableNo};
-use plan_tree::{KeptParts, NamedLeaf, all_hold, prune_tree};
+use plan_tree::{KeptParts, all_hold, prune_tree};
 use select_statement::tables_below;
 use std::alloc::Global;
 use table_trees::{Shape, Tree};

@@ -5,12 +5,12 @@ ghost use Rattle.table_trees.specs.Trees.{IsRowOf};
 ghost use Rattle.cond_logic.specs.Asked.{setting_meant};
 ghost use Rattle.change_statement.specs.NewRows as rows;
 
-use crate::faults::wrong_kind;
-use cond_logic::{Binding, Setting, TableNames, scalar_value};
+use cond_logic::{Binding, RowTables, Setting, scalar_value};
 use history::Column;
 use pg_values::{Kind, NoMemory, Refusal, Row, Value, copy_value, kind_of};
+use refusals::{out_of_range, wrong_kind};
 use std::alloc::Global;
-use value_rules::{CoerceFault, coerce, out_of_range};
+use value_rules::{CoerceFault, coerce};
 
 fn kind_at(columns: &[Column], place: usize) -> Kind
     ensures { result ≡ rows.kind_at columns.now place }
@@ -42,7 +42,7 @@ fn set_value(
     ensures { IsAnswer result (rows.set_value columns.now row.now (setting_meant setting.now)) }
 {
     let binding = Binding::new(&[]).with(0, row);
-    let value = scalar_value(alloc, &setting.value, &binding, &TableNames::none(), 0)?;
+    let value = scalar_value(alloc, &setting.value, &binding, &RowTables::none(), 0)?;
     assign(alloc, kind_at(columns, setting.column), value)
 }
 

@@ -9,12 +9,17 @@ use Rattle.value_rules.specs.declared.operators.ArithFault.{ArithFault}
 use Rattle.cond_logic.specs.Scalars.{ScalarTree, column, literal, table_name, computes, cancels}
 use Rattle.cond_logic.specs.Tuples.{Places, place, value_in}
 use Rattle.cond_logic.specs.Faults.{arith_fault}
-use Rattle.cond_logic.specs.Tables.{Tables, table}
+use Rattle.cond_logic.specs.Tables.{Leaf, Tables, table}
 
 -- the name of a table as a text; where no row is there, null
-abbrev pub as_text : Option (List ℕ) → Value
+abbrev pub as_text : Option Leaf → Value
 as_text None = Null
-as_text (Some name) = Text name
+as_text (Some leaf) = Text leaf.name
+
+-- its place in the order in which tables were made, which is what tableoid is compared by
+abbrev pub as_number : Option Leaf → Value
+as_number None = Null
+as_number (Some leaf) = Int8 (pos leaf.id.number)
 
 -- ---- arithmetic
 

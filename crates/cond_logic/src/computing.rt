@@ -6,7 +6,7 @@ ghost use Rattle.cond_logic.specs.Tables.{table};
 ghost use Rattle.cond_logic.specs.Values as values;
 
 use crate::faults::arith_fault;
-use crate::{Binding, ColumnId, Scalar, TableNames};
+use crate::{Binding, ColumnId, RowTables, Scalar};
 use pg_values::{NoMemory, Refusal, Value, copy_value};
 use std::alloc::Global;
 use value_rules::{Arith, arith};
@@ -29,12 +29,23 @@ pub fn column_value(
 }
 
 /// The name of the table in which the row of that item lies, as a text; null where there is no row.
-pub fn table_value(alloc: Global, tables: &TableNames<'_>, item: u32) -> Result<Value, NoMemory>
+pub fn table_value(alloc: Global, tables: &RowTables<'_>, item: u32) -> Result<Value, NoMemory>
     ensures { IfOk result (λ v. v ≡ values.as_text (table tables.now item)) }
 {
-    match tables.name(item) {
-        Some(name) => Ok(Value::Text(name.copy(alloc)?)),
+    match tables.table(item) {
+        Some(leaf) => Ok(Value::Text(leaf.name.copy(alloc)?)),
         None => Ok(Value::Null),
+    }
+}
+
+/// The place of that table in the order in which tables were made, as a bigint; null where there is no
+/// row.
+pub fn table_number(tables: &RowTables<'_>, item: u32) -> Value
+    ensures { result ≡ values.as_number (table tables.now item) }
+{
+    match tables.table(item) {
+        Some(leaf) => Value::Int8(leaf.id.number as i64),
+        None => Value::Null,
     }
 }
 
@@ -72,7 +83,7 @@ pub fn scalar_value(
     alloc: Global,
     scalar: &Scalar,
     binding: &Binding<'_>,
-    tables: &TableNames<'_>,
+    tables: &RowTables<'_>,
     sessions: u32,
 ) -> Result<Value, Refusal>
     ensures { IsAnswer result (values.value_for sessions binding.now.rows tables.now (scalar_tree scalar.now)) }

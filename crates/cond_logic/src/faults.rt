@@ -1,9 +1,10 @@
-ghost use Rattle.std.specs.Prelude.{◌≡◌, ◌∷◌, ◌++◌, [], IfOk};
+ghost use Rattle.std.specs.Prelude.{◌≡◌, IfOk};
 ghost use Rattle.cond_logic.specs.Faults as faults;
 
-use pg_values::{Args, Fault, NoMemory, PgText, SqlState, Value, kind_of};
+use pg_values::{Fault, NoMemory, Value, kind_of};
+use refusals::{date_out_of_range, division_by_zero, no_operator, out_of_range};
 use std::alloc::Global;
-use value_rules::{Arith, ArithFault, kind_word, out_of_range, three_texts};
+use value_rules::{Arith, ArithFault};
 
 fn sign(op: Arith) -> &'static [u8]
     ensures { result.now ≡ faults.sign op }
@@ -14,28 +15,6 @@ fn sign(op: Arith) -> &'static [u8]
         Arith::Mul => b"*",
         Arith::Div => b"/",
         Arith::Rem => b"%",
-    }
-}
-
-/// `no operator <kind> <op> <kind>`
-fn no_operator(alloc: Global, a: &Value, op: Arith, b: &Value) -> Result<Fault, NoMemory>
-    ensures { IfOk result (λ f. f ≡ faults.no_operator a.now op b.now) }
-{
-    let text = b"no operator <kind> <op> <kind>";
-    let mut args = three_texts(alloc, text, kind_word(kind_of(a)), sign(op))?;
-    args.push(PgText::from_bytes(alloc, kind_word(kind_of(b)))?)?;
-    Ok(Fault {
-        code: SqlState { bytes: *b"42883" },
-        args,
-    })
-}
-
-fn of_state(alloc: Global, bytes: [u8; 5]) -> Fault
-    ensures { result ≡ record { code = record { bytes = bytes }; args = [] } }
-{
-    Fault {
-        code: SqlState { bytes },
-        args: Args::new(alloc),
     }
 }
 
@@ -51,8 +30,8 @@ pub(crate) fn arith_fault(
 {
     match fault {
         ArithFault::OutOfRange => Ok(out_of_range(alloc)),
-        ArithFault::DateRange => Ok(of_state(alloc, *b"22008")),
-        ArithFault::ZeroDivisor => Ok(of_state(alloc, *b"22012")),
-        ArithFault::NoOperator => no_operator(alloc, a, op, b),
+        ArithFault::DateRange => Ok(date_out_of_range(alloc)),
+        ArithFault::ZeroDivisor => Ok(division_by_zero(alloc)),
+        ArithFault::NoOperator => no_operator(alloc, kind_of(a), sign(op), kind_of(b)),
     }
 }

@@ -14,7 +14,7 @@
 //! What the expressions of a select list and of SET are worth for a tuple of rows.
 //!
 //! A tuple lends a row for each FROM item (`cond_logic::Binding`) and the names of the tables in which
-//! these rows lie (`TableNames`), since `tableoid::regclass` names the leaf of a row and not the table
+//! these rows lie (`RowTables`), since `tableoid::regclass` names the leaf of a row and not the table
 //! that the statement names. `scalar_value` computes one expression, left before right; the first fault
 //! refuses, as 22003, 22008 or 22012.
 //!
@@ -38,17 +38,18 @@ mod evaluate;
 mod faults;
 mod insert;
 mod laws;
+mod named_leaf;
 mod parameters;
 mod pushing;
+mod row_tables;
 mod scalar;
 mod select;
-mod table_names;
 mod truth;
 
 pub use binding::Binding;
 pub use change::{ChangeAsk, Setting};
 pub use columns::columns_used;
-pub use computing::{column_value, scalar_value, table_value};
+pub use computing::{column_value, scalar_value, table_number, table_value};
 pub use cond::{ColumnId, CompareOp, Cond, CondList, Operand};
 pub use evaluate::eval;
 pub use insert::InsertAsk;
@@ -56,9 +57,10 @@ pub use laws::{
     binding_keeps_truth, binding_leaves_no_given_parameter, not_stands_over_null_tests,
     pushing_keeps_truth,
 };
+pub use named_leaf::NamedLeaf;
 pub use parameters::bind_params;
 pub use pushing::push_not;
+pub use row_tables::RowTables;
 pub use scalar::Scalar;
 pub use select::{Output, SelectAsk, SortBy, SortKey};
-pub use table_names::TableNames;
 pub use truth::Truth3;

@@ -9,8 +9,8 @@ pub struct Output {
     pub value: Scalar,
 }
 
-/// What rows are sorted by: an output column by its place from 0, a column, or the name of the leaf in
-/// which the row of a FROM item lies.
+/// What rows are sorted by: an output column by its place from 0, a column, or the leaf in which the row
+/// of a FROM item lies. Leaves are sorted in the order in which they were made.
 #[derive(Clone, Copy, Debug, PartialEq, Eq)]
 pub enum SortBy {
     Output(usize),

@@ -10,6 +10,7 @@ use Rattle.pg_values.specs.declared.ids.TableNo.{TableNo}
 use Rattle.pg_values.specs.declared.session_set.SessionSet.{SessionSet}
 use Rattle.bound_forms.specs.Accepts.{is_default}
 use Rattle.pg_values.specs.Refusals.{unless}
+use Rattle.refusals.specs.Refusals.{not_a_partition}
 use Rattle.history.specs.declared.catalogue.Entry.{Entry}
 use Rattle.history.specs.declared.transaction.TxId.{TxId}
 use Rattle.history.specs.Catalogue.{EntryMarked, entries_added, marks, counted_of}
@@ -52,7 +53,7 @@ use Rattle.table_statements.proofs.Firsts.{both_told, none_told}
 use Rattle.table_statements.proofs.Fresh.{IsOwn, own_is, own_number}
 use Rattle.detach_statement.specs.Asked.{MayBeMarked}
 use Rattle.detach_statement.specs.Concurrent.{default_faults, pending_faults, none_beside, markable, marked, rest_of, place_marked}
-use Rattle.detach_statement.specs.Detached.{not_a_partition, name_at, is_table}
+use Rattle.detach_statement.specs.Detached.{name_at, is_table}
 use Rattle.detach_statement.proofs.LeftPlaces.{MayChange, Over, over_is, over_present, over_guarded, over_between}
 use Rattle.detach_statement.proofs.Refusing.{none_against, is_parent}
 use Rattle.detach_statement.proofs.SessionSets.{are_those}

@@ -17,6 +17,7 @@ use Rattle.part_ddl.specs.Placing.{level_at}
 use Rattle.part_ddl.proofs.Making.{table_count}
 use Rattle.part_ddl.proofs.Standing.{same_entries}
 use Rattle.pg_values.specs.Refusals.{unless}
+use Rattle.refusals.specs.Refusals.{not_the_pending_partition}
 use Rattle.legal_statements.specs.Laws.{ListedIsThere}
 use Rattle.legal_statements.proofs.Adding.{present_for}
 use Rattle.soundness.specs.Laws.{LegalKeepsAll}
@@ -33,7 +34,7 @@ use Rattle.table_statements.proofs.Below.{found_in, entry_suits, here_of}
 use Rattle.table_statements.proofs.Ends.{same_number}
 use Rattle.table_statements.proofs.Firsts.{both_told, none_told}
 use Rattle.detach_statement.specs.Asked.{IsPartition}
-use Rattle.detach_statement.specs.Concurrent.{is_by, is_marked_still, not_pending, endable}
+use Rattle.detach_statement.specs.Concurrent.{is_by, is_marked_still, endable}
 use Rattle.detach_statement.specs.Detached.{name_at, is_table}
 use Rattle.detach_statement.specs.Finalized.{finalizable}
 use Rattle.detach_statement.proofs.Refusing.{none_against}
@@ -43,14 +44,14 @@ use Rattle.detach_statement.proofs.Refusing.{none_against}
 pub finalizable_is : (h : History) (s p t : ℕ) → finalizable h s p t ≡ Ok tt → is_table (child_told (pending_entry h s p)) t ≡ true
 finalizable_is h s p t e =
     let is = is_table (child_told (pending_entry h s p)) t in
-    let f = not_pending (name_at h t) (name_at h p) in
+    let f = not_the_pending_partition (name_at h t) (name_at h p) in
     let level = both_told (level_at h p) (λ l. unless_faults (unless is f) (Ok tt)) tt e in
     none_against is f (none_told (unless is f) (Ok tt) tt level.2).0
 
 pub endable_is : (h : History) (s : ℕ) (d : RestOfDetach) → endable h s d ≡ Ok tt → is_table (child_told (pending_entry h s d.parent.number)) d.table.number ≡ true
 endable_is h s d e =
     let is = is_table (child_told (pending_entry h s d.parent.number)) d.table.number in
-    let f = not_pending (name_at h d.table.number) (name_at h d.parent.number) in
+    let f = not_the_pending_partition (name_at h d.table.number) (name_at h d.parent.number) in
     (and_parts is (is_by (marker_told h (pending_entry h s d.parent.number)) d.by) (none_against (is_marked_still h s d) f (none_told (unless (is_marked_still h s d) f) (Ok tt) tt e).0)).0
 
 -- ---- the pending entry

@@ -3,15 +3,15 @@ use Rattle.std.proofs.Common.{◌≡◌, ℕ, not, Bool, true, false, [], refl, 
 use Rattle.pg_values.specs.declared.fault.Fault.{Fault}
 use Rattle.pg_values.specs.declared.ids.TableNo.{TableNo}
 use Rattle.pg_values.specs.Refusals.{unless}
+use Rattle.refusals.specs.Refusals.{partition_is_pending, not_a_partition}
 use Rattle.history.specs.History.{History}
 use Rattle.part_catalog.specs.Answers.{child_told, pending_entry}
-use Rattle.part_ddl.specs.Faults.{pending_beside}
 use Rattle.part_ddl.specs.Placing.{level_at}
 use Rattle.table_statements.specs.Drops.{parent_in}
 use Rattle.table_statements.specs.Refused.{unless_faults}
 use Rattle.table_statements.proofs.Ends.{same_number}
 use Rattle.table_statements.proofs.Firsts.{both_told, none_told}
-use Rattle.detach_statement.specs.Detached.{not_a_partition, name_at, is_table, detachable}
+use Rattle.detach_statement.specs.Detached.{name_at, is_table, detachable}
 
 pub none_against : (b : Bool) (f : Fault) → unless b f ≡ [] → b ≡ true
 none_against true f e = refl
@@ -25,6 +25,6 @@ pub is_partition : (h : History) (s t : ℕ) (p : TableNo) → detachable h s p.
 is_partition h s t p e =
     let is = is_table (parent_in h s t) p.number in
     let other = not_a_partition (name_at h t) (name_at h p.number) in
-    let rest = unless_faults (unless (not (is_table (child_told (pending_entry h s p.number)) t)) (pending_beside (name_at h t) (name_at h p.number))) (Ok tt) in
+    let rest = unless_faults (unless (not (is_table (child_told (pending_entry h s p.number)) t)) (partition_is_pending (name_at h t) (name_at h p.number))) (Ok tt) in
     let level = both_told (level_at h p.number) (λ l. unless_faults (unless is other) rest) tt e in
     is_parent (parent_in h s t) p (none_against is other (none_told (unless is other) rest tt level.2).0)

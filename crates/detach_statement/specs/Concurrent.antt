@@ -3,13 +3,13 @@
 --
 -- Stage 1 marks the entry pending, and is committed. Stage 2 waits for the transactions of all who hold a lock on the parent
 -- then: they may have read that the table is a partition. Stage 3 ends the entry, and the table keeps a CHECK.
-use Rattle.std.specs.Prelude.{ℕ, ◌==◌, ◌&&◌, Bool, false, List, [], ◌∷◌, ◌++◌, Option, Some, None, Result, Ok, codes}
+use Rattle.std.specs.Prelude.{ℕ, ◌==◌, ◌&&◌, Bool, false, List, [], ◌∷◌, ◌++◌, Option, Some, None, Result, Ok}
 use Rattle.pg_values.specs.declared.fault.Fault.{Fault}
 use Rattle.pg_values.specs.Sets.{empty, without}
 use Rattle.pg_values.specs.declared.ids.TableNo.{TableNo}
 use Rattle.pg_values.specs.declared.lock_mode.LockMode.TheVariants.{ShareUpdateExclusive, AccessExclusive}
-use Rattle.value_rules.specs.FaultTexts.{fault_of}
 use Rattle.pg_values.specs.Refusals.{unless}
+use Rattle.refusals.specs.Refusals.{partition_is_pending, not_a_partition, has_default_partition, not_the_pending_partition}
 use Rattle.history.specs.declared.catalogue.Entry.{Entry}
 use Rattle.history.specs.declared.catalogue.Stamp.{Stamp}
 use Rattle.history.specs.declared.transaction.TxId.{TxId}
@@ -21,7 +21,6 @@ use Rattle.table_trees.specs.Histories.{table_of}
 use Rattle.part_catalog.specs.Answers.{child_told, entry_between, marker_told, pending_entry}
 use Rattle.part_ddl.specs.Below.{default_of}
 use Rattle.part_ddl.specs.Dropped.{place_ended}
-use Rattle.part_ddl.specs.Faults.{pending_beside}
 use Rattle.part_ddl.specs.Placing.{level_at}
 use Rattle.partition_scans.specs.Sessions.{those}
 use Rattle.statement_steps.specs.Ended.{giving}
@@ -37,22 +36,18 @@ use Rattle.statement_steps.specs.Steps.{follow, going_on}
 use Rattle.table_statements.specs.Drops.{parent_in, stamp}
 use Rattle.table_statements.specs.Refused.{next_answer, unless_faults, answered}
 use Rattle.table_statements.specs.Tables.{own}
-use Rattle.detach_statement.specs.Detached.{not_a_partition, name_at, is_table}
+use Rattle.detach_statement.specs.Detached.{name_at, is_table}
 use Rattle.detach_statement.specs.Kept.{check_kept, new_check}
 
 -- ---- the refusals of the first stage
 
--- `<t> has the default partition <d>`
-abbrev pub has_default : List ℕ → List ℕ → Fault
-has_default t d = fault_of (codes "55000") (codes "<t> has the default partition <d>" ∷ t ∷ d ∷ [])
-
 abbrev pub default_faults : History → (parent : ℕ) → Option TableNo → List Fault
 default_faults h p None = []
-default_faults h p (Some d) = has_default (name_at h p) (name_at h d.number) ∷ []
+default_faults h p (Some d) = has_default_partition (name_at h p) (name_at h d.number) ∷ []
 
 abbrev pub pending_faults : History → (parent : ℕ) → Option TableNo → List Fault
 pending_faults h p None = []
-pending_faults h p (Some t) = pending_beside (name_at h t.number) (name_at h p) ∷ []
+pending_faults h p (Some t) = partition_is_pending (name_at h t.number) (name_at h p) ∷ []
 
 -- no partition of the parent is the default or pending
 abbrev pub none_beside : History → (session parent : ℕ) → Result (Unit {0}) Fault
@@ -103,10 +98,6 @@ behind_nobody d = record d { behind = empty }
 
 -- ---- stage 3: the entry ends
 
--- `<p> is not the pending partition of <t>`
-abbrev pub not_pending : List ℕ → List ℕ → Fault
-not_pending p t = fault_of (codes "55000") (codes "<p> is not the pending partition of <t>" ∷ p ∷ t ∷ [])
-
 abbrev pub is_by : Option TxId → TxId → Bool
 is_by None tx = false
 is_by (Some by) tx = by.number == tx.number
@@ -116,7 +107,7 @@ abbrev pub is_marked_still : History → (session : ℕ) → RestOfDetach → Bo
 is_marked_still h s d = is_table (child_told (pending_entry h s d.parent.number)) d.table.number && is_by (marker_told h (pending_entry h s d.parent.number)) d.by
 
 abbrev pub endable : History → (session : ℕ) → RestOfDetach → Result (Unit {0}) Fault
-endable h s d = unless_faults (unless (is_marked_still h s d) (not_pending (name_at h d.table.number) (name_at h d.parent.number))) (Ok tt)
+endable h s d = unless_faults (unless (is_marked_still h s d) (not_the_pending_partition (name_at h d.table.number) (name_at h d.parent.number))) (Ok tt)
 
 abbrev pub judged_still : (session : ℕ) → RestOfDetach → History → Made (Unit {0})
 judged_still s d h = answered (endable h s d)

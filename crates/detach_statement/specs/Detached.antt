@@ -1,18 +1,17 @@
 -- ALTER TABLE, DETACH PARTITION of a session (the manual, ALTER TABLE; 5.11.2.2 Partition Maintenance; 13.3.1 Table-Level
 -- Locks).
-use Rattle.std.specs.Prelude.{ℕ, ◌==◌, Bool, false, not, List, [], ◌∷◌, Option, Some, None, Result, Ok, codes}
+use Rattle.std.specs.Prelude.{ℕ, ◌==◌, Bool, false, not, List, [], Option, Some, None, Result, Ok}
 use Rattle.pg_values.specs.declared.fault.Fault.{Fault}
 use Rattle.pg_values.specs.declared.ids.TableNo.{TableNo}
 use Rattle.pg_values.specs.declared.lock_mode.LockMode.TheVariants.{AccessExclusive}
-use Rattle.value_rules.specs.FaultTexts.{fault_of}
 use Rattle.pg_values.specs.Refusals.{unless}
+use Rattle.refusals.specs.Refusals.{partition_is_pending, not_a_partition}
 use Rattle.history.specs.History.{History}
 use Rattle.table_trees.specs.Histories.{table_of}
 use Rattle.part_catalog.specs.Answers.{child_told, pending_entry}
 use Rattle.part_catalog.specs.Found.{made_at}
 use Rattle.part_ddl.specs.Below.{default_of}
 use Rattle.part_ddl.specs.Dropped.{place_ended}
-use Rattle.part_ddl.specs.Faults.{pending_beside}
 use Rattle.part_ddl.specs.Placing.{level_at}
 use Rattle.statement_steps.specs.Made.{Made, made}
 use Rattle.statement_steps.specs.declared.caller.Caller.{Caller}
@@ -32,10 +31,6 @@ default_locked names s p h = locked_or_none names s (default_of h s p) h
 
 -- ---- the refusals
 
--- `<p> is not a partition of <t>`
-abbrev pub not_a_partition : List ℕ → List ℕ → Fault
-not_a_partition p t = fault_of (codes "42P01") (codes "<p> is not a partition of <t>" ∷ p ∷ t ∷ [])
-
 abbrev pub name_at : History → (table : ℕ) → List ℕ
 name_at h t = (made_at h t).name
 
@@ -48,7 +43,7 @@ abbrev pub detachable : History → (session parent table : ℕ) → Result (Uni
 detachable h s p t =
     next_answer (level_at h p) (λ level.
     unless_faults (unless (is_table (parent_in h s t) p) (not_a_partition (name_at h t) (name_at h p))) (
-    unless_faults (unless (not (is_table (child_told (pending_entry h s p)) t)) (pending_beside (name_at h t) (name_at h p))) (Ok tt)))
+    unless_faults (unless (not (is_table (child_told (pending_entry h s p)) t)) (partition_is_pending (name_at h t) (name_at h p))) (Ok tt)))
 
 abbrev pub checked : (session parent table : ℕ) → History → Made (Unit {0})
 checked s p t h = answered (detachable h s p t)

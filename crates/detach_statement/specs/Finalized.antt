@@ -3,6 +3,7 @@ use Rattle.std.specs.Prelude.{ℕ, ◌==◌, ◌&&◌, Bool, false, not, List, O
 use Rattle.pg_values.specs.declared.fault.Fault.{Fault}
 use Rattle.pg_values.specs.declared.lock_mode.LockMode.TheVariants.{ShareUpdateExclusive, AccessExclusive}
 use Rattle.pg_values.specs.Refusals.{unless}
+use Rattle.refusals.specs.Refusals.{not_the_pending_partition}
 use Rattle.history.specs.declared.transaction.TxId.{TxId}
 use Rattle.history.specs.declared.wait.WaitOn.TheVariants.{Snapshots}
 use Rattle.history.specs.Snapshots.{TakenSnapshot, held_by, sees}
@@ -17,7 +18,7 @@ use Rattle.statement_steps.specs.Asks.{named, held_at, waited}
 use Rattle.statement_steps.specs.Steps.{follow}
 use Rattle.table_statements.specs.Refused.{next_answer, unless_faults, answered}
 use Rattle.detach_statement.specs.Detached.{name_at, is_table}
-use Rattle.detach_statement.specs.Concurrent.{not_pending, partition_left}
+use Rattle.detach_statement.specs.Concurrent.{partition_left}
 
 -- ---- the refusals
 
@@ -25,7 +26,7 @@ use Rattle.detach_statement.specs.Concurrent.{not_pending, partition_left}
 abbrev pub finalizable : History → (session parent table : ℕ) → Result (Unit {0}) Fault
 finalizable h s p t =
     next_answer (level_at h p) (λ level.
-    unless_faults (unless (is_table (child_told (pending_entry h s p)) t) (not_pending (name_at h t) (name_at h p))) (Ok tt))
+    unless_faults (unless (is_table (child_told (pending_entry h s p)) t) (not_the_pending_partition (name_at h t) (name_at h p))) (Ok tt))
 
 abbrev pub judged : (session parent table : ℕ) → History → Made (Unit {0})
 judged s p t h = answered (finalizable h s p t)

@@ -10,10 +10,11 @@ ghost use Rattle.statement_steps.specs.Steps.{IsStep};
 ghost use Rattle.detach_statement.specs.Asked.{IsPartition};
 ghost use Rattle.detach_statement.specs.Detached as detached;
 
-use crate::faults::{not_a_partition, pending, stop_by};
+use crate::faults::stop_by;
 use part_catalog::Catalog;
 use part_ddl::parent_level;
 use pg_values::{Refusal, TableNo};
+use refusals::{not_a_partition, partition_is_pending};
 use statement_steps::{Caller, Stop};
 use std::alloc::Global;
 use stores::Stores;
@@ -49,7 +50,7 @@ fn check_partition(
         return Err(Refusal::Sql(not_a_partition(alloc, name, above)?));
     }
     if is_table(catalog.pending_of(txs, session, parent), table) {
-        return Err(Refusal::Sql(pending(alloc, name, above)?));
+        return Err(Refusal::Sql(partition_is_pending(alloc, name, above)?));
     }
     Ok(())
 }

@@ -12,7 +12,7 @@ ghost use Rattle.detach_statement.specs.Asked.{HasGuarded, IsPartition};
 ghost use Rattle.detach_statement.specs.Finalized as finalized;
 
 use crate::checking::is_table;
-use crate::faults::{not_pending, stop_by};
+use crate::faults::stop_by;
 use crate::leaving::leave_parent;
 use history::{TxId, WaitOn};
 use legal_statements::listed_is_there;
@@ -20,6 +20,7 @@ use part_catalog::Catalog;
 use part_ddl::parent_level;
 use partition_scans::sessions_are_low;
 use pg_values::{LockMode, Refusal, SessionSet, TableNo};
+use refusals::not_the_pending_partition;
 use soundness::legal_keeps_all;
 use statement_steps::{Caller, SessionNames, Stop, hold_if_repeatable, lock_named, wait_for};
 use std::alloc::Global;
@@ -47,7 +48,7 @@ fn check_pending(
     }
     let name = catalog.name_of(table);
     let above = catalog.name_of(parent);
-    Err(Refusal::Sql(not_pending(alloc, name, above)?))
+    Err(Refusal::Sql(not_the_pending_partition(alloc, name, above)?))
 }
 
 // A part: nothing stands against it.

@@ -12,12 +12,13 @@ ghost use Rattle.detach_statement.specs.Asked.{HasGuarded, MayBeMarked};
 ghost use Rattle.detach_statement.specs.Concurrent as concurrent;
 
 use crate::checking::is_table;
-use crate::faults::{has_default, not_a_partition, pending, stop_by};
+use crate::faults::stop_by;
 use legal_statements::{listed_is_there, mark_may_follow, nobody_else_marks};
 use part_catalog::Catalog;
 use part_ddl::{default_of, parent_level};
 use partition_scans::sessions_are_low;
 use pg_values::{LockMode, Refusal, TableNo};
+use refusals::{has_default_partition, not_a_partition, partition_is_pending};
 use statement_steps::{Caller, RestOfDetach, SessionNames, Stop, lock_named};
 use std::alloc::Global;
 use stores::{Stores, trees_are_together};
@@ -38,11 +39,11 @@ fn check_siblings(
     let above = catalog.name_of(parent);
     if let Some(default) = default_of(alloc, catalog, txs, parent, session)? {
         let name = catalog.name_of(default);
-        return Err(Refusal::Sql(has_default(alloc, above, name)?));
+        return Err(Refusal::Sql(has_default_partition(alloc, above, name)?));
     }
     if let Some(table) = catalog.pending_of(txs, session, parent) {
         let name = catalog.name_of(table);
-        return Err(Refusal::Sql(pending(alloc, name, above)?));
+        return Err(Refusal::Sql(partition_is_pending(alloc, name, above)?));
     }
     Ok(())
 }

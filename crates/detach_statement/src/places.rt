@@ -1,8 +1,8 @@
 ghost use Rattle.std.specs.Prelude.{◌≡◌, IfOk};
 ghost use Rattle.detach_statement.specs.Places as places;
 
-use crate::faults::inside_a_transaction;
 use pg_values::{Fault, NoMemory};
+use refusals::detach_inside_a_transaction;
 use sessions::Place;
 use std::alloc::Global;
 
@@ -12,7 +12,7 @@ pub fn detach_misplaced(alloc: Global, place: Place) -> Result<Option<Fault>, No
     ensures { IfOk result (λ f. f ≡ places.detach_misplaced place) }
 {
     if place.explicit || !place.alone {
-        Ok(Some(inside_a_transaction(alloc)?))
+        Ok(Some(detach_inside_a_transaction(alloc)?))
     } else {
         Ok(None)
     }

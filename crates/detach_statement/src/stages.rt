@@ -12,13 +12,14 @@ ghost use Rattle.detach_statement.specs.Asked.{IsPartition};
 ghost use Rattle.detach_statement.specs.Concurrent as concurrent;
 
 use crate::checking::is_table;
-use crate::faults::{not_pending, stop_by};
+use crate::faults::stop_by;
 use crate::leaving::leave_parent;
 use crate::marking::run_first_stage;
 use history::{TxId, WaitOn};
 use legal_statements::listed_is_there;
 use part_catalog::Catalog;
 use pg_values::{LockMode, Refusal, SessionSet};
+use refusals::not_the_pending_partition;
 use soundness::legal_keeps_all;
 use statement_steps::{
     Caller, Ending, Rest, RestOfDetach, SessionNames, Stop, ended, lock_named_still, stopped_on,
@@ -86,7 +87,7 @@ fn check_mark(
     }
     let name = catalog.name_of(rest.table);
     let above = catalog.name_of(parent);
-    Err(Refusal::Sql(not_pending(alloc, name, above)?))
+    Err(Refusal::Sql(not_the_pending_partition(alloc, name, above)?))
 }
 
 // A part: nothing stands against its end.

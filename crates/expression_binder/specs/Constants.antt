@@ -6,6 +6,7 @@ use Rattle.pg_values.specs.declared.value.Kind.{Kind}
 use Rattle.pg_values.specs.declared.value.Kind.TheVariants.{Int4 as KInt4, Text as KText, Day as KDay}
 use Rattle.pg_values.specs.declared.value.Value.{Value}
 use Rattle.pg_values.specs.declared.value.Value.TheVariants as value
+use Rattle.refusals.specs.Refusals.{out_of_range, date_out_of_range, division_by_zero, no_operator, wrong_kind}
 use Rattle.value_rules.specs.Reads.{reads}
 use Rattle.value_rules.specs.Arithmetic as arithmetic
 use Rattle.value_rules.specs.Assignment.{assigned}
@@ -24,11 +25,10 @@ use Rattle.cond_logic.specs.Scalars.{ScalarTree, column, literal, table_name, co
 use Rattle.expression_binder.specs.declared.scope.Param.{Param}
 use Rattle.expression_binder.specs.declared.naming.Lookup.{Lookup}
 use Rattle.expression_binder.specs.declared.naming.Lookup.TheVariants.{Missing, One, Several}
-use Rattle.value_rules.specs.FaultTexts.{out_of_range}
-use Rattle.expression_binder.specs.Faults.{date_range, zero_divisor, no_operator, wrong_kind}
 use Rattle.expression_binder.specs.Kinds.{kind_beside}
 use Rattle.expression_binder.specs.Operands.{typed, zero_typed, is_pid}
 use Rattle.expression_binder.specs.Scopes.{Item, Scope, look_up, look_up_in, item_called, param}
+use Rattle.expression_binder.specs.Signs.{sign}
 
 -- ---- leaves
 
@@ -81,9 +81,9 @@ arith_of _ = Add
 
 abbrev pub arith_fault : Operator → ArithFault → Fault
 arith_fault o OutOfRange = out_of_range
-arith_fault o DateRange = date_range
-arith_fault o ZeroDivisor = zero_divisor
-arith_fault o NoOperator = no_operator KText o KText
+arith_fault o DateRange = date_out_of_range
+arith_fault o ZeroDivisor = division_by_zero
+arith_fault o NoOperator = no_operator KText (sign o) KText
 
 abbrev pub or_arith : Operator → Result Value ArithFault → Result ScalarTree Fault
 or_arith o (Ok v) = Ok (literal v)

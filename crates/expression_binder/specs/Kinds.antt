@@ -4,6 +4,7 @@ use Rattle.std.specs.Prelude.{ℕ, ◌==◌, Bool, true, false, ◌||◌, ◌&&�
 use Rattle.pg_values.specs.declared.fault.Fault.{Fault}
 use Rattle.pg_values.specs.declared.value.Kind.{Kind}
 use Rattle.pg_values.specs.declared.value.Kind.TheVariants.{Int4 as KInt4, Int8 as KInt8, Text as KText, Day as KDay, Truth as KTruth}
+use Rattle.refusals.specs.Refusals.{no_operator, left_out, wrong_kind, wrong_count}
 use Rattle.sql_ast.specs.declared.leaf.Operator.{Operator}
 use Rattle.sql_ast.specs.declared.leaf.Operator.TheVariants as op
 use Rattle.expression_binder.specs.declared.scope.Allowed.{Allowed}
@@ -11,7 +12,7 @@ use Rattle.expression_binder.specs.declared.typed.Given.{Given}
 use Rattle.expression_binder.specs.declared.typed.Given.TheVariants.{Of, Quoted, Nothing}
 use Rattle.expression_binder.specs.declared.typed.Typed.{Typed}
 use Rattle.expression_binder.specs.Firsts.{unless}
-use Rattle.expression_binder.specs.Faults.{no_operator, left_out, wrong_kind, wrong_count, sign}
+use Rattle.expression_binder.specs.Signs.{sign}
 
 abbrev pub fixed : Given → Typed
 fixed g = record { given = g; varies = false }
@@ -118,7 +119,7 @@ joined o x y = record {
 -- arithmetic is listed for the two kinds
 abbrev pub arithmetic_faults : Operator → Given → Given → List Fault
 arithmetic_faults o x y =
-    unless (is_some (kind_made o (kind_beside o y x) (kind_beside o x y))) (no_operator (kind_beside o y x) o (kind_beside o x y))
+    unless (is_some (kind_made o (kind_beside o y x) (kind_beside o x y))) (no_operator (kind_beside o y x) (sign o) (kind_beside o x y))
 
 -- an operator of conditions has no place in an operand, and arithmetic over columns not in every one
 abbrev pub join_faults : Allowed → Operator → Typed → Typed → List Fault
@@ -127,7 +128,7 @@ join_faults allowed o x y =
 
 -- the two sides of a comparison are alike
 unfoldable pub comparison_faults : Operator → Given → Given → List Fault
-comparison_faults o x y = unless (are_alike (side_kind y x) (side_kind x y)) (no_operator (side_kind y x) o (side_kind x y))
+comparison_faults o x y = unless (are_alike (side_kind y x) (side_kind x y)) (no_operator (side_kind y x) (sign o) (side_kind x y))
 
 abbrev pub is_truth : Given → Bool
 is_truth (Of KTruth) = true

@@ -1,9 +1,9 @@
 pub mod Conditions
 pub mod Constants
-pub mod Faults
 pub mod Firsts
 pub mod Kinds
 pub mod Lent
 pub mod Meanings
 pub mod Operands
 pub mod Scopes
+pub mod Signs

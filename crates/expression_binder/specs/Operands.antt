@@ -4,6 +4,7 @@ use Rattle.std.specs.Prelude.{ℕ, Bool, true, false, if◌then◌else◌, List,
 use Rattle.std.specs.Str.{bytes_eq}
 use Rattle.pg_values.specs.declared.fault.Fault.{Fault}
 use Rattle.pg_values.specs.declared.value.Kind.TheVariants.{Int4 as KInt4, Text as KText, Day as KDay, Truth as KTruth}
+use Rattle.refusals.specs.Refusals.{no_table, no_column, ambiguous, no_parameter, no_function, left_out}
 use Rattle.sql_ast.specs.declared.leaf.Leaf.{Leaf}
 use Rattle.sql_ast.specs.declared.leaf.Leaf.TheVariants.{Number, Text, Date, Null, Truth, Parameter, Column, ColumnOf, TableName, TableNameOf}
 use Rattle.sql_ast.specs.declared.leaf.Operator.TheVariants as op
@@ -15,7 +16,6 @@ use Rattle.expression_binder.specs.declared.naming.Lookup.TheVariants.{Missing, 
 use Rattle.expression_binder.specs.declared.typed.Given.{Given}
 use Rattle.expression_binder.specs.declared.typed.Given.TheVariants.{Of, Quoted, Nothing}
 use Rattle.expression_binder.specs.declared.typed.Typed.{Typed}
-use Rattle.expression_binder.specs.Faults.{no_table, no_column, ambiguous, no_parameter, no_function, left_out}
 use Rattle.expression_binder.specs.Kinds.{number_kind, fixed, joined, join_faults}
 use Rattle.expression_binder.specs.Scopes.{Item, Scope, look_up, look_up_in, item_called, param}
 

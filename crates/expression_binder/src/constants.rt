@@ -8,14 +8,15 @@ ghost use Rattle.expression_binder.specs.Scopes as scopes;
 ghost use Rattle.value_rules.specs.Arithmetic as arithmetic;
 ghost use Rattle.cond_logic.specs.Scalars as scalars;
 
-use crate::faults::{date_range, no_operator, zero_divisor};
 use crate::naming::{item_called, look_up, look_up_in, param};
+use crate::signs::sign;
 use crate::{Lookup, Names, Param, ScopeItem};
 use cond_logic::Scalar;
 use pg_values::{Fault, Kind, NoMemory, Refusal, Value, copy_value};
+use refusals::{date_out_of_range, division_by_zero, no_operator, out_of_range};
 use sql_ast::{Leaf, Operator};
 use std::alloc::Global;
-use value_rules::{Arith, ArithFault, arith, out_of_range, read_value};
+use value_rules::{Arith, ArithFault, arith, read_value};
 
 pub(crate) fn number_value(alloc: Global, n: u64) -> Result<Value, Refusal>
     ensures { IsAnswer result (constants.number_value n) }
@@ -109,9 +110,9 @@ fn arith_fault(alloc: Global, operator: Operator, fault: ArithFault) -> Result<F
 {
     match fault {
         ArithFault::OutOfRange => Ok(out_of_range(alloc)),
-        ArithFault::DateRange => Ok(date_range(alloc)),
-        ArithFault::ZeroDivisor => Ok(zero_divisor(alloc)),
-        ArithFault::NoOperator => no_operator(alloc, Kind::Text, operator, Kind::Text),
+        ArithFault::DateRange => Ok(date_out_of_range(alloc)),
+        ArithFault::ZeroDivisor => Ok(division_by_zero(alloc)),
+        ArithFault::NoOperator => no_operator(alloc, Kind::Text, sign(operator), Kind::Text),
     }
 }
 

@@ -1,12 +1,13 @@
 ghost use Rattle.std.specs.Prelude.{◌≡◌};
 ghost use Rattle.pg_values.specs.Refusals.{IsAnswer};
-ghost use Rattle.expression_binder.specs.Faults as faults;
+ghost use Rattle.refusals.specs.Refusals as refusals;
 ghost use Rattle.expression_binder.specs.Kinds as kinds;
 ghost use Rattle.expression_binder.specs.Firsts.{or_first, unless};
 
-use crate::faults::{left_out, no_operator, sign, wrong_count, wrong_kind};
+use crate::signs::sign;
 use crate::{Allowed, Given, Typed};
 use pg_values::{Kind, Refusal};
+use refusals::{left_out, no_operator, wrong_count, wrong_kind};
 use sql_ast::Operator;
 use std::alloc::Global;
 
@@ -195,7 +196,7 @@ fn check_arithmetic(
     if kind_made(operator, x, y).is_some() {
         return Ok(());
     }
-    Err(Refusal::Sql(no_operator(alloc, x, operator, y)?))
+    Err(Refusal::Sql(no_operator(alloc, x, sign(operator), y)?))
 }
 
 /// The two operands may be joined to one operand.
@@ -229,7 +230,7 @@ pub(crate) fn check_comparison(
     if are_alike(x, y) {
         return Ok(());
     }
-    Err(Refusal::Sql(no_operator(alloc, x, operator, y)?))
+    Err(Refusal::Sql(no_operator(alloc, x, sign(operator), y)?))
 }
 
 /// The operand is a condition by itself.
@@ -243,7 +244,7 @@ pub(crate) fn check_truth(alloc: Global, given: Given) -> Result<(), Refusal>
 }
 
 fn check_kind(alloc: Global, kind: Kind, own: Kind) -> Result<(), Refusal>
-    ensures { IsAnswer result (or_first (unless (kinds.are_alike own kind) (faults.wrong_kind own kind)) tt) }
+    ensures { IsAnswer result (or_first (unless (kinds.are_alike own kind) (refusals.wrong_kind own kind)) tt) }
 {
     if are_alike(own, kind) {
         return Ok(());
@@ -280,5 +281,5 @@ pub fn check_count(alloc: Global, given: usize, wanted: usize) -> Result<(), Ref
     if given == wanted {
         return Ok(());
     }
-    Err(Refusal::Sql(wrong_count(alloc, given, wanted)?))
+    Err(Refusal::Sql(wrong_count(alloc, given as u64, wanted as u64)?))
 }

@@ -13,18 +13,17 @@
 
 mod conditions;
 mod constants;
-mod faults;
 mod kinds;
 mod meanings;
 mod naming;
 mod operands;
 mod scalars;
 mod scope;
+mod signs;
 mod typed;
 
 pub use conditions::check_condition;
 pub use constants::as_literal;
-pub use faults::{ambiguous, left_out, no_column, no_table};
 pub use kinds::{check_assigned, check_count, check_counting, is_arithmetic, kind_alone};
 pub use meanings::bind_condition;
 pub use naming::{Hit, Lookup, item_called, look_up, look_up_in};

@@ -1,19 +1,19 @@
 ghost use Rattle.std.specs.Prelude.{◌≡◌, ◌++◌, ◌∷◌, [], map, IfOk, codes};
 ghost use Rattle.std.specs.Str.{bytes_eq};
 ghost use Rattle.pg_values.specs.Refusals.{IsAnswer};
+ghost use Rattle.refusals.specs.Refusals as refusals;
 ghost use Rattle.sql_ast.specs.Expressions.{tree, listed};
-ghost use Rattle.expression_binder.specs.Faults as faults;
 ghost use Rattle.expression_binder.specs.Firsts.{or_first};
 ghost use Rattle.expression_binder.specs.Kinds as kinds;
 ghost use Rattle.expression_binder.specs.Operands as operands;
 ghost use Rattle.expression_binder.specs.Scopes as scopes;
 ghost use Rattle.expression_binder.specs.Lent.{option_now};
 
-use crate::faults::{ambiguous, left_out, no_column, no_function, no_parameter, no_table, sign};
 use crate::kinds::{check_join, fixed, joined, number_kind};
 use crate::naming::{item_called, look_up, look_up_in, param};
-use crate::{Allowed, Given, Lookup, Names, Param, ScopeItem, Typed};
-use pg_values::{Kind, NoMemory, PgText, Refusal};
+use crate::{Given, Lookup, Names, Param, ScopeItem, Typed};
+use pg_values::{Kind, Refusal};
+use refusals::{ambiguous, left_out, no_column, no_function, no_parameter, no_table};
 use sql_ast::{Expr, Leaf, Operator};
 use std::alloc::Global;
 
@@ -290,7 +290,7 @@ pub fn typed_of(names: &Names<'_>, e: &Expr) -> Typed
 }
 
 fn out_of_place(alloc: Global, word: &[u8]) -> Result<(), Refusal>
-    ensures { IsAnswer result (or_first (faults.left_out word.now ∷ []) tt) }
+    ensures { IsAnswer result (or_first (refusals.left_out word.now ∷ []) tt) }
 {
     Err(Refusal::Sql(left_out(alloc, word)?))
 }

@@ -9,14 +9,14 @@ ghost use Rattle.expression_binder.specs.Firsts.{IsAnswerBy};
 
 use crate::Names;
 use crate::constants::{leaf_scalar, number_value, operate};
-use crate::faults::wrong_kind;
 use crate::kinds::kind_beside;
 use crate::operands::{is_pid, typed_of, zero_typed};
 use cond_logic::Scalar;
 use pg_values::{Kind, NoMemory, Refusal, Value};
+use refusals::{out_of_range, wrong_kind};
 use sql_ast::{Expr, Operator};
 use std::alloc::Global;
-use value_rules::{CoerceFault, coerce, out_of_range};
+use value_rules::{CoerceFault, coerce};
 
 fn cancel(alloc: Global, x: Scalar) -> Result<Scalar, NoMemory>
     ensures { IfOk result (λ made. scalar_tree made ≡ scalars.cancels (scalar_tree x)) }

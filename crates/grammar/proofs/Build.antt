@@ -10,7 +10,7 @@ use Rattle.grammar.proofs.Single.{one_law, nothing_law, value_law, wide_law, sam
 use Rattle.grammar.proofs.Follow.{both_law, follow_law}
 use Rattle.grammar.proofs.Either.{either_law, either_goes_on}
 use Rattle.grammar.proofs.Chain.{none, with, or_false, then_law, repeats_of_law, chain_by_law}
-use Rattle.grammar.proofs.Many.{many_law}
+use Rattle.grammar.proofs.ManyLaws.{many_law}
 use Rattle.grammar.proofs.Barred.{barred_law}
 
 -- one token of the class c; t is such a token

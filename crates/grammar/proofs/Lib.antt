@@ -7,12 +7,12 @@ pub mod ExampleLaws
 pub mod Follow
 pub mod KindClasses
 pub mod Laws
-pub mod Many
+pub mod ManyLaws
 pub mod PlaceLaws
 pub mod QuotedBack
 pub mod Repeats
 pub mod Single
 pub mod StepLaws
 pub mod Steps
-pub mod Whole
+pub mod WholeLaws
 pub mod WordLaws

@@ -6,7 +6,7 @@ use Rattle.grammar.specs.Reading.{Class, Rule, read_whole}
 use Rattle.grammar.specs.declared.refused.Refused.{Refused}
 use Rattle.grammar.specs.declared.refused.Refused.TheVariants as refused
 use Rattle.grammar.proofs.Laws.{Law, head_eq, tail_eq}
-use Rattle.grammar.proofs.Whole.{parses}
+use Rattle.grammar.proofs.WholeLaws.{parses}
 use Rattle.grammar.specs.Places.{StopsAt, StopsWith, token_at}
 
 abbrev itself : {A : Type 0} → A → A

@@ -35,7 +35,7 @@ pub trait Part {
         ensures { Gives (λ x. (tree x.0, x.1.now)) result ((rule text.now).read tokens.now) };
 }
 
-#[tactic(auto, unfolding(grammar::specs::Repeats::read_step))]
+#[tactic(auto, unfolding(crate::specs::Repeats::read_step))]
 fn part_step<'a, P: Part>(
     alloc: Global,
     text: &[u8],

@@ -7,7 +7,7 @@ use crate::{Part, Refused, split};
 use std::alloc::Global;
 
 /// A part that all the tokens are.
-#[tactic(auto, unfolding(grammar::specs::Reading::read_whole))]
+#[tactic(auto, unfolding(crate::specs::Reading::read_whole))]
 pub fn whole<P: Part>(alloc: Global, text: &[u8], tokens: &[P::Token]) -> Result<P::Item, Refused>
     ensures { Gives P.tree result (read_whole (P.rule text.now) tokens.now) }
 {

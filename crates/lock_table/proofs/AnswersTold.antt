@@ -17,7 +17,7 @@ use Rattle.lock_table.specs.Asked.{asked_view, asked, events_of, asked_events, a
 use Rattle.lock_table.specs.AnswerLaws.{NamesSessions}
 use Rattle.lock_table.proofs.Sessions.{sessions_are}
 use Rattle.lock_table.proofs.Cycles.{AreWaiters, least_is, least_none}
-use Rattle.lock_table.proofs.Causes.{waiters_with, cause_of}
+use Rattle.lock_table.proofs.AnswerCauses.{waiters_with, cause_of}
 
 somebody : (p : ℕ → Bool) (y : ℕ) → y < 128 → p y ≡ true → nobody p ≡ false
 somebody p y lt t = elim (cases_Bool (nobody p)) [

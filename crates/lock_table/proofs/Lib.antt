@@ -1,5 +1,5 @@
+pub mod AnswerCauses
 pub mod AnswersTold
-pub mod Causes
 pub mod Chains
 pub mod Cycles
 pub mod Lists

@@ -13,7 +13,7 @@ use Rattle.history.specs.Locks.{LockEvents, LockGot, LocksGivenUp, SnapshotGone,
 use Rattle.history.specs.LocksSound.{AreLocksSound}
 use Rattle.history.specs.Waits.{before, wants_against, stands_against, is_cause, waits_with, IsFree}
 use Rattle.lock_table.specs.Asked.{those, least_cycle, cycle_or_wait, events_of, asked_events}
-use Rattle.lock_table.proofs.Causes.{wanter_low, waiters_with}
+use Rattle.lock_table.proofs.AnswerCauses.{wanter_low, waiters_with}
 use Rattle.lock_table.proofs.Straight.{no_cycle}
 
 or_cases : (a b : Bool) → (a || b) ≡ true → (a ≡ true) ⊎ (b ≡ true)

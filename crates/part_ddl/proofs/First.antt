@@ -12,6 +12,7 @@ use Rattle.pg_values.specs.declared.fault.Fault.{Fault}
 use Rattle.pg_values.specs.declared.fault.Refusal.{Refusal}
 use Rattle.pg_values.specs.declared.fault.Refusal.TheVariants.{Sql}
 use Rattle.pg_values.specs.Refusals.{IsAnswer, or_first}
+use Rattle.refusals.specs.Refusals.{second_default, bound_overlaps}
 use Rattle.bound_forms.specs.declared.partition_bound.Bound.{Bound}
 use Rattle.bound_forms.specs.declared.partition_bound.Bound.TheVariants.{Default}
 use Rattle.bound_forms.specs.Accepts.{is_default}
@@ -20,7 +21,6 @@ use Rattle.history.specs.declared.catalogue.Entry.{Entry}
 use Rattle.history.specs.History.{History}
 use Rattle.table_trees.specs.Histories.{bound_of}
 use Rattle.part_catalog.specs.Found.{made_at}
-use Rattle.part_ddl.specs.Faults.{second_default, bound_overlaps}
 use Rattle.part_ddl.specs.Placing.{child_name, fault_at, pending_faults, default_faults, overlap_faults}
 
 -- ---- in a loop over elements that stand for entries

@@ -14,6 +14,7 @@ use Rattle.bound_forms.specs.declared.partition_bound.Bound.TheVariants.{Range, 
 use Rattle.bound_forms.specs.Accepts.{is_default}
 use Rattle.bound_forms.specs.Bounds.{comes_after, overlaps, are_siblings, BoundsFit}
 use Rattle.pg_values.specs.Refusals.{unless}
+use Rattle.refusals.specs.Refusals.{bound_overlaps, second_default, too_many}
 use Rattle.bound_forms.specs.Levels.{IsOfLevel}
 use Rattle.bound_forms.specs.Moduli.{bad_modulus}
 use Rattle.bound_forms.proofs.LevelLaws.{none_tells_fit}
@@ -31,7 +32,6 @@ use Rattle.table_trees.proofs.Order.{all_children, all_kept, children_of_part, u
 use Rattle.table_trees.proofs.Suited.{all_suit}
 use Rattle.part_catalog.specs.Answers.{is_pending_below, pending_entry}
 use Rattle.part_catalog.specs.Found.{made_at}
-use Rattle.part_ddl.specs.Faults.{bound_overlaps, second_default, too_many}
 use Rattle.part_ddl.specs.Placing.{child_name, partitions_of, names_below, bounds_below, fault_at, pending_faults, default_faults, modulus_faults, overlap_faults, bound_faults, room_faults, pending_name, levels_with, place_faults}
 use Rattle.part_ddl.proofs.Suiting.{bad_none}
 use Rattle.part_ddl.specs.Laws.{PassedHavePlaces}

@@ -1,6 +1,5 @@
 pub mod Below
 pub mod Dropped
-pub mod Faults
 pub mod Laws
 pub mod Made
 pub mod Partitions

@@ -11,6 +11,7 @@ use Rattle.bound_forms.specs.declared.partition_bound.Bound.TheVariants.{Hash, D
 use Rattle.bound_forms.specs.Accepts.{is_default}
 use Rattle.bound_forms.specs.Bounds.{overlaps}
 use Rattle.pg_values.specs.Refusals.{unless}
+use Rattle.refusals.specs.Refusals.{not_partitioned, second_default, partition_is_pending, modulus_does_not_suit, bound_overlaps, too_many}
 use Rattle.bound_forms.specs.Levels.{IsOfLevel}
 use Rattle.bound_forms.specs.Moduli.{bad_modulus}
 use Rattle.history.specs.declared.catalogue.Entry.{Entry}
@@ -22,7 +23,6 @@ use Rattle.table_trees.specs.Histories.{above, bound_of, children}
 use Rattle.part_catalog.specs.Answers.{pending_entry}
 use Rattle.part_catalog.specs.Found.{made_at}
 use Rattle.part_catalog.specs.Full.{tables_above}
-use Rattle.part_ddl.specs.Faults.{not_partitioned, second_default, pending_beside, modulus_does_not_suit, bound_overlaps, too_many}
 
 -- ---- the table above
 
@@ -62,7 +62,7 @@ fault_at fault names (Some i) = fault (slice_index_or names i []) ∷ []
 
 abbrev pub pending_faults : (parent : List ℕ) → Option (List ℕ) → List Fault
 pending_faults parent None = []
-pending_faults parent (Some p) = pending_beside p parent ∷ []
+pending_faults parent (Some p) = partition_is_pending p parent ∷ []
 
 -- a default stands beside no other default, and beside no pending partition
 abbrev pub default_faults : (parent : List ℕ) → (pending : Option (List ℕ)) → (names : List (List ℕ)) → List Bound → Bound → List Fault

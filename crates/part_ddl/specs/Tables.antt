@@ -6,6 +6,7 @@ use Rattle.pg_values.specs.declared.ids.LeafId.{LeafId}
 use Rattle.pg_values.specs.declared.which.Which.TheVariants.{Tables}
 use Rattle.bound_forms.specs.declared.level.Level.{Level as OneLevel}
 use Rattle.pg_values.specs.Refusals.{unless}
+use Rattle.refusals.specs.Refusals.{table_is_there, too_many}
 use Rattle.history.specs.declared.transaction.TxId.{TxId}
 use Rattle.history.specs.declared.catalogue.Column.{Column}
 use Rattle.history.specs.declared.catalogue.Table.{Table}
@@ -17,7 +18,6 @@ use Rattle.history.specs.History.{History, RowChange, CatalogueChange, row_event
 use Rattle.history.specs.Places.{KeysLieIn}
 use Rattle.table_trees.specs.Histories.{table_of}
 use Rattle.part_catalog.specs.Found.{resolved, table_number}
-use Rattle.part_ddl.specs.Faults.{table_is_there, too_many}
 use Rattle.part_ddl.specs.Made.{Made, made_by}
 
 -- ---- the name

@@ -15,7 +15,6 @@
 
 mod below;
 mod dropped;
-mod faults;
 mod laws;
 mod names;
 mod partitions;

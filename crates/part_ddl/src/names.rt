@@ -5,9 +5,9 @@ ghost use Rattle.tx_table.specs.Stands.{TableStands};
 ghost use Rattle.part_catalog.specs.Stands.{CatalogueStands};
 ghost use Rattle.part_ddl.specs.Tables.{name_faults};
 
-use crate::faults::table_is_there;
 use part_catalog::Catalog;
 use pg_values::Refusal;
+use refusals::table_is_there;
 use std::alloc::Global;
 use tx_table::TxTable;
 

@@ -20,15 +20,15 @@ ghost use Rattle.part_ddl.specs.Placing as placing;
 ghost use Rattle.part_ddl.specs.Placing.{AreOfOneLevel, IsFault};
 
 use crate::below::default_among;
-use crate::faults::{
-    bound_overlaps, modulus_does_not_suit, not_partitioned, pending_beside, second_default,
-    too_many,
-};
 use bound_forms::{Bound, Level, copy_bound};
 use history::{Entry, TableShape};
 use part_bounds::{BoundSet, modulus_fault, overlap_uncounted, set_in_order};
 use part_catalog::{Catalog, LEVEL_LIMIT, PARTITION_LIMIT};
 use pg_values::{NoMemory, Refusal, TableNo, ValueKey, Which};
+use refusals::{
+    bound_overlaps, modulus_does_not_suit, not_partitioned, partition_is_pending, second_default,
+    too_many,
+};
 use std::alloc::Global;
 use tx_table::TxTable;
 
@@ -117,7 +117,7 @@ fn check_further_default(
         return Err(Refusal::Sql(second_default(alloc, parent, name)?));
     }
     match pending {
-        Some(name) => Err(Refusal::Sql(pending_beside(alloc, name, parent)?)),
+        Some(name) => Err(Refusal::Sql(partition_is_pending(alloc, name, parent)?)),
         None => Ok(()),
     }
 }
@@ -156,7 +156,11 @@ fn check_modulus(
         None => Ok(()),
         Some(other) => match bound {
             Bound::Hash { modulus, .. } => {
-                Err(Refusal::Sql(modulus_does_not_suit(alloc, *modulus, other)?))
+                Err(Refusal::Sql(modulus_does_not_suit(
+                    alloc,
+                    u64::from(*modulus),
+                    u64::from(other),
+                )?))
             }
             _ => unreachable!(),
         },

@@ -8,11 +8,11 @@ ghost use Rattle.part_catalog.specs.Stands.{CatalogueStands};
 ghost use Rattle.part_ddl.specs.Made.{IsMade};
 ghost use Rattle.part_ddl.specs.Tables.{KeysFit, shape_of, leaf_events, made_table, count_faults};
 
-use crate::faults::too_many;
 use bound_forms::Level;
 use history::{Columns, TableShape, TxId};
 use part_catalog::{Catalog, CatalogRefused, NewTable, TABLE_LIMIT};
 use pg_values::{NoMemory, PgText, Refusal, TableNo, Which};
+use refusals::too_many;
 use row_store::RowStore;
 use std::alloc::Global;
 

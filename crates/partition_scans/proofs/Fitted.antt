@@ -6,6 +6,7 @@ use Rattle.std.proofs.lemmas.List.Elements.{All-nil, All-cons, All-head, All-tai
 use Rattle.pg_values.specs.declared.value.Value.{Value}
 use Rattle.pg_values.specs.declared.fault.Fault.{Fault}
 use Rattle.pg_values.specs.declared.ids.TableNo.{TableNo}
+use Rattle.refusals.specs.Refusals.{second_default}
 use Rattle.bound_forms.specs.declared.level.Level.{Level as OneLevel}
 use Rattle.bound_forms.specs.declared.partition_bound.Bound.{Bound}
 use Rattle.bound_forms.specs.declared.partition_bound.Bound.TheVariants.{Range, List as Listed, Hash, Default}
@@ -31,7 +32,6 @@ use Rattle.table_trees.proofs.RowsFit.{rows_fit}
 use Rattle.table_trees.proofs.Seen.{seen_level}
 use Rattle.table_trees.proofs.Sound.{ddl_tree_sound}
 use Rattle.part_catalog.specs.Found.{made_at}
-use Rattle.part_ddl.specs.Faults.{second_default}
 use Rattle.part_ddl.specs.Placing.{names_below, bounds_below, pending_name, fault_at, default_faults, bound_faults, place_faults}
 use Rattle.table_trees.specs.declared.path_part.PathPart.{PathPart}
 use Rattle.row_router.specs.Paths.{PartFits}

@@ -1,10 +1,9 @@
 -- Which rows may not be in a table that becomes a partition, and in the default partition beside a new one (the manual,
 -- ALTER TABLE, ATTACH PARTITION, and 5.11.2).
-use Rattle.std.specs.Prelude.{ℕ, Bool, not, ◌||◌, is_some, List, [], ◌∷◌, Option, Some, None, codes}
-use Rattle.pg_values.specs.declared.fault.Fault.{Fault}
+use Rattle.std.specs.Prelude.{ℕ, Bool, not, ◌||◌, is_some, List, [], ◌∷◌, Option, Some, None}
 use Rattle.pg_values.specs.declared.value.Value.{Value}
 use Rattle.pg_values.specs.declared.ids.TableNo.{TableNo}
-use Rattle.value_rules.specs.FaultTexts.{fault_of}
+use Rattle.refusals.specs.Refusals.{outside_new_bounds, default_has_row}
 use Rattle.bound_forms.specs.declared.partition_bound.Bound.{Bound}
 use Rattle.bound_forms.specs.Accepts.{accepts, accepts_among}
 use Rattle.history.specs.History.{History, catalogue_events}
@@ -14,20 +13,9 @@ use Rattle.row_router.specs.declared.path.PathTest.TheVariants.{Bounds, Checks}
 use Rattle.row_router.specs.Paths.{refused}
 use Rattle.part_catalog.specs.Found.{made_at}
 use Rattle.part_ddl.specs.Placing.{bounds_below}
-use Rattle.row_change.specs.RowTexts.{row_text}
 use Rattle.soundness.specs.Worlds.{key_at}
 use Rattle.partition_scans.specs.Fitting.{is_row_of}
 use Rattle.partition_scans.specs.Scans.{Scan}
-
--- ---- the texts
-
--- `<t> has the row <row> outside its new bounds`
-abbrev pub outside_new_bounds : (table : List ℕ) → List Value → Fault
-outside_new_bounds t row = fault_of (codes "23514") (codes "<t> has the row <row> outside its new bounds" ∷ t ∷ row_text row ∷ [])
-
--- `default <d> has the row <row> for <p>`
-abbrev pub default_has_row : (default partition : List ℕ) → List Value → Fault
-default_has_row d p row = fault_of (codes "23514") (codes "default <d> has the row <row> for <p>" ∷ d ∷ row_text row ∷ p ∷ [])
 
 -- ---- a table that becomes a partition
 
@@ -59,5 +47,5 @@ default_scan h s p b name None = []
 default_scan h s p b name (Some d) = record {
   leaves = leaves (ddl_tree h s d.number);
   breaks = breaks_default h p b;
-  fault = default_has_row (made_at h d.number).name name;
+  fault = λ row. default_has_row (made_at h d.number).name row name;
 } ∷ []

@@ -21,13 +21,13 @@ ghost use Rattle.partition_scans.specs.Places.{place_scan, default_scan};
 ghost use Rattle.partition_scans.specs.Scans.{judged, watches, IsPassed, IsRefused};
 
 use crate::default_rows::DefaultRows;
-use crate::faults::{default_has_row, outside_new_bounds};
 use crate::low::sessions_are_low;
 use crate::new_rows::NewRows;
 use bound_forms::{Bound, Level};
 use part_bounds::BoundSet;
 use part_ddl::default_in;
 use pg_values::{LeafId, NoMemory, Refusal, Row, SessionSet, TableNo, ValueKey};
+use refusals::{default_has_row, outside_new_bounds};
 use row_change::rows_fit_paths;
 use row_store::{RowTest, Verdict};
 use soundness::sessions_have_siblings;
@@ -117,7 +117,7 @@ fn judge_default_of(
         Ok(others) => Ok(others),
         Err(row) => {
             let default = stores.catalog.name_of(default);
-            Err(Refusal::Sql(default_has_row(alloc, default, name, row)?))
+            Err(Refusal::Sql(default_has_row(alloc, default, row, name)?))
         }
     }
 }

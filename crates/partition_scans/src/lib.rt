@@ -11,13 +11,11 @@
 #![tactic(auto)]
 
 mod default_rows;
-mod faults;
 mod fitting;
 mod judging;
 mod low;
 mod new_rows;
 mod scans;
-mod texts;
 
 pub use judging::{judge_default, judge_table};
 pub use low::sessions_are_low;

@@ -26,7 +26,8 @@ use Rattle.cond_logic.proofs.Pushed.{pushed_true}
 use Rattle.prune_steps.specs.Atoms.{asked}
 use Rattle.prune_steps.specs.Kept.{kept}
 use Rattle.prune_steps.proofs.Sound.{sound}
-use Rattle.plan_tree.specs.Kept.{Keeps, Leaf, id_of, leaf_of, keeps_for, keeps_plain, named_leaves, all_named_leaves, leaves_below, leaves_among, kept_leaves, no_keys}
+use Rattle.cond_logic.specs.Tables.{Leaf}
+use Rattle.plan_tree.specs.Kept.{Keeps, id_of, leaf_of, keeps_for, keeps_plain, named_leaves, all_named_leaves, leaves_below, leaves_among, kept_leaves, no_keys}
 use Rattle.plan_tree.specs.Laws.{Rows, LieRight, AllLieRight, is_yes, passes_beside, passing_in, NoneIsMissed}
 use Rattle.plan_tree.specs.Prunable.{CanPrune, AllCanPrune}
 

@@ -14,7 +14,8 @@ use Rattle.table_trees.specs.declared.tree.Shape.{Level as ShapeLevel}
 use Rattle.table_trees.specs.Seen.{seen, items_of}
 use Rattle.table_trees.proofs.Seen.{seen_level}
 use Rattle.table_trees.specs.Trees.{TableTree, LeafTable, LevelTable, Trees, trees_of, count, height, heights}
-use Rattle.plan_tree.specs.Kept.{Keeps, Leaf, AreKept, is_kept, led, leaves_below, leaves_among, kept_tables, tables_among, node_of}
+use Rattle.cond_logic.specs.Tables.{Leaf}
+use Rattle.plan_tree.specs.Kept.{Keeps, AreKept, is_kept, led, leaves_below, leaves_among, kept_tables, tables_among, node_of}
 use Rattle.plan_tree.specs.Prunable.{CanPrune, AllCanPrune}
 
 abbrev pub kids : List Tree → Trees

@@ -10,6 +10,7 @@ use Rattle.bound_forms.specs.declared.partition_bound.Bound.{Bound}
 use Rattle.bound_forms.specs.declared.partition_bound.Bound.TheVariants.{Default}
 use Rattle.table_trees.specs.declared.node.Node.{Node}
 use Rattle.table_trees.specs.Trees.{TableTree, LeafTable, LevelTable, Trees, End, More}
+use Rattle.cond_logic.specs.Tables.{Leaf}
 use Rattle.cond_logic.specs.Trees.{CondTree}
 use Rattle.prune_steps.specs.Atoms.{asked}
 use Rattle.prune_steps.specs.Bits.{bit}
@@ -30,11 +31,6 @@ abbrev pub keeps_by : (prunes : Bool) → CondTree → Keeps
 keeps_by prunes t = keeps_for prunes 0 (t ∷ [])
 
 -- ---- leaves
-
--- a leaf, and the name of its table
-pub record Leaf : Type 0 where
-  pub id : LeafId
-  pub name : List ℕ
 
 abbrev pub id_of : Leaf → LeafId
 id_of leaf = leaf.id

@@ -19,7 +19,8 @@ use Rattle.cond_logic.specs.Tuples.{Places, put}
 use Rattle.soundness.specs.Worlds.{IsMade}
 use Rattle.soundness.specs.Legal.{ArePermitted}
 use Rattle.soundness.specs.Laws.{IsLooking}
-use Rattle.plan_tree.specs.Kept.{Leaf, named_leaves, keeps_for, kept_leaves}
+use Rattle.cond_logic.specs.Tables.{Leaf}
+use Rattle.plan_tree.specs.Kept.{named_leaves, keeps_for, kept_leaves}
 use Rattle.plan_tree.specs.Prunable.{CanPrune}
 
 abbrev pub is_yes : Truth3 → Bool

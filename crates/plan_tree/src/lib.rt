@@ -27,7 +27,6 @@ mod conjuncts;
 mod item;
 mod laws;
 mod making;
-mod named_leaf;
 mod plan;
 mod pruning;
 
@@ -35,6 +34,5 @@ pub use condition::{all_hold, copy_cond};
 pub use item::PlanItem;
 pub use laws::{none_is_missed, shown_lie_right, trees_can_be_pruned};
 pub use making::make_plan;
-pub use named_leaf::NamedLeaf;
 pub use plan::Plan;
 pub use pruning::{KeptParts, prune_item, prune_tree};

@@ -12,10 +12,9 @@ ghost use Rattle.plan_tree.specs.Kept as kept_spec;
 ghost use Rattle.plan_tree.specs.Kept.{AreKept, is_kept, keeps_by, keeps_for, keeps_plain, led, leaves_below, node_of};
 ghost use Rattle.plan_tree.specs.Prunable.{CanPrune};
 
-use crate::NamedLeaf;
 use crate::condition::copy_cond;
 use bound_forms::{Bound, KeyColumns, Level, Strategy};
-use cond_logic::Cond;
+use cond_logic::{Cond, NamedLeaf};
 use part_bounds::{BoundSet, make_set};
 use pg_values::{NoMemory, Steps, TableNo, ValueKey};
 use prune_steps::{KeptSet, make_steps, run_steps};

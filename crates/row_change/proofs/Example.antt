@@ -5,12 +5,12 @@ use Rattle.pg_values.specs.declared.value.Kind.TheVariants.{Text as KText}
 use Rattle.pg_values.specs.declared.value.Value.{Value}
 use Rattle.pg_values.specs.declared.value.Value.TheVariants.{Null, Text}
 use Rattle.pg_values.specs.declared.fault.Fault.{Fault}
+use Rattle.refusals.specs.Refusals.{fault_of}
 use Rattle.bound_forms.specs.declared.level.Level.{Level as OneLevel}
 use Rattle.bound_forms.specs.declared.level.Strategy.TheVariants.{Range as ByRange}
 use Rattle.bound_forms.specs.declared.partition_bound.Bound.{Bound}
 use Rattle.bound_forms.specs.declared.partition_bound.Bound.TheVariants.{Range}
 use Rattle.bound_forms.specs.declared.point.Edge.TheVariants.{Min, At}
-use Rattle.value_rules.specs.FaultTexts.{fault_of}
 use Rattle.history.specs.declared.catalogue.Table.{Table}
 use Rattle.history.specs.declared.catalogue.TableShape.TheVariants.{Leaf}
 use Rattle.table_trees.specs.declared.path_part.PathPart.{PathPart}

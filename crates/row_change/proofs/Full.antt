@@ -7,6 +7,7 @@ use Rattle.pg_values.specs.declared.fault.Refusal.TheVariants.{Sql}
 use Rattle.pg_values.specs.declared.which.Which.{Which}
 use Rattle.pg_values.specs.declared.which.Which.TheVariants.{Versions, BytesOfRows}
 use Rattle.pg_values.specs.Refusals.{unless}
+use Rattle.refusals.specs.Refusals.{too_many}
 use Rattle.history.specs.History.{History, Event, versions}
 use Rattle.row_store.specs.declared.TheConstants.{VERSION_LIMIT, BYTES_LIMIT}
 use Rattle.row_store.specs.Kept.{KeptRows}
@@ -14,7 +15,6 @@ use Rattle.row_store.specs.Limits.{row_bytes, versions_bytes}
 use Rattle.row_store.specs.Refused.{HasRoom, IsFull, OfVersions, OfBytes}
 use Rattle.row_store.specs.Stands.{StoreStands}
 use Rattle.row_store.proofs.Changes.{count_is}
-use Rattle.row_change.specs.Refusals.{too_many}
 use Rattle.row_change.specs.Storing.{full_faults, made_by, IsMade}
 
 bytes_of : History → List Value → ℕ

@@ -1,3 +1,4 @@
+pub mod Costs
 pub mod Example
 pub mod Fit
 pub mod Full

@@ -2,8 +2,6 @@ pub mod FullRows
 pub mod Laws
 pub mod Places
 pub mod Placing
-pub mod Refusals
-pub mod RowTexts
 pub mod Storing
 pub mod Succession
 pub mod Targets

@@ -5,6 +5,7 @@ use Rattle.pg_values.specs.declared.fault.Fault.{Fault}
 use Rattle.pg_values.specs.declared.ids.LeafId.{LeafId}
 use Rattle.pg_values.specs.declared.ids.TableNo.{TableNo}
 use Rattle.pg_values.specs.Refusals.{faults_in, read_in, or_first}
+use Rattle.refusals.specs.Refusals.{does_not_accept, no_partition}
 use Rattle.history.specs.declared.catalogue.Table.{Table}
 use Rattle.history.specs.declared.catalogue.TableShape.{TableShape}
 use Rattle.history.specs.declared.catalogue.TableShape.TheVariants.{Leaf, Level}
@@ -15,7 +16,6 @@ use Rattle.table_trees.specs.declared.tree.NoPartition.{NoPartition}
 use Rattle.table_trees.specs.Trees.{TableTree, Fits, key_of, routed}
 use Rattle.row_router.specs.declared.path.PathTest.TheVariants.{Bounds}
 use Rattle.row_router.specs.Paths.{refuses, PartFits}
-use Rattle.row_change.specs.Refusals.{does_not_accept, no_partition}
 use Rattle.row_change.specs.Ways.{AllTables}
 
 abbrev pub name_at : List Table → TableNo → List ℕ

@@ -10,6 +10,7 @@ use Rattle.pg_values.specs.declared.ids.TableNo.{TableNo}
 use Rattle.pg_values.specs.declared.which.Which.TheVariants.{Versions, BytesOfRows}
 use Rattle.bound_forms.specs.Points.{is_null}
 use Rattle.pg_values.specs.Refusals.{unless}
+use Rattle.refusals.specs.Refusals.{null_column, kept_check, too_many}
 use Rattle.history.specs.declared.transaction.TxId.{TxId}
 use Rattle.history.specs.declared.catalogue.Column.{Column}
 use Rattle.history.specs.declared.catalogue.Table.{Table}
@@ -27,7 +28,6 @@ use Rattle.row_store.specs.Kept.{KeptRows}
 use Rattle.row_store.specs.Limits.{row_bytes, versions_bytes}
 use Rattle.row_store.specs.Stands.{StoreStands, newborn}
 use Rattle.row_change.specs.declared.target.Target.{Target}
-use Rattle.row_change.specs.Refusals.{null_column, kept_check, too_many}
 use Rattle.row_change.specs.Placing.{name_at, bounds_faults, IsPartNumbered}
 
 -- ---- the tests of a row

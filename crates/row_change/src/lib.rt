@@ -18,7 +18,6 @@
 #![tactic(auto)]
 
 mod by_leaf;
-mod faults;
 mod full_rows;
 mod holders;
 mod keys;
@@ -30,7 +29,6 @@ mod storing;
 mod succession;
 mod target;
 mod testing;
-mod texts;
 mod way;
 
 pub use full_rows::full_row;
@@ -44,4 +42,4 @@ pub use storing::{check_leaf, store_rows};
 pub use succession::succeed_row;
 pub use target::Target;
 pub use testing::check_row;
-pub use way::leaf_way;
+pub use way::{leaf_way, push_way};

@@ -3,6 +3,7 @@
 ghost use Rattle.std.specs.Prelude.{◌≡◌, ◌<◌, ◌++◌, All, IfOk, OnOk, length};
 ghost use Rattle.pg_values.specs.Refusals.{IsAnswer};
 ghost use Rattle.pg_values.specs.Refusals.{or_first};
+ghost use Rattle.refusals.specs.Refusals as refusals;
 ghost use Rattle.history.specs.Catalogue.{tables_made};
 ghost use Rattle.history.specs.History.{History, catalogue_events};
 ghost use Rattle.history.specs.Places.{table_at};
@@ -14,16 +15,15 @@ ghost use Rattle.row_router.specs.declared.path.PathTest.TheVariants.{Bounds};
 ghost use Rattle.part_catalog.specs.Stands.{CatalogueStands};
 ghost use Rattle.row_change.specs.Placing as placing;
 ghost use Rattle.row_change.specs.Placing.{name_at, all_placed, bounds_faults, way_told, CanBePlaced, IsNumbered, IsPartNumbered};
-ghost use Rattle.row_change.specs.Refusals as refusals;
 ghost use Rattle.row_change.specs.Targets.{HasWay};
 ghost use Rattle.row_change.specs.Ways.{way_below, ways_below};
 
 use crate::LeafList;
-use crate::faults::{does_not_accept, no_partition};
 use crate::keys::{key_above, key_in};
 use crate::way::push_way;
 use part_catalog::Catalog;
 use pg_values::{Fault, LeafId, NoMemory, Refusal, Row, Steps, TableNo};
+use refusals::{does_not_accept, no_partition};
 use row_router::{PathTest, fits_path};
 use std::alloc::Global;
 use std::slice::from_ref;
@@ -50,7 +50,7 @@ fn refused_by(
         f ≡ refusals.does_not_accept (name_at (tables_made (catalogue_events h)) part.now.table) (placing.key_above part.now.place row.now)) }
 {
     let key = key_above(alloc, &part.place, row.as_slice())?;
-    does_not_accept(alloc, catalog.name_of(part.table), key.as_slice())
+    does_not_accept(alloc, catalog.name_of(part.table), &key)
 }
 
 /// The nearest table of the path that does not accept the row refuses it: 23514.
@@ -81,7 +81,7 @@ fn lost_at(alloc: Global, catalog: &Catalog, table: TableNo, row: &Row) -> Resul
         f ≡ refusals.no_partition (name_at (tables_made (catalogue_events h)) table) (placing.key_in (table_at (tables_made (catalogue_events h)) table.number).shape row.now)) }
 {
     let key = key_in(alloc, &catalog.table(table).shape, row.as_slice())?;
-    no_partition(alloc, catalog.name_of(table), key.as_slice())
+    no_partition(alloc, catalog.name_of(table), &key)
 }
 
 #[tactic(auto, using(crate::proofs::Targets::way_of_routed))]

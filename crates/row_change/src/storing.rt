@@ -15,11 +15,11 @@ ghost use Rattle.row_change.specs.Targets.{HasTarget};
 
 use crate::Target;
 use crate::by_leaf::ByLeaf;
-use crate::faults::too_many;
 use crate::testing::check_row;
 use history::TxId;
 use part_catalog::Catalog;
 use pg_values::{LeafId, NoMemory, Refusal, Row, copy_row};
+use refusals::too_many;
 use row_store::{PutCause, RowStore};
 use std::alloc::Global;
 use tx_table::TxTable;

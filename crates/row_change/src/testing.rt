@@ -2,21 +2,21 @@
 
 ghost use Rattle.std.specs.Prelude.{◌≡◌, ◌<◌, ◌&&◌, not, All, IfOk, length};
 ghost use Rattle.pg_values.specs.Refusals.{IsAnswer, or_first, unless};
+ghost use Rattle.refusals.specs.Refusals as refusals;
 ghost use Rattle.bound_forms.specs.Points as points;
 ghost use Rattle.history.specs.Catalogue.{tables_made};
 ghost use Rattle.history.specs.History.{History, catalogue_events};
 ghost use Rattle.row_router.specs.Paths.{PartFits};
 ghost use Rattle.part_catalog.specs.Stands.{CatalogueStands};
 ghost use Rattle.row_change.specs.Placing.{name_at, IsPartNumbered};
-ghost use Rattle.row_change.specs.Refusals as refusals;
 ghost use Rattle.row_change.specs.Storing.{null_faults, own_null_faults, check_faults, named_faults, target_faults, IsTargetNumbered};
 
 use crate::Target;
-use crate::faults::{kept_check, null_column};
 use crate::placing::check_bounds;
 use history::Column;
 use part_catalog::Catalog;
 use pg_values::{Fault, NoMemory, Refusal, Row, TableNo, Value};
+use refusals::{kept_check, null_column};
 use row_router::{PathTest, fits_path};
 use std::alloc::Global;
 use table_trees::PathPart;
@@ -83,7 +83,7 @@ fn refused_by_check(
     ensures { IfOk result (λ f. (h : History) → CatalogueStands catalog.now h →
         f ≡ refusals.kept_check (name_at (tables_made (catalogue_events h)) table) row.now) }
 {
-    kept_check(alloc, catalog.name_of(table), row.as_slice())
+    kept_check(alloc, catalog.name_of(table), row)
 }
 
 // The nearest table of the path that has a kept CHECK which refuses the row: 23514.

@@ -1,8 +1,9 @@
 //! The tables on the way of a row, and to a leaf.
 
-ghost use Rattle.std.specs.Prelude.{◌≡◌, ◌++◌, true, false, Some, None, OnOk, IfOk, MatchOption};
+ghost use Rattle.std.specs.Prelude.{◌≡◌, ◌≤◌, ◌-◌, ◌^◌, ◌++◌, true, false, Some, None, OnOk, IfOk, MatchOption};
 ghost use Rattle.table_trees.specs.Trees.{routed, Fits};
 ghost use Rattle.table_trees.specs.Seen.{seen};
+ghost use Rattle.row_router.specs.Costs.{way_outcomes};
 ghost use Rattle.row_change.specs.Ways.{way_below, way_to};
 
 use part_bounds::{find_child, stands_in_plain_order};
@@ -13,7 +14,7 @@ use table_trees::{LevelKey, NoPartition, Shape, Tree};
 
 /// The leaf of a row, or the table at which it is lost: each level on the way is searched by halves. The tables
 /// below the tree's own that the row comes to are put behind the list, each before those below it.
-pub(crate) fn push_way<L: Ledger>(
+pub fn push_way<L: Ledger>(
     tree: &Tree,
     row: &Row,
     steps: &mut Steps<L>,
@@ -22,6 +23,8 @@ pub(crate) fn push_way<L: Ledger>(
     requires { Fits row.now (seen tree.now) }
     ensures leaf { IfOk result (λ found. found ≡ routed row.now (seen tree.now)) }
     ensures tables { OnOk result (out.new.items ≡ out.old.items ++ way_below row.now (seen tree.now)) }
+    ensures later { steps.old ≤ steps.new }
+    ensures cost { 2 ^ (steps.new - steps.old) ≤ way_outcomes row.now (seen tree.now) }
 {
     let mut node = tree;
     loop {

@@ -1,6 +1,5 @@
 pub mod Answer
 pub mod Course
-pub mod Faults
 pub mod Keys
 pub mod Laws
 pub mod Rows

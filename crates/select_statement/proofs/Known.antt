@@ -20,7 +20,7 @@ use Rattle.soundness.proofs.Looking.{counts_world}
 use Rattle.soundness.proofs.Presence.{all_more, all_shown}
 use Rattle.soundness.proofs.Sound.{sound_of, catalogue_sound_of}
 use Rattle.part_catalog.specs.Kept.{table_in as kept_table}
-use Rattle.plan_tree.specs.Kept.{Leaf}
+use Rattle.cond_logic.specs.Tables.{Leaf}
 use Rattle.plan_tree.specs.Laws.{TreesCanBePruned}
 use Rattle.stores.specs.Laws.{LeavesAreHoused}
 use Rattle.stores.specs.Stand.{Stands}

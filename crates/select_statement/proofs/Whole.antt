@@ -9,6 +9,7 @@ use Rattle.pg_values.specs.declared.answer.Answer.{Answer}
 use Rattle.pg_values.specs.declared.fault.Fault.{Fault}
 use Rattle.pg_values.specs.declared.ids.TableNo.{TableNo}
 use Rattle.pg_values.specs.declared.which.Which.TheVariants.{TablesInFrom}
+use Rattle.refusals.specs.Refusals.{too_many, statement_cancelled}
 use Rattle.history.specs.Transactions.{IsPast}
 use Rattle.history.specs.Snapshots.{TakenSnapshot}
 use Rattle.history.specs.History.{History, tx_events}
@@ -27,7 +28,6 @@ use Rattle.expression_binder.specs.Firsts.{or_first, unless}
 use Rattle.expression_binder.specs.Scopes.{Item}
 use Rattle.sql_binder.specs.From.{item_name, twice_faults}
 use Rattle.sql_binder.specs.Selects.{from_of, name_faults, constant_faults, meaning}
-use Rattle.sql_binder.specs.States.{too_many}
 use Rattle.plan_tree.specs.Conjuncts.{pool, asked_at, asked_later}
 use Rattle.plan_tree.specs.Plans.{PlannedItem, Planned, keeps_first, items_from, plan_for, is_empty, plan_tables, CanRead}
 use Rattle.select_answer.proofs.Kept.{plan_read as read_by}
@@ -37,7 +37,6 @@ use Rattle.stores.specs.Stand.{AllStand, Stands, IsSound}
 use Rattle.stores.specs.declared.stores.Stores.{Stores}
 use Rattle.statement_steps.specs.Made.{Made, Refused, halted}
 use Rattle.statement_steps.specs.Attempts.{MayAttempt}
-use Rattle.statement_steps.specs.Faults.{statement_cancelled}
 use Rattle.statement_steps.specs.declared.caller.Caller.{Caller}
 use Rattle.statement_steps.specs.declared.stop.Stop.{Stop}
 use Rattle.statement_steps.specs.declared.stop.Stop.TheVariants as stop

@@ -1,6 +1,7 @@
 -- What holds of every SELECT of a run.
-use Rattle.std.specs.Prelude.{◌≡◌, ◌≤◌, ◌<◌, ℕ, ◌-◌, ◌⊎◌, Bool, All, List, [], ◌∷◌, length}
+use Rattle.std.specs.Prelude.{◌≡◌, ◌≤◌, ◌<◌, ℕ, ◌⊎◌, Bool, All, List, [], ◌∷◌, length}
 use Rattle.pg_values.specs.declared.which.Which.TheVariants.{Scans}
+use Rattle.refusals.specs.Refusals.{too_many}
 use Rattle.history.specs.Catalogue.{tables_made}
 use Rattle.history.specs.Snapshots.{TakenSnapshot}
 use Rattle.history.specs.History.{History, catalogue_events}
@@ -15,7 +16,6 @@ use Rattle.plan_tree.specs.Laws.{shown}
 use Rattle.sql_ast.specs.Queries.{SelectTree}
 use Rattle.cond_logic.specs.Asked.{SelectMeant}
 use Rattle.plan_tree.specs.Plans.{plan_for}
-use Rattle.select_answer.specs.Faults.{too_many}
 use Rattle.select_answer.specs.Laws.{plan_reads}
 use Rattle.stores.specs.Events.{look_of}
 use Rattle.stores.specs.Good.{IsGood}

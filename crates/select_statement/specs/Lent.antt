@@ -6,7 +6,8 @@ use Rattle.history.specs.History.{History, tx_events}
 use Rattle.tx_table.specs.Kept.{KeptSnapshot}
 use Rattle.tx_table.specs.Stands.{TableStands, SnapshotStands}
 use Rattle.table_trees.specs.Trees.{TableTree, leaves}
-use Rattle.plan_tree.specs.Kept.{Leaf, id_of}
+use Rattle.cond_logic.specs.Tables.{Leaf}
+use Rattle.plan_tree.specs.Kept.{id_of}
 use Rattle.plan_tree.specs.Prunable.{CanPrune}
 use Rattle.stores.specs.Events.{look_of}
 use Rattle.stores.specs.declared.stores.Stores.{Stores}

@@ -4,6 +4,7 @@ use Rattle.pg_values.specs.declared.answer.Answer.{Answer}
 use Rattle.pg_values.specs.declared.fault.Fault.{Fault}
 use Rattle.pg_values.specs.declared.ids.TableNo.{TableNo}
 use Rattle.pg_values.specs.declared.lock_mode.LockMode.TheVariants.{AccessShare}
+use Rattle.refusals.specs.Refusals.{statement_cancelled}
 use Rattle.history.specs.History.{History}
 use Rattle.table_trees.specs.Trees.{TableTree}
 use Rattle.table_trees.specs.Histories.{tree_of}
@@ -16,7 +17,6 @@ use Rattle.plan_tree.specs.Plans.{Planned, plan_for, plan_tables}
 use Rattle.select_answer.specs.Answer.{answer_of, select_course}
 use Rattle.stores.specs.Events.{look_of}
 use Rattle.statement_steps.specs.Made.{Made, Refused, made, halted}
-use Rattle.statement_steps.specs.Faults.{statement_cancelled}
 use Rattle.statement_steps.specs.declared.caller.Caller.{Caller}
 use Rattle.statement_steps.specs.Asks.{named, held_at, all_locked}
 use Rattle.statement_steps.specs.Steps.{follow}

@@ -9,7 +9,7 @@ ghost use Rattle.cond_logic.specs.Asked.{output_tree, select_meant};
 ghost use Rattle.select_statement.specs.Cancels as cancels;
 
 use cond_logic::{
-    Binding, Cond, Output, Scalar, SelectAsk, TableNames, Truth3, eval, scalar_value,
+    Binding, Cond, Output, Scalar, SelectAsk, RowTables, Truth3, eval, scalar_value,
 };
 use pg_values::{NoMemory, Refusal, Value};
 use sql_ast::Select;
@@ -47,7 +47,7 @@ fn called(alloc: Global, value: &Scalar, sessions: u32) -> Result<Option<usize>,
     match value {
         Scalar::Cancel(number) => {
             let binding = Binding::new(&[]);
-            match scalar_value(alloc, number, &binding, &TableNames::none(), sessions) {
+            match scalar_value(alloc, number, &binding, &RowTables::none(), sessions) {
                 Ok(number) => Ok(named(sessions, &number)),
                 Err(Refusal::Sql(_)) => Ok(None),
                 Err(Refusal::NoMemory) => Err(NoMemory),

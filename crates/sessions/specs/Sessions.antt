@@ -1,7 +1,8 @@
 -- The course of a session: the statements of a block, one after the other, and its transactions (the manual, BEGIN, COMMIT,
 -- ROLLBACK, SET; 55.2.2.1 Multiple Statements in a Simple Query).
-use Rattle.std.specs.Prelude.{ℕ, ◌+◌, ◌==◌, ◌||◌, ◌&&◌, not, Bool, true, false, if◌then◌else◌, List, [], ◌∷◌, ◌++◌, Option, Some, None, Result, Ok, Err, length, slice_index_or, slice_set, map, unwrap_or, codes}
+use Rattle.std.specs.Prelude.{ℕ, ◌+◌, ◌==◌, ◌||◌, ◌&&◌, not, Bool, true, false, if◌then◌else◌, List, [], ◌∷◌, ◌++◌, Option, Some, None, Result, Ok, Err, length, slice_index_or, slice_set, map, unwrap_or}
 use Rattle.pg_values.specs.declared.fault.Fault.{Fault}
+use Rattle.refusals.specs.Refusals.{the_transaction_has_failed, isolation_level_after_a_snapshot}
 use Rattle.schedule.specs.Rules.{Rules}
 use Rattle.schedule.specs.declared.block.Kind.{Kind}
 use Rattle.schedule.specs.declared.block.Kind.TheVariants.{Setup}
@@ -68,12 +69,6 @@ has_open Explicit = true
 has_open Failed = false
 
 -- ---- faults of the session's state
-
-abbrev pub the_transaction_has_failed : Fault
-the_transaction_has_failed = record { code = record { bytes = codes "25P02" }; args = [] }
-
-abbrev pub isolation_level_after_a_snapshot : Fault
-isolation_level_after_a_snapshot = record { code = record { bytes = codes "25001" }; args = codes "isolation level after a snapshot" ∷ [] }
 
 abbrev pub is_level : Isolation → Isolation → Bool
 is_level ReadCommitted ReadCommitted = true

@@ -15,7 +15,7 @@
 mod asker;
 mod database;
 mod executor;
-mod faults;
+mod levels;
 mod outcome;
 mod phase;
 mod role;

@@ -9,10 +9,11 @@ ghost use Rattle.sessions.specs.Sessions.{has_open};
 ghost use Rattle.sessions.specs.declared.phase.Phase.TheVariants as phases;
 ghost use Rattle.sessions.specs.Weight.{most_points, points_in, points_with, weight_of};
 
-use crate::faults::{is_level, isolation_level_after_a_snapshot, the_transaction_has_failed};
+use crate::levels::is_level;
 use crate::session::Session;
 use crate::{Executor, Isolation, Outcome, Phase, Role};
 use pg_values::{Fault, NoMemory, Refusal};
+use refusals::{isolation_level_after_a_snapshot, the_transaction_has_failed};
 use schedule::Progress;
 use std::alloc::Global;
 

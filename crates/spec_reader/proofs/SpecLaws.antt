@@ -6,7 +6,7 @@ use Rattle.grammar.specs.Parses.{FailsAt, SameNext}
 use Rattle.grammar.specs.Reading.{read_whole}
 use Rattle.grammar.specs.declared.refused.Refused.{Refused}
 use Rattle.grammar.specs.declared.refused.Refused.TheVariants as refused
-use Rattle.grammar.proofs.Whole.{parses, one_value}
+use Rattle.grammar.proofs.WholeLaws.{parses, one_value}
 use Rattle.grammar.specs.Places.{token_at, StopsWith}
 use Rattle.grammar.proofs.PlaceLaws.{stops, no_text, one_place}
 use Rattle.spec_reader.specs.Faults.{fault}

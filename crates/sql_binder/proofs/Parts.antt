@@ -1,6 +1,7 @@
 -- An answer that is put together of two.
 use Rattle.std.proofs.Common.{ℕ, ◌≡◌, List, ◌++◌, Option, Ok, ap, subst, ◌∙◌}
 use Rattle.pg_values.specs.declared.fault.Fault.{Fault}
+use Rattle.refusals.specs.Refusals.{negative_limit, negative_offset}
 use Rattle.sql_ast.specs.Expressions.{Tree}
 use Rattle.sql_ast.specs.Queries.{Item as Listed, Joined, Key, selected}
 use Rattle.expression_binder.specs.Firsts.{or_first, fault_in}
@@ -13,7 +14,6 @@ use Rattle.sql_binder.specs.Items.{list_constants, list_names, list_outputs}
 use Rattle.sql_binder.specs.Keys.{keys_constants, sort_keys}
 use Rattle.sql_binder.specs.Selects as selects
 use Rattle.sql_binder.specs.Selects.{Front, Tail, list_scope, count_scope}
-use Rattle.sql_binder.specs.States.{negative_limit, negative_offset}
 use Rattle.cond_logic.specs.Asked.{SelectMeant}
 
 both_parts : {A B C : Type 0} (f : A → B → C) (xs ys : List Fault) (a c : A) (b d : B) → or_first xs a ≡ Ok c → or_first ys b ≡ Ok d → or_first (xs ++ ys) (f a b) ≡ Ok (f c d)

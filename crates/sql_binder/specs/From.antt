@@ -4,6 +4,7 @@ use Rattle.std.specs.List.{list_any}
 use Rattle.std.specs.Str.{bytes_eq}
 use Rattle.pg_values.specs.declared.fault.Fault.{Fault}
 use Rattle.pg_values.specs.declared.which.Which.TheVariants.{TablesInFrom}
+use Rattle.refusals.specs.Refusals.{too_many, name_twice}
 use Rattle.sql_ast.specs.Expressions.{Tree}
 use Rattle.sql_ast.specs.Queries.{Joined}
 use Rattle.cond_logic.specs.Trees.{CondTree}
@@ -12,7 +13,6 @@ use Rattle.expression_binder.specs.Conditions.{cond_faults}
 use Rattle.expression_binder.specs.Firsts.{unless}
 use Rattle.expression_binder.specs.Meanings.{constant_faults, meaning}
 use Rattle.expression_binder.specs.Scopes.{Item, condition_scope}
-use Rattle.sql_binder.specs.States.{too_many, name_twice}
 
 -- at most four items
 abbrev pub count_faults : List Joined → List Fault

@@ -2,6 +2,7 @@
 use Rattle.std.specs.Prelude.{ℕ, ◌+◌, Bool, true, false, List, [], ◌∷◌, ◌++◌, Option, Some, None, map, codes, Result, Ok, Err}
 use Rattle.pg_values.specs.declared.fault.Fault.{Fault}
 use Rattle.pg_values.specs.declared.value.Kind.{Kind}
+use Rattle.refusals.specs.Refusals.{left_out}
 use Rattle.sql_ast.specs.declared.leaf.Leaf.{Leaf}
 use Rattle.sql_ast.specs.declared.leaf.Leaf.TheVariants.{Column, ColumnOf, TableName, TableNameOf}
 use Rattle.sql_ast.specs.Expressions.{Tree, leaf, call, call_of_all}
@@ -10,7 +11,6 @@ use Rattle.cond_logic.specs.Scalars.{ScalarTree, column}
 use Rattle.expression_binder.specs.declared.scope.Allowed.{Allowed}
 use Rattle.expression_binder.specs.declared.scope.ScopeColumn.{ScopeColumn}
 use Rattle.expression_binder.specs.Constants.{scalar}
-use Rattle.expression_binder.specs.Faults.{left_out}
 use Rattle.expression_binder.specs.Firsts.{fault_in}
 use Rattle.expression_binder.specs.Kinds.{kind_alone}
 use Rattle.expression_binder.specs.Operands.{operand_faults, typed, item_faults}

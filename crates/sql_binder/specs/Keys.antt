@@ -2,14 +2,13 @@
 use Rattle.std.specs.Prelude.{ℕ, ◌+◌, ◌-◌, ◌&&◌, ◌||◌, not, nat_le, Bool, true, false, if◌then◌else◌, List, [], ◌∷◌, ◌++◌, Option, Some, None, length, codes}
 use Rattle.std.specs.Str.{bytes_eq}
 use Rattle.pg_values.specs.declared.fault.Fault.{Fault}
+use Rattle.refusals.specs.Refusals.{out_of_range, left_out, ambiguous, no_output}
 use Rattle.sql_ast.specs.declared.leaf.Leaf.TheVariants.{Number, Column, ColumnOf, TableName, TableNameOf}
 use Rattle.sql_ast.specs.Expressions.{Tree, leaf, binary, in_list, between, is_null, inverted, all_of, any_of}
 use Rattle.sql_ast.specs.Queries.{Key}
 use Rattle.expression_binder.specs.declared.naming.Lookup.{Lookup}
 use Rattle.expression_binder.specs.declared.naming.Lookup.TheVariants.{Missing, One, Several}
-use Rattle.value_rules.specs.FaultTexts.{out_of_range}
 use Rattle.expression_binder.specs.Conditions.{cond_faults}
-use Rattle.expression_binder.specs.Faults.{left_out, ambiguous}
 use Rattle.expression_binder.specs.Firsts.{unless}
 use Rattle.expression_binder.specs.Kinds.{is_arithmetic}
 use Rattle.expression_binder.specs.Operands.{operand_faults, look_up_faults}
@@ -19,7 +18,6 @@ use Rattle.cond_logic.specs.declared.select.SortBy.TheVariants as by
 use Rattle.cond_logic.specs.declared.select.SortKey.{SortKey}
 use Rattle.sql_binder.specs.declared.keys.Named.{Named}
 use Rattle.sql_binder.specs.declared.keys.Named.TheVariants as named
-use Rattle.sql_binder.specs.States.{no_output}
 
 abbrev pub with_output : Bool → (place : ℕ) → Named → Named
 with_output false place found = found

@@ -3,4 +3,3 @@ pub mod From
 pub mod Items
 pub mod Keys
 pub mod Selects
-pub mod States

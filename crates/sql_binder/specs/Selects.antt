@@ -1,6 +1,7 @@
 -- A SELECT by places and values, or its first fault (SELECT).
 use Rattle.std.specs.Prelude.{ℕ, List, [], ◌++◌, Option, map, Result}
 use Rattle.pg_values.specs.declared.fault.Fault.{Fault}
+use Rattle.refusals.specs.Refusals.{negative_limit, negative_offset}
 use Rattle.cond_logic.specs.Trees.{CondTree}
 use Rattle.sql_ast.specs.Queries.{Joined, SelectTree, selected}
 use Rattle.expression_binder.specs.declared.scope.Param.{Param}
@@ -10,7 +11,6 @@ use Rattle.sql_binder.specs.Counts.{count, count_faults, or_none}
 use Rattle.sql_binder.specs.From.{from_faults, all_conditions, condition_faults, condition_constants, condition_meanings}
 use Rattle.sql_binder.specs.Items.{in_a_select_list, list_faults, list_constants, list_names, list_outputs}
 use Rattle.sql_binder.specs.Keys.{keys_faults, keys_constants, sort_keys}
-use Rattle.sql_binder.specs.States.{negative_limit, negative_offset}
 use Rattle.cond_logic.specs.Asked.{OutputTree, SelectMeant}
 use Rattle.cond_logic.specs.declared.select.SortKey.{SortKey}
 

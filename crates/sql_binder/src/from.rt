@@ -7,10 +7,10 @@ ghost use Rattle.cond_logic.specs.Trees.{cond_tree};
 ghost use Rattle.expression_binder.specs.Firsts.{or_first, IsAnswerBy};
 ghost use Rattle.sql_binder.specs.From as from;
 
-use crate::faults::{name_twice, too_many};
 use cond_logic::Cond;
 use expression_binder::{Param, ScopeItem, bind_condition, check_condition, condition_names};
 use pg_values::{NoMemory, Refusal, Which};
+use refusals::{name_twice, too_many};
 use sql_ast::{Expr, FromItem};
 use std::alloc::Global;
 

@@ -13,9 +13,10 @@ ghost use Rattle.cond_logic.specs.Asked.{output_tree};
 use cond_logic::{ColumnId, Output, Scalar};
 use expression_binder::{
     Allowed, Names, ScopeColumn, ScopeItem, bind_scalar, check_item, check_operand, item_called,
-    kind_alone, left_out, typed_of,
+    kind_alone, typed_of,
 };
 use pg_values::{NoMemory, PgText, Refusal};
+use refusals::left_out;
 use sql_ast::{Expr, Leaf, SelectItem};
 use std::alloc::Global;
 

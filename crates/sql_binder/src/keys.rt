@@ -1,24 +1,23 @@
 ghost use Rattle.std.specs.Prelude.{◌≡◌, ◌++◌, ◌∷◌, [], map, OnOk, codes};
 ghost use Rattle.pg_values.specs.Refusals.{IsAnswer};
+ghost use Rattle.refusals.specs.Refusals as refusals;
 ghost use Rattle.sql_ast.specs.Expressions.{tree, leaf as leaf_tree};
 ghost use Rattle.sql_ast.specs.Queries.{key_tree};
 ghost use Rattle.expression_binder.specs.Conditions.{cond_faults};
-ghost use Rattle.expression_binder.specs.Faults as faults;
 ghost use Rattle.expression_binder.specs.Firsts.{or_first, IsAnswerBy};
 ghost use Rattle.expression_binder.specs.Lent.{option_now};
 ghost use Rattle.expression_binder.specs.Operands.{operand_faults};
 ghost use Rattle.sql_binder.specs.Keys as keys;
 
-use crate::faults::no_output;
 use cond_logic::{SortBy, SortKey};
 use expression_binder::{
-    Lookup, Names, ScopeItem, ambiguous, check_condition, check_look_up, check_operand,
-    is_arithmetic, item_called, left_out, look_up, look_up_in,
+    Lookup, Names, ScopeItem, check_condition, check_look_up, check_operand, is_arithmetic,
+    item_called, look_up, look_up_in,
 };
 use pg_values::{NoMemory, PgText, Refusal};
+use refusals::{ambiguous, left_out, no_output, out_of_range};
 use sql_ast::{Expr, Leaf, SortKey as Key};
 use std::alloc::Global;
-use value_rules::out_of_range;
 
 /// The output columns that have a name.
 #[derive(Clone, Copy, Debug, PartialEq, Eq)]
@@ -80,14 +79,14 @@ fn check_position(alloc: Global, n: u64, count: usize) -> Result<(), Refusal>
 }
 
 fn check_other(alloc: Global, names: &Names<'_>, e: &Expr) -> Result<(), Refusal>
-    ensures { IsAnswer result (or_first (operand_faults names.now (tree e.now) ++ faults.left_out (codes "ORDER") ∷ []) tt) }
+    ensures { IsAnswer result (or_first (operand_faults names.now (tree e.now) ++ refusals.left_out (codes "ORDER") ∷ []) tt) }
 {
     check_operand(alloc, names, e)?;
     Err(Refusal::Sql(left_out(alloc, b"ORDER")?))
 }
 
 fn check_as_condition(alloc: Global, names: &Names<'_>, e: &Expr) -> Result<(), Refusal>
-    ensures { IsAnswer result (or_first (cond_faults names.now (tree e.now) ++ faults.left_out (codes "ORDER") ∷ []) tt) }
+    ensures { IsAnswer result (or_first (cond_faults names.now (tree e.now) ++ refusals.left_out (codes "ORDER") ∷ []) tt) }
 {
     check_condition(alloc, names, e)?;
     Err(Refusal::Sql(left_out(alloc, b"ORDER")?))

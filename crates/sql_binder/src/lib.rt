@@ -10,7 +10,6 @@
 #![tactic(auto)]
 
 mod counts;
-mod faults;
 mod from;
 mod items;
 mod keys;

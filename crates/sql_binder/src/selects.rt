@@ -1,5 +1,6 @@
 ghost use Rattle.std.specs.Prelude.{◌≡◌, ◌++◌, map, IfOk};
 ghost use Rattle.pg_values.specs.Refusals.{IsAnswer};
+ghost use Rattle.refusals.specs.Refusals as refusals;
 ghost use Rattle.cond_logic.specs.Trees.{cond_tree};
 ghost use Rattle.sql_ast.specs.Queries.{item_tree, joined_tree, key_tree, maybe_tree, select_tree};
 ghost use Rattle.expression_binder.specs.Firsts.{or_first, fault_in, IsAnswerBy};
@@ -10,16 +11,15 @@ ghost use Rattle.sql_binder.specs.Keys as keys;
 ghost use Rattle.sql_binder.specs.Selects as selects;
 ghost use Rattle.sql_binder.specs.Selects.{bound_select};
 ghost use Rattle.cond_logic.specs.Asked.{output_tree, select_meant};
-ghost use Rattle.sql_binder.specs.States as states;
 
 use crate::counts::{bind_count, check_count_of};
-use crate::faults::{negative_limit, negative_offset};
 use crate::from::{bind_conditions, check_conditions, check_from};
 use crate::items::{bind_list, check_list, in_a_select_list, output_names};
 use crate::keys::{bind_keys, check_keys};
 use cond_logic::{Cond, Output, SelectAsk, SortKey};
 use expression_binder::{Names, Param, ScopeItem, condition_names};
 use pg_values::{NoMemory, PgText, Refusal};
+use refusals::{negative_limit, negative_offset};
 use sql_ast::Select;
 use std::alloc::Global;
 
@@ -101,7 +101,7 @@ fn bind_counts(
     counting: &Names<'_>,
     select: &Select,
 ) -> Result<(Option<u64>, Option<u64>), Refusal>
-    ensures { IsAnswer result (or_first (fault_in (counts.count states.negative_limit counting.now (maybe_tree select.now.limit)) ++ fault_in (counts.count states.negative_offset counting.now (maybe_tree select.now.offset))) (counts.or_none (counts.count states.negative_limit counting.now (maybe_tree select.now.limit)), counts.or_none (counts.count states.negative_offset counting.now (maybe_tree select.now.offset)))) }
+    ensures { IsAnswer result (or_first (fault_in (counts.count refusals.negative_limit counting.now (maybe_tree select.now.limit)) ++ fault_in (counts.count refusals.negative_offset counting.now (maybe_tree select.now.offset))) (counts.or_none (counts.count refusals.negative_limit counting.now (maybe_tree select.now.limit)), counts.or_none (counts.count refusals.negative_offset counting.now (maybe_tree select.now.offset)))) }
 {
     let limit = bind_count(alloc, counting, &select.limit, negative_limit(alloc))?;
     let offset = bind_count(alloc, counting, &select.offset, negative_offset(alloc))?;
@@ -116,7 +116,7 @@ fn bind_tail(
     outputs: &[PgText],
     select: &Select,
 ) -> Result<(Vec<SortKey>, (Option<u64>, Option<u64>)), Refusal>
-    ensures { IsAnswerBy {U = selects.Tail} (λ p. (p.0.items, p.1)) result (or_first (keys.keys_constants (map key_tree select.now.order) ++ (fault_in (counts.count states.negative_limit counting.now (maybe_tree select.now.limit)) ++ fault_in (counts.count states.negative_offset counting.now (maybe_tree select.now.offset)))) (keys.sort_keys names.now outputs.now (map key_tree select.now.order), (counts.or_none (counts.count states.negative_limit counting.now (maybe_tree select.now.limit)), counts.or_none (counts.count states.negative_offset counting.now (maybe_tree select.now.offset))))) }
+    ensures { IsAnswerBy {U = selects.Tail} (λ p. (p.0.items, p.1)) result (or_first (keys.keys_constants (map key_tree select.now.order) ++ (fault_in (counts.count refusals.negative_limit counting.now (maybe_tree select.now.limit)) ++ fault_in (counts.count refusals.negative_offset counting.now (maybe_tree select.now.offset)))) (keys.sort_keys names.now outputs.now (map key_tree select.now.order), (counts.or_none (counts.count refusals.negative_limit counting.now (maybe_tree select.now.limit)), counts.or_none (counts.count refusals.negative_offset counting.now (maybe_tree select.now.offset))))) }
 {
     let order = bind_keys(alloc, names, outputs, select.order.as_slice())?;
     let counts = bind_counts(alloc, counting, select)?;

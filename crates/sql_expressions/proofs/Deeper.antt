@@ -4,7 +4,7 @@ use Rattle.grammar.specs.Reading.{Class, Reading, Rule, given, ◌>>=◌, begins
 use Rattle.grammar.specs.Gives.{Gives}
 use Rattle.grammar.specs.Repeats.{second_of, chain_by, read_repeats}
 use Rattle.grammar.specs.declared.refused.Refused.{Refused}
-use Rattle.grammar.proofs.Whole.{gives_by}
+use Rattle.grammar.proofs.WholeLaws.{gives_by}
 use Rattle.std.specs.Prelude.{Result}
 use Rattle.sql_tokens.specs.declared.kind.Kind.{Kind}
 use Rattle.sql_tokens.specs.declared.kind.Kind.TheVariants as word

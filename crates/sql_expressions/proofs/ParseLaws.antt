@@ -7,7 +7,7 @@ use Rattle.grammar.specs.Reading.{Class, Rule, read_whole}
 use Rattle.grammar.specs.declared.refused.Refused.{Refused}
 use Rattle.grammar.specs.declared.refused.Refused.TheVariants as refused
 use Rattle.grammar.proofs.Laws.{Law}
-use Rattle.grammar.proofs.Whole.{parses}
+use Rattle.grammar.proofs.WholeLaws.{parses}
 use Rattle.sql_tokens.specs.Contents.{called}
 use Rattle.sql_tokens.specs.Tokens.{tokens_of}
 use Rattle.sql_tokens.specs.Words.{is_left_out}

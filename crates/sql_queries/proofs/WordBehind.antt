@@ -3,7 +3,7 @@
 use Rattle.std.proofs.Common.{◌≡◌, ℕ, Bool, true, false, List, [], ◌∷◌, ◌++◌, length, Option, Some, None, Ok, Err, ◌⊎◌, inl, inr, refl, sym, ◌∙◌, ap, subst, append_assoc, append-nil, arith}
 use Rattle.grammar.specs.Reading.{Class, Reading, Stop, syntax_at, limit_at, Rule, ◌>>=◌, given, begins_in, both_texts}
 use Rattle.grammar.proofs.Laws.{Stops, SameHead, Took, Failed, Beyond, Fails, Reads, Law, Within, head_eq, tail_eq, same_head, stops_within, pair_eq}
-use Rattle.grammar.proofs.Whole.{one_value}
+use Rattle.grammar.proofs.WholeLaws.{one_value}
 use Rattle.sql_queries.specs.Items.{left_of, stop_at}
 use Rattle.sql_queries.proofs.Splits.{Split, same, longer, shorter, split, same_self, same_by_head, same_behind, append_one}
 

@@ -2,7 +2,7 @@
 use Rattle.std.proofs.Common.{◌≡◌, ℕ, true, List, [], ◌∷◌, Result, Some, inl, refl, sym, subst, append-nil}
 use Rattle.std.specs.Prelude.{MatchResult}
 use Rattle.grammar.specs.Parses.{IsOnly}
-use Rattle.grammar.proofs.Whole.{one_value}
+use Rattle.grammar.proofs.WholeLaws.{one_value}
 use Rattle.sql_tokens.specs.Tokens.{tokens_of}
 use Rattle.sql_tokens.specs.declared.token.Token.{Token}
 use Rattle.sql_expressions.specs.declared.refused.ParseRefused.{ParseRefused}

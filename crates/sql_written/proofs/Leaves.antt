@@ -2,7 +2,7 @@
 use Rattle.std.proofs.Common.{◌≡◌, ℕ, ◌≤◌, Bool, true, false, cond, ◌&&◌, not, List, [], ◌∷◌, length, inl, inr, refl, sym, ap, ◌∙◌, subst, arith}
 use Rattle.std.specs.Fmt.{decimal}
 use Rattle.std.specs.Prelude.{nat_lt}
-use Rattle.grammar.proofs.Whole.{one_value}
+use Rattle.grammar.proofs.WholeLaws.{one_value}
 use Rattle.sql_tokens.specs.Contents.{bytes_of, name_in, number_in, string_in}
 use Rattle.sql_tokens.specs.Numbers.{number_of_digits}
 use Rattle.sql_tokens.specs.Words.{is, is_name, word_kind}

@@ -6,7 +6,7 @@ use Rattle.grammar.specs.Reading.{Class, Rule, Stop, syntax_at, limit_at, read_w
 use Rattle.grammar.specs.declared.refused.Refused.{Refused}
 use Rattle.grammar.specs.declared.refused.Refused.TheVariants.{Syntax, Limit}
 use Rattle.grammar.proofs.Laws.{Law}
-use Rattle.grammar.proofs.Whole.{parses, reads_text}
+use Rattle.grammar.proofs.WholeLaws.{parses, reads_text}
 use Rattle.sql_queries.proofs.Splits.{Split, same, longer, shorter, split}
 
 abbrev Within : {T A : Type 0} → (List T → A → Type 0) → (List T → A → Type 0) → Type 0

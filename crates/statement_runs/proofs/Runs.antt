@@ -6,6 +6,7 @@ use Rattle.std.proofs.lemmas.Bool.Decides.{nat_tests}
 use Rattle.std.proofs.lemmas.List.{length-append, length-map}
 use Rattle.std.proofs.lemmas.List.Elements.{All-nil, All-cons, All-append}
 use Rattle.pg_values.specs.declared.fault.Fault.{Fault}
+use Rattle.refusals.specs.Refusals.{statement_cancelled}
 use Rattle.history.specs.declared.wait.WaitOn.{WaitOn}
 use Rattle.history.specs.declared.wait.Wanted.{Wanted}
 use Rattle.history.specs.declared.wait.Wanted.TheVariants.{Lock, Others}
@@ -36,7 +37,6 @@ use Rattle.statement_steps.specs.declared.stop.Stop.{Stop}
 use Rattle.statement_steps.specs.declared.stop.Stop.TheVariants as stop
 use Rattle.statement_runs.specs.Words.{Words}
 use Rattle.statement_runs.specs.Database.{Database, unless_cancelled, caller_of, attempt_of, next_command, rest_told, let_go_at, given_up, outcome_told, text_told, all_cut, cut_by, goes_on as goes_on_to}
-use Rattle.statement_steps.specs.Faults.{statement_cancelled}
 use Rattle.statement_runs.specs.Kept.{KeptSeats, AreSeated, TellOf, AreKept, Adds, StandsFor}
 use Rattle.statement_runs.specs.Ran.{attempt_at, HasRun}
 use Rattle.statement_steps.proofs.Numbers.{one_later}

@@ -5,6 +5,7 @@ use Rattle.grammar.specs.Reading.{Class, Rule, syntax_at, read_whole}
 use Rattle.grammar.proofs.Laws.{Law}
 use Rattle.grammar.specs.Places.{token_at}
 use Rattle.pg_values.specs.declared.fault.Fault.{Fault}
+use Rattle.refusals.specs.Refusals.{left_out, syntax_error, too_many}
 use Rattle.sql_tokens.specs.Contents.{called}
 use Rattle.sql_tokens.specs.Tokens.{tokens_of}
 use Rattle.sql_tokens.specs.Words.{is_left_out}
@@ -12,7 +13,7 @@ use Rattle.sql_tokens.specs.declared.token.Token.{Token}
 use Rattle.sql_expressions.specs.Parsed as parsed
 use Rattle.sql_expressions.specs.declared.refused.ParseRefused.{ParseRefused}
 use Rattle.sql_expressions.specs.declared.refused.ParseRefused.TheVariants as refusals
-use Rattle.statement_runs.specs.Faults.{fault, left_out, syntax_error, too_many}
+use Rattle.statement_runs.specs.Faults.{fault}
 use Rattle.statement_runs.specs.Reading.{misfit, or_fault, read_text}
 use Rattle.statement_runs.proofs.Fixed.{reads_all, stops_there, limits_there}
 

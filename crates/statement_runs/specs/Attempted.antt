@@ -1,8 +1,8 @@
 -- What a statement of a session makes of a history, and what it prints (VI. SQL Commands).
 use Rattle.std.specs.Prelude.{ℕ, Bool, List, [], Option}
 use Rattle.pg_values.specs.declared.answer.Answer.{Answer}
+use Rattle.refusals.specs.Refusals.{left_out}
 use Rattle.history.specs.History.{History}
-use Rattle.expression_binder.specs.Faults.{left_out}
 use Rattle.sessions.specs.declared.settings.Settings.{Settings}
 use Rattle.sql_ast.specs.Commands.{CommandTree, makes_table, makes_partition, drops, attaches, detaches, locks}
 use Rattle.sql_ast.specs.declared.detachment.Detachment.TheVariants.{AtOnce, Concurrently, Finalize}

@@ -1,6 +1,7 @@
 -- What SET and RESET make of the settings of a session (VI. SQL Commands: SET, RESET).
-use Rattle.std.specs.Prelude.{ℕ, Bool, List, [], ◌∷◌, Option, Some, None, Result, Ok, Err, option_map, codes}
+use Rattle.std.specs.Prelude.{ℕ, Bool, List, Option, Some, None, Result, Ok, Err, option_map}
 use Rattle.pg_values.specs.declared.fault.Fault.{Fault}
+use Rattle.refusals.specs.Refusals.{no_setting, no_value}
 use Rattle.sessions.specs.Sessions.{default_settings}
 use Rattle.sessions.specs.declared.settings.PlanCacheMode.{PlanCacheMode}
 use Rattle.sessions.specs.declared.settings.Settings.{Settings}
@@ -9,12 +10,6 @@ use Rattle.sql_ast.specs.declared.setting_value.SettingValue.TheVariants as valu
 use Rattle.statement_runs.specs.declared.names.SettingName.{SettingName}
 use Rattle.statement_runs.specs.declared.names.SettingName.TheVariants as names
 use Rattle.statement_runs.specs.Names.{setting_named, truth_of, mode_of}
-
-abbrev pub no_setting : List ℕ → Fault
-no_setting name = record { code = record { bytes = codes "42704" }; args = codes "no setting <x>" ∷ name ∷ [] }
-
-abbrev pub no_value : (value setting : List ℕ) → Fault
-no_value value setting = record { code = record { bytes = codes "22023" }; args = value ∷ setting ∷ [] }
 
 -- what a value says
 abbrev pub text_of : SettingValue → List ℕ

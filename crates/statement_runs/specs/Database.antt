@@ -1,6 +1,6 @@
 -- The run of statements over a history: what each call of a session makes of it (the manual, 13.2 and 13.3).
 use Rattle.std.specs.Prelude.{ℕ, ◌+◌, ◌==◌, Bool, true, false, if◌then◌else◌, List, [], ◌∷◌, ◌++◌, Option, Some, None, Result, Ok, Err, is_some, replicate, slice_index_or, slice_set}
-use Rattle.pg_values.specs.declared.fault.Fault.{Fault}
+use Rattle.refusals.specs.Refusals.{statement_cancelled}
 use Rattle.history.specs.History.{History, lock_events}
 use Rattle.history.specs.Locks.{wanted, queue}
 use Rattle.history.specs.Waits.{ready}
@@ -14,7 +14,6 @@ use Rattle.sessions.specs.declared.phase.Isolation.TheVariants.{ReadCommitted, R
 use Rattle.sessions.specs.declared.settings.Settings.{Settings}
 use Rattle.stores.specs.Events.{begun, committed, aborted, let_go, withdrawn, resumed}
 use Rattle.statement_steps.specs.Ended.{Ended, Done, Commits}
-use Rattle.statement_steps.specs.Faults.{statement_cancelled}
 use Rattle.statement_steps.specs.Made.{Made, Halt, Waits, Refused, number_after, halted}
 use Rattle.statement_runs.specs.Words.{Words}
 use Rattle.statement_steps.specs.declared.caller.Caller.{Caller}

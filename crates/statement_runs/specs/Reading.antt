@@ -3,6 +3,7 @@ use Rattle.std.specs.Prelude.{ℕ, List, length, Option, Some, None, Result, Ok,
 use Rattle.grammar.specs.Reading.{Rule, Stop, syntax_at, limit_at, read_whole}
 use Rattle.grammar.specs.Places.{token_at}
 use Rattle.pg_values.specs.declared.fault.Fault.{Fault}
+use Rattle.refusals.specs.Refusals.{syntax_error, left_out, too_many}
 use Rattle.sql_tokens.specs.Contents.{called}
 use Rattle.sql_tokens.specs.Tokens.{tokens_of}
 use Rattle.sql_tokens.specs.Words.{is_left_out}
@@ -11,7 +12,6 @@ use Rattle.sql_expressions.specs.Parsed.{LimitOf}
 use Rattle.sql_syntax.specs.Block.{passed}
 use Rattle.sql_syntax.specs.Grammar.{block}
 use Rattle.sql_ast.specs.Statements.{StatementTree}
-use Rattle.statement_runs.specs.Faults.{syntax_error, left_out, too_many}
 
 -- A token that fits in no text goes by its name where it is left out by name, else by where it is, or the text's end.
 abbrev pub misfit : List ℕ → Option Token → Fault

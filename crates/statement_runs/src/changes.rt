@@ -1,32 +1,15 @@
 ghost use Rattle.std.specs.Prelude.{◌≡◌, IfOk};
+ghost use Rattle.refusals.specs.Refusals as refusals;
 ghost use Rattle.sessions.specs.Answers.{IsAnswerBy};
 ghost use Rattle.statement_runs.specs.Changes as changes;
 
 use crate::SettingName;
 use crate::names::{mode_of, setting_named, truth_of};
-use pg_values::{Fault, NoMemory, Refusal, SqlState};
+use pg_values::Refusal;
+use refusals::{no_setting, no_value};
 use sessions::Settings;
 use sql_ast::SettingValue;
 use std::alloc::Global;
-use value_rules::two_texts;
-
-fn no_setting(alloc: Global, name: &[u8]) -> Result<Fault, NoMemory>
-    ensures { IfOk result (λ f. f ≡ changes.no_setting name.now) }
-{
-    Ok(Fault {
-        code: SqlState { bytes: *b"42704" },
-        args: two_texts(alloc, b"no setting <x>", name)?,
-    })
-}
-
-fn no_value(alloc: Global, value: &[u8], setting: &[u8]) -> Result<Fault, NoMemory>
-    ensures { IfOk result (λ f. f ≡ changes.no_value value.now setting.now) }
-{
-    Ok(Fault {
-        code: SqlState { bytes: *b"22023" },
-        args: two_texts(alloc, value, setting)?,
-    })
-}
 
 fn text_of(value: &SettingValue) -> &[u8]
     ensures { result.now ≡ changes.text_of value.now }

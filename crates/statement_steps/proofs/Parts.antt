@@ -9,6 +9,7 @@ use Rattle.pg_values.specs.Lists.{listed}
 use Rattle.pg_values.specs.Sets.{has, sessions}
 use Rattle.pg_values.specs.declared.fault.Fault.{Fault}
 use Rattle.pg_values.specs.declared.text.NoMemory.{NoMemory}
+use Rattle.refusals.specs.Refusals.{no_table, deadlock}
 use Rattle.history.specs.declared.wait.WaitOn.TheVariants.{Ends, Snapshots}
 use Rattle.history.specs.declared.wait.Wanted.{Wanted}
 use Rattle.history.specs.declared.wait.Wanted.TheVariants.{Lock, Others}
@@ -48,7 +49,7 @@ use Rattle.statement_steps.specs.Waiting.{Since}
 use Rattle.statement_steps.proofs.Since.{since_now, since_locks, since_held}
 use Rattle.statement_steps.proofs.Steps.{halted_same}
 use Rattle.statement_steps.proofs.Known.{some_of, has_known}
-use Rattle.statement_steps.specs.Faults.{no_table, deadlock, stop_by}
+use Rattle.statement_steps.specs.Faults.{name_of, stop_by}
 use Rattle.statement_steps.specs.Asks.{told_by, found, meant_or_none, number_or, kept_number, same_or_gone}
 use Rattle.statement_steps.specs.Known.{maker_of, IsKnownTo}
 use Rattle.statement_steps.specs.Steps.{IsTold, IsPart, IsStep}
@@ -99,7 +100,7 @@ told_at_once names rest events v e = ap (told_by names rest events) (sym e)
 told_waits : (names : List (List ℕ)) (rest : Option Rest) (events : History) (others : List ℕ) (v : AskedView) → WaitsBehind others ≡ v → told_by names rest events v ≡ halted events (Waits rest)
 told_waits names rest events others v e = ap (told_by names rest events) (sym e)
 
-told_closes : (names : List (List ℕ)) (rest : Option Rest) (events : History) (cycle : List ℕ) (v : AskedView) → ClosesCycle cycle ≡ v → told_by names rest events v ≡ halted events (Refused (deadlock names cycle))
+told_closes : (names : List (List ℕ)) (rest : Option Rest) (events : History) (cycle : List ℕ) (v : AskedView) → ClosesCycle cycle ≡ v → told_by names rest events v ≡ halted events (Refused (deadlock (map (name_of names) cycle)))
 told_closes names rest events cycle v e = ap (told_by names rest events) (sym e)
 
 -- the session asks for a lock, or to go on when others have given something up
@@ -219,7 +220,7 @@ closing_queue : (w : Wanted) (s : ℕ) (cycle : SessionList) (h : History) → q
 closing_queue (Lock t m) s cycle h = sym (append-nil (queue (lock_events h)))
 closing_queue (Others what) s cycle h = sym (append-nil (queue (lock_events h)))
 
-pub closing_step : (names : List (List ℕ)) (old new : Stores) (caller : Caller) (w : Wanted) (rest : Option Rest) (cycle : SessionList) (f : Fault) → f ≡ deadlock names (listed cycle) → MayAttempt old caller
+pub closing_step : (names : List (List ℕ)) (old new : Stores) (caller : Caller) (w : Wanted) (rest : Option Rest) (cycle : SessionList) (f : Fault) → f ≡ deadlock (map (name_of names) (listed cycle)) → MayAttempt old caller
     → HasAsked old new caller w (Deadlock cycle) → IsStep (λ (u : Unit {0}). u) (Err (stop.Refused f)) old new caller caller.cmd (asked_for names caller.session w rest)
 closing_step names old new caller w rest cycle f is_fault may asked = record {
   is = λ h stands at.
@@ -312,7 +313,7 @@ gone_here stores caller name t n (Ok f) is may other = refused_here (λ (u : Uni
 gone_here stores caller name t n (Err e) is may other = no_memory (λ (u : Unit {0}). u) stores stores caller caller.cmd (λ h. same_or_gone name t n) (stays stores caller.session)
 
 -- a cycle that would be closed
-pub closed : (names : List (List ℕ)) (old new : Stores) (caller : Caller) (w : Wanted) (rest : Option Rest) (cycle : SessionList) (r : Result Fault NoMemory) → IfOk r (λ f. f ≡ deadlock names (listed cycle)) → MayAttempt old caller
+pub closed : (names : List (List ℕ)) (old new : Stores) (caller : Caller) (w : Wanted) (rest : Option Rest) (cycle : SessionList) (r : Result Fault NoMemory) → IfOk r (λ f. f ≡ deadlock (map (name_of names) (listed cycle))) → MayAttempt old caller
     → HasAsked old new caller w (Deadlock cycle) → IsStep (λ (u : Unit {0}). u) (Err (stop_by r)) old new caller caller.cmd (asked_for names caller.session w rest)
 closed names old new caller w rest cycle (Ok f) is may asked = closing_step names old new caller w rest cycle f is may asked
 closed names old new caller w rest cycle (Err e) is may asked = asked_and_out (λ (u : Unit {0}). u) old new caller w (Deadlock cycle) caller.cmd (asked_for names caller.session w rest) may asked

@@ -1,6 +1,7 @@
 -- Tables by their names, locks on them, and waits for other sessions (the manual, 13.3.1 Table-Level Locks; LOCK).
 use Rattle.std.specs.Prelude.{ℕ, ◌==◌, if◌then◌else◌, List, [], ◌∷◌, Option, Some, None, Result, Ok, Err, map}
 use Rattle.pg_values.specs.declared.lock_mode.LockMode.{LockMode}
+use Rattle.refusals.specs.Refusals.{no_table, deadlock}
 use Rattle.history.specs.declared.wait.WaitOn.{WaitOn}
 use Rattle.history.specs.declared.wait.Wanted.TheVariants.{Lock, Others}
 use Rattle.history.specs.History.{History, LockChange, lock_events}
@@ -11,7 +12,7 @@ use Rattle.sessions.specs.declared.phase.Isolation.TheVariants.{ReadCommitted, R
 use Rattle.stores.specs.Events.{held}
 use Rattle.statement_steps.specs.Made.{Made, Halt, Waits, Refused, made, halted}
 use Rattle.statement_steps.specs.declared.rest.Rest.{Rest}
-use Rattle.statement_steps.specs.Faults.{no_table, deadlock}
+use Rattle.statement_steps.specs.Faults.{name_of}
 use Rattle.statement_steps.specs.Steps.{follow}
 
 -- ---- a lock, or other sessions
@@ -20,7 +21,7 @@ use Rattle.statement_steps.specs.Steps.{follow}
 abbrev pub told_by : List (List ℕ) → Option Rest → History → AskedView → Made (Unit {0})
 told_by names rest events AtOnce = made events tt
 told_by names rest events (WaitsBehind others) = halted events (Waits rest)
-told_by names rest events (ClosesCycle cycle) = halted events (Refused (deadlock names cycle))
+told_by names rest events (ClosesCycle cycle) = halted events (Refused (deadlock (map (name_of names) cycle)))
 
 -- and where it begins anew
 abbrev pub told_of : List (List ℕ) → History → AskedView → Made (Unit {0})

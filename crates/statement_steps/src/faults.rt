@@ -1,11 +1,12 @@
 ghost use Rattle.std.specs.Prelude.{◌≡◌, IfOk, map};
 ghost use Rattle.pg_values.specs.Lists.{listed};
+ghost use Rattle.refusals.specs.Refusals as refusals;
 ghost use Rattle.statement_steps.specs.Faults as faults;
 
 use crate::{SessionNames, Stop};
-use pg_values::{Args, Fault, NoMemory, PgText, SessionList, SqlState};
+use pg_values::{Args, Fault, NoMemory, PgText, SessionList};
+use refusals::deadlock;
 use std::alloc::Global;
-use value_rules::two_texts;
 
 /// Why a statement stops that is refused with a fault, or with none for want of memory.
 pub(crate) fn stop_by(fault: Result<Fault, NoMemory>) -> Stop
@@ -15,25 +16,6 @@ pub(crate) fn stop_by(fault: Result<Fault, NoMemory>) -> Stop
         Ok(fault) => Stop::Refused(fault),
         Err(NoMemory) => Stop::NoMemory,
     }
-}
-
-/// The fault of a statement that was cancelled.
-pub fn statement_cancelled(alloc: Global) -> Fault
-    ensures { result ≡ faults.statement_cancelled }
-{
-    Fault {
-        code: SqlState { bytes: *b"57014" },
-        args: Args::new(alloc),
-    }
-}
-
-pub(crate) fn no_table(alloc: Global, name: &[u8]) -> Result<Fault, NoMemory>
-    ensures { IfOk result (λ f. f ≡ faults.no_table name.now) }
-{
-    Ok(Fault {
-        code: SqlState { bytes: *b"42P01" },
-        args: two_texts(alloc, b"no table <t>", name)?,
-    })
 }
 
 fn name_of(alloc: Global, names: &SessionNames, session: u32) -> Result<PgText, NoMemory>
@@ -58,15 +40,13 @@ fn names_of(alloc: Global, names: &SessionNames, cycle: SessionList) -> Result<A
     Ok(args)
 }
 
-pub(crate) fn deadlock(
+/// The deadlock of the sessions of a cycle, by their names.
+pub(crate) fn deadlock_of(
     alloc: Global,
     names: &SessionNames,
     cycle: SessionList,
 ) -> Result<Fault, NoMemory>
-    ensures { IfOk result (λ f. f ≡ faults.deadlock names.now (listed cycle)) }
+    ensures { IfOk result (λ f. f ≡ refusals.deadlock (map (faults.name_of names.now) (listed cycle))) }
 {
-    Ok(Fault {
-        code: SqlState { bytes: *b"40P01" },
-        args: names_of(alloc, names, cycle)?,
-    })
+    Ok(deadlock(names_of(alloc, names, cycle)?))
 }

@@ -24,7 +24,6 @@ mod stop;
 
 pub use caller::Caller;
 pub use ending::{Ending, ended};
-pub use faults::statement_cancelled;
 pub use gathered::Gathered;
 pub use going_on::stopped_on;
 pub use holding::{hold, hold_if_repeatable};

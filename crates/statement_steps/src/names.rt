@@ -5,10 +5,11 @@ ghost use Rattle.statement_steps.specs.Asks as asks;
 ghost use Rattle.statement_steps.specs.Known.{IsKnownTo};
 ghost use Rattle.statement_steps.specs.Steps.{IsStep};
 
-use crate::faults::{no_table, stop_by};
+use crate::faults::stop_by;
 use crate::{Caller, Stop, lock_table};
 use legal_statements::named_is_there;
 use pg_values::{LockMode, NoMemory, PgText, TableNo};
+use refusals::no_table;
 use std::alloc::Global;
 use std::marker::Model;
 use stores::Stores;

@@ -5,11 +5,11 @@ use Rattle.pg_values.specs.declared.which.Which.TheVariants.{Columns as WhichCol
 use Rattle.pg_values.specs.declared.fault.Fault.{Fault}
 use Rattle.pg_values.specs.declared.value.Kind.{Kind}
 use Rattle.pg_values.specs.declared.value.Kind.TheVariants.{Int4 as KInt4, Int8 as KInt8, Text as KText, Day as KDay, Truth as KTruth}
+use Rattle.refusals.specs.Refusals.{too_many, column_twice, no_type}
 use Rattle.sql_ast.specs.declared.table_definition.ColumnDefinition.{ColumnDefinition}
 use Rattle.history.specs.declared.catalogue.Column.{Column}
 use Rattle.expression_binder.specs.Firsts.{or_first, unless}
 use Rattle.table_binder.specs.Names.{twice_faults}
-use Rattle.table_binder.specs.States.{too_many, column_twice, no_type}
 
 -- the names of types
 abbrev pub types : List (List ℕ × Kind)

@@ -2,5 +2,4 @@ pub mod Bounds
 pub mod Columns
 pub mod Names
 pub mod Partitionings
-pub mod States
 pub mod Values

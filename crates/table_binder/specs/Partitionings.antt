@@ -1,9 +1,10 @@
 -- The partition key of a table, or its first fault (CREATE TABLE, PARTITION BY; 5.11.2 Declarative Partitioning).
-use Rattle.std.specs.Prelude.{ℕ, ◌==◌, nat_le, List, [], ◌∷◌, ◌++◌, Option, is_some, unwrap_or, map, length, position, slice_index_or, Result}
+use Rattle.std.specs.Prelude.{ℕ, ◌==◌, nat_le, List, [], ◌∷◌, ◌++◌, Option, is_some, unwrap_or, codes, map, length, position, slice_index_or, Result}
 use Rattle.std.specs.Str.{bytes_eq}
 use Rattle.pg_values.specs.declared.which.Which.TheVariants.{KeyColumns as WhichKeyColumns}
 use Rattle.pg_values.specs.declared.fault.Fault.{Fault}
 use Rattle.pg_values.specs.declared.value.Kind.TheVariants.{Text as KText}
+use Rattle.refusals.specs.Refusals.{no_column, too_many, takes_one_column, twice_in_key}
 use Rattle.sql_ast.specs.declared.table_definition.Strategy.{Strategy as Word}
 use Rattle.sql_ast.specs.declared.table_definition.Strategy.TheVariants as word
 use Rattle.sql_ast.specs.declared.table_definition.Partitioning.{Partitioning}
@@ -12,10 +13,8 @@ use Rattle.bound_forms.specs.declared.level.Strategy.TheVariants.{Range as ByRan
 use Rattle.bound_forms.specs.declared.level.KeyColumn.{KeyColumn}
 use Rattle.bound_forms.specs.declared.level.Level.{Level}
 use Rattle.history.specs.declared.catalogue.Column.{Column}
-use Rattle.expression_binder.specs.Faults.{no_column}
 use Rattle.expression_binder.specs.Firsts.{or_first, unless}
 use Rattle.table_binder.specs.Names.{twice_faults}
-use Rattle.table_binder.specs.States.{too_many, list_takes_one, twice_in_key}
 
 abbrev pub strategy_of : Word → Strategy
 strategy_of word.Range = ByRange
@@ -25,7 +24,7 @@ strategy_of word.Hash = ByHash
 -- LIST has one key column
 abbrev pub count_faults : Strategy → ℕ → List Fault
 count_faults ByRange n = []
-count_faults ByList n = unless (n == 1) list_takes_one
+count_faults ByList n = unless (n == 1) (takes_one_column (codes "LIST"))
 count_faults ByHash n = []
 
 -- none stands twice, and there are at most 8

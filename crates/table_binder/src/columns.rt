@@ -3,14 +3,14 @@ ghost use Rattle.std.specs.List.{list_any};
 ghost use Rattle.std.specs.Str.{bytes_eq};
 ghost use Rattle.pg_values.specs.declared.which.Which.TheVariants.{Columns as WhichColumns};
 ghost use Rattle.pg_values.specs.Refusals.{IsAnswer};
+ghost use Rattle.refusals.specs.Refusals as refusals;
 ghost use Rattle.expression_binder.specs.Firsts.{or_first, unless};
 ghost use Rattle.table_binder.specs.Columns as spec;
 ghost use Rattle.table_binder.specs.Names as names_spec;
-ghost use Rattle.table_binder.specs.States as states;
 
-use crate::faults::{column_twice, no_type, too_many};
 use history::{Column, Columns};
 use pg_values::{Kind, NoMemory, Refusal, Which};
+use refusals::{column_twice, no_type, too_many};
 use sql_ast::{ColumnDefinition, ColumnList};
 use std::alloc::Global;
 
@@ -55,7 +55,7 @@ pub fn kind_named(name: &[u8]) -> Option<Kind>
 }
 
 fn check_count(alloc: Global, count: usize) -> Result<(), Refusal>
-    ensures { IsAnswer result (or_first (unless (nat_le count 32) (states.too_many WhichColumns)) tt) }
+    ensures { IsAnswer result (or_first (unless (nat_le count 32) (refusals.too_many WhichColumns)) tt) }
 {
     if count <= 32 {
         return Ok(());
@@ -75,7 +75,7 @@ fn is_among(columns: &[ColumnDefinition], name: &[u8]) -> bool
 }
 
 fn check_once(alloc: Global, earlier: &[ColumnDefinition], name: &[u8]) -> Result<(), Refusal>
-    ensures { IsAnswer result (or_first (names_spec.once_faults states.column_twice (spec.names_of earlier.now) name.now) tt) }
+    ensures { IsAnswer result (or_first (names_spec.once_faults refusals.column_twice (spec.names_of earlier.now) name.now) tt) }
 {
     if is_among(earlier, name) {
         return Err(Refusal::Sql(column_twice(alloc, name)?));
@@ -85,7 +85,7 @@ fn check_once(alloc: Global, earlier: &[ColumnDefinition], name: &[u8]) -> Resul
 
 // No column has the name of an earlier one.
 fn check_names(alloc: Global, columns: &[ColumnDefinition]) -> Result<(), Refusal>
-    ensures { IsAnswer result (or_first (names_spec.twice_faults states.column_twice [] (spec.names_of columns.now)) tt) }
+    ensures { IsAnswer result (or_first (names_spec.twice_faults refusals.column_twice [] (spec.names_of columns.now)) tt) }
 {
     for (place, column) in columns.iter().enumerate() {
         check_once(alloc, &columns[..place], column.name.as_bytes())?;
@@ -94,7 +94,7 @@ fn check_names(alloc: Global, columns: &[ColumnDefinition]) -> Result<(), Refusa
 }
 
 fn check_columns(alloc: Global, columns: &[ColumnDefinition]) -> Result<(), Refusal>
-    ensures { IsAnswer result (or_first (unless (nat_le (length columns.now) 32) (states.too_many WhichColumns) ++ names_spec.twice_faults states.column_twice [] (spec.names_of columns.now)) tt) }
+    ensures { IsAnswer result (or_first (unless (nat_le (length columns.now) 32) (refusals.too_many WhichColumns) ++ names_spec.twice_faults refusals.column_twice [] (spec.names_of columns.now)) tt) }
 {
     check_count(alloc, columns.len())?;
     check_names(alloc, columns)

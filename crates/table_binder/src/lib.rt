@@ -13,11 +13,9 @@
 
 mod bounds;
 mod columns;
-mod faults;
 mod partitioning;
 mod values;
 
 pub use bounds::bind_bound;
 pub use columns::{bind_columns, kind_named};
-pub use faults::no_type;
 pub use partitioning::bind_partitioning;

@@ -3,17 +3,16 @@ ghost use Rattle.std.specs.List.{list_any};
 ghost use Rattle.std.specs.Str.{bytes_eq};
 ghost use Rattle.pg_values.specs.declared.which.Which.TheVariants.{KeyColumns as WhichKeyColumns};
 ghost use Rattle.pg_values.specs.Refusals.{IsAnswer};
+ghost use Rattle.refusals.specs.Refusals as refusals;
 ghost use Rattle.history.specs.Places.{LiesIn};
 ghost use Rattle.expression_binder.specs.Firsts.{or_first, unless, IsAnswerBy};
 ghost use Rattle.table_binder.specs.Names as names_spec;
 ghost use Rattle.table_binder.specs.Partitionings as spec;
-ghost use Rattle.table_binder.specs.States as states;
 
-use crate::faults::{list_takes_one, too_many, twice_in_key};
 use bound_forms::{KeyColumn, KeyColumns, Level, Strategy};
-use expression_binder::no_column;
 use history::Column;
 use pg_values::{NoMemory, PgText, Refusal, Which};
+use refusals::{no_column, takes_one_column, too_many, twice_in_key};
 use sql_ast::{Partitioning, Strategy as Word};
 use std::alloc::Global;
 
@@ -36,7 +35,7 @@ fn check_one_if_list(alloc: Global, strategy: Strategy, count: usize) -> Result<
             if count == 1 {
                 return Ok(());
             }
-            Err(Refusal::Sql(list_takes_one(alloc)?))
+            Err(Refusal::Sql(takes_one_column(alloc, b"LIST")?))
         }
         Strategy::Hash => Ok(()),
     }
@@ -54,7 +53,7 @@ fn is_among(names: &[PgText], name: &[u8]) -> bool
 }
 
 fn check_once(alloc: Global, earlier: &[PgText], name: &[u8]) -> Result<(), Refusal>
-    ensures { IsAnswer result (or_first (names_spec.once_faults states.twice_in_key earlier.now name.now) tt) }
+    ensures { IsAnswer result (or_first (names_spec.once_faults refusals.twice_in_key earlier.now name.now) tt) }
 {
     if is_among(earlier, name) {
         return Err(Refusal::Sql(twice_in_key(alloc, name)?));
@@ -64,7 +63,7 @@ fn check_once(alloc: Global, earlier: &[PgText], name: &[u8]) -> Result<(), Refu
 
 // No column stands in the key twice.
 fn check_names(alloc: Global, names: &[PgText]) -> Result<(), Refusal>
-    ensures { IsAnswer result (or_first (names_spec.twice_faults states.twice_in_key [] names.now) tt) }
+    ensures { IsAnswer result (or_first (names_spec.twice_faults refusals.twice_in_key [] names.now) tt) }
 {
     for (place, name) in names.iter().enumerate() {
         check_once(alloc, &names[..place], name.as_bytes())?;
@@ -73,7 +72,7 @@ fn check_names(alloc: Global, names: &[PgText]) -> Result<(), Refusal>
 }
 
 fn check_few(alloc: Global, count: usize) -> Result<(), Refusal>
-    ensures { IsAnswer result (or_first (unless (nat_le count 8) (states.too_many WhichKeyColumns)) tt) }
+    ensures { IsAnswer result (or_first (unless (nat_le count 8) (refusals.too_many WhichKeyColumns)) tt) }
 {
     if count <= 8 {
         return Ok(());

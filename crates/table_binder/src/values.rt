@@ -7,9 +7,10 @@ ghost use Rattle.table_binder.specs.Values as spec;
 
 use bound_checks::RawValue;
 use expression_binder::{
-    Names, bind_constant, check_operand, condition_names, kind_alone, left_out, typed_of,
+    Names, bind_constant, check_operand, condition_names, kind_alone, typed_of,
 };
 use pg_values::{Fault, NoMemory, Refusal, Value};
+use refusals::left_out;
 use sql_ast::{Expr, Leaf};
 use std::alloc::Global;
 

@@ -5,7 +5,9 @@ use Rattle.std.proofs.lemmas.Bool.{cases_lt}
 use Rattle.std.proofs.lemmas.Grind.{common_steps, elements}
 use Rattle.std.proofs.lemmas.List.Elements.{All-head, All-tail, All-contains}
 use Rattle.pg_values.specs.declared.ids.TableNo.{TableNo}
+use Rattle.pg_values.specs.declared.value.Value.{Value}
 use Rattle.pg_values.specs.declared.lock_mode.LockMode.TheVariants.{AccessExclusive}
+use Rattle.refusals.specs.Refusals.{default_has_row}
 use Rattle.bound_forms.specs.declared.partition_bound.Bound.{Bound}
 use Rattle.bound_forms.specs.declared.partition_bound.Bound.TheVariants.{Range, List as Listed, Hash, Default}
 use Rattle.bound_forms.specs.Accepts.{accepts, is_default}
@@ -34,7 +36,7 @@ use Rattle.legal_statements.specs.Below.{numbers_from}
 use Rattle.legal_statements.specs.Entries.{IsDefaultOf, IsScanned}
 use Rattle.legal_statements.specs.Laws.{NoneBreaks}
 use Rattle.partition_scans.specs.Fitting.{is_row_of}
-use Rattle.partition_scans.specs.Places.{breaks_default, default_has_row, default_scan}
+use Rattle.partition_scans.specs.Places.{breaks_default, default_scan}
 use Rattle.partition_scans.specs.Scans.{IsClean}
 use Rattle.partition_scans.proofs.Cleaning.{clean_first}
 use Rattle.row_store.specs.Judged.{refusing}
@@ -160,7 +162,7 @@ none_of : NoneBreaks → (h : History) (s t p : ℕ) (b : Bound) (name : List �
 none_of law h s t p b name d v own None is clean scanned = absurd (let c = is in cc)
 none_of law h s t p b name d v own (Some y) is clean scanned =
     let same : y ≡ d = (let c = is in cc) in
-    let first = clean_first h s (record { leaves = leaves (ddl_tree h s y.number); breaks = breaks_default h p b; fault = default_has_row (made_at h y.number).name name }) [] clean in
+    let first = clean_first h s (record { leaves = leaves (ddl_tree h s y.number); breaks = breaks_default h p b; fault = λ (r : List Value). default_has_row (made_at h y.number).name r name }) [] clean in
     let breaks = law h s t y.number (breaks_default h p b) (subst (λ (n : ℕ). refusing h s n (leaves (ddl_tree h s y.number)) (breaks_default h p b) ≡ None) own first.0) first.1 v (subst (λ (z : TableNo). IsScanned h s t z.number v) (sym same) scanned) in
     right_false (not (is_row_of (made_at h p).columns v.row)) (accepts (key_at (catalogue_events h) p v.row) b) breaks
 

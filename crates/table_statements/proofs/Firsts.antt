@@ -7,9 +7,9 @@ use Rattle.pg_values.specs.declared.fault.Fault.{Fault}
 use Rattle.pg_values.specs.declared.fault.Refusal.{Refusal}
 use Rattle.pg_values.specs.declared.fault.Refusal.TheVariants.{Sql, NoMemory}
 use Rattle.pg_values.specs.declared.which.Which.TheVariants.{Tables}
+use Rattle.refusals.specs.Refusals.{too_many}
 use Rattle.history.specs.History.{History}
 use Rattle.part_catalog.specs.Found.{table_number}
-use Rattle.part_ddl.specs.Faults.{too_many}
 use Rattle.part_ddl.specs.Tables.{count_faults}
 use Rattle.expression_binder.specs.Firsts.{IsAnswerBy}
 use Rattle.stores.specs.Stand.{Stands}

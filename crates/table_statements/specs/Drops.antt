@@ -2,6 +2,7 @@
 use Rattle.std.specs.Prelude.{ℕ, ◌==◌, Bool, true, false, if◌then◌else◌, List, [], ◌∷◌, ◌++◌, Option, Some, None, map}
 use Rattle.pg_values.specs.declared.ids.TableNo.{TableNo}
 use Rattle.pg_values.specs.declared.lock_mode.LockMode.TheVariants.{AccessExclusive}
+use Rattle.refusals.specs.Refusals.{no_table}
 use Rattle.history.specs.declared.catalogue.Stamp.{Stamp}
 use Rattle.history.specs.History.{History}
 use Rattle.history.specs.Presence.{entries_present}
@@ -13,7 +14,6 @@ use Rattle.part_ddl.specs.Dropped.{drop_events}
 use Rattle.statement_steps.specs.Made.{Made, Refused, made, halted}
 use Rattle.statement_steps.specs.declared.caller.Caller.{Caller}
 use Rattle.statement_steps.specs.Asks.{held_at, all_locked}
-use Rattle.statement_steps.specs.Faults.{no_table}
 use Rattle.statement_steps.specs.Steps.{follow}
 use Rattle.table_statements.specs.Tables.{own}
 

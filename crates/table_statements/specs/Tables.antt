@@ -1,7 +1,8 @@
 -- CREATE TABLE of a session (the manual, CREATE TABLE; 5.11.2 Declarative Partitioning).
-use Rattle.std.specs.Prelude.{◌≡◌, ℕ, List, [], ◌∷◌, Option, Some, None, Result, Ok, Err, length}
+use Rattle.std.specs.Prelude.{◌≡◌, ℕ, List, [], ◌∷◌, Option, Some, None, Result, Ok, Err, length, codes}
 use mathlib.Core.Path.{refl, subst}
 use Rattle.pg_values.specs.declared.fault.Fault.{Fault}
+use Rattle.refusals.specs.Refusals.{takes_one_column}
 use Rattle.bound_forms.specs.declared.level.KeyColumn.{KeyColumn}
 use Rattle.bound_forms.specs.declared.level.Level.{Level}
 use Rattle.bound_forms.specs.declared.level.Strategy.{Strategy}
@@ -13,7 +14,6 @@ use Rattle.sql_ast.specs.declared.table_definition.ColumnDefinition.{ColumnDefin
 use Rattle.sql_ast.specs.declared.table_definition.Partitioning.{Partitioning}
 use Rattle.table_binder.specs.Columns.{bound_columns}
 use Rattle.table_binder.specs.Partitionings.{Key, bound_key}
-use Rattle.table_binder.specs.States.{list_takes_one}
 use Rattle.part_ddl.specs.Tables.{count_faults, table_events}
 use Rattle.stores.specs.Events.{tx_in}
 use Rattle.statement_steps.specs.Made.{Made, made}
@@ -35,7 +35,7 @@ abbrev pub level_of : Strategy → List KeyColumn → Result Level Fault
 level_of ByRange columns = Ok (record { strategy = ByRange; columns = columns; one_if_list = λ e. subst (AreOneIfList columns) e tt })
 level_of ByHash columns = Ok (record { strategy = ByHash; columns = columns; one_if_list = λ e. subst (AreOneIfList columns) e tt })
 level_of ByList (c ∷ []) = Ok (record { strategy = ByList; columns = c ∷ []; one_if_list = λ e. refl })
-level_of ByList _ = Err list_takes_one
+level_of ByList _ = Err (takes_one_column (codes "LIST"))
 
 abbrev pub level_with : Key → Result Level Fault
 level_with key = level_of key.strategy key.columns

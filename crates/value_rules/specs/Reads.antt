@@ -12,7 +12,7 @@ use Rattle.pg_values.specs.Days.{IsDay}
 use Rattle.value_rules.specs.declared.reading.ReadFault.{ReadFault}
 use Rattle.value_rules.specs.declared.reading.ReadFault.TheVariants.{Form, NumberRange, DateForm, DateRange}
 use Rattle.pg_values.specs.declared.fault.Fault.{Fault}
-use Rattle.value_rules.specs.FaultTexts.{kind_word, fault_of, out_of_range}
+use Rattle.refusals.specs.Refusals.{out_of_range, no_date, date_out_of_range, no_such_value}
 
 abbrev pub is_digit : ℕ → Bool
 is_digit b = nat_le 48 b && nat_le b 57
@@ -81,10 +81,10 @@ reading KTruth s = truth_of s
 
 -- the fault with its state: a wrong form names the text, and that of a number or a truth value the kind too
 abbrev pub read_fault : Kind → List ℕ → ReadFault → Fault
-read_fault kind s Form = fault_of (codes "22P02") (s ∷ kind_word kind ∷ [])
+read_fault kind s Form = no_such_value s kind
 read_fault kind s NumberRange = out_of_range
-read_fault kind s DateForm = fault_of (codes "22007") (s ∷ [])
-read_fault kind s DateRange = fault_of (codes "22008") []
+read_fault kind s DateForm = no_date s
+read_fault kind s DateRange = date_out_of_range
 
 abbrev pub told : Kind → List ℕ → Result Value ReadFault → Result Value Fault
 told kind s (Ok v) = Ok v

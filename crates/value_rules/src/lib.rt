@@ -7,13 +7,10 @@
 //!   twice the width and tests the range once, so no case is left out.
 //! - `coerce` turns a value into one of a column's kind where assignment allows it, and hands it
 //!   back where not.
-//! - `one_text` and its like put the texts of a fault together, with `kind_word` for the name of a
-//!   kind.
 #![tactic(auto)]
 
 mod arithmetic;
 mod assignment;
-mod fault_texts;
 mod operators;
 mod range;
 mod reading;
@@ -21,7 +18,6 @@ mod round_trip;
 
 pub use arithmetic::arith;
 pub use assignment::{CoerceFault, coerce};
-pub use fault_texts::{kind_word, one_text, out_of_range, three_texts, two_texts};
 pub use operators::{Arith, ArithFault};
 pub use reading::read_value;
 pub use round_trip::reads_back;

@@ -4,20 +4,20 @@
 //! last step puts a fault's SQLSTATE and texts together. A number of any count of digits is read
 //! in a machine word: past the largest bigint it makes no difference how far.
 
-ghost use Rattle.std.specs.Prelude.{◌≡◌, ◌≢◌, ◌<◌, ◌+◌, ◌∷◌, [], length, min, true, IfOk};
+ghost use Rattle.std.specs.Prelude.{◌≡◌, ◌≢◌, ◌<◌, ◌+◌, length, min, true, IfOk};
 ghost use Rattle.std.specs.Option.{option_map};
 ghost use Rattle.std.specs.Str.{str_eq_ignore_ascii_case};
-ghost use Rattle.value_rules.specs.Reads.{is_digit, number_of, signed, integer_of, in_range, truth_of, two_at, digits_at, is_date_form, day_of, date_of, reading, read_fault, reads};
+ghost use Rattle.value_rules.specs.Reads.{number_of, signed, integer_of, in_range, truth_of, two_at, digits_at, is_date_form, day_of, date_of, reading, read_fault, reads};
 ghost use Rattle.value_rules.specs.Ranges as spec;
 ghost use Rattle.value_rules.specs.Ranges.{or_fault};
 ghost use Rattle.value_rules.specs.declared.reading.ReadFault.TheVariants.{NumberRange};
 ghost use Rattle.pg_values.specs.declared.value.Kind.TheVariants.{Text as KText};
 ghost use Rattle.pg_values.specs.Refusals.{IsAnswer};
 
-use crate::fault_texts::{kind_word, one_text, out_of_range, two_texts};
 use crate::range::fitted;
 use jiff_core::civil::Date;
-use pg_values::{Args, Fault, Kind, NoMemory, PgText, Refusal, SqlState, Value};
+use pg_values::{Fault, Kind, NoMemory, PgText, Refusal, Value};
+use refusals::{date_out_of_range, no_date, no_such_value, out_of_range};
 use std::alloc::Global;
 
 #[derive(Clone, Copy, Debug)]
@@ -177,19 +177,10 @@ fn read_fault(alloc: Global, kind: Kind, text: &[u8], fault: ReadFault) -> Resul
     ensures { IfOk result (λ f. f ≡ read_fault kind text.now fault) }
 {
     match fault {
-        ReadFault::Form => Ok(Fault {
-            code: SqlState { bytes: *b"22P02" },
-            args: two_texts(alloc, text, kind_word(kind))?,
-        }),
+        ReadFault::Form => no_such_value(alloc, text, kind),
         ReadFault::NumberRange => Ok(out_of_range(alloc)),
-        ReadFault::DateForm => Ok(Fault {
-            code: SqlState { bytes: *b"22007" },
-            args: one_text(alloc, text)?,
-        }),
-        ReadFault::DateRange => Ok(Fault {
-            code: SqlState { bytes: *b"22008" },
-            args: Args::new(alloc),
-        }),
+        ReadFault::DateForm => no_date(alloc, text),
+        ReadFault::DateRange => Ok(date_out_of_range(alloc)),
     }
 }
 

@@ -4,6 +4,7 @@ use Rattle.std.proofs.lemmas.Result.{err_from_is_err_and}
 use Rattle.pg_values.specs.declared.which.Which.TheVariants.{Levels}
 use Rattle.pg_values.specs.Refusals.{IsAnswer, or_first, unless}
 use Rattle.pg_values.specs.declared.fault.Refusal.{Refusal}
+use Rattle.refusals.specs.Refusals.{too_many}
 use Rattle.bound_forms.specs.declared.partition_bound.Bound.{Bound}
 use Rattle.history.specs.History.{History}
 use Rattle.table_trees.specs.Histories.{ddl_tree, path_of}
@@ -12,7 +13,6 @@ use Rattle.table_trees.specs.Trees.{TableTree, height}
 use Rattle.sql_ast.specs.Commands.{bound_tree}
 use Rattle.table_binder.specs.Bounds.{bound_for}
 use Rattle.part_catalog.specs.Found.{made_at}
-use Rattle.part_ddl.specs.Faults.{too_many}
 use Rattle.part_ddl.specs.Placing.{level_at, place_faults}
 use Rattle.table_statements.proofs.Chains.{fault_answer}
 use Rattle.table_statements.proofs.Firsts.{past_none, stops_at, stops_first, none_first}

@@ -1,7 +1,7 @@
 use Rattle.std.proofs.Common.{◌||◌, not, length}
-use Rattle.bound_checks.specs.BoundFaults.{null_in_range}
 use Rattle.bound_checks.specs.Checks.{has_null_edge}
 use Rattle.pg_values.specs.Refusals.{unless}
+use Rattle.refusals.specs.Refusals.{null_in_range}
 use Rattle.bound_forms.specs.Levels.{HasEdges}
 use Rattle.bound_checks.proofs.CheckLaws.{none_found}
 use Rattle.bound_checks.proofs.RangeLaws.{count_is, no_null, read_is}

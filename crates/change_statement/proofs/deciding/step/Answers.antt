@@ -1,7 +1,7 @@
 use Rattle.std.proofs.Common.{ap, sym, ◌∙◌}
 use Rattle.change_statement.specs.Verdicts.{by_outcome, updater_meant}
 use Rattle.change_statement.proofs.Chains.{later_known}
-use Rattle.change_statement.proofs.Waiting.{ender_open}
+use Rattle.change_statement.proofs.WaitedFor.{ender_open}
 use Rattle.change_statement.proofs.deciding.step.Goals as goal
 
 pub returns-in-EndedBy-clause-is : goal.returns-in-EndedBy-clause-is

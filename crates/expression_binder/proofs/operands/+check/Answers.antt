@@ -1,9 +1,9 @@
 use Rattle.std.proofs.Common.{◌≡◌, ◌++◌, ◌∷◌, [], true, ap, ◌∙◌, sym, arith, codes}
+use Rattle.refusals.specs.Refusals.{left_out}
 use Rattle.sql_ast.specs.declared.expr.Expr.{Binary, Between}
 use Rattle.sql_ast.specs.Expressions.{tree, binary, between}
 use Rattle.expression_binder.specs.declared.scope.Allowed.{Allowed}
 use Rattle.expression_binder.specs.declared.typed.Typed.{Typed}
-use Rattle.expression_binder.specs.Faults.{left_out}
 use Rattle.expression_binder.specs.Kinds.{join_faults}
 use Rattle.expression_binder.specs.Operands.{operand_faults, typed}
 use Rattle.expression_binder.proofs.Checked.{third_decides, fourth_decides}

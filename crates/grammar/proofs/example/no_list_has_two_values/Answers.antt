@@ -1,5 +1,5 @@
 use Rattle.grammar.proofs.ExampleLaws.{list_law}
-use Rattle.grammar.proofs.Whole.{one_value}
+use Rattle.grammar.proofs.WholeLaws.{one_value}
 use Rattle.grammar.proofs.example.no_list_has_two_values.Goals as goal
 
 pub returns : goal.returns

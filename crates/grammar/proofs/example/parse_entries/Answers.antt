@@ -1,5 +1,5 @@
 use Rattle.grammar.proofs.ExampleLaws.{list_law}
-use Rattle.grammar.proofs.Whole.{parses}
+use Rattle.grammar.proofs.WholeLaws.{parses}
 use Rattle.grammar.proofs.example.parse_entries.Goals as goal
 
 pub returns : goal.returns

@@ -1,7 +1,7 @@
 use Rattle.std.proofs.Common.{◌≡◌, ◌∙◌, ◌<◌, ap, sym, Bor, length, map}
+use Rattle.refusals.specs.Refusals.{bound_overlaps}
 use Rattle.bound_forms.specs.Bounds.{overlaps}
 use Rattle.history.specs.declared.catalogue.Entry.{Entry}
-use Rattle.part_ddl.specs.Faults.{bound_overlaps}
 use Rattle.part_ddl.proofs.First.{found_child, overlap_refused, overlap_passed}
 use Rattle.part_ddl.proofs.placing.check_overlap.Goals as goal
 

@@ -1,9 +1,10 @@
 use Rattle.std.proofs.Common.{List, ℕ, ◌∙◌, ap, sym, Err}
+use Rattle.refusals.specs.Refusals.{outside_new_bounds}
 use Rattle.history.specs.declared.catalogue.Table.{Table}
 use Rattle.table_trees.specs.Histories.{ddl_tree}
 use Rattle.table_trees.specs.Trees.{leaves}
 use Rattle.part_catalog.specs.Found.{made_at}
-use Rattle.partition_scans.specs.Places.{breaks_place, outside_new_bounds}
+use Rattle.partition_scans.specs.Places.{breaks_place}
 use Rattle.partition_scans.specs.Scans.{Scan}
 use Rattle.partition_scans.proofs.Fitted.{lie_in, place_fits}
 use Rattle.partition_scans.proofs.Tellings.{place_passed, place_refused, goes_on, refuses, watched}

@@ -1,9 +1,11 @@
 use Rattle.std.proofs.Common.{List, ℕ, ◌∙◌, ap, sym, Err}
+use Rattle.pg_values.specs.declared.value.Value.{Value}
+use Rattle.refusals.specs.Refusals.{default_has_row}
 use Rattle.history.specs.declared.catalogue.Table.{Table}
 use Rattle.table_trees.specs.Histories.{ddl_tree}
 use Rattle.table_trees.specs.Trees.{leaves}
 use Rattle.part_catalog.specs.Found.{made_at}
-use Rattle.partition_scans.specs.Places.{breaks_default, default_has_row}
+use Rattle.partition_scans.specs.Places.{breaks_default}
 use Rattle.partition_scans.specs.Scans.{Scan}
 use Rattle.partition_scans.proofs.Fitted.{key_fits, lie_in}
 use Rattle.partition_scans.proofs.Tellings.{default_passed, default_refused, goes_on, refuses}
@@ -22,7 +24,7 @@ returns-in-Ok-clause-answer c = λ h tells.
     let p = c.args.parent.number in
     let b = c.args.bound.now in
     let d = c.args.default.number in
-    let scan : Scan = record { leaves = leaves (ddl_tree h s d); breaks = breaks_default h p b; fault = default_has_row (made_at h d).name c.args.name.now } in
+    let scan : Scan = record { leaves = leaves (ddl_tree h s d); breaks = breaks_default h p b; fault = λ (r : List Value). default_has_row (made_at h d).name r c.args.name.now } in
     goes_on h s scan c.in-Ok.others
     (default_passed h s p c.as_slice-columns.result.now c.args.level.now b (c.as_slice-columns.ensures ∙ ap (λ (t : Table). t.columns) (c.table.ensures h tells.catalog)) (c.requires.level h tells.txs tells.catalog) c.deref.result.now d c.in-Ok.others
     (c.deref.ensures.value ∙ c.in_ok-leaves.ensures.is h tells.txs tells.catalog) (c.in-Ok.ensures h tells))
@@ -34,8 +36,8 @@ returns-clause-answer c = λ h tells.
     let b = c.args.bound.now in
     let d = c.args.default.number in
     let row = c.in-Err.row.now in
-    let scan : Scan = record { leaves = leaves (ddl_tree h s d); breaks = breaks_default h p b; fault = default_has_row (made_at h d).name c.args.name.now } in
+    let scan : Scan = record { leaves = leaves (ddl_tree h s d); breaks = breaks_default h p b; fault = λ (r : List Value). default_has_row (made_at h d).name r c.args.name.now } in
     refuses h s scan row
     (default_refused h s p c.as_slice-columns.result.now c.args.level.now b (c.as_slice-columns.ensures ∙ ap (λ (t : Table). t.columns) (c.table.ensures h tells.catalog)) (c.requires.level h tells.txs tells.catalog) c.deref.result.now d row
     (c.deref.ensures.value ∙ c.in_ok-leaves.ensures.is h tells.txs tells.catalog) (c.in-Err.ensures h tells))
-    ∙ ap Err (sym (c.in_ok-default_has_row-in-Err.ensures ∙ ap (λ (n : List ℕ). default_has_row n c.args.name.now row) (c.name_of-default.ensures h tells.catalog)))
+    ∙ ap Err (sym (c.in_ok-default_has_row-in-Err.ensures ∙ ap (λ (n : List ℕ). default_has_row n row c.args.name.now) (c.name_of-default.ensures h tells.catalog)))

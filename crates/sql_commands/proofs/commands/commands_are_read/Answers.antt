@@ -1,4 +1,4 @@
-use Rattle.grammar.proofs.Whole.{parses}
+use Rattle.grammar.proofs.WholeLaws.{parses}
 use Rattle.sql_commands.proofs.CommandLaws.{command_law}
 use Rattle.sql_commands.proofs.commands.commands_are_read.Goals as goal
 

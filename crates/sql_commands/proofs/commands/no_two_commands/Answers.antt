@@ -1,4 +1,4 @@
-use Rattle.grammar.proofs.Whole.{one_value}
+use Rattle.grammar.proofs.WholeLaws.{one_value}
 use Rattle.sql_commands.proofs.CommandLaws.{command_law}
 use Rattle.sql_commands.proofs.commands.no_two_commands.Goals as goal
 

@@ -2,7 +2,7 @@ use Rattle.std.proofs.Common.{◌-◌, ◌+◌, length, arith, ap, sym, subst, �
 use Rattle.std.proofs.lemmas.Result.{err_from_is_err_and}
 use Rattle.grammar.specs.Gives.{Refuses}
 use Rattle.grammar.proofs.Steps.{repeats_more, repeats_done, repeats_end, repeats_fail}
-use Rattle.grammar.proofs.Whole.{gives_by}
+use Rattle.grammar.proofs.WholeLaws.{gives_by}
 use Rattle.sql_expressions.proofs.Alone.{alone, goes_on, single, valued_alone}
 use Rattle.sql_expressions.proofs.Deeper.{chain_gives, comparison_deeper, named_deeper, negation_deeper, operand_deeper, part_deeper, test_deeper, unary_deeper}
 use Rattle.grammar.specs.Repeats.{always}

@@ -1,4 +1,4 @@
-use Rattle.grammar.proofs.Whole.{one_value}
+use Rattle.grammar.proofs.WholeLaws.{one_value}
 use Rattle.sql_queries.proofs.QueryLaws.{query_law}
 use Rattle.sql_queries.proofs.queries.no_two_queries.Goals as goal
 

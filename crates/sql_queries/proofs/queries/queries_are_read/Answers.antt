@@ -1,4 +1,4 @@
-use Rattle.grammar.proofs.Whole.{parses}
+use Rattle.grammar.proofs.WholeLaws.{parses}
 use Rattle.sql_queries.proofs.QueryLaws.{query_law}
 use Rattle.sql_queries.proofs.queries.queries_are_read.Goals as goal
 

@@ -1,4 +1,4 @@
-use Rattle.grammar.proofs.Whole.{one_value}
+use Rattle.grammar.proofs.WholeLaws.{one_value}
 use Rattle.sql_tokens.specs.Tokens.{tokens_of}
 use Rattle.sql_syntax.proofs.StatementLaws.{block_law}
 use Rattle.sql_syntax.proofs.parse.no_two_blocks.Goals as goal

@@ -22,7 +22,7 @@ returns-in-Waits-clause-step c =
 pub returns-in-Deadlock-clause-step : goal.returns-in-Deadlock-clause-step
 returns-in-Deadlock-clause-step c =
     subst (λ r. IsStep (λ (u : Unit {0}). u) (Err r) c.args.stores.now c.wait_on-answer.new.self c.args.caller c.args.caller.cmd (waited c.args.names.now c.args.caller.session c.args.what c.args.rest)) (sym c.stop_by.ensures)
-    (closed c.args.names.now c.args.stores.now c.wait_on-answer.new.self c.args.caller (Others c.args.what) c.args.rest c.in-Deadlock.cycle c.deadlock.result c.deadlock.ensures c.requires.may
+    (closed c.args.names.now c.args.stores.now c.wait_on-answer.new.self c.args.caller (Others c.args.what) c.args.rest c.in-Deadlock.cycle c.deadlock_of.result c.deadlock_of.ensures c.requires.may
     (subst (HasAsked c.args.stores.now c.wait_on-answer.new.self c.args.caller (Others c.args.what)) c.in-Deadlock.is
     (has_asked c.args.stores.now c.wait_on-answer.new.self c.args.caller (Others c.args.what) c.wait_on-answer.result c.requires.may c.wait_on-answer.ensures.good
     c.wait_on-answer.ensures.answer c.answer_is_told.ensures.view c.answer_is_told.ensures.history c.wait_on-answer.ensures.waits c.wait_on-answer.ensures.others c.wait_on-answer.ensures.size c.wait_on-answer.ensures.rest)))

@@ -1,7 +1,7 @@
 use Rattle.std.proofs.Common.{◌≡◌, [], take, drop}
+use Rattle.refusals.specs.Refusals.{column_twice}
 use Rattle.table_binder.specs.Columns.{names_of}
 use Rattle.table_binder.specs.Names.{twice_faults}
-use Rattle.table_binder.specs.States.{column_twice}
 use Rattle.table_binder.proofs.columns.check_names.Given as goal
 
 -- no name so far stands twice

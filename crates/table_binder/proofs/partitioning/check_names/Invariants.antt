@@ -1,6 +1,6 @@
 use Rattle.std.proofs.Common.{◌≡◌, [], take, drop}
+use Rattle.refusals.specs.Refusals.{twice_in_key}
 use Rattle.table_binder.specs.Names.{twice_faults}
-use Rattle.table_binder.specs.States.{twice_in_key}
 use Rattle.table_binder.proofs.partitioning.check_names.Given as goal
 
 -- no name so far stands twice

@@ -1,5 +1,5 @@
 use Rattle.std.proofs.Common.{◌≡◌, None, Ok, Err, sym, ap, subst}
-use Rattle.part_ddl.specs.Faults.{table_is_there}
+use Rattle.refusals.specs.Refusals.{table_is_there}
 use Rattle.part_ddl.specs.Tables.{name_faults}
 use Rattle.history.specs.History.{History}
 use Rattle.part_catalog.specs.Found.{resolved, taken_by}

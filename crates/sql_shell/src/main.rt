@@ -1,0 +1,70 @@
+//! Shows what the readers of SQL, its writer and its binders make of texts from standard input, one in each line.
+//!
+//! `= expressions`, `= blocks` or `= meanings` by itself in a line says what the lines behind it are: expressions, of
+//! which the trees are written, blocks, which are written back, or statements, of which it is written what they mean.
+//! The heads of `expressions.rt`, `blocks.rt` and `meanings.rt` say in which form. `stdin` has the texts, and `stdout`
+//! what was worked out by hand from the grammar and the rules.
+#![tactic(auto)]
+
+mod blocks;
+mod bound;
+mod bound_trees;
+mod definitions;
+mod expressions;
+mod kinds;
+mod meanings;
+mod refused;
+mod repeats;
+mod tables;
+mod trees;
+
+use blocks::block;
+use expressions::tree;
+use meanings::meaning;
+use pg_values::NoMemory;
+use std::alloc::Global;
+use std::io::{self, ErrorKind, Write};
+
+/// What the lines are.
+#[derive(Clone, Copy)]
+enum Texts {
+    Expressions,
+    Blocks,
+    Meanings,
+}
+
+fn texts_behind(line: &[u8]) -> Option<Texts> {
+    match line {
+        b"= expressions" => Some(Texts::Expressions),
+        b"= blocks" => Some(Texts::Blocks),
+        b"= meanings" => Some(Texts::Meanings),
+        _ => None,
+    }
+}
+
+fn answer(alloc: Global, texts: Texts, line: &[u8]) -> Result<Vec<u8>, NoMemory> {
+    match texts {
+        Texts::Expressions => tree(alloc, line),
+        Texts::Blocks => block(alloc, line),
+        Texts::Meanings => meaning(alloc, line),
+    }
+}
+
+fn main(rt: HostRuntime) -> io::Result<()> {
+    let mut out = rt.stdout();
+    let mut texts = Texts::Expressions;
+    for line in rt.lines(rt.alloc()) {
+        let line = line?;
+        if let Some(next) = texts_behind(line.as_bytes()) {
+            texts = next;
+            out.write_all(line.as_bytes())?;
+        } else {
+            let Ok(answer) = answer(rt.alloc(), texts, line.as_bytes()) else {
+                return Err(io::Error::from(ErrorKind::OutOfMemory));
+            };
+            out.write_all(&answer)?;
+        }
+        out.write_all(b"\n")?;
+    }
+    Ok(())
+}
