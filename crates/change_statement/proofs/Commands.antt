@@ -168,7 +168,7 @@ waits_later None new caller h g went = went
 waits_later (Some rest) new caller h g went = record { stands = went.stands; at = one_later g caller.session caller.cmd went.at; others = went.others; since = went.since; queue = went.queue }
 
 -- one that waits for no row may go on anywhere
-goes_anywhere : (rest : Option Rest) (h : History) (s : ℕ) → NoRows rest → CanGoOn h s rest
+pub goes_anywhere : (rest : Option Rest) (h : History) (s : ℕ) → NoRows rest → CanGoOn h s rest
 goes_anywhere None h s none = tt
 goes_anywhere (Some (Rows r)) h s none = absurd none
 goes_anywhere (Some (Detach d)) h s none = tt

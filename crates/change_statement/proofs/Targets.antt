@@ -19,11 +19,8 @@ use Rattle.row_store.specs.Stands.{StoreStands}
 use Rattle.change_statement.specs.Targets.{takes, target_of, targets_in, targets}
 use Rattle.statement_steps.specs.declared.rest.TargetRow.{TargetRow}
 use Rattle.soundness.proofs.Listed.{first_in, later_in}
-use Rattle.statement_steps.specs.declared.rest.Rest.{Rest}
-use Rattle.statement_steps.specs.declared.rest.Rest.TheVariants.{Rows, Detach}
 use Rattle.statement_steps.specs.Gathered.{Found}
 use Rattle.change_statement.specs.Running.{IsTargetIn}
-use Rattle.change_statement.specs.Standing.{those_left, left_of}
 
 -- ---- versions have their places for numbers
 

@@ -82,7 +82,7 @@ pub fn wait_for_row(
     match answer {
         Asked::Granted => Ok(()),
         Asked::Waits { .. } => Err(Stop::Waits(Some(Rest::Rows(rest)))),
-        Asked::Deadlock { cycle } => Err(stop_by(deadlock(alloc, names, cycle))),
+        Asked::Deadlock { cycle } => Err(stop_by(deadlock_of(alloc, names, cycle))),
     }
 }
 

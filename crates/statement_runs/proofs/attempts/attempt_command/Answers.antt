@@ -21,60 +21,60 @@ use Rattle.statement_runs.proofs.attempts.attempt_command.Goals as goal
 pub returns-in-CreateTable : goal.returns-in-CreateTable
 returns-in-CreateTable c =
     let i = c.in-CreateTable in
-    let is = silent_ends c.ended.result c.create_table.result c.ended.ensures c.args.stores.now c.create_table.new.stores c.args.caller (created c.args.names.now c.args.caller i.name i.columns i.by) c.args.out.now c.create_table.ensures in
-    subst (λ (x : Command). IsStatement c.ended.result c.args.stores.now c.create_table.new.stores c.args.out.now c.args.out.now c.args.caller (command_attempted c.args.names.now c.args.caller c.args.rest (command_tree x))) (sym i.is) is
+    let is = silent_ends c.args.rest c.ended.result c.create_table.result c.ended.ensures c.args.stores.now c.create_table.new.stores c.args.caller (created c.args.names.now c.args.caller i.name i.columns i.by) c.args.out.now c.create_table.ensures in
+    subst (λ (x : Command). IsStatement c.args.rest c.ended.result c.args.stores.now c.create_table.new.stores c.args.out.now c.args.out.now c.args.caller (command_attempted c.args.names.now c.args.caller c.args.rest (command_tree x))) (sym i.is) is
 
 pub returns-in-CreatePartition : goal.returns-in-CreatePartition
 returns-in-CreatePartition c =
     let i = c.in-CreatePartition in
-    let is = silent_ends c.ended-in-CreatePartition.result c.create_partition.result c.ended-in-CreatePartition.ensures c.args.stores.now c.create_partition.new.stores c.args.caller (partitioned c.args.names.now c.args.caller i.name i.parent (bound_tree i.bound) i.by) c.args.out.now c.create_partition.ensures in
-    subst (λ (x : Command). IsStatement c.ended-in-CreatePartition.result c.args.stores.now c.create_partition.new.stores c.args.out.now c.args.out.now c.args.caller (command_attempted c.args.names.now c.args.caller c.args.rest (command_tree x))) (sym i.is) is
+    let is = silent_ends c.args.rest c.ended-in-CreatePartition.result c.create_partition.result c.ended-in-CreatePartition.ensures c.args.stores.now c.create_partition.new.stores c.args.caller (partitioned c.args.names.now c.args.caller i.name i.parent (bound_tree i.bound) i.by) c.args.out.now c.create_partition.ensures in
+    subst (λ (x : Command). IsStatement c.args.rest c.ended-in-CreatePartition.result c.args.stores.now c.create_partition.new.stores c.args.out.now c.args.out.now c.args.caller (command_attempted c.args.names.now c.args.caller c.args.rest (command_tree x))) (sym i.is) is
 
 pub returns-in-DropTables : goal.returns-in-DropTables
 returns-in-DropTables c =
     let i = c.in-DropTables in
     let step = subst (λ (ts : List (List ℕ)). IsStep (λ (u : Unit {0}). u) c.drop_tables.result c.args.stores.now c.drop_tables.new.stores c.args.caller (c.args.caller.cmd + 1) (dropped c.args.names.now c.args.caller i.if_there ts)) c.as_slice-tables.ensures c.drop_tables.ensures in
-    let is = silent_ends c.ended-in-DropTables.result c.drop_tables.result c.ended-in-DropTables.ensures c.args.stores.now c.drop_tables.new.stores c.args.caller (dropped c.args.names.now c.args.caller i.if_there i.tables) c.args.out.now step in
-    subst (λ (x : Command). IsStatement c.ended-in-DropTables.result c.args.stores.now c.drop_tables.new.stores c.args.out.now c.args.out.now c.args.caller (command_attempted c.args.names.now c.args.caller c.args.rest (command_tree x))) (sym i.is) is
+    let is = silent_ends c.args.rest c.ended-in-DropTables.result c.drop_tables.result c.ended-in-DropTables.ensures c.args.stores.now c.drop_tables.new.stores c.args.caller (dropped c.args.names.now c.args.caller i.if_there i.tables) c.args.out.now step in
+    subst (λ (x : Command). IsStatement c.args.rest c.ended-in-DropTables.result c.args.stores.now c.drop_tables.new.stores c.args.out.now c.args.out.now c.args.caller (command_attempted c.args.names.now c.args.caller c.args.rest (command_tree x))) (sym i.is) is
 
 pub returns-in-Attach : goal.returns-in-Attach
 returns-in-Attach c =
     let i = c.in-Attach in
     let parented = subst (λ (p : List ℕ). IsStep (λ (u : Unit {0}). u) c.attach.result c.args.stores.now c.attach.new.stores c.args.caller (c.args.caller.cmd + 1) (attached c.args.names.now c.args.caller p c.as_bytes-table.result.now (bound_tree i.bound))) c.as_bytes-above.ensures c.attach.ensures in
     let step = subst (λ (n : List ℕ). IsStep (λ (u : Unit {0}). u) c.attach.result c.args.stores.now c.attach.new.stores c.args.caller (c.args.caller.cmd + 1) (attached c.args.names.now c.args.caller i.parent n (bound_tree i.bound))) c.as_bytes-table.ensures parented in
-    let is = silent_ends c.ended-in-Attach.result c.attach.result c.ended-in-Attach.ensures c.args.stores.now c.attach.new.stores c.args.caller (attached c.args.names.now c.args.caller i.parent i.name (bound_tree i.bound)) c.args.out.now step in
-    subst (λ (x : Command). IsStatement c.ended-in-Attach.result c.args.stores.now c.attach.new.stores c.args.out.now c.args.out.now c.args.caller (command_attempted c.args.names.now c.args.caller c.args.rest (command_tree x))) (sym i.is) is
+    let is = silent_ends c.args.rest c.ended-in-Attach.result c.attach.result c.ended-in-Attach.ensures c.args.stores.now c.attach.new.stores c.args.caller (attached c.args.names.now c.args.caller i.parent i.name (bound_tree i.bound)) c.args.out.now step in
+    subst (λ (x : Command). IsStatement c.args.rest c.ended-in-Attach.result c.args.stores.now c.attach.new.stores c.args.out.now c.args.out.now c.args.caller (command_attempted c.args.names.now c.args.caller c.args.rest (command_tree x))) (sym i.is) is
 
 pub returns-in-AtOnce : goal.returns-in-AtOnce
 returns-in-AtOnce c =
     let i = c.in-Detach in
     let parented = subst (λ (p : List ℕ). IsStep (λ (u : Unit {0}). u) c.detach.result c.args.stores.now c.detach.new.stores c.args.caller (c.args.caller.cmd + 1) (detached c.args.names.now c.args.caller p c.as_bytes-table-in-Detach.result.now)) c.as_bytes-above-in-Detach.ensures c.detach.ensures in
     let step = subst (λ (n : List ℕ). IsStep (λ (u : Unit {0}). u) c.detach.result c.args.stores.now c.detach.new.stores c.args.caller (c.args.caller.cmd + 1) (detached c.args.names.now c.args.caller i.parent n)) c.as_bytes-table-in-Detach.ensures parented in
-    let is = silent_ends c.ended-in-AtOnce.result c.detach.result c.ended-in-AtOnce.ensures c.args.stores.now c.detach.new.stores c.args.caller (detached c.args.names.now c.args.caller i.parent i.name) c.args.out.now step in
-    let so = subst (λ (how : Detachment). IsStatement c.ended-in-AtOnce.result c.args.stores.now c.detach.new.stores c.args.out.now c.args.out.now c.args.caller (command_attempted c.args.names.now c.args.caller c.args.rest (detaches i.parent i.name how))) (sym c.in-AtOnce.is) is in
-    subst (λ (x : Command). IsStatement c.ended-in-AtOnce.result c.args.stores.now c.detach.new.stores c.args.out.now c.args.out.now c.args.caller (command_attempted c.args.names.now c.args.caller c.args.rest (command_tree x))) (sym i.is) so
+    let is = silent_ends c.args.rest c.ended-in-AtOnce.result c.detach.result c.ended-in-AtOnce.ensures c.args.stores.now c.detach.new.stores c.args.caller (detached c.args.names.now c.args.caller i.parent i.name) c.args.out.now step in
+    let so = subst (λ (how : Detachment). IsStatement c.args.rest c.ended-in-AtOnce.result c.args.stores.now c.detach.new.stores c.args.out.now c.args.out.now c.args.caller (command_attempted c.args.names.now c.args.caller c.args.rest (detaches i.parent i.name how))) (sym c.in-AtOnce.is) is in
+    subst (λ (x : Command). IsStatement c.args.rest c.ended-in-AtOnce.result c.args.stores.now c.detach.new.stores c.args.out.now c.args.out.now c.args.caller (command_attempted c.args.names.now c.args.caller c.args.rest (command_tree x))) (sym i.is) so
 
 pub returns-in-Concurrently : goal.returns-in-Concurrently
 returns-in-Concurrently c =
     let i = c.in-Detach in
     let parented = subst (λ (p : List ℕ). IsStep (λ (e : Ending). e) c.detach_concurrently.result c.args.stores.now c.detach_concurrently.new.stores c.args.caller (c.args.caller.cmd + 1) (detached_concurrently c.args.names.now c.args.caller c.args.rest p c.as_bytes-table-in-Detach.result.now)) c.as_bytes-above-in-Detach.ensures c.detach_concurrently.ensures in
     let step = subst (λ (n : List ℕ). IsStep (λ (e : Ending). e) c.detach_concurrently.result c.args.stores.now c.detach_concurrently.new.stores c.args.caller (c.args.caller.cmd + 1) (detached_concurrently c.args.names.now c.args.caller c.args.rest i.parent n)) c.as_bytes-table-in-Detach.ensures parented in
-    let is = staged_is c.detach_concurrently.result c.args.stores.now c.detach_concurrently.new.stores c.args.caller (detached_concurrently c.args.names.now c.args.caller c.args.rest i.parent i.name) c.args.out.now step in
-    let so = subst (λ (how : Detachment). IsStatement c.detach_concurrently.result c.args.stores.now c.detach_concurrently.new.stores c.args.out.now c.args.out.now c.args.caller (command_attempted c.args.names.now c.args.caller c.args.rest (detaches i.parent i.name how))) (sym c.in-Concurrently.is) is in
-    subst (λ (x : Command). IsStatement c.detach_concurrently.result c.args.stores.now c.detach_concurrently.new.stores c.args.out.now c.args.out.now c.args.caller (command_attempted c.args.names.now c.args.caller c.args.rest (command_tree x))) (sym i.is) so
+    let is = staged_is c.args.rest c.detach_concurrently.result c.args.stores.now c.detach_concurrently.new.stores c.args.caller (detached_concurrently c.args.names.now c.args.caller c.args.rest i.parent i.name) c.args.out.now step in
+    let so = subst (λ (how : Detachment). IsStatement c.args.rest c.detach_concurrently.result c.args.stores.now c.detach_concurrently.new.stores c.args.out.now c.args.out.now c.args.caller (command_attempted c.args.names.now c.args.caller c.args.rest (detaches i.parent i.name how))) (sym c.in-Concurrently.is) is in
+    subst (λ (x : Command). IsStatement c.args.rest c.detach_concurrently.result c.args.stores.now c.detach_concurrently.new.stores c.args.out.now c.args.out.now c.args.caller (command_attempted c.args.names.now c.args.caller c.args.rest (command_tree x))) (sym i.is) so
 
 pub returns-in-Finalize : goal.returns-in-Finalize
 returns-in-Finalize c =
     let i = c.in-Detach in
     let parented = subst (λ (p : List ℕ). IsStep (λ (u : Unit {0}). u) c.finalize.result c.args.stores.now c.finalize.new.stores c.args.caller (c.args.caller.cmd + 1) (finalized c.args.names.now c.args.caller p c.as_bytes-table-in-Detach.result.now)) c.as_bytes-above-in-Detach.ensures c.finalize.ensures in
     let step = subst (λ (n : List ℕ). IsStep (λ (u : Unit {0}). u) c.finalize.result c.args.stores.now c.finalize.new.stores c.args.caller (c.args.caller.cmd + 1) (finalized c.args.names.now c.args.caller i.parent n)) c.as_bytes-table-in-Detach.ensures parented in
-    let is = silent_ends c.ended-in-Finalize.result c.finalize.result c.ended-in-Finalize.ensures c.args.stores.now c.finalize.new.stores c.args.caller (finalized c.args.names.now c.args.caller i.parent i.name) c.args.out.now step in
-    let so = subst (λ (how : Detachment). IsStatement c.ended-in-Finalize.result c.args.stores.now c.finalize.new.stores c.args.out.now c.args.out.now c.args.caller (command_attempted c.args.names.now c.args.caller c.args.rest (detaches i.parent i.name how))) (sym c.in-Finalize.is) is in
-    subst (λ (x : Command). IsStatement c.ended-in-Finalize.result c.args.stores.now c.finalize.new.stores c.args.out.now c.args.out.now c.args.caller (command_attempted c.args.names.now c.args.caller c.args.rest (command_tree x))) (sym i.is) so
+    let is = silent_ends c.args.rest c.ended-in-Finalize.result c.finalize.result c.ended-in-Finalize.ensures c.args.stores.now c.finalize.new.stores c.args.caller (finalized c.args.names.now c.args.caller i.parent i.name) c.args.out.now step in
+    let so = subst (λ (how : Detachment). IsStatement c.args.rest c.ended-in-Finalize.result c.args.stores.now c.finalize.new.stores c.args.out.now c.args.out.now c.args.caller (command_attempted c.args.names.now c.args.caller c.args.rest (detaches i.parent i.name how))) (sym c.in-Finalize.is) is in
+    subst (λ (x : Command). IsStatement c.args.rest c.ended-in-Finalize.result c.args.stores.now c.finalize.new.stores c.args.out.now c.args.out.now c.args.caller (command_attempted c.args.names.now c.args.caller c.args.rest (command_tree x))) (sym i.is) so
 
 pub returns-in-Lock : goal.returns-in-Lock
 returns-in-Lock c =
     let i = c.in-Lock in
     let step = subst (λ (ts : List LockedTable). IsStep (λ (u : Unit {0}). u) c.lock.result c.args.stores.now c.lock.new.stores c.args.caller (c.args.caller.cmd + 1) (locked c.args.names.now c.args.caller.session ts i.mode)) c.as_slice-tables-in-Lock.ensures c.lock.ensures in
-    let is = silent_ends c.ended-in-Lock.result c.lock.result c.ended-in-Lock.ensures c.args.stores.now c.lock.new.stores c.args.caller (locked c.args.names.now c.args.caller.session i.tables i.mode) c.args.out.now step in
-    subst (λ (x : Command). IsStatement c.ended-in-Lock.result c.args.stores.now c.lock.new.stores c.args.out.now c.args.out.now c.args.caller (command_attempted c.args.names.now c.args.caller c.args.rest (command_tree x))) (sym i.is) is
+    let is = silent_ends c.args.rest c.ended-in-Lock.result c.lock.result c.ended-in-Lock.ensures c.args.stores.now c.lock.new.stores c.args.caller (locked c.args.names.now c.args.caller.session i.tables i.mode) c.args.out.now step in
+    subst (λ (x : Command). IsStatement c.args.rest c.ended-in-Lock.result c.args.stores.now c.lock.new.stores c.args.out.now c.args.out.now c.args.caller (command_attempted c.args.names.now c.args.caller c.args.rest (command_tree x))) (sym i.is) is

@@ -26,8 +26,8 @@ returns-in-Waits-clause-part c =
 pub returns-in-Deadlock-clause-part : goal.returns-in-Deadlock-clause-part
 returns-in-Deadlock-clause-part c =
     subst (λ r. IsPart (λ (u : Unit {0}). u) (Err r) c.args.stores.now c.wait_on-answer.new.self c.args.caller c.args.caller.cmd (waited c.args.names.now c.args.caller.session c.args.what (Some (Rows c.args.rest)))) (sym c.stop_by.ensures)
-    (as_part (λ (u : Unit {0}). u) (Err (stop_by c.deadlock.result)) c.args.stores.now c.wait_on-answer.new.self c.args.caller c.args.caller.cmd (waited c.args.names.now c.args.caller.session c.args.what (Some (Rows c.args.rest)))
-    (closed c.args.names.now c.args.stores.now c.wait_on-answer.new.self c.args.caller (Others c.args.what) (Some (Rows c.args.rest)) c.in-Deadlock.cycle c.deadlock.result c.deadlock.ensures c.requires.may
+    (as_part (λ (u : Unit {0}). u) (Err (stop_by c.deadlock_of.result)) c.args.stores.now c.wait_on-answer.new.self c.args.caller c.args.caller.cmd (waited c.args.names.now c.args.caller.session c.args.what (Some (Rows c.args.rest)))
+    (closed c.args.names.now c.args.stores.now c.wait_on-answer.new.self c.args.caller (Others c.args.what) (Some (Rows c.args.rest)) c.in-Deadlock.cycle c.deadlock_of.result c.deadlock_of.ensures c.requires.may
     (subst (HasAsked c.args.stores.now c.wait_on-answer.new.self c.args.caller (Others c.args.what)) c.in-Deadlock.is
     (has_asked c.args.stores.now c.wait_on-answer.new.self c.args.caller (Others c.args.what) c.wait_on-answer.result c.requires.may c.wait_on-answer.ensures.good
     c.wait_on-answer.ensures.answer c.answer_is_told.ensures.view c.answer_is_told.ensures.history c.wait_on-answer.ensures.waits c.wait_on-answer.ensures.others c.wait_on-answer.ensures.size c.wait_on-answer.ensures.rest))))
