@@ -42,6 +42,7 @@ KINDS = {
     "tables": {"select": 3, "insert": 5, "delete": 2, "create": 1, "partition": 4, "detach": 4, "drop": 2, "lock": 1},
     "detaches": {"select": 4, "insert": 6, "delete": 3, "detach": 6, "drop": 3, "create": 1, "lock": 2},
     "updates": {"select": 2, "insert": 2, "delete": 3, "update": 10},
+    "above": {"select": 1, "insert": 2, "delete": 2, "update": 11, "detach_above": 4},
     "defaults": {"select": 2, "insert": 5, "delete": 3, "partition": 6, "detach": 3, "drop": 2, "lock": 1},
     "attaches": {"select": 2, "insert": 5, "delete": 3, "attach": 6, "detach": 5, "partition": 1, "drop": 1},
     "concurrent": {
@@ -159,7 +160,11 @@ class Maker:
 
     def make_partition(self, name, parent, bound):
         below = ""
-        if parent == "t" and self.numbers.chance(22):
+        if parent == "t" and self.kind == "above":
+            # (by the key of the table above, or by the other column)
+            is_second = self.numbers.chance(30)
+            below = self.by(name, "RANGE" if not is_second else self.numbers.of(("RANGE", "LIST")), is_second)
+        elif parent == "t" and self.numbers.chance(22):
             below = self.by(name, self.numbers.of(("RANGE", "LIST", "LIST", "HASH")), True)
         self.tables.append(name)
         self.setup.append(f"CREATE TABLE {name} PARTITION OF {parent} {bound}{below};")
@@ -213,11 +218,13 @@ class Maker:
 
     def changed_table(self):
         """(rows of the tables that are attached come and go too)"""
+        if self.kind == "above" and self.numbers.chance(80):
+            return self.numbers.of(self.tables[1:])
         return self.numbers.of(("x", "y")) if self.default_chance() and self.numbers.chance(30) else self.any_table()
 
     def condition(self):
         numbers = self.numbers
-        if numbers.chance(60 if self.kind in ("rows", "updates") else 35):
+        if numbers.chance(60 if self.kind in ("rows", "updates", "above") else 35):
             return f" WHERE a = {numbers.of(self.keys)}"
         return numbers.of((
             "", f" WHERE a = {numbers.below(16)}", f" WHERE a < {numbers.of((5, 10, 15))}", f" WHERE v = {numbers.below(4)}",
@@ -343,6 +350,10 @@ class Maker:
         if numbers.chance(6):
             parent = self.parent()
         return f"ALTER TABLE {parent} DETACH PARTITION {name};"
+
+    def detach_above(self):
+        """Of a partition whose own partitions others change."""
+        return f"ALTER TABLE t DETACH PARTITION {self.numbers.of(sorted(self.own_bounds) + ['pd'])};"
 
     def detach_in_stages(self, how):
         numbers = self.numbers
