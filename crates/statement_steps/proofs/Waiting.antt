@@ -1,5 +1,5 @@
 -- While a session waits whose transaction may write a table, others take entries above the table away, and add none.
-use Rattle.std.proofs.Common.{◌≡◌, ◌≢◌, ℕ, zero, ◌==◌, ◌||◌, ◌&&◌, not, Bool, true, false, arith, ◌∷◌, [], ◌++◌, inl, inr, refl, ap, sym, ◌∙◌, subst, Option, Some, None}
+use Rattle.std.proofs.Common.{List, ◌≡◌, ◌≢◌, ℕ, zero, ◌==◌, ◌||◌, ◌&&◌, not, Bool, true, false, arith, ◌∷◌, [], ◌++◌, inl, inr, refl, ap, sym, ◌∙◌, subst, Option, Some, None}
 use Rattle.std.proofs.lemmas.Grind.{common_steps}
 use Rattle.std.proofs.lemmas.Bool.{cases_Bool}
 use Rattle.std.proofs.lemmas.Bool.Decides.{nat_tests}
@@ -10,7 +10,7 @@ use Rattle.pg_values.specs.Modes.{same_mode}
 use Rattle.history.specs.declared.catalogue.Entry.{Entry}
 use Rattle.history.specs.declared.transaction.Fate.{Fate}
 use Rattle.history.specs.declared.transaction.Fate.TheVariants.{Running, Committed, Aborted}
-use Rattle.history.specs.Transactions.{TxEvents, open_of, fate, is_committed, IsRunning}
+use Rattle.history.specs.Transactions.{TxEvent, TxEvents, open_of, fate, is_committed, IsRunning}
 use Rattle.history.specs.Catalogue.{CatalogueEvent, TableMade, TableDropped, EntryAdded, EntryEnded, EntryMarked, CheckKept}
 use Rattle.history.specs.Locks.{LockEvent, LockGot, LocksGivenUp, SnapshotGone, WaitBegan, WaitResumed, WaitWithdrawn, holds, wanted, is_lock}
 use Rattle.history.specs.History.{Event, History, TxChange, SnapshotChange, RowChange, LockChange, CatalogueChange, tx_events, lock_events, catalogue_events}
@@ -71,8 +71,9 @@ foreign_present h e t may other g p = elim (present_was e (catalogue_events h) (
   | inr old ↦ old
 ]
 
-stays_event : (e : Event) (h : History) (t x : ℕ) → IsLegal (e ∷ h) → ArePermitted (e ∷ h) → IsRunning (tx_events h) t → fate (tx_events (e ∷ h)) t ≡ Running → AddsNone t e → WritesIn h (view (tx_events h) t) t x → StaysAbove h (e ∷ h) t x
-stays_event (TxChange e) h t x legal permitted acts runs none locked g n p low =
+-- transactions that begin and end change nothing above a table that this one may write
+tx_stay : (e : TxEvent) (h : History) (t x : ℕ) → IsLegal (TxChange e ∷ h) → ArePermitted (TxChange e ∷ h) → IsRunning (tx_events h) t → fate (e ∷ tx_events h) t ≡ Running → WritesIn h (view (tx_events h) t) t x → StaysAbove h (TxChange e ∷ h) t x
+tx_stay e h t x legal permitted acts runs locked g n p low =
     let i = legal_keeps_all h legal.2 permitted.1 in
     let cats = catalogue_events h in
     let w = view (e ∷ tx_events h) t in
@@ -87,9 +88,12 @@ stays_event (TxChange e) h t x legal permitted acts runs none locked g n p low =
       takes = λ row accept. accepts_map cats cats w (view (tx_events h) t) g.parent.number g.bound (key_at cats g.parent.number row)
           (λ by_default f q same. inl (beside_written h w t x i world acts own writes g n p by_default low f q same)) accept;
     }
-stays_event (SnapshotChange e) h t x legal permitted acts runs none locked = all_stay h t x
-stays_event (RowChange e) h t x legal permitted acts runs none locked = all_stay h t x
-stays_event (LockChange e) h t x legal permitted acts runs none locked = all_stay h t x
+
+stays_event : (e : Event) (h : History) (t x : ℕ) → IsLegal (e ∷ h) → ArePermitted (e ∷ h) → IsRunning (tx_events h) t → fate (tx_events (e ∷ h)) t ≡ Running → AddsNone t e → WritesIn h (view (tx_events h) t) t x → StaysAbove h (e ∷ h) t x
+stays_event (TxChange e) h t x legal permitted acts runs none locked = tx_stay e h t x legal permitted acts runs locked
+stays_event (SnapshotChange e) h t x legal permitted acts runs none locked = λ g n p low. record { there = p; below = low; keys = λ row. refl; takes = λ row accept. accept }
+stays_event (RowChange e) h t x legal permitted acts runs none locked = λ g n p low. record { there = p; below = low; keys = λ row. refl; takes = λ row accept. accept }
+stays_event (LockChange e) h t x legal permitted acts runs none locked = λ g n p low. record { there = p; below = low; keys = λ row. refl; takes = λ row accept. accept }
 stays_event (CatalogueChange (TableMade y)) h t x legal permitted acts runs none locked =
     let i = legal_keeps_all h legal.2 permitted.1 in
     fewer_stay (TableMade y) h t x (λ g p. p) (λ g p row. same_key y (catalogue_events h) g.parent.number row (i.entries.suited g p.0).parent)

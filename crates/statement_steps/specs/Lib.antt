@@ -7,3 +7,4 @@ pub mod Steps
 pub mod Asks
 pub mod Waiting
 pub mod Gathered
+pub mod Codes

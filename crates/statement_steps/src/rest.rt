@@ -24,9 +24,16 @@ pub struct RestOfRows {
 }
 
 impl Model for RestOfRows {
+    ghost use Rattle.std.specs.Coded.{codes};
+    ghost use Rattle.statement_steps.specs.Codes.{asked_code, cond_code, found_code, left_code, scalar_code, table_code};
     ghost use Rattle.statement_steps.specs.Gathered.{RowsLeft, found_of};
 
     ghost Value = { RowsLeft };
+
+    ghost coded = { left_code (Prim.hlevel codes)
+        (found_code (Prim.hlevel codes) (table_code (Prim.hlevel codes) (Prim.hlevel codes) (Prim.hlevel codes) (Prim.hlevel codes)) (Prim.hlevel codes)
+        (asked_code (scalar_code (Prim.hlevel codes) (Prim.hlevel codes) (Prim.hlevel codes)) (cond_code (Prim.hlevel codes) (Prim.hlevel codes) (Prim.hlevel codes))) (Prim.hlevel codes))
+        (Prim.hlevel codes) };
 
     ghost view = { λ r. record { by = r.by; found = found_of r.gathered; left = r.left.items; changed = r.changed } };
 }
