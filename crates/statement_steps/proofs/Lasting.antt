@@ -1,5 +1,5 @@
 -- What is left to a statement that waits is left to it still, whatever others do.
-use Rattle.std.proofs.Common.{◌≡◌, ℕ, zero, suc, ◌+◌, ◌<◌, List, [], ◌∷◌, ◌++◌, refl, ap, sym, ◌∙◌, subst, arith, Option, Some, None, All, slice_get}
+use Rattle.std.proofs.Common.{◌≡◌, ℕ, zero, suc, ◌+◌, ◌<◌, List, [], ◌∷◌, ◌++◌, sym, ◌∙◌, subst, arith, Option, Some, None, slice_get}
 use Rattle.history.specs.declared.version.Version.{Version}
 use Rattle.history.specs.Transactions.{TxBegan, TxCommitted, TxAborted, next_tx, open_of}
 use Rattle.history.specs.Rows.{LeafAdded, RowBorn, RowEnded}

@@ -1,6 +1,6 @@
 -- What came since was done by others.
-use Rattle.std.proofs.Common.{◌≡◌, ◌≢◌, ℕ, List, [], ◌∷◌, ◌++◌, refl, ap, sym, ◌∙◌, subst, append_assoc, Option, Some, None, map}
-use Rattle.history.specs.Transactions.{TxEvent, TxEvents, TxBegan, TxCommitted, TxAborted, open_of}
+use Rattle.std.proofs.Common.{◌≡◌, ℕ, List, [], ◌∷◌, ◌++◌, refl, ap, sym, ◌∙◌, append_assoc, Option, Some, None, map}
+use Rattle.history.specs.Transactions.{open_of}
 use Rattle.history.specs.Snapshots.{TakenSnapshot}
 use Rattle.history.specs.Rows.{RowEvent}
 use Rattle.history.specs.Locks.{LockEvent}

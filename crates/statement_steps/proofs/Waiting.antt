@@ -1,6 +1,5 @@
 -- While a session waits whose transaction may write a table, others take entries above the table away, and add none.
-use Rattle.std.proofs.Common.{List, ◌≡◌, ◌≢◌, ℕ, zero, ◌==◌, ◌||◌, ◌&&◌, not, Bool, true, false, arith, ◌∷◌, [], ◌++◌, inl, inr, refl, ap, sym, ◌∙◌, subst, Option, Some, None}
-use Rattle.std.proofs.lemmas.Grind.{common_steps}
+use Rattle.std.proofs.Common.{List, ◌≡◌, ◌≢◌, ℕ, zero, ◌==◌, ◌||◌, ◌&&◌, not, Bool, true, false, arith, ◌∷◌, [], ◌++◌, inl, inr, refl, ap, sym, ◌∙◌, subst, Some, None}
 use Rattle.std.proofs.lemmas.Bool.{cases_Bool}
 use Rattle.std.proofs.lemmas.Bool.Decides.{nat_tests}
 use Rattle.pg_values.specs.declared.value.Value.{Value}
@@ -33,7 +32,7 @@ use Rattle.legal_statements.specs.Locked.{IsOwnTable, IsWritable}
 use Rattle.legal_statements.proofs.Holding.{session_runs, writes_of}
 use Rattle.stores.specs.Good.{IsGood}
 use Rattle.stores.proofs.Goodness.{legal_of, permitted_of}
-use Rattle.statement_steps.specs.Waiting.{AddsNone, AddNone, Since, WasAbove, StaysAbove, NothingIsAddedAbove, WaitingStatementsAccept}
+use Rattle.statement_steps.specs.Waiting.{AddsNone, AddNone, Since, StaysAbove, NothingIsAddedAbove, WaitingStatementsAccept}
 
 -- ---- one event
 
