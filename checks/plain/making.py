@@ -149,7 +149,7 @@ class Maker:
         }[strategy, is_second]
         if self.kind == "above" and parent != "t" and not is_second:
             # (wider than the table above)
-            bounds = ["FROM (0) TO (40)"] if numbers.chance(60) else ["FROM (0) TO (25)", "FROM (25) TO (40)"]
+            bounds = ["FROM (0) TO (40)"] if numbers.chance(75) else ["FROM (0) TO (25)", "FROM (25) TO (40)"]
         for place, bound in enumerate(bounds):
             if parent == "t":
                 # (one place of the root is often left free)
