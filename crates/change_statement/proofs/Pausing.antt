@@ -45,8 +45,8 @@ use Rattle.statement_steps.proofs.Parts.{own_tx}
 use Rattle.statement_steps.proofs.Since.{since_on, since_held, since_locks}
 use Rattle.statement_steps.proofs.Lasting.{are_left_on}
 use Rattle.change_statement.specs.Changed.{only, held_up, paused}
-use Rattle.change_statement.specs.Running.{IsInRun, IsRunTold, IsRun, IsTargetIn, MayRun, following}
-use Rattle.change_statement.specs.Standing.{standing}
+use Rattle.change_statement.specs.Running.{IsInRun, IsRunTold, IsRun, IsTargetIn, MayRun}
+use Rattle.change_statement.specs.Standing.{following, standing}
 use Rattle.change_statement.proofs.Ended.{got_at, own_is}
 
 -- ---- the session alone

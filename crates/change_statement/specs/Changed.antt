@@ -28,8 +28,7 @@ use Rattle.statement_steps.specs.Asks.{waited}
 use Rattle.statement_steps.specs.Faults.{name_of}
 use Rattle.statement_steps.specs.Steps.{follow}
 use Rattle.insert_statement.specs.Inserted.{tables_of, holder}
-use Rattle.change_statement.specs.Running.{following}
-use Rattle.change_statement.specs.Standing.{left_of, standing}
+use Rattle.change_statement.specs.Standing.{following, left_of, standing}
 
 -- what is made of a version that is changed, of a row with that leaf
 abbrev pub Changing : Type 0

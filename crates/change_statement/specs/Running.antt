@@ -35,12 +35,9 @@ use Rattle.insert_statement.specs.Asked.{IsReadOf}
 use Rattle.insert_statement.specs.Inserted.{tables_of}
 use Rattle.cond_logic.specs.Asked.{SettingMeant}
 use Rattle.change_statement.specs.Updated.{housed}
+use Rattle.change_statement.specs.Standing.{following}
 
 -- ---- its command
-
--- the transaction's next command
-abbrev pub following : Caller → Caller
-following c = record c { cmd = c.cmd + 1 }
 
 -- what the transaction did, it did by the statement's command at the latest, and what the statement has gathered holds still
 pub record IsInRun (g : Found) (h : History) (caller : Caller) : Type 0 where

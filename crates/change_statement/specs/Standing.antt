@@ -1,5 +1,5 @@
 -- The rows that an UPDATE or a DELETE has still to change (the manual, 13.2.1 Read Committed Isolation Level).
-use Rattle.std.specs.Prelude.{ℕ, ◌==◌, if◌then◌else◌, List, Option, Some, None}
+use Rattle.std.specs.Prelude.{ℕ, ◌+◌, ◌==◌, if◌then◌else◌, List, Option, Some, None}
 use Rattle.history.specs.History.{History}
 use Rattle.stores.specs.Events.{tx_in}
 use Rattle.statement_steps.specs.Gathered.{Found, RowsLeft}
@@ -8,6 +8,10 @@ use Rattle.statement_steps.specs.declared.rest.Rest.{Rest}
 use Rattle.statement_steps.specs.declared.rest.Rest.TheVariants.{Rows, Detach}
 use Rattle.statement_steps.specs.declared.rest.TargetRow.{TargetRow}
 use Rattle.insert_statement.specs.Inserted.{own}
+
+-- the transaction's next command
+abbrev pub following : Caller → Caller
+following c = record c { cmd = c.cmd + 1 }
 
 -- where the session's transaction stands with what was gathered, before these rows
 abbrev pub standing : History → Caller → Found → List TargetRow → (changed : ℕ) → RowsLeft

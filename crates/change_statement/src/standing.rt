@@ -1,6 +1,6 @@
 //! Where a statement stands that waits for a row.
 
-ghost use Rattle.std.specs.Prelude.{◌≡◌, ◌<◌, IfOk, IfSome, Some, None, IsSome, slice_index_or};
+ghost use Rattle.std.specs.Prelude.{◌≡◌, ◌<◌, IfOk, IfSome, Some, None, IsSome, slice_index_or, if◌then◌else◌};
 ghost use Rattle.history.specs.History.{History};
 ghost use Rattle.stores.specs.Stand.{Stands};
 ghost use Rattle.statement_steps.specs.Attempts.{MayAttempt};
