@@ -68,4 +68,5 @@ def script(seed):
     return "\n".join(lines)
 
 
-write(sys.argv[1], [(str(seed), script(seed)) for seed in SEEDS])
+if __name__ == "__main__":
+    write(sys.argv[1], [(str(seed), script(seed)) for seed in SEEDS])

@@ -19,6 +19,9 @@ class Level:
     def key(self, row):
         return [row[place] for place in self.places]
 
+    def is_as(self, other):
+        return (self.strategy, self.places, self.kinds) == (other.strategy, other.places, other.kinds)
+
 
 class Range:
     def __init__(self, low, high):
@@ -29,6 +32,9 @@ class Range:
 
     def overlaps(self, other):
         return isinstance(other, Range) and max(self.low, other.low) < min(self.high, other.high)
+
+    def lies_in(self, other):
+        return isinstance(other, Range) and other.low <= self.low and self.high <= other.high
 
     def order(self):
         return (0, self.low)
@@ -43,6 +49,9 @@ class Listed:
 
     def overlaps(self, other):
         return isinstance(other, Listed) and any(value in other.values for value in self.values)
+
+    def lies_in(self, other):
+        return isinstance(other, Listed) and all(value in other.values for value in self.values)
 
     def order(self):
         known = [ordered(value) for value in self.values if value is not None]
@@ -59,6 +68,9 @@ class Hashed:
     def overlaps(self, other):
         least = min(self.modulus, other.modulus)
         return self.remainder % least == other.remainder % least
+
+    def lies_in(self, other):
+        return isinstance(other, Hashed) and self.modulus % other.modulus == 0 and self.remainder % other.modulus == other.remainder
 
     def order(self):
         return (0, self.modulus, self.remainder)

@@ -52,6 +52,7 @@ KINDS = {
     "cancels": {"select": 3, "insert": 4, "delete": 4, "lock": 4, "cancel": 5},
     "joins": {"join": 12, "select": 1, "lock": 4, "insert": 4, "delete": 1, "setting": 2},
     "prunes": {"select": 9, "lock": 6, "insert": 3, "setting": 2},
+    "plans": {"plan": 12, "select": 1, "lock": 3, "insert": 2, "setting": 2, "attach": 2, "detach": 1, "partition": 1},
     "pruned": {"select": 1, "insert": 2, "delete": 5, "update": 9, "lock": 5, "setting": 2},
     "mixed": {
         "select": 3, "insert": 5, "delete": 3, "update": 5, "attach": 4, "detach": 4, "partition": 3, "create": 1,
@@ -295,6 +296,11 @@ class Maker:
         ))
         order = numbers.of(("", "", " ORDER BY q1.v DESC, q0.a", " ORDER BY 1", " LIMIT 3", " ORDER BY q0.v OFFSET 1"))
         return f"SELECT {items} FROM {tables}{where}{order};"
+
+    def plan(self):
+        numbers = self.numbers
+        options = numbers.of(("", "", "(COSTS OFF) ", "(TIMING OFF, SUMMARY OFF) "))
+        return f"EXPLAIN {options}{self.join() if numbers.chance(50) else self.select()}"
 
     def insert(self):
         numbers = self.numbers

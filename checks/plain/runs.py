@@ -25,8 +25,8 @@ class Task:
 
 
 class Permutation:
-    def __init__(self, script, uses, write, watches):
-        self.script, self.uses, self.write, self.watches = script, uses, write, watches
+    def __init__(self, script, uses, write, watches, has_trail=False):
+        self.script, self.uses, self.write, self.watches, self.has_trail = script, uses, write, watches, has_trail
         names = ["control"] + [session.name for session in script.sessions]
         self.history = History(names)
         self.database = Database(self.history, self.cancel_wait_of)
@@ -35,6 +35,7 @@ class Permutation:
         self.cut = []            # the sessions whose waits a statement has cancelled, until these have gone on
         self.tasks = []
         self.watched = 0
+        self.waits = self.errors = 0     # launches that are reported as waiting, and lines of errors
 
     # ---- blocks
 
@@ -86,6 +87,7 @@ class Permutation:
         task.is_told = True
         self.write(f"step {task.use.step.name}: {line}\n" + "".join(task.out))
         if task.refusal:
+            self.errors += 1
             self.write(error_line(task.refusal))
 
     def report(self, task):
@@ -123,12 +125,13 @@ class Permutation:
                 break
         task = Task(use, len(self.tasks) + 1)
         self.tasks.append(task)
-        block = self.database.block(session, use.step.text, task.out)
+        block = self.database.block(session, use.step.text, task.out, self.has_trail)
         self.running[session] = (task, block)
         self.go_on(task, lambda: next(block))
         if task.has_ended and not self.is_held(task):
             self.tell(task, use.step.text)
         else:
+            self.waits += 1
             self.write(f"step {use.step.name}: {use.step.text} <waiting ...>\n")
 
     # ---- the whole
@@ -163,6 +166,7 @@ class Permutation:
             if session.teardown is not None:
                 refusal = self.at_once(number, session.teardown)
                 if refusal:
+                    self.errors += 1
                     self.write(f"teardown of {session.name}: {error_line(refusal)}")
         for session in range(len(script.sessions) + 1):
             self.database.finish(session, False)
@@ -211,12 +215,23 @@ class Permutation:
             self.look(session, child, above + [(tree.table.level, tree.bounds, bound)], snapshot)
 
 
-def run_script(script, watches=False):
+def run_script(script, watches=False, has_trail=False):
     """What a script prints, what it writes of errors, and the status."""
     out = [f"Parsed test spec with {len(script.sessions)} sessions\n"]
     try:
         for uses in script.permutations:
-            Permutation(script, uses, out.append, watches).run()
+            Permutation(script, uses, out.append, watches, has_trail).run()
     except Failed as failed:
         return "".join(out), str(failed), 1
     return "".join(out), "", 0
+
+
+def summary(script, seed):
+    """The counts of the run of a script that a seed has made."""
+    steps = waits = errors = rows = reads = 0
+    for uses in script.permutations:
+        run = Permutation(script, uses, lambda text: None, False)
+        run.run()
+        steps, waits, errors = steps + len(run.tasks), waits + run.waits, errors + run.errors
+        rows, reads = rows + run.database.rows, reads + run.database.reads
+    return f"seed {seed}\nsteps {steps}\nwaits {waits}\nerrors {errors}\nrows {rows}\nreads {reads}\n"

@@ -375,6 +375,15 @@ class Reader:
                     self.at += 1
                 mode = " ".join(words).upper()
             return Statement("LOCK", names=names, mode=mode)
+        if self.took("explain"):
+            if self.took("analyze") or self.took("("):
+                self.at -= 1
+                self.options()
+            explained = self.statement()
+            if explained.word != "SELECT":
+                raise NotRead("an EXPLAIN of another statement")
+            explained.word = "EXPLAIN"
+            return explained
         if self.took("select"):
             items = self.list_of(self.item)
             tables = self.tables() if self.took("from") else []
@@ -401,6 +410,17 @@ class Reader:
             table = self.table_with_alias()
             return Statement("DELETE", table=table, where=self.expression() if self.took("where") else None)
         raise NotRead(f"a statement before {self.peek()[1]}")
+
+    def options(self):
+        """The options of EXPLAIN that change nothing."""
+        if self.took("analyze"):
+            raise NotRead("EXPLAIN ANALYZE")
+        self.take("(")
+        while True:
+            if not any(self.took(word, "off") for word in ("costs", "timing", "summary")):
+                raise NotRead("an option of EXPLAIN")
+            if not self.took(","):
+                return self.take(")")
 
     def change(self):
         name = self.name()

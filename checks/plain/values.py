@@ -269,9 +269,9 @@ class Scope:
             parts = [self.comparison(sign, tested, self.in_condition(value)) for value in written[2]]
             return several("and" if written[3] else "or", parts)
         if sort == "between":
-            tested, low, high = (self.in_condition(part) for part in written[1:4])
-            signs = ("<", ">") if written[4] else (">=", "<=")
-            parts = [self.comparison(signs[0], tested, low), self.comparison(signs[1], tested, high)]
+            tested, signs = self.in_condition(written[1]), ("<", ">") if written[4] else (">=", "<=")
+            # (the first comparison is judged before the upper end)
+            parts = [self.comparison(sign, tested, self.in_condition(end)) for sign, end in zip(signs, written[2:4])]
             return several("or" if written[4] else "and", parts)
         bound = self.in_condition(written)
         if bound.kind != "boolean":

@@ -1,7 +1,8 @@
 -- The entry by which a table becomes a partition.
-use Rattle.std.proofs.Common.{◌≡◌, ℕ, ◌+◌, ◌<◌, ◌&&◌, ◌||◌, not, Bool, true, false, List, [], ◌∷◌, ◌⊎◌, inl, inr, refl, sym, ap, ◌∙◌, subst, arith, Option, Some, None, Ok, Err, map, length}
+use Rattle.std.proofs.Common.{◌≡◌, ℕ, ◌+◌, ◌<◌, ◌&&◌, ◌||◌, not, Bool, true, false, List, [], ◌∷◌, ◌++◌, ◌⊎◌, inl, inr, refl, sym, ap, ◌∙◌, subst, arith, Option, Some, None, Ok, Err, map, length}
 use Rattle.std.specs.Prelude.{is_some, ◌≤◌}
 use Rattle.std.specs.List.{Contains, list_any}
+use Rattle.std.proofs.lemmas.Bool.{cases_Bool}
 use Rattle.std.proofs.lemmas.List.{length-map}
 use Rattle.std.proofs.lemmas.List.Elements.{All-contains}
 use Rattle.pg_values.specs.declared.value.Value.{Value}
@@ -37,8 +38,9 @@ use Rattle.soundness.specs.Worlds.{key_at}
 use Rattle.soundness.proofs.Listed.{child_listed, none_in, cases_in}
 use Rattle.soundness.proofs.Sound.{catalogue_sound_of}
 use Rattle.legal_statements.specs.Below.{numbers_from}
-use Rattle.legal_statements.specs.Entries.{IsDefaultOf, IsScanned, IsNewPlace, IsAttached}
-use Rattle.legal_statements.specs.Laws.{NamedIsThere, AttachMayFollow, NoneBreaks}
+use Rattle.legal_statements.specs.Entries.{IsDefaultOf, IsScanned, IsNewPlace, IsAttached, IsSkipped}
+use Rattle.legal_statements.specs.Follows.{MayFollow}
+use Rattle.legal_statements.specs.Laws.{NamedIsThere, AttachMayFollow, SkipMayFollow, NoneBreaks}
 use Rattle.legal_statements.proofs.Adding.{listed_for}
 use Rattle.pg_values.specs.declared.which.Which.{Which}
 use Rattle.part_catalog.specs.declared.new_table.CatalogRefused.TheVariants.{Full}
@@ -47,7 +49,7 @@ use Rattle.stores.specs.Numbers.{IsAt}
 use Rattle.stores.specs.Stand.{Stands}
 use Rattle.stores.specs.declared.stores.Stores.{Stores}
 use Rattle.stores.proofs.Commands.{commands_are_in_order}
-use Rattle.stores.proofs.Goodness.{legal_of, permitted_of}
+use Rattle.stores.proofs.Goodness.{held_own, legal_of, permitted_of}
 use Rattle.statement_steps.specs.Attempts.{MayAttempt}
 use Rattle.statement_steps.specs.declared.caller.Caller.{Caller}
 use Rattle.statement_steps.specs.declared.stop.Stop.TheVariants as stop
@@ -56,7 +58,7 @@ use Rattle.statement_steps.proofs.Parts.{locks_same, no_memory}
 use Rattle.partition_scans.specs.Fitting.{is_row_of}
 use Rattle.partition_scans.specs.Places.{breaks_place, is_refused_above, place_scan, default_scan}
 use Rattle.partition_scans.specs.Scans.{IsClean}
-use Rattle.partition_scans.proofs.Cleaning.{clean_first, clean_rest}
+use Rattle.partition_scans.proofs.Cleaning.{clean_first}
 use Rattle.table_statements.specs.Asked.{IsLocked}
 use Rattle.table_statements.specs.Tables.{own}
 use Rattle.table_statements.proofs.Below.{from_numbers, unmapped_in}
@@ -65,12 +67,15 @@ use Rattle.table_statements.proofs.Deeds.{IsDeed, deed_step}
 use Rattle.table_statements.proofs.Fresh.{IsOwn, own_is, own_number}
 use Rattle.table_statements.proofs.Held.{held_at_history}
 use Rattle.attach_statement.specs.Asked.{MayBeAttached, HasPlace, HasLockedAll, AreRowsClean}
-use Rattle.attach_statement.specs.Attached.{new_entry, entry_added}
+use Rattle.attach_statement.specs.Attached.{new_entry, entry_added, own_scan, scans}
+use Rattle.attach_statement.specs.Skipped.{is_skipped}
 use Rattle.attach_statement.specs.Places.{name_at}
+use Rattle.attach_statement.proofs.LeftOut.{left_out, rest_clean}
 
 pub record AttachLaws : Type 0 where
   pub named : NamedIsThere
   pub follow : AttachMayFollow
+  pub skip : SkipMayFollow
   pub passed : PassedHavePlaces
   pub none : NoneBreaks
   pub siblings : SessionsHaveSiblings
@@ -121,7 +126,7 @@ none_of_all key (e ∷ es) f none at = elim (cases_in e es f at) [
 -- ---- at a history that the stores stand for
 
 module _ (laws : AttachLaws) (stores : Stores) (caller : Caller) (p t : ℕ) (b : Bound) (h : History) (stands : Stands stores h) (at : IsAt h caller.session caller.cmd) (n : ℕ) (its : open_of (tx_events h) caller.session ≡ Some n) (is_n : tx_in h caller.session ≡ n) (all : HasLockedAll stores caller.session p t)
-    (may : MayBeAttached h caller.session p t b) (clean : IsClean h caller.session (place_scan h caller.session p t b ∷ default_scan h caller.session p b (name_at h t) (default_of h caller.session p))) where
+    (may : MayBeAttached h caller.session p t b) (clean : IsClean h caller.session (scans caller.session p t b h)) where
   ours : open_of (tx_events h) caller.session ≡ Some (tx_in h caller.session)
   ours = its ∙ ap Some (sym is_n)
 
@@ -145,14 +150,17 @@ module _ (laws : AttachLaws) (stores : Stores) (caller : Caller) (p t : ℕ) (b 
             inr (two.0, λ f present under. none_of_all key (partitions_of h caller.session p) f none (child_listed (entries_present h caller.session) p f (listed_for h caller.session (tx_in h caller.session) f (legal_of h stands.good) ours present) under))
       ]
 
-  scanned : (v : Version) → IsScanned h caller.session (tx_in h caller.session) t v → Takes h (tx_in h caller.session) (new_entry caller p t b h) v.row × (refused Bounds v.row (path_of h caller.session p) ≡ None)
-  scanned v it =
-      let first = clean_first h caller.session (place_scan h caller.session p t b) (default_scan h caller.session p b (name_at h t) (default_of h caller.session p)) clean in
+  scanned : is_skipped h caller.session p t b ≡ false → (v : Version) → IsScanned h caller.session (tx_in h caller.session) t v → Takes h (tx_in h caller.session) (new_entry caller p t b h) v.row × (refused Bounds v.row (path_of h caller.session p) ≡ None) × (refused Checks v.row (path_of h caller.session p) ≡ None)
+  scanned out v it =
+      let others = default_scan h caller.session p b (name_at h t) (default_of h caller.session p) in
+      let both = subst (λ (skip : Bool). IsClean h caller.session (own_scan skip (place_scan h caller.session p t b) ++ others)) out clean in
+      let first = clean_first h caller.session (place_scan h caller.session p t b) others both in
       let breaks = laws.none h caller.session (tx_in h caller.session) t (breaks_place h caller.session p b) first.0 first.1 v it in
       let key = key_at (catalogue_events h) p v.row in
       let parts = three_false (not (is_row_of (made_at h p).columns v.row)) (not (accepts_among (bounds_below h caller.session p) key b)) (is_refused_above h caller.session p v.row) breaks in (
         takes_row v.row (not_true (accepts_among (bounds_below h caller.session p) key b) parts.1),
         none_refused (refused Bounds v.row (path_of h caller.session p)) (left_of (is_some (refused Bounds v.row (path_of h caller.session p))) (is_some (refused Checks v.row (path_of h caller.session p))) parts.2),
+        none_refused (refused Checks v.row (path_of h caller.session p)) (right_of (is_some (refused Bounds v.row (path_of h caller.session p))) (is_some (refused Checks v.row (path_of h caller.session p))) parts.2),
       )
 
   place : IsNewPlace h caller.session (new_entry caller p t b h)
@@ -161,7 +169,7 @@ module _ (laws : AttachLaws) (stores : Stores) (caller : Caller) (p t : ℕ) (b 
       let permitted = permitted_of h stands.good in
       let law = laws.passed h caller.session _ (new_entry caller p t b h) (catalogue_sound_of h legal) may.takes may.place in
       let count = table_count stores.catalog h stands.all.catalog in
-      let rest = clean_rest h caller.session (place_scan h caller.session p t b) (default_scan h caller.session p b (name_at h t) (default_of h caller.session p)) clean in
+      let rest = rest_clean h caller.session (place_scan h caller.session p t b) (default_scan h caller.session p b (name_at h t) (default_of h caller.session p)) (is_skipped h caller.session p t b) clean in
       let apart = λ (d : Entry) (is : IsDefaultOf h caller.session p d). stands_apart laws.none stores h caller.session (tx_in h caller.session) p b (name_at h t) d stands (laws.siblings h caller.session legal permitted) refl (all.default h stands.all.txs stands.all.catalog) rest is in
       record {
         own = ours;
@@ -178,14 +186,41 @@ module _ (laws : AttachLaws) (stores : Stores) (caller : Caller) (p t : ℕ) (b 
         default_scanned = λ d v is it. (apart d is).scanned v it;
       }
 
-  pub is_attached : IsAttached h caller.session (new_entry caller p t b h)
-  is_attached = record {
+  is_attached : is_skipped h caller.session p t b ≡ false → IsAttached h caller.session (new_entry caller p t b h)
+  is_attached out = record {
     place = place;
     child_owned = λ x listed. inl (owned x listed);
     no_partition = may.no_partition;
     not_above = may.not_above;
-    scanned = scanned;
+    scanned = scanned out;
   }
+
+  -- where the scan is left out
+  is_unscanned : is_skipped h caller.session p t b ≡ true → IsSkipped h caller.session (new_entry caller p t b h)
+  is_unscanned out =
+      let known = left_out h caller.session p t b out in
+      let said = known.said in
+      record {
+        place = place;
+        child_owned = λ x listed. inl (owned x listed);
+        no_partition = may.no_partition;
+        not_above = may.not_above;
+        parent_alone = known.alone;
+        parent_unchecked = known.unchecked;
+        check = said.check;
+        kept = said.kept;
+        level = said.level;
+        shape = said.shape;
+        columns = said.columns;
+        inside = said.inside;
+        looking = λ r x held. held_own h r x stands.good held;
+      }
+
+  pub entry_may_follow : MayFollow (CatalogueChange (EntryAdded (new_entry caller p t b h)) ∷ []) h
+  entry_may_follow = elim (cases_Bool (is_skipped h caller.session p t b)) [
+    | inl out ↦ laws.skip h caller.session (new_entry caller p t b h) (legal_of h stands.good) (permitted_of h stands.good) (is_unscanned out)
+    | inr out ↦ laws.follow h caller.session (new_entry caller p t b h) (legal_of h stands.good) (permitted_of h stands.good) (is_attached out)
+  ]
 
 -- ---- the catalogue takes it
 
@@ -241,7 +276,7 @@ module _ (laws : AttachLaws) (stores : Stores) (caller : Caller) (p t : TableNo)
       let told = clean h (record { txs = stands.all.txs; rows = stands.all.rows; catalog = stands.all.catalog }) in
       record {
         done = (ap (λ (m : ℕ). Some (m, caller.cmd)) (own_number h s n its), tt);
-        may = (laws.follow h s (new_entry caller p.number t.number b h) (legal_of h stands.good) (permitted_of h stands.good) (is_attached laws stores caller p.number t.number b h stands at n its (own_number h s n its) all (place h stands.all.txs stands.all.catalog) told));
+        may = entry_may_follow laws stores caller p.number t.number b h stands at n its (own_number h s n its) all (place h stands.all.txs stands.all.catalog) told;
         housed = (tt, tt);
         catalogue = subst (λ (e : Entry). CatalogueStands catalog (CatalogueChange (EntryAdded e) ∷ h)) (is_next stores.catalog caller p t b by h stands.all.catalog (own_is h s by (mine h stands.all.txs))) (adds h stands.all.txs stands.all.catalog);
         store = record { sound = rows.sound; births = rows.births; ends = rows.ends; leaves = rows.leaves; room = rows.room };

@@ -3,3 +3,4 @@ mod Columned
 mod Locked
 mod Placed
 mod Scanned
+mod LeftOut

@@ -75,12 +75,12 @@ those_low p k le = above_has 128 p k (omega arith) le
 one_bit : (a b : ℕ) → a < 2 → b < 2 → (a == 1) ≡ (b == 1) → a ≡ b
 one_bit a b x y same = grind (arith, common_steps, nat_tests, same)
 
-same_sets : (a b : SessionSet) → ((k : ℕ) → has a k ≡ has b k) → a ≡ b
+pub same_sets : (a b : SessionSet) → ((k : ℕ) → has a k ≡ has b k) → a ≡ b
 same_sets a b same =
     let of : ℕ → SessionSet = λ n. record { bits = n } in
     ap of (same_from_bits a.bits b.bits (λ k. one_bit (bit_at a.bits k) (bit_at b.bits k) (bit_at-lt a.bits k) (bit_at-lt b.bits k) (same k)))
 
-are_those : (set : SessionSet) (p : ℕ → Bool) → ((k : ℕ) → has set k ≡ p k) → ((k : ℕ) → 128 ≤ k → has set k ≡ false) → those p ≡ set
+pub are_those : (set : SessionSet) (p : ℕ → Bool) → ((k : ℕ) → has set k ≡ p k) → ((k : ℕ) → 128 ≤ k → has set k ≡ false) → those p ≡ set
 are_those set p is low = same_sets (those p) set (λ k. elim (cases_lt k 128) [ inl lt ↦ those_have p k lt ∙ sym (is k) | inr le ↦ those_low p k le ∙ sym (low k le) ])
 
 -- ---- one scan before others

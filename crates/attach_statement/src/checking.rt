@@ -34,7 +34,7 @@ use table_binder::bind_bound;
 use table_trees::{PathPart, Tree, height_up_to};
 use tx_table::TxTable;
 
-fn is_there(found: Option<TableNo>) -> bool
+pub(crate) fn is_there(found: Option<TableNo>) -> bool
     ensures { result ≡ is_some found }
 {
     found.is_some()

@@ -5,6 +5,7 @@ ghost use Rattle.history.specs.History.{History};
 ghost use Rattle.table_trees.specs.Seen.{seen};
 ghost use Rattle.part_ddl.specs.Below.{IsTreeOf};
 ghost use Rattle.partition_scans.specs.Data.{DataStand};
+ghost use Rattle.partition_scans.specs.Places.{place_scan};
 ghost use Rattle.partition_scans.specs.Scans.{judged, watches};
 ghost use Rattle.sql_ast.specs.Commands.{bound_tree};
 ghost use Rattle.statement_steps.specs.Attempts.{MayAttempt};
@@ -13,11 +14,14 @@ ghost use Rattle.statement_steps.specs.Steps.{IsStep};
 ghost use Rattle.table_statements.specs.Asked.{IsLockedNamed};
 ghost use Rattle.attach_statement.specs.Asked.{AreFrom, AreRowsClean, HasFamilyLocked, HasLockedAll, HasPlace, IsGuardedNamed, IsPathOf, SeesBoth};
 ghost use Rattle.attach_statement.specs.Attached as attached;
+ghost use Rattle.attach_statement.specs.Skipped as skipped;
 
 use crate::checking::place_found;
+use crate::skipping::is_skipped;
 use bound_forms::Bound;
 use legal_statements::{
-    attach_may_follow, listed_is_there, named_is_there, none_breaks, there_is_known, tree_is_whole,
+    attach_may_follow, listed_is_there, named_is_there, none_breaks, skip_may_follow,
+    there_is_known, tree_is_whole,
 };
 use part_catalog::CatalogRefused;
 use part_ddl::passed_have_places;
@@ -46,6 +50,7 @@ fn add_entry(
     ensures { IsStep (λ u. u) result stores.old stores.new caller (caller.cmd + 1) (attached.entry_added caller parent.number table.number bound) }
 {
     attach_may_follow();
+    skip_may_follow();
     named_is_there();
     none_breaks();
     passed_have_places();
@@ -65,6 +70,37 @@ fn add_entry(
 fn sessions_are_low(set: SessionSet)
     ensures { (k : ℕ) → 128 ≤ k → has set k ≡ false }
 {}
+
+// The rows of the table are judged, unless a CHECK says what would be asked of them.
+fn judge_own(
+    alloc: Global,
+    stores: &Stores,
+    caller: Caller,
+    parent: TableNo,
+    tree: &Tree,
+    path: &[PathPart],
+    table: TableNo,
+    bound: &Bound,
+) -> Result<SessionSet, Refusal>
+    requires may { MayAttempt stores.now caller }
+    requires parent { parent.number < length stores.now.catalog.tables }
+    requires table { table.number < length stores.now.catalog.tables }
+    requires tree { IsTreeOf stores.now.txs stores.now.catalog caller.session parent.number (seen tree.now) }
+    requires path { IsPathOf stores.now caller.session parent.number path.now }
+    requires place { HasPlace stores.now caller.session parent.number table.number bound.now }
+    ensures answer { (h : History) → DataStand stores.now h → IsAnswer result (judged h caller.session (attached.own_scan (skipped.is_skipped h caller.session parent.number table.number bound.now) (place_scan h caller.session parent.number table.number bound.now))) }
+    ensures all { IfOk result (λ others. (h : History) → DataStand stores.now h → (r : ℕ) → has others r ≡ watches h caller.session (attached.own_scan (skipped.is_skipped h caller.session parent.number table.number bound.now) (place_scan h caller.session parent.number table.number bound.now)) r) }
+{
+    trees_are_together();
+    let Stores { txs, catalog, .. } = stores;
+    let session = caller.session;
+    let known = is_skipped(alloc, catalog, txs, session, parent, path, table, bound)?;
+    if known {
+        Ok(SessionSet::empty())
+    } else {
+        judge_table(alloc, stores, caller, parent, tree, path, bound, table)
+    }
+}
 
 // The rows of the table and those of the default partition are judged.
 fn judge_rows(
@@ -86,7 +122,7 @@ fn judge_rows(
     ensures answer { (h : History) → DataStand stores.now h → IsAnswer result (judged h caller.session (attached.scans caller.session parent.number table.number bound.now h)) }
     ensures all { IfOk result (λ others. (h : History) → DataStand stores.now h → (r : ℕ) → has others r ≡ watches h caller.session (attached.scans caller.session parent.number table.number bound.now h) r) }
 {
-    let of_table = judge_table(alloc, stores, caller, parent, tree, path, bound, table)?;
+    let of_table = judge_own(alloc, stores, caller, parent, tree, path, table, bound)?;
     let name = stores.catalog.name_of(table);
     let of_default = judge_default(alloc, stores, caller, parent, tree, bound, name)?;
     let others = of_table.union(of_default);

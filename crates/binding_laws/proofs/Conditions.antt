@@ -319,12 +319,11 @@ module _ (s : Scope) (sound : IsSound s) where
   between_fits b x y z h e =
       let none_x = front_none (operand_faults s x) _ h in
       let range = back_none (operand_faults s x) _ h in
-      let none_y = front_none (operand_faults s y) _ range in
-      let behind = back_none (operand_faults s y) _ range in
-      let none_z = front_none (operand_faults s z) _ behind in
-      let ends = back_none (operand_faults s z) _ behind in
-      let from_ends = comparison_faults (from_op b) (typed s x).given (typed s y).given in
-      in_fits (not b) (comparison s (from_op b) x y ∷ comparison s (to_op b) x z ∷ []) (compared (from_op b) x y none_x none_y (front_none from_ends _ ends) (front_none (side_faults s x y) _ e), (compared (to_op b) x z none_x none_z (back_none from_ends _ ends) (back_none (side_faults s x y) _ e), tt))
+      let lower = front_none (end_faults s (from_op b) x y) _ range in
+      let upper = back_none (end_faults s (from_op b) x y) _ range in
+      let none_y = front_none (operand_faults s y) _ lower in
+      let none_z = front_none (operand_faults s z) _ upper in
+      in_fits (not b) (comparison s (from_op b) x y ∷ comparison s (to_op b) x z ∷ []) (compared (from_op b) x y none_x none_y (back_none (operand_faults s y) _ lower) (front_none (side_faults s x y) _ e), (compared (to_op b) x z none_x none_z (back_none (operand_faults s z) _ upper) (back_none (side_faults s x y) _ e), tt))
 
   mutual
     pub condition_fits : (t : Tree) → cond_faults s t ≡ [] → constant_faults s t ≡ [] → Fits s.items s.params (meaning s t)

@@ -9,6 +9,7 @@ use Rattle.pg_values.specs.declared.fault.Refusal.TheVariants.{Sql, NoMemory}
 use Rattle.pg_values.specs.declared.ids.LeafId.{LeafId}
 use Rattle.pg_values.specs.declared.ids.RowId.{RowId}
 use Rattle.pg_values.specs.declared.ids.TableNo.{TableNo}
+use Rattle.pg_values.specs.Refusals.{or_first}
 use Rattle.history.specs.declared.transaction.TxId.{TxId}
 use Rattle.history.specs.declared.version.Version.{Version}
 use Rattle.history.specs.declared.version.End.{End}
@@ -43,17 +44,17 @@ use Rattle.statement_steps.specs.declared.stop.Stop.{Stop}
 use Rattle.statement_steps.specs.declared.stop.Stop.TheVariants as stop
 use Rattle.insert_statement.specs.Asked.{stopped}
 use Rattle.insert_statement.specs.Born.{unless_refused}
-use Rattle.insert_statement.specs.Inserted.{tables_of}
+use Rattle.insert_statement.specs.Inserted.{answered, holder_faults, tables_of}
 use Rattle.insert_statement.proofs.OwnLeaf.{none_refuses}
 use Rattle.insert_statement.proofs.Ways.{is_placed}
-use Rattle.statement_steps.specs.Gathered.{Found, IsStill, MayWriteAt}
-use Rattle.statement_steps.proofs.Since.{since_now, since_on}
-use Rattle.change_statement.specs.Running.{Agree, IsInRun, IsPlacedIn, IsRun, IsRunTold, MayEndIn, MayRun}
-use Rattle.change_statement.specs.Updated.{housed, succeeded, succeeded_by}
-use Rattle.change_statement.proofs.Ended.{Came, came_one, came_on, end_writes, got_at, own_is, rows_keep}
+use Rattle.change_statement.proofs.Ended.{Came, came_on, came_one, end_writes, got_at, own_is, rows_keep}
 use Rattle.change_statement.proofs.Kept.{one_of}
 use Rattle.change_statement.proofs.Stays.{ended_fits}
-use Rattle.change_statement.proofs.Still.{kept_accepts, leaf_is_there, open_leaf, routed_accepts}
+use Rattle.change_statement.proofs.Still.{kept_accepts, leaf_is_there, open_leaf, routed_accepts, taken_above}
+use Rattle.change_statement.specs.Running.{Agree, IsInRun, IsPlacedIn, IsRun, IsRunTold, IsTakenIn, MayEndIn, MayRun}
+use Rattle.change_statement.specs.Updated.{housed, succeeded, succeeded_by, tested}
+use Rattle.statement_steps.proofs.Since.{since_now, since_on}
+use Rattle.statement_steps.specs.Gathered.{Found, IsStill, MayWriteAt}
 use Rattle.change_statement.proofs.Runs.{no_memory_run}
 
 -- ---- the leaf is one of the tree's
@@ -131,11 +132,21 @@ placed_among stores caller g id old leaf row may version own at =
         let told = first_ok (bounds_faults (tables_of may.sound.0) g.path row) old leaf e in
         one_of (Contains (leaves g.tree)) g.leaves leaf (subst (Contains g.leaves) (own ∙ told.1) version.among) may.sound.2.still.gathered.among
 
+-- ---- nothing stands against the row
+
+none_of : (fs : List Fault) → (answered (or_first {T = Unit {0}} fs tt)).told ≡ Ok tt → fs ≡ []
+none_of [] told = refl
+none_of (f ∷ fs) told = absurd (let c = told in cc)
+
+-- where it was tested
+pub none_stands : (stores : Stores) (caller : Caller) (g : Found) (leaf : LeafId) (row : List Value) → IsRun g (λ (u : Unit {0}). u) (Ok tt) stores stores caller (tested caller g leaf row) → IsTakenIn stores caller g leaf row
+none_stands stores caller g leaf row ran h stands run = none_of (holder_faults h caller.session g.tree leaf row) (ran.is h stands run).0
+
 -- ---- the row that is born
 
 born_in : (stores : Stores) (caller : Caller) (g : Found) (id : RowId) (old leaf : LeafId) (row : List Value) (by : TxId) (h : History) → Stands stores h → IsInRun g h caller → MayEndIn g stores caller id → (stored_at stores.rows.stored id).version.leaf ≡ old
-    → Agree g.asked.settings (stored_at stores.rows.stored id).version.row row → IsPlacedIn stores g old leaf row → open_of (tx_events h) caller.session ≡ Some by.number → MayFollow (RowChange (RowBorn (newborn h leaf row by caller.cmd)) ∷ []) h
-born_in stores caller g id old leaf row by h stands run version own keys at mine =
+    → Agree g.asked.settings (stored_at stores.rows.stored id).version.row row → IsPlacedIn stores g old leaf row → IsTakenIn stores caller g leaf row → open_of (tx_events h) caller.session ≡ Some by.number → MayFollow (RowChange (RowBorn (newborn h leaf row by caller.cmd)) ∷ []) h
+born_in stores caller g id old leaf row by h stands run version own keys at taken mine =
     let s = caller.session in
     let legal = legal_of h stands.good in
     let take = may_take stores caller g id old leaf row by.number h stands run version own keys mine g.moves refl (at.placed h stands.all.catalog) in (
@@ -145,6 +156,7 @@ born_in stores caller g id old leaf row by h stands run version own keys at mine
         permitted = record {
           locked = λ x has. writes_of h s by.number x legal mine (take.writes x has);
           routed = take.accepts;
+          passes = taken_above h s by.number g leaf row stands.good run.still mine at.way (taken h stands run);
         };
       },
       tt,
@@ -195,12 +207,12 @@ nothing_came f h caller good run = record {
 }
 
 follows_came : (stores : Stores) (rows : KeptRows) (caller : Caller) (g : Found) (from : LeafId) (id : RowId) (leaf : LeafId) (row : List Value) (by : TxId) (h : History) → Stands stores h → IsInRun g h caller → MayEndIn g stores caller id → (stored_at stores.rows.stored id).version.leaf ≡ from
-    → Agree g.asked.settings (stored_at stores.rows.stored id).version.row row → IsPlacedIn stores g from leaf row
+    → Agree g.asked.settings (stored_at stores.rows.stored id).version.row row → IsPlacedIn stores g from leaf row → IsTakenIn stores caller g leaf row
     → open_of (tx_events h) caller.session ≡ Some by.number → StoreStands rows (follows from id (newborn h leaf row by caller.cmd) ++ h) → Came g h caller (follows from id (newborn h leaf row by caller.cmd) ++ h)
-follows_came stores rows caller g from id leaf row by h stands run may own keys at mine store =
+follows_came stores rows caller g from id leaf row by h stands run may own keys at taken mine store =
     let v = newborn h leaf row by caller.cmd in
     let e : End = record { by = by; cmd = caller.cmd; how = ending_to from leaf v.id } in
-    let born = born_in stores caller g id from leaf row by h stands run may own keys at mine in
+    let born = born_in stores caller g id from leaf row by h stands run may own keys at taken mine in
     let first = came_one g (RowBorn v) h caller by.number mine refl born stands.good run in
     let h1 = RowChange (RowBorn v) ∷ h in
     let ended = old_row_may_follow h1 caller.session id.number e (legal_of h1 first.good) (old_row_behind stores rows caller g id e v h stands first.good first.run may mine refl store) in
@@ -225,7 +237,7 @@ abbrev pub ends : Result (Unit {0}) Refusal → Result (Unit {0}) Stop
 ends (Ok u) = Ok tt
 ends (Err r) = Err (stopped r)
 
-pub succeeded_run : (r : Result (Unit {0}) Refusal) (old : Stores) (rows : KeptRows) (caller : Caller) (g : Found) (from : LeafId) (id : RowId) (leaf : LeafId) (row : List Value) (by : TxId) → MayRun g old caller → MayEndIn g old caller id → (stored_at old.rows.stored id).version.leaf ≡ from → Agree g.asked.settings (stored_at old.rows.stored id).version.row row → IsPlacedIn old g from leaf row
+pub succeeded_run : (r : Result (Unit {0}) Refusal) (old : Stores) (rows : KeptRows) (caller : Caller) (g : Found) (from : LeafId) (id : RowId) (leaf : LeafId) (row : List Value) (by : TxId) → MayRun g old caller → MayEndIn g old caller id → (stored_at old.rows.stored id).version.leaf ≡ from → Agree g.asked.settings (stored_at old.rows.stored id).version.row row → IsPlacedIn old g from leaf row → IsTakenIn old caller g leaf row
     → slice_index_or old.txs.current caller.session None ≡ Some by.number → ((h : History) → TableStands old.txs h → StoreStands old.rows h → IsMade r rows h (rows_spec.succeeded h from id leaf row by caller.cmd))
     → IsRun g (λ (u : Unit {0}). u) (ends r) old (record old { rows = rows }) caller (succeeded caller from id leaf row)
 succeeded_run (Ok u) old rows caller g from id leaf row by may version own keys at mine added = record {
@@ -234,7 +246,7 @@ succeeded_run (Ok u) old rows caller g from id leaf row by may version own keys 
       let open_in : open_of (tx_events h) caller.session ≡ Some by.number = sym (stands.all.txs.current caller.session) ∙ mine in
       subst (λ (b : TxId). IsRunTold g (λ (x : Unit {0}). x) (Ok tt) new caller h (succeeded_by b caller from id leaf row h)) (own_is h caller.session by open_in)
       (stands_made g (full_faults h row) (follows from id (newborn h leaf row by caller.cmd)) h rows new caller (added h stands.all.txs stands.all.rows)
-      (λ store. let came = follows_came old rows caller g from id leaf row by h stands run version own keys at open_in store in (came_on g old rows caller h (follows from id (newborn h leaf row by caller.cmd) ++ h) stands came store, came.run)));
+      (λ store. let came = follows_came old rows caller g from id leaf row by h stands run version own keys at taken open_in store in (came_on g old rows caller h (follows from id (newborn h leaf row by caller.cmd) ++ h) stands came store, came.run)));
   keeps = rows_keep old rows caller.session;
   waits = may.may.idle;
 }

@@ -20,12 +20,15 @@ use Rattle.table_trees.specs.declared.node.Node.{Node}
 use Rattle.table_trees.specs.Trees.{TableTree, trees_of, leaves, all_leaves, routed}
 use Rattle.table_trees.specs.Histories.{tree_of, path_of, table_of, tree_within, grown, node_at, children, bound_of, child_of_entry}
 use Rattle.table_trees.proofs.Order.{all_children, under_children}
-use Rattle.row_router.specs.declared.path.PathTest.TheVariants.{Bounds}
+use Rattle.row_router.specs.declared.path.PathTest.TheVariants.{Bounds, Checks}
 use Rattle.row_router.specs.Paths.{refused}
+use Rattle.row_change.specs.Targets.{HasWay}
 use Rattle.cond_logic.specs.Asked.{SettingMeant}
+use Rattle.soundness.specs.Kept.{PassAbove}
 use Rattle.soundness.specs.Worlds.{World, table_in, IsMade, HasLeaf, Present, Under, key_at, key_in, AcceptsKey, Accepts, AcceptAbove, view}
 use Rattle.soundness.specs.Parts.{Siblings, InvariantOf}
 use Rattle.soundness.proofs.All.{legal_keeps_all}
+use Rattle.soundness.proofs.CheckPath.{path_passes}
 use Rattle.soundness.proofs.Listed.{none_in, only_one, first_in, later_in}
 use Rattle.soundness.proofs.Looking.{counts_world}
 use Rattle.soundness.proofs.Made.{same_table, made_more}
@@ -42,6 +45,8 @@ use Rattle.stores.proofs.Housed.{leaves_are_housed}
 use Rattle.statement_steps.specs.Gathered.{Found, MayWriteAt, IsGatheredIn, IsStill, is_set, sets_key, sets_key_of}
 use Rattle.statement_steps.specs.Waiting.{Since}
 use Rattle.statement_steps.proofs.Waiting.{Meanwhile, meanwhile}
+use Rattle.insert_statement.specs.Inserted.{tables_of, holder, holder_faults}
+use Rattle.insert_statement.proofs.Passing.{holder_has, taken_passes}
 use Rattle.insert_statement.proofs.Tables.{shown_made}
 use Rattle.insert_statement.proofs.Trees.{Are, IsHome, tree_are}
 use Rattle.change_statement.specs.Running.{Agree}
@@ -122,6 +127,27 @@ open_leaf h s t g leaf x good still mine at may has =
     let there = leaf_then h s g leaf x good still at has in
     let own = sym still.since.same ∙ mine in
     record { has = there; own = own; kept = meanwhile still.earlier h s t x good still.since own (may x there) }
+
+-- ---- the CHECKs along the path of the table that has the leaf
+
+-- it is the one to which the tree leads
+holder_stays : (h : History) (s : ℕ) (g : Found) (leaf : LeafId) → IsGood h → IsStill h s g → HasWay g.tree leaf → HasLeaf (catalogue_events h) (holder g.tree leaf).number leaf
+holder_stays h s g leaf good still way =
+    let earlier = still.earlier in
+    let are = homes_then earlier s g (good_then h s earlier good still.since) still.gathered in
+    let has = holder_has (λ t. IsMade (catalogue_events earlier) t.number) (IsHome (tables_made (catalogue_events earlier))) g.tree leaf are.tables are.home way in
+    leaf_stays h s earlier (holder g.tree leaf).number leaf still.since (has.0, has.1)
+
+pub taken_above : (h : History) (s t : ℕ) (g : Found) (leaf : LeafId) (row : List Value) → IsGood h → IsStill h s g → open_of (tx_events h) s ≡ Some t → HasWay g.tree leaf → holder_faults h s g.tree leaf row ≡ []
+    → (x : ℕ) → HasLeaf (catalogue_events h) x leaf → PassAbove (catalogue_events h) (view (tx_events h) t) x row
+taken_above h s t g leaf row good still mine way none x has =
+    let legal = legal_of h good in
+    let permitted = permitted_of h good in
+    let i = legal_keeps_all h legal permitted in
+    let top = holder g.tree leaf in
+    let same : top.number ≡ x = i.tables.one_home top.number x leaf (holder_stays h s g leaf good still way) has in
+    let passes : refused Checks row (path_of h s top.number) ≡ None = taken_passes (tables_of h) top (path_of h s top.number) false row none in
+    path_passes h s t x row legal permitted mine (subst (λ k. refused Checks row (path_of h s k) ≡ None) same passes)
 
 -- ---- where rows may move
 

@@ -32,10 +32,10 @@ use Rattle.statement_steps.specs.declared.stop.Stop.TheVariants as stop
 use Rattle.statement_steps.specs.Known.{IsKnownTo}
 use Rattle.statement_steps.specs.Steps.{IsPaused}
 use Rattle.insert_statement.specs.Asked.{IsReadOf}
-use Rattle.insert_statement.specs.Inserted.{tables_of}
-use Rattle.cond_logic.specs.Asked.{SettingMeant}
-use Rattle.change_statement.specs.Updated.{housed}
 use Rattle.change_statement.specs.Standing.{following}
+use Rattle.change_statement.specs.Updated.{housed}
+use Rattle.cond_logic.specs.Asked.{SettingMeant}
+use Rattle.insert_statement.specs.Inserted.{holder_faults, tables_of}
 
 -- ---- its command
 
@@ -131,3 +131,7 @@ pub record Takes (n : ℕ) (g : Found) (row : List Value) : Type 0 where
   pub fits : CanBePlaced g.tree g.path row
   pub above : All (IsPartNumbered n) g.path
   pub known : IsNumbered n g.tree
+
+-- nothing in the table that has the leaf stands against the row
+abbrev pub IsTakenIn : Stores → Caller → Found → LeafId → (row : List Value) → Type 0
+IsTakenIn stores c g leaf row = (h : History) → Stands stores h → IsInRun g h c → holder_faults h c.session g.tree leaf row ≡ []

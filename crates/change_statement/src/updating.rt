@@ -18,8 +18,8 @@ ghost use Rattle.cond_logic.specs.Asked.{change_meant};
 ghost use Rattle.stores.specs.Stand.{Stands};
 ghost use Rattle.insert_statement.specs.Asked.{AreRowsOf};
 ghost use Rattle.insert_statement.specs.Inserted.{holder_faults, tables_of};
+ghost use Rattle.change_statement.specs.Running.{Agree, IsPlacedIn, IsRun, IsTakenIn, MayEndIn, MayRun, Takes};
 ghost use Rattle.statement_steps.specs.Gathered.{found_of};
-ghost use Rattle.change_statement.specs.Running.{Agree, IsPlacedIn, IsRun, MayEndIn, MayRun, Takes};
 ghost use Rattle.change_statement.specs.Updated as updated;
 
 use crate::asking::stop_by;
@@ -205,6 +205,7 @@ fn succeed(
     requires own { (stored_at stores.old.rows.stored id).version.leaf ≡ from }
     requires keys { Agree (change_meant gathered.now.ask).settings (stored_at stores.old.rows.stored id).version.row row }
     requires placed { IsPlacedIn stores.old (found_of gathered.now) from leaf row }
+    requires taken { IsTakenIn stores.old caller (found_of gathered.now) leaf row }
     ensures run { IsRun (found_of gathered.now) (λ u. u) result stores.old stores.new caller (updated.succeeded caller from id leaf row) }
     ensures rest { stores.new ≡ record stores.old { rows = stores.new.rows } }
     ensures keeps { KeepsVersions stores.old.rows stores.new.rows }

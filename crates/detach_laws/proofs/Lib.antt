@@ -1,5 +1,6 @@
 mod Alike
 mod Behind
+pub mod Fresh
 mod Marks
 mod Moved
 mod Once

@@ -73,6 +73,6 @@ led_within (suc n) h session s leaf entries named t made all makes at =
 
 pub trees_show_what_is_attached : TreesShowWhatIsAttached
 unfolding Rattle.table_trees.specs.Histories.tree_of
-trees_show_what_is_attached h session top s leaf legal permitted made at =
+trees_show_what_is_attached h legal permitted session top s leaf made at =
     let i = legal_keeps_all h legal permitted in
     led_within 7 h session s leaf (entries_shown h session s) top top made (all_attached h session s (sound_of h legal) (catalogue_sound_of h legal)) (λ e a. (i.entries.suited e a.present.0).child) at

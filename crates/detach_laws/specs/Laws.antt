@@ -38,14 +38,28 @@ pub record IsShownBelow (h : History) (session : ℕ) (s : TakenSnapshot) (top :
   pub led : IsLedDown h session s steps top table
   pub home : HasLeaf (catalogue_events h) table leaf
 
+-- so it is of each leaf of a tree, whichever session reads the tree, and under whichever snapshot
+abbrev pub TreesAreFresh : History → Type 0
+TreesAreFresh h = (session top : ℕ) (s : TakenSnapshot) (leaf : LeafId) → IsMade (catalogue_events h) top → Contains (leaves (tree_of h session top s)) leaf → IsShownBelow h session s top leaf
+
 abbrev pub TreesShowWhatIsAttached : Type 0
-TreesShowWhatIsAttached = (h : History) (session top : ℕ) (s : TakenSnapshot) (leaf : LeafId) → IsLegal h → ArePermitted h → IsMade (catalogue_events h) top → Contains (leaves (tree_of h session top s)) leaf → IsShownBelow h session s top leaf
+TreesShowWhatIsAttached = (h : History) → IsLegal h → ArePermitted h → TreesAreFresh h
 
 -- a number of its own, which no older entry, end or mark has
 pub record IsAnother (h : History) (e : Entry) : Type 0 where
   pub entries : (f : Entry) → IsEntry (catalogue_events h) f → f.id.number < e.id.number
   pub unended : (u : ℕ) → IsEntryEnd (catalogue_events h) e.id.number u → ⊥
   pub unmarked : (x : Stamp) → IsMarkAt (catalogue_events h) e.id.number x → ⊥
+
+-- so it is of the entry that the last event has added
+abbrev pub AddedIsAnother : History → Type 0
+AddedIsAnother h = (e : Entry) (before : History) → h ≡ CatalogueChange (EntryAdded e) ∷ before → IsAnother before e
+
+-- no statement shows rows through an entry whose mark its snapshot sees, or whose end counts for it; and an entry that a
+-- later ATTACH adds is another one
+pub record IsFresh (h : History) : Type 0 where
+  pub trees : TreesAreFresh h
+  pub added : AddedIsAnother h
 
 abbrev pub AttachedAgainIsAnother : Type 0
 AttachedAgainIsAnother = (h : History) (e : Entry) → IsLegal (CatalogueChange (EntryAdded e) ∷ h) → IsAnother h e

@@ -50,7 +50,7 @@ made_of (Ok level) (Some e) c told = record {
 
 -- ---- the level of the parent
 
-shape_at : (name : List ℕ) (shape : TableShape) (level : OneLevel) → level_told name shape ≡ Ok level → shape ≡ Level level
+pub shape_at : (name : List ℕ) (shape : TableShape) (level : OneLevel) → level_told name shape ≡ Ok level → shape ≡ Level level
 shape_at name (Leaf leaf) level e = absurd (let d = e in cc)
 shape_at name (Level l) level e = let d = e in cc
 

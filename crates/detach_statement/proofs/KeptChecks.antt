@@ -1,6 +1,7 @@
 -- The CHECKs that a table keeps are of the levels that they name.
-use Rattle.std.proofs.Common.{◌≡◌, ℕ, true, false, if◌then◌else◌, refl, ap, sym, subst, ◌∙◌, List, [], ◌∷◌, map, Option, Some, None, Result, Ok, Err, IfOk, slice_get}
+use Rattle.std.proofs.Common.{◌≡◌, ℕ, true, false, if◌then◌else◌, inl, inr, refl, ap, sym, subst, ◌∙◌, List, [], ◌∷◌, map, Option, Some, None, Result, Ok, Err, IfOk, slice_get}
 use Rattle.std.specs.List.{All, list_any}
+use Rattle.std.proofs.lemmas.Bool.{cases_Bool}
 use Rattle.std.proofs.lemmas.List.Elements.{All-append, All-cons, All-head, All-tail, All-nil, All-filter}
 use Rattle.pg_values.specs.declared.fault.Fault.{Fault}
 use Rattle.pg_values.specs.declared.fault.Refusal.{Refusal}
@@ -86,6 +87,17 @@ equal_kept kept o c told is = ap (λ b. if b then None else Some c) is ∙ ap (u
 
 pub new_told : (kept : List KeptCheck) (o : Option KeptCheck) (c : KeptCheck) → Some c ≡ o → false ≡ list_any (λ k. same_check k c) kept → Some c ≡ unless_equal kept o
 new_told kept o c told is = ap (λ b. if b then None else Some c) is ∙ ap (unless_equal kept) told
+
+-- and where one is new, none is equal
+pub none_kept : (kept : List KeptCheck) (o : Option KeptCheck) (c : KeptCheck) → unless_equal kept o ≡ Some c → list_any (λ k. same_check k c) kept ≡ false
+none_kept kept None c e = absurd (let d = e in cc)
+none_kept kept (Some k) c e = elim (cases_Bool (list_any (λ x. same_check x k) kept)) [
+  | inl t ↦ let none : None ≡ Some c = rw t at e in absurd (cc)
+  | inr f ↦
+      let some : Some k ≡ Some c = rw f at e in
+      let same : k ≡ c = cc in
+      subst (λ (x : KeptCheck). list_any (λ y. same_check y x) kept ≡ false) same f
+]
 
 pub if_ok_more : {T E : Type 0} (r : Result T E) (A B : T → Type 0) → ((x : T) → A x → B x) → IfOk r A → IfOk r B
 if_ok_more (Ok x) A B f a = f x a

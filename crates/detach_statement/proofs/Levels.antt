@@ -57,7 +57,7 @@ column_is a b e =
     let kind : a.kind ≡ b.kind = kind_is a.kind b.kind parts.1 in
     ap (λ (n : ℕ). record { position = n; kind = a.kind }) place ∙ ap (λ (k : Kind). record { position = b.position; kind = k }) kind
 
-columns_are : (a b : List KeyColumn) → same_columns a b ≡ true → a ≡ b
+pub columns_are : (a b : List KeyColumn) → same_columns a b ≡ true → a ≡ b
 columns_are [] [] e = refl
 columns_are [] (y ∷ b) e = absurd (let c = e in cc)
 columns_are (x ∷ a) [] e = absurd (let c = e in cc)

@@ -1,12 +1,14 @@
 mod Refusing
 mod Defaults
-mod Checks
+pub mod Checks
 mod LeftPlaces
+mod KeptPlaces
 mod Guards
 mod Marks
 mod Pending
 mod LaterStages
 mod Waits
-mod Levels
-mod KeptChecks
+pub mod Levels
+pub mod KeptChecks
+mod SameChecks
 mod SessionSets

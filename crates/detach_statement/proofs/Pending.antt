@@ -1,13 +1,16 @@
 -- The pending partition of a table is a partition of it.
-use Rattle.std.proofs.Common.{◌≡◌, ℕ, ◌<◌, ◌==◌, arith, true, List, refl, sym, ap, ◌∙◌, subst, Option, Some, None, Ok, length}
+use Rattle.std.proofs.Common.{◌≡◌, ℕ, ◌<◌, ◌==◌, ◌&&◌, not, arith, true, false, List, [], ◌∷◌, inl, inr, refl, sym, ap, ◌∙◌, subst, Option, Some, None, Ok, length}
 use Rattle.std.specs.List.{Contains}
-use Rattle.std.proofs.lemmas.Bool.{and_parts}
+use Rattle.std.proofs.lemmas.Bool.{and_parts, cases_Bool}
 use Rattle.std.proofs.lemmas.Bool.Decides.{nat_tests}
 use Rattle.pg_values.specs.declared.ids.TableNo.{TableNo}
 use Rattle.history.specs.declared.catalogue.Entry.{Entry}
-use Rattle.history.specs.Catalogue.{entries_added, marks, counted_of}
+use Rattle.history.specs.declared.catalogue.Stamp.{Stamp}
+use Rattle.history.specs.Transactions.{TxEvents, open_of, was_aborted}
+use Rattle.history.specs.Catalogue.{CatalogueEvents, TableMade, TableDropped, EntryAdded, EntryEnded, EntryMarked, CheckKept, IsMark, entries_added, marks, counted_of}
 use Rattle.history.specs.History.{History, tx_events, catalogue_events}
 use Rattle.history.specs.Presence.{counts, stamp_counts, entries_present, is_present, is_pending}
+use Rattle.history.specs.Legal.{IsLegal}
 use Rattle.table_trees.specs.Histories.{above}
 use Rattle.tx_table.specs.Stands.{TableStands}
 use Rattle.part_catalog.specs.Answers.{child_told, parent_told, marker_told, is_pending_below, pending_entry}
@@ -20,7 +23,10 @@ use Rattle.pg_values.specs.Refusals.{unless}
 use Rattle.refusals.specs.Refusals.{not_the_pending_partition}
 use Rattle.legal_statements.specs.Laws.{ListedIsThere}
 use Rattle.legal_statements.proofs.Adding.{present_for}
+use Rattle.bound_forms.specs.Accepts.{is_default}
 use Rattle.soundness.specs.Laws.{LegalKeepsAll}
+use Rattle.soundness.specs.Legal.{ArePermitted}
+use Rattle.soundness.specs.Worlds.{Present, IsPending}
 use Rattle.soundness.proofs.Sound.{sound_of}
 use Rattle.soundness.proofs.Listed.{kept_in}
 use Rattle.soundness.proofs.Looking.{counts_world}
@@ -33,8 +39,8 @@ use Rattle.table_statements.specs.Refused.{unless_faults}
 use Rattle.table_statements.proofs.Below.{found_in, entry_suits, here_of}
 use Rattle.table_statements.proofs.Ends.{same_number}
 use Rattle.table_statements.proofs.Firsts.{both_told, none_told}
-use Rattle.detach_statement.specs.Asked.{IsPartition}
-use Rattle.detach_statement.specs.Concurrent.{is_by, is_marked_still, endable}
+use Rattle.detach_statement.specs.Asked.{IsPartition, IsPendingPart}
+use Rattle.detach_statement.specs.Concurrent.{endable, is_by, is_marked_still}
 use Rattle.detach_statement.specs.Detached.{name_at, is_table}
 use Rattle.detach_statement.specs.Finalized.{finalizable}
 use Rattle.detach_statement.proofs.Refusing.{none_against}
@@ -59,6 +65,7 @@ endable_is h s d e =
 pub record IsPendingOver (h : History) (s p t : ℕ) : Type 0 where
   pub entry : Entry
   pub present : Contains (entries_present h s) entry
+  pub pending : is_pending h s entry ≡ true
   pub parent : entry.parent.number ≡ p
   pub child : entry.child.number ≡ t
 
@@ -70,6 +77,7 @@ over_found h s p t e found child =
     record {
       entry = e;
       present = kept_in (is_present h s) (entries_added (catalogue_events h)) e found.0 there.0;
+      pending = below.1;
       parent = same_number e.parent.number p below.0;
       child = same_number e.child.number t child;
     }
@@ -107,6 +115,44 @@ pending_is_partition keeps listed stores caller p t may told = λ h txs catalog.
     let same = same_entries stores.txs stores.catalog g h stands.all.txs txs stands.all.catalog catalog s in
     ap parent_told (subst (λ (es : List Entry). above es t ≡ Some o.entry) same found) ∙ ap (λ (n : ℕ). Some (record { number = n })) o.parent
 
+-- ---- and has a bound of its own
+
+-- the stamp that counts is one of a mark
+counted_is_mark : (txs : TxEvents) (cats : CatalogueEvents) (k : ℕ) (s : Stamp) → counted_of txs (marks cats) k ≡ Some s → IsMark cats k s.by.number
+counted_is_mark txs [] k s e = absurd (let c = e in cc)
+counted_is_mark txs (EntryMarked n x ∷ cats) k s e = elim (cases_Bool ((n == k) && not (was_aborted txs x.by.number))) [
+  | inl here ↦
+      let first : Some x ≡ Some s = rw here at e in
+      let same : x ≡ s = cc in
+      inl (same_number n k (and_parts (n == k) (not (was_aborted txs x.by.number)) here).0, ap (λ (y : Stamp). y.by.number) same)
+  | inr past ↦ inr (counted_is_mark txs cats k s (rw past at e))
+]
+counted_is_mark txs (TableMade t ∷ cats) k s e = counted_is_mark txs cats k s e
+counted_is_mark txs (TableDropped n x ∷ cats) k s e = counted_is_mark txs cats k s e
+counted_is_mark txs (EntryAdded x ∷ cats) k s e = counted_is_mark txs cats k s e
+counted_is_mark txs (EntryEnded n x ∷ cats) k s e = counted_is_mark txs cats k s e
+counted_is_mark txs (CheckKept x ∷ cats) k s e = counted_is_mark txs cats k s e
+
+marked_for : (h : History) (s : ℕ) (e : Entry) (o : Option Stamp) → counted_of (tx_events h) (marks (catalogue_events h)) e.id.number ≡ o → stamp_counts (tx_events h) s o ≡ true → IsPending (catalogue_events h) (counts (tx_events h) s) e
+marked_for h s e None is counted = absurd (let c = counted in cc)
+marked_for h s e (Some x) is counted = (x.by.number, counted_is_mark (tx_events h) (catalogue_events h) e.id.number x is, counted)
+
+-- no default partition is pending, and a table is a partition once
+pub pending_is_named : (h : History) (s tx p t : ℕ) (e : Entry) → LegalKeepsAll → ListedIsThere → IsLegal h → ArePermitted h → open_of (tx_events h) s ≡ Some tx → is_table (child_told (pending_entry h s p)) t ≡ true
+    → Contains (entries_present h s) e → e.child.number ≡ t → is_default e.bound ≡ false
+pending_is_named h s tx p t e keeps listed legal permitted own told at child =
+    let o = over_told h s p t (pending_entry h s p) refl told in
+    let there : (x : Entry) → Contains (entries_present h s) x → Present (catalogue_events h) (counts (tx_events h) s) x = λ x is. present_for h s tx x legal own (listed h s tx x legal permitted own is).0 in
+    let siblings = (keeps h legal permitted).siblings (counts (tx_events h) s) (counts_world (tx_events h) s (sound_of h legal)) in
+    let marked = (and_parts (is_present h s o.entry) (stamp_counts (tx_events h) s (counted_of (tx_events h) (marks (catalogue_events h)) o.entry.id.number)) o.pending).1 in
+    let pending = marked_for h s o.entry (counted_of (tx_events h) (marks (catalogue_events h)) o.entry.id.number) refl marked in
+    let here = there o.entry o.present in
+    let same : o.entry ≡ e = siblings.one_parent o.entry e here (there e at) (o.child ∙ sym child) in
+    subst (λ (x : Entry). is_default x.bound ≡ false) same (siblings.no_default o.entry o.entry here here refl pending)
+
 -- further locks leave it so
+pub still_pending : (old new : Stores) (s : ℕ) (p : TableNo) (t : ℕ) → new ≡ record old { locks = new.locks } → IsPendingPart old s p t → IsPendingPart new s p t
+still_pending old new s p t rest is = λ h txs catalog. is h (subst (λ (x : Stores). TableStands x.txs h) rest txs) (subst (λ (x : Stores). CatalogueStands x.catalog h) rest catalog)
+
 pub still_partition : (old new : Stores) (s : ℕ) (p : TableNo) (t : ℕ) → new ≡ record old { locks = new.locks } → IsPartition old s p t → IsPartition new s p t
 still_partition old new s p t rest is = λ h txs catalog. is h (subst (λ (x : Stores). TableStands x.txs h) rest txs) (subst (λ (x : Stores). CatalogueStands x.catalog h) rest catalog)

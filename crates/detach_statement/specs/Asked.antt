@@ -2,14 +2,16 @@
 use Rattle.std.specs.Prelude.{◌≡◌, ℕ, true, Some, Ok}
 use Rattle.pg_values.specs.Sets.{has}
 use Rattle.pg_values.specs.declared.ids.TableNo.{TableNo}
-use Rattle.pg_values.specs.declared.lock_mode.LockMode.TheVariants.{ShareUpdateExclusive}
+use Rattle.pg_values.specs.declared.lock_mode.LockMode.TheVariants.{ShareUpdateExclusive, AccessExclusive}
 use Rattle.history.specs.History.{History}
 use Rattle.lock_table.specs.Kept.{held_at}
 use Rattle.tx_table.specs.Stands.{TableStands}
+use Rattle.part_catalog.specs.Answers.{child_told, pending_entry}
 use Rattle.part_catalog.specs.Stands.{CatalogueStands}
 use Rattle.stores.specs.declared.stores.Stores.{Stores}
 use Rattle.table_statements.specs.Drops.{parent_in}
 use Rattle.detach_statement.specs.Concurrent.{markable}
+use Rattle.detach_statement.specs.Detached.{is_table}
 
 -- the table is a partition of the parent for the session
 abbrev pub IsPartition : Stores → (session : ℕ) → (parent : TableNo) → (table : ℕ) → Type 0
@@ -18,6 +20,14 @@ IsPartition stores s parent t = (h : History) → TableStands stores.txs h → C
 -- the session holds SHARE UPDATE EXCLUSIVE on the table: nobody else changes its partitions
 abbrev pub HasGuarded : Stores → (session table : ℕ) → Type 0
 HasGuarded stores s x = has (held_at stores.locks.held x ShareUpdateExclusive) s ≡ true
+
+-- and here ACCESS EXCLUSIVE: nobody else does anything with it
+abbrev pub HasOwned : Stores → (session table : ℕ) → Type 0
+HasOwned stores s x = has (held_at stores.locks.held x AccessExclusive) s ≡ true
+
+-- the table is the pending partition of the parent for the session
+abbrev pub IsPendingPart : Stores → (session : ℕ) → (parent : TableNo) → (table : ℕ) → Type 0
+IsPendingPart stores s parent t = (h : History) → TableStands stores.txs h → CatalogueStands stores.catalog h → is_table (child_told (pending_entry h s parent.number)) t ≡ true
 
 -- nothing stands against the mark
 abbrev pub MayBeMarked : Stores → (session parent table : ℕ) → Type 0

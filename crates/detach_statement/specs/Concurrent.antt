@@ -2,7 +2,7 @@
 -- Table-Level Locks).
 --
 -- Stage 1 marks the entry pending, and is committed. Stage 2 waits for the transactions of all who hold a lock on the parent
--- then: they may have read that the table is a partition. Stage 3 ends the entry, and the table keeps a CHECK.
+-- then: they may have read that the table is a partition. In stage 3 the table keeps a CHECK, and the entry ends.
 use Rattle.std.specs.Prelude.{ℕ, ◌==◌, ◌&&◌, Bool, false, List, [], ◌∷◌, ◌++◌, Option, Some, None, Result, Ok}
 use Rattle.pg_values.specs.declared.fault.Fault.{Fault}
 use Rattle.pg_values.specs.Sets.{empty, without}
@@ -112,10 +112,10 @@ endable h s d = unless_faults (unless (is_marked_still h s d) (not_the_pending_p
 abbrev pub judged_still : (session : ℕ) → RestOfDetach → History → Made (Unit {0})
 judged_still s d h = answered (endable h s d)
 
--- the table is a partition no more, and keeps its CHECK
+-- the table keeps its CHECK, and then is a partition no more
 abbrev pub partition_left : Caller → (parent table : ℕ) → History → Made (Unit {0})
 partition_left caller p t h =
-    made (check_kept caller t h (new_check h caller.session p t) ++ place_ended caller.session (stamp caller h) h (table_of t)) tt
+    made (place_ended caller.session (stamp caller h) h (table_of t) ++ check_kept caller t h (new_check h caller.session p t)) tt
 
 -- both tables are locked anew; either may be gone
 abbrev pub third_stage : (names : List (List ℕ)) → Caller → RestOfDetach → (parent name : List ℕ) → History → Made (Unit {0})

@@ -86,3 +86,8 @@ check_by t by cmd (Some c) = CatalogueChange (CheckKept (record { table = t; kep
 
 abbrev pub check_kept : Caller → (table : ℕ) → History → Option KeptCheck → History
 check_kept caller t h c = check_by (table_of t) (own h caller.session) caller.cmd c
+
+-- ---- a CHECK that says of rows all that a place asks: it is of the same level, and its bound lies inside the one there
+
+abbrev pub implies : Level → Bound → KeptCheck → Bool
+implies level b k = same_level level k.level && within k.bound b

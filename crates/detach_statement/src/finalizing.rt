@@ -8,7 +8,7 @@ ghost use Rattle.tx_table.specs.Stands.{TableStands};
 ghost use Rattle.part_catalog.specs.Stands.{CatalogueStands};
 ghost use Rattle.statement_steps.specs.Attempts.{MayAttempt};
 ghost use Rattle.statement_steps.specs.Steps.{IsStep};
-ghost use Rattle.detach_statement.specs.Asked.{HasGuarded, IsPartition};
+ghost use Rattle.detach_statement.specs.Asked.{HasGuarded, HasOwned, IsPartition, IsPendingPart};
 ghost use Rattle.detach_statement.specs.Finalized as finalized;
 
 use crate::checking::is_table;
@@ -64,6 +64,7 @@ fn check(
     requires table { table.number < length stores.now.catalog.tables }
     ensures step { IsStep (λ u. u) result stores.now stores.now caller caller.cmd (finalized.judged caller.session parent.number table.number) }
     ensures partition { IfOk result (λ u. IsPartition stores.now caller.session parent table.number) }
+    ensures pending { IfOk result (λ u. IsPendingPart stores.now caller.session parent table.number) }
 {
     legal_keeps_all();
     listed_is_there();
@@ -147,6 +148,7 @@ fn finalize_table(
 ) -> Result<(), Stop>
     requires may { MayAttempt stores.old caller }
     requires guarded { HasGuarded stores.old caller.session parent.number }
+    requires owned { HasOwned stores.old caller.session table.number }
     requires parent { parent.number < length stores.old.catalog.tables }
     requires table { table.number < length stores.old.catalog.tables }
     ensures { IsStep (λ u. u) result stores.old stores.new caller (caller.cmd + 1) (finalized.table_finalized names.now caller parent.number table.number) }

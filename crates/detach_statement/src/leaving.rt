@@ -7,15 +7,16 @@ ghost use Rattle.history.specs.Places.{IsCatalogueSound};
 ghost use Rattle.part_catalog.specs.Stands.{CatalogueStands};
 ghost use Rattle.statement_steps.specs.Attempts.{MayAttempt};
 ghost use Rattle.statement_steps.specs.Steps.{IsStep};
-ghost use Rattle.detach_statement.specs.Asked.{HasGuarded, IsPartition};
+ghost use Rattle.detach_statement.specs.Asked.{HasGuarded, HasOwned, IsPartition, IsPendingPart};
 ghost use Rattle.detach_statement.specs.Concurrent as concurrent;
 ghost use Rattle.detach_statement.specs.Kept as kept;
 
 use crate::keeping::new_check;
 use history::{KeptCheck, TxId};
-use legal_statements::{drop_may_follow, listed_is_there, nobody_else_ends};
+use legal_statements::{check_may_follow, drop_may_follow, listed_is_there, nobody_else_ends};
 use part_catalog::Catalog;
 use pg_values::{NoMemory, TableNo};
+use soundness::legal_keeps_all;
 use statement_steps::{Caller, Stop};
 use std::alloc::Global;
 use stores::{Stores, trees_are_together};
@@ -37,7 +38,7 @@ fn keep(
     }
 }
 
-/// The last part: the entry ends by which the table is a partition, and it keeps its CHECK.
+/// The last part: the table keeps its CHECK, and then the entry ends by which it is a partition.
 pub(crate) fn leave_parent(
     alloc: Global,
     stores: &mut Stores,
@@ -50,11 +51,15 @@ pub(crate) fn leave_parent(
     requires parent { parent.number < length stores.old.catalog.tables }
     requires table { table.number < length stores.old.catalog.tables }
     requires partition { IsPartition stores.old caller.session parent table.number }
+    requires pending { IsPendingPart stores.old caller.session parent table.number }
+    requires owned { HasOwned stores.old caller.session table.number }
     ensures { IsStep (λ u. u) result stores.old stores.new caller (caller.cmd + 1) (concurrent.partition_left caller parent.number table.number) }
 {
     trees_are_together();
+    legal_keeps_all();
     listed_is_there();
     nobody_else_ends();
+    check_may_follow();
     drop_may_follow();
     let session = caller.session;
     let Some(by) = stores.txs.open_of(session) else {
@@ -62,13 +67,13 @@ pub(crate) fn leave_parent(
     };
     let Stores { txs, catalog, .. } = stores;
     match new_check(alloc, catalog, txs, session, parent, table) {
-        Ok(check) => {
-            catalog.end_entry(txs, parent, table, by, caller.cmd);
-            match keep(catalog, table, check, by, caller.cmd) {
-                Ok(()) => Ok(()),
-                Err(NoMemory) => Err(Stop::NoMemory),
+        Ok(check) => match keep(catalog, table, check, by, caller.cmd) {
+            Ok(()) => {
+                catalog.end_entry(txs, parent, table, by, caller.cmd);
+                Ok(())
             }
-        }
+            Err(NoMemory) => Err(Stop::NoMemory),
+        },
         Err(NoMemory) => Err(Stop::NoMemory),
     }
 }

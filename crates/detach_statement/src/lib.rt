@@ -17,6 +17,7 @@
 mod checking;
 mod faults;
 mod finalizing;
+mod implying;
 mod keeping;
 mod leaving;
 mod marking;
@@ -25,6 +26,7 @@ mod stages;
 mod statement;
 
 pub use finalizing::finalize;
+pub use implying::is_implied;
 pub use places::detach_misplaced;
 pub use stages::detach_concurrently;
 pub use statement::detach;

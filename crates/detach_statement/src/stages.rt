@@ -8,7 +8,7 @@ ghost use Rattle.part_catalog.specs.Stands.{CatalogueStands};
 ghost use Rattle.statement_steps.specs.Attempts.{MayAttempt};
 ghost use Rattle.statement_steps.specs.declared.rest.Rest.TheVariants.{Detach};
 ghost use Rattle.statement_steps.specs.Steps.{IsStep, going_on};
-ghost use Rattle.detach_statement.specs.Asked.{IsPartition};
+ghost use Rattle.detach_statement.specs.Asked.{IsPartition, IsPendingPart};
 ghost use Rattle.detach_statement.specs.Concurrent as concurrent;
 
 use crate::checking::is_table;
@@ -97,6 +97,7 @@ fn check(alloc: Global, stores: &Stores, caller: Caller, rest: RestOfDetach) -> 
     requires table { rest.table.number < length stores.now.catalog.tables }
     ensures step { IsStep (λ u. u) result stores.now stores.now caller caller.cmd (concurrent.judged_still caller.session rest) }
     ensures partition { IfOk result (λ u. IsPartition stores.now caller.session rest.parent rest.table.number) }
+    ensures pending { IfOk result (λ u. IsPendingPart stores.now caller.session rest.parent rest.table.number) }
 {
     legal_keeps_all();
     listed_is_there();

@@ -29,13 +29,13 @@ abbrev pub list_faults : Operator → Given → List Typed → List Fault
 list_faults o x [] = []
 list_faults o x (y ∷ ys) = comparison_faults o x y.given ++ list_faults o x ys
 
--- the two comparisons of BETWEEN
-abbrev pub end_faults : Scope → Bool → (x from to : Tree) → List Fault
-end_faults s b x from to = comparison_faults (from_op b) (typed s x).given (typed s from).given ++ comparison_faults (to_op b) (typed s x).given (typed s to).given
+-- an end of BETWEEN, and then its comparison
+abbrev pub end_faults : Scope → Operator → (x end : Tree) → List Fault
+end_faults s o x end = operand_faults s end ++ comparison_faults o (typed s x).given (typed s end).given
 
--- and its ends before them
+-- the lower end comes first, with all of it
 abbrev pub range_faults : Scope → Bool → (x from to : Tree) → List Fault
-range_faults s b x from to = operand_faults s from ++ (operand_faults s to ++ end_faults s b x from to)
+range_faults s b x from to = end_faults s (from_op b) x from ++ end_faults s (to_op b) x to
 
 -- an operand by itself is a condition where it is a boolean
 abbrev pub alone_faults : Scope → Tree → List Fault

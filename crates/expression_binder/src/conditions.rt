@@ -99,19 +99,18 @@ fn check_in(
     check_each(alloc, names, in_op(is_not), typed_of(names, x).given, list)
 }
 
-fn check_ends(
+fn check_end(
     alloc: Global,
     names: &Names<'_>,
-    is_not: bool,
+    operator: Operator,
     x: &Expr,
-    from: &Expr,
-    to: &Expr,
+    end: &Expr,
 ) -> Result<(), Refusal>
-    ensures { IsAnswer result (or_first (conditions.end_faults names.now is_not (tree x.now) (tree from.now) (tree to.now)) tt) }
+    ensures { IsAnswer result (or_first (conditions.end_faults names.now operator (tree x.now) (tree end.now)) tt) }
 {
+    check_operand(alloc, names, end)?;
     let left = typed_of(names, x).given;
-    check_comparison(alloc, from_op(is_not), left, typed_of(names, from).given)?;
-    check_comparison(alloc, to_op(is_not), left, typed_of(names, to).given)
+    check_comparison(alloc, operator, left, typed_of(names, end).given)
 }
 
 fn check_range(
@@ -124,9 +123,8 @@ fn check_range(
 ) -> Result<(), Refusal>
     ensures { IsAnswer result (or_first (conditions.range_faults names.now is_not (tree x.now) (tree from.now) (tree to.now)) tt) }
 {
-    check_operand(alloc, names, from)?;
-    check_operand(alloc, names, to)?;
-    check_ends(alloc, names, is_not, x, from, to)
+    check_end(alloc, names, from_op(is_not), x, from)?;
+    check_end(alloc, names, to_op(is_not), x, to)
 }
 
 fn check_between(

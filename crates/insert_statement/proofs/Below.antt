@@ -8,14 +8,15 @@ use Rattle.bound_forms.specs.declared.level.Level.{Level as OneLevel}
 use Rattle.history.specs.declared.catalogue.TableShape.TheVariants.{Level}
 use Rattle.history.specs.Snapshots.{TakenSnapshot}
 use Rattle.history.specs.Transactions.{open_of}
+use Rattle.history.specs.Rows.{leaf_count}
 use Rattle.history.specs.Catalogue.{tables_made}
-use Rattle.history.specs.History.{History, tx_events, catalogue_events}
+use Rattle.history.specs.History.{History, tx_events, row_events, catalogue_events}
 use Rattle.history.specs.Places.{table_at}
 use Rattle.history.specs.Presence.{entries_shown}
 use Rattle.table_trees.specs.declared.path_part.PathPart.{PathPart}
 use Rattle.table_trees.specs.Histories.{tree_of, path_of, table_of}
 use Rattle.table_trees.specs.Trees.{TableTree, routed}
-use Rattle.row_router.specs.declared.path.PathTest.TheVariants.{Bounds}
+use Rattle.row_router.specs.declared.path.PathTest.TheVariants.{Bounds, Checks}
 use Rattle.row_router.specs.Paths.{refused}
 use Rattle.row_change.specs.declared.target.Target.{Target}
 use Rattle.row_change.specs.Placing.{placed}
@@ -41,12 +42,25 @@ use Rattle.insert_statement.specs.Inserted.{tables_of}
 use Rattle.insert_statement.specs.Asked.{Each, ArePlaced, MayGo, MayPut, MayStore, MayWrite}
 use Rattle.insert_statement.proofs.OwnLeaf.{none_refuses}
 use Rattle.insert_statement.proofs.Pairs.{each_all, each_with}
+use Rattle.insert_statement.proofs.Passing.{holder_passes}
 use Rattle.insert_statement.proofs.Placed.{targets_take}
 use Rattle.insert_statement.proofs.Tables.{IsMade, shown_made, tables_kept}
+use Rattle.insert_statement.proofs.Targets.{found_target, one_told}
 use Rattle.insert_statement.proofs.Trees.{AtHome, Child, IsHome, tree_are, tree_root}
 use Rattle.insert_statement.proofs.Ways.{way_ends_below, in_ways, IsPlaced, is_placed, each_placed}
 
 -- ---- one row
+
+-- the row may go into the leaf, by which it gets a place below the table
+pub record HasWayDown (h : History) (s table : ℕ) (look : TakenSnapshot) (leaf : LeafId) (row : List Value) : Type 0 where
+  pub placed : refused Bounds row (path_of h s table) ≡ None
+  pub routed : routed row (tree_of h s table look) ≡ Ok leaf
+  pub locked : (x : ℕ) → HasLeaf (catalogue_events h) x leaf → IsWritable h s x
+  pub there : leaf.number < leaf_count (row_events h)
+
+-- and it does, where it passes the CHECKs there
+goes_where_passed : (h : History) (s table : ℕ) (look : TakenSnapshot) (leaf : LeafId) (row : List Value) → HasWayDown h s table look leaf row → ((x : ℕ) → HasLeaf (catalogue_events h) x leaf → refused Checks row (path_of h s x) ≡ None) → MayGo h s table look leaf row
+goes_where_passed h s table look leaf row way passes = record { placed = way.placed; routed = way.routed; passes = passes; locked = way.locked; there = way.there }
 
 -- what is known of the tree in the history
 pub record Known (h : History) (s : ℕ) (tree : TableTree) (path : List PathPart) (table : ℕ) (look : TakenSnapshot) : Type 0 where
@@ -60,7 +74,7 @@ pub record Known (h : History) (s : ℕ) (tree : TableTree) (path : List PathPar
   pub there : LeavesAreThere h
 
 goes_down : (h : History) (s : ℕ) (tree : TableTree) (path : List PathPart) (table : ℕ) (look : TakenSnapshot) (rows : List (List Value)) (leaf : LeafId) (row : List Value) → Known h s tree path table look → All (λ t. IsWritable h s t.number) (ways_below tree rows)
-    → Contains rows row → IsPlaced (tables_of h) tree path leaf row → MayGo h s table look leaf row
+    → Contains rows row → IsPlaced (tables_of h) tree path leaf row → HasWayDown h s table look leaf row
 goes_down h s tree path table look rows leaf row known writable at placed =
     let tables = tables_made (catalogue_events h) in
     let are = tree_are h s table look (IsMade h) known.shown known.made in
@@ -84,7 +98,7 @@ goes_down h s tree path table look rows leaf row known writable at placed =
 -- ---- all of them
 
 abbrev pub Goes : History → Caller → (table : ℕ) → LeafId → List Value → Type 0
-Goes h caller t l r = MayGo h caller.session t (look_of h caller.session caller.cmd) l r
+Goes h caller t l r = HasWayDown h caller.session t (look_of h caller.session caller.cmd) l r
 
 pub all_go : (stores : Stores) (caller : Caller) (tree : TableTree) (leaves : List LeafId) (rows : List (List Value)) (h : History) → Stands stores h → (are : ArePlaced stores.txs stores.catalog caller tree leaves rows) → MayWrite stores caller.session (ways_below tree rows)
     → Each (Goes h caller are.by_tree.table.number) leaves rows
@@ -110,18 +124,26 @@ all_go stores caller tree leaves rows h stands are writable =
     (λ l row at is. goes_down h s tree are.path it.table.number look rows l row known (writable h stands) at (is_placed (tables_of h) tree are.path row l is)) (are.placed h stands.all.catalog)
 
 placed_may_put : (stores : Stores) (caller : Caller) (tree : TableTree) (leaves : List LeafId) (rows : List (List Value)) (targets : List Target) (h : History) (tx : ℕ) → Stands stores h → open_of (tx_events h) caller.session ≡ Some tx
-    → ArePlaced stores.txs stores.catalog caller tree leaves rows → MayWrite stores caller.session (ways_below tree rows) → MayPut h caller.session targets leaves rows
-placed_may_put stores caller tree leaves rows targets h tx stands mine are writable =
+    → ArePlaced stores.txs stores.catalog caller tree leaves rows → MayWrite stores caller.session (ways_below tree rows) → All (IsTargetOf h caller.session tree) targets → All (HasTarget targets) leaves → MayPut h caller.session targets leaves rows
+placed_may_put stores caller tree leaves rows targets h tx stands mine are writable of told =
     let s = caller.session in
-    let t = are.by_tree.table.number in
+    let it = are.by_tree in
+    let t = it.table.number in
+    let look = look_of h s caller.cmd in
+    let i = legal_keeps_all h (legal_of h stands.good) (permitted_of h stands.good) in
     let kept = tables_kept stores.catalog h stands.all.catalog in
-    let below = are.by_tree.known in
+    let below = it.known in
+    let made : IsMade h (table_of t) = omega (arith, kept, below) in
+    let passes : (l : LeafId) (row : List Value) → HasWay tree l × HasTarget targets l → leaf_faults (tables_of h) (find (is_into l) targets) row ≡ [] → (x : ℕ) → HasLeaf (catalogue_events h) x l → refused Checks row (path_of h s x) ≡ None =
+    λ l row has none. holder_passes h s t look tree l row (it.read.is_tree h stands.all.txs stands.all.catalog) (shown_made h s look stands.good) made i.tables.one_home has.0
+    (sym (one_told h s tree l targets row (found_target (IsTargetOf h s tree) l targets of has.1)) ∙ none) in
     record {
       table = t;
       look = look_of h s caller.cmd;
       made = omega (arith, kept, below);
       own_look = record { own = mine ∙ ap Some (sym (look_is_own h s tx caller.cmd stands.good mine)); past = look_is_past stores.txs h s caller.cmd stands.all.txs };
-      go = each_with (Goes h caller t) (λ l row. leaf_faults (tables_of h) (find (is_into l) targets) row ≡ [] → Goes h caller t l row) (HasWay tree) leaves rows (λ l row way goes none. goes) are.ways (all_go stores caller tree leaves rows h stands are writable);
+      go = each_with (Goes h caller t) (λ l row. leaf_faults (tables_of h) (find (is_into l) targets) row ≡ [] → MayGo h s t look l row) (λ l. HasWay tree l × HasTarget targets l) leaves rows
+          (λ l row has goes none. goes_where_passed h s t look l row goes (passes l row has none)) (λ k d lt. (are.ways k d lt, told k d lt)) (all_go stores caller tree leaves rows h stands are writable);
     }
 
 -- with a target for each leaf
@@ -136,5 +158,5 @@ placed_may_store stores caller tree leaves rows targets may are writable of told
       numbered = take.numbered;
       told = told;
       known = each_all (Goes h caller are.by_tree.table.number) (IsLeafKnown stores.rows.leaves) leaves rows (λ l row goes. subst (λ n. l.number < n) (sym stands.all.rows.leaves) goes.there) (all_go stores caller tree leaves rows h stands are writable);
-      may = λ g stand. placed_may_put stores caller tree leaves rows targets g (own_tx stores caller g may stand).0 stand (own_tx stores caller g may stand).1 are writable;
+      may = λ g stand. placed_may_put stores caller tree leaves rows targets g (own_tx stores caller g may stand).0 stand (own_tx stores caller g may stand).1 are writable (of g stand) told;
     }

@@ -4,6 +4,7 @@ pub mod Locked
 pub mod Meant
 pub mod OwnLeaf
 pub mod Pairs
+pub mod Passing
 pub mod Placed
 pub mod Same
 pub mod Stored

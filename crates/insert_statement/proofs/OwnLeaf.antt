@@ -1,8 +1,7 @@
 -- Rows of a table that holds rows itself may be stored there.
-use Rattle.std.proofs.Common.{◌≡◌, ℕ, ◌<◌, Bool, true, false, if◌then◌else◌, List, [], ◌∷◌, ◌++◌, refl, ap, sym, ◌∙◌, subst, arith, Some, None, Ok, All, find, map, length, slice_index_or}
+use Rattle.std.proofs.Common.{◌≡◌, ℕ, ◌<◌, Bool, true, false, if◌then◌else◌, List, [], ◌∷◌, refl, ap, sym, ◌∙◌, subst, arith, Some, None, Ok, All, find, map, length, slice_index_or}
 use Rattle.std.proofs.lemmas.List.Elements.{All-nil, All-cons, All-head}
 use Rattle.pg_values.specs.declared.value.Value.{Value}
-use Rattle.pg_values.specs.declared.fault.Fault.{Fault}
 use Rattle.pg_values.specs.declared.ids.LeafId.{LeafId}
 use Rattle.pg_values.specs.declared.ids.TableNo.{TableNo}
 use Rattle.history.specs.declared.catalogue.Table.{Table}
@@ -20,7 +19,7 @@ use Rattle.table_trees.specs.Histories.{tree_of, tree_within, path_of, grown, no
 use Rattle.table_trees.specs.Trees.{routed}
 use Rattle.part_catalog.specs.Found.{made_at}
 use Rattle.part_catalog.specs.Stands.{CatalogueStands}
-use Rattle.row_router.specs.declared.path.PathTest.TheVariants.{Bounds}
+use Rattle.row_router.specs.declared.path.PathTest.TheVariants.{Bounds, Checks}
 use Rattle.row_router.specs.Paths.{refuses, refused, PartFits}
 use Rattle.row_change.specs.declared.target.Target.{Target}
 use Rattle.row_change.specs.Placing.{bounds_faults, refused_by, IsPartNumbered}
@@ -45,12 +44,9 @@ use Rattle.statement_steps.proofs.Parts.{own_tx}
 use Rattle.insert_statement.specs.Inserted.{tables_of}
 use Rattle.insert_statement.specs.Asked.{AreRowsOf, IsOwnTarget, MayGo, MayPut, MayStore, MayWrite}
 use Rattle.insert_statement.proofs.Pairs.{each_all, each_same}
+use Rattle.insert_statement.proofs.Passing.{nothing_behind, taken_passes}
 use Rattle.insert_statement.proofs.Tables.{tables_kept}
 use Rattle.insert_statement.proofs.Targets.{own_found, own_has}
-
-nothing_behind : (xs ys : List Fault) → (xs ++ ys) ≡ [] → ys ≡ []
-nothing_behind [] ys e = e
-nothing_behind (x ∷ xs) ys e = absurd (let c = e in cc)
 
 -- ---- nothing above refuses the row
 
@@ -89,14 +85,16 @@ record Known (h : History) (s t : ℕ) (leaf : LeafId) : Type 0 where
   writable : IsWritable h s t
 
 one_goes : (h : History) (s : ℕ) (t : TableNo) (look : TakenSnapshot) (leaf : LeafId) (target : Target) (row : List Value) → IsOwnTarget h s t leaf target → Known h s t.number leaf → leaf_faults (tables_of h) (find (is_into leaf) (target ∷ [])) row ≡ [] → MayGo h s t.number look leaf row
-one_goes h s t look leaf target row is known none = record {
-  placed =
-      let bounds = only_faults (tables_of h) target row is.is_named (ap (λ o. leaf_faults (tables_of h) o row) (sym (own_found leaf target is.leaf_is)) ∙ none) in
-      subst (λ p. refused Bounds row p ≡ None) is.path (none_refuses (tables_of h) row target.path.items bounds);
-  routed = routed_here h s t.number look leaf row known.mine.1;
-  locked = λ x own. subst (IsWritable h s) (known.one_home t.number x leaf known.mine own) known.writable;
-  there = known.there;
-}
+one_goes h s t look leaf target row is known none =
+    let faults : leaf_faults (tables_of h) (Some target) row ≡ [] = ap (λ o. leaf_faults (tables_of h) o row) (sym (own_found leaf target is.leaf_is)) ∙ none in
+    record {
+      placed = subst (λ p. refused Bounds row p ≡ None) is.path (none_refuses (tables_of h) row target.path.items (only_faults (tables_of h) target row is.is_named faults));
+      routed = routed_here h s t.number look leaf row known.mine.1;
+      passes = λ x own. subst (λ n. refused Checks row (path_of h s n) ≡ None) (known.one_home t.number x leaf known.mine own)
+          (subst (λ p. refused Checks row p ≡ None) is.path (taken_passes (tables_of h) target.table target.path.items target.is_named row faults));
+      locked = λ x own. subst (IsWritable h s) (known.one_home t.number x leaf known.mine own) known.writable;
+      there = known.there;
+    }
 
 -- ---- all of them
 

@@ -81,7 +81,7 @@ pub record IsFound (P : Target → Type 0) (leaf : LeafId) (found : Option Targe
   pub holds : P target
   pub same : target.leaf ≡ leaf
 
-same_leaf : (a b : LeafId) → (a.number == b.number) ≡ true → a ≡ b
+pub same_leaf : (a b : LeafId) → (a.number == b.number) ≡ true → a ≡ b
 same_leaf a b e =
     let n : a.number ≡ b.number = grind (arith, nat_tests, e) in
     let leaf : ℕ → LeafId = λ k. record { number = k } in

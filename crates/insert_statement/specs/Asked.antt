@@ -16,7 +16,7 @@ use Rattle.tx_table.specs.Stands.{TableStands}
 use Rattle.part_catalog.specs.Found.{made_at}
 use Rattle.part_catalog.specs.Kept.{KeptCatalogue}
 use Rattle.part_catalog.specs.Stands.{CatalogueStands}
-use Rattle.row_router.specs.declared.path.PathTest.TheVariants.{Bounds}
+use Rattle.row_router.specs.declared.path.PathTest.TheVariants.{Bounds, Checks}
 use Rattle.row_router.specs.Paths.{refused}
 use Rattle.row_change.specs.declared.target.Target.{Target}
 use Rattle.row_change.specs.Laws.{IsRowIn}
@@ -85,10 +85,11 @@ Each P (l ∷ ls) (r ∷ rs) = P l r × Each P ls rs
 abbrev pub put : List Target → Caller → List LeafId → List (List Value) → History → Made (Unit {0})
 put targets caller leaves rows h = all_born (own h caller.session) caller.cmd (λ l row. leaf_faults (tables_of h) (find (is_into l) targets) row) leaves rows h
 
--- the row may go into the leaf, by which it gets a place below the table
+-- the row may go into the leaf, by which it gets a place below the table, and whose CHECKs it passes
 pub record MayGo (h : History) (session table : ℕ) (s : TakenSnapshot) (leaf : LeafId) (row : List Value) : Type 0 where
   pub placed : refused Bounds row (path_of h session table) ≡ None
   pub routed : routed row (tree_of h session table s) ≡ Ok leaf
+  pub passes : (x : ℕ) → HasLeaf (catalogue_events h) x leaf → refused Checks row (path_of h session x) ≡ None
   pub locked : (x : ℕ) → HasLeaf (catalogue_events h) x leaf → IsWritable h session x
   pub there : leaf.number < leaf_count (row_events h)
 

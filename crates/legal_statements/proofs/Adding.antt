@@ -6,6 +6,7 @@ use Rattle.std.proofs.lemmas.Bool.{cases_Bool}
 use Rattle.std.proofs.lemmas.Bool.Decides.{nat_tests}
 use Rattle.history.specs.declared.version.Version.{Version}
 use Rattle.history.specs.declared.catalogue.Entry.{Entry}
+use Rattle.history.specs.declared.catalogue.Check.{Check}
 use Rattle.history.specs.Transactions.{open_of}
 use Rattle.history.specs.Catalogue.{tables_made, entries_added}
 use Rattle.history.specs.History.{History, tx_events, row_events, catalogue_events}
@@ -15,18 +16,20 @@ use Rattle.table_trees.specs.declared.path_part.PathPart.{PathPart}
 use Rattle.table_trees.specs.Histories.{path_of, above, is_over, parent_in, part_of, upwards}
 use Rattle.soundness.specs.Versions.{IsVersion}
 use Rattle.soundness.specs.Worlds.{HasLeaf, Present, table_in}
-use Rattle.soundness.specs.Legal.{ArePermitted, Has, Below, Judges, HasPlace as HasFreePlace}
+use Rattle.soundness.specs.Legal.{ArePermitted, Has, HasCheck, Below, Judges, HasPlace as HasFreePlace}
 use Rattle.soundness.proofs.Listed.{none_in, cases_in, present_listed}
 use Rattle.soundness.proofs.Measures.{children_are_counted, ways_are_short}
 use Rattle.soundness.proofs.Leaves.{tree_has_all_below}
 use Rattle.soundness.proofs.Paths.{agree, path_accepts}
 use Rattle.soundness.proofs.Created.{create_is_add}
+use Rattle.soundness.proofs.CheckPath.{path_passes, check_listed, check_counts}
 use Rattle.part_catalog.specs.Full.{tables_up, tables_above}
 use Rattle.legal_statements.specs.Entries.{IsScanned, IsNewPlace}
-use Rattle.legal_statements.specs.Laws.{NewPartitionMayFollow, AttachMayFollow}
+use Rattle.legal_statements.specs.Laws.{NewPartitionMayFollow, AttachMayFollow, SkipMayFollow, CheckMayFollow}
 use Rattle.legal_statements.proofs.Holding.{session_runs, owns_of, guards_of}
 use Rattle.legal_statements.proofs.Trees.{tree_is_whole}
 use Rattle.legal_statements.proofs.Marks.{pending_for}
+use Rattle.legal_statements.proofs.There.{listed_is_there}
 
 -- what is present for the transaction is present for its session
 pub present_for : (h : History) (session t : ℕ) (e : Entry) → IsLegal h → open_of (tx_events h) session ≡ Some t → Has h t e → Present (catalogue_events h) (counts (tx_events h) session) e
@@ -94,14 +97,14 @@ new_partition_may_follow h session e legal permitted new =
       record {
         legal = (place.number, place.suits);
         in_order = place.command;
-        permitted = create_is_add h e (record {
+        permitted = inl (create_is_add h e (record {
           place = place_of h session e legal permitted place;
           made = (new.made.0, maker_of h session t (table_in (catalogue_events h) e.child.number).by.number place.own new.made.1);
           another = new.another;
           alone = λ g has. new.alone g (listed_for h session t g legal place.own has);
           empty = new.empty;
           shallow = λ n top up far. not_deep h session e legal permitted place n 0 top e.child.number up refl (omega (arith, far));
-        });
+        }));
       },
       tt,
     )
@@ -127,7 +130,7 @@ attach_may_follow h session e legal permitted new =
       record {
         legal = (place.number, place.suits);
         in_order = place.command;
-        permitted = record {
+        permitted = inl (record {
           place = place_of h session e legal permitted place;
           child_locked = λ n x low. owns_of h session t x legal place.own (new.child_owned x (tree.all n x low));
           no_partition = λ g has. none_above (entries_present h session) e.child.number g new.no_partition (listed_for h session t g legal place.own has);
@@ -136,6 +139,65 @@ attach_may_follow h session e legal permitted new =
           scanned = λ v n x is at low judged.
               let row = new.scanned v (scanned_for h session t e.child.number n x v legal permitted place.own is at low judged) in
               (row.0, λ f k has up. path_accepts h session t e.parent.number v.row legal permitted place.own row.1 f k has up);
+          passes = λ v n x is at low judged.
+              let row = new.scanned v (scanned_for h session t e.child.number n x v legal permitted place.own is at low judged) in
+              path_passes h session t e.parent.number v.row legal permitted place.own row.2;
+        });
+      },
+      tt,
+    )
+
+-- a CHECK that counts for the session counts for its transaction, and the other way round
+check_for : (h : History) (session t x : ℕ) (c : Check) → IsLegal h → open_of (tx_events h) session ≡ Some t → Contains (checks_of h session x) c → HasCheck h t c × (c.table.number ≡ x)
+check_for h session t x c legal own at =
+    let its = check_counts h session x c at in
+    ((its.0.0, sym (agree (tx_events h) session t c.by.number own (session_runs h session t legal own).runs) ∙ its.0.1), its.1)
+
+listed_check : (h : History) (session t x : ℕ) (c : Check) → IsLegal h → open_of (tx_events h) session ≡ Some t → HasCheck h t c → c.table.number ≡ x → Contains (checks_of h session x) c
+listed_check h session t x c legal own is at = check_listed h session x c (is.0, agree (tx_events h) session t c.by.number own (session_runs h session t legal own).runs ∙ is.1) at
+
+pub skip_may_follow : SkipMayFollow
+skip_may_follow h session e legal permitted new =
+    let t = e.by.number in
+    let place = new.place in
+    let tree = tree_is_whole h session t e.child.number legal permitted place.own in
+    let kept = check_for h session t e.child.number new.check legal place.own new.kept in (
+      record {
+        legal = (place.number, place.suits);
+        in_order = place.command;
+        permitted = inr (record {
+          place = place_of h session e legal permitted place;
+          child_locked = λ n x low. owns_of h session t x legal place.own (new.child_owned x (tree.all n x low));
+          no_partition = λ g has. none_above (entries_present h session) e.child.number g new.no_partition (listed_for h session t g legal place.own has);
+          not_above = λ n low. new.not_above (tree.all n e.parent.number low);
+          shallow = λ n m top x up low far. not_deep h session e legal permitted place n m top x up low far;
+          parent_alone = λ g has. none_above (entries_present h session) e.parent.number g new.parent_alone (listed_for h session t g legal place.own has);
+          parent_unchecked = λ d has at. none_in d (subst (λ ds. Contains ds d) new.parent_unchecked (listed_check h session t e.parent.number d legal place.own has at));
+          implied = (new.check, record { kept = kept.0; child = kept.1; level = new.level; shape = new.shape; columns = new.columns; inside = new.inside });
+          looking = λ r s held. (session_runs h r s.tx legal (new.looking r s held)).runs;
+        });
+      },
+      tt,
+    )
+
+pub check_may_follow : CheckMayFollow
+check_may_follow h session c e legal permitted new =
+    let t = c.by.number in (
+      record {
+        legal = new.sound;
+        in_order = new.command;
+        permitted = record {
+          acts = session_runs h session t legal new.own;
+          from_entry = (
+            e,
+            record {
+              has = (listed_is_there h session t e legal permitted new.own new.present).0;
+              repeats = new.repeats;
+              guarded = guards_of h session t e.parent.number legal new.own new.guarded;
+            },
+          );
+          locked = owns_of h session t c.table.number legal new.own new.owned;
+          another = λ d has at. new.another d (listed_check h session t c.table.number d legal new.own has at);
         };
       },
       tt,

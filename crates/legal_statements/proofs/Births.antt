@@ -7,7 +7,7 @@ use Rattle.history.specs.Rows.{RowBorn}
 use Rattle.history.specs.History.{History, RowChange, versions, next_version}
 use Rattle.history.specs.Legal.{IsInOrder}
 use Rattle.table_trees.specs.Trees.{routed}
-use Rattle.row_router.specs.declared.path.PathTest.TheVariants.{Bounds}
+use Rattle.row_router.specs.declared.path.PathTest.TheVariants.{Bounds, Checks}
 use Rattle.row_router.specs.Paths.{refused}
 use Rattle.soundness.proofs.Listed.{first_in, later_in}
 use Rattle.legal_statements.specs.Rows.{IsNewRow, IsStored, AreNewRows, rows_born}
@@ -36,6 +36,7 @@ still_stored h session table s v w is =
     record {
       placed = subst (λ p. refused Bounds w.row p ≡ None) (sym (same.path table)) is.placed;
       routed = subst (λ t. routed w.row t ≡ Ok w.leaf) (sym (same.tree table s)) is.routed;
+      passes = λ x at. subst (λ p. refused Checks w.row p ≡ None) (sym (same.path x)) (is.passes x at);
       locked = is.locked;
       leaf = is.leaf;
     }

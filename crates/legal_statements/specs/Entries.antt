@@ -1,24 +1,30 @@
 -- Which tables a statement of a session may make partitions, and which partitions it may mark pending (the manual, CREATE
 -- TABLE, PARTITION OF, and ALTER TABLE, ATTACH and DETACH PARTITION).
-use Rattle.std.specs.Prelude.{◌≡◌, ◌≢◌, ℕ, true, false, Some, None, length}
+use Rattle.std.specs.Prelude.{◌≡◌, ◌≢◌, ℕ, true, false, [], Some, None, length}
 use Rattle.std.specs.List.{Contains}
 use Rattle.bound_forms.specs.Accepts.{accepts, is_default}
 use Rattle.history.specs.declared.version.Version.{Version}
 use Rattle.history.specs.declared.catalogue.Entry.{Entry}
 use Rattle.history.specs.declared.catalogue.Stamp.{Stamp}
+use Rattle.history.specs.declared.catalogue.Check.{Check}
+use Rattle.history.specs.declared.catalogue.TableShape.TheVariants.{Level as Levels}
+use Rattle.bound_forms.specs.declared.level.Level.{Level}
+use Rattle.history.specs.Snapshots.{TakenSnapshot, held_by}
+use Rattle.bound_forms.specs.Within.{within}
 use Rattle.history.specs.Transactions.{open_of}
-use Rattle.history.specs.Catalogue.{tables_made, entries_added}
-use Rattle.history.specs.Places.{Suits}
-use Rattle.history.specs.Presence.{entries_present, is_pending}
-use Rattle.history.specs.History.{History, tx_events, row_events, catalogue_events}
+use Rattle.history.specs.Catalogue.{CheckKept, tables_made, entries_added}
+use Rattle.history.specs.Places.{Suits, IsCatalogueSound}
+use Rattle.history.specs.Presence.{entries_present, is_pending, checks_of}
+use Rattle.history.specs.History.{History, tx_events, snapshot_events, row_events, catalogue_events}
 use Rattle.history.specs.Legal.{IsInOrder}
 use Rattle.table_trees.specs.Histories.{ddl_tree, path_of, above}
 use Rattle.table_trees.specs.Siblings.{CanStandTogether}
 use Rattle.table_trees.specs.Trees.{leaves}
-use Rattle.row_router.specs.declared.path.PathTest.TheVariants.{Bounds}
+use Rattle.row_router.specs.declared.path.PathTest.TheVariants.{Bounds, Checks}
 use Rattle.row_router.specs.Paths.{refused}
 use Rattle.soundness.specs.Versions.{IsVersion}
-use Rattle.soundness.specs.Worlds.{HasLeaf, key_at}
+use Rattle.soundness.specs.Worlds.{table_in, HasLeaf, key_at}
+use Rattle.soundness.specs.Kept.{Repeats}
 use Rattle.soundness.specs.Legal.{HasTable, Takes, Judges}
 use Rattle.part_catalog.specs.Full.{HasPlace}
 use Rattle.legal_statements.specs.Below.{numbers_from}
@@ -62,13 +68,42 @@ pub record IsNewPartition (h : History) (session : ℕ) (e : Entry) : Type 0 whe
   pub empty : (v : Version) → IsVersion (row_events h) v → HasLeaf (catalogue_events h) e.child.number v.leaf → ⊥
 
 -- a table that is no partition yet, and does not stand above the parent, becomes one; nobody else may use what stands below
--- it, and each row that a scan judges there is accepted by the new partition and along the path above it
+-- it, and each row that a scan judges there is accepted by the new partition and along the path above it, and passes the
+-- CHECKs there
 pub record IsAttached (h : History) (session : ℕ) (e : Entry) : Type 0 where
   pub place : IsNewPlace h session e
   pub child_owned : (x : ℕ) → Contains (numbers_from h session e.child.number) x → IsOwned h session x
   pub no_partition : above (entries_present h session) e.child.number ≡ None
   pub not_above : Contains (numbers_from h session e.child.number) e.parent.number → ⊥
-  pub scanned : (v : Version) → IsScanned h session e.by.number e.child.number v → Takes h e.by.number e v.row × (refused Bounds v.row (path_of h session e.parent.number) ≡ None)
+  pub scanned : (v : Version) → IsScanned h session e.by.number e.child.number v → Takes h e.by.number e v.row × (refused Bounds v.row (path_of h session e.parent.number) ≡ None) × (refused Checks v.row (path_of h session e.parent.number) ≡ None)
+
+-- the same without a scan: the parent is no partition and has no CHECK, and one of the child says all that is asked. Snapshots
+-- that are open are of open transactions.
+pub record IsSkipped (h : History) (session : ℕ) (e : Entry) : Type 0 where
+  pub place : IsNewPlace h session e
+  pub child_owned : (x : ℕ) → Contains (numbers_from h session e.child.number) x → IsOwned h session x
+  pub no_partition : above (entries_present h session) e.child.number ≡ None
+  pub not_above : Contains (numbers_from h session e.child.number) e.parent.number → ⊥
+  pub parent_alone : above (entries_present h session) e.parent.number ≡ None
+  pub parent_unchecked : checks_of h session e.parent.number ≡ []
+  pub check : Check
+  pub kept : Contains (checks_of h session e.child.number) check
+  pub level : Level
+  pub shape : (table_in (catalogue_events h) e.parent.number).shape ≡ Levels level
+  pub columns : level.columns ≡ check.kept.level.columns
+  pub inside : within check.kept.bound e.bound ≡ true
+  pub looking : (r : ℕ) (s : TakenSnapshot) → held_by (snapshot_events h) r ≡ Some s → open_of (tx_events h) r ≡ Some s.tx
+
+-- a CHECK is kept that repeats a partition's bound, before the entry ends; none of the table says the same
+pub record IsNewCheck (h : History) (session : ℕ) (c : Check) (e : Entry) : Type 0 where
+  pub own : open_of (tx_events h) session ≡ Some c.by.number
+  pub command : IsInOrder (Some (c.by.number, c.cmd)) h
+  pub sound : IsCatalogueSound (CheckKept c) h
+  pub present : Contains (entries_present h session) e
+  pub repeats : Repeats (catalogue_events h) c e
+  pub guarded : IsGuarded h session e.parent.number
+  pub owned : IsOwned h session c.table.number
+  pub another : (d : Check) → Contains (checks_of h session c.table.number) d → d.kept ≢ c.kept
 
 -- a partition that is not pending is marked so; none beside it is pending or the default, and the session may change the
 -- partitions of the parent

@@ -9,6 +9,7 @@ use Rattle.bound_forms.specs.declared.level.Level.{Level}
 use Rattle.history.specs.declared.catalogue.Entry.{Entry}
 use Rattle.history.specs.declared.catalogue.Stamp.{Stamp}
 use Rattle.history.specs.declared.catalogue.Table.{Table}
+use Rattle.history.specs.declared.catalogue.Check.{Check}
 use Rattle.history.specs.declared.catalogue.TableShape.TheVariants.{Level as Levels}
 use Rattle.history.specs.declared.version.Version.{Version}
 use Rattle.history.specs.declared.version.End.{End}
@@ -17,7 +18,7 @@ use Rattle.history.specs.declared.wait.Wanted.TheVariants.{Lock}
 use Rattle.history.specs.Snapshots.{TakenSnapshot}
 use Rattle.history.specs.Rows.{RowBorn, RowEnded}
 use Rattle.history.specs.Transactions.{open_of}
-use Rattle.history.specs.Catalogue.{EntryAdded, EntryMarked, drops, entry_ends, marks, counted_of}
+use Rattle.history.specs.Catalogue.{EntryAdded, EntryMarked, CheckKept, drops, entry_ends, marks, counted_of}
 use Rattle.history.specs.Locks.{wanted}
 use Rattle.history.specs.History.{Event, History, RowChange, CatalogueChange, LockChange, tx_events, lock_events, catalogue_events}
 use Rattle.history.specs.Presence.{entries_present, is_pending}
@@ -33,7 +34,7 @@ use Rattle.legal_statements.specs.Follows.{MayFollow}
 use Rattle.legal_statements.specs.Below.{numbers_from, IsWholeTree}
 use Rattle.legal_statements.specs.Locked.{IsOwned, IsGuarded}
 use Rattle.legal_statements.specs.Drops.{IsDrop, entries_end, tables_go, IsTableDrop, table_drop}
-use Rattle.legal_statements.specs.Entries.{IsScanned, IsNewPartition, IsAttached, IsNewMark}
+use Rattle.legal_statements.specs.Entries.{IsScanned, IsNewPartition, IsAttached, IsSkipped, IsNewCheck, IsNewMark}
 use Rattle.legal_statements.specs.Rows.{IsNewRow, IsOldRow, AreNewRows, rows_born}
 use Rattle.legal_statements.specs.Stays.{LeavesTrees, ShowsTheSame}
 use Rattle.legal_statements.specs.Tables.{LeavesAreThere, MakesNoLeaf, IsNewTable, IsNextLeaf, leaf_table, level_table}
@@ -86,6 +87,13 @@ NewPartitionMayFollow = (h : History) (session : ℕ) (e : Entry) → IsLegal h 
 
 abbrev pub AttachMayFollow : Type 0
 AttachMayFollow = (h : History) (session : ℕ) (e : Entry) → IsLegal h → ArePermitted h → IsAttached h session e → MayFollow (CatalogueChange (EntryAdded e) ∷ []) h
+
+abbrev pub SkipMayFollow : Type 0
+SkipMayFollow = (h : History) (session : ℕ) (e : Entry) → IsLegal h → ArePermitted h → IsSkipped h session e → MayFollow (CatalogueChange (EntryAdded e) ∷ []) h
+
+-- the CHECK of a concurrent DETACH, or of FINALIZE
+abbrev pub CheckMayFollow : Type 0
+CheckMayFollow = (h : History) (session : ℕ) (c : Check) (e : Entry) → IsLegal h → ArePermitted h → IsNewCheck h session c e → MayFollow (CatalogueChange (CheckKept c) ∷ []) h
 
 -- where no row of a table and all below it refuses, and no other session sees one that breaks the test, no row that a scan
 -- judges there breaks it

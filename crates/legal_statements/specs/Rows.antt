@@ -11,7 +11,7 @@ use Rattle.history.specs.History.{Event, History, RowChange, tx_events, row_even
 use Rattle.history.specs.Legal.{IsInOrder}
 use Rattle.table_trees.specs.Histories.{tree_of, path_of}
 use Rattle.table_trees.specs.Trees.{routed}
-use Rattle.row_router.specs.declared.path.PathTest.TheVariants.{Bounds}
+use Rattle.row_router.specs.declared.path.PathTest.TheVariants.{Bounds, Checks}
 use Rattle.row_router.specs.Paths.{refused}
 use Rattle.soundness.specs.Worlds.{IsMade, HasLeaf}
 use Rattle.legal_statements.specs.Locked.{IsWritable}
@@ -23,10 +23,11 @@ pub record IsOwnLook (h : History) (session : ℕ) (s : TakenSnapshot) : Type 0 
   pub past : IsPast s.past (tx_events h)
 
 -- a row that no place above the named table refuses goes to the leaf to which the table's tree routes it, which the
--- session may write
+-- session may write; no kept CHECK on the leaf's path refuses it
 pub record IsStored (h : History) (session table : ℕ) (s : TakenSnapshot) (v : Version) : Type 0 where
   pub placed : refused Bounds v.row (path_of h session table) ≡ None
   pub routed : routed v.row (tree_of h session table s) ≡ Ok v.leaf
+  pub passes : (x : ℕ) → HasLeaf (catalogue_events h) x v.leaf → refused Checks v.row (path_of h session x) ≡ None
   pub locked : (x : ℕ) → HasLeaf (catalogue_events h) x v.leaf → IsWritable h session x
   pub leaf : v.leaf.number < leaf_count (row_events h)
 

@@ -1,4 +1,4 @@
-ghost use Rattle.legal_statements.specs.Laws.{FollowedIsLegal, AskedMayFollow, NewRowMayFollow, OldRowMayFollow, NewLeafMayFollow, NewLevelMayFollow, LeavesStayThere, NobodyElseDrops, NobodyElseEnds, DropMayFollow, NewPartitionMayFollow, AttachMayFollow, NoneBreaks, NobodyElseMarks, MarkMayFollow, ListedIsThere, NamedIsThere, TreeIsWhole, TableDropMayFollow, TreesStay, NewRowsMayFollow, ThereIsKnown};
+ghost use Rattle.legal_statements.specs.Laws.{FollowedIsLegal, AskedMayFollow, NewRowMayFollow, OldRowMayFollow, NewLeafMayFollow, NewLevelMayFollow, LeavesStayThere, NobodyElseDrops, NobodyElseEnds, DropMayFollow, NewPartitionMayFollow, AttachMayFollow, SkipMayFollow, CheckMayFollow, NoneBreaks, NobodyElseMarks, MarkMayFollow, ListedIsThere, NamedIsThere, TreeIsWhole, TableDropMayFollow, TreesStay, NewRowsMayFollow, ThereIsKnown};
 
 /// A legal history with permitted events stays one when events come that may follow it.
 pub fn followed_is_legal()
@@ -112,4 +112,14 @@ pub fn new_rows_may_follow()
 /// A session may ask for a lock on a table that is there for its transaction.
 pub fn there_is_known()
     ensures { ThereIsKnown }
+{}
+
+/// A table may become a partition without a scan, where a CHECK of it says all that the new place asks.
+pub fn skip_may_follow()
+    ensures { SkipMayFollow }
+{}
+
+/// A CHECK may be kept that repeats a partition's bound, before the entry ends.
+pub fn check_may_follow()
+    ensures { CheckMayFollow }
 {}

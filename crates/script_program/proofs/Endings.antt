@@ -4,7 +4,7 @@ use Rattle.std.proofs.KnownBytes.{Appends-nil}
 use Rattle.pg_values.specs.declared.outside.Sink.{Ghosts}
 use Rattle.schedule.proofs.Pieces.{nothing_yet, all_of_it}
 use Rattle.script_program.specs.declared.ended.Ended.{Ended}
-use Rattle.script_program.specs.declared.ended.Ended.TheVariants.{ScriptRefused, NoMemory}
+use Rattle.script_program.specs.declared.ended.Ended.TheVariants.{Done, ScriptRefused, NoMemory}
 use Rattle.script_program.specs.Outcomes.{Outcome, refusal, IsTold, Takes, TakesFirst, Fails, Ends, Written, CutOnOut, CutOnErr, Stopped}
 
 module _ {K : Type 0} (k : Ghosts K) (sink : K) where
@@ -24,6 +24,11 @@ module _ {K E : Type 0} (k : Ghosts K) (e : Ghosts E) (A : Outcome → Type 0) (
   pub told : (o : Outcome) → A o → Takes k out out' o.out → IsTold e err err' o r → Ends k e A P out out' err err' r
   told o a t (inl h) = Written o a h.0 t h.1
   told o a t (inr h) = CutOnErr o a h.0 t h.1
+
+  -- .. that is written on `out` at once
+  pub told_on_out : (o : Outcome) → A o → P o.out → o.ended ≡ Done → o.err ≡ [] → IsTold k out out' (refusal Done o.out) r → Takes e err err' [] → Ends k e A P out out' err err' r
+  told_on_out o a p done none (inl h) t = Written o a (h.0 ∙ sym done) h.1 (subst (Takes e err err') (sym none) t)
+  told_on_out o a p done none (inr h) t = CutOnOut o.out p h.0 h.1 t
 
   -- .. where memory may run out before its line is made
   pub refused : {T F : Type 0} (line : Result T F) (bytes : T → List ℕ) (o : Outcome) → OnOk line (A o) → P o.out → o.ended ≡ ScriptRefused → Takes k out out' o.out → IfOk line (λ l. bytes l ≡ o.err)

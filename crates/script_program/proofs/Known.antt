@@ -1,5 +1,5 @@
 -- The tasks of a script are those of its sessions.
-use Rattle.std.proofs.Common.{◌≡◌, ◌<◌, ◌≤◌, ℕ, zero, suc, ◌+◌, List, [], ◌∷◌, ◌++◌, Option, Some, None, All, length, map, codes, refl, sym, ap, ◌∙◌, subst, slice_index_or, arith}
+use Rattle.std.proofs.Common.{◌<◌, ◌≤◌, ℕ, zero, suc, ◌+◌, List, [], ◌∷◌, ◌++◌, Option, Some, None, All, length, map, codes, slice_index_or, arith}
 use Rattle.std.specs.List.{flat_map, range_with_len}
 use Rattle.std.proofs.lemmas.List.Elements.{All-append, All-map}
 use Rattle.std.proofs.lemmas.List.Concat.{flat_map-cons}
@@ -13,7 +13,7 @@ use Rattle.spec_reader.specs.declared.spec.SessionSpec.{SessionSpec}
 use Rattle.spec_reader.specs.declared.spec.Spec.{Spec}
 use Rattle.spec_reader.specs.declared.spec.StepUse.{StepUse}
 use Rattle.script_program.specs.Steps.{StepView, numbered, steps_of, steps_in, step_view, number_of, step_at, no_step}
-use Rattle.script_program.specs.Tasks.{plain, plain_if, setup_in, teardown_in, launch_of, use_in, before_steps, behind_steps, tasks_of, permutations_of}
+use Rattle.script_program.specs.Tasks.{plain, plain_if, setup_in, teardown_in, launch_of, use_in, tasks_of, permutations_of}
 
 none : {X : Type 0} (P : X → Type 0) → All P []
 none P i d lt = absurd (omega arith)

@@ -1,5 +1,6 @@
 pub mod Answers
 pub mod Causes
+pub mod Checks
 pub mod Endings
 pub mod Known
 pub mod Limits
@@ -8,3 +9,5 @@ pub mod Pieces
 pub mod RunEndings
 pub mod Runs
 pub mod Texts
+pub mod WorkLaws
+pub mod Works

@@ -15,10 +15,10 @@ use Rattle.script_program.specs.declared.ended.Ended.TheVariants.{ScriptRefused}
 use Rattle.script_program.proofs.Runs.{one_run, run_begins}
 
 module _ (text : List ℕ) where
-  not_both : (spec : Spec) (fault : SpecFault) → IsScript text spec → IsNoScript text fault → ⊥
+  pub not_both : (spec : Spec) (fault : SpecFault) → IsScript text spec → IsNoScript text fault → ⊥
   not_both spec fault is none = elim (no_script text fault none.refused) [ inl memory ↦ none.known memory | inr never ↦ never spec is ]
 
-  same_reason : (f g : SpecFault) → IsNoScript text f → IsNoScript text g → f ≡ g
+  pub same_reason : (f g : SpecFault) → IsNoScript text f → IsNoScript text g → f ≡ g
   same_reason f g p q = go (one_reason text f g p.refused q.refused)
     where
       go : (f ≡ faults.NoMemory) ⊎ ((g ≡ faults.NoMemory) ⊎ (f ≡ g)) → f ≡ g

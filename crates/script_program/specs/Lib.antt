@@ -1,3 +1,4 @@
+pub mod Checks
 pub mod Lines
 pub mod Outcomes
 pub mod Program
@@ -5,3 +6,4 @@ pub mod Reading
 pub mod Steps
 pub mod Tasks
 pub mod Texts
+pub mod Work

@@ -8,7 +8,7 @@ use Rattle.spec_reader.specs.declared.fault.SpecFault.TheVariants.{BadToken, Lim
 use Rattle.spec_reader.specs.declared.spec.SessionSpec.{SessionSpec}
 
 abbrev pub usage_line : List ℕ
-usage_line = codes "usage: partscript\n"
+usage_line = codes "usage: partscript [--mode run|check|gen|dump] [--today DATE] [--trail] [--seed N]\n"
 
 abbrev pub too_large_line : List ℕ
 too_large_line = codes "input over 4194304 bytes\n"

@@ -1,9 +1,8 @@
 -- The tasks of a permutation: the control session runs the setup blocks, then each session its setup, then the steps are
 -- launched, then each session runs its teardown, then open transactions are rolled back, then the control session runs the
 -- teardown.
-use Rattle.std.specs.Prelude.{ℕ, suc, ◌+◌, Bool, true, false, List, [], ◌∷◌, ◌++◌, Option, Some, None, length, map, codes}
+use Rattle.std.specs.Prelude.{ℕ, ◌+◌, Bool, true, false, List, [], ◌∷◌, ◌++◌, Option, Some, None, length, map, codes}
 use Rattle.std.specs.List.{flat_map, list_any, range_with_len}
-use Rattle.schedule.specs.Blocks.{BlockView}
 use Rattle.schedule.specs.declared.block.Kind.{Kind}
 use Rattle.schedule.specs.declared.block.Kind.TheVariants.{Setup, Step, Teardown, ControlTeardown}
 use Rattle.schedule.specs.declared.task.Task.{Task}

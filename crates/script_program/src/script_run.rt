@@ -13,8 +13,8 @@ use schedule::{Database, RunEnd, RunRefused};
 use spec_reader::{Spec, read_spec};
 use std::alloc::Global;
 
-// Answers that the script is refused, with this line, if there was memory for it.
-fn refuse<E: Sink>(err: &mut E, line: Result<Vec<u8>, NoMemory>) -> Ended
+/// Answers that the script is refused, with this line, if there was memory for it.
+pub(crate) fn refuse<E: Sink>(err: &mut E, line: Result<Vec<u8>, NoMemory>) -> Ended
     ensures { MatchResult line (λ l. IsTold E.Sink err.old err.new (refusal Ended.ScriptRefused l.items) result) (λ _. (result ≡ Ended.NoMemory) × Takes E.Sink err.old err.new []) }
 {
     match line {

@@ -7,6 +7,7 @@ mod Nodes
 pub mod Numbers
 pub mod Plain
 mod Scopes
+mod Straight
 mod Steps
 mod Trees
 mod Whole

@@ -1,5 +1,5 @@
 -- A SELECT by its plan is one that scans all leaves.
-use Rattle.std.proofs.Common.{◌≡◌, ℕ, ◌+◌, ◌-◌, ◌≤◌, ◌&&◌, not, arith, Bool, true, false, if◌then◌else◌, List, [], ◌∷◌, ◌++◌, inl, inr, refl, ap, sym, ◌∙◌, length, map}
+use Rattle.std.proofs.Common.{◌≡◌, ℕ, ◌+◌, ◌-◌, ◌≤◌, ◌&&◌, ◌||◌, not, arith, subst, append-nil, Bool, true, false, if◌then◌else◌, List, [], ◌∷◌, ◌++◌, inl, inr, refl, ap, sym, ◌∙◌, length, map}
 use Rattle.std.specs.Prelude.{Result, Ok, Err}
 use Rattle.std.proofs.lemmas.List.{length-append, length-map, map-append}
 use Rattle.std.proofs.lemmas.List.Elements.{All-cons, All-nil}
@@ -15,6 +15,7 @@ use Rattle.row_store.specs.declared.TheConstants.{SCAN_LIMIT}
 use Rattle.table_trees.specs.Histories.{tree_of}
 use Rattle.table_trees.specs.Trees.{TableTree, LeafTable, LevelTable, Trees, End, More, leaves, all_leaves}
 use Rattle.soundness.specs.Worlds.{IsMade}
+use Rattle.cond_logic.specs.Tables.{Leaf}
 use Rattle.cond_logic.specs.Trees.{CondTree}
 use Rattle.plan_tree.specs.Kept.{Keeps, id_of, leaf_of, keeps_plain, leaves_below, leaves_among, kept_leaves}
 use Rattle.plan_tree.specs.Laws.{Rows, shown}
@@ -22,7 +23,7 @@ use Rattle.lock_table.specs.Asked.{AskedView, AtOnce, WaitsBehind, ClosesCycle, 
 use Rattle.sql_binder.specs.Selects.{from_of, bound_select}
 use Rattle.cond_logic.specs.Asked.{SelectMeant}
 use Rattle.plan_tree.specs.Conjuncts.{pool, lies_within, asked_at, asked_later}
-use Rattle.plan_tree.specs.Plans.{keeps_first, is_joined, item_for, plan_for, plan_tables}
+use Rattle.plan_tree.specs.Plans.{PlannedItem, keeps_first, is_joined, is_none, item_for, plan_for, plan_tables}
 use Rattle.select_answer.specs.Answer.{answer_of, select_course}
 use Rattle.select_answer.specs.Laws.{OneItemIsReadOnce, PrunedIsPlain, plainly, plan_reads}
 use Rattle.stores.specs.Events.{look_of}
@@ -31,7 +32,9 @@ use Rattle.stores.specs.Laws.{GoodIsLegal}
 use Rattle.statement_steps.specs.Made.{Made, Halt, behind, then_told, and_then}
 use Rattle.statement_steps.specs.declared.caller.Caller.{Caller}
 use Rattle.statement_steps.specs.Asks.{told_of, locked, all_locked}
+use Rattle.plan_text.specs.Plans.{scanned}
 use Rattle.select_statement.specs.Below.{number_of}
+use Rattle.select_statement.specs.Explained.{OneTableReadsItsScans}
 use Rattle.select_statement.specs.Items.{items_of}
 use Rattle.select_statement.specs.Selected.{outcome, answered, by_plan, locked_below, trees_for}
 use Rattle.select_statement.specs.Plain.{answered_plainly, locked_plainly}
@@ -137,12 +140,12 @@ one_plain lawful small once pruned prunes c m table h good looks made =
 
 -- ---- locks change nothing of what is shown
 
-locks_show : (h : History) (s cmd : ℕ) (ls : List LockEvent) → shown (map LockChange ls ++ h) (look_of (map LockChange ls ++ h) s cmd) ≡ shown h (look_of h s cmd)
+pub locks_show : (h : History) (s cmd : ℕ) (ls : List LockEvent) → shown (map LockChange ls ++ h) (look_of (map LockChange ls ++ h) s cmd) ≡ shown h (look_of h s cmd)
 locks_show h s cmd [] = refl
 locks_show h s cmd (l ∷ ls) = locks_show h s cmd ls
 
 -- the events are those of locks alone
-abbrev AreLocks : {T : Type 0} → Made T → Type 0
+abbrev pub AreLocks : {T : Type 0} → Made T → Type 0
 AreLocks m = (ls : List LockEvent) × (m.events ≡ map LockChange ls)
 
 told_locks : (names : List (List ℕ)) (ls : List LockEvent) (v : AskedView) → AreLocks (told_of names (map LockChange ls) v)
@@ -150,10 +153,10 @@ told_locks names ls AtOnce = (ls, refl)
 told_locks names ls (WaitsBehind others) = (ls, refl)
 told_locks names ls (ClosesCycle cycle) = (ls, refl)
 
-locked_locks : (names : List (List ℕ)) (s t : ℕ) (mode : LockMode) (h : History) → AreLocks (locked names s t mode h)
+pub locked_locks : (names : List (List ℕ)) (s t : ℕ) (mode : LockMode) (h : History) → AreLocks (locked names s t mode h)
 locked_locks names s t mode h = told_locks names (asked_events (lock_events h) s (Lock (record { number = t }) mode)) (asked (lock_events h) s (Lock (record { number = t }) mode))
 
-both_locks : {T U : Type 0} (m : Made T) (next : T → Made U) → AreLocks m → ((x : T) → AreLocks (next x)) → AreLocks (and_then m next)
+pub both_locks : {T U : Type 0} (m : Made T) (next : T → Made U) → AreLocks m → ((x : T) → AreLocks (next x)) → AreLocks (and_then m next)
 both_locks {T = T} {U = U} m next first rest = by m.told
   where
     by : (r : Result T Halt) → AreLocks {T = U} (then_told r m.events next)
@@ -162,11 +165,11 @@ both_locks {T = T} {U = U} m next first rest = by m.told
         (later.0 ++ first.0, ap (λ (es : History). es ++ m.events) later.1 ∙ ap (λ (es : History). map LockChange later.0 ++ es) first.1 ∙ sym (map-append LockChange later.0 first.0))
     by (Err stop) = first
 
-all_locks : (names : List (List ℕ)) (s : ℕ) (mode : LockMode) (ts : List ℕ) (h : History) → AreLocks (all_locked names s mode ts h)
+pub all_locks : (names : List (List ℕ)) (s : ℕ) (mode : LockMode) (ts : List ℕ) (h : History) → AreLocks (all_locked names s mode ts h)
 all_locks names s mode [] h = ([], refl)
 all_locks names s mode (t ∷ ts) h = both_locks (locked names s t mode h) (λ u. all_locked names s mode ts ((locked names s t mode h).events ++ h)) (locked_locks names s t mode h) (λ u. all_locks names s mode ts ((locked names s t mode h).events ++ h))
 
-same_then : {T U : Type 0} (m : Made T) (f g : T → Made U) → ((x : T) → f x ≡ g x) → and_then m f ≡ and_then m g
+pub same_then : {T U : Type 0} (m : Made T) (f g : T → Made U) → ((x : T) → f x ≡ g x) → and_then m f ≡ and_then m g
 same_then {T = T} m f g same = by m.told
   where
     by : (r : Result T Halt) → then_told r m.events f ≡ then_told r m.events g
@@ -175,7 +178,7 @@ same_then {T = T} m f g same = by m.told
 
 -- ---- the statement
 
-by_plan_plain : (prunes : Bool) (names : List (List ℕ)) (c : Caller) (m : SelectMeant) (trees : List TableTree) (h : History)
+pub by_plan_plain : (prunes : Bool) (names : List (List ℕ)) (c : Caller) (m : SelectMeant) (trees : List TableTree) (h : History)
     → answered c m (plan_for prunes m.conditions trees) h ≡ answered_plainly c m trees h → by_plan names c m (plan_for prunes m.conditions trees) h ≡ locked_plainly prunes names c trees m h
 by_plan_plain prunes names c m trees h same =
     let plan = plan_for prunes m.conditions trees in
@@ -196,3 +199,19 @@ one_table_plain lawful small once pruned h good prunes names c t table looks mad
     by : (r : Result SelectMeant Fault) → and_then (outcome r) (λ m. by_plan names c m (plan_for prunes m.conditions trees) ((outcome r).events ++ h)) ≡ and_then (outcome r) (λ m. locked_plainly prunes names c trees m ((outcome r).events ++ h))
     by (Ok m) = ap (behind []) (by_plan_plain prunes names c m trees h (one_plain lawful small once pruned prunes c m table h good looks made))
     by (Err f) = refl
+
+-- ---- the scans of a plan
+
+scans_of_one : (i : PlannedItem) (at_last : List CondTree) → i.leaves ≡ scanned (record { items = i ∷ []; at_last = at_last })
+scans_of_one i at_last = by i.leaves refl
+  where
+    by : (ls : List Leaf) → i.leaves ≡ ls → i.leaves ≡ (if is_none i.leaves || false then [] else i.leaves ++ [])
+    by [] is = subst (λ (xs : List Leaf). xs ≡ (if is_none xs || false then [] else xs ++ [])) (sym is) refl
+    by (l ∷ ls) is = subst (λ (xs : List Leaf). xs ≡ (if is_none xs || false then [] else xs ++ [])) (sym is) (sym (append-nil (l ∷ ls)))
+
+pub reads_its_scans : OneItemIsReadOnce → OneTableReadsItsScans
+reads_its_scans once prunes m rows tree =
+    let cs = pool m.conditions in
+    let item = item_for prunes 0 (asked_at 0 cs) tree in
+    once [] rows item (asked_later 0 cs) (and_false prunes (is_joined 0 (asked_at 0 cs)) (none_joined cs))
+    ∙ ap (map id_of) (scans_of_one item (asked_later 0 cs))

@@ -18,13 +18,16 @@ use Rattle.select_answer.specs.Answer.{AreLent, answer_of, select_course}
 use Rattle.stores.specs.Events.{look_of}
 use Rattle.stores.specs.Stand.{Stands}
 use Rattle.stores.specs.declared.stores.Stores.{Stores}
-use Rattle.statement_steps.specs.Made.{Made}
+use Rattle.statement_steps.specs.Made.{Made, made}
 use Rattle.statement_steps.specs.Attempts.{MayAttempt}
 use Rattle.statement_steps.specs.declared.caller.Caller.{Caller}
 use Rattle.statement_steps.specs.declared.stop.Stop.{Stop}
 use Rattle.statement_steps.proofs.Numbers.{one_later}
 use Rattle.statement_steps.specs.Steps.{IsTold, IsStep}
 use Rattle.statement_steps.proofs.Parts.{stays, still_on, nothing_done, refused_here, no_memory}
+use Rattle.sql_ast.specs.Queries.{SelectTree}
+use Rattle.select_statement.specs.Explained.{told, printed}
+use Rattle.select_statement.specs.Gathered.{Found}
 use Rattle.select_statement.specs.Halts.{stop_of}
 use Rattle.select_statement.specs.Lent.{IsLookFor}
 use Rattle.select_statement.specs.Selected.{outcome, answered}
@@ -72,6 +75,17 @@ pub answer_refused : (r : Refusal) (stores : Stores) (caller : Caller) (m : Sele
 answer_refused (Sql f) stores caller m plan snap may look answers =
     refused_here (λ (x : Answer). x) f stores caller (caller.cmd + 1) (answered caller m plan) may (λ h stands. ap outcome (answers h (look_of h caller.session caller.cmd) (lent stores caller snap h look stands)))
 answer_refused NoMemory stores caller m plan snap may look answers = no_memory (λ (x : Answer). x) stores stores caller (caller.cmd + 1) (answered caller m plan) (stays stores caller.session)
+
+-- ---- a plan that is printed
+
+pub printed_done : (a : Answer) (stores : Stores) (caller : Caller) (t : SelectTree) (g : Found) (p : Planned) → MayAttempt stores caller → a ≡ told t g p → IsStep (λ (x : Answer). x) (Ok a) stores stores caller (caller.cmd + 1) (printed t g p)
+printed_done a stores caller t g p may e = record {
+  is = λ h stands at.
+      subst (λ m. IsTold (λ (x : Answer). x) (Ok a) stores caller (caller.cmd + 1) h (made [] m)) e
+      (refl, still_on stores h caller.session (caller.cmd + 1) stands (one_later h caller.session caller.cmd at));
+  keeps = stays stores caller.session;
+  waits = may.idle;
+}
 
 -- ---- what is the same at each history
 

@@ -1,5 +1,5 @@
 -- The parts of a SELECT, one after another.
-use Rattle.std.proofs.Common.{◌≡◌, ℕ, ◌+◌, ◌<◌, ◌≤◌, Bool, true, false, if◌then◌else◌, arith, List, [], ◌∷◌, ◌++◌, refl, ap, sym, subst, ◌∙◌, append_assoc, drop, Result, Ok, Err, IfOk, All, map, length}
+use Rattle.std.proofs.Common.{◌≡◌, ℕ, suc, ◌+◌, ◌<◌, ◌≤◌, Bool, true, false, if◌then◌else◌, arith, List, [], ◌∷◌, ◌++◌, refl, ap, sym, subst, ◌∙◌, append_assoc, drop, Result, Ok, Err, IfOk, All, map, length}
 use Rattle.std.specs.Prelude.{nat_le}
 use Rattle.std.specs.List.{flat_map, slice_index_or}
 use Rattle.std.proofs.lemmas.Bool.Decides.{nat_tests}
@@ -45,10 +45,9 @@ use Rattle.statement_steps.specs.Steps.{IsStep, follow}
 use Rattle.statement_steps.proofs.Parts.{refused_here}
 use Rattle.select_statement.specs.Below.{number_of}
 use Rattle.select_statement.specs.Lent.{HasLeaves, MayLock, IsTreeFor, IsLookFor}
-use Rattle.select_statement.specs.Selected.{outcome, meant, uncancelled, of_trees, trees_for, of_tables, begins, of_named, of_items, selected}
+use Rattle.select_statement.specs.Selected.{outcome, meant, uncancelled, trees_for, begins, of_named, of_items, selected}
 use Rattle.select_statement.proofs.Kept.{tables_kept}
 use Rattle.select_statement.proofs.Known.{tree_for}
-use Rattle.select_statement.proofs.Steps.{same_step}
 
 -- ---- the tables under the named ones
 
@@ -98,6 +97,18 @@ module _ {X : Type 0} (stores : Stores) (caller : Caller) (prunes : Bool) (condi
       subst (λ p. All (MayLock stores caller) (plan_tables p)) (sym is)
       (none_or stores caller (is_empty (plan_for prunes conditions (map f xs))) (flat_map (λ i. i.tables) (items_from prunes 0 (pool conditions) (map f xs))) (items_locked stores caller prunes 0 (pool conditions) (map f xs) (trees_for_all stores caller f xs its)))
 
+-- a plan has an item for each tree
+as_many_items : (prunes : Bool) (n : ℕ) (cs : List CondTree) (trees : List TableTree) → length (items_from prunes n cs trees) ≡ length trees
+as_many_items prunes n cs [] = refl
+as_many_items prunes n cs (t ∷ ts) = ap suc (as_many_items prunes (n + 1) (asked_later n cs) ts)
+
+pub as_planned : {X : Type 0} (f : X → TableTree) (prunes : Bool) (conditions : List CondTree) (xs : List X) (plan : Planned) → plan ≡ plan_for prunes conditions (map f xs) → length xs ≤ 4 → length plan.items ≤ 4
+as_planned f prunes conditions xs plan is few =
+    let same = ap (λ (p : Planned). length p.items) is in
+    let each = as_many_items prunes 0 (pool conditions) (map f xs) in
+    let n = length-map xs f in
+    omega (arith, same, each, n, few)
+
 -- locks leave it as it was
 pub reads_stay : (old new : Stores) (items : List PlannedItem) → new ≡ record old { locks = new.locks } → All (CanRead old.rows.leaves) items → All (CanRead new.rows.leaves) items
 reads_stay old new items rest all = subst (λ (x : Stores). All (CanRead x.rows.leaves) items) (sym rest) all
@@ -138,12 +149,6 @@ as_many stores caller f xs tables may are =
     let k = length-map (map number_of tables) (λ (t : ℕ). tree_of h caller.session t (look_of h caller.session caller.cmd)) in
     let m = length-map tables number_of in
     omega (arith, same, n, k, m)
-
--- of the tables that are read
-pub tables_step : (prunes : Bool) (names : List (List ℕ)) (caller : Caller) (t : SelectTree) (ns : List ℕ) (trees : List TableTree) (r : Result Answer Stop) (old new : Stores) → ((h : History) → Stands old h → trees ≡ trees_for caller ns h)
-    → IsStep (λ (a : Answer). a) r old new caller (caller.cmd + 1) (of_trees prunes names caller t trees) → IsStep (λ (a : Answer). a) r old new caller (caller.cmd + 1) (of_tables prunes names caller t ns)
-tables_step prunes names caller t ns trees r old new are step =
-    same_step (λ (a : Answer). a) r old new caller (caller.cmd + 1) (of_tables prunes names caller t ns) (of_trees prunes names caller t trees) (λ h stands. ap (λ x. of_trees prunes names caller t x h) (sym (are h stands))) step
 
 -- ---- by how many items stand in FROM
 

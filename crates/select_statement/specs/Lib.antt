@@ -1,5 +1,7 @@
 pub mod Below
 pub mod Cancels
+pub mod Explained
+pub mod Gathered
 pub mod Halts
 pub mod Items
 pub mod Laws

@@ -8,9 +8,7 @@ ghost use Rattle.sql_ast.specs.Queries.{select_tree};
 ghost use Rattle.cond_logic.specs.Asked.{output_tree, select_meant};
 ghost use Rattle.select_statement.specs.Cancels as cancels;
 
-use cond_logic::{
-    Binding, Cond, Output, Scalar, SelectAsk, RowTables, Truth3, eval, scalar_value,
-};
+use cond_logic::{Binding, Cond, Output, RowTables, Scalar, SelectAsk, Truth3, eval, scalar_value};
 use pg_values::{NoMemory, Refusal, Value};
 use sql_ast::Select;
 use sql_binder::bind_select;

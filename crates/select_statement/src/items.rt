@@ -12,8 +12,8 @@ use sql_ast::FromItem;
 use std::alloc::Global;
 use table_trees::{Node, Tree};
 
-// The name that an item of FROM goes by: an alias hides the table's name.
-fn item_name(item: &FromItem) -> &[u8]
+/// The name that an item of FROM goes by: an alias hides the table's name.
+pub(crate) fn item_name(item: &FromItem) -> &[u8]
     ensures { result.now ≡ from.item_name (joined_tree item.now) }
 {
     match &item.table.alias {
@@ -35,9 +35,9 @@ fn columns_of(alloc: Global, columns: &[Column]) -> Result<Vec<ScopeColumn>, NoM
     Ok(named)
 }
 
-// What the tree says of its table.
+/// What the tree says of its table.
 #[tactic(auto, using(crate::proofs::Nodes::node_seen))]
-fn node_of(tree: &Tree) -> &Node
+pub(crate) fn node_of(tree: &Tree) -> &Node
     ensures { result.now ≡ items.node_of (seen tree.now) }
 {
     &tree.node

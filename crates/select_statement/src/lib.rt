@@ -8,6 +8,10 @@
 //! run over the rows that the snapshot shows. A session that prunes nothing keeps all leaves. A part that
 //! waits or is refused ends the statement, which keeps the locks that it has got.
 //!
+//! An EXPLAIN of a SELECT does all of this but for the last part, and prints the plan in its place (`explain`).
+//! That a SELECT reads by the plan that its EXPLAIN prints is a law (`selects_run_their_plan`), and so is that a
+//! SELECT of one table reads just the leaves that stand there (`one_table_reads_its_scans`).
+//!
 //! What a SELECT of a run answers: what a plain scan of all leaves gives.
 //!
 //! `select_answer` has that of a plan, which is refused where it makes too many scans. A plan over one table reads
@@ -18,6 +22,9 @@
 
 mod below;
 mod cancels;
+mod explaining;
+mod gathered;
+mod gathering;
 mod items;
 mod laws;
 mod parts;
@@ -26,5 +33,7 @@ mod tables;
 
 pub use below::tables_below;
 pub use cancels::cancelled;
+pub use explaining::{explain, one_table_reads_its_scans, selects_run_their_plan};
+pub use gathered::Gathered;
 pub use laws::{leaves_are_few, one_table_is_plain, tables_are_plain};
 pub use statement::select;

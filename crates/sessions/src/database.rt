@@ -3,7 +3,8 @@ ghost use Rattle.sessions.specs.Sessions as spec;
 ghost use Rattle.sessions.specs.Whole.{StandsFor, count};
 
 use crate::session::Session;
-use crate::turns::{roll_back, turn};
+use crate::transactions::roll_back;
+use crate::turns::turn;
 use crate::{Executor, Sessions};
 use pg_values::{Fault, NoMemory, Refusal};
 use schedule::{Database, Kind, Progress};

@@ -22,6 +22,7 @@ mod role;
 mod session;
 mod sessions;
 mod settings;
+mod transactions;
 mod turns;
 
 pub use asker::{Asker, Place};

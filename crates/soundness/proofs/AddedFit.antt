@@ -24,7 +24,7 @@ use Rattle.soundness.proofs.Under.{under_top, accepts_map}
 use Rattle.soundness.proofs.Added.{present_was, new_way, below_view, sibling_view, default_view, above_mine, above_view, above_sibling, old_way_up, old_way_down}
 
 -- an end in a table that the transaction owns counts in each world of it, or its transaction is aborted
-end_counts_by : (f : Fate) (b : Bool) → (f ≡ Committed → b ≡ true) → (f ≡ Running → b ≡ true) → f ≢ Aborted → b ≡ true
+pub end_counts_by : (f : Fate) (b : Bool) → (f ≡ Committed → b ≡ true) → (f ≡ Running → b ≡ true) → f ≢ Aborted → b ≡ true
 end_counts_by Committed b c r out = c refl
 end_counts_by Running b c r out = r refl
 end_counts_by Aborted b c r out = absurd (out refl)
@@ -55,7 +55,7 @@ own_end h t w v x k world acts own part end shows runs by_t also =
     both_ways (k x.by.number) (own_both (tx_events h) k w t v.by.number x.by.number part also by_t shows.0 counts) (shows.1 x end)
 
 -- whatever may be shown in a leaf that the transaction owns, a scan by it judges
-judged : (h : History) (t : ℕ) (w : World) (v : Version) (p : ℕ) → InvariantOf h → IsWorld (tx_events h) w → IsRunning (tx_events h) t → w t ≡ true → HasLeaf (catalogue_events h) p v.leaf → OwnsIn h (view (tx_events h) t) t p
+pub judged : (h : History) (t : ℕ) (w : World) (v : Version) (p : ℕ) → InvariantOf h → IsWorld (tx_events h) w → IsRunning (tx_events h) t → w t ≡ true → HasLeaf (catalogue_events h) p v.leaf → OwnsIn h (view (tx_events h) t) t p
     → IsVersion (row_events h) v → MayShow (tx_events h) (snapshot_events h) (row_events h) w v → IsJudged (tx_events h) (snapshot_events h) (row_events h) t v
 judged h t w v p i world acts own at owns is (counts, inl (k, k_world, part, shows)) = inl (
   elim (split (tx_events h) w t v.by.number world counts) [

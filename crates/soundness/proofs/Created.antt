@@ -40,4 +40,5 @@ create_is_add h e may = record {
   not_above = not_above h e may;
   shallow = shallow h e may;
   scanned = λ v n x is at low judged. absurd (no_row h e v may is n x at low);
+  passes = λ v n x is at low judged. absurd (no_row h e v may is n x at low);
 }

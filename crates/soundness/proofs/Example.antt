@@ -10,6 +10,7 @@ use Rattle.pg_values.specs.declared.ids.LeafId.{LeafId}
 use Rattle.pg_values.specs.declared.lock_mode.LockMode.TheVariants.{RowExclusive}
 use Rattle.bound_forms.specs.declared.level.KeyColumn.{KeyColumn}
 use Rattle.bound_forms.specs.declared.level.Strategy.TheVariants.{Range as ByRange}
+use Rattle.bound_forms.specs.declared.partition_bound.Bound.{Bound}
 use Rattle.bound_forms.specs.declared.partition_bound.Bound.TheVariants.{Range}
 use Rattle.bound_forms.specs.declared.point.Edge.TheVariants.{Min, At}
 use Rattle.bound_forms.specs.Levels.{IsPointOf}
@@ -39,26 +40,30 @@ use Rattle.soundness.specs.Legal.{HasTable, MayMake, MayBear, HasPlace, MayAdd, 
 use Rattle.soundness.specs.Laws.{ConditionsCanBeMet}
 use Rattle.soundness.proofs.Worlds.{same_refl, view_own}
 
-abbrev number_column : Column
+abbrev pub number_column : Column
 number_column = record { name = 97 ∷ []; kind = KInt4; not_null = false }
 
-abbrev key_column : KeyColumn
+abbrev pub key_column : KeyColumn
 key_column = record { position = 0; kind = KInt4 }
 
 -- t (a int) PARTITION BY RANGE (a)
-abbrev parent : Table
+abbrev pub parent : Table
 parent = record { id = record { number = 0 }; name = 116 ∷ []; columns = number_column ∷ []; shape = Level (record { strategy = ByRange; columns = key_column ∷ []; one_if_list = λ list. refl }); by = record { number = 0 }; cmd = 0 }
 
 -- p (a int), with the row 5
-abbrev child : Table
+abbrev pub child : Table
 child = record { id = record { number = 1 }; name = 112 ∷ []; columns = number_column ∷ []; shape = Leaf (record { number = 0 }); by = record { number = 0 }; cmd = 1 }
 
-abbrev five : Version
+abbrev pub five : Version
 five = record { id = record { number = 0 }; leaf = record { number = 0 }; row = Int4 (pos 5) ∷ []; by = record { number = 0 }; cmd = 2 }
 
+-- FOR VALUES FROM (low) TO (high)
+abbrev pub range_from : (low high : ℕ) → Bound
+range_from low high = Range (At (Int4 (pos low)) ∷ (Min ∷ [])) (At (Int4 (pos high)) ∷ (Min ∷ []))
+
 -- p FOR VALUES FROM (0) TO (10)
-abbrev attached : Entry
-attached = record { id = record { number = 0 }; parent = record { number = 0 }; child = record { number = 1 }; bound = Range (At (Int4 (pos 0)) ∷ (Min ∷ [])) (At (Int4 (pos 10)) ∷ (Min ∷ [])); by = record { number = 0 }; cmd = 3 }
+abbrev pub attached : Entry
+attached = record { id = record { number = 0 }; parent = record { number = 0 }; child = record { number = 1 }; bound = range_from 0 10; by = record { number = 0 }; cmd = 3 }
 
 abbrev deleted : End
 deleted = record { by = record { number = 1 }; cmd = 1; how = Deleted }
@@ -74,10 +79,10 @@ with_parent = CatalogueChange (TableMade parent) ∷ begun
 abbrev with_child : History
 with_child = CatalogueChange (TableMade child) ∷ with_parent
 
-abbrev filled : History
+abbrev pub filled : History
 filled = RowChange (RowBorn five) ∷ with_child
 
-abbrev with_partition : History
+abbrev pub with_partition : History
 with_partition = CatalogueChange (EntryAdded attached) ∷ filled
 
 -- session 1 takes a snapshot and the lock, deletes the row and commits
@@ -104,7 +109,7 @@ no_command : (h : History) → IsInOrder None h
 no_command [] = tt
 no_command (e ∷ h) = (not_after (command_of e), no_command h)
 
-point_at : (n : ℕ) → IsPointOf (key_column ∷ []) (At (Int4 (pos n)) ∷ Min ∷ [])
+pub point_at : (n : ℕ) → IsPointOf (key_column ∷ []) (At (Int4 (pos n)) ∷ Min ∷ [])
 point_at n = record { edges = ((refl, refl), refl); words = λ i j d lt le. absurd (omega (arith, lt, le)) }
 
 attached_suits : Suits (tables_made (catalogue_events filled)) attached
@@ -126,7 +131,7 @@ legal_child = ((refl, tt), (λ e. omega arith, (tt, (tt, tt))), legal_parent)
 legal_row : IsLegal filled
 legal_row = (record { number = refl; leaf = omega arith; by = record { begun = omega arith; runs = refl } }, (λ e. omega arith, (λ e. omega arith, (tt, (tt, tt)))), legal_child)
 
-legal_partition : IsLegal with_partition
+pub legal_partition : IsLegal with_partition
 legal_partition = ((refl, attached_suits), (λ e. omega arith, (λ e. omega arith, (λ e. omega arith, (tt, (tt, tt))))), legal_row)
 
 legal_anew : IsLegal begun_anew
@@ -148,7 +153,7 @@ is_legal = (
 
 -- ---- what is locked, tested and scanned
 
-may_make_parent : MayMake begun parent
+pub may_make_parent : MayMake begun parent
 may_make_parent = record {
   acts = record { begun = omega arith; runs = refl };
   empty = λ v is. absurd is;
@@ -175,14 +180,14 @@ no_leaf : (x : ℕ) (leaf : LeafId) → HasLeaf (catalogue_events with_parent) x
 no_leaf zero leaf at same = level_leaf leaf at.1
 no_leaf (suc x) leaf at same = omega (arith, at.0)
 
-may_make_child : MayMake with_parent child
+pub may_make_child : MayMake with_parent child
 may_make_child = record { acts = record { begun = omega arith; runs = refl }; empty = λ v is. absurd is; only = no_leaf; free = name_free; unclaimed = name_unclaimed }
 
 owns_child : OwnsNow filled 0 1
 owns_child = (0, same_refl (tx_events filled) 0, view_own (tx_events filled) 0 refl, inr (omega arith, refl))
 
 -- the leaf is that of the child
-is_child : (x : ℕ) (l : LeafId) → HasLeaf (catalogue_events with_child) x l → x ≡ 1
+pub is_child : (x : ℕ) (l : LeafId) → HasLeaf (catalogue_events with_child) x l → x ≡ 1
 is_child zero l at = absurd (level_leaf l at.1)
 is_child (suc zero) l at = refl
 is_child (suc (suc x)) l at = absurd (omega (arith, at.0))
@@ -190,10 +195,11 @@ is_child (suc (suc x)) l at = absurd (omega (arith, at.0))
 writes_child : (x : ℕ) → x ≡ 1 → WritesNow with_child 0 x
 writes_child x is = subst (λ z. WritesNow with_child 0 z) (sym is) (0, same_refl (tx_events with_child) 0, view_own (tx_events with_child) 0 refl, inr (inr (omega arith, refl)))
 
-may_bear : MayBear with_child five
+pub may_bear : MayBear with_child five
 may_bear = record {
   locked = λ x at. writes_child x (is_child x five.leaf at);
   routed = λ x at e n p. absurd p.0;
+  passes = λ x at c n is. absurd is.0;
 }
 
 child_owned : (n x : ℕ) → Below filled 0 n 1 x → OwnsNow filled 0 x
@@ -225,7 +231,7 @@ has_place = record {
   default_scanned = λ d v n x p. absurd p.0;
 }
 
-may_add : MayAdd filled attached
+pub may_add : MayAdd filled attached
 may_add = record {
   place = has_place;
   child_locked = child_owned;
@@ -239,6 +245,7 @@ may_add = record {
     ],
     λ f k p. absurd p.0,
   );
+  passes = λ v n x is at low judged c m has. absurd has.0;
 }
 
 is_known : IsKnown (tx_events with_snapshot) (catalogue_events with_snapshot) 1 1
@@ -252,7 +259,7 @@ may_end = record {
 }
 
 are_permitted : ArePermitted emptied
-are_permitted = (may_end, (is_known, (tt, (tt, (tt, (may_add, (may_bear, (may_make_child, (may_make_parent, (tt, (tt, tt)))))))))))
+are_permitted = (may_end, (is_known, (tt, (tt, (tt, (inl may_add, (may_bear, (may_make_child, (may_make_parent, (tt, (tt, tt)))))))))))
 
 shown_leaf : Contains (leaves (tree_of emptied 0 0 (fresh (tx_events emptied) 0))) five.leaf
 unfolding Rattle.table_trees.specs.Histories.tree_of

@@ -3,6 +3,16 @@ pub mod AddedEntries
 pub mod AddedFit
 pub mod AddedSiblings
 pub mod All
+pub mod CheckAdded
+pub mod CheckBorn
+pub mod CheckExample
+pub mod CheckKept
+pub mod CheckOthers
+pub mod CheckPath
+pub mod CheckRepeats
+pub mod CheckSkip
+pub mod CheckTables
+pub mod CheckWaiting
 pub mod Checks
 pub mod Counted
 pub mod Created

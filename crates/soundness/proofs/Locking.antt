@@ -22,7 +22,7 @@ use Rattle.soundness.specs.Legal.{IsPermitted}
 use Rattle.soundness.proofs.Snaps.{or_cases}
 
 -- what an open transaction holds, it holds in the other list
-abbrev Keeps : TxEvents → LockEvents → LockEvents → Type 0
+abbrev pub Keeps : TxEvents → LockEvents → LockEvents → Type 0
 Keeps txs old new = (s q x : ℕ) (m : LockMode) → open_of txs s ≡ Some q → holds old s x m ≡ true → holds new s x m ≡ true
 
 still_held : (txs : TxEvents) (old new : LockEvents) (q x : ℕ) (m : LockMode) → Keeps txs old new → HoldsBy txs old q x m → HoldsBy txs new q x m
@@ -40,13 +40,13 @@ still_guarded : (txs : TxEvents) (cats : CatalogueEvents) (old new : LockEvents)
 still_guarded txs cats old new q x keep (inl l) = inl (still_held txs old new q x ShareUpdateExclusive keep l)
 still_guarded txs cats old new q x keep (inr o) = inr (still_owned txs cats old new q x keep o)
 
-owns_still : (h : History) (new : LockEvents) (w : World) (u y : ℕ) → Keeps (tx_events h) (lock_events h) new → OwnsIn h w u y → Owns (tx_events h) (catalogue_events h) new w u y
+pub owns_still : (h : History) (new : LockEvents) (w : World) (u y : ℕ) → Keeps (tx_events h) (lock_events h) new → OwnsIn h w u y → Owns (tx_events h) (catalogue_events h) new w u y
 owns_still h new w u y keep (q, s, c, o) = (q, s, c, still_owned (tx_events h) (catalogue_events h) (lock_events h) new q y keep o)
 
 writes_still : (h : History) (new : LockEvents) (w : World) (u y : ℕ) → Keeps (tx_events h) (lock_events h) new → WritesIn h w u y → Writes (tx_events h) (catalogue_events h) new w u y
 writes_still h new w u y keep (q, s, c, o) = (q, s, c, still_written (tx_events h) (catalogue_events h) (lock_events h) new q y keep o)
 
-guards_still : (h : History) (new : LockEvents) (w : World) (u y : ℕ) → Keeps (tx_events h) (lock_events h) new → GuardsIn h w u y → Guards (tx_events h) (catalogue_events h) new w u y
+pub guards_still : (h : History) (new : LockEvents) (w : World) (u y : ℕ) → Keeps (tx_events h) (lock_events h) new → GuardsIn h w u y → Guards (tx_events h) (catalogue_events h) new w u y
 guards_still h new w u y keep (q, s, c, o) = (q, s, c, still_guarded (tx_events h) (catalogue_events h) (lock_events h) new q y keep o)
 
 locks_keep : (h : History) (new : LockEvents) → Keeps (tx_events h) (lock_events h) new → LocksApart (tx_events h) (catalogue_events h) new → InvariantOf h → Invariant (tx_events h) (snapshot_events h) (row_events h) (catalogue_events h) new
@@ -161,7 +161,7 @@ not_given_up txs s a q closed opened = elim (cases_Bool (s == a)) [
   | inr other ↦ rw other refl
 ]
 
-event_keeps_held : (e : LockEvent) (h : History) → IsPermitted (LockChange e) h → Keeps (tx_events h) (lock_events h) (e ∷ lock_events h)
+pub event_keeps_held : (e : LockEvent) (h : History) → IsPermitted (LockChange e) h → Keeps (tx_events h) (lock_events h) (e ∷ lock_events h)
 event_keeps_held (LockGot s t n) h may a q x m opened held = or_right ((s == a) && ((t == x) && same_mode n m)) (holds (lock_events h) a x m) held
 event_keeps_held (LocksGivenUp s) h may a q x m opened held = let stays = not_given_up (tx_events h) s a q may opened in rw (stays, held) refl
 event_keeps_held (SnapshotGone s) h may a q x m opened held = held

@@ -88,7 +88,7 @@ born_keeps h v acts may unended i = record {
   ];
 }
 
-ended_shows : (txs : TxEvents) (snaps : SnapshotEvents) (rows : RowEvents) (k : ℕ) (x : End) (w : World) (v : Version) → MayShow txs snaps (RowEnded k x ∷ rows) w v → MayShow txs snaps rows w v
+pub ended_shows : (txs : TxEvents) (snaps : SnapshotEvents) (rows : RowEvents) (k : ℕ) (x : End) (w : World) (v : Version) → MayShow txs snaps (RowEnded k x ∷ rows) w v → MayShow txs snaps rows w v
 ended_shows txs snaps rows k x w v (counts, inl fresh) = (counts, inl (fresh.0, fresh.1, fresh.2, (fresh.3.0, λ y is. fresh.3.1 y (inr is))))
 ended_shows txs snaps rows k x w v (counts, inr one) = (counts, inr (one.0, one.1, one.2, (one.3.0, λ y is. one.3.1 y (inr is))))
 

@@ -123,7 +123,7 @@ held_new h r s w v None at now may i world is counts shows = taken_now (tx_event
 held_new h r s w v (Some old) at (inl now) may i world is counts shows = taken_now (tx_events h) (snapshot_events h) (row_events h) w s v world may.before_changes now counts shows
 held_new h r s w v (Some old) at (inr same) may i world is counts shows = renewed (tx_events h) (snapshot_events h) (row_events h) w r old s v i.open_versions.in_order world may.before_changes may.own.runs at same.0 same.1 is counts shows
 
-held_shows : (h : History) (r : ℕ) (s : TakenSnapshot) (w : World) (v : Version) → IsTaken h r s → InvariantOf h → IsWorld (tx_events h) w → IsVersion (row_events h) v
+pub held_shows : (h : History) (r : ℕ) (s : TakenSnapshot) (w : World) (v : Version) → IsTaken h r s → InvariantOf h → IsWorld (tx_events h) w → IsVersion (row_events h) v
     → MayShow (tx_events h) (SnapshotHeld r s ∷ snapshot_events h) (row_events h) w v → MayShow (tx_events h) (snapshot_events h) (row_events h) w v
 held_shows h r s w v may i world is (counts, inl fresh) = (counts, inl fresh)
 held_shows h r s w v may i world is (counts, inr one) = elim (either (r == one.0) s (held_by (snapshot_events h) one.0) one.1 one.2) [
@@ -131,7 +131,7 @@ held_shows h r s w v may i world is (counts, inr one) = elim (either (r == one.0
   | inr old ↦ (counts, inr (one.0, one.1, old, one.3))
 ]
 
-dropped_shows : (h : History) (r : ℕ) (w : World) (v : Version) → MayShow (tx_events h) (SnapshotDropped r ∷ snapshot_events h) (row_events h) w v → MayShow (tx_events h) (snapshot_events h) (row_events h) w v
+pub dropped_shows : (h : History) (r : ℕ) (w : World) (v : Version) → MayShow (tx_events h) (SnapshotDropped r ∷ snapshot_events h) (row_events h) w v → MayShow (tx_events h) (snapshot_events h) (row_events h) w v
 dropped_shows h r w v (counts, inl fresh) = (counts, inl fresh)
 dropped_shows h r w v (counts, inr one) = (counts, inr (one.0, one.1, other_left (r == one.0) (held_by (snapshot_events h) one.0) one.1 one.2, one.3))
 

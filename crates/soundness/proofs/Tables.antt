@@ -36,13 +36,13 @@ guards_grow : (txs : TxEvents) (t : Table) (cats : CatalogueEvents) (locks : Loc
 guards_grow txs t cats locks u x (inl l) = inl l
 guards_grow txs t cats locks u x (inr o) = inr (owns_grow txs t cats locks u x o)
 
-owns_still : (h : History) (t : Table) (w : World) (u y : ℕ) → OwnsIn h w u y → Owns (tx_events h) (TableMade t ∷ catalogue_events h) (lock_events h) w u y
+pub owns_still : (h : History) (t : Table) (w : World) (u y : ℕ) → OwnsIn h w u y → Owns (tx_events h) (TableMade t ∷ catalogue_events h) (lock_events h) w u y
 owns_still h t w u y (q, s, c, o) = (q, s, c, owns_grow (tx_events h) t (catalogue_events h) (lock_events h) q y o)
 
 writes_still : (h : History) (t : Table) (w : World) (u y : ℕ) → WritesIn h w u y → Writes (tx_events h) (TableMade t ∷ catalogue_events h) (lock_events h) w u y
 writes_still h t w u y (q, s, c, o) = (q, s, c, writes_grow (tx_events h) t (catalogue_events h) (lock_events h) q y o)
 
-guards_still : (h : History) (t : Table) (w : World) (u y : ℕ) → GuardsIn h w u y → Guards (tx_events h) (TableMade t ∷ catalogue_events h) (lock_events h) w u y
+pub guards_still : (h : History) (t : Table) (w : World) (u y : ℕ) → GuardsIn h w u y → Guards (tx_events h) (TableMade t ∷ catalogue_events h) (lock_events h) w u y
 guards_still h t w u y (q, s, c, o) = (q, s, c, guards_grow (tx_events h) t (catalogue_events h) (lock_events h) q y o)
 
 known_still : (h : History) (t : Table) (s x : ℕ) → IsKnown (tx_events h) (catalogue_events h) s x → IsKnown (tx_events h) (TableMade t ∷ catalogue_events h) s x

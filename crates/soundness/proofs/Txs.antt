@@ -118,7 +118,7 @@ guard_after : (old new : TxEvents) (cats : CatalogueEvents) (locks : LockEvents)
 guard_after old new cats locks q x less runs (inl l) = inl (holds_after old new locks q x ShareUpdateExclusive less runs l)
 guard_after old new cats locks q x less runs (inr o) = inr (own_after old new cats locks q x less runs o)
 
-owns_after : (old new : TxEvents) (cats : CatalogueEvents) (locks : LockEvents) (w : World) (t x : ℕ) → Shrinks old new → IsWorld new w → fate new t ≡ Running → Owns old cats locks w t x → Owns new cats locks w t x
+pub owns_after : (old new : TxEvents) (cats : CatalogueEvents) (locks : LockEvents) (w : World) (t x : ℕ) → Shrinks old new → IsWorld new w → fate new t ≡ Running → Owns old cats locks w t x → Owns new cats locks w t x
 owns_after old new cats locks w t x less world runs (q, s, c, o) =
     let same = less.same t q s in (q, same, c, own_after old new cats locks q x less (runs_too new w t q world runs same c) o)
 
@@ -126,7 +126,7 @@ writes_after : (old new : TxEvents) (cats : CatalogueEvents) (locks : LockEvents
 writes_after old new cats locks w t x less world runs (q, s, c, o) =
     let same = less.same t q s in (q, same, c, write_after old new cats locks q x less (runs_too new w t q world runs same c) o)
 
-guards_after : (old new : TxEvents) (cats : CatalogueEvents) (locks : LockEvents) (w : World) (t x : ℕ) → Shrinks old new → IsWorld new w → fate new t ≡ Running → Guards old cats locks w t x → Guards new cats locks w t x
+pub guards_after : (old new : TxEvents) (cats : CatalogueEvents) (locks : LockEvents) (w : World) (t x : ℕ) → Shrinks old new → IsWorld new w → fate new t ≡ Running → Guards old cats locks w t x → Guards new cats locks w t x
 guards_after old new cats locks w t x less world runs (q, s, c, o) =
     let same = less.same t q s in (q, same, c, guard_after old new cats locks q x less (runs_too new w t q world runs same c) o)
 
@@ -145,7 +145,7 @@ sees_end a b c d true to is = subst (λ z. (a || (z && (c && d))) ≡ false) (to
 sees_end a b c d false to is = grind (arith, common_steps)
 
 -- what may be shown after the event could be before
-shows_before : (old new : TxEvents) (snaps : SnapshotEvents) (rows : RowEvents) (w : World) (v : Version) → Shrinks old new → AreBegun old snaps rows → IsVersion rows v → MayShow new snaps rows w v → MayShow old snaps rows w v
+pub shows_before : (old new : TxEvents) (snaps : SnapshotEvents) (rows : RowEvents) (w : World) (v : Version) → Shrinks old new → AreBegun old snaps rows → IsVersion rows v → MayShow new snaps rows w v → MayShow old snaps rows w v
 shows_before old new snaps rows w v less begun is (counts, inl (k, world, part, shows)) = (counts, inl (k, less.worlds k world, part_before old new k w less part, shows))
 shows_before old new snaps rows w v less begun is (counts, inr (r, s, held, shows)) = (
   counts,

@@ -17,7 +17,7 @@ use Rattle.soundness.proofs.Txs.{shrinks}
 use Rattle.soundness.proofs.Rows.{accept_up}
 use Rattle.soundness.proofs.Added.{present_was}
 use Rattle.soundness.proofs.Ended.{was_present}
-use Rattle.soundness.proofs.All.{legal_keeps_all}
+use Rattle.soundness.proofs.All.{legal_keeps_all, legal_keeps_both, added}
 
 -- fewer entries ask for less
 fewer_accept : (c d : CatalogueEvents) (w : World) (x : ℕ) (row : List Value) → ((e : Entry) → Present d w e → Present c w e) → ((e : Entry) → Present d w e → key_at c e.parent.number row ≡ key_at d e.parent.number row) → AcceptAbove c w x row → AcceptAbove d w x row
@@ -46,7 +46,7 @@ waiting_accept (CatalogueChange (TableMade y)) h t x row legal permitted acts ru
     let i = legal_keeps_all h legal.2 permitted.1 in
     fewer_accept (catalogue_events h) (TableMade y ∷ catalogue_events h) (view (tx_events h) t) x row (λ e p. p) (λ e p. same_key y (catalogue_events h) e.parent.number row (i.entries.suited e p.0).parent) accept
 waiting_accept (CatalogueChange (TableDropped k s)) h t x row legal permitted acts runs foreign locked accept = fewer_accept (catalogue_events h) (TableDropped k s ∷ catalogue_events h) (view (tx_events h) t) x row (λ e p. p) (λ e p. refl) accept
-waiting_accept (CatalogueChange (EntryAdded e)) h t x row legal permitted acts runs foreign locked accept = fewer_accept (catalogue_events h) (EntryAdded e ∷ catalogue_events h) (view (tx_events h) t) x row (foreign_present h e t permitted.0 foreign) (λ g p. refl) accept
+waiting_accept (CatalogueChange (EntryAdded e)) h t x row legal permitted acts runs foreign locked accept = fewer_accept (catalogue_events h) (EntryAdded e ∷ catalogue_events h) (view (tx_events h) t) x row (let now = legal_keeps_both h legal.2 permitted.1 in foreign_present h e t (added h e legal.2 now.0 now.1 permitted.0) foreign) (λ g p. refl) accept
 waiting_accept (CatalogueChange (EntryEnded k s)) h t x row legal permitted acts runs foreign locked accept = fewer_accept (catalogue_events h) (EntryEnded k s ∷ catalogue_events h) (view (tx_events h) t) x row (was_present k s (catalogue_events h) (view (tx_events h) t)) (λ e p. refl) accept
 waiting_accept (CatalogueChange (EntryMarked k s)) h t x row legal permitted acts runs foreign locked accept = fewer_accept (catalogue_events h) (EntryMarked k s ∷ catalogue_events h) (view (tx_events h) t) x row (λ e p. p) (λ e p. refl) accept
 waiting_accept (CatalogueChange (CheckKept c)) h t x row legal permitted acts runs foreign locked accept = fewer_accept (catalogue_events h) (CheckKept c ∷ catalogue_events h) (view (tx_events h) t) x row (λ e p. p) (λ e p. refl) accept

@@ -6,22 +6,27 @@ use Rattle.history.specs.declared.transaction.Fate.TheVariants.{Running}
 use Rattle.history.specs.declared.catalogue.Entry.{Entry}
 use Rattle.history.specs.Transactions.{TxEvents, open_of, fate, IsRunning}
 use Rattle.history.specs.Snapshots.{TakenSnapshot, SnapshotHeld, held_by}
-use Rattle.history.specs.Catalogue.{EntryAdded}
-use Rattle.history.specs.History.{Event, History, CatalogueChange, tx_events, snapshot_events, catalogue_events, fresh, seen}
+use Rattle.history.specs.Catalogue.{EntryAdded, CheckKept}
+use Rattle.history.specs.History.{Event, History, CatalogueChange, tx_events, snapshot_events, catalogue_events, versions, fresh, seen}
 use Rattle.history.specs.Presence.{counts, entries_present, entries_shown}
 use Rattle.history.specs.Legal.{MayHold, IsLegal}
 use Rattle.table_trees.specs.Histories.{tree_of, ddl_tree, path_of, children}
-use Rattle.row_router.specs.declared.path.PathTest.TheVariants.{Bounds}
+use Rattle.row_router.specs.declared.path.PathTest.TheVariants.{Bounds, Checks}
 use Rattle.row_router.specs.Paths.{refused}
 use Rattle.table_trees.specs.Siblings.{AreSiblings}
 use Rattle.table_trees.specs.Trees.{leaves, height, accepting, routed}
 use Rattle.soundness.specs.Worlds.{same_tx, view, IsMade, AcceptAbove, HasLeaf}
-use Rattle.soundness.specs.Legal.{Below, MayAdd, MayCreate, ArePermitted}
+use Rattle.soundness.specs.Kept.{PassAbove, ChecksOf}
+use Rattle.soundness.specs.Legal.{Below, MayAdd, MaySkip, MayCreate, ArePermitted}
 use Rattle.soundness.specs.Parts.{AreChildren, WritesIn, InvariantOf}
 
 -- whatever comes, so long as each event is permitted, the invariant holds
 abbrev pub LegalKeepsAll : Type 0
 LegalKeepsAll = (h : History) → IsLegal h → ArePermitted h → InvariantOf h
+
+-- and its parts on kept CHECKs
+abbrev pub LegalKeepsChecks : Type 0
+LegalKeepsChecks = (h : History) → IsLegal h → ArePermitted h → ChecksOf h
 
 -- a snapshot that the session has open, of a transaction that counts for it; or one that it could hold now, or take
 abbrev pub IsLooking : History → (session : ℕ) → TakenSnapshot → Type 0
@@ -70,9 +75,10 @@ abbrev pub ChildrenAreCounted : Type 0
 ChildrenAreCounted = (h : History) (session t x : ℕ) (es : List Entry) → IsLegal h → open_of (tx_events h) session ≡ Some t
     → AreChildren (catalogue_events h) (view (tx_events h) t) x es → length es ≤ length (children (entries_present h session) x)
 
--- the event is no entry that the transaction itself adds
+-- the event is no entry that the transaction itself adds, and no CHECK that it keeps
 abbrev pub IsForeign : TxEvents → ℕ → Event → Type 0
 IsForeign txs t (CatalogueChange (EntryAdded e)) = same_tx txs t e.by.number ≡ false
+IsForeign txs t (CatalogueChange (CheckKept c)) = same_tx txs t c.by.number ≡ false
 IsForeign txs t _ = Unit {0}
 
 -- a leaf that a waiting transaction may write accepts, after whatever others do, what it accepted before
@@ -80,7 +86,35 @@ abbrev pub WaitingAccept : Type 0
 WaitingAccept = (e : Event) (h : History) (t x : ℕ) (row : List Value) → IsLegal (e ∷ h) → ArePermitted (e ∷ h) → IsRunning (tx_events h) t → fate (tx_events (e ∷ h)) t ≡ Running → IsForeign (tx_events h) t e
     → WritesIn h (view (tx_events h) t) t x → AcceptAbove (catalogue_events h) (view (tx_events h) t) x row → AcceptAbove (catalogue_events (e ∷ h)) (view (tx_events (e ∷ h)) t) x row
 
+-- where the scan may be left out, it would find nothing: it is an ATTACH with a scan
+abbrev pub AttachMaySkip : Type 0
+AttachMaySkip = (h : History) (e : Entry) → IsLegal h → ArePermitted h → MaySkip h e → MayAdd h e
+
+-- each row that a snapshot is shown in the leaf of a table is refused by no CHECK of the table's path: for every session, and
+-- each snapshot that it has open or could take
+abbrev pub EachRowPasses : History → Type 0
+EachRowPasses h = (session x : ℕ) (s : TakenSnapshot) (leaf : LeafId) → IsLooking h session s → HasLeaf (catalogue_events h) x leaf → All (λ v. refused Checks v.row (path_of h session x) ≡ None) (seen h leaf.number s)
+
+abbrev pub RowsPass : Type 0
+RowsPass = (h : History) → IsLegal h → ArePermitted h → EachRowPasses h
+
+-- where no CHECK of a table's path refuses the row, it passes each one above the table
+abbrev pub PathPasses : Type 0
+PathPasses = (h : History) (session t x : ℕ) (row : List Value) → IsLegal h → ArePermitted h → open_of (tx_events h) session ≡ Some t → refused Checks row (path_of h session x) ≡ None
+    → PassAbove (catalogue_events h) (view (tx_events h) t) x row
+
+-- a row that a waiting transaction may write passes, after whatever others do, the CHECKs of its leaf, where it passed them
+-- before and its path accepted it
+abbrev pub WaitingPass : Type 0
+WaitingPass = (e : Event) (h : History) (t x : ℕ) (row : List Value) → IsLegal (e ∷ h) → ArePermitted (e ∷ h) → IsRunning (tx_events h) t → fate (tx_events (e ∷ h)) t ≡ Running → IsForeign (tx_events h) t e
+    → WritesIn h (view (tx_events h) t) t x → AcceptAbove (catalogue_events h) (view (tx_events h) t) x row → PassAbove (catalogue_events h) (view (tx_events h) t) x row
+    → PassAbove (catalogue_events (e ∷ h)) (view (tx_events (e ∷ h)) t) x row
+
 -- all that is asked above can be met: in some history a row is shown in the leaf of a partition
 abbrev pub ConditionsCanBeMet : Type 0
 ConditionsCanBeMet = (h : History) × (session : ℕ) × (table : ℕ) × (s : TakenSnapshot) × (leaf : LeafId) × IsLegal h × ArePermitted h × IsLooking h session s × IsMade (catalogue_events h) table
     × Contains (leaves (tree_of h session table s)) leaf × (length (entries_shown h session s) ≡ 1) × (length (seen h leaf.number s) ≡ 1)
+
+-- and a scan can be left out, of a table that has a row
+abbrev pub SkipCanBeMet : Type 0
+SkipCanBeMet = (h : History) × (e : Entry) × IsLegal h × ArePermitted h × MaySkip h e × (length (versions h) ≡ 1)

@@ -1,20 +1,24 @@
 -- Which event is permitted after a history, beside what the history itself asks: what is locked, tested and scanned
 -- before it. Each condition speaks of what the session has by itself.
-use Rattle.std.specs.Prelude.{◌≡◌, ◌≢◌, ℕ, ◌+◌, ◌<◌, true, false, List, [], ◌∷◌, None, length}
+use Rattle.std.specs.Prelude.{◌≡◌, ◌≢◌, ℕ, ◌+◌, ◌<◌, true, false, List, [], ◌∷◌, ◌⊎◌, Some, None, length}
 use Rattle.pg_values.specs.declared.value.Value.{Value}
 use Rattle.pg_values.specs.declared.ids.LeafId.{LeafId}
 use Rattle.bound_forms.specs.Accepts.{accepts, is_default}
+use Rattle.bound_forms.specs.Within.{within}
+use Rattle.bound_forms.specs.declared.level.Level.{Level}
 use Rattle.history.specs.declared.transaction.Fate.TheVariants.{Running}
 use Rattle.history.specs.declared.version.Version.{Version}
 use Rattle.history.specs.declared.version.End.{End}
 use Rattle.history.specs.declared.catalogue.Table.{Table}
-use Rattle.history.specs.declared.catalogue.TableShape.TheVariants.{Leaf}
+use Rattle.history.specs.declared.catalogue.TableShape.TheVariants.{Leaf, Level as Levels}
 use Rattle.history.specs.declared.catalogue.Entry.{Entry}
 use Rattle.history.specs.declared.catalogue.Stamp.{Stamp}
+use Rattle.history.specs.declared.catalogue.Check.{Check}
 use Rattle.history.specs.declared.wait.Wanted.TheVariants.{Lock}
 use Rattle.history.specs.Transactions.{open_of, fate, IsRunning}
+use Rattle.history.specs.Snapshots.{TakenSnapshot, held_by}
 use Rattle.history.specs.Rows.{RowBorn, RowEnded}
-use Rattle.history.specs.Catalogue.{TableMade, TableDropped, EntryAdded, EntryEnded, EntryMarked, IsEntry}
+use Rattle.history.specs.Catalogue.{TableMade, TableDropped, EntryAdded, EntryEnded, EntryMarked, CheckKept, IsEntry}
 use Rattle.history.specs.Locks.{LockGot, LocksGivenUp, WaitBegan}
 use Rattle.history.specs.History.{Event, History, RowChange, CatalogueChange, LockChange, tx_events, snapshot_events, row_events, catalogue_events}
 use Rattle.table_trees.specs.Siblings.{CanStandTogether}
@@ -22,6 +26,7 @@ use Rattle.soundness.specs.Versions.{IsVersion}
 use Rattle.soundness.specs.Worlds.{view, table_in, IsMade, HasLeaf, key_at, Present, IsThere, IsPending, Under, Accepts, AcceptAbove}
 use Rattle.soundness.specs.Shown.{IsJudged}
 use Rattle.soundness.specs.Parts.{AreChildren, IsMaker, IsKnown, OwnsIn, WritesIn, GuardsIn}
+use Rattle.soundness.specs.Kept.{CountsIn, PassAbove, Repeats}
 
 -- ---- what the session of a transaction has: entries, tables, and the ways through them
 
@@ -39,6 +44,9 @@ Below h t n top x = Under (catalogue_events h) (view (tx_events h) t) n top x
 
 abbrev pub Takes : History → ℕ → Entry → List Value → Type 0
 Takes h t e row = Accepts (catalogue_events h) (view (tx_events h) t) e row
+
+abbrev pub HasCheck : History → ℕ → Check → Type 0
+HasCheck h t c = CountsIn (catalogue_events h) (view (tx_events h) t) c
 
 -- what it holds
 
@@ -58,10 +66,11 @@ Judges h t v = IsJudged (tx_events h) (snapshot_events h) (row_events h) t v
 
 -- ---- rows
 
--- the leaf is locked with RE, and each partition on its path accepts the row
+-- the leaf is locked with RE, each partition on its path accepts the row, and it passes each CHECK there
 pub record MayBear (h : History) (v : Version) : Type 0 where
   pub locked : (x : ℕ) → HasLeaf (catalogue_events h) x v.leaf → WritesNow h v.by.number x
   pub routed : (x : ℕ) → HasLeaf (catalogue_events h) x v.leaf → AcceptAbove (catalogue_events h) (view (tx_events h) v.by.number) x v.row
+  pub passes : (x : ℕ) → HasLeaf (catalogue_events h) x v.leaf → PassAbove (catalogue_events h) (view (tx_events h) v.by.number) x v.row
 
 -- the version's leaf is locked with RE
 pub record MayEndRow (h : History) (k : ℕ) (y : End) : Type 0 where
@@ -104,7 +113,8 @@ pub record HasPlace (h : History) (e : Entry) : Type 0 where
       → accepts (key_at (catalogue_events h) e.parent.number v.row) e.bound ≡ false
 
 -- an ATTACH. All below the child is owned; the child is no partition yet and does not stand above the parent, and no path
--- gets too long. Each version that a scan judges below the child is accepted by the entry and by those above it.
+-- gets too long. Each version that a scan judges below the child is accepted by the entry and by those above it, and passes
+-- the CHECKs of the parent and of those above it.
 pub record MayAdd (h : History) (e : Entry) : Type 0 where
   pub place : HasPlace h e
   pub child_locked : (n x : ℕ) → Below h e.by.number n e.child.number x → OwnsNow h e.by.number x
@@ -113,6 +123,31 @@ pub record MayAdd (h : History) (e : Entry) : Type 0 where
   pub shallow : (n m top x : ℕ) → Below h e.by.number n top e.parent.number → Below h e.by.number m e.child.number x → n + m + 1 ≡ 8 → ⊥
   pub scanned : (v : Version) (n x : ℕ) → IsVersion (row_events h) v → HasLeaf (catalogue_events h) x v.leaf → Below h e.by.number n e.child.number x → Judges h e.by.number v
       → Takes h e.by.number e v.row × ((f : Entry) (k : ℕ) → Has h e.by.number f → Below h e.by.number k f.child.number e.parent.number → Takes h e.by.number f v.row)
+  pub passes : (v : Version) (n x : ℕ) → IsVersion (row_events h) v → HasLeaf (catalogue_events h) x v.leaf → Below h e.by.number n e.child.number x → Judges h e.by.number v
+      → PassAbove (catalogue_events h) (view (tx_events h) e.by.number) e.parent.number v.row
+
+-- a CHECK of the child says all that the new place asks: its level has the columns of the parent's and its bound lies inside
+-- the new one, so both are of one strategy
+pub record Implies (h : History) (e : Entry) (c : Check) : Type 0 where
+  pub kept : HasCheck h e.by.number c
+  pub child : c.table.number ≡ e.child.number
+  pub level : Level
+  pub shape : (table_in (catalogue_events h) e.parent.number).shape ≡ Levels level
+  pub columns : level.columns ≡ c.kept.level.columns
+  pub inside : within c.kept.bound e.bound ≡ true
+
+-- an ATTACH without one: the parent is no partition and has no CHECK, and a CHECK of the child says all that is asked. Open
+-- snapshots are of transactions that run.
+pub record MaySkip (h : History) (e : Entry) : Type 0 where
+  pub place : HasPlace h e
+  pub child_locked : (n x : ℕ) → Below h e.by.number n e.child.number x → OwnsNow h e.by.number x
+  pub no_partition : (g : Entry) → Has h e.by.number g → g.child.number ≢ e.child.number
+  pub not_above : (n : ℕ) → Below h e.by.number n e.child.number e.parent.number → ⊥
+  pub shallow : (n m top x : ℕ) → Below h e.by.number n top e.parent.number → Below h e.by.number m e.child.number x → n + m + 1 ≡ 8 → ⊥
+  pub parent_alone : (g : Entry) → Has h e.by.number g → g.child.number ≢ e.parent.number
+  pub parent_unchecked : (d : Check) → HasCheck h e.by.number d → d.table.number ≢ e.parent.number
+  pub implied : (c : Check) × Implies h e c
+  pub looking : (r : ℕ) (s : TakenSnapshot) → held_by (snapshot_events h) r ≡ Some s → fate (tx_events h) s.tx ≡ Running
 
 -- a CREATE .. PARTITION OF: the transaction has just made the child, another table than the parent; no entry names it, and
 -- it has no row
@@ -136,6 +171,20 @@ pub record MayMark (h : History) (k : ℕ) (s : Stamp) : Type 0 where
   pub none_beside : (e g : Entry) → IsEntry (catalogue_events h) e → e.id.number ≡ k → Has h s.by.number g → g.parent.number ≡ e.parent.number
       → (HasPending h s.by.number g → ⊥) × (is_default g.bound ≡ false)
 
+-- the CHECK repeats an entry that the session has, and whose parent is guarded
+pub record IsTakenFrom (h : History) (c : Check) (e : Entry) : Type 0 where
+  pub has : Has h c.by.number e
+  pub repeats : Repeats (catalogue_events h) c e
+  pub guarded : GuardsNow h c.by.number e.parent.number
+
+-- the third stage of a concurrent DETACH, or FINALIZE, before it ends the entry: the CHECK repeats it, and the table is
+-- owned. An equal one is not kept twice.
+pub record MayKeep (h : History) (c : Check) : Type 0 where
+  pub acts : IsRunning (tx_events h) c.by.number
+  pub from_entry : (e : Entry) × IsTakenFrom h c e
+  pub locked : OwnsNow h c.by.number c.table.number
+  pub another : (d : Check) → HasCheck h c.by.number d → d.table.number ≡ c.table.number → d.kept ≢ c.kept
+
 -- ---- the events
 
 -- the event is permitted after the history: a lock is asked for only on a table that no open transaction of another
@@ -145,9 +194,10 @@ IsPermitted (RowChange (RowBorn v)) h = MayBear h v
 IsPermitted (RowChange (RowEnded k y)) h = MayEndRow h k y
 IsPermitted (CatalogueChange (TableMade t)) h = MayMake h t
 IsPermitted (CatalogueChange (TableDropped x s)) h = MayDrop h x s
-IsPermitted (CatalogueChange (EntryAdded e)) h = MayAdd h e
+IsPermitted (CatalogueChange (EntryAdded e)) h = MayAdd h e ⊎ MaySkip h e
 IsPermitted (CatalogueChange (EntryEnded k s)) h = MayEndEntry h k s
 IsPermitted (CatalogueChange (EntryMarked k s)) h = MayMark h k s
+IsPermitted (CatalogueChange (CheckKept c)) h = MayKeep h c
 IsPermitted (LockChange (LockGot s x m)) h = IsKnown (tx_events h) (catalogue_events h) s x
 IsPermitted (LockChange (WaitBegan s (Lock x m))) h = IsKnown (tx_events h) (catalogue_events h) s x.number
 IsPermitted (LockChange (LocksGivenUp s)) h = open_of (tx_events h) s ≡ None

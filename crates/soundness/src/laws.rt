@@ -1,8 +1,33 @@
-ghost use Rattle.soundness.specs.Laws.{LegalKeepsAll, OneLeafAccepts, SessionsHaveSiblings, CreateIsAdd, PathAccepts, RoutedAccepts, TreeHasAllBelow, WaysAreShort, ChildrenAreCounted, WaitingAccept, ConditionsCanBeMet};
+ghost use Rattle.soundness.specs.Laws.{SkipCanBeMet, LegalKeepsAll, LegalKeepsChecks, AttachMaySkip, RowsPass, PathPasses, WaitingPass, OneLeafAccepts, SessionsHaveSiblings, CreateIsAdd, PathAccepts, RoutedAccepts, TreeHasAllBelow, WaysAreShort, ChildrenAreCounted, WaitingAccept, ConditionsCanBeMet};
 
 /// Each kind of event keeps the invariant, where it is permitted.
 pub fn legal_keeps_all()
     ensures { LegalKeepsAll }
+{}
+
+/// And its parts on kept CHECKs.
+pub fn legal_keeps_checks()
+    ensures { LegalKeepsChecks }
+{}
+
+/// An ATTACH that leaves its scan out, under the conditions for that, is an ATTACH whose scan finds nothing.
+pub fn attach_may_skip()
+    ensures { AttachMaySkip }
+{}
+
+/// Each row that a snapshot is shown passes the CHECKs of its leaf and of the tables above it.
+pub fn rows_pass()
+    ensures { RowsPass }
+{}
+
+/// A row that no CHECK of a table's path refuses passes each one above the table.
+pub fn path_passes()
+    ensures { PathPasses }
+{}
+
+/// A row that a waiting statement may write passes, whatever others do, the CHECKs that it passed before.
+pub fn waiting_pass()
+    ensures { WaitingPass }
 {}
 
 /// Each row that a snapshot is shown in a leaf of a tree is accepted by that leaf and by no other of
@@ -58,4 +83,9 @@ pub fn waiting_accept()
 /// What is asked of events and snapshots can be met, by a history in which a partition shows a row.
 pub fn conditions_can_be_met()
     ensures { ConditionsCanBeMet }
+{}
+
+/// What is asked of an ATTACH without a scan can be met, of a table that has a row.
+pub fn skip_can_be_met()
+    ensures { SkipCanBeMet }
 {}

@@ -15,7 +15,8 @@
 mod laws;
 
 pub use laws::{
-    children_are_counted, conditions_can_be_met, create_is_add, legal_keeps_all, one_leaf_accepts,
-    path_accepts, routed_accepts, sessions_have_siblings, tree_has_all_below, waiting_accept,
+    attach_may_skip, children_are_counted, conditions_can_be_met, create_is_add, legal_keeps_all,
+    legal_keeps_checks, one_leaf_accepts, path_accepts, path_passes, routed_accepts, rows_pass,
+    sessions_have_siblings, skip_can_be_met, tree_has_all_below, waiting_accept, waiting_pass,
     ways_are_short,
 };

@@ -1,7 +1,8 @@
 -- What is promised of the answer to a text is what is read of it.
-use Rattle.std.proofs.Common.{◌≡◌, ℕ, Bool, true, false, cond, List, Option, Some, None, Ok, Err, refl, sym, ◌∙◌, ap}
+use Rattle.std.proofs.Common.{◌≡◌, ℕ, Bool, true, false, cond, List, Option, Some, None, Result, Ok, Err, refl, sym, ◌∙◌, ap}
 use Rattle.grammar.specs.Parses.{IsOnly}
-use Rattle.grammar.specs.Reading.{Class, Rule, syntax_at, read_whole}
+use Rattle.grammar.specs.Reading.{Class, Rule, Stop, syntax_at, limit_at, read_whole}
+use Rattle.grammar.specs.declared.refused.Refused.TheVariants as stopped
 use Rattle.grammar.proofs.Laws.{Law}
 use Rattle.grammar.specs.Places.{token_at}
 use Rattle.pg_values.specs.declared.fault.Fault.{Fault}
@@ -11,6 +12,7 @@ use Rattle.sql_tokens.specs.Tokens.{tokens_of}
 use Rattle.sql_tokens.specs.Words.{is_left_out}
 use Rattle.sql_tokens.specs.declared.token.Token.{Token}
 use Rattle.sql_expressions.specs.Parsed as parsed
+use Rattle.sql_expressions.proofs.ParseLaws.{read_as, refused_as}
 use Rattle.sql_expressions.specs.declared.refused.ParseRefused.{ParseRefused}
 use Rattle.sql_expressions.specs.declared.refused.ParseRefused.TheVariants as refusals
 use Rattle.statement_runs.specs.Faults.{fault}
@@ -30,6 +32,10 @@ some_eq : {A : Type 0} (a b : A) → Some a ≡ Some b → a ≡ b
 some_eq a b e = cc
 
 module _ {A : Type 0} (limit : parsed.LimitOf) (rule : List ℕ → Rule Token A) (text : List ℕ) (f : Class Token) (n : Bool) (c : Class Token) (law : Law (rule text) f n c) where
+  abbrev pub MatchRead : Result A Fault → Type 0
+  MatchRead (Ok a) = IsOnly (rule text).texts (rule text).free (tokens_of text) a
+  MatchRead (Err g) = (r : ParseRefused) × parsed.IsRefused limit rule text r × (fault r ≡ Some g)
+
   -- what was parsed was read
   pub whole_read : (a : A) → IsOnly (rule text).texts (rule text).free (tokens_of text) a → read_text limit rule text ≡ Ok a
   whole_read a h = ap (or_fault limit text) (reads_all (rule text) f n c law (tokens_of text) a h)
@@ -49,3 +55,18 @@ module _ {A : Type 0} (limit : parsed.LimitOf) (rule : List ℕ → Rule Token A
       let j = limits_there (rule text) f n c law (tokens_of text) h.0 h.1 h.2 in
       let k : too_many (limit text (tokens_of text) h.0) ≡ wanted = ap too_many (sym h.3) ∙ some_eq (too_many which) wanted e in
       ap (or_fault limit text) j ∙ ap (λ z. Err z) k
+
+  -- and what was read is promised
+  pub read_is : MatchRead (read_text limit rule text)
+  read_is = go (read_whole (rule text) (tokens_of text)) refl
+    where
+      there : (left : ℕ) → read_whole (rule text) (tokens_of text) ≡ Err (syntax_at left) → parsed.IsRefused limit rule text (parsed.misfit text (token_at (tokens_of text) left))
+      there left is = refused_as limit rule (λ (a : A). a) text f n c law (tokens_of text) (stopped.Syntax left) (parsed.misfit text (token_at (tokens_of text) left)) refl is refl
+
+      past : (left : ℕ) → read_whole (rule text) (tokens_of text) ≡ Err (limit_at left) → parsed.IsRefused limit rule text (refusals.TooMany (limit text (tokens_of text) left))
+      past left is = refused_as limit rule (λ (a : A). a) text f n c law (tokens_of text) (stopped.Limit left) (refusals.TooMany (limit text (tokens_of text) left)) refl is refl
+
+      go : (w : Result A Stop) → read_whole (rule text) (tokens_of text) ≡ w → MatchRead (or_fault limit text w)
+      go (Ok a) is = read_as limit rule (λ (a : A). a) text f n c law (tokens_of text) a refl is
+      go (Err (syntax_at left)) is = (parsed.misfit text (token_at (tokens_of text) left), there left is, misfit_fault text (token_at (tokens_of text) left))
+      go (Err (limit_at left)) is = (refusals.TooMany (limit text (tokens_of text) left), past left is, refl)

@@ -1,12 +1,12 @@
 -- What a statement of a session makes of a history, and what it prints (VI. SQL Commands).
-use Rattle.std.specs.Prelude.{ℕ, Bool, List, [], Option}
+use Rattle.std.specs.Prelude.{ℕ, Bool, true, false, List, [], Option, codes}
 use Rattle.pg_values.specs.declared.answer.Answer.{Answer}
 use Rattle.refusals.specs.Refusals.{left_out}
 use Rattle.history.specs.History.{History}
 use Rattle.sessions.specs.declared.settings.Settings.{Settings}
 use Rattle.sql_ast.specs.Commands.{CommandTree, makes_table, makes_partition, drops, attaches, detaches, locks}
 use Rattle.sql_ast.specs.declared.detachment.Detachment.TheVariants.{AtOnce, Concurrently, Finalize}
-use Rattle.sql_ast.specs.Queries.{SelectTree, RowTree, QueryTree, selects, inserts, updates, deletes, rows}
+use Rattle.sql_ast.specs.Queries.{SelectTree, RowTree, QueryTree, selects, inserts, updates, deletes, rows, explains_select}
 use Rattle.sql_ast.specs.Statements.{StatementTree, commands, queries}
 use Rattle.out_text.specs.Table.{printed_table}
 use Rattle.statement_steps.specs.Ended.{Ended, Done, silent_end, giving}
@@ -14,6 +14,7 @@ use Rattle.statement_steps.specs.Made.{Made, Refused, halted}
 use Rattle.statement_steps.specs.declared.caller.Caller.{Caller}
 use Rattle.statement_steps.specs.declared.ending.Ending.{Ending}
 use Rattle.statement_steps.specs.declared.rest.Rest.{Rest}
+use Rattle.select_statement.specs.Explained.{explained}
 use Rattle.select_statement.specs.Selected.{selected}
 use Rattle.insert_statement.specs.Inserted.{inserted}
 use Rattle.change_statement.specs.Deleted.{deleted}
@@ -74,8 +75,14 @@ row_attempted prunes names c rest (inserts table columns values) = silent (inser
 row_attempted prunes names c rest (updates table settings condition) = silent (updated prunes names [] c rest table settings condition)
 row_attempted prunes names c rest (deletes table condition) = silent (deleted prunes names [] c rest table condition)
 
+-- one that runs the SELECT too is left out
+abbrev pub explain_attempted : (prunes : Bool) → (names : List (List ℕ)) → Caller → (analyze : Bool) → SelectTree → History → Made Ended
+explain_attempted prunes names c false s = tabled (explained prunes names c s)
+explain_attempted prunes names c true s = omitted (codes "ANALYZE")
+
 abbrev pub query_attempted : (prunes : Bool) → (names : List (List ℕ)) → Caller → Option Rest → QueryTree → History → Made Ended
 query_attempted prunes names c rest (rows r) = row_attempted prunes names c rest r
+query_attempted prunes names c rest (explains_select analyze s) = explain_attempted prunes names c analyze s
 query_attempted prunes names c rest t = omitted (query_word t)
 
 -- from its beginning, or from where it stood, in a session with these settings

@@ -10,6 +10,7 @@ pub mod Once
 pub mod Printed
 pub mod Ran
 pub mod ReadMoments
+pub mod ReadBlocks
 pub mod Reading
 pub mod Roles
 pub mod StatementWords

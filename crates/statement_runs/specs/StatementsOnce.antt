@@ -18,6 +18,7 @@ use Rattle.statement_steps.specs.declared.rest.Rest.{Rest}
 use Rattle.statement_steps.specs.declared.rest.Rest.TheVariants.{Detach}
 use Rattle.statement_steps.specs.declared.rest.RestOfDetach.{RestOfDetach}
 use Rattle.statement_steps.specs.Steps.{told_on}
+use Rattle.select_statement.specs.Explained.{explained}
 use Rattle.select_statement.specs.Selected.{selected}
 use Rattle.insert_statement.specs.Inserted.{inserted}
 use Rattle.change_statement.specs.Deleted.{deleted}
@@ -88,7 +89,8 @@ query_once : (prunes : Bool) (names : List (List ℕ)) (c : Caller) (rest : Opti
 query_once prunes names c rest h (rows r) = row_once prunes names c rest h r
 query_once prunes names c rest h (prepares name kinds r) = tt
 query_once prunes names c rest h (executes name values) = tt
-query_once prunes names c rest h (explains_select costs s) = tt
+query_once prunes names c rest h (explains_select true s) = tt
+query_once prunes names c rest h (explains_select false s) = plain_once (λ r. false) table (explained prunes names c s h).told
 query_once prunes names c rest h (explains_execute costs name values) = tt
 
 each_once : (names : List (List ℕ)) (c : Caller) (rest : Option Rest) (h : History) (g : Settings) (t : StatementTree)

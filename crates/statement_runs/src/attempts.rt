@@ -16,7 +16,7 @@ use insert_statement::insert;
 use out_text::write_table;
 use pg_values::NoMemory;
 use refusals::left_out;
-use select_statement::select;
+use select_statement::{explain, select};
 use sessions::Settings;
 use sql_ast::{Command, Detachment, Query, RowStatement, Select, Statement};
 use statement_steps::{Caller, Ending, Rest, SessionNames, Stop, ended};
@@ -139,6 +139,49 @@ fn attempt_rows(
     }
 }
 
+// The plan is printed as a table; the SELECT is not run.
+fn attempt_plan(
+    alloc: Global,
+    stores: &mut Stores,
+    names: &SessionNames,
+    caller: Caller,
+    prunes: bool,
+    statement: &Select,
+    out: &mut Vec<u8>,
+) -> Result<(), Stop>
+    requires { MayAttempt stores.old caller }
+    ensures { IsStatement (ended result) stores.old stores.new out.old.items out.new.items caller (attempted.explain_attempted prunes names.now caller false (select_tree statement.now)) }
+{
+    check_room(stores, caller);
+    match explain(alloc, stores, names, caller, prunes, statement) {
+        Ok(answer) => match write_table(alloc, &answer, out) {
+            Ok(()) => Ok(()),
+            Err(NoMemory) => Err(Stop::NoMemory),
+        },
+        Err(stop) => Err(stop),
+    }
+}
+
+fn attempt_explain(
+    alloc: Global,
+    stores: &mut Stores,
+    names: &SessionNames,
+    caller: Caller,
+    prunes: bool,
+    analyze: bool,
+    statement: &Select,
+    out: &mut Vec<u8>,
+) -> Result<(), Stop>
+    requires { MayAttempt stores.old caller }
+    ensures { IsStatement (ended result) stores.old stores.new out.old.items out.new.items caller (attempted.explain_attempted prunes names.now caller analyze (select_tree statement.now)) }
+{
+    if analyze {
+        omit(alloc, stores, caller, b"ANALYZE", out)
+    } else {
+        attempt_plan(alloc, stores, names, caller, prunes, statement, out)
+    }
+}
+
 fn attempt_query(
     alloc: Global,
     stores: &mut Stores,
@@ -155,6 +198,9 @@ fn attempt_query(
 {
     match query {
         Query::Rows(s) => attempt_rows(alloc, stores, names, caller, prunes, rest, s, out),
+        Query::ExplainSelect(analyze, s) => {
+            attempt_explain(alloc, stores, names, caller, prunes, *analyze, s, out)
+        }
         _ => omit(alloc, stores, caller, query_word(query), out),
     }
 }

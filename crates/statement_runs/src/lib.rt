@@ -50,6 +50,6 @@ pub use changes::{reset, set};
 pub use executor::StoreExecutor;
 pub use kinds::Kinds;
 pub use names::SettingName;
-pub use reading::read_block;
+pub use reading::{blocks_are_read_by_the_grammar, read_block};
 pub use roles::{changed_settings, looks, role_of};
 pub use statements::Statements;

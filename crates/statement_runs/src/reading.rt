@@ -1,6 +1,8 @@
-ghost use Rattle.std.specs.Prelude.{◌≤◌, IfOk, length, map};
+ghost use Rattle.std.specs.Prelude.{◌≡◌, ◌≤◌, ℕ, IfOk, List, Result, length, map};
+ghost use Rattle.pg_values.specs.declared.fault.Fault.{Fault as OneFault};
 ghost use Rattle.sessions.specs.Answers.{IsAnswerBy};
-ghost use Rattle.sql_ast.specs.Statements.{statement_tree};
+ghost use Rattle.sql_ast.specs.Statements.{StatementTree, statement_tree};
+ghost use Rattle.statement_runs.specs.ReadBlocks.{IsReadAs};
 ghost use Rattle.statement_runs.specs.Reading as reading;
 
 use crate::faults::fault;
@@ -19,3 +21,10 @@ pub fn read_block(alloc: Global, text: &[u8]) -> Result<Vec<Statement>, Refusal>
         Err(refused) => Err(Refusal::Sql(fault(alloc, refused)?)),
     }
 }
+
+/// What is read of a block is what the grammar says of its text: accepted just where the text is a block,
+/// with its one list of statements, and refused with the fault of its place. The call does nothing.
+pub fn blocks_are_read_by_the_grammar()
+    ensures said { (text : List ℕ) → IsReadAs text (reading.read_block text) }
+    ensures one { (text : List ℕ) (read : Result (List StatementTree) OneFault) → IsReadAs text read → read ≡ reading.read_block text }
+{}

@@ -34,7 +34,7 @@ impl Kinds for Statements {
     ghost use Rattle.std.specs.Prelude.{ℕ, List};
     ghost use Rattle.sql_ast.specs.Statements.{StatementTree, statement_tree};
     ghost use Rattle.sql_syntax.specs.declared.parse.TheConstants.{MOST_STATEMENTS};
-    ghost use Rattle.statement_runs.specs.ReadMoments.{StatementsArePlain, good_statements};
+    ghost use Rattle.statement_runs.specs.ReadMoments.{StatementsAreSound, good_statements};
     ghost use Rattle.statement_runs.specs.StatementsOnce.{all_once};
     ghost use Rattle.statement_runs.specs.StatementWords.{statement_words};
 
@@ -54,7 +54,7 @@ impl Kinds for Statements {
 
     ghost most_statements = { MOST_STATEMENTS };
 
-    ghost Holds = { StatementsArePlain };
+    ghost Holds = { StatementsAreSound };
 
     ghost holds = { good_statements };
 

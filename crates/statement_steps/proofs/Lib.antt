@@ -3,6 +3,6 @@ mod Known
 mod Left
 pub mod Parts
 pub mod Steps
-pub mod Waiting
-pub mod Since
 pub mod Lasting
+pub mod Since
+pub mod Waiting

@@ -16,7 +16,7 @@ use Rattle.history.specs.History.{Event, History, TxChange, SnapshotChange, RowC
 use Rattle.history.specs.Legal.{IsLegal}
 use Rattle.history.proofs.Open.{open_runs}
 use Rattle.soundness.specs.Worlds.{same_tx, is_running, view, table_in, IsMade, Present, AcceptsKey, key_at}
-use Rattle.soundness.specs.Legal.{MayAdd, ArePermitted, IsPermitted}
+use Rattle.soundness.specs.Legal.{HasPlace, ArePermitted, IsPermitted}
 use Rattle.soundness.specs.Parts.{WritesIn}
 use Rattle.soundness.proofs.Worlds.{both_ways, view_world, view_own}
 use Rattle.soundness.proofs.Under.{under_above, under_map, accepts_map}
@@ -63,10 +63,15 @@ not_same : (txs : TxEvents) (t k : ℕ) → k ≢ t → same_tx txs t k ≡ fals
 unfolding same_tx
 not_same txs t k other = grind (arith, nat_tests, other)
 
+-- an entry has its place, whether the rows below it are scanned or not
+placed : (h : History) (e : Entry) → IsPermitted (CatalogueChange (EntryAdded e)) h → HasPlace h e
+placed h e (inl added) = added.place
+placed h e (inr skipped) = skipped.place
+
 -- an entry of another transaction is none of this one's
-foreign_present : (h : History) (e : Entry) (t : ℕ) → MayAdd h e → e.by.number ≢ t → (g : Entry) → Present (EntryAdded e ∷ catalogue_events h) (view (tx_events h) t) g → Present (catalogue_events h) (view (tx_events h) t) g
-foreign_present h e t may other g p = elim (present_was e (catalogue_events h) (view (tx_events h) t) g p) [
-  | inl new ↦ absurd (both_ways (view (tx_events h) t e.by.number) new.1 (other_out (fate (tx_events h) e.by.number) (same_tx (tx_events h) t e.by.number) may.place.acts.runs (not_same (tx_events h) t e.by.number other)))
+foreign_present : (h : History) (e : Entry) (t : ℕ) → HasPlace h e → e.by.number ≢ t → (g : Entry) → Present (EntryAdded e ∷ catalogue_events h) (view (tx_events h) t) g → Present (catalogue_events h) (view (tx_events h) t) g
+foreign_present h e t place other g p = elim (present_was e (catalogue_events h) (view (tx_events h) t) g p) [
+  | inl new ↦ absurd (both_ways (view (tx_events h) t e.by.number) new.1 (other_out (fate (tx_events h) e.by.number) (same_tx (tx_events h) t e.by.number) place.acts.runs (not_same (tx_events h) t e.by.number other)))
   | inr old ↦ old
 ]
 
@@ -97,7 +102,7 @@ stays_event (CatalogueChange (TableMade y)) h t x legal permitted acts runs none
     let i = legal_keeps_all h legal.2 permitted.1 in
     fewer_stay (TableMade y) h t x (λ g p. p) (λ g p row. same_key y (catalogue_events h) g.parent.number row (i.entries.suited g p.0).parent)
 stays_event (CatalogueChange (TableDropped k s)) h t x legal permitted acts runs none locked = fewer_stay (TableDropped k s) h t x (λ g p. p) (λ g p row. refl)
-stays_event (CatalogueChange (EntryAdded e)) h t x legal permitted acts runs none locked = fewer_stay (EntryAdded e) h t x (foreign_present h e t permitted.0 none) (λ g p row. refl)
+stays_event (CatalogueChange (EntryAdded e)) h t x legal permitted acts runs none locked = fewer_stay (EntryAdded e) h t x (foreign_present h e t (placed h e permitted.0) none) (λ g p row. refl)
 stays_event (CatalogueChange (EntryEnded k s)) h t x legal permitted acts runs none locked = fewer_stay (EntryEnded k s) h t x (was_present k s (catalogue_events h) (view (tx_events h) t)) (λ g p row. refl)
 stays_event (CatalogueChange (EntryMarked k s)) h t x legal permitted acts runs none locked = fewer_stay (EntryMarked k s) h t x (λ g p. p) (λ g p row. refl)
 stays_event (CatalogueChange (CheckKept c)) h t x legal permitted acts runs none locked = fewer_stay (CheckKept c) h t x (λ g p. p) (λ g p row. refl)

@@ -1,14 +1,13 @@
 ghost use Rattle.std.specs.Prelude.{◌≡◌, IfOk, map, string_bytes};
-ghost use Rattle.script_program.specs.Program.{Calls};
-ghost use Rattle.script_program.specs.Texts.{TextBegins, TextEnds};
+ghost use Rattle.script_program.specs.Program.{Calls, WorkBegins, WorkEnds};
 ghost use Rattle.step_engine.specs.Run as run;
 
-use pg_values::{NoMemory, PgText, Sink, Source};
+use pg_values::{Fault, NoMemory, PgText, Refusal, Sink, Source};
 use schedule::Database;
 use script_program::{Ended, Opener, run_program};
 use sessions::Sessions;
 use spec_reader::Spec;
-use statement_runs::{Statements, StoreExecutor};
+use statement_runs::{Statements, StoreExecutor, read_block};
 use statement_steps::SessionNames;
 use std::alloc::Global;
 
@@ -23,25 +22,36 @@ fn session_names(alloc: Global, script: &Spec) -> Result<SessionNames, NoMemory>
     Ok(names)
 }
 
-/// Opens the stores of a run with the sessions of a script.
+/// Opens the stores of a run with the sessions of a script, whose blocks are SQL.
 struct OpensStores;
 
 impl Opener for OpensStores {
-    ghost use Rattle.step_engine.specs.Run.{opened};
+    ghost use Rattle.step_engine.specs.Run.{opened, refused};
 
     type Db = Sessions<StoreExecutor<Statements>>;
 
     ghost opens = { λ script d. ⟦<Sessions<StoreExecutor<Statements>> as Database>⟧.stands d (opened script) };
+
+    ghost refused = { refused };
 
     fn open(alloc: Global, script: &Spec) -> Result<Sessions<StoreExecutor<Statements>>, NoMemory> {
         let names = session_names(alloc, script)?;
         let executor = StoreExecutor::new(alloc, Statements { names }, script.sessions.len() + 1)?;
         Sessions::new(alloc, executor)
     }
+
+    fn refusal(alloc: Global, block: &[u8]) -> Result<Option<Fault>, NoMemory> {
+        match read_block(alloc, block) {
+            Ok(_) => Ok(None),
+            Err(Refusal::Sql(fault)) => Ok(Some(fault)),
+            Err(Refusal::NoMemory) => Err(NoMemory),
+        }
+    }
 }
 
-/// Judges the words behind the program's name, reads the whole of `input`, and runs the script that it
-/// is. The run is written to `out` as it happens, the one line of a refusal to `err`.
+/// Judges the words behind the program's name, reads the whole of `input`, and does what the words ask for with the
+/// script that it is: runs it, or tells which of its blocks are refused. The run is written to `out` as it happens,
+/// the one line of a refusal to `err`.
 pub fn partscript_run<S: Source, K: Sink, E: Sink>(
     alloc: Global,
     words: &[String],
@@ -49,7 +59,7 @@ pub fn partscript_run<S: Source, K: Sink, E: Sink>(
     out: &mut K,
     err: &mut E,
 ) -> Ended
-    ensures { Calls S.Source K.Sink E.Sink (TextEnds run.rules run.HoldsThroughout run.opened) (TextBegins run.rules run.HoldsThroughout run.opened) (map string_bytes words.now) input.old input.new out.old out.new err.old err.new result }
+    ensures { Calls S.Source K.Sink E.Sink (WorkEnds run.rules run.HoldsThroughout run.opened run.refused) (WorkBegins run.rules run.HoldsThroughout run.opened run.refused) (map string_bytes words.now) input.old input.new out.old out.new err.old err.new result }
 {
     run_program::<OpensStores, S, K, E>(alloc, words, input, out, err)
 }

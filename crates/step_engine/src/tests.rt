@@ -30,6 +30,9 @@ step q: SELECT * FROM t WHERE a = 10;
 
 const REFUSED: &str = "line 1: unexpected token\n";
 
+const USAGE: &str =
+    "usage: partscript [--mode run|check|gen|dump] [--today DATE] [--trail] [--seed N]\n";
+
 /// A script that writes to both outputs.
 const BOTH: &str = "teardown { DROP TABLE t; }
 session s
@@ -97,7 +100,7 @@ fn call(alloc: Global, script: &[u8], around: &Around<'_>) -> Result<Outcome, No
 {
     let mut words = Vec::new(alloc);
     if around.with_a_word {
-        words.push(String::from_str(alloc, "--trail")?)?;
+        words.push(String::from_str(alloc, "--mode=walk")?)?;
     }
     let bytes = Vec::from_slice(alloc, script)?;
     let read_fails = Vec::from_slice(alloc, around.read_fails)?;
@@ -139,7 +142,7 @@ fn a_word_is_refused(rt: HostRuntime) {
     let mut around = no_fault(7);
     around.with_a_word = true;
     let usage = call(rt.alloc(), THREE_ROWS.as_bytes(), &around).expect(&rt, "memory");
-    assert!(rt; usage.is(Ended::Usage, "", "usage: partscript\n"));
+    assert!(rt; usage.is(Ended::Usage, "", USAGE));
 }
 
 #[test]

@@ -2,8 +2,12 @@ use Rattle.std.proofs.Common.{refl}
 use Rattle.row_change.proofs.Successors.{keeps_all}
 use Rattle.statement_steps.specs.Gathered.{found_of}
 use Rattle.change_statement.specs.Updated.{tested, succeeded}
+use Rattle.change_statement.proofs.Births.{none_stands}
 use Rattle.change_statement.proofs.Runs.{then_run, stop_run}
 use Rattle.change_statement.proofs.updating.store_in.Goals as goal
+
+pub succeed-requires-clause-taken : goal.succeed-requires-clause-taken
+succeed-requires-clause-taken c = none_stands c.args.stores.now c.args.caller (found_of c.args.gathered.now) c.args.leaf c.args.row c.in-Ok.ensures
 
 pub returns-in-Ok-clause-run : goal.returns-in-Ok-clause-run
 returns-in-Ok-clause-run c =

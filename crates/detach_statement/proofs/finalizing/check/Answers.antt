@@ -15,6 +15,9 @@ returns-in-Ok-clause-partition c =
     pending_is_partition c.legal_keeps_all.ensures c.listed_is_there.ensures c.args.stores.now c.args.caller c.args.parent c.args.table.number c.requires.may
     (λ h txs catalog. finalizable_is h c.args.caller.session c.args.parent.number c.args.table.number (c.in-Ok.ensures h txs catalog))
 
+pub returns-in-Ok-clause-pending : goal.returns-in-Ok-clause-pending
+returns-in-Ok-clause-pending c = λ h txs catalog. finalizable_is h c.args.caller.session c.args.parent.number c.args.table.number (c.in-Ok.ensures h txs catalog)
+
 pub returns-in-Err-clause-step : goal.returns-in-Err-clause-step
 returns-in-Err-clause-step c =
     let s = c.args.caller.session in

@@ -3,8 +3,8 @@ use Rattle.statement_steps.specs.Steps.{follow}
 use Rattle.statement_steps.proofs.Steps.{then_step, stop_step, may_go_on}
 use Rattle.detach_statement.specs.Concurrent.{partition_left}
 use Rattle.detach_statement.specs.Finalized.{judged, mark_seen}
-use Rattle.detach_statement.proofs.Guards.{still_guards}
-use Rattle.detach_statement.proofs.Pending.{still_partition}
+use Rattle.detach_statement.proofs.Guards.{still_guards, still_owns}
+use Rattle.detach_statement.proofs.Pending.{still_partition, still_pending}
 use Rattle.detach_statement.proofs.finalizing.finalize_table.Goals as goal
 
 pub leave_parent-requires-clause-may : goal.leave_parent-requires-clause-may
@@ -14,6 +14,14 @@ leave_parent-requires-clause-may c =
 pub leave_parent-requires-clause-guarded : goal.leave_parent-requires-clause-guarded
 leave_parent-requires-clause-guarded c =
     still_guards c.args.stores.now c.wait_for_snapshots.new.stores c.args.caller.session c.args.parent.number c.in-Ok-wait_for_snapshots.ensures.step.keeps.locks c.requires.guarded
+
+pub leave_parent-requires-clause-owned : goal.leave_parent-requires-clause-owned
+leave_parent-requires-clause-owned c =
+    still_owns c.args.stores.now c.wait_for_snapshots.new.stores c.args.caller.session c.args.table.number c.in-Ok-wait_for_snapshots.ensures.step.keeps.locks c.requires.owned
+
+pub leave_parent-requires-clause-pending : goal.leave_parent-requires-clause-pending
+leave_parent-requires-clause-pending c =
+    still_pending c.args.stores.now c.wait_for_snapshots.new.stores c.args.caller.session c.args.parent c.args.table.number c.wait_for_snapshots.ensures.rest c.in-Ok.ensures.pending
 
 pub leave_parent-requires-clause-partition : goal.leave_parent-requires-clause-partition
 leave_parent-requires-clause-partition c =

@@ -6,7 +6,7 @@ use Rattle.statement_steps.specs.Asks.{named}
 use Rattle.statement_steps.specs.Steps.{follow}
 use Rattle.statement_steps.proofs.Steps.{then_step, stop_step, may_go_on}
 use Rattle.detach_statement.specs.Finalized.{table_finalized}
-use Rattle.detach_statement.proofs.Guards.{named_guards, still_guards}
+use Rattle.detach_statement.proofs.Guards.{named_guards, named_owns, still_guards}
 use Rattle.detach_statement.proofs.finalizing.lock_and_finalize.Goals as goal
 use Rattle.detach_statement.proofs.finalizing.lock_and_finalize.Goals.{In-Ok}
 
@@ -22,6 +22,10 @@ pub finalize_table-requires-clause-guarded : goal.finalize_table-requires-clause
 finalize_table-requires-clause-guarded c =
     still_guards c.lock_named.new.stores c.lock_named-in-Ok.new.stores c.args.caller.session c.in-Ok.parent.number c.in-Ok-lock_named.ensures.step.keeps.locks
     (named_guards c.args.names.now c.args.stores.now c.lock_named.new.stores c.args.caller c.args.parent.now c.in-Ok.parent c.requires.may c.in-Ok.ensures.step)
+
+pub finalize_table-requires-clause-owned : goal.finalize_table-requires-clause-owned
+finalize_table-requires-clause-owned c =
+    named_owns c.args.names.now c.lock_named.new.stores c.lock_named-in-Ok.new.stores c.args.caller c.args.name.now c.in-Ok-lock_named.table (behind (goal.at.finalize_table-requires-clause-owned c).In-Ok) c.in-Ok-lock_named.ensures.step
 
 pub returns-in-Ok-lock_named : goal.returns-in-Ok-lock_named
 returns-in-Ok-lock_named c =

@@ -2,32 +2,33 @@ use Rattle.std.proofs.Common.{◌+◌, refl}
 use Rattle.statement_steps.proofs.Parts.{locks_same, no_memory}
 use Rattle.stores.specs.declared.stores.Stores.{Stores}
 use Rattle.detach_statement.specs.Concurrent.{partition_left}
-use Rattle.detach_statement.proofs.Guards.{may_change}
-use Rattle.detach_statement.proofs.LeftPlaces.{LeaveLaws, standing, keepable, kept_step}
+use Rattle.detach_statement.proofs.Guards.{may_change, may_own}
+use Rattle.detach_statement.proofs.KeptPlaces.{KeepLaws, keepable, endable_behind, kept_step}
 use Rattle.detach_statement.proofs.leaving.leave_parent.Goals as goal
 
 pub new_check-requires-clause-siblings : goal.new_check-requires-clause-siblings
 new_check-requires-clause-siblings c = c.trees_are_together.ensures c.args.stores.now c.requires.may.sound.0 c.args.caller.session c.requires.may.sound.1
 
-pub end_entry-requires : goal.end_entry-requires
-end_entry-requires c =
-    let laws : LeaveLaws = record { listed = c.listed_is_there.ensures; ends = c.nobody_else_ends.ensures; follow = c.drop_may_follow.ensures } in
-    let old = c.args.stores.now in
-    standing laws old c.args.caller c.in-Some.by c.args.parent c.args.table.number c.requires.may c.in-Some.ensures.is (may_change old c.args.caller.session c.args.parent c.requires.guarded) c.requires.partition
-
 pub keep-requires : goal.keep-requires
 keep-requires c =
-    let laws : LeaveLaws = record { listed = c.listed_is_there.ensures; ends = c.nobody_else_ends.ensures; follow = c.drop_may_follow.ensures } in
+    let laws : KeepLaws = record { leave = record { listed = c.listed_is_there.ensures; ends = c.nobody_else_ends.ensures; follow = c.drop_may_follow.ensures }; keeps = c.legal_keeps_all.ensures; check = c.check_may_follow.ensures } in
     let old = c.args.stores.now in
     keepable laws old c.args.caller c.in-Some.by c.args.parent c.args.table.number c.requires.may c.in-Some.ensures.is (may_change old c.args.caller.session c.args.parent c.requires.guarded) c.requires.partition
-    c.end_entry.new.self c.end_entry.ensures.added c.in-Ok.check c.in-Ok.ensures
+    c.requires.pending (may_own old c.args.caller.session c.args.table.number c.requires.owned) c.in-Ok.check c.in-Ok.ensures
+
+pub end_entry-requires : goal.end_entry-requires
+end_entry-requires c =
+    let laws : KeepLaws = record { leave = record { listed = c.listed_is_there.ensures; ends = c.nobody_else_ends.ensures; follow = c.drop_may_follow.ensures }; keeps = c.legal_keeps_all.ensures; check = c.check_may_follow.ensures } in
+    let old = c.args.stores.now in
+    endable_behind laws old c.args.caller c.in-Some.by c.args.parent c.args.table.number c.requires.may c.in-Some.ensures.is (may_change old c.args.caller.session c.args.parent c.requires.guarded) c.requires.partition
+    c.requires.pending (may_own old c.args.caller.session c.args.table.number c.requires.owned) c.in-Ok.check c.in-Ok.ensures c.keep.new.catalog c.in-Ok-keep.ensures
 
 pub returns-in-Ok-keep : goal.returns-in-Ok-keep
 returns-in-Ok-keep c =
-    let laws : LeaveLaws = record { listed = c.listed_is_there.ensures; ends = c.nobody_else_ends.ensures; follow = c.drop_may_follow.ensures } in
+    let laws : KeepLaws = record { leave = record { listed = c.listed_is_there.ensures; ends = c.nobody_else_ends.ensures; follow = c.drop_may_follow.ensures }; keeps = c.legal_keeps_all.ensures; check = c.check_may_follow.ensures } in
     let old = c.args.stores.now in
     kept_step laws old c.args.caller c.in-Some.by c.args.parent c.args.table.number c.requires.may c.in-Some.ensures.is (may_change old c.args.caller.session c.args.parent c.requires.guarded) c.requires.partition
-    c.end_entry.new.self c.keep.new.catalog c.end_entry.ensures.added c.in-Ok.check c.in-Ok.ensures c.in-Ok-keep.ensures
+    c.requires.pending (may_own old c.args.caller.session c.args.table.number c.requires.owned) c.in-Ok.check c.in-Ok.ensures c.keep.new.catalog c.end_entry.new.self c.in-Ok-keep.ensures c.end_entry.ensures.added
 
 pub returns-in-Err-keep : goal.returns-in-Err-keep
 returns-in-Err-keep c =

@@ -5,7 +5,7 @@ use Rattle.statement_steps.specs.Asks.{named_still}
 use Rattle.statement_steps.specs.Steps.{follow}
 use Rattle.statement_steps.proofs.Steps.{then_step, stop_step, may_go_on}
 use Rattle.detach_statement.specs.Concurrent.{judged_still, partition_left}
-use Rattle.detach_statement.proofs.Guards.{still_named_guards, still_guards}
+use Rattle.detach_statement.proofs.Guards.{still_named_guards, still_named_owns, still_guards}
 use Rattle.detach_statement.proofs.stages.run_third_stage.Goals as goal
 use Rattle.detach_statement.proofs.stages.run_third_stage.Goals.{In-Ok-lock_named_still}
 
@@ -25,6 +25,12 @@ pub leave_parent-requires-clause-guarded : goal.leave_parent-requires-clause-gua
 leave_parent-requires-clause-guarded c =
     still_guards c.lock_named_still.new.stores c.lock_named_still-in-Ok.new.stores c.args.caller.session c.args.rest.parent.number c.in-Ok-lock_named_still.ensures.step.keeps.locks
     (still_named_guards c.args.names.now c.args.stores.now c.lock_named_still.new.stores c.args.caller c.args.parent.now c.args.rest.parent.number c.requires.may c.in-Ok.ensures.step)
+
+pub leave_parent-requires-clause-owned : goal.leave_parent-requires-clause-owned
+leave_parent-requires-clause-owned c =
+    still_named_owns c.args.names.now c.lock_named_still.new.stores c.lock_named_still-in-Ok.new.stores c.args.caller c.args.name.now c.args.rest.table.number
+    (may_go_on (λ (u : Unit {0}). u) tt c.args.stores.now c.lock_named_still.new.stores c.args.caller (named_still c.args.names.now c.args.caller.session ShareUpdateExclusive c.args.parent.now c.args.rest.parent.number) c.requires.may c.in-Ok.ensures.step)
+    c.in-Ok-lock_named_still.ensures.step
 
 pub returns-in-Ok-check : goal.returns-in-Ok-check
 returns-in-Ok-check c =

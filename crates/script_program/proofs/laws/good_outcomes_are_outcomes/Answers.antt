@@ -1,7 +1,7 @@
-use Rattle.script_program.specs.Texts.{TextBegins, TextEnds}
 use Rattle.schedule.specs.Run.{Anything}
+use Rattle.script_program.specs.Program.{WorkBegins, WorkEnds}
 use Rattle.script_program.proofs.Answers.{answers_more, begins_more}
-use Rattle.script_program.proofs.Texts.{begins_anyhow, ends_anyhow}
+use Rattle.script_program.proofs.Works.{work_begins_anyhow, work_ends_anyhow}
 use Rattle.script_program.proofs.laws.good_outcomes_are_outcomes.Goals as goal
 
 pub returns : goal.returns
@@ -9,6 +9,6 @@ returns g c =
     let R = g.D.Database.rules in
     let Good = g.D.Database.good in
     record {
-      ends = λ opened words. answers_more (TextEnds R Good opened) (TextEnds R Anything opened) words (λ text. ends_anyhow text R Good opened);
-      begins = λ opened words. begins_more (TextBegins R Good opened) (TextBegins R Anything opened) words (λ text. begins_anyhow text R Good opened);
+      ends = λ opened refused words. answers_more (WorkEnds R Good opened refused) (WorkEnds R Anything opened refused) words (work_ends_anyhow R Good opened refused);
+      begins = λ opened refused words. begins_more (WorkBegins R Good opened refused) (WorkBegins R Anything opened refused) words (work_begins_anyhow R Good opened refused);
     }

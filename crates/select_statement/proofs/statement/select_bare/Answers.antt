@@ -1,18 +1,28 @@
-use Rattle.std.proofs.Common.{◌+◌, ◌-◌, []}
-use Rattle.pg_values.specs.declared.answer.Answer.{Answer}
+use Rattle.std.proofs.Common.{◌-◌, []}
+use Rattle.std.proofs.lemmas.Result.{err_from_is_err_and}
 use Rattle.sql_ast.specs.Queries.{select_tree}
-use Rattle.cond_logic.specs.Asked.{select_meant}
-use Rattle.statement_steps.proofs.Steps.{then_step, stop_step}
+use Rattle.statement_steps.proofs.Steps.{may_go_on}
 use Rattle.select_statement.specs.Cancels.{cancels_itself}
-use Rattle.select_statement.specs.Selected.{meant, answered, bare_plan, uncancelled}
+use Rattle.select_statement.specs.Selected.{begins, meant, bare, answered, bare_plan, uncancelled}
+use Rattle.select_statement.proofs.Straight.{goes, stops}
 use Rattle.select_statement.proofs.statement.select_bare.Goals as goal
 
-pub returns-in-Ok : goal.returns-in-Ok
-returns-in-Ok c =
-    then_step select_meant (λ (a : Answer). a) c.in-Ok.ask c.plan_bare.result c.args.stores.now c.args.stores.now c.args.stores.now c.args.caller (c.args.caller.cmd + 1)
-    (meant c.args.caller (select_tree c.args.select.now) []) (λ m. uncancelled (cancels_itself c.args.caller.session (c.args.caller.sessions - 1) m) (answered c.args.caller m (bare_plan m))) c.in-Ok.ensures c.plan_bare.ensures
+pub look-requires : goal.look-requires
+look-requires c = may_go_on _ _ _ _ _ _ c.requires c.in_ok-hold_if_repeatable.ensures.step
 
-pub returns-in-Err : goal.returns-in-Err
-returns-in-Err c =
-    stop_step select_meant (λ (a : Answer). a) c.in-Err.stop c.args.stores.now c.args.stores.now c.args.caller (c.args.caller.cmd + 1) c.args.caller.cmd
-    (meant c.args.caller (select_tree c.args.select.now) []) (λ m. uncancelled (cancels_itself c.args.caller.session (c.args.caller.sessions - 1) m) (answered c.args.caller m (bare_plan m))) c.in-Err.ensures
+pub bind-requires : goal.bind-requires
+bind-requires c = may_go_on _ _ _ _ _ _ c.requires c.in_ok-hold_if_repeatable.ensures.step
+
+pub returns-in_err-ask : goal.returns-in_err-ask
+returns-in_err-ask c =
+    let p = err_from_is_err_and c.from_residual-in_err-ask.result c.from_residual-in_err-ask.ensures.1 in
+    rw (p.1, p.2) (goes (begins c.args.caller) (λ u. bare c.args.caller (select_tree c.args.select.now)) c.in_ok-hold_if_repeatable.ensures.step
+    (stops (meant c.args.caller (select_tree c.args.select.now) []) (λ m. uncancelled (cancels_itself c.args.caller.session (c.args.caller.sessions - 1) m) (answered c.args.caller m (bare_plan m))) c.in_err-ask.ensures))
+
+pub plan_bare-requires-clause-may : goal.plan_bare-requires-clause-may
+plan_bare-requires-clause-may c = may_go_on _ _ _ _ _ _ c.requires c.in_ok-hold_if_repeatable.ensures.step
+
+pub returns : goal.returns
+returns c =
+    goes (begins c.args.caller) (λ u. bare c.args.caller (select_tree c.args.select.now)) c.in_ok-hold_if_repeatable.ensures.step
+    (goes (meant c.args.caller (select_tree c.args.select.now) []) (λ m. uncancelled (cancels_itself c.args.caller.session (c.args.caller.sessions - 1) m) (answered c.args.caller m (bare_plan m))) c.in_ok-ask.ensures c.plan_bare.ensures)

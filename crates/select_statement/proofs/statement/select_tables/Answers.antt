@@ -1,15 +1,58 @@
-use Rattle.std.proofs.Common.{◌+◌, map}
-use Rattle.pg_values.specs.declared.answer.Answer.{Answer}
+use Rattle.std.proofs.Common.{◌≤◌, length, subst, sym}
+use Rattle.std.proofs.lemmas.Result.{err_from_is_err_and}
 use Rattle.sql_ast.specs.Queries.{select_tree}
-use Rattle.statement_steps.proofs.Parts.{stays, no_memory}
-use Rattle.select_statement.specs.Below.{number_of}
-use Rattle.select_statement.specs.Selected.{of_tables}
+use Rattle.stores.specs.declared.stores.Stores.{Stores}
+use Rattle.plan_tree.specs.Plans.{Planned}
+use Rattle.statement_steps.specs.Steps.{follow}
+use Rattle.statement_steps.proofs.Steps.{may_go_on}
+use Rattle.select_statement.specs.Gathered.{Found, found_by, gathered, planned_under}
+use Rattle.select_statement.specs.Selected.{answered, begins, of_named}
+use Rattle.select_statement.proofs.Known.{look_stays}
+use Rattle.select_statement.proofs.Straight.{goes, stops, runs_step}
 use Rattle.select_statement.proofs.statement.select_tables.Goals as goal
 
-pub select_under-requires-clause-look : goal.select_under-requires-clause-look
-select_under-requires-clause-look c = record { stands = c.in-Ok.ensures.stands; past = c.look.ensures.past }
+pub gather-requires-clause-may : goal.gather-requires-clause-may
+gather-requires-clause-may c = may_go_on _ _ _ _ _ _ c.requires.may c.in_ok-hold_if_repeatable.ensures.step
 
-pub returns-in-Err : goal.returns-in-Err
-returns-in-Err c =
-    no_memory (λ (a : Answer). a) c.args.stores.now c.args.stores.now c.args.caller (c.args.caller.cmd + 1)
-    (of_tables c.args.prunes c.args.names.now c.args.caller (select_tree c.args.select.now) (map number_of c.args.tables.now)) (stays c.args.stores.now c.args.caller.session)
+pub gather-requires-clause-few : goal.gather-requires-clause-few
+gather-requires-clause-few c = subst (λ (s : Stores). length s.catalog.tables ≤ 4096) (sym c.hold_if_repeatable.ensures.rest) c.requires.few
+
+pub returns-in_err-found : goal.returns-in_err-found
+returns-in_err-found c =
+    let p = err_from_is_err_and c.from_residual-in_err-found.result c.from_residual-in_err-found.ensures.1 in
+    let names = c.args.names.now in
+    let t = select_tree c.args.select.now in
+    rw (p.1, p.2) (goes (begins c.args.caller) (λ u. of_named c.args.prunes names c.args.caller t) c.in_ok-hold_if_repeatable.ensures.step
+    (runs_step c.args.prunes names c.args.caller t
+    (stops (gathered names c.args.caller t) (λ (g : Found). follow (planned_under c.args.prunes names c.args.caller g) (λ p. answered c.args.caller g.meant p)) c.in_err-found.ensures.step)))
+
+pub plan_under-requires-clause-may : goal.plan_under-requires-clause-may
+plan_under-requires-clause-may c = may_go_on _ _ _ _ _ _ (may_go_on _ _ _ _ _ _ c.requires.may c.in_ok-hold_if_repeatable.ensures.step) c.in_ok-found.ensures.step
+
+pub returns-in_err-plan : goal.returns-in_err-plan
+returns-in_err-plan c =
+    let p = err_from_is_err_and c.from_residual-in_err-plan.result c.from_residual-in_err-plan.ensures.1 in
+    let names = c.args.names.now in
+    let t = select_tree c.args.select.now in
+    let g = found_by c.in_ok-found.found in
+    rw (p.1, p.2) (goes (begins c.args.caller) (λ u. of_named c.args.prunes names c.args.caller t) c.in_ok-hold_if_repeatable.ensures.step
+    (runs_step c.args.prunes names c.args.caller t
+    (goes (gathered names c.args.caller t) (λ (x : Found). follow (planned_under c.args.prunes names c.args.caller x) (λ p. answered c.args.caller x.meant p)) c.in_ok-found.ensures.step
+    (stops (planned_under c.args.prunes names c.args.caller g) (λ p. answered c.args.caller g.meant p) c.in_err-plan.ensures.step))))
+
+pub answer-requires-clause-may : goal.answer-requires-clause-may
+answer-requires-clause-may c =
+    may_go_on _ _ _ _ _ _ (may_go_on _ _ _ _ _ _ (may_go_on _ _ _ _ _ _ c.requires.may c.in_ok-hold_if_repeatable.ensures.step) c.in_ok-found.ensures.step) c.in_ok-plan.ensures.step
+
+pub answer-requires-clause-look : goal.answer-requires-clause-look
+answer-requires-clause-look c = look_stays _ c.plan_under.new.stores c.args.caller c.in_ok-found.found.snap c.plan_under.ensures.rest c.in_ok-found.ensures.look
+
+pub returns : goal.returns
+returns c =
+    let names = c.args.names.now in
+    let t = select_tree c.args.select.now in
+    let g = found_by c.in_ok-found.found in
+    goes (begins c.args.caller) (λ u. of_named c.args.prunes names c.args.caller t) c.in_ok-hold_if_repeatable.ensures.step
+    (runs_step c.args.prunes names c.args.caller t
+    (goes (gathered names c.args.caller t) (λ (x : Found). follow (planned_under c.args.prunes names c.args.caller x) (λ p. answered c.args.caller x.meant p)) c.in_ok-found.ensures.step
+    (goes (planned_under c.args.prunes names c.args.caller g) (λ p. answered c.args.caller g.meant p) c.in_ok-plan.ensures.step c.answer.ensures)))

@@ -1,0 +1,96 @@
+"""The text of a plan: a node a line, behind an arrow and six spaces further in at each level, its details below."""
+from pruning import TURNED, items_of
+
+
+class Naming:
+    """How a plan names columns: the items of FROM with their names, whether these are aliases, and their columns."""
+
+    def __init__(self, items):
+        self.items = items
+
+    def column(self, item, place):
+        name, _, columns = self.items[item]
+        return (f"{name}." if len(self.items) > 1 else "") + columns[place]
+
+    def alias(self, item):
+        name, is_alias, _ = self.items[item]
+        return f" {name}" if is_alias else ""
+
+
+def constant(value):
+    if value is None:
+        return "NULL"
+    if isinstance(value, bool):
+        return "true" if value else "false"
+    if isinstance(value, int):
+        return str(value)
+    doubled = str(value).replace("'", "''")
+    return f"'{doubled}'"
+
+
+def operand(naming, side):
+    return constant(side.of(None)) if side.item is None else naming.column(side.item, side.place)
+
+
+def in_a_row(word, texts):
+    return texts[0] if len(texts) == 1 else "(" + f" {word} ".join(texts) + ")"
+
+
+def atom_text(naming, atom):
+    """The text of a conjunct."""
+    sort = atom[0]
+    if sort == "or":
+        return in_a_row("OR", [in_a_row("AND", [atom_text(naming, inner) for inner in choice]) for choice in atom[1]])
+    if sort == "known":
+        return constant(atom[1])
+    if sort != "compare":
+        return f"({operand(naming, atom[1])} IS {'NOT ' if sort == 'not null' else ''}NULL)"
+    _, sign, left, right = atom
+    if left.item is None and right.item is not None:
+        sign, left, right = TURNED[sign], right, left
+    return f"({operand(naming, left)} {sign} {operand(naming, right)})"
+
+
+def node(depth, text, details=()):
+    arrow = " " * (6 * depth - 4) + "->  " if depth else ""
+    return [arrow + text] + [" " * (6 * depth + 2) + detail for detail in details]
+
+
+def details(naming, word, atoms):
+    return [f"{word}: " + in_a_row("AND", [atom_text(naming, atom) for atom in atoms])] if atoms else []
+
+
+def item_lines(plan, naming, item, depth):
+    own = [atom for atom in plan.placed[item] if not items_of(atom) - {item}]
+    leaves = plan.leaves[item]
+
+    def scans(depth):
+        for leaf in leaves:
+            yield from node(depth, f"Seq Scan on {leaf.name}{naming.alias(item)}", details(naming, "Filter", own))
+    if len(leaves) == 1 and not (plan.prunes and plan.joins(item)):
+        return list(scans(depth))
+    return node(depth, "Append") + list(scans(depth + 1))
+
+
+def joined(plan, naming, count, depth):
+    """The first items, joined from the left."""
+    last = count - 1
+    if last == 0:
+        return item_lines(plan, naming, 0, depth)
+    lines = node(depth, "Nested Loop", details(naming, "Join Filter", plan.joins(last)))
+    return lines + joined(plan, naming, last, depth + 1) + item_lines(plan, naming, last, depth + 1)
+
+
+def plan_lines(plan, naming, keys, is_cut):
+    """The lines of a plan; keys are the texts of the keys of ORDER BY."""
+    lines, depth = [], 0
+    if is_cut:
+        lines, depth = node(0, "Limit"), 1
+    if keys:
+        lines += node(depth, "Sort", ["Sort Key: " + ", ".join(keys)])
+        depth += 1
+    if plan.is_empty():
+        return lines + node(depth, "Result", ["One-Time Filter: false"])
+    if not plan.trees:
+        return lines + node(depth, "Result")
+    return lines + joined(plan, naming, len(plan.trees), depth)

@@ -1,0 +1,76 @@
+-- The texts of a plan, part by part.
+use Rattle.std.proofs.Common.{◌≡◌, ℕ, ◌+◌, ◌==◌, ◌<◌, false, List, [], ◌∷◌, ◌++◌, codes, map, drop, take, length, get_or, add-one, arith, refl, sym, ap, ◌∙◌, append_assoc, Result, Ok, Err}
+use Rattle.std.specs.Prelude.{OnOk}
+use Rattle.std.specs.List.{flat_map}
+use Rattle.std.proofs.Math.Seq.{take-suc}
+use Rattle.std.proofs.lemmas.List.{flat_map_more}
+use Rattle.cond_logic.specs.declared.cond.Cond.{Cond}
+use Rattle.cond_logic.specs.declared.select.SortKey.{SortKey}
+use Rattle.cond_logic.specs.Asked.{OutputTree}
+use Rattle.cond_logic.specs.Trees.{listed, cond_tree}
+use Rattle.prune_steps.proofs.CondTrees.{parts_step}
+use Rattle.plan_tree.specs.Plans.{PlannedItem}
+use Rattle.plan_text.specs.declared.named_item.NamedItem.{NamedItem}
+use Rattle.plan_text.specs.Conditions.{conjuncts, all_conjuncts}
+use Rattle.plan_text.specs.Nodes.{Node, alone}
+use Rattle.plan_text.specs.Plans.{joined, joins, join_filters, nested_loop, item, sort_detail, sorted}
+
+-- ---- the conjuncts of an AND
+
+-- one part more
+pub conjuncts_step : (ns : List NamedItem) (before now : List (List ℕ)) (parts : List Cond) (i : ℕ) (x : Cond) (all : List (List ℕ)) → i < length parts → x ≡ get_or parts i x → now ≡ before ++ conjuncts ns (cond_tree x)
+    → before ++ all_conjuncts ns (listed (map cond_tree (drop i parts))) ≡ all → now ++ all_conjuncts ns (listed (map cond_tree (drop (i + 1) parts))) ≡ all
+conjuncts_step ns before now parts i x all less is more told =
+    let rest = all_conjuncts ns (listed (map cond_tree (drop (i + 1) parts))) in
+    ap (λ l. l ++ rest) more ∙ append_assoc before (conjuncts ns (cond_tree x)) rest ∙ ap (λ ts. before ++ all_conjuncts ns ts) (sym (parts_step parts i x less is)) ∙ told
+
+-- ---- joins
+
+-- the last is joined with all before it
+joined_last : (ns : List NamedItem) (n : Node) (is : List PlannedItem) (i : PlannedItem) → joined ns n (is ++ i ∷ []) ≡ nested_loop ns (joined ns n is) i
+joined_last ns n [] i = refl
+joined_last ns n (j ∷ js) i = joined_last ns (nested_loop ns n j) js i
+
+pub joins_last : (ns : List NamedItem) (is : List PlannedItem) (i : PlannedItem) (d : ℕ) → 0 < length is → joins ns (is ++ i ∷ []) d ≡ nested_loop ns (joins ns is) i d
+joins_last ns [] i d some = absurd (omega (arith, some))
+joins_last ns (j ∷ js) i d some = ap (λ (n : Node). n d) (joined_last ns (item ns j) js i)
+
+-- a loop is told, the items before and the last
+pub loop_told : (ns : List NamedItem) (is : List PlannedItem) (i : PlannedItem) (all : List PlannedItem) (d : ℕ) (o0 o1 o2 o3 details : List (List ℕ)) → 0 < length is → all ≡ is ++ i ∷ [] → details ≡ join_filters ns i
+    → o1 ≡ o0 ++ alone (codes "Nested Loop") details d → o2 ≡ o1 ++ joins ns is (d + 1) → o3 ≡ o2 ++ item ns i (d + 1) → o3 ≡ o0 ++ joins ns all d
+loop_told ns is i all d o0 o1 o2 o3 details some split asked head left right =
+    let a = alone (codes "Nested Loop") (join_filters ns i) d in
+    let b = joins ns is (d + 1) in
+    let c = item ns i (d + 1) in
+    let first : o1 ≡ o0 ++ a = head ∙ ap (λ x. o0 ++ alone (codes "Nested Loop") x d) asked in
+    right ∙ ap (λ l. l ++ c) (left ∙ ap (λ l. l ++ b) first) ∙ append_assoc (o0 ++ a) b c ∙ append_assoc o0 a (b ++ c)
+    ∙ ap (λ l. o0 ++ l) (sym (joins_last ns is i d some) ∙ ap (λ l. joins ns l d) (sym split))
+
+pub some_items : {X : Type 0} (f : X → PlannedItem) (xs : List X) → (length xs == 0) ≡ false → 0 < length (map f xs)
+some_items f [] none = absurd (cc)
+some_items f (x ∷ xs) some = omega arith
+
+-- ---- ORDER BY
+
+-- a sort is told, and what stands below it
+pub sorted_told : (ns : List NamedItem) (os : List OutputTree) (order : List SortKey) (n : Node) (d : ℕ) (o0 o1 o2 details : List (List ℕ)) → (length order == 0) ≡ false → details ≡ sort_detail ns os order
+    → o1 ≡ o0 ++ alone (codes "Sort") details d → o2 ≡ o1 ++ n (d + 1) → o2 ≡ o0 ++ sorted ns os order n d
+sorted_told ns os [] n d o0 o1 o2 details none keyed head rest = absurd (cc)
+sorted_told ns os (k ∷ ks) n d o0 o1 o2 details some keyed head rest =
+    rest ∙ ap (λ l. l ++ n (d + 1)) (head ∙ ap (λ x. o0 ++ alone (codes "Sort") x d) keyed) ∙ append_assoc o0 (alone (codes "Sort") (sort_detail ns os (k ∷ ks)) d) (n (d + 1))
+
+-- ---- scans
+
+-- one scan more
+pub one_scan : {X : Type 0} (f : X → List (List ℕ)) (start before now : List (List ℕ)) (xs : List X) (i : ℕ) (x : X) → i < length xs → x ≡ get_or xs i x → before ≡ start ++ flat_map f (take i xs) → now ≡ before ++ f x
+    → now ≡ start ++ flat_map f (take (i + 1) xs)
+one_scan f start before now xs i x less is had more =
+    more ∙ ap (λ l. l ++ f x) had ∙ flat_map_more f start (take i xs) x
+    ∙ ap (λ l. start ++ flat_map f l) (ap (λ y. take i xs ++ y ∷ []) is ∙ sym (take-suc xs i x less))
+    ∙ ap (λ n. start ++ flat_map f (take n xs)) (sym (add-one i))
+
+-- ---- where something is done
+
+pub on_ok : {E P Q : Type 0} (r : Result (Unit {0}) E) → (P → Q) → OnOk r P → OnOk r Q
+on_ok (Ok x) f h = f h
+on_ok (Err e) f h = tt

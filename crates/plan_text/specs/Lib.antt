@@ -1,0 +1,5 @@
+pub mod Conditions
+pub mod Keys
+pub mod Names
+pub mod Nodes
+pub mod Plans

@@ -1,0 +1,28 @@
+//! Plans as EXPLAIN prints them.
+//!
+//! A plan is a tree of nodes: LIMIT and OFFSET are a Limit on top, ORDER BY a Sort over the rest, items of FROM are
+//! joined by Nested Loops from the left, and an item is an Append of the scans of its kept leaves, or one scan alone.
+//! Where an item keeps no leaf a Result stands in place of all of them, since nothing is read. Each node is a line,
+//! behind an arrow and six spaces further in than the node above it, with a line for each of its details below:
+//! what a scan or a join asks, and by what is sorted.
+//!
+//! Conditions are printed as the plan asks them, with NOT pushed inwards: each comparison, IS NULL, AND and OR in
+//! its own parentheses, a column on the left of a constant.
+//!
+//! The definitions say a node in a line each (`Plans`), and what stands under its depth in one place (`Nodes`): a
+//! node is a function of its depth. `write_plan` gives the lines as the table that EXPLAIN answers.
+#![tactic(auto)]
+
+mod comparisons;
+mod conditions;
+mod keys;
+mod named_item;
+mod names;
+mod nodes;
+mod operands;
+mod plan;
+mod rows;
+mod scans;
+
+pub use named_item::NamedItem;
+pub use plan::write_plan;

@@ -1,0 +1,173 @@
+ghost use Rattle.std.specs.Prelude.{◌≡◌, ◌≤◌, ◌+◌, ◌++◌, ◌∷◌, [], OnOk, IfOk, length, map};
+ghost use Rattle.cond_logic.specs.Asked.{output_tree, select_meant};
+ghost use Rattle.plan_tree.specs.Plans.{planned, planned_item};
+ghost use Rattle.plan_text.specs.Plans as plans;
+
+use crate::NamedItem;
+use crate::keys::write_keys;
+use crate::nodes::push_node;
+use crate::scans::{join_filters, push_item};
+use cond_logic::{Output, SelectAsk, SortKey};
+use pg_values::{Answer, Kind, KindList, NameList, NoMemory, PgText, Row, RowList, Value};
+use plan_tree::{Plan, PlanItem};
+use std::alloc::Global;
+
+// ---- items
+
+// Items that are joined from the left: the last with all before it.
+fn push_joined(
+    alloc: Global,
+    items: &[NamedItem],
+    joined: &[PlanItem<'_>],
+    depth: usize,
+    out: &mut Vec<PgText>,
+) -> Result<(), NoMemory>
+    requires { depth + length joined.now ≤ 99 }
+    ensures { OnOk result (out.new.items ≡ out.old.items ++ plans.joins items.now (map planned_item joined.now) depth) }
+{
+    match joined.split_last() {
+        None => Ok(()),
+        Some((last, before)) => {
+            if before.is_empty() {
+                return push_item(alloc, items, last, depth, out);
+            }
+            let asked = join_filters(alloc, items, last)?;
+            push_node(alloc, depth, b"Nested Loop", &asked, out)?;
+            push_joined(alloc, items, before, depth + 1, out)?;
+            push_item(alloc, items, last, depth + 1, out)
+        }
+    }
+}
+
+fn one(alloc: Global, text: PgText) -> Result<Vec<PgText>, NoMemory>
+    ensures { IfOk result (λ ts. ts.items ≡ text ∷ []) }
+{
+    let mut texts = Vec::new(alloc);
+    texts.push(text)?;
+    Ok(texts)
+}
+
+fn push_rows(
+    alloc: Global,
+    items: &[NamedItem],
+    plan: &Plan<'_>,
+    depth: usize,
+    out: &mut Vec<PgText>,
+) -> Result<(), NoMemory>
+    requires { depth + length (planned plan.now).items ≤ 99 }
+    ensures { OnOk result (out.new.items ≡ out.old.items ++ plans.rows items.now (planned plan.now) depth) }
+{
+    if plan.is_empty() {
+        let never = one(alloc, PgText::from_bytes(alloc, b"One-Time Filter: false")?)?;
+        return push_node(alloc, depth, b"Result", &never, out);
+    }
+    if plan.items.is_empty() {
+        return push_node(alloc, depth, b"Result", &[], out);
+    }
+    push_joined(alloc, items, &plan.items, depth, out)
+}
+
+// ---- ORDER BY, LIMIT and OFFSET
+
+fn sort_detail(
+    alloc: Global,
+    items: &[NamedItem],
+    outputs: &[Output],
+    order: &[SortKey],
+) -> Result<Vec<PgText>, NoMemory>
+    ensures { IfOk result (λ ds. ds.items ≡ plans.sort_detail items.now (map output_tree outputs.now) order.now) }
+{
+    let mut text = Vec::new(alloc);
+    text.extend_from_slice(b"Sort Key: ")?;
+    write_keys(items, outputs, order, &mut text)?;
+    one(alloc, PgText::from_vec(alloc, text)?)
+}
+
+fn push_sorted(
+    alloc: Global,
+    items: &[NamedItem],
+    outputs: &[Output],
+    order: &[SortKey],
+    plan: &Plan<'_>,
+    depth: usize,
+    out: &mut Vec<PgText>,
+) -> Result<(), NoMemory>
+    requires { depth + length (planned plan.now).items ≤ 98 }
+    ensures { OnOk result (out.new.items ≡ out.old.items ++ plans.sorted items.now (map output_tree outputs.now) order.now (plans.rows items.now (planned plan.now)) depth) }
+{
+    if order.is_empty() {
+        return push_rows(alloc, items, plan, depth, out);
+    }
+    let keys = sort_detail(alloc, items, outputs, order)?;
+    push_node(alloc, depth, b"Sort", &keys, out)?;
+    push_rows(alloc, items, plan, depth + 1, out)
+}
+
+fn plan_lines(
+    alloc: Global,
+    items: &[NamedItem],
+    is_cut: bool,
+    ask: &SelectAsk,
+    plan: &Plan<'_>,
+) -> Result<Vec<PgText>, NoMemory>
+    requires { length (planned plan.now).items ≤ 4 }
+    ensures { IfOk result (λ ls. ls.items ≡ plans.plan_lines items.now is_cut (select_meant ask.now) (planned plan.now)) }
+{
+    let mut lines = Vec::new(alloc);
+    if is_cut {
+        push_node(alloc, 0, b"Limit", &[], &mut lines)?;
+        push_sorted(alloc, items, &ask.outputs, &ask.order, plan, 1, &mut lines)?;
+        return Ok(lines);
+    }
+    push_sorted(alloc, items, &ask.outputs, &ask.order, plan, 0, &mut lines)?;
+    Ok(lines)
+}
+
+// ---- the table
+
+fn text_row(alloc: Global, line: PgText) -> Result<Row, NoMemory>
+    ensures { IfOk result (λ r. r ≡ plans.text_row line) }
+{
+    let mut row = Row::new(alloc);
+    row.push(Value::Text(line))?;
+    Ok(row)
+}
+
+fn text_rows(alloc: Global, lines: Vec<PgText>) -> Result<RowList, NoMemory>
+    ensures { IfOk result (λ rs. rs ≡ map plans.text_row lines.items) }
+{
+    let mut rows = RowList::new(alloc);
+    for line in lines {
+        rows.push(text_row(alloc, line)?)?;
+    }
+    Ok(rows)
+}
+
+fn plan_table(alloc: Global, lines: Vec<PgText>) -> Result<Answer, NoMemory>
+    ensures { IfOk result (λ a. a ≡ plans.plan_table lines.items) }
+{
+    let mut names = NameList::new(alloc);
+    names.push(PgText::from_bytes(alloc, b"QUERY PLAN")?)?;
+    let mut kinds = KindList::new(alloc);
+    kinds.push(Kind::Text)?;
+    Ok(Answer {
+        names,
+        kinds,
+        rows: text_rows(alloc, lines)?,
+    })
+}
+
+/// The plan of a SELECT as EXPLAIN answers it, a line a row. The items of FROM go by these names; `is_cut` tells
+/// whether there is an OFFSET, or a LIMIT that is not null. Fails only for want of memory.
+pub fn write_plan(
+    alloc: Global,
+    items: &[NamedItem],
+    is_cut: bool,
+    ask: &SelectAsk,
+    plan: &Plan<'_>,
+) -> Result<Answer, NoMemory>
+    requires few { length (planned plan.now).items ≤ 4 }
+    ensures { IfOk result (λ a. a ≡ plans.plan_table (plans.plan_lines items.now is_cut (select_meant ask.now) (planned plan.now))) }
+{
+    plan_table(alloc, plan_lines(alloc, items, is_cut, ask, plan)?)
+}

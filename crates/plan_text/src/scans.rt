@@ -1,0 +1,192 @@
+//! The items of a plan: scans of leaves, with what they ask.
+
+ghost use Rattle.std.specs.Prelude.{◌≡◌, ◌≤◌, ◌++◌, not, OnOk, IfOk, map, filter, codes};
+ghost use Rattle.std.specs.List.{list_all};
+ghost use Rattle.cond_logic.specs.Trees.{cond_tree};
+ghost use Rattle.plan_tree.specs.Conjuncts.{is_within, lies_within};
+ghost use Rattle.plan_tree.specs.Plans.{planned_item};
+ghost use Rattle.plan_text.specs.Conditions.{several};
+ghost use Rattle.plan_text.specs.Plans as plans;
+
+use crate::NamedItem;
+use crate::conditions::push_conjuncts;
+use crate::names::write_alias;
+use crate::nodes::push_node;
+use crate::rows::all_text;
+use cond_logic::{ColumnId, Cond, NamedLeaf, columns_used};
+use pg_values::{NoMemory, PgText};
+use plan_tree::PlanItem;
+use std::alloc::Global;
+
+fn is_of(column: ColumnId, number: u32) -> bool
+    ensures { result ≡ is_within number number column }
+{
+    number <= column.item && column.item <= number
+}
+
+fn are_of(columns: &[ColumnId], number: u32) -> bool
+    ensures { result ≡ list_all (is_within number number) columns.now }
+{
+    for column in columns {
+        if !is_of(*column, number) {
+            return false;
+        }
+    }
+    true
+}
+
+// Whether a conjunct names the item alone.
+#[tactic(auto, using(crate::proofs::Lying::all_used))]
+fn lies_in(alloc: Global, cond: &Cond, number: u32) -> Result<bool, NoMemory>
+    ensures { IfOk result (λ b. b ≡ lies_within number number (cond_tree cond.now)) }
+{
+    let columns = columns_used(alloc, cond)?;
+    Ok(are_of(&columns, number))
+}
+
+// Those that name no other item.
+fn scan_texts(
+    alloc: Global,
+    items: &[NamedItem],
+    conjuncts: &[Cond],
+    number: u32,
+) -> Result<Vec<PgText>, NoMemory>
+    ensures { IfOk result (λ ts. ts.items ≡ several items.now (filter (lies_within number number) (map cond_tree conjuncts.now))) }
+{
+    let mut texts = Vec::new(alloc);
+    for cond in conjuncts {
+        let is_own = lies_in(alloc, cond, number)?;
+        if is_own {
+            push_conjuncts(alloc, items, cond, &mut texts)?;
+        }
+    }
+    Ok(texts)
+}
+
+// Those that name others too.
+fn join_texts(
+    alloc: Global,
+    items: &[NamedItem],
+    conjuncts: &[Cond],
+    number: u32,
+) -> Result<Vec<PgText>, NoMemory>
+    ensures { IfOk result (λ ts. ts.items ≡ several items.now (filter (λ c. not (lies_within number number c)) (map cond_tree conjuncts.now))) }
+{
+    let mut texts = Vec::new(alloc);
+    for cond in conjuncts {
+        let is_own = lies_in(alloc, cond, number)?;
+        if !is_own {
+            push_conjuncts(alloc, items, cond, &mut texts)?;
+        }
+    }
+    Ok(texts)
+}
+
+fn worded(alloc: Global, word: &[u8], text: &[u8]) -> Result<PgText, NoMemory>
+    ensures { IfOk result (λ t. t ≡ word.now ++ text.now) }
+{
+    let mut line = Vec::new(alloc);
+    line.extend_from_slice(word)?;
+    line.extend_from_slice(text)?;
+    PgText::from_vec(alloc, line)
+}
+
+fn detail(alloc: Global, word: &[u8], texts: &[PgText]) -> Result<Vec<PgText>, NoMemory>
+    ensures { IfOk result (λ ds. ds.items ≡ plans.detail word.now texts.now) }
+{
+    let mut details = Vec::new(alloc);
+    if texts.is_empty() {
+        return Ok(details);
+    }
+    let text = all_text(alloc, texts)?;
+    details.push(worded(alloc, word, text.as_bytes())?)?;
+    Ok(details)
+}
+
+fn filters(alloc: Global, items: &[NamedItem], item: &PlanItem<'_>) -> Result<Vec<PgText>, NoMemory>
+    ensures { IfOk result (λ ds. ds.items ≡ plans.filters items.now (planned_item item.now)) }
+{
+    let texts = scan_texts(alloc, items, &item.conjuncts, item.number)?;
+    detail(alloc, b"Filter: ", &texts)
+}
+
+/// What the join with the items before it asks of an item.
+pub(crate) fn join_filters(
+    alloc: Global,
+    items: &[NamedItem],
+    item: &PlanItem<'_>,
+) -> Result<Vec<PgText>, NoMemory>
+    ensures { IfOk result (λ ds. ds.items ≡ plans.join_filters items.now (planned_item item.now)) }
+{
+    let texts = join_texts(alloc, items, &item.conjuncts, item.number)?;
+    detail(alloc, b"Join Filter: ", &texts)
+}
+
+fn scan_text(
+    alloc: Global,
+    items: &[NamedItem],
+    number: u32,
+    leaf: &NamedLeaf<'_>,
+) -> Result<PgText, NoMemory>
+    ensures { IfOk result (λ t. t ≡ plans.scan_text items.now number leaf.now) }
+{
+    let mut text = Vec::new(alloc);
+    text.extend_from_slice(b"Seq Scan on ")?;
+    text.extend_from_slice(leaf.name.as_bytes())?;
+    write_alias(items, number, &mut text)?;
+    PgText::from_vec(alloc, text)
+}
+
+fn push_scan(
+    alloc: Global,
+    items: &[NamedItem],
+    number: u32,
+    filters: &[PgText],
+    leaf: &NamedLeaf<'_>,
+    depth: usize,
+    out: &mut Vec<PgText>,
+) -> Result<(), NoMemory>
+    requires { depth ≤ 100 }
+    ensures { OnOk result (out.new.items ≡ out.old.items ++ plans.scan items.now number filters.now leaf.now depth) }
+{
+    let text = scan_text(alloc, items, number, leaf)?;
+    push_node(alloc, depth, text.as_bytes(), filters, out)
+}
+
+fn push_scans(
+    alloc: Global,
+    items: &[NamedItem],
+    number: u32,
+    filters: &[PgText],
+    leaves: &[NamedLeaf<'_>],
+    depth: usize,
+    out: &mut Vec<PgText>,
+) -> Result<(), NoMemory>
+    requires { depth ≤ 100 }
+    ensures { OnOk result (out.new.items ≡ out.old.items ++ plans.scans items.now number filters.now leaves.now depth) }
+{
+    for leaf in leaves {
+        push_scan(alloc, items, number, filters, leaf, depth, out)?;
+    }
+    Ok(())
+}
+
+/// Appends the lines of an item: its scan, or an Append of its scans.
+pub(crate) fn push_item(
+    alloc: Global,
+    items: &[NamedItem],
+    item: &PlanItem<'_>,
+    depth: usize,
+    out: &mut Vec<PgText>,
+) -> Result<(), NoMemory>
+    requires { depth ≤ 99 }
+    ensures { OnOk result (out.new.items ≡ out.old.items ++ plans.item items.now (planned_item item.now) depth) }
+{
+    let number = item.number;
+    let asked = filters(alloc, items, item)?;
+    if item.leaves.len() == 1 && !item.is_asked_again {
+        return push_scans(alloc, items, number, &asked, &item.leaves, depth, out);
+    }
+    push_node(alloc, depth, b"Append", &[], out)?;
+    push_scans(alloc, items, number, &asked, &item.leaves, depth + 1, out)
+}

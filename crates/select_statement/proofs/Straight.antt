@@ -1,0 +1,114 @@
+-- The exits of a straight function of parts, and its end; and parts that are grouped in another way.
+use Rattle.std.proofs.Common.{◌≡◌, ℕ, Bool, List, [], ◌∷◌, ◌++◌, refl, ap, sym, subst, ◌∙◌, append_assoc, append-nil, Result, Ok, Err}
+use Rattle.pg_values.specs.declared.answer.Answer.{Answer}
+use Rattle.history.specs.History.{History}
+use Rattle.table_trees.specs.Trees.{TableTree}
+use Rattle.sql_ast.specs.Queries.{Joined, SelectTree}
+use Rattle.sql_binder.specs.Selects.{from_of}
+use Rattle.cond_logic.specs.Asked.{SelectMeant}
+use Rattle.plan_tree.specs.Plans.{Planned, plan_for, plan_tables}
+use Rattle.stores.specs.Stand.{Stands}
+use Rattle.stores.specs.declared.stores.Stores.{Stores}
+use Rattle.statement_steps.specs.Made.{Made, Halt, made, halted, behind, then_told, and_then}
+use Rattle.statement_steps.specs.declared.caller.Caller.{Caller}
+use Rattle.statement_steps.specs.declared.stop.Stop.{Stop}
+use Rattle.statement_steps.specs.Steps.{IsStep, follow}
+use Rattle.statement_steps.proofs.Steps.{then_step, stop_step}
+use Rattle.select_statement.specs.Explained.{run, SelectsRunTheirPlan}
+use Rattle.select_statement.specs.Gathered.{Found, found_over, found_in, gathered, plan_of, planned_under}
+use Rattle.select_statement.specs.Items.{items_of}
+use Rattle.select_statement.specs.Selected.{meant, answered, locked_below, by_plan, of_trees, of_tables, trees_for, named_from, begins, of_named, of_items, selected}
+use Rattle.select_statement.proofs.Steps.{same_step}
+
+-- ---- exits
+
+-- a part is done, and what is left is told from there
+pub goes : {X T Y U : Type 0} {see : X → T} {view : Y → U} {x : X} {r : Result Y Stop} {old mid new : Stores} {caller : Caller} {n : ℕ} (f : History → Made T) (next : T → History → Made U)
+    → IsStep see (Ok x) old mid caller caller.cmd f → IsStep view r mid new caller n (next (see x)) → IsStep view r old new caller n (follow f next)
+goes {see = see} {view = view} {x = x} {r = r} {old = old} {mid = mid} {new = new} {caller = caller} {n = n} f next first second = then_step see view x r old mid new caller n f next first second
+
+-- a part stops
+pub stops : {X T Y U : Type 0} {see : X → T} {view : Y → U} {e : Stop} {old new : Stores} {caller : Caller} {n k : ℕ} (f : History → Made T) (next : T → History → Made U)
+    → IsStep see (Err e) old new caller k f → IsStep view (Err e) old new caller n (follow f next)
+stops {see = see} {view = view} {e = e} {old = old} {new = new} {caller = caller} {n = n} {k = k} f next first = stop_step see view e old new caller n k f next first
+
+-- a part is told by something that is the same
+pub moved : {X T I : Type 0} {see : X → T} {r : Result X Stop} {old new : Stores} {caller : Caller} {n : ℕ} (f : I → History → Made T) (a b : I) → a ≡ b → IsStep see r old new caller n (f a) → IsStep see r old new caller n (f b)
+moved {see = see} {r = r} {old = old} {new = new} {caller = caller} {n = n} f a b same step = subst (λ i. IsStep see r old new caller n (f i)) same step
+
+-- ---- parts that are grouped in another way
+
+-- what comes behind a part is the same
+then_same : {T U : Type 0} (r : Result T Halt) (events : History) (next other : T → Made U) → ((x : T) → next x ≡ other x) → then_told r events next ≡ then_told r events other
+then_same (Ok x) events next other same = ap (behind events) (same x)
+then_same (Err e) events next other same = refl
+
+pub follow_same : {T U : Type 0} (f : History → Made T) (next other : T → History → Made U) (h : History) → ((x : T) (k : History) → next x k ≡ other x k) → follow f next h ≡ follow f other h
+follow_same f next other h same = then_same (f h).told (f h).events (λ x. next x ((f h).events ++ h)) (λ x. other x ((f h).events ++ h)) (λ x. same x ((f h).events ++ h))
+
+-- a part by which nothing happens
+pub follow_made : {T U : Type 0} (x : T) (next : T → History → Made U) (h : History) → follow (λ k. made [] x) next h ≡ next x h
+follow_made x next h = let m = next x h in ap (λ es. record { events = es; told = m.told }) (append-nil m.events)
+
+-- one part behind another, and a third behind both
+told_again : {T U : Type 0} (r : Result T Halt) (second first h : History) (next : T → History → Made U)
+    → then_told r (second ++ first) (λ y. next y ((second ++ first) ++ h)) ≡ behind first (then_told r second (λ y. next y (second ++ (first ++ h))))
+told_again (Ok y) second first h next =
+    ap (λ k. behind (second ++ first) (next y k)) (append_assoc second first h)
+    ∙ (let m = next y (second ++ (first ++ h)) in ap (λ es. record { events = es; told = m.told }) (sym (append_assoc m.events second first)))
+told_again (Err e) second first h next = refl
+
+behind_again : {S T U : Type 0} (r : Result S Halt) (first h : History) (g : S → History → Made T) (next : T → History → Made U)
+    → and_then (then_told r first (λ x. g x (first ++ h))) (λ y. next y ((then_told r first (λ x. g x (first ++ h))).events ++ h)) ≡ then_told r first (λ x. follow (g x) next (first ++ h))
+behind_again (Ok x) first h g next = told_again (g x (first ++ h)).told (g x (first ++ h)).events first h next
+behind_again (Err e) first h g next = refl
+
+pub follow_again : {S T U : Type 0} (f : History → Made S) (g : S → History → Made T) (next : T → History → Made U) (h : History) → follow (follow f g) next h ≡ follow f (λ x. follow (g x) next) h
+follow_again f g next h = behind_again (f h).told (f h).events h g next
+
+-- ---- a SELECT of tables gathers, plans and reads
+
+module _ (prunes : Bool) (names : List (List ℕ)) (c : Caller) (t : SelectTree) where
+  planned : (m : SelectMeant) (trees : List TableTree) (h : History) → follow (planned_under prunes names c (record { meant = m; trees = trees })) (answered c m) h ≡ by_plan names c m (plan_for prunes m.conditions trees) h
+  planned m trees h =
+      let p = plan_for prunes m.conditions trees in
+      follow_again (locked_below names c (plan_tables p)) (λ u k. made [] p) (answered c m) h
+      ∙ follow_same (locked_below names c (plan_tables p)) (λ u. follow (λ k. made [] p) (answered c m)) (λ u. answered c m p) h (λ u k. follow_made p (answered c m) k)
+
+  found : (trees : List TableTree) (h : History)
+      → follow (found_over c t trees) (λ g. follow (planned_under prunes names c g) (λ p. answered c g.meant p)) h ≡ of_trees prunes names c t trees h
+  found trees h =
+      let f = meant c t (items_of 0 (from_of t) trees) in
+      let next : Found → History → Made Answer = λ g. follow (planned_under prunes names c g) (λ p. answered c g.meant p) in
+      follow_again f (λ m k. made [] (record { meant = m; trees = trees })) next h
+      ∙ follow_same f (λ m. follow (λ k. made [] (record { meant = m; trees = trees })) next) (λ m. by_plan names c m (plan_for prunes m.conditions trees)) h
+      (λ m k. follow_made (record { meant = m; trees = trees }) next k ∙ planned m trees k)
+
+  pub runs : (h : History) → follow (gathered names c t) (λ g. follow (planned_under prunes names c g) (λ p. answered c g.meant p)) h ≡ of_named prunes names c t h
+  runs h =
+      let f = named_from names c [] (from_of t) in
+      let next : Found → History → Made Answer = λ g. follow (planned_under prunes names c g) (λ p. answered c g.meant p) in
+      follow_again f (found_in c t) next h
+      ∙ follow_same f (λ ns. follow (found_in c t ns) next) (of_tables prunes names c t) h (λ ns k. found (trees_for c ns k) k)
+
+  pub runs_step : {view : Answer → Answer} {r : Result Answer Stop} {old new : Stores} {n : ℕ}
+      → IsStep view r old new c n (follow (gathered names c t) (λ g. follow (planned_under prunes names c g) (λ p. answered c g.meant p))) → IsStep view r old new c n (of_named prunes names c t)
+  runs_step {view = view} {r = r} {old = old} {new = new} {n = n} step =
+      same_step view r old new c n (of_named prunes names c t) (follow (gathered names c t) (λ g. follow (planned_under prunes names c g) (λ p. answered c g.meant p))) (λ h stands. sym (runs h)) step
+
+-- with FROM
+with_from : (prunes : Bool) (names : List (List ℕ)) (c : Caller) (t : SelectTree) (from : List Joined) (j : Joined) (js : List Joined) (h : History) → from ≡ j ∷ js
+    → of_items prunes names c t from h ≡ follow (begins c) (λ u. of_named prunes names c t) h
+with_from prunes names c t from j js h is = ap (λ l. of_items prunes names c t l h) is
+
+pub run_their_plan : SelectsRunTheirPlan
+run_their_plan prunes names c t j js h is =
+    with_from prunes names c t (from_of t) j js h is
+    ∙ follow_same (begins c) (λ u. of_named prunes names c t) (λ u. follow (gathered names c t) (λ g. follow (planned_under prunes names c g) (λ p. answered c g.meant p))) h (λ u k. sym (runs prunes names c t k))
+
+-- ---- what is found over the trees that were read
+
+pub found_step : {X : Type 0} {view : X → Found} {r : Result X Stop} (c : Caller) (t : SelectTree) (ns : List ℕ) (trees : List TableTree) (old new : Stores) (k : ℕ) → ((h : History) → Stands old h → trees ≡ trees_for c ns h)
+    → IsStep view r old new c k (found_over c t trees) → IsStep view r old new c k (found_in c t ns)
+found_step {view = view} {r = r} c t ns trees old new k are step =
+    same_step view r old new c k (found_in c t ns) (found_over c t trees) (λ h stands. ap (λ x. found_over c t x h) (sym (are h stands))) step

@@ -1,0 +1,39 @@
+use Rattle.std.proofs.Common.{◌∙◌, [], map, subst, sym, ap, length, All, Ok}
+use Rattle.std.proofs.lemmas.List.{length-map}
+use Rattle.std.proofs.lemmas.Result.{err_from_is_err_and}
+use Rattle.sql_ast.specs.Queries.{joined_tree, select_tree}
+use Rattle.sql_binder.specs.Selects.{from_of}
+use Rattle.statement_steps.specs.Known.{IsKnownTo}
+use Rattle.statement_steps.specs.Steps.{IsStep}
+use Rattle.statement_steps.proofs.Steps.{may_go_on}
+use Rattle.select_statement.specs.Below.{number_of}
+use Rattle.select_statement.specs.Gathered.{found_by, found_in}
+use Rattle.select_statement.specs.Selected.{named_from}
+use Rattle.select_statement.proofs.Naming.{few_stay, numbers}
+use Rattle.select_statement.proofs.Straight.{goes, moved, stops}
+use Rattle.select_statement.proofs.gathering.gather.Goals as goal
+
+pub returns-in_err-tables-clause-step : goal.returns-in_err-tables-clause-step
+returns-in_err-tables-clause-step c =
+    let p = err_from_is_err_and c.from_residual.result c.from_residual.ensures.1 in
+    rw (p.1, p.2) (stops (named_from c.args.names.now c.args.caller [] (from_of (select_tree c.args.select.now))) (found_in c.args.caller (select_tree c.args.select.now))
+    (moved (λ items. named_from c.args.names.now c.args.caller [] (map joined_tree items)) _ _ c.as_slice.ensures c.in_err-tables.ensures.step))
+
+pub find-requires-clause-may : goal.find-requires-clause-may
+find-requires-clause-may c = may_go_on numbers _ _ _ _ _ c.requires.may c.in_ok-tables.ensures.step
+
+pub find-requires-clause-few : goal.find-requires-clause-few
+find-requires-clause-few c = few_stay c.args.stores.now c.lock_items.new.stores c.lock_items.ensures.rest c.requires.few
+
+pub find-requires-clause-each : goal.find-requires-clause-each
+find-requires-clause-each c =
+    ap length c.deref.ensures.value ∙ c.in_ok-tables.ensures.count ∙ ap length c.as_slice.ensures ∙ sym (length-map c.args.select.now.from joined_tree)
+
+pub find-requires-clause-known : goal.find-requires-clause-known
+find-requires-clause-known c = subst (All (λ t. IsKnownTo c.lock_items.new.stores c.args.caller.session t.number)) (sym c.deref.ensures.value) c.in_ok-tables.ensures.known
+
+pub returns-clause-step : goal.returns-clause-step
+returns-clause-step c =
+    let found = subst (λ items. IsStep numbers (Ok c.in_ok-tables.tables) c.args.stores.now c.lock_items.new.stores c.args.caller c.args.caller.cmd (named_from c.args.names.now c.args.caller [] (map joined_tree items))) c.as_slice.ensures c.in_ok-tables.ensures.step in
+    let over = subst (λ ts. IsStep found_by c.find.result c.lock_items.new.stores c.lock_items.new.stores c.args.caller c.args.caller.cmd (found_in c.args.caller (select_tree c.args.select.now) (map number_of ts))) c.deref.ensures.value c.find.ensures.step in
+    goes (named_from c.args.names.now c.args.caller [] (from_of (select_tree c.args.select.now))) (found_in c.args.caller (select_tree c.args.select.now)) found over

@@ -1,0 +1,43 @@
+-- What a SELECT does before it reads (the manual, SELECT; EXPLAIN): what it stands for is gathered, its plan is made, and what
+-- the plan reads is locked. An EXPLAIN of the SELECT does the same.
+use Rattle.std.specs.Prelude.{ℕ, Bool, List, [], map}
+use Rattle.history.specs.History.{History}
+use Rattle.table_trees.specs.Seen.{seen}
+use Rattle.table_trees.specs.Trees.{TableTree}
+use Rattle.sql_ast.specs.Queries.{SelectTree}
+use Rattle.sql_binder.specs.Selects.{from_of}
+use Rattle.cond_logic.specs.Asked.{SelectMeant, select_meant}
+use Rattle.plan_tree.specs.Plans.{Planned, plan_for, plan_tables}
+use Rattle.statement_steps.specs.Made.{Made, made}
+use Rattle.statement_steps.specs.declared.caller.Caller.{Caller}
+use Rattle.statement_steps.specs.Steps.{follow}
+use Rattle.select_statement.specs.declared.gathered.Gathered.{Gathered}
+use Rattle.select_statement.specs.Items.{items_of}
+use Rattle.select_statement.specs.Selected.{meant, locked_below, trees_for, named_from}
+
+-- what a SELECT asks for, and the trees of its tables
+pub record Found : Type 0 where
+  pub meant : SelectMeant
+  pub trees : List TableTree
+
+abbrev pub found_by : Gathered → Found
+found_by g = record { meant = select_meant g.ask; trees = map seen g.trees.items }
+
+abbrev pub found_over : Caller → SelectTree → List TableTree → History → Made Found
+found_over c t trees = follow (meant c t (items_of 0 (from_of t) trees)) (λ m h. made [] (record { meant = m; trees = trees }))
+
+-- over the trees of these tables, which the command's snapshot shows
+abbrev pub found_in : Caller → SelectTree → List ℕ → History → Made Found
+found_in c t ns h = found_over c t (trees_for c ns h) h
+
+-- once the tables of its items are found and locked
+abbrev pub gathered : List (List ℕ) → Caller → SelectTree → History → Made Found
+gathered names c t = follow (named_from names c [] (from_of t)) (found_in c t)
+
+-- the plan of what was found
+abbrev pub plan_of : (prunes : Bool) → Found → Planned
+plan_of prunes g = plan_for prunes g.meant.conditions g.trees
+
+-- once the tables that lead to its leaves are locked
+abbrev pub planned_under : (prunes : Bool) → List (List ℕ) → Caller → Found → History → Made Planned
+planned_under prunes names c g = follow (locked_below names c (plan_tables (plan_of prunes g))) (λ u h. made [] (plan_of prunes g))

@@ -1,0 +1,141 @@
+//! EXPLAIN of a SELECT.
+
+ghost use Rattle.std.specs.Prelude.{◌≡◌, ◌+◌, ◌≤◌, IfErr, IfOk, length, map};
+ghost use Rattle.table_trees.specs.Seen.{seen};
+ghost use Rattle.sql_ast.specs.Queries.{joined_tree, select_tree};
+ghost use Rattle.sql_binder.specs.Selects.{from_of};
+ghost use Rattle.cond_logic.specs.Asked.{select_meant};
+ghost use Rattle.plan_tree.specs.Plans.{planned};
+ghost use Rattle.statement_steps.specs.Attempts.{MayAttempt};
+ghost use Rattle.statement_steps.specs.Steps.{IsStep};
+ghost use Rattle.statement_steps.specs.declared.stop.Stop.TheVariants as stops;
+ghost use Rattle.select_statement.specs.Explained.{OneTableReadsItsScans, SelectsRunTheirPlan};
+ghost use Rattle.select_statement.specs.Explained as explained;
+ghost use Rattle.select_statement.specs.Gathered.{found_by};
+
+use crate::Gathered;
+use crate::gathering::{gather, plan_under};
+use crate::items::{item_name, node_of};
+use cond_logic::SelectAsk;
+use history::Column;
+use pg_values::{Answer, NameList, NoMemory, PgText};
+use plan_text::{NamedItem, write_plan};
+use plan_tree::Plan;
+use select_answer::one_item_is_read_once;
+use sql_ast::{FromItem, Select};
+use statement_steps::{Caller, SessionNames, Stop, hold_if_repeatable};
+use std::alloc::Global;
+use stores::Stores;
+use table_trees::Tree;
+
+/// A SELECT of tables reads by the plan that its EXPLAIN prints: both gather and plan alike.
+pub fn selects_run_their_plan()
+    ensures { SelectsRunTheirPlan }
+{}
+
+/// A SELECT of one table reads the leaves under the scans of its plan, each once, in order.
+pub fn one_table_reads_its_scans()
+    ensures { OneTableReadsItsScans }
+{
+    one_item_is_read_once();
+}
+
+// ---- names
+
+fn names_of(alloc: Global, columns: &[Column]) -> Result<NameList, NoMemory>
+    ensures { IfOk result (λ names. names ≡ map explained.column_name columns.now) }
+{
+    let mut names = NameList::new(alloc);
+    for column in columns {
+        names.push(column.name.copy(alloc)?)?;
+    }
+    Ok(names)
+}
+
+fn named_item(alloc: Global, item: &FromItem, tree: &Tree) -> Result<NamedItem, NoMemory>
+    ensures { IfOk result (λ i. i ≡ explained.named_item (joined_tree item.now) (seen tree.now)) }
+{
+    Ok(NamedItem {
+        name: PgText::from_bytes(alloc, item_name(item))?,
+        is_alias: item.table.alias.is_some(),
+        columns: names_of(alloc, node_of(tree).columns.as_slice())?,
+    })
+}
+
+fn named_items(
+    alloc: Global,
+    from_items: &[FromItem],
+    trees: &[Tree],
+) -> Result<Vec<NamedItem>, NoMemory>
+    requires { length from_items.now ≡ length trees.now }
+    ensures { IfOk result (λ named. named.items ≡ explained.named_items (map joined_tree from_items.now) (map seen trees.now)) }
+{
+    let mut named = Vec::new(alloc);
+    for (place, item) in from_items.iter().enumerate() {
+        named.push(named_item(alloc, item, &trees[place])?)?;
+    }
+    Ok(named)
+}
+
+fn is_cut(select: &Select, ask: &SelectAsk) -> bool
+    ensures { result ≡ explained.is_cut (select_tree select.now) (select_meant ask.now) }
+{
+    select.offset.is_some() || ask.limit.is_some()
+}
+
+// ---- the statement
+
+fn plan_table(
+    alloc: Global,
+    select: &Select,
+    found: &Gathered,
+    plan: &Plan<'_>,
+) -> Result<Answer, NoMemory>
+    requires each { length found.now.trees.items ≡ length (from_of (select_tree select.now)) }
+    requires few { length (planned plan.now).items ≤ 4 }
+    ensures { IfOk result (λ a. a ≡ explained.told (select_tree select.now) (found_by found.now) (planned plan.now)) }
+{
+    let named = named_items(alloc, select.from.as_slice(), &found.trees)?;
+    let is_cut = is_cut(select, &found.ask);
+    write_plan(alloc, &named, is_cut, &found.ask, plan)
+}
+
+// The plan is printed.
+fn tell(
+    alloc: Global,
+    stores: &Stores,
+    caller: Caller,
+    select: &Select,
+    found: &Gathered,
+    plan: &Plan<'_>,
+) -> Result<Answer, Stop>
+    requires may { MayAttempt stores.now caller }
+    requires each { length found.now.trees.items ≡ length (from_of (select_tree select.now)) }
+    requires few { length (planned plan.now).items ≤ 4 }
+    ensures { IsStep (λ a. a) result stores.now stores.now caller (caller.cmd + 1) (explained.printed (select_tree select.now) (found_by found.now) (planned plan.now)) }
+{
+    match plan_table(alloc, select, found, plan) {
+        Ok(table) => Ok(table),
+        Err(NoMemory) => Err(Stop::NoMemory),
+    }
+}
+
+/// An EXPLAIN of a SELECT of a session: its plan, or why it stops. It locks what the SELECT locks, and is refused
+/// where that is refused before it reads. It reads nothing.
+pub fn explain(
+    alloc: Global,
+    stores: &mut Stores,
+    names: &SessionNames,
+    caller: Caller,
+    prunes: bool,
+    select: &Select,
+) -> Result<Answer, Stop>
+    requires may { MayAttempt stores.old caller }
+    requires few { length stores.old.catalog.tables ≤ 4096 }
+    ensures { IsStep (λ a. a) result stores.old stores.new caller (caller.cmd + 1) (explained.explained prunes names.now caller (select_tree select.now)) }
+{
+    hold_if_repeatable(alloc, stores, caller)?;
+    let found = gather(alloc, stores, names, caller, select)?;
+    let plan = plan_under(alloc, stores, names, caller, prunes, &found)?;
+    tell(alloc, stores, caller, select, &found, &plan)
+}

@@ -1,0 +1,12 @@
+use cond_logic::SelectAsk;
+use table_trees::Tree;
+use tx_table::Snapshot;
+
+/// What a SELECT stands for: what it asks for, the trees of its tables, and the snapshot of its command, under
+/// which they were read.
+#[derive(Drop)]
+pub struct Gathered {
+    pub ask: SelectAsk,
+    pub trees: Vec<Tree>,
+    pub snap: Snapshot,
+}

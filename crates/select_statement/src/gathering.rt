@@ -1,0 +1,196 @@
+//! What a SELECT does before it reads, and an EXPLAIN of it too.
+
+ghost use Rattle.std.specs.Prelude.{◌≡◌, ◌≤◌, All, IfErr, IfOk, length, map};
+ghost use Rattle.history.specs.History.{History};
+ghost use Rattle.table_trees.specs.Seen.{seen};
+ghost use Rattle.sql_ast.specs.Queries.{select_tree};
+ghost use Rattle.sql_binder.specs.Selects.{from_of};
+ghost use Rattle.cond_logic.specs.Asked.{select_meant};
+ghost use Rattle.plan_tree.specs.Plans.{CanRead, plan_tables, planned};
+ghost use Rattle.stores.specs.Stand.{Stands};
+ghost use Rattle.statement_steps.specs.Attempts.{MayAttempt};
+ghost use Rattle.statement_steps.specs.Known.{IsKnownTo};
+ghost use Rattle.statement_steps.specs.Steps.{IsStep};
+ghost use Rattle.statement_steps.specs.declared.stop.Stop.TheVariants as stops;
+ghost use Rattle.select_statement.specs.Below.{number_of};
+ghost use Rattle.select_statement.specs.Gathered.{found_by, plan_of};
+ghost use Rattle.select_statement.specs.Gathered as gathered;
+ghost use Rattle.select_statement.specs.Items.{items_of as scope_of};
+ghost use Rattle.select_statement.specs.Lent.{IsTreeFor, IsLookFor, MayLock};
+ghost use Rattle.select_statement.specs.Selected as selected;
+
+use crate::Gathered;
+use crate::items::items_of;
+use crate::parts::{bind, lock_below};
+use crate::tables::{lock_items, read_trees};
+use cond_logic::SelectAsk;
+use pg_values::{NoMemory, TableNo};
+use plan_tree::{Plan, make_plan};
+use sql_ast::Select;
+use statement_steps::{Caller, SessionNames, Stop};
+use std::alloc::Global;
+use stores::Stores;
+use table_trees::Tree;
+use tx_table::Snapshot;
+
+// ---- what the statement stands for
+
+/// The snapshot of the command.
+pub(crate) fn look(alloc: Global, stores: &Stores, caller: Caller) -> Result<Snapshot, Stop>
+    requires { MayAttempt stores.now caller }
+    ensures look { IfOk result (λ snap. IsLookFor stores.now caller snap) }
+    ensures err { IfErr result (λ e. e ≡ stops.NoMemory) }
+{
+    match stores.look(alloc, caller.session, caller.cmd) {
+        Ok(snap) => Ok(snap),
+        Err(NoMemory) => Err(Stop::NoMemory),
+    }
+}
+
+// The trees of the tables under the snapshot.
+fn trees_under(
+    alloc: Global,
+    stores: &Stores,
+    caller: Caller,
+    tables: &[TableNo],
+    snap: &Snapshot,
+) -> Result<Vec<Tree>, Stop>
+    requires may { MayAttempt stores.now caller }
+    requires few { length stores.now.catalog.tables ≤ 4096 }
+    requires known { All (λ t. IsKnownTo stores.now caller.session t.number) tables.now }
+    requires look { IsLookFor stores.now caller snap.now }
+    ensures trees { IfOk result (λ trees. (h : History) → Stands stores.now h → map seen trees.items ≡ selected.trees_for caller (map number_of tables.now) h) }
+    ensures each { IfOk result (λ trees. All (λ t. IsTreeFor stores.now caller (seen t)) trees.items) }
+    ensures err { IfErr result (λ e. e ≡ stops.NoMemory) }
+{
+    match read_trees(alloc, stores, caller, tables, snap) {
+        Ok(trees) => Ok(trees),
+        Err(NoMemory) => Err(Stop::NoMemory),
+    }
+}
+
+// The names of the statement stand for the tables of the trees, where these are not too many.
+fn bind_over(
+    alloc: Global,
+    stores: &Stores,
+    caller: Caller,
+    select: &Select,
+    trees: &[Tree],
+) -> Result<SelectAsk, Stop>
+    requires may { MayAttempt stores.now caller }
+    requires each { length trees.now ≡ length (from_of (select_tree select.now)) }
+    ensures step { IsStep select_meant result stores.now stores.now caller caller.cmd (selected.meant caller (select_tree select.now) (scope_of 0 (from_of (select_tree select.now)) (map seen trees.now))) }
+    ensures few { IfOk result (λ ask. length trees.now ≤ 4) }
+{
+    if trees.len() > 4 {
+        return bind(alloc, stores, caller, select, &[]);
+    }
+    match items_of(alloc, select.from.as_slice(), trees) {
+        Ok(items) => bind(alloc, stores, caller, select, &items),
+        Err(NoMemory) => Err(Stop::NoMemory),
+    }
+}
+
+// The trees of the tables are read, and names and kinds bound over them.
+fn find(
+    alloc: Global,
+    stores: &Stores,
+    caller: Caller,
+    select: &Select,
+    tables: &[TableNo],
+) -> Result<Gathered, Stop>
+    requires may { MayAttempt stores.now caller }
+    requires few { length stores.now.catalog.tables ≤ 4096 }
+    requires each { length tables.now ≡ length (from_of (select_tree select.now)) }
+    requires known { All (λ t. IsKnownTo stores.now caller.session t.number) tables.now }
+    ensures step { IsStep found_by result stores.now stores.now caller caller.cmd (gathered.found_in caller (select_tree select.now) (map number_of tables.now)) }
+    ensures few { IfOk result (λ g. length g.trees.items ≤ 4) }
+    ensures each { IfOk result (λ g. length g.trees.items ≡ length (from_of (select_tree select.now))) }
+    ensures trees { IfOk result (λ g. All (λ t. IsTreeFor stores.now caller (seen t)) g.trees.items) }
+    ensures look { IfOk result (λ g. IsLookFor stores.now caller g.snap) }
+{
+    let snap = look(alloc, stores, caller)?;
+    let trees = trees_under(alloc, stores, caller, tables, &snap)?;
+    let ask = bind_over(alloc, stores, caller, select, &trees)?;
+    Ok(Gathered { ask, trees, snap })
+}
+
+/// The tables of FROM are found and locked, their trees read under the snapshot of the command, names and kinds
+/// bound, and constants evaluated.
+pub(crate) fn gather(
+    alloc: Global,
+    stores: &mut Stores,
+    names: &SessionNames,
+    caller: Caller,
+    select: &Select,
+) -> Result<Gathered, Stop>
+    requires may { MayAttempt stores.old caller }
+    requires few { length stores.old.catalog.tables ≤ 4096 }
+    ensures step { IsStep found_by result stores.old stores.new caller caller.cmd (gathered.gathered names.now caller (select_tree select.now)) }
+    ensures few { IfOk result (λ g. length g.trees.items ≤ 4) }
+    ensures each { IfOk result (λ g. length g.trees.items ≡ length (from_of (select_tree select.now))) }
+    ensures trees { IfOk result (λ g. All (λ t. IsTreeFor stores.new caller (seen t)) g.trees.items) }
+    ensures look { IfOk result (λ g. IsLookFor stores.new caller g.snap) }
+{
+    let tables = lock_items(alloc, stores, names, caller, select.from.as_slice())?;
+    find(alloc, stores, caller, select, &tables)
+}
+
+// ---- the plan
+
+// The plan of what was found.
+fn plan_over<'t>(
+    alloc: Global,
+    stores: &Stores,
+    caller: Caller,
+    prunes: bool,
+    found: &'t Gathered,
+) -> Result<Plan<'t>, Stop>
+    requires may { MayAttempt stores.now caller }
+    requires few { length found.now.trees.items ≤ 4 }
+    requires trees { All (λ t. IsTreeFor stores.now caller (seen t)) found.now.trees.items }
+    ensures plan { IfOk result (λ p. planned p ≡ plan_of prunes (found_by found.now)) }
+    ensures locks { IfOk result (λ p. All (MayLock stores.now caller) (plan_tables (planned p))) }
+    ensures reads { IfOk result (λ p. All (CanRead stores.now.rows.leaves) (planned p).items) }
+    ensures few { IfOk result (λ p. length (planned p).items ≤ 4) }
+    ensures err { IfErr result (λ e. e ≡ stops.NoMemory) }
+{
+    match make_plan(alloc, prunes, &found.ask.conditions, &found.trees) {
+        Ok(plan) => Ok(plan),
+        Err(NoMemory) => Err(Stop::NoMemory),
+    }
+}
+
+// The tables that are locked under those of FROM.
+fn tables_of(alloc: Global, plan: &Plan<'_>) -> Result<Vec<TableNo>, Stop>
+    ensures tables { IfOk result (λ ts. ts.items ≡ plan_tables (planned plan.now)) }
+    ensures err { IfErr result (λ e. e ≡ stops.NoMemory) }
+{
+    match plan.tables(alloc) {
+        Ok(tables) => Ok(tables),
+        Err(NoMemory) => Err(Stop::NoMemory),
+    }
+}
+
+/// The plan is made, and what it reads is locked.
+pub(crate) fn plan_under<'t>(
+    alloc: Global,
+    stores: &mut Stores,
+    names: &SessionNames,
+    caller: Caller,
+    prunes: bool,
+    found: &'t Gathered,
+) -> Result<Plan<'t>, Stop>
+    requires may { MayAttempt stores.old caller }
+    requires few { length found.now.trees.items ≤ 4 }
+    requires trees { All (λ t. IsTreeFor stores.old caller (seen t)) found.now.trees.items }
+    ensures step { IsStep planned result stores.old stores.new caller caller.cmd (gathered.planned_under prunes names.now caller (found_by found.now)) }
+    ensures reads { IfOk result (λ p. All (CanRead stores.new.rows.leaves) (planned p).items) }
+    ensures few { IfOk result (λ p. length (planned p).items ≤ 4) }
+    ensures rest { stores.new ≡ record stores.old { locks = stores.new.locks } }
+{
+    let plan = plan_over(alloc, stores, caller, prunes, found)?;
+    let tables = tables_of(alloc, &plan)?;
+    lock_below(alloc, stores, names, caller, &tables)?;
+    Ok(plan)
+}

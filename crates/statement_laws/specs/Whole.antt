@@ -1,0 +1,81 @@
+-- A whole SELECT, UPDATE or DELETE over all leaves of the trees of its tables (the manual, 5.11.4 Partition Pruning, with
+-- pruning off), under the locks of one that reads by its plan.
+use Rattle.std.specs.Prelude.{◌≡◌, ◌≤◌, ℕ, Bool, List, [], ◌∷◌, ◌++◌, Option, Some, Ok, length}
+use Rattle.pg_values.specs.declared.answer.Answer.{Answer}
+use Rattle.history.specs.Transactions.{open_of}
+use Rattle.history.specs.History.{History, tx_events}
+use Rattle.expression_binder.specs.declared.scope.Param.{Param}
+use Rattle.sql_ast.specs.Expressions.{Tree}
+use Rattle.sql_ast.specs.Queries.{Joined, SelectTree, Setting}
+use Rattle.sql_ast.specs.declared.named_table.NamedTable.{NamedTable}
+use Rattle.sql_binder.specs.Selects.{from_of}
+use Rattle.stores.specs.Good.{IsGood}
+use Rattle.stores.specs.Numbers.{IsAt}
+use Rattle.statement_steps.specs.Asks.{held_at}
+use Rattle.statement_steps.specs.Made.{Made}
+use Rattle.statement_steps.specs.Steps.{follow}
+use Rattle.statement_steps.specs.declared.caller.Caller.{Caller}
+use Rattle.statement_steps.specs.declared.rest.Rest.{Rest}
+use Rattle.select_statement.specs.Plain.{selected_plainly}
+use Rattle.select_statement.specs.Selected.{bare, begins, named_from, selected}
+use Rattle.change_statement.specs.Changed.{Changing}
+use Rattle.change_statement.specs.Deleted.{deleted, deleting}
+use Rattle.change_statement.specs.Gathered.{Found, found}
+use Rattle.change_statement.specs.Laws.{plainly_changed}
+use Rattle.change_statement.specs.Updated.{updated, updating}
+
+-- ---- SELECT
+
+abbrev pub named_plainly : (prunes : Bool) → List (List ℕ) → Caller → SelectTree → History → Made Answer
+named_plainly prunes names c t = follow (named_from names c [] (from_of t)) (selected_plainly prunes names c t)
+
+abbrev pub items_plainly : (prunes : Bool) → List (List ℕ) → Caller → SelectTree → List Joined → History → Made Answer
+items_plainly prunes names c t [] = follow (begins c) (λ u. bare c t)
+items_plainly prunes names c t (j ∷ js) = follow (begins c) (λ u. named_plainly prunes names c t)
+
+abbrev pub all_selected : (prunes : Bool) → List (List ℕ) → Caller → SelectTree → History → Made Answer
+all_selected prunes names c t = items_plainly prunes names c t (from_of t)
+
+-- ---- UPDATE and DELETE
+
+abbrev pub all_changed_by : (change : Found → Changing) → (prunes : Bool) → List (List ℕ) → List Param → Caller → Option Rest → NamedTable → List Setting → Option Tree → History → Made (Unit {0})
+all_changed_by change prunes names params c rest table settings condition =
+    follow (held_at c.level c.session c.cmd) (λ u.
+    follow (found prunes names params c rest table settings condition) (λ g. plainly_changed (change g) names c rest g))
+
+abbrev pub all_updated : (prunes : Bool) → List (List ℕ) → List Param → Caller → Option Rest → NamedTable → List Setting → Option Tree → History → Made (Unit {0})
+all_updated prunes names params c = all_changed_by (updating c) prunes names params c
+
+abbrev pub all_deleted : (prunes : Bool) → List (List ℕ) → List Param → Caller → Option Rest → NamedTable → Option Tree → History → Made (Unit {0})
+all_deleted prunes names params c rest table condition = all_changed_by (λ g. deleting c) prunes names params c rest table [] condition
+
+-- ---- what is said of a moment of a run
+
+-- the caller's session has an open transaction, which comes to the caller's command
+pub record IsCaller (c : Caller) (h : History) : Type 0 where
+  pub tx : ℕ
+  pub own : open_of (tx_events h) c.session ≡ Some tx
+  pub at : IsAt h c.session c.cmd
+
+-- a SELECT of up to four tables that has come to its end there made of the history before, and answered, what one does that
+-- scans all leaves of the trees of its snapshot
+abbrev pub CompletedSelectsArePlain : History → Type 0
+CompletedSelectsArePlain h = (prunes : Bool) (names : List (List ℕ)) (c : Caller) (t : SelectTree) (a : Answer) (before : History)
+    → h ≡ (selected prunes names c t before).events ++ before → IsCaller c before → length (from_of t) ≤ 4 → (selected prunes names c t before).told ≡ Ok a → selected prunes names c t before ≡ all_selected prunes names c t before
+
+-- an UPDATE or a DELETE, from its beginning or from where it stood, made what one does over all leaves of its table's tree
+abbrev pub UpdatesArePlain : History → Type 0
+UpdatesArePlain h = (prunes : Bool) (names : List (List ℕ)) (params : List Param) (c : Caller) (rest : Option Rest) (table : NamedTable) (settings : List Setting) (condition : Option Tree) (before : History)
+    → h ≡ (updated prunes names params c rest table settings condition before).events ++ before → IsCaller c before → updated prunes names params c rest table settings condition before ≡ all_updated prunes names params c rest table settings condition before
+
+abbrev pub DeletesArePlain : History → Type 0
+DeletesArePlain h = (prunes : Bool) (names : List (List ℕ)) (params : List Param) (c : Caller) (rest : Option Rest) (table : NamedTable) (condition : Option Tree) (before : History)
+    → h ≡ (deleted prunes names params c rest table condition before).events ++ before → IsCaller c before → deleted prunes names params c rest table condition before ≡ all_deleted prunes names params c rest table condition before
+
+pub record WholeStatementsArePlain (h : History) : Type 0 where
+  pub selects : CompletedSelectsArePlain h
+  pub updates : UpdatesArePlain h
+  pub deletes : DeletesArePlain h
+
+abbrev pub EachWholeIsPlain : Type 0
+EachWholeIsPlain = (h : History) → IsGood h → WholeStatementsArePlain h

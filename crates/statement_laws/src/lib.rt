@@ -1,0 +1,10 @@
+//! What holds of whole statements of a run: each one that was completed did what one does that reads everything.
+//!
+//! A statement reads the leaves that its plan keeps. Of each SELECT that has come to its end, and of each UPDATE and DELETE
+//! whichever way it ended, it is said here that it made of what had happened before, and answered, what one does that
+//! scans all leaves of the trees of its snapshot.
+#![tactic(auto)]
+
+mod laws;
+
+pub use laws::whole_statements_are_plain;
