@@ -240,7 +240,7 @@ ends (Err r) = Err (stopped r)
 pub succeeded_run : (r : Result (Unit {0}) Refusal) (old : Stores) (rows : KeptRows) (caller : Caller) (g : Found) (from : LeafId) (id : RowId) (leaf : LeafId) (row : List Value) (by : TxId) → MayRun g old caller → MayEndIn g old caller id → (stored_at old.rows.stored id).version.leaf ≡ from → Agree g.asked.settings (stored_at old.rows.stored id).version.row row → IsPlacedIn old g from leaf row → IsTakenIn old caller g leaf row
     → slice_index_or old.txs.current caller.session None ≡ Some by.number → ((h : History) → TableStands old.txs h → StoreStands old.rows h → IsMade r rows h (rows_spec.succeeded h from id leaf row by caller.cmd))
     → IsRun g (λ (u : Unit {0}). u) (ends r) old (record old { rows = rows }) caller (succeeded caller from id leaf row)
-succeeded_run (Ok u) old rows caller g from id leaf row by may version own keys at mine added = record {
+succeeded_run (Ok u) old rows caller g from id leaf row by may version own keys at taken mine added = record {
   is = λ h stands run.
       let new = record old { rows = rows } in
       let open_in : open_of (tx_events h) caller.session ≡ Some by.number = sym (stands.all.txs.current caller.session) ∙ mine in
@@ -250,7 +250,7 @@ succeeded_run (Ok u) old rows caller g from id leaf row by may version own keys 
   keeps = rows_keep old rows caller.session;
   waits = may.may.idle;
 }
-succeeded_run (Err (Sql f)) old rows caller g from id leaf row by may version own keys at mine added = record {
+succeeded_run (Err (Sql f)) old rows caller g from id leaf row by may version own keys at taken mine added = record {
   is = λ h stands run.
       let new = record old { rows = rows } in
       let open_in : open_of (tx_events h) caller.session ≡ Some by.number = sym (stands.all.txs.current caller.session) ∙ mine in
@@ -260,4 +260,4 @@ succeeded_run (Err (Sql f)) old rows caller g from id leaf row by may version ow
   keeps = rows_keep old rows caller.session;
   waits = may.may.idle;
 }
-succeeded_run (Err NoMemory) old rows caller g from id leaf row by may version own keys at mine added = no_memory_run g (λ (u : Unit {0}). u) old (record old { rows = rows }) caller (succeeded caller from id leaf row) (rows_keep old rows caller.session)
+succeeded_run (Err NoMemory) old rows caller g from id leaf row by may version own keys at taken mine added = no_memory_run g (λ (u : Unit {0}). u) old (record old { rows = rows }) caller (succeeded caller from id leaf row) (rows_keep old rows caller.session)
