@@ -150,7 +150,7 @@ fn attempt_plan(
     out: &mut Vec<u8>,
 ) -> Result<(), Stop>
     requires { MayAttempt stores.old caller }
-    ensures { IsStatement (ended result) stores.old stores.new out.old.items out.new.items caller (attempted.explain_attempted prunes names.now caller false (select_tree statement.now)) }
+    ensures { (left : Option Left) → IsStatement left (ended result) stores.old stores.new out.old.items out.new.items caller (attempted.explain_attempted prunes names.now caller false (select_tree statement.now)) }
 {
     check_room(stores, caller);
     match explain(alloc, stores, names, caller, prunes, statement) {
@@ -173,7 +173,7 @@ fn attempt_explain(
     out: &mut Vec<u8>,
 ) -> Result<(), Stop>
     requires { MayAttempt stores.old caller }
-    ensures { IsStatement (ended result) stores.old stores.new out.old.items out.new.items caller (attempted.explain_attempted prunes names.now caller analyze (select_tree statement.now)) }
+    ensures { (left : Option Left) → IsStatement left (ended result) stores.old stores.new out.old.items out.new.items caller (attempted.explain_attempted prunes names.now caller analyze (select_tree statement.now)) }
 {
     if analyze {
         omit(alloc, stores, caller, b"ANALYZE", out)
