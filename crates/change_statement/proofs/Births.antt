@@ -22,7 +22,7 @@ use Rattle.tx_table.specs.Stands.{TableStands}
 use Rattle.row_store.specs.Kept.{KeptRows, stored_at}
 use Rattle.row_store.specs.Stands.{StoreStands, newborn}
 use Rattle.row_change.specs.Placing.{bounds_faults, first_or}
-use Rattle.row_change.specs.Storing.{IsMade, full_faults, made_by}
+use Rattle.row_change.specs.Storing.{IsMade, check_faults, full_faults, made_by}
 use Rattle.row_change.specs.Succession as rows_spec
 use Rattle.row_change.specs.Succession.{ending_to, follows}
 use Rattle.soundness.specs.Worlds.{AcceptAbove, HasLeaf, view}
@@ -46,13 +46,14 @@ use Rattle.insert_statement.specs.Asked.{stopped}
 use Rattle.insert_statement.specs.Born.{unless_refused}
 use Rattle.insert_statement.specs.Inserted.{answered, holder_faults, tables_of}
 use Rattle.insert_statement.proofs.OwnLeaf.{none_refuses}
+use Rattle.insert_statement.proofs.Passing.{nothing_before}
 use Rattle.insert_statement.proofs.Ways.{is_placed}
 use Rattle.change_statement.proofs.Ended.{Came, came_on, came_one, end_writes, got_at, own_is, rows_keep}
 use Rattle.change_statement.proofs.Kept.{one_of}
 use Rattle.change_statement.proofs.Stays.{ended_fits}
 use Rattle.change_statement.proofs.Still.{kept_accepts, leaf_is_there, open_leaf, routed_accepts, taken_above}
 use Rattle.change_statement.specs.Running.{Agree, IsInRun, IsPlacedIn, IsRun, IsRunTold, IsTakenIn, MayEndIn, MayRun}
-use Rattle.change_statement.specs.Updated.{housed, succeeded, succeeded_by, tested}
+use Rattle.change_statement.specs.Updated.{against, housed, succeeded, succeeded_by, tested}
 use Rattle.statement_steps.proofs.Since.{since_now, since_on}
 use Rattle.statement_steps.specs.Gathered.{Found, IsStill, MayWriteAt}
 use Rattle.change_statement.proofs.Runs.{no_memory_run}
@@ -140,7 +141,7 @@ none_of (f ∷ fs) told = absurd (let c = told in cc)
 
 -- where it was tested
 pub none_stands : (stores : Stores) (caller : Caller) (g : Found) (leaf : LeafId) (row : List Value) → IsRun g (λ (u : Unit {0}). u) (Ok tt) stores stores caller (tested caller g leaf row) → IsTakenIn stores caller g leaf row
-none_stands stores caller g leaf row ran h stands run = none_of (holder_faults h caller.session g.tree leaf row) (ran.is h stands run).0
+none_stands stores caller g leaf row ran h stands run = none_of (against h caller.session g leaf row) (ran.is h stands run).0
 
 -- ---- the row that is born
 
@@ -156,7 +157,7 @@ born_in stores caller g id old leaf row by h stands run version own keys at take
         permitted = record {
           locked = λ x has. writes_of h s by.number x legal mine (take.writes x has);
           routed = take.accepts;
-          passes = taken_above h s by.number g leaf row stands.good run.still mine at.way (taken h stands run);
+          passes = taken_above h s by.number g leaf row stands.good run.still mine at.way (nothing_before (holder_faults h s g.tree leaf row) (check_faults (tables_of h) g.path row) (taken h stands run));
         };
       },
       tt,

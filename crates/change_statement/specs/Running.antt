@@ -33,9 +33,9 @@ use Rattle.statement_steps.specs.Known.{IsKnownTo}
 use Rattle.statement_steps.specs.Steps.{IsPaused}
 use Rattle.insert_statement.specs.Asked.{IsReadOf}
 use Rattle.change_statement.specs.Standing.{following}
-use Rattle.change_statement.specs.Updated.{housed}
+use Rattle.change_statement.specs.Updated.{against, housed}
 use Rattle.cond_logic.specs.Asked.{SettingMeant}
-use Rattle.insert_statement.specs.Inserted.{holder_faults, tables_of}
+use Rattle.insert_statement.specs.Inserted.{tables_of}
 
 -- ---- its command
 
@@ -132,6 +132,6 @@ pub record Takes (n : ℕ) (g : Found) (row : List Value) : Type 0 where
   pub above : All (IsPartNumbered n) g.path
   pub known : IsNumbered n g.tree
 
--- nothing in the table that has the leaf stands against the row
+-- nothing stands against the row there
 abbrev pub IsTakenIn : Stores → Caller → Found → LeafId → (row : List Value) → Type 0
-IsTakenIn stores c g leaf row = (h : History) → Stands stores h → IsInRun g h c → holder_faults h c.session g.tree leaf row ≡ []
+IsTakenIn stores c g leaf row = (h : History) → Stands stores h → IsInRun g h c → against h c.session g leaf row ≡ []

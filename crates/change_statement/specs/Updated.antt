@@ -1,5 +1,5 @@
 -- UPDATE of a session (the manual, UPDATE; 5.11.2 Declarative Partitioning).
-use Rattle.std.specs.Prelude.{ℕ, Bool, true, false, List, Option, Result, Ok}
+use Rattle.std.specs.Prelude.{ℕ, ◌++◌, Bool, true, false, List, Option, Result, Ok}
 use Rattle.pg_values.specs.declared.value.Value.{Value}
 use Rattle.pg_values.specs.declared.fault.Fault.{Fault}
 use Rattle.pg_values.specs.declared.ids.LeafId.{LeafId}
@@ -13,7 +13,7 @@ use Rattle.table_trees.specs.declared.path_part.PathPart.{PathPart}
 use Rattle.table_trees.specs.Trees.{TableTree}
 use Rattle.row_store.specs.Stands.{newborn}
 use Rattle.row_change.specs.Placing.{bounds_faults, first_or, placed}
-use Rattle.row_change.specs.Storing.{full_faults}
+use Rattle.row_change.specs.Storing.{check_faults, full_faults}
 use Rattle.row_change.specs.Succession.{follows}
 use Rattle.change_statement.specs.NewRows.{new_row}
 use Rattle.sql_ast.specs.Expressions.{Tree}
@@ -45,9 +45,13 @@ housed false tables tree path old row = first_or (bounds_faults tables path row)
 abbrev pub rehoused : Found → (old : LeafId) → List Value → History → Made LeafId
 rehoused g old row h = answered (housed g.moves (tables_of h) g.tree g.path old row)
 
--- NOT NULL and the kept CHECKs of the table that has the leaf
+-- NOT NULL and the kept CHECKs of the table that has the leaf, then the CHECKs that were gathered of the named table and of
+-- those above it
+abbrev pub against : History → (session : ℕ) → Found → LeafId → List Value → List Fault
+against h s g leaf row = holder_faults h s g.tree leaf row ++ check_faults (tables_of h) g.path row
+
 abbrev pub tested : Caller → Found → LeafId → List Value → History → Made (Unit {0})
-tested c g leaf row h = answered (or_first (holder_faults h c.session g.tree leaf row) tt)
+tested c g leaf row h = answered (or_first (against h c.session g leaf row) tt)
 
 -- ---- its version
 

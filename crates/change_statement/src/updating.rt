@@ -28,7 +28,7 @@ use history::Column;
 use insert_statement::leaves_of;
 use part_catalog::Catalog;
 use pg_values::{Kind, LeafId, Refusal, Row, RowId, Value, kind_of};
-use row_change::{check_bounds, check_leaf, leaf_targets, succeed_row};
+use row_change::{check_bounds, check_kept, check_leaf, leaf_targets, succeed_row};
 use statement_steps::{Caller, Gathered, Stop};
 use std::alloc::Global;
 use std::slice::from_ref;
@@ -146,7 +146,8 @@ fn rehouse(
     }
 }
 
-fn check(
+// NOT NULL and the kept CHECKs of the table that has the leaf.
+fn check_holder(
     alloc: Global,
     stores: &Stores,
     caller: Caller,
@@ -167,7 +168,25 @@ fn check(
     check_leaf(alloc, catalog, &targets, leaf, row)
 }
 
-// Nothing in the table that has the leaf stands against the row.
+// And those that were gathered of the named table and of those above it, which others may have cut off since.
+fn check(
+    alloc: Global,
+    stores: &Stores,
+    caller: Caller,
+    gathered: &Gathered,
+    leaf: LeafId,
+    row: &Row,
+) -> Result<(), Refusal>
+    requires may { MayRun (found_of gathered.now) stores.now caller }
+    requires of { AreRowsOf stores.now.catalog (found_of gathered.now).table (row.now ∷ []) }
+    requires way { HasWay (found_of gathered.now).tree leaf }
+    ensures { (h : History) → Stands stores.now h → IsAnswer result (or_first (updated.against h caller.session (found_of gathered.now) leaf row.now) tt) }
+{
+    check_holder(alloc, stores, caller, gathered, leaf, row)?;
+    check_kept(alloc, &stores.catalog, &gathered.path, row)
+}
+
+// Nothing stands against the row.
 fn test(
     alloc: Global,
     stores: &Stores,

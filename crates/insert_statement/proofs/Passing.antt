@@ -30,7 +30,7 @@ pub nothing_behind : (xs ys : List Fault) → (xs ++ ys) ≡ [] → ys ≡ []
 nothing_behind [] ys e = e
 nothing_behind (x ∷ xs) ys e = absurd (let c = e in cc)
 
-nothing_before : (xs ys : List Fault) → (xs ++ ys) ≡ [] → xs ≡ []
+pub nothing_before : (xs ys : List Fault) → (xs ++ ys) ≡ [] → xs ≡ []
 nothing_before [] ys e = refl
 nothing_before (x ∷ xs) ys e = absurd (let c = e in cc)
 

@@ -41,5 +41,5 @@ pub use placing::{check_bounds, place_rows};
 pub use storing::{check_leaf, store_rows};
 pub use succession::succeed_row;
 pub use target::Target;
-pub use testing::check_row;
+pub use testing::{check_kept, check_row};
 pub use way::{leaf_way, push_way};

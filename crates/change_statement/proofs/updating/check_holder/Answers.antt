@@ -6,7 +6,7 @@ use Rattle.row_change.specs.Targets.{HasTarget, HasWay}
 use Rattle.insert_statement.specs.Inserted.{tables_of}
 use Rattle.statement_steps.specs.Gathered.{found_of}
 use Rattle.change_statement.proofs.Renewed.{takes, targets_numbered, targets_take, told_of}
-use Rattle.change_statement.proofs.updating.check.Goals as goal
+use Rattle.change_statement.proofs.updating.check_holder.Goals as goal
 
 pub leaf_targets-requires-clause-known : goal.leaf_targets-requires-clause-known
 leaf_targets-requires-clause-known c = (takes c.args.stores.now c.args.caller (found_of c.args.gathered.now) c.args.row.now c.requires.may c.requires.of).known
