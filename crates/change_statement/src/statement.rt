@@ -131,8 +131,8 @@ pub fn delete(
 
 /// The UPDATE of a session, likewise. A version that is changed is followed by one with the row that the settings
 /// make of its row: where the bounds of the named table and above take it and a partition below is there for it
-/// (23514), NOT NULL (23502) and the kept CHECKs (23514) of the leaf's table let it in, and there is room for it
-/// (54000). In its own leaf it replaces the version; else the row moves.
+/// (23514), NOT NULL (23502) and the kept CHECKs (23514) of the leaf's table and above let it in, and there is room
+/// for it (54000). In its own leaf it replaces the version; else the row moves.
 pub fn update(
     alloc: Global,
     stores: &mut Stores,
