@@ -110,10 +110,10 @@ waits_there names rest s w (WaitsBehind others) events told = let c = told in cc
 waits_there names rest s w (ClosesCycle cycle) events told = let c = told in cc
 
 -- it waits with what was given
-waits_with : (names : List (List ℕ)) (rest left : Rest) (s : ℕ) (w : Wanted) (v : AskedView) (events : History) → (behind events (told_by names (Some rest) (map LockChange (events_of s w v)) v)).told ≡ Err (Waits (Some left)) → rest ≡ left
-waits_with names rest left s w AtOnce events told = absurd (let c = told in cc)
-waits_with names rest left s w (WaitsBehind others) events told = let c = told in cc
-waits_with names rest left s w (ClosesCycle cycle) events told = absurd (let c = told in cc)
+waits_given : (names : List (List ℕ)) (rest left : Rest) (s : ℕ) (w : Wanted) (v : AskedView) (events : History) → (behind events (told_by names (Some rest) (map LockChange (events_of s w v)) v)).told ≡ Err (Waits (Some left)) → rest ≡ left
+waits_given names rest left s w AtOnce events told = absurd (let c = told in cc)
+waits_given names rest left s w (WaitsBehind others) events told = let c = told in cc
+waits_given names rest left s w (ClosesCycle cycle) events told = absurd (let c = told in cc)
 
 asked_behind : (s : ℕ) (es : List LockEvent) (events h : History) → Since s h (events ++ h) → Since s h ((map LockChange es ++ events) ++ h)
 asked_behind s es events h first = subst (Since s h) (sym (append_assoc (map LockChange es) events h)) (since_on s h (events ++ h) (map LockChange es ++ (events ++ h)) first (since_locks s es (events ++ h)))
@@ -136,7 +136,7 @@ paused_told names (stop.Waits (Some is)) new caller g other rest h left at told 
     let v = asked (lock_events (events ++ h)) s w in
     let first = since_held (held_by (snapshot_events h) s) s s (look_of h s (caller.cmd + 1)) h in
     let since = asked_since names (Rows rest) s w v events h first in
-    let same = waits_with names (Rows rest) is s w v events told.0 in
+    let same = waits_given names (Rows rest) is s w v events told.0 in
     (told.0, told.1, subst (IsLeft ((paused names caller other rest h).events ++ h) s) same (are_left_on h ((paused names caller other rest h).events ++ h) s rest since left))
 paused_told names (stop.Refused f) new caller g other rest h left at told =
     let w : Wanted = Others (Ends (only other)) in

@@ -183,8 +183,14 @@ or_right : (a b : Bool) → b ≡ true → (a || b) ≡ true
 or_right true b is = refl
 or_right false b is = is
 
-own_way : (own leaf : LeafId) → own ≡ leaf → is_some (if own.number == leaf.number then Some {T = List TableNo} [] else None) ≡ true
-own_way own leaf same = let on : (own.number == leaf.number) ≡ true = (let number : own.number ≡ leaf.number = ap (λ (l : LeafId). l.number) same in grind (arith, nat_tests, number)) in rw on refl
+abbrev way_if : Bool → Option (List TableNo)
+way_if here = if here then Some [] else None
+
+own_way : (own leaf : LeafId) → own ≡ leaf → is_some (way_if (own.number == leaf.number)) ≡ true
+own_way own leaf same =
+    let number : own.number ≡ leaf.number = ap (λ (l : LeafId). l.number) same in
+    let here : (own.number == leaf.number) ≡ true = grind (arith, nat_tests, number) in
+    ap (λ b. is_some (way_if b)) here
 
 mutual
   pub has_way : (tree : TableTree) (leaf : LeafId) → Contains (leaves tree) leaf → HasWay tree leaf

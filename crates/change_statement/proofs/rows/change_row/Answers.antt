@@ -105,5 +105,5 @@ returns-in-Refuse c =
     (is_refused (changing c.args.change c.args.caller g) c.args.names.now c.args.stores.now c.args.caller g c.args.target c.args.changed c.in-Refuse.conflict c.conflict_fault.result c.conflict_fault.ensures c.requires.may
     (decided_is c.args.stores.now c.args.caller g c.args.target (updater_meant c.updater-updater.result) (Refuses c.in-Refuse.conflict) c.updater-updater.ensures.is c.in-Refuse.ensures.is))
 
-pub returns : goal.returns
-returns c = is_out (changing c.args.change c.args.caller (found_of c.args.gathered.now)) c.args.names.now c.args.stores.now c.args.caller (found_of c.args.gathered.now) c.args.target c.args.changed
+pub returns-in_default : goal.returns-in_default
+returns-in_default c = is_out (changing c.args.change c.args.caller (found_of c.args.gathered.now)) c.args.names.now c.args.stores.now c.args.caller (found_of c.args.gathered.now) c.args.target c.args.changed

@@ -19,10 +19,10 @@ pub returns-in-Ok : goal.returns-in-Ok
 returns-in-Ok c =
     let g = found_of c.args.gathered in
     let next : c.in-Some.cmd ≡ c.args.caller.cmd + 1 = search rules in
-    let left : List TargetRow → RowsLeft = λ ts. record { by = c.in-Some-by.by; found = g; left = ts; changed = c.args.changed } in
+    let left : List TargetRow → RowsLeft = λ ts. record { by = c.in-Some-open_of.by; found = g; left = ts; changed = c.args.changed } in
     let is = c.new-rest.ensures ∙ ap left c.in-Ok.ensures in
     let part = subst (λ n. IsPart (λ (u : Unit {0}). u) (Err c.hold_and_wait.result) c.args.stores.now c.hold_and_wait.new.stores (record c.args.caller { cmd = n }) n (held_up c.args.names.now (record c.args.caller { cmd = n }) c.args.other c.new-rest.result)) next c.hold_and_wait.ensures in
-    paused_run c.args.names.now c.hold_and_wait.result c.args.stores.now c.hold_and_wait.new.stores c.args.caller g c.args.other c.in-Some-by.by c.args.left.now c.args.changed c.requires.may c.requires.left (sym c.in-Some-by.ensures.kept)
+    paused_run c.args.names.now c.hold_and_wait.result c.args.stores.now c.hold_and_wait.new.stores c.args.caller g c.args.other c.in-Some-open_of.by c.args.left.now c.args.changed c.requires.may c.requires.left (sym c.in-Some-open_of.ensures.kept)
     (subst (λ r. IsPart (λ (u : Unit {0}). u) (Err c.hold_and_wait.result) c.args.stores.now c.hold_and_wait.new.stores (record c.args.caller { cmd = c.args.caller.cmd + 1 }) (c.args.caller.cmd + 1) (held_up c.args.names.now (record c.args.caller { cmd = c.args.caller.cmd + 1 }) c.args.other r)) is part)
 
 pub returns-in-Err : goal.returns-in-Err
