@@ -1,5 +1,5 @@
 -- What a command of the session's transaction does to the catalogue and to the leaves.
-use Rattle.std.proofs.Common.{◌≡◌, ◌≢◌, ℕ, ◌+◌, ◌<◌, List, [], ◌∷◌, ◌++◌, refl, sym, ap, ◌∙◌, subst, arith, append-nil, Option, Some, Ok, Err, All}
+use Rattle.std.proofs.Common.{◌≡◌, ◌≢◌, ℕ, ◌+◌, ◌<◌, List, [], ◌∷◌, ◌++◌, refl, sym, ap, ◌∙◌, subst, arith, append-nil, Option, Some, Ok, Err, All, unwrap_or}
 use Rattle.std.proofs.lemmas.List.Elements.{All-nil, All-cons}
 use Rattle.pg_values.specs.declared.fault.Fault.{Fault}
 use Rattle.pg_values.specs.declared.fault.Refusal.{Refusal}
@@ -99,7 +99,7 @@ others_stay t cmd es h s r n done sound mine other at =
 entry_of : (t cmd u : ℕ) (e : CatalogueEvent) → catalogue_command e ≡ Some (t, cmd) → (u ≡ t → ⊥) → AddsNone u (CatalogueChange e)
 entry_of t cmd u (TableMade x) is other = tt
 entry_of t cmd u (TableDropped x s) is other = tt
-entry_of t cmd u (EntryAdded e) is other = λ same. other (let both : Some (e.by.number, e.cmd) ≡ Some (t, cmd) = is in let by : e.by.number ≡ t = (let c = both in cc) in sym same ∙ by)
+entry_of t cmd u (EntryAdded e) is other = λ same. other (let both : Some (e.by.number, e.cmd) ≡ Some (t, cmd) = is in let by : e.by.number ≡ t = ap (λ (o : Option (ℕ × ℕ)). (unwrap_or o (0, 0)).0) both in sym same ∙ by)
 entry_of t cmd u (EntryEnded k s) is other = tt
 entry_of t cmd u (EntryMarked k s) is other = tt
 entry_of t cmd u (CheckKept c) is other = tt
