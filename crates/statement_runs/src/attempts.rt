@@ -1,4 +1,4 @@
-ghost use Rattle.std.specs.Prelude.{◌≡◌, ◌≤◌, Option, length};
+ghost use Rattle.std.specs.Prelude.{◌≡◌, ◌≤◌, Option, length, false};
 ghost use Rattle.sql_ast.specs.Commands.{command_tree};
 ghost use Rattle.sql_ast.specs.Queries.{query_tree, row_tree, select_tree};
 ghost use Rattle.sql_ast.specs.Statements.{statement_tree};

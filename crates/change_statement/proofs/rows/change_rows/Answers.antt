@@ -21,13 +21,13 @@ change_row-requires-clause-target c =
     All-head (IsTargetIn c.loop-target.stores.rows (found_of c.args.gathered)) c.in-Some.target.now c.in-Some.others.now (subst (All (IsTargetIn c.loop-target.stores.rows (found_of c.args.gathered))) whole c.loop-target.invariant.all)
 
 pub pause-requires-clause-may : goal.pause-requires-clause-may
-pause-requires-clause-may c = subst (λ (s : Stores). MayRun (found_of c.args.gathered) s c.args.caller) (sym c.in-Ok-Waits.ensures.0) c.loop-target.invariant.may
+pause-requires-clause-may c = subst (λ (s : Stores). MayRun (found_of c.args.gathered) s c.args.caller) (sym (rw c.in-Ok-Waits.field-0-is at c.in-Ok-Waits.ensures).0) c.loop-target.invariant.may
 
 pub pause-requires-clause-another : goal.pause-requires-clause-another
-pause-requires-clause-another c = c.in-Ok-Waits.ensures.2
+pause-requires-clause-another c = (rw c.in-Ok-Waits.field-0-is at c.in-Ok-Waits.ensures).2
 
 pub pause-requires-clause-left : goal.pause-requires-clause-left
-pause-requires-clause-left c = subst (λ (s : Stores). All (IsTargetIn s.rows (found_of c.args.gathered)) c.loop-target.left.now) (sym c.in-Ok-Waits.ensures.0) c.loop-target.invariant.all
+pause-requires-clause-left c = subst (λ (s : Stores). All (IsTargetIn s.rows (found_of c.args.gathered)) c.loop-target.left.now) (sym (rw c.in-Ok-Waits.field-0-is at c.in-Ok-Waits.ensures).0) c.loop-target.invariant.all
 
 pub returns-in-Ok-Waits : goal.returns-in-Ok-Waits
 returns-in-Ok-Waits c =
@@ -35,7 +35,7 @@ returns-in-Ok-Waits c =
     let whole : c.loop-target.left.now ≡ c.in-Some.target.now ∷ c.in-Some.others.now = search rules in
     waits_there c.args.stores.now c.loop-target.stores c.change_row.new.stores c.pause.new.stores c.args.caller g (changing c.args.change c.args.caller g) c.args.names.now c.args.targets.now c.in-Some.target.now c.in-Some.others.now c.args.changed c.loop-target.changed c.in-Ok-Waits.other c.pause.result
     (subst (λ ts. IsLeft c.args.stores.now c.loop-target.stores c.args.caller g (changing c.args.change c.args.caller g) c.args.names.now c.args.targets.now ts c.args.changed c.loop-target.changed) whole c.loop-target.invariant)
-    c.in-Ok-Waits.ensures
+    (rw c.in-Ok-Waits.field-0-is at c.in-Ok-Waits.ensures)
     (subst (λ ts. IsRun g (λ (u : Unit {0}). u) (Err c.pause.result) c.change_row.new.stores c.pause.new.stores c.args.caller (λ h. paused c.args.names.now c.args.caller c.in-Ok-Waits.other (standing h c.args.caller g ts c.loop-target.changed) h)) whole c.pause.ensures)
 
 pub returns-in-Err : goal.returns-in-Err
@@ -50,7 +50,7 @@ loop-target-preserved c =
     let g = found_of c.args.gathered in
     let whole : c.loop-target.left.now ≡ c.in-Some.target.now ∷ c.in-Some.others.now = search rules in
     one_less c.args.stores.now c.loop-target.stores c.change_row.new.stores c.args.caller g (changing c.args.change c.args.caller g) c.args.names.now c.args.targets.now c.in-Some.target.now c.in-Some.others.now c.args.changed c.loop-target.changed c.in-Ok-Counted.next
-    (subst (λ ts. IsLeft c.args.stores.now c.loop-target.stores c.args.caller g (changing c.args.change c.args.caller g) c.args.names.now c.args.targets.now ts c.args.changed c.loop-target.changed) whole c.loop-target.invariant) c.in-Ok-Counted.ensures
+    (subst (λ ts. IsLeft c.args.stores.now c.loop-target.stores c.args.caller g (changing c.args.change c.args.caller g) c.args.names.now c.args.targets.now ts c.args.changed c.loop-target.changed) whole c.loop-target.invariant) (rw c.in-Ok-Counted.field-0-is at c.in-Ok-Counted.ensures)
 
 pub returns : goal.returns
 returns c =
