@@ -297,17 +297,22 @@ module _ (prunes : Bool) (names : List (List ℕ)) (params : List Param) (c : Ca
         is = sym found_is ∙ (ap (λ (x : TableTree). found_by keeps (table_of t) x path m) same_tree ∙ ap (λ (p : List PathPart). found_by keeps (table_of t) (tree_of last c.session t (look_of last c.session c.cmd)) p m) same_path);
       }
 
+-- from its beginning
+abbrev begun : (change : Found → Changing) → (prunes : Bool) → List (List ℕ) → List Param → Caller → NamedTable → List Setting → Option Tree → History → Made (Unit {0})
+begun change prunes names params c table settings condition =
+    follow (held_at c.level c.session c.cmd) (λ u. follow (gathered prunes names params c table settings condition) (λ g. changed_from (change g) names c g))
+
 begun_plain : (change : Found → Changing) (h : History) → IsGood h → (prunes : Bool) (names : List (List ℕ)) (params : List Param) (c : Caller) (table : NamedTable) (settings : List Setting) (condition : Option Tree) (before : History)
-    → h ≡ (follow (held_at c.level c.session c.cmd) (λ u. follow (gathered prunes names params c table settings condition) (λ g. changed_from (change g) names c g)) before).events ++ before → IsCaller c before
-    → follow (held_at c.level c.session c.cmd) (λ u. follow (gathered prunes names params c table settings condition) (λ g. changed_from (change g) names c g)) before ≡ begun_plainly change prunes names params c table settings condition before
+    → h ≡ (begun change prunes names params c table settings condition before).events ++ before → IsCaller c before
+    → begun change prunes names params c table settings condition before ≡ begun_plainly change prunes names params c table settings condition before
 begun_plain change h good prunes names params c table settings condition before is call =
-    let begun = held_at c.level c.session c.cmd before in
-    let there_after = begun.events ++ before in
+    let held_first = held_at c.level c.session c.cmd before in
+    let there_after = held_first.events ++ before in
     let gathers = gathered prunes names params c table settings condition there_after in
     let whole = λ (u : Unit {0}). follow (gathered prunes names params c table settings condition) (λ g. changed_from (change g) names c g) there_after in
-    same_after begun whole (λ u. follow (gathered prunes names params c table settings condition) (λ g. plainly_changed (change g) names c g) there_after) (λ u told.
-    let goes = went_on h before begun whole u told is in
-    let good_before : IsGood before = good_after (and_then begun whole).events before (subst IsGood is good) in
+    same_after held_first whole (λ u. follow (gathered prunes names params c table settings condition) (λ g. plainly_changed (change g) names c g) there_after) (λ u told.
+    let goes = went_on h before held_first whole u told is in
+    let good_before : IsGood before = good_after (and_then held_first whole).events before (subst IsGood is good) in
     let call_then : IsCaller c there_after = held_call c c.level before good_before call in
     same_after gathers (λ g. changed_from (change g) names c g (gathers.events ++ there_after)) (λ g. plainly_changed (change g) names c g (gathers.events ++ there_after)) (λ g found_told.
     let there = gathered_there prunes names params c table settings condition there_after g found_told in
@@ -322,14 +327,12 @@ begun_plain change h good prunes names params c table settings condition before 
     subst (λ (x : Found). changed_from (change g) names c x last ≡ plainly_changed (change g) names c x last) (sym there.is) plain))
 
 changed_plain : (change : Found → Changing) (h : History) → IsGood h → (prunes : Bool) (names : List (List ℕ)) (params : List Param) (c : Caller) (rest : Option Rest) (table : NamedTable) (settings : List Setting) (condition : Option Tree) (before : History)
-    → h ≡ (changed_by change names c rest (follow (held_at c.level c.session c.cmd) (λ u. follow (gathered prunes names params c table settings condition) (λ g. changed_from (change g) names c g))) before).events ++ before → IsCaller c before
-    → changed_by change names c rest (follow (held_at c.level c.session c.cmd) (λ u. follow (gathered prunes names params c table settings condition) (λ g. changed_from (change g) names c g))) before ≡ all_changed_by change prunes names params c rest table settings condition before
+    → h ≡ (changed_by change names c rest (begun change prunes names params c table settings condition) before).events ++ before → IsCaller c before
+    → changed_by change names c rest (begun change prunes names params c table settings condition) before ≡ all_changed_by change prunes names params c rest table settings condition before
 changed_plain change h good prunes names params c rest table settings condition before is call = by (left_of before c rest) is
   where
-    begin = follow (held_at c.level c.session c.cmd) (λ u. follow (gathered prunes names params c table settings condition) (λ g. changed_from (change g) names c g))
-    plainly = begun_plainly change prunes names params c table settings condition
-
-    by : (o : Option RowsLeft) → h ≡ (changed_or_left change names c begin o before).events ++ before → changed_or_left change names c begin o before ≡ changed_or_left change names c plainly o before
+    by : (o : Option RowsLeft) → h ≡ (changed_or_left change names c (begun change prunes names params c table settings condition) o before).events ++ before
+        → changed_or_left change names c (begun change prunes names params c table settings condition) o before ≡ changed_or_left change names c (begun_plainly change prunes names params c table settings condition) o before
     by None e = begun_plain change h good prunes names params c table settings condition before e call
     by (Some r) e = refl
 
