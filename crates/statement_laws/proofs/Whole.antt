@@ -306,13 +306,13 @@ begun_plain : (change : Found → Changing) (h : History) → IsGood h → (prun
     → h ≡ (begun change prunes names params c table settings condition before).events ++ before → IsCaller c before
     → begun change prunes names params c table settings condition before ≡ begun_plainly change prunes names params c table settings condition before
 begun_plain change h good prunes names params c table settings condition before is call =
-    let held_first = held_at c.level c.session c.cmd before in
-    let there_after = held_first.events ++ before in
+    let holds = held_at c.level c.session c.cmd before in
+    let there_after = holds.events ++ before in
     let gathers = gathered prunes names params c table settings condition there_after in
     let whole = λ (u : Unit {0}). follow (gathered prunes names params c table settings condition) (λ g. changed_from (change g) names c g) there_after in
-    same_after held_first whole (λ u. follow (gathered prunes names params c table settings condition) (λ g. plainly_changed (change g) names c g) there_after) (λ u told.
-    let goes = went_on h before held_first whole u told is in
-    let good_before : IsGood before = good_after (and_then held_first whole).events before (subst IsGood is good) in
+    same_after holds whole (λ u. follow (gathered prunes names params c table settings condition) (λ g. plainly_changed (change g) names c g) there_after) (λ u told.
+    let goes = went_on h before holds whole u told is in
+    let good_before : IsGood before = good_after (and_then holds whole).events before (subst IsGood is good) in
     let call_then : IsCaller c there_after = held_call c c.level before good_before call in
     same_after gathers (λ g. changed_from (change g) names c g (gathers.events ++ there_after)) (λ g. plainly_changed (change g) names c g (gathers.events ++ there_after)) (λ g found_told.
     let there = gathered_there prunes names params c table settings condition there_after g found_told in
