@@ -42,9 +42,13 @@ pub struct Seats {
 }
 
 impl Model for Seats {
+    ghost use Rattle.std.specs.Coded.{codes};
+    ghost use Rattle.statement_steps.specs.Codes.{asked_code, cond_code, found_code, left_code, scalar_code, table_code};
     ghost use Rattle.statement_runs.specs.Kept.{KeptSeats, AreKept};
 
     ghost Value = { KeptSeats };
+
+    ghost coded = { Prim.hlevel (codes, left_code, found_code, asked_code, table_code, scalar_code, cond_code) };
 
     ghost view = { λ e. record { stores = e.stores; opened = e.opened.items; commands = e.commands.items; cancelled = e.cancelled.items; rests = e.rests.items; moved = e.moved.items; queue = e.queue.items; ready = e.ready; whole = e.whole } };
 
