@@ -17,7 +17,7 @@ abbrev whole : RowsLeft ⊎ RestOfDetach → Rest
 whole (inl r) = Rows r
 whole (inr d) = Detach d
 
-whole_parts : (r : Rest) → whole (parts r) ≡ r
+pub whole_parts : (r : Rest) → whole (parts r) ≡ r
 whole_parts (Rows r) = refl
 whole_parts (Detach d) = refl
 
