@@ -1,10 +1,27 @@
 -- A part of a statement as the whole of it, with what it prints.
-use Rattle.std.proofs.Common.{◌≡◌, ℕ, ◌+◌, List, [], ◌++◌, refl, ap, sym, subst, append-nil, Ok, Err, Option, Result}
+use Rattle.std.proofs.Common.{◌≡◌, ℕ, ◌+◌, Bool, List, [], ◌++◌, refl, ap, sym, subst, append-nil, Ok, Err, Option, Result}
 use Rattle.pg_values.specs.declared.answer.Answer.{Answer}
+use Rattle.pg_values.specs.declared.fault.Fault.{Fault}
+use Rattle.pg_values.specs.declared.lock_mode.LockMode.{LockMode}
+use Rattle.refusals.specs.Refusals.{left_out}
+use Rattle.sql_ast.specs.Commands.{command_tree}
+use Rattle.sql_ast.specs.Queries.{query_tree}
+use Rattle.sql_ast.specs.declared.bound.BoundText.{BoundText}
+use Rattle.sql_ast.specs.declared.command.Command.{Command}
+use Rattle.sql_ast.specs.declared.command.Command.TheVariants as commands
+use Rattle.sql_ast.specs.declared.detachment.Detachment.{Detachment}
+use Rattle.sql_ast.specs.declared.locked_table.LockedTable.{LockedTable}
+use Rattle.sql_ast.specs.declared.query.Query.{Query}
+use Rattle.sql_ast.specs.declared.query.Query.TheVariants as queries
+use Rattle.sql_ast.specs.declared.query.RowStatement.{RowStatement}
+use Rattle.sql_ast.specs.declared.select.Select.{Select}
+use Rattle.sql_ast.specs.declared.table_definition.ColumnDefinition.{ColumnDefinition}
+use Rattle.sql_ast.specs.declared.table_definition.Partitioning.{Partitioning}
 use Rattle.history.specs.History.{History}
 use Rattle.stores.specs.declared.stores.Stores.{Stores}
-use Rattle.statement_steps.specs.Ended.{ended, silent_end, told_as}
-use Rattle.statement_steps.specs.Made.{Made}
+use Rattle.statement_steps.specs.Attempts.{MayAttempt}
+use Rattle.statement_steps.specs.Ended.{Ended, ended, silent_end, told_as}
+use Rattle.statement_steps.specs.Made.{Made, Halt, Refused}
 use Rattle.statement_steps.specs.declared.caller.Caller.{Caller}
 use Rattle.statement_steps.specs.declared.ending.Ending.{Ending}
 use Rattle.statement_steps.specs.declared.ending.Ending.TheVariants as endings
@@ -12,9 +29,12 @@ use Rattle.statement_steps.specs.declared.rest.Rest.{Rest}
 use Rattle.statement_steps.specs.declared.stop.Stop.{Stop}
 use Rattle.statement_steps.specs.declared.stop.Stop.TheVariants as stop
 use Rattle.statement_steps.specs.Steps.{IsStep}
+use Rattle.statement_steps.proofs.Numbers.{one_later}
+use Rattle.statement_steps.proofs.Parts.{stays, still_on}
 use Rattle.change_statement.specs.Running.{IsCommand}
 use Rattle.change_statement.proofs.Commands.{goes_anywhere, waits_later}
-use Rattle.statement_runs.specs.Attempted.{nothing, table, as_table, silent, tabled, staged}
+use Rattle.statement_runs.specs.Attempted.{nothing, table, as_table, silent, tabled, staged, omitted, command_attempted, query_attempted}
+use Rattle.statement_runs.specs.LeftOut.{command_word, query_word}
 use Rattle.statement_runs.specs.Printed.{IsStatement}
 
 -- ---- it prints nothing
@@ -104,3 +124,44 @@ tabled_stops left (stop.Refused fault) old new caller f before step = record {
   waits = step.waits;
 }
 tabled_stops left stop.NoMemory old new caller f before step = record { is = λ h stands at go. tt; keeps = step.keeps; waits = tt }
+
+-- ---- it is left out
+
+abbrev refused_as : Fault → Result Ended Halt
+refused_as f = Err (Refused f)
+
+pub omitted_is : (left : Option Rest) (word : List ℕ) (fault : Fault) (stores : Stores) (caller : Caller) (before : List ℕ) → MayAttempt stores caller → fault ≡ left_out word → IsStatement left (Err (stop.Refused fault)) stores stores before before caller (omitted word)
+omitted_is left word fault stores caller before may is = record {
+  is = λ h stands at go. (ap refused_as (sym is), refl, still_on stores h caller.session (caller.cmd + 1) stands (one_later h caller.session caller.cmd at));
+  keeps = stays stores caller.session;
+  waits = may.idle;
+}
+
+-- as what has no case of its own
+pub query_omitted : (prunes : Bool) (names : List (List ℕ)) (caller : Caller) (rest : Option Rest) (q : Query) → ((s : RowStatement) → q ≡ queries.Rows s → ⊥) → ((analyze : Bool) (s : Select) → q ≡ queries.ExplainSelect analyze s → ⊥)
+    → query_attempted prunes names caller rest (query_tree q) ≡ omitted (query_word (query_tree q))
+query_omitted prunes names caller rest (queries.Rows s) rows explains = absurd (rows s refl)
+query_omitted prunes names caller rest (queries.Prepare name kinds s) rows explains = refl
+query_omitted prunes names caller rest (queries.Execute name arguments) rows explains = refl
+query_omitted prunes names caller rest (queries.ExplainSelect analyze s) rows explains = absurd (explains analyze s refl)
+query_omitted prunes names caller rest (queries.ExplainExecute analyze name arguments) rows explains = refl
+
+pub command_omitted : (names : List (List ℕ)) (caller : Caller) (rest : Option Rest) (t : Command)
+    → ((name : List ℕ) (columns : List ColumnDefinition) (by : Option Partitioning) → t ≡ commands.CreateTable name columns by → ⊥)
+    → ((name parent : List ℕ) (bound : BoundText) (by : Option Partitioning) → t ≡ commands.CreatePartition name parent bound by → ⊥)
+    → ((if_there : Bool) (tables : List (List ℕ)) → t ≡ commands.DropTables if_there tables → ⊥) → ((parent name : List ℕ) (bound : BoundText) → t ≡ commands.Attach parent name bound → ⊥)
+    → ((parent name : List ℕ) (how : Detachment) → t ≡ commands.Detach parent name how → ⊥) → ((tables : List LockedTable) (mode : LockMode) → t ≡ commands.Lock tables mode → ⊥)
+    → command_attempted names caller rest (command_tree t) ≡ omitted (command_word (command_tree t))
+command_omitted names caller rest (commands.Begin level) a b c d e f = refl
+command_omitted names caller rest commands.Commit a b c d e f = refl
+command_omitted names caller rest commands.Rollback a b c d e f = refl
+command_omitted names caller rest (commands.Set name value) a b c d e f = refl
+command_omitted names caller rest (commands.Reset name) a b c d e f = refl
+command_omitted names caller rest (commands.CreateTable name columns by) a b c d e f = absurd (a name columns by refl)
+command_omitted names caller rest (commands.CreatePartition name parent bound by) a b c d e f = absurd (b name parent bound by refl)
+command_omitted names caller rest (commands.DropTables if_there tables) a b c d e f = absurd (c if_there tables refl)
+command_omitted names caller rest (commands.Attach parent name bound) a b c d e f = absurd (d parent name bound refl)
+command_omitted names caller rest (commands.Detach parent name how) a b c d e f = absurd (e parent name how refl)
+command_omitted names caller rest (commands.Lock tables mode) a b c d e f = absurd (f tables mode refl)
+command_omitted names caller rest (commands.Deallocate name) a b c d e f = refl
+command_omitted names caller rest commands.DeallocateAll a b c d e f = refl

@@ -1,9 +1,13 @@
-use Rattle.std.proofs.Common.{List, ℕ, ◌+◌, sym, subst}
+use Rattle.std.proofs.Common.{List, ℕ, ◌+◌, Result, sym, subst}
+use Rattle.history.specs.History.{History}
 use Rattle.sql_ast.specs.Commands.{bound_tree, command_tree, detaches}
 use Rattle.sql_ast.specs.declared.detachment.Detachment.{Detachment}
 use Rattle.sql_ast.specs.declared.locked_table.LockedTable.{LockedTable}
 use Rattle.sql_ast.specs.declared.command.Command.{Command}
+use Rattle.statement_steps.specs.Ended.{Ended, ended}
+use Rattle.statement_steps.specs.Made.{Made}
 use Rattle.statement_steps.specs.declared.ending.Ending.{Ending}
+use Rattle.statement_steps.specs.declared.stop.Stop.{Stop}
 use Rattle.statement_steps.specs.Steps.{IsStep}
 use Rattle.table_statements.specs.Tables.{created}
 use Rattle.table_statements.specs.Partitions.{partitioned}
@@ -13,9 +17,9 @@ use Rattle.detach_statement.specs.Concurrent.{detached_concurrently}
 use Rattle.detach_statement.specs.Detached.{detached}
 use Rattle.detach_statement.specs.Finalized.{finalized}
 use Rattle.attach_statement.specs.Attached.{attached}
-use Rattle.statement_runs.specs.Attempted.{command_attempted}
+use Rattle.statement_runs.specs.Attempted.{command_attempted, omitted}
 use Rattle.statement_runs.specs.Printed.{IsStatement}
-use Rattle.statement_runs.proofs.Whole.{silent_ends, staged_is}
+use Rattle.statement_runs.proofs.Whole.{command_omitted, silent_ends, staged_is}
 use Rattle.statement_runs.proofs.attempts.attempt_command.Goals as goal
 
 pub returns-in-CreateTable : goal.returns-in-CreateTable
@@ -78,3 +82,12 @@ returns-in-Lock c =
     let step = subst (λ (ts : List LockedTable). IsStep (λ (u : Unit {0}). u) c.lock.result c.args.stores.now c.lock.new.stores c.args.caller (c.args.caller.cmd + 1) (locked c.args.names.now c.args.caller.session ts i.mode)) c.as_slice-tables-in-Lock.ensures c.lock.ensures in
     let is = silent_ends c.args.rest c.ended-in-Lock.result c.lock.result c.ended-in-Lock.ensures c.args.stores.now c.lock.new.stores c.args.caller (locked c.args.names.now c.args.caller.session i.tables i.mode) c.args.out.now step in
     subst (λ (x : Command). IsStatement c.args.rest c.ended-in-Lock.result c.args.stores.now c.lock.new.stores c.args.out.now c.args.out.now c.args.caller (command_attempted c.args.names.now c.args.caller c.args.rest (command_tree x))) (sym i.is) is
+
+pub returns-in_default : goal.returns-in_default
+returns-in_default c =
+    let s = c.args.stores.now in
+    let out = c.args.out.now in
+    let i = c.in_default in
+    subst (λ (r : Result Ending Stop). IsStatement c.args.rest r s s out out c.args.caller (command_attempted c.args.names.now c.args.caller c.args.rest (command_tree c.args.command.now))) (sym c.ended-in_default.ensures)
+    (subst (λ (f : History → Made Ended). IsStatement c.args.rest (ended c.omit.result) s s out out c.args.caller f) (sym (command_omitted c.args.names.now c.args.caller c.args.rest c.args.command.now i.not-CreateTable i.not-CreatePartition i.not-DropTables i.not-Attach i.not-Detach i.not-Lock))
+    (subst (λ (w : List ℕ). IsStatement c.args.rest (ended c.omit.result) s s out out c.args.caller (omitted w)) c.command_word.ensures (c.omit.ensures c.args.rest)))

@@ -11,6 +11,10 @@ use Rattle.change_statement.specs.Updated.{updated}
 use Rattle.statement_runs.proofs.Whole.{silent_is, command_is}
 use Rattle.statement_runs.proofs.attempts.attempt_rows.Goals as goal
 
+pub returns-in-Select : goal.returns-in-Select
+returns-in-Select c =
+    subst (λ (x : RowStatement). IsStatement c.args.rest (ended c.attempt_select.result) c.args.stores.now c.attempt_select.new.stores c.args.out.now.items c.attempt_select.new.out.items c.args.caller (row_attempted c.args.prunes c.args.names.now c.args.caller c.args.rest (row_tree x))) (sym c.in-Select.is) (c.attempt_select.ensures c.args.rest)
+
 pub returns-in-Insert : goal.returns-in-Insert
 returns-in-Insert c =
     let s = c.in-Insert.s in
