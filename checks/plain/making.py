@@ -42,6 +42,7 @@ KINDS = {
     "tables": {"select": 3, "insert": 5, "delete": 2, "create": 1, "partition": 4, "detach": 4, "drop": 2, "lock": 1},
     "detaches": {"select": 4, "insert": 6, "delete": 3, "detach": 6, "drop": 3, "create": 1, "lock": 2},
     "updates": {"select": 2, "insert": 2, "delete": 3, "update": 10},
+    "above": {"select": 1, "insert": 1, "delete": 1, "update": 16, "detach_above": 1, "attach_again": 1},
     "defaults": {"select": 2, "insert": 5, "delete": 3, "partition": 6, "detach": 3, "drop": 2, "lock": 1},
     "attaches": {"select": 2, "insert": 5, "delete": 3, "attach": 6, "detach": 5, "partition": 1, "drop": 1},
     "concurrent": {
@@ -71,7 +72,7 @@ class Maker:
         self.setup = []
         self.tables, self.parents, self.plain, self.keys = [], {}, [], []
         self.free = self.numbers.of((0, 1, 2, 2)) if self.default_chance() else self.numbers.of((2, 2, None))
-        self.free_bound, self.own_bounds = "", {}
+        self.free_bound, self.own_bounds, self.cut_off = "", {}, ""
 
     # ---- tables
 
@@ -147,6 +148,9 @@ class Maker:
             ("HASH", False): [f"WITH (MODULUS {m}, REMAINDER {r})" for m, r in ((2, 0), (4, 1), (4, 3))],
             ("HASH", True): [f"WITH (MODULUS 2, REMAINDER {r})" for r in (0, 1)],
         }[strategy, is_second]
+        if self.kind == "above" and parent != "t" and not is_second:
+            # (wider than the table above)
+            bounds = ["FROM (0) TO (40)"] if numbers.chance(75) else ["FROM (0) TO (25)", "FROM (25) TO (40)"]
         for place, bound in enumerate(bounds):
             if parent == "t":
                 # (one place of the root is often left free)
@@ -160,7 +164,11 @@ class Maker:
 
     def make_partition(self, name, parent, bound):
         below = ""
-        if parent == "t" and self.numbers.chance(22):
+        if parent == "t" and self.kind == "above":
+            # (by the key of the table above, or by the other column)
+            is_second = self.numbers.chance(25)
+            below = self.by(name, "RANGE" if not is_second else self.numbers.of(("RANGE", "LIST")), is_second)
+        elif parent == "t" and self.numbers.chance(22):
             below = self.by(name, self.numbers.of(("RANGE", "LIST", "LIST", "HASH")), True)
         self.tables.append(name)
         self.setup.append(f"CREATE TABLE {name} PARTITION OF {parent} {bound}{below};")
@@ -184,7 +192,10 @@ class Maker:
                     self.setup.append(f"CREATE TABLE {name}{place} PARTITION OF {name} FOR VALUES {bound};")
                     self.plain.append(f"{name}{place}")
         taken = [key for key in range(30) if "pd" in self.tables or self.place_of(key) not in (self.free, None)]
-        self.keys = [numbers.of(taken) for _ in range(3 + numbers.below(4))]
+        if self.kind == "above":
+            self.cut_off = numbers.of(sorted(self.own_bounds))
+            taken = [key for key in taken if f"p{self.place_of(key)}" == self.cut_off or numbers.chance(4)]
+        self.keys = [numbers.of(taken) for _ in range(3 + numbers.below(4) if self.kind != "above" else 2)]
         self.setup.append("INSERT INTO t VALUES " + ", ".join(f"({key}, {numbers.below(4)})" for key in self.keys) + ";")
         fitting = [key for key in range(30) if self.place_of(key) == (2 if self.free is None else self.free)]
         for name in ("x", "y"):
@@ -205,6 +216,8 @@ class Maker:
 
     def any_table(self):
         numbers = self.numbers
+        if self.kind == "above" and numbers.chance(90):
+            return self.inner_table()
         if numbers.chance(55):
             return "t"
         if numbers.chance(80):
@@ -214,11 +227,19 @@ class Maker:
 
     def changed_table(self):
         """(rows of the tables that are attached come and go too)"""
+        if self.kind == "above" and self.numbers.chance(95):
+            return self.inner_table()
         return self.numbers.of(("x", "y")) if self.default_chance() and self.numbers.chance(30) else self.any_table()
+
+    def inner_table(self):
+        """A partition of the one that is mostly detached."""
+        return self.numbers.of([name for name in self.tables if name.startswith(f"{self.cut_off}_")])
 
     def condition(self):
         numbers = self.numbers
-        if numbers.chance(60 if self.kind in ("rows", "updates") else 35):
+        if self.kind == "above" and numbers.chance(45):
+            return ""
+        if numbers.chance(60 if self.kind in ("rows", "updates", "above") else 35):
             return f" WHERE a = {numbers.of(self.keys)}"
         return numbers.of((
             "", f" WHERE a = {numbers.below(16)}", f" WHERE a < {numbers.of((5, 10, 15))}", f" WHERE v = {numbers.below(4)}",
@@ -293,11 +314,17 @@ class Maker:
 
     def update(self):
         numbers = self.numbers
+        if self.kind == "above" and numbers.chance(70):
+            return f"UPDATE {self.changed_table()} SET v = v + 1{self.condition()};"
         change = numbers.of((
             "v = v + 1", f"v = {self.second()}", f"a = {self.value()}", "a = a + 10", "a = a - 10", "a = a + 1",
             f"a = {self.value()}, v = {self.second()}", "v = a", "a = v",
         ))
         return f"UPDATE {self.changed_table()} SET {change}{self.condition()};"
+
+    def move(self):
+        numbers = self.numbers
+        return f"UPDATE {self.changed_table()} SET a = {numbers.of(('a + 10', 'a - 10', self.value()))}{self.condition()};"
 
     def lock(self):
         numbers = self.numbers
@@ -349,6 +376,15 @@ class Maker:
         if numbers.chance(6):
             parent = self.parent()
         return f"ALTER TABLE {parent} DETACH PARTITION {name};"
+
+    def detach_above(self):
+        """Of a partition whose own partitions others change."""
+        numbers = self.numbers
+        name = self.cut_off if numbers.chance(80) else numbers.of(sorted(self.own_bounds) + ["pd"])
+        return f"ALTER TABLE t DETACH PARTITION {name};"
+
+    def attach_again(self):
+        return f"ALTER TABLE t ATTACH PARTITION {self.cut_off} {self.own_bounds[self.cut_off]};"
 
     def detach_in_stages(self, how):
         numbers = self.numbers
@@ -419,6 +455,20 @@ class Maker:
                 found.append(self.outside() + (" " + self.statement() if numbers.chance(10) else ""))
         return found
 
+    def steps_above(self, place):
+        """One session changes rows and holds them, the next moves them, the next detaches the table above."""
+        numbers, found = self.numbers, []
+        for _ in range(2 + numbers.below(3)):
+            if place == 0:
+                found += [f"BEGIN; {self.update()}", "ROLLBACK;" if numbers.chance(40) else "COMMIT;"]
+            elif place == 1 and numbers.chance(35):
+                found += [f"BEGIN ISOLATION LEVEL REPEATABLE READ; {self.move()}", "ROLLBACK;" if numbers.chance(25) else "COMMIT;"]
+            elif place == 1:
+                found.append(self.move())
+            else:
+                found += [self.detach_above()] + [self.attach_again()] * numbers.chance(60)
+        return found
+
     def marked(self, name, others, chance):
         """With markers by such a chance, mostly more than one."""
         numbers = self.numbers
@@ -465,8 +515,11 @@ class Made:
         maker.make_tables()
         self.setup = maker.setup
         self.sessions = []
-        for letter in "abcde"[:2 + maker.numbers.below(4)]:
-            blocks = maker.steps(3 + maker.numbers.below(7))
+        for place, letter in enumerate("abcde"[:(2 if kind != "above" else 3) + maker.numbers.below(4)]):
+            if kind == "above" and (place < 3):
+                blocks = maker.steps_above(place)
+            else:
+                blocks = maker.steps(3 + maker.numbers.below(7))
             self.sessions.append([(f"{letter}{number}{ending}", block) for number, block in enumerate(blocks, 1)])
         self.permutations = [maker.permutation(self.setup, self.sessions, place < 2) for place in range(3)]
 

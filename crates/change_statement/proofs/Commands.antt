@@ -1,33 +1,75 @@
 -- A statement as a whole: its gathering, and its run.
-use Rattle.std.proofs.Common.{ℕ, ◌+◌, [], ◌∷◌, ◌++◌, refl, ap, sym, subst, append_assoc, Option, Some, None, Result, Ok, Err}
-use Rattle.history.specs.History.{History}
+use Rattle.std.proofs.Common.{◌≡◌, ℕ, zero, suc, ◌+◌, ◌<◌, ◌==◌, Bool, true, false, if◌then◌else◌, List, [], ◌∷◌, ◌++◌, refl, ap, sym, ◌∙◌, subst, arith, append_assoc, Option, Some, None, Result, Ok, Err, All, length, slice_get, unwrap_or}
+use Rattle.std.proofs.lemmas.Bool.Decides.{nat_tests}
+use Rattle.std.proofs.lemmas.List.{length-map}
+use Rattle.history.specs.declared.version.Version.{Version}
+use Rattle.table_trees.specs.Trees.{leaves}
+use Rattle.row_store.specs.Kept.{KeptRows, stored_at, version_of}
+use Rattle.row_store.specs.Stands.{StoreStands}
+use Rattle.soundness.proofs.Presence.{all_more}
+use Rattle.stores.specs.Events.{look_of, tx_in}
+use Rattle.stores.specs.Stand.{Stands}
+use Rattle.stores.proofs.Calls.{look_is_past}
+use Rattle.history.specs.History.{History, versions}
 use Rattle.stores.specs.Numbers.{IsAt}
 use Rattle.stores.specs.declared.stores.Stores.{Stores}
-use Rattle.stores.proofs.Commands.{commands_are_in_order}
+use Rattle.stores.proofs.Commands.{commands_are_in_order, look_is_own}
 use Rattle.statement_steps.specs.Ended.{ended}
 use Rattle.statement_steps.specs.Made.{Made, and_then, then_told, behind, number_after}
-use Rattle.statement_steps.specs.Attempts.{MayAttempt, MayGoOn, WentOn, GoesOn, IsHalt}
+use Rattle.statement_steps.specs.Attempts.{CanGoOn, NoRows, MayAttempt, MayGoOn, WentOn, GoesOn, IsHalt}
+use Rattle.statement_steps.specs.Gathered.{AreLeft, Found, IsGatheredIn, IsStill, IsTargetAt, MayWriteAt, RowsLeft}
+use Rattle.statement_steps.specs.declared.rest.Rest.TheVariants.{Rows, Detach}
+use Rattle.statement_steps.specs.declared.rest.TargetRow.{TargetRow}
+use Rattle.statement_steps.proofs.Parts.{own_tx}
+use Rattle.statement_steps.proofs.Since.{since_now}
 use Rattle.statement_steps.specs.declared.caller.Caller.{Caller}
 use Rattle.statement_steps.specs.declared.rest.Rest.{Rest}
 use Rattle.statement_steps.specs.declared.stop.Stop.{Stop}
 use Rattle.statement_steps.specs.declared.stop.Stop.TheVariants as stop
 use Rattle.statement_steps.proofs.Numbers.{one_later}
-use Rattle.statement_steps.specs.Steps.{IsTold, IsHalted, IsStep, follow}
+use Rattle.statement_steps.specs.Steps.{IsTold, IsHalted, IsPaused, IsStep, follow}
 use Rattle.statement_steps.proofs.Steps.{went_on, goes_on}
-use Rattle.change_statement.specs.Running.{IsInRun, IsRunTold, IsRun, IsCommandTold, IsCommand, MayRun}
+use Rattle.change_statement.specs.Changed.{Changing, all_changed, changed_by, changed_or_left}
+use Rattle.change_statement.specs.Standing.{left_of}
+use Rattle.change_statement.specs.Running.{IsGathered, IsInRun, IsRunTold, IsRun, IsCommandTold, IsCommand, IsOwnRun, IsTargetIn, MayRun, MayWriteIn}
+use Rattle.change_statement.proofs.Ended.{got_at}
+use Rattle.insert_statement.proofs.Tables.{tables_kept}
 
 -- ---- the run begins
 
-pub begins_run : (h : History) (caller : Caller) → IsAt h caller.session caller.cmd → IsInRun h caller
-begins_run h caller at = record {
+pub begins_run : (g : Found) (h : History) (caller : Caller) → IsAt h caller.session caller.cmd → IsStill h caller.session g → IsInRun g h caller
+begins_run g h caller at still = record {
   at = one_later h caller.session caller.cmd at;
   order = λ t own. commands_are_in_order h caller.session t caller.cmd at own;
+  still = still;
 }
 
-pub may_begin : (stores : Stores) (caller : Caller) → MayAttempt stores caller → MayRun stores caller
-may_begin stores caller may =
+-- with what is gathered now
+gathered_in : (stores : Stores) (caller : Caller) (g : Found) (h : History) → MayAttempt stores caller → Stands stores h → IsGathered stores caller g → IsGatheredIn h caller.session g
+gathered_in stores caller g h may stands its =
+    let s = caller.session in
+    let own = own_tx stores caller h may stands in
+    let kept = tables_kept stores.catalog h stands.all.catalog in
+    let known = its.known.made in
+    record {
+      made = omega (arith, kept, known);
+      look = look_of h s caller.cmd;
+      own = record { own = own.1 ∙ ap Some (sym (look_is_own h s own.0 caller.cmd stands.good own.1)); past = look_is_past stores.txs h s caller.cmd stands.all.txs };
+      tree = its.read.is_tree h stands.all.txs stands.all.catalog;
+      path = its.read.is_path h stands.all.txs stands.all.catalog;
+      among = its.among;
+      writes = all_more (MayWriteIn stores s) (MayWriteAt h s) g.leaves (λ leaf may_write. may_write h stands) its.writes;
+      moves = λ on. all_more (MayWriteIn stores s) (MayWriteAt h s) (leaves g.tree) (λ leaf may_write. may_write h stands) (its.moves on);
+      stays = its.stays;
+    }
+
+still_now : (stores : Stores) (caller : Caller) (g : Found) (h : History) → MayAttempt stores caller → Stands stores h → IsGathered stores caller g → IsStill h caller.session g
+still_now stores caller g h may stands its = record { earlier = h; gathered = gathered_in stores caller g h may stands its; since = since_now caller.session h }
+
+pub may_begin : (stores : Stores) (caller : Caller) (g : Found) → MayAttempt stores caller → IsGathered stores caller g → MayRun g stores caller
+may_begin stores caller g may its =
     let s = may.sound in
-    let run = begins_run s.0 caller s.2 in
+    let run = begins_run g s.0 caller s.2 (still_now stores caller g s.0 may s.1 its) in
     record {
       may = record { sound = (s.0, s.1, run.at); transaction = may.transaction; idle = may.idle; known = may.known; few = may.few; sessions = may.sessions; tables = may.tables };
       sound = (s.0, s.1, run);
@@ -35,22 +77,59 @@ may_begin stores caller may =
 
 -- ---- and is the whole of what is left
 
-run_is_told : (r : Result (Unit {0}) Stop) (new : Stores) (caller : Caller) (h : History) (m : Made (Unit {0})) → IsRunTold (λ (u : Unit {0}). u) r new caller h m → IsCommandTold r new caller h m
-run_is_told (Ok u) new caller h m told = (told.0, told.1)
-run_is_told (Err (stop.Waits None)) new caller h m told = absurd told
-run_is_told (Err (stop.Waits (Some rest))) new caller h m told = told
-run_is_told (Err (stop.Refused f)) new caller h m told = told
-run_is_told (Err stop.NoMemory) new caller h m told = tt
+run_is_told : (g : Found) (r : Result (Unit {0}) Stop) (new : Stores) (caller : Caller) (h : History) (m : Made (Unit {0})) → IsRunTold g (λ (u : Unit {0}). u) r new caller h m → IsCommandTold r new caller h m
+run_is_told g (Ok u) new caller h m told = (told.0, told.1)
+run_is_told g (Err (stop.Waits None)) new caller h m told = absurd told
+run_is_told g (Err (stop.Waits (Some rest))) new caller h m told = told
+run_is_told g (Err (stop.Refused f)) new caller h m told = told
+run_is_told g (Err stop.NoMemory) new caller h m told = tt
 
-is_halt : (r : Result (Unit {0}) Stop) (stores : Stores) (s : ℕ) → IsHalted r stores s → IsHalt (ended r) stores s
+is_halt : (r : Result (Unit {0}) Stop) (stores : Stores) (s : ℕ) → IsPaused r stores s → IsHalt (ended r) stores s
 is_halt (Ok u) stores s halted = halted
 is_halt (Err (stop.Waits rest)) stores s halted = halted
 is_halt (Err (stop.Refused f)) stores s halted = halted
 is_halt (Err stop.NoMemory) stores s halted = tt
 
-pub run_is_command : (r : Result (Unit {0}) Stop) (old new : Stores) (caller : Caller) (f : History → Made (Unit {0})) → IsRun (λ (u : Unit {0}). u) r old new caller f → IsCommand r old new caller f
-run_is_command r old new caller f run = record {
-  is = λ h stands at. run_is_told r new caller h (f h) (run.is h stands (begins_run h caller at));
+pub run_is_command : (r : Result (Unit {0}) Stop) (old new : Stores) (caller : Caller) (g : Found) (f : History → Made (Unit {0})) → MayAttempt old caller → IsGathered old caller g → IsRun g (λ (u : Unit {0}). u) r old new caller f → IsCommand None r old new caller f
+run_is_command r old new caller g f may its run = record {
+  is = λ h stands at go. run_is_told g r new caller h (f h) (run.is h stands (begins_run g h caller at (still_now old caller g h may stands its)));
+  keeps = run.keeps;
+  waits = is_halt r new caller.session run.waits;
+}
+
+-- ---- or of a statement that goes on
+
+pub may_go : (stores : Stores) (caller : Caller) (r : RowsLeft) → MayAttempt stores caller → IsOwnRun stores caller r → MayRun r.found stores caller
+may_go stores caller r may its =
+    let s = its.sound in
+    let run = begins_run r.found s.0 caller s.2 (s.3.still (its.own s.0 s.1)) in
+    record {
+      may = record { sound = (s.0, s.1, run.at); transaction = may.transaction; idle = may.idle; known = may.known; few = may.few; sessions = may.sessions; tables = may.tables };
+      sound = (s.0, s.1, run);
+    }
+
+got_low : (vs : List Version) (k : ℕ) (v : Version) → slice_get vs k ≡ Some v → k < length vs
+got_low [] k v e = absurd (let c = e in cc)
+got_low (x ∷ vs) zero v e = omega arith
+got_low (x ∷ vs) (suc k) v e = let lt = got_low vs k v e in omega (arith, lt)
+
+target_in : (rows : KeptRows) (g : Found) (h : History) (t : TargetRow) → StoreStands rows h → IsTargetAt h g t → IsTargetIn rows g t
+target_in rows g h t stands its =
+    let k = t.id.number in
+    let count : length rows.stored ≡ length (versions h) = sym (length-map rows.stored version_of) ∙ ap length stands.births in
+    let within : k < length (versions h) = got_low (versions h) k its.version its.there in
+    let known : k < length rows.stored = omega (arith, count, within) in
+    let there : slice_get (versions h) k ≡ Some (stored_at rows.stored t.id).version = subst (λ vs. slice_get vs k ≡ Some (stored_at rows.stored t.id).version) stands.births (got_at rows.stored k known) in
+    let both : Some (stored_at rows.stored t.id).version ≡ Some its.version = sym there ∙ its.there in
+    let same : (stored_at rows.stored t.id).version ≡ its.version = (let c = both in cc) in
+    record { there = known; leaf = ap (λ (v : Version). v.leaf) same ∙ its.leaf; among = its.among }
+
+pub left_in : (stores : Stores) (caller : Caller) (r : RowsLeft) → IsOwnRun stores caller r → All (IsTargetIn stores.rows r.found) r.left
+left_in stores caller r its = let s = its.sound in all_more (IsTargetAt s.0 r.found) (IsTargetIn stores.rows r.found) r.left (λ t at. target_in stores.rows r.found s.0 t s.1.all.rows at) s.3.rows
+
+pub left_is_command : (r : Result (Unit {0}) Stop) (old new : Stores) (caller : Caller) (left : RowsLeft) (f : History → Made (Unit {0})) → IsOwnRun old caller left → IsRun left.found (λ (u : Unit {0}). u) r old new caller f → IsCommand (Some (Rows left)) r old new caller f
+left_is_command r old new caller left f its run = record {
+  is = λ h stands at go. run_is_told left.found r new caller h (f h) (run.is h stands (begins_run left.found h caller at (go.still (its.own h stands))));
   keeps = run.keeps;
   waits = is_halt r new caller.session run.waits;
 }
@@ -62,17 +141,21 @@ command_behind : (r : Result (Unit {0}) Stop) (mid new : Stores) (caller : Calle
 command_behind (Ok u) mid new caller h events m first told =
     (told.0, subst (WentOn h caller.session (caller.cmd + 1) [] new) (sym (append_assoc m.events events h)) (went_on h (events ++ h) (m.events ++ (events ++ h)) caller.session caller.cmd (caller.cmd + 1) [] mid new first told.1))
 command_behind (Err (stop.Waits rest)) mid new caller h events m first told =
-    (told.0, subst (WentOn h caller.session (number_after rest caller.cmd) (caller.session ∷ []) new) (sym (append_assoc m.events events h)) (went_on h (events ++ h) (m.events ++ (events ++ h)) caller.session caller.cmd (number_after rest caller.cmd) (caller.session ∷ []) mid new first told.1))
+    let same = sym (append_assoc m.events events h) in (
+      told.0,
+      subst (WentOn h caller.session (number_after rest caller.cmd) (caller.session ∷ []) new) same (went_on h (events ++ h) (m.events ++ (events ++ h)) caller.session caller.cmd (number_after rest caller.cmd) (caller.session ∷ []) mid new first told.1),
+      subst (λ k. CanGoOn k caller.session rest) same told.2,
+    )
 command_behind (Err (stop.Refused f)) mid new caller h events m first told =
     (told.0, subst (WentOn h caller.session (caller.cmd + 1) [] new) (sym (append_assoc m.events events h)) (went_on h (events ++ h) (m.events ++ (events ++ h)) caller.session caller.cmd (caller.cmd + 1) [] mid new first told.1))
 command_behind (Err stop.NoMemory) mid new caller h events m first told = tt
 
 pub then_command : {X T : Type 0} (see : X → T) (x : X) (r : Result (Unit {0}) Stop) (old mid new : Stores) (caller : Caller) (f : History → Made T) (next : T → History → Made (Unit {0}))
-    → IsStep see (Ok x) old mid caller caller.cmd f → IsCommand r mid new caller (next (see x)) → IsCommand r old new caller (follow f next)
+    → IsStep see (Ok x) old mid caller caller.cmd f → IsCommand None r mid new caller (next (see x)) → IsCommand None r old new caller (follow f next)
 then_command {T} see x r old mid new caller f next first second = record {
-  is = λ h stands at.
+  is = λ h stands at go.
       let a = first.is h stands at in
-      let told = second.is ((f h).events ++ h) a.1.stands a.1.at in
+      let told = second.is ((f h).events ++ h) a.1.stands a.1.at tt in
       subst (λ t. IsCommandTold r new caller h (then_told t (f h).events (λ y. next y ((f h).events ++ h)))) (sym a.0)
       (command_behind r mid new caller h (f h).events (next (see x) ((f h).events ++ h)) a.1 told);
   keeps = goes_on old mid new caller.session first.keeps second.keeps;
@@ -82,24 +165,78 @@ then_command {T} see x r old mid new caller f next first second = record {
 -- one that waits may go on under a later number
 pub waits_later : (rest : Option Rest) (new : Stores) (caller : Caller) (h g : History) → WentOn h caller.session caller.cmd (caller.session ∷ []) new g → WentOn h caller.session (number_after rest caller.cmd) (caller.session ∷ []) new g
 waits_later None new caller h g went = went
-waits_later (Some rest) new caller h g went = record { stands = went.stands; at = one_later g caller.session caller.cmd went.at; others = went.others; queue = went.queue }
+waits_later (Some rest) new caller h g went = record { stands = went.stands; at = one_later g caller.session caller.cmd went.at; others = went.others; since = went.since; queue = went.queue }
 
-stop_told : {X T : Type 0} (see : X → T) (e : Stop) (new : Stores) (caller : Caller) (h : History) (m : Made T) (next : T → Made (Unit {0})) → IsTold see (Err e) new caller caller.cmd h m → IsCommandTold (Err e) new caller h (and_then m next)
-stop_told see (stop.Waits rest) new caller h m next told = subst (λ t. IsCommandTold (Err (stop.Waits rest)) new caller h (then_told t m.events next)) (sym told.0) (refl, waits_later rest new caller h (m.events ++ h) told.1)
-stop_told see (stop.Refused f) new caller h m next told = subst (λ t. IsCommandTold (Err (stop.Refused f)) new caller h (then_told t m.events next)) (sym told.0) (refl, told.1)
-stop_told see stop.NoMemory new caller h m next told = tt
+-- one that waits for no row may go on anywhere
+pub goes_anywhere : (rest : Option Rest) (h : History) (s : ℕ) → NoRows rest → CanGoOn h s rest
+goes_anywhere None h s none = tt
+goes_anywhere (Some (Rows r)) h s none = absurd none
+goes_anywhere (Some (Detach d)) h s none = tt
+
+stop_told : {X T : Type 0} (see : X → T) (e : Stop) (new : Stores) (caller : Caller) (h : History) (m : Made T) (next : T → Made (Unit {0})) → IsHalted {X = X} (Err e) new caller.session → IsTold see (Err e) new caller caller.cmd h m → IsCommandTold (Err e) new caller h (and_then m next)
+stop_told see (stop.Waits rest) new caller h m next halted told = subst (λ t. IsCommandTold (Err (stop.Waits rest)) new caller h (then_told t m.events next)) (sym told.0) (refl, waits_later rest new caller h (m.events ++ h) told.1, goes_anywhere rest (m.events ++ h) caller.session halted.1)
+stop_told see (stop.Refused f) new caller h m next halted told = subst (λ t. IsCommandTold (Err (stop.Refused f)) new caller h (then_told t m.events next)) (sym told.0) (refl, told.1)
+stop_told see stop.NoMemory new caller h m next halted told = tt
 
 stop_halt : (X : Type 0) (e : Stop) (stores : Stores) (s : ℕ) → IsHalted {X = X} (Err e) stores s → IsHalt (Err e) stores s
-stop_halt X (stop.Waits rest) stores s halted = halted
+stop_halt X (stop.Waits rest) stores s halted = halted.0
 stop_halt X (stop.Refused f) stores s halted = halted
 stop_halt X stop.NoMemory stores s halted = tt
 
-pub stop_command : {X T : Type 0} (see : X → T) (e : Stop) (old new : Stores) (caller : Caller) (f : History → Made T) (next : T → History → Made (Unit {0})) → IsStep see (Err e) old new caller caller.cmd f → IsCommand (Err e) old new caller (follow f next)
+pub stop_command : {X T : Type 0} (see : X → T) (e : Stop) (old new : Stores) (caller : Caller) (f : History → Made T) (next : T → History → Made (Unit {0})) → IsStep see (Err e) old new caller caller.cmd f → IsCommand None (Err e) old new caller (follow f next)
 stop_command {X} see e old new caller f next first = record {
-  is = λ h stands at. stop_told see e new caller h (f h) (λ y. next y ((f h).events ++ h)) (first.is h stands at);
+  is = λ h stands at go. stop_told see e new caller h (f h) (λ y. next y ((f h).events ++ h)) first.waits (first.is h stands at);
   keeps = first.keeps;
   waits = stop_halt X e new caller.session first.waits;
 }
 
-pub no_memory_command : (old new : Stores) (caller : Caller) (f : History → Made (Unit {0})) → GoesOn old new caller.session → IsCommand (Err stop.NoMemory) old new caller f
-no_memory_command old new caller f keeps = record { is = λ h stands at. tt; keeps = keeps; waits = tt }
+pub no_memory_command : (old new : Stores) (caller : Caller) (f : History → Made (Unit {0})) → GoesOn old new caller.session → IsCommand None (Err stop.NoMemory) old new caller f
+no_memory_command old new caller f keeps = record { is = λ h stands at go. tt; keeps = keeps; waits = tt }
+
+-- ---- from the beginning, or from where it stood
+
+pub begun_by : (change : Found → Changing) (names : List (List ℕ)) (rest : Option Rest) (r : Result (Unit {0}) Stop) (old new : Stores) (caller : Caller) (begin : History → Made (Unit {0})) → ((h : History) → Stands old h → None ≡ left_of h caller rest) → IsCommand None r old new caller begin
+    → IsCommand rest r old new caller (changed_by change names caller rest begin)
+begun_by change names rest r old new caller begin none command = record {
+  is = λ h stands at go. subst (λ o. IsCommandTold r new caller h (changed_or_left change names caller begin o h)) (none h stands) (command.is h stands at tt);
+  keeps = command.keeps;
+  waits = command.waits;
+}
+
+own_rest : (h : History) (caller : Caller) (rest : Option Rest) (left : RowsLeft) → Some left ≡ left_of h caller rest → CanGoOn h caller.session rest → AreLeft h caller.session left
+own_rest h caller None left is go = absurd (let c = is in cc)
+own_rest h caller (Some (Detach d)) left is go = absurd (let c = is in cc)
+own_rest h caller (Some (Rows r)) left is go = by (r.by.number == tx_in h caller.session) is
+  where
+    by : (b : Bool) → Some left ≡ (if b then Some r else None) → AreLeft h caller.session left
+    by true e = let same : r ≡ left = (let c = e in cc) in subst (AreLeft h caller.session) same go
+    by false e = absurd (let c = e in cc)
+
+own_number : (h : History) (caller : Caller) (rest : Option Rest) (left : RowsLeft) → Some left ≡ left_of h caller rest → left.by.number ≡ tx_in h caller.session
+own_number h caller None left is = absurd (let c = is in cc)
+own_number h caller (Some (Detach d)) left is = absurd (let c = is in cc)
+own_number h caller (Some (Rows r)) left is = by (r.by.number == tx_in h caller.session) refl is
+  where
+    by : (b : Bool) → (r.by.number == tx_in h caller.session) ≡ b → Some left ≡ (if b then Some r else None) → left.by.number ≡ tx_in h caller.session
+    by true on e =
+        let same : r ≡ left = (let c = e in cc) in
+        let number : r.by.number ≡ tx_in h caller.session = grind (arith, nat_tests, on) in
+        subst (λ (x : RowsLeft). x.by.number ≡ tx_in h caller.session) same number
+    by false on e = absurd (let c = e in cc)
+
+pub own_run : (stores : Stores) (caller : Caller) (rest : Option Rest) (left : RowsLeft) → MayAttempt stores caller → MayGoOn stores caller rest → ((h : History) → Stands stores h → Some left ≡ left_of h caller rest) → IsOwnRun stores caller left
+own_run stores caller rest left may go is = record {
+  own = λ h stands.
+      let own = own_tx stores caller h may stands in
+      let number = own_number h caller rest left (is h stands) in
+      own.1 ∙ ap Some (sym (number ∙ ap (λ o. unwrap_or o 0) own.1));
+  sound = (go.0, go.1, go.2, own_rest go.0 caller rest left (is go.0 go.1) go.3);
+}
+
+pub gone_on : (change : Found → Changing) (names : List (List ℕ)) (rest : Option Rest) (left : RowsLeft) (r : Result (Unit {0}) Stop) (old new : Stores) (caller : Caller) (begin : History → Made (Unit {0})) → ((h : History) → Stands old h → Some left ≡ left_of h caller rest)
+    → IsCommand (Some (Rows left)) r old new caller (all_changed (change left.found) names caller left.found left.left left.changed) → IsCommand rest r old new caller (changed_by change names caller rest begin)
+gone_on change names rest left r old new caller begin is command = record {
+  is = λ h stands at go. subst (λ o. IsCommandTold r new caller h (changed_or_left change names caller begin o h)) (is h stands) (command.is h stands at (own_rest h caller rest left (is h stands) go));
+  keeps = command.keeps;
+  waits = command.waits;
+}

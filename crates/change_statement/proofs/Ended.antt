@@ -35,27 +35,39 @@ use Rattle.stores.proofs.Standing.{catalogue_stands}
 use Rattle.statement_steps.specs.Made.{made}
 use Rattle.statement_steps.specs.Attempts.{WentOn, GoesOn}
 use Rattle.statement_steps.specs.declared.caller.Caller.{Caller}
+use Rattle.statement_steps.specs.Gathered.{Found, IsStill, MayWriteAt}
+use Rattle.statement_steps.specs.Waiting.{Since}
+use Rattle.statement_steps.proofs.Since.{since_on, since_row}
 use Rattle.insert_statement.specs.Inserted.{own}
 use Rattle.insert_statement.proofs.Births.{Quiet}
 use Rattle.change_statement.specs.Deleted.{ended}
 use Rattle.change_statement.specs.Running.{IsInRun, IsRunTold, IsRun, MayEndIn, MayRun}
+use Rattle.change_statement.proofs.Kept.{one_of}
+use Rattle.change_statement.proofs.Still.{open_leaf}
+use Rattle.std.specs.List.{Contains}
+use Rattle.table_trees.specs.Trees.{leaves}
+use Rattle.legal_statements.specs.Locked.{IsWritable}
 
 -- ---- an event
 
 -- the history after events of the run, and what they leave as it was
-pub record Came (h : History) (caller : Caller) (g : History) : Type 0 where
+pub record Came (f : Found) (h : History) (caller : Caller) (g : History) : Type 0 where
   pub good : IsGood g
-  pub run : IsInRun g caller
+  pub run : IsInRun f g caller
   pub others : (r n : ℕ) → r ≢ caller.session → IsAt h r n → IsAt g r n
+  pub since : (r : ℕ) → Since r h g
   pub quiet : Quiet g h
 
 one_session : (txs : TxEvents) (r s u t : ℕ) → IsSound txs → open_of txs r ≡ Some u → open_of txs s ≡ Some t → u ≡ t → r ≡ s
 one_session txs r s u t sound mine its same = sym (open_own txs r u sound mine) ∙ (ap (session_of txs) same ∙ open_own txs s t sound its)
 
+still_on : (f : Found) (h g : History) (s : ℕ) → Since s h g → IsStill h s f → IsStill g s f
+still_on f h g s since still = record { earlier = still.earlier; gathered = still.gathered; since = since_on s still.earlier h g still.since since }
+
 -- an event of the transaction's command
-pub came_one : (e : RowEvent) (h : History) (caller : Caller) (tx : ℕ) → open_of (tx_events h) caller.session ≡ Some tx → command_of (RowChange e) ≡ Some (tx, caller.cmd) → MayFollow (RowChange e ∷ []) h → IsGood h → IsInRun h caller
-    → Came h caller (RowChange e ∷ h)
-came_one e h caller tx mine command follow good run =
+pub came_one : (f : Found) (e : RowEvent) (h : History) (caller : Caller) (tx : ℕ) → open_of (tx_events h) caller.session ≡ Some tx → command_of (RowChange e) ≡ Some (tx, caller.cmd) → MayFollow (RowChange e ∷ []) h → IsGood h → IsInRun f h caller
+    → Came f h caller (RowChange e ∷ h)
+came_one f e h caller tx mine command follow good run =
     let first = follow.0 in
     let sound = sound_of h (legal_of h good) in
     record {
@@ -63,8 +75,10 @@ came_one e h caller tx mine command follow good run =
       run = record {
         at = λ t is. All-cons (IsBefore t (caller.cmd + 1)) (RowChange e) h (subst (IsEarlier t (caller.cmd + 1)) (sym command) (λ same. omega arith)) (run.at t is);
         order = λ t is. (subst (λ c. IsNotAfter c (Some (t, caller.cmd))) (sym command) (λ same. omega arith), run.order t is);
+        still = still_on f h (RowChange e ∷ h) caller.session (since_row caller.session e h) run.still;
       };
       others = λ r n other at t is. All-cons (IsBefore t n) (RowChange e) h (subst (IsEarlier t n) (sym command) (λ same. absurd (other (one_session (tx_events h) r caller.session t tx sound is mine (sym same))))) (at t is);
+      since = λ r. since_row r e h;
       quiet = record { txs = refl; snapshots = refl; locks = refl; catalogue = refl; sound = λ s. s };
     }
 
@@ -78,11 +92,12 @@ rows_after old rows g h q new st = record {
   locks = subst (LocksFor old.locks) (sym q.locks) st.locks;
 }
 
-pub came_on : (old : Stores) (rows : KeptRows) (caller : Caller) (h g : History) → Stands old h → Came h caller g → StoreStands rows g → WentOn h caller.session (caller.cmd + 1) [] (record old { rows = rows }) g
-came_on old rows caller h g stands came store = record {
+pub came_on : (f : Found) (old : Stores) (rows : KeptRows) (caller : Caller) (h g : History) → Stands old h → Came f h caller g → StoreStands rows g → WentOn h caller.session (caller.cmd + 1) [] (record old { rows = rows }) g
+came_on f old rows caller h g stands came store = record {
   stands = record { all = rows_after old rows g h came.quiet store stands.all; good = came.good };
   at = came.run.at;
   others = came.others;
+  since = λ r other. came.since r;
   queue = ap queue came.quiet.locks ∙ sym (append-nil (queue (lock_events h)));
 }
 
@@ -111,9 +126,17 @@ own_is h s by mine =
     let id : ℕ → TxId = λ n. record { number = n } in
     ap id number
 
-pub old_row : (stores : Stores) (caller : Caller) (id : RowId) (by : TxId) (how : Ending) (h : History) → MayEndIn stores caller id → slice_index_or stores.txs.current caller.session None ≡ Some by.number
-    → IsEndingKnown (map version_of stores.rows.stored) stores.rows.leaves id.number (stored_at stores.rows.stored id).version by how → Stands stores h → IsInRun h caller → IsOldRow h caller.session id.number (record { by = by; cmd = caller.cmd; how = how })
-old_row stores caller id by how h may mine known stands run =
+-- the session may write its leaf
+pub end_writes : (stores : Stores) (caller : Caller) (g : Found) (id : RowId) (h : History) (t x : ℕ) → IsGood h → IsInRun g h caller → MayEndIn g stores caller id → open_of (tx_events h) caller.session ≡ Some t → HasLeaf (catalogue_events h) x (stored_at stores.rows.stored id).version.leaf → IsWritable h caller.session x
+end_writes stores caller g id h t x good run may mine has =
+    let leaf = (stored_at stores.rows.stored id).version.leaf in
+    let its = run.still.gathered in
+    let among = one_of (Contains (leaves g.tree)) g.leaves leaf may.among its.among in
+    (open_leaf h caller.session t g leaf x good run.still mine among (one_of (MayWriteAt run.still.earlier caller.session) g.leaves leaf may.among its.writes) has).kept.writes
+
+pub old_row : (stores : Stores) (caller : Caller) (g : Found) (id : RowId) (by : TxId) (how : Ending) (h : History) → MayEndIn g stores caller id → slice_index_or stores.txs.current caller.session None ≡ Some by.number
+    → IsEndingKnown (map version_of stores.rows.stored) stores.rows.leaves id.number (stored_at stores.rows.stored id).version by how → Stands stores h → IsInRun g h caller → IsOldRow h caller.session id.number (record { by = by; cmd = caller.cmd; how = how })
+old_row stores caller g id by how h may mine known stands run =
     let v = (stored_at stores.rows.stored id).version in
     let open_in : open_of (tx_events h) caller.session ≡ Some by.number = sym (stands.all.txs.current caller.session) ∙ mine in
     let sound = end_sound stores.txs stores.rows h id.number (record { by = by; cmd = caller.cmd; how = how }) may.known (may.standing h stands.all.txs stands.all.rows) (caller.session, mine) (may.born by.number mine) known stands.all.txs stands.all.rows in
@@ -123,22 +146,22 @@ old_row stores caller id by how h may mine known stands run =
       own = open_in;
       command = run.order by.number open_in;
       sound = sound;
-      locked = λ x at. may.locked h stands x (subst (λ (w : Version). HasLeaf (catalogue_events h) x w.leaf) (sym same) at);
+      locked = λ x at. end_writes stores caller g id h by.number x stands.good run may open_in (subst (λ (w : Version). HasLeaf (catalogue_events h) x w.leaf) (sym same) at);
     }
 
 -- ---- a row that is deleted
 
-pub ended_run : (old : Stores) (rows : KeptRows) (caller : Caller) (id : RowId) (by : TxId) → MayRun old caller → MayEndIn old caller id → slice_index_or old.txs.current caller.session None ≡ Some by.number
+pub ended_run : (old : Stores) (rows : KeptRows) (caller : Caller) (g : Found) (id : RowId) (by : TxId) → MayRun g old caller → MayEndIn g old caller id → slice_index_or old.txs.current caller.session None ≡ Some by.number
     → ((h : History) → TableStands old.txs h → StoreStands old.rows h → StoreStands rows (RowChange (RowEnded id.number (record { by = by; cmd = caller.cmd; how = Deleted })) ∷ h))
-    → IsRun (λ (u : Unit {0}). u) (Ok tt) old (record old { rows = rows }) caller (ended caller Deleted id)
-ended_run old rows caller id by may row mine added = record {
+    → IsRun g (λ (u : Unit {0}). u) (Ok tt) old (record old { rows = rows }) caller (ended caller Deleted id)
+ended_run old rows caller g id by may row mine added = record {
   is = λ h stands run.
       let e : End = record { by = by; cmd = caller.cmd; how = Deleted } in
       let open_in : open_of (tx_events h) caller.session ≡ Some by.number = sym (stands.all.txs.current caller.session) ∙ mine in
-      let follow = old_row_may_follow h caller.session id.number e (legal_of h stands.good) (old_row old caller id by Deleted h row mine tt stands run) in
-      let came = came_one (RowEnded id.number e) h caller by.number open_in refl follow stands.good run in
-      subst (λ (b : TxId). IsRunTold (λ (u : Unit {0}). u) (Ok tt) (record old { rows = rows }) caller h (made (RowChange (RowEnded id.number (record { by = b; cmd = caller.cmd; how = Deleted })) ∷ []) tt)) (own_is h caller.session by open_in)
-      (refl, came_on old rows caller h (RowChange (RowEnded id.number e) ∷ h) stands came (added h stands.all.txs stands.all.rows), came.run);
+      let follow = old_row_may_follow h caller.session id.number e (legal_of h stands.good) (old_row old caller g id by Deleted h row mine tt stands run) in
+      let came = came_one g (RowEnded id.number e) h caller by.number open_in refl follow stands.good run in
+      subst (λ (b : TxId). IsRunTold g (λ (u : Unit {0}). u) (Ok tt) (record old { rows = rows }) caller h (made (RowChange (RowEnded id.number (record { by = b; cmd = caller.cmd; how = Deleted })) ∷ []) tt)) (own_is h caller.session by open_in)
+      (refl, came_on g old rows caller h (RowChange (RowEnded id.number e) ∷ h) stands came (added h stands.all.txs stands.all.rows), came.run);
   keeps = rows_keep old rows caller.session;
   waits = may.may.idle;
 }

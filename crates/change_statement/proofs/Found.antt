@@ -50,10 +50,11 @@ use Rattle.insert_statement.proofs.Locked.{may_write}
 use Rattle.insert_statement.proofs.Told.{same_step}
 use Rattle.insert_statement.proofs.Tables.{IsMade, tables_kept}
 use Rattle.insert_statement.proofs.Trees.{Are, IsHome, tree_root}
-use Rattle.change_statement.specs.Gathered.{Found, found_by, found_of, item_of, meant, locked_all, over, of_table}
-use Rattle.change_statement.specs.Kept.{if_some, leaves_read, moves, sets_key, tables_locked}
+use Rattle.change_statement.specs.Gathered.{found_by, item_of, meant, locked_all, over, of_table}
+use Rattle.statement_steps.specs.Gathered.{Found, found_of, sets_key}
+use Rattle.change_statement.specs.Kept.{if_some, leaves_read, moves, tables_locked}
 use Rattle.change_statement.specs.Running.{IsGathered, MayWriteIn}
-use Rattle.change_statement.specs.declared.gathering.Gathered.{Gathered}
+use Rattle.statement_steps.specs.declared.gathered.Gathered.{Gathered}
 use Rattle.change_statement.proofs.Homes.{all_kept, all_under, home_of, kept_home, kept_in, root_and_below}
 use Rattle.change_statement.proofs.Kept.{Stay, each_of, home_written, homes_of, writable_moves}
 

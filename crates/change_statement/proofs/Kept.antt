@@ -17,7 +17,7 @@ use Rattle.table_trees.specs.Histories.{table_of}
 use Rattle.part_catalog.specs.Kept.{KeptCatalogue, table_in}
 use Rattle.row_store.specs.Kept.{KeptRows}
 use Rattle.row_change.specs.Succession.{KeepsVersions}
-use Rattle.change_statement.specs.declared.finding.TargetRow.{TargetRow}
+use Rattle.statement_steps.specs.declared.rest.TargetRow.{TargetRow}
 use Rattle.soundness.specs.Worlds.{HasLeaf}
 use Rattle.soundness.proofs.All.{legal_keeps_all}
 use Rattle.soundness.proofs.Presence.{all_more}
@@ -33,7 +33,7 @@ use Rattle.statement_steps.specs.Known.{IsKnownTo}
 use Rattle.insert_statement.specs.Asked.{IsReadOf}
 use Rattle.insert_statement.proofs.Tables.{IsMade, tables_kept, shown_made}
 use Rattle.insert_statement.proofs.Trees.{Are, IsHome, tree_are}
-use Rattle.change_statement.specs.Gathered.{Found}
+use Rattle.statement_steps.specs.Gathered.{Found}
 use Rattle.change_statement.specs.Running.{IsGathered, IsTargetIn, MayRun, MayWriteIn}
 use Rattle.change_statement.proofs.Homes.{Home, home_of}
 
@@ -66,33 +66,6 @@ pub writable_moves : (old new : Stores) (g h : History) (s x : ℕ) → Stay old
 writable_moves old new g h s x stay before now (inl held) = inl (held_moves old new g h s x RowExclusive stay before now held)
 writable_moves old new g h s x stay before now (inr (inl held)) = inr (inl (held_moves old new g h s x AccessExclusive stay before now held))
 writable_moves old new g h s x stay before now (inr (inr own)) = inr (inr (own_moves old new g h s x stay before now own))
-
--- rows take no lock, and no table its leaf
-written_with : (stores : Stores) (rows : KeptRows) (s : ℕ) (h : History) → Stands stores h → (leaf : LeafId) → MayWriteIn stores s leaf → MayWriteIn (record stores { rows = rows }) s leaf
-written_with stores rows s h stands leaf may k new x at =
-    let after = record stores { rows = rows } in
-    let stay : Stay stores after = record { locks = λ r y m e. e; current = refl; catalog = refl } in
-    let tables = same_tables stores after h k stay stands new in
-    let there : HasLeaf (catalogue_events h) x leaf = subst (λ ts. (x < length ts) × ((table_at ts x).shape ≡ Leaf leaf)) (sym tables) at in
-    writable_moves stores after h k s x stay stands new (may h stands x there)
-
-gathered_with : (stores : Stores) (rows : KeptRows) (caller : Caller) (g : Found) → (h : History) → Stands stores h → IsGathered stores caller g → IsGathered (record stores { rows = rows }) caller g
-gathered_with stores rows caller g h stands its =
-    let W : LeafId → Type 0 = MayWriteIn stores caller.session in
-    let V : LeafId → Type 0 = MayWriteIn (record stores { rows = rows }) caller.session in
-    record {
-      known = record { made = its.known.made; own = its.known.own };
-      read = record { is_tree = its.read.is_tree; is_path = its.read.is_path };
-      among = its.among;
-      writes = all_more W V g.leaves (λ leaf may. written_with stores rows caller.session h stands leaf may) its.writes;
-      moves = λ on. all_more W V (leaves g.tree) (λ leaf may. written_with stores rows caller.session h stands leaf may) (its.moves on);
-      stays = its.stays;
-    }
-
-pub gathered_stays : (old new : Stores) (caller : Caller) (g : Found) → MayRun old caller → OnlyRows old new → IsGathered old caller g → IsGathered new caller g
-gathered_stays old new caller g may rest its =
-    let s = may.sound in
-    subst (λ x. IsGathered x caller g) (sym rest) (gathered_with old new.rows caller g s.0 s.1 its)
 
 -- ---- targets
 

@@ -13,7 +13,9 @@ pub mod Pausing
 pub mod Pruned
 pub mod Renewed
 pub mod Runs
+pub mod SameKeys
 pub mod Stays
+pub mod Still
 pub mod Taken
 pub mod Targets
 pub mod WaitedFor

@@ -1,14 +1,12 @@
 -- A statement that waits in the middle of its run.
-use Rattle.std.proofs.Common.{◌≡◌, ◌≢◌, ℕ, ◌+◌, ◌<◌, ◌^◌, ◌==◌, ◌||◌, Bool, true, false, if◌then◌else◌, List, [], ◌∷◌, ◌++◌, refl, ap, sym, ◌∙◌, subst, arith, inl, inr, Option, Some, None, Ok, Err, All, map}
+use Rattle.std.proofs.Common.{◌≡◌, ◌≢◌, ℕ, ◌+◌, ◌<◌, ◌^◌, ◌==◌, ◌||◌, Bool, true, false, if◌then◌else◌, List, [], ◌∷◌, ◌++◌, refl, ap, sym, ◌∙◌, subst, arith, inl, inr, Option, Some, None, Ok, Err, All, map, append_assoc, slice_get, slice_index_or, unwrap_or}
 use Rattle.std.specs.Int.{bit_at}
 use Rattle.std.proofs.lemmas.Bool.{cases_eq, cases_Bool}
 use Rattle.std.proofs.lemmas.Bool.Decides.{nat_tests}
 use Rattle.std.proofs.lemmas.Grind.{common_steps}
 use Rattle.std.proofs.lemmas.Nat.Bits.{bit_at-pow_same, bit_at-pow_other, bit_at-lt, same_from_bits}
-use Rattle.std.proofs.lemmas.List.Elements.{All-nil, All-cons, All-head, All-tail}
 use Rattle.pg_values.specs.declared.fault.Fault.{Fault}
-use Rattle.pg_values.specs.declared.ids.RowId.{RowId}
-use Rattle.change_statement.specs.declared.finding.TargetRow.{TargetRow}
+use Rattle.statement_steps.specs.declared.rest.TargetRow.{TargetRow}
 use Rattle.pg_values.specs.Sets.{has, nobody}
 use Rattle.pg_values.specs.declared.session_set.SessionSet.{SessionSet}
 use Rattle.pg_values.proofs.Bits.{nobody_is}
@@ -16,27 +14,40 @@ use Rattle.history.specs.declared.wait.Wanted.{Wanted}
 use Rattle.history.specs.declared.wait.Wanted.TheVariants.{Others}
 use Rattle.history.specs.declared.wait.WaitOn.TheVariants.{Ends}
 use Rattle.history.specs.Waits.{is_cause, waits_with}
-use Rattle.history.specs.Locks.{LockEvents}
-use Rattle.history.specs.History.{History, LockChange, lock_events}
+use Rattle.history.specs.Locks.{LockEvent, LockEvents}
+use Rattle.history.specs.Snapshots.{held_by}
+use Rattle.history.specs.Transactions.{next_tx, open_of}
+use Rattle.history.specs.declared.transaction.TxId.{TxId}
+use Rattle.row_store.specs.Kept.{KeptRows, stored_at}
+use Rattle.row_store.specs.Stands.{StoreStands}
+use Rattle.soundness.proofs.Presence.{all_more}
+use Rattle.legal_statements.proofs.Holding.{session_runs}
+use Rattle.history.specs.History.{History, LockChange, lock_events, snapshot_events, tx_events}
 use Rattle.lock_table.specs.Asked.{AskedView, AtOnce, WaitsBehind, ClosesCycle, asked, events_of, cycle_or_wait, least_cycle, those}
-use Rattle.stores.specs.Events.{held}
+use Rattle.stores.specs.Events.{held, look_of, tx_in}
+use Rattle.stores.specs.Stand.{Stands}
+use Rattle.stores.proofs.Goodness.{legal_of}
 use Rattle.stores.specs.Numbers.{IsAt}
 use Rattle.stores.specs.declared.stores.Stores.{Stores}
 use Rattle.stores.proofs.Meanwhile.{looks_keep_numbers}
 use Rattle.statement_steps.specs.Made.{Waits, Refused, behind}
-use Rattle.statement_steps.specs.Attempts.{WentOn}
+use Rattle.statement_steps.specs.Attempts.{IsLeft, WentOn}
 use Rattle.statement_steps.specs.declared.caller.Caller.{Caller}
 use Rattle.statement_steps.specs.declared.rest.Rest.{Rest}
 use Rattle.statement_steps.specs.declared.rest.Rest.TheVariants.{Rows}
-use Rattle.statement_steps.specs.declared.rest.RestOfRows.{RestOfRows}
+use Rattle.statement_steps.specs.Gathered.{AreLeft, Found, IsTargetAt, RowsLeft}
+use Rattle.statement_steps.specs.Waiting.{Since}
 use Rattle.statement_steps.specs.declared.stop.Stop.{Stop}
 use Rattle.statement_steps.specs.declared.stop.Stop.TheVariants as stop
 use Rattle.statement_steps.specs.Asks.{told_by, waited}
-use Rattle.statement_steps.specs.Steps.{IsTold, IsStep}
+use Rattle.statement_steps.specs.Steps.{IsTold, IsPart}
 use Rattle.statement_steps.proofs.Parts.{own_tx}
+use Rattle.statement_steps.proofs.Since.{since_on, since_held, since_locks}
+use Rattle.statement_steps.proofs.Lasting.{are_left_on}
 use Rattle.change_statement.specs.Changed.{only, held_up, paused}
-use Rattle.change_statement.specs.Running.{IsRunTold, IsRun, MayRun, following}
-use Rattle.change_statement.specs.Standing.{id_of}
+use Rattle.change_statement.specs.Running.{IsInRun, IsRunTold, IsRun, IsTargetIn, MayRun}
+use Rattle.change_statement.specs.Standing.{following, standing}
+use Rattle.change_statement.proofs.Ended.{got_at, own_is}
 
 -- ---- the session alone
 
@@ -91,39 +102,79 @@ refused_there : (names : List (List ℕ)) (rest : Rest) (s n : ℕ) (w : Wanted)
     → WentOn h s (n + 1) [] new ((behind events (told_by names (Some rest) (map LockChange (events_of s w v)) v)).events ++ h) → WentOn h s n [] new ((behind events (told_by names (Some rest) (map LockChange (events_of s w v)) v)).events ++ h)
 refused_there names rest s n w AtOnce f new events h told at went = absurd (let c = told in cc)
 refused_there names rest s n w (WaitsBehind others) f new events h told at went = absurd (let c = told in cc)
-refused_there names rest s n w (ClosesCycle cycle) f new events h told at went = record { stands = went.stands; at = at; others = went.others; queue = went.queue }
+refused_there names rest s n w (ClosesCycle cycle) f new events h told at went = record { stands = went.stands; at = at; others = went.others; since = went.since; queue = went.queue }
 
 waits_there : (names : List (List ℕ)) (rest : Rest) (s : ℕ) (w : Wanted) (v : AskedView) (events : History) → (behind events (told_by names (Some rest) (map LockChange (events_of s w v)) v)).told ≡ Err (Waits None) → ⊥
 waits_there names rest s w AtOnce events told = let c = told in cc
 waits_there names rest s w (WaitsBehind others) events told = let c = told in cc
 waits_there names rest s w (ClosesCycle cycle) events told = let c = told in cc
 
-paused_told : (names : List (List ℕ)) (e : Stop) (new : Stores) (caller : Caller) (other : ℕ) (rest : RestOfRows) (h : History) → IsAt (held h caller.session (caller.cmd + 1) ++ h) caller.session (caller.cmd + 1)
-    → IsTold (λ (u : Unit {0}). u) (Err e) new (following caller) (caller.cmd + 1) h (held_up names (following caller) other rest h) → IsRunTold (λ (u : Unit {0}). u) (Err e) new caller h (paused names caller other rest h)
-paused_told names (stop.Waits None) new caller other rest h at told =
+-- it waits with what was given
+waits_given : (names : List (List ℕ)) (rest left : Rest) (s : ℕ) (w : Wanted) (v : AskedView) (events : History) → (behind events (told_by names (Some rest) (map LockChange (events_of s w v)) v)).told ≡ Err (Waits (Some left)) → rest ≡ left
+waits_given names rest left s w AtOnce events told = absurd (let c = told in cc)
+waits_given names rest left s w (WaitsBehind others) events told = let c = told in cc
+waits_given names rest left s w (ClosesCycle cycle) events told = absurd (let c = told in cc)
+
+asked_behind : (s : ℕ) (es : List LockEvent) (events h : History) → Since s h (events ++ h) → Since s h ((map LockChange es ++ events) ++ h)
+asked_behind s es events h first = subst (Since s h) (sym (append_assoc (map LockChange es) events h)) (since_on s h (events ++ h) (map LockChange es ++ (events ++ h)) first (since_locks s es (events ++ h)))
+
+asked_since : (names : List (List ℕ)) (rest : Rest) (s : ℕ) (w : Wanted) (v : AskedView) (events h : History) → Since s h (events ++ h) → Since s h ((behind events (told_by names (Some rest) (map LockChange (events_of s w v)) v)).events ++ h)
+asked_since names rest s w AtOnce events h first = asked_behind s (events_of s w AtOnce) events h first
+asked_since names rest s w (WaitsBehind others) events h first = asked_behind s (events_of s w (WaitsBehind others)) events h first
+asked_since names rest s w (ClosesCycle cycle) events h first = asked_behind s (events_of s w (ClosesCycle cycle)) events h first
+
+paused_told : (names : List (List ℕ)) (e : Stop) (new : Stores) (caller : Caller) (g : Found) (other : ℕ) (rest : RowsLeft) (h : History) → AreLeft h caller.session rest → IsAt (held h caller.session (caller.cmd + 1) ++ h) caller.session (caller.cmd + 1)
+    → IsTold (λ (u : Unit {0}). u) (Err e) new (following caller) (caller.cmd + 1) h (held_up names (following caller) other rest h) → IsRunTold g (λ (u : Unit {0}). u) (Err e) new caller h (paused names caller other rest h)
+paused_told names (stop.Waits None) new caller g other rest h left at told =
     let w : Wanted = Others (Ends (only other)) in
     let events = held h caller.session (caller.cmd + 1) in
     absurd (waits_there names (Rows rest) caller.session w (asked (lock_events (events ++ h)) caller.session w) events told.0)
-paused_told names (stop.Waits (Some left)) new caller other rest h at told = told
-paused_told names (stop.Refused f) new caller other rest h at told =
+paused_told names (stop.Waits (Some is)) new caller g other rest h left at told =
+    let w : Wanted = Others (Ends (only other)) in
+    let s = caller.session in
+    let events = held h s (caller.cmd + 1) in
+    let v = asked (lock_events (events ++ h)) s w in
+    let first = since_held (held_by (snapshot_events h) s) s s (look_of h s (caller.cmd + 1)) h in
+    let since = asked_since names (Rows rest) s w v events h first in
+    let same = waits_given names (Rows rest) is s w v events told.0 in
+    (told.0, told.1, subst (IsLeft ((paused names caller other rest h).events ++ h) s) same (are_left_on h ((paused names caller other rest h).events ++ h) s rest since left))
+paused_told names (stop.Refused f) new caller g other rest h left at told =
     let w : Wanted = Others (Ends (only other)) in
     let events = held h caller.session (caller.cmd + 1) in
     (told.0, refused_there names (Rows rest) caller.session (caller.cmd + 1) w (asked (lock_events (events ++ h)) caller.session w) f new events h told.0 at told.1)
-paused_told names stop.NoMemory new caller other rest h at told = tt
-
-pub paused_run : (names : List (List ℕ)) (e : Stop) (old new : Stores) (caller : Caller) (other : ℕ) (rest : RestOfRows) → MayRun old caller → IsStep (λ (u : Unit {0}). u) (Err e) old new (following caller) (caller.cmd + 1) (held_up names (following caller) other rest)
-    → IsRun (λ (u : Unit {0}). u) (Err e) old new caller (paused names caller other rest)
-paused_run names e old new caller other rest may step = record {
-  is = λ h stands run.
-      let mine = own_tx old (following caller) h may.may stands in
-      let at = (looks_keep_numbers h caller.session caller.session mine.0 (caller.cmd + 1) (caller.cmd + 1) stands.good run.at mine.1 (λ same. omega arith)).1 in
-      paused_told names e new caller other rest h at (step.is h stands run.at);
-  keeps = step.keeps;
-  waits = step.waits;
-}
+paused_told names stop.NoMemory new caller g other rest h left at told = tt
 
 -- ---- where it stands
 
-pub all_there : (n : ℕ) (ts : List TargetRow) → All (λ t. t.id.number < n) ts → All (λ (id : RowId). id.number < n) (map id_of ts)
-all_there n [] all = All-nil (λ (id : RowId). id.number < n)
-all_there n (t ∷ ts) all = All-cons (λ (id : RowId). id.number < n) t.id (map id_of ts) (All-head (λ (x : TargetRow). x.id.number < n) t ts all) (all_there n ts (All-tail (λ (x : TargetRow). x.id.number < n) t ts all))
+target_at : (rows : KeptRows) (g : Found) (h : History) (t : TargetRow) → StoreStands rows h → IsTargetIn rows g t → IsTargetAt h g t
+target_at rows g h t stands its = record {
+  version = (stored_at rows.stored t.id).version;
+  there = subst (λ vs. slice_get vs t.id.number ≡ Some (stored_at rows.stored t.id).version) stands.births (got_at rows.stored t.id.number its.there);
+  leaf = its.leaf;
+  among = its.among;
+}
+
+left_now : (stores : Stores) (caller : Caller) (g : Found) (ts : List TargetRow) (n : ℕ) (h : History) → MayRun g stores caller → All (IsTargetIn stores.rows g) ts → Stands stores h → IsInRun g h caller → AreLeft h caller.session (standing h caller g ts n)
+left_now stores caller g ts n h may all stands run =
+    let mine = own_tx stores (following caller) h may.may stands in
+    let number : tx_in h caller.session ≡ mine.0 = ap (λ o. unwrap_or o 0) mine.1 in
+    record {
+      begun = subst (λ t. t < next_tx (tx_events h)) (sym number) (session_runs h caller.session mine.0 (legal_of h stands.good) mine.1).begun;
+      still = λ own. run.still;
+      rows = all_more (IsTargetIn stores.rows g) (IsTargetAt h g) ts (λ t its. target_at stores.rows g h t stands.all.rows its) all;
+    }
+
+pub paused_run : (names : List (List ℕ)) (e : Stop) (old new : Stores) (caller : Caller) (g : Found) (other : ℕ) (by : TxId) (ts : List TargetRow) (n : ℕ) → MayRun g old caller → All (IsTargetIn old.rows g) ts → slice_index_or old.txs.current caller.session None ≡ Some by.number
+    → IsPart (λ (u : Unit {0}). u) (Err e) old new (following caller) (caller.cmd + 1) (held_up names (following caller) other (record { by = by; found = g; left = ts; changed = n }))
+    → IsRun g (λ (u : Unit {0}). u) (Err e) old new caller (λ h. paused names caller other (standing h caller g ts n) h)
+paused_run names e old new caller g other by ts n may all own part = record {
+  is = λ h stands run.
+      let mine = own_tx old (following caller) h may.may stands in
+      let at = (looks_keep_numbers h caller.session caller.session mine.0 (caller.cmd + 1) (caller.cmd + 1) stands.good run.at mine.1 (λ same. omega arith)).1 in
+      let open_in : open_of (tx_events h) caller.session ≡ Some by.number = sym (stands.all.txs.current caller.session) ∙ own in
+      let rest : TxId → RowsLeft = λ b. record { by = b; found = g; left = ts; changed = n } in
+      let told = subst (λ (b : TxId). IsTold (λ (u : Unit {0}). u) (Err e) new (following caller) (caller.cmd + 1) h (held_up names (following caller) other (rest b) h)) (own_is h caller.session by open_in) (part.is h stands run.at) in
+      paused_told names e new caller g other (standing h caller g ts n) h (left_now old caller g ts n h may all stands run) at told;
+  keeps = part.keeps;
+  waits = part.waits;
+}

@@ -21,12 +21,11 @@ use Rattle.plan_tree.specs.Laws.{is_yes, passes_beside, passing_in, row_of, show
 use Rattle.plan_tree.proofs.Missed.{ids_named}
 use Rattle.change_statement.specs.Targets as targets_spec
 use Rattle.change_statement.specs.Targets.{takes, target_of, targets, targets_in}
-use Rattle.change_statement.specs.declared.finding.TargetRow.{TargetRow}
+use Rattle.statement_steps.specs.declared.rest.TargetRow.{TargetRow}
 use Rattle.change_statement.specs.Kept.{condition_or_all, keeps_for}
 use Rattle.stores.specs.Events.{look_of}
 use Rattle.change_statement.specs.Changed.{all_changed}
 use Rattle.change_statement.specs.Laws.{KeptHaveAllTargets, PrunedChangesArePlain, gathered_of}
-use Rattle.change_statement.specs.Standing.{changed_before, left_of}
 
 -- ---- lists of lists
 
@@ -157,6 +156,6 @@ all_targets_kept missed right can prunes condition h session table s legal permi
     ∙ ap (targets h s condition) (ids_named tree)
 
 pub pruned_plain : NoneIsMissed → ShownLieRight → TreesCanBePruned → PrunedChangesArePlain
-pruned_plain missed right can prunes change names c rest table m h legal permitted looking made =
-    ap (λ ts. all_changed change names c (gathered_of prunes c table m h) (left_of rest ts) (changed_before rest) h)
+pruned_plain missed right can prunes change names c table m h legal permitted looking made =
+    ap (λ ts. all_changed change names c (gathered_of prunes c table m h) ts 0 h)
     (all_targets_kept missed right can prunes m.condition h c.session table (look_of h c.session c.cmd) legal permitted looking made)

@@ -1,5 +1,5 @@
 -- The new row of an UPDATE, its leaf, and what stands against it there.
-use Rattle.std.proofs.Common.{◌≡◌, ℕ, ◌<◌, List, [], ◌∷◌, ap, sym, ◌∙◌, subst, arith, Result, Ok, Err, All, IfOk, MatchResult, find, length, slice_index_or}
+use Rattle.std.proofs.Common.{◌≡◌, ℕ, ◌<◌, ◌==◌, ◌||◌, Bool, true, false, if◌then◌else◌, List, [], ◌∷◌, inl, inr, refl, ap, sym, ◌∙◌, subst, arith, Option, Some, None, is_some, Result, Ok, Err, All, IfOk, MatchResult, find, length, slice_index_or}
 use Rattle.std.proofs.lemmas.List.Elements.{All-cons, All-nil}
 use Rattle.pg_values.specs.declared.value.Value.{Value}
 use Rattle.pg_values.specs.declared.fault.Fault.{Fault}
@@ -13,21 +13,26 @@ use Rattle.history.specs.declared.catalogue.Column.{Column}
 use Rattle.history.specs.Catalogue.{tables_made}
 use Rattle.history.specs.History.{History, catalogue_events}
 use Rattle.table_trees.specs.Histories.{tree_of, path_of}
-use Rattle.table_trees.specs.Trees.{IsRowOf}
+use Rattle.table_trees.specs.Trees.{IsRowOf, TableTree, LeafTable, LevelTable, Trees, End, More, leaves, all_leaves}
+use Rattle.std.specs.List.{Contains}
+use Rattle.std.proofs.lemmas.List.Elements.{Contains-append_cases}
+use Rattle.std.proofs.lemmas.Bool.Decides.{nat_tests}
+use Rattle.history.specs.declared.catalogue.Table.{Table}
 use Rattle.part_catalog.specs.Found.{made_at}
 use Rattle.part_catalog.specs.Stands.{CatalogueStands}
 use Rattle.part_catalog.specs.Kept.{KeptCatalogue}
 use Rattle.row_change.specs.declared.target.Target.{Target}
 use Rattle.row_change.specs.Laws.{IsRowIn}
-use Rattle.row_change.specs.Placing.{placed, all_placed, CanBePlaced, IsNumbered, IsPartNumbered}
+use Rattle.row_change.specs.Placing.{first_or, placed, all_placed, CanBePlaced, IsNumbered, IsPartNumbered}
+use Rattle.row_change.specs.Ways.{AllTables, root, way_to, way_to_one, first_way}
 use Rattle.row_change.specs.Storing.{FitsTargets, IsTargetNumbered, is_into, leaf_faults}
-use Rattle.row_change.specs.Targets.{HasTarget, IsTargetOf}
-use Rattle.row_change.proofs.Fit.{rows_can_be_placed}
-use Rattle.row_change.proofs.Made.{paths_are_made, trees_are_made}
-use Rattle.row_change.proofs.Targets.{targets_fit}
+use Rattle.row_change.specs.Targets.{HasTarget, HasWay, IsTargetOf}
+use Rattle.row_change.proofs.Fit.{paths_fit, rows_can_be_placed}
+use Rattle.row_change.proofs.Made.{paths_are_made, row_links, tree_all, trees_are_made}
+use Rattle.row_change.proofs.Ways.{all_to}
+use Rattle.row_change.proofs.Targets.{last_in_tree}
 use Rattle.change_statement.specs.NewRows.{new_row}
 use Rattle.soundness.proofs.OneLeaf.{sessions_have_siblings}
-use Rattle.stores.specs.Events.{look_of}
 use Rattle.stores.specs.Stand.{Stands}
 use Rattle.stores.specs.declared.stores.Stores.{Stores}
 use Rattle.stores.proofs.Goodness.{legal_of, permitted_of}
@@ -39,19 +44,26 @@ use Rattle.insert_statement.proofs.Tables.{tables_kept}
 use Rattle.insert_statement.proofs.Targets.{found_target, one_told}
 use Rattle.insert_statement.proofs.Placed.{one_numbered}
 use Rattle.statement_steps.proofs.Parts.{stays}
-use Rattle.change_statement.specs.Gathered.{Found}
-use Rattle.change_statement.specs.Running.{IsGathered, IsRun, MayRun}
+use Rattle.statement_steps.specs.Gathered.{Found}
+use Rattle.change_statement.specs.Running.{IsRun, MayRun, Takes}
 use Rattle.change_statement.specs.Updated.{renewed, stored, updating}
+use Rattle.statement_steps.specs.Waiting.{Since}
+use Rattle.soundness.specs.Worlds.{IsMade}
+use Rattle.soundness.proofs.Listed.{none_in, only_one}
+use Rattle.soundness.proofs.Presence.{all_more}
+use Rattle.soundness.proofs.Sound.{catalogue_sound_of}
+use Rattle.change_statement.proofs.EachRow.{all_low}
+use Rattle.change_statement.proofs.Still.{good_then, table_stays}
 use Rattle.change_statement.proofs.Runs.{then_run, stop_run, nothing_run, refused_run, no_memory_run}
 
 -- ---- what is answered
 
-pub answer_run : {T : Type 0} (x : T) (stores : Stores) (caller : Caller) (f : History → Result T Fault) → MayRun stores caller → ((h : History) → Stands stores h → f h ≡ Ok x) → IsRun (λ (y : T). y) (Ok x) stores stores caller (λ h. answered (f h))
-answer_run {T} x stores caller f may is = nothing_run (λ (y : T). y) x stores caller (λ h. answered (f h)) may (λ h stands. ap answered (is h stands))
+pub answer_run : {T : Type 0} (g : Found) (x : T) (stores : Stores) (caller : Caller) (f : History → Result T Fault) → MayRun g stores caller → ((h : History) → Stands stores h → f h ≡ Ok x) → IsRun g (λ (y : T). y) (Ok x) stores stores caller (λ h. answered (f h))
+answer_run {T} g x stores caller f may is = nothing_run g (λ (y : T). y) x stores caller (λ h. answered (f h)) may (λ h stands. ap answered (is h stands))
 
-pub refusal_run : {T : Type 0} (r : Refusal) (stores : Stores) (caller : Caller) (f : History → Result T Fault) → MayRun stores caller → ((h : History) → Stands stores h → IsAnswer (Err r) (f h)) → IsRun (λ (y : T). y) (Err (stopped r)) stores stores caller (λ h. answered (f h))
-refusal_run {T} (Sql fault) stores caller f may is = refused_run (λ (y : T). y) fault stores caller (λ h. answered (f h)) may (λ h stands. ap answered (is h stands))
-refusal_run {T} NoMemory stores caller f may is = no_memory_run (λ (y : T). y) stores stores caller (λ h. answered (f h)) (stays stores caller.session)
+pub refusal_run : {T : Type 0} (g : Found) (r : Refusal) (stores : Stores) (caller : Caller) (f : History → Result T Fault) → MayRun g stores caller → ((h : History) → Stands stores h → IsAnswer (Err r) (f h)) → IsRun g (λ (y : T). y) (Err (stopped r)) stores stores caller (λ h. answered (f h))
+refusal_run {T} g (Sql fault) stores caller f may is = refused_run g (λ (y : T). y) fault stores caller (λ h. answered (f h)) may (λ h stands. ap answered (is h stands))
+refusal_run {T} g NoMemory stores caller f may is = no_memory_run g (λ (y : T). y) stores stores caller (λ h. answered (f h)) (stays stores caller.session)
 
 -- ---- the row
 
@@ -72,16 +84,16 @@ only_rows (Ok new) catalog t columns row known are is = λ h stands.
     All-cons P new [] (made, subst (λ cs. IsRowOf cs new) (are h stands) is.1) (All-nil P)
 only_rows (Err e) catalog t columns row known are is = tt
 
-pub updated_run : (new : List Value) (r : Result (Unit {0}) Stop) (old mid : Stores) (caller : Caller) (g : Found) (leaf : LeafId) (id : RowId) (row : List Value) → MayRun old caller → IsNew (Ok new) old g row → IsRun (λ (u : Unit {0}). u) r old mid caller (stored caller g leaf id new)
-    → IsRun (λ (u : Unit {0}). u) r old mid caller (updating caller g leaf id row)
+pub updated_run : (new : List Value) (r : Result (Unit {0}) Stop) (old mid : Stores) (caller : Caller) (g : Found) (leaf : LeafId) (id : RowId) (row : List Value) → MayRun g old caller → IsNew (Ok new) old g row → IsRun g (λ (u : Unit {0}). u) r old mid caller (stored caller g leaf id new)
+    → IsRun g (λ (u : Unit {0}). u) r old mid caller (updating caller g leaf id row)
 updated_run new r old mid caller g leaf id row may is run =
-    then_run (λ (x : List Value). x) (λ (u : Unit {0}). u) new r old old mid caller (renewed g row) (stored caller g leaf id)
-    (answer_run new old caller (λ h. new_row (made_at h g.table.number).columns g.asked.settings row) may (λ h stands. is h stands.all.catalog)) run
+    then_run g (λ (x : List Value). x) (λ (u : Unit {0}). u) new r old old mid caller (renewed g row) (stored caller g leaf id)
+    (answer_run g new old caller (λ h. new_row (made_at h g.table.number).columns g.asked.settings row) may (λ h stands. is h stands.all.catalog)) run
 
-pub faulty_run : (r : Refusal) (stores : Stores) (caller : Caller) (g : Found) (leaf : LeafId) (id : RowId) (row : List Value) → MayRun stores caller → IsNew (Err r) stores g row → IsRun (λ (u : Unit {0}). u) (Err (stopped r)) stores stores caller (updating caller g leaf id row)
+pub faulty_run : (r : Refusal) (stores : Stores) (caller : Caller) (g : Found) (leaf : LeafId) (id : RowId) (row : List Value) → MayRun g stores caller → IsNew (Err r) stores g row → IsRun g (λ (u : Unit {0}). u) (Err (stopped r)) stores stores caller (updating caller g leaf id row)
 faulty_run r stores caller g leaf id row may is =
-    stop_run (λ (x : List Value). x) (λ (u : Unit {0}). u) (stopped r) stores stores caller (renewed g row) (stored caller g leaf id)
-    (refusal_run r stores caller (λ h. new_row (made_at h g.table.number).columns g.asked.settings row) may (λ h stands. is h stands.all.catalog))
+    stop_run g (λ (x : List Value). x) (λ (u : Unit {0}). u) (stopped r) stores stores caller (renewed g row) (stored caller g leaf id)
+    (refusal_run g r stores caller (λ h. new_row (made_at h g.table.number).columns g.asked.settings row) may (λ h stands. is h stands.all.catalog))
 
 -- ---- the leaf
 
@@ -102,43 +114,107 @@ is_none NoMemory g row h e = tt
 
 -- ---- what may be asked of the row
 
-pub record Takes (n : ℕ) (g : Found) (row : List Value) : Type 0 where
-  pub fits : CanBePlaced g.tree g.path row
-  pub above : All (IsPartNumbered n) g.path
-  pub known : IsNumbered n g.tree
+-- it is one of the table's columns as it was then
+row_then : (h earlier : History) (s : ℕ) (t : TableNo) (row : List Value) → Since s earlier h → IsMade (catalogue_events earlier) t.number → IsRowIn h row t → IsRowIn earlier row t
+row_then h earlier s t row since made (there, of) = let same = table_stays h s earlier t.number since made in (made, subst (λ (x : Table). IsRowOf x.columns row) same.same of)
 
-pub takes : (stores : Stores) (caller : Caller) (g : Found) (row : List Value) (h : History) → Stands stores h → IsGathered stores caller g → AreRowsOf stores.catalog g.table (row ∷ []) → Takes (length stores.catalog.tables) g row
-takes stores caller g row h stands its of =
+row_now : (h earlier : History) (s : ℕ) (t : TableNo) (row : List Value) → Since s earlier h → IsRowIn earlier row t → IsRowIn h row t
+row_now h earlier s t row since (made, of) = let same = table_stays h s earlier t.number since made in (same.made, subst (λ (x : Table). IsRowOf x.columns row) (sym same.same) of)
+
+pub takes : (stores : Stores) (caller : Caller) (g : Found) (row : List Value) → MayRun g stores caller → AreRowsOf stores.catalog g.table (row ∷ []) → Takes (length stores.catalog.tables) g row
+takes stores caller g row may of =
+    let h = may.sound.0 in
+    let stands = may.sound.1 in
     let s = caller.session in
-    let look = look_of h s caller.cmd in
-    let sound = stands.all.catalog.sound in
-    let siblings = sessions_have_siblings h s (legal_of h stands.good) (permitted_of h stands.good) in
-    let same = tables_kept stores.catalog h stands.all.catalog in
-    let known = its.known.made in
-    let made : g.table.number < length (tables_made (catalogue_events h)) = omega (arith, same, known) in
-    let t = its.read.is_tree h stands.all.txs stands.all.catalog in
-    let p = its.read.is_path h stands.all.txs stands.all.catalog in
+    let still = may.sound.2.still in
+    let earlier = still.earlier in
+    let its = still.gathered in
+    let before = good_then h s earlier stands.good still.since in
+    let legal = legal_of earlier before in
+    let sound = catalogue_sound_of earlier legal in
+    let siblings = sessions_have_siblings earlier s legal (permitted_of earlier before) in
+    let count = tables_kept stores.catalog h stands.all.catalog in
+    let mine = row_then h earlier s g.table row still.since its.made (of h stands.all.catalog 0 row (omega arith)) in
     let n = length stores.catalog.tables in
-    let mine = of h stands.all.catalog 0 row (omega arith) in
+    let low = λ (t : TableNo) (made : IsMade (catalogue_events earlier) t.number). (let lt = (table_stays h s earlier t.number still.since made).made in let now : t.number < n = omega (arith, count, lt) in now) in
     record {
-      fits = subst (λ tr. CanBePlaced tr g.path row) (sym t)
-          (subst (λ pa. CanBePlaced (tree_of h s g.table.number look) pa row) (sym p) (rows_can_be_placed h s g.table look row sound siblings mine));
-      above = subst (λ pa. All (IsPartNumbered n) pa) (sym p) (subst (λ k. All (IsPartNumbered k) (path_of h s g.table.number)) (sym same) (paths_are_made h s g.table sound made));
-      known = subst (λ tr. IsNumbered n tr) (sym t) (subst (λ k. IsNumbered k (tree_of h s g.table.number look)) (sym same) (trees_are_made h s g.table look sound made).0);
+      fits = subst (λ tr. CanBePlaced tr g.path row) (sym its.tree) (subst (λ pa. CanBePlaced (tree_of earlier s g.table.number its.look) pa row) (sym its.path) (rows_can_be_placed earlier s g.table its.look row sound siblings mine));
+      above = subst (All (IsPartNumbered n)) (sym its.path) (all_more (IsPartNumbered (length (tables_made (catalogue_events earlier)))) (IsPartNumbered n) (path_of earlier s g.table.number) (λ p made. low p.table made) (paths_are_made earlier s g.table sound its.made));
+      known = subst (IsNumbered n) (sym its.tree) (all_low (λ (t : TableNo). t.number < length (tables_made (catalogue_events earlier))) (λ (t : TableNo). t.number < n) (tree_of earlier s g.table.number its.look) low (trees_are_made earlier s g.table its.look sound its.made).0);
     }
 
-pub targets_numbered : (stores : Stores) (caller : Caller) (g : Found) (row : List Value) (targets : List Target) (h : History) → Stands stores h → IsGathered stores caller g → AreRowsOf stores.catalog g.table (row ∷ []) → All (IsTargetOf h caller.session g.tree) targets
+pub targets_numbered : (stores : Stores) (caller : Caller) (g : Found) (row : List Value) (targets : List Target) (h : History) → Stands stores h → MayRun g stores caller → AreRowsOf stores.catalog g.table (row ∷ []) → All (IsTargetOf h caller.session g.tree) targets
     → All (IsTargetNumbered (length stores.catalog.tables)) targets
-targets_numbered stores caller g row targets h stands its of are j e within =
-    one_numbered h caller.session (length stores.catalog.tables) g.tree (slice_index_or targets j e) (tables_kept stores.catalog h stands.all.catalog) stands.all.catalog.sound (takes stores caller g row h stands its of).known (are j e within)
+targets_numbered stores caller g row targets h stands may of are j e within =
+    one_numbered h caller.session (length stores.catalog.tables) g.tree (slice_index_or targets j e) (tables_kept stores.catalog h stands.all.catalog) stands.all.catalog.sound (takes stores caller g row may of).known (are j e within)
 
-pub targets_take : (stores : Stores) (caller : Caller) (g : Found) (row : List Value) (targets : List Target) (h : History) → Stands stores h → IsGathered stores caller g → AreRowsOf stores.catalog g.table (row ∷ []) → All (IsTargetOf h caller.session g.tree) targets → FitsTargets targets row
-targets_take stores caller g row targets h stands its of are j e within =
+-- the path of each such target may be asked of it
+pub targets_take : (stores : Stores) (caller : Caller) (g : Found) (row : List Value) (targets : List Target) → (may : MayRun g stores caller) → AreRowsOf stores.catalog g.table (row ∷ []) → All (IsTargetOf may.sound.0 caller.session g.tree) targets → FitsTargets targets row
+targets_take stores caller g row targets may of are j e within =
+    let h = may.sound.0 in
+    let stands = may.sound.1 in
     let s = caller.session in
+    let still = may.sound.2.still in
+    let earlier = still.earlier in
+    let its = still.gathered in
+    let before = good_then h s earlier stands.good still.since in
     let siblings = sessions_have_siblings h s (legal_of h stands.good) (permitted_of h stands.good) in
-    let t = its.read.is_tree h stands.all.txs stands.all.catalog in
-    let mine = of h stands.all.catalog 0 row (omega arith) in
-    (targets_fit h s g.table (look_of h s caller.cmd) row (slice_index_or targets j e) stands.all.catalog.sound siblings mine (subst (λ tr. IsTargetOf h s tr (slice_index_or targets j e)) t (are j e within))).0
+    let mine = row_then h earlier s g.table row still.since its.made (of h stands.all.catalog 0 row (omega arith)) in
+    let target = slice_index_or targets j e in
+    let at = are j e within in
+    let P = IsRowIn h row in
+    let all : AllTables P g.tree = subst (AllTables P) (sym its.tree) (all_low (IsRowIn earlier row) P (tree_of earlier s g.table.number its.look) (λ t is. row_now h earlier s t row still.since is)
+    (tree_all earlier s g.table its.look (IsRowIn earlier row) (row_links earlier row) (catalogue_sound_of earlier (legal_of earlier before)) mine)) in
+    let on : All P at.tables = all_to P target.leaf g.tree at.tables all at.way in
+    let own : P target.table = subst P (sym at.table) (last_in_tree P g.tree at.tables all on) in
+    at.path.fits row (paths_fit h s target.table row stands.all.catalog.sound siblings own)
+
+-- ---- a leaf of the tree has a way
+
+first_some : (t : TableNo) (a b : Option (List TableNo)) → (is_some a || is_some b) ≡ true → is_some (first_way t a b) ≡ true
+first_some t None b is = is
+first_some t (Some ts) b is = refl
+
+or_left : (a b : Bool) → a ≡ true → (a || b) ≡ true
+or_left true b is = refl
+or_left false b is = absurd (let c = is in cc)
+
+or_right : (a b : Bool) → b ≡ true → (a || b) ≡ true
+or_right true b is = refl
+or_right false b is = is
+
+abbrev way_if : Bool → Option (List TableNo)
+way_if here = if here then Some [] else None
+
+own_way : (own leaf : LeafId) → own ≡ leaf → is_some (way_if (own.number == leaf.number)) ≡ true
+own_way own leaf same =
+    let number : own.number ≡ leaf.number = ap (λ (l : LeafId). l.number) same in
+    let here : (own.number == leaf.number) ≡ true = grind (arith, nat_tests, number) in
+    ap (λ b. is_some (way_if b)) here
+
+mutual
+  pub has_way : (tree : TableTree) (leaf : LeafId) → Contains (leaves tree) leaf → HasWay tree leaf
+  has_way (LeafTable node own) leaf at = own_way own leaf (only_one own leaf at)
+  has_way (LevelTable node level bounds kids) leaf at = has_way_in kids leaf at
+
+  has_way_in : (kids : Trees) (leaf : LeafId) → Contains (all_leaves kids) leaf → is_some (way_to_one leaf kids) ≡ true
+  has_way_in End leaf at = absurd (none_in leaf at)
+  has_way_in (More k ks) leaf at = first_some (root k) (way_to leaf k) (way_to_one leaf ks) (elim (Contains-append_cases (leaves k) (all_leaves ks) leaf at) [
+    | inl own ↦ or_left (is_some (way_to leaf k)) (is_some (way_to_one leaf ks)) (has_way k leaf own)
+    | inr later ↦ or_right (is_some (way_to leaf k)) (is_some (way_to_one leaf ks)) (has_way_in ks leaf later)
+  ])
+
+abbrev kept_in : Result (Unit {0}) Refusal → LeafId → Result LeafId Refusal
+kept_in (Ok u) old = Ok old
+kept_in (Err r) old = Err r
+
+-- what is answered where no row may move
+pub stays_told : (r : Result (Unit {0}) Refusal) (fs : List Fault) (old : LeafId) → IsAnswer r (or_first fs tt) → IsAnswer (kept_in r old) (first_or fs (Ok old))
+stays_told (Ok u) [] old is = refl
+stays_told (Ok u) (f ∷ fs) old is = absurd (let c = is in cc)
+stays_told (Err (Sql f)) [] old is = absurd (let c = is in cc)
+stays_told (Err (Sql f)) (x ∷ xs) old is = let same : x ≡ f = (let c = is in cc) in ap Err same
+stays_told (Err NoMemory) fs old is = tt
 
 -- ---- what stands against it
 
@@ -146,3 +222,13 @@ pub told_of : (r : Result (Unit {0}) Refusal) (h : History) (s : ℕ) (g : Found
     → IsAnswer r (or_first (leaf_faults (tables_of h) (find (is_into leaf) targets) row) tt) → IsAnswer r (or_first (holder_faults h s g.tree leaf row) tt)
 told_of r h s g leaf targets row are has is =
     subst (λ fs. IsAnswer r (or_first fs tt)) (one_told h s g.tree leaf targets row (found_target (IsTargetOf h s g.tree) leaf targets are has)) is
+
+-- ---- the named table is one of those that were made
+
+pub known_table : (stores : Stores) (caller : Caller) (g : Found) → MayRun g stores caller → g.table.number < length stores.catalog.tables
+known_table stores caller g may =
+    let h = may.sound.0 in
+    let still = may.sound.2.still in
+    let count = tables_kept stores.catalog h may.sound.1.all.catalog in
+    let made = (table_stays h caller.session still.earlier g.table.number still.since still.gathered.made).made in
+    omega (arith, count, made)

@@ -5,98 +5,103 @@ use Rattle.history.specs.History.{History}
 use Rattle.stores.specs.Stand.{Stands}
 use Rattle.stores.specs.declared.stores.Stores.{Stores}
 use Rattle.statement_steps.specs.Made.{Made, Refused, made, halted, and_then, then_told, behind}
-use Rattle.statement_steps.specs.Attempts.{WentOn, GoesOn}
+use Rattle.statement_steps.specs.Gathered.{Found}
+use Rattle.statement_steps.specs.Attempts.{IsLeft, WentOn, GoesOn}
 use Rattle.statement_steps.specs.declared.caller.Caller.{Caller}
 use Rattle.statement_steps.specs.declared.stop.Stop.{Stop}
 use Rattle.statement_steps.specs.declared.stop.Stop.TheVariants as stop
 use Rattle.statement_steps.specs.Steps.{follow}
 use Rattle.statement_steps.proofs.Parts.{still_on, stays}
-use Rattle.statement_steps.proofs.Steps.{went_on, goes_on, halted_same}
+use Rattle.statement_steps.proofs.Steps.{went_on, goes_on, paused_same}
 use Rattle.change_statement.specs.Running.{IsInRun, IsRunTold, IsRun, MayRun}
 
-run_behind : {Y U : Type 0} (view : Y → U) (r : Result Y Stop) (mid new : Stores) (caller : Caller) (h : History) (events : History) (m : Made U)
-    → WentOn h caller.session (caller.cmd + 1) [] mid (events ++ h) → IsRunTold view r new caller (events ++ h) m → IsRunTold view r new caller h (behind events m)
-run_behind view (Ok x) mid new caller h events m first told =
+run_behind : {Y U : Type 0} (g : Found) (view : Y → U) (r : Result Y Stop) (mid new : Stores) (caller : Caller) (h : History) (events : History) (m : Made U)
+    → WentOn h caller.session (caller.cmd + 1) [] mid (events ++ h) → IsRunTold g view r new caller (events ++ h) m → IsRunTold g view r new caller h (behind events m)
+run_behind g view (Ok x) mid new caller h events m first told =
     let same = sym (append_assoc m.events events h) in (
       told.0,
       subst (WentOn h caller.session (caller.cmd + 1) [] new) same (went_on h (events ++ h) (m.events ++ (events ++ h)) caller.session (caller.cmd + 1) (caller.cmd + 1) [] mid new first told.1),
-      subst (λ g. IsInRun g caller) same told.2,
+      subst (λ k. IsInRun g k caller) same told.2,
     )
-run_behind view (Err (stop.Waits None)) mid new caller h events m first told = told
-run_behind view (Err (stop.Waits (Some rest))) mid new caller h events m first told =
-    (told.0, subst (WentOn h caller.session (caller.cmd + 1) (caller.session ∷ []) new) (sym (append_assoc m.events events h)) (went_on h (events ++ h) (m.events ++ (events ++ h)) caller.session (caller.cmd + 1) (caller.cmd + 1) (caller.session ∷ []) mid new first told.1))
-run_behind view (Err (stop.Refused f)) mid new caller h events m first told =
+run_behind g view (Err (stop.Waits None)) mid new caller h events m first told = told
+run_behind g view (Err (stop.Waits (Some rest))) mid new caller h events m first told =
+    let same = sym (append_assoc m.events events h) in (
+      told.0,
+      subst (WentOn h caller.session (caller.cmd + 1) (caller.session ∷ []) new) same (went_on h (events ++ h) (m.events ++ (events ++ h)) caller.session (caller.cmd + 1) (caller.cmd + 1) (caller.session ∷ []) mid new first told.1),
+      subst (λ k. IsLeft k caller.session rest) same told.2,
+    )
+run_behind g view (Err (stop.Refused f)) mid new caller h events m first told =
     (told.0, subst (WentOn h caller.session (caller.cmd + 1) [] new) (sym (append_assoc m.events events h)) (went_on h (events ++ h) (m.events ++ (events ++ h)) caller.session (caller.cmd + 1) (caller.cmd + 1) [] mid new first told.1))
-run_behind view (Err stop.NoMemory) mid new caller h events m first told = tt
+run_behind g view (Err stop.NoMemory) mid new caller h events m first told = tt
 
 -- what comes first is done, and the next part goes on from what it gave
-pub then_run : {X T Y U : Type 0} (see : X → T) (view : Y → U) (x : X) (r : Result Y Stop) (old mid new : Stores) (caller : Caller) (f : History → Made T) (next : T → History → Made U)
-    → IsRun see (Ok x) old mid caller f → IsRun view r mid new caller (next (see x)) → IsRun view r old new caller (follow f next)
-then_run {T} {U} see view x r old mid new caller f next first second = record {
+pub then_run : {X T Y U : Type 0} (g : Found) (see : X → T) (view : Y → U) (x : X) (r : Result Y Stop) (old mid new : Stores) (caller : Caller) (f : History → Made T) (next : T → History → Made U)
+    → IsRun g see (Ok x) old mid caller f → IsRun g view r mid new caller (next (see x)) → IsRun g view r old new caller (follow f next)
+then_run {T} {U} g see view x r old mid new caller f next first second = record {
   is = λ h stands run.
       let a = first.is h stands run in
       let told = second.is ((f h).events ++ h) a.1.stands a.2 in
-      subst (λ t. IsRunTold view r new caller h (then_told t (f h).events (λ y. next y ((f h).events ++ h)))) (sym a.0)
-      (run_behind view r mid new caller h (f h).events (next (see x) ((f h).events ++ h)) a.1 told);
+      subst (λ t. IsRunTold g view r new caller h (then_told t (f h).events (λ y. next y ((f h).events ++ h)))) (sym a.0)
+      (run_behind g view r mid new caller h (f h).events (next (see x) ((f h).events ++ h)) a.1 told);
   keeps = goes_on old mid new caller.session first.keeps second.keeps;
   waits = second.waits;
 }
 
 -- what comes first stops
-stop_run_told : {X T Y U : Type 0} (see : X → T) (view : Y → U) (e : Stop) (new : Stores) (caller : Caller) (h : History) (m : Made T) (next : T → Made U)
-    → IsRunTold see (Err e) new caller h m → IsRunTold view (Err e) new caller h (and_then m next)
-stop_run_told see view (stop.Waits None) new caller h m next told = told
-stop_run_told see view (stop.Waits (Some rest)) new caller h m next told = subst (λ t. IsRunTold view (Err (stop.Waits (Some rest))) new caller h (then_told t m.events next)) (sym told.0) (refl, told.1)
-stop_run_told see view (stop.Refused f) new caller h m next told = subst (λ t. IsRunTold view (Err (stop.Refused f)) new caller h (then_told t m.events next)) (sym told.0) (refl, told.1)
-stop_run_told see view stop.NoMemory new caller h m next told = tt
+stop_run_told : {X T Y U : Type 0} (g : Found) (see : X → T) (view : Y → U) (e : Stop) (new : Stores) (caller : Caller) (h : History) (m : Made T) (next : T → Made U)
+    → IsRunTold g see (Err e) new caller h m → IsRunTold g view (Err e) new caller h (and_then m next)
+stop_run_told g see view (stop.Waits None) new caller h m next told = told
+stop_run_told g see view (stop.Waits (Some rest)) new caller h m next told = subst (λ t. IsRunTold g view (Err (stop.Waits (Some rest))) new caller h (then_told t m.events next)) (sym told.0) (refl, told.1, told.2)
+stop_run_told g see view (stop.Refused f) new caller h m next told = subst (λ t. IsRunTold g view (Err (stop.Refused f)) new caller h (then_told t m.events next)) (sym told.0) (refl, told.1)
+stop_run_told g see view stop.NoMemory new caller h m next told = tt
 
-pub stop_run : {X T Y U : Type 0} (see : X → T) (view : Y → U) (e : Stop) (old new : Stores) (caller : Caller) (f : History → Made T) (next : T → History → Made U)
-    → IsRun see (Err e) old new caller f → IsRun view (Err e) old new caller (follow f next)
-stop_run {X} {T} {Y} {U} see view e old new caller f next first = record {
-  is = λ h stands run. stop_run_told see view e new caller h (f h) (λ y. next y ((f h).events ++ h)) (first.is h stands run);
+pub stop_run : {X T Y U : Type 0} (g : Found) (see : X → T) (view : Y → U) (e : Stop) (old new : Stores) (caller : Caller) (f : History → Made T) (next : T → History → Made U)
+    → IsRun g see (Err e) old new caller f → IsRun g view (Err e) old new caller (follow f next)
+stop_run {X} {T} {Y} {U} g see view e old new caller f next first = record {
+  is = λ h stands run. stop_run_told g see view e new caller h (f h) (λ y. next y ((f h).events ++ h)) (first.is h stands run);
   keeps = first.keeps;
-  waits = halted_same X Y e new caller.session first.waits;
+  waits = paused_same X Y e new caller.session first.waits;
 }
 
 -- ---- single parts
 
-pub nothing_run : {X T : Type 0} (see : X → T) (x : X) (stores : Stores) (caller : Caller) (f : History → Made T) → MayRun stores caller
-    → ((h : History) → Stands stores h → f h ≡ made [] (see x)) → IsRun see (Ok x) stores stores caller f
-nothing_run see x stores caller f may is = record {
-  is = λ h stands run. subst (IsRunTold see (Ok x) stores caller h) (sym (is h stands)) (refl, still_on stores h caller.session (caller.cmd + 1) stands run.at, run);
+pub nothing_run : {X T : Type 0} (g : Found) (see : X → T) (x : X) (stores : Stores) (caller : Caller) (f : History → Made T) → MayRun g stores caller
+    → ((h : History) → Stands stores h → f h ≡ made [] (see x)) → IsRun g see (Ok x) stores stores caller f
+nothing_run g see x stores caller f may is = record {
+  is = λ h stands run. subst (IsRunTold g see (Ok x) stores caller h) (sym (is h stands)) (refl, still_on stores h caller.session (caller.cmd + 1) stands run.at, run);
   keeps = stays stores caller.session;
   waits = may.may.idle;
 }
 
-pub refused_run : {X T : Type 0} (see : X → T) (fault : Fault) (stores : Stores) (caller : Caller) (f : History → Made T) → MayRun stores caller
-    → ((h : History) → Stands stores h → f h ≡ halted [] (Refused fault)) → IsRun see (Err (stop.Refused fault)) stores stores caller f
-refused_run see fault stores caller f may is = record {
-  is = λ h stands run. subst (IsRunTold see (Err (stop.Refused fault)) stores caller h) (sym (is h stands)) (refl, still_on stores h caller.session (caller.cmd + 1) stands run.at);
+pub refused_run : {X T : Type 0} (g : Found) (see : X → T) (fault : Fault) (stores : Stores) (caller : Caller) (f : History → Made T) → MayRun g stores caller
+    → ((h : History) → Stands stores h → f h ≡ halted [] (Refused fault)) → IsRun g see (Err (stop.Refused fault)) stores stores caller f
+refused_run g see fault stores caller f may is = record {
+  is = λ h stands run. subst (IsRunTold g see (Err (stop.Refused fault)) stores caller h) (sym (is h stands)) (refl, still_on stores h caller.session (caller.cmd + 1) stands run.at);
   keeps = stays stores caller.session;
   waits = may.may.idle;
 }
 
-pub no_memory_run : {X T : Type 0} (see : X → T) (old new : Stores) (caller : Caller) (f : History → Made T) → GoesOn old new caller.session → IsRun see (Err stop.NoMemory) old new caller f
-no_memory_run see old new caller f keeps = record { is = λ h stands run. tt; keeps = keeps; waits = tt }
+pub no_memory_run : {X T : Type 0} (g : Found) (see : X → T) (old new : Stores) (caller : Caller) (f : History → Made T) → GoesOn old new caller.session → IsRun g see (Err stop.NoMemory) old new caller f
+no_memory_run g see old new caller f keeps = record { is = λ h stands run. tt; keeps = keeps; waits = tt }
 
 -- the same at each history
-pub same_run : {X T : Type 0} (see : X → T) (r : Result X Stop) (old new : Stores) (caller : Caller) (f g : History → Made T) → ((h : History) → Stands old h → f h ≡ g h) → IsRun see r old new caller g → IsRun see r old new caller f
-same_run see r old new caller f g same run = record {
-  is = λ h stands in_run. subst (IsRunTold see r new caller h) (sym (same h stands)) (run.is h stands in_run);
+pub same_run : {X T : Type 0} (g : Found) (see : X → T) (r : Result X Stop) (old new : Stores) (caller : Caller) (f k : History → Made T) → ((h : History) → Stands old h → f h ≡ k h) → IsRun g see r old new caller k → IsRun g see r old new caller f
+same_run g see r old new caller f k same run = record {
+  is = λ h stands in_run. subst (IsRunTold g see r new caller h) (sym (same h stands)) (run.is h stands in_run);
   keeps = run.keeps;
   waits = run.waits;
 }
 
 -- ---- who may go on
 
-pub may_run_on : {X T : Type 0} (see : X → T) (x : X) (old mid : Stores) (caller : Caller) (f : History → Made T) → MayRun old caller → IsRun see (Ok x) old mid caller f → MayRun mid caller
-may_run_on see x old mid caller f may first =
+pub may_run_on : {X T : Type 0} (g : Found) (see : X → T) (x : X) (old mid : Stores) (caller : Caller) (f : History → Made T) → MayRun g old caller → IsRun g see (Ok x) old mid caller f → MayRun g mid caller
+may_run_on g see x old mid caller f may first =
     let s = may.sound in
     let a = first.is s.0 s.1 s.2 in
-    let g : History = (f s.0).events ++ s.0 in
+    let k : History = (f s.0).events ++ s.0 in
     record {
       may = record {
-        sound = (g, a.1.stands, a.2.at);
+        sound = (k, a.1.stands, a.2.at);
         transaction = subst (λ c. IsSome (slice_index_or c caller.session None)) (sym first.keeps.transactions) may.may.transaction;
         idle = first.waits;
         known = may.may.known;
@@ -104,5 +109,5 @@ may_run_on see x old mid caller f may first =
         sessions = first.keeps.size.sessions ∙ may.may.sessions;
         tables = first.keeps.size.tables ∙ may.may.tables;
       };
-      sound = (g, a.1.stands, a.2);
+      sound = (k, a.1.stands, a.2);
     }

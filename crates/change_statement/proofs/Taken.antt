@@ -14,7 +14,7 @@ use Rattle.history.specs.History.{History, seen, is_seen, versions}
 use Rattle.row_store.specs.Kept.{KeptRows}
 use Rattle.row_store.specs.Stands.{shown_version}
 use Rattle.cond_logic.specs.Trees.{CondTree}
-use Rattle.change_statement.specs.declared.finding.TargetRow.{TargetRow}
+use Rattle.statement_steps.specs.declared.rest.TargetRow.{TargetRow}
 use Rattle.change_statement.specs.Targets.{takes, taken, target_of, targets_in, IsTargetThere}
 
 -- ---- the rows of a leaf

@@ -17,13 +17,10 @@ use Rattle.cond_logic.specs.Trees.{CondTree}
 use Rattle.row_store.specs.Kept.{KeptRows, blank, version_of, stored_at}
 use Rattle.row_store.specs.Stands.{StoreStands}
 use Rattle.change_statement.specs.Targets.{takes, target_of, targets_in, targets}
-use Rattle.change_statement.specs.declared.finding.TargetRow.{TargetRow}
+use Rattle.statement_steps.specs.declared.rest.TargetRow.{TargetRow}
 use Rattle.soundness.proofs.Listed.{first_in, later_in}
-use Rattle.statement_steps.specs.declared.rest.Rest.{Rest}
-use Rattle.statement_steps.specs.declared.rest.Rest.TheVariants.{Rows, Detach}
-use Rattle.change_statement.specs.Gathered.{Found}
+use Rattle.statement_steps.specs.Gathered.{Found}
 use Rattle.change_statement.specs.Running.{IsTargetIn}
-use Rattle.change_statement.specs.Standing.{those_left, left_of}
 
 -- ---- versions have their places for numbers
 
@@ -123,30 +120,3 @@ all_targets rows g h s condition stands =
     all_mapped target_of (IsTargetIn rows g) (filter (λ v. takes condition v.row) (seen h leaf.number s))
     (all_passing (λ (v : Version). takes condition v.row) P P (seen h leaf.number s) (λ v passes its. its)
     (all_passing (λ (v : Version). (v.leaf.number == leaf.number) && is_seen h s v) (IsAt rows) P (versions h) (λ v passes at. version_is_target rows g h s leaf v among passes at) (all_at rows h stands))))
-
--- ---- those that are left
-
-either : (P : TargetRow → Type 0) (b : Bool) (t : TargetRow) (xs ys : List TargetRow) → P t → All P xs → All P ys → All P (if b then t ∷ xs else ys)
-either P true t xs ys is first other = All-cons P t xs is first
-either P false t xs ys is first other = other
-
-all_those : (P : TargetRow → Type 0) (ts : List TargetRow) (ids : List RowId) → All P ts → All P (those_left ts ids)
-all_those P [] ids all = All-nil P
-all_those P (t ∷ ts) [] all = All-nil P
-all_those P (t ∷ ts) (id ∷ ids) all =
-    let rest = All-tail P t ts all in
-    either P (t.id.number == id.number) t (those_left ts ids) (those_left ts (id ∷ ids)) (All-head P t ts all) (all_those P ts ids rest) (all_those P ts (id ∷ ids) rest)
-
-pub all_left : (P : TargetRow → Type 0) (rest : Option Rest) (ts : List TargetRow) → All P ts → All P (left_of rest ts)
-all_left P None ts all = all
-all_left P (Some (Rows r)) ts all = all_those P ts r.left all
-all_left P (Some (Detach d)) ts all = all
-
-none_left : (ts : List TargetRow) → those_left ts [] ≡ []
-none_left [] = refl
-none_left (t ∷ ts) = refl
-
--- what was found is all where nothing is left
-pub nobody_left : (found rest all : List TargetRow) (ids : List RowId) → found ++ those_left rest ids ≡ all → length ids ≡ 0 → found ≡ all
-nobody_left found rest all [] is none = sym (append-nil found) ∙ (ap (λ ts. found ++ ts) (sym (none_left rest)) ∙ is)
-nobody_left found rest all (id ∷ ids) is none = absurd (omega (arith, none))

@@ -1,6 +1,6 @@
 -- What becomes of the rows of an UPDATE or a DELETE, one after the other (the manual, 13.2.1 Read Committed Isolation Level;
 -- 13.2.2 Repeatable Read Isolation Level; 13.3.2 Row-Level Locks).
-use Rattle.std.specs.Prelude.{ℕ, ◌+◌, ◌^◌, Bool, true, false, List, [], ◌∷◌, Option, Some}
+use Rattle.std.specs.Prelude.{ℕ, ◌+◌, ◌^◌, Bool, true, false, List, [], ◌∷◌, Option, Some, None}
 use Rattle.pg_values.specs.declared.value.Value.{Value}
 use Rattle.pg_values.specs.declared.fault.Fault.{Fault}
 use Rattle.pg_values.specs.declared.ids.LeafId.{LeafId}
@@ -14,7 +14,6 @@ use Rattle.row_change.specs.Placing.{name_at}
 use Rattle.change_statement.specs.Faults.{could_not_serialize, conflict_session}
 use Rattle.change_statement.specs.Targets.{targets}
 use Rattle.change_statement.specs.Verdicts.{UpdaterMeant, Decision, Changes, PassesBy, WaitsFor, Refuses, decided}
-use Rattle.change_statement.specs.declared.finding.TargetRow.{TargetRow}
 use Rattle.change_statement.specs.declared.verdicts.Conflict.{Conflict}
 use Rattle.sessions.specs.declared.phase.Isolation.{Isolation}
 use Rattle.sessions.specs.declared.phase.Isolation.TheVariants.{ReadCommitted, ReadUncommitted, RepeatableRead}
@@ -23,14 +22,13 @@ use Rattle.statement_steps.specs.Made.{Made, Refused, made, halted}
 use Rattle.statement_steps.specs.declared.caller.Caller.{Caller}
 use Rattle.statement_steps.specs.declared.rest.Rest.{Rest}
 use Rattle.statement_steps.specs.declared.rest.Rest.TheVariants.{Rows}
-use Rattle.statement_steps.specs.declared.rest.RestOfRows.{RestOfRows}
+use Rattle.statement_steps.specs.declared.rest.TargetRow.{TargetRow}
+use Rattle.statement_steps.specs.Gathered.{Found, RowsLeft}
 use Rattle.statement_steps.specs.Asks.{waited}
 use Rattle.statement_steps.specs.Faults.{name_of}
 use Rattle.statement_steps.specs.Steps.{follow}
 use Rattle.insert_statement.specs.Inserted.{tables_of, holder}
-use Rattle.change_statement.specs.Gathered.{Found}
-use Rattle.change_statement.specs.Running.{following}
-use Rattle.change_statement.specs.Standing.{left_of, changed_before, standing}
+use Rattle.change_statement.specs.Standing.{following, left_of, standing}
 
 -- what is made of a version that is changed, of a row with that leaf
 abbrev pub Changing : Type 0
@@ -52,18 +50,18 @@ abbrev pub only : ℕ → SessionSet
 only s = record { bits = 2 ^ s }
 
 -- the statement waits for the end of the session's transaction
-abbrev pub waits_for_end : List (List ℕ) → Caller → (other : ℕ) → RestOfRows → History → Made (Unit {0})
+abbrev pub waits_for_end : List (List ℕ) → Caller → (other : ℕ) → RowsLeft → History → Made (Unit {0})
 waits_for_end names c other rest = waited names c.session (Ends (only other)) (Some (Rows rest))
 
 -- it holds the snapshot that it reads under from now on, and waits
 abbrev pub held_now : Caller → History → Made (Unit {0})
 held_now c h = made (held h c.session c.cmd) tt
 
-abbrev pub held_up : List (List ℕ) → Caller → (other : ℕ) → RestOfRows → History → Made (Unit {0})
+abbrev pub held_up : List (List ℕ) → Caller → (other : ℕ) → RowsLeft → History → Made (Unit {0})
 held_up names c other rest = follow (held_now c) (λ u. waits_for_end names c other rest)
 
 -- under the transaction's next command, by which it goes on
-abbrev pub paused : List (List ℕ) → Caller → (other : ℕ) → RestOfRows → History → Made (Unit {0})
+abbrev pub paused : List (List ℕ) → Caller → (other : ℕ) → RowsLeft → History → Made (Unit {0})
 paused names c other rest = held_up names (following c) other rest
 
 -- `row of <leaf> was changed by session <s>`, or `moved`, by the names of the leaf's table and of the session
@@ -74,26 +72,34 @@ abbrev pub conflict_fault : List (List ℕ) → TableTree → LeafId → Conflic
 conflict_fault names tree leaf = fault_in names (holder tree leaf)
 
 -- by what is decided; it is told how many rows are changed then
-abbrev pub by_decision : Changing → List (List ℕ) → Caller → Found → LeafId → RestOfRows → Decision → History → Made ℕ
+abbrev pub by_decision : Changing → List (List ℕ) → Caller → Found → LeafId → RowsLeft → Decision → History → Made ℕ
 by_decision change names c g leaf rest (Changes id row) = follow (change leaf id row) (λ u h. made [] (rest.changed + 1))
 by_decision change names c g leaf rest PassesBy = λ h. made [] rest.changed
 by_decision change names c g leaf rest (WaitsFor other) = follow (paused names c other rest) (λ u h. made [] rest.changed)
 by_decision change names c g leaf rest (Refuses conflict) = λ h. halted [] (Refused (conflict_fault names g.tree leaf conflict h))
 
-abbrev pub one_changed : Changing → List (List ℕ) → Caller → Found → TargetRow → RestOfRows → History → Made ℕ
-one_changed change names c g t rest h = by_decision change names c g t.leaf rest (decided h (updater c g h) t.id) h
+abbrev pub one_changed : Changing → List (List ℕ) → Caller → Found → (left : List TargetRow) → TargetRow → (changed : ℕ) → History → Made ℕ
+one_changed change names c g ts t n h = by_decision change names c g t.leaf (standing h c g ts n) (decided h (updater c g h) t.id) h
 
 -- ---- row after row: one is finished before the next
 
 abbrev pub all_changed : Changing → List (List ℕ) → Caller → Found → List TargetRow → (changed : ℕ) → History → Made (Unit {0})
 all_changed change names c g [] n h = made [] tt
-all_changed change names c g (t ∷ ts) n h = follow (one_changed change names c g t (standing (t ∷ ts) n)) (all_changed change names c g ts) h
+all_changed change names c g (t ∷ ts) n h = follow (one_changed change names c g (t ∷ ts) t n) (all_changed change names c g ts) h
 
--- the rows of these leaves that the snapshot sees and that pass, or those of them that are left
-abbrev pub changed_in : List LeafId → Changing → List (List ℕ) → Caller → Option Rest → Found → History → Made (Unit {0})
-changed_in ls change names c rest g h =
-    all_changed change names c g (left_of rest (targets h (look_of h c.session c.cmd) g.asked.condition ls)) (changed_before rest) h
+-- the rows of these leaves that the snapshot sees and that pass
+abbrev pub changed_in : List LeafId → Changing → List (List ℕ) → Caller → Found → History → Made (Unit {0})
+changed_in ls change names c g h = all_changed change names c g (targets h (look_of h c.session c.cmd) g.asked.condition ls) 0 h
 
 -- of the leaves that are read
-abbrev pub changed_from : Changing → List (List ℕ) → Caller → Option Rest → Found → History → Made (Unit {0})
-changed_from change names c rest g h = changed_in g.leaves change names c rest g h
+abbrev pub changed_from : Changing → List (List ℕ) → Caller → Found → History → Made (Unit {0})
+changed_from change names c g h = changed_in g.leaves change names c g h
+
+-- ---- from the beginning, or from where the statement stood: by what was gathered then, of which nothing is looked up again
+
+abbrev pub changed_or_left : (Found → Changing) → List (List ℕ) → Caller → (History → Made (Unit {0})) → Option RowsLeft → History → Made (Unit {0})
+changed_or_left change names c begin None = begin
+changed_or_left change names c begin (Some r) = all_changed (change r.found) names c r.found r.left r.changed
+
+abbrev pub changed_by : (Found → Changing) → List (List ℕ) → Caller → Option Rest → (History → Made (Unit {0})) → History → Made (Unit {0})
+changed_by change names c rest begin h = changed_or_left change names c begin (left_of h c rest) h

@@ -1,6 +1,6 @@
 -- What an UPDATE or a DELETE makes of a version that it changes.
 use Rattle.statement_steps.specs.declared.caller.Caller.{Caller}
-use Rattle.change_statement.specs.Gathered.{Found}
+use Rattle.statement_steps.specs.Gathered.{Found}
 use Rattle.change_statement.specs.Changed.{Changing}
 use Rattle.change_statement.specs.Deleted.{deleting}
 use Rattle.change_statement.specs.Updated.{updating}

@@ -1,7 +1,6 @@
 -- What an UPDATE or a DELETE has before it looks at rows: its table and those that it needs below it, locked, and what is asked of the rows
 -- (the manual, UPDATE; DELETE; 13.3.1 Table-Level Locks).
 use Rattle.std.specs.Prelude.{ℕ, Bool, List, [], Option, None, map}
-use Rattle.pg_values.specs.declared.ids.LeafId.{LeafId}
 use Rattle.pg_values.specs.declared.ids.TableNo.{TableNo}
 use Rattle.pg_values.specs.declared.lock_mode.LockMode.TheVariants.{RowExclusive}
 use Rattle.history.specs.declared.catalogue.Column.{Column}
@@ -9,7 +8,6 @@ use Rattle.history.specs.History.{History}
 use Rattle.table_trees.specs.declared.path_part.PathPart.{PathPart}
 use Rattle.table_trees.specs.Histories.{tree_of, path_of, table_of}
 use Rattle.table_trees.specs.Trees.{TableTree}
-use Rattle.table_trees.specs.Seen.{seen}
 use Rattle.part_catalog.specs.Found.{made_at}
 use Rattle.sql_ast.specs.Expressions.{Tree}
 use Rattle.sql_ast.specs.Queries.{Setting, maybe_tree, setting}
@@ -17,21 +15,20 @@ use Rattle.sql_ast.specs.declared.named_table.NamedTable.{NamedTable}
 use Rattle.sql_binder.specs.From.{item_name}
 use Rattle.expression_binder.specs.Scopes.{Item}
 use Rattle.expression_binder.specs.declared.scope.Param.{Param}
-use Rattle.cond_logic.specs.Asked.{ChangeMeant, change_meant}
+use Rattle.cond_logic.specs.Asked.{ChangeMeant}
 use Rattle.change_binder.specs.Changes.{bound_change}
 use Rattle.stores.specs.Events.{look_of}
 use Rattle.statement_steps.specs.Made.{Made, made}
 use Rattle.statement_steps.specs.declared.caller.Caller.{Caller}
-use Rattle.statement_steps.specs.declared.rest.Rest.{Rest}
 use Rattle.statement_steps.specs.Asks.{named, all_locked}
-use Rattle.statement_steps.specs.Steps.{follow, going_on}
+use Rattle.statement_steps.specs.Gathered.{Found}
+use Rattle.statement_steps.specs.Steps.{follow}
 use Rattle.plan_tree.specs.Kept.{Keeps}
 use Rattle.select_statement.specs.Below.{number_of}
 use Rattle.insert_statement.specs.Inserted.{answered, scope_column}
 use Rattle.change_statement.specs.Kept.{keeps_for, leaves_read, moves, tables_locked}
 use Rattle.change_statement.specs.declared.asking.Change.{Change}
 use Rattle.change_statement.specs.declared.asking.Change.TheVariants.{Update, Delete}
-use Rattle.change_statement.specs.declared.gathering.Gathered.{Gathered}
 
 -- ---- the statement
 
@@ -48,19 +45,6 @@ condition_of (Update u) = maybe_tree u.now.condition
 condition_of (Delete d) = maybe_tree d.now.condition
 
 -- ---- what is gathered
-
--- the named table, its tree and the path above it, what is asked, the leaves that are read, and whether rows may move from
--- these to others
-pub record Found : Type 0 where
-  pub table : TableNo
-  pub tree : TableTree
-  pub path : List PathPart
-  pub asked : ChangeMeant
-  pub leaves : List LeafId
-  pub moves : Bool
-
-abbrev pub found_of : Gathered → Found
-found_of g = record { table = g.table; tree = seen g.tree; path = g.path.items; asked = change_meant g.ask; leaves = g.leaves.items; moves = g.moves }
 
 abbrev pub found_by : Keeps → TableNo → TableTree → List PathPart → ChangeMeant → Found
 found_by keeps table tree path m =
@@ -97,9 +81,3 @@ of_table prunes names params c table settings condition t h =
 -- the named table is found and locked first
 abbrev pub gathered : (prunes : Bool) → List (List ℕ) → List Param → Caller → NamedTable → List Setting → Option Tree → History → Made Found
 gathered prunes names params c table settings condition = follow (named names c.session RowExclusive table.name) (of_table prunes names params c table settings condition)
-
--- ---- where it begins, and where it goes on
-
--- where it goes on it finds the same table, and holds the locks that it asks for, but on tables that were attached meanwhile
-abbrev pub found : (prunes : Bool) → List (List ℕ) → List Param → Caller → Option Rest → NamedTable → List Setting → Option Tree → History → Made Found
-found prunes names params c rest table settings condition h = going_on rest (gathered prunes names params c table settings condition h)

@@ -1,16 +1,15 @@
 -- What an UPDATE or a DELETE reads and locks of the tables under the one that it names (the manual, 5.11.4 Partition
 -- Pruning; 13.3.1 Table-Level Locks).
-use Rattle.std.specs.Prelude.{◌==◌, ◌||◌, Bool, false, if◌then◌else◌, List, [], ◌∷◌, map, Option, Some, None}
-use Rattle.std.specs.List.{list_any}
+use Rattle.std.specs.Prelude.{Bool, false, if◌then◌else◌, List, [], ◌∷◌, map, Option, Some, None}
 use Rattle.pg_values.specs.declared.ids.LeafId.{LeafId}
 use Rattle.pg_values.specs.declared.ids.TableNo.{TableNo}
-use Rattle.bound_forms.specs.declared.level.KeyColumn.{KeyColumn}
-use Rattle.table_trees.specs.Trees.{TableTree, LeafTable, LevelTable, Trees, End, More}
+use Rattle.table_trees.specs.Trees.{TableTree}
 use Rattle.cond_logic.specs.Trees.{CondTree}
 use Rattle.plan_tree.specs.Conditions.{all_hold}
 use Rattle.plan_tree.specs.Kept.{Keeps, keeps_by, id_of, kept_leaves, kept_tables}
 use Rattle.cond_logic.specs.Asked.{SettingMeant}
 use Rattle.select_statement.specs.Below.{below}
+use Rattle.statement_steps.specs.Gathered.{sets_key}
 
 -- ---- what the condition keeps
 
@@ -28,20 +27,6 @@ abbrev pub leaves_read : Keeps → TableTree → List LeafId
 leaves_read keeps tree = map id_of (kept_leaves keeps tree)
 
 -- ---- rows that may move
-
--- SET names a key column
-abbrev pub is_set : List SettingMeant → KeyColumn → Bool
-is_set settings c = list_any (λ s. s.column == c.position) settings
-
--- of the tree's table or of one below it
-abbrev mutual
-  pub sets_key : List SettingMeant → TableTree → Bool
-  sets_key settings (LeafTable node leaf) = false
-  sets_key settings (LevelTable node level bounds kids) = list_any (is_set settings) level.columns || sets_key_of settings kids
-
-  pub sets_key_of : List SettingMeant → Trees → Bool
-  sets_key_of settings End = false
-  sets_key_of settings (More k ks) = sets_key settings k || sets_key_of settings ks
 
 -- where no leaf is read nothing moves
 abbrev pub if_some : {X : Type 0} → List X → Bool → Bool

@@ -14,9 +14,9 @@ use Rattle.cond_logic.specs.Asked.{ChangeMeant}
 use Rattle.stores.specs.Events.{look_of}
 use Rattle.statement_steps.specs.Made.{Made}
 use Rattle.statement_steps.specs.declared.caller.Caller.{Caller}
-use Rattle.statement_steps.specs.declared.rest.Rest.{Rest}
 use Rattle.change_statement.specs.Changed.{Changing, changed_from, changed_in}
-use Rattle.change_statement.specs.Gathered.{Found, found_by}
+use Rattle.statement_steps.specs.Gathered.{Found}
+use Rattle.change_statement.specs.Gathered.{found_by}
 use Rattle.change_statement.specs.Kept.{keeps_for, leaves_read}
 
 -- in each history of the stores the targets that are found in the kept leaves are those of all leaves of the tree, as lists
@@ -25,8 +25,8 @@ KeptHaveAllTargets = (prunes : Bool) (condition : Option CondTree) (h : History)
     → targets h s condition (leaves_read (keeps_for prunes condition) (tree_of h session table s)) ≡ targets h s condition (leaves (tree_of h session table s))
 
 -- so what the statement makes of the history, its events and what is told, is what it would make of it over all leaves
-abbrev pub plainly_changed : Changing → List (List ℕ) → Caller → Option Rest → Found → History → Made (Unit {0})
-plainly_changed change names c rest g h = changed_in (leaves g.tree) change names c rest g h
+abbrev pub plainly_changed : Changing → List (List ℕ) → Caller → Found → History → Made (Unit {0})
+plainly_changed change names c g h = changed_in (leaves g.tree) change names c g h
 
 -- what is gathered of a table: its tree is that of the command's snapshot
 abbrev pub gathered_of : (prunes : Bool) → Caller → (table : ℕ) → ChangeMeant → History → Found
@@ -34,6 +34,6 @@ gathered_of prunes c table m h =
     found_by (keeps_for prunes m.condition) (table_of table) (tree_of h c.session table (look_of h c.session c.cmd)) (path_of h c.session table) m
 
 abbrev pub PrunedChangesArePlain : Type 0
-PrunedChangesArePlain = (prunes : Bool) (change : Changing) (names : List (List ℕ)) (c : Caller) (rest : Option Rest) (table : ℕ) (m : ChangeMeant) (h : History)
+PrunedChangesArePlain = (prunes : Bool) (change : Changing) (names : List (List ℕ)) (c : Caller) (table : ℕ) (m : ChangeMeant) (h : History)
     → IsLegal h → ArePermitted h → IsLooking h c.session (look_of h c.session c.cmd) → IsMade (catalogue_events h) table
-    → changed_from change names c rest (gathered_of prunes c table m h) h ≡ plainly_changed change names c rest (gathered_of prunes c table m h) h
+    → changed_from change names c (gathered_of prunes c table m h) h ≡ plainly_changed change names c (gathered_of prunes c table m h) h

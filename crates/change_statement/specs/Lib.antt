@@ -11,5 +11,6 @@ pub mod Running
 pub mod Standing
 pub mod Steps
 pub mod Targets
+pub mod Turns
 pub mod Updated
 pub mod Verdicts

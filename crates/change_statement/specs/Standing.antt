@@ -1,32 +1,28 @@
 -- The rows that an UPDATE or a DELETE has still to change (the manual, 13.2.1 Read Committed Isolation Level).
-use Rattle.std.specs.Prelude.{ℕ, ◌==◌, if◌then◌else◌, List, [], ◌∷◌, Option, Some, None, map}
-use Rattle.pg_values.specs.declared.ids.RowId.{RowId}
-use Rattle.change_statement.specs.declared.finding.TargetRow.{TargetRow}
+use Rattle.std.specs.Prelude.{ℕ, ◌+◌, ◌==◌, if◌then◌else◌, List, Option, Some, None}
+use Rattle.history.specs.History.{History}
+use Rattle.stores.specs.Events.{tx_in}
+use Rattle.statement_steps.specs.Gathered.{Found, RowsLeft}
+use Rattle.statement_steps.specs.declared.caller.Caller.{Caller}
 use Rattle.statement_steps.specs.declared.rest.Rest.{Rest}
 use Rattle.statement_steps.specs.declared.rest.Rest.TheVariants.{Rows, Detach}
-use Rattle.statement_steps.specs.declared.rest.RestOfRows.{RestOfRows}
+use Rattle.statement_steps.specs.declared.rest.TargetRow.{TargetRow}
+use Rattle.insert_statement.specs.Inserted.{own}
 
-abbrev pub id_of : TargetRow → RowId
-id_of t = t.id
+-- the transaction's next command
+abbrev pub following : Caller → Caller
+following c = record c { cmd = c.cmd + 1 }
 
--- those of the targets that are left; they stand in one order
-abbrev pub those_left : List TargetRow → List RowId → List TargetRow
-those_left [] ids = []
-those_left (t ∷ ts) [] = []
-those_left (t ∷ ts) (id ∷ ids) = if t.id.number == id.number then t ∷ those_left ts ids else those_left ts (id ∷ ids)
+-- where the session's transaction stands with what was gathered, before these rows
+abbrev pub standing : History → Caller → Found → List TargetRow → (changed : ℕ) → RowsLeft
+standing h c g targets n = record { by = own h c.session; found = g; left = targets; changed = n }
 
--- all of them, or those that were left when the statement had to wait
-abbrev pub left_of : Option Rest → List TargetRow → List TargetRow
-left_of None targets = targets
-left_of (Some (Rows rest)) targets = those_left targets rest.left
-left_of (Some (Detach rest)) targets = targets
+-- the rows that a statement has left are those of its transaction
+abbrev pub own_left : History → Caller → RowsLeft → Option RowsLeft
+own_left h c r = if r.by.number == tx_in h c.session then Some r else None
 
--- how many rows it has changed
-abbrev pub changed_before : Option Rest → ℕ
-changed_before None = 0
-changed_before (Some (Rows rest)) = rest.changed
-changed_before (Some (Detach rest)) = 0
-
--- where it stands
-abbrev pub standing : List TargetRow → (changed : ℕ) → RestOfRows
-standing targets n = record { left = map id_of targets; changed = n }
+-- from its beginning, or from where it stood
+abbrev pub left_of : History → Caller → Option Rest → Option RowsLeft
+left_of h c None = None
+left_of h c (Some (Rows r)) = own_left h c r
+left_of h c (Some (Detach d)) = None

@@ -14,7 +14,7 @@ use Rattle.cond_logic.specs.declared.truth.Truth3.TheVariants.{Yes, No, Unknown}
 use Rattle.cond_logic.specs.Trees.{CondTree}
 use Rattle.cond_logic.specs.Truths.{truth}
 use Rattle.cond_logic.specs.Tuples.{no_rows, put}
-use Rattle.change_statement.specs.declared.finding.TargetRow.{TargetRow}
+use Rattle.statement_steps.specs.declared.rest.TargetRow.{TargetRow}
 
 abbrev pub is_yes : Truth3 → Bool
 is_yes Yes = true

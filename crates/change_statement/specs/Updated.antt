@@ -1,15 +1,19 @@
 -- UPDATE of a session (the manual, UPDATE; 5.11.2 Declarative Partitioning).
-use Rattle.std.specs.Prelude.{ℕ, Bool, List, Option}
+use Rattle.std.specs.Prelude.{ℕ, ◌++◌, Bool, true, false, List, Option, Result, Ok}
 use Rattle.pg_values.specs.declared.value.Value.{Value}
+use Rattle.pg_values.specs.declared.fault.Fault.{Fault}
 use Rattle.pg_values.specs.declared.ids.LeafId.{LeafId}
 use Rattle.pg_values.specs.declared.ids.RowId.{RowId}
 use Rattle.pg_values.specs.Refusals.{or_first}
 use Rattle.history.specs.declared.transaction.TxId.{TxId}
+use Rattle.history.specs.declared.catalogue.Table.{Table}
 use Rattle.history.specs.History.{History}
 use Rattle.part_catalog.specs.Found.{made_at}
+use Rattle.table_trees.specs.declared.path_part.PathPart.{PathPart}
+use Rattle.table_trees.specs.Trees.{TableTree}
 use Rattle.row_store.specs.Stands.{newborn}
-use Rattle.row_change.specs.Placing.{placed}
-use Rattle.row_change.specs.Storing.{full_faults}
+use Rattle.row_change.specs.Placing.{bounds_faults, first_or, placed}
+use Rattle.row_change.specs.Storing.{check_faults, full_faults}
 use Rattle.row_change.specs.Succession.{follows}
 use Rattle.change_statement.specs.NewRows.{new_row}
 use Rattle.sql_ast.specs.Expressions.{Tree}
@@ -23,8 +27,9 @@ use Rattle.statement_steps.specs.Asks.{held_at}
 use Rattle.statement_steps.specs.Steps.{follow}
 use Rattle.insert_statement.specs.Born.{unless_refused}
 use Rattle.insert_statement.specs.Inserted.{answered, tables_of, own, holder_faults}
-use Rattle.change_statement.specs.Gathered.{Found, found}
-use Rattle.change_statement.specs.Changed.{Changing, changed_from}
+use Rattle.statement_steps.specs.Gathered.{Found}
+use Rattle.change_statement.specs.Gathered.{gathered}
+use Rattle.change_statement.specs.Changed.{Changing, changed_by, changed_from}
 
 -- ---- the new row
 
@@ -32,13 +37,21 @@ use Rattle.change_statement.specs.Changed.{Changing, changed_from}
 abbrev pub renewed : Found → List Value → History → Made (List Value)
 renewed g row h = answered (new_row (made_at h g.table.number).columns g.asked.settings row)
 
--- its leaf: the bounds of the named table and of those above it are asked, then the way below it
-abbrev pub rehoused : Found → List Value → History → Made LeafId
-rehoused g row h = answered (placed (tables_of h) g.tree g.path row)
+-- its leaf: the bounds of the named table and of those above it are asked, then, where rows may move, the way below it
+abbrev pub housed : (moves : Bool) → List Table → TableTree → List PathPart → (old : LeafId) → List Value → Result LeafId Fault
+housed true tables tree path old row = placed tables tree path row
+housed false tables tree path old row = first_or (bounds_faults tables path row) (Ok old)
 
--- NOT NULL and the kept CHECKs of the table that has the leaf
+abbrev pub rehoused : Found → (old : LeafId) → List Value → History → Made LeafId
+rehoused g old row h = answered (housed g.moves (tables_of h) g.tree g.path old row)
+
+-- NOT NULL and the kept CHECKs of the table that has the leaf, then the CHECKs that were gathered of the named table and of
+-- those above it
+abbrev pub against : History → (session : ℕ) → Found → LeafId → List Value → List Fault
+against h s g leaf row = holder_faults h s g.tree leaf row ++ check_faults (tables_of h) g.path row
+
 abbrev pub tested : Caller → Found → LeafId → List Value → History → Made (Unit {0})
-tested c g leaf row h = answered (or_first (holder_faults h c.session g.tree leaf row) tt)
+tested c g leaf row h = answered (or_first (against h c.session g leaf row) tt)
 
 -- ---- its version
 
@@ -55,7 +68,7 @@ abbrev pub stored_in : Caller → Found → (old : LeafId) → RowId → List Va
 stored_in c g old id row new = follow (tested c g new row) (λ u. succeeded c old id new row)
 
 abbrev pub stored : Caller → Found → (old : LeafId) → RowId → List Value → History → Made (Unit {0})
-stored c g old id row = follow (rehoused g row) (stored_in c g old id row)
+stored c g old id row = follow (rehoused g old row) (stored_in c g old id row)
 
 abbrev pub updating : Caller → Found → Changing
 updating c g old id row = follow (renewed g row) (stored c g old id)
@@ -63,5 +76,5 @@ updating c g old id row = follow (renewed g row) (stored c g old id)
 -- UPDATE table SET settings [ WHERE condition ], from its beginning, or from where it stood
 abbrev pub updated : (prunes : Bool) → (names : List (List ℕ)) → List Param → Caller → Option Rest → NamedTable → List Setting → (condition : Option Tree) → History → Made (Unit {0})
 updated prunes names params c rest table settings condition =
-    follow (held_at c.level c.session c.cmd) (λ u.
-    follow (found prunes names params c rest table settings condition) (λ g. changed_from (updating c g) names c rest g))
+    changed_by (λ g. updating c g) names c rest (follow (held_at c.level c.session c.cmd) (λ u.
+    follow (gathered prunes names params c table settings condition) (λ g. changed_from (updating c g) names c g)))

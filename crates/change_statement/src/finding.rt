@@ -10,17 +10,11 @@ ghost use Rattle.change_statement.specs.Targets.{IsTargetThere, taken, targets, 
 
 use crate::condition::takes;
 use cond_logic::Cond;
-use pg_values::{LeafId, NoMemory, RowId};
+use pg_values::{LeafId, NoMemory};
 use row_store::{RowStore, Scan, SeenRow, Trail};
+use statement_steps::TargetRow;
 use std::alloc::Global;
 use tx_table::{Snapshot, TxTable};
-
-/// A row that is to be changed: the leaf that has it, and the number of the version that was found.
-#[derive(Clone, Copy, Debug, PartialEq, Eq)]
-pub struct TargetRow {
-    pub leaf: LeafId,
-    pub id: RowId,
-}
 
 // The rows of a leaf that the snapshot sees, lent.
 fn scan_leaf<'s>(

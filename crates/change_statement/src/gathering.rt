@@ -10,7 +10,7 @@ ghost use Rattle.statement_steps.specs.Known.{IsKnownTo};
 ghost use Rattle.statement_steps.specs.Steps.{IsStep};
 ghost use Rattle.insert_statement.specs.Asked.{IsReadOf, MayLock, MayWrite};
 ghost use Rattle.change_statement.specs.Gathered as gathered;
-ghost use Rattle.change_statement.specs.Gathered.{found_of};
+ghost use Rattle.statement_steps.specs.Gathered.{found_of};
 ghost use Rattle.change_statement.specs.Running.{IsGathered};
 
 use crate::asking::{Change, bind, table_named};
@@ -18,24 +18,12 @@ use crate::keeping::keep;
 use cond_logic::ChangeAsk;
 use expression_binder::Param;
 use insert_statement::tree_and_path;
-use pg_values::{LeafId, LockMode, NoMemory, TableNo};
+use pg_values::{LockMode, NoMemory, TableNo};
 use plan_tree::trees_can_be_pruned;
-use statement_steps::{Caller, SessionNames, Stop, lock_named, lock_tables};
+use statement_steps::{Caller, Gathered, SessionNames, Stop, lock_named, lock_tables};
 use std::alloc::Global;
 use stores::Stores;
 use table_trees::{PathPart, Tree};
-
-/// The named table, its tree and the path above it, what is asked, the leaves that are read, and whether rows
-/// may move from these to others.
-#[derive(Drop)]
-pub(crate) struct Gathered {
-    pub table: TableNo,
-    pub tree: Tree,
-    pub path: Vec<PathPart>,
-    pub ask: ChangeAsk,
-    pub leaves: Vec<LeafId>,
-    pub moves: bool,
-}
 
 fn lock_all(
     alloc: Global,

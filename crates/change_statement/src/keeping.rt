@@ -8,6 +8,7 @@ ghost use Rattle.plan_tree.specs.Prunable.{CanPrune};
 ghost use Rattle.cond_logic.specs.Asked.{change_meant, maybe_cond, setting_meant};
 ghost use Rattle.change_statement.specs.Kept as kept_spec;
 ghost use Rattle.change_statement.specs.Kept.{keeps_for};
+ghost use Rattle.statement_steps.specs.Gathered.{is_set, sets_key};
 
 use bound_forms::KeyColumn;
 use cond_logic::{ChangeAsk, Cond, NamedLeaf, Setting};
@@ -29,7 +30,7 @@ pub(crate) struct Kept {
 }
 
 fn is_set(settings: &[Setting], column: &KeyColumn) -> bool
-    ensures { result ≡ kept_spec.is_set (map setting_meant settings.now) column.now }
+    ensures { result ≡ is_set (map setting_meant settings.now) column.now }
 {
     for setting in settings {
         if setting.column == column.position {
@@ -40,7 +41,7 @@ fn is_set(settings: &[Setting], column: &KeyColumn) -> bool
 }
 
 fn is_one_set(settings: &[Setting], columns: &[KeyColumn]) -> bool
-    ensures { result ≡ list_any (kept_spec.is_set (map setting_meant settings.now)) columns.now }
+    ensures { result ≡ list_any (is_set (map setting_meant settings.now)) columns.now }
 {
     for column in columns {
         if is_set(settings, column) {
@@ -52,7 +53,7 @@ fn is_one_set(settings: &[Setting], columns: &[KeyColumn]) -> bool
 
 // Whether SET names a key column of a table of the tree.
 fn sets_key(settings: &[Setting], tree: &Tree) -> bool
-    ensures { result ≡ kept_spec.sets_key (map setting_meant settings.now) (seen tree.now) }
+    ensures { result ≡ sets_key (map setting_meant settings.now) (seen tree.now) }
 {
     match &tree.shape {
         Shape::Leaf(_) => false,

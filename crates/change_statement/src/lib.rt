@@ -38,13 +38,14 @@ mod settings;
 mod standing;
 mod statement;
 mod step;
+mod turn;
 mod updater;
 mod updating;
 mod verdicts;
 mod waiting;
 
 pub use deciding::decide;
-pub use finding::{TargetRow, find_targets};
+pub use finding::find_targets;
 pub use laws::{kept_have_all_targets, pruned_changes_are_plain};
 pub use row_faults::could_not_serialize;
 pub use settings::new_row;

@@ -1,33 +1,31 @@
 //! The rows of an UPDATE or a DELETE, one after the other.
 
-ghost use Rattle.std.specs.Prelude.{◌≡◌, All, IfOk, OnOk, Some, None, slice_index_or};
+ghost use Rattle.std.specs.Prelude.{◌≡◌, All, IfOk, Some, None, slice_index_or};
 ghost use Rattle.history.specs.History.{History};
 ghost use Rattle.tx_table.specs.Stands.{TableStands};
 ghost use Rattle.change_statement.specs.Verdicts.{updater_meant};
 ghost use Rattle.cond_logic.specs.Asked.{change_meant};
-ghost use Rattle.row_change.specs.Succession.{KeepsVersions};
 ghost use Rattle.change_statement.specs.Targets.{targets};
 ghost use Rattle.stores.specs.Events.{look_of};
 ghost use Rattle.stores.specs.Stand.{Stands};
-ghost use Rattle.statement_steps.specs.Attempts.{MayAttempt, MayGoOn};
+ghost use Rattle.statement_steps.specs.Attempts.{MayAttempt};
 ghost use Rattle.statement_steps.specs.Faults as faults;
 ghost use Rattle.change_statement.specs.Changed as changed_spec;
 ghost use Rattle.change_statement.specs.Changing.{changing};
-ghost use Rattle.change_statement.specs.Gathered.{found_of};
+ghost use Rattle.statement_steps.specs.Gathered.{found_of};
 ghost use Rattle.change_statement.specs.Running.{IsCommand, IsGathered, IsRun, IsTargetIn, MayRun};
-ghost use Rattle.change_statement.specs.Standing as standing_spec;
+ghost use Rattle.change_statement.specs.Turns.{IsTurn};
 
 use crate::asking::{self, Change};
 use crate::conflicts::conflict_fault;
 use crate::deleting::end_row;
-use crate::gathering::Gathered;
-use crate::standing::{changed_before, left_of};
+use crate::turn::Turn;
 use crate::updating::{renew, store};
 use crate::waiting::pause;
-use crate::{TargetRow, Updater, Verdict, decide, find_targets};
+use crate::{Updater, Verdict, decide, find_targets};
 use pg_values::{Fault, NoMemory};
 use sessions::Isolation;
-use statement_steps::{Caller, Rest, SessionNames, Stop};
+use statement_steps::{Caller, Gathered, SessionNames, Stop, TargetRow};
 use std::alloc::Global;
 use stores::Stores;
 
@@ -42,7 +40,7 @@ fn repeats(caller: Caller) -> bool
 
 // Who changes the rows.
 fn updater<'c>(stores: &Stores, caller: Caller, gathered: &'c Gathered) -> Updater<'c>
-    requires { MayRun stores.now caller }
+    requires { MayRun (found_of gathered.now) stores.now caller }
     ensures is { (h : History) → TableStands stores.now.txs h → updater_meant result ≡ changed_spec.updater caller (found_of gathered.now) h }
     ensures own { Some result.tx.number ≡ slice_index_or stores.now.txs.current caller.session None }
     ensures session { result.session ≡ caller.session }
@@ -67,7 +65,8 @@ fn stop_by(fault: Result<Fault, NoMemory>) -> Stop
     }
 }
 
-// The first of the rows that are left: it is changed or passed over, or the statement stops there.
+// The first of the rows that are left: it is changed or passed over, or it has to be waited for, or the statement
+// stops there.
 fn change_row(
     alloc: Global,
     stores: &mut Stores,
@@ -75,18 +74,12 @@ fn change_row(
     caller: Caller,
     gathered: &Gathered,
     change: Change<'_>,
-    left: &[TargetRow],
     target: TargetRow,
     changed: u64,
-) -> Result<u64, Stop>
-    requires may { MayRun stores.old caller }
-    requires gathered { IsGathered stores.old caller (found_of gathered.now) }
-    requires left { All (IsTargetIn stores.old.rows (found_of gathered.now)) left.now }
+) -> Result<Turn, Stop>
+    requires may { MayRun (found_of gathered.now) stores.old caller }
     requires target { IsTargetIn stores.old.rows (found_of gathered.now) target }
-    ensures run { IsRun (λ n. n) result stores.old stores.new caller
-        (changed_spec.one_changed (changing change.entry caller (found_of gathered.now)) names.now caller (found_of gathered.now) target (standing_spec.standing left.now changed)) }
-    ensures rest { OnOk result (stores.new ≡ record stores.old { rows = stores.new.rows }) }
-    ensures keeps { OnOk result (KeepsVersions stores.old.rows stores.new.rows) }
+    ensures { IsTurn (changing change.entry caller (found_of gathered.now)) names.now result stores.old stores.new caller (found_of gathered.now) target changed }
 {
     let Some(next) = changed.checked_add(1) else {
         return Err(Stop::NoMemory);
@@ -99,20 +92,20 @@ fn change_row(
                 Change::Update(_) => match renew(alloc, &stores.catalog, gathered, seen.row) {
                     Ok(row) => {
                         match store(alloc, stores, caller, gathered, target.leaf, id, row) {
-                            Ok(()) => Ok(next),
+                            Ok(()) => Ok(Turn::Counted(next)),
                             Err(stop) => Err(stop),
                         }
                     }
                     Err(refusal) => Err(asking::stop_by(refusal)),
                 },
                 Change::Delete(_) => {
-                    end_row(stores, caller, id);
-                    Ok(next)
+                    end_row(stores, caller, gathered, id);
+                    Ok(Turn::Counted(next))
                 }
             }
         }
-        Verdict::Pass => Ok(changed),
-        Verdict::Wait(other) => Err(pause(alloc, stores, names, caller, other, left, changed)),
+        Verdict::Pass => Ok(Turn::Counted(changed)),
+        Verdict::Wait(other) => Ok(Turn::Waits(other)),
         Verdict::Refuse(conflict) => {
             let tree = &gathered.tree;
             Err(stop_by(conflict_fault(alloc, &stores.catalog, names, tree, target.leaf, conflict)))
@@ -120,31 +113,34 @@ fn change_row(
     }
 }
 
-// The rows are changed, one after the other.
-fn change_rows(
+/// The rows are changed, one after the other. Where one has to be waited for, what was gathered is kept for it and
+/// those behind it.
+pub(crate) fn change_rows(
     alloc: Global,
     stores: &mut Stores,
     names: &SessionNames,
     caller: Caller,
-    gathered: &Gathered,
+    gathered: Gathered,
     change: Change<'_>,
     targets: &[TargetRow],
     changed: u64,
 ) -> Result<(), Stop>
-    requires may { MayRun stores.old caller }
-    requires gathered { IsGathered stores.old caller (found_of gathered.now) }
-    requires targets { All (IsTargetIn stores.old.rows (found_of gathered.now)) targets.now }
-    ensures { IsRun (λ u. u) result stores.old stores.new caller (changed_spec.all_changed (changing change.entry caller (found_of gathered.now)) names.now caller (found_of gathered.now) targets.now changed) }
+    requires may { MayRun (found_of gathered) stores.old caller }
+    requires targets { All (IsTargetIn stores.old.rows (found_of gathered)) targets.now }
+    ensures { IsRun (found_of gathered) (λ u. u) result stores.old stores.new caller (changed_spec.all_changed (changing change.entry caller (found_of gathered)) names.now caller (found_of gathered) targets.now changed) }
 {
     let mut left = targets;
     let mut changed = changed;
     while let Some((target, others)) = left.split_first() {
         match change_row(
-            alloc, stores, names, caller, gathered, change, left, *target, changed,
+            alloc, stores, names, caller, &gathered, change, *target, changed,
         ) {
-            Ok(next) => {
+            Ok(Turn::Counted(next)) => {
                 changed = next;
                 left = others;
+            }
+            Ok(Turn::Waits(other)) => {
+                return Err(pause(alloc, stores, names, caller, other, gathered, left, changed));
             }
             Err(stop) => return Err(stop),
         }
@@ -161,7 +157,8 @@ fn find(
 ) -> Result<Vec<TargetRow>, NoMemory>
     requires may { MayAttempt stores.now caller }
     requires gathered { IsGathered stores.now caller (found_of gathered.now) }
-    ensures { IfOk result (λ found. (h : History) → Stands stores.now h → found.items ≡ targets h (look_of h caller.session caller.cmd) (found_of gathered.now).asked.condition (found_of gathered.now).leaves) }
+    ensures are { IfOk result (λ found. (h : History) → Stands stores.now h → found.items ≡ targets h (look_of h caller.session caller.cmd) (found_of gathered.now).asked.condition (found_of gathered.now).leaves) }
+    ensures there { IfOk result (λ found. All (IsTargetIn stores.now.rows (found_of gathered.now)) found.items) }
 {
     let snap = stores.look(alloc, caller.session, caller.cmd)?;
     find_targets(
@@ -174,43 +171,21 @@ fn find(
     )
 }
 
-// Those that the statement has still to look at.
-fn find_left(
-    alloc: Global,
-    stores: &Stores,
-    caller: Caller,
-    rest: &Option<Rest>,
-    gathered: &Gathered,
-) -> Result<Vec<TargetRow>, NoMemory>
-    requires may { MayAttempt stores.now caller }
-    requires gathered { IsGathered stores.now caller (found_of gathered.now) }
-    ensures are { IfOk result (λ found. (h : History) → Stands stores.now h → found.items ≡ standing_spec.left_of rest.now (targets h (look_of h caller.session caller.cmd) (found_of gathered.now).asked.condition (found_of gathered.now).leaves)) }
-    ensures there { IfOk result (λ found. All (IsTargetIn stores.now.rows (found_of gathered.now)) found.items) }
-{
-    left_of(alloc, rest, find(alloc, stores, caller, gathered)?)
-}
-
-/// The rows that the statement finds, or that it has left, are changed.
+/// The rows that the statement finds are changed.
 pub(crate) fn change_found(
     alloc: Global,
     stores: &mut Stores,
     names: &SessionNames,
     caller: Caller,
-    rest: Option<Rest>,
-    gathered: &Gathered,
+    gathered: Gathered,
     change: Change<'_>,
 ) -> Result<(), Stop>
     requires may { MayAttempt stores.old caller }
-    requires gathered { IsGathered stores.old caller (found_of gathered.now) }
-    ensures { IsCommand result stores.old stores.new caller (changed_spec.changed_from (changing change.entry caller (found_of gathered.now)) names.now caller rest (found_of gathered.now)) }
+    requires gathered { IsGathered stores.old caller (found_of gathered) }
+    ensures { IsCommand None result stores.old stores.new caller (changed_spec.changed_from (changing change.entry caller (found_of gathered)) names.now caller (found_of gathered)) }
 {
-    match find_left(alloc, stores, caller, &rest, gathered) {
-        Ok(targets) => {
-            let changed = changed_before(&rest);
-            change_rows(
-                alloc, stores, names, caller, gathered, change, &targets, changed,
-            )
-        }
+    match find(alloc, stores, caller, &gathered) {
+        Ok(targets) => change_rows(alloc, stores, names, caller, gathered, change, &targets, 0),
         Err(NoMemory) => Err(Stop::NoMemory),
     }
 }

@@ -1,81 +1,51 @@
-//! The rows that are still to be changed.
+//! Where a statement stands that waits for a row.
 
-ghost use Rattle.std.specs.Prelude.{◌≡◌, IfOk, OnOk, map};
+ghost use Rattle.std.specs.Prelude.{◌≡◌, ◌<◌, IfOk, IfSome, Some, None, IsSome, slice_index_or, if◌then◌else◌};
+ghost use Rattle.history.specs.History.{History};
+ghost use Rattle.stores.specs.Stand.{Stands};
+ghost use Rattle.statement_steps.specs.Attempts.{MayAttempt};
 ghost use Rattle.change_statement.specs.Standing as standing;
 
-use crate::TargetRow;
-use pg_values::{NoMemory, RowId};
-use statement_steps::{Rest, RestOfRows, RowIds};
+use pg_values::NoMemory;
+use statement_steps::{Caller, Rest, RestOfRows, TargetRow};
 use std::alloc::Global;
+use stores::Stores;
 
-// Those of the targets that are left.
-fn those_left(
-    alloc: Global,
-    targets: &[TargetRow],
-    ids: &[RowId],
-) -> Result<Vec<TargetRow>, NoMemory>
-    ensures { IfOk result (λ found. found.items ≡ standing.those_left targets.now ids.now) }
+// The rows are those of the session's transaction.
+fn is_own(stores: &Stores, caller: Caller, rest: &RestOfRows) -> bool
+    requires { MayAttempt stores.now caller }
+    ensures { (h : History) → Stands stores.now h → standing.own_left h caller rest.now ≡ (if result then Some rest.now else None) }
 {
-    let mut found = Vec::new(alloc);
-    let mut left = ids;
-    for target in targets {
-        match left.split_first() {
-            None => return Ok(found),
-            Some((id, others)) => {
-                if target.id.number == id.number {
-                    found.push(*target)?;
-                    left = others;
-                }
+    let Some(tx) = stores.txs.open_of(caller.session) else {
+        unreachable!()
+    };
+    rest.by().number == tx.number
+}
+
+/// The rows that the statement has left, where it goes on before them.
+pub(crate) fn left_of(stores: &Stores, caller: Caller, rest: Option<Rest>) -> Option<RestOfRows>
+    requires { MayAttempt stores.now caller }
+    ensures { (h : History) → Stands stores.now h → result ≡ standing.left_of h caller rest }
+{
+    match rest {
+        Some(Rest::Rows(rest)) => {
+            if is_own(stores, caller, &rest) {
+                Some(rest)
+            } else {
+                None
             }
         }
-    }
-    Ok(found)
-}
-
-/// All of the targets, or those that were left when the statement had to wait.
-pub(crate) fn left_of(
-    alloc: Global,
-    rest: &Option<Rest>,
-    targets: Vec<TargetRow>,
-) -> Result<Vec<TargetRow>, NoMemory>
-    ensures { IfOk result (λ found. found.items ≡ standing.left_of rest.now targets.items) }
-{
-    match rest {
-        None | Some(Rest::Detach(_)) => Ok(targets),
-        Some(Rest::Rows(rest)) => those_left(alloc, &targets, rest.left.as_slice()),
+        Some(Rest::Detach(_)) | None => None,
     }
 }
 
-/// How many rows were changed before.
-pub(crate) fn changed_before(rest: &Option<Rest>) -> u64
-    ensures { result ≡ standing.changed_before rest.now }
+/// These rows, for a statement that waits.
+pub(crate) fn copied(alloc: Global, left: &[TargetRow]) -> Result<Vec<TargetRow>, NoMemory>
+    ensures { IfOk result (λ rows. rows.items ≡ left.now) }
 {
-    match rest {
-        None | Some(Rest::Detach(_)) => 0,
-        Some(Rest::Rows(rest)) => rest.changed,
+    let mut rows = Vec::new(alloc);
+    for target in left {
+        rows.push(*target)?;
     }
-}
-
-fn ids_of(alloc: Global, targets: &[TargetRow]) -> Result<RowIds, NoMemory>
-    ensures { IfOk result (λ ids. ids ≡ map standing.id_of targets.now) }
-{
-    let mut ids = RowIds::new(alloc);
-    for target in targets {
-        ids.push(target.id)?;
-    }
-    Ok(ids)
-}
-
-/// Where the statement stands that has these rows still to change.
-pub(crate) fn standing(
-    alloc: Global,
-    targets: &[TargetRow],
-    changed: u64,
-) -> Result<RestOfRows, NoMemory>
-    ensures { IfOk result (λ rest. rest ≡ standing.standing targets.now changed) }
-{
-    Ok(RestOfRows {
-        left: ids_of(alloc, targets)?,
-        changed,
-    })
+    Ok(rows)
 }

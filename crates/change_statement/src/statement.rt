@@ -1,24 +1,87 @@
-ghost use Rattle.std.specs.Prelude.{◌≡◌, ◌≤◌, length, map};
+ghost use Rattle.std.specs.Prelude.{◌≡◌, ◌≤◌, None, Some, length, map};
 ghost use Rattle.sql_ast.specs.Queries.{maybe_tree, setting};
+ghost use Rattle.statement_steps.specs.Asks.{held_at};
 ghost use Rattle.statement_steps.specs.Attempts.{MayAttempt, MayGoOn};
 ghost use Rattle.statement_steps.specs.Steps.{follow};
-ghost use Rattle.change_statement.specs.Changed.{changed_from};
+ghost use Rattle.statement_steps.specs.declared.rest.Rest.TheVariants.{Rows};
+ghost use Rattle.change_statement.specs.Changed.{all_changed, changed_by, changed_from};
 ghost use Rattle.change_statement.specs.Changing.{changing};
 ghost use Rattle.change_statement.specs.Deleted.{deleted};
 ghost use Rattle.change_statement.specs.Gathered as gathered_spec;
-ghost use Rattle.change_statement.specs.Running.{IsCommand};
+ghost use Rattle.change_statement.specs.Running.{IsCommand, IsOwnRun};
 ghost use Rattle.change_statement.specs.Updated.{updated};
 
 use crate::asking::Change;
 use crate::gathering::gather;
-use crate::rows::change_found;
+use crate::rows::{change_found, change_rows};
+use crate::standing::left_of;
 use expression_binder::Param;
 use sql_ast::{Delete, Update};
-use statement_steps::{Caller, Rest, SessionNames, Stop, hold_if_repeatable, stopped_on};
+use statement_steps::{Caller, Rest, RestOfRows, SessionNames, Stop, hold_if_repeatable};
 use std::alloc::Global;
 use stores::Stores;
 
 // What is asked is gathered, and the rows are changed.
+fn change_gathered(
+    alloc: Global,
+    stores: &mut Stores,
+    names: &SessionNames,
+    params: &[Param],
+    caller: Caller,
+    prunes: bool,
+    change: Change<'_>,
+) -> Result<(), Stop>
+    requires may { MayAttempt stores.old caller }
+    requires few { length stores.old.catalog.tables ≤ 4096 }
+    ensures { IsCommand None result stores.old stores.new caller
+        (follow (gathered_spec.gathered prunes names.now params.now caller (gathered_spec.table_named change.entry) (gathered_spec.settings_of change.entry) (gathered_spec.condition_of change.entry)) (λ g. changed_from (changing change.entry caller g) names.now caller g)) }
+{
+    match gather(alloc, stores, names, params, caller, prunes, change) {
+        Ok(gathered) => change_found(alloc, stores, names, caller, gathered, change),
+        Err(stop) => Err(stop),
+    }
+}
+
+// A transaction at REPEATABLE READ takes its snapshot before.
+fn begin(
+    alloc: Global,
+    stores: &mut Stores,
+    names: &SessionNames,
+    params: &[Param],
+    caller: Caller,
+    prunes: bool,
+    change: Change<'_>,
+) -> Result<(), Stop>
+    requires may { MayAttempt stores.old caller }
+    requires few { length stores.old.catalog.tables ≤ 4096 }
+    ensures { IsCommand None result stores.old stores.new caller
+        (follow (held_at caller.level caller.session caller.cmd) (λ u. follow (gathered_spec.gathered prunes names.now params.now caller (gathered_spec.table_named change.entry) (gathered_spec.settings_of change.entry) (gathered_spec.condition_of change.entry)) (λ g. changed_from (changing change.entry caller g) names.now caller g))) }
+{
+    match hold_if_repeatable(alloc, stores, caller) {
+        Ok(()) => change_gathered(alloc, stores, names, params, caller, prunes, change),
+        Err(stop) => Err(stop),
+    }
+}
+
+// The rows that are left are changed, by what was gathered before the wait.
+fn go_on(
+    alloc: Global,
+    stores: &mut Stores,
+    names: &SessionNames,
+    caller: Caller,
+    change: Change<'_>,
+    rest: RestOfRows,
+) -> Result<(), Stop>
+    requires may { MayAttempt stores.old caller }
+    requires own { IsOwnRun stores.old caller rest }
+    ensures { IsCommand (Some (Rows rest)) result stores.old stores.new caller (all_changed (changing change.entry caller rest.found) names.now caller rest.found rest.left rest.changed) }
+{
+    let (gathered, left, changed) = rest.into_parts();
+    change_rows(
+        alloc, stores, names, caller, gathered, change, &left, changed,
+    )
+}
+
 fn change_from(
     alloc: Global,
     stores: &mut Stores,
@@ -30,14 +93,14 @@ fn change_from(
     change: Change<'_>,
 ) -> Result<(), Stop>
     requires may { MayAttempt stores.old caller }
-    requires rest { MayGoOn stores.old rest }
+    requires rest { MayGoOn stores.old caller rest }
     requires few { length stores.old.catalog.tables ≤ 4096 }
-    ensures { IsCommand result stores.old stores.new caller
-        (follow (gathered_spec.found prunes names.now params.now caller rest (gathered_spec.table_named change.entry) (gathered_spec.settings_of change.entry) (gathered_spec.condition_of change.entry)) (λ g. changed_from (changing change.entry caller g) names.now caller rest g)) }
+    ensures { IsCommand rest result stores.old stores.new caller
+        (changed_by (λ g. changing change.entry caller g) names.now caller rest (follow (held_at caller.level caller.session caller.cmd) (λ u. follow (gathered_spec.gathered prunes names.now params.now caller (gathered_spec.table_named change.entry) (gathered_spec.settings_of change.entry) (gathered_spec.condition_of change.entry)) (λ g. changed_from (changing change.entry caller g) names.now caller g)))) }
 {
-    match gather(alloc, stores, names, params, caller, prunes, change) {
-        Ok(gathered) => change_found(alloc, stores, names, caller, rest, &gathered, change),
-        Err(stop) => Err(stopped_on(stop, rest)),
+    match left_of(stores, caller, rest) {
+        Some(rest) => go_on(alloc, stores, names, caller, change, rest),
+        None => begin(alloc, stores, names, params, caller, prunes, change),
     }
 }
 
@@ -58,23 +121,18 @@ pub fn delete(
     statement: &Delete,
 ) -> Result<(), Stop>
     requires may { MayAttempt stores.old caller }
-    requires rest { MayGoOn stores.old rest }
+    requires rest { MayGoOn stores.old caller rest }
     requires few { length stores.old.catalog.tables ≤ 4096 }
-    ensures { IsCommand result stores.old stores.new caller (deleted prunes names.now params.now caller rest statement.now.table (maybe_tree statement.now.condition)) }
+    ensures { IsCommand rest result stores.old stores.new caller (deleted prunes names.now params.now caller rest statement.now.table (maybe_tree statement.now.condition)) }
 {
-    match hold_if_repeatable(alloc, stores, caller) {
-        Ok(()) => {
-            let change = Change::Delete(statement);
-            change_from(alloc, stores, names, params, caller, prunes, rest, change)
-        }
-        Err(stop) => Err(stop),
-    }
+    let change = Change::Delete(statement);
+    change_from(alloc, stores, names, params, caller, prunes, rest, change)
 }
 
 /// The UPDATE of a session, likewise. A version that is changed is followed by one with the row that the settings
 /// make of its row: where the bounds of the named table and above take it and a partition below is there for it
-/// (23514), NOT NULL (23502) and the kept CHECKs (23514) of the leaf's table let it in, and there is room for it
-/// (54000). In its own leaf it replaces the version; else the row moves.
+/// (23514), NOT NULL (23502) and the kept CHECKs (23514) of the leaf's table and above let it in, and there is room
+/// for it (54000). In its own leaf it replaces the version; else the row moves.
 pub fn update(
     alloc: Global,
     stores: &mut Stores,
@@ -86,15 +144,10 @@ pub fn update(
     statement: &Update,
 ) -> Result<(), Stop>
     requires may { MayAttempt stores.old caller }
-    requires rest { MayGoOn stores.old rest }
+    requires rest { MayGoOn stores.old caller rest }
     requires few { length stores.old.catalog.tables ≤ 4096 }
-    ensures { IsCommand result stores.old stores.new caller (updated prunes names.now params.now caller rest statement.now.table (map setting statement.now.assignments) (maybe_tree statement.now.condition)) }
+    ensures { IsCommand rest result stores.old stores.new caller (updated prunes names.now params.now caller rest statement.now.table (map setting statement.now.assignments) (maybe_tree statement.now.condition)) }
 {
-    match hold_if_repeatable(alloc, stores, caller) {
-        Ok(()) => {
-            let change = Change::Update(statement);
-            change_from(alloc, stores, names, params, caller, prunes, rest, change)
-        }
-        Err(stop) => Err(stop),
-    }
+    let change = Change::Update(statement);
+    change_from(alloc, stores, names, params, caller, prunes, rest, change)
 }

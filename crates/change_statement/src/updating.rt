@@ -1,13 +1,13 @@
 //! A row version that is followed by another one.
 
-ghost use Rattle.std.specs.Prelude.{◌≡◌, ◌<◌, ◌∷◌, [], true, IfOk, MatchResult, length};
+ghost use Rattle.std.specs.Prelude.{◌≡◌, ◌<◌, ◌∷◌, [], true, false, IfOk, MatchResult, length};
 ghost use Rattle.pg_values.specs.Refusals.{IsAnswer, or_first};
 ghost use Rattle.bound_forms.specs.Levels.{IsOf};
 ghost use Rattle.history.specs.History.{History};
 ghost use Rattle.table_trees.specs.Seen.{seen};
 ghost use Rattle.table_trees.specs.Trees.{IsRowOf};
 ghost use Rattle.row_store.specs.Kept.{stored_at};
-ghost use Rattle.row_change.specs.Placing.{placed};
+ghost use Rattle.std.specs.List.{Contains};
 ghost use Rattle.row_change.specs.Succession.{KeepsVersions};
 ghost use Rattle.row_change.specs.Targets.{HasWay};
 ghost use Rattle.part_catalog.specs.Found.{made_at};
@@ -18,19 +18,18 @@ ghost use Rattle.cond_logic.specs.Asked.{change_meant};
 ghost use Rattle.stores.specs.Stand.{Stands};
 ghost use Rattle.insert_statement.specs.Asked.{AreRowsOf};
 ghost use Rattle.insert_statement.specs.Inserted.{holder_faults, tables_of};
-ghost use Rattle.change_statement.specs.Gathered.{found_of};
-ghost use Rattle.change_statement.specs.Running.{IsGathered, IsPlacedIn, IsRun, IsTakenIn, MayEndIn, MayPlace, MayRun};
+ghost use Rattle.change_statement.specs.Running.{Agree, IsPlacedIn, IsRun, IsTakenIn, MayEndIn, MayRun, Takes};
+ghost use Rattle.statement_steps.specs.Gathered.{found_of};
 ghost use Rattle.change_statement.specs.Updated as updated;
 
 use crate::asking::stop_by;
-use crate::gathering::Gathered;
 use crate::new_row;
 use history::Column;
 use insert_statement::leaves_of;
 use part_catalog::Catalog;
 use pg_values::{Kind, LeafId, Refusal, Row, RowId, Value, kind_of};
-use row_change::{check_leaf, leaf_targets, succeed_row};
-use statement_steps::{Caller, Stop};
+use row_change::{check_bounds, check_kept, check_leaf, leaf_targets, succeed_row};
+use statement_steps::{Caller, Gathered, Stop};
 use std::alloc::Global;
 use std::slice::from_ref;
 use stores::{Stores, trees_are_together};
@@ -96,32 +95,59 @@ pub(crate) fn renew(
 
 // ---- its leaf
 
-// The leaf of the row below the named table.
+// Where rows may move the leaf of the row below the named table, else its own, where the bounds above take it.
+fn house(
+    alloc: Global,
+    stores: &Stores,
+    gathered: &Gathered,
+    from: LeafId,
+    row: &Row,
+) -> Result<LeafId, Refusal>
+    requires takes { Takes (length stores.now.catalog.tables) (found_of gathered.now) row.now }
+    requires own { HasWay (found_of gathered.now).tree from }
+    ensures is { (h : History) → CatalogueStands stores.now.catalog h → IsAnswer result (updated.housed gathered.now.moves (tables_of h) (seen gathered.now.tree) gathered.now.path.items from row.now) }
+    ensures way { IfOk result (λ leaf. HasWay (found_of gathered.now).tree leaf) }
+{
+    let catalog = &stores.catalog;
+    if !gathered.moves {
+        check_bounds(alloc, catalog, &gathered.path, row)?;
+        return Ok(from);
+    }
+    let leaves = leaves_of(
+        alloc,
+        catalog,
+        &gathered.tree,
+        &gathered.path,
+        from_ref(row),
+    )?;
+    match leaves.as_slice().split_first() {
+        Some((leaf, _)) => Ok(*leaf),
+        None => Err(Refusal::NoMemory),
+    }
+}
+
 fn rehouse(
     alloc: Global,
     stores: &Stores,
     caller: Caller,
     gathered: &Gathered,
+    from: LeafId,
     row: &Row,
 ) -> Result<LeafId, Stop>
-    requires may { MayRun stores.now caller }
-    requires gathered { IsGathered stores.now caller (found_of gathered.now) }
-    requires place { MayPlace stores.now caller.session (found_of gathered.now) row.now }
+    requires may { MayRun (found_of gathered.now) stores.now caller }
+    requires own { Contains gathered.now.leaves.items from }
     requires of { AreRowsOf stores.now.catalog (found_of gathered.now).table (row.now ∷ []) }
-    ensures run { IsRun (λ leaf. leaf) result stores.now stores.now caller (updated.rehoused (found_of gathered.now) row.now) }
-    ensures placed { IfOk result (λ leaf. IsPlacedIn stores.now caller.session (found_of gathered.now) leaf row.now) }
+    ensures run { IsRun (found_of gathered.now) (λ leaf. leaf) result stores.now stores.now caller (updated.rehoused (found_of gathered.now) from row.now) }
+    ensures placed { IfOk result (λ leaf. IsPlacedIn stores.now (found_of gathered.now) from leaf row.now) }
 {
-    let tree = &gathered.tree;
-    match leaves_of(alloc, &stores.catalog, tree, &gathered.path, from_ref(row)) {
-        Ok(leaves) => match leaves.as_slice().split_first() {
-            Some((leaf, _)) => Ok(*leaf),
-            None => Err(Stop::NoMemory),
-        },
+    match house(alloc, stores, gathered, from, row) {
+        Ok(leaf) => Ok(leaf),
         Err(refusal) => Err(stop_by(refusal)),
     }
 }
 
-fn check(
+// NOT NULL and the kept CHECKs of the table that has the leaf.
+fn check_holder(
     alloc: Global,
     stores: &Stores,
     caller: Caller,
@@ -129,10 +155,9 @@ fn check(
     leaf: LeafId,
     row: &Row,
 ) -> Result<(), Refusal>
-    requires may { MayRun stores.now caller }
-    requires gathered { IsGathered stores.now caller (found_of gathered.now) }
+    requires may { MayRun (found_of gathered.now) stores.now caller }
     requires of { AreRowsOf stores.now.catalog (found_of gathered.now).table (row.now ∷ []) }
-    requires placed { IsPlacedIn stores.now caller.session (found_of gathered.now) leaf row.now }
+    requires way { HasWay (found_of gathered.now).tree leaf }
     ensures { (h : History) → Stands stores.now h → IsAnswer result (or_first (holder_faults h caller.session (seen gathered.now.tree) leaf row.now) tt) }
 {
     trees_are_together();
@@ -143,7 +168,25 @@ fn check(
     check_leaf(alloc, catalog, &targets, leaf, row)
 }
 
-// Nothing in the table that has the leaf stands against the row.
+// And those that were gathered of the named table and of those above it, which others may have cut off since.
+fn check(
+    alloc: Global,
+    stores: &Stores,
+    caller: Caller,
+    gathered: &Gathered,
+    leaf: LeafId,
+    row: &Row,
+) -> Result<(), Refusal>
+    requires may { MayRun (found_of gathered.now) stores.now caller }
+    requires of { AreRowsOf stores.now.catalog (found_of gathered.now).table (row.now ∷ []) }
+    requires way { HasWay (found_of gathered.now).tree leaf }
+    ensures { (h : History) → Stands stores.now h → IsAnswer result (or_first (updated.against h caller.session (found_of gathered.now) leaf row.now) tt) }
+{
+    check_holder(alloc, stores, caller, gathered, leaf, row)?;
+    check_kept(alloc, &stores.catalog, &gathered.path, row)
+}
+
+// Nothing stands against the row.
 fn test(
     alloc: Global,
     stores: &Stores,
@@ -152,11 +195,10 @@ fn test(
     leaf: LeafId,
     row: &Row,
 ) -> Result<(), Stop>
-    requires may { MayRun stores.now caller }
-    requires gathered { IsGathered stores.now caller (found_of gathered.now) }
+    requires may { MayRun (found_of gathered.now) stores.now caller }
     requires of { AreRowsOf stores.now.catalog (found_of gathered.now).table (row.now ∷ []) }
-    requires placed { IsPlacedIn stores.now caller.session (found_of gathered.now) leaf row.now }
-    ensures { IsRun (λ u. u) result stores.now stores.now caller (updated.tested caller (found_of gathered.now) leaf row.now) }
+    requires way { HasWay (found_of gathered.now).tree leaf }
+    ensures { IsRun (found_of gathered.now) (λ u. u) result stores.now stores.now caller (updated.tested caller (found_of gathered.now) leaf row.now) }
 {
     match check(alloc, stores, caller, gathered, leaf, row) {
         Ok(()) => Ok(()),
@@ -177,13 +219,13 @@ fn succeed(
     leaf: LeafId,
     row: Row,
 ) -> Result<(), Stop>
-    requires may { MayRun stores.old caller }
-    requires gathered { IsGathered stores.old caller (found_of gathered.now) }
-    requires version { MayEndIn stores.old caller id }
+    requires may { MayRun (found_of gathered.now) stores.old caller }
+    requires version { MayEndIn (found_of gathered.now) stores.old caller id }
     requires own { (stored_at stores.old.rows.stored id).version.leaf ≡ from }
-    requires placed { IsPlacedIn stores.old caller.session (found_of gathered.now) leaf row }
+    requires keys { Agree (change_meant gathered.now.ask).settings (stored_at stores.old.rows.stored id).version.row row }
+    requires placed { IsPlacedIn stores.old (found_of gathered.now) from leaf row }
     requires taken { IsTakenIn stores.old caller (found_of gathered.now) leaf row }
-    ensures run { IsRun (λ u. u) result stores.old stores.new caller (updated.succeeded caller from id leaf row) }
+    ensures run { IsRun (found_of gathered.now) (λ u. u) result stores.old stores.new caller (updated.succeeded caller from id leaf row) }
     ensures rest { stores.new ≡ record stores.old { rows = stores.new.rows } }
     ensures keeps { KeepsVersions stores.old.rows stores.new.rows }
 {
@@ -207,13 +249,13 @@ fn store_in(
     leaf: LeafId,
     row: Row,
 ) -> Result<(), Stop>
-    requires may { MayRun stores.old caller }
-    requires gathered { IsGathered stores.old caller (found_of gathered.now) }
-    requires version { MayEndIn stores.old caller id }
+    requires may { MayRun (found_of gathered.now) stores.old caller }
+    requires version { MayEndIn (found_of gathered.now) stores.old caller id }
     requires own { (stored_at stores.old.rows.stored id).version.leaf ≡ from }
+    requires keys { Agree (change_meant gathered.now.ask).settings (stored_at stores.old.rows.stored id).version.row row }
     requires of { AreRowsOf stores.old.catalog (found_of gathered.now).table (row ∷ []) }
-    requires placed { IsPlacedIn stores.old caller.session (found_of gathered.now) leaf row }
-    ensures run { IsRun (λ u. u) result stores.old stores.new caller (updated.stored_in caller (found_of gathered.now) from id row leaf) }
+    requires placed { IsPlacedIn stores.old (found_of gathered.now) from leaf row }
+    ensures run { IsRun (found_of gathered.now) (λ u. u) result stores.old stores.new caller (updated.stored_in caller (found_of gathered.now) from id row leaf) }
     ensures rest { stores.new ≡ record stores.old { rows = stores.new.rows } }
     ensures keeps { KeepsVersions stores.old.rows stores.new.rows }
 {
@@ -234,17 +276,16 @@ pub(crate) fn store(
     id: RowId,
     row: Row,
 ) -> Result<(), Stop>
-    requires may { MayRun stores.old caller }
-    requires gathered { IsGathered stores.old caller (found_of gathered.now) }
-    requires version { MayEndIn stores.old caller id }
+    requires may { MayRun (found_of gathered.now) stores.old caller }
+    requires version { MayEndIn (found_of gathered.now) stores.old caller id }
     requires own { (stored_at stores.old.rows.stored id).version.leaf ≡ from }
-    requires place { MayPlace stores.old caller.session (found_of gathered.now) row }
+    requires keys { Agree (change_meant gathered.now.ask).settings (stored_at stores.old.rows.stored id).version.row row }
     requires of { AreRowsOf stores.old.catalog (found_of gathered.now).table (row ∷ []) }
-    ensures run { IsRun (λ u. u) result stores.old stores.new caller (updated.stored caller (found_of gathered.now) from id row) }
+    ensures run { IsRun (found_of gathered.now) (λ u. u) result stores.old stores.new caller (updated.stored caller (found_of gathered.now) from id row) }
     ensures rest { stores.new ≡ record stores.old { rows = stores.new.rows } }
     ensures keeps { KeepsVersions stores.old.rows stores.new.rows }
 {
-    match rehouse(alloc, stores, caller, gathered, &row) {
+    match rehouse(alloc, stores, caller, gathered, from, &row) {
         Ok(leaf) => store_in(alloc, stores, caller, gathered, from, id, leaf, row),
         Err(stop) => Err(stop),
     }

@@ -1,17 +1,19 @@
 //! A row that another transaction is changing.
 
-ghost use Rattle.std.specs.Prelude.{◌≡◌, ◌≢◌, ◌<◌, All, Err, length};
+ghost use Rattle.std.specs.Prelude.{◌≡◌, ◌≢◌, ◌<◌, All, Err};
 ghost use Rattle.statement_steps.specs.Attempts.{MayAttempt};
-ghost use Rattle.statement_steps.specs.Steps.{IsStep};
+ghost use Rattle.statement_steps.specs.Gathered.{found_of};
+ghost use Rattle.statement_steps.specs.Steps.{IsPart};
 ghost use Rattle.change_statement.specs.Changed as changed_spec;
-ghost use Rattle.change_statement.specs.Running.{IsRun, MayRun};
+ghost use Rattle.change_statement.specs.Running.{IsRun, IsTargetIn, MayRun};
 ghost use Rattle.change_statement.specs.Standing as standing_spec;
 
-use crate::TargetRow;
-use crate::standing::standing;
+use crate::standing::copied;
 use history::WaitOn;
 use pg_values::{NoMemory, SessionSet};
-use statement_steps::{Caller, Rest, RestOfRows, SessionNames, Stop, hold, wait_for};
+use statement_steps::{
+    Caller, Gathered, RestOfRows, SessionNames, Stop, TargetRow, hold, wait_for_row,
+};
 use std::alloc::Global;
 use stores::Stores;
 
@@ -34,17 +36,10 @@ fn wait_for_end(
     requires may { MayAttempt stores.old caller }
     requires another { other ≢ caller.session }
     requires known { other < 128 }
-    requires left { All (λ id. id.number < length stores.old.rows.stored) rest.left }
-    ensures { IsStep (λ u. u) (Err result) stores.old stores.new caller caller.cmd (changed_spec.waits_for_end names.now caller other rest) }
+    ensures { IsPart (λ u. u) (Err result) stores.old stores.new caller caller.cmd (changed_spec.waits_for_end names.now caller other rest) }
 {
-    match wait_for(
-        alloc,
-        stores,
-        names,
-        caller,
-        WaitOn::Ends(only(other)),
-        Some(Rest::Rows(rest)),
-    ) {
+    let what = WaitOn::Ends(only(other));
+    match wait_for_row(alloc, stores, names, caller, what, rest) {
         Ok(()) => unreachable!(),
         Err(stop) => stop,
     }
@@ -62,8 +57,7 @@ fn hold_and_wait(
     requires may { MayAttempt stores.old caller }
     requires another { other ≢ caller.session }
     requires known { other < 128 }
-    requires left { All (λ id. id.number < length stores.old.rows.stored) rest.left }
-    ensures { IsStep (λ u. u) (Err result) stores.old stores.new caller caller.cmd (changed_spec.held_up names.now caller other rest) }
+    ensures { IsPart (λ u. u) (Err result) stores.old stores.new caller caller.cmd (changed_spec.held_up names.now caller other rest) }
 {
     match hold(alloc, stores, caller) {
         Ok(()) => wait_for_end(alloc, stores, names, caller, other, rest),
@@ -71,20 +65,22 @@ fn hold_and_wait(
     }
 }
 
-/// The statement waits for the end of the other session's transaction before it goes on with these rows.
+/// The statement waits for the end of the other session's transaction before it goes on with these rows, by what
+/// it has gathered.
 pub(crate) fn pause(
     alloc: Global,
     stores: &mut Stores,
     names: &SessionNames,
     caller: Caller,
     other: u32,
+    gathered: Gathered,
     left: &[TargetRow],
     changed: u64,
 ) -> Stop
-    requires may { MayRun stores.old caller }
+    requires may { MayRun (found_of gathered) stores.old caller }
     requires another { other ≢ caller.session }
-    requires left { All (λ t. t.id.number < length stores.old.rows.stored) left.now }
-    ensures { IsRun (λ u. u) (Err result) stores.old stores.new caller (changed_spec.paused names.now caller other (standing_spec.standing left.now changed)) }
+    requires left { All (IsTargetIn stores.old.rows (found_of gathered)) left.now }
+    ensures { IsRun (found_of gathered) (λ u. u) (Err result) stores.old stores.new caller (λ h. changed_spec.paused names.now caller other (standing_spec.standing h caller (found_of gathered) left.now changed) h) }
 {
     let Some(cmd) = caller.cmd.checked_add(1) else {
         return Stop::NoMemory;
@@ -93,8 +89,14 @@ pub(crate) fn pause(
     if other >= 128 {
         return Stop::NoMemory;
     }
-    match standing(alloc, left, changed) {
-        Ok(rest) => hold_and_wait(alloc, stores, names, Caller { cmd, ..caller }, other, rest),
+    let Some(by) = stores.txs.open_of(caller.session) else {
+        unreachable!()
+    };
+    match copied(alloc, left) {
+        Ok(rows) => {
+            let rest = RestOfRows::new(by, gathered, rows, changed);
+            hold_and_wait(alloc, stores, names, Caller { cmd, ..caller }, other, rest)
+        }
         Err(NoMemory) => Stop::NoMemory,
     }
 }

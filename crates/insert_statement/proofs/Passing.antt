@@ -30,7 +30,7 @@ pub nothing_behind : (xs ys : List Fault) → (xs ++ ys) ≡ [] → ys ≡ []
 nothing_behind [] ys e = e
 nothing_behind (x ∷ xs) ys e = absurd (let c = e in cc)
 
-nothing_before : (xs ys : List Fault) → (xs ++ ys) ≡ [] → xs ≡ []
+pub nothing_before : (xs ys : List Fault) → (xs ++ ys) ≡ [] → xs ≡ []
 nothing_before [] ys e = refl
 nothing_before (x ∷ xs) ys e = absurd (let c = e in cc)
 
@@ -67,7 +67,7 @@ mutual
       first_end (λ xs. P (last_or t xs) × Q (last_or t xs) leaf) (root k) ts (way_to leaf k) (way_to_one leaf ks)
       (λ xs is. way_end P Q k leaf xs all.0 home.0 is) (λ is. way_among P Q t ks leaf ts all.1 home.1 is) e
 
-holder_has : (P : TableNo → Type 0) (Q : TableNo → LeafId → Type 0) (tree : TableTree) (leaf : LeafId) → AllTables P tree → AtHome Q tree → HasWay tree leaf → P (holder tree leaf) × Q (holder tree leaf) leaf
+pub holder_has : (P : TableNo → Type 0) (Q : TableNo → LeafId → Type 0) (tree : TableTree) (leaf : LeafId) → AllTables P tree → AtHome Q tree → HasWay tree leaf → P (holder tree leaf) × Q (holder tree leaf) leaf
 holder_has P Q tree leaf all home way = by (way_to leaf tree) refl way
   where
     by : (o : Option (List TableNo)) → way_to leaf tree ≡ o → is_some o ≡ true → P (last_or (root tree) (unwrap_or (way_to leaf tree) [])) × Q (last_or (root tree) (unwrap_or (way_to leaf tree) [])) leaf

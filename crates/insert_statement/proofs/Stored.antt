@@ -1,5 +1,5 @@
 -- Rows that are stored are a part of the statement, its last one.
-use Rattle.std.proofs.Common.{◌≡◌, ◌≢◌, ℕ, ◌+◌, List, [], ◌++◌, refl, sym, ap, ◌∙◌, subst, arith, append-nil, Some, Result, Ok, Err, find, unwrap_or}
+use Rattle.std.proofs.Common.{◌≡◌, ◌≢◌, ℕ, ◌+◌, List, [], ◌∷◌, ◌++◌, refl, sym, ap, ◌∙◌, subst, arith, append-nil, Some, Result, Ok, Err, find, unwrap_or}
 use Rattle.std.specs.List.{Contains}
 use Rattle.pg_values.specs.declared.value.Value.{Value}
 use Rattle.pg_values.specs.declared.fault.Fault.{Fault}
@@ -11,7 +11,8 @@ use Rattle.history.specs.declared.version.Version.{Version}
 use Rattle.history.specs.Transactions.{TxEvents, IsRunning, IsSound, open_of, session_of}
 use Rattle.history.specs.Snapshots.{TakenSnapshot}
 use Rattle.history.specs.Locks.{queue}
-use Rattle.history.specs.History.{History, tx_events, snapshot_events, lock_events}
+use Rattle.history.specs.History.{History, tx_events, snapshot_events, lock_events, RowChange}
+use Rattle.history.specs.Rows.{RowBorn}
 use Rattle.history.proofs.Open.{open_own, open_runs}
 use Rattle.tx_table.specs.Stands.{StandsFor, TableStands}
 use Rattle.lock_table.specs.Stands.{StandsFor as LocksFor}
@@ -32,7 +33,9 @@ use Rattle.stores.proofs.Commands.{goes_on, commands_are_in_order}
 use Rattle.statement_steps.specs.Attempts.{MayAttempt, WentOn, GoesOn}
 use Rattle.statement_steps.specs.declared.caller.Caller.{Caller}
 use Rattle.statement_steps.specs.Steps.{IsStep}
+use Rattle.statement_steps.specs.Waiting.{AddNone, Since}
 use Rattle.statement_steps.proofs.Parts.{no_memory}
+use Rattle.statement_steps.proofs.Since.{add_append}
 use Rattle.insert_statement.specs.Born.{all_born}
 use Rattle.insert_statement.specs.Inserted.{tables_of, own}
 use Rattle.insert_statement.specs.Asked.{MayGo, MayPut, put, stopped}
@@ -64,6 +67,13 @@ others_stay vs h s r tx n sound mine by other at =
     goes_on (rows_born vs) h r n n (omega arith) at (ap (λ t. open_of t r) (quiet vs h).txs)
     (λ t is. all_before vs t n (λ v at same. absurd (other (one_session (tx_events h) r s t tx sound is mine (sym same ∙ by v at)))))
 
+rows_add_none : (t : ℕ) (vs : List Version) → AddNone t (rows_born vs)
+rows_add_none t [] = tt
+rows_add_none t (v ∷ vs) = add_append t (rows_born vs) (RowChange (RowBorn v) ∷ []) (rows_add_none t vs) (tt, tt)
+
+since_born : (vs : List Version) (h : History) (r : ℕ) → Since r h (rows_born vs ++ h)
+since_born vs h r = record { events = rows_born vs; is = refl; same = ap (λ t. open_of t r) (quiet vs h).txs; others = λ t own. rows_add_none t vs }
+
 -- ---- the new versions
 
 stored_at : (h : History) (s table : ℕ) (look : TakenSnapshot) (v : Version) → MayGo h s table look v.leaf v.row → IsStored h s table look v
@@ -91,6 +101,7 @@ born_on old rows h s tx cmd by targets ls rs events may b is stands at mine runn
       stands = record { all = stored_stand old rows (rows_born b.rows ++ h) h q store stands.all; good = good_rows b.rows h tx follow by_it running stands.good };
       at = at_later b.rows h s tx cmd mine (λ v in_rows. (b.each v in_rows).1) at;
       others = λ r n other at_it. others_stay b.rows h s r tx n stands.all.txs.sound mine by_it other at_it;
+      since = λ r other. since_born b.rows h r;
       queue = ap queue q.locks ∙ sym (append-nil (queue (lock_events h)));
     }
 

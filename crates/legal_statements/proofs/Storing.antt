@@ -26,7 +26,7 @@ committed_now : (f g : Fate) → f ≡ Committed → (f ≢ Running → g ≡ f)
 committed_now f g is settled = settled (λ runs. let both : Committed ≡ Running = sym is ∙ runs in cc) ∙ is
 
 -- what was committed at the snapshot's place, and what its transaction did, counts
-sees_what_counts : (h : History) (session : ℕ) (s : TakenSnapshot) → IsLegal h → IsOwnLook h session s → SeesWhatCounts h session s
+pub sees_what_counts : (h : History) (session : ℕ) (s : TakenSnapshot) → IsLegal h → IsOwnLook h session s → SeesWhatCounts h session s
 sees_what_counts h session s legal look t c seen =
     let txs = tx_events h in
     let sound = sound_of h legal in

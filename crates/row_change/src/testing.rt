@@ -86,8 +86,13 @@ fn refused_by_check(
     kept_check(alloc, catalog.name_of(table), row)
 }
 
-// The nearest table of the path that has a kept CHECK which refuses the row: 23514.
-fn check_kept(alloc: Global, catalog: &Catalog, path: &[PathPart], row: &Row) -> Result<(), Refusal>
+/// The nearest table of the path that has a kept CHECK which refuses the row: 23514.
+pub fn check_kept(
+    alloc: Global,
+    catalog: &Catalog,
+    path: &[PathPart],
+    row: &Row,
+) -> Result<(), Refusal>
     requires fits { All (PartFits row.now) path.now }
     requires known { All (IsPartNumbered (length catalog.now.tables)) path.now }
     ensures { (h : History) → CatalogueStands catalog.now h →

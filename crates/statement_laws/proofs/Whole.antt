@@ -31,8 +31,9 @@ use Rattle.stores.specs.Good.{IsGood}
 use Rattle.stores.proofs.Commands.{looks_are_open}
 use Rattle.stores.proofs.Meanwhile.{locks_keep_numbers, looks_keep_numbers}
 use Rattle.statement_steps.specs.Asks.{found, held_at, kept_number, locked, meant_or_none, named, number_or}
-use Rattle.statement_steps.specs.Made.{Halt, Waits, Refused, Made, made, and_then, behind, then_told}
-use Rattle.statement_steps.specs.Steps.{follow, told_on}
+use Rattle.statement_steps.specs.Gathered.{Found, RowsLeft}
+use Rattle.statement_steps.specs.Made.{Halt, Made, made, and_then, behind, then_told}
+use Rattle.statement_steps.specs.Steps.{follow}
 use Rattle.statement_steps.specs.declared.caller.Caller.{Caller}
 use Rattle.statement_steps.specs.declared.rest.Rest.{Rest}
 use Rattle.table_trees.specs.declared.path_part.PathPart.{PathPart}
@@ -47,16 +48,17 @@ use Rattle.select_statement.specs.Plain.{locked_plainly, selected_plainly}
 use Rattle.select_statement.proofs.Moments.{good_selects}
 use Rattle.select_statement.proofs.Plain.{AreLocks, all_locks, both_locks, by_plan_plain, locked_locks, locks_show}
 use Rattle.insert_statement.specs.Inserted.{answered as answered_by}
-use Rattle.change_statement.specs.Changed.{Changing, changed_from}
+use Rattle.change_statement.specs.Changed.{Changing, changed_by, changed_from, changed_or_left}
 use Rattle.change_statement.specs.Deleted.{deleting}
 use Rattle.change_binder.specs.Changes.{bound_change}
-use Rattle.change_statement.specs.Gathered.{Found, found_by, gathered, item_of, locked_all, meant, of_table}
+use Rattle.change_statement.specs.Gathered.{found_by, gathered, item_of, locked_all, meant, of_table}
 use Rattle.change_statement.specs.Gathered as changes
 use Rattle.change_statement.specs.Kept.{keeps_for, tables_locked}
 use Rattle.change_statement.specs.Laws.{gathered_of, plainly_changed}
+use Rattle.change_statement.specs.Standing.{left_of}
 use Rattle.change_statement.specs.Updated.{updating}
 use Rattle.change_statement.proofs.Moments.{good_changes}
-use Rattle.statement_laws.specs.Whole.{CompletedSelectsArePlain, IsCaller, WholeStatementsArePlain, all_changed_by, items_plainly, named_plainly}
+use Rattle.statement_laws.specs.Whole.{CompletedSelectsArePlain, IsCaller, WholeStatementsArePlain, all_changed_by, begun_plainly, items_plainly, named_plainly}
 
 -- ---- parts one after the other
 
@@ -295,38 +297,48 @@ module _ (prunes : Bool) (names : List (List ℕ)) (params : List Param) (c : Ca
         is = sym found_is ∙ (ap (λ (x : TableTree). found_by keeps (table_of t) x path m) same_tree ∙ ap (λ (p : List PathPart). found_by keeps (table_of t) (tree_of last c.session t (look_of last c.session c.cmd)) p m) same_path);
       }
 
-done_on : {T : Type 0} (rest : Option Rest) (r : Result T Halt) (x : T) → told_on rest r ≡ Ok x → r ≡ Ok x
-done_on rest (Ok y) x e = e
-done_on rest (Err (Waits lock)) x e = absurd (let c = e in cc)
-done_on rest (Err (Refused f)) x e = absurd (let c = e in cc)
+-- from its beginning
+abbrev begun : (change : Found → Changing) → (prunes : Bool) → List (List ℕ) → List Param → Caller → NamedTable → List Setting → Option Tree → History → Made (Unit {0})
+begun change prunes names params c table settings condition =
+    follow (held_at c.level c.session c.cmd) (λ u. follow (gathered prunes names params c table settings condition) (λ g. changed_from (change g) names c g))
 
-changed_plain : (change : Found → Changing) (h : History) → IsGood h → (prunes : Bool) (names : List (List ℕ)) (params : List Param) (c : Caller) (rest : Option Rest) (table : NamedTable) (settings : List Setting) (condition : Option Tree) (before : History)
-    → h ≡ (follow (held_at c.level c.session c.cmd) (λ u. follow (changes.found prunes names params c rest table settings condition) (λ g. changed_from (change g) names c rest g)) before).events ++ before → IsCaller c before
-    → follow (held_at c.level c.session c.cmd) (λ u. follow (changes.found prunes names params c rest table settings condition) (λ g. changed_from (change g) names c rest g)) before ≡ all_changed_by change prunes names params c rest table settings condition before
-changed_plain change h good prunes names params c rest table settings condition before is call =
-    let begun = held_at c.level c.session c.cmd before in
-    let there_after = begun.events ++ before in
-    let gathers = changes.found prunes names params c rest table settings condition there_after in
-    let whole = λ (u : Unit {0}). follow (changes.found prunes names params c rest table settings condition) (λ g. changed_from (change g) names c rest g) there_after in
-    same_after begun whole (λ u. follow (changes.found prunes names params c rest table settings condition) (λ g. plainly_changed (change g) names c rest g) there_after) (λ u told.
-    let goes = went_on h before begun whole u told is in
-    let good_before : IsGood before = good_after (and_then begun whole).events before (subst IsGood is good) in
+begun_plain : (change : Found → Changing) (h : History) → IsGood h → (prunes : Bool) (names : List (List ℕ)) (params : List Param) (c : Caller) (table : NamedTable) (settings : List Setting) (condition : Option Tree) (before : History)
+    → h ≡ (begun change prunes names params c table settings condition before).events ++ before → IsCaller c before
+    → begun change prunes names params c table settings condition before ≡ begun_plainly change prunes names params c table settings condition before
+begun_plain change h good prunes names params c table settings condition before is call =
+    let holds = held_at c.level c.session c.cmd before in
+    let there_after = holds.events ++ before in
+    let gathers = gathered prunes names params c table settings condition there_after in
+    let whole = λ (u : Unit {0}). follow (gathered prunes names params c table settings condition) (λ g. changed_from (change g) names c g) there_after in
+    same_after holds whole (λ u. follow (gathered prunes names params c table settings condition) (λ g. plainly_changed (change g) names c g) there_after) (λ u told.
+    let goes = went_on h before holds whole u told is in
+    let good_before : IsGood before = good_after (and_then holds whole).events before (subst IsGood is good) in
     let call_then : IsCaller c there_after = held_call c c.level before good_before call in
-    same_after gathers (λ g. changed_from (change g) names c rest g (gathers.events ++ there_after)) (λ g. plainly_changed (change g) names c rest g (gathers.events ++ there_after)) (λ g found_told.
-    let there = gathered_there prunes names params c table settings condition there_after g (done_on rest (gathered prunes names params c table settings condition there_after).told g found_told) in
+    same_after gathers (λ g. changed_from (change g) names c g (gathers.events ++ there_after)) (λ g. plainly_changed (change g) names c g (gathers.events ++ there_after)) (λ g found_told.
+    let there = gathered_there prunes names params c table settings condition there_after g found_told in
     let locks = gathered_locks prunes names params c table settings condition there_after in
     let last = gathers.events ++ there_after in
-    let on = went_on h there_after gathers (λ x. changed_from (change x) names c rest x last) g found_told goes in
-    let good_last : IsGood last = good_after (changed_from (change g) names c rest g last).events last (subst IsGood on good) in
+    let on = went_on h there_after gathers (λ x. changed_from (change x) names c x last) g found_told goes in
+    let good_last : IsGood last = good_after (changed_from (change g) names c g last).events last (subst IsGood on good) in
     let call_last : IsCaller c last = subst (λ (es : History). IsCaller c (es ++ there_after)) (sym locks.1) (locks_call c locks.0 there_after call_then) in
     let same : catalogue_events last ≡ catalogue_events there_after = ap (λ (es : History). catalogue_events (es ++ there_after)) locks.1 ∙ locks_catalogue locks.0 there_after in
     let made_last : IsMade (catalogue_events last) there.table = subst (λ (cats : CatalogueEvents). IsMade cats there.table) (sym same) there.made in
-    let plain = good_changes last good_last prunes (change g) names c rest there.table there.asked (looks c last good_last call_last) made_last in
-    subst (λ (x : Found). changed_from (change g) names c rest x last ≡ plainly_changed (change g) names c rest x last) (sym there.is) plain))
+    let plain = good_changes last good_last prunes (change g) names c there.table there.asked (looks c last good_last call_last) made_last in
+    subst (λ (x : Found). changed_from (change g) names c x last ≡ plainly_changed (change g) names c x last) (sym there.is) plain))
+
+changed_plain : (change : Found → Changing) (h : History) → IsGood h → (prunes : Bool) (names : List (List ℕ)) (params : List Param) (c : Caller) (rest : Option Rest) (table : NamedTable) (settings : List Setting) (condition : Option Tree) (before : History)
+    → h ≡ (changed_by change names c rest (begun change prunes names params c table settings condition) before).events ++ before → IsCaller c before
+    → changed_by change names c rest (begun change prunes names params c table settings condition) before ≡ all_changed_by change prunes names params c rest table settings condition before
+changed_plain change h good prunes names params c rest table settings condition before is call = by (left_of before c rest) is
+  where
+    by : (o : Option RowsLeft) → h ≡ (changed_or_left change names c (begun change prunes names params c table settings condition) o before).events ++ before
+        → changed_or_left change names c (begun change prunes names params c table settings condition) o before ≡ changed_or_left change names c (begun_plainly change prunes names params c table settings condition) o before
+    by None e = begun_plain change h good prunes names params c table settings condition before e call
+    by (Some r) e = refl
 
 pub good_whole : (h : History) → IsGood h → WholeStatementsArePlain h
 good_whole h good = record {
   selects = selects_plain h good;
-  updates = λ prunes names params c rest table settings condition before is call. changed_plain (updating c) h good prunes names params c rest table settings condition before is call;
+  updates = λ prunes names params c rest table settings condition before is call. changed_plain (λ g. updating c g) h good prunes names params c rest table settings condition before is call;
   deletes = λ prunes names params c rest table condition before is call. changed_plain (λ g. deleting c) h good prunes names params c rest table [] condition before is call;
 }

@@ -12,15 +12,16 @@ use Rattle.sql_binder.specs.Selects.{from_of}
 use Rattle.stores.specs.Good.{IsGood}
 use Rattle.stores.specs.Numbers.{IsAt}
 use Rattle.statement_steps.specs.Asks.{held_at}
+use Rattle.statement_steps.specs.Gathered.{Found}
 use Rattle.statement_steps.specs.Made.{Made}
 use Rattle.statement_steps.specs.Steps.{follow}
 use Rattle.statement_steps.specs.declared.caller.Caller.{Caller}
 use Rattle.statement_steps.specs.declared.rest.Rest.{Rest}
 use Rattle.select_statement.specs.Plain.{selected_plainly}
 use Rattle.select_statement.specs.Selected.{bare, begins, named_from, selected}
-use Rattle.change_statement.specs.Changed.{Changing}
+use Rattle.change_statement.specs.Changed.{Changing, changed_by}
 use Rattle.change_statement.specs.Deleted.{deleted, deleting}
-use Rattle.change_statement.specs.Gathered.{Found, found}
+use Rattle.change_statement.specs.Gathered.{gathered}
 use Rattle.change_statement.specs.Laws.{plainly_changed}
 use Rattle.change_statement.specs.Updated.{updated, updating}
 
@@ -38,13 +39,17 @@ all_selected prunes names c t = items_plainly prunes names c t (from_of t)
 
 -- ---- UPDATE and DELETE
 
-abbrev pub all_changed_by : (change : Found → Changing) → (prunes : Bool) → List (List ℕ) → List Param → Caller → Option Rest → NamedTable → List Setting → Option Tree → History → Made (Unit {0})
-all_changed_by change prunes names params c rest table settings condition =
+abbrev pub begun_plainly : (change : Found → Changing) → (prunes : Bool) → List (List ℕ) → List Param → Caller → NamedTable → List Setting → Option Tree → History → Made (Unit {0})
+begun_plainly change prunes names params c table settings condition =
     follow (held_at c.level c.session c.cmd) (λ u.
-    follow (found prunes names params c rest table settings condition) (λ g. plainly_changed (change g) names c rest g))
+    follow (gathered prunes names params c table settings condition) (λ g. plainly_changed (change g) names c g))
+
+-- one that goes on takes the rows that it has left
+abbrev pub all_changed_by : (change : Found → Changing) → (prunes : Bool) → List (List ℕ) → List Param → Caller → Option Rest → NamedTable → List Setting → Option Tree → History → Made (Unit {0})
+all_changed_by change prunes names params c rest table settings condition = changed_by change names c rest (begun_plainly change prunes names params c table settings condition)
 
 abbrev pub all_updated : (prunes : Bool) → List (List ℕ) → List Param → Caller → Option Rest → NamedTable → List Setting → Option Tree → History → Made (Unit {0})
-all_updated prunes names params c = all_changed_by (updating c) prunes names params c
+all_updated prunes names params c = all_changed_by (λ g. updating c g) prunes names params c
 
 abbrev pub all_deleted : (prunes : Bool) → List (List ℕ) → List Param → Caller → Option Rest → NamedTable → Option Tree → History → Made (Unit {0})
 all_deleted prunes names params c rest table condition = all_changed_by (λ g. deleting c) prunes names params c rest table [] condition

@@ -9,3 +9,4 @@ pub mod TextReadings
 mod Waiting
 mod Weights
 pub mod Whole
+mod Lasting

@@ -26,7 +26,7 @@ use Rattle.stores.specs.Stand.{Stands, IsSameSize}
 use Rattle.stores.specs.declared.stores.Stores.{Stores}
 use Rattle.statement_steps.specs.Ended.{Ended, Done, Commits}
 use Rattle.statement_steps.specs.Made.{Made, Halt, Waits, Refused, number_after}
-use Rattle.statement_steps.specs.Attempts.{MayGoOn, WentOn, IsAttempt, GoesOn, HasCause, IsHalt}
+use Rattle.statement_steps.specs.Attempts.{CanGoOn, WentOn, IsAttempt, GoesOn, HasCause, IsHalt}
 use Rattle.statement_steps.specs.declared.caller.Caller.{Caller}
 use Rattle.statement_steps.specs.declared.ending.Ending.{Ending}
 use Rattle.statement_steps.specs.declared.ending.Ending.TheVariants as endings
@@ -40,7 +40,8 @@ use Rattle.statement_runs.specs.Database.{Database, unless_cancelled, caller_of,
 use Rattle.statement_runs.specs.Kept.{KeptSeats, AreSeated, TellOf, AreKept, Adds, StandsFor}
 use Rattle.statement_runs.specs.Ran.{attempt_at, HasRun}
 use Rattle.statement_steps.proofs.Numbers.{one_later}
-use Rattle.statement_runs.proofs.Steps.{seats, more_left}
+use Rattle.statement_steps.proofs.Lasting.{goes_on_still}
+use Rattle.statement_runs.proofs.Steps.{seats}
 
 pub number_own : (xs : List ℕ) (s n : ℕ) → s < length xs → slice_index_or (slice_set xs s n) s 0 ≡ n
 number_own xs s n lt = grind (arith, common_steps, elements, nat_tests)
@@ -72,38 +73,23 @@ untold cancelled h s r standing w =
       | inr other ↦ flag_other cancelled s r false other ∙ standing r w
     ]
 
--- what is left to one statement is there, and to the others what was left
-pub at_set : {X : Type 0} (P : X → Type 0) (xs : List X) (s : ℕ) (x d : X) → ((r : ℕ) → P (slice_index_or xs r d)) → P x → (r : ℕ) → P (slice_index_or (slice_set xs s x) r d)
-at_set P [] s x d all it r = all r
-at_set P (y ∷ ys) zero x d all it zero = it
-at_set P (y ∷ ys) zero x d all it (suc r) = all (suc r)
-at_set P (y ∷ ys) (suc s) x d all it zero = all zero
-at_set P (y ∷ ys) (suc s) x d all it (suc r) = at_set P ys s x d (λ k. all (suc k)) it r
+-- what is left to one statement, and to the others what was left
+set_own : {X : Type 0} (xs : List X) (s : ℕ) (x d : X) → s < length xs → slice_index_or (slice_set xs s x) s d ≡ x
+set_own [] s x d lt = absurd (omega (arith, lt))
+set_own (y ∷ ys) zero x d lt = refl
+set_own (y ∷ ys) (suc s) x d lt = set_own ys s x d (omega (arith, lt))
+
+set_other : {X : Type 0} (xs : List X) (s r : ℕ) (x d : X) → s ≢ r → slice_index_or (slice_set xs s x) r d ≡ slice_index_or xs r d
+set_other [] s r x d other = refl
+set_other (y ∷ ys) zero zero x d other = absurd (other refl)
+set_other (y ∷ ys) zero (suc r) x d other = refl
+set_other (y ∷ ys) (suc s) zero x d other = refl
+set_other (y ∷ ys) (suc s) (suc r) x d other = set_other ys s r x d (λ same. other (ap (λ n. suc n) same))
 
 pub set_twice : {X : Type 0} (xs : List X) (s : ℕ) (x y : X) → slice_set (slice_set xs s x) s y ≡ slice_set xs s y
 set_twice [] s x y = refl
 set_twice (z ∷ zs) zero x y = refl
 set_twice (z ∷ zs) (suc s) x y = ap (λ ys. z ∷ ys) (set_twice zs s x y)
-
--- row versions stay
-versions_grow : (events h : History) → length (versions h) ≤ length (versions (events ++ h))
-versions_grow [] h = omega arith
-versions_grow (TxChange e ∷ es) h = versions_grow es h
-versions_grow (SnapshotChange e ∷ es) h = versions_grow es h
-versions_grow (LockChange e ∷ es) h = versions_grow es h
-versions_grow (CatalogueChange e ∷ es) h = versions_grow es h
-versions_grow (RowChange (LeafAdded l) ∷ es) h = versions_grow es h
-versions_grow (RowChange (RowEnded k e) ∷ es) h = versions_grow es h
-versions_grow (RowChange (RowBorn v) ∷ es) h =
-    let le = versions_grow es h in
-    let more : length (versions (es ++ h) ++ v ∷ []) ≡ length (versions (es ++ h)) + 1 = length-append (versions (es ++ h)) (v ∷ []) in
-    omega (arith, le, more)
-
-stored_count : (stores : Stores) (h : History) → Stands stores h → length stores.rows.stored ≡ length (versions h)
-stored_count stores h stands = sym (length-map stores.rows.stored version_of) ∙ ap length stands.all.rows.births
-
-rows_grow : (old new : Stores) (events h : History) → Stands old h → Stands new (events ++ h) → length old.rows.stored ≤ length new.rows.stored
-rows_grow old new events h before after = let le = versions_grow events h in let a = stored_count old h before in let b = stored_count new (events ++ h) after in omega (arith, le, a, b)
 
 -- ---- what is given up
 
@@ -139,7 +125,10 @@ cancelled_tells e s next h seated lt more tells = record {
   ready = tells.ready;
   waits = record {
     caused = tells.waits.caused;
-    going_on = at_set (MayGoOn e.stores) e.rests s None None tells.waits.going_on tt;
+    going_on = λ r. elim (cases_eq s r) [
+      | inl same ↦ subst (λ k. CanGoOn h k (slice_index_or (slice_set e.rests s None) k None)) same (subst (CanGoOn h s) (sym (set_own e.rests s None None (rw seated.rests lt))) tt)
+      | inr other ↦ subst (CanGoOn h r) (sym (set_other e.rests s r None None other)) (tells.waits.going_on r)
+    ];
     standing = λ r w. untold e.cancelled h s r tells.waits.standing w;
   };
 }
@@ -192,7 +181,7 @@ other_wants : (e : KeptSeats) (stores : Stores) (s r : ℕ) (h g : History) → 
 other_wants e stores s r h g other tells goes stand = sym (stand.tells.wants r) ∙ (goes.others r (λ same. other (sym same)) ∙ tells.stands.all.locks.tells.wants r)
 
 pub went_tells : (e : KeptSeats) (stores : Stores) (s n : ℕ) (rest : Option Rest) (commands : List ℕ) (rests : List (Option Rest)) (waiting q : List ℕ) (next : Option ℕ) (events h : History)
-    → IsTried e s stores next → TellOf e h → WentOn h s n waiting stores (events ++ h) → IsCaused stores s → MayGoOn stores rest
+    → IsTried e s stores next → TellOf e h → WentOn h s n waiting stores (events ++ h) → IsCaused stores s → CanGoOn (events ++ h) s rest
     → commands ≡ slice_set e.commands s n → rests ≡ slice_set e.rests s rest → q ≡ e.queue ++ waiting
     → TellOf (tried e stores commands rests q next) (events ++ h)
 went_tells e stores s n rest commands rests waiting q next events h it tells went own may numbers set left = record {
@@ -206,8 +195,12 @@ went_tells e stores s n rest commands rests waiting q next events h it tells wen
       | inl same ↦ own v (subst (λ x. slice_index_or stores.locks.wants x None ≡ Some (Others v)) (sym same) is)
       | inr other ↦ tells.waits.caused r v (sym (it.goes.others r (λ same. other (sym same))) ∙ is) off
     ];
-    going_on = λ r. subst (λ xs. MayGoOn stores (slice_index_or xs r None)) (sym set)
-        (at_set (MayGoOn stores) e.rests s rest None (λ k. more_left e.stores stores (slice_index_or e.rests k None) (rows_grow e.stores stores events h tells.stands went.stands) (tells.waits.going_on k)) may r);
+    going_on = λ r. subst (λ xs. CanGoOn (events ++ h) r (slice_index_or xs r None)) (sym set) (elim (cases_eq s r) [
+      | inl same ↦ subst (λ k. CanGoOn (events ++ h) k (slice_index_or (slice_set e.rests s rest) k None)) same
+          (subst (CanGoOn (events ++ h) s) (sym (set_own e.rests s rest None (rw it.seated.rests it.known))) may)
+      | inr other ↦ subst (CanGoOn (events ++ h) r) (sym (set_other e.rests s r rest None other))
+          (goes_on_still h (events ++ h) r (slice_index_or e.rests r None) (went.since r (λ same. other (sym same))) (tells.waits.going_on r))
+    ]);
     standing = λ r is. elim (cases_eq s r) [
       | inl same ↦ subst (λ x. slice_index_or e.cancelled x false ≡ false) same it.flag
       | inr other ↦ tells.waits.standing r (ap is_some (sym (other_wants e stores s r h (events ++ h) other tells it.goes went.stands.all.locks)) ∙ is)
@@ -338,19 +331,19 @@ commits_ran e a stores next rests ready' h before after m d it tells more set id
 pub waits_tells : (e : KeptSeats) (a : Asker) (stores : Stores) (n : ℕ) (rest : Option Rest) (rests : List (Option Rest)) (q : List ℕ) (ready' : Option ℕ) (h : History) (before after : List ℕ) (m : Made Ended) → IsTried e a.session stores ready' → TellOf e h
     → n ≡ number_after rest (slice_index_or e.commands a.session 0) → rests ≡ slice_set e.rests a.session rest → IsHalt (Err (stop.Waits rest)) stores a.session → q ≡ e.queue ++ a.session ∷ [] → IsAttempt (Err (stop.Waits rest)) stores before after (caller_in e a) h m
     → TellOf (tried e stores (slice_set e.commands a.session n) rests q ready') (m.events ++ h)
-waits_tells e a stores n rest rests q ready' h before after m it tells number set halt left (told, printed, went) =
+waits_tells e a stores n rest rests q ready' h before after m it tells number set halt left (told, printed, went, go) =
     went_tells e stores a.session (number_after rest (slice_index_or e.commands a.session 0)) rest (slice_set e.commands a.session n) rests (a.session ∷ []) q ready' m.events h it tells went
-    (waiting_caused stores a.session halt.0.0 halt.0.1 halt.0.2) halt.1 (ap (slice_set e.commands a.session) number) set left
+    (waiting_caused stores a.session halt.0 halt.1 halt.2) go (ap (slice_set e.commands a.session) number) set left
 
 pub waits_ran : (e : KeptSeats) (a : Asker) (stores : Stores) (n : ℕ) (rest : Option Rest) (rests : List (Option Rest)) (q : List ℕ) (ready' : Option ℕ) (h : History) (before after : List ℕ) (m : Made Ended) → IsTried e a.session stores ready' → TellOf e h
     → n ≡ number_after rest (slice_index_or e.commands a.session 0) → rests ≡ slice_set e.rests a.session rest → IsHalt (Err (stop.Waits rest)) stores a.session → q ≡ e.queue ++ a.session ∷ [] → IsAttempt (Err (stop.Waits rest)) stores before after (caller_in e a) h m
     → Tried e (tried e stores (slice_set e.commands a.session n) rests q ready') a before after outcomes.Waits h m
-waits_ran e a stores n rest rests q ready' h before after m it tells number set halt left (told, printed, went) =
+waits_ran e a stores n rest rests q ready' h before after m it tells number set halt left (told, printed, went, go) =
     let new = tried e stores (slice_set e.commands a.session n) rests q ready' in
     as_tried e new a before after outcomes.Waits h m it.flag (record {
       whole = it.whole;
       tells = subst (λ events. TellOf new (events ++ (m.events ++ h))) (sym (not_done a.level a.session (slice_index_or e.rests a.session None) m.told (Waits rest) told))
-          (waits_tells e a stores n rest rests q ready' h before after m it tells number set halt left (told, printed, went));
+          (waits_tells e a stores n rest rests q ready' h before after m it tells number set halt left (told, printed, went, go));
       outcome = ap outcome_told (sym told);
       text = printed ∙ (sym (append-nil before) ∙ ap (λ t. before ++ text_told t) (sym told));
       commands = ap (slice_set e.commands a.session) number ∙ ap (λ t. slice_set e.commands a.session (next_command t (slice_index_or e.commands a.session 0))) (sym told);

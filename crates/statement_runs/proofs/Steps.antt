@@ -22,7 +22,9 @@ use Rattle.stores.specs.Good.{IsGood}
 use Rattle.stores.specs.Numbers.{IsAt}
 use Rattle.stores.specs.Stand.{AllStand, Stands, AddsGood, IsSameSize}
 use Rattle.stores.specs.declared.stores.Stores.{Stores}
-use Rattle.statement_steps.specs.Attempts.{MayGoOn}
+use Rattle.statement_steps.specs.Attempts.{CanGoOn}
+use Rattle.statement_steps.proofs.Lasting.{goes_on_still}
+use Rattle.statement_runs.proofs.Lasting.{begun_still, ended_still, since_let_go, since_resumed, since_withdrawn}
 use Rattle.statement_steps.specs.declared.rest.Rest.{Rest}
 use Rattle.statement_steps.specs.declared.rest.Rest.TheVariants.{Rows, Detach}
 use Rattle.statement_runs.specs.Kept.{KeptSeats, AreSeated, AreWaits, TellOf, AreKept, Adds}
@@ -75,15 +77,6 @@ over_caused old new s r v idle others is before =
       | inr other ↦ before (sym (others (λ same. other (sym same))) ∙ is) other
     ]
 
--- there are more row versions, or as many
-pub more_left : (old new : Stores) (rest : Option Rest) → length old.rows.stored ≤ length new.rows.stored → MayGoOn old rest → MayGoOn new rest
-more_left old new None le may = may
-more_left old new (Some (Rows r)) le may = λ i d lt. let below = may i d lt in omega (arith, below, le)
-more_left old new (Some (Detach d)) le may = tt
-
-pub same_left : (old new : Stores) (rest : Option Rest) → new.rows ≡ old.rows → MayGoOn old rest → MayGoOn new rest
-same_left old new rest same may = more_left old new rest (let at : length new.rows.stored ≡ length old.rows.stored = ap (λ rows. length rows.stored) same in omega (arith, at)) may
-
 -- ---- what happens
 
 -- a transaction begins
@@ -104,7 +97,7 @@ begun_adds e stores s tx seated lt first good locks rows current = record {
     ready = λ g stand. tells.ready g (subst (λ l. LocksStand l g) locks stand);
     waits = record {
       caused = λ r v is off. tells.waits.caused r v (ap (λ l. slice_index_or l.wants r None) (sym locks) ∙ is) off;
-      going_on = λ r. same_left e.stores stores (slice_index_or e.rests r None) rows (tells.waits.going_on r);
+      going_on = λ r. begun_still s r h (slice_index_or e.rests r None) (tells.waits.going_on r);
       standing = tells.waits.standing;
     };
   };
@@ -127,7 +120,7 @@ ended_adds e stores s ev moved q next seated lt ends good current rows size all 
     ready = readies;
     waits = record {
       caused = marked_caused e stores moved seated size all;
-      going_on = λ r. same_left e.stores stores (slice_index_or e.rests r None) rows (tells.waits.going_on r);
+      going_on = λ r. ended_still (ev h) s r h (slice_index_or e.rests r None) (ends h r) (tells.waits.going_on r);
       standing = λ r w. tells.waits.standing r (given_up_standing s (lock_events h) r w);
     };
   };
@@ -147,7 +140,7 @@ let_go_adds e stores s moved next seated good current rows size all readies = re
     ready = readies;
     waits = record {
       caused = marked_caused e stores moved seated size all;
-      going_on = λ r. same_left e.stores stores (slice_index_or e.rests r None) rows (tells.waits.going_on r);
+      going_on = λ r. goes_on_still h (let_go s ++ h) r (slice_index_or e.rests r None) (since_let_go r s h) (tells.waits.going_on r);
       standing = λ r w. tells.waits.standing r (snapshot_standing s (lock_events h) r w);
     };
   };
@@ -168,7 +161,7 @@ resumed_adds e stores s q next good txs rows idle others left readies = record {
     ready = readies;
     waits = record {
       caused = λ r v is off. over_caused e.stores.locks.wants stores.locks.wants s r v idle (others r) is (λ was other. tells.waits.caused r v was (sym (flag_other e.moved s r false other) ∙ off));
-      going_on = λ r. same_left e.stores stores (slice_index_or e.rests r None) rows (tells.waits.going_on r);
+      going_on = λ r. goes_on_still h (resumed s ++ h) r (slice_index_or e.rests r None) (since_resumed r s h) (tells.waits.going_on r);
       standing = λ r w. tells.waits.standing r (resumed_standing s (lock_events h) r w);
     };
   };
@@ -196,7 +189,7 @@ withdrawn_adds e stores s q next good txs rows idle others left readies = record
     ready = readies;
     waits = record {
       caused = λ r v is off. over_caused e.stores.locks.wants stores.locks.wants s r v idle (others r) is (λ was other. tells.waits.caused r v was off);
-      going_on = λ r. same_left e.stores stores (slice_index_or e.rests r None) rows (tells.waits.going_on r);
+      going_on = λ r. goes_on_still h (withdrawn s ++ h) r (slice_index_or e.rests r None) (since_withdrawn r s h) (tells.waits.going_on r);
       standing = λ r w. withdrawn_apart e h s r tells.waits w;
     };
   };
@@ -266,7 +259,7 @@ new_tells stores n opened commands cancelled rests moved q next off begun none s
   ready = readies;
   waits = record {
     caused = λ s v is off. absurd (let c = sym (stands.all.locks.tells.wants s) ∙ is in cc);
-    going_on = λ s. subst (MayGoOn stores) (sym (ap (λ xs. slice_index_or xs s None) begun ∙ replicated None n s)) tt;
+    going_on = λ s. subst (CanGoOn [] s) (sym (ap (λ xs. slice_index_or xs s None) begun ∙ replicated None n s)) tt;
     standing = λ s e. absurd (let c = e in cc);
   };
 }

@@ -1,105 +1,167 @@
 -- A part of a statement as the whole of it, with what it prints.
-use Rattle.std.proofs.Common.{◌≡◌, ℕ, ◌+◌, List, [], ◌++◌, refl, ap, sym, subst, append-nil, Ok, Err, Result}
+use Rattle.std.proofs.Common.{◌≡◌, ℕ, ◌+◌, Bool, List, [], ◌++◌, refl, ap, sym, subst, append-nil, Ok, Err, Option, Result}
 use Rattle.pg_values.specs.declared.answer.Answer.{Answer}
+use Rattle.pg_values.specs.declared.fault.Fault.{Fault}
+use Rattle.pg_values.specs.declared.lock_mode.LockMode.{LockMode}
+use Rattle.refusals.specs.Refusals.{left_out}
+use Rattle.sql_ast.specs.Commands.{command_tree}
+use Rattle.sql_ast.specs.Queries.{query_tree}
+use Rattle.sql_ast.specs.declared.bound.BoundText.{BoundText}
+use Rattle.sql_ast.specs.declared.command.Command.{Command}
+use Rattle.sql_ast.specs.declared.command.Command.TheVariants as commands
+use Rattle.sql_ast.specs.declared.detachment.Detachment.{Detachment}
+use Rattle.sql_ast.specs.declared.locked_table.LockedTable.{LockedTable}
+use Rattle.sql_ast.specs.declared.query.Query.{Query}
+use Rattle.sql_ast.specs.declared.query.Query.TheVariants as queries
+use Rattle.sql_ast.specs.declared.query.RowStatement.{RowStatement}
+use Rattle.sql_ast.specs.declared.select.Select.{Select}
+use Rattle.sql_ast.specs.declared.table_definition.ColumnDefinition.{ColumnDefinition}
+use Rattle.sql_ast.specs.declared.table_definition.Partitioning.{Partitioning}
 use Rattle.history.specs.History.{History}
 use Rattle.stores.specs.declared.stores.Stores.{Stores}
-use Rattle.statement_steps.specs.Ended.{ended, silent_end, told_as}
-use Rattle.statement_steps.specs.Made.{Made}
+use Rattle.statement_steps.specs.Attempts.{MayAttempt}
+use Rattle.statement_steps.specs.Ended.{Ended, ended, silent_end, told_as}
+use Rattle.statement_steps.specs.Made.{Made, Halt, Refused}
 use Rattle.statement_steps.specs.declared.caller.Caller.{Caller}
 use Rattle.statement_steps.specs.declared.ending.Ending.{Ending}
 use Rattle.statement_steps.specs.declared.ending.Ending.TheVariants as endings
+use Rattle.statement_steps.specs.declared.rest.Rest.{Rest}
 use Rattle.statement_steps.specs.declared.stop.Stop.{Stop}
 use Rattle.statement_steps.specs.declared.stop.Stop.TheVariants as stop
 use Rattle.statement_steps.specs.Steps.{IsStep}
+use Rattle.statement_steps.proofs.Numbers.{one_later}
+use Rattle.statement_steps.proofs.Parts.{stays, still_on}
 use Rattle.change_statement.specs.Running.{IsCommand}
-use Rattle.change_statement.proofs.Commands.{waits_later}
-use Rattle.statement_runs.specs.Attempted.{nothing, table, as_table, silent, tabled, staged}
+use Rattle.change_statement.proofs.Commands.{goes_anywhere, waits_later}
+use Rattle.statement_runs.specs.Attempted.{nothing, table, as_table, silent, tabled, staged, omitted, command_attempted, query_attempted}
+use Rattle.statement_runs.specs.LeftOut.{command_word, query_word}
 use Rattle.statement_runs.specs.Printed.{IsStatement}
 
 -- ---- it prints nothing
 
-pub silent_is : (r : Result (Unit {0}) Stop) (old new : Stores) (caller : Caller) (f : History → Made (Unit {0})) (before : List ℕ) → IsStep (λ (u : Unit {0}). u) r old new caller (caller.cmd + 1) f → IsStatement (ended r) old new before before caller (silent f)
-silent_is (Ok u) old new caller f before step = record {
-  is = λ h stands at. let t = step.is h stands at in ([], ap (told_as nothing) t.0, sym (append-nil before), t.1);
+pub silent_is : (left : Option Rest) → (r : Result (Unit {0}) Stop) (old new : Stores) (caller : Caller) (f : History → Made (Unit {0})) (before : List ℕ) → IsStep (λ (u : Unit {0}). u) r old new caller (caller.cmd + 1) f → IsStatement left (ended r) old new before before caller (silent f)
+silent_is left (Ok u) old new caller f before step = record {
+  is = λ h stands at go. let t = step.is h stands at in ([], ap (told_as nothing) t.0, sym (append-nil before), t.1);
   keeps = step.keeps;
   waits = step.waits;
 }
-silent_is (Err (stop.Waits rest)) old new caller f before step = record {
-  is = λ h stands at. let t = step.is h stands at in (ap (told_as nothing) t.0, refl, waits_later rest new caller h ((f h).events ++ h) t.1);
+silent_is left (Err (stop.Waits rest)) old new caller f before step = record {
+  is = λ h stands at go. let t = step.is h stands at in (ap (told_as nothing) t.0, refl, waits_later rest new caller h ((f h).events ++ h) t.1, goes_anywhere rest ((f h).events ++ h) caller.session step.waits.1);
+  keeps = step.keeps;
+  waits = step.waits.0;
+}
+silent_is left (Err (stop.Refused fault)) old new caller f before step = record {
+  is = λ h stands at go. let t = step.is h stands at in (ap (told_as nothing) t.0, refl, t.1);
   keeps = step.keeps;
   waits = step.waits;
 }
-silent_is (Err (stop.Refused fault)) old new caller f before step = record {
-  is = λ h stands at. let t = step.is h stands at in (ap (told_as nothing) t.0, refl, t.1);
-  keeps = step.keeps;
-  waits = step.waits;
-}
-silent_is (Err stop.NoMemory) old new caller f before step = record { is = λ h stands at. tt; keeps = step.keeps; waits = tt }
+silent_is left (Err stop.NoMemory) old new caller f before step = record { is = λ h stands at go. tt; keeps = step.keeps; waits = tt }
 
-pub silent_ends : (r : Result Ending Stop) (done : Result (Unit {0}) Stop) → r ≡ ended done → (old new : Stores) (caller : Caller) (f : History → Made (Unit {0})) (before : List ℕ) → IsStep (λ (u : Unit {0}). u) done old new caller (caller.cmd + 1) f → IsStatement r old new before before caller (silent f)
-silent_ends r done same old new caller f before step = subst (λ (x : Result Ending Stop). IsStatement x old new before before caller (silent f)) (sym same) (silent_is done old new caller f before step)
+pub silent_ends : (left : Option Rest) → (r : Result Ending Stop) (done : Result (Unit {0}) Stop) → r ≡ ended done → (old new : Stores) (caller : Caller) (f : History → Made (Unit {0})) (before : List ℕ) → IsStep (λ (u : Unit {0}). u) done old new caller (caller.cmd + 1) f → IsStatement left r old new before before caller (silent f)
+silent_ends left r done same old new caller f before step = subst (λ (x : Result Ending Stop). IsStatement left x old new before before caller (silent f)) (sym same) (silent_is left done old new caller f before step)
 
 -- nor does one that may commit what it did first
-pub staged_is : (r : Result Ending Stop) (old new : Stores) (caller : Caller) (f : History → Made Ending) (before : List ℕ) → IsStep (λ (e : Ending). e) r old new caller (caller.cmd + 1) f → IsStatement r old new before before caller (staged f)
-staged_is (Ok endings.Done) old new caller f before step = record {
-  is = λ h stands at. let t = step.is h stands at in ([], ap (told_as silent_end) t.0, sym (append-nil before), t.1);
+pub staged_is : (left : Option Rest) → (r : Result Ending Stop) (old new : Stores) (caller : Caller) (f : History → Made Ending) (before : List ℕ) → IsStep (λ (e : Ending). e) r old new caller (caller.cmd + 1) f → IsStatement left r old new before before caller (staged f)
+staged_is left (Ok endings.Done) old new caller f before step = record {
+  is = λ h stands at go. let t = step.is h stands at in ([], ap (told_as silent_end) t.0, sym (append-nil before), t.1);
   keeps = step.keeps;
   waits = step.waits;
 }
-staged_is (Ok (endings.Commits d)) old new caller f before step = record {
-  is = λ h stands at. let t = step.is h stands at in (ap (told_as silent_end) t.0, refl, t.1);
+staged_is left (Ok (endings.Commits d)) old new caller f before step = record {
+  is = λ h stands at go. let t = step.is h stands at in (ap (told_as silent_end) t.0, refl, t.1);
   keeps = step.keeps;
   waits = step.waits;
 }
-staged_is (Err (stop.Waits rest)) old new caller f before step = record {
-  is = λ h stands at. let t = step.is h stands at in (ap (told_as silent_end) t.0, refl, waits_later rest new caller h ((f h).events ++ h) t.1);
+staged_is left (Err (stop.Waits rest)) old new caller f before step = record {
+  is = λ h stands at go. let t = step.is h stands at in (ap (told_as silent_end) t.0, refl, waits_later rest new caller h ((f h).events ++ h) t.1, goes_anywhere rest ((f h).events ++ h) caller.session step.waits.1);
+  keeps = step.keeps;
+  waits = step.waits.0;
+}
+staged_is left (Err (stop.Refused fault)) old new caller f before step = record {
+  is = λ h stands at go. let t = step.is h stands at in (ap (told_as silent_end) t.0, refl, t.1);
   keeps = step.keeps;
   waits = step.waits;
 }
-staged_is (Err (stop.Refused fault)) old new caller f before step = record {
-  is = λ h stands at. let t = step.is h stands at in (ap (told_as silent_end) t.0, refl, t.1);
-  keeps = step.keeps;
-  waits = step.waits;
-}
-staged_is (Err stop.NoMemory) old new caller f before step = record { is = λ h stands at. tt; keeps = step.keeps; waits = tt }
+staged_is left (Err stop.NoMemory) old new caller f before step = record { is = λ h stands at go. tt; keeps = step.keeps; waits = tt }
 
 -- and so does a statement that may wait in the middle of its run
-pub command_is : (r : Result (Unit {0}) Stop) (old new : Stores) (caller : Caller) (f : History → Made (Unit {0})) (before : List ℕ) → IsCommand r old new caller f → IsStatement (ended r) old new before before caller (silent f)
-command_is (Ok u) old new caller f before step = record {
-  is = λ h stands at. let t = step.is h stands at in ([], ap (told_as nothing) t.0, sym (append-nil before), t.1);
+pub command_is : (left : Option Rest) → (r : Result (Unit {0}) Stop) (old new : Stores) (caller : Caller) (f : History → Made (Unit {0})) (before : List ℕ) → IsCommand left r old new caller f → IsStatement left (ended r) old new before before caller (silent f)
+command_is left (Ok u) old new caller f before step = record {
+  is = λ h stands at go. let t = step.is h stands at go in ([], ap (told_as nothing) t.0, sym (append-nil before), t.1);
   keeps = step.keeps;
   waits = step.waits;
 }
-command_is (Err (stop.Waits rest)) old new caller f before step = record {
-  is = λ h stands at. let t = step.is h stands at in (ap (told_as nothing) t.0, refl, t.1);
+command_is left (Err (stop.Waits rest)) old new caller f before step = record {
+  is = λ h stands at go. let t = step.is h stands at go in (ap (told_as nothing) t.0, refl, t.1, t.2);
   keeps = step.keeps;
   waits = step.waits;
 }
-command_is (Err (stop.Refused fault)) old new caller f before step = record {
-  is = λ h stands at. let t = step.is h stands at in (ap (told_as nothing) t.0, refl, t.1);
+command_is left (Err (stop.Refused fault)) old new caller f before step = record {
+  is = λ h stands at go. let t = step.is h stands at go in (ap (told_as nothing) t.0, refl, t.1);
   keeps = step.keeps;
   waits = step.waits;
 }
-command_is (Err stop.NoMemory) old new caller f before step = record { is = λ h stands at. tt; keeps = step.keeps; waits = tt }
+command_is left (Err stop.NoMemory) old new caller f before step = record { is = λ h stands at go. tt; keeps = step.keeps; waits = tt }
 
 -- ---- it prints a table
 
-pub tabled_is : (a : Answer) (old new : Stores) (caller : Caller) (f : History → Made Answer) (before after : List ℕ) → after ≡ before ++ table a → IsStep (λ (x : Answer). x) (Ok a) old new caller (caller.cmd + 1) f → IsStatement (Ok endings.Done) old new before after caller (tabled f)
-tabled_is a old new caller f before after printed step = record {
-  is = λ h stands at. let t = step.is h stands at in (table a, ap (told_as as_table) t.0, printed, t.1);
+pub tabled_is : (left : Option Rest) → (a : Answer) (old new : Stores) (caller : Caller) (f : History → Made Answer) (before after : List ℕ) → after ≡ before ++ table a → IsStep (λ (x : Answer). x) (Ok a) old new caller (caller.cmd + 1) f → IsStatement left (Ok endings.Done) old new before after caller (tabled f)
+tabled_is left a old new caller f before after printed step = record {
+  is = λ h stands at go. let t = step.is h stands at in (table a, ap (told_as as_table) t.0, printed, t.1);
   keeps = step.keeps;
   waits = step.waits;
 }
 
-pub tabled_stops : (e : Stop) (old new : Stores) (caller : Caller) (f : History → Made Answer) (before : List ℕ) → IsStep (λ (x : Answer). x) (Err e) old new caller (caller.cmd + 1) f → IsStatement (Err e) old new before before caller (tabled f)
-tabled_stops (stop.Waits rest) old new caller f before step = record {
-  is = λ h stands at. let t = step.is h stands at in (ap (told_as as_table) t.0, refl, waits_later rest new caller h ((f h).events ++ h) t.1);
+pub tabled_stops : (left : Option Rest) → (e : Stop) (old new : Stores) (caller : Caller) (f : History → Made Answer) (before : List ℕ) → IsStep (λ (x : Answer). x) (Err e) old new caller (caller.cmd + 1) f → IsStatement left (Err e) old new before before caller (tabled f)
+tabled_stops left (stop.Waits rest) old new caller f before step = record {
+  is = λ h stands at go. let t = step.is h stands at in (ap (told_as as_table) t.0, refl, waits_later rest new caller h ((f h).events ++ h) t.1, goes_anywhere rest ((f h).events ++ h) caller.session step.waits.1);
+  keeps = step.keeps;
+  waits = step.waits.0;
+}
+tabled_stops left (stop.Refused fault) old new caller f before step = record {
+  is = λ h stands at go. let t = step.is h stands at in (ap (told_as as_table) t.0, refl, t.1);
   keeps = step.keeps;
   waits = step.waits;
 }
-tabled_stops (stop.Refused fault) old new caller f before step = record {
-  is = λ h stands at. let t = step.is h stands at in (ap (told_as as_table) t.0, refl, t.1);
-  keeps = step.keeps;
-  waits = step.waits;
+tabled_stops left stop.NoMemory old new caller f before step = record { is = λ h stands at go. tt; keeps = step.keeps; waits = tt }
+
+-- ---- it is left out
+
+abbrev refused_as : Fault → Result Ended Halt
+refused_as f = Err (Refused f)
+
+pub omitted_is : (left : Option Rest) (word : List ℕ) (fault : Fault) (stores : Stores) (caller : Caller) (before : List ℕ) → MayAttempt stores caller → fault ≡ left_out word → IsStatement left (Err (stop.Refused fault)) stores stores before before caller (omitted word)
+omitted_is left word fault stores caller before may is = record {
+  is = λ h stands at go. (ap refused_as (sym is), refl, still_on stores h caller.session (caller.cmd + 1) stands (one_later h caller.session caller.cmd at));
+  keeps = stays stores caller.session;
+  waits = may.idle;
 }
-tabled_stops stop.NoMemory old new caller f before step = record { is = λ h stands at. tt; keeps = step.keeps; waits = tt }
+
+-- as what has no case of its own
+pub query_omitted : (prunes : Bool) (names : List (List ℕ)) (caller : Caller) (rest : Option Rest) (q : Query) → ((s : RowStatement) → q ≡ queries.Rows s → ⊥) → ((analyze : Bool) (s : Select) → q ≡ queries.ExplainSelect analyze s → ⊥)
+    → query_attempted prunes names caller rest (query_tree q) ≡ omitted (query_word (query_tree q))
+query_omitted prunes names caller rest (queries.Rows s) rows explains = absurd (rows s refl)
+query_omitted prunes names caller rest (queries.Prepare name kinds s) rows explains = refl
+query_omitted prunes names caller rest (queries.Execute name arguments) rows explains = refl
+query_omitted prunes names caller rest (queries.ExplainSelect analyze s) rows explains = absurd (explains analyze s refl)
+query_omitted prunes names caller rest (queries.ExplainExecute analyze name arguments) rows explains = refl
+
+pub command_omitted : (names : List (List ℕ)) (caller : Caller) (rest : Option Rest) (t : Command)
+    → ((name : List ℕ) (columns : List ColumnDefinition) (by : Option Partitioning) → t ≡ commands.CreateTable name columns by → ⊥)
+    → ((name parent : List ℕ) (bound : BoundText) (by : Option Partitioning) → t ≡ commands.CreatePartition name parent bound by → ⊥)
+    → ((if_there : Bool) (tables : List (List ℕ)) → t ≡ commands.DropTables if_there tables → ⊥) → ((parent name : List ℕ) (bound : BoundText) → t ≡ commands.Attach parent name bound → ⊥)
+    → ((parent name : List ℕ) (how : Detachment) → t ≡ commands.Detach parent name how → ⊥) → ((tables : List LockedTable) (mode : LockMode) → t ≡ commands.Lock tables mode → ⊥)
+    → command_attempted names caller rest (command_tree t) ≡ omitted (command_word (command_tree t))
+command_omitted names caller rest (commands.Begin level) a b c d e f = refl
+command_omitted names caller rest commands.Commit a b c d e f = refl
+command_omitted names caller rest commands.Rollback a b c d e f = refl
+command_omitted names caller rest (commands.Set name value) a b c d e f = refl
+command_omitted names caller rest (commands.Reset name) a b c d e f = refl
+command_omitted names caller rest (commands.CreateTable name columns by) a b c d e f = absurd (a name columns by refl)
+command_omitted names caller rest (commands.CreatePartition name parent bound by) a b c d e f = absurd (b name parent bound by refl)
+command_omitted names caller rest (commands.DropTables if_there tables) a b c d e f = absurd (c if_there tables refl)
+command_omitted names caller rest (commands.Attach parent name bound) a b c d e f = absurd (d parent name bound refl)
+command_omitted names caller rest (commands.Detach parent name how) a b c d e f = absurd (e parent name how refl)
+command_omitted names caller rest (commands.Lock tables mode) a b c d e f = absurd (f tables mode refl)
+command_omitted names caller rest (commands.Deallocate name) a b c d e f = refl
+command_omitted names caller rest commands.DeallocateAll a b c d e f = refl

@@ -11,7 +11,7 @@ use Rattle.lock_table.specs.Stands.{TableStands as LocksStand, names}
 use Rattle.stores.specs.Stand.{Stands}
 use Rattle.stores.specs.Numbers.{IsAt}
 use Rattle.stores.specs.declared.stores.Stores.{Stores}
-use Rattle.statement_steps.specs.Attempts.{MayGoOn}
+use Rattle.statement_steps.specs.Attempts.{CanGoOn}
 use Rattle.statement_runs.specs.Database.{Database, is_ready}
 use Rattle.statement_steps.specs.declared.rest.Rest.{Rest}
 
@@ -43,10 +43,10 @@ pub record AreSeated (kept : KeptSeats) : Type 0 where
   pub ready : IfSome kept.ready (λ s. s < length kept.opened)
 
 -- who waits for others has a cause until something is given up, no wait that stands was cancelled, and what is left to
--- statements is there
+-- statements is there, and holds still
 pub record AreWaits (kept : KeptSeats) (h : History) : Type 0 where
   pub caused : (s : ℕ) (w : WaitOn) → slice_index_or kept.stores.locks.wants s None ≡ Some (Others w) → slice_index_or kept.moved s false ≡ false → (y : ℕ) × (names w y ≡ true)
-  pub going_on : (s : ℕ) → MayGoOn kept.stores (slice_index_or kept.rests s None)
+  pub going_on : (s : ℕ) → CanGoOn h s (slice_index_or kept.rests s None)
   pub standing : (s : ℕ) → is_some (wanted (lock_events h) s) ≡ true → slice_index_or kept.cancelled s false ≡ false
 
 -- what is kept tells of the history

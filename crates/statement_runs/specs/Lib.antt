@@ -1,5 +1,6 @@
 pub mod Attempted
 pub mod Changes
+pub mod Codes
 pub mod Database
 pub mod Faults
 pub mod Kept

@@ -1,17 +1,19 @@
 -- A statement that has run, with what it has printed.
-use Rattle.std.specs.Prelude.{ℕ, List, Result}
+use Rattle.std.specs.Prelude.{ℕ, List, Option, Result}
 use Rattle.history.specs.History.{History}
 use Rattle.stores.specs.Stand.{Stands}
 use Rattle.stores.specs.Numbers.{IsAt}
 use Rattle.stores.specs.declared.stores.Stores.{Stores}
 use Rattle.statement_steps.specs.Ended.{Ended}
 use Rattle.statement_steps.specs.Made.{Made}
-use Rattle.statement_steps.specs.Attempts.{IsAttempt, IsHalt, GoesOn}
+use Rattle.statement_steps.specs.Attempts.{CanGoOn, IsAttempt, IsHalt, GoesOn}
 use Rattle.statement_steps.specs.declared.caller.Caller.{Caller}
 use Rattle.statement_steps.specs.declared.ending.Ending.{Ending}
+use Rattle.statement_steps.specs.declared.rest.Rest.{Rest}
 use Rattle.statement_steps.specs.declared.stop.Stop.{Stop}
 
-pub record IsStatement (result : Result Ending Stop) (old new : Stores) (before after : List ℕ) (caller : Caller) (f : History → Made Ended) : Type 0 where
-  pub is : (h : History) → Stands old h → IsAt h caller.session caller.cmd → IsAttempt result new before after caller h (f h)
+-- from its beginning, or from where it stood, if that is told
+pub record IsStatement (rest : Option Rest) (result : Result Ending Stop) (old new : Stores) (before after : List ℕ) (caller : Caller) (f : History → Made Ended) : Type 0 where
+  pub is : (h : History) → Stands old h → IsAt h caller.session caller.cmd → CanGoOn h caller.session rest → IsAttempt result new before after caller h (f h)
   pub keeps : GoesOn old new caller.session
   pub waits : IsHalt result new caller.session

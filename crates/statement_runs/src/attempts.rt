@@ -1,9 +1,10 @@
-ghost use Rattle.std.specs.Prelude.{◌≡◌, ◌≤◌, length, false};
+ghost use Rattle.std.specs.Prelude.{◌≡◌, ◌≤◌, Option, length, false};
 ghost use Rattle.sql_ast.specs.Commands.{command_tree};
 ghost use Rattle.sql_ast.specs.Queries.{query_tree, row_tree, select_tree};
 ghost use Rattle.sql_ast.specs.Statements.{statement_tree};
 ghost use Rattle.statement_steps.specs.Attempts.{MayAttempt, MayGoOn};
 ghost use Rattle.statement_steps.specs.Ended.{ended};
+ghost use Rattle.statement_steps.specs.declared.rest.Rest.{Rest as Left};
 ghost use Rattle.statement_runs.specs.Attempted as attempted;
 ghost use Rattle.statement_runs.specs.Printed.{IsStatement};
 
@@ -34,7 +35,7 @@ fn check_room(stores: &Stores, caller: Caller)
 // It is refused, and told by that word.
 fn omit(alloc: Global, stores: &Stores, caller: Caller, word: &[u8], out: &[u8]) -> Result<(), Stop>
     requires { MayAttempt stores.now caller }
-    ensures { IsStatement (ended result) stores.now stores.now out.now out.now caller (attempted.omitted word.now) }
+    ensures { (left : Option Left) → IsStatement left (ended result) stores.now stores.now out.now out.now caller (attempted.omitted word.now) }
 {
     match left_out(alloc, word) {
         Ok(fault) => Err(Stop::Refused(fault)),
@@ -52,7 +53,7 @@ fn attempt_command(
     out: &[u8],
 ) -> Result<Ending, Stop>
     requires { MayAttempt stores.old caller }
-    ensures { IsStatement result stores.old stores.new out.now out.now caller (attempted.command_attempted names.now caller rest (command_tree command.now)) }
+    ensures { IsStatement rest result stores.old stores.new out.now out.now caller (attempted.command_attempted names.now caller rest (command_tree command.now)) }
 {
     check_room(stores, caller);
     match command {
@@ -103,7 +104,7 @@ fn attempt_select(
     out: &mut Vec<u8>,
 ) -> Result<(), Stop>
     requires { MayAttempt stores.old caller }
-    ensures { IsStatement (ended result) stores.old stores.new out.old.items out.new.items caller (attempted.select_attempted prunes names.now caller (select_tree statement.now)) }
+    ensures { (left : Option Left) → IsStatement left (ended result) stores.old stores.new out.old.items out.new.items caller (attempted.select_attempted prunes names.now caller (select_tree statement.now)) }
 {
     check_room(stores, caller);
     match select(alloc, stores, names, caller, prunes, statement) {
@@ -126,8 +127,8 @@ fn attempt_rows(
     out: &mut Vec<u8>,
 ) -> Result<(), Stop>
     requires may { MayAttempt stores.old caller }
-    requires rest { MayGoOn stores.old rest }
-    ensures { IsStatement (ended result) stores.old stores.new out.old.items out.new.items caller (attempted.row_attempted prunes names.now caller rest (row_tree statement.now)) }
+    requires rest { MayGoOn stores.old caller rest }
+    ensures { IsStatement rest (ended result) stores.old stores.new out.old.items out.new.items caller (attempted.row_attempted prunes names.now caller rest (row_tree statement.now)) }
 {
     check_room(stores, caller);
     match statement {
@@ -149,7 +150,7 @@ fn attempt_plan(
     out: &mut Vec<u8>,
 ) -> Result<(), Stop>
     requires { MayAttempt stores.old caller }
-    ensures { IsStatement (ended result) stores.old stores.new out.old.items out.new.items caller (attempted.explain_attempted prunes names.now caller false (select_tree statement.now)) }
+    ensures { (left : Option Left) → IsStatement left (ended result) stores.old stores.new out.old.items out.new.items caller (attempted.explain_attempted prunes names.now caller false (select_tree statement.now)) }
 {
     check_room(stores, caller);
     match explain(alloc, stores, names, caller, prunes, statement) {
@@ -172,7 +173,7 @@ fn attempt_explain(
     out: &mut Vec<u8>,
 ) -> Result<(), Stop>
     requires { MayAttempt stores.old caller }
-    ensures { IsStatement (ended result) stores.old stores.new out.old.items out.new.items caller (attempted.explain_attempted prunes names.now caller analyze (select_tree statement.now)) }
+    ensures { (left : Option Left) → IsStatement left (ended result) stores.old stores.new out.old.items out.new.items caller (attempted.explain_attempted prunes names.now caller analyze (select_tree statement.now)) }
 {
     if analyze {
         omit(alloc, stores, caller, b"ANALYZE", out)
@@ -192,8 +193,8 @@ fn attempt_query(
     out: &mut Vec<u8>,
 ) -> Result<(), Stop>
     requires may { MayAttempt stores.old caller }
-    requires rest { MayGoOn stores.old rest }
-    ensures { IsStatement (ended result) stores.old stores.new out.old.items out.new.items caller (attempted.query_attempted prunes names.now caller rest (query_tree query.now)) }
+    requires rest { MayGoOn stores.old caller rest }
+    ensures { IsStatement rest (ended result) stores.old stores.new out.old.items out.new.items caller (attempted.query_attempted prunes names.now caller rest (query_tree query.now)) }
 {
     match query {
         Query::Rows(s) => attempt_rows(alloc, stores, names, caller, prunes, rest, s, out),
@@ -217,8 +218,8 @@ pub(crate) fn attempt(
     out: &mut Vec<u8>,
 ) -> Result<Ending, Stop>
     requires may { MayAttempt stores.old caller }
-    requires rest { MayGoOn stores.old rest }
-    ensures { IsStatement result stores.old stores.new out.old.items out.new.items caller (attempted.attempted names.now caller rest settings (statement_tree statement.now)) }
+    requires rest { MayGoOn stores.old caller rest }
+    ensures { IsStatement rest result stores.old stores.new out.old.items out.new.items caller (attempted.attempted names.now caller rest settings (statement_tree statement.now)) }
 {
     match statement {
         Statement::Command(command) => {

@@ -16,7 +16,7 @@ pub trait Kinds: Sized + Drop {
     ghost use Rattle.stores.specs.Numbers.{IsAt};
     ghost use Rattle.statement_runs.specs.Once.{AllCommitOnce};
     ghost use Rattle.statement_runs.specs.Words.{Words};
-    ghost use Rattle.statement_steps.specs.Attempts.{MayAttempt, MayGoOn, IsAttempt, IsHalt, GoesOn};
+    ghost use Rattle.statement_steps.specs.Attempts.{CanGoOn, MayAttempt, MayGoOn, IsAttempt, IsHalt, GoesOn};
 
     type Statement: Drop;
 
@@ -98,8 +98,8 @@ pub trait Kinds: Sized + Drop {
         out: &mut Vec<u8>,
     ) -> Result<Ending, Stop>
         requires may { MayAttempt stores.old caller }
-        requires rest { MayGoOn stores.old rest }
-        ensures is { (h : History) → Stands stores.old h → IsAt h caller.session caller.cmd →
+        requires rest { MayGoOn stores.old caller rest }
+        ensures is { (h : History) → Stands stores.old h → IsAt h caller.session caller.cmd → CanGoOn h caller.session rest →
             IsAttempt result stores.new out.old.items out.new.items caller h (words.attempted (options self.now) caller rest h settings (tree statement.now)) }
         ensures keeps { GoesOn stores.old stores.new caller.session }
         ensures waits { IsHalt result stores.new caller.session };

@@ -42,9 +42,17 @@ pub struct Seats {
 }
 
 impl Model for Seats {
+    ghost use Rattle.std.specs.Coded.{codes};
+    ghost use Rattle.statement_steps.specs.Codes.{asked_code, cond_code, found_code, left_code, scalar_code, table_code};
+    ghost use Rattle.statement_runs.specs.Codes.{rest_code, seats_code};
     ghost use Rattle.statement_runs.specs.Kept.{KeptSeats, AreKept};
 
     ghost Value = { KeptSeats };
+
+    ghost coded = { seats_code (Prim.hlevel codes) (rest_code (left_code (Prim.hlevel codes)
+        (found_code (Prim.hlevel codes) (table_code (Prim.hlevel codes) (Prim.hlevel codes) (Prim.hlevel codes) (Prim.hlevel codes)) (Prim.hlevel codes)
+        (asked_code (scalar_code (Prim.hlevel codes) (Prim.hlevel codes) (Prim.hlevel codes)) (cond_code (Prim.hlevel codes) (Prim.hlevel codes) (Prim.hlevel codes))) (Prim.hlevel codes))
+        (Prim.hlevel codes)) (Prim.hlevel codes)) };
 
     ghost view = { λ e. record { stores = e.stores; opened = e.opened.items; commands = e.commands.items; cancelled = e.cancelled.items; rests = e.rests.items; moved = e.moved.items; queue = e.queue.items; ready = e.ready; whole = e.whole } };
 

@@ -3,4 +3,6 @@ mod Known
 mod Left
 pub mod Parts
 pub mod Steps
+pub mod Lasting
+pub mod Since
 pub mod Waiting

@@ -39,18 +39,20 @@ use Rattle.stores.specs.declared.stores.Stores.{Stores}
 use Rattle.lock_table.specs.AnswerLaws.{AnswerIsTold, HistoryIsTold}
 use Rattle.lock_table.specs.Asked.{asked, asked_view, asked_events, asked_history, AskedView, AtOnce, WaitsBehind, ClosesCycle}
 use Rattle.statement_steps.specs.Made.{Made, Waits, Refused, made, halted}
-use Rattle.statement_steps.specs.Attempts.{MayAttempt, MayGoOn, WentOn, GoesOn, HasCause, LocksStay}
+use Rattle.statement_steps.specs.Attempts.{MayAttempt, NoRows, WentOn, GoesOn, HasCause, LocksStay}
 use Rattle.statement_steps.specs.declared.rest.Rest.{Rest}
 use Rattle.statement_steps.specs.declared.caller.Caller.{Caller}
 use Rattle.statement_steps.specs.declared.stop.Stop.{Stop}
 use Rattle.statement_steps.specs.declared.stop.Stop.TheVariants as stop
 use Rattle.statement_steps.proofs.Numbers.{at_lock, one_later}
+use Rattle.statement_steps.specs.Waiting.{Since}
+use Rattle.statement_steps.proofs.Since.{since_now, since_locks, since_held}
 use Rattle.statement_steps.proofs.Steps.{halted_same}
 use Rattle.statement_steps.proofs.Known.{some_of, has_known}
 use Rattle.statement_steps.specs.Faults.{name_of, stop_by}
 use Rattle.statement_steps.specs.Asks.{told_by, found, meant_or_none, number_or, kept_number, same_or_gone}
 use Rattle.statement_steps.specs.Known.{maker_of, IsKnownTo}
-use Rattle.statement_steps.specs.Steps.{IsTold, IsStep}
+use Rattle.statement_steps.specs.Steps.{IsTold, IsPart, IsStep}
 
 -- ---- nothing is done
 
@@ -63,7 +65,7 @@ stays stores s = record {
 }
 
 pub still_on : (stores : Stores) (h : History) (s n : ℕ) → Stands stores h → IsAt h s n → WentOn h s n [] stores h
-still_on stores h s n stands at = record { stands = stands; at = at; others = λ r c other is. is; queue = sym (append-nil (queue (lock_events h))) }
+still_on stores h s n stands at = record { stands = stands; at = at; others = λ r c other is. is; since = λ r other. since_now r h; queue = sym (append-nil (queue (lock_events h))) }
 
 pub nothing_done : {X T : Type 0} (see : X → T) (x : X) (stores : Stores) (caller : Caller) (f : History → Made T) → MayAttempt stores caller
     → ((h : History) → Stands stores h → f h ≡ made [] (see x)) → IsStep see (Ok x) stores stores caller caller.cmd f
@@ -158,7 +160,7 @@ asked_on : (w : Wanted) (old new : Stores) (caller : Caller) (answer : Asked) (w
     → ((r c : ℕ) → IsAt h r c → IsAt (after caller.session w answer h) r c) → queue (lock_events (after caller.session w answer h)) ≡ queue (lock_events h) ++ waiting
     → WentOn h caller.session n waiting new (map LockChange (asked_events (lock_events h) caller.session w) ++ h)
 asked_on w old new caller answer waiting n h asked stands at others queued =
-    subst (WentOn h caller.session n waiting new) (asked.history h stands) (record { stands = asked.good h stands; at = at; others = λ r c other is. others r c is; queue = queued })
+    subst (WentOn h caller.session n waiting new) (asked.history h stands) (record { stands = asked.good h stands; at = at; others = λ r c other is. others r c is; since = λ r other. subst (Since r h) (sym (asked.history h stands)) (since_locks r (asked_events (lock_events h) caller.session w) h); queue = queued })
 
 granted_at : (w : Wanted) (s : ℕ) (h : History) (r c : ℕ) → IsAt h r c → IsAt (after s w Granted h) r c
 granted_at (Lock t m) s h r c at = at_lock (LockGot s t.number m) h r c at
@@ -193,16 +195,22 @@ has_cause (Lock t m) s h cause = tt
 has_cause (Others (Ends of)) s h cause = cause
 has_cause (Others (Snapshots of)) s h cause = cause
 
-pub waiting_step : (names : List (List ℕ)) (old new : Stores) (caller : Caller) (w : Wanted) (rest : Option Rest) (behind : SessionSet) → MayAttempt old caller → MayGoOn old rest → HasAsked old new caller w (IsBehindOthers behind)
-    → IsStep (λ (u : Unit {0}). u) (Err (stop.Waits rest)) old new caller caller.cmd (asked_for names caller.session w rest)
-waiting_step names old new caller w rest behind may left asked = record {
+pub waiting_part : (names : List (List ℕ)) (old new : Stores) (caller : Caller) (w : Wanted) (rest : Option Rest) (behind : SessionSet) → MayAttempt old caller → HasAsked old new caller w (IsBehindOthers behind)
+    → IsPart (λ (u : Unit {0}). u) (Err (stop.Waits rest)) old new caller caller.cmd (asked_for names caller.session w rest)
+waiting_part names old new caller w rest behind may asked = record {
   is = λ h stands at.
       let events = map LockChange (asked_events (lock_events h) caller.session w) in
       subst (IsTold (λ (u : Unit {0}). u) (Err (stop.Waits rest)) new caller caller.cmd h) (sym (told_waits names rest events (sessions behind) _ (asked.view h stands)))
       (refl, asked_on w old new caller (IsBehindOthers behind) (caller.session ∷ []) caller.cmd h asked stands (waiting_at w caller.session behind h caller.session caller.cmd at) (waiting_at w caller.session behind h) (waiting_queue w caller.session behind h));
   keeps = asked_keeps old new caller w (IsBehindOthers behind) may asked;
-  waits = ((w, asked.waits, has_cause w caller.session (lock_events may.sound.0) (asked.is may.sound.0 may.sound.1).some), subst (λ s. MayGoOn s rest) (sym asked.rest) left);
+  waits = (w, asked.waits, has_cause w caller.session (lock_events may.sound.0) (asked.is may.sound.0 may.sound.1).some);
 }
+
+pub waiting_step : (names : List (List ℕ)) (old new : Stores) (caller : Caller) (w : Wanted) (rest : Option Rest) (behind : SessionSet) → MayAttempt old caller → NoRows rest → HasAsked old new caller w (IsBehindOthers behind)
+    → IsStep (λ (u : Unit {0}). u) (Err (stop.Waits rest)) old new caller caller.cmd (asked_for names caller.session w rest)
+waiting_step names old new caller w rest behind may left asked =
+    let part = waiting_part names old new caller w rest behind may asked in
+    record { is = part.is; keeps = part.keeps; waits = (part.waits, left) }
 
 closing_at : (w : Wanted) (s : ℕ) (cycle : SessionList) (h : History) (r c : ℕ) → IsAt h r c → IsAt (after s w (Deadlock cycle) h) r c
 closing_at (Lock t m) s cycle h r c at = at
@@ -258,6 +266,7 @@ held_step old new caller may good txs locks = record {
           stands = good h stands at;
           at = (looks_keep_numbers h caller.session caller.session own.0 caller.cmd caller.cmd stands.good at own.1 (λ same. omega arith)).1;
           others = λ r c other is. (looks_keep_numbers h caller.session r own.0 caller.cmd c stands.good is own.1 (λ same. absurd (other (sym same)))).1;
+          since = λ r other. since_held (held_by (snapshot_events h) caller.session) r caller.session (look_of h caller.session caller.cmd) h;
           queue = ap queue (held_first_locks (held_by (snapshot_events h) caller.session) caller.session (look_of h caller.session caller.cmd) h) ∙ sym (append-nil (queue (lock_events h)));
         },
       );

@@ -4,13 +4,14 @@ use Rattle.history.specs.Locks.{queue}
 use Rattle.history.specs.History.{History, lock_events}
 use Rattle.stores.specs.declared.stores.Stores.{Stores}
 use Rattle.statement_steps.specs.Ended.{told_as, giving}
+use Rattle.statement_steps.proofs.Since.{since_on}
 use Rattle.statement_steps.specs.Made.{Made, and_then, then_told, behind}
-use Rattle.statement_steps.specs.Attempts.{MayAttempt, MayGoOn, WentOn, GoesOn}
+use Rattle.statement_steps.specs.Attempts.{MayAttempt, NoRows, WentOn, GoesOn}
 use Rattle.statement_steps.specs.declared.caller.Caller.{Caller}
 use Rattle.statement_steps.specs.declared.rest.Rest.{Rest}
 use Rattle.statement_steps.specs.declared.stop.Stop.{Stop}
 use Rattle.statement_steps.specs.declared.stop.Stop.TheVariants as stop
-use Rattle.statement_steps.specs.Steps.{IsTold, IsHalted, IsStep, follow, told_on, stopped_on, going_on}
+use Rattle.statement_steps.specs.Steps.{IsTold, IsHalted, IsPaused, IsPart, IsStep, follow, told_on, stopped_on, going_on}
 
 -- ---- histories that go on
 
@@ -19,6 +20,7 @@ went_on h g k s n m waiting mid new first second = record {
   stands = second.stands;
   at = second.at;
   others = λ r c other at. second.others r c other (first.others r c other at);
+  since = λ r other. since_on r h g k (first.since r other) (second.since r other);
   queue = second.queue ∙ ap (λ q. q ++ waiting) (first.queue ∙ append-nil (queue (lock_events h)));
 }
 
@@ -89,12 +91,12 @@ on_told see (stop.Waits lock) rest new caller n h m told = (ap (told_on rest) to
 on_told see (stop.Refused f) rest new caller n h m told = (ap (told_on rest) told.0, told.1)
 on_told see stop.NoMemory rest new caller n h m told = tt
 
-on_halted : (X : Type 0) (e : Stop) (rest : Option Rest) (stores : Stores) (s : ℕ) → MayGoOn stores rest → IsHalted {X = X} (Err e) stores s → IsHalted {X = X} (Err (stopped_on e rest)) stores s
+on_halted : (X : Type 0) (e : Stop) (rest : Option Rest) (stores : Stores) (s : ℕ) → NoRows rest → IsHalted {X = X} (Err e) stores s → IsHalted {X = X} (Err (stopped_on e rest)) stores s
 on_halted X (stop.Waits lock) rest stores s may halted = (halted.0, may)
 on_halted X (stop.Refused f) rest stores s may halted = halted
 on_halted X stop.NoMemory rest stores s may halted = tt
 
-pub stops_on : {X T : Type 0} (see : X → T) (e : Stop) (rest : Option Rest) (old new : Stores) (caller : Caller) (n : ℕ) (f : History → Made T) → MayGoOn new rest → IsStep see (Err e) old new caller n f
+pub stops_on : {X T : Type 0} (see : X → T) (e : Stop) (rest : Option Rest) (old new : Stores) (caller : Caller) (n : ℕ) (f : History → Made T) → NoRows rest → IsStep see (Err e) old new caller n f
     → IsStep see (Err (stopped_on e rest)) old new caller n (λ h. going_on rest (f h))
 stops_on {X} see e rest old new caller n f may first = record {
   is = λ h stands at. on_told see e rest new caller n h (f h) (first.is h stands at);
@@ -123,6 +125,42 @@ gives_stop {X} {T} {Y} {U} see view f e old new caller n g first = record {
   is = λ h stands at. gives_told see view f e new caller n h (g h) (first.is h stands at);
   keeps = first.keeps;
   waits = halted_same X Y e new caller.session first.waits;
+}
+
+-- ---- a part that may wait for a row
+
+paused : {X : Type 0} (r : Result X Stop) (stores : Stores) (s : ℕ) → IsHalted r stores s → IsPaused r stores s
+paused (Ok x) stores s halted = halted
+paused (Err (stop.Waits rest)) stores s halted = halted.0
+paused (Err (stop.Refused f)) stores s halted = halted
+paused (Err stop.NoMemory) stores s halted = tt
+
+pub as_part : {X T : Type 0} (see : X → T) (r : Result X Stop) (old new : Stores) (caller : Caller) (n : ℕ) (f : History → Made T) → IsStep see r old new caller n f → IsPart see r old new caller n f
+as_part see r old new caller n f step = record { is = step.is; keeps = step.keeps; waits = paused r new caller.session step.waits }
+
+pub paused_same : (X Y : Type 0) (e : Stop) (stores : Stores) (s : ℕ) → IsPaused {X = X} (Err e) stores s → IsPaused {X = Y} (Err e) stores s
+paused_same X Y (stop.Waits rest) stores s waits = waits
+paused_same X Y (stop.Refused f) stores s waits = waits
+paused_same X Y stop.NoMemory stores s waits = waits
+
+pub stop_part : {X T Y U : Type 0} (see : X → T) (view : Y → U) (e : Stop) (old new : Stores) (caller : Caller) (n k : ℕ) (f : History → Made T) (next : T → History → Made U)
+    → IsPart see (Err e) old new caller k f → IsPart view (Err e) old new caller n (follow f next)
+stop_part {X} {T} {Y} {U} see view e old new caller n k f next first = record {
+  is = λ h stands at. stop_told see view e new caller n k h (f h) (λ y. next y ((f h).events ++ h)) (first.is h stands at);
+  keeps = first.keeps;
+  waits = paused_same X Y e new caller.session first.waits;
+}
+
+pub then_part : {X T Y U : Type 0} (see : X → T) (view : Y → U) (x : X) (r : Result Y Stop) (old mid new : Stores) (caller : Caller) (n : ℕ) (f : History → Made T) (next : T → History → Made U)
+    → IsStep see (Ok x) old mid caller caller.cmd f → IsPart view r mid new caller n (next (see x)) → IsPart view r old new caller n (follow f next)
+then_part {T} {U} see view x r old mid new caller n f next first second = record {
+  is = λ h stands at.
+      let a = first.is h stands at in
+      let told = second.is ((f h).events ++ h) a.1.stands a.1.at in
+      subst (λ t. IsTold view r new caller n h (then_told t (f h).events (λ y. next y ((f h).events ++ h)))) (sym a.0)
+      (told_behind view r mid new caller n h (f h).events (next (see x) ((f h).events ++ h)) a.1 told);
+  keeps = goes_on old mid new caller.session first.keeps second.keeps;
+  waits = second.waits;
 }
 
 -- ---- who may go on

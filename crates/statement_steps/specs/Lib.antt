@@ -5,4 +5,6 @@ pub mod Faults
 pub mod Known
 pub mod Steps
 pub mod Asks
+pub mod Codes
+pub mod Gathered
 pub mod Waiting

@@ -6,7 +6,7 @@ use Rattle.stores.specs.Stand.{Stands}
 use Rattle.stores.specs.Numbers.{IsAt}
 use Rattle.stores.specs.declared.stores.Stores.{Stores}
 use Rattle.statement_steps.specs.Made.{Made, Halt, Waits, Refused, and_then}
-use Rattle.statement_steps.specs.Attempts.{MayGoOn, WentOn, GoesOn, IsWaiting}
+use Rattle.statement_steps.specs.Attempts.{NoRows, WentOn, GoesOn, IsWaiting}
 use Rattle.statement_steps.specs.declared.caller.Caller.{Caller}
 use Rattle.statement_steps.specs.declared.rest.Rest.{Rest}
 use Rattle.statement_steps.specs.declared.stop.Stop.{Stop}
@@ -20,10 +20,17 @@ IsTold view (Err (stop.Waits rest)) new caller n h m = (m.told ≡ Err (Waits re
 IsTold view (Err (stop.Refused f)) new caller n h m = (m.told ≡ Err (Refused f)) × WentOn h caller.session (caller.cmd + 1) [] new (m.events ++ h)
 IsTold view (Err stop.NoMemory) new caller n h m = Unit {0}
 
--- the session waits just where the answer says so, and can go on from where it stands
+-- the session waits just where the answer says so
+abbrev pub IsPaused : {X : Type 0} → Result X Stop → Stores → (session : ℕ) → Type 0
+IsPaused (Ok x) stores s = IsIdle stores.locks s
+IsPaused (Err (stop.Waits rest)) stores s = IsWaiting stores s
+IsPaused (Err (stop.Refused f)) stores s = IsIdle stores.locks s
+IsPaused (Err stop.NoMemory) stores s = Unit {0}
+
+-- and for no row
 abbrev pub IsHalted : {X : Type 0} → Result X Stop → Stores → (session : ℕ) → Type 0
 IsHalted (Ok x) stores s = IsIdle stores.locks s
-IsHalted (Err (stop.Waits rest)) stores s = IsWaiting stores s × MayGoOn stores rest
+IsHalted (Err (stop.Waits rest)) stores s = IsWaiting stores s × NoRows rest
 IsHalted (Err (stop.Refused f)) stores s = IsIdle stores.locks s
 IsHalted (Err stop.NoMemory) stores s = Unit {0}
 
@@ -32,6 +39,12 @@ pub record IsStep {X T : Type 0} (view : X → T) (result : Result X Stop) (old 
   pub is : (h : History) → Stands old h → IsAt h caller.session caller.cmd → IsTold view result new caller n h (f h)
   pub keeps : GoesOn old new caller.session
   pub waits : IsHalted result new caller.session
+
+-- so is a part that may wait for a row
+pub record IsPart {X T : Type 0} (view : X → T) (result : Result X Stop) (old new : Stores) (caller : Caller) (n : ℕ) (f : History → Made T) : Type 0 where
+  pub is : (h : History) → Stands old h → IsAt h caller.session caller.cmd → IsTold view result new caller n h (f h)
+  pub keeps : GoesOn old new caller.session
+  pub waits : IsPaused result new caller.session
 
 -- one part after another, which begins with what the first gave, at the history that it left
 abbrev pub follow : {T U : Type 0} → (History → Made T) → (T → History → Made U) → History → Made U

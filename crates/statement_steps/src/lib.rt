@@ -13,6 +13,7 @@
 mod caller;
 mod ending;
 mod faults;
+mod gathered;
 mod going_on;
 mod holding;
 mod laws;
@@ -23,10 +24,11 @@ mod stop;
 
 pub use caller::Caller;
 pub use ending::{Ending, ended};
+pub use gathered::Gathered;
 pub use going_on::stopped_on;
 pub use holding::{hold, hold_if_repeatable};
 pub use laws::{nothing_is_added_above, waiting_statements_accept};
-pub use locking::{lock_table, lock_tables, wait_for};
+pub use locking::{lock_table, lock_tables, wait_for, wait_for_row};
 pub use names::{SessionNames, find_table, lock_named, lock_named_still};
-pub use rest::{Rest, RestOfDetach, RestOfRows, RowIds};
+pub use rest::{Rest, RestOfDetach, RestOfRows, TargetRow};
 pub use stop::Stop;

@@ -1,12 +1,13 @@
-ghost use Rattle.std.specs.Prelude.{◌≡◌, ◌<◌, false, All, map};
+ghost use Rattle.std.specs.Prelude.{◌≡◌, ◌<◌, false, All, Some, map};
 ghost use Rattle.lock_table.specs.Stands as stands;
-ghost use Rattle.statement_steps.specs.Attempts.{MayAttempt, MayGoOn};
+ghost use Rattle.statement_steps.specs.Attempts.{MayAttempt, NoRows};
 ghost use Rattle.statement_steps.specs.Asks as asks;
 ghost use Rattle.statement_steps.specs.Known.{IsKnownTo};
-ghost use Rattle.statement_steps.specs.Steps.{IsStep};
+ghost use Rattle.statement_steps.specs.declared.rest.Rest.TheVariants.{Rows};
+ghost use Rattle.statement_steps.specs.Steps.{IsPart, IsStep};
 
 use crate::faults::{deadlock_of, stop_by};
-use crate::{Caller, Rest, SessionNames, Stop};
+use crate::{Caller, Rest, RestOfRows, SessionNames, Stop};
 use history::WaitOn;
 use lock_table::{Asked, answer_is_told};
 use pg_values::{LockMode, TableNo};
@@ -49,7 +50,7 @@ pub fn wait_for(
 ) -> Result<(), Stop>
     requires may { MayAttempt stores.old caller }
     requires others { stands.names what caller.session ≡ false }
-    requires left { MayGoOn stores.old rest }
+    requires left { NoRows rest }
     ensures step { IsStep (λ u. u) result stores.old stores.new caller caller.cmd (asks.waited names.now caller.session what rest) }
     ensures rest { stores.new ≡ record stores.old { locks = stores.new.locks } }
 {
@@ -58,6 +59,29 @@ pub fn wait_for(
     match answer {
         Asked::Granted => Ok(()),
         Asked::Waits { .. } => Err(Stop::Waits(rest)),
+        Asked::Deadlock { cycle } => Err(stop_by(deadlock_of(alloc, names, cycle))),
+    }
+}
+
+/// The same of a session that waits before a row, and goes on with that and those that are left.
+pub fn wait_for_row(
+    alloc: Global,
+    stores: &mut Stores,
+    names: &SessionNames,
+    caller: Caller,
+    what: WaitOn,
+    rest: RestOfRows,
+) -> Result<(), Stop>
+    requires may { MayAttempt stores.old caller }
+    requires others { stands.names what caller.session ≡ false }
+    ensures part { IsPart (λ u. u) result stores.old stores.new caller caller.cmd (asks.waited names.now caller.session what (Some (Rows rest))) }
+    ensures rest { stores.new ≡ record stores.old { locks = stores.new.locks } }
+{
+    let answer = stores.wait_on(caller.session, what);
+    answer_is_told(&answer);
+    match answer {
+        Asked::Granted => Ok(()),
+        Asked::Waits { .. } => Err(Stop::Waits(Some(Rest::Rows(rest)))),
         Asked::Deadlock { cycle } => Err(stop_by(deadlock_of(alloc, names, cycle))),
     }
 }

@@ -1,55 +1,70 @@
-ghost use Rattle.std.specs.Prelude.{◌≡◌, ◌++◌, ◌∷◌, [], OnOk, OnErr};
+ghost use Rattle.std.specs.Prelude.{◌≡◌};
+ghost use Rattle.statement_steps.specs.Gathered.{found_of};
 
+use crate::Gathered;
 use history::TxId;
-use pg_values::{NoMemory, RowId, SessionSet, TableNo};
-use std::alloc::Global;
+use pg_values::{LeafId, RowId, SessionSet, TableNo};
 use std::marker::Model;
 
-/// Row versions, seen as their list.
-#[derive(Debug, Drop)]
-pub struct RowIds {
-    ids: Vec<RowId>,
+/// A row that is to be changed: the leaf that has it, and the number of the version that was found.
+#[derive(Clone, Copy, Debug, PartialEq, Eq)]
+pub struct TargetRow {
+    pub leaf: LeafId,
+    pub id: RowId,
 }
 
-impl Model for RowIds {
-    ghost use Rattle.std.specs.Prelude.{List};
-    ghost use Rattle.pg_values.specs.declared.ids.RowId.{RowId};
-
-    ghost Value = { List RowId };
-
-    ghost view = { λ r. r.ids.items };
+/// Of rows that are changed by a transaction: what the statement has gathered, the rows that are still to be
+/// looked at, that for which it waits first, and how many it has changed.
+#[derive(Drop)]
+pub struct RestOfRows {
+    by: TxId,
+    gathered: Gathered,
+    left: Vec<TargetRow>,
+    changed: u64,
 }
 
-impl RowIds {
-    pub fn new(alloc: Global) -> Self
-        ensures { result ≡ [] }
+impl Model for RestOfRows {
+    ghost use Rattle.std.specs.Coded.{codes};
+    ghost use Rattle.statement_steps.specs.Codes.{asked_code, cond_code, found_code, left_code, scalar_code, table_code};
+    ghost use Rattle.statement_steps.specs.Gathered.{RowsLeft, found_of};
+
+    ghost Value = { RowsLeft };
+
+    ghost coded = { left_code (Prim.hlevel codes)
+        (found_code (Prim.hlevel codes) (table_code (Prim.hlevel codes) (Prim.hlevel codes) (Prim.hlevel codes) (Prim.hlevel codes)) (Prim.hlevel codes)
+        (asked_code (scalar_code (Prim.hlevel codes) (Prim.hlevel codes) (Prim.hlevel codes)) (cond_code (Prim.hlevel codes) (Prim.hlevel codes) (Prim.hlevel codes))) (Prim.hlevel codes))
+        (Prim.hlevel codes) };
+
+    ghost view = { λ r. record { by = r.by; found = found_of r.gathered; left = r.left.items; changed = r.changed } };
+}
+
+impl RestOfRows {
+    pub fn new(by: TxId, gathered: Gathered, left: Vec<TargetRow>, changed: u64) -> Self
+        ensures { result ≡ record { by = by; found = found_of gathered; left = left.items; changed = changed } }
     {
-        RowIds {
-            ids: Vec::new(alloc),
+        RestOfRows {
+            by,
+            gathered,
+            left,
+            changed,
         }
     }
 
-    pub fn as_slice(&self) -> &[RowId]
-        ensures { result.now ≡ self.now }
+    /// The transaction that changes the rows.
+    pub fn by(&self) -> TxId
+        ensures { result ≡ self.now.by }
     {
-        &self.ids
+        self.by
     }
 
-    pub fn push(&mut self, id: RowId) -> Result<(), NoMemory>
-        ensures ok { OnOk result (self.new ≡ self.old ++ id ∷ []) }
-        ensures err { OnErr result (self.new ≡ self.old) }
+    /// What was gathered, the rows that are left, and how many are changed.
+    pub fn into_parts(self) -> (Gathered, Vec<TargetRow>, u64)
+        ensures found { found_of result.0 ≡ self.found }
+        ensures left { result.1.items ≡ self.left }
+        ensures changed { result.2 ≡ self.changed }
     {
-        self.ids.push(id)?;
-        Ok(())
+        (self.gathered, self.left, self.changed)
     }
-}
-
-/// Of rows that are changed: the row versions that are still to be looked at, that for which the statement
-/// waits first, and how many rows it has changed.
-#[derive(Debug, Drop)]
-pub struct RestOfRows {
-    pub left: RowIds,
-    pub changed: u64,
 }
 
 /// Of a partition that is detached concurrently: its parent and the partition, the transaction that has
@@ -63,7 +78,7 @@ pub struct RestOfDetach {
 }
 
 /// Where a statement stands in the middle of its run.
-#[derive(Debug, Drop)]
+#[derive(Drop)]
 pub enum Rest {
     Rows(RestOfRows),
     Detach(RestOfDetach),

@@ -2,7 +2,7 @@ use crate::Rest;
 use pg_values::{Fault, NoMemory, Refusal};
 
 /// Why a statement does not go on.
-#[derive(Debug, Drop)]
+#[derive(Drop)]
 pub enum Stop {
     /// It has to wait. When its wait is over it goes on where it stood, or else begins anew.
     Waits(Option<Rest>),

@@ -11,7 +11,7 @@ use Rattle.statement_steps.proofs.Numbers.{one_later}
 use Rattle.statement_steps.specs.Steps.{IsTold, IsStep}
 
 later : (earlier h : History) (stores : Stores) (s n : ℕ) → WentOn earlier s n [] stores h → WentOn earlier s (n + 1) [] stores h
-later earlier h stores s n went = record { stands = went.stands; at = one_later h s n went.at; others = went.others; queue = went.queue }
+later earlier h stores s n went = record { stands = went.stands; at = one_later h s n went.at; others = went.others; since = went.since; queue = went.queue }
 
 told_later : {X T : Type 0} (view : X → T) (r : Result X Stop) (new : Stores) (caller : Caller) (h : History) (m : Made T) → IsTold view r new caller caller.cmd h m → IsTold view r new caller (caller.cmd + 1) h m
 told_later view (Ok x) new caller h m told = (told.0, later h (m.events ++ h) new caller.session caller.cmd told.1)

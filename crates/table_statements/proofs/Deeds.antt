@@ -1,5 +1,5 @@
 -- What a command of the session's transaction does to the catalogue and to the leaves.
-use Rattle.std.proofs.Common.{◌≡◌, ◌≢◌, ℕ, ◌+◌, ◌<◌, List, [], ◌∷◌, ◌++◌, refl, sym, ap, ◌∙◌, subst, arith, append-nil, Option, Some, Ok, Err, All}
+use Rattle.std.proofs.Common.{◌≡◌, ◌≢◌, ℕ, ◌+◌, ◌<◌, List, [], ◌∷◌, ◌++◌, refl, sym, ap, ◌∙◌, subst, arith, append-nil, Option, Some, Ok, Err, All, unwrap_or}
 use Rattle.std.proofs.lemmas.List.Elements.{All-nil, All-cons}
 use Rattle.pg_values.specs.declared.fault.Fault.{Fault}
 use Rattle.pg_values.specs.declared.fault.Refusal.{Refusal}
@@ -8,7 +8,7 @@ use Rattle.pg_values.specs.declared.ids.TableNo.{TableNo}
 use Rattle.history.specs.Transactions.{TxEvents, IsRunning, IsSound, open_of, session_of}
 use Rattle.history.specs.Locks.{queue}
 use Rattle.history.specs.Rows.{LeafAdded, RowBorn, RowEnded}
-use Rattle.history.specs.Catalogue.{CatalogueEvent, catalogue_command}
+use Rattle.history.specs.Catalogue.{CatalogueEvent, TableMade, TableDropped, EntryAdded, EntryEnded, EntryMarked, CheckKept, catalogue_command}
 use Rattle.history.specs.History.{Event, History, TxChange, SnapshotChange, RowChange, LockChange, CatalogueChange, tx_events, snapshot_events, lock_events}
 use Rattle.history.specs.Legal.{IsNotAfter, IsInOrder}
 use Rattle.history.proofs.Open.{open_own, open_runs}
@@ -27,6 +27,7 @@ use Rattle.stores.specs.declared.stores.Stores.{Stores}
 use Rattle.stores.proofs.Commands.{goes_on}
 use Rattle.statement_steps.specs.Made.{Made, made}
 use Rattle.statement_steps.specs.Attempts.{MayAttempt, WentOn}
+use Rattle.statement_steps.specs.Waiting.{AddsNone, AddNone, Since}
 use Rattle.statement_steps.specs.declared.caller.Caller.{Caller}
 use Rattle.statement_steps.specs.Steps.{IsStep}
 use Rattle.statement_steps.proofs.Parts.{own_tx, locks_same, no_memory}
@@ -93,6 +94,31 @@ others_stay : (t cmd : ℕ) (es : List Event) (h : History) (s r n : ℕ) → Ea
 others_stay t cmd es h s r n done sound mine other at =
     goes_on es h r n n (omega arith) at (ap (λ (x : TxEvents). open_of x r) (quiet t cmd es h done).txs)
     (λ u its. all_before t cmd u n es done (λ same. absurd (other (one_session (tx_events h) r s u t sound its mine same))))
+
+-- they add no entry of another session's transaction
+entry_of : (t cmd u : ℕ) (e : CatalogueEvent) → catalogue_command e ≡ Some (t, cmd) → (u ≡ t → ⊥) → AddsNone u (CatalogueChange e)
+entry_of t cmd u (TableMade x) is other = tt
+entry_of t cmd u (TableDropped x s) is other = tt
+entry_of t cmd u (EntryAdded e) is other = λ same. other (let both : Some (e.by.number, e.cmd) ≡ Some (t, cmd) = is in let by : e.by.number ≡ t = ap (λ (o : Option (ℕ × ℕ)). (unwrap_or o (0, 0)).0) both in sym same ∙ by)
+entry_of t cmd u (EntryEnded k s) is other = tt
+entry_of t cmd u (EntryMarked k s) is other = tt
+entry_of t cmd u (CheckKept c) is other = tt
+
+none_added : (t cmd u : ℕ) (es : List Event) → Each (IsDone t cmd) es → (u ≡ t → ⊥) → AddNone u es
+none_added t cmd u [] done other = tt
+none_added t cmd u (TxChange e ∷ es) done other = absurd done.0
+none_added t cmd u (SnapshotChange e ∷ es) done other = absurd done.0
+none_added t cmd u (LockChange e ∷ es) done other = absurd done.0
+none_added t cmd u (RowChange e ∷ es) done other = (tt, none_added t cmd u es done.1 other)
+none_added t cmd u (CatalogueChange e ∷ es) done other = (entry_of t cmd u e done.0 other, none_added t cmd u es done.1 other)
+
+pub since_deeds : (t cmd : ℕ) (es : List Event) (h : History) (s r : ℕ) → Each (IsDone t cmd) es → IsSound (tx_events h) → open_of (tx_events h) s ≡ Some t → r ≢ s → Since r h (es ++ h)
+since_deeds t cmd es h s r done sound mine other = record {
+  events = es;
+  is = refl;
+  same = ap (λ (x : TxEvents). open_of x r) (quiet t cmd es h done).txs;
+  others = λ u its. none_added t cmd u es done (λ same. other (one_session (tx_events h) r s u t sound its mine same));
+}
 
 -- the command itself may go on
 catalogue_after : (t cmd : ℕ) (e : CatalogueEvent) → catalogue_command e ≡ Some (t, cmd) → IsNotAfter (catalogue_command e) (Some (t, cmd))
@@ -167,6 +193,7 @@ went new s t cmd es h sound own at done stands = record {
   stands = stands;
   at = at_later t cmd es h s done at;
   others = λ r n other its. others_stay t cmd es h s r n done sound own other its;
+  since = λ r other. since_deeds t cmd es h s r done sound own other;
   queue = ap queue (quiet t cmd es h done).locks ∙ sym (append-nil (queue (lock_events h)));
 }
 

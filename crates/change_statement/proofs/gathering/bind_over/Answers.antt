@@ -1,7 +1,8 @@
 use Rattle.table_trees.specs.Seen.{seen}
 use Rattle.cond_logic.specs.Asked.{change_meant}
 use Rattle.statement_steps.proofs.Steps.{then_step, stop_step}
-use Rattle.change_statement.specs.Gathered.{found_of, meant, locked, table_named, settings_of, condition_of}
+use Rattle.change_statement.specs.Gathered.{meant, locked, table_named, settings_of, condition_of}
+use Rattle.statement_steps.specs.Gathered.{found_of}
 use Rattle.change_statement.proofs.gathering.bind_over.Goals as goal
 
 pub returns-in-Ok-clause-step : goal.returns-in-Ok-clause-step

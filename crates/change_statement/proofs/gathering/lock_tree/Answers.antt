@@ -4,7 +4,8 @@ use Rattle.cond_logic.specs.Asked.{change_meant}
 use Rattle.statement_steps.specs.Made.{made}
 use Rattle.statement_steps.proofs.Parts.{nothing_done, no_memory, stays}
 use Rattle.statement_steps.proofs.Steps.{then_step, stop_step, may_go_on}
-use Rattle.change_statement.specs.Gathered.{found_by, found_of, locked, locked_all}
+use Rattle.change_statement.specs.Gathered.{found_by, locked, locked_all}
+use Rattle.statement_steps.specs.Gathered.{found_of}
 use Rattle.change_statement.specs.Kept.{keeps_for, tables_locked}
 use Rattle.change_statement.specs.Running.{IsGathered}
 use Rattle.change_statement.proofs.Found.{found_as, gathered_now, locked_step, may_lock}

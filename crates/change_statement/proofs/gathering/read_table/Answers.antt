@@ -1,7 +1,8 @@
 use Rattle.table_trees.specs.Seen.{seen}
 use Rattle.statement_steps.proofs.Parts.{stays, no_memory}
 use Rattle.insert_statement.proofs.Tables.{tree_locks}
-use Rattle.change_statement.specs.Gathered.{found_of, of_table, table_named, settings_of, condition_of}
+use Rattle.change_statement.specs.Gathered.{of_table, table_named, settings_of, condition_of}
+use Rattle.statement_steps.specs.Gathered.{found_of}
 use Rattle.change_statement.proofs.Found.{read_prunable, read_step}
 use Rattle.change_statement.proofs.gathering.read_table.Goals as goal
 

@@ -1,7 +1,7 @@
 use Rattle.std.proofs.Common.{◌≡◌, drop, map}
 use Rattle.std.specs.List.{list_any}
 use Rattle.cond_logic.specs.Asked.{setting_meant}
-use Rattle.change_statement.specs.Kept.{is_set}
+use Rattle.statement_steps.specs.Gathered.{is_set}
 use Rattle.change_statement.proofs.keeping.is_one_set.Given as goal
 
 abbrev pub invariant-loop-column : goal.invariant-loop-column

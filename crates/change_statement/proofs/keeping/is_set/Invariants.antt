@@ -1,6 +1,6 @@
 use Rattle.std.proofs.Common.{◌≡◌, drop, map}
 use Rattle.cond_logic.specs.Asked.{setting_meant}
-use Rattle.change_statement.specs.Kept.{is_set}
+use Rattle.statement_steps.specs.Gathered.{is_set}
 use Rattle.change_statement.proofs.keeping.is_set.Given as goal
 
 abbrev pub invariant-loop-setting : goal.invariant-loop-setting

@@ -1,6 +1,6 @@
 use Rattle.std.proofs.Common.{length}
+use Rattle.statement_steps.specs.Gathered.{found_of}
 use Rattle.change_statement.specs.Changing.{changing}
-use Rattle.change_statement.specs.Gathered.{found_of}
 use Rattle.change_statement.proofs.EachRow.{IsLeft}
 use Rattle.change_statement.proofs.rows.change_rows.Given as goal
 

@@ -1,13 +1,10 @@
 use Rattle.std.proofs.Common.{Ok, Err, sym, ◌∙◌, subst}
 use Rattle.row_store.proofs.Changes.{standing_is}
-use Rattle.insert_statement.specs.Inserted.{tables_of}
-use Rattle.insert_statement.proofs.Ways.{is_placed}
 use Rattle.statement_steps.specs.declared.stop.Stop.{Stop}
-use Rattle.change_statement.specs.Gathered.{found_of}
+use Rattle.statement_steps.specs.Gathered.{found_of}
 use Rattle.change_statement.specs.Running.{IsRun}
 use Rattle.change_statement.specs.Updated.{succeeded}
-use Rattle.change_statement.proofs.Births.{routed_among, succeeded_run}
-use Rattle.change_statement.proofs.Kept.{leaf_is_there}
+use Rattle.change_statement.proofs.Births.{placed_among, succeeded_run}
 use Rattle.change_statement.proofs.updating.succeed.Goals as goal
 
 pub succeed_row-requires-clause-standing : goal.succeed_row-requires-clause-standing
@@ -18,19 +15,15 @@ succeed_row-requires-clause-standing c =
 
 pub succeed_row-requires-clause-leaf : goal.succeed_row-requires-clause-leaf
 succeed_row-requires-clause-leaf c =
-    let h = c.requires.may.sound.0 in
-    let stands = c.requires.may.sound.1 in
-    let g = found_of c.args.gathered.now in
-    let placed = is_placed (tables_of h) g.tree g.path c.args.row c.args.leaf (c.requires.placed.placed h stands.all.catalog) in
-    leaf_is_there c.args.stores.now c.args.caller g h c.args.leaf stands c.requires.gathered (routed_among c.args.row g.tree c.args.leaf placed.routed)
+    placed_among c.args.stores.now c.args.caller (found_of c.args.gathered.now) c.args.id c.args.from c.args.leaf c.args.row c.requires.may c.requires.version c.requires.own c.requires.placed
 
 pub returns-in-Ok-clause-run : goal.returns-in-Ok-clause-run
 returns-in-Ok-clause-run c =
-    succeeded_run (Ok tt) c.args.stores.now c.succeed_row.new.store c.args.caller (found_of c.args.gathered.now) c.args.from c.args.id c.args.leaf c.args.row c.in-Some.by c.requires.may c.requires.gathered c.requires.version c.requires.placed c.requires.taken
+    succeeded_run (Ok tt) c.args.stores.now c.succeed_row.new.store c.args.caller (found_of c.args.gathered.now) c.args.from c.args.id c.args.leaf c.args.row c.in-Some.by c.requires.may c.requires.version c.requires.own c.requires.keys c.requires.placed c.requires.taken
     (sym c.in-Some.ensures.kept) (λ h txs store. c.in-Ok.ensures.made h txs store)
 
 pub returns-in-Err-clause-run : goal.returns-in-Err-clause-run
 returns-in-Err-clause-run c =
-    subst (λ (e : Stop). IsRun (λ (u : Unit {0}). u) (Err e) c.args.stores.now (record c.args.stores.now { rows = c.succeed_row.new.store }) c.args.caller (succeeded c.args.caller c.args.from c.args.id c.args.leaf c.args.row)) (sym c.stop_by.ensures)
-    (succeeded_run (Err c.in-Err.refusal) c.args.stores.now c.succeed_row.new.store c.args.caller (found_of c.args.gathered.now) c.args.from c.args.id c.args.leaf c.args.row c.in-Some.by c.requires.may c.requires.gathered c.requires.version c.requires.placed c.requires.taken
+    subst (λ (e : Stop). IsRun (found_of c.args.gathered.now) (λ (u : Unit {0}). u) (Err e) c.args.stores.now (record c.args.stores.now { rows = c.succeed_row.new.store }) c.args.caller (succeeded c.args.caller c.args.from c.args.id c.args.leaf c.args.row)) (sym c.stop_by.ensures)
+    (succeeded_run (Err c.in-Err.refusal) c.args.stores.now c.succeed_row.new.store c.args.caller (found_of c.args.gathered.now) c.args.from c.args.id c.args.leaf c.args.row c.in-Some.by c.requires.may c.requires.version c.requires.own c.requires.keys c.requires.placed c.requires.taken
     (sym c.in-Some.ensures.kept) (λ h txs store. c.in-Err.ensures.made h txs store))

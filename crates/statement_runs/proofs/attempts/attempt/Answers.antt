@@ -14,5 +14,5 @@ returns-in-Query c =
     let last = c.attempt_query-done.new.stores in
     let out = c.attempt_query-done.new.out.items in
     let asked = query_attempted c.args.settings.enable_partition_pruning c.args.names.now c.args.caller c.args.rest (query_tree q) in
-    subst (λ (x : Statement). IsStatement c.ended.result c.args.stores.now last c.args.out.now.items out c.args.caller (attempted c.args.names.now c.args.caller c.args.rest c.args.settings (statement_tree x))) (sym c.in-Query.is)
-    (subst (λ (r : Result Ending Stop). IsStatement r c.args.stores.now last c.args.out.now.items out c.args.caller asked) (sym c.ended.ensures) c.attempt_query-done.ensures)
+    subst (λ (x : Statement). IsStatement c.args.rest c.ended.result c.args.stores.now last c.args.out.now.items out c.args.caller (attempted c.args.names.now c.args.caller c.args.rest c.args.settings (statement_tree x))) (sym c.in-Query.is)
+    (subst (λ (r : Result Ending Stop). IsStatement c.args.rest r c.args.stores.now last c.args.out.now.items out c.args.caller asked) (sym c.ended.ensures) c.attempt_query-done.ensures)

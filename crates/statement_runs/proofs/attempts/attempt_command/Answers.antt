@@ -1,9 +1,13 @@
-use Rattle.std.proofs.Common.{List, ℕ, ◌+◌, sym, subst}
+use Rattle.std.proofs.Common.{List, ℕ, ◌+◌, Result, sym, subst}
+use Rattle.history.specs.History.{History}
 use Rattle.sql_ast.specs.Commands.{bound_tree, command_tree, detaches}
 use Rattle.sql_ast.specs.declared.detachment.Detachment.{Detachment}
 use Rattle.sql_ast.specs.declared.locked_table.LockedTable.{LockedTable}
 use Rattle.sql_ast.specs.declared.command.Command.{Command}
+use Rattle.statement_steps.specs.Ended.{Ended, ended}
+use Rattle.statement_steps.specs.Made.{Made}
 use Rattle.statement_steps.specs.declared.ending.Ending.{Ending}
+use Rattle.statement_steps.specs.declared.stop.Stop.{Stop}
 use Rattle.statement_steps.specs.Steps.{IsStep}
 use Rattle.table_statements.specs.Tables.{created}
 use Rattle.table_statements.specs.Partitions.{partitioned}
@@ -13,68 +17,77 @@ use Rattle.detach_statement.specs.Concurrent.{detached_concurrently}
 use Rattle.detach_statement.specs.Detached.{detached}
 use Rattle.detach_statement.specs.Finalized.{finalized}
 use Rattle.attach_statement.specs.Attached.{attached}
-use Rattle.statement_runs.specs.Attempted.{command_attempted}
+use Rattle.statement_runs.specs.Attempted.{command_attempted, omitted}
 use Rattle.statement_runs.specs.Printed.{IsStatement}
-use Rattle.statement_runs.proofs.Whole.{silent_ends, staged_is}
+use Rattle.statement_runs.proofs.Whole.{command_omitted, silent_ends, staged_is}
 use Rattle.statement_runs.proofs.attempts.attempt_command.Goals as goal
 
 pub returns-in-CreateTable : goal.returns-in-CreateTable
 returns-in-CreateTable c =
     let i = c.in-CreateTable in
-    let is = silent_ends c.ended.result c.create_table.result c.ended.ensures c.args.stores.now c.create_table.new.stores c.args.caller (created c.args.names.now c.args.caller i.name i.columns i.by) c.args.out.now c.create_table.ensures in
-    subst (λ (x : Command). IsStatement c.ended.result c.args.stores.now c.create_table.new.stores c.args.out.now c.args.out.now c.args.caller (command_attempted c.args.names.now c.args.caller c.args.rest (command_tree x))) (sym i.is) is
+    let is = silent_ends c.args.rest c.ended.result c.create_table.result c.ended.ensures c.args.stores.now c.create_table.new.stores c.args.caller (created c.args.names.now c.args.caller i.name i.columns i.by) c.args.out.now c.create_table.ensures in
+    subst (λ (x : Command). IsStatement c.args.rest c.ended.result c.args.stores.now c.create_table.new.stores c.args.out.now c.args.out.now c.args.caller (command_attempted c.args.names.now c.args.caller c.args.rest (command_tree x))) (sym i.is) is
 
 pub returns-in-CreatePartition : goal.returns-in-CreatePartition
 returns-in-CreatePartition c =
     let i = c.in-CreatePartition in
-    let is = silent_ends c.ended-in-CreatePartition.result c.create_partition.result c.ended-in-CreatePartition.ensures c.args.stores.now c.create_partition.new.stores c.args.caller (partitioned c.args.names.now c.args.caller i.name i.parent (bound_tree i.bound) i.by) c.args.out.now c.create_partition.ensures in
-    subst (λ (x : Command). IsStatement c.ended-in-CreatePartition.result c.args.stores.now c.create_partition.new.stores c.args.out.now c.args.out.now c.args.caller (command_attempted c.args.names.now c.args.caller c.args.rest (command_tree x))) (sym i.is) is
+    let is = silent_ends c.args.rest c.ended-in-CreatePartition.result c.create_partition.result c.ended-in-CreatePartition.ensures c.args.stores.now c.create_partition.new.stores c.args.caller (partitioned c.args.names.now c.args.caller i.name i.parent (bound_tree i.bound) i.by) c.args.out.now c.create_partition.ensures in
+    subst (λ (x : Command). IsStatement c.args.rest c.ended-in-CreatePartition.result c.args.stores.now c.create_partition.new.stores c.args.out.now c.args.out.now c.args.caller (command_attempted c.args.names.now c.args.caller c.args.rest (command_tree x))) (sym i.is) is
 
 pub returns-in-DropTables : goal.returns-in-DropTables
 returns-in-DropTables c =
     let i = c.in-DropTables in
     let step = subst (λ (ts : List (List ℕ)). IsStep (λ (u : Unit {0}). u) c.drop_tables.result c.args.stores.now c.drop_tables.new.stores c.args.caller (c.args.caller.cmd + 1) (dropped c.args.names.now c.args.caller i.if_there ts)) c.as_slice-tables.ensures c.drop_tables.ensures in
-    let is = silent_ends c.ended-in-DropTables.result c.drop_tables.result c.ended-in-DropTables.ensures c.args.stores.now c.drop_tables.new.stores c.args.caller (dropped c.args.names.now c.args.caller i.if_there i.tables) c.args.out.now step in
-    subst (λ (x : Command). IsStatement c.ended-in-DropTables.result c.args.stores.now c.drop_tables.new.stores c.args.out.now c.args.out.now c.args.caller (command_attempted c.args.names.now c.args.caller c.args.rest (command_tree x))) (sym i.is) is
+    let is = silent_ends c.args.rest c.ended-in-DropTables.result c.drop_tables.result c.ended-in-DropTables.ensures c.args.stores.now c.drop_tables.new.stores c.args.caller (dropped c.args.names.now c.args.caller i.if_there i.tables) c.args.out.now step in
+    subst (λ (x : Command). IsStatement c.args.rest c.ended-in-DropTables.result c.args.stores.now c.drop_tables.new.stores c.args.out.now c.args.out.now c.args.caller (command_attempted c.args.names.now c.args.caller c.args.rest (command_tree x))) (sym i.is) is
 
 pub returns-in-Attach : goal.returns-in-Attach
 returns-in-Attach c =
     let i = c.in-Attach in
     let parented = subst (λ (p : List ℕ). IsStep (λ (u : Unit {0}). u) c.attach.result c.args.stores.now c.attach.new.stores c.args.caller (c.args.caller.cmd + 1) (attached c.args.names.now c.args.caller p c.as_bytes-table.result.now (bound_tree i.bound))) c.as_bytes-above.ensures c.attach.ensures in
     let step = subst (λ (n : List ℕ). IsStep (λ (u : Unit {0}). u) c.attach.result c.args.stores.now c.attach.new.stores c.args.caller (c.args.caller.cmd + 1) (attached c.args.names.now c.args.caller i.parent n (bound_tree i.bound))) c.as_bytes-table.ensures parented in
-    let is = silent_ends c.ended-in-Attach.result c.attach.result c.ended-in-Attach.ensures c.args.stores.now c.attach.new.stores c.args.caller (attached c.args.names.now c.args.caller i.parent i.name (bound_tree i.bound)) c.args.out.now step in
-    subst (λ (x : Command). IsStatement c.ended-in-Attach.result c.args.stores.now c.attach.new.stores c.args.out.now c.args.out.now c.args.caller (command_attempted c.args.names.now c.args.caller c.args.rest (command_tree x))) (sym i.is) is
+    let is = silent_ends c.args.rest c.ended-in-Attach.result c.attach.result c.ended-in-Attach.ensures c.args.stores.now c.attach.new.stores c.args.caller (attached c.args.names.now c.args.caller i.parent i.name (bound_tree i.bound)) c.args.out.now step in
+    subst (λ (x : Command). IsStatement c.args.rest c.ended-in-Attach.result c.args.stores.now c.attach.new.stores c.args.out.now c.args.out.now c.args.caller (command_attempted c.args.names.now c.args.caller c.args.rest (command_tree x))) (sym i.is) is
 
 pub returns-in-AtOnce : goal.returns-in-AtOnce
 returns-in-AtOnce c =
     let i = c.in-Detach in
     let parented = subst (λ (p : List ℕ). IsStep (λ (u : Unit {0}). u) c.detach.result c.args.stores.now c.detach.new.stores c.args.caller (c.args.caller.cmd + 1) (detached c.args.names.now c.args.caller p c.as_bytes-table-in-Detach.result.now)) c.as_bytes-above-in-Detach.ensures c.detach.ensures in
     let step = subst (λ (n : List ℕ). IsStep (λ (u : Unit {0}). u) c.detach.result c.args.stores.now c.detach.new.stores c.args.caller (c.args.caller.cmd + 1) (detached c.args.names.now c.args.caller i.parent n)) c.as_bytes-table-in-Detach.ensures parented in
-    let is = silent_ends c.ended-in-AtOnce.result c.detach.result c.ended-in-AtOnce.ensures c.args.stores.now c.detach.new.stores c.args.caller (detached c.args.names.now c.args.caller i.parent i.name) c.args.out.now step in
-    let so = subst (λ (how : Detachment). IsStatement c.ended-in-AtOnce.result c.args.stores.now c.detach.new.stores c.args.out.now c.args.out.now c.args.caller (command_attempted c.args.names.now c.args.caller c.args.rest (detaches i.parent i.name how))) (sym c.in-AtOnce.is) is in
-    subst (λ (x : Command). IsStatement c.ended-in-AtOnce.result c.args.stores.now c.detach.new.stores c.args.out.now c.args.out.now c.args.caller (command_attempted c.args.names.now c.args.caller c.args.rest (command_tree x))) (sym i.is) so
+    let is = silent_ends c.args.rest c.ended-in-AtOnce.result c.detach.result c.ended-in-AtOnce.ensures c.args.stores.now c.detach.new.stores c.args.caller (detached c.args.names.now c.args.caller i.parent i.name) c.args.out.now step in
+    let so = subst (λ (how : Detachment). IsStatement c.args.rest c.ended-in-AtOnce.result c.args.stores.now c.detach.new.stores c.args.out.now c.args.out.now c.args.caller (command_attempted c.args.names.now c.args.caller c.args.rest (detaches i.parent i.name how))) (sym c.in-AtOnce.is) is in
+    subst (λ (x : Command). IsStatement c.args.rest c.ended-in-AtOnce.result c.args.stores.now c.detach.new.stores c.args.out.now c.args.out.now c.args.caller (command_attempted c.args.names.now c.args.caller c.args.rest (command_tree x))) (sym i.is) so
 
 pub returns-in-Concurrently : goal.returns-in-Concurrently
 returns-in-Concurrently c =
     let i = c.in-Detach in
     let parented = subst (λ (p : List ℕ). IsStep (λ (e : Ending). e) c.detach_concurrently.result c.args.stores.now c.detach_concurrently.new.stores c.args.caller (c.args.caller.cmd + 1) (detached_concurrently c.args.names.now c.args.caller c.args.rest p c.as_bytes-table-in-Detach.result.now)) c.as_bytes-above-in-Detach.ensures c.detach_concurrently.ensures in
     let step = subst (λ (n : List ℕ). IsStep (λ (e : Ending). e) c.detach_concurrently.result c.args.stores.now c.detach_concurrently.new.stores c.args.caller (c.args.caller.cmd + 1) (detached_concurrently c.args.names.now c.args.caller c.args.rest i.parent n)) c.as_bytes-table-in-Detach.ensures parented in
-    let is = staged_is c.detach_concurrently.result c.args.stores.now c.detach_concurrently.new.stores c.args.caller (detached_concurrently c.args.names.now c.args.caller c.args.rest i.parent i.name) c.args.out.now step in
-    let so = subst (λ (how : Detachment). IsStatement c.detach_concurrently.result c.args.stores.now c.detach_concurrently.new.stores c.args.out.now c.args.out.now c.args.caller (command_attempted c.args.names.now c.args.caller c.args.rest (detaches i.parent i.name how))) (sym c.in-Concurrently.is) is in
-    subst (λ (x : Command). IsStatement c.detach_concurrently.result c.args.stores.now c.detach_concurrently.new.stores c.args.out.now c.args.out.now c.args.caller (command_attempted c.args.names.now c.args.caller c.args.rest (command_tree x))) (sym i.is) so
+    let is = staged_is c.args.rest c.detach_concurrently.result c.args.stores.now c.detach_concurrently.new.stores c.args.caller (detached_concurrently c.args.names.now c.args.caller c.args.rest i.parent i.name) c.args.out.now step in
+    let so = subst (λ (how : Detachment). IsStatement c.args.rest c.detach_concurrently.result c.args.stores.now c.detach_concurrently.new.stores c.args.out.now c.args.out.now c.args.caller (command_attempted c.args.names.now c.args.caller c.args.rest (detaches i.parent i.name how))) (sym c.in-Concurrently.is) is in
+    subst (λ (x : Command). IsStatement c.args.rest c.detach_concurrently.result c.args.stores.now c.detach_concurrently.new.stores c.args.out.now c.args.out.now c.args.caller (command_attempted c.args.names.now c.args.caller c.args.rest (command_tree x))) (sym i.is) so
 
 pub returns-in-Finalize : goal.returns-in-Finalize
 returns-in-Finalize c =
     let i = c.in-Detach in
     let parented = subst (λ (p : List ℕ). IsStep (λ (u : Unit {0}). u) c.finalize.result c.args.stores.now c.finalize.new.stores c.args.caller (c.args.caller.cmd + 1) (finalized c.args.names.now c.args.caller p c.as_bytes-table-in-Detach.result.now)) c.as_bytes-above-in-Detach.ensures c.finalize.ensures in
     let step = subst (λ (n : List ℕ). IsStep (λ (u : Unit {0}). u) c.finalize.result c.args.stores.now c.finalize.new.stores c.args.caller (c.args.caller.cmd + 1) (finalized c.args.names.now c.args.caller i.parent n)) c.as_bytes-table-in-Detach.ensures parented in
-    let is = silent_ends c.ended-in-Finalize.result c.finalize.result c.ended-in-Finalize.ensures c.args.stores.now c.finalize.new.stores c.args.caller (finalized c.args.names.now c.args.caller i.parent i.name) c.args.out.now step in
-    let so = subst (λ (how : Detachment). IsStatement c.ended-in-Finalize.result c.args.stores.now c.finalize.new.stores c.args.out.now c.args.out.now c.args.caller (command_attempted c.args.names.now c.args.caller c.args.rest (detaches i.parent i.name how))) (sym c.in-Finalize.is) is in
-    subst (λ (x : Command). IsStatement c.ended-in-Finalize.result c.args.stores.now c.finalize.new.stores c.args.out.now c.args.out.now c.args.caller (command_attempted c.args.names.now c.args.caller c.args.rest (command_tree x))) (sym i.is) so
+    let is = silent_ends c.args.rest c.ended-in-Finalize.result c.finalize.result c.ended-in-Finalize.ensures c.args.stores.now c.finalize.new.stores c.args.caller (finalized c.args.names.now c.args.caller i.parent i.name) c.args.out.now step in
+    let so = subst (λ (how : Detachment). IsStatement c.args.rest c.ended-in-Finalize.result c.args.stores.now c.finalize.new.stores c.args.out.now c.args.out.now c.args.caller (command_attempted c.args.names.now c.args.caller c.args.rest (detaches i.parent i.name how))) (sym c.in-Finalize.is) is in
+    subst (λ (x : Command). IsStatement c.args.rest c.ended-in-Finalize.result c.args.stores.now c.finalize.new.stores c.args.out.now c.args.out.now c.args.caller (command_attempted c.args.names.now c.args.caller c.args.rest (command_tree x))) (sym i.is) so
 
 pub returns-in-Lock : goal.returns-in-Lock
 returns-in-Lock c =
     let i = c.in-Lock in
     let step = subst (λ (ts : List LockedTable). IsStep (λ (u : Unit {0}). u) c.lock.result c.args.stores.now c.lock.new.stores c.args.caller (c.args.caller.cmd + 1) (locked c.args.names.now c.args.caller.session ts i.mode)) c.as_slice-tables-in-Lock.ensures c.lock.ensures in
-    let is = silent_ends c.ended-in-Lock.result c.lock.result c.ended-in-Lock.ensures c.args.stores.now c.lock.new.stores c.args.caller (locked c.args.names.now c.args.caller.session i.tables i.mode) c.args.out.now step in
-    subst (λ (x : Command). IsStatement c.ended-in-Lock.result c.args.stores.now c.lock.new.stores c.args.out.now c.args.out.now c.args.caller (command_attempted c.args.names.now c.args.caller c.args.rest (command_tree x))) (sym i.is) is
+    let is = silent_ends c.args.rest c.ended-in-Lock.result c.lock.result c.ended-in-Lock.ensures c.args.stores.now c.lock.new.stores c.args.caller (locked c.args.names.now c.args.caller.session i.tables i.mode) c.args.out.now step in
+    subst (λ (x : Command). IsStatement c.args.rest c.ended-in-Lock.result c.args.stores.now c.lock.new.stores c.args.out.now c.args.out.now c.args.caller (command_attempted c.args.names.now c.args.caller c.args.rest (command_tree x))) (sym i.is) is
+
+pub returns-in_default : goal.returns-in_default
+returns-in_default c =
+    let s = c.args.stores.now in
+    let out = c.args.out.now in
+    let i = c.in_default in
+    subst (λ (r : Result Ending Stop). IsStatement c.args.rest r s s out out c.args.caller (command_attempted c.args.names.now c.args.caller c.args.rest (command_tree c.args.command.now))) (sym c.ended-in_default.ensures)
+    (subst (λ (f : History → Made Ended). IsStatement c.args.rest (ended c.omit.result) s s out out c.args.caller f) (sym (command_omitted c.args.names.now c.args.caller c.args.rest c.args.command.now i.not-CreateTable i.not-CreatePartition i.not-DropTables i.not-Attach i.not-Detach i.not-Lock))
+    (subst (λ (w : List ℕ). IsStatement c.args.rest (ended c.omit.result) s s out out c.args.caller (omitted w)) c.command_word.ensures (c.omit.ensures c.args.rest)))

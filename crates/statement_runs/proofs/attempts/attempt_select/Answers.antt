@@ -4,8 +4,8 @@ use Rattle.statement_runs.proofs.Whole.{tabled_is, tabled_stops}
 use Rattle.statement_runs.proofs.attempts.attempt_select.Goals as goal
 
 pub returns-in-Ok-write_table : goal.returns-in-Ok-write_table
-returns-in-Ok-write_table c =
-    tabled_is c.in-Ok.answer c.args.stores.now c.select.new.stores c.args.caller (selected c.args.prunes c.args.names.now c.args.caller (select_tree c.args.statement.now)) c.args.out.now.items c.write_table.new.out.items c.in-Ok-write_table.ensures.ok c.in-Ok.ensures
+returns-in-Ok-write_table c left =
+    tabled_is left c.in-Ok.answer c.args.stores.now c.select.new.stores c.args.caller (selected c.args.prunes c.args.names.now c.args.caller (select_tree c.args.statement.now)) c.args.out.now.items c.write_table.new.out.items c.in-Ok-write_table.ensures.ok c.in-Ok.ensures
 
 pub returns : goal.returns
-returns c = tabled_stops c.in-Err.stop c.args.stores.now c.select.new.stores c.args.caller (selected c.args.prunes c.args.names.now c.args.caller (select_tree c.args.statement.now)) c.args.out.now.items c.in-Err.ensures
+returns c left = tabled_stops left c.in-Err.stop c.args.stores.now c.select.new.stores c.args.caller (selected c.args.prunes c.args.names.now c.args.caller (select_tree c.args.statement.now)) c.args.out.now.items c.in-Err.ensures

@@ -2,7 +2,7 @@ use Rattle.std.proofs.Common.{rules, ◌≡◌, ◌<◌, ◌≤◌, ◌+◌, ◌
 use Rattle.history.specs.History.{History}
 use Rattle.sessions.specs.declared.outcome.Outcome.TheVariants as outcomes
 use Rattle.stores.specs.Numbers.{IsAt}
-use Rattle.statement_steps.specs.Attempts.{MayGoOn, IsAttempt, IsHalt}
+use Rattle.statement_steps.specs.Attempts.{CanGoOn, IsAttempt, IsHalt}
 use Rattle.statement_runs.specs.Database.{caller_of}
 use Rattle.statement_steps.specs.Made.{number_after}
 use Rattle.statement_runs.specs.Kept.{AreSeated, TellOf}
@@ -38,7 +38,9 @@ invariant_of-self g c =
 
 pub attempt-answer-requires-clause-rest : goal.attempt-answer-requires-clause-rest
 attempt-answer-requires-clause-rest g c =
-    subst (MayGoOn c.self.inside.stores) (sym c.take_rest-rest.ensures.is) ((c.self.invariant.sound c.if-not-self.false).1.waits.going_on c.args.asker.session)
+    let number = (c.number_at-cmd.ensures ∙ ap (λ xs. slice_index_or xs c.args.asker.session 0) c.deref.ensures.value) in
+    let s = c.self.invariant.sound c.if-not-self.false in
+    (s.0, s.1.stands, subst (IsAt s.0 c.args.asker.session) (sym number) (s.1.numbered c.args.asker.session), subst (CanGoOn s.0 c.args.asker.session) (sym c.take_rest-rest.ensures.is) (s.1.waits.going_on c.args.asker.session))
 
 pub invariant_of-self-in-Done : goal.invariant_of-self-in-Done
 invariant_of-self-in-Done g c =
@@ -54,7 +56,7 @@ invariant_of-self-in-Done g c =
     } in
     ran_kept (the_view c.self.inside) (tried (the_view c.self.inside) c.attempt-answer.new.stores (slice_set c.self.inside.commands.items c.args.asker.session c.in-Some.next) c.take_rest-rest.new.rests.items c.self.inside.queue.items c.ready-self-inside.result) c.self.invariant c.if-not-self.false
     (seated_after (the_view c.self.inside) c.attempt-answer.new.stores _ _ _ _ _ _ _ _ c.self.invariant.seated refl (as_long _ _ _) refl (ap length c.take_rest-rest.ensures.taken ∙ as_long _ _ _) refl (goes_size c.self.inside.stores c.attempt-answer.new.stores c.args.asker.session c.attempt-answer.ensures.keeps) c.self.invariant.seated.queue (known_of (length c.attempt-answer.new.stores.locks.wants) c.ready-self-inside.result (length c.self.inside.opened.items) (c.attempt-answer.ensures.keeps.size.sessions ∙ c.self.invariant.seated.waits) c.ready-self-inside.ensures.known))
-    (λ h told. (_, done_tells (the_view c.self.inside) c.args.asker c.attempt-answer.new.stores c.in-Some.next c.take_rest-rest.new.rests.items c.ready-self-inside.result h c.args.out.now.items c.attempt-answer.new.out.items _ it told (next ∙ ap (λ n. n + 1) number) c.take_rest-rest.ensures.taken c.in-Ok.ensures.waits (as_meant g.K.Kinds.words (g.K.Kinds.options c.args.kinds.now) (the_view c.self.inside) c.args.asker h c.args.settings (g.K.Kinds.tree c.args.statement.now) c.count-sessions.result c.number_at-cmd.result c.take_rest-rest.result (Ok endings.Done) c.attempt-answer.new.stores c.args.out.now.items c.attempt-answer.new.out.items (c.count-sessions.ensures.is ∙ ap (λ v. length v.opened) (sym c.self.view_is)) number c.take_rest-rest.ensures.is (subst (λ x. IsAttempt (Ok x) c.attempt-answer.new.stores c.args.out.now.items c.attempt-answer.new.out.items (record { session = c.args.asker.session; sessions = c.count-sessions.result; level = c.args.asker.level; cmd = c.number_at-cmd.result; kind = c.args.asker.kind }) h (g.K.Kinds.words.attempted (g.K.Kinds.options c.args.kinds.now) (caller_of c.count-sessions.result c.number_at-cmd.result c.args.asker) c.take_rest-rest.result h c.args.settings (g.K.Kinds.tree c.args.statement.now))) c.in-Done.is (c.in-Ok.ensures.is h told.stands (subst (IsAt h c.args.asker.session) (sym number) (told.numbered c.args.asker.session)))))))
+    (λ h told. (_, done_tells (the_view c.self.inside) c.args.asker c.attempt-answer.new.stores c.in-Some.next c.take_rest-rest.new.rests.items c.ready-self-inside.result h c.args.out.now.items c.attempt-answer.new.out.items _ it told (next ∙ ap (λ n. n + 1) number) c.take_rest-rest.ensures.taken c.in-Ok.ensures.waits (as_meant g.K.Kinds.words (g.K.Kinds.options c.args.kinds.now) (the_view c.self.inside) c.args.asker h c.args.settings (g.K.Kinds.tree c.args.statement.now) c.count-sessions.result c.number_at-cmd.result c.take_rest-rest.result (Ok endings.Done) c.attempt-answer.new.stores c.args.out.now.items c.attempt-answer.new.out.items (c.count-sessions.ensures.is ∙ ap (λ v. length v.opened) (sym c.self.view_is)) number c.take_rest-rest.ensures.is (subst (λ x. IsAttempt (Ok x) c.attempt-answer.new.stores c.args.out.now.items c.attempt-answer.new.out.items (record { session = c.args.asker.session; sessions = c.count-sessions.result; level = c.args.asker.level; cmd = c.number_at-cmd.result; kind = c.args.asker.kind }) h (g.K.Kinds.words.attempted (g.K.Kinds.options c.args.kinds.now) (caller_of c.count-sessions.result c.number_at-cmd.result c.args.asker) c.take_rest-rest.result h c.args.settings (g.K.Kinds.tree c.args.statement.now))) c.in-Done.is (c.in-Ok.ensures.is h told.stands (subst (IsAt h c.args.asker.session) (sym number) (told.numbered c.args.asker.session)) (subst (CanGoOn h c.args.asker.session) (sym c.take_rest-rest.ensures.is) (told.waits.going_on c.args.asker.session)))))))
 
 pub returns-in-Done-clause-ran : goal.returns-in-Done-clause-ran
 returns-in-Done-clause-ran g c h tells =
@@ -72,7 +74,7 @@ returns-in-Done-clause-ran g c h tells =
     c.give_up.new.self
     c.args.out.now.items c.attempt-answer.new.out.items outcomes.Done h) c.self.view_is
     (λ told. done_ran (the_view c.self.inside) c.give_up.new.self c.args.asker c.attempt-answer.new.stores c.in-Some.next c.take_rest-rest.new.rests.items c.ready-self-inside.result c.is_some-has_stood.result h c.args.out.now.items c.attempt-answer.new.out.items _ it told (next ∙ ap (λ n. n + 1) number) c.take_rest-rest.ensures.taken c.in-Ok.ensures.waits (c.is_some-has_stood.ensures ∙ ap is_some c.take_rest-rest.ensures.is)
-    c.give_up.ensures.adds c.give_up.ensures.commands c.give_up.ensures.cancelled c.give_up.ensures.rests (as_meant g.K.Kinds.words (g.K.Kinds.options c.args.kinds.now) (the_view c.self.inside) c.args.asker h c.args.settings (g.K.Kinds.tree c.args.statement.now) c.count-sessions.result c.number_at-cmd.result c.take_rest-rest.result (Ok endings.Done) c.attempt-answer.new.stores c.args.out.now.items c.attempt-answer.new.out.items (c.count-sessions.ensures.is ∙ ap (λ v. length v.opened) (sym c.self.view_is)) number c.take_rest-rest.ensures.is (subst (λ x. IsAttempt (Ok x) c.attempt-answer.new.stores c.args.out.now.items c.attempt-answer.new.out.items (record { session = c.args.asker.session; sessions = c.count-sessions.result; level = c.args.asker.level; cmd = c.number_at-cmd.result; kind = c.args.asker.kind }) h (g.K.Kinds.words.attempted (g.K.Kinds.options c.args.kinds.now) (caller_of c.count-sessions.result c.number_at-cmd.result c.args.asker) c.take_rest-rest.result h c.args.settings (g.K.Kinds.tree c.args.statement.now))) c.in-Done.is (c.in-Ok.ensures.is h told.stands (subst (IsAt h c.args.asker.session) (sym number) (told.numbered c.args.asker.session))))))
+    c.give_up.ensures.adds c.give_up.ensures.commands c.give_up.ensures.cancelled c.give_up.ensures.rests (as_meant g.K.Kinds.words (g.K.Kinds.options c.args.kinds.now) (the_view c.self.inside) c.args.asker h c.args.settings (g.K.Kinds.tree c.args.statement.now) c.count-sessions.result c.number_at-cmd.result c.take_rest-rest.result (Ok endings.Done) c.attempt-answer.new.stores c.args.out.now.items c.attempt-answer.new.out.items (c.count-sessions.ensures.is ∙ ap (λ v. length v.opened) (sym c.self.view_is)) number c.take_rest-rest.ensures.is (subst (λ x. IsAttempt (Ok x) c.attempt-answer.new.stores c.args.out.now.items c.attempt-answer.new.out.items (record { session = c.args.asker.session; sessions = c.count-sessions.result; level = c.args.asker.level; cmd = c.number_at-cmd.result; kind = c.args.asker.kind }) h (g.K.Kinds.words.attempted (g.K.Kinds.options c.args.kinds.now) (caller_of c.count-sessions.result c.number_at-cmd.result c.args.asker) c.take_rest-rest.result h c.args.settings (g.K.Kinds.tree c.args.statement.now))) c.in-Done.is (c.in-Ok.ensures.is h told.stands (subst (IsAt h c.args.asker.session) (sym number) (told.numbered c.args.asker.session)) (subst (CanGoOn h c.args.asker.session) (sym c.take_rest-rest.ensures.is) (told.waits.going_on c.args.asker.session))))))
     tells
 
 pub returns-in-Err-Refused-clause-ran : goal.returns-in-Err-Refused-clause-ran
@@ -93,7 +95,7 @@ returns-in-Err-Refused-clause-ran g c h tells =
     (subst (λ v. TellOf v h → HasRun (attempt_at g.K.Kinds.words (g.K.Kinds.options c.args.kinds.now) v c.args.asker h c.args.settings (g.K.Kinds.tree c.args.statement.now)) c.args.asker v
     (tried (the_view c.self.inside) c.attempt-answer.new.stores (slice_set c.self.inside.commands.items c.args.asker.session c.in-Some.next) c.take_rest-rest.new.rests.items c.self.inside.queue.items c.ready-self-inside.result)
     c.args.out.now.items c.attempt-answer.new.out.items (outcomes.Refused c.in-Err-Refused.fault) h) c.self.view_is
-    (λ told. refused_ran (the_view c.self.inside) c.args.asker c.attempt-answer.new.stores c.in-Some.next c.take_rest-rest.new.rests.items c.ready-self-inside.result h c.args.out.now.items c.attempt-answer.new.out.items _ c.in-Err-Refused.fault it told (next ∙ ap (λ n. n + 1) number) c.take_rest-rest.ensures.taken (subst (λ x. IsHalt (Err x) c.attempt-answer.new.stores c.args.asker.session) c.in-Err-Refused.field-0-is c.in-Err-Refused.ensures.waits) (as_meant g.K.Kinds.words (g.K.Kinds.options c.args.kinds.now) (the_view c.self.inside) c.args.asker h c.args.settings (g.K.Kinds.tree c.args.statement.now) c.count-sessions.result c.number_at-cmd.result c.take_rest-rest.result (Err (stop.Refused c.in-Err-Refused.fault)) c.attempt-answer.new.stores c.args.out.now.items c.attempt-answer.new.out.items (c.count-sessions.ensures.is ∙ ap (λ v. length v.opened) (sym c.self.view_is)) number c.take_rest-rest.ensures.is (subst (λ x. IsAttempt (Err x) c.attempt-answer.new.stores c.args.out.now.items c.attempt-answer.new.out.items (record { session = c.args.asker.session; sessions = c.count-sessions.result; level = c.args.asker.level; cmd = c.number_at-cmd.result; kind = c.args.asker.kind }) h (g.K.Kinds.words.attempted (g.K.Kinds.options c.args.kinds.now) (caller_of c.count-sessions.result c.number_at-cmd.result c.args.asker) c.take_rest-rest.result h c.args.settings (g.K.Kinds.tree c.args.statement.now))) c.in-Err-Refused.field-0-is (c.in-Err-Refused.ensures.is h told.stands (subst (IsAt h c.args.asker.session) (sym number) (told.numbered c.args.asker.session))))))
+    (λ told. refused_ran (the_view c.self.inside) c.args.asker c.attempt-answer.new.stores c.in-Some.next c.take_rest-rest.new.rests.items c.ready-self-inside.result h c.args.out.now.items c.attempt-answer.new.out.items _ c.in-Err-Refused.fault it told (next ∙ ap (λ n. n + 1) number) c.take_rest-rest.ensures.taken (subst (λ x. IsHalt (Err x) c.attempt-answer.new.stores c.args.asker.session) c.in-Err-Refused.field-0-is c.in-Err-Refused.ensures.waits) (as_meant g.K.Kinds.words (g.K.Kinds.options c.args.kinds.now) (the_view c.self.inside) c.args.asker h c.args.settings (g.K.Kinds.tree c.args.statement.now) c.count-sessions.result c.number_at-cmd.result c.take_rest-rest.result (Err (stop.Refused c.in-Err-Refused.fault)) c.attempt-answer.new.stores c.args.out.now.items c.attempt-answer.new.out.items (c.count-sessions.ensures.is ∙ ap (λ v. length v.opened) (sym c.self.view_is)) number c.take_rest-rest.ensures.is (subst (λ x. IsAttempt (Err x) c.attempt-answer.new.stores c.args.out.now.items c.attempt-answer.new.out.items (record { session = c.args.asker.session; sessions = c.count-sessions.result; level = c.args.asker.level; cmd = c.number_at-cmd.result; kind = c.args.asker.kind }) h (g.K.Kinds.words.attempted (g.K.Kinds.options c.args.kinds.now) (caller_of c.count-sessions.result c.number_at-cmd.result c.args.asker) c.take_rest-rest.result h c.args.settings (g.K.Kinds.tree c.args.statement.now))) c.in-Err-Refused.field-0-is (c.in-Err-Refused.ensures.is h told.stands (subst (IsAt h c.args.asker.session) (sym number) (told.numbered c.args.asker.session)) (subst (CanGoOn h c.args.asker.session) (sym c.take_rest-rest.ensures.is) (told.waits.going_on c.args.asker.session))))))
     tells)
 
 pub invariant_of-self-in-Err-Refused : goal.invariant_of-self-in-Err-Refused
@@ -110,7 +112,7 @@ invariant_of-self-in-Err-Refused g c =
     } in
     ran_kept (the_view c.self.inside) (tried (the_view c.self.inside) c.attempt-answer.new.stores (slice_set c.self.inside.commands.items c.args.asker.session c.in-Some.next) c.take_rest-rest.new.rests.items c.self.inside.queue.items c.ready-self-inside.result) c.self.invariant c.if-not-self.false
     (seated_after (the_view c.self.inside) c.attempt-answer.new.stores _ _ _ _ _ _ _ _ c.self.invariant.seated refl (as_long _ _ _) refl (ap length c.take_rest-rest.ensures.taken ∙ as_long _ _ _) refl (goes_size c.self.inside.stores c.attempt-answer.new.stores c.args.asker.session c.attempt-answer.ensures.keeps) c.self.invariant.seated.queue (known_of (length c.attempt-answer.new.stores.locks.wants) c.ready-self-inside.result (length c.self.inside.opened.items) (c.attempt-answer.ensures.keeps.size.sessions ∙ c.self.invariant.seated.waits) c.ready-self-inside.ensures.known))
-    (λ h told. (_, refused_tells (the_view c.self.inside) c.args.asker c.attempt-answer.new.stores c.in-Some.next c.take_rest-rest.new.rests.items c.ready-self-inside.result h c.args.out.now.items c.attempt-answer.new.out.items _ c.in-Err-Refused.fault it told (next ∙ ap (λ n. n + 1) number) c.take_rest-rest.ensures.taken (subst (λ x. IsHalt (Err x) c.attempt-answer.new.stores c.args.asker.session) c.in-Err-Refused.field-0-is c.in-Err-Refused.ensures.waits) (as_meant g.K.Kinds.words (g.K.Kinds.options c.args.kinds.now) (the_view c.self.inside) c.args.asker h c.args.settings (g.K.Kinds.tree c.args.statement.now) c.count-sessions.result c.number_at-cmd.result c.take_rest-rest.result (Err (stop.Refused c.in-Err-Refused.fault)) c.attempt-answer.new.stores c.args.out.now.items c.attempt-answer.new.out.items (c.count-sessions.ensures.is ∙ ap (λ v. length v.opened) (sym c.self.view_is)) number c.take_rest-rest.ensures.is (subst (λ x. IsAttempt (Err x) c.attempt-answer.new.stores c.args.out.now.items c.attempt-answer.new.out.items (record { session = c.args.asker.session; sessions = c.count-sessions.result; level = c.args.asker.level; cmd = c.number_at-cmd.result; kind = c.args.asker.kind }) h (g.K.Kinds.words.attempted (g.K.Kinds.options c.args.kinds.now) (caller_of c.count-sessions.result c.number_at-cmd.result c.args.asker) c.take_rest-rest.result h c.args.settings (g.K.Kinds.tree c.args.statement.now))) c.in-Err-Refused.field-0-is (c.in-Err-Refused.ensures.is h told.stands (subst (IsAt h c.args.asker.session) (sym number) (told.numbered c.args.asker.session)))))))
+    (λ h told. (_, refused_tells (the_view c.self.inside) c.args.asker c.attempt-answer.new.stores c.in-Some.next c.take_rest-rest.new.rests.items c.ready-self-inside.result h c.args.out.now.items c.attempt-answer.new.out.items _ c.in-Err-Refused.fault it told (next ∙ ap (λ n. n + 1) number) c.take_rest-rest.ensures.taken (subst (λ x. IsHalt (Err x) c.attempt-answer.new.stores c.args.asker.session) c.in-Err-Refused.field-0-is c.in-Err-Refused.ensures.waits) (as_meant g.K.Kinds.words (g.K.Kinds.options c.args.kinds.now) (the_view c.self.inside) c.args.asker h c.args.settings (g.K.Kinds.tree c.args.statement.now) c.count-sessions.result c.number_at-cmd.result c.take_rest-rest.result (Err (stop.Refused c.in-Err-Refused.fault)) c.attempt-answer.new.stores c.args.out.now.items c.attempt-answer.new.out.items (c.count-sessions.ensures.is ∙ ap (λ v. length v.opened) (sym c.self.view_is)) number c.take_rest-rest.ensures.is (subst (λ x. IsAttempt (Err x) c.attempt-answer.new.stores c.args.out.now.items c.attempt-answer.new.out.items (record { session = c.args.asker.session; sessions = c.count-sessions.result; level = c.args.asker.level; cmd = c.number_at-cmd.result; kind = c.args.asker.kind }) h (g.K.Kinds.words.attempted (g.K.Kinds.options c.args.kinds.now) (caller_of c.count-sessions.result c.number_at-cmd.result c.args.asker) c.take_rest-rest.result h c.args.settings (g.K.Kinds.tree c.args.statement.now))) c.in-Err-Refused.field-0-is (c.in-Err-Refused.ensures.is h told.stands (subst (IsAt h c.args.asker.session) (sym number) (told.numbered c.args.asker.session)) (subst (CanGoOn h c.args.asker.session) (sym c.take_rest-rest.ensures.is) (told.waits.going_on c.args.asker.session)))))))
 
 pub returns-in-Commits-clause-ran : goal.returns-in-Commits-clause-ran
 returns-in-Commits-clause-ran g c h tells =
@@ -127,7 +129,7 @@ returns-in-Commits-clause-ran g c h tells =
     subst (λ v. TellOf v h → HasRun (attempt_at g.K.Kinds.words (g.K.Kinds.options c.args.kinds.now) v c.args.asker h c.args.settings (g.K.Kinds.tree c.args.statement.now)) c.args.asker v
     (tried (the_view c.self.inside) c.attempt-answer.new.stores (slice_set c.self.inside.commands.items c.args.asker.session c.in-Some.next) c.set_rest.new.rests.items c.self.inside.queue.items c.ready-self-inside.result)
     c.args.out.now.items c.attempt-answer.new.out.items outcomes.Commits h) c.self.view_is
-    (λ told. commits_ran (the_view c.self.inside) c.args.asker c.attempt-answer.new.stores c.in-Some.next c.set_rest.new.rests.items c.ready-self-inside.result h c.args.out.now.items c.attempt-answer.new.out.items _ c.in-Commits.rest it told (next ∙ ap (λ n. n + 1) number) (c.set_rest.ensures ∙ ((ap (λ xs. slice_set xs c.args.asker.session (Some (Detach c.in-Commits.rest))) c.take_rest-rest.ensures.taken ∙ set_twice c.self.inside.rests.items c.args.asker.session None (Some (Detach c.in-Commits.rest))))) c.in-Ok.ensures.waits (as_meant g.K.Kinds.words (g.K.Kinds.options c.args.kinds.now) (the_view c.self.inside) c.args.asker h c.args.settings (g.K.Kinds.tree c.args.statement.now) c.count-sessions.result c.number_at-cmd.result c.take_rest-rest.result (Ok (endings.Commits c.in-Commits.rest)) c.attempt-answer.new.stores c.args.out.now.items c.attempt-answer.new.out.items (c.count-sessions.ensures.is ∙ ap (λ v. length v.opened) (sym c.self.view_is)) number c.take_rest-rest.ensures.is (subst (λ x. IsAttempt (Ok x) c.attempt-answer.new.stores c.args.out.now.items c.attempt-answer.new.out.items (record { session = c.args.asker.session; sessions = c.count-sessions.result; level = c.args.asker.level; cmd = c.number_at-cmd.result; kind = c.args.asker.kind }) h (g.K.Kinds.words.attempted (g.K.Kinds.options c.args.kinds.now) (caller_of c.count-sessions.result c.number_at-cmd.result c.args.asker) c.take_rest-rest.result h c.args.settings (g.K.Kinds.tree c.args.statement.now))) c.in-Commits.is (c.in-Ok.ensures.is h told.stands (subst (IsAt h c.args.asker.session) (sym number) (told.numbered c.args.asker.session))))))
+    (λ told. commits_ran (the_view c.self.inside) c.args.asker c.attempt-answer.new.stores c.in-Some.next c.set_rest.new.rests.items c.ready-self-inside.result h c.args.out.now.items c.attempt-answer.new.out.items _ c.in-Commits.rest it told (next ∙ ap (λ n. n + 1) number) (c.set_rest.ensures ∙ ((ap (λ xs. slice_set xs c.args.asker.session (Some (Detach c.in-Commits.rest))) c.take_rest-rest.ensures.taken ∙ set_twice c.self.inside.rests.items c.args.asker.session None (Some (Detach c.in-Commits.rest))))) c.in-Ok.ensures.waits (as_meant g.K.Kinds.words (g.K.Kinds.options c.args.kinds.now) (the_view c.self.inside) c.args.asker h c.args.settings (g.K.Kinds.tree c.args.statement.now) c.count-sessions.result c.number_at-cmd.result c.take_rest-rest.result (Ok (endings.Commits c.in-Commits.rest)) c.attempt-answer.new.stores c.args.out.now.items c.attempt-answer.new.out.items (c.count-sessions.ensures.is ∙ ap (λ v. length v.opened) (sym c.self.view_is)) number c.take_rest-rest.ensures.is (subst (λ x. IsAttempt (Ok x) c.attempt-answer.new.stores c.args.out.now.items c.attempt-answer.new.out.items (record { session = c.args.asker.session; sessions = c.count-sessions.result; level = c.args.asker.level; cmd = c.number_at-cmd.result; kind = c.args.asker.kind }) h (g.K.Kinds.words.attempted (g.K.Kinds.options c.args.kinds.now) (caller_of c.count-sessions.result c.number_at-cmd.result c.args.asker) c.take_rest-rest.result h c.args.settings (g.K.Kinds.tree c.args.statement.now))) c.in-Commits.is (c.in-Ok.ensures.is h told.stands (subst (IsAt h c.args.asker.session) (sym number) (told.numbered c.args.asker.session)) (subst (CanGoOn h c.args.asker.session) (sym c.take_rest-rest.ensures.is) (told.waits.going_on c.args.asker.session))))))
     tells
 
 pub invariant_of-self-in-Commits : goal.invariant_of-self-in-Commits
@@ -145,7 +147,7 @@ invariant_of-self-in-Commits g c =
     ran_kept (the_view c.self.inside) (tried (the_view c.self.inside) c.attempt-answer.new.stores (slice_set c.self.inside.commands.items c.args.asker.session c.in-Some.next) c.set_rest.new.rests.items c.self.inside.queue.items c.ready-self-inside.result) c.self.invariant c.if-not-self.false
     (seated_after (the_view c.self.inside) c.attempt-answer.new.stores _ _ _ _ _ _ _ _ c.self.invariant.seated refl (as_long _ _ _) refl (ap length c.set_rest.ensures ∙ (as_long _ _ _ ∙ (ap length c.take_rest-rest.ensures.taken ∙ as_long _ _ _))) refl (goes_size c.self.inside.stores c.attempt-answer.new.stores c.args.asker.session c.attempt-answer.ensures.keeps)
     c.self.invariant.seated.queue (known_of (length c.attempt-answer.new.stores.locks.wants) c.ready-self-inside.result (length c.self.inside.opened.items) (c.attempt-answer.ensures.keeps.size.sessions ∙ c.self.invariant.seated.waits) c.ready-self-inside.ensures.known))
-    (λ h told. (_, commits_tells (the_view c.self.inside) c.args.asker c.attempt-answer.new.stores c.in-Some.next c.set_rest.new.rests.items c.ready-self-inside.result h c.args.out.now.items c.attempt-answer.new.out.items _ c.in-Commits.rest it told (next ∙ ap (λ n. n + 1) number) (c.set_rest.ensures ∙ ((ap (λ xs. slice_set xs c.args.asker.session (Some (Detach c.in-Commits.rest))) c.take_rest-rest.ensures.taken ∙ set_twice c.self.inside.rests.items c.args.asker.session None (Some (Detach c.in-Commits.rest))))) c.in-Ok.ensures.waits (as_meant g.K.Kinds.words (g.K.Kinds.options c.args.kinds.now) (the_view c.self.inside) c.args.asker h c.args.settings (g.K.Kinds.tree c.args.statement.now) c.count-sessions.result c.number_at-cmd.result c.take_rest-rest.result (Ok (endings.Commits c.in-Commits.rest)) c.attempt-answer.new.stores c.args.out.now.items c.attempt-answer.new.out.items (c.count-sessions.ensures.is ∙ ap (λ v. length v.opened) (sym c.self.view_is)) number c.take_rest-rest.ensures.is (subst (λ x. IsAttempt (Ok x) c.attempt-answer.new.stores c.args.out.now.items c.attempt-answer.new.out.items (record { session = c.args.asker.session; sessions = c.count-sessions.result; level = c.args.asker.level; cmd = c.number_at-cmd.result; kind = c.args.asker.kind }) h (g.K.Kinds.words.attempted (g.K.Kinds.options c.args.kinds.now) (caller_of c.count-sessions.result c.number_at-cmd.result c.args.asker) c.take_rest-rest.result h c.args.settings (g.K.Kinds.tree c.args.statement.now))) c.in-Commits.is (c.in-Ok.ensures.is h told.stands (subst (IsAt h c.args.asker.session) (sym number) (told.numbered c.args.asker.session)))))))
+    (λ h told. (_, commits_tells (the_view c.self.inside) c.args.asker c.attempt-answer.new.stores c.in-Some.next c.set_rest.new.rests.items c.ready-self-inside.result h c.args.out.now.items c.attempt-answer.new.out.items _ c.in-Commits.rest it told (next ∙ ap (λ n. n + 1) number) (c.set_rest.ensures ∙ ((ap (λ xs. slice_set xs c.args.asker.session (Some (Detach c.in-Commits.rest))) c.take_rest-rest.ensures.taken ∙ set_twice c.self.inside.rests.items c.args.asker.session None (Some (Detach c.in-Commits.rest))))) c.in-Ok.ensures.waits (as_meant g.K.Kinds.words (g.K.Kinds.options c.args.kinds.now) (the_view c.self.inside) c.args.asker h c.args.settings (g.K.Kinds.tree c.args.statement.now) c.count-sessions.result c.number_at-cmd.result c.take_rest-rest.result (Ok (endings.Commits c.in-Commits.rest)) c.attempt-answer.new.stores c.args.out.now.items c.attempt-answer.new.out.items (c.count-sessions.ensures.is ∙ ap (λ v. length v.opened) (sym c.self.view_is)) number c.take_rest-rest.ensures.is (subst (λ x. IsAttempt (Ok x) c.attempt-answer.new.stores c.args.out.now.items c.attempt-answer.new.out.items (record { session = c.args.asker.session; sessions = c.count-sessions.result; level = c.args.asker.level; cmd = c.number_at-cmd.result; kind = c.args.asker.kind }) h (g.K.Kinds.words.attempted (g.K.Kinds.options c.args.kinds.now) (caller_of c.count-sessions.result c.number_at-cmd.result c.args.asker) c.take_rest-rest.result h c.args.settings (g.K.Kinds.tree c.args.statement.now))) c.in-Commits.is (c.in-Ok.ensures.is h told.stands (subst (IsAt h c.args.asker.session) (sym number) (told.numbered c.args.asker.session)) (subst (CanGoOn h c.args.asker.session) (sym c.take_rest-rest.ensures.is) (told.waits.going_on c.args.asker.session)))))))
 
 pub returns-else-is_err-clause-ran : goal.returns-else-is_err-clause-ran
 returns-else-is_err-clause-ran g c h tells =
@@ -162,7 +164,7 @@ returns-else-is_err-clause-ran g c h tells =
     subst (λ v. TellOf v h → HasRun (attempt_at g.K.Kinds.words (g.K.Kinds.options c.args.kinds.now) v c.args.asker h c.args.settings (g.K.Kinds.tree c.args.statement.now)) c.args.asker v
     (tried (the_view c.self.inside) c.attempt-answer.new.stores (slice_set c.self.inside.commands.items c.args.asker.session c.number_after.result) c.set_rest-in-Err-Waits.new.rests.items c.push.new.self.items c.ready-self-inside.result)
     c.args.out.now.items c.attempt-answer.new.out.items outcomes.Waits h) c.self.view_is
-    (λ told. waits_ran (the_view c.self.inside) c.args.asker c.attempt-answer.new.stores c.number_after.result c.in-Err-Waits.rest c.set_rest-in-Err-Waits.new.rests.items c.push.new.self.items c.ready-self-inside.result h c.args.out.now.items c.attempt-answer.new.out.items _ it told (c.number_after.ensures ∙ (ap (λ r. number_after r c.number_at-cmd.result) c.in-Err-Waits.rest-is ∙ ap (number_after c.in-Err-Waits.rest) number)) (c.set_rest-in-Err-Waits.ensures ∙ (ap (slice_set c.take_rest-rest.new.rests.items c.args.asker.session) c.in-Err-Waits.rest-is ∙ (ap (λ xs. slice_set xs c.args.asker.session c.in-Err-Waits.rest) c.take_rest-rest.ensures.taken ∙ set_twice c.self.inside.rests.items c.args.asker.session None c.in-Err-Waits.rest))) (subst (λ x. IsHalt (Err x) c.attempt-answer.new.stores c.args.asker.session) c.in-Err-Waits.field-0-is c.in-Err-Waits.ensures.waits) pushed (as_meant g.K.Kinds.words (g.K.Kinds.options c.args.kinds.now) (the_view c.self.inside) c.args.asker h c.args.settings (g.K.Kinds.tree c.args.statement.now) c.count-sessions.result c.number_at-cmd.result c.take_rest-rest.result (Err (stop.Waits c.in-Err-Waits.rest)) c.attempt-answer.new.stores c.args.out.now.items c.attempt-answer.new.out.items (c.count-sessions.ensures.is ∙ ap (λ v. length v.opened) (sym c.self.view_is)) number c.take_rest-rest.ensures.is (subst (λ x. IsAttempt (Err x) c.attempt-answer.new.stores c.args.out.now.items c.attempt-answer.new.out.items (record { session = c.args.asker.session; sessions = c.count-sessions.result; level = c.args.asker.level; cmd = c.number_at-cmd.result; kind = c.args.asker.kind }) h (g.K.Kinds.words.attempted (g.K.Kinds.options c.args.kinds.now) (caller_of c.count-sessions.result c.number_at-cmd.result c.args.asker) c.take_rest-rest.result h c.args.settings (g.K.Kinds.tree c.args.statement.now))) c.in-Err-Waits.field-0-is (c.in-Err-Waits.ensures.is h told.stands (subst (IsAt h c.args.asker.session) (sym number) (told.numbered c.args.asker.session))))))
+    (λ told. waits_ran (the_view c.self.inside) c.args.asker c.attempt-answer.new.stores c.number_after.result c.in-Err-Waits.rest c.set_rest-in-Err-Waits.new.rests.items c.push.new.self.items c.ready-self-inside.result h c.args.out.now.items c.attempt-answer.new.out.items _ it told (c.number_after.ensures ∙ (ap (λ r. number_after r c.number_at-cmd.result) c.in-Err-Waits.rest-is ∙ ap (number_after c.in-Err-Waits.rest) number)) (c.set_rest-in-Err-Waits.ensures ∙ (ap (slice_set c.take_rest-rest.new.rests.items c.args.asker.session) c.in-Err-Waits.rest-is ∙ (ap (λ xs. slice_set xs c.args.asker.session c.in-Err-Waits.rest) c.take_rest-rest.ensures.taken ∙ set_twice c.self.inside.rests.items c.args.asker.session None c.in-Err-Waits.rest))) (subst (λ x. IsHalt (Err x) c.attempt-answer.new.stores c.args.asker.session) c.in-Err-Waits.field-0-is c.in-Err-Waits.ensures.waits) pushed (as_meant g.K.Kinds.words (g.K.Kinds.options c.args.kinds.now) (the_view c.self.inside) c.args.asker h c.args.settings (g.K.Kinds.tree c.args.statement.now) c.count-sessions.result c.number_at-cmd.result c.take_rest-rest.result (Err (stop.Waits c.in-Err-Waits.rest)) c.attempt-answer.new.stores c.args.out.now.items c.attempt-answer.new.out.items (c.count-sessions.ensures.is ∙ ap (λ v. length v.opened) (sym c.self.view_is)) number c.take_rest-rest.ensures.is (subst (λ x. IsAttempt (Err x) c.attempt-answer.new.stores c.args.out.now.items c.attempt-answer.new.out.items (record { session = c.args.asker.session; sessions = c.count-sessions.result; level = c.args.asker.level; cmd = c.number_at-cmd.result; kind = c.args.asker.kind }) h (g.K.Kinds.words.attempted (g.K.Kinds.options c.args.kinds.now) (caller_of c.count-sessions.result c.number_at-cmd.result c.args.asker) c.take_rest-rest.result h c.args.settings (g.K.Kinds.tree c.args.statement.now))) c.in-Err-Waits.field-0-is (c.in-Err-Waits.ensures.is h told.stands (subst (IsAt h c.args.asker.session) (sym number) (told.numbered c.args.asker.session)) (subst (CanGoOn h c.args.asker.session) (sym c.take_rest-rest.ensures.is) (told.waits.going_on c.args.asker.session))))))
     tells
 
 pub invariant_of-self-else-is_err : goal.invariant_of-self-else-is_err
@@ -180,7 +182,7 @@ invariant_of-self-else-is_err g c =
     ran_kept (the_view c.self.inside) (tried (the_view c.self.inside) c.attempt-answer.new.stores (slice_set c.self.inside.commands.items c.args.asker.session c.number_after.result) c.set_rest-in-Err-Waits.new.rests.items c.push.new.self.items c.ready-self-inside.result) c.self.invariant c.if-not-self.false
     (seated_after (the_view c.self.inside) c.attempt-answer.new.stores _ _ _ _ _ _ _ _ c.self.invariant.seated refl (as_long _ _ _) refl (ap length c.set_rest-in-Err-Waits.ensures ∙ (as_long _ _ _ ∙ (ap length c.take_rest-rest.ensures.taken ∙ as_long _ _ _))) refl (goes_size c.self.inside.stores c.attempt-answer.new.stores c.args.asker.session c.attempt-answer.ensures.keeps)
     (one_more c.self.inside.queue.items c.push.new.self.items c.args.asker.session (length c.self.inside.opened.items) pushed c.self.invariant.seated.queue (subst (λ v. c.args.asker.session < length v.opened) (sym c.self.view_is) c.requires.known)) (known_of (length c.attempt-answer.new.stores.locks.wants) c.ready-self-inside.result (length c.self.inside.opened.items) (c.attempt-answer.ensures.keeps.size.sessions ∙ c.self.invariant.seated.waits) c.ready-self-inside.ensures.known))
-    (λ h told. (_, waits_tells (the_view c.self.inside) c.args.asker c.attempt-answer.new.stores c.number_after.result c.in-Err-Waits.rest c.set_rest-in-Err-Waits.new.rests.items c.push.new.self.items c.ready-self-inside.result h c.args.out.now.items c.attempt-answer.new.out.items _ it told (c.number_after.ensures ∙ (ap (λ r. number_after r c.number_at-cmd.result) c.in-Err-Waits.rest-is ∙ ap (number_after c.in-Err-Waits.rest) number)) (c.set_rest-in-Err-Waits.ensures ∙ (ap (slice_set c.take_rest-rest.new.rests.items c.args.asker.session) c.in-Err-Waits.rest-is ∙ (ap (λ xs. slice_set xs c.args.asker.session c.in-Err-Waits.rest) c.take_rest-rest.ensures.taken ∙ set_twice c.self.inside.rests.items c.args.asker.session None c.in-Err-Waits.rest))) (subst (λ x. IsHalt (Err x) c.attempt-answer.new.stores c.args.asker.session) c.in-Err-Waits.field-0-is c.in-Err-Waits.ensures.waits) pushed (as_meant g.K.Kinds.words (g.K.Kinds.options c.args.kinds.now) (the_view c.self.inside) c.args.asker h c.args.settings (g.K.Kinds.tree c.args.statement.now) c.count-sessions.result c.number_at-cmd.result c.take_rest-rest.result (Err (stop.Waits c.in-Err-Waits.rest)) c.attempt-answer.new.stores c.args.out.now.items c.attempt-answer.new.out.items (c.count-sessions.ensures.is ∙ ap (λ v. length v.opened) (sym c.self.view_is)) number c.take_rest-rest.ensures.is (subst (λ x. IsAttempt (Err x) c.attempt-answer.new.stores c.args.out.now.items c.attempt-answer.new.out.items (record { session = c.args.asker.session; sessions = c.count-sessions.result; level = c.args.asker.level; cmd = c.number_at-cmd.result; kind = c.args.asker.kind }) h (g.K.Kinds.words.attempted (g.K.Kinds.options c.args.kinds.now) (caller_of c.count-sessions.result c.number_at-cmd.result c.args.asker) c.take_rest-rest.result h c.args.settings (g.K.Kinds.tree c.args.statement.now))) c.in-Err-Waits.field-0-is (c.in-Err-Waits.ensures.is h told.stands (subst (IsAt h c.args.asker.session) (sym number) (told.numbered c.args.asker.session)))))))
+    (λ h told. (_, waits_tells (the_view c.self.inside) c.args.asker c.attempt-answer.new.stores c.number_after.result c.in-Err-Waits.rest c.set_rest-in-Err-Waits.new.rests.items c.push.new.self.items c.ready-self-inside.result h c.args.out.now.items c.attempt-answer.new.out.items _ it told (c.number_after.ensures ∙ (ap (λ r. number_after r c.number_at-cmd.result) c.in-Err-Waits.rest-is ∙ ap (number_after c.in-Err-Waits.rest) number)) (c.set_rest-in-Err-Waits.ensures ∙ (ap (slice_set c.take_rest-rest.new.rests.items c.args.asker.session) c.in-Err-Waits.rest-is ∙ (ap (λ xs. slice_set xs c.args.asker.session c.in-Err-Waits.rest) c.take_rest-rest.ensures.taken ∙ set_twice c.self.inside.rests.items c.args.asker.session None c.in-Err-Waits.rest))) (subst (λ x. IsHalt (Err x) c.attempt-answer.new.stores c.args.asker.session) c.in-Err-Waits.field-0-is c.in-Err-Waits.ensures.waits) pushed (as_meant g.K.Kinds.words (g.K.Kinds.options c.args.kinds.now) (the_view c.self.inside) c.args.asker h c.args.settings (g.K.Kinds.tree c.args.statement.now) c.count-sessions.result c.number_at-cmd.result c.take_rest-rest.result (Err (stop.Waits c.in-Err-Waits.rest)) c.attempt-answer.new.stores c.args.out.now.items c.attempt-answer.new.out.items (c.count-sessions.ensures.is ∙ ap (λ v. length v.opened) (sym c.self.view_is)) number c.take_rest-rest.ensures.is (subst (λ x. IsAttempt (Err x) c.attempt-answer.new.stores c.args.out.now.items c.attempt-answer.new.out.items (record { session = c.args.asker.session; sessions = c.count-sessions.result; level = c.args.asker.level; cmd = c.number_at-cmd.result; kind = c.args.asker.kind }) h (g.K.Kinds.words.attempted (g.K.Kinds.options c.args.kinds.now) (caller_of c.count-sessions.result c.number_at-cmd.result c.args.asker) c.take_rest-rest.result h c.args.settings (g.K.Kinds.tree c.args.statement.now))) c.in-Err-Waits.field-0-is (c.in-Err-Waits.ensures.is h told.stands (subst (IsAt h c.args.asker.session) (sym number) (told.numbered c.args.asker.session)) (subst (CanGoOn h c.args.asker.session) (sym c.take_rest-rest.ensures.is) (told.waits.going_on c.args.asker.session)))))))
 
 pub returns-else-is_err-clause-lower : goal.returns-else-is_err-clause-lower
 returns-else-is_err-clause-lower g c is =

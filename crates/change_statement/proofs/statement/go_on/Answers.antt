@@ -1,0 +1,23 @@
+use Rattle.std.proofs.Common.{All, sym, ◌∙◌, subst, List}
+use Rattle.statement_steps.specs.Gathered.{Found, found_of}
+use Rattle.statement_steps.specs.declared.rest.TargetRow.{TargetRow}
+use Rattle.change_statement.specs.Changed.{all_changed}
+use Rattle.change_statement.specs.Changing.{changing}
+use Rattle.change_statement.specs.Running.{IsRun, IsTargetIn, MayRun}
+use Rattle.change_statement.proofs.Commands.{may_go, left_in, left_is_command}
+use Rattle.change_statement.proofs.statement.go_on.Goals as goal
+
+pub change_rows-requires-clause-may : goal.change_rows-requires-clause-may
+change_rows-requires-clause-may c = subst (λ (g : Found). MayRun g c.args.stores.now c.args.caller) (sym c.into_parts-gathered.ensures.found) (may_go c.args.stores.now c.args.caller c.args.rest c.requires.may c.requires.own)
+
+pub change_rows-requires-clause-targets : goal.change_rows-requires-clause-targets
+change_rows-requires-clause-targets c =
+    subst (λ (g : Found). All (IsTargetIn c.args.stores.now.rows g) c.deref.result.now) (sym c.into_parts-gathered.ensures.found)
+    (subst (All (IsTargetIn c.args.stores.now.rows c.args.rest.found)) (sym (c.deref.ensures.value ∙ c.into_parts-gathered.ensures.left)) (left_in c.args.stores.now c.args.caller c.args.rest c.requires.own))
+
+pub returns : goal.returns
+returns c =
+    left_is_command c.change_rows.result c.args.stores.now c.change_rows.new.stores c.args.caller c.args.rest (all_changed (changing c.args.change c.args.caller c.args.rest.found) c.args.names.now c.args.caller c.args.rest.found c.args.rest.left c.args.rest.changed) c.requires.own
+    (subst (λ n. IsRun c.args.rest.found (λ (u : Unit {0}). u) c.change_rows.result c.args.stores.now c.change_rows.new.stores c.args.caller (all_changed (changing c.args.change c.args.caller c.args.rest.found) c.args.names.now c.args.caller c.args.rest.found c.args.rest.left n)) c.into_parts-gathered.ensures.changed
+    (subst (λ (ts : List TargetRow). IsRun c.args.rest.found (λ (u : Unit {0}). u) c.change_rows.result c.args.stores.now c.change_rows.new.stores c.args.caller (all_changed (changing c.args.change c.args.caller c.args.rest.found) c.args.names.now c.args.caller c.args.rest.found ts c.into_parts-gathered.result.2)) (c.deref.ensures.value ∙ c.into_parts-gathered.ensures.left)
+    (subst (λ (g : Found). IsRun g (λ (u : Unit {0}). u) c.change_rows.result c.args.stores.now c.change_rows.new.stores c.args.caller (all_changed (changing c.args.change c.args.caller g) c.args.names.now c.args.caller g c.deref.result.now c.into_parts-gathered.result.2)) c.into_parts-gathered.ensures.found c.change_rows.ensures)))

@@ -1,0 +1,33 @@
+use Rattle.std.proofs.Common.{sym, subst, Some, Ok, Err}
+use Rattle.history.specs.declared.wait.Wanted.TheVariants.{Others}
+use Rattle.statement_steps.specs.Asks.{waited}
+use Rattle.statement_steps.specs.Faults.{stop_by}
+use Rattle.statement_steps.specs.Steps.{IsPart}
+use Rattle.statement_steps.specs.declared.rest.Rest.TheVariants.{Rows}
+use Rattle.statement_steps.proofs.Parts.{HasAsked, has_asked, granted_step, waiting_part, closed}
+use Rattle.statement_steps.proofs.Steps.{as_part}
+use Rattle.statement_steps.proofs.locking.wait_for_row.Goals as goal
+
+pub returns-in-Granted-clause-part : goal.returns-in-Granted-clause-part
+returns-in-Granted-clause-part c =
+    as_part (λ (u : Unit {0}). u) (Ok tt) c.args.stores.now c.wait_on-answer.new.self c.args.caller c.args.caller.cmd (waited c.args.names.now c.args.caller.session c.args.what (Some (Rows c.args.rest)))
+    (granted_step c.args.names.now c.args.stores.now c.wait_on-answer.new.self c.args.caller (Others c.args.what) (Some (Rows c.args.rest)) c.requires.may
+    (subst (HasAsked c.args.stores.now c.wait_on-answer.new.self c.args.caller (Others c.args.what)) c.in-Granted.is
+    (has_asked c.args.stores.now c.wait_on-answer.new.self c.args.caller (Others c.args.what) c.wait_on-answer.result c.requires.may c.wait_on-answer.ensures.good
+    c.wait_on-answer.ensures.answer c.answer_is_told.ensures.view c.answer_is_told.ensures.history c.wait_on-answer.ensures.waits c.wait_on-answer.ensures.others c.wait_on-answer.ensures.size c.wait_on-answer.ensures.rest)))
+
+pub returns-in-Waits-clause-part : goal.returns-in-Waits-clause-part
+returns-in-Waits-clause-part c =
+    waiting_part c.args.names.now c.args.stores.now c.wait_on-answer.new.self c.args.caller (Others c.args.what) (Some (Rows c.args.rest)) c.in-Waits.behind c.requires.may
+    (subst (HasAsked c.args.stores.now c.wait_on-answer.new.self c.args.caller (Others c.args.what)) c.in-Waits.is
+    (has_asked c.args.stores.now c.wait_on-answer.new.self c.args.caller (Others c.args.what) c.wait_on-answer.result c.requires.may c.wait_on-answer.ensures.good
+    c.wait_on-answer.ensures.answer c.answer_is_told.ensures.view c.answer_is_told.ensures.history c.wait_on-answer.ensures.waits c.wait_on-answer.ensures.others c.wait_on-answer.ensures.size c.wait_on-answer.ensures.rest))
+
+pub returns-in-Deadlock-clause-part : goal.returns-in-Deadlock-clause-part
+returns-in-Deadlock-clause-part c =
+    subst (λ r. IsPart (λ (u : Unit {0}). u) (Err r) c.args.stores.now c.wait_on-answer.new.self c.args.caller c.args.caller.cmd (waited c.args.names.now c.args.caller.session c.args.what (Some (Rows c.args.rest)))) (sym c.stop_by.ensures)
+    (as_part (λ (u : Unit {0}). u) (Err (stop_by c.deadlock_of.result)) c.args.stores.now c.wait_on-answer.new.self c.args.caller c.args.caller.cmd (waited c.args.names.now c.args.caller.session c.args.what (Some (Rows c.args.rest)))
+    (closed c.args.names.now c.args.stores.now c.wait_on-answer.new.self c.args.caller (Others c.args.what) (Some (Rows c.args.rest)) c.in-Deadlock.cycle c.deadlock_of.result c.deadlock_of.ensures c.requires.may
+    (subst (HasAsked c.args.stores.now c.wait_on-answer.new.self c.args.caller (Others c.args.what)) c.in-Deadlock.is
+    (has_asked c.args.stores.now c.wait_on-answer.new.self c.args.caller (Others c.args.what) c.wait_on-answer.result c.requires.may c.wait_on-answer.ensures.good
+    c.wait_on-answer.ensures.answer c.answer_is_told.ensures.view c.answer_is_told.ensures.history c.wait_on-answer.ensures.waits c.wait_on-answer.ensures.others c.wait_on-answer.ensures.size c.wait_on-answer.ensures.rest))))
