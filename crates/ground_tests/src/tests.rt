@@ -1,13 +1,7 @@
-use cond_logic::{
-    Binding, ColumnId, CompareOp, Cond, CondList, Operand, Truth3, bind_params, columns_used, eval,
-    push_not,
-};
+use cond_logic::{Binding, ColumnId, CompareOp, Cond, CondList, Operand, Truth3, bind_params, columns_used, eval, push_not};
 use grammar::Refused;
-use grammar::example::{Entry, Kind as Sort, Token, no_list_has_two_values, parse_entries};
-use pg_values::{
-    DayKey, IntKey, KeyKind, Kind, LeafId, NoMemory, PgText, Row, TextKey, TruthKey, Value,
-    ValueKey, Which,
-};
+use grammar::example::{Entry, SampleSampleKind as Sort, Token, no_list_has_two_values, parse_entries};
+use pg_values::{DayKey, IntKey, KeyKind, Kind, LeafId, NoMemory, PgText, Row, TextKey, TruthKey, Value, ValueKey, Which};
 use row_store::{PutCause, PutRefused, RowStore};
 use std::alloc::Global;
 use std::cmp::Ordering;

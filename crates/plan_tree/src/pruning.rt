@@ -13,10 +13,10 @@ ghost use Rattle.plan_tree.specs.Kept.{AreKept, is_kept, keeps_by, keeps_for, ke
 ghost use Rattle.plan_tree.specs.Prunable.{CanPrune};
 
 use crate::condition::copy_cond;
-use bound_forms::{Bound, KeyColumns, Level, Strategy};
+use bound_forms::{Bound, KeyColumns, Level};
 use cond_logic::{Cond, NamedLeaf};
 use part_bounds::{BoundSet, make_set};
-use pg_values::{NoMemory, Steps, TableNo, ValueKey};
+use pg_values::{NoMemory, Steps, Strategy, TableNo, ValueKey};
 use prune_steps::{KeptSet, make_steps, run_steps};
 use std::alloc::Global;
 use std::marker::Brand;

@@ -7,7 +7,7 @@ use Rattle.pg_values.specs.declared.value.Value.TheVariants.{Null, Text}
 use Rattle.pg_values.specs.declared.fault.Fault.{Fault}
 use Rattle.refusals.specs.Refusals.{fault_of}
 use Rattle.bound_forms.specs.declared.level.Level.{Level as OneLevel}
-use Rattle.bound_forms.specs.declared.level.Strategy.TheVariants.{Range as ByRange}
+use Rattle.pg_values.specs.declared.strategy.Strategy.TheVariants.{Range as ByRange}
 use Rattle.bound_forms.specs.declared.partition_bound.Bound.{Bound}
 use Rattle.bound_forms.specs.declared.partition_bound.Bound.TheVariants.{Range}
 use Rattle.bound_forms.specs.declared.point.Edge.TheVariants.{Min, At}

@@ -64,7 +64,7 @@ pub trait Database: Sized + Drop {
         &mut self,
         alloc: Global,
         session: usize,
-        kind: Kind,
+        kind: BlockKind,
         text: &[u8],
     ) -> Result<(), NoMemory>
         requires known { session < count self.old }

@@ -9,7 +9,7 @@ use Rattle.pg_values.specs.declared.value.Value.TheVariants.{Int4}
 use Rattle.pg_values.specs.declared.ids.LeafId.{LeafId}
 use Rattle.pg_values.specs.declared.lock_mode.LockMode.TheVariants.{RowExclusive}
 use Rattle.bound_forms.specs.declared.level.KeyColumn.{KeyColumn}
-use Rattle.bound_forms.specs.declared.level.Strategy.TheVariants.{Range as ByRange}
+use Rattle.pg_values.specs.declared.strategy.Strategy.TheVariants.{Range as ByRange}
 use Rattle.bound_forms.specs.declared.partition_bound.Bound.{Bound}
 use Rattle.bound_forms.specs.declared.partition_bound.Bound.TheVariants.{Range}
 use Rattle.bound_forms.specs.declared.point.Edge.TheVariants.{Min, At}

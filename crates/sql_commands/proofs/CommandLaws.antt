@@ -7,7 +7,7 @@ use Rattle.grammar.proofs.Chain.{none}
 use Rattle.grammar.proofs.Build.{token, empty, valued, wide, seq, then_by, alt, opt, after_token, before_token, more}
 use Rattle.sql_tokens.specs.Contents.{bytes_of, name_in}
 use Rattle.sql_tokens.specs.Words as words
-use Rattle.sql_tokens.specs.declared.kind.Kind.TheVariants as word
+use Rattle.sql_tokens.specs.declared.kind.TokenKind.TheVariants as word
 use Rattle.sql_tokens.specs.declared.token.Token.{Token}
 use Rattle.sql_expressions.specs.Grammar.{expression}
 use Rattle.sql_expressions.specs.Levels.{begins_expression}
@@ -22,7 +22,7 @@ use Rattle.grammar.proofs.WordLaws.{means_law, maybe_law}
 use Rattle.sql_expressions.proofs.ListLaws.{in_law, commas_law, plain_name_law, number_law, other_name_law}
 use Rattle.sql_expressions.specs.Lists as lists
 use Rattle.sql_commands.specs.Grammar as grammar
-use Rattle.sql_ast.specs.declared.isolation.Isolation.TheVariants as isolation
+use Rattle.pg_values.specs.declared.isolation.Isolation.TheVariants as isolation
 use Rattle.sql_ast.specs.declared.setting_value.SettingValue.TheVariants as setting
 use Rattle.pg_values.specs.declared.lock_mode.LockMode.{LockMode}
 use Rattle.pg_values.specs.declared.lock_mode.LockMode.TheVariants as mode

@@ -9,8 +9,8 @@ use Rattle.grammar.proofs.Depths.{Inside}
 use Rattle.grammar.proofs.Build.{said}
 use Rattle.grammar.proofs.Laws.{Law, pair_eq}
 use Rattle.sql_tokens.specs.Words as words
-use Rattle.sql_tokens.specs.declared.kind.Kind.{Kind}
-use Rattle.sql_tokens.specs.declared.kind.Kind.TheVariants as word
+use Rattle.sql_tokens.specs.declared.kind.TokenKind.{TokenKind}
+use Rattle.sql_tokens.specs.declared.kind.TokenKind.TheVariants as word
 use Rattle.sql_tokens.specs.declared.token.Token.{Token}
 use Rattle.grammar.specs.Words.{◌>>◌, only, snoc}
 use Rattle.sql_tokens.specs.Classes.{a, a_name}
@@ -29,9 +29,9 @@ pub record Same {A : Type 0} (P Q : Of A) : Type 0 where
   pub from : Inside Q P
 
 -- the word k of W is a name of N, and a name of that kind is the word
-record WordName (text : List ℕ) (k : Kind) (N : Of (Kind × List ℕ)) (W : Of Token) : Type 0 where
+record WordName (text : List ℕ) (k : TokenKind) (N : Of (TokenKind × List ℕ)) (W : Of Token) : Type 0 where
   to : (ts : List Token) (t : Token) → W ts t → N ts (named text t) × (words.is t.kind k ≡ true)
-  from : (ts : List Token) (x : Kind × List ℕ) → N ts x → words.is x.0 k ≡ true → (t : Token) × W ts t
+  from : (ts : List Token) (x : TokenKind × List ℕ) → N ts x → words.is x.0 k ≡ true → (t : Token) × W ts t
 
 first_true : (b d : Bool) → (b && d) ≡ true → b ≡ true
 first_true true d h = refl
@@ -52,12 +52,12 @@ short_from true true false e k = cc
 short_from true false n e k = refl
 short_from false l n e k = cc
 
-module _ (text : List ℕ) (k : Kind) (is_name : (t : Token) → a k t ≡ true → a_name t ≡ true) where
+module _ (text : List ℕ) (k : TokenKind) (is_name : (t : Token) → a k t ≡ true → a_name t ≡ true) where
   abbrev long : Class Token
   long = is_long_name text
 
-  kind_of : (x : Kind × List ℕ) (t : Token) → x ≡ named text t → words.is x.0 k ≡ true → a k t ≡ true
-  kind_of x t e h = subst (λ (y : Kind × List ℕ). words.is y.0 k ≡ true) e h
+  kind_of : (x : TokenKind × List ℕ) (t : Token) → x ≡ named text t → words.is x.0 k ≡ true → a k t ≡ true
+  kind_of x t e h = subst (λ (y : TokenKind × List ℕ). words.is y.0 k ≡ true) e h
 
   word_texts : WordName text k (name text).texts (lists.name_word text k).texts
   word_texts = record {
@@ -114,7 +114,7 @@ module _ {A : Type 0} (c : Class Token) (p q : Rule Token A) where
   if_free false = not_if p.free q.free
 
 -- [ IF EXISTS ] and names
-module _ (text : List ℕ) (N : Of (Kind × List ℕ)) (W : Of Token) (w : WordName text word.If N W) where
+module _ (text : List ℕ) (N : Of (TokenKind × List ℕ)) (W : Of Token) (w : WordName text word.If N W) where
   abbrev Names : Of (List ℕ)
   Names = value_texts lists.said N
 
@@ -127,7 +127,7 @@ module _ (text : List ℕ) (N : Of (Kind × List ℕ)) (W : Of Token) (w : WordN
   abbrev BehindExists : Of (Bool × List (List ℕ))
   BehindExists = value_texts (grammar.drop_value true) (value_texts (λ (x : Token × List (List ℕ)). x.1) (both_texts (one_texts (a word.Exists)) Commas))
 
-  abbrev BehindName : Kind × List ℕ → Of (Bool × List (List ℕ))
+  abbrev BehindName : TokenKind × List ℕ → Of (Bool × List (List ℕ))
   BehindName x = value_texts (grammar.drop_value false) (More (x.1 ∷ []))
 
   abbrev IfExists : Of Bool
@@ -136,11 +136,11 @@ module _ (text : List ℕ) (N : Of (Kind × List ℕ)) (W : Of Token) (w : WordN
   abbrev Tables : Of (Bool × List (List ℕ))
   Tables = both_texts IfExists Commas
 
-  module _ (B : Kind × List ℕ → Of (Bool × List (List ℕ))) (l : (x : Kind × List ℕ) → IsIf (words.is x.0 word.If) BehindExists (BehindName x) (B x)) where
+  module _ (B : TokenKind × List ℕ → Of (Bool × List (List ℕ))) (l : (x : TokenKind × List ℕ) → IsIf (words.is x.0 word.If) BehindExists (BehindName x) (B x)) where
     abbrev Dropped : Of (Bool × List (List ℕ))
     Dropped = value_texts second_of (follow_texts N B)
 
-    tables_of : (ts u v : List Token) (x : Kind × List ℕ) (z : Bool × List (List ℕ)) → ts ≡ u ++ v → N u x → ((words.is x.0 word.If ≡ true) × BehindExists v z) ⊎ BehindName x v z → Tables ts z
+    tables_of : (ts u v : List Token) (x : TokenKind × List ℕ) (z : Bool × List (List ℕ)) → ts ≡ u ++ v → N u x → ((words.is x.0 word.If ≡ true) × BehindExists v z) ⊎ BehindName x v z → Tables ts z
     tables_of ts u v x z e n (inl i) =
         let o = w.from u x n i.0 in
         let k = i.1.1.1 in (
@@ -202,7 +202,7 @@ All = value_texts (λ (x : Token). deallocates_all) (one_texts (a word.All))
 abbrev AllOr : Of (List ℕ) → Of CommandTree
 AllOr P = either_texts All (value_texts deallocates P)
 
-module _ (text : List ℕ) (N : Of (Kind × List ℕ)) (W : Of Token) (w : WordName text word.Prepare N W) (O : Of (List ℕ)) where
+module _ (text : List ℕ) (N : Of (TokenKind × List ℕ)) (W : Of Token) (w : WordName text word.Prepare N W) (O : Of (List ℕ)) where
   abbrev AName : Of (List ℕ)
   AName = value_texts lists.said N
 
@@ -211,7 +211,7 @@ module _ (text : List ℕ) (N : Of (Kind × List ℕ)) (W : Of Token) (w : WordN
 
   -- D are the names behind a PREPARE, or none
   module _ (D : Option Token → Of (List ℕ)) (plain_to : Inside (D None) AName) (plain_from : Inside AName (D None)) (other_to : (t : Token) → Inside (D (Some t)) O) (other_from : (t : Token) → Inside O (D (Some t)))
-      (B : Kind × List ℕ → Of CommandTree) (l : (x : Kind × List ℕ) → IsIf (words.is x.0 word.Prepare) (AllOr O) (nothing_texts (deallocates x.1)) (B x)) where
+      (B : TokenKind × List ℕ → Of CommandTree) (l : (x : TokenKind × List ℕ) → IsIf (words.is x.0 word.Prepare) (AllOr O) (nothing_texts (deallocates x.1)) (B x)) where
     abbrev Prepared : Of CommandTree
     Prepared = value_texts second_of (follow_texts Word (λ o. AllOr (D o)))
 
@@ -222,7 +222,7 @@ module _ (text : List ℕ) (N : Of (Kind × List ℕ)) (W : Of Token) (w : WordN
     all_or i ts z (inl k) = inl k
     all_or i ts z (inr k) = inr (k.0, i ts k.0 k.1, k.2)
 
-    prepared_of : (ts u v : List Token) (x : Kind × List ℕ) (z : CommandTree) → ts ≡ u ++ v → N u x → ((words.is x.0 word.Prepare ≡ true) × AllOr O v z) ⊎ nothing_texts (deallocates x.1) v z → Prepared ts z
+    prepared_of : (ts u v : List Token) (x : TokenKind × List ℕ) (z : CommandTree) → ts ≡ u ++ v → N u x → ((words.is x.0 word.Prepare ≡ true) × AllOr O v z) ⊎ nothing_texts (deallocates x.1) v z → Prepared ts z
     prepared_of ts u v x z e n (inl i) =
         let o = w.from u x n i.0 in
         ((Some o.0, z), (u, v, e, inl (o.0, o.1, refl), all_or (other_from o.0) v z i.1), refl)
@@ -261,7 +261,7 @@ module _ (text : List ℕ) where
   abbrev behind_exists : Rule Token (Bool × List (List ℕ))
   behind_exists = as_value (grammar.drop_value true) (a word.Exists >> lists.commas (lists.plain_name text))
 
-  abbrev behind_name : Kind × List ℕ → Rule Token (Bool × List (List ℕ))
+  abbrev behind_name : TokenKind × List ℕ → Rule Token (Bool × List (List ℕ))
   behind_name x = as_value (grammar.drop_value false) (lists.more_commas (lists.plain_name text) (x.1 ∷ []))
 
   pub dropped_texts : Same (grammar.dropped_by_name text).texts (grammar.tables text).texts

@@ -2,7 +2,7 @@
 use Rattle.std.specs.Prelude.{ℕ, if◌then◌else◌, List, Option, Some, None}
 use Rattle.grammar.specs.Reading.{Class, Rule, follow, as_value, either}
 use Rattle.grammar.specs.Repeats.{second_of}
-use Rattle.sql_tokens.specs.declared.kind.Kind.TheVariants as word
+use Rattle.sql_tokens.specs.declared.kind.TokenKind.TheVariants as word
 use Rattle.sql_tokens.specs.declared.token.Token.{Token}
 use Rattle.grammar.specs.Words.{◌>>◌, ◌&◌, one_of, maybe}
 use Rattle.sql_tokens.specs.Classes.{a}

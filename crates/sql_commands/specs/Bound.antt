@@ -1,7 +1,7 @@
 -- Bounds of partitions (VI. SQL Commands: CREATE TABLE).
 use Rattle.std.specs.Prelude.{◌≡◌, ℕ, ◌-◌, if◌then◌else◌, List, [], ◌∷◌, length, take, Ok}
 use Rattle.grammar.specs.Reading.{Rule, one, as_value, either, ◌>>=◌}
-use Rattle.sql_tokens.specs.declared.kind.Kind.TheVariants as word
+use Rattle.sql_tokens.specs.declared.kind.TokenKind.TheVariants as word
 use Rattle.sql_tokens.specs.declared.token.Token.{Token}
 use Rattle.sql_expressions.specs.Grammar.{expression}
 use Rattle.sql_ast.specs.Expressions.{Tree, listed as list_of_trees}

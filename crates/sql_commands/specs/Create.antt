@@ -2,15 +2,15 @@
 use Rattle.std.specs.Prelude.{ℕ, Bool, true, false, ◌||◌, if◌then◌else◌, List, Option}
 use Rattle.grammar.specs.Reading.{Class, Rule, one, nothing, follow, as_value, either, optional}
 use Rattle.grammar.specs.Repeats.{second_of}
-use Rattle.sql_tokens.specs.declared.kind.Kind.TheVariants as word
+use Rattle.sql_tokens.specs.declared.kind.TokenKind.TheVariants as word
 use Rattle.sql_tokens.specs.declared.token.Token.{Token}
 use Rattle.grammar.specs.Words.{◌>>◌, ◌&◌, means}
 use Rattle.sql_tokens.specs.Classes.{a}
 use Rattle.sql_expressions.specs.Words.{name}
 use Rattle.sql_expressions.specs.Lists.{in_parentheses, commas, plain_name}
 use Rattle.sql_ast.specs.Commands.{Bound, CommandTree, makes_table, makes_partition}
-use Rattle.sql_ast.specs.declared.table_definition.Strategy.{Strategy}
-use Rattle.sql_ast.specs.declared.table_definition.Strategy.TheVariants as strategy
+use Rattle.pg_values.specs.declared.strategy.Strategy.{Strategy}
+use Rattle.pg_values.specs.declared.strategy.Strategy.TheVariants as strategy
 use Rattle.sql_ast.specs.declared.table_definition.ColumnDefinition.{ColumnDefinition}
 use Rattle.sql_ast.specs.declared.table_definition.Partitioning.{Partitioning}
 use Rattle.sql_commands.specs.Bound.{bound}

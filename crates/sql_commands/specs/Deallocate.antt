@@ -3,8 +3,8 @@ use Rattle.std.specs.Prelude.{ℕ, Bool, true, false, List, Option, Some, None}
 use Rattle.grammar.specs.Reading.{Rule, one, nothing, follow, as_value, either, optional}
 use Rattle.grammar.specs.Repeats.{second_of}
 use Rattle.sql_tokens.specs.Words as words
-use Rattle.sql_tokens.specs.declared.kind.Kind.{Kind}
-use Rattle.sql_tokens.specs.declared.kind.Kind.TheVariants as word
+use Rattle.sql_tokens.specs.declared.kind.TokenKind.{TokenKind}
+use Rattle.sql_tokens.specs.declared.kind.TokenKind.TheVariants as word
 use Rattle.sql_tokens.specs.declared.token.Token.{Token}
 use Rattle.grammar.specs.Words.{◌>>◌, means}
 use Rattle.sql_tokens.specs.Classes.{a}
@@ -33,7 +33,7 @@ abbrev pub behind_if : List ℕ → List ℕ → Bool → Rule Token CommandTree
 behind_if text name true = behind_prepare text name
 behind_if text name false = nothing (deallocates name)
 
-abbrev pub behind_deallocate : List ℕ → Kind × List ℕ → Rule Token CommandTree
+abbrev pub behind_deallocate : List ℕ → TokenKind × List ℕ → Rule Token CommandTree
 behind_deallocate text x = behind_if text x.1 (words.is x.0 word.Prepare)
 
 abbrev pub prepared_by_name : List ℕ → Rule Token CommandTree

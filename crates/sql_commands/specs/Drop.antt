@@ -3,8 +3,8 @@ use Rattle.std.specs.Prelude.{ℕ, Bool, true, false, List, [], ◌∷◌, Optio
 use Rattle.grammar.specs.Reading.{Class, Rule, one, nothing, follow, as_value, either}
 use Rattle.grammar.specs.Repeats.{second_of}
 use Rattle.sql_tokens.specs.Words as words
-use Rattle.sql_tokens.specs.declared.kind.Kind.{Kind}
-use Rattle.sql_tokens.specs.declared.kind.Kind.TheVariants as word
+use Rattle.sql_tokens.specs.declared.kind.TokenKind.{TokenKind}
+use Rattle.sql_tokens.specs.declared.kind.TokenKind.TheVariants as word
 use Rattle.sql_tokens.specs.declared.token.Token.{Token}
 use Rattle.grammar.specs.Words.{◌>>◌, ◌&◌, one_of, means, maybe}
 use Rattle.sql_tokens.specs.Classes.{a}
@@ -26,7 +26,7 @@ tables text = if_exists text & commas (plain_name text)
 abbrev pub drop_value : Bool → List (List ℕ) → Bool × List (List ℕ)
 drop_value if_there names = (if_there, names)
 
-abbrev pub dropped_behind : List ℕ → Kind × List ℕ → Rule Token (Bool × List (List ℕ))
+abbrev pub dropped_behind : List ℕ → TokenKind × List ℕ → Rule Token (Bool × List (List ℕ))
 dropped_behind text x =
     either_if (words.is x.0 word.If) (a word.Exists) (as_value (drop_value true) (a word.Exists >> commas (plain_name text)))
     (as_value (drop_value false) (more_commas (plain_name text) (x.1 ∷ [])))

@@ -2,7 +2,7 @@
 -- What a name or a number says stands in the text, so rules of names take the text.
 use Rattle.std.specs.Prelude.{ℕ, ◌||◌, List}
 use Rattle.grammar.specs.Reading.{Class, Rule, either}
-use Rattle.sql_tokens.specs.declared.kind.Kind.TheVariants as word
+use Rattle.sql_tokens.specs.declared.kind.TokenKind.TheVariants as word
 use Rattle.sql_tokens.specs.declared.token.Token.{Token}
 use Rattle.sql_tokens.specs.Classes.{a}
 use Rattle.sql_ast.specs.Commands.{CommandTree}

@@ -1,7 +1,7 @@
 -- LOCK (VI. SQL Commands).
 use Rattle.std.specs.Prelude.{ℕ, true, false, if◌then◌else◌, List, Option, Some, None}
 use Rattle.grammar.specs.Reading.{Class, Rule, one, nothing, as_value, either}
-use Rattle.sql_tokens.specs.declared.kind.Kind.TheVariants as word
+use Rattle.sql_tokens.specs.declared.kind.TokenKind.TheVariants as word
 use Rattle.sql_tokens.specs.declared.token.Token.{Token}
 use Rattle.grammar.specs.Words.{◌>>◌, ◌<<◌, ◌&◌, one_of, means, maybe}
 use Rattle.sql_tokens.specs.Classes.{a}

@@ -2,7 +2,7 @@
 use Rattle.std.specs.Prelude.{ℕ, ◌||◌, if◌then◌else◌, ◌==◌, List, [], ◌∷◌}
 use Rattle.grammar.specs.Reading.{Class, Rule, one, as_value, either}
 use Rattle.sql_tokens.specs.Contents.{bytes_of, name_in}
-use Rattle.sql_tokens.specs.declared.kind.Kind.TheVariants as word
+use Rattle.sql_tokens.specs.declared.kind.TokenKind.TheVariants as word
 use Rattle.sql_tokens.specs.declared.token.Token.{Token}
 use Rattle.grammar.specs.Words.{◌>>◌, ◌&◌, one_of}
 use Rattle.sql_tokens.specs.Classes.{a, a_name}

@@ -1,13 +1,13 @@
 -- How transactions begin and end (VI. SQL Commands: BEGIN, COMMIT, ROLLBACK).
 use Rattle.std.specs.Prelude.{◌||◌, if◌then◌else◌, Option, None}
 use Rattle.grammar.specs.Reading.{Class, Rule, one, as_value, either, optional}
-use Rattle.sql_tokens.specs.declared.kind.Kind.TheVariants as word
+use Rattle.sql_tokens.specs.declared.kind.TokenKind.TheVariants as word
 use Rattle.sql_tokens.specs.declared.token.Token.{Token}
 use Rattle.grammar.specs.Words.{◌>>◌, ◌&◌, one_of, means, maybe}
 use Rattle.sql_tokens.specs.Classes.{a}
 use Rattle.sql_ast.specs.Commands.{CommandTree, begins, commits, rolls_back}
-use Rattle.sql_ast.specs.declared.isolation.Isolation.{Isolation}
-use Rattle.sql_ast.specs.declared.isolation.Isolation.TheVariants as isolation
+use Rattle.pg_values.specs.declared.isolation.Isolation.{Isolation}
+use Rattle.pg_values.specs.declared.isolation.Isolation.TheVariants as isolation
 
 -- [ "WORK" | "TRANSACTION" ]
 abbrev pub is_noise : Class Token

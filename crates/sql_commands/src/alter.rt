@@ -8,7 +8,7 @@ use grammar::{Refused, comes, word};
 use pg_values::PgText;
 use sql_ast::{Command, Detachment};
 use sql_expressions::{maybe_one_of, plain_name};
-use sql_tokens::{Kind, Token, same_kind};
+use sql_tokens::{Token, TokenKind, same_kind};
 use std::alloc::Global;
 
 fn attach<'a>(
@@ -19,8 +19,8 @@ fn attach<'a>(
 ) -> Result<(Command, &'a [Token]), Refused>
     ensures { Gives (λ x. (command_tree x.0, x.1.now)) result ((grammar.attach text.now parent).read tokens.now) }
 {
-    let (_, rest) = word(tokens, Kind::Attach)?;
-    let (_, rest) = word(rest, Kind::Partition)?;
+    let (_, rest) = word(tokens, TokenKind::Attach)?;
+    let (_, rest) = word(rest, TokenKind::Partition)?;
     let (name, rest) = plain_name(alloc, text, rest)?;
     let (bound, rest) = bound(alloc, text, rest)?;
     Ok((Command::Attach(parent, name, bound), rest))
@@ -32,7 +32,7 @@ fn detachment_of(how: Option<Token>) -> Detachment
     match how {
         None => Detachment::AtOnce,
         Some(token) => {
-            if same_kind(token.kind, Kind::Concurrently) {
+            if same_kind(token.kind, TokenKind::Concurrently) {
                 Detachment::Concurrently
             } else {
                 Detachment::Finalize
@@ -49,10 +49,10 @@ fn detach<'a>(
 ) -> Result<(Command, &'a [Token]), Refused>
     ensures { Gives (λ x. (command_tree x.0, x.1.now)) result ((grammar.detach text.now parent).read tokens.now) }
 {
-    let (_, rest) = word(tokens, Kind::Detach)?;
-    let (_, rest) = word(rest, Kind::Partition)?;
+    let (_, rest) = word(tokens, TokenKind::Detach)?;
+    let (_, rest) = word(rest, TokenKind::Partition)?;
     let (name, rest) = plain_name(alloc, text, rest)?;
-    let (how, rest) = maybe_one_of(rest, Kind::Concurrently, Kind::Finalize)?;
+    let (how, rest) = maybe_one_of(rest, TokenKind::Concurrently, TokenKind::Finalize)?;
     Ok((Command::Detach(parent, name, detachment_of(how)), rest))
 }
 
@@ -63,10 +63,10 @@ pub(crate) fn alter<'a>(
 ) -> Result<(Command, &'a [Token]), Refused>
     ensures { Gives (λ x. (command_tree x.0, x.1.now)) result ((grammar.alter text.now).read tokens.now) }
 {
-    let (_, rest) = word(tokens, Kind::Alter)?;
-    let (_, rest) = word(rest, Kind::Table)?;
+    let (_, rest) = word(tokens, TokenKind::Alter)?;
+    let (_, rest) = word(rest, TokenKind::Table)?;
     let (parent, rest) = plain_name(alloc, text, rest)?;
-    if comes(rest, Kind::Attach) {
+    if comes(rest, TokenKind::Attach) {
         attach(alloc, text, parent, rest)
     } else {
         detach(alloc, text, parent, rest)

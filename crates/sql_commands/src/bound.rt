@@ -7,7 +7,7 @@ ghost use Rattle.sql_ast.specs.Commands.{bound_tree, edge_tree};
 use grammar::{Part, Refused, comes, separated, word};
 use sql_ast::{BoundText, EdgeList, EdgeText, Expr, ExprList};
 use sql_expressions::{ExprPart, expression, number};
-use sql_tokens::{Kind, Token, same_kind};
+use sql_tokens::{Token, TokenKind, same_kind};
 use std::alloc::Global;
 
 /// The first tokens: all of them where there are fewer.
@@ -22,8 +22,8 @@ fn edge_of(tokens: &[Token], value: Expr) -> EdgeText
     ensures { edge_tree result ≡ grammar.edge_of tokens.now (tree value) }
 {
     match tokens {
-        [only] if same_kind(only.kind, Kind::Minvalue) => EdgeText::MinValue,
-        [only] if same_kind(only.kind, Kind::Maxvalue) => EdgeText::MaxValue,
+        [only] if same_kind(only.kind, TokenKind::Minvalue) => EdgeText::MinValue,
+        [only] if same_kind(only.kind, TokenKind::Maxvalue) => EdgeText::MaxValue,
         _ => EdgeText::Value(value),
     }
 }
@@ -73,9 +73,9 @@ fn point<'a>(
 ) -> Result<(Vec<EdgeText>, &'a [Token]), Refused>
     ensures { Gives (λ x. (map edge_tree x.0.items, x.1.now)) result ((grammar.edges text.now).read tokens.now) }
 {
-    let (_, rest) = word(tokens, Kind::OpenParenthesis)?;
-    let (edges, rest) = separated::<EachEdge>(alloc, text, Kind::Comma, rest)?;
-    let (_, rest) = word(rest, Kind::CloseParenthesis)?;
+    let (_, rest) = word(tokens, TokenKind::OpenParenthesis)?;
+    let (edges, rest) = separated::<EachEdge>(alloc, text, TokenKind::Comma, rest)?;
+    let (_, rest) = word(rest, TokenKind::CloseParenthesis)?;
     Ok((edges, rest))
 }
 
@@ -86,9 +86,9 @@ fn range_bound<'a>(
 ) -> Result<(BoundText, &'a [Token]), Refused>
     ensures { Gives (λ x. (bound_tree x.0, x.1.now)) result ((grammar.range_bound text.now).read tokens.now) }
 {
-    let (_, rest) = word(tokens, Kind::From)?;
+    let (_, rest) = word(tokens, TokenKind::From)?;
     let (from, rest) = point(alloc, text, rest)?;
-    let (_, rest) = word(rest, Kind::To)?;
+    let (_, rest) = word(rest, TokenKind::To)?;
     let (to, rest) = point(alloc, text, rest)?;
     let bound = BoundText::Range(EdgeList::from_vec(from), EdgeList::from_vec(to));
     Ok((bound, rest))
@@ -101,24 +101,24 @@ fn list_bound<'a>(
 ) -> Result<(BoundText, &'a [Token]), Refused>
     ensures { Gives (λ x. (bound_tree x.0, x.1.now)) result ((grammar.list_bound text.now).read tokens.now) }
 {
-    let (_, rest) = word(tokens, Kind::In)?;
-    let (_, rest) = word(rest, Kind::OpenParenthesis)?;
-    let (values, rest) = separated::<ExprPart>(alloc, text, Kind::Comma, rest)?;
-    let (_, rest) = word(rest, Kind::CloseParenthesis)?;
+    let (_, rest) = word(tokens, TokenKind::In)?;
+    let (_, rest) = word(rest, TokenKind::OpenParenthesis)?;
+    let (values, rest) = separated::<ExprPart>(alloc, text, TokenKind::Comma, rest)?;
+    let (_, rest) = word(rest, TokenKind::CloseParenthesis)?;
     Ok((BoundText::List(ExprList::from_vec(values)), rest))
 }
 
 fn hash_bound<'a>(text: &[u8], tokens: &'a [Token]) -> Result<(BoundText, &'a [Token]), Refused>
     ensures { Gives (λ x. (bound_tree x.0, x.1.now)) result ((grammar.hash_bound text.now).read tokens.now) }
 {
-    let (_, rest) = word(tokens, Kind::With)?;
-    let (_, rest) = word(rest, Kind::OpenParenthesis)?;
-    let (_, rest) = word(rest, Kind::Modulus)?;
+    let (_, rest) = word(tokens, TokenKind::With)?;
+    let (_, rest) = word(rest, TokenKind::OpenParenthesis)?;
+    let (_, rest) = word(rest, TokenKind::Modulus)?;
     let (modulus, rest) = number(text, rest)?;
-    let (_, rest) = word(rest, Kind::Comma)?;
-    let (_, rest) = word(rest, Kind::Remainder)?;
+    let (_, rest) = word(rest, TokenKind::Comma)?;
+    let (_, rest) = word(rest, TokenKind::Remainder)?;
     let (remainder, rest) = number(text, rest)?;
-    let (_, rest) = word(rest, Kind::CloseParenthesis)?;
+    let (_, rest) = word(rest, TokenKind::CloseParenthesis)?;
     Ok((BoundText::Hash(modulus, remainder), rest))
 }
 
@@ -129,9 +129,9 @@ fn values_bound<'a>(
 ) -> Result<(BoundText, &'a [Token]), Refused>
     ensures { Gives (λ x. (bound_tree x.0, x.1.now)) result ((grammar.values_bound text.now).read tokens.now) }
 {
-    if comes(tokens, Kind::From) {
+    if comes(tokens, TokenKind::From) {
         range_bound(alloc, text, tokens)
-    } else if comes(tokens, Kind::In) {
+    } else if comes(tokens, TokenKind::In) {
         list_bound(alloc, text, tokens)
     } else {
         hash_bound(text, tokens)
@@ -145,11 +145,11 @@ pub(crate) fn bound<'a>(
 ) -> Result<(BoundText, &'a [Token]), Refused>
     ensures { Gives (λ x. (bound_tree x.0, x.1.now)) result ((grammar.bound text.now).read tokens.now) }
 {
-    if comes(tokens, Kind::For) {
-        let (_, rest) = word(tokens, Kind::For)?;
-        let (_, rest) = word(rest, Kind::Values)?;
+    if comes(tokens, TokenKind::For) {
+        let (_, rest) = word(tokens, TokenKind::For)?;
+        let (_, rest) = word(rest, TokenKind::Values)?;
         return values_bound(alloc, text, rest);
     }
-    let (_, rest) = word(tokens, Kind::Default)?;
+    let (_, rest) = word(tokens, TokenKind::Default)?;
     Ok((BoundText::Default, rest))
 }

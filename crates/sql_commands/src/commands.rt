@@ -17,26 +17,26 @@ use crate::transaction::{begin, finish, finish_comes};
 use grammar::{Refused, comes};
 use sql_ast::Command;
 use sql_expressions::one_of_comes;
-use sql_tokens::{Kind, Token};
+use sql_tokens::{Token, TokenKind};
 use std::alloc::Global;
 
 fn other_command_comes(tokens: &[Token]) -> bool
     ensures { result ≡ begins_in grammar.begins_other_command tokens.now }
 {
-    comes(tokens, Kind::Create)
-        || comes(tokens, Kind::Drop)
-        || comes(tokens, Kind::Alter)
-        || comes(tokens, Kind::Lock)
-        || comes(tokens, Kind::Deallocate)
+    comes(tokens, TokenKind::Create)
+        || comes(tokens, TokenKind::Drop)
+        || comes(tokens, TokenKind::Alter)
+        || comes(tokens, TokenKind::Lock)
+        || comes(tokens, TokenKind::Deallocate)
 }
 
 /// Whether a command comes next.
 pub fn command_comes(tokens: &[Token]) -> bool
     ensures { result ≡ begins_in grammar.begins_command tokens.now }
 {
-    one_of_comes(tokens, Kind::Begin, Kind::Start)
+    one_of_comes(tokens, TokenKind::Begin, TokenKind::Start)
         || finish_comes(tokens)
-        || one_of_comes(tokens, Kind::Set, Kind::Reset)
+        || one_of_comes(tokens, TokenKind::Set, TokenKind::Reset)
         || other_command_comes(tokens)
 }
 
@@ -49,19 +49,19 @@ pub fn command<'a>(
 ) -> Result<(Command, &'a [Token]), Refused>
     ensures { Gives (λ x. (command_tree x.0, x.1.now)) result ((grammar.command text.now).read tokens.now) }
 {
-    if one_of_comes(tokens, Kind::Begin, Kind::Start) {
+    if one_of_comes(tokens, TokenKind::Begin, TokenKind::Start) {
         begin(tokens)
     } else if finish_comes(tokens) {
         finish(tokens)
-    } else if one_of_comes(tokens, Kind::Set, Kind::Reset) {
+    } else if one_of_comes(tokens, TokenKind::Set, TokenKind::Reset) {
         set(alloc, text, tokens)
-    } else if comes(tokens, Kind::Create) {
+    } else if comes(tokens, TokenKind::Create) {
         create(alloc, text, tokens)
-    } else if comes(tokens, Kind::Drop) {
+    } else if comes(tokens, TokenKind::Drop) {
         drop_tables(alloc, text, tokens)
-    } else if comes(tokens, Kind::Alter) {
+    } else if comes(tokens, TokenKind::Alter) {
         alter(alloc, text, tokens)
-    } else if comes(tokens, Kind::Lock) {
+    } else if comes(tokens, TokenKind::Lock) {
         lock(alloc, text, tokens)
     } else {
         deallocate(alloc, text, tokens)

@@ -4,23 +4,23 @@ ghost use Rattle.sql_ast.specs.Commands.{command_tree};
 
 use crate::bound::bound;
 use grammar::{Part, Refused, comes, separated, split, word};
-use pg_values::PgText;
-use sql_ast::{ColumnDefinition, ColumnList, Command, NameList, Partitioning, Strategy};
+use pg_values::{PgText, Strategy};
+use sql_ast::{ColumnDefinition, ColumnList, Command, NameList, Partitioning};
 use sql_expressions::{names, plain_name};
-use sql_tokens::{Kind, Token, same_kind};
+use sql_tokens::{Token, TokenKind, same_kind};
 use std::alloc::Global;
 
 /// Whether a column may not be null.
 fn null_or_not(tokens: &[Token]) -> Result<(bool, &[Token]), Refused>
     ensures { Gives (λ x. (x.0, x.1.now)) result (grammar.null_or_not.read tokens.now) }
 {
-    if comes(tokens, Kind::Not) {
-        let (_, rest) = word(tokens, Kind::Not)?;
-        let (_, rest) = word(rest, Kind::Null)?;
+    if comes(tokens, TokenKind::Not) {
+        let (_, rest) = word(tokens, TokenKind::Not)?;
+        let (_, rest) = word(rest, TokenKind::Null)?;
         return Ok((true, rest));
     }
-    if comes(tokens, Kind::Null) {
-        let (_, rest) = word(tokens, Kind::Null)?;
+    if comes(tokens, TokenKind::Null) {
+        let (_, rest) = word(tokens, TokenKind::Null)?;
         return Ok((false, rest));
     }
     Ok((false, tokens))
@@ -75,11 +75,11 @@ fn strategy_word(tokens: &[Token]) -> Result<(Strategy, &[Token]), Refused>
     match split(tokens) {
         None => Err(Refused::Syntax(0)),
         Some((first, rest)) => {
-            if same_kind(first.kind, Kind::Range) {
+            if same_kind(first.kind, TokenKind::Range) {
                 Ok((Strategy::Range, rest))
-            } else if same_kind(first.kind, Kind::List) {
+            } else if same_kind(first.kind, TokenKind::List) {
                 Ok((Strategy::List, rest))
-            } else if same_kind(first.kind, Kind::Hash) {
+            } else if same_kind(first.kind, TokenKind::Hash) {
                 Ok((Strategy::Hash, rest))
             } else {
                 Err(Refused::Syntax(tokens.len()))
@@ -96,12 +96,12 @@ fn by<'a>(
 ) -> Result<(Partitioning, &'a [Token]), Refused>
     ensures { Gives (λ x. (x.0, x.1.now)) result ((grammar.by text.now).read tokens.now) }
 {
-    let (_, rest) = word(tokens, Kind::Partition)?;
-    let (_, rest) = word(rest, Kind::By)?;
+    let (_, rest) = word(tokens, TokenKind::Partition)?;
+    let (_, rest) = word(rest, TokenKind::By)?;
     let (strategy, rest) = strategy_word(rest)?;
-    let (_, rest) = word(rest, Kind::OpenParenthesis)?;
+    let (_, rest) = word(rest, TokenKind::OpenParenthesis)?;
     let (names, rest) = names(alloc, text, rest)?;
-    let (_, rest) = word(rest, Kind::CloseParenthesis)?;
+    let (_, rest) = word(rest, TokenKind::CloseParenthesis)?;
     let columns = NameList::from_vec(names);
     Ok((Partitioning { strategy, columns }, rest))
 }
@@ -113,7 +113,7 @@ fn maybe_by<'a>(
 ) -> Result<(Option<Partitioning>, &'a [Token]), Refused>
     ensures { Gives (λ x. (x.0, x.1.now)) result ((grammar.maybe_by text.now).read tokens.now) }
 {
-    if !comes(tokens, Kind::Partition) {
+    if !comes(tokens, TokenKind::Partition) {
         return Ok((None, tokens));
     }
     let (by, rest) = by(alloc, text, tokens)?;
@@ -129,9 +129,9 @@ fn own_columns<'a>(
 ) -> Result<(Command, &'a [Token]), Refused>
     ensures { Gives (λ x. (command_tree x.0, x.1.now)) result ((grammar.columns text.now name).read tokens.now) }
 {
-    let (_, rest) = word(tokens, Kind::OpenParenthesis)?;
-    let (columns, rest) = separated::<EachColumn>(alloc, text, Kind::Comma, rest)?;
-    let (_, rest) = word(rest, Kind::CloseParenthesis)?;
+    let (_, rest) = word(tokens, TokenKind::OpenParenthesis)?;
+    let (columns, rest) = separated::<EachColumn>(alloc, text, TokenKind::Comma, rest)?;
+    let (_, rest) = word(rest, TokenKind::CloseParenthesis)?;
     let (by, rest) = maybe_by(alloc, text, rest)?;
     let columns = ColumnList::from_vec(columns);
     Ok((Command::CreateTable(name, columns, by), rest))
@@ -146,8 +146,8 @@ fn partition_of<'a>(
 ) -> Result<(Command, &'a [Token]), Refused>
     ensures { Gives (λ x. (command_tree x.0, x.1.now)) result ((grammar.partition_of text.now name).read tokens.now) }
 {
-    let (_, rest) = word(tokens, Kind::Partition)?;
-    let (_, rest) = word(rest, Kind::Of)?;
+    let (_, rest) = word(tokens, TokenKind::Partition)?;
+    let (_, rest) = word(rest, TokenKind::Of)?;
     let (parent, rest) = plain_name(alloc, text, rest)?;
     let (bound, rest) = bound(alloc, text, rest)?;
     let (by, rest) = maybe_by(alloc, text, rest)?;
@@ -161,10 +161,10 @@ pub(crate) fn create<'a>(
 ) -> Result<(Command, &'a [Token]), Refused>
     ensures { Gives (λ x. (command_tree x.0, x.1.now)) result ((grammar.create text.now).read tokens.now) }
 {
-    let (_, rest) = word(tokens, Kind::Create)?;
-    let (_, rest) = word(rest, Kind::Table)?;
+    let (_, rest) = word(tokens, TokenKind::Create)?;
+    let (_, rest) = word(rest, TokenKind::Table)?;
     let (name, rest) = plain_name(alloc, text, rest)?;
-    if comes(rest, Kind::OpenParenthesis) {
+    if comes(rest, TokenKind::OpenParenthesis) {
         own_columns(alloc, text, name, rest)
     } else {
         partition_of(alloc, text, name, rest)

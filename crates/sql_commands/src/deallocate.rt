@@ -6,25 +6,25 @@ use grammar::{Refused, comes, word};
 use pg_values::PgText;
 use sql_ast::Command;
 use sql_expressions::{name, other_name, other_name_comes};
-use sql_tokens::{Kind, Token, same_kind};
+use sql_tokens::{Token, TokenKind, same_kind};
 use std::alloc::Global;
 
 /// Behind DEALLOCATE and a name.
 fn behind_deallocate<'a>(
     alloc: Global,
     text: &[u8],
-    kind: Kind,
+    kind: TokenKind,
     name: PgText,
     tokens: &'a [Token],
 ) -> Result<(Command, &'a [Token]), Refused>
     ensures { Gives (λ x. (command_tree x.0, x.1.now)) result ((grammar.behind_deallocate text.now (kind, name)).read tokens.now) }
 {
-    if same_kind(kind, Kind::Prepare) && comes(tokens, Kind::All) {
-        let (_, rest) = word(tokens, Kind::All)?;
+    if same_kind(kind, TokenKind::Prepare) && comes(tokens, TokenKind::All) {
+        let (_, rest) = word(tokens, TokenKind::All)?;
         return Ok((Command::DeallocateAll, rest));
     }
-    if same_kind(kind, Kind::Prepare) && other_name_comes(tokens, Kind::Transaction) {
-        let (name, rest) = other_name(alloc, text, Kind::Transaction, tokens)?;
+    if same_kind(kind, TokenKind::Prepare) && other_name_comes(tokens, TokenKind::Transaction) {
+        let (name, rest) = other_name(alloc, text, TokenKind::Transaction, tokens)?;
         return Ok((Command::Deallocate(name), rest));
     }
     Ok((Command::Deallocate(name), tokens))
@@ -37,9 +37,9 @@ pub(crate) fn deallocate<'a>(
 ) -> Result<(Command, &'a [Token]), Refused>
     ensures { Gives (λ x. (command_tree x.0, x.1.now)) result ((grammar.deallocate text.now).read tokens.now) }
 {
-    let (_, rest) = word(tokens, Kind::Deallocate)?;
-    if comes(rest, Kind::All) {
-        let (_, rest) = word(rest, Kind::All)?;
+    let (_, rest) = word(tokens, TokenKind::Deallocate)?;
+    if comes(rest, TokenKind::All) {
+        let (_, rest) = word(rest, TokenKind::All)?;
         return Ok((Command::DeallocateAll, rest));
     }
     let (kind, name, rest) = name(alloc, text, rest)?;

@@ -6,7 +6,7 @@ use grammar::{Part, Refused, comes, maybe_word, separated, word};
 use pg_values::LockMode;
 use sql_ast::{Command, LockedTable, LockedTableList};
 use sql_expressions::{one_of, plain_name};
-use sql_tokens::{Kind, Token, same_kind};
+use sql_tokens::{Token, TokenKind, same_kind};
 use std::alloc::Global;
 
 fn locked<'a>(
@@ -16,7 +16,7 @@ fn locked<'a>(
 ) -> Result<(LockedTable, &'a [Token]), Refused>
     ensures { Gives (λ x. (x.0, x.1.now)) result ((grammar.locked text.now).read tokens.now) }
 {
-    let (only, rest) = maybe_word(tokens, Kind::Only)?;
+    let (only, rest) = maybe_word(tokens, TokenKind::Only)?;
     let (name, rest) = plain_name(alloc, text, rest)?;
     let only = only.is_some();
     Ok((LockedTable { only, name }, rest))
@@ -51,14 +51,14 @@ impl Part for EachTable {
 fn behind_share(tokens: &[Token]) -> Result<(LockMode, &[Token]), Refused>
     ensures { Gives (λ x. (x.0, x.1.now)) result (grammar.behind_share.read tokens.now) }
 {
-    if comes(tokens, Kind::Update) {
-        let (_, rest) = word(tokens, Kind::Update)?;
-        let (_, rest) = word(rest, Kind::Exclusive)?;
+    if comes(tokens, TokenKind::Update) {
+        let (_, rest) = word(tokens, TokenKind::Update)?;
+        let (_, rest) = word(rest, TokenKind::Exclusive)?;
         return Ok((LockMode::ShareUpdateExclusive, rest));
     }
-    if comes(tokens, Kind::Row) {
-        let (_, rest) = word(tokens, Kind::Row)?;
-        let (_, rest) = word(rest, Kind::Exclusive)?;
+    if comes(tokens, TokenKind::Row) {
+        let (_, rest) = word(tokens, TokenKind::Row)?;
+        let (_, rest) = word(rest, TokenKind::Exclusive)?;
         return Ok((LockMode::ShareRowExclusive, rest));
     }
     Ok((LockMode::Share, tokens))
@@ -72,8 +72,8 @@ fn shared_or(
 ) -> Result<(LockMode, &[Token]), Refused>
     ensures { Gives (λ x. (x.0, x.1.now)) result ((grammar.share_or_exclusive share exclusive).read tokens.now) }
 {
-    let (first, rest) = one_of(tokens, Kind::Share, Kind::Exclusive)?;
-    if same_kind(first.kind, Kind::Share) {
+    let (first, rest) = one_of(tokens, TokenKind::Share, TokenKind::Exclusive)?;
+    if same_kind(first.kind, TokenKind::Share) {
         Ok((share, rest))
     } else {
         Ok((exclusive, rest))
@@ -83,19 +83,19 @@ fn shared_or(
 fn lock_mode(tokens: &[Token]) -> Result<(LockMode, &[Token]), Refused>
     ensures { Gives (λ x. (x.0, x.1.now)) result (grammar.lock_mode.read tokens.now) }
 {
-    if comes(tokens, Kind::Access) {
-        let (_, rest) = word(tokens, Kind::Access)?;
+    if comes(tokens, TokenKind::Access) {
+        let (_, rest) = word(tokens, TokenKind::Access)?;
         return shared_or(LockMode::AccessShare, LockMode::AccessExclusive, rest);
     }
-    if comes(tokens, Kind::Row) {
-        let (_, rest) = word(tokens, Kind::Row)?;
+    if comes(tokens, TokenKind::Row) {
+        let (_, rest) = word(tokens, TokenKind::Row)?;
         return shared_or(LockMode::RowShare, LockMode::RowExclusive, rest);
     }
-    if comes(tokens, Kind::Share) {
-        let (_, rest) = word(tokens, Kind::Share)?;
+    if comes(tokens, TokenKind::Share) {
+        let (_, rest) = word(tokens, TokenKind::Share)?;
         return behind_share(rest);
     }
-    let (_, rest) = word(tokens, Kind::Exclusive)?;
+    let (_, rest) = word(tokens, TokenKind::Exclusive)?;
     Ok((LockMode::Exclusive, rest))
 }
 
@@ -103,12 +103,12 @@ fn lock_mode(tokens: &[Token]) -> Result<(LockMode, &[Token]), Refused>
 fn maybe_mode(tokens: &[Token]) -> Result<(LockMode, &[Token]), Refused>
     ensures { Gives (λ x. (x.0, x.1.now)) result (grammar.maybe_mode.read tokens.now) }
 {
-    if !comes(tokens, Kind::In) {
+    if !comes(tokens, TokenKind::In) {
         return Ok((LockMode::AccessExclusive, tokens));
     }
-    let (_, rest) = word(tokens, Kind::In)?;
+    let (_, rest) = word(tokens, TokenKind::In)?;
     let (mode, rest) = lock_mode(rest)?;
-    let (_, rest) = word(rest, Kind::Mode)?;
+    let (_, rest) = word(rest, TokenKind::Mode)?;
     Ok((mode, rest))
 }
 
@@ -119,9 +119,9 @@ pub(crate) fn lock<'a>(
 ) -> Result<(Command, &'a [Token]), Refused>
     ensures { Gives (λ x. (command_tree x.0, x.1.now)) result ((grammar.lock text.now).read tokens.now) }
 {
-    let (_, rest) = word(tokens, Kind::Lock)?;
-    let (_, rest) = maybe_word(rest, Kind::Table)?;
-    let (tables, rest) = separated::<EachTable>(alloc, text, Kind::Comma, rest)?;
+    let (_, rest) = word(tokens, TokenKind::Lock)?;
+    let (_, rest) = maybe_word(rest, TokenKind::Table)?;
+    let (tables, rest) = separated::<EachTable>(alloc, text, TokenKind::Comma, rest)?;
     let (mode, rest) = maybe_mode(rest)?;
     let tables = LockedTableList::from_vec(tables);
     Ok((Command::Lock(tables, mode), rest))

@@ -8,16 +8,16 @@ use grammar::{Refused, comes, split, word};
 use pg_values::PgText;
 use sql_ast::{Command, SettingValue};
 use sql_expressions::{MOST_NAME_BYTES, one_of, other_name, plain_name, string};
-use sql_tokens::{Kind, Token, is_name, name_of, same_kind};
+use sql_tokens::{Token, TokenKind, is_name, name_of, same_kind};
 use std::alloc::Global;
 
 fn is_setting_word(token: Token) -> bool
     ensures { result ≡ grammar.is_setting_word token }
 {
     is_name(token.kind)
-        || same_kind(token.kind, Kind::On)
-        || same_kind(token.kind, Kind::True)
-        || same_kind(token.kind, Kind::False)
+        || same_kind(token.kind, TokenKind::On)
+        || same_kind(token.kind, TokenKind::True)
+        || same_kind(token.kind, TokenKind::False)
 }
 
 /// The bytes of a token.
@@ -46,7 +46,7 @@ fn setting_number<'a>(
 ) -> Result<(SettingValue, &'a [Token]), Refused>
     ensures { Gives (λ x. (x.0, x.1.now)) result ((grammar.setting_number text.now).read tokens.now) }
 {
-    let (first, rest) = word(tokens, Kind::Number)?;
+    let (first, rest) = word(tokens, TokenKind::Number)?;
     let digits = PgText::from_bytes(alloc, without_zeros(bytes_of(text, first)))?;
     Ok((SettingValue::Number(digits), rest))
 }
@@ -69,7 +69,7 @@ fn setting_value<'a>(
         }
         return Ok((SettingValue::Word(word), rest));
     }
-    if same_kind(first.kind, Kind::Text) {
+    if same_kind(first.kind, TokenKind::Text) {
         let (string, rest) = string(alloc, text, tokens)?;
         return Ok((SettingValue::Text(string), rest));
     }
@@ -83,14 +83,14 @@ pub(crate) fn set<'a>(
 ) -> Result<(Command, &'a [Token]), Refused>
     ensures { Gives (λ x. (command_tree x.0, x.1.now)) result ((grammar.set text.now).read tokens.now) }
 {
-    if comes(tokens, Kind::Set) {
-        let (_, rest) = word(tokens, Kind::Set)?;
-        let (name, rest) = other_name(alloc, text, Kind::Local, rest)?;
-        let (_, rest) = one_of(rest, Kind::Equal, Kind::To)?;
+    if comes(tokens, TokenKind::Set) {
+        let (_, rest) = word(tokens, TokenKind::Set)?;
+        let (name, rest) = other_name(alloc, text, TokenKind::Local, rest)?;
+        let (_, rest) = one_of(rest, TokenKind::Equal, TokenKind::To)?;
         let (value, rest) = setting_value(alloc, text, rest)?;
         return Ok((Command::Set(name, value), rest));
     }
-    let (_, rest) = word(tokens, Kind::Reset)?;
+    let (_, rest) = word(tokens, TokenKind::Reset)?;
     let (name, rest) = plain_name(alloc, text, rest)?;
     Ok((Command::Reset(name), rest))
 }

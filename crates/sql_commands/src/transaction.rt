@@ -5,42 +5,43 @@ ghost use Rattle.sql_commands.specs.Transaction as grammar;
 ghost use Rattle.sql_ast.specs.Commands.{command_tree};
 
 use grammar::{Refused, comes, split, word};
-use sql_ast::{Command, Isolation};
+use pg_values::Isolation;
+use sql_ast::Command;
 use sql_expressions::{maybe_one_of, one_of_comes};
-use sql_tokens::{Kind, Token, same_kind};
+use sql_tokens::{Token, TokenKind, same_kind};
 
 /// What stands behind READ.
 fn committed_or_not(tokens: &[Token]) -> Result<(Isolation, &[Token]), Refused>
     ensures { Gives (λ x. (x.0, x.1.now)) result (grammar.committed_or_not.read tokens.now) }
 {
-    if comes(tokens, Kind::Committed) {
-        let (_, rest) = word(tokens, Kind::Committed)?;
+    if comes(tokens, TokenKind::Committed) {
+        let (_, rest) = word(tokens, TokenKind::Committed)?;
         return Ok((Isolation::ReadCommitted, rest));
     }
-    let (_, rest) = word(tokens, Kind::Uncommitted)?;
+    let (_, rest) = word(tokens, TokenKind::Uncommitted)?;
     Ok((Isolation::ReadUncommitted, rest))
 }
 
 fn level(tokens: &[Token]) -> Result<(Isolation, &[Token]), Refused>
     ensures { Gives (λ x. (x.0, x.1.now)) result (grammar.level.read tokens.now) }
 {
-    if comes(tokens, Kind::Read) {
-        let (_, rest) = word(tokens, Kind::Read)?;
+    if comes(tokens, TokenKind::Read) {
+        let (_, rest) = word(tokens, TokenKind::Read)?;
         return committed_or_not(rest);
     }
-    let (_, rest) = word(tokens, Kind::Repeatable)?;
-    let (_, rest) = word(rest, Kind::Read)?;
+    let (_, rest) = word(tokens, TokenKind::Repeatable)?;
+    let (_, rest) = word(rest, TokenKind::Read)?;
     Ok((Isolation::RepeatableRead, rest))
 }
 
 fn isolation_level(tokens: &[Token]) -> Result<(Option<Isolation>, &[Token]), Refused>
     ensures { Gives (λ x. (x.0, x.1.now)) result (grammar.isolation_level.read tokens.now) }
 {
-    if !comes(tokens, Kind::Isolation) {
+    if !comes(tokens, TokenKind::Isolation) {
         return Ok((None, tokens));
     }
-    let (_, rest) = word(tokens, Kind::Isolation)?;
-    let (_, rest) = word(rest, Kind::Level)?;
+    let (_, rest) = word(tokens, TokenKind::Isolation)?;
+    let (_, rest) = word(rest, TokenKind::Level)?;
     let (level, rest) = level(rest)?;
     Ok((Some(level), rest))
 }
@@ -49,12 +50,12 @@ fn isolation_level(tokens: &[Token]) -> Result<(Option<Isolation>, &[Token]), Re
 fn begin_words(tokens: &[Token]) -> Result<(Option<Token>, &[Token]), Refused>
     ensures { Gives (λ x. (x.0, x.1.now)) result (grammar.begin_words.read tokens.now) }
 {
-    if comes(tokens, Kind::Begin) {
-        let (_, rest) = word(tokens, Kind::Begin)?;
-        return maybe_one_of(rest, Kind::Work, Kind::Transaction);
+    if comes(tokens, TokenKind::Begin) {
+        let (_, rest) = word(tokens, TokenKind::Begin)?;
+        return maybe_one_of(rest, TokenKind::Work, TokenKind::Transaction);
     }
-    let (_, rest) = word(tokens, Kind::Start)?;
-    let (_, rest) = word(rest, Kind::Transaction)?;
+    let (_, rest) = word(tokens, TokenKind::Start)?;
+    let (_, rest) = word(rest, TokenKind::Transaction)?;
     Ok((None, rest))
 }
 
@@ -70,8 +71,8 @@ pub(crate) fn begin(tokens: &[Token]) -> Result<(Command, &[Token]), Refused>
 pub(crate) fn finish_comes(tokens: &[Token]) -> bool
     ensures { result ≡ begins_in grammar.is_finish tokens.now }
 {
-    one_of_comes(tokens, Kind::Commit, Kind::End)
-        || one_of_comes(tokens, Kind::Rollback, Kind::Abort)
+    one_of_comes(tokens, TokenKind::Commit, TokenKind::End)
+        || one_of_comes(tokens, TokenKind::Rollback, TokenKind::Abort)
 }
 
 /// A word that ends a transaction.
@@ -81,10 +82,10 @@ fn finish_word(tokens: &[Token]) -> Result<(Token, &[Token]), Refused>
     match split(tokens) {
         None => Err(Refused::Syntax(0)),
         Some((first, rest)) => {
-            if same_kind(first.kind, Kind::Commit)
-                || same_kind(first.kind, Kind::End)
-                || same_kind(first.kind, Kind::Rollback)
-                || same_kind(first.kind, Kind::Abort)
+            if same_kind(first.kind, TokenKind::Commit)
+                || same_kind(first.kind, TokenKind::End)
+                || same_kind(first.kind, TokenKind::Rollback)
+                || same_kind(first.kind, TokenKind::Abort)
             {
                 Ok((first, rest))
             } else {
@@ -98,8 +99,8 @@ pub(crate) fn finish(tokens: &[Token]) -> Result<(Command, &[Token]), Refused>
     ensures { Gives (λ x. (command_tree x.0, x.1.now)) result (grammar.finish.read tokens.now) }
 {
     let (first, rest) = finish_word(tokens)?;
-    let (_, rest) = maybe_one_of(rest, Kind::Work, Kind::Transaction)?;
-    if same_kind(first.kind, Kind::Commit) || same_kind(first.kind, Kind::End) {
+    let (_, rest) = maybe_one_of(rest, TokenKind::Work, TokenKind::Transaction)?;
+    if same_kind(first.kind, TokenKind::Commit) || same_kind(first.kind, TokenKind::End) {
         Ok((Command::Commit, rest))
     } else {
         Ok((Command::Rollback, rest))

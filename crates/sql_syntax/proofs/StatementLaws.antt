@@ -5,7 +5,7 @@ use Rattle.grammar.specs.Repeats.{always}
 use Rattle.grammar.proofs.Laws.{Law}
 use Rattle.grammar.proofs.Chain.{none}
 use Rattle.grammar.proofs.Build.{empty, valued, wide, alt, chained_by}
-use Rattle.sql_tokens.specs.declared.kind.Kind.TheVariants as word
+use Rattle.sql_tokens.specs.declared.kind.TokenKind.TheVariants as word
 use Rattle.sql_tokens.specs.declared.token.Token.{Token}
 use Rattle.sql_tokens.specs.Classes.{a}
 use Rattle.sql_expressions.proofs.RoomLaws.{Opens, if_room_law}

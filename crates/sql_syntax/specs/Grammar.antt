@@ -2,7 +2,7 @@
 use Rattle.std.specs.Prelude.{ℕ, ◌||◌, List, [], ◌∷◌, ◌++◌, length, nat_lt, Option, Some, None}
 use Rattle.grammar.specs.Reading.{Class, Rule, nothing, as_value, either}
 use Rattle.grammar.specs.Repeats.{always, chain_by}
-use Rattle.sql_tokens.specs.declared.kind.Kind.TheVariants as word
+use Rattle.sql_tokens.specs.declared.kind.TokenKind.TheVariants as word
 use Rattle.sql_tokens.specs.declared.token.Token.{Token}
 use Rattle.sql_expressions.specs.Levels.{if_room}
 use Rattle.sql_tokens.specs.Classes.{a}

@@ -16,7 +16,7 @@ use grammar::byte;
 pub enum Piece {
     /// Blanks or a comment.
     Gap(usize),
-    Lexeme(Kind, usize),
+    Lexeme(TokenKind, usize),
     /// Nothing that can be read.
     Broken,
 }

@@ -13,7 +13,7 @@ ghost use Rattle.sql_syntax.specs.Grammar.{block};
 ghost use Rattle.sql_ast.specs.Statements.{StatementTree, statement_tree};
 ghost use Rattle.sql_ast.specs.declared.statement.Statement.{Statement as OneStatement};
 ghost use Rattle.sql_tokens.specs.Tokens.{tokens_of};
-ghost use Rattle.sql_tokens.specs.declared.kind.Kind.TheVariants.{Local, Transaction};
+ghost use Rattle.sql_tokens.specs.declared.kind.TokenKind.TheVariants.{Local, Transaction};
 ghost use Rattle.sql_tokens.specs.declared.token.Token.{Token as OneToken};
 ghost use Rattle.sql_written.specs.Parentheses.{opened};
 ghost use Rattle.sql_written.specs.Spelling as spelled;

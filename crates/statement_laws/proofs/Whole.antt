@@ -19,8 +19,8 @@ use Rattle.plan_tree.specs.Laws.{Rows, shown}
 use Rattle.plan_tree.specs.Plans.{plan_for, plan_tables}
 use Rattle.cond_logic.specs.Asked.{ChangeMeant, SelectMeant}
 use Rattle.select_answer.specs.Answer.{answer_of, select_course}
-use Rattle.sessions.specs.declared.phase.Isolation.{Isolation}
-use Rattle.sessions.specs.declared.phase.Isolation.TheVariants.{ReadCommitted, ReadUncommitted, RepeatableRead}
+use Rattle.pg_values.specs.declared.isolation.Isolation.{Isolation}
+use Rattle.pg_values.specs.declared.isolation.Isolation.TheVariants.{ReadCommitted, ReadUncommitted, RepeatableRead}
 use Rattle.soundness.specs.Worlds.{IsMade}
 use Rattle.sql_ast.specs.Expressions.{Tree}
 use Rattle.sql_ast.specs.Queries.{Joined, SelectTree, Setting}
