@@ -21,7 +21,10 @@ use crate::raw_value::{read_list, read_point};
 use crate::{RawBound, RawEdge, RawValue};
 use bound_forms::{Bound, KeyColumn, Level, MOST_MODULUS, Point, cmp_points, is_null};
 use pg_values::{Refusal, Strategy, ValueKey};
-use refusals::{bad_remainder, bound_does_not_suit, empty_range, no_hash_default, not_repeated, null_in_range, wrong_bound_count};
+use refusals::{
+    bad_remainder, bound_does_not_suit, empty_range, no_hash_default, not_repeated, null_in_range,
+    wrong_bound_count,
+};
 use std::alloc::Global;
 
 // So many values are given where so many are wanted.

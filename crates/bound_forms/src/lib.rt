@@ -26,7 +26,12 @@ mod point;
 pub use accepting::{bound_accepts, leaves_remainder};
 pub use inside::within;
 pub use key::{Key, RowKey, has_null, is_null, row_hash};
-pub use laws::{added_in_either_order, at_most_one_accepts, default_accepts_the_rest, level_bounds_compare, level_bounds_fit, level_bounds_have_a_kind, level_keys_fit, no_common_key, overlap_is_shared_residue, plain_order_is_sorted, plain_order_keeps, rows_give_keys, within_accepts};
+pub use laws::{
+    added_in_either_order, at_most_one_accepts, default_accepts_the_rest, level_bounds_compare,
+    level_bounds_fit, level_bounds_have_a_kind, level_keys_fit, no_common_key,
+    overlap_is_shared_residue, plain_order_is_sorted, plain_order_keeps, rows_give_keys,
+    within_accepts,
+};
 pub use level::{KeyColumn, KeyColumns, Level};
 pub use listed::{cmp_least, is_same, lists};
 pub use moduli::{moduli_suit, modulus_of, remainders_meet};

@@ -9,7 +9,7 @@ use Rattle.pg_values.specs.declared.ids.TableNo.{TableNo}
 use Rattle.pg_values.specs.declared.session_set.SessionSet.{SessionSet}
 use Rattle.history.specs.declared.wait.WaitOn.TheVariants.{Ends}
 use Rattle.history.specs.History.{History}
-use Rattle.table_trees.specs.Trees.{TableTree}
+use Rattle.row_router.specs.Trees.{TableTree}
 use Rattle.row_change.specs.Placing.{name_at}
 use Rattle.change_statement.specs.Faults.{could_not_serialize, conflict_session}
 use Rattle.change_statement.specs.Targets.{targets}

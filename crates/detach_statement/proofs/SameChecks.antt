@@ -27,7 +27,7 @@ use Rattle.bound_forms.proofs.PointOrder.{point_total}
 use Rattle.bound_forms.proofs.TotalOrder.{turn}
 use Rattle.history.specs.declared.catalogue.Check.{Check}
 use Rattle.history.specs.declared.catalogue.KeptCheck.{KeptCheck}
-use Rattle.table_trees.specs.Histories.{kept_of}
+use Rattle.row_router.specs.Histories.{kept_of}
 use Rattle.soundness.proofs.Listed.{none_in, cases_in}
 use Rattle.detach_statement.specs.Kept.{same_strategy, same_kind, same_columns, same_level, same_check}
 

@@ -19,7 +19,7 @@ use Rattle.history.specs.declared.transaction.TxId.{TxId}
 use Rattle.history.specs.Catalogue.{CheckKept}
 use Rattle.history.specs.History.{History, CatalogueChange}
 use Rattle.history.specs.Presence.{checks_of}
-use Rattle.table_trees.specs.Histories.{is_over, kept_of, table_of}
+use Rattle.row_router.specs.Histories.{is_over, kept_of, table_of}
 use Rattle.part_ddl.specs.Placing.{level_at, partitions_of}
 use Rattle.statement_steps.specs.declared.caller.Caller.{Caller}
 use Rattle.table_statements.specs.Tables.{own}

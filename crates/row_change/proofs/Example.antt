@@ -13,7 +13,7 @@ use Rattle.bound_forms.specs.declared.partition_bound.Bound.TheVariants.{Range}
 use Rattle.bound_forms.specs.declared.point.Edge.TheVariants.{Min, At}
 use Rattle.history.specs.declared.catalogue.Table.{Table}
 use Rattle.history.specs.declared.catalogue.TableShape.TheVariants.{Leaf}
-use Rattle.table_trees.specs.declared.path_part.PathPart.{PathPart}
+use Rattle.row_router.specs.declared.path_part.PathPart.{PathPart}
 use Rattle.row_change.specs.declared.target.Target.{Target}
 use Rattle.row_change.specs.Placing.{bounds_faults}
 use Rattle.row_change.specs.Storing.{target_faults, own_null_faults, check_faults}

@@ -61,7 +61,13 @@ impl<'s> Block<'s> {
     }
 
     /// A setup or a teardown of the session that is called so; 0 is the control session.
-    pub fn plain(alloc: Global, kind: BlockKind, session: usize, name: &'s [u8], text: &'s [u8]) -> Self
+    pub fn plain(
+        alloc: Global,
+        kind: BlockKind,
+        session: usize,
+        name: &'s [u8],
+        text: &'s [u8],
+    ) -> Self
         ensures { result ≡ record { kind = kind; session = session; step = 0; name = name.now; text = text.now; starred = false; behind = [] } }
     {
         Block {

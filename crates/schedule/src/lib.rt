@@ -36,7 +36,10 @@ pub use block::{Block, BlockKind};
 pub use database::{Database, Progress};
 pub use event::{Event, Report};
 pub use holding::leave;
-pub use laws::{Invariant, all_is_done_at_the_end, events_come_in_order, invariant_holds, parts_are_beginnings, reached_worlds_are_good, runs_have_one_end};
+pub use laws::{
+    Invariant, all_is_done_at_the_end, events_come_in_order, invariant_holds, parts_are_beginnings,
+    reached_worlds_are_good, runs_have_one_end,
+};
 pub use run_end::{RunEnd, RunRefused};
 pub use task::{Permutation, Task};
 pub use whole::run;

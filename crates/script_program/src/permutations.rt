@@ -4,7 +4,9 @@ ghost use Rattle.script_program.specs.Steps as known_steps;
 ghost use Rattle.script_program.specs.Tasks as spec;
 
 use crate::step::{Step, steps_of};
-use crate::tasks::{push_control_setups, push_plain_if, push_rollbacks, push_setups, push_teardowns, push_uses};
+use crate::tasks::{
+    push_control_setups, push_plain_if, push_rollbacks, push_setups, push_teardowns, push_uses,
+};
 use pg_values::NoMemory;
 use schedule::{BlockKind, Permutation, Task};
 use spec_reader::{Spec, StepUse};

@@ -3,7 +3,6 @@ ghost use Rattle.sessions.specs.Sessions as spec;
 
 use pg_values::Isolation;
 
-
 pub(crate) fn is_level(a: Isolation, b: Isolation) -> bool
     ensures { result ≡ spec.is_level a b }
 {

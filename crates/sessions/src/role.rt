@@ -1,6 +1,5 @@
 use pg_values::Isolation;
 
-
 /// What a statement is in the course of a session.
 #[derive(Clone, Copy, Debug, PartialEq, Eq)]
 pub enum Role {

@@ -47,7 +47,10 @@ fn unclosed(text: &[u8]) -> Piece
     ensures some { 0 < result.len }
     ensures within { result.len ≤ length text.now }
 {
-    token(ScriptTokenKind::Fault, run_len(Run::Comment, &text[1..]) + 1)
+    token(
+        ScriptTokenKind::Fault,
+        run_len(Run::Comment, &text[1..]) + 1,
+    )
 }
 
 fn quoted_name(text: &[u8]) -> Piece

@@ -1,4 +1,6 @@
-use crate::{BoundText, ColumnList, Detachment, LockedTableList, NameList, Partitioning, SettingValue};
+use crate::{
+    BoundText, ColumnList, Detachment, LockedTableList, NameList, Partitioning, SettingValue,
+};
 use pg_values::{Isolation, LockMode, PgText};
 
 /// A statement that reads and changes no rows, as its text says it.

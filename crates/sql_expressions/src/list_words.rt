@@ -19,7 +19,11 @@ pub fn one_of_comes(tokens: &[Token], one: TokenKind, other: TokenKind) -> bool
 }
 
 /// One of two words.
-pub fn one_of(tokens: &[Token], one: TokenKind, other: TokenKind) -> Result<(Token, &[Token]), Refused>
+pub fn one_of(
+    tokens: &[Token],
+    one: TokenKind,
+    other: TokenKind,
+) -> Result<(Token, &[Token]), Refused>
     ensures { Gives (λ x. (x.0, x.1.now)) result (read_one (words.one_of (a one) (a other)) tokens.now) }
 {
     match split(tokens) {

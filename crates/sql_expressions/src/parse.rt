@@ -9,7 +9,9 @@ use crate::{ParseRefused, expression};
 use grammar::{Part, Refused, token_at, whole};
 use pg_values::{NoMemory, Which};
 use sql_ast::Expr;
-use sql_tokens::{Token, TokenKind, called, is_left_out, is_name, name_of, read_tokens, same_kind, string_of};
+use sql_tokens::{
+    Token, TokenKind, called, is_left_out, is_name, name_of, read_tokens, same_kind, string_of,
+};
 use std::alloc::Global;
 
 /// A refusal of a token that fits in no text, or of the end.

@@ -47,7 +47,9 @@ pub(crate) fn sign_comes(chain: Chain, tokens: &[Token]) -> bool
     match chain {
         Chain::Sum => comes(tokens, TokenKind::Plus) || comes(tokens, TokenKind::Minus),
         Chain::Product => {
-            comes(tokens, TokenKind::Star) || comes(tokens, TokenKind::Slash) || comes(tokens, TokenKind::Percent)
+            comes(tokens, TokenKind::Star)
+                || comes(tokens, TokenKind::Slash)
+                || comes(tokens, TokenKind::Percent)
         }
     }
 }
@@ -66,7 +68,9 @@ pub(crate) fn comparison_comes(tokens: &[Token]) -> bool
 pub(crate) fn test_comes(tokens: &[Token]) -> bool
     ensures { result ≡ begins_in levels.begins_test tokens.now }
 {
-    comes(tokens, TokenKind::Not) || comes(tokens, TokenKind::In) || comes(tokens, TokenKind::Between)
+    comes(tokens, TokenKind::Not)
+        || comes(tokens, TokenKind::In)
+        || comes(tokens, TokenKind::Between)
 }
 
 pub(crate) fn nested_comes(tokens: &[Token]) -> bool
@@ -78,7 +82,10 @@ pub(crate) fn nested_comes(tokens: &[Token]) -> bool
 pub(crate) fn expression_comes(tokens: &[Token]) -> bool
     ensures { result ≡ begins_in levels.begins_expression tokens.now }
 {
-    comes(tokens, TokenKind::Not) || nested_comes(tokens) || name_comes(tokens) || literal_comes(tokens)
+    comes(tokens, TokenKind::Not)
+        || nested_comes(tokens)
+        || name_comes(tokens)
+        || literal_comes(tokens)
 }
 
 pub(crate) fn joint_comes(joint: Joint, tokens: &[Token]) -> bool

@@ -110,7 +110,9 @@ impl Begun for EachJoint {
     ghost begins = { grammar.is_joint };
 
     fn comes(tokens: &[Token]) -> bool {
-        comes(tokens, TokenKind::Comma) || comes(tokens, TokenKind::Inner) || comes(tokens, TokenKind::Join)
+        comes(tokens, TokenKind::Comma)
+            || comes(tokens, TokenKind::Inner)
+            || comes(tokens, TokenKind::Join)
     }
 }
 

@@ -203,7 +203,10 @@ fn starred<'a>(
     let Some((star, rest)) = split(rest) else {
         return Ok(None);
     };
-    if !is_name(name.kind) || !same_kind(dot.kind, TokenKind::Dot) || !same_kind(star.kind, TokenKind::Star) {
+    if !is_name(name.kind)
+        || !same_kind(dot.kind, TokenKind::Dot)
+        || !same_kind(star.kind, TokenKind::Star)
+    {
         return Ok(None);
     }
     let table = name_of(alloc, text, name)?;

@@ -26,10 +26,9 @@ use crate::bound::{write_change, write_insert, write_params, write_select};
 use crate::definitions::{write_partition, write_table};
 use crate::kinds::{write_bound, write_kinds};
 use crate::tables::{columns_of, item_of, items_of, params};
-use change_binder::{Wanted, bind_arguments, bind_delete, bind_insert, bind_update};
 use pg_values::{Fault, Kind, NoMemory, Refusal};
 use sql_ast::{Command, Delete, ExprList, Insert, Query, RowStatement, Select, Statement, Update};
-use sql_binder::bind_select;
+use sql_binder::{Wanted, bind_arguments, bind_delete, bind_insert, bind_select, bind_update};
 use sql_syntax::parse_block;
 use std::alloc::Global;
 

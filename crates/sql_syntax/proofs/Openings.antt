@@ -12,9 +12,9 @@ use Rattle.sql_tokens.specs.Classes.{a}
 use Rattle.sql_expressions.proofs.WordLaws.{sample}
 use Rattle.grammar.proofs.WordLaws.{maybe_law}
 use Rattle.sql_expressions.proofs.ListLaws.{other_name_law, plain_name_law}
-use Rattle.sql_commands.specs.Grammar as commands
+use Rattle.sql_syntax.specs.CommandGrammar as commands
 use Rattle.sql_ast.specs.Commands.{resets}
-use Rattle.sql_commands.proofs.CommandLaws.{setting_value_law, create_law, drop_law, alter_law, lock_law, deallocate_law}
+use Rattle.sql_syntax.proofs.CommandLaws.{setting_value_law, create_law, drop_law, alter_law, lock_law, deallocate_law}
 use Rattle.sql_queries.specs.Grammar as queries
 use Rattle.sql_ast.specs.Queries.{selects, rows}
 use Rattle.sql_queries.proofs.QueryLaws.{select_law, insert_law, delete_law, prepare_law, execute_law, explain_law}

@@ -12,7 +12,7 @@ use Rattle.sql_ast.specs.Expressions.{Tree, leaf}
 use Rattle.sql_tokens.specs.Classes.{a, a_name}
 use Rattle.sql_ast.specs.declared.leaf.Leaf.TheVariants.{Column}
 use Rattle.sql_expressions.specs.Lists.{is_long_but, is_other_name, other_name, plain_name}
-use Rattle.sql_commands.specs.Grammar as grammar
+use Rattle.sql_syntax.specs.CommandGrammar as grammar
 use Rattle.sql_ast.specs.Commands.{Edge, min, max, at}
 use Rattle.sql_ast.specs.declared.setting_value.SettingValue.TheVariants as setting
 use Rattle.sql_written.specs.Marks.{Mark, mark}

@@ -20,7 +20,7 @@ use Rattle.sql_ast.specs.declared.leaf.Leaf.TheVariants.{Column}
 use Rattle.sql_expressions.specs.declared.words.TheConstants.{MOST_NAME_BYTES}
 use Rattle.grammar.specs.Words.{maybe}
 use Rattle.sql_expressions.specs.Lists.{commas, name_word, plain_name}
-use Rattle.sql_commands.specs.Grammar as grammar
+use Rattle.sql_syntax.specs.CommandGrammar as grammar
 use Rattle.sql_ast.specs.Commands.{Edge, min, max, at, Bound, range, listed, hash, other, CommandTree, begins, commits, rolls_back, sets, resets, makes_table, makes_partition, drops, attaches, detaches, locks, deallocates, deallocates_all}
 use Rattle.sql_ast.specs.declared.detachment.Detachment.{Detachment}
 use Rattle.sql_ast.specs.declared.detachment.Detachment.TheVariants as detachment

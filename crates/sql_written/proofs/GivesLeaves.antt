@@ -20,7 +20,7 @@ use Rattle.sql_expressions.specs.declared.words.TheConstants.{MOST_NAME_BYTES}
 use Rattle.sql_expressions.proofs.Limited.{all_of_each}
 use Rattle.sql_expressions.proofs.TextWords.{long_is_name, word_is_short}
 use Rattle.sql_expressions.specs.Lists.{is_long_but, is_other_name, name_but, number, other_name, plain_name, said}
-use Rattle.sql_commands.specs.Setting.{is_setting_word, setting_number, setting_word, without_zeros}
+use Rattle.sql_syntax.specs.Setting.{is_setting_word, setting_number, setting_word, without_zeros}
 use Rattle.sql_ast.specs.declared.setting_value.SettingValue.TheVariants as setting
 use Rattle.sql_written.specs.Writable.{IsName, IsText, IsWritable as IsExpression}
 use Rattle.sql_written.specs.Written.{marks}

@@ -2,7 +2,7 @@ ghost use Rattle.grammar.specs.Parses.{IsOnly};
 ghost use Rattle.sql_expressions.specs.Parsed.{ParsesText};
 ghost use Rattle.sql_expressions.specs.declared.refused.ParseRefused.{ParseRefused as OneRefusal};
 ghost use Rattle.sql_expressions.specs.declared.refused.ParseRefused.TheVariants as refusals;
-ghost use Rattle.sql_commands.specs.Grammar as grammar;
+ghost use Rattle.sql_syntax.specs.CommandGrammar as grammar;
 ghost use Rattle.sql_ast.specs.Commands.{at};
 ghost use Rattle.sql_ast.specs.declared.setting_value.SettingValue.TheVariants.{Word};
 ghost use Rattle.sql_ast.specs.Expressions.{leaf};

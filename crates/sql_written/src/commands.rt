@@ -6,11 +6,16 @@ ghost use Rattle.sql_written.specs.Marks.{bytes_of, text_of};
 ghost use Rattle.sql_written.specs.Commands as shown;
 ghost use Rattle.sql_written.specs.Lists.{enclosed, parts};
 
-use crate::parts::{Part, write_enclosed, write_enclosed_names, write_enclosed_values, write_names, write_parts};
+use crate::parts::{
+    Part, write_enclosed, write_enclosed_names, write_enclosed_values, write_names, write_parts,
+};
 use crate::words::{write_edge_name, write_setting_name};
 use crate::{write_expression, write_name, write_number, write_quoted};
 use pg_values::{Isolation, LockMode, NoMemory, Strategy};
-use sql_ast::{BoundText, ColumnDefinition, Command, Detachment, EdgeList, EdgeText, Expr, Leaf, LockedTable, NameList, Partitioning, SettingValue};
+use sql_ast::{
+    BoundText, ColumnDefinition, Command, Detachment, EdgeList, EdgeText, Expr, Leaf, LockedTable,
+    NameList, Partitioning, SettingValue,
+};
 
 fn write_isolation(level: Option<Isolation>, out: &mut Vec<u8>) -> Result<(), NoMemory>
     ensures { OnOk result (out.new.items ≡ out.old.items ++ text_of (shown.isolation_marks level)) }

@@ -7,11 +7,16 @@ ghost use Rattle.sql_written.specs.Queries as shown;
 ghost use Rattle.sql_written.specs.Words.{word};
 
 use crate::parts::{write_enclosed_names, write_enclosed_values};
-use crate::query_parts::{write_assignments, write_from, write_items, write_limit, write_offset, write_order, write_rows, write_table, write_where};
+use crate::query_parts::{
+    write_assignments, write_from, write_items, write_limit, write_offset, write_order, write_rows,
+    write_table, write_where,
+};
 use crate::words::write_prepared_name;
 use crate::write_name;
 use pg_values::NoMemory;
-use sql_ast::{Delete, Expr, ExprList, Insert, NameList, Query, RowStatement, Select, SortKey, Update};
+use sql_ast::{
+    Delete, Expr, ExprList, Insert, NameList, Query, RowStatement, Select, SortKey, Update,
+};
 use sql_tokens::TokenKind;
 
 /// What stands behind the condition of a SELECT.
