@@ -18,7 +18,7 @@
 //! A column is written by the place of its FROM item and its own place there, `0.2`, a bigint with an `L`
 //! behind it, and each operator stands before its operands.
 //!
-//! That the first rule that is broken is told is proved in `sql_binder`, `change_binder` and `table_binder`, and that
+//! That the first rule that is broken is told is proved in `sql_binder` and `table_binder`, and that
 //! the first place counts in `parameter_kinds`. Here the rules are seen: `stdin` has the statements, and `stdout` what
 //! was worked out by hand from them.
 
