@@ -1,7 +1,7 @@
 ghost use Rattle.std.specs.Prelude.{◌≡◌, ◌<◌, ◌≤◌, ◌+◌, ◌++◌, ℕ, Bool, true, false, Ok, IfOk, OnOk, IfSome, option_copied};
 ghost use Rattle.schedule.specs.Rules.{Rules, Carries};
 
-use crate::block::Kind;
+use crate::block::BlockKind;
 use pg_values::{Fault, NoMemory};
 use std::alloc::Global;
 

@@ -2,7 +2,7 @@ ghost use Rattle.std.specs.Prelude.{◌≡◌, ◌++◌, [], codes, IfOk, OnOk, 
 ghost use Rattle.std.specs.List.{flat_map};
 ghost use Rattle.schedule.specs.Lines as lines;
 
-use crate::block::Kind;
+use crate::block::BlockKind;
 use crate::database::Database;
 use crate::seat::Seat;
 use crate::task::Task;

@@ -2,7 +2,7 @@ ghost use Rattle.std.specs.Prelude.{◌≡◌, ◌≤◌, ◌<◌, ◌≢◌, []
 ghost use Rattle.spec_reader.specs.Pieces as pieces;
 
 use crate::bytes::{Run, begins_name, is_blank, is_digit, run_len};
-use crate::kind::Kind;
+use crate::kind::ScriptTokenKind;
 use crate::words::word_kind;
 use grammar::closing;
 

@@ -5,7 +5,7 @@ ghost use Rattle.spec_reader.specs.Scripts as scripts;
 
 use crate::contents::{block_of, name_of};
 use crate::in_order::InOrder;
-use crate::kind::Kind;
+use crate::kind::ScriptTokenKind;
 use crate::spec::{SessionSpec, StepSpec};
 use crate::token::Token;
 use crate::written::{WrittenMarker, WrittenSpec, WrittenUse};

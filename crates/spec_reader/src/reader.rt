@@ -2,7 +2,7 @@ ghost use Rattle.std.specs.Prelude.{◌≡◌, ◌∷◌, [], ◌++◌, ◌+◌,
 ghost use Rattle.spec_reader.specs.Tokens as cut;
 ghost use Rattle.spec_reader.specs.declared.kind.ScriptTokenKind.TheVariants.{Fault};
 
-use crate::kind::Kind;
+use crate::kind::ScriptTokenKind;
 use crate::piece::{Piece, piece_of};
 use crate::token::Token;
 use pg_values::NoMemory;

@@ -12,7 +12,7 @@ pub struct Token {
 impl Lexeme for Token {
     ghost use Rattle.spec_reader.specs.Scripts as scripts;
 
-    type ScriptTokenKind = ScriptTokenKind;
+    type Kind = ScriptTokenKind;
 
     ghost a = { scripts.a };
 

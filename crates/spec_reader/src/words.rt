@@ -2,7 +2,7 @@ ghost use Rattle.std.specs.Prelude.{◌≡◌};
 ghost use Rattle.std.specs.Str.{bytes_eq};
 ghost use Rattle.spec_reader.specs.Words as words;
 
-use crate::kind::Kind;
+use crate::kind::ScriptTokenKind;
 
 fn same_word(a: &[u8], b: &[u8]) -> bool
     ensures { result ≡ bytes_eq a.now b.now }

@@ -2,7 +2,7 @@ ghost use Rattle.std.specs.Prelude.{◌≡◌, ◌<◌, ◌≤◌, ◌+◌, ◌^
 ghost use Rattle.sql_tokens.specs.Comments as comments;
 ghost use Rattle.sql_tokens.specs.Pieces as pieces;
 
-use crate::Kind;
+use crate::TokenKind;
 use crate::bytes::{Class, past};
 use crate::piece::Piece;
 use grammar::byte;

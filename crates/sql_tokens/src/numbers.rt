@@ -3,7 +3,7 @@ ghost use Rattle.sql_tokens.specs.Numbers as numbers;
 ghost use Rattle.sql_tokens.specs.Pieces as pieces;
 ghost use Rattle.sql_tokens.specs.Words.{is};
 
-use crate::Kind;
+use crate::TokenKind;
 use crate::bytes::{Class, belongs, past};
 use crate::piece::Piece;
 use grammar::byte;

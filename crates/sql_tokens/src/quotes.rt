@@ -2,7 +2,7 @@ ghost use Rattle.std.specs.Prelude.{◌≡◌, ◌<◌, length};
 ghost use Rattle.sql_tokens.specs.Pieces as pieces;
 ghost use Rattle.sql_tokens.specs.Quotes as quotes;
 
-use crate::Kind;
+use crate::TokenKind;
 use crate::piece::Piece;
 use grammar::closing;
 

@@ -1,7 +1,7 @@
 ghost use Rattle.std.specs.Prelude.{◌≡◌};
 ghost use Rattle.sql_tokens.specs.Signs as signs;
 
-use crate::Kind;
+use crate::TokenKind;
 use crate::piece::Piece;
 
 fn less(next: u8) -> Piece

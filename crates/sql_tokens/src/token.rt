@@ -14,7 +14,7 @@ pub struct Token {
 impl Lexeme for Token {
     ghost use Rattle.sql_tokens.specs.Classes as classes;
 
-    type TokenKind = TokenKind;
+    type Kind = TokenKind;
 
     ghost a = { classes.a };
 

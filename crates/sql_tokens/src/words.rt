@@ -2,7 +2,7 @@ ghost use Rattle.std.specs.Prelude.{◌≡◌, map, false};
 ghost use Rattle.std.specs.Str.{str_eq_ignore_ascii_case};
 ghost use Rattle.sql_tokens.specs.Words as words;
 
-use crate::Kind;
+use crate::TokenKind;
 
 const TWO: [(&[u8], TokenKind); 10] = [
     (b"by", TokenKind::By),
