@@ -2,7 +2,7 @@
 use Rattle.std.specs.Prelude.{ℕ, Bool, ◌||◌, if◌then◌else◌, nat_eq, List, [], ◌∷◌, codes}
 use Rattle.std.specs.Str.{bytes_eq}
 use denote.Enum.Declared.{tag_of}
-use Rattle.spec_reader.specs.contracts.kind.Kind.{the_type}
+use Rattle.spec_reader.specs.contracts.kind.ScriptTokenKind.{the_type}
 use Rattle.spec_reader.specs.declared.kind.ScriptTokenKind.{ScriptTokenKind}
 use Rattle.spec_reader.specs.declared.kind.ScriptTokenKind.TheVariants as kinds
 

@@ -2,7 +2,7 @@
 use Rattle.std.specs.Prelude.{ℕ, Bool, ◌&&◌, ◌||◌, if◌then◌else◌, ◌==◌, nat_eq, nat_le, nat_lt, List, [], ◌∷◌, length, codes}
 use Rattle.std.specs.Str.{str_eq_ignore_ascii_case}
 use denote.Enum.Declared.{tag_of}
-use Rattle.sql_tokens.specs.contracts.kind.Kind.{the_type}
+use Rattle.sql_tokens.specs.contracts.kind.TokenKind.{the_type}
 use Rattle.sql_tokens.specs.declared.kind.TokenKind.{TokenKind}
 use Rattle.sql_tokens.specs.declared.kind.TokenKind.TheVariants as kinds
 use Rattle.sql_tokens.specs.declared.kind.TheConstants.{FIRST_KEPT, FIRST_LEFT_OUT, FIRST_RESERVED}
