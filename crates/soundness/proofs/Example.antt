@@ -35,6 +35,7 @@ use Rattle.row_router.specs.Histories.{tree_of}
 use Rattle.row_router.specs.Trees.{leaves}
 use Rattle.bound_forms.specs.Accepts.{accepts}
 use Rattle.soundness.specs.Worlds.{view, table_in, IsMade, HasLeaf, key_at}
+use Rattle.soundness.specs.Columns.{IsOfTable}
 use Rattle.soundness.specs.Parts.{IsKnown, AreChildren}
 use Rattle.soundness.specs.Legal.{HasTable, MayMake, MayBear, HasPlace, MayAdd, MayEndRow, OwnsNow, WritesNow, Below, ArePermitted}
 use Rattle.soundness.specs.Laws.{ConditionsCanBeMet}
@@ -198,6 +199,7 @@ writes_child x is = subst (λ z. WritesNow with_child 0 z) (sym is) (0, same_ref
 pub may_bear : MayBear with_child five
 may_bear = record {
   locked = λ x at. writes_child x (is_child x five.leaf at);
+  columns = λ x at. subst (λ z. IsOfTable (catalogue_events with_child) z five.row) (sym (is_child x five.leaf at)) ((λ some. refl), tt);
   routed = λ x at e n p. absurd p.0;
   passes = λ x at c n is. absurd is.0;
 }

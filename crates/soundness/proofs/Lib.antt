@@ -14,6 +14,7 @@ pub mod CheckSkip
 pub mod CheckTables
 pub mod CheckWaiting
 pub mod Checks
+pub mod Columns
 pub mod Counted
 pub mod Created
 pub mod Ended

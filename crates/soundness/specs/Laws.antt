@@ -3,11 +3,13 @@ use Rattle.std.specs.Prelude.{◌≡◌, ◌<◌, ◌≤◌, ℕ, true, false, L
 use Rattle.pg_values.specs.declared.value.Value.{Value}
 use Rattle.pg_values.specs.declared.ids.LeafId.{LeafId}
 use Rattle.history.specs.declared.transaction.Fate.TheVariants.{Running}
+use Rattle.history.specs.declared.version.Version.{Version}
 use Rattle.history.specs.declared.catalogue.Entry.{Entry}
 use Rattle.history.specs.Transactions.{TxEvents, open_of, fate, IsRunning}
 use Rattle.history.specs.Snapshots.{TakenSnapshot, SnapshotHeld, held_by}
 use Rattle.history.specs.Catalogue.{EntryAdded, CheckKept}
-use Rattle.history.specs.History.{Event, History, CatalogueChange, tx_events, snapshot_events, catalogue_events, versions, fresh, seen}
+use Rattle.history.specs.History.{Event, History, CatalogueChange, tx_events, snapshot_events, row_events, catalogue_events, versions, fresh, seen}
+use Rattle.history.specs.Places.{HasColumnsOf}
 use Rattle.history.specs.Presence.{counts, entries_present, entries_shown}
 use Rattle.history.specs.Legal.{MayHold, IsLegal}
 use Rattle.row_router.specs.Histories.{tree_of, ddl_tree, path_of, children}
@@ -15,8 +17,10 @@ use Rattle.row_router.specs.declared.path.PathTest.TheVariants.{Bounds, Checks}
 use Rattle.row_router.specs.Paths.{refused}
 use Rattle.row_router.specs.Siblings.{AreSiblings}
 use Rattle.row_router.specs.Trees.{leaves, height, accepting, routed}
-use Rattle.soundness.specs.Worlds.{same_tx, view, IsMade, AcceptAbove, HasLeaf}
+use Rattle.soundness.specs.Versions.{IsVersion}
+use Rattle.soundness.specs.Worlds.{same_tx, view, table_in, IsMade, AcceptAbove, HasLeaf}
 use Rattle.soundness.specs.Kept.{PassAbove, ChecksOf}
+use Rattle.soundness.specs.Columns.{IsOfTable, ColumnsOf, IsLeafBelow}
 use Rattle.soundness.specs.Legal.{Below, MayAdd, MaySkip, MayCreate, ArePermitted}
 use Rattle.soundness.specs.Parts.{AreChildren, WritesIn, InvariantOf}
 
@@ -27,6 +31,25 @@ LegalKeepsAll = (h : History) → IsLegal h → ArePermitted h → InvariantOf h
 -- and its parts on kept CHECKs
 abbrev pub LegalKeepsChecks : Type 0
 LegalKeepsChecks = (h : History) → IsLegal h → ArePermitted h → ChecksOf h
+
+-- and each stored row is one of its leaf's columns
+abbrev pub LegalKeepsColumns : Type 0
+LegalKeepsColumns = (h : History) → IsLegal h → ArePermitted h → ColumnsOf h
+
+-- a leaf of a table's tree is that of a table which has the other's columns, by name, kind and order
+abbrev pub LeavesHaveColumns : Type 0
+LeavesHaveColumns = (h : History) (session table : ℕ) (s : TakenSnapshot) (leaf : LeafId) → IsLegal h → ArePermitted h → IsMade (catalogue_events h) table → IsLeafBelow h session table s leaf
+    → (x : ℕ) × HasLeaf (catalogue_events h) x leaf × HasColumnsOf (table_in (catalogue_events h) table).columns (table_in (catalogue_events h) x).columns
+
+-- so each row that is stored there is one of the columns of the tree's table
+abbrev pub RowsAreOfTrees : Type 0
+RowsAreOfTrees = (h : History) (session table : ℕ) (s : TakenSnapshot) (v : Version) → IsLegal h → ArePermitted h → IsMade (catalogue_events h) table → IsLeafBelow h session table s v.leaf → IsVersion (row_events h) v
+    → IsOfTable (catalogue_events h) table v.row
+
+-- and a row of the columns of the tree's table, wherever the tree routes it, is one of the leaf's
+abbrev pub RoutedAreOfColumns : Type 0
+RoutedAreOfColumns = (h : History) (session table x : ℕ) (s : TakenSnapshot) (leaf : LeafId) (row : List Value) → IsLegal h → ArePermitted h → IsMade (catalogue_events h) table
+    → routed row (tree_of h session table s) ≡ Ok leaf → IsOfTable (catalogue_events h) table row → HasLeaf (catalogue_events h) x leaf → IsOfTable (catalogue_events h) x row
 
 -- a snapshot that the session has open, of a transaction that counts for it; or one that it could hold now, or take
 abbrev pub IsLooking : History → (session : ℕ) → TakenSnapshot → Type 0
