@@ -55,7 +55,6 @@ use Rattle.statement_steps.specs.declared.caller.Caller.{Caller}
 use Rattle.statement_steps.specs.declared.stop.Stop.TheVariants as stop
 use Rattle.statement_steps.specs.Steps.{IsStep}
 use Rattle.statement_steps.proofs.Parts.{locks_same, no_memory}
-use Rattle.partition_scans.specs.Fitting.{is_row_of}
 use Rattle.partition_scans.specs.Places.{breaks_place, is_refused_above, place_scan, default_scan}
 use Rattle.partition_scans.specs.Scans.{IsClean}
 use Rattle.partition_scans.proofs.Cleaning.{clean_first}
@@ -93,12 +92,6 @@ not_false false e = refl
 none_refused : (o : Option TableNo) → is_some o ≡ false → o ≡ None
 none_refused None e = refl
 none_refused (Some t) e = absurd (let c = e in cc)
-
-three_false : (a b c : Bool) → (a || (b || c)) ≡ false → (a ≡ false) × (b ≡ false) × (c ≡ false)
-three_false false false false e = (refl, refl, refl)
-three_false true b c e = absurd (let d = e in cc)
-three_false false true c e = absurd (let d = e in cc)
-three_false false false true e = absurd (let d = e in cc)
 
 left_of : (a b : Bool) → (a || b) ≡ false → a ≡ false
 left_of false b e = refl
@@ -157,10 +150,11 @@ module _ (laws : AttachLaws) (stores : Stores) (caller : Caller) (p t : ℕ) (b 
       let first = clean_first h caller.session (place_scan h caller.session p t b) others both in
       let breaks = laws.none h caller.session (tx_in h caller.session) t (breaks_place h caller.session p b) first.0 first.1 v it in
       let key = key_at (catalogue_events h) p v.row in
-      let parts = three_false (not (is_row_of (made_at h p).columns v.row)) (not (accepts_among (bounds_below h caller.session p) key b)) (is_refused_above h caller.session p v.row) breaks in (
-        takes_row v.row (not_true (accepts_among (bounds_below h caller.session p) key b) parts.1),
-        none_refused (refused Bounds v.row (path_of h caller.session p)) (left_of (is_some (refused Bounds v.row (path_of h caller.session p))) (is_some (refused Checks v.row (path_of h caller.session p))) parts.2),
-        none_refused (refused Checks v.row (path_of h caller.session p)) (right_of (is_some (refused Bounds v.row (path_of h caller.session p))) (is_some (refused Checks v.row (path_of h caller.session p))) parts.2),
+      let here = left_of (not (accepts_among (bounds_below h caller.session p) key b)) (is_refused_above h caller.session p v.row) breaks in
+      let above = right_of (not (accepts_among (bounds_below h caller.session p) key b)) (is_refused_above h caller.session p v.row) breaks in (
+        takes_row v.row (not_true (accepts_among (bounds_below h caller.session p) key b) here),
+        none_refused (refused Bounds v.row (path_of h caller.session p)) (left_of (is_some (refused Bounds v.row (path_of h caller.session p))) (is_some (refused Checks v.row (path_of h caller.session p))) above),
+        none_refused (refused Checks v.row (path_of h caller.session p)) (right_of (is_some (refused Bounds v.row (path_of h caller.session p))) (is_some (refused Checks v.row (path_of h caller.session p))) above),
       )
 
   place : IsNewPlace h caller.session (new_entry caller p t b h)

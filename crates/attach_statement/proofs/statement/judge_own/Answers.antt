@@ -3,7 +3,7 @@ use Rattle.row_router.specs.Histories.{ddl_tree}
 use Rattle.row_router.specs.Trees.{height}
 use Rattle.partition_scans.specs.Places.{place_scan}
 use Rattle.attach_statement.specs.Skipped.{is_skipped}
-use Rattle.attach_statement.proofs.Scanned.{takes_always}
+use Rattle.attach_statement.proofs.Scanned.{columns_always, takes_always}
 use Rattle.attach_statement.proofs.LeftOut.{made_judged, made_watches, nobody_judged, nobody_watches}
 use Rattle.attach_statement.proofs.statement.judge_own.Goals as goal
 
@@ -12,6 +12,9 @@ is_skipped-requires-clause-siblings c = c.trees_are_together.ensures c.args.stor
 
 pub is_skipped-requires-clause-takes : goal.is_skipped-requires-clause-takes
 is_skipped-requires-clause-takes c = takes_always c.args.stores.now c.args.caller c.args.parent.number c.args.table.number c.args.bound.now c.requires.may c.requires.place
+
+pub judge_table-requires-clause-columns : goal.judge_table-requires-clause-columns
+judge_table-requires-clause-columns c = columns_always c.args.stores.now c.args.caller c.args.parent.number c.args.table.number c.args.bound.now c.requires.may c.requires.place
 
 pub judge_table-requires-clause-takes : goal.judge_table-requires-clause-takes
 judge_table-requires-clause-takes c = takes_always c.args.stores.now c.args.caller c.args.parent.number c.args.table.number c.args.bound.now c.requires.may c.requires.place
