@@ -8,7 +8,7 @@ use Rattle.change_statement.specs.Changing.{changing}
 use Rattle.change_statement.specs.Running.{IsRun}
 use Rattle.change_statement.specs.Turns.{IsTurn}
 use Rattle.change_statement.specs.declared.asking.Change.{Change}
-use Rattle.change_statement.proofs.EachRow.{decided_is, is_changed, is_stopped, is_passed, is_refused, is_out, may_end_in, tables_low}
+use Rattle.change_statement.proofs.EachRow.{decided_is, is_changed, is_seat, is_stopped, is_passed, is_refused, is_out, may_end_in, tables_low}
 use Rattle.change_statement.proofs.Renewed.{updated_run, faulty_run, known_table, read_of}
 use Rattle.change_statement.proofs.Stays.{agrees}
 use Rattle.change_statement.proofs.rows.change_row.Goals as goal
@@ -102,6 +102,7 @@ returns-in-Wait c =
       refl,
       decided_is c.args.stores.now c.args.caller g c.args.target (updater_meant c.updater-updater.result) (WaitsFor c.in-Wait.other) c.updater-updater.ensures.is c.in-Wait.ensures.is,
       subst (λ s. c.in-Wait.other ≢ s) c.updater-updater.ensures.session c.in-Wait.ensures.wait.another,
+      is_seat c.args.stores.now c.args.caller (found_of c.args.gathered.now) c.in-Wait.other c.requires.may c.in-Wait.ensures.wait.known,
     )
 
 pub returns-in-Refuse : goal.returns-in-Refuse
