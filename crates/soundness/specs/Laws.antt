@@ -10,7 +10,7 @@ use Rattle.history.specs.Snapshots.{TakenSnapshot, SnapshotHeld, held_by}
 use Rattle.history.specs.Catalogue.{EntryAdded, CheckKept}
 use Rattle.history.specs.History.{Event, History, CatalogueChange, tx_events, snapshot_events, row_events, catalogue_events, versions, fresh, seen}
 use Rattle.history.specs.Places.{HasColumnsOf}
-use Rattle.history.specs.Presence.{counts, entries_present, entries_shown}
+use Rattle.history.specs.Presence.{counts, entries_present}
 use Rattle.history.specs.Legal.{MayHold, IsLegal}
 use Rattle.row_router.specs.Histories.{tree_of, ddl_tree, path_of, children}
 use Rattle.row_router.specs.declared.path.PathTest.TheVariants.{Bounds, Checks}
@@ -18,7 +18,7 @@ use Rattle.row_router.specs.Paths.{refused}
 use Rattle.row_router.specs.Siblings.{AreSiblings}
 use Rattle.row_router.specs.Trees.{leaves, height, accepting, routed}
 use Rattle.soundness.specs.Versions.{IsVersion}
-use Rattle.soundness.specs.Worlds.{same_tx, view, table_in, IsMade, AcceptAbove, HasLeaf}
+use Rattle.soundness.specs.Worlds.{same_tx, view, table_in, IsMade, AcceptAbove, HasLeaf, Under}
 use Rattle.soundness.specs.Kept.{PassAbove, ChecksOf}
 use Rattle.soundness.specs.Columns.{IsOfTable, ColumnsOf, IsLeafBelow}
 use Rattle.soundness.specs.Legal.{Below, MayAdd, MaySkip, MayCreate, ArePermitted}
@@ -133,10 +133,11 @@ WaitingPass = (e : Event) (h : History) (t x : ℕ) (row : List Value) → IsLeg
     → WritesIn h (view (tx_events h) t) t x → AcceptAbove (catalogue_events h) (view (tx_events h) t) x row → PassAbove (catalogue_events h) (view (tx_events h) t) x row
     → PassAbove (catalogue_events (e ∷ h)) (view (tx_events (e ∷ h)) t) x row
 
--- all that is asked above can be met: in some history a row is shown in the leaf of a partition
+-- all that is asked above can be met: in some history a row is shown in the leaf of a table that stands two steps below another
+-- one
 abbrev pub ConditionsCanBeMet : Type 0
-ConditionsCanBeMet = (h : History) × (session : ℕ) × (table : ℕ) × (s : TakenSnapshot) × (leaf : LeafId) × IsLegal h × ArePermitted h × IsLooking h session s × IsMade (catalogue_events h) table
-    × Contains (leaves (tree_of h session table s)) leaf × (length (entries_shown h session s) ≡ 1) × (length (seen h leaf.number s) ≡ 1)
+ConditionsCanBeMet = (h : History) × (session table x : ℕ) × (s : TakenSnapshot) × (leaf : LeafId) × IsLegal h × ArePermitted h × IsLooking h session s × IsMade (catalogue_events h) table
+    × Contains (leaves (tree_of h session table s)) leaf × Under (catalogue_events h) (counts (tx_events h) session) 2 table x × HasLeaf (catalogue_events h) x leaf × (length (seen h leaf.number s) ≡ 1)
 
 -- and a scan can be left out, of a table that has a row
 abbrev pub SkipCanBeMet : Type 0

@@ -100,7 +100,8 @@ pub fn waiting_accept()
     ensures { WaitingAccept }
 {}
 
-/// What is asked of events and snapshots can be met, by a history in which a partition shows a row.
+/// What is asked of events and snapshots can be met, by a history in which a partition of a partition shows
+/// a row.
 pub fn conditions_can_be_met()
     ensures { ConditionsCanBeMet }
 {}
