@@ -121,7 +121,7 @@ not_after : (o : Option (ℕ × ℕ)) → IsNotAfter o None
 not_after None = tt
 not_after (Some (t, m)) = tt
 
-no_command : (h : History) → IsInOrder None h
+pub no_command : (h : History) → IsInOrder None h
 no_command [] = tt
 no_command (e ∷ h) = (not_after (command_of e), no_command h)
 
@@ -202,7 +202,7 @@ name_unclaimed : (x : ℕ) → IsMade (catalogue_events with_parent) x → (tabl
 name_unclaimed zero made same runs = refl
 name_unclaimed (suc x) made same runs = absurd (omega (arith, made))
 
-level_leaf : (l : LeafId) → parent.shape ≡ Leaf l → ⊥
+pub level_leaf : (l : LeafId) → parent.shape ≡ Leaf l → ⊥
 level_leaf l is = cc
 
 no_leaf : (x : ℕ) (leaf : LeafId) → HasLeaf (catalogue_events with_parent) x leaf → child.shape ≢ Leaf leaf

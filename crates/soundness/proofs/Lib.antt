@@ -3,6 +3,7 @@ pub mod AddedEntries
 pub mod AddedFit
 pub mod AddedSiblings
 pub mod All
+pub mod AttachExample
 pub mod CheckAdded
 pub mod CheckBorn
 pub mod CheckExample

@@ -15,13 +15,14 @@ use Rattle.history.specs.Legal.{MayHold, IsLegal}
 use Rattle.row_router.specs.Histories.{tree_of, ddl_tree, path_of, children}
 use Rattle.row_router.specs.declared.path.PathTest.TheVariants.{Bounds, Checks}
 use Rattle.row_router.specs.Paths.{refused}
+use Rattle.row_router.specs.Laws.{sees_mark}
 use Rattle.row_router.specs.Siblings.{AreSiblings}
 use Rattle.row_router.specs.Trees.{leaves, height, accepting, routed}
 use Rattle.soundness.specs.Versions.{IsVersion}
 use Rattle.soundness.specs.Worlds.{same_tx, view, table_in, IsMade, AcceptAbove, HasLeaf, Under}
 use Rattle.soundness.specs.Kept.{PassAbove, ChecksOf}
 use Rattle.soundness.specs.Columns.{IsOfTable, ColumnsOf, IsLeafBelow}
-use Rattle.soundness.specs.Legal.{Below, MayAdd, MaySkip, MayCreate, ArePermitted}
+use Rattle.soundness.specs.Legal.{Below, Has, HasPending, Judges, MayAdd, MaySkip, MayCreate, ArePermitted}
 use Rattle.soundness.specs.Parts.{AreChildren, WritesIn, InvariantOf}
 
 -- whatever comes, so long as each event is permitted, the invariant holds
@@ -138,6 +139,13 @@ WaitingPass = (e : Event) (h : History) (t x : ℕ) (row : List Value) → IsLeg
 abbrev pub ConditionsCanBeMet : Type 0
 ConditionsCanBeMet = (h : History) × (session table x : ℕ) × (s : TakenSnapshot) × (leaf : LeafId) × IsLegal h × ArePermitted h × IsLooking h session s × IsMade (catalogue_events h) table
     × Contains (leaves (tree_of h session table s)) leaf × Under (catalogue_events h) (counts (tx_events h) session) 2 table x × HasLeaf (catalogue_events h) x leaf × (length (seen h leaf.number s) ≡ 1)
+
+-- and in some other one a table that has a row is attached beside a pending partition, while another session has a snapshot from
+-- before the mark
+abbrev pub AttachCanBeMet : Type 0
+AttachCanBeMet = (h : History) × (e g : Entry) × (reader : ℕ) × (old : TakenSnapshot) × (v : Version) × IsLegal (CatalogueChange (EntryAdded e) ∷ h) × ArePermitted (CatalogueChange (EntryAdded e) ∷ h)
+    × (held_by (snapshot_events h) reader ≡ Some old) × Has h e.by.number g × HasPending h e.by.number g × (g.parent.number ≡ e.parent.number) × (sees_mark h old g ≡ false)
+    × IsVersion (row_events h) v × HasLeaf (catalogue_events h) e.child.number v.leaf × Judges h e.by.number v
 
 -- and a scan can be left out, of a table that has a row
 abbrev pub SkipCanBeMet : Type 0

@@ -1,4 +1,4 @@
-ghost use Rattle.soundness.specs.Laws.{SkipCanBeMet, LegalKeepsAll, LegalKeepsChecks, LegalKeepsColumns, LeavesHaveColumns, RowsAreOfTrees, RoutedAreOfColumns, AttachMaySkip, RowsPass, PathPasses, WaitingPass, OneLeafAccepts, SessionsHaveSiblings, CreateIsAdd, PathAccepts, RoutedAccepts, TreeHasAllBelow, WaysAreShort, ChildrenAreCounted, WaitingAccept, ConditionsCanBeMet};
+ghost use Rattle.soundness.specs.Laws.{AttachCanBeMet, SkipCanBeMet, LegalKeepsAll, LegalKeepsChecks, LegalKeepsColumns, LeavesHaveColumns, RowsAreOfTrees, RoutedAreOfColumns, AttachMaySkip, RowsPass, PathPasses, WaitingPass, OneLeafAccepts, SessionsHaveSiblings, CreateIsAdd, PathAccepts, RoutedAccepts, TreeHasAllBelow, WaysAreShort, ChildrenAreCounted, WaitingAccept, ConditionsCanBeMet};
 
 /// Each kind of event keeps the invariant, where it is permitted.
 pub fn legal_keeps_all()
@@ -104,6 +104,12 @@ pub fn waiting_accept()
 /// a row.
 pub fn conditions_can_be_met()
     ensures { ConditionsCanBeMet }
+{}
+
+/// And by one in which a table with a row is attached beside a pending partition, while a snapshot from before
+/// the mark is open.
+pub fn attach_can_be_met()
+    ensures { AttachCanBeMet }
 {}
 
 /// What is asked of an ATTACH without a scan can be met, of a table that has a row.
