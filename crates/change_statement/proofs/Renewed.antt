@@ -128,8 +128,9 @@ no_leaf : (p : Result LeafId Fault) → or_first (faults_in (p ∷ [])) (read_in
 no_leaf (Ok own) e = let c = e in cc
 no_leaf (Err f) e = let c = e in cc
 
-pub is_somewhere : (g : Found) (row : List Value) (h : History) (leaves : List LeafId) → leaves ≡ [] → all_placed (tables_of h) g.tree g.path (row ∷ []) ≡ Ok leaves → ⊥
-is_somewhere g row h leaves none e = no_leaf (placed (tables_of h) g.tree g.path row) (e ∙ ap Ok none)
+pub is_somewhere : (g : Found) (row : List Value) (h : History) (leaves : List LeafId) → length leaves ≡ 0 → all_placed (tables_of h) g.tree g.path (row ∷ []) ≡ Ok leaves → ⊥
+is_somewhere g row h [] none e = no_leaf (placed (tables_of h) g.tree g.path row) e
+is_somewhere g row h (l ∷ ls) none e = omega (arith, none)
 
 one_fault : (p : Result LeafId Fault) (f : Fault) → or_first (faults_in (p ∷ [])) (read_in (p ∷ [])) ≡ Err f → p ≡ Err f
 one_fault (Ok own) f e = absurd (let c = e in cc)

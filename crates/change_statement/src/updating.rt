@@ -58,6 +58,7 @@ fn house(
     from: LeafId,
     row: &Row,
 ) -> Result<LeafId, Refusal>
+    requires sound { (h : History) × CatalogueStands stores.now.catalog h }
     requires takes { Takes (length stores.now.catalog.tables) (found_of gathered.now) row.now }
     requires own { HasWay (found_of gathered.now).tree from }
     ensures is { (h : History) → CatalogueStands stores.now.catalog h → IsAnswer result (updated.housed gathered.now.moves (tables_of h) (seen gathered.now.tree) gathered.now.path.items from row.now) }
