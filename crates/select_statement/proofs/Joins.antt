@@ -10,7 +10,7 @@ use Rattle.std.proofs.lemmas.List.Sorted.{IsPermutation-refl, IsPermutation-tran
 use Rattle.pg_values.specs.declared.ids.LeafId.{LeafId}
 use Rattle.bound_forms.specs.declared.level.Level.{Level}
 use Rattle.bound_forms.specs.declared.partition_bound.Bound.{Bound}
-use Rattle.table_trees.specs.Trees.{TableTree, LeafTable, LevelTable, Trees, End, More}
+use Rattle.row_router.specs.Trees.{TableTree, LeafTable, LevelTable, Trees, End, More}
 use Rattle.cond_logic.specs.Trees.{CondTree}
 use Rattle.cond_logic.specs.Tables.{Leaf}
 use Rattle.cond_logic.specs.Tuples.{Places}

@@ -5,7 +5,7 @@ use Rattle.std.proofs.lemmas.List.{get_or-map}
 use Rattle.std.proofs.lemmas.List.Quantifiers.{position-Some}
 use Rattle.std.proofs.lemmas.Slice.Eq.{bytes_eq-Decides}
 use Rattle.history.specs.declared.catalogue.Column.{Column}
-use Rattle.table_trees.specs.Trees.{TableTree}
+use Rattle.row_router.specs.Trees.{TableTree}
 use Rattle.sql_ast.specs.Queries.{Joined}
 use Rattle.expression_binder.specs.declared.naming.Hit.{Hit}
 use Rattle.expression_binder.specs.declared.naming.Lookup.{Lookup}

@@ -4,7 +4,7 @@ use Rattle.std.specs.Prelude.{◌≡◌, ℕ, ◌<◌, Bool, false, All, if◌th
 use Rattle.std.specs.List.{Contains, flat_map}
 use Rattle.std.specs.List.Sorted.{IsPermutation}
 use Rattle.pg_values.specs.declared.ids.LeafId.{LeafId}
-use Rattle.table_trees.specs.Trees.{TableTree}
+use Rattle.row_router.specs.Trees.{TableTree}
 use Rattle.cond_logic.specs.Asked.{SelectMeant}
 use Rattle.plan_tree.specs.Kept.{id_of}
 use Rattle.plan_tree.specs.Laws.{Rows}

@@ -1,6 +1,6 @@
 -- A plan names columns as its statement does (the manual, 14.1.1 EXPLAIN Basics; 4.2.1 Column References).
 use Rattle.std.specs.Prelude.{◌≡◌, ℕ, List}
-use Rattle.table_trees.specs.Trees.{TableTree}
+use Rattle.row_router.specs.Trees.{TableTree}
 use Rattle.sql_ast.specs.Queries.{Joined}
 use Rattle.expression_binder.specs.declared.naming.Hit.{Hit}
 use Rattle.expression_binder.specs.declared.naming.Lookup.TheVariants.{One}
