@@ -19,6 +19,7 @@ use Rattle.plan_tree.specs.Kept.{Keeps, id_of, leaf_of, keeps_plain, leaves_belo
 use Rattle.plan_tree.specs.Laws.{Rows}
 use Rattle.plan_tree.specs.Plans.{PlannedItem, Planned, keeps_first, keeps_beside, is_joined, is_empty, is_none, item_for, items_from, kept_beside, leaves_for, plan_for}
 use Rattle.select_answer.specs.Tuples.{Tuple, Mark, Reads, Gives, no_tuple, passes, tuples_in, given_marks, leaf_marks, scan_marks, for_each, joined, tuples_of, reads_in}
+use Rattle.select_answer.proofs.Kept.{in_first, in_second}
 use Rattle.select_answer.proofs.Plain.{reads_append, given_reads, leaves_reads, leaves_tuples}
 use Rattle.select_answer.proofs.Marks.{of_ids, asked_once}
 use Rattle.plan_text.specs.Plans.{scanned}
@@ -151,12 +152,6 @@ of_item true n cs tree rows l h = by (is_joined n cs) h
 -- ---- what holds of the leaves under the scans holds of those that are read
 
 module _ (P : LeafId → Type 0) where
-  all_front : (xs ys : List LeafId) → All P (xs ++ ys) → All P xs
-  all_front xs ys h = All-weaker (Contains xs) P (λ x at. All-contains P (xs ++ ys) x h (Contains-append_left xs ys x at)) xs (All-contains_itself xs)
-
-  all_back : (xs ys : List LeafId) → All P (xs ++ ys) → All P ys
-  all_back xs ys h = All-weaker (Contains ys) P (λ x at. All-contains P (xs ++ ys) x h (Contains-append_right xs ys x at)) ys (All-contains_itself ys)
-
   -- of the leaves of an item, and those that are kept beside a tuple
   of_kept : (ls kept : List Leaf) → ((l : Leaf) → Contains kept l → Contains ls l) → All P (map id_of ls) → All P (map id_of kept)
   of_kept ls kept within h =
@@ -178,8 +173,8 @@ module _ (P : LeafId → Type 0) where
       let others = flat_map (λ i. i.leaves) (items_from prunes (n + 1) (asked_later n cs) trees) in
       let parts = subst (All P) (map-append id_of item.leaves others) h in
       All-append P (read_beside item left) (items_read rows (items_from prunes (n + 1) (asked_later n cs) trees) (joined_with rows item left))
-      (of_beside prunes n (asked_at n cs) tree left (all_front (map id_of item.leaves) (map id_of others) parts))
-      (of_items rows prunes (n + 1) (asked_later n cs) trees (joined_with rows item left) (all_back (map id_of item.leaves) (map id_of others) parts))
+      (of_beside prunes n (asked_at n cs) tree left (in_first P (map id_of item.leaves) (map id_of others) parts))
+      (of_items rows prunes (n + 1) (asked_later n cs) trees (joined_with rows item left) (in_second P (map id_of item.leaves) (map id_of others) parts))
 
 pub are_scanned : ReadsAreScanned
 are_scanned prunes m rows trees = All-permutation (Contains (map id_of (scanned plan))) (scans_read rows plan) _ (joins_read prunes m rows trees) (by (is_empty plan))
