@@ -1,7 +1,9 @@
 pub mod Few
+mod Joins
 mod Kept
 mod Known
 pub mod Moments
+mod Named
 mod Naming
 mod Nodes
 pub mod Numbers
