@@ -20,7 +20,6 @@
 //! plan. Of several tables the same holds, but for the refusal of too many scans.
 #![tactic(auto)]
 
-mod below;
 mod cancels;
 mod explaining;
 mod gathered;
@@ -31,7 +30,6 @@ mod parts;
 mod statement;
 mod tables;
 
-pub use below::tables_below;
 pub use cancels::cancelled;
 pub use explaining::{
     explain, joins_read_their_scans, names_are_as_asked, one_table_reads_its_scans,
