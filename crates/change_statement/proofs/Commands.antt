@@ -1,19 +1,19 @@
 -- A statement as a whole: its gathering, and its run.
-use Rattle.std.proofs.Common.{ℕ, ◌+◌, [], ◌∷◌, ◌++◌, refl, ap, sym, subst, append_assoc, Option, Some, None, Result, Ok, Err}
+use Rattle.std.proofs.Common.{◌≡◌, ◌∙◌, ℕ, ◌+◌, [], ◌∷◌, ◌++◌, refl, ap, sym, subst, append_assoc, Option, Some, None, Result, Ok, Err}
 use Rattle.history.specs.History.{History}
 use Rattle.stores.specs.Numbers.{IsAt}
 use Rattle.stores.specs.declared.stores.Stores.{Stores}
 use Rattle.stores.proofs.Commands.{commands_are_in_order}
-use Rattle.statement_steps.specs.Ended.{ended}
+use Rattle.statement_steps.specs.Ended.{giving, told_as}
 use Rattle.statement_steps.specs.Made.{Made, and_then, then_told, behind, number_after}
-use Rattle.statement_steps.specs.Attempts.{MayAttempt, MayGoOn, WentOn, GoesOn, IsHalt}
+use Rattle.statement_steps.specs.Attempts.{MayAttempt, MayGoOn, WentOn, GoesOn}
 use Rattle.statement_steps.specs.declared.caller.Caller.{Caller}
 use Rattle.statement_steps.specs.declared.rest.Rest.{Rest}
 use Rattle.statement_steps.specs.declared.stop.Stop.{Stop}
 use Rattle.statement_steps.specs.declared.stop.Stop.TheVariants as stop
 use Rattle.statement_steps.proofs.Numbers.{one_later}
-use Rattle.statement_steps.specs.Steps.{IsTold, IsHalted, IsStep, follow}
-use Rattle.statement_steps.proofs.Steps.{went_on, goes_on}
+use Rattle.statement_steps.specs.Steps.{IsTold, IsStep, follow}
+use Rattle.statement_steps.proofs.Steps.{went_on, goes_on, halted_same}
 use Rattle.change_statement.specs.Running.{IsInRun, IsRunTold, IsRun, IsCommandTold, IsCommand, MayRun}
 
 -- ---- the run begins
@@ -35,46 +35,47 @@ may_begin stores caller may =
 
 -- ---- and is the whole of what is left
 
-run_is_told : (r : Result (Unit {0}) Stop) (new : Stores) (caller : Caller) (h : History) (m : Made (Unit {0})) → IsRunTold (λ (u : Unit {0}). u) r new caller h m → IsCommandTold r new caller h m
-run_is_told (Ok u) new caller h m told = (told.0, told.1)
-run_is_told (Err (stop.Waits None)) new caller h m told = absurd told
-run_is_told (Err (stop.Waits (Some rest))) new caller h m told = told
-run_is_told (Err (stop.Refused f)) new caller h m told = told
-run_is_told (Err stop.NoMemory) new caller h m told = tt
-
-is_halt : (r : Result (Unit {0}) Stop) (stores : Stores) (s : ℕ) → IsHalted r stores s → IsHalt (ended r) stores s
-is_halt (Ok u) stores s halted = halted
-is_halt (Err (stop.Waits rest)) stores s halted = halted
-is_halt (Err (stop.Refused f)) stores s halted = halted
-is_halt (Err stop.NoMemory) stores s halted = tt
-
-pub run_is_command : (r : Result (Unit {0}) Stop) (old new : Stores) (caller : Caller) (f : History → Made (Unit {0})) → IsRun (λ (u : Unit {0}). u) r old new caller f → IsCommand r old new caller f
-run_is_command r old new caller f run = record {
-  is = λ h stands at. run_is_told r new caller h (f h) (run.is h stands (begins_run h caller at));
+-- how many rows the run has changed is told of the statement, with what it has read
+pub counted_is_command : {X U : Type 0} (see : X → U) (t : ℕ → U) (n : ℕ) (x : X) (old new : Stores) (caller : Caller) (f : History → Made ℕ) → see x ≡ t n → IsRun (λ (m : ℕ). m) (Ok n) old new caller f → IsCommand see (Ok x) old new caller (λ h. giving t (f h))
+counted_is_command see t n x old new caller f same run = record {
+  is = λ h stands at. let told = run.is h stands (begins_run h caller at) in (ap (told_as t) told.0 ∙ ap Ok (sym same), told.1);
   keeps = run.keeps;
-  waits = is_halt r new caller.session run.waits;
+  waits = run.waits;
+}
+
+run_stops : {X U : Type 0} (see : X → U) (t : ℕ → U) (e : Stop) (new : Stores) (caller : Caller) (h : History) (m : Made ℕ) → IsRunTold (λ (k : ℕ). k) (Err e) new caller h m → IsCommandTold see (Err e) new caller h (giving t m)
+run_stops see t (stop.Waits None) new caller h m told = absurd told
+run_stops see t (stop.Waits (Some rest)) new caller h m told = (ap (told_as t) told.0, told.1)
+run_stops see t (stop.Refused f) new caller h m told = (ap (told_as t) told.0, told.1)
+run_stops see t stop.NoMemory new caller h m told = tt
+
+pub stopped_is_command : (X : Type 0) {U : Type 0} (see : X → U) (t : ℕ → U) (e : Stop) (old new : Stores) (caller : Caller) (f : History → Made ℕ) → IsRun (λ (m : ℕ). m) (Err e) old new caller f → IsCommand see (Err e) old new caller (λ h. giving t (f h))
+stopped_is_command X see t e old new caller f run = record {
+  is = λ h stands at. run_stops see t e new caller h (f h) (run.is h stands (begins_run h caller at));
+  keeps = run.keeps;
+  waits = halted_same ℕ X e new caller.session run.waits;
 }
 
 -- ---- behind what was gathered
 
-command_behind : (r : Result (Unit {0}) Stop) (mid new : Stores) (caller : Caller) (h : History) (events : History) (m : Made (Unit {0}))
-    → WentOn h caller.session caller.cmd [] mid (events ++ h) → IsCommandTold r new caller (events ++ h) m → IsCommandTold r new caller h (behind events m)
-command_behind (Ok u) mid new caller h events m first told =
+command_behind : {Y U : Type 0} (view : Y → U) (r : Result Y Stop) (mid new : Stores) (caller : Caller) (h : History) (events : History) (m : Made U)
+    → WentOn h caller.session caller.cmd [] mid (events ++ h) → IsCommandTold view r new caller (events ++ h) m → IsCommandTold view r new caller h (behind events m)
+command_behind view (Ok x) mid new caller h events m first told =
     (told.0, subst (WentOn h caller.session (caller.cmd + 1) [] new) (sym (append_assoc m.events events h)) (went_on h (events ++ h) (m.events ++ (events ++ h)) caller.session caller.cmd (caller.cmd + 1) [] mid new first told.1))
-command_behind (Err (stop.Waits rest)) mid new caller h events m first told =
+command_behind view (Err (stop.Waits rest)) mid new caller h events m first told =
     (told.0, subst (WentOn h caller.session (number_after rest caller.cmd) (caller.session ∷ []) new) (sym (append_assoc m.events events h)) (went_on h (events ++ h) (m.events ++ (events ++ h)) caller.session caller.cmd (number_after rest caller.cmd) (caller.session ∷ []) mid new first told.1))
-command_behind (Err (stop.Refused f)) mid new caller h events m first told =
+command_behind view (Err (stop.Refused f)) mid new caller h events m first told =
     (told.0, subst (WentOn h caller.session (caller.cmd + 1) [] new) (sym (append_assoc m.events events h)) (went_on h (events ++ h) (m.events ++ (events ++ h)) caller.session caller.cmd (caller.cmd + 1) [] mid new first told.1))
-command_behind (Err stop.NoMemory) mid new caller h events m first told = tt
+command_behind view (Err stop.NoMemory) mid new caller h events m first told = tt
 
-pub then_command : {X T : Type 0} (see : X → T) (x : X) (r : Result (Unit {0}) Stop) (old mid new : Stores) (caller : Caller) (f : History → Made T) (next : T → History → Made (Unit {0}))
-    → IsStep see (Ok x) old mid caller caller.cmd f → IsCommand r mid new caller (next (see x)) → IsCommand r old new caller (follow f next)
-then_command {T} see x r old mid new caller f next first second = record {
+pub then_command : {X T Y U : Type 0} (see : X → T) (view : Y → U) (x : X) (r : Result Y Stop) (old mid new : Stores) (caller : Caller) (f : History → Made T) (next : T → History → Made U)
+    → IsStep see (Ok x) old mid caller caller.cmd f → IsCommand view r mid new caller (next (see x)) → IsCommand view r old new caller (follow f next)
+then_command {T} {U} see view x r old mid new caller f next first second = record {
   is = λ h stands at.
       let a = first.is h stands at in
       let told = second.is ((f h).events ++ h) a.1.stands a.1.at in
-      subst (λ t. IsCommandTold r new caller h (then_told t (f h).events (λ y. next y ((f h).events ++ h)))) (sym a.0)
-      (command_behind r mid new caller h (f h).events (next (see x) ((f h).events ++ h)) a.1 told);
+      subst (λ t. IsCommandTold view r new caller h (then_told t (f h).events (λ y. next y ((f h).events ++ h)))) (sym a.0)
+      (command_behind view r mid new caller h (f h).events (next (see x) ((f h).events ++ h)) a.1 told);
   keeps = goes_on old mid new caller.session first.keeps second.keeps;
   waits = second.waits;
 }
@@ -84,22 +85,17 @@ pub waits_later : (rest : Option Rest) (new : Stores) (caller : Caller) (h g : H
 waits_later None new caller h g went = went
 waits_later (Some rest) new caller h g went = record { stands = went.stands; at = one_later g caller.session caller.cmd went.at; others = went.others; queue = went.queue }
 
-stop_told : {X T : Type 0} (see : X → T) (e : Stop) (new : Stores) (caller : Caller) (h : History) (m : Made T) (next : T → Made (Unit {0})) → IsTold see (Err e) new caller caller.cmd h m → IsCommandTold (Err e) new caller h (and_then m next)
-stop_told see (stop.Waits rest) new caller h m next told = subst (λ t. IsCommandTold (Err (stop.Waits rest)) new caller h (then_told t m.events next)) (sym told.0) (refl, waits_later rest new caller h (m.events ++ h) told.1)
-stop_told see (stop.Refused f) new caller h m next told = subst (λ t. IsCommandTold (Err (stop.Refused f)) new caller h (then_told t m.events next)) (sym told.0) (refl, told.1)
-stop_told see stop.NoMemory new caller h m next told = tt
+stop_told : {X T Y U : Type 0} (see : X → T) (view : Y → U) (e : Stop) (new : Stores) (caller : Caller) (h : History) (m : Made T) (next : T → Made U) → IsTold see (Err e) new caller caller.cmd h m → IsCommandTold view (Err e) new caller h (and_then m next)
+stop_told see view (stop.Waits rest) new caller h m next told = subst (λ t. IsCommandTold view (Err (stop.Waits rest)) new caller h (then_told t m.events next)) (sym told.0) (refl, waits_later rest new caller h (m.events ++ h) told.1)
+stop_told see view (stop.Refused f) new caller h m next told = subst (λ t. IsCommandTold view (Err (stop.Refused f)) new caller h (then_told t m.events next)) (sym told.0) (refl, told.1)
+stop_told see view stop.NoMemory new caller h m next told = tt
 
-stop_halt : (X : Type 0) (e : Stop) (stores : Stores) (s : ℕ) → IsHalted {X = X} (Err e) stores s → IsHalt (Err e) stores s
-stop_halt X (stop.Waits rest) stores s halted = halted
-stop_halt X (stop.Refused f) stores s halted = halted
-stop_halt X stop.NoMemory stores s halted = tt
-
-pub stop_command : {X T : Type 0} (see : X → T) (e : Stop) (old new : Stores) (caller : Caller) (f : History → Made T) (next : T → History → Made (Unit {0})) → IsStep see (Err e) old new caller caller.cmd f → IsCommand (Err e) old new caller (follow f next)
-stop_command {X} see e old new caller f next first = record {
-  is = λ h stands at. stop_told see e new caller h (f h) (λ y. next y ((f h).events ++ h)) (first.is h stands at);
+pub stop_command : {X T Y U : Type 0} (see : X → T) (view : Y → U) (e : Stop) (old new : Stores) (caller : Caller) (f : History → Made T) (next : T → History → Made U) → IsStep see (Err e) old new caller caller.cmd f → IsCommand view (Err e) old new caller (follow f next)
+stop_command {X} {T} {Y} {U} see view e old new caller f next first = record {
+  is = λ h stands at. stop_told see view e new caller h (f h) (λ y. next y ((f h).events ++ h)) (first.is h stands at);
   keeps = first.keeps;
-  waits = stop_halt X e new caller.session first.waits;
+  waits = halted_same X Y e new caller.session first.waits;
 }
 
-pub no_memory_command : (old new : Stores) (caller : Caller) (f : History → Made (Unit {0})) → GoesOn old new caller.session → IsCommand (Err stop.NoMemory) old new caller f
-no_memory_command old new caller f keeps = record { is = λ h stands at. tt; keeps = keeps; waits = tt }
+pub no_memory_command : {X T : Type 0} (view : X → T) (old new : Stores) (caller : Caller) (f : History → Made T) → GoesOn old new caller.session → IsCommand view (Err stop.NoMemory) old new caller f
+no_memory_command view old new caller f keeps = record { is = λ h stands at. tt; keeps = keeps; waits = tt }

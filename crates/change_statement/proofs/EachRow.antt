@@ -128,7 +128,7 @@ IsRowRun change r old new caller g names t left n = IsRun (λ (m : ℕ). m) r ol
 
 -- what is left makes the whole
 pub record IsLeft (start mid : Stores) (caller : Caller) (g : Found) (change : Changing) (names : List (List ℕ)) (targets left : List TargetRow) (n changed : ℕ) : Type 0 where
-  pub on : (r : Result (Unit {0}) Stop) (new : Stores) → IsRun (λ (u : Unit {0}). u) r mid new caller (all_changed change names caller g left changed) → IsRun (λ (u : Unit {0}). u) r start new caller (all_changed change names caller g targets n)
+  pub on : (r : Result ℕ Stop) (new : Stores) → IsRun (λ (m : ℕ). m) r mid new caller (all_changed change names caller g left changed) → IsRun (λ (m : ℕ). m) r start new caller (all_changed change names caller g targets n)
   pub may : MayRun mid caller
   pub its : IsGathered mid caller g
   pub all : All (IsTargetIn mid.rows g) left
@@ -139,19 +139,19 @@ all_left start caller g change names targets n may its all = record { on = λ r 
 pub one_less : (start mid new : Stores) (caller : Caller) (g : Found) (change : Changing) (names : List (List ℕ)) (targets : List TargetRow) (t : TargetRow) (ts : List TargetRow) (n changed next : ℕ) → IsLeft start mid caller g change names targets (t ∷ ts) n changed
     → IsRun (λ (m : ℕ). m) (Ok next) mid new caller (one_changed change names caller g t (standing (t ∷ ts) changed)) → OnlyRows mid new → KeepsVersions mid.rows new.rows → IsLeft start new caller g change names targets ts n next
 one_less start mid new caller g change names targets t ts n changed next left run rest keeps = record {
-  on = λ r k more. left.on r k (then_run (λ (m : ℕ). m) (λ (u : Unit {0}). u) next r mid new k caller (one_changed change names caller g t (standing (t ∷ ts) changed)) (all_changed change names caller g ts) run more);
+  on = λ r k more. left.on r k (then_run (λ (m : ℕ). m) (λ (m : ℕ). m) next r mid new k caller (one_changed change names caller g t (standing (t ∷ ts) changed)) (all_changed change names caller g ts) run more);
   may = may_run_on (λ (m : ℕ). m) next mid new caller (one_changed change names caller g t (standing (t ∷ ts) changed)) left.may run;
   its = gathered_stays mid new caller g left.may rest left.its;
   all = targets_stay mid.rows new.rows g ts keeps (All-tail (IsTargetIn mid.rows g) t ts left.all);
 }
 
 pub stops_there : (start mid new : Stores) (caller : Caller) (g : Found) (change : Changing) (names : List (List ℕ)) (targets : List TargetRow) (t : TargetRow) (ts : List TargetRow) (n changed : ℕ) (e : Stop) → IsLeft start mid caller g change names targets (t ∷ ts) n changed
-    → IsRun (λ (m : ℕ). m) (Err e) mid new caller (one_changed change names caller g t (standing (t ∷ ts) changed)) → IsRun (λ (u : Unit {0}). u) (Err e) start new caller (all_changed change names caller g targets n)
+    → IsRun (λ (m : ℕ). m) (Err e) mid new caller (one_changed change names caller g t (standing (t ∷ ts) changed)) → IsRun (λ (m : ℕ). m) (Err e) start new caller (all_changed change names caller g targets n)
 stops_there start mid new caller g change names targets t ts n changed e left run =
-    left.on (Err e) new (stop_run (λ (m : ℕ). m) (λ (u : Unit {0}). u) e mid new caller (one_changed change names caller g t (standing (t ∷ ts) changed)) (all_changed change names caller g ts) run)
+    left.on (Err e) new (stop_run (λ (m : ℕ). m) (λ (m : ℕ). m) e mid new caller (one_changed change names caller g t (standing (t ∷ ts) changed)) (all_changed change names caller g ts) run)
 
-pub none_left : (start mid : Stores) (caller : Caller) (g : Found) (change : Changing) (names : List (List ℕ)) (targets : List TargetRow) (n changed : ℕ) → IsLeft start mid caller g change names targets [] n changed → IsRun (λ (u : Unit {0}). u) (Ok tt) start mid caller (all_changed change names caller g targets n)
-none_left start mid caller g change names targets n changed left = left.on (Ok tt) mid (nothing_run (λ (u : Unit {0}). u) tt mid caller (λ h. made [] tt) left.may (λ h stands. refl))
+pub none_left : (start mid : Stores) (caller : Caller) (g : Found) (change : Changing) (names : List (List ℕ)) (targets : List TargetRow) (n changed : ℕ) → IsLeft start mid caller g change names targets [] n changed → IsRun (λ (m : ℕ). m) (Ok changed) start mid caller (all_changed change names caller g targets n)
+none_left start mid caller g change names targets n changed left = left.on (Ok changed) mid (nothing_run (λ (m : ℕ). m) changed mid caller (λ h. made [] changed) left.may (λ h stands. refl))
 
 pub no_length : (xs : List TargetRow) → length xs ≡ 0 → xs ≡ []
 no_length [] e = refl
@@ -159,9 +159,9 @@ no_length (x ∷ xs) e = absurd (omega (arith, e))
 
 -- ---- all that are left
 
-pub from_there : (change : Changing) (names : List (List ℕ)) (r : Result (Unit {0}) Stop) (old new : Stores) (caller : Caller) (g : Found) (rest : Option Rest) (ts : List TargetRow) (n : ℕ)
+pub from_there : (change : Changing) (names : List (List ℕ)) (r : Result ℕ Stop) (old new : Stores) (caller : Caller) (g : Found) (rest : Option Rest) (ts : List TargetRow) (n : ℕ)
     → ((h : History) → Stands old h → ts ≡ left_of rest (targets h (look_of h caller.session caller.cmd) g.asked.condition g.leaves)) → n ≡ changed_before rest
-    → IsRun (λ (u : Unit {0}). u) r old new caller (all_changed change names caller g ts n) → IsRun (λ (u : Unit {0}). u) r old new caller (changed_from change names caller rest g)
+    → IsRun (λ (m : ℕ). m) r old new caller (all_changed change names caller g ts n) → IsRun (λ (m : ℕ). m) r old new caller (changed_from change names caller rest g)
 from_there change names r old new caller g rest ts n are count run =
-    same_run (λ (u : Unit {0}). u) r old new caller (changed_from change names caller rest g) (all_changed change names caller g ts n)
+    same_run (λ (m : ℕ). m) r old new caller (changed_from change names caller rest g) (all_changed change names caller g ts n)
     (λ h stands. ap (λ xs. all_changed change names caller g xs (changed_before rest) h) (sym (are h stands)) ∙ ap (λ m. all_changed change names caller g ts m h) (sym count)) run

@@ -19,6 +19,7 @@ use Rattle.change_statement.specs.declared.verdicts.Conflict.{Conflict}
 use Rattle.sessions.specs.declared.phase.Isolation.{Isolation}
 use Rattle.sessions.specs.declared.phase.Isolation.TheVariants.{ReadCommitted, ReadUncommitted, RepeatableRead}
 use Rattle.stores.specs.Events.{tx_in, look_of, held}
+use Rattle.statement_steps.specs.Ended.{giving}
 use Rattle.statement_steps.specs.Made.{Made, Refused, made, halted}
 use Rattle.statement_steps.specs.declared.caller.Caller.{Caller}
 use Rattle.statement_steps.specs.declared.rest.Rest.{Rest}
@@ -30,6 +31,7 @@ use Rattle.statement_steps.specs.Steps.{follow}
 use Rattle.insert_statement.specs.Inserted.{tables_of, holder}
 use Rattle.change_statement.specs.Gathered.{Found}
 use Rattle.change_statement.specs.Running.{following}
+use Rattle.change_statement.specs.declared.changed_rows.ChangedRows.{ChangedRows}
 use Rattle.change_statement.specs.Standing.{left_of, changed_before, standing}
 
 -- what is made of a version that is changed, of a row with that leaf
@@ -85,15 +87,33 @@ one_changed change names c g t rest h = by_decision change names c g t.leaf rest
 
 -- ---- row after row: one is finished before the next
 
-abbrev pub all_changed : Changing → List (List ℕ) → Caller → Found → List TargetRow → (changed : ℕ) → History → Made (Unit {0})
-all_changed change names c g [] n h = made [] tt
+-- it is told how many rows are changed, with those before
+abbrev pub all_changed : Changing → List (List ℕ) → Caller → Found → List TargetRow → (changed : ℕ) → History → Made ℕ
+all_changed change names c g [] n h = made [] n
 all_changed change names c g (t ∷ ts) n h = follow (one_changed change names c g t (standing (t ∷ ts) n)) (all_changed change names c g ts) h
 
 -- the rows of these leaves that the snapshot sees and that pass, or those of them that are left
-abbrev pub changed_in : List LeafId → Changing → List (List ℕ) → Caller → Option Rest → Found → History → Made (Unit {0})
+abbrev pub changed_in : List LeafId → Changing → List (List ℕ) → Caller → Option Rest → Found → History → Made ℕ
 changed_in ls change names c rest g h =
     all_changed change names c g (left_of rest (targets h (look_of h c.session c.cmd) g.asked.condition ls)) (changed_before rest) h
 
 -- of the leaves that are read
-abbrev pub changed_from : Changing → List (List ℕ) → Caller → Option Rest → Found → History → Made (Unit {0})
+abbrev pub changed_from : Changing → List (List ℕ) → Caller → Option Rest → Found → History → Made ℕ
 changed_from change names c rest g h = changed_in g.leaves change names c rest g h
+
+-- ---- what is told
+
+-- how many rows are changed, and the leaves that were read, in order
+pub record Told : Type 0 where
+  pub rows : ℕ
+  pub reads : List LeafId
+
+abbrev pub told_by : ChangedRows → Told
+told_by r = record { rows = r.count; reads = r.reads.items }
+
+-- each leaf is read once; so it is again where the statement has waited and goes on
+abbrev pub told_of : Found → ℕ → Told
+told_of g n = record { rows = n; reads = g.leaves }
+
+abbrev pub changed : Changing → List (List ℕ) → Caller → Option Rest → Found → History → Made Told
+changed change names c rest g h = giving (told_of g) (changed_from change names c rest g h)

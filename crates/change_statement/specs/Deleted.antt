@@ -15,7 +15,7 @@ use Rattle.statement_steps.specs.Asks.{held_at}
 use Rattle.statement_steps.specs.Steps.{follow}
 use Rattle.insert_statement.specs.Inserted.{own}
 use Rattle.change_statement.specs.Gathered.{found}
-use Rattle.change_statement.specs.Changed.{Changing, changed_from}
+use Rattle.change_statement.specs.Changed.{Changing, Told, changed}
 
 -- the version ends, by the session's transaction
 abbrev pub ended : Caller → Ending → RowId → History → Made (Unit {0})
@@ -26,7 +26,7 @@ deleting c leaf id row = ended c Deleted id
 
 -- DELETE FROM table [ WHERE condition ], from its beginning, or from where it stood; a transaction at REPEATABLE READ takes its
 -- snapshot before anything waits
-abbrev pub deleted : (prunes : Bool) → (names : List (List ℕ)) → List Param → Caller → Option Rest → NamedTable → (condition : Option Tree) → History → Made (Unit {0})
+abbrev pub deleted : (prunes : Bool) → (names : List (List ℕ)) → List Param → Caller → Option Rest → NamedTable → (condition : Option Tree) → History → Made Told
 deleted prunes names params c rest table condition =
     follow (held_at c.level c.session c.cmd) (λ u.
-    follow (found prunes names params c rest table [] condition) (changed_from (deleting c) names c rest))
+    follow (found prunes names params c rest table [] condition) (changed (deleting c) names c rest))

@@ -24,7 +24,7 @@ use Rattle.statement_steps.specs.Steps.{follow}
 use Rattle.insert_statement.specs.Born.{unless_refused}
 use Rattle.insert_statement.specs.Inserted.{answered, tables_of, own, holder_faults}
 use Rattle.change_statement.specs.Gathered.{Found, found}
-use Rattle.change_statement.specs.Changed.{Changing, changed_from}
+use Rattle.change_statement.specs.Changed.{Changing, Told, changed}
 
 -- ---- the new row
 
@@ -61,7 +61,7 @@ abbrev pub updating : Caller → Found → Changing
 updating c g old id row = follow (renewed g row) (stored c g old id)
 
 -- UPDATE table SET settings [ WHERE condition ], from its beginning, or from where it stood
-abbrev pub updated : (prunes : Bool) → (names : List (List ℕ)) → List Param → Caller → Option Rest → NamedTable → List Setting → (condition : Option Tree) → History → Made (Unit {0})
+abbrev pub updated : (prunes : Bool) → (names : List (List ℕ)) → List Param → Caller → Option Rest → NamedTable → List Setting → (condition : Option Tree) → History → Made Told
 updated prunes names params c rest table settings condition =
     follow (held_at c.level c.session c.cmd) (λ u.
-    follow (found prunes names params c rest table settings condition) (λ g. changed_from (updating c g) names c rest g))
+    follow (found prunes names params c rest table settings condition) (λ g. changed (updating c g) names c rest g))

@@ -24,7 +24,7 @@ use crate::gathering::Gathered;
 use crate::standing::{changed_before, left_of};
 use crate::updating::{renew, store};
 use crate::waiting::pause;
-use crate::{TargetRow, Updater, Verdict, decide, find_targets};
+use crate::{ChangedRows, TargetRow, Updater, Verdict, decide, find_targets};
 use pg_values::{Fault, NoMemory};
 use sessions::Isolation;
 use statement_steps::{Caller, Rest, SessionNames, Stop};
@@ -130,11 +130,11 @@ fn change_rows(
     change: Change<'_>,
     targets: &[TargetRow],
     changed: u64,
-) -> Result<(), Stop>
+) -> Result<u64, Stop>
     requires may { MayRun stores.old caller }
     requires gathered { IsGathered stores.old caller (found_of gathered.now) }
     requires targets { All (IsTargetIn stores.old.rows (found_of gathered.now)) targets.now }
-    ensures { IsRun (λ u. u) result stores.old stores.new caller (changed_spec.all_changed (changing change.entry caller (found_of gathered.now)) names.now caller (found_of gathered.now) targets.now changed) }
+    ensures { IsRun (λ n. n) result stores.old stores.new caller (changed_spec.all_changed (changing change.entry caller (found_of gathered.now)) names.now caller (found_of gathered.now) targets.now changed) }
 {
     let mut left = targets;
     let mut changed = changed;
@@ -149,7 +149,7 @@ fn change_rows(
             Err(stop) => return Err(stop),
         }
     }
-    Ok(())
+    Ok(changed)
 }
 
 // The rows of the leaves that are read which the command sees and which pass.
@@ -197,19 +197,25 @@ pub(crate) fn change_found(
     names: &SessionNames,
     caller: Caller,
     rest: Option<Rest>,
-    gathered: &Gathered,
+    gathered: Gathered,
     change: Change<'_>,
-) -> Result<(), Stop>
+) -> Result<ChangedRows, Stop>
     requires may { MayAttempt stores.old caller }
-    requires gathered { IsGathered stores.old caller (found_of gathered.now) }
-    ensures { IsCommand result stores.old stores.new caller (changed_spec.changed_from (changing change.entry caller (found_of gathered.now)) names.now caller rest (found_of gathered.now)) }
+    requires gathered { IsGathered stores.old caller (found_of gathered) }
+    ensures { IsCommand changed_spec.told_by result stores.old stores.new caller (changed_spec.changed (changing change.entry caller (found_of gathered)) names.now caller rest (found_of gathered)) }
 {
-    match find_left(alloc, stores, caller, &rest, gathered) {
+    match find_left(alloc, stores, caller, &rest, &gathered) {
         Ok(targets) => {
-            let changed = changed_before(&rest);
-            change_rows(
-                alloc, stores, names, caller, gathered, change, &targets, changed,
-            )
+            let before = changed_before(&rest);
+            match change_rows(
+                alloc, stores, names, caller, &gathered, change, &targets, before,
+            ) {
+                Ok(count) => Ok(ChangedRows {
+                    count,
+                    reads: gathered.leaves,
+                }),
+                Err(stop) => Err(stop),
+            }
         }
         Err(NoMemory) => Err(Stop::NoMemory),
     }

@@ -2,13 +2,14 @@ ghost use Rattle.std.specs.Prelude.{◌≡◌, ◌≤◌, length, map};
 ghost use Rattle.sql_ast.specs.Queries.{maybe_tree, setting};
 ghost use Rattle.statement_steps.specs.Attempts.{MayAttempt, MayGoOn};
 ghost use Rattle.statement_steps.specs.Steps.{follow};
-ghost use Rattle.change_statement.specs.Changed.{changed_from};
+ghost use Rattle.change_statement.specs.Changed.{changed, told_by};
 ghost use Rattle.change_statement.specs.Changing.{changing};
 ghost use Rattle.change_statement.specs.Deleted.{deleted};
 ghost use Rattle.change_statement.specs.Gathered as gathered_spec;
 ghost use Rattle.change_statement.specs.Running.{IsCommand};
 ghost use Rattle.change_statement.specs.Updated.{updated};
 
+use crate::ChangedRows;
 use crate::asking::Change;
 use crate::gathering::gather;
 use crate::rows::change_found;
@@ -28,15 +29,15 @@ fn change_from(
     prunes: bool,
     rest: Option<Rest>,
     change: Change<'_>,
-) -> Result<(), Stop>
+) -> Result<ChangedRows, Stop>
     requires may { MayAttempt stores.old caller }
     requires rest { MayGoOn stores.old rest }
     requires few { length stores.old.catalog.tables ≤ 4096 }
-    ensures { IsCommand result stores.old stores.new caller
-        (follow (gathered_spec.found prunes names.now params.now caller rest (gathered_spec.table_named change.entry) (gathered_spec.settings_of change.entry) (gathered_spec.condition_of change.entry)) (λ g. changed_from (changing change.entry caller g) names.now caller rest g)) }
+    ensures { IsCommand told_by result stores.old stores.new caller
+        (follow (gathered_spec.found prunes names.now params.now caller rest (gathered_spec.table_named change.entry) (gathered_spec.settings_of change.entry) (gathered_spec.condition_of change.entry)) (λ g. changed (changing change.entry caller g) names.now caller rest g)) }
 {
     match gather(alloc, stores, names, params, caller, prunes, change) {
-        Ok(gathered) => change_found(alloc, stores, names, caller, rest, &gathered, change),
+        Ok(gathered) => change_found(alloc, stores, names, caller, rest, gathered, change),
         Err(stop) => Err(stopped_on(stop, rest)),
     }
 }
@@ -46,7 +47,7 @@ fn change_from(
 /// it are locked in ROW EXCLUSIVE mode. The rows that the snapshot sees and that pass are taken one after the
 /// other: one that a transaction which is still open has changed is waited for (40P01); one that was changed
 /// since is tested again at READ COMMITTED, and refused at REPEATABLE READ (40001), as is one that was moved
-/// to another leaf at both; else its version ends.
+/// to another leaf at both; else its version ends. It tells how many rows it has changed, and what it has read.
 pub fn delete(
     alloc: Global,
     stores: &mut Stores,
@@ -56,11 +57,11 @@ pub fn delete(
     prunes: bool,
     rest: Option<Rest>,
     statement: &Delete,
-) -> Result<(), Stop>
+) -> Result<ChangedRows, Stop>
     requires may { MayAttempt stores.old caller }
     requires rest { MayGoOn stores.old rest }
     requires few { length stores.old.catalog.tables ≤ 4096 }
-    ensures { IsCommand result stores.old stores.new caller (deleted prunes names.now params.now caller rest statement.now.table (maybe_tree statement.now.condition)) }
+    ensures { IsCommand told_by result stores.old stores.new caller (deleted prunes names.now params.now caller rest statement.now.table (maybe_tree statement.now.condition)) }
 {
     match hold_if_repeatable(alloc, stores, caller) {
         Ok(()) => {
@@ -84,11 +85,11 @@ pub fn update(
     prunes: bool,
     rest: Option<Rest>,
     statement: &Update,
-) -> Result<(), Stop>
+) -> Result<ChangedRows, Stop>
     requires may { MayAttempt stores.old caller }
     requires rest { MayGoOn stores.old rest }
     requires few { length stores.old.catalog.tables ≤ 4096 }
-    ensures { IsCommand result stores.old stores.new caller (updated prunes names.now params.now caller rest statement.now.table (map setting statement.now.assignments) (maybe_tree statement.now.condition)) }
+    ensures { IsCommand told_by result stores.old stores.new caller (updated prunes names.now params.now caller rest statement.now.table (map setting statement.now.assignments) (maybe_tree statement.now.condition)) }
 {
     match hold_if_repeatable(alloc, stores, caller) {
         Ok(()) => {

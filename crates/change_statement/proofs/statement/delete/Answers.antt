@@ -5,7 +5,7 @@ use Rattle.statement_steps.specs.Attempts.{MayGoOn}
 use Rattle.statement_steps.specs.Asks.{held_at}
 use Rattle.statement_steps.specs.Steps.{follow}
 use Rattle.statement_steps.proofs.Steps.{may_go_on}
-use Rattle.change_statement.specs.Changed.{changed_from}
+use Rattle.change_statement.specs.Changed.{changed, told_by}
 use Rattle.change_statement.specs.Deleted.{deleting}
 use Rattle.change_statement.specs.Gathered.{found}
 use Rattle.change_statement.proofs.Commands.{then_command, stop_command}
@@ -23,14 +23,14 @@ change_from-requires-clause-few c = subst (λ (s : Stores). length s.catalog.tab
 
 pub returns-in-Ok : goal.returns-in-Ok
 returns-in-Ok c =
-    then_command (λ (u : Unit {0}). u) tt c.change_from.result c.args.stores.now c.hold_if_repeatable.new.stores c.change_from.new.stores c.args.caller
+    then_command (λ (u : Unit {0}). u) told_by tt c.change_from.result c.args.stores.now c.hold_if_repeatable.new.stores c.change_from.new.stores c.args.caller
     (held_at c.args.caller.level c.args.caller.session c.args.caller.cmd)
-    (λ u. follow (found c.args.prunes c.args.names.now c.args.params.now c.args.caller c.args.rest c.args.statement.now.table [] (maybe_tree c.args.statement.now.condition)) (changed_from (deleting c.args.caller) c.args.names.now c.args.caller c.args.rest))
+    (λ u. follow (found c.args.prunes c.args.names.now c.args.params.now c.args.caller c.args.rest c.args.statement.now.table [] (maybe_tree c.args.statement.now.condition)) (changed (deleting c.args.caller) c.args.names.now c.args.caller c.args.rest))
     c.in-Ok.ensures.step c.change_from.ensures
 
 pub returns-in-Err : goal.returns-in-Err
 returns-in-Err c =
-    stop_command (λ (u : Unit {0}). u) c.in-Err.stop c.args.stores.now c.hold_if_repeatable.new.stores c.args.caller
+    stop_command (λ (u : Unit {0}). u) told_by c.in-Err.stop c.args.stores.now c.hold_if_repeatable.new.stores c.args.caller
     (held_at c.args.caller.level c.args.caller.session c.args.caller.cmd)
-    (λ u. follow (found c.args.prunes c.args.names.now c.args.params.now c.args.caller c.args.rest c.args.statement.now.table [] (maybe_tree c.args.statement.now.condition)) (changed_from (deleting c.args.caller) c.args.names.now c.args.caller c.args.rest))
+    (λ u. follow (found c.args.prunes c.args.names.now c.args.params.now c.args.caller c.args.rest c.args.statement.now.table [] (maybe_tree c.args.statement.now.condition)) (changed (deleting c.args.caller) c.args.names.now c.args.caller c.args.rest))
     c.in-Err.ensures.step
