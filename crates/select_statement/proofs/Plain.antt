@@ -39,7 +39,7 @@ use Rattle.select_statement.specs.Below.{number_of}
 use Rattle.select_statement.specs.Explained.{OneTableReadsItsScans}
 use Rattle.select_statement.specs.Items.{items_of}
 use Rattle.select_statement.specs.Moments.{rows_for}
-use Rattle.select_statement.specs.Selected.{told_of, with_reads, outcome, answered, by_plan, locked_below, trees_for}
+use Rattle.select_statement.specs.Selected.{told_of as course_told, with_reads, outcome, answered, by_plan, locked_below, trees_for}
 use Rattle.select_statement.specs.Plain.{answer_in, answered_plainly, locked_plainly}
 use Rattle.select_statement.proofs.Giving.{answer_alone, giving_then}
 use Rattle.select_statement.specs.Laws.{LeavesAreFew, OneTableIsPlain, TablesArePlain, Looks}
@@ -116,7 +116,7 @@ few_made (CatalogueChange (CheckKept c) ∷ h) good = few_made h good.1
 
 -- ---- the answer
 
-plain_answer : (sessions : ℕ) (m : SelectMeant) (rows : Rows) (plan : Planned) → giving answer_in (outcome (told_of m (select_course sessions [] m rows plan []))) ≡ outcome (answer_of m (select_course sessions [] m rows plan []))
+plain_answer : (sessions : ℕ) (m : SelectMeant) (rows : Rows) (plan : Planned) → giving answer_in (outcome (course_told m (select_course sessions [] m rows plan []))) ≡ outcome (answer_of m (select_course sessions [] m rows plan []))
 plain_answer sessions m rows plan = let w = select_course sessions [] m rows plan [] in answer_alone (reads_of w) (answer_of m w)
 
 pub tables_plain : GoodIsLegal → PrunedIsPlain → TablesArePlain
@@ -198,7 +198,7 @@ by_plan_plain prunes names c m trees h same =
     ap (λ (es : History). shown (es ++ h) (look_of (es ++ h) c.session c.cmd)) its.1 ∙ locks_show h c.session c.cmd its.0 in
     giving_then answer_in locks (λ u. answered c m plan (locks.events ++ h))
     ∙ same_then locks (λ u. giving answer_in (answered c m plan (locks.events ++ h))) (λ u. answered_plainly c m trees (locks.events ++ h)) (λ u.
-    ap (λ (r : Rows). giving answer_in (outcome (told_of m (select_course (c.sessions - 1) [] m r plan [])))) rows ∙ same
+    ap (λ (r : Rows). giving answer_in (outcome (course_told m (select_course (c.sessions - 1) [] m r plan [])))) rows ∙ same
     ∙ sym (ap (λ (r : Rows). outcome (plainly (c.sessions - 1) m r trees)) rows))
 
 pub one_table_plain : GoodIsLegal → LeavesAreFew → OneItemIsReadOnce → PrunedIsPlain → OneTableIsPlain
