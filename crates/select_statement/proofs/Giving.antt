@@ -4,7 +4,6 @@ use Rattle.pg_values.specs.declared.answer.Answer.{Answer}
 use Rattle.pg_values.specs.declared.fault.Fault.{Fault}
 use Rattle.pg_values.specs.declared.ids.LeafId.{LeafId}
 use Rattle.std.specs.Prelude.{List}
-use Rattle.history.specs.History.{History}
 use Rattle.statement_steps.specs.Ended.{giving}
 use Rattle.statement_steps.specs.Made.{Made, Halt, and_then, then_told}
 use Rattle.select_statement.specs.Plain.{answer_in}

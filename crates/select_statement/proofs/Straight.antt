@@ -5,19 +5,19 @@ use Rattle.table_trees.specs.Trees.{TableTree}
 use Rattle.sql_ast.specs.Queries.{Joined, SelectTree}
 use Rattle.sql_binder.specs.Selects.{from_of}
 use Rattle.cond_logic.specs.Asked.{SelectMeant}
-use Rattle.plan_tree.specs.Plans.{Planned, plan_for, plan_tables}
+use Rattle.plan_tree.specs.Plans.{plan_for, plan_tables}
 use Rattle.stores.specs.Stand.{Stands}
 use Rattle.stores.specs.declared.stores.Stores.{Stores}
-use Rattle.statement_steps.specs.Made.{Made, Halt, made, halted, behind, then_told, and_then}
+use Rattle.statement_steps.specs.Made.{Made, Halt, made, behind, then_told, and_then}
 use Rattle.statement_steps.specs.declared.caller.Caller.{Caller}
 use Rattle.statement_steps.specs.declared.stop.Stop.{Stop}
 use Rattle.statement_steps.specs.Steps.{IsStep, follow}
 use Rattle.statement_steps.proofs.Steps.{then_step, stop_step}
-use Rattle.select_statement.specs.Explained.{run, SelectsRunTheirPlan}
-use Rattle.select_statement.specs.Gathered.{Found, found_over, found_in, gathered, plan_of, planned_under}
+use Rattle.select_statement.specs.Explained.{SelectsRunTheirPlan}
+use Rattle.select_statement.specs.Gathered.{Found, found_over, found_in, gathered, planned_under}
 use Rattle.select_statement.specs.Items.{items_of}
 use Rattle.select_statement.specs.declared.answered.Answered.{Answered}
-use Rattle.select_statement.specs.Selected.{Told, meant, answered, locked_below, by_plan, of_trees, of_tables, trees_for, named_from, begins, of_named, of_items, selected}
+use Rattle.select_statement.specs.Selected.{Told, meant, answered, locked_below, by_plan, of_trees, of_tables, trees_for, named_from, begins, of_named, of_items}
 use Rattle.select_statement.proofs.Steps.{same_step}
 
 -- ---- exits
