@@ -26,6 +26,6 @@ pub returns-in-Ok : goal.returns-in-Ok
 returns-in-Ok c =
     let g = found_of c.args.gathered in
     let change = changing c.args.change c.args.caller g in
-    stopped_is_command ChangedRows told_by (told_of g) c.in-Ok-Err.stop c.args.stores.now c.change_rows.new.stores c.args.caller (changed_from change c.args.names.now c.args.caller c.args.rest g)
-    (from_there change c.args.names.now (Err c.in-Ok-Err.stop) c.args.stores.now c.change_rows.new.stores c.args.caller g c.args.rest c.deref.result.now c.changed_before-before.result
-    (λ h stands. c.deref.ensures.value ∙ c.in-Ok.ensures.are h stands) c.changed_before-before.ensures c.in-Ok-Err.ensures)
+    stopped_is_command ChangedRows told_by (told_of g) c.in-Err-change_rows.stop c.args.stores.now c.change_rows.new.stores c.args.caller (changed_from change c.args.names.now c.args.caller c.args.rest g)
+    (from_there change c.args.names.now (Err c.in-Err-change_rows.stop) c.args.stores.now c.change_rows.new.stores c.args.caller g c.args.rest c.deref.result.now c.changed_before-before.result
+    (λ h stands. c.deref.ensures.value ∙ c.in-Ok.ensures.are h stands) c.changed_before-before.ensures c.in-Err-change_rows.ensures)
