@@ -5,8 +5,8 @@ use Rattle.statement_runs.specs.Trails.{leaf_name, name_below}
 use Rattle.statement_runs.proofs.trails.leaf_name.Given as goal
 
 -- none of the tables from there on has the leaf
-abbrev pub invariant-loop : goal.invariant-loop
-invariant-loop l = ((h : History) → CatalogueStands l.catalog h → name_below h l.leaf l.below ≡ leaf_name h l.leaf) × (l.below ≤ length l.catalog.tables)
+abbrev pub invariant-loop-below : goal.invariant-loop-below
+invariant-loop-below l = ((h : History) → CatalogueStands l.catalog h → name_below h l.leaf l.below ≡ leaf_name h l.leaf) × (l.below ≤ length l.catalog.tables)
 
-abbrev pub decreases-loop : goal.decreases-loop
-decreases-loop l = l.below
+abbrev pub decreases-loop-below : goal.decreases-loop-below
+decreases-loop-below l = l.below
