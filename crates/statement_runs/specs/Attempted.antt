@@ -74,8 +74,8 @@ abbrev pub answer_text : (trailed : Bool) → History → SelectTold → List �
 answer_text trailed h t = table t.answer ++ trail_text trailed (codes "SELECT") (length t.answer.rows) t.reads h
 
 -- INSERT reads no leaf
-abbrev pub inserted_text : (trailed : Bool) → (rows : ℕ) → History → Unit {0} → List ℕ
-inserted_text trailed rows h u = trail_text trailed (codes "INSERT") rows [] h
+abbrev pub inserted_text : (trailed : Bool) → (count : ℕ) → History → Unit {0} → List ℕ
+inserted_text trailed count h u = trail_text trailed (codes "INSERT") count [] h
 
 abbrev pub changed_text : (trailed : Bool) → (word : List ℕ) → History → ChangeTold → List ℕ
 changed_text trailed word h t = trail_text trailed word t.rows t.reads h
