@@ -9,11 +9,11 @@ use Rattle.step_engine.proofs.opening.OpensStoresOpener.open.Goals as goal
 pub returns-clause-opens : goal.returns-clause-opens
 returns-clause-opens c =
     let trail = c.args.trail in
-    let told : Options = record { names = c.in_ok-names.names; trail = trail } in
+    let told : List (List ℕ) → Options = λ names. record { names = names; trail = trail } in
     let count = c.len.result + 1 in
     let script = c.args.script.now in
     let all = length script.sessions + 1 in
     let more : count ≡ all = ap (λ (k : ℕ). k + 1) c.len.ensures in
-    opened_so _ c.new-2.result c.in_ok-executor.executor (empty told count) (empty (options trail script) all) (length c.in_ok-executor.executor.seats.opened) all c.new-2.ensures.stands c.in_ok-executor.ensures.stands
-    (ap (λ (x : List (List ℕ)). empty (record { names = x; trail = trail }) count) c.in_ok-names.ensures ∙ ap (empty (options trail script)) more)
+    opened_so _ c.new-2.result c.in_ok-executor.executor (empty (told c.in_ok-names.names) count) (empty (options trail script) all) (length c.in_ok-executor.executor.seats.opened) all c.new-2.ensures.stands c.in_ok-executor.ensures.stands
+    (ap (λ (names : List (List ℕ)). empty (told names) count) c.in_ok-names.ensures ∙ ap (empty (options trail script)) more)
     (ap length c.in_ok-executor.ensures.opened ∙ (length-replicate count _ ∙ more))
