@@ -1,4 +1,4 @@
-ghost use Rattle.std.specs.Prelude.{◌≡◌, ◌≤◌, ◌++◌, [], OnOk, codes, false, length, map};
+ghost use Rattle.std.specs.Prelude.{◌≡◌, ◌≤◌, ◌&&◌, ◌++◌, [], OnOk, codes, false, length, map};
 ghost use Rattle.history.specs.History.{History};
 ghost use Rattle.part_catalog.specs.Stands.{CatalogueStands};
 ghost use Rattle.sql_ast.specs.Commands.{command_tree};
@@ -114,6 +114,13 @@ fn is_step(kind: Kind) -> bool
         Kind::Step => true,
         Kind::Setup | Kind::Teardown | Kind::ControlTeardown => false,
     }
+}
+
+// The trail of a statement of a step is printed where the run is asked for it.
+fn is_trailed(trail: bool, caller: Caller) -> bool
+    ensures { result ≡ (trail && attempted.is_step caller.kind) }
+{
+    trail && is_step(caller.kind)
 }
 
 // The answer is printed as a table, and the trail behind it.
@@ -387,7 +394,7 @@ pub(crate) fn attempt(
         }
         Statement::Query(query) => {
             let prunes = settings.enable_partition_pruning;
-            let trailed = trail && is_step(caller.kind);
+            let trailed = is_trailed(trail, caller);
             let done = attempt_query(
                 alloc, stores, names, caller, prunes, trailed, rest, query, out,
             );

@@ -16,4 +16,4 @@ returns-in-Query c =
     let o = record { names = c.args.names.now; trail = c.args.trail } in
     let asked = query_attempted (c.args.trail && is_step c.args.caller.kind) c.args.settings.enable_partition_pruning c.args.names.now c.args.caller c.args.rest (query_tree q) in
     subst (λ (x : Statement). IsStatement c.ended.result c.args.stores.now last c.args.out.now.items out c.args.caller (attempted o c.args.caller c.args.rest c.args.settings (statement_tree x))) (sym c.in-Query.is)
-    (subst (λ (r : Result Ending Stop). IsStatement r c.args.stores.now last c.args.out.now.items out c.args.caller asked) (sym c.ended.ensures) (rw c.is_step.ensures at c.attempt_query-done.ensures))
+    (subst (λ (r : Result Ending Stop). IsStatement r c.args.stores.now last c.args.out.now.items out c.args.caller asked) (sym c.ended.ensures) (rw c.is_trailed.ensures at c.attempt_query-done.ensures))

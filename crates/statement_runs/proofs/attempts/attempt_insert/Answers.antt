@@ -1,4 +1,4 @@
-use Rattle.std.proofs.Common.{◌≡◌, ◌++◌, ◌∙◌, [], ap, codes, length, map}
+use Rattle.std.proofs.Common.{◌≡◌, ◌++◌, ◌∙◌, ℕ, [], ap, codes, length, map, sym}
 use Rattle.std.proofs.lemmas.List.{length-map}
 use Rattle.sql_ast.specs.Expressions.{trees}
 use Rattle.insert_statement.specs.Inserted.{inserted}
@@ -10,10 +10,11 @@ use Rattle.statement_runs.proofs.attempts.attempt_insert.Goals as goal
 pub returns-in-Ok-write_trail : goal.returns-in-Ok-write_trail
 returns-in-Ok-write_trail c =
     let s = c.args.statement.now in
+    let count : length c.as_slice.result.now ≡ length (map trees s.rows) = ap length c.as_slice.ensures ∙ sym (length-map s.rows trees) in
     printed_is (λ (u : Unit {0}). u) (inserted_text c.args.trailed (length (map trees s.rows))) tt c.args.stores.now c.insert.new.stores c.args.caller (inserted c.args.names.now [] c.args.caller s.table s.columns (map trees s.rows)) c.args.out.now.items c.write_trail.new.out.items
-    (λ h stands. c.in-Ok-write_trail.ensures h stands) c.in-Ok.ensures
+    (λ h stands. c.in-Ok-write_trail.ensures h stands ∙ ap (λ (n : ℕ). c.args.out.now.items ++ trail_text c.args.trailed (codes "INSERT") n [] h) count) c.in-Ok.ensures
 
-pub returns : goal.returns
-returns c =
+pub returns-in-Err : goal.returns-in-Err
+returns-in-Err c =
     let s = c.args.statement.now in
     printed_stops (λ (u : Unit {0}). u) (inserted_text c.args.trailed (length (map trees s.rows))) c.in-Err.stop c.args.stores.now c.insert.new.stores c.args.caller (inserted c.args.names.now [] c.args.caller s.table s.columns (map trees s.rows)) c.args.out.now.items c.in-Err.ensures
