@@ -1,4 +1,5 @@
 pub mod Few
+pub mod Giving
 mod Kept
 mod Known
 pub mod Moments

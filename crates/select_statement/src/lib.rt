@@ -20,6 +20,7 @@
 //! plan. Of several tables the same holds, but for the refusal of too many scans.
 #![tactic(auto)]
 
+mod answered;
 mod below;
 mod cancels;
 mod explaining;
@@ -31,6 +32,7 @@ mod parts;
 mod statement;
 mod tables;
 
+pub use answered::Answered;
 pub use below::tables_below;
 pub use cancels::cancelled;
 pub use explaining::{explain, one_table_reads_its_scans, selects_run_their_plan};

@@ -8,9 +8,10 @@ ghost use Rattle.select_statement.specs.Halts as halts;
 ghost use Rattle.select_statement.specs.Lent.{IsLookFor, MayLock};
 ghost use Rattle.select_statement.specs.Selected as selected;
 
+use crate::Answered;
 use cond_logic::SelectAsk;
 use expression_binder::ScopeItem;
-use pg_values::{Answer, LockMode, NoMemory, Refusal, TableNo};
+use pg_values::{LockMode, NoMemory, Refusal, TableNo};
 use plan_tree::Plan;
 use row_store::Trail;
 use select_answer::run_select;
@@ -71,19 +72,20 @@ fn run(
     ask: &SelectAsk,
     plan: &Plan<'_>,
     snap: &Snapshot,
-    trail: &mut Trail,
-) -> Result<Answer, Stop>
+    trail: Trail,
+) -> Result<Answered, Stop>
     requires may { MayAttempt stores.now caller }
     requires reads { All (CanRead stores.now.rows.leaves) (planned plan.now).items }
     requires look { IsLookFor stores.now caller snap.now }
-    requires fresh { trail.old.leaves ≡ [] }
-    ensures { IsStep (λ a. a) result stores.now stores.now caller (caller.cmd + 1) (selected.answered caller (select_meant ask.now) (planned plan.now)) }
+    requires fresh { trail.leaves ≡ [] }
+    ensures { IsStep selected.told_by result stores.now stores.now caller (caller.cmd + 1) (selected.answered caller (select_meant ask.now) (planned plan.now)) }
 {
     let sessions = caller.sessions - 1;
     let rows = &stores.rows;
     let txs = &stores.txs;
-    match run_select(alloc, ask, &[], sessions, plan, rows, txs, snap, trail) {
-        Ok(answer) => Ok(answer),
+    let mut trail = trail;
+    match run_select(alloc, ask, &[], sessions, plan, rows, txs, snap, &mut trail) {
+        Ok(answer) => Ok(Answered { answer, trail }),
         Err(refusal) => Err(stop_of(refusal)),
     }
 }
@@ -96,14 +98,14 @@ pub(crate) fn answer(
     ask: &SelectAsk,
     plan: &Plan<'_>,
     snap: &Snapshot,
-) -> Result<Answer, Stop>
+) -> Result<Answered, Stop>
     requires may { MayAttempt stores.now caller }
     requires reads { All (CanRead stores.now.rows.leaves) (planned plan.now).items }
     requires look { IsLookFor stores.now caller snap.now }
-    ensures { IsStep (λ a. a) result stores.now stores.now caller (caller.cmd + 1) (selected.answered caller (select_meant ask.now) (planned plan.now)) }
+    ensures { IsStep selected.told_by result stores.now stores.now caller (caller.cmd + 1) (selected.answered caller (select_meant ask.now) (planned plan.now)) }
 {
     match Trail::new(alloc) {
-        Ok(mut trail) => run(alloc, stores, caller, ask, plan, snap, &mut trail),
+        Ok(trail) => run(alloc, stores, caller, ask, plan, snap, trail),
         Err(NoMemory) => Err(Stop::NoMemory),
     }
 }

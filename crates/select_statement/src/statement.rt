@@ -8,11 +8,12 @@ ghost use Rattle.select_statement.specs.Lent.{IsLookFor};
 ghost use Rattle.select_statement.specs.Cancels.{cancels_itself};
 ghost use Rattle.select_statement.specs.Selected as selected;
 
+use crate::Answered;
 use crate::cancels::cancels_itself;
 use crate::gathering::{gather, look, plan_under};
 use crate::parts::{answer, bind};
 use cond_logic::SelectAsk;
-use pg_values::{Answer, NoMemory};
+use pg_values::NoMemory;
 use plan_tree::{Plan, make_plan};
 use refusals::statement_cancelled;
 use sql_ast::Select;
@@ -32,11 +33,11 @@ fn answer_unless(
     cancelled: bool,
     plan: &Plan<'_>,
     snap: &Snapshot,
-) -> Result<Answer, Stop>
+) -> Result<Answered, Stop>
     requires may { MayAttempt stores.now caller }
     requires reads { All (CanRead stores.now.rows.leaves) (planned plan.now).items }
     requires look { IsLookFor stores.now caller snap.now }
-    ensures { IsStep (λ a. a) result stores.now stores.now caller (caller.cmd + 1)
+    ensures { IsStep selected.told_by result stores.now stores.now caller (caller.cmd + 1)
         (selected.uncancelled cancelled (selected.answered caller (select_meant ask.now) (planned plan.now))) }
 {
     if cancelled {
@@ -53,11 +54,11 @@ fn answer_bare(
     ask: &SelectAsk,
     plan: &Plan<'_>,
     snap: &Snapshot,
-) -> Result<Answer, Stop>
+) -> Result<Answered, Stop>
     requires may { MayAttempt stores.now caller }
     requires reads { All (CanRead stores.now.rows.leaves) (planned plan.now).items }
     requires look { IsLookFor stores.now caller snap.now }
-    ensures { IsStep (λ a. a) result stores.now stores.now caller (caller.cmd + 1)
+    ensures { IsStep selected.told_by result stores.now stores.now caller (caller.cmd + 1)
         (selected.uncancelled (cancels_itself caller.session (caller.sessions - 1) (select_meant ask.now)) (selected.answered caller (select_meant ask.now) (planned plan.now))) }
 {
     match cancels_itself(alloc, ask, caller.session, caller.sessions - 1) {
@@ -73,10 +74,10 @@ fn plan_bare(
     caller: Caller,
     ask: &SelectAsk,
     snap: &Snapshot,
-) -> Result<Answer, Stop>
+) -> Result<Answered, Stop>
     requires may { MayAttempt stores.now caller }
     requires look { IsLookFor stores.now caller snap.now }
-    ensures { IsStep (λ a. a) result stores.now stores.now caller (caller.cmd + 1)
+    ensures { IsStep selected.told_by result stores.now stores.now caller (caller.cmd + 1)
         (selected.uncancelled (cancels_itself caller.session (caller.sessions - 1) (select_meant ask.now)) (selected.answered caller (select_meant ask.now) (selected.bare_plan (select_meant ask.now)))) }
 {
     match make_plan(alloc, false, &ask.conditions, &[]) {
@@ -90,9 +91,9 @@ fn select_bare(
     stores: &mut Stores,
     caller: Caller,
     select: &Select,
-) -> Result<Answer, Stop>
+) -> Result<Answered, Stop>
     requires { MayAttempt stores.old caller }
-    ensures { IsStep (λ a. a) result stores.old stores.new caller (caller.cmd + 1)
+    ensures { IsStep selected.told_by result stores.old stores.new caller (caller.cmd + 1)
         (follow (selected.begins caller) (λ u. selected.bare caller (select_tree select.now))) }
 {
     hold_if_repeatable(alloc, stores, caller)?;
@@ -110,10 +111,10 @@ fn select_tables(
     caller: Caller,
     prunes: bool,
     select: &Select,
-) -> Result<Answer, Stop>
+) -> Result<Answered, Stop>
     requires may { MayAttempt stores.old caller }
     requires few { length stores.old.catalog.tables ≤ 4096 }
-    ensures { IsStep (λ a. a) result stores.old stores.new caller (caller.cmd + 1)
+    ensures { IsStep selected.told_by result stores.old stores.new caller (caller.cmd + 1)
         (follow (selected.begins caller) (λ u. selected.of_named prunes names.now caller (select_tree select.now))) }
 {
     hold_if_repeatable(alloc, stores, caller)?;
@@ -122,8 +123,8 @@ fn select_tables(
     answer(alloc, stores, caller, &found.ask, &plan, &found.snap)
 }
 
-/// A SELECT of a session: its answer, or why it stops. It locks and reads what its conditions keep, or all
-/// where the session prunes nothing.
+/// A SELECT of a session: its answer with the leaves that it has read, or why it stops. It locks and reads what
+/// its conditions keep, or all where the session prunes nothing.
 pub fn select(
     alloc: Global,
     stores: &mut Stores,
@@ -131,10 +132,10 @@ pub fn select(
     caller: Caller,
     prunes: bool,
     select: &Select,
-) -> Result<Answer, Stop>
+) -> Result<Answered, Stop>
     requires may { MayAttempt stores.old caller }
     requires few { length stores.old.catalog.tables ≤ 4096 }
-    ensures { IsStep (λ a. a) result stores.old stores.new caller (caller.cmd + 1) (selected.selected prunes names.now caller (select_tree select.now)) }
+    ensures { IsStep selected.told_by result stores.old stores.new caller (caller.cmd + 1) (selected.selected prunes names.now caller (select_tree select.now)) }
 {
     if select.from.as_slice().is_empty() {
         select_bare(alloc, stores, caller, select)

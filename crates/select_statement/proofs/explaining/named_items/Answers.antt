@@ -1,4 +1,3 @@
-use Rattle.std.proofs.Common.{map}
 use Rattle.sql_ast.specs.Queries.{joined_tree}
 use Rattle.table_trees.specs.Seen.{seen}
 use Rattle.select_statement.proofs.Scopes.{one_named}

@@ -1,4 +1,4 @@
-use Rattle.std.proofs.Common.{[], ◌∙◌, ◌≤◌, ap, length, map, refl, subst, sym}
+use Rattle.std.proofs.Common.{[], ◌∙◌, ◌≤◌, ap, length, map, subst}
 use Rattle.std.proofs.lemmas.Result.{err_from_is_err_and}
 use Rattle.table_trees.specs.Seen.{seen}
 use Rattle.sql_ast.specs.Queries.{select_tree}

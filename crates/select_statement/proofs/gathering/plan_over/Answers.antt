@@ -1,4 +1,4 @@
-use Rattle.std.proofs.Common.{◌≡◌, ◌∙◌, ◌≤◌, All, ap, length, map, subst, sym}
+use Rattle.std.proofs.Common.{◌∙◌, ◌≤◌, All, ap, length, map, subst, sym}
 use Rattle.table_trees.specs.Seen.{seen}
 use Rattle.cond_logic.specs.Trees.{cond_tree}
 use Rattle.cond_logic.specs.Asked.{select_meant}

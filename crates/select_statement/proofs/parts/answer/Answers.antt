@@ -1,11 +1,10 @@
 use Rattle.std.proofs.Common.{◌+◌}
-use Rattle.pg_values.specs.declared.answer.Answer.{Answer}
 use Rattle.cond_logic.specs.Asked.{select_meant}
 use Rattle.plan_tree.specs.Plans.{planned}
 use Rattle.statement_steps.proofs.Parts.{stays, no_memory}
-use Rattle.select_statement.specs.Selected.{answered}
+use Rattle.select_statement.specs.Selected.{answered, told_by}
 use Rattle.select_statement.proofs.parts.answer.Goals as goal
 
 pub returns-in-Err : goal.returns-in-Err
 returns-in-Err c =
-    no_memory (λ (a : Answer). a) c.args.stores.now c.args.stores.now c.args.caller (c.args.caller.cmd + 1) (answered c.args.caller (select_meant c.args.ask.now) (planned c.args.plan.now)) (stays c.args.stores.now c.args.caller.session)
+    no_memory told_by c.args.stores.now c.args.stores.now c.args.caller (c.args.caller.cmd + 1) (answered c.args.caller (select_meant c.args.ask.now) (planned c.args.plan.now)) (stays c.args.stores.now c.args.caller.session)
