@@ -1,18 +1,18 @@
+ghost use Rattle.std.specs.Prelude.{◌≡◌, ◌≤◌, ◌&&◌, ◌++◌, [], OnOk, Option, codes, false, length, map};
 ghost use Rattle.history.specs.History.{History};
 ghost use Rattle.part_catalog.specs.Stands.{CatalogueStands};
-ghost use Rattle.std.specs.Prelude.{OnOk, Option, [], codes, false, length, map, ◌&&◌, ◌++◌, ◌≡◌, ◌≤◌};
 ghost use Rattle.sql_ast.specs.Commands.{command_tree};
 ghost use Rattle.sql_ast.specs.Expressions.{trees};
 ghost use Rattle.sql_ast.specs.Queries.{maybe_tree, query_tree, row_tree, select_tree, setting};
 ghost use Rattle.sql_ast.specs.Statements.{statement_tree};
 ghost use Rattle.statement_steps.specs.Attempts.{MayAttempt, MayGoOn};
 ghost use Rattle.statement_steps.specs.Ended.{ended};
+ghost use Rattle.statement_steps.specs.declared.rest.Rest.{Rest as Left};
+ghost use Rattle.select_statement.specs.Selected as selected;
+ghost use Rattle.insert_statement.specs.Inserted.{inserted};
 ghost use Rattle.change_statement.specs.Changed as changed;
 ghost use Rattle.change_statement.specs.Deleted.{deleted};
 ghost use Rattle.change_statement.specs.Updated.{updated};
-ghost use Rattle.insert_statement.specs.Inserted.{inserted};
-ghost use Rattle.select_statement.specs.Selected as selected;
-ghost use Rattle.statement_steps.specs.declared.rest.Rest.{Rest as Left};
 ghost use Rattle.statement_runs.specs.Attempted as attempted;
 ghost use Rattle.statement_runs.specs.Printed.{IsStatement};
 
