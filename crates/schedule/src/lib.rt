@@ -32,7 +32,7 @@ mod task;
 mod whole;
 mod write;
 
-pub use block::{Block, Kind};
+pub use block::{Block, BlockKind};
 pub use database::{Database, Progress};
 pub use event::{Event, Report};
 pub use holding::leave;

@@ -18,7 +18,7 @@ use Rattle.row_store.specs.Kept.{version_of}
 use Rattle.lock_table.specs.Stands.{IsIdle, TableStands as LocksStand, names}
 use Rattle.sessions.specs.declared.asker.Asker.{Asker}
 use Rattle.sessions.specs.declared.outcome.Outcome.{Outcome}
-use Rattle.sessions.specs.declared.phase.Isolation.{Isolation}
+use Rattle.pg_values.specs.declared.isolation.Isolation.{Isolation}
 use Rattle.sessions.specs.declared.settings.Settings.{Settings}
 use Rattle.sessions.specs.declared.outcome.Outcome.TheVariants as outcomes
 use Rattle.stores.specs.Numbers.{IsAt}
