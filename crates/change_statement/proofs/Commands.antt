@@ -14,9 +14,9 @@ use Rattle.history.specs.History.{History, versions}
 use Rattle.stores.specs.Numbers.{IsAt}
 use Rattle.stores.specs.declared.stores.Stores.{Stores}
 use Rattle.stores.proofs.Commands.{commands_are_in_order, look_is_own}
-use Rattle.statement_steps.specs.Ended.{ended}
+use Rattle.statement_steps.specs.Ended.{giving}
 use Rattle.statement_steps.specs.Made.{Made, and_then, then_told, behind, number_after}
-use Rattle.statement_steps.specs.Attempts.{CanGoOn, NoRows, MayAttempt, MayGoOn, WentOn, GoesOn, IsHalt}
+use Rattle.statement_steps.specs.Attempts.{CanGoOn, NoRows, MayAttempt, MayGoOn, WentOn, GoesOn}
 use Rattle.statement_steps.specs.Gathered.{AreLeft, Found, IsGatheredIn, IsStill, IsTargetAt, MayWriteAt, RowsLeft}
 use Rattle.statement_steps.specs.declared.rest.Rest.TheVariants.{Rows, Detach}
 use Rattle.statement_steps.specs.declared.rest.TargetRow.{TargetRow}
@@ -29,8 +29,9 @@ use Rattle.statement_steps.specs.declared.stop.Stop.TheVariants as stop
 use Rattle.statement_steps.proofs.Numbers.{one_later}
 use Rattle.statement_steps.specs.Steps.{IsTold, IsHalted, IsPaused, IsStep, follow}
 use Rattle.statement_steps.proofs.Steps.{went_on, goes_on}
-use Rattle.change_statement.specs.Changed.{Changing, all_changed, changed_by, changed_or_left}
+use Rattle.change_statement.specs.Changed.{Changing, Told, begun_or_left, changed_by, changed_on, told_by, told_of}
 use Rattle.change_statement.specs.Standing.{left_of}
+use Rattle.change_statement.specs.declared.changed_rows.ChangedRows.{ChangedRows}
 use Rattle.change_statement.specs.Running.{IsGathered, IsInRun, IsRunTold, IsRun, IsCommandTold, IsCommand, IsOwnRun, IsTargetIn, MayRun, MayWriteIn}
 use Rattle.change_statement.proofs.Ended.{got_at}
 use Rattle.insert_statement.proofs.Tables.{tables_kept}
@@ -77,24 +78,18 @@ may_begin stores caller g may its =
 
 -- ---- and is the whole of what is left
 
-run_is_told : (g : Found) (r : Result (Unit {0}) Stop) (new : Stores) (caller : Caller) (h : History) (m : Made (Unit {0})) → IsRunTold g (λ (u : Unit {0}). u) r new caller h m → IsCommandTold r new caller h m
-run_is_told g (Ok u) new caller h m told = (told.0, told.1)
-run_is_told g (Err (stop.Waits None)) new caller h m told = absurd told
-run_is_told g (Err (stop.Waits (Some rest))) new caller h m told = told
-run_is_told g (Err (stop.Refused f)) new caller h m told = told
-run_is_told g (Err stop.NoMemory) new caller h m told = tt
+run_is_told : {X T : Type 0} (g : Found) (see : X → T) (r : Result X Stop) (new : Stores) (caller : Caller) (h : History) (m : Made T) → IsRunTold g see r new caller h m → IsCommandTold see r new caller h m
+run_is_told g see (Ok x) new caller h m told = (told.0, told.1)
+run_is_told g see (Err (stop.Waits None)) new caller h m told = absurd told
+run_is_told g see (Err (stop.Waits (Some rest))) new caller h m told = told
+run_is_told g see (Err (stop.Refused f)) new caller h m told = told
+run_is_told g see (Err stop.NoMemory) new caller h m told = tt
 
-is_halt : (r : Result (Unit {0}) Stop) (stores : Stores) (s : ℕ) → IsPaused r stores s → IsHalt (ended r) stores s
-is_halt (Ok u) stores s halted = halted
-is_halt (Err (stop.Waits rest)) stores s halted = halted
-is_halt (Err (stop.Refused f)) stores s halted = halted
-is_halt (Err stop.NoMemory) stores s halted = tt
-
-pub run_is_command : (r : Result (Unit {0}) Stop) (old new : Stores) (caller : Caller) (g : Found) (f : History → Made (Unit {0})) → MayAttempt old caller → IsGathered old caller g → IsRun g (λ (u : Unit {0}). u) r old new caller f → IsCommand None r old new caller f
-run_is_command r old new caller g f may its run = record {
-  is = λ h stands at go. run_is_told g r new caller h (f h) (run.is h stands (begins_run g h caller at (still_now old caller g h may stands its)));
+pub run_is_command : {X T : Type 0} (see : X → T) (r : Result X Stop) (old new : Stores) (caller : Caller) (g : Found) (f : History → Made T) → MayAttempt old caller → IsGathered old caller g → IsRun g see r old new caller f → IsCommand None see r old new caller f
+run_is_command see r old new caller g f may its run = record {
+  is = λ h stands at go. run_is_told g see r new caller h (f h) (run.is h stands (begins_run g h caller at (still_now old caller g h may stands its)));
   keeps = run.keeps;
-  waits = is_halt r new caller.session run.waits;
+  waits = run.waits;
 }
 
 -- ---- or of a statement that goes on
@@ -127,37 +122,37 @@ target_in rows g h t stands its =
 pub left_in : (stores : Stores) (caller : Caller) (r : RowsLeft) → IsOwnRun stores caller r → All (IsTargetIn stores.rows r.found) r.left
 left_in stores caller r its = let s = its.sound in all_more (IsTargetAt s.0 r.found) (IsTargetIn stores.rows r.found) r.left (λ t at. target_in stores.rows r.found s.0 t s.1.all.rows at) s.3.rows
 
-pub left_is_command : (r : Result (Unit {0}) Stop) (old new : Stores) (caller : Caller) (left : RowsLeft) (f : History → Made (Unit {0})) → IsOwnRun old caller left → IsRun left.found (λ (u : Unit {0}). u) r old new caller f → IsCommand (Some (Rows left)) r old new caller f
-left_is_command r old new caller left f its run = record {
-  is = λ h stands at go. run_is_told left.found r new caller h (f h) (run.is h stands (begins_run left.found h caller at (go.still (its.own h stands))));
+pub left_is_command : {X T : Type 0} (see : X → T) (r : Result X Stop) (old new : Stores) (caller : Caller) (left : RowsLeft) (f : History → Made T) → IsOwnRun old caller left → IsRun left.found see r old new caller f → IsCommand (Some (Rows left)) see r old new caller f
+left_is_command see r old new caller left f its run = record {
+  is = λ h stands at go. run_is_told left.found see r new caller h (f h) (run.is h stands (begins_run left.found h caller at (go.still (its.own h stands))));
   keeps = run.keeps;
-  waits = is_halt r new caller.session run.waits;
+  waits = run.waits;
 }
 
 -- ---- behind what was gathered
 
-command_behind : (r : Result (Unit {0}) Stop) (mid new : Stores) (caller : Caller) (h : History) (events : History) (m : Made (Unit {0}))
-    → WentOn h caller.session caller.cmd [] mid (events ++ h) → IsCommandTold r new caller (events ++ h) m → IsCommandTold r new caller h (behind events m)
-command_behind (Ok u) mid new caller h events m first told =
+command_behind : {Y U : Type 0} (view : Y → U) (r : Result Y Stop) (mid new : Stores) (caller : Caller) (h : History) (events : History) (m : Made U)
+    → WentOn h caller.session caller.cmd [] mid (events ++ h) → IsCommandTold view r new caller (events ++ h) m → IsCommandTold view r new caller h (behind events m)
+command_behind view (Ok x) mid new caller h events m first told =
     (told.0, subst (WentOn h caller.session (caller.cmd + 1) [] new) (sym (append_assoc m.events events h)) (went_on h (events ++ h) (m.events ++ (events ++ h)) caller.session caller.cmd (caller.cmd + 1) [] mid new first told.1))
-command_behind (Err (stop.Waits rest)) mid new caller h events m first told =
+command_behind view (Err (stop.Waits rest)) mid new caller h events m first told =
     let same = sym (append_assoc m.events events h) in (
       told.0,
       subst (WentOn h caller.session (number_after rest caller.cmd) (caller.session ∷ []) new) same (went_on h (events ++ h) (m.events ++ (events ++ h)) caller.session caller.cmd (number_after rest caller.cmd) (caller.session ∷ []) mid new first told.1),
       subst (λ k. CanGoOn k caller.session rest) same told.2,
     )
-command_behind (Err (stop.Refused f)) mid new caller h events m first told =
+command_behind view (Err (stop.Refused f)) mid new caller h events m first told =
     (told.0, subst (WentOn h caller.session (caller.cmd + 1) [] new) (sym (append_assoc m.events events h)) (went_on h (events ++ h) (m.events ++ (events ++ h)) caller.session caller.cmd (caller.cmd + 1) [] mid new first told.1))
-command_behind (Err stop.NoMemory) mid new caller h events m first told = tt
+command_behind view (Err stop.NoMemory) mid new caller h events m first told = tt
 
-pub then_command : {X T : Type 0} (see : X → T) (x : X) (r : Result (Unit {0}) Stop) (old mid new : Stores) (caller : Caller) (f : History → Made T) (next : T → History → Made (Unit {0}))
-    → IsStep see (Ok x) old mid caller caller.cmd f → IsCommand None r mid new caller (next (see x)) → IsCommand None r old new caller (follow f next)
-then_command {T} see x r old mid new caller f next first second = record {
+pub then_command : {X T Y U : Type 0} (see : X → T) (view : Y → U) (x : X) (r : Result Y Stop) (old mid new : Stores) (caller : Caller) (f : History → Made T) (next : T → History → Made U)
+    → IsStep see (Ok x) old mid caller caller.cmd f → IsCommand None view r mid new caller (next (see x)) → IsCommand None view r old new caller (follow f next)
+then_command {T} {U} see view x r old mid new caller f next first second = record {
   is = λ h stands at go.
       let a = first.is h stands at in
       let told = second.is ((f h).events ++ h) a.1.stands a.1.at tt in
-      subst (λ t. IsCommandTold r new caller h (then_told t (f h).events (λ y. next y ((f h).events ++ h)))) (sym a.0)
-      (command_behind r mid new caller h (f h).events (next (see x) ((f h).events ++ h)) a.1 told);
+      subst (λ t. IsCommandTold view r new caller h (then_told t (f h).events (λ y. next y ((f h).events ++ h)))) (sym a.0)
+      (command_behind view r mid new caller h (f h).events (next (see x) ((f h).events ++ h)) a.1 told);
   keeps = goes_on old mid new caller.session first.keeps second.keeps;
   waits = second.waits;
 }
@@ -173,32 +168,32 @@ goes_anywhere None h s none = tt
 goes_anywhere (Some (Rows r)) h s none = absurd none
 goes_anywhere (Some (Detach d)) h s none = tt
 
-stop_told : {X T : Type 0} (see : X → T) (e : Stop) (new : Stores) (caller : Caller) (h : History) (m : Made T) (next : T → Made (Unit {0})) → IsHalted {X = X} (Err e) new caller.session → IsTold see (Err e) new caller caller.cmd h m → IsCommandTold (Err e) new caller h (and_then m next)
-stop_told see (stop.Waits rest) new caller h m next halted told = subst (λ t. IsCommandTold (Err (stop.Waits rest)) new caller h (then_told t m.events next)) (sym told.0) (refl, waits_later rest new caller h (m.events ++ h) told.1, goes_anywhere rest (m.events ++ h) caller.session halted.1)
-stop_told see (stop.Refused f) new caller h m next halted told = subst (λ t. IsCommandTold (Err (stop.Refused f)) new caller h (then_told t m.events next)) (sym told.0) (refl, told.1)
-stop_told see stop.NoMemory new caller h m next halted told = tt
+stop_told : {X T Y U : Type 0} (see : X → T) (view : Y → U) (e : Stop) (new : Stores) (caller : Caller) (h : History) (m : Made T) (next : T → Made U) → IsHalted {X = X} (Err e) new caller.session → IsTold see (Err e) new caller caller.cmd h m → IsCommandTold view (Err e) new caller h (and_then m next)
+stop_told see view (stop.Waits rest) new caller h m next halted told = subst (λ t. IsCommandTold view (Err (stop.Waits rest)) new caller h (then_told t m.events next)) (sym told.0) (refl, waits_later rest new caller h (m.events ++ h) told.1, goes_anywhere rest (m.events ++ h) caller.session halted.1)
+stop_told see view (stop.Refused f) new caller h m next halted told = subst (λ t. IsCommandTold view (Err (stop.Refused f)) new caller h (then_told t m.events next)) (sym told.0) (refl, told.1)
+stop_told see view stop.NoMemory new caller h m next halted told = tt
 
-stop_halt : (X : Type 0) (e : Stop) (stores : Stores) (s : ℕ) → IsHalted {X = X} (Err e) stores s → IsHalt (Err e) stores s
-stop_halt X (stop.Waits rest) stores s halted = halted.0
-stop_halt X (stop.Refused f) stores s halted = halted
-stop_halt X stop.NoMemory stores s halted = tt
+stop_paused : (X Y : Type 0) (e : Stop) (stores : Stores) (s : ℕ) → IsHalted {X = X} (Err e) stores s → IsPaused {X = Y} (Err e) stores s
+stop_paused X Y (stop.Waits rest) stores s halted = halted.0
+stop_paused X Y (stop.Refused f) stores s halted = halted
+stop_paused X Y stop.NoMemory stores s halted = tt
 
-pub stop_command : {X T : Type 0} (see : X → T) (e : Stop) (old new : Stores) (caller : Caller) (f : History → Made T) (next : T → History → Made (Unit {0})) → IsStep see (Err e) old new caller caller.cmd f → IsCommand None (Err e) old new caller (follow f next)
-stop_command {X} see e old new caller f next first = record {
-  is = λ h stands at go. stop_told see e new caller h (f h) (λ y. next y ((f h).events ++ h)) first.waits (first.is h stands at);
+pub stop_command : {X T Y U : Type 0} (see : X → T) (view : Y → U) (e : Stop) (old new : Stores) (caller : Caller) (f : History → Made T) (next : T → History → Made U) → IsStep see (Err e) old new caller caller.cmd f → IsCommand None view (Err e) old new caller (follow f next)
+stop_command {X} {T} {Y} {U} see view e old new caller f next first = record {
+  is = λ h stands at go. stop_told see view e new caller h (f h) (λ y. next y ((f h).events ++ h)) first.waits (first.is h stands at);
   keeps = first.keeps;
-  waits = stop_halt X e new caller.session first.waits;
+  waits = stop_paused X Y e new caller.session first.waits;
 }
 
-pub no_memory_command : (old new : Stores) (caller : Caller) (f : History → Made (Unit {0})) → GoesOn old new caller.session → IsCommand None (Err stop.NoMemory) old new caller f
-no_memory_command old new caller f keeps = record { is = λ h stands at go. tt; keeps = keeps; waits = tt }
+pub no_memory_command : {X T : Type 0} (view : X → T) (old new : Stores) (caller : Caller) (f : History → Made T) → GoesOn old new caller.session → IsCommand None view (Err stop.NoMemory) old new caller f
+no_memory_command view old new caller f keeps = record { is = λ h stands at go. tt; keeps = keeps; waits = tt }
 
 -- ---- from the beginning, or from where it stood
 
-pub begun_by : (change : Found → Changing) (names : List (List ℕ)) (rest : Option Rest) (r : Result (Unit {0}) Stop) (old new : Stores) (caller : Caller) (begin : History → Made (Unit {0})) → ((h : History) → Stands old h → None ≡ left_of h caller rest) → IsCommand None r old new caller begin
-    → IsCommand rest r old new caller (changed_by change names caller rest begin)
+pub begun_by : (change : Found → Changing) (names : List (List ℕ)) (rest : Option Rest) (r : Result ChangedRows Stop) (old new : Stores) (caller : Caller) (begin : History → Made Told) → ((h : History) → Stands old h → None ≡ left_of h caller rest) → IsCommand None told_by r old new caller begin
+    → IsCommand rest told_by r old new caller (changed_by change names caller rest begin)
 begun_by change names rest r old new caller begin none command = record {
-  is = λ h stands at go. subst (λ o. IsCommandTold r new caller h (changed_or_left change names caller begin o h)) (none h stands) (command.is h stands at tt);
+  is = λ h stands at go. subst (λ o. IsCommandTold told_by r new caller h (begun_or_left begin (λ x k. giving (told_of x.found) (changed_on change names caller x k)) o h)) (none h stands) (command.is h stands at tt);
   keeps = command.keeps;
   waits = command.waits;
 }
@@ -233,10 +228,10 @@ own_run stores caller rest left may go is = record {
   sound = (go.0, go.1, go.2, own_rest go.0 caller rest left (is go.0 go.1) go.3);
 }
 
-pub gone_on : (change : Found → Changing) (names : List (List ℕ)) (rest : Option Rest) (left : RowsLeft) (r : Result (Unit {0}) Stop) (old new : Stores) (caller : Caller) (begin : History → Made (Unit {0})) → ((h : History) → Stands old h → Some left ≡ left_of h caller rest)
-    → IsCommand (Some (Rows left)) r old new caller (all_changed (change left.found) names caller left.found left.left left.changed) → IsCommand rest r old new caller (changed_by change names caller rest begin)
+pub gone_on : (change : Found → Changing) (names : List (List ℕ)) (rest : Option Rest) (left : RowsLeft) (r : Result ChangedRows Stop) (old new : Stores) (caller : Caller) (begin : History → Made Told) → ((h : History) → Stands old h → Some left ≡ left_of h caller rest)
+    → IsCommand (Some (Rows left)) told_by r old new caller (λ h. giving (told_of left.found) (changed_on change names caller left h)) → IsCommand rest told_by r old new caller (changed_by change names caller rest begin)
 gone_on change names rest left r old new caller begin is command = record {
-  is = λ h stands at go. subst (λ o. IsCommandTold r new caller h (changed_or_left change names caller begin o h)) (is h stands) (command.is h stands at (own_rest h caller rest left (is h stands) go));
+  is = λ h stands at go. subst (λ o. IsCommandTold told_by r new caller h (begun_or_left begin (λ x k. giving (told_of x.found) (changed_on change names caller x k)) o h)) (is h stands) (command.is h stands at (own_rest h caller rest left (is h stands) go));
   keeps = command.keeps;
   waits = command.waits;
 }

@@ -22,6 +22,7 @@ use Rattle.change_statement.specs.declared.verdicts.Conflict.{Conflict}
 use Rattle.stores.specs.Events.{look_of}
 use Rattle.stores.specs.Stand.{Stands}
 use Rattle.stores.specs.declared.stores.Stores.{Stores}
+use Rattle.statement_steps.specs.Ended.{giving}
 use Rattle.statement_steps.specs.Made.{Refused, made, halted}
 use Rattle.statement_steps.specs.declared.caller.Caller.{Caller}
 use Rattle.statement_steps.specs.declared.rest.TargetRow.{TargetRow}
@@ -35,7 +36,8 @@ use Rattle.statement_steps.specs.Gathered.{Found}
 use Rattle.change_statement.specs.Standing.{standing}
 use Rattle.change_statement.specs.Turns.{IsDecided, IsTurn}
 use Rattle.change_statement.specs.declared.turn.Turn.TheVariants.{Counted, Waits}
-use Rattle.change_statement.specs.Changed.{Changing, updater, by_decision, one_changed, all_changed, changed_from, paused, conflict_fault}
+use Rattle.change_statement.specs.Changed.{Changing, updater, by_decision, one_changed, all_changed, changed, paused, conflict_fault, told_by, told_of}
+use Rattle.change_statement.specs.declared.changed_rows.ChangedRows.{ChangedRows}
 use Rattle.change_statement.specs.Running.{IsRun, IsTargetIn, MayEndIn, MayRun}
 use Rattle.change_statement.proofs.Runs.{then_run, stop_run, nothing_run, refused_run, no_memory_run, same_run, may_run_on}
 use Rattle.change_statement.proofs.Kept.{targets_stay}
@@ -131,7 +133,7 @@ tables_low stores caller g may =
 
 -- what is left makes the whole
 pub record IsLeft (start mid : Stores) (caller : Caller) (g : Found) (change : Changing) (names : List (List ℕ)) (targets left : List TargetRow) (n changed : ℕ) : Type 0 where
-  pub on : (r : Result (Unit {0}) Stop) (new : Stores) → IsRun g (λ (u : Unit {0}). u) r mid new caller (all_changed change names caller g left changed) → IsRun g (λ (u : Unit {0}). u) r start new caller (all_changed change names caller g targets n)
+  pub on : (r : Result ℕ Stop) (new : Stores) → IsRun g (λ (m : ℕ). m) r mid new caller (all_changed change names caller g left changed) → IsRun g (λ (m : ℕ). m) r start new caller (all_changed change names caller g targets n)
   pub may : MayRun g mid caller
   pub all : All (IsTargetIn mid.rows g) left
 
@@ -143,30 +145,30 @@ pub one_less : (start mid new : Stores) (caller : Caller) (g : Found) (change : 
 one_less start mid new caller g change names targets t ts n changed next left turn =
     let run = turn.0 (t ∷ ts) in
     record {
-      on = λ r k more. left.on r k (then_run g (λ (m : ℕ). m) (λ (u : Unit {0}). u) next r mid new k caller (one_changed change names caller g (t ∷ ts) t changed) (all_changed change names caller g ts) run more);
+      on = λ r k more. left.on r k (then_run g (λ (m : ℕ). m) (λ (m : ℕ). m) next r mid new k caller (one_changed change names caller g (t ∷ ts) t changed) (all_changed change names caller g ts) run more);
       may = may_run_on g (λ (m : ℕ). m) next mid new caller (one_changed change names caller g (t ∷ ts) t changed) left.may run;
       all = targets_stay mid.rows new.rows g ts turn.2 (All-tail (IsTargetIn mid.rows g) t ts left.all);
     }
 
 stopped : (start mid new : Stores) (caller : Caller) (g : Found) (change : Changing) (names : List (List ℕ)) (targets : List TargetRow) (t : TargetRow) (ts : List TargetRow) (n changed : ℕ) (e : Stop) → IsLeft start mid caller g change names targets (t ∷ ts) n changed
-    → IsRun g (λ (m : ℕ). m) (Err e) mid new caller (one_changed change names caller g (t ∷ ts) t changed) → IsRun g (λ (u : Unit {0}). u) (Err e) start new caller (all_changed change names caller g targets n)
+    → IsRun g (λ (m : ℕ). m) (Err e) mid new caller (one_changed change names caller g (t ∷ ts) t changed) → IsRun g (λ (m : ℕ). m) (Err e) start new caller (all_changed change names caller g targets n)
 stopped start mid new caller g change names targets t ts n changed e left run =
-    left.on (Err e) new (stop_run g (λ (m : ℕ). m) (λ (u : Unit {0}). u) e mid new caller (one_changed change names caller g (t ∷ ts) t changed) (all_changed change names caller g ts) run)
+    left.on (Err e) new (stop_run g (λ (m : ℕ). m) (λ (m : ℕ). m) e mid new caller (one_changed change names caller g (t ∷ ts) t changed) (all_changed change names caller g ts) run)
 
 pub stops_there : (start mid new : Stores) (caller : Caller) (g : Found) (change : Changing) (names : List (List ℕ)) (targets : List TargetRow) (t : TargetRow) (ts : List TargetRow) (n changed : ℕ) (e : Stop) → IsLeft start mid caller g change names targets (t ∷ ts) n changed
-    → IsTurn change names (Err e) mid new caller g t changed → IsRun g (λ (u : Unit {0}). u) (Err e) start new caller (all_changed change names caller g targets n)
+    → IsTurn change names (Err e) mid new caller g t changed → IsRun g (λ (m : ℕ). m) (Err e) start new caller (all_changed change names caller g targets n)
 stops_there start mid new caller g change names targets t ts n changed e left turn = stopped start mid new caller g change names targets t ts n changed e left (turn (t ∷ ts))
 
 -- the statement waits for the first of those that are left
 pub waits_there : (start mid same new : Stores) (caller : Caller) (g : Found) (change : Changing) (names : List (List ℕ)) (targets : List TargetRow) (t : TargetRow) (ts : List TargetRow) (n changed other : ℕ) (e : Stop) → IsLeft start mid caller g change names targets (t ∷ ts) n changed
     → IsTurn change names (Ok (Waits other)) mid same caller g t changed → IsRun g (λ (u : Unit {0}). u) (Err e) same new caller (λ h. paused names caller other (standing h caller g (t ∷ ts) changed) h)
-    → IsRun g (λ (u : Unit {0}). u) (Err e) start new caller (all_changed change names caller g targets n)
+    → IsRun g (λ (m : ℕ). m) (Err e) start new caller (all_changed change names caller g targets n)
 waits_there start mid same new caller g change names targets t ts n changed other e left turn run =
     stopped start mid new caller g change names targets t ts n changed e left
     (is_waited change names e mid new caller g (t ∷ ts) t changed other turn.1 (subst (λ s. IsRun g (λ (u : Unit {0}). u) (Err e) s new caller (λ h. paused names caller other (standing h caller g (t ∷ ts) changed) h)) turn.0 run))
 
-pub none_left : (start mid : Stores) (caller : Caller) (g : Found) (change : Changing) (names : List (List ℕ)) (targets : List TargetRow) (n changed : ℕ) → IsLeft start mid caller g change names targets [] n changed → IsRun g (λ (u : Unit {0}). u) (Ok tt) start mid caller (all_changed change names caller g targets n)
-none_left start mid caller g change names targets n changed left = left.on (Ok tt) mid (nothing_run g (λ (u : Unit {0}). u) tt mid caller (λ h. made [] tt) left.may (λ h stands. refl))
+pub none_left : (start mid : Stores) (caller : Caller) (g : Found) (change : Changing) (names : List (List ℕ)) (targets : List TargetRow) (n changed : ℕ) → IsLeft start mid caller g change names targets [] n changed → IsRun g (λ (m : ℕ). m) (Ok changed) start mid caller (all_changed change names caller g targets n)
+none_left start mid caller g change names targets n changed left = left.on (Ok changed) mid (nothing_run g (λ (m : ℕ). m) changed mid caller (λ h. made [] changed) left.may (λ h stands. refl))
 
 pub no_length : (xs : List TargetRow) → length xs ≡ 0 → xs ≡ []
 no_length [] e = refl
@@ -174,7 +176,7 @@ no_length (x ∷ xs) e = absurd (omega (arith, e))
 
 -- ---- all that are found
 
-pub from_there : (change : Changing) (names : List (List ℕ)) (r : Result (Unit {0}) Stop) (old new : Stores) (caller : Caller) (g : Found) (ts : List TargetRow) → ((h : History) → Stands old h → ts ≡ targets h (look_of h caller.session caller.cmd) g.asked.condition g.leaves)
-    → IsRun g (λ (u : Unit {0}). u) r old new caller (all_changed change names caller g ts 0) → IsRun g (λ (u : Unit {0}). u) r old new caller (changed_from change names caller g)
+pub from_there : (change : Changing) (names : List (List ℕ)) (r : Result ChangedRows Stop) (old new : Stores) (caller : Caller) (g : Found) (ts : List TargetRow) → ((h : History) → Stands old h → ts ≡ targets h (look_of h caller.session caller.cmd) g.asked.condition g.leaves)
+    → IsRun g told_by r old new caller (λ h. giving (told_of g) (all_changed change names caller g ts 0 h)) → IsRun g told_by r old new caller (changed change names caller g)
 from_there change names r old new caller g ts are run =
-    same_run g (λ (u : Unit {0}). u) r old new caller (changed_from change names caller g) (all_changed change names caller g ts 0) (λ h stands. ap (λ xs. all_changed change names caller g xs 0 h) (sym (are h stands))) run
+    same_run g told_by r old new caller (changed change names caller g) (λ h. giving (told_of g) (all_changed change names caller g ts 0 h)) (λ h stands. ap (λ xs. giving (told_of g) (all_changed change names caller g xs 0 h)) (sym (are h stands))) run

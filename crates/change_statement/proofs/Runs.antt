@@ -1,9 +1,10 @@
 -- Parts of a run, one after another.
-use Rattle.std.proofs.Common.{◌≡◌, ◌+◌, [], ◌∷◌, ◌++◌, refl, ap, sym, ◌∙◌, subst, append_assoc, Some, None, Result, Ok, Err, IsSome, length, slice_index_or}
+use Rattle.std.proofs.Common.{Err, IsSome, None, Ok, Result, Some, ℕ, [], ap, append_assoc, length, refl, slice_index_or, subst, sym, ◌++◌, ◌+◌, ◌∙◌, ◌∷◌, ◌≡◌}
 use Rattle.pg_values.specs.declared.fault.Fault.{Fault}
 use Rattle.history.specs.History.{History}
 use Rattle.stores.specs.Stand.{Stands}
 use Rattle.stores.specs.declared.stores.Stores.{Stores}
+use Rattle.statement_steps.specs.Ended.{giving, told_as}
 use Rattle.statement_steps.specs.Made.{Made, Refused, made, halted, and_then, then_told, behind}
 use Rattle.statement_steps.specs.Gathered.{Found}
 use Rattle.statement_steps.specs.Attempts.{IsLeft, WentOn, GoesOn}
@@ -112,3 +113,26 @@ may_run_on g see x old mid caller f may first =
       };
       sound = (k, a.1.stands, a.2);
     }
+
+-- ---- what is told
+
+-- how many rows are changed is told of the statement, with what it has read
+pub counted_run : {X U : Type 0} (g : Found) (see : X → U) (t : ℕ → U) (n : ℕ) (x : X) (old new : Stores) (caller : Caller) (f : History → Made ℕ) → t n ≡ see x → IsRun g (λ (m : ℕ). m) (Ok n) old new caller f → IsRun g see (Ok x) old new caller (λ h. giving t (f h))
+counted_run g see t n x old new caller f same run = record {
+  is = λ h stands in_run. let told = run.is h stands in_run in (ap (told_as t) told.0 ∙ ap Ok same, told.1, told.2);
+  keeps = run.keeps;
+  waits = run.waits;
+}
+
+run_stops : {X U : Type 0} (g : Found) (see : X → U) (t : ℕ → U) (e : Stop) (new : Stores) (caller : Caller) (h : History) (m : Made ℕ) → IsRunTold g (λ (k : ℕ). k) (Err e) new caller h m → IsRunTold g see (Err e) new caller h (giving t m)
+run_stops g see t (stop.Waits None) new caller h m told = told
+run_stops g see t (stop.Waits (Some rest)) new caller h m told = (ap (told_as t) told.0, told.1, told.2)
+run_stops g see t (stop.Refused f) new caller h m told = (ap (told_as t) told.0, told.1)
+run_stops g see t stop.NoMemory new caller h m told = tt
+
+pub stopped_run : (X : Type 0) {U : Type 0} (g : Found) (see : X → U) (t : ℕ → U) (e : Stop) (old new : Stores) (caller : Caller) (f : History → Made ℕ) → IsRun g (λ (m : ℕ). m) (Err e) old new caller f → IsRun g see (Err e) old new caller (λ h. giving t (f h))
+stopped_run X g see t e old new caller f run = record {
+  is = λ h stands in_run. run_stops g see t e new caller h (f h) (run.is h stands in_run);
+  keeps = run.keeps;
+  waits = paused_same ℕ X e new caller.session run.waits;
+}

@@ -18,6 +18,7 @@ use Rattle.change_statement.specs.declared.verdicts.Conflict.{Conflict}
 use Rattle.pg_values.specs.declared.isolation.Isolation.{Isolation}
 use Rattle.pg_values.specs.declared.isolation.Isolation.TheVariants.{ReadCommitted, ReadUncommitted, RepeatableRead}
 use Rattle.stores.specs.Events.{tx_in, look_of, held}
+use Rattle.statement_steps.specs.Ended.{giving}
 use Rattle.statement_steps.specs.Made.{Made, Refused, made, halted}
 use Rattle.statement_steps.specs.declared.caller.Caller.{Caller}
 use Rattle.statement_steps.specs.declared.rest.Rest.{Rest}
@@ -29,6 +30,7 @@ use Rattle.statement_steps.specs.Faults.{name_of}
 use Rattle.statement_steps.specs.Steps.{follow}
 use Rattle.insert_statement.specs.Inserted.{tables_of, holder}
 use Rattle.change_statement.specs.Standing.{following, left_of, standing}
+use Rattle.change_statement.specs.declared.changed_rows.ChangedRows.{ChangedRows}
 
 -- what is made of a version that is changed, of a row with that leaf
 abbrev pub Changing : Type 0
@@ -83,23 +85,45 @@ one_changed change names c g ts t n h = by_decision change names c g t.leaf (sta
 
 -- ---- row after row: one is finished before the next
 
-abbrev pub all_changed : Changing → List (List ℕ) → Caller → Found → List TargetRow → (changed : ℕ) → History → Made (Unit {0})
-all_changed change names c g [] n h = made [] tt
+-- it is told how many rows are changed, with those before
+abbrev pub all_changed : Changing → List (List ℕ) → Caller → Found → List TargetRow → (changed : ℕ) → History → Made ℕ
+all_changed change names c g [] n h = made [] n
 all_changed change names c g (t ∷ ts) n h = follow (one_changed change names c g (t ∷ ts) t n) (all_changed change names c g ts) h
 
 -- the rows of these leaves that the snapshot sees and that pass
-abbrev pub changed_in : List LeafId → Changing → List (List ℕ) → Caller → Found → History → Made (Unit {0})
+abbrev pub changed_in : List LeafId → Changing → List (List ℕ) → Caller → Found → History → Made ℕ
 changed_in ls change names c g h = all_changed change names c g (targets h (look_of h c.session c.cmd) g.asked.condition ls) 0 h
 
 -- of the leaves that are read
-abbrev pub changed_from : Changing → List (List ℕ) → Caller → Found → History → Made (Unit {0})
+abbrev pub changed_from : Changing → List (List ℕ) → Caller → Found → History → Made ℕ
 changed_from change names c g h = changed_in g.leaves change names c g h
 
--- ---- from the beginning, or from where the statement stood: by what was gathered then, of which nothing is looked up again
+-- the rows that are left, by what was gathered then, of which nothing is looked up again
+abbrev pub changed_on : (Found → Changing) → List (List ℕ) → Caller → RowsLeft → History → Made ℕ
+changed_on change names c r h = all_changed (change r.found) names c r.found r.left r.changed h
 
-abbrev pub changed_or_left : (Found → Changing) → List (List ℕ) → Caller → (History → Made (Unit {0})) → Option RowsLeft → History → Made (Unit {0})
-changed_or_left change names c begin None = begin
-changed_or_left change names c begin (Some r) = all_changed (change r.found) names c r.found r.left r.changed
+-- ---- what is told
 
-abbrev pub changed_by : (Found → Changing) → List (List ℕ) → Caller → Option Rest → (History → Made (Unit {0})) → History → Made (Unit {0})
-changed_by change names c rest begin h = changed_or_left change names c begin (left_of h c rest) h
+-- how many rows are changed, and the leaves that were read, in order
+pub record Told : Type 0 where
+  pub rows : ℕ
+  pub reads : List LeafId
+
+abbrev pub told_by : ChangedRows → Told
+told_by r = record { rows = r.count; reads = r.reads.items }
+
+-- each leaf is read once, whether or not the statement has waited meanwhile
+abbrev pub told_of : Found → ℕ → Told
+told_of g n = record { rows = n; reads = g.leaves }
+
+abbrev pub changed : Changing → List (List ℕ) → Caller → Found → History → Made Told
+changed change names c g h = giving (told_of g) (changed_from change names c g h)
+
+-- ---- from the beginning, or from where the statement stood
+
+abbrev pub begun_or_left : {T : Type 0} → (begin : History → Made T) → (on : RowsLeft → History → Made T) → Option RowsLeft → History → Made T
+begun_or_left begin on None = begin
+begun_or_left begin on (Some r) = on r
+
+abbrev pub changed_by : (Found → Changing) → List (List ℕ) → Caller → Option Rest → (History → Made Told) → History → Made Told
+changed_by change names c rest begin h = begun_or_left begin (λ r k. giving (told_of r.found) (changed_on change names c r k)) (left_of h c rest) h

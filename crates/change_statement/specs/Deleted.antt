@@ -14,8 +14,8 @@ use Rattle.statement_steps.specs.declared.rest.Rest.{Rest}
 use Rattle.statement_steps.specs.Asks.{held_at}
 use Rattle.statement_steps.specs.Steps.{follow}
 use Rattle.insert_statement.specs.Inserted.{own}
+use Rattle.change_statement.specs.Changed.{Changing, Told, changed, changed_by}
 use Rattle.change_statement.specs.Gathered.{gathered}
-use Rattle.change_statement.specs.Changed.{Changing, changed_by, changed_from}
 
 -- the version ends, by the session's transaction
 abbrev pub ended : Caller → Ending → RowId → History → Made (Unit {0})
@@ -26,7 +26,7 @@ deleting c leaf id row = ended c Deleted id
 
 -- DELETE FROM table [ WHERE condition ], from its beginning, or from where it stood; a transaction at REPEATABLE READ takes its
 -- snapshot before anything waits
-abbrev pub deleted : (prunes : Bool) → (names : List (List ℕ)) → List Param → Caller → Option Rest → NamedTable → (condition : Option Tree) → History → Made (Unit {0})
+abbrev pub deleted : (prunes : Bool) → (names : List (List ℕ)) → List Param → Caller → Option Rest → NamedTable → (condition : Option Tree) → History → Made Told
 deleted prunes names params c rest table condition =
     changed_by (λ g. deleting c) names c rest (follow (held_at c.level c.session c.cmd) (λ u.
-    follow (gathered prunes names params c table [] condition) (λ g. changed_from (deleting c) names c g)))
+    follow (gathered prunes names params c table [] condition) (λ g. changed (deleting c) names c g)))

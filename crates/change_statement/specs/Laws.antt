@@ -24,8 +24,8 @@ abbrev pub KeptHaveAllTargets : Type 0
 KeptHaveAllTargets = (prunes : Bool) (condition : Option CondTree) (h : History) (session table : ℕ) (s : TakenSnapshot) → IsLegal h → ArePermitted h → IsLooking h session s → IsMade (catalogue_events h) table
     → targets h s condition (leaves_read (keeps_for prunes condition) (tree_of h session table s)) ≡ targets h s condition (leaves (tree_of h session table s))
 
--- so what the statement makes of the history, its events and what is told, is what it would make of it over all leaves
-abbrev pub plainly_changed : Changing → List (List ℕ) → Caller → Found → History → Made (Unit {0})
+-- so what the statement makes of the history, its events and how many rows it changes, is what it would make of it over all leaves
+abbrev pub plainly_changed : Changing → List (List ℕ) → Caller → Found → History → Made ℕ
 plainly_changed change names c g h = changed_in (leaves g.tree) change names c g h
 
 -- what is gathered of a table: its tree is that of the command's snapshot

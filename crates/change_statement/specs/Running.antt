@@ -23,9 +23,8 @@ use Rattle.legal_statements.specs.Locked.{IsWritable}
 use Rattle.stores.specs.Numbers.{IsAt}
 use Rattle.stores.specs.Stand.{Stands}
 use Rattle.stores.specs.declared.stores.Stores.{Stores}
-use Rattle.statement_steps.specs.Ended.{ended}
 use Rattle.statement_steps.specs.Made.{Made, Waits, Refused, number_after}
-use Rattle.statement_steps.specs.Attempts.{CanGoOn, IsLeft, MayAttempt, WentOn, GoesOn, IsHalt}
+use Rattle.statement_steps.specs.Attempts.{CanGoOn, GoesOn, IsLeft, MayAttempt, WentOn}
 use Rattle.statement_steps.specs.declared.caller.Caller.{Caller}
 use Rattle.statement_steps.specs.declared.stop.Stop.{Stop}
 use Rattle.statement_steps.specs.declared.stop.Stop.TheVariants as stop
@@ -67,17 +66,17 @@ pub record MayRun (g : Found) (stores : Stores) (caller : Caller) : Type 0 where
 -- ---- a statement as a whole
 
 -- one that waits in the middle of its run goes on under the next command
-abbrev pub IsCommandTold : Result (Unit {0}) Stop → Stores → Caller → History → Made (Unit {0}) → Type 0
-IsCommandTold (Ok u) new caller h m = (m.told ≡ Ok tt) × WentOn h caller.session (caller.cmd + 1) [] new (m.events ++ h)
-IsCommandTold (Err (stop.Waits rest)) new caller h m = (m.told ≡ Err (Waits rest)) × WentOn h caller.session (number_after rest caller.cmd) (caller.session ∷ []) new (m.events ++ h) × CanGoOn (m.events ++ h) caller.session rest
-IsCommandTold (Err (stop.Refused f)) new caller h m = (m.told ≡ Err (Refused f)) × WentOn h caller.session (caller.cmd + 1) [] new (m.events ++ h)
-IsCommandTold (Err stop.NoMemory) new caller h m = Unit {0}
+abbrev pub IsCommandTold : {X T : Type 0} → (X → T) → Result X Stop → Stores → Caller → History → Made T → Type 0
+IsCommandTold view (Ok x) new caller h m = (m.told ≡ Ok (view x)) × WentOn h caller.session (caller.cmd + 1) [] new (m.events ++ h)
+IsCommandTold view (Err (stop.Waits rest)) new caller h m = (m.told ≡ Err (Waits rest)) × WentOn h caller.session (number_after rest caller.cmd) (caller.session ∷ []) new (m.events ++ h) × CanGoOn (m.events ++ h) caller.session rest
+IsCommandTold view (Err (stop.Refused f)) new caller h m = (m.told ≡ Err (Refused f)) × WentOn h caller.session (caller.cmd + 1) [] new (m.events ++ h)
+IsCommandTold view (Err stop.NoMemory) new caller h m = Unit {0}
 
 -- from its beginning, or from where it stood, if that is told
-pub record IsCommand (rest : Option Rest) (result : Result (Unit {0}) Stop) (old new : Stores) (caller : Caller) (f : History → Made (Unit {0})) : Type 0 where
-  pub is : (h : History) → Stands old h → IsAt h caller.session caller.cmd → CanGoOn h caller.session rest → IsCommandTold result new caller h (f h)
+pub record IsCommand {X T : Type 0} (rest : Option Rest) (view : X → T) (result : Result X Stop) (old new : Stores) (caller : Caller) (f : History → Made T) : Type 0 where
+  pub is : (h : History) → Stands old h → IsAt h caller.session caller.cmd → CanGoOn h caller.session rest → IsCommandTold view result new caller h (f h)
   pub keeps : GoesOn old new caller.session
-  pub waits : IsHalt (ended result) new caller.session
+  pub waits : IsPaused result new caller.session
 
 -- a statement goes on with rows of its session's transaction
 pub record IsOwnRun (stores : Stores) (caller : Caller) (r : RowsLeft) : Type 0 where

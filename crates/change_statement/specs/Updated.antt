@@ -27,9 +27,9 @@ use Rattle.statement_steps.specs.Asks.{held_at}
 use Rattle.statement_steps.specs.Steps.{follow}
 use Rattle.insert_statement.specs.Born.{unless_refused}
 use Rattle.insert_statement.specs.Inserted.{answered, tables_of, own, holder_faults}
-use Rattle.statement_steps.specs.Gathered.{Found}
+use Rattle.change_statement.specs.Changed.{Changing, Told, changed, changed_by}
 use Rattle.change_statement.specs.Gathered.{gathered}
-use Rattle.change_statement.specs.Changed.{Changing, changed_by, changed_from}
+use Rattle.statement_steps.specs.Gathered.{Found}
 
 -- ---- the new row
 
@@ -74,7 +74,7 @@ abbrev pub updating : Caller → Found → Changing
 updating c g old id row = follow (renewed g row) (stored c g old id)
 
 -- UPDATE table SET settings [ WHERE condition ], from its beginning, or from where it stood
-abbrev pub updated : (prunes : Bool) → (names : List (List ℕ)) → List Param → Caller → Option Rest → NamedTable → List Setting → (condition : Option Tree) → History → Made (Unit {0})
+abbrev pub updated : (prunes : Bool) → (names : List (List ℕ)) → List Param → Caller → Option Rest → NamedTable → List Setting → (condition : Option Tree) → History → Made Told
 updated prunes names params c rest table settings condition =
     changed_by (λ g. updating c g) names c rest (follow (held_at c.level c.session c.cmd) (λ u.
-    follow (gathered prunes names params c table settings condition) (λ g. changed_from (updating c g) names c g)))
+    follow (gathered prunes names params c table settings condition) (λ g. changed (updating c g) names c g)))

@@ -24,6 +24,7 @@
 #![tactic(auto)]
 
 mod asking;
+mod changed_rows;
 mod condition;
 mod conflicts;
 mod deciding;
@@ -44,6 +45,7 @@ mod updating;
 mod verdicts;
 mod waiting;
 
+pub use changed_rows::ChangedRows;
 pub use deciding::decide;
 pub use finding::find_targets;
 pub use laws::{kept_have_all_targets, pruned_changes_are_plain};

@@ -9,6 +9,7 @@ ghost use Rattle.change_statement.specs.Targets.{targets};
 ghost use Rattle.stores.specs.Events.{look_of};
 ghost use Rattle.stores.specs.Stand.{Stands};
 ghost use Rattle.statement_steps.specs.Attempts.{MayAttempt};
+ghost use Rattle.statement_steps.specs.Ended.{giving};
 ghost use Rattle.statement_steps.specs.Faults as faults;
 ghost use Rattle.change_statement.specs.Changed as changed_spec;
 ghost use Rattle.change_statement.specs.Changing.{changing};
@@ -22,7 +23,7 @@ use crate::deleting::end_row;
 use crate::turn::Turn;
 use crate::updating::{renew, store};
 use crate::waiting::pause;
-use crate::{Updater, Verdict, decide, find_targets};
+use crate::{ChangedRows, Updater, Verdict, decide, find_targets};
 use pg_values::{Fault, Isolation, NoMemory};
 use statement_steps::{Caller, Gathered, SessionNames, Stop, TargetRow};
 use std::alloc::Global;
@@ -113,7 +114,7 @@ fn change_row(
 }
 
 /// The rows are changed, one after the other. Where one has to be waited for, what was gathered is kept for it and
-/// those behind it.
+/// those behind it. It is told how many are changed, with those before, and which leaves were read.
 pub(crate) fn change_rows(
     alloc: Global,
     stores: &mut Stores,
@@ -123,10 +124,10 @@ pub(crate) fn change_rows(
     change: Change<'_>,
     targets: &[TargetRow],
     changed: u64,
-) -> Result<(), Stop>
+) -> Result<ChangedRows, Stop>
     requires may { MayRun (found_of gathered) stores.old caller }
     requires targets { All (IsTargetIn stores.old.rows (found_of gathered)) targets.now }
-    ensures { IsRun (found_of gathered) (λ u. u) result stores.old stores.new caller (changed_spec.all_changed (changing change.entry caller (found_of gathered)) names.now caller (found_of gathered) targets.now changed) }
+    ensures { IsRun (found_of gathered) changed_spec.told_by result stores.old stores.new caller (λ h. giving (changed_spec.told_of (found_of gathered)) (changed_spec.all_changed (changing change.entry caller (found_of gathered)) names.now caller (found_of gathered) targets.now changed h)) }
 {
     let mut left = targets;
     let mut changed = changed;
@@ -144,7 +145,10 @@ pub(crate) fn change_rows(
             Err(stop) => return Err(stop),
         }
     }
-    Ok(())
+    Ok(ChangedRows {
+        count: changed,
+        reads: gathered.leaves,
+    })
 }
 
 // The rows of the leaves that are read which the command sees and which pass.
@@ -178,10 +182,10 @@ pub(crate) fn change_found(
     caller: Caller,
     gathered: Gathered,
     change: Change<'_>,
-) -> Result<(), Stop>
+) -> Result<ChangedRows, Stop>
     requires may { MayAttempt stores.old caller }
     requires gathered { IsGathered stores.old caller (found_of gathered) }
-    ensures { IsCommand None result stores.old stores.new caller (changed_spec.changed_from (changing change.entry caller (found_of gathered)) names.now caller (found_of gathered)) }
+    ensures { IsCommand None changed_spec.told_by result stores.old stores.new caller (changed_spec.changed (changing change.entry caller (found_of gathered)) names.now caller (found_of gathered)) }
 {
     match find(alloc, stores, caller, &gathered) {
         Ok(targets) => change_rows(alloc, stores, names, caller, gathered, change, &targets, 0),

@@ -2,15 +2,17 @@ ghost use Rattle.std.specs.Prelude.{◌≡◌, ◌≤◌, None, Some, length, ma
 ghost use Rattle.sql_ast.specs.Queries.{maybe_tree, setting};
 ghost use Rattle.statement_steps.specs.Asks.{held_at};
 ghost use Rattle.statement_steps.specs.Attempts.{MayAttempt, MayGoOn};
+ghost use Rattle.statement_steps.specs.Ended.{giving};
 ghost use Rattle.statement_steps.specs.Steps.{follow};
 ghost use Rattle.statement_steps.specs.declared.rest.Rest.TheVariants.{Rows};
-ghost use Rattle.change_statement.specs.Changed.{all_changed, changed_by, changed_from};
+ghost use Rattle.change_statement.specs.Changed.{changed, changed_by, changed_on, told_by, told_of};
 ghost use Rattle.change_statement.specs.Changing.{changing};
 ghost use Rattle.change_statement.specs.Deleted.{deleted};
 ghost use Rattle.change_statement.specs.Gathered as gathered_spec;
 ghost use Rattle.change_statement.specs.Running.{IsCommand, IsOwnRun};
 ghost use Rattle.change_statement.specs.Updated.{updated};
 
+use crate::ChangedRows;
 use crate::asking::Change;
 use crate::gathering::gather;
 use crate::rows::{change_found, change_rows};
@@ -30,11 +32,11 @@ fn change_gathered(
     caller: Caller,
     prunes: bool,
     change: Change<'_>,
-) -> Result<(), Stop>
+) -> Result<ChangedRows, Stop>
     requires may { MayAttempt stores.old caller }
     requires few { length stores.old.catalog.tables ≤ 4096 }
-    ensures { IsCommand None result stores.old stores.new caller
-        (follow (gathered_spec.gathered prunes names.now params.now caller (gathered_spec.table_named change.entry) (gathered_spec.settings_of change.entry) (gathered_spec.condition_of change.entry)) (λ g. changed_from (changing change.entry caller g) names.now caller g)) }
+    ensures { IsCommand None told_by result stores.old stores.new caller
+        (follow (gathered_spec.gathered prunes names.now params.now caller (gathered_spec.table_named change.entry) (gathered_spec.settings_of change.entry) (gathered_spec.condition_of change.entry)) (λ g. changed (changing change.entry caller g) names.now caller g)) }
 {
     match gather(alloc, stores, names, params, caller, prunes, change) {
         Ok(gathered) => change_found(alloc, stores, names, caller, gathered, change),
@@ -51,11 +53,11 @@ fn begin(
     caller: Caller,
     prunes: bool,
     change: Change<'_>,
-) -> Result<(), Stop>
+) -> Result<ChangedRows, Stop>
     requires may { MayAttempt stores.old caller }
     requires few { length stores.old.catalog.tables ≤ 4096 }
-    ensures { IsCommand None result stores.old stores.new caller
-        (follow (held_at caller.level caller.session caller.cmd) (λ u. follow (gathered_spec.gathered prunes names.now params.now caller (gathered_spec.table_named change.entry) (gathered_spec.settings_of change.entry) (gathered_spec.condition_of change.entry)) (λ g. changed_from (changing change.entry caller g) names.now caller g))) }
+    ensures { IsCommand None told_by result stores.old stores.new caller
+        (follow (held_at caller.level caller.session caller.cmd) (λ u. follow (gathered_spec.gathered prunes names.now params.now caller (gathered_spec.table_named change.entry) (gathered_spec.settings_of change.entry) (gathered_spec.condition_of change.entry)) (λ g. changed (changing change.entry caller g) names.now caller g))) }
 {
     match hold_if_repeatable(alloc, stores, caller) {
         Ok(()) => change_gathered(alloc, stores, names, params, caller, prunes, change),
@@ -71,10 +73,10 @@ fn go_on(
     caller: Caller,
     change: Change<'_>,
     rest: RestOfRows,
-) -> Result<(), Stop>
+) -> Result<ChangedRows, Stop>
     requires may { MayAttempt stores.old caller }
     requires own { IsOwnRun stores.old caller rest }
-    ensures { IsCommand (Some (Rows rest)) result stores.old stores.new caller (all_changed (changing change.entry caller rest.found) names.now caller rest.found rest.left rest.changed) }
+    ensures { IsCommand (Some (Rows rest)) told_by result stores.old stores.new caller (λ h. giving (told_of rest.found) (changed_on (λ g. changing change.entry caller g) names.now caller rest h)) }
 {
     let (gathered, left, changed) = rest.into_parts();
     change_rows(
@@ -91,12 +93,12 @@ fn change_from(
     prunes: bool,
     rest: Option<Rest>,
     change: Change<'_>,
-) -> Result<(), Stop>
+) -> Result<ChangedRows, Stop>
     requires may { MayAttempt stores.old caller }
     requires rest { MayGoOn stores.old caller rest }
     requires few { length stores.old.catalog.tables ≤ 4096 }
-    ensures { IsCommand rest result stores.old stores.new caller
-        (changed_by (λ g. changing change.entry caller g) names.now caller rest (follow (held_at caller.level caller.session caller.cmd) (λ u. follow (gathered_spec.gathered prunes names.now params.now caller (gathered_spec.table_named change.entry) (gathered_spec.settings_of change.entry) (gathered_spec.condition_of change.entry)) (λ g. changed_from (changing change.entry caller g) names.now caller g)))) }
+    ensures { IsCommand rest told_by result stores.old stores.new caller
+        (changed_by (λ g. changing change.entry caller g) names.now caller rest (follow (held_at caller.level caller.session caller.cmd) (λ u. follow (gathered_spec.gathered prunes names.now params.now caller (gathered_spec.table_named change.entry) (gathered_spec.settings_of change.entry) (gathered_spec.condition_of change.entry)) (λ g. changed (changing change.entry caller g) names.now caller g)))) }
 {
     match left_of(stores, caller, rest) {
         Some(rest) => go_on(alloc, stores, names, caller, change, rest),
@@ -109,7 +111,7 @@ fn change_from(
 /// it are locked in ROW EXCLUSIVE mode. The rows that the snapshot sees and that pass are taken one after the
 /// other: one that a transaction which is still open has changed is waited for (40P01); one that was changed
 /// since is tested again at READ COMMITTED, and refused at REPEATABLE READ (40001), as is one that was moved
-/// to another leaf at both; else its version ends.
+/// to another leaf at both; else its version ends. It tells how many rows it has changed, and what it has read.
 pub fn delete(
     alloc: Global,
     stores: &mut Stores,
@@ -119,11 +121,11 @@ pub fn delete(
     prunes: bool,
     rest: Option<Rest>,
     statement: &Delete,
-) -> Result<(), Stop>
+) -> Result<ChangedRows, Stop>
     requires may { MayAttempt stores.old caller }
     requires rest { MayGoOn stores.old caller rest }
     requires few { length stores.old.catalog.tables ≤ 4096 }
-    ensures { IsCommand rest result stores.old stores.new caller (deleted prunes names.now params.now caller rest statement.now.table (maybe_tree statement.now.condition)) }
+    ensures { IsCommand rest told_by result stores.old stores.new caller (deleted prunes names.now params.now caller rest statement.now.table (maybe_tree statement.now.condition)) }
 {
     let change = Change::Delete(statement);
     change_from(alloc, stores, names, params, caller, prunes, rest, change)
@@ -142,11 +144,11 @@ pub fn update(
     prunes: bool,
     rest: Option<Rest>,
     statement: &Update,
-) -> Result<(), Stop>
+) -> Result<ChangedRows, Stop>
     requires may { MayAttempt stores.old caller }
     requires rest { MayGoOn stores.old caller rest }
     requires few { length stores.old.catalog.tables ≤ 4096 }
-    ensures { IsCommand rest result stores.old stores.new caller (updated prunes names.now params.now caller rest statement.now.table (map setting statement.now.assignments) (maybe_tree statement.now.condition)) }
+    ensures { IsCommand rest told_by result stores.old stores.new caller (updated prunes names.now params.now caller rest statement.now.table (map setting statement.now.assignments) (maybe_tree statement.now.condition)) }
 {
     let change = Change::Update(statement);
     change_from(alloc, stores, names, params, caller, prunes, rest, change)

@@ -1,5 +1,5 @@
 -- No outcome of a call is a failed write or want of memory.
-use Rattle.std.proofs.Common.{◌≡◌, ◌≢◌, ℕ, List, Option, ap}
+use Rattle.std.proofs.Common.{◌≡◌, ◌≢◌, ℕ, Bool, List, Option, ap}
 use Rattle.pg_values.specs.declared.fault.Fault.{Fault}
 use Rattle.schedule.specs.Rules.{Rules}
 use Rattle.schedule.specs.declared.run_end.RunEnd.{RunEnd}
@@ -46,12 +46,12 @@ module _ {S : Type 0} (R : Rules S) (Good : S → Type 0) where
   text_is opened text o (Accepted spec is ends) = run_is spec _ _ o ends.is
   text_is opened text o (Refused fault none line) = refused o (ap answer_of line)
 
-  work_is : (opened : Spec → S) (refused_as : List ℕ → Option Fault) (work : Work) (text : List ℕ) (o : Outcome) → WorkEnds R Good opened refused_as work text o → IsNoFault o
-  work_is opened refused_as Run text o ends = text_is opened text o ends
+  work_is : (opened : Bool → Spec → S) (refused_as : List ℕ → Option Fault) (work : Work) (text : List ℕ) (o : Outcome) → WorkEnds R Good opened refused_as work text o → IsNoFault o
+  work_is opened refused_as (Run trail) text o ends = text_is (opened trail) text o ends
   work_is opened refused_as Check text o (Checked spec is same) = done o (ap answer_of same)
   work_is opened refused_as Check text o (NoScript fault none line) = refused o (ap answer_of line)
 
-  pub no_fault : (opened : Spec → S) (refused_as : List ℕ → Option Fault) (words : List (List ℕ)) (r : Reading) (o : Outcome) → Answers (WorkEnds R Good opened refused_as) words r o → IsNoFault o
+  pub no_fault : (opened : Bool → Spec → S) (refused_as : List ℕ → Option Fault) (words : List (List ℕ)) (r : Reading) (o : Outcome) → Answers (WorkEnds R Good opened refused_as) words r o → IsNoFault o
   no_fault opened refused_as words r o (Misused none read is) = usage o (ap answer_of is)
   no_fault opened refused_as words r o (Swamped work call read is) = too_large o (ap answer_of is)
   no_fault opened refused_as words r o (Unreadable work call read is) = read_fault o (ap answer_of is)

@@ -1,5 +1,5 @@
 -- What comes of a call of the program.
-use Rattle.std.specs.Prelude.{◌≡◌, ℕ, List, [], Option, Some, None}
+use Rattle.std.specs.Prelude.{◌≡◌, ℕ, Bool, List, [], Option, Some, None}
 use Rattle.pg_values.specs.declared.fault.Fault.{Fault}
 use Rattle.pg_values.specs.declared.outside.Sink.{Ghosts as SinkGhosts}
 use Rattle.pg_values.specs.declared.outside.Source.{Ghosts as SourceGhosts}
@@ -16,13 +16,13 @@ use Rattle.script_program.specs.Reading.{Reading, Unread, Partly, Whole, TooLong
 use Rattle.script_program.specs.Texts.{TextBegins, TextEnds}
 use Rattle.script_program.specs.Work.{work_by}
 
--- what comes of a text by what is done with it: it is run, or its blocks are read, of which `refused` says why one is none
-abbrev pub WorkEnds : {S : Type 0} (R : Rules S) (Good : S → Type 0) (opened : Spec → S) (refused : List ℕ → Option Fault) → Work → List ℕ → Outcome → Type 0
-WorkEnds R Good opened refused Run text o = TextEnds R Good opened text o
+-- what comes of a text by what is done with it: it is run, with trails or without, or its blocks are read, of which `refused` says why one is none
+abbrev pub WorkEnds : {S : Type 0} (R : Rules S) (Good : S → Type 0) (opened : Bool → Spec → S) (refused : List ℕ → Option Fault) → Work → List ℕ → Outcome → Type 0
+WorkEnds R Good opened refused (Run trail) text o = TextEnds R Good (opened trail) text o
 WorkEnds R Good opened refused Check text o = CheckEnds R refused text o
 
-abbrev pub WorkBegins : {S : Type 0} (R : Rules S) (Good : S → Type 0) (opened : Spec → S) (refused : List ℕ → Option Fault) → Work → List ℕ → List ℕ → Type 0
-WorkBegins R Good opened refused Run text out = TextBegins R Good opened text out
+abbrev pub WorkBegins : {S : Type 0} (R : Rules S) (Good : S → Type 0) (opened : Bool → Spec → S) (refused : List ℕ → Option Fault) → Work → List ℕ → List ℕ → Type 0
+WorkBegins R Good opened refused (Run trail) text out = TextBegins R Good (opened trail) text out
 WorkBegins R Good opened refused Check text out = CheckBegins R refused text out
 
 -- The outcome of a call whose writes do not fail, and that finds memory: by what its words ask to do, by what it read of

@@ -1,5 +1,5 @@
 -- What comes of a text that was read whole: the run of the script that it is, or why it is none.
-use Rattle.std.specs.Prelude.{◌≡◌, ◌≢◌, ℕ, ◌+◌, List, [], ◌++◌, length}
+use Rattle.std.specs.Prelude.{◌≡◌, ◌≢◌, ℕ, Bool, ◌+◌, List, [], ◌++◌, length}
 use Rattle.schedule.specs.Lines.{heading}
 use Rattle.schedule.specs.Rules.{Rules}
 use Rattle.schedule.specs.Run.{World, Reaches, Runs, Throughout, start}
@@ -51,6 +51,10 @@ pub record RunBegins {S : Type 0} (R : Rules S) (Good : S → Type 0) (v : S) (s
 -- a database that is opened for a script stands for this state
 abbrev pub OpensAs : {D S : Type 0} → (Spec → D → Type 0) → (D → S → Type 0) → (Spec → S) → Type 0
 OpensAs {D} {S} opens stands opened = (spec : Spec) (d : D) → opens spec d → stands d (opened spec)
+
+-- with trails and without
+abbrev pub OpensEachAs : {D S : Type 0} → (Bool → Spec → D → Type 0) → (D → S → Type 0) → (Bool → Spec → S) → Type 0
+OpensEachAs {D} {S} opens stands opened = (trail : Bool) → OpensAs (opens trail) stands (opened trail)
 
 -- it is no script, for this reason
 pub record IsNoScript (text : List ℕ) (fault : SpecFault) : Type 0 where

@@ -1,5 +1,5 @@
 -- What a call does with a script, by what its words ask for.
-use Rattle.std.specs.Prelude.{ℕ, Bool, true, false, List, Option, Some, None}
+use Rattle.std.specs.Prelude.{ℕ, Bool, List, Option, Some, None}
 use Rattle.command_line.specs.CommandLine.{asked_by}
 use Rattle.command_line.specs.declared.asked.Asked.{Asked}
 use Rattle.command_line.specs.declared.asked.Mode.{Mode}
@@ -7,10 +7,9 @@ use Rattle.command_line.specs.declared.asked.Mode.TheVariants as modes
 use Rattle.script_program.specs.declared.work.Work.{Work}
 use Rattle.script_program.specs.declared.work.Work.TheVariants.{Run, Check}
 
--- as yet no run is printed with a trail, and none is of a script that is made from a seed
+-- a run is printed with the trails of its statements, or without them; as yet none is of a script that is made from a seed
 abbrev pub work_in : Mode → (trail : Bool) → Option Work
-work_in modes.Run true = None
-work_in modes.Run false = Some Run
+work_in modes.Run trail = Some (Run trail)
 work_in modes.Check trail = Some Check
 work_in modes.Gen trail = None
 

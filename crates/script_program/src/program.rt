@@ -1,9 +1,9 @@
-ghost use Rattle.std.specs.Prelude.{◌≡◌, ℕ, List, Some, map, string_bytes};
+ghost use Rattle.std.specs.Prelude.{◌≡◌, ℕ, Bool, List, Some, map, string_bytes};
 ghost use Rattle.spec_reader.specs.declared.spec.Spec.{Spec};
 ghost use Rattle.script_program.specs.Lines.{usage_line};
 ghost use Rattle.script_program.specs.Outcomes.{Ends, IsTold, refusal};
 ghost use Rattle.script_program.specs.Program.{Calls, WorkBegins, WorkEnds};
-ghost use Rattle.script_program.specs.Texts.{OpensAs};
+ghost use Rattle.script_program.specs.Texts.{OpensEachAs};
 ghost use Rattle.script_program.specs.Work.{work_by};
 
 use crate::check::check_text;
@@ -25,10 +25,10 @@ fn do_work<O: Opener, K: Sink, E: Sink>(
     out: &mut K,
     err: &mut E,
 ) -> Ended
-    ensures { (opened : Spec → O.Db.State) → OpensAs O.opens O.Db.stands opened → Ends K.Sink E.Sink (WorkEnds O.Db.rules O.Db.good opened O.refused work text.now) (WorkBegins O.Db.rules O.Db.good opened O.refused work text.now) out.old out.new err.old err.new result }
+    ensures { (opened : Bool → Spec → O.Db.State) → OpensEachAs O.opens O.Db.stands opened → Ends K.Sink E.Sink (WorkEnds O.Db.rules O.Db.good opened O.refused work text.now) (WorkBegins O.Db.rules O.Db.good opened O.refused work text.now) out.old out.new err.old err.new result }
 {
     match work {
-        Work::Run => run_text::<O, K, E>(alloc, text, out, err),
+        Work::Run { trail } => run_text::<O, K, E>(alloc, trail, text, out, err),
         Work::Check => check_text::<O, K, E>(alloc, text, out, err),
     }
 }
@@ -41,7 +41,7 @@ fn read_and_do<O: Opener, S: Source, K: Sink, E: Sink>(
     out: &mut K,
     err: &mut E,
 ) -> Ended
-    ensures { (opened : Spec → O.Db.State) → OpensAs O.opens O.Db.stands opened → (words : List (List ℕ)) → work_by words ≡ Some work →
+    ensures { (opened : Bool → Spec → O.Db.State) → OpensEachAs O.opens O.Db.stands opened → (words : List (List ℕ)) → work_by words ≡ Some work →
         Calls S.Source K.Sink E.Sink (WorkEnds O.Db.rules O.Db.good opened O.refused) (WorkBegins O.Db.rules O.Db.good opened O.refused) words input.old input.new out.old out.new err.old err.new result }
 {
     match read_whole(alloc, input) {
@@ -71,7 +71,7 @@ pub fn run_program<O: Opener, S: Source, K: Sink, E: Sink>(
     out: &mut K,
     err: &mut E,
 ) -> Ended
-    ensures { (opened : Spec → O.Db.State) → OpensAs O.opens O.Db.stands opened → Calls S.Source K.Sink E.Sink (WorkEnds O.Db.rules O.Db.good opened O.refused) (WorkBegins O.Db.rules O.Db.good opened O.refused) (map string_bytes words.now) input.old input.new out.old out.new err.old err.new result }
+    ensures { (opened : Bool → Spec → O.Db.State) → OpensEachAs O.opens O.Db.stands opened → Calls S.Source K.Sink E.Sink (WorkEnds O.Db.rules O.Db.good opened O.refused) (WorkBegins O.Db.rules O.Db.good opened O.refused) (map string_bytes words.now) input.old input.new out.old out.new err.old err.new result }
 {
     match read_work(alloc, words) {
         Ok(work) => read_and_do::<O, S, K, E>(alloc, work, input, out, err),

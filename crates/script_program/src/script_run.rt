@@ -47,17 +47,18 @@ fn run_over<D: Database, K: Sink, E: Sink>(
     }
 }
 
-/// Runs the script that the text is, or tells why it is none.
+/// Runs the script that the text is, with trails or without, or tells why it is none.
 pub(crate) fn run_text<O: Opener, K: Sink, E: Sink>(
     alloc: Global,
+    trail: bool,
     text: &[u8],
     out: &mut K,
     err: &mut E,
 ) -> Ended
-    ensures { (opened : Spec → O.Db.State) → OpensAs O.opens O.Db.stands opened → Ends K.Sink E.Sink (TextEnds O.Db.rules O.Db.good opened text.now) (TextBegins O.Db.rules O.Db.good opened text.now) out.old out.new err.old err.new result }
+    ensures { (opened : Spec → O.Db.State) → OpensAs (O.opens trail) O.Db.stands opened → Ends K.Sink E.Sink (TextEnds O.Db.rules O.Db.good opened text.now) (TextBegins O.Db.rules O.Db.good opened text.now) out.old out.new err.old err.new result }
 {
     match read_spec(alloc, text) {
-        Ok(script) => match O::open(alloc, &script) {
+        Ok(script) => match O::open(alloc, &script, trail) {
             Ok(db) => run_over(alloc, db, &script, out, err),
             Err(NoMemory) => Ended::NoMemory,
         },

@@ -8,8 +8,8 @@ use std::alloc::Global;
 /// What a call does with the script of its input.
 #[derive(Clone, Copy, Debug, PartialEq, Eq)]
 pub enum Work {
-    /// It is run, and the run is printed.
-    Run,
+    /// It is run, and the run is printed, with the trails of its statements or without them.
+    Run { trail: bool },
     /// Its blocks are read, and those that are refused are told.
     Check,
 }
@@ -17,10 +17,10 @@ pub enum Work {
 fn work_of(asked: Asked) -> Result<Work, WordsRefused>
     ensures { IsRead (spec.work_of asked) result }
 {
-    match (asked.mode, asked.trail) {
-        (Mode::Run, false) => Ok(Work::Run),
-        (Mode::Check, _) => Ok(Work::Check),
-        (Mode::Run, true) | (Mode::Gen, _) => Err(WordsRefused::Usage),
+    match asked.mode {
+        Mode::Run => Ok(Work::Run { trail: asked.trail }),
+        Mode::Check => Ok(Work::Check),
+        Mode::Gen => Err(WordsRefused::Usage),
     }
 }
 

@@ -1,6 +1,6 @@
 -- A tree has no more leaves than there are tables: each leaf is that of one of its tables, and each of these stands in it once.
 use Rattle.std.proofs.Common.{ℕ, zero, suc, ◌≤◌, arith, map, length, subst}
-use Rattle.std.specs.List.{All, AllPairs}
+use Rattle.std.specs.List.{All}
 use Rattle.std.proofs.lemmas.List.{length-append, length-map}
 use Rattle.std.proofs.lemmas.List.Elements.{All-map}
 use Rattle.std.proofs.lemmas.List.Kept.{AllPairs-filter}

@@ -1,4 +1,5 @@
 pub mod Few
+pub mod Giving
 mod Joins
 mod Kept
 mod Known

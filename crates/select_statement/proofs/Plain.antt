@@ -1,5 +1,5 @@
 -- A SELECT by its plan is one that scans all leaves.
-use Rattle.std.proofs.Common.{◌≡◌, ℕ, ◌+◌, ◌-◌, ◌≤◌, ◌&&◌, ◌||◌, not, arith, subst, append-nil, Bool, true, false, if◌then◌else◌, List, [], ◌∷◌, ◌++◌, inl, inr, refl, ap, sym, ◌∙◌, length, map}
+use Rattle.std.proofs.Common.{◌≡◌, ℕ, ◌-◌, ◌≤◌, ◌&&◌, ◌||◌, arith, subst, append-nil, Bool, true, false, if◌then◌else◌, List, [], ◌∷◌, ◌++◌, inl, inr, refl, ap, sym, ◌∙◌, length, map}
 use Rattle.std.specs.Prelude.{Result, Ok, Err}
 use Rattle.std.proofs.lemmas.List.{length-append, length-map, map-append}
 use Rattle.std.proofs.lemmas.List.Elements.{All-cons, All-nil}
@@ -23,12 +23,14 @@ use Rattle.lock_table.specs.Asked.{AskedView, AtOnce, WaitsBehind, ClosesCycle, 
 use Rattle.sql_binder.specs.Selects.{from_of, bound_select}
 use Rattle.cond_logic.specs.Asked.{SelectMeant}
 use Rattle.plan_tree.specs.Conjuncts.{pool, lies_within, asked_at, asked_later}
-use Rattle.plan_tree.specs.Plans.{PlannedItem, keeps_first, is_joined, is_none, item_for, plan_for, plan_tables}
+use Rattle.plan_tree.specs.Plans.{Planned, PlannedItem, keeps_first, is_joined, is_none, item_for, plan_for, plan_tables}
 use Rattle.select_answer.specs.Answer.{answer_of, select_course}
+use Rattle.select_answer.specs.Course.{reads_of}
 use Rattle.select_answer.specs.Laws.{OneItemIsReadOnce, PrunedIsPlain, plainly, plan_reads}
 use Rattle.stores.specs.Events.{look_of}
 use Rattle.stores.specs.Good.{IsGood}
 use Rattle.stores.specs.Laws.{GoodIsLegal}
+use Rattle.statement_steps.specs.Ended.{giving}
 use Rattle.statement_steps.specs.Made.{Made, Halt, behind, then_told, and_then}
 use Rattle.statement_steps.specs.declared.caller.Caller.{Caller}
 use Rattle.statement_steps.specs.Asks.{told_of, locked, all_locked}
@@ -36,8 +38,10 @@ use Rattle.plan_text.specs.Plans.{scanned}
 use Rattle.statement_steps.specs.Below.{number_of}
 use Rattle.select_statement.specs.Explained.{OneTableReadsItsScans}
 use Rattle.select_statement.specs.Items.{items_of}
-use Rattle.select_statement.specs.Selected.{outcome, answered, by_plan, locked_below, trees_for}
-use Rattle.select_statement.specs.Plain.{answered_plainly, locked_plainly}
+use Rattle.select_statement.specs.Moments.{rows_for}
+use Rattle.select_statement.specs.Selected.{told_of as course_told, with_reads, outcome, answered, by_plan, locked_below, trees_for}
+use Rattle.select_statement.specs.Plain.{answer_in, answered_plainly, locked_plainly}
+use Rattle.select_statement.proofs.Giving.{answer_alone, giving_then}
 use Rattle.select_statement.specs.Laws.{LeavesAreFew, OneTableIsPlain, TablesArePlain, Looks}
 
 -- ---- a plan over one tree reads no more leaves than the tree has
@@ -112,23 +116,29 @@ few_made (CatalogueChange (CheckKept c) ∷ h) good = few_made h good.1
 
 -- ---- the answer
 
+plain_answer : (sessions : ℕ) (m : SelectMeant) (rows : Rows) (plan : Planned) → giving answer_in (outcome (course_told m (select_course sessions [] m rows plan []))) ≡ outcome (answer_of m (select_course sessions [] m rows plan []))
+plain_answer sessions m rows plan = let w = select_course sessions [] m rows plan [] in answer_alone (reads_of w) (answer_of m w)
+
 pub tables_plain : GoodIsLegal → PrunedIsPlain → TablesArePlain
 tables_plain lawful pruned h good prunes c m ns looks low made =
     let legal = lawful h good in
     elim (pruned prunes (c.sessions - 1) m [] h c.session ns (look_of h c.session c.cmd) legal.0 legal.1 looks low made) [
-      | inl same ↦ inl (ap outcome same)
-      | inr full ↦ let many = full.0 in inr (omega (arith, many), ap outcome full.1)
+      | inl same ↦ inl (plain_answer (c.sessions - 1) m (rows_for c h) (plan_for prunes m.conditions (trees_for c ns h)) ∙ ap outcome same)
+      | inr full ↦
+          let many = full.0 in
+          let w = select_course (c.sessions - 1) [] m (rows_for c h) (plan_for prunes m.conditions (trees_for c ns h)) [] in
+          inr (omega (arith, many), ap outcome (ap (with_reads (reads_of w)) full.1))
     ]
 
 one_plain : GoodIsLegal → LeavesAreFew → OneItemIsReadOnce → PrunedIsPlain → (prunes : Bool) (c : Caller) (m : SelectMeant) (table : ℕ) (h : History) → IsGood h → Looks c h → IsMade (catalogue_events h) table
-    → answered c m (plan_for prunes m.conditions (trees_for c (table ∷ []) h)) h ≡ answered_plainly c m (trees_for c (table ∷ []) h) h
+    → giving answer_in (answered c m (plan_for prunes m.conditions (trees_for c (table ∷ []) h)) h) ≡ answered_plainly c m (trees_for c (table ∷ []) h) h
 one_plain lawful small once pruned prunes c m table h good looks made =
     let legal = lawful h good in
     let snap = look_of h c.session c.cmd in
     let tree = tree_of h c.session table snap in
     let all = All-cons (IsMade (catalogue_events h)) table [] made (All-nil (IsMade (catalogue_events h))) in
     elim (pruned prunes (c.sessions - 1) m [] h c.session (table ∷ []) snap legal.0 legal.1 looks (omega arith) all) [
-      | inl same ↦ ap outcome same
+      | inl same ↦ plain_answer (c.sessions - 1) m (rows_for c h) (plan_for prunes m.conditions (trees_for c (table ∷ []) h)) ∙ ap outcome same
       | inr full ↦
           let many = full.0 in
           let few = few_reads once prunes m (shown h snap) tree in
@@ -179,15 +189,16 @@ same_then {T = T} m f g same = by m.told
 -- ---- the statement
 
 pub by_plan_plain : (prunes : Bool) (names : List (List ℕ)) (c : Caller) (m : SelectMeant) (trees : List TableTree) (h : History)
-    → answered c m (plan_for prunes m.conditions trees) h ≡ answered_plainly c m trees h → by_plan names c m (plan_for prunes m.conditions trees) h ≡ locked_plainly prunes names c trees m h
+    → giving answer_in (answered c m (plan_for prunes m.conditions trees) h) ≡ answered_plainly c m trees h → giving answer_in (by_plan names c m (plan_for prunes m.conditions trees) h) ≡ locked_plainly prunes names c trees m h
 by_plan_plain prunes names c m trees h same =
     let plan = plan_for prunes m.conditions trees in
     let locks = locked_below names c (plan_tables plan) h in
     let its = all_locks names c.session AccessShare (map number_of (plan_tables plan)) h in
     let rows : shown (locks.events ++ h) (look_of (locks.events ++ h) c.session c.cmd) ≡ shown h (look_of h c.session c.cmd) =
     ap (λ (es : History). shown (es ++ h) (look_of (es ++ h) c.session c.cmd)) its.1 ∙ locks_show h c.session c.cmd its.0 in
-    same_then locks (λ u. answered c m plan (locks.events ++ h)) (λ u. answered_plainly c m trees (locks.events ++ h)) (λ u.
-    ap (λ (r : Rows). outcome (answer_of m (select_course (c.sessions - 1) [] m r plan []))) rows ∙ same
+    giving_then answer_in locks (λ u. answered c m plan (locks.events ++ h))
+    ∙ same_then locks (λ u. giving answer_in (answered c m plan (locks.events ++ h))) (λ u. answered_plainly c m trees (locks.events ++ h)) (λ u.
+    ap (λ (r : Rows). giving answer_in (outcome (course_told m (select_course (c.sessions - 1) [] m r plan [])))) rows ∙ same
     ∙ sym (ap (λ (r : Rows). outcome (plainly (c.sessions - 1) m r trees)) rows))
 
 pub one_table_plain : GoodIsLegal → LeavesAreFew → OneItemIsReadOnce → PrunedIsPlain → OneTableIsPlain
@@ -196,7 +207,7 @@ one_table_plain lawful small once pruned h good prunes names c t table looks mad
     trees : List TableTree
     trees = trees_for c (table ∷ []) h
 
-    by : (r : Result SelectMeant Fault) → and_then (outcome r) (λ m. by_plan names c m (plan_for prunes m.conditions trees) ((outcome r).events ++ h)) ≡ and_then (outcome r) (λ m. locked_plainly prunes names c trees m ((outcome r).events ++ h))
+    by : (r : Result SelectMeant Fault) → giving answer_in (and_then (outcome r) (λ m. by_plan names c m (plan_for prunes m.conditions trees) ((outcome r).events ++ h))) ≡ and_then (outcome r) (λ m. locked_plainly prunes names c trees m ((outcome r).events ++ h))
     by (Ok m) = ap (behind []) (by_plan_plain prunes names c m trees h (one_plain lawful small once pruned prunes c m table h good looks made))
     by (Err f) = refl
 

@@ -1,5 +1,5 @@
 -- The parts of a SELECT.
-use Rattle.std.proofs.Common.{◌≡◌, ℕ, ◌+◌, ◌-◌, Bool, true, false, List, [], refl, ap, sym, subst, ◌∙◌, Result, Ok, Err}
+use Rattle.std.proofs.Common.{Bool, Err, List, Ok, Result, ℕ, [], ap, false, refl, subst, sym, true, ◌+◌, ◌-◌, ◌∙◌, ◌≡◌}
 use Rattle.pg_values.specs.Refusals.{IsAnswer}
 use Rattle.pg_values.specs.declared.answer.Answer.{Answer}
 use Rattle.pg_values.specs.declared.fault.Fault.{Fault}
@@ -16,6 +16,7 @@ use Rattle.expression_binder.specs.Firsts.{IsAnswerBy}
 use Rattle.cond_logic.specs.Asked.{SelectMeant}
 use Rattle.plan_tree.specs.Plans.{Planned}
 use Rattle.select_answer.specs.Answer.{AreLent, answer_of, select_course}
+use Rattle.select_answer.specs.Course.{Course, IsRead, reads_of}
 use Rattle.stores.specs.Events.{look_of}
 use Rattle.stores.specs.Stand.{Stands}
 use Rattle.stores.specs.declared.stores.Stores.{Stores}
@@ -32,7 +33,8 @@ use Rattle.sql_ast.specs.Queries.{SelectTree}
 use Rattle.select_statement.specs.Explained.{told, printed}
 use Rattle.select_statement.specs.Gathered.{Found}
 use Rattle.select_statement.specs.Lent.{IsLookFor}
-use Rattle.select_statement.specs.Selected.{outcome, answered, uncancelled}
+use Rattle.select_statement.specs.Selected.{Told, answered, outcome, told_by, told_of, uncancelled, with_reads}
+use Rattle.select_statement.specs.declared.answered.Answered.{Answered}
 
 -- ---- a part by which nothing happens
 
@@ -50,6 +52,10 @@ outcome_refused view NoMemory stores caller wanted may e = no_memory view stores
 abbrev pub Answers : Result Answer Refusal → Stores → Caller → SelectMeant → Planned → KeptSnapshot → Type 0
 Answers r stores caller m plan snap = (h : History) (s : TakenSnapshot) → AreLent stores.txs stores.rows snap h s → IsAnswer r (answer_of m (select_course (caller.sessions - 1) [] m (shown h s) plan []))
 
+-- and what it has read
+abbrev pub Reads : Result Answer Refusal → List LeafId → Stores → Caller → SelectMeant → Planned → KeptSnapshot → Type 0
+Reads r now stores caller m plan snap = (h : History) (s : TakenSnapshot) → AreLent stores.txs stores.rows snap h s → IsRead r now (select_course (caller.sessions - 1) [] m (shown h s) plan [])
+
 -- a run for so many sessions, without arguments, that has read nothing before
 pub told_for : (r : Result Answer Refusal) (stores : Stores) (caller : Caller) (m : SelectMeant) (plan : Planned) (snap : KeptSnapshot) (n : ℕ) (args : List Value) (before : List LeafId)
     → n ≡ caller.sessions - 1 → args ≡ [] → before ≡ [] → ((h : History) (s : TakenSnapshot) → AreLent stores.txs stores.rows snap h s → IsAnswer r (answer_of m (select_course n args m (shown h s) plan before)))
@@ -59,24 +65,41 @@ told_for r stores caller m plan snap n args before count none fresh answers h s 
     let bare = subst (λ xs. IsAnswer r (answer_of m (select_course (caller.sessions - 1) xs m (shown h s) plan before))) none counted in
     subst (λ ls. IsAnswer r (answer_of m (select_course (caller.sessions - 1) [] m (shown h s) plan ls))) fresh bare
 
+pub read_for_it : (r : Result Answer Refusal) (now : List LeafId) (stores : Stores) (caller : Caller) (m : SelectMeant) (plan : Planned) (snap : KeptSnapshot) (n : ℕ) (args : List Value) (before : List LeafId)
+    → n ≡ caller.sessions - 1 → args ≡ [] → before ≡ [] → ((h : History) (s : TakenSnapshot) → AreLent stores.txs stores.rows snap h s → IsRead r now (select_course n args m (shown h s) plan before))
+    → Reads r now stores caller m plan snap
+read_for_it r now stores caller m plan snap n args before count none fresh reads h s are =
+    let counted = subst (λ k. IsRead r now (select_course k args m (shown h s) plan before)) count (reads h s are) in
+    let bare = subst (λ xs. IsRead r now (select_course (caller.sessions - 1) xs m (shown h s) plan before)) none counted in
+    subst (λ ls. IsRead r now (select_course (caller.sessions - 1) [] m (shown h s) plan ls)) fresh bare
+
 lent : (stores : Stores) (caller : Caller) (snap : KeptSnapshot) (h : History) → IsLookFor stores caller snap → Stands stores h → AreLent stores.txs stores.rows snap h (look_of h caller.session caller.cmd)
 lent stores caller snap h look stands = record { table = stands.all.txs; rows = stands.all.rows; past = look.past h stands.all.txs; snapshot = look.stands h stands.all.txs }
 
-pub answer_done : (a : Answer) (stores : Stores) (caller : Caller) (m : SelectMeant) (plan : Planned) (snap : KeptSnapshot) → MayAttempt stores caller → IsLookFor stores caller snap → Answers (Ok a) stores caller m plan snap
-    → IsStep (λ (x : Answer). x) (Ok a) stores stores caller (caller.cmd + 1) (answered caller m plan)
-answer_done a stores caller m plan snap may look answers = record {
+-- the answer with what was read
+is_told : (m : SelectMeant) (w : Course) (a : Answered) → answer_of m w ≡ Ok a.answer → a.trail.leaves ≡ reads_of w → told_of m w ≡ Ok (told_by a)
+is_told m w a answer reads = ap (with_reads (reads_of w)) answer ∙ ap (λ ls. with_reads ls (Ok a.answer)) (sym reads)
+
+pub answer_done : (a : Answered) (stores : Stores) (caller : Caller) (m : SelectMeant) (plan : Planned) (snap : KeptSnapshot) → MayAttempt stores caller → IsLookFor stores caller snap → Answers (Ok a.answer) stores caller m plan snap
+    → Reads (Ok a.answer) a.trail.leaves stores caller m plan snap → IsStep told_by (Ok a) stores stores caller (caller.cmd + 1) (answered caller m plan)
+answer_done a stores caller m plan snap may look answers reads = record {
   is = λ h stands at.
-      subst (IsTold (λ (x : Answer). x) (Ok a) stores caller (caller.cmd + 1) h) (sym (ap outcome (answers h (look_of h caller.session caller.cmd) (lent stores caller snap h look stands))))
+      let are = lent stores caller snap h look stands in
+      let s = look_of h caller.session caller.cmd in
+      let told = is_told m (select_course (caller.sessions - 1) [] m (shown h s) plan []) a (answers h s are) (reads h s are) in
+      subst (IsTold told_by (Ok a) stores caller (caller.cmd + 1) h) (sym (ap outcome told))
       (refl, still_on stores h caller.session (caller.cmd + 1) stands (one_later h caller.session caller.cmd at));
   keeps = stays stores caller.session;
   waits = may.idle;
 }
 
 pub answer_refused : (r : Refusal) (stores : Stores) (caller : Caller) (m : SelectMeant) (plan : Planned) (snap : KeptSnapshot) → MayAttempt stores caller → IsLookFor stores caller snap → Answers (Err r) stores caller m plan snap
-    → IsStep (λ (x : Answer). x) (Err (stop_of r)) stores stores caller (caller.cmd + 1) (answered caller m plan)
+    → IsStep told_by (Err (stop_of r)) stores stores caller (caller.cmd + 1) (answered caller m plan)
 answer_refused (Sql f) stores caller m plan snap may look answers =
-    refused_here (λ (x : Answer). x) f stores caller (caller.cmd + 1) (answered caller m plan) may (λ h stands. ap outcome (answers h (look_of h caller.session caller.cmd) (lent stores caller snap h look stands)))
-answer_refused NoMemory stores caller m plan snap may look answers = no_memory (λ (x : Answer). x) stores stores caller (caller.cmd + 1) (answered caller m plan) (stays stores caller.session)
+    refused_here told_by f stores caller (caller.cmd + 1) (answered caller m plan) may (λ h stands.
+    let w = select_course (caller.sessions - 1) [] m (shown h (look_of h caller.session caller.cmd)) plan [] in
+    ap outcome (ap (with_reads (reads_of w)) (answers h (look_of h caller.session caller.cmd) (lent stores caller snap h look stands))))
+answer_refused NoMemory stores caller m plan snap may look answers = no_memory told_by stores stores caller (caller.cmd + 1) (answered caller m plan) (stays stores caller.session)
 
 -- ---- a plan that is printed
 
@@ -91,11 +114,10 @@ printed_done a stores caller t g p may e = record {
 
 -- ---- a SELECT that cancels itself, or does not
 
-pub cancelled_here : (own : Bool) (f : Fault) (g : History → Made Answer) (stores : Stores) (caller : Caller) → MayAttempt stores caller → own ≡ true → f ≡ statement_cancelled
-    → IsStep (λ (a : Answer). a) (Err (stop.Refused f)) stores stores caller (caller.cmd + 1) (uncancelled own g)
+pub cancelled_here : (own : Bool) (f : Fault) (g : History → Made Told) (stores : Stores) (caller : Caller) → MayAttempt stores caller → own ≡ true → f ≡ statement_cancelled
+    → IsStep told_by (Err (stop.Refused f)) stores stores caller (caller.cmd + 1) (uncancelled own g)
 cancelled_here own f g stores caller may e is =
-    refused_here (λ (a : Answer). a) f stores caller (caller.cmd + 1) (uncancelled own g) may (λ h stands. ap (λ b. uncancelled b g h) e ∙ ap (λ x. halted [] (Refused x)) (sym is))
+    refused_here told_by f stores caller (caller.cmd + 1) (uncancelled own g) may (λ h stands. ap (λ b. uncancelled b g h) e ∙ ap (λ x. halted [] (Refused x)) (sym is))
 
-pub not_cancelled : {r : Result Answer Stop} {stores : Stores} {caller : Caller} {n : ℕ} (own : Bool) (g : History → Made Answer) → own ≡ false → IsStep (λ (a : Answer). a) r stores stores caller n g
-    → IsStep (λ (a : Answer). a) r stores stores caller n (uncancelled own g)
-not_cancelled {r = r} {stores = stores} {caller = caller} {n = n} own g e step = subst (λ b. IsStep (λ (a : Answer). a) r stores stores caller n (uncancelled b g)) (sym e) step
+pub not_cancelled : {r : Result Answered Stop} {stores : Stores} {caller : Caller} {n : ℕ} (own : Bool) (g : History → Made Told) → own ≡ false → IsStep told_by r stores stores caller n g → IsStep told_by r stores stores caller n (uncancelled own g)
+not_cancelled {r = r} {stores = stores} {caller = caller} {n = n} own g e step = subst (λ b. IsStep told_by r stores stores caller n (uncancelled b g)) (sym e) step

@@ -1,23 +1,23 @@
 -- Parts that are grouped in another way.
 use Rattle.std.proofs.Common.{◌≡◌, ℕ, Bool, List, [], ◌∷◌, ◌++◌, refl, ap, sym, subst, ◌∙◌, append_assoc, append-nil, Result, Ok, Err}
-use Rattle.pg_values.specs.declared.answer.Answer.{Answer}
 use Rattle.history.specs.History.{History}
 use Rattle.row_router.specs.Trees.{TableTree}
 use Rattle.sql_ast.specs.Queries.{Joined, SelectTree}
 use Rattle.sql_binder.specs.Selects.{from_of}
 use Rattle.cond_logic.specs.Asked.{SelectMeant}
-use Rattle.plan_tree.specs.Plans.{Planned, plan_for, plan_tables}
+use Rattle.plan_tree.specs.Plans.{plan_for, plan_tables}
 use Rattle.stores.specs.Stand.{Stands}
 use Rattle.stores.specs.declared.stores.Stores.{Stores}
-use Rattle.statement_steps.specs.Made.{Made, Halt, made, halted, behind, then_told, and_then}
+use Rattle.statement_steps.specs.Made.{Made, Halt, made, behind, then_told, and_then}
 use Rattle.statement_steps.specs.declared.caller.Caller.{Caller}
 use Rattle.statement_steps.specs.declared.stop.Stop.{Stop}
 use Rattle.statement_steps.specs.Steps.{IsStep, follow}
+use Rattle.select_statement.specs.Explained.{SelectsRunTheirPlan}
+use Rattle.select_statement.specs.Gathered.{Found, found_in, found_over, gathered, planned_under}
 use Rattle.statement_steps.proofs.Steps.{same_step}
-use Rattle.select_statement.specs.Explained.{run, SelectsRunTheirPlan}
-use Rattle.select_statement.specs.Gathered.{Found, found_over, found_in, gathered, plan_of, planned_under}
 use Rattle.select_statement.specs.Items.{items_of}
-use Rattle.select_statement.specs.Selected.{meant, answered, locked_below, by_plan, of_trees, of_tables, trees_for, named_from, begins, of_named, of_items, selected}
+use Rattle.select_statement.specs.declared.answered.Answered.{Answered}
+use Rattle.select_statement.specs.Selected.{Told, meant, answered, locked_below, by_plan, of_trees, of_tables, trees_for, named_from, begins, of_named, of_items}
 
 -- ---- parts that are grouped in another way
 
@@ -62,7 +62,7 @@ module _ (prunes : Bool) (names : List (List ℕ)) (c : Caller) (t : SelectTree)
       → follow (found_over c t trees) (λ g. follow (planned_under prunes names c g) (λ p. answered c g.meant p)) h ≡ of_trees prunes names c t trees h
   found trees h =
       let f = meant c t (items_of 0 (from_of t) trees) in
-      let next : Found → History → Made Answer = λ g. follow (planned_under prunes names c g) (λ p. answered c g.meant p) in
+      let next : Found → History → Made Told = λ g. follow (planned_under prunes names c g) (λ p. answered c g.meant p) in
       follow_again f (λ m k. made [] (record { meant = m; trees = trees })) next h
       ∙ follow_same f (λ m. follow (λ k. made [] (record { meant = m; trees = trees })) next) (λ m. by_plan names c m (plan_for prunes m.conditions trees)) h
       (λ m k. follow_made (record { meant = m; trees = trees }) next k ∙ planned m trees k)
@@ -70,11 +70,11 @@ module _ (prunes : Bool) (names : List (List ℕ)) (c : Caller) (t : SelectTree)
   pub runs : (h : History) → follow (gathered names c t) (λ g. follow (planned_under prunes names c g) (λ p. answered c g.meant p)) h ≡ of_named prunes names c t h
   runs h =
       let f = named_from names c [] (from_of t) in
-      let next : Found → History → Made Answer = λ g. follow (planned_under prunes names c g) (λ p. answered c g.meant p) in
+      let next : Found → History → Made Told = λ g. follow (planned_under prunes names c g) (λ p. answered c g.meant p) in
       follow_again f (found_in c t) next h
       ∙ follow_same f (λ ns. follow (found_in c t ns) next) (of_tables prunes names c t) h (λ ns k. found (trees_for c ns k) k)
 
-  pub runs_step : {view : Answer → Answer} {r : Result Answer Stop} {old new : Stores} {n : ℕ}
+  pub runs_step : {view : Answered → Told} {r : Result Answered Stop} {old new : Stores} {n : ℕ}
       → IsStep view r old new c n (follow (gathered names c t) (λ g. follow (planned_under prunes names c g) (λ p. answered c g.meant p))) → IsStep view r old new c n (of_named prunes names c t)
   runs_step {view = view} {r = r} {old = old} {new = new} {n = n} step =
       same_step view r old new c n (of_named prunes names c t) (follow (gathered names c t) (λ g. follow (planned_under prunes names c g) (λ p. answered c g.meant p))) (λ h stands. sym (runs h)) step

@@ -4,8 +4,7 @@ use Rattle.std.specs.Prelude.{nat_le}
 use Rattle.std.specs.List.{flat_map, slice_index_or}
 use Rattle.std.proofs.lemmas.Bool.Decides.{nat_tests}
 use Rattle.std.proofs.lemmas.List.{length-map, map-append, drop_more}
-use Rattle.std.proofs.lemmas.List.Elements.{All-nil, All-cons, All-head, All-tail, All-append}
-use Rattle.pg_values.specs.declared.answer.Answer.{Answer}
+use Rattle.std.proofs.lemmas.List.Elements.{All-nil, All-head, All-tail, All-append}
 use Rattle.pg_values.specs.declared.fault.Fault.{Fault}
 use Rattle.pg_values.specs.declared.ids.TableNo.{TableNo}
 use Rattle.pg_values.specs.declared.which.Which.TheVariants.{TablesInFrom}
@@ -23,7 +22,7 @@ use Rattle.plan_tree.specs.Laws.{TreesCanBePruned}
 use Rattle.cond_logic.specs.Asked.{SelectMeant}
 use Rattle.plan_tree.specs.Prunable.{CanPrune}
 use Rattle.soundness.proofs.Presence.{all_more}
-use Rattle.sql_ast.specs.Queries.{Joined, SelectTree, selected as selects}
+use Rattle.sql_ast.specs.Queries.{SelectTree, selected as selects}
 use Rattle.expression_binder.specs.Firsts.{or_first, unless}
 use Rattle.expression_binder.specs.Scopes.{Item}
 use Rattle.sql_binder.specs.From.{item_name, twice_faults}
@@ -41,11 +40,12 @@ use Rattle.statement_steps.specs.declared.caller.Caller.{Caller}
 use Rattle.statement_steps.specs.declared.stop.Stop.{Stop}
 use Rattle.statement_steps.specs.declared.stop.Stop.TheVariants as stop
 use Rattle.statement_steps.specs.Known.{IsKnownTo}
-use Rattle.statement_steps.specs.Steps.{IsStep, follow}
+use Rattle.statement_steps.specs.Steps.{IsStep}
 use Rattle.statement_steps.proofs.Parts.{refused_here}
 use Rattle.statement_steps.specs.Below.{number_of}
 use Rattle.select_statement.specs.Lent.{HasLeaves, MayLock, IsTreeFor, IsLookFor}
-use Rattle.select_statement.specs.Selected.{outcome, meant, uncancelled, trees_for, begins, of_named, of_items, selected}
+use Rattle.select_statement.specs.declared.answered.Answered.{Answered}
+use Rattle.select_statement.specs.Selected.{Told, told_by, outcome, meant, uncancelled, trees_for}
 use Rattle.select_statement.proofs.Kept.{tables_kept}
 use Rattle.select_statement.proofs.Known.{tree_for}
 
@@ -190,12 +190,12 @@ none_meant view (Err e) stores caller t items P many may step = tt
 
 -- ---- a SELECT that cancels itself
 
-pub itself_refused : (b : Bool) (f : History → Made Answer) (fault : Fault) (stores : Stores) (caller : Caller) → b ≡ true → fault ≡ statement_cancelled → MayAttempt stores caller
-    → IsStep (λ (a : Answer). a) (Err (stop.Refused fault)) stores stores caller (caller.cmd + 1) (uncancelled b f)
-itself_refused true f fault stores caller on is may = refused_here (λ (a : Answer). a) fault stores caller (caller.cmd + 1) (uncancelled true f) may (λ h stands. ap (λ x. halted [] (Refused x)) (sym is))
+pub itself_refused : (b : Bool) (f : History → Made Told) (fault : Fault) (stores : Stores) (caller : Caller) → b ≡ true → fault ≡ statement_cancelled → MayAttempt stores caller
+    → IsStep told_by (Err (stop.Refused fault)) stores stores caller (caller.cmd + 1) (uncancelled b f)
+itself_refused true f fault stores caller on is may = refused_here told_by fault stores caller (caller.cmd + 1) (uncancelled true f) may (λ h stands. ap (λ x. halted [] (Refused x)) (sym is))
 itself_refused false f fault stores caller on is may = absurd (cc)
 
-pub others_answered : (b : Bool) (f : History → Made Answer) (r : Result Answer Stop) (stores : Stores) (caller : Caller) → b ≡ false
-    → IsStep (λ (a : Answer). a) r stores stores caller (caller.cmd + 1) f → IsStep (λ (a : Answer). a) r stores stores caller (caller.cmd + 1) (uncancelled b f)
+pub others_answered : (b : Bool) (f : History → Made Told) (r : Result Answered Stop) (stores : Stores) (caller : Caller) → b ≡ false
+    → IsStep told_by r stores stores caller (caller.cmd + 1) f → IsStep told_by r stores stores caller (caller.cmd + 1) (uncancelled b f)
 others_answered true f r stores caller off step = absurd (cc)
 others_answered false f r stores caller off step = step

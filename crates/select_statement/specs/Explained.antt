@@ -21,7 +21,7 @@ use Rattle.statement_steps.specs.declared.caller.Caller.{Caller}
 use Rattle.statement_steps.specs.Steps.{follow}
 use Rattle.select_statement.specs.Gathered.{Found, gathered, planned_under}
 use Rattle.select_statement.specs.Items.{node_of}
-use Rattle.select_statement.specs.Selected.{answered, begins, selected}
+use Rattle.select_statement.specs.Selected.{Told, answered, begins, selected}
 
 -- ---- names
 
@@ -60,7 +60,7 @@ explained prunes names c t = follow (begins c) (λ u. follow (gathered names c t
 -- ---- the plan that is printed is the one that runs
 
 -- a SELECT of tables gathers and plans as its EXPLAIN does, and then reads by that plan
-abbrev pub run : (prunes : Bool) → List (List ℕ) → Caller → SelectTree → History → Made Answer
+abbrev pub run : (prunes : Bool) → List (List ℕ) → Caller → SelectTree → History → Made Told
 run prunes names c t = follow (begins c) (λ u. follow (gathered names c t) (λ g. follow (planned_under prunes names c g) (λ p. answered c g.meant p)))
 
 abbrev pub SelectsRunTheirPlan : Type 0

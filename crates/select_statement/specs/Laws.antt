@@ -19,10 +19,11 @@ use Rattle.plan_tree.specs.Plans.{plan_for}
 use Rattle.select_answer.specs.Laws.{plan_reads}
 use Rattle.stores.specs.Events.{look_of}
 use Rattle.stores.specs.Good.{IsGood}
+use Rattle.statement_steps.specs.Ended.{giving}
 use Rattle.statement_steps.specs.Made.{Refused, halted}
 use Rattle.statement_steps.specs.declared.caller.Caller.{Caller}
 use Rattle.select_statement.specs.Selected.{answered, of_tables, trees_for}
-use Rattle.select_statement.specs.Plain.{answered_plainly, selected_plainly}
+use Rattle.select_statement.specs.Plain.{answer_in, answered_plainly, selected_plainly}
 
 -- a tree has no more leaves than there are tables
 abbrev pub LeavesAreFew : Type 0
@@ -33,10 +34,10 @@ LeavesAreFew = (h : History) (session table : ℕ) (s : TakenSnapshot) → IsLeg
 abbrev pub Looks : Caller → History → Type 0
 Looks c h = IsLooking h c.session (look_of h c.session c.cmd)
 
--- a SELECT of one table makes of the history what a SELECT makes that scans all leaves
+-- a SELECT of one table makes of the history, and answers, what a SELECT does that scans all leaves
 abbrev pub OneTableIsPlainIn : History → Type 0
 OneTableIsPlainIn h = (prunes : Bool) (names : List (List ℕ)) (c : Caller) (t : SelectTree) (table : ℕ) → Looks c h → IsMade (catalogue_events h) table
-    → of_tables prunes names c t (table ∷ []) h ≡ selected_plainly prunes names c t (table ∷ []) h
+    → giving answer_in (of_tables prunes names c t (table ∷ []) h) ≡ selected_plainly prunes names c t (table ∷ []) h
 
 -- in each history of a run
 abbrev pub OneTableIsPlain : Type 0
@@ -46,7 +47,7 @@ OneTableIsPlain = (h : History) → IsGood h → OneTableIsPlainIn h
 -- that is the fault
 abbrev pub IsPlainOrTooMuch : (prunes : Bool) → Caller → SelectMeant → List ℕ → History → Type 0
 IsPlainOrTooMuch prunes c m ns h =
-    (answered c m (plan_for prunes m.conditions (trees_for c ns h)) h ≡ answered_plainly c m (trees_for c ns h) h)
+    (giving answer_in (answered c m (plan_for prunes m.conditions (trees_for c ns h)) h) ≡ answered_plainly c m (trees_for c ns h) h)
     ⊎ ((SCAN_LIMIT < length (plan_reads prunes m (shown h (look_of h c.session c.cmd)) (trees_for c ns h)))
     × (answered c m (plan_for prunes m.conditions (trees_for c ns h)) h ≡ halted [] (Refused (too_many Scans))))
 

@@ -15,7 +15,11 @@ use Rattle.statement_steps.specs.Made.{Made}
 use Rattle.statement_steps.specs.declared.caller.Caller.{Caller}
 use Rattle.statement_steps.specs.Steps.{follow}
 use Rattle.select_statement.specs.Items.{items_of}
-use Rattle.select_statement.specs.Selected.{outcome, meant, locked_below, trees_for}
+use Rattle.select_statement.specs.Selected.{Told, outcome, meant, locked_below, trees_for}
+
+-- the answer alone
+abbrev pub answer_in : Told → Answer
+answer_in t = t.answer
 
 -- of the rows of all leaves that the command's snapshot shows
 abbrev pub answered_plainly : Caller → SelectMeant → List TableTree → History → Made Answer

@@ -2,6 +2,7 @@
 use Rattle.std.specs.Prelude.{ℕ, ◌-◌, Bool, true, false, List, [], ◌∷◌, ◌++◌, map, Result, Ok, Err}
 use Rattle.pg_values.specs.declared.answer.Answer.{Answer}
 use Rattle.pg_values.specs.declared.fault.Fault.{Fault}
+use Rattle.pg_values.specs.declared.ids.LeafId.{LeafId}
 use Rattle.pg_values.specs.declared.ids.TableNo.{TableNo}
 use Rattle.pg_values.specs.declared.lock_mode.LockMode.TheVariants.{AccessShare}
 use Rattle.refusals.specs.Refusals.{statement_cancelled}
@@ -15,6 +16,7 @@ use Rattle.cond_logic.specs.Asked.{SelectMeant}
 use Rattle.sql_binder.specs.Selects.{from_of, bound_select}
 use Rattle.plan_tree.specs.Plans.{Planned, plan_for, plan_tables}
 use Rattle.select_answer.specs.Answer.{answer_of, select_course}
+use Rattle.select_answer.specs.Course.{Course, reads_of}
 use Rattle.stores.specs.Events.{look_of}
 use Rattle.statement_steps.specs.Made.{Made, Refused, made, halted}
 use Rattle.statement_steps.specs.declared.caller.Caller.{Caller}
@@ -23,6 +25,27 @@ use Rattle.statement_steps.specs.Steps.{follow}
 use Rattle.statement_steps.specs.Below.{number_of}
 use Rattle.select_statement.specs.Cancels.{cancels_itself}
 use Rattle.select_statement.specs.Items.{items_of}
+use Rattle.select_statement.specs.declared.answered.Answered.{Answered}
+
+-- ---- what is told
+
+-- the answer, and the leaves that were read for it, in order
+pub record Told : Type 0 where
+  pub answer : Answer
+  pub reads : List LeafId
+
+abbrev pub told_by : Answered → Told
+told_by a = record { answer = a.answer; reads = a.trail.leaves }
+
+abbrev pub with_reads : List LeafId → Result Answer Fault → Result Told Fault
+with_reads reads (Ok a) = Ok (record { answer = a; reads = reads })
+with_reads reads (Err f) = Err f
+
+-- of a course that came to its end
+abbrev pub told_of : SelectMeant → Course → Result Told Fault
+told_of m w = with_reads (reads_of w) (answer_of m w)
+
+-- ---- the statement
 
 -- nothing happens by it
 abbrev pub outcome : {T : Type 0} → Result T Fault → Made T
@@ -34,11 +57,11 @@ abbrev pub meant : Caller → SelectTree → List Item → History → Made Sele
 meant c t items h = outcome (bound_select items [] c.session t)
 
 -- of the rows that the command's snapshot shows, by this plan; session 0 is the control session, which no process id names
-abbrev pub answered : Caller → SelectMeant → Planned → History → Made Answer
-answered c m plan h = outcome (answer_of m (select_course (c.sessions - 1) [] m (shown h (look_of h c.session c.cmd)) plan []))
+abbrev pub answered : Caller → SelectMeant → Planned → History → Made Told
+answered c m plan h = outcome (told_of m (select_course (c.sessions - 1) [] m (shown h (look_of h c.session c.cmd)) plan []))
 
 -- unless it cancels itself
-abbrev pub uncancelled : Bool → (History → Made Answer) → History → Made Answer
+abbrev pub uncancelled : Bool → (History → Made Told) → History → Made Told
 uncancelled true f = λ h. halted [] (Refused statement_cancelled)
 uncancelled false f = f
 
@@ -46,7 +69,7 @@ uncancelled false f = f
 abbrev pub bare_plan : SelectMeant → Planned
 bare_plan m = plan_for false m.conditions []
 
-abbrev pub bare : Caller → SelectTree → History → Made Answer
+abbrev pub bare : Caller → SelectTree → History → Made Told
 bare c t = follow (meant c t []) (λ m. uncancelled (cancels_itself c.session (c.sessions - 1) m) (answered c m (bare_plan m)))
 
 -- these tables are locked, one after the other
@@ -54,21 +77,21 @@ abbrev pub locked_below : List (List ℕ) → Caller → List TableNo → Histor
 locked_below names c tables = all_locked names c.session AccessShare (map number_of tables)
 
 -- the tables under the named ones that lead to leaves of the plan are locked, and those of its leaves; then it is run
-abbrev pub by_plan : List (List ℕ) → Caller → SelectMeant → Planned → History → Made Answer
+abbrev pub by_plan : List (List ℕ) → Caller → SelectMeant → Planned → History → Made Told
 by_plan names c m plan = follow (locked_below names c (plan_tables plan)) (λ u. answered c m plan)
 
 -- what the names stand for and the trees are known
-abbrev pub over : (prunes : Bool) → List (List ℕ) → Caller → SelectTree → List Item → List TableTree → History → Made Answer
+abbrev pub over : (prunes : Bool) → List (List ℕ) → Caller → SelectTree → List Item → List TableTree → History → Made Told
 over prunes names c t items trees = follow (meant c t items) (λ m. by_plan names c m (plan_for prunes m.conditions trees))
 
-abbrev pub of_trees : (prunes : Bool) → List (List ℕ) → Caller → SelectTree → List TableTree → History → Made Answer
+abbrev pub of_trees : (prunes : Bool) → List (List ℕ) → Caller → SelectTree → List TableTree → History → Made Told
 of_trees prunes names c t trees = over prunes names c t (items_of 0 (from_of t) trees) trees
 
 -- the trees of the tables of these numbers are those of the command's snapshot
 abbrev pub trees_for : Caller → List ℕ → History → List TableTree
 trees_for c ns h = map (λ n. tree_of h c.session n (look_of h c.session c.cmd)) ns
 
-abbrev pub of_tables : (prunes : Bool) → List (List ℕ) → Caller → SelectTree → List ℕ → History → Made Answer
+abbrev pub of_tables : (prunes : Bool) → List (List ℕ) → Caller → SelectTree → List ℕ → History → Made Told
 of_tables prunes names c t ns h = of_trees prunes names c t (trees_for c ns h) h
 
 -- the tables of the items are found and locked in text order, behind those that are
@@ -80,13 +103,13 @@ named_from names c done (j ∷ js) h = follow (named names c.session AccessShare
 abbrev pub begins : Caller → History → Made (Unit {0})
 begins c = held_at c.level c.session c.cmd
 
-abbrev pub of_named : (prunes : Bool) → List (List ℕ) → Caller → SelectTree → History → Made Answer
+abbrev pub of_named : (prunes : Bool) → List (List ℕ) → Caller → SelectTree → History → Made Told
 of_named prunes names c t = follow (named_from names c [] (from_of t)) (of_tables prunes names c t)
 
-abbrev pub of_items : (prunes : Bool) → List (List ℕ) → Caller → SelectTree → List Joined → History → Made Answer
+abbrev pub of_items : (prunes : Bool) → List (List ℕ) → Caller → SelectTree → List Joined → History → Made Told
 of_items prunes names c t [] = follow (begins c) (λ u. bare c t)
 of_items prunes names c t (j ∷ js) = follow (begins c) (λ u. of_named prunes names c t)
 
 -- of a session that prunes or does not (`enable_partition_pruning`)
-abbrev pub selected : (prunes : Bool) → List (List ℕ) → Caller → SelectTree → History → Made Answer
+abbrev pub selected : (prunes : Bool) → List (List ℕ) → Caller → SelectTree → History → Made Told
 selected prunes names c t = of_items prunes names c t (from_of t)

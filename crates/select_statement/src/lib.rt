@@ -20,6 +20,7 @@
 //! plan. Of several tables the same holds, but for the refusal of too many scans.
 #![tactic(auto)]
 
+mod answered;
 mod cancels;
 mod explaining;
 mod gathered;
@@ -30,6 +31,7 @@ mod parts;
 mod statement;
 mod tables;
 
+pub use answered::Answered;
 pub use cancels::cancelled;
 pub use explaining::{
     explain, joins_read_their_scans, names_are_as_asked, one_table_reads_its_scans,

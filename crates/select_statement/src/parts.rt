@@ -7,9 +7,10 @@ ghost use Rattle.statement_steps.specs.Steps.{IsStep};
 ghost use Rattle.select_statement.specs.Lent.{IsLookFor, MayLock};
 ghost use Rattle.select_statement.specs.Selected as selected;
 
+use crate::Answered;
 use cond_logic::SelectAsk;
 use expression_binder::ScopeItem;
-use pg_values::{Answer, LockMode, TableNo};
+use pg_values::{LockMode, TableNo};
 use plan_tree::Plan;
 use row_store::Trail;
 use select_answer::run_select;
@@ -59,15 +60,15 @@ pub(crate) fn answer(
     ask: &SelectAsk,
     plan: &Plan<'_>,
     snap: &Snapshot,
-) -> Result<Answer, Stop>
+) -> Result<Answered, Stop>
     requires may { MayAttempt stores.now caller }
     requires reads { All (CanRead stores.now.rows.leaves) (planned plan.now).items }
     requires look { IsLookFor stores.now caller snap.now }
-    ensures { IsStep (λ a. a) result stores.now stores.now caller (caller.cmd + 1) (selected.answered caller (select_meant ask.now) (planned plan.now)) }
+    ensures { IsStep selected.told_by result stores.now stores.now caller (caller.cmd + 1) (selected.answered caller (select_meant ask.now) (planned plan.now)) }
 {
     let sessions = caller.sessions - 1;
     let Stores { txs, rows, .. } = stores;
     let mut trail = Trail::new(alloc)?;
     let answer = run_select(alloc, ask, &[], sessions, plan, rows, txs, snap, &mut trail)?;
-    Ok(answer)
+    Ok(Answered { answer, trail })
 }

@@ -4,10 +4,10 @@ ghost use Rattle.statement_steps.specs.Attempts.{MayAttempt};
 ghost use Rattle.statement_steps.specs.Steps.{IsStep, follow};
 ghost use Rattle.select_statement.specs.Selected as selected;
 
+use crate::Answered;
 use crate::cancels::cancels_itself;
 use crate::gathering::{gather, look, plan_under};
 use crate::parts::{answer, bind};
-use pg_values::Answer;
 use plan_tree::make_plan;
 use refusals::statement_cancelled;
 use sql_ast::Select;
@@ -22,9 +22,9 @@ fn select_bare(
     stores: &mut Stores,
     caller: Caller,
     select: &Select,
-) -> Result<Answer, Stop>
+) -> Result<Answered, Stop>
     requires { MayAttempt stores.old caller }
-    ensures { IsStep (λ a. a) result stores.old stores.new caller (caller.cmd + 1)
+    ensures { IsStep selected.told_by result stores.old stores.new caller (caller.cmd + 1)
         (follow (selected.begins caller) (λ u. selected.bare caller (select_tree select.now))) }
 {
     hold_if_repeatable(alloc, stores, caller)?;
@@ -47,10 +47,10 @@ fn select_tables(
     caller: Caller,
     prunes: bool,
     select: &Select,
-) -> Result<Answer, Stop>
+) -> Result<Answered, Stop>
     requires may { MayAttempt stores.old caller }
     requires few { length stores.old.catalog.tables ≤ 4096 }
-    ensures { IsStep (λ a. a) result stores.old stores.new caller (caller.cmd + 1)
+    ensures { IsStep selected.told_by result stores.old stores.new caller (caller.cmd + 1)
         (follow (selected.begins caller) (λ u. selected.of_named prunes names.now caller (select_tree select.now))) }
 {
     hold_if_repeatable(alloc, stores, caller)?;
@@ -59,8 +59,8 @@ fn select_tables(
     answer(alloc, stores, caller, &found.ask, &plan, &found.snap)
 }
 
-/// A SELECT of a session: its answer, or why it stops. It locks and reads what its conditions keep, or all
-/// where the session prunes nothing.
+/// A SELECT of a session: its answer with the leaves that it has read, or why it stops. It locks and reads what
+/// its conditions keep, or all where the session prunes nothing.
 pub fn select(
     alloc: Global,
     stores: &mut Stores,
@@ -68,10 +68,10 @@ pub fn select(
     caller: Caller,
     prunes: bool,
     select: &Select,
-) -> Result<Answer, Stop>
+) -> Result<Answered, Stop>
     requires may { MayAttempt stores.old caller }
     requires few { length stores.old.catalog.tables ≤ 4096 }
-    ensures { IsStep (λ a. a) result stores.old stores.new caller (caller.cmd + 1) (selected.selected prunes names.now caller (select_tree select.now)) }
+    ensures { IsStep selected.told_by result stores.old stores.new caller (caller.cmd + 1) (selected.selected prunes names.now caller (select_tree select.now)) }
 {
     if select.from.as_slice().is_empty() {
         select_bare(alloc, stores, caller, select)

@@ -3,7 +3,6 @@ use Rattle.std.proofs.Common.{◌≡◌, ℕ, ◌+◌, ◌-◌, ◌≤◌, arith
 use Rattle.std.specs.List.{All}
 use Rattle.std.proofs.lemmas.List.{length-append, append_assoc, map-append}
 use Rattle.std.proofs.lemmas.List.Elements.{All-nil, All-cons, All-append}
-use Rattle.pg_values.specs.declared.answer.Answer.{Answer}
 use Rattle.pg_values.specs.declared.fault.Fault.{Fault}
 use Rattle.pg_values.specs.declared.lock_mode.LockMode.{LockMode}
 use Rattle.pg_values.specs.declared.lock_mode.LockMode.TheVariants.{AccessShare, RowExclusive}
@@ -18,9 +17,9 @@ use Rattle.part_catalog.proofs.Found.{last_is}
 use Rattle.plan_tree.specs.Laws.{Rows, shown}
 use Rattle.plan_tree.specs.Plans.{plan_for, plan_tables}
 use Rattle.cond_logic.specs.Asked.{ChangeMeant, SelectMeant}
-use Rattle.select_answer.specs.Answer.{answer_of, select_course}
 use Rattle.pg_values.specs.declared.isolation.Isolation.{Isolation}
 use Rattle.pg_values.specs.declared.isolation.Isolation.TheVariants.{ReadCommitted, ReadUncommitted, RepeatableRead}
+use Rattle.select_answer.specs.Answer.{select_course}
 use Rattle.soundness.specs.Worlds.{IsMade}
 use Rattle.sql_ast.specs.Expressions.{Tree}
 use Rattle.sql_ast.specs.Queries.{Joined, SelectTree, Setting}
@@ -31,8 +30,9 @@ use Rattle.stores.specs.Good.{IsGood}
 use Rattle.stores.proofs.Commands.{looks_are_open}
 use Rattle.stores.proofs.Meanwhile.{locks_keep_numbers, looks_keep_numbers}
 use Rattle.statement_steps.specs.Asks.{found, held_at, kept_number, locked, meant_or_none, named, number_or}
+use Rattle.statement_steps.specs.Ended.{giving}
 use Rattle.statement_steps.specs.Gathered.{Found, RowsLeft}
-use Rattle.statement_steps.specs.Made.{Halt, Made, made, and_then, behind, then_told}
+use Rattle.statement_steps.specs.Made.{Halt, Made, and_then, behind, made, then_told}
 use Rattle.statement_steps.specs.Steps.{follow}
 use Rattle.statement_steps.specs.declared.caller.Caller.{Caller}
 use Rattle.statement_steps.specs.declared.rest.Rest.{Rest}
@@ -43,12 +43,13 @@ use Rattle.statement_steps.specs.Below.{number_of}
 use Rattle.select_statement.specs.Items.{items_of}
 use Rattle.select_statement.specs.Laws.{Looks}
 use Rattle.select_statement.specs.Moments.{SelectsArePlain}
-use Rattle.select_statement.specs.Selected.{answered, begins, by_plan, locked_below, named_from, of_items, of_named, of_tables, outcome, trees_for}
-use Rattle.select_statement.specs.Plain.{locked_plainly, selected_plainly}
+use Rattle.select_statement.specs.Selected.{Told, answered, told_of, begins, by_plan, locked_below, named_from, of_items, of_named, of_tables, outcome, trees_for}
+use Rattle.select_statement.specs.Plain.{answer_in, locked_plainly, selected_plainly}
+use Rattle.select_statement.proofs.Giving.{giving_then}
 use Rattle.select_statement.proofs.Moments.{good_selects}
 use Rattle.select_statement.proofs.Plain.{AreLocks, all_locks, both_locks, by_plan_plain, locked_locks, locks_show}
 use Rattle.insert_statement.specs.Inserted.{answered as answered_by}
-use Rattle.change_statement.specs.Changed.{Changing, changed_by, changed_from, changed_or_left}
+use Rattle.change_statement.specs.Changed.{Changing, Told as ChangeTold, begun_or_left, changed, changed_by, changed_from, changed_on, told_of as change_told}
 use Rattle.change_statement.specs.Deleted.{deleting}
 use Rattle.sql_binder.specs.Changes.{bound_change}
 use Rattle.change_statement.specs.Gathered.{found_by, gathered, item_of, locked_all, meant, of_table}
@@ -58,7 +59,7 @@ use Rattle.change_statement.specs.Laws.{gathered_of, plainly_changed}
 use Rattle.change_statement.specs.Standing.{left_of}
 use Rattle.change_statement.specs.Updated.{updating}
 use Rattle.change_statement.proofs.Moments.{good_changes}
-use Rattle.statement_laws.specs.Whole.{CompletedSelectsArePlain, IsCaller, WholeStatementsArePlain, all_changed_by, begun_plainly, items_plainly, named_plainly}
+use Rattle.statement_laws.specs.Whole.{CompletedSelectsArePlain, IsCaller, WholeStatementsArePlain, all_changed_by, begun_plainly, items_plainly, named_plainly, rows_in}
 
 -- ---- parts one after the other
 
@@ -184,11 +185,15 @@ names_there names c done (j ∷ js) h ns made e =
       all = omega (arith, count, all);
     }
 
+-- two that go on alike where the part is done, of the first of which something is told
+alone_after : {T U V : Type 0} (v : U → V) (m : Made T) (f : T → Made U) (g : T → Made V) → ((x : T) → m.told ≡ Ok x → giving v (f x) ≡ g x) → giving v (and_then m f) ≡ and_then m g
+alone_after v m f g same = giving_then v m f ∙ same_after m (λ x. giving v (f x)) g same
+
 -- ---- SELECT
 
-module _ (h : History) (good : IsGood h) (prunes : Bool) (names : List (List ℕ)) (c : Caller) (t : SelectTree) (a : Answer) (few : length (from_of t) ≤ 4) where
+module _ (h : History) (good : IsGood h) (prunes : Bool) (names : List (List ℕ)) (c : Caller) (t : SelectTree) (a : Told) (few : length (from_of t) ≤ 4) where
   plan_plain : (g : History) (m : SelectMeant) (ns : List ℕ) → SelectsArePlain g → Looks c g → length ns ≤ 4 → All (IsMade (catalogue_events g)) ns → (by_plan names c m (plan_for prunes m.conditions (trees_for c ns g)) g).told ≡ Ok a
-      → by_plan names c m (plan_for prunes m.conditions (trees_for c ns g)) g ≡ locked_plainly prunes names c (trees_for c ns g) m g
+      → giving answer_in (by_plan names c m (plan_for prunes m.conditions (trees_for c ns g)) g) ≡ locked_plainly prunes names c (trees_for c ns g) m g
   plan_plain g m ns plain looking low made done =
       let trees = trees_for c ns g in
       let plan = plan_for prunes m.conditions trees in
@@ -200,23 +205,23 @@ module _ (h : History) (good : IsGood h) (prunes : Bool) (names : List (List ℕ
       elim (plain.2 prunes c m ns looking low made) [
         | inl same ↦ by_plan_plain prunes names c m trees g same
         | inr many ↦
-            let same : answered c m plan (locks.events ++ g) ≡ answered c m plan g = ap (λ (r : Rows). outcome (answer_of m (select_course (c.sessions - 1) [] m r plan []))) rows in
-            let told = sym (ap (λ (x : Made Answer). x.told) (same ∙ many.1)) ∙ parts.later in
+            let same : answered c m plan (locks.events ++ g) ≡ answered c m plan g = ap (λ (r : Rows). outcome (told_of m (select_course (c.sessions - 1) [] m r plan []))) rows in
+            let told = sym (ap (λ (x : Made Told). x.told) (same ∙ many.1)) ∙ parts.later in
             absurd (let d = told in cc)
       ]
 
-  tables_plain : (g : History) (ns : List ℕ) → SelectsArePlain g → Looks c g → length ns ≤ 4 → All (IsMade (catalogue_events g)) ns → (of_tables prunes names c t ns g).told ≡ Ok a → of_tables prunes names c t ns g ≡ selected_plainly prunes names c t ns g
+  tables_plain : (g : History) (ns : List ℕ) → SelectsArePlain g → Looks c g → length ns ≤ 4 → All (IsMade (catalogue_events g)) ns → (of_tables prunes names c t ns g).told ≡ Ok a → giving answer_in (of_tables prunes names c t ns g) ≡ selected_plainly prunes names c t ns g
   tables_plain g ns plain looking low made = by (bound_select (items_of 0 (from_of t) (trees_for c ns g)) [] c.session t)
     where
       by : (r : Result SelectMeant Fault) → (and_then (outcome r) (λ m. by_plan names c m (plan_for prunes m.conditions (trees_for c ns g)) ((outcome r).events ++ g))).told ≡ Ok a
-          → and_then (outcome r) (λ m. by_plan names c m (plan_for prunes m.conditions (trees_for c ns g)) ((outcome r).events ++ g)) ≡ and_then (outcome r) (λ m. locked_plainly prunes names c (trees_for c ns g) m ((outcome r).events ++ g))
+          → giving answer_in (and_then (outcome r) (λ m. by_plan names c m (plan_for prunes m.conditions (trees_for c ns g)) ((outcome r).events ++ g))) ≡ and_then (outcome r) (λ m. locked_plainly prunes names c (trees_for c ns g) m ((outcome r).events ++ g))
       by (Ok m) done = ap (behind []) (plan_plain g m ns plain looking low made done)
       by (Err f) done = refl
 
-  named_plain : (g : History) → IsCaller c g → h ≡ (of_named prunes names c t g).events ++ g → (of_named prunes names c t g).told ≡ Ok a → of_named prunes names c t g ≡ named_plainly prunes names c t g
+  named_plain : (g : History) → IsCaller c g → h ≡ (of_named prunes names c t g).events ++ g → (of_named prunes names c t g).told ≡ Ok a → giving answer_in (of_named prunes names c t g) ≡ named_plainly prunes names c t g
   named_plain g call is done =
       let m = named_from names c [] (from_of t) g in
-      same_after m (λ ns. of_tables prunes names c t ns (m.events ++ g)) (λ ns. selected_plainly prunes names c t ns (m.events ++ g)) (λ ns told.
+      alone_after answer_in m (λ ns. of_tables prunes names c t ns (m.events ++ g)) (λ ns. selected_plainly prunes names c t ns (m.events ++ g)) (λ ns told.
       let there = names_there names c [] (from_of t) g ns (All-nil (IsMade (catalogue_events g))) told in
       let later = m.events ++ g in
       let goes = went_on h g m (λ xs. of_tables prunes names c t xs later) ns told is in
@@ -224,17 +229,17 @@ module _ (h : History) (good : IsGood h) (prunes : Bool) (names : List (List ℕ
       let call_then : IsCaller c later = subst (λ (es : History). IsCaller c (es ++ g)) (sym there.events) (locks_call c there.locks g call) in
       let same : catalogue_events later ≡ catalogue_events g = ap (λ (es : History). catalogue_events (es ++ g)) there.events ∙ locks_catalogue there.locks g in
       let count = there.all in
-      let ends : (of_tables prunes names c t ns later).told ≡ Ok a = sym (ap (λ (r : Result (List ℕ) Halt). (then_told {U = Answer} r m.events (λ xs. of_tables prunes names c t xs later)).told) told) ∙ done in
+      let ends : (of_tables prunes names c t ns later).told ≡ Ok a = sym (ap (λ (r : Result (List ℕ) Halt). (then_told {U = Told} r m.events (λ xs. of_tables prunes names c t xs later)).told) told) ∙ done in
       tables_plain later ns (good_selects later good_then) (looks c later good_then call_then) (omega (arith, few, count)) (subst (λ (cats : CatalogueEvents). All (IsMade cats) ns) (sym same) there.made) ends)
 
-  items_plain : (js : List Joined) (before : History) → IsCaller c before → h ≡ (of_items prunes names c t js before).events ++ before → (of_items prunes names c t js before).told ≡ Ok a → of_items prunes names c t js before ≡ items_plainly prunes names c t js before
+  items_plain : (js : List Joined) (before : History) → IsCaller c before → h ≡ (of_items prunes names c t js before).events ++ before → (of_items prunes names c t js before).told ≡ Ok a → giving answer_in (of_items prunes names c t js before) ≡ items_plainly prunes names c t js before
   items_plain [] before call is done = refl
   items_plain (j ∷ js) before call is done =
       let m = begins c before in
-      same_after m (λ u. of_named prunes names c t (m.events ++ before)) (λ u. named_plainly prunes names c t (m.events ++ before)) (λ u told.
+      alone_after answer_in m (λ u. of_named prunes names c t (m.events ++ before)) (λ u. named_plainly prunes names c t (m.events ++ before)) (λ u told.
       let goes = went_on h before m (λ v. of_named prunes names c t (m.events ++ before)) u told is in
       let good_before : IsGood before = good_after (of_items prunes names c t (j ∷ js) before).events before (subst IsGood is good) in
-      let ends : (of_named prunes names c t (m.events ++ before)).told ≡ Ok a = sym (ap (λ (r : Result (Unit {0}) Halt). (then_told {U = Answer} r m.events (λ v. of_named prunes names c t (m.events ++ before))).told) told) ∙ done in
+      let ends : (of_named prunes names c t (m.events ++ before)).told ≡ Ok a = sym (ap (λ (r : Result (Unit {0}) Halt). (then_told {U = Told} r m.events (λ v. of_named prunes names c t (m.events ++ before))).told) told) ∙ done in
       named_plain (m.events ++ before) (held_call c c.level before good_before call) goes ends)
 
 selects_plain : (h : History) → IsGood h → CompletedSelectsArePlain h
@@ -298,43 +303,52 @@ module _ (prunes : Bool) (names : List (List ℕ)) (params : List Param) (c : Ca
       }
 
 -- from its beginning
-abbrev begun : (change : Found → Changing) → (prunes : Bool) → List (List ℕ) → List Param → Caller → NamedTable → List Setting → Option Tree → History → Made (Unit {0})
+abbrev begun : (change : Found → Changing) → (prunes : Bool) → List (List ℕ) → List Param → Caller → NamedTable → List Setting → Option Tree → History → Made ChangeTold
 begun change prunes names params c table settings condition =
-    follow (held_at c.level c.session c.cmd) (λ u. follow (gathered prunes names params c table settings condition) (λ g. changed_from (change g) names c g))
+    follow (held_at c.level c.session c.cmd) (λ u. follow (gathered prunes names params c table settings condition) (λ g. changed (change g) names c g))
+
+-- how many rows are changed
+rows_alone : (t : ℕ → ChangeTold) → ((n : ℕ) → rows_in (t n) ≡ n) → (m : Made ℕ) → giving rows_in (giving t m) ≡ m
+rows_alone t is m = by m.told
+  where
+    by : (r : Result ℕ Halt) → giving rows_in (giving t (record { events = m.events; told = r })) ≡ record { events = m.events; told = r }
+    by (Ok n) = ap (λ (k : ℕ). made m.events k) (is n)
+    by (Err stop) = refl
 
 begun_plain : (change : Found → Changing) (h : History) → IsGood h → (prunes : Bool) (names : List (List ℕ)) (params : List Param) (c : Caller) (table : NamedTable) (settings : List Setting) (condition : Option Tree) (before : History)
     → h ≡ (begun change prunes names params c table settings condition before).events ++ before → IsCaller c before
-    → begun change prunes names params c table settings condition before ≡ begun_plainly change prunes names params c table settings condition before
+    → giving rows_in (begun change prunes names params c table settings condition before) ≡ begun_plainly change prunes names params c table settings condition before
 begun_plain change h good prunes names params c table settings condition before is call =
     let holds = held_at c.level c.session c.cmd before in
     let there_after = holds.events ++ before in
     let gathers = gathered prunes names params c table settings condition there_after in
-    let whole = λ (u : Unit {0}). follow (gathered prunes names params c table settings condition) (λ g. changed_from (change g) names c g) there_after in
-    same_after holds whole (λ u. follow (gathered prunes names params c table settings condition) (λ g. plainly_changed (change g) names c g) there_after) (λ u told.
+    let whole = λ (u : Unit {0}). follow (gathered prunes names params c table settings condition) (λ g. changed (change g) names c g) there_after in
+    alone_after rows_in holds whole (λ u. follow (gathered prunes names params c table settings condition) (λ g. plainly_changed (change g) names c g) there_after) (λ u told.
     let goes = went_on h before holds whole u told is in
     let good_before : IsGood before = good_after (and_then holds whole).events before (subst IsGood is good) in
     let call_then : IsCaller c there_after = held_call c c.level before good_before call in
-    same_after gathers (λ g. changed_from (change g) names c g (gathers.events ++ there_after)) (λ g. plainly_changed (change g) names c g (gathers.events ++ there_after)) (λ g found_told.
+    alone_after rows_in gathers (λ g. changed (change g) names c g (gathers.events ++ there_after)) (λ g. plainly_changed (change g) names c g (gathers.events ++ there_after)) (λ g found_told.
     let there = gathered_there prunes names params c table settings condition there_after g found_told in
     let locks = gathered_locks prunes names params c table settings condition there_after in
     let last = gathers.events ++ there_after in
-    let on = went_on h there_after gathers (λ x. changed_from (change x) names c x last) g found_told goes in
-    let good_last : IsGood last = good_after (changed_from (change g) names c g last).events last (subst IsGood on good) in
+    let on = went_on h there_after gathers (λ x. changed (change x) names c x last) g found_told goes in
+    let good_last : IsGood last = good_after (changed (change g) names c g last).events last (subst IsGood on good) in
     let call_last : IsCaller c last = subst (λ (es : History). IsCaller c (es ++ there_after)) (sym locks.1) (locks_call c locks.0 there_after call_then) in
     let same : catalogue_events last ≡ catalogue_events there_after = ap (λ (es : History). catalogue_events (es ++ there_after)) locks.1 ∙ locks_catalogue locks.0 there_after in
     let made_last : IsMade (catalogue_events last) there.table = subst (λ (cats : CatalogueEvents). IsMade cats there.table) (sym same) there.made in
     let plain = good_changes last good_last prunes (change g) names c there.table there.asked (looks c last good_last call_last) made_last in
-    subst (λ (x : Found). changed_from (change g) names c x last ≡ plainly_changed (change g) names c x last) (sym there.is) plain))
+    rows_alone (change_told g) (λ n. refl) (changed_from (change g) names c g last)
+    ∙ subst (λ (x : Found). changed_from (change g) names c x last ≡ plainly_changed (change g) names c x last) (sym there.is) plain))
 
 changed_plain : (change : Found → Changing) (h : History) → IsGood h → (prunes : Bool) (names : List (List ℕ)) (params : List Param) (c : Caller) (rest : Option Rest) (table : NamedTable) (settings : List Setting) (condition : Option Tree) (before : History)
     → h ≡ (changed_by change names c rest (begun change prunes names params c table settings condition) before).events ++ before → IsCaller c before
-    → changed_by change names c rest (begun change prunes names params c table settings condition) before ≡ all_changed_by change prunes names params c rest table settings condition before
+    → giving rows_in (changed_by change names c rest (begun change prunes names params c table settings condition) before) ≡ all_changed_by change prunes names params c rest table settings condition before
 changed_plain change h good prunes names params c rest table settings condition before is call = by (left_of before c rest) is
   where
-    by : (o : Option RowsLeft) → h ≡ (changed_or_left change names c (begun change prunes names params c table settings condition) o before).events ++ before
-        → changed_or_left change names c (begun change prunes names params c table settings condition) o before ≡ changed_or_left change names c (begun_plainly change prunes names params c table settings condition) o before
+    by : (o : Option RowsLeft) → h ≡ (begun_or_left (begun change prunes names params c table settings condition) (λ r k. giving (change_told r.found) (changed_on change names c r k)) o before).events ++ before
+        → giving rows_in (begun_or_left (begun change prunes names params c table settings condition) (λ r k. giving (change_told r.found) (changed_on change names c r k)) o before) ≡ begun_or_left (begun_plainly change prunes names params c table settings condition) (changed_on change names c) o before
     by None e = begun_plain change h good prunes names params c table settings condition before e call
-    by (Some r) e = refl
+    by (Some r) e = rows_alone (change_told r.found) (λ n. refl) (changed_on change names c r before)
 
 pub good_whole : (h : History) → IsGood h → WholeStatementsArePlain h
 good_whole h good = record {

@@ -12,17 +12,19 @@ use Rattle.sql_binder.specs.Selects.{from_of}
 use Rattle.stores.specs.Good.{IsGood}
 use Rattle.stores.specs.Numbers.{IsAt}
 use Rattle.statement_steps.specs.Asks.{held_at}
+use Rattle.statement_steps.specs.Ended.{giving}
 use Rattle.statement_steps.specs.Gathered.{Found}
 use Rattle.statement_steps.specs.Made.{Made}
 use Rattle.statement_steps.specs.Steps.{follow}
 use Rattle.statement_steps.specs.declared.caller.Caller.{Caller}
 use Rattle.statement_steps.specs.declared.rest.Rest.{Rest}
-use Rattle.select_statement.specs.Plain.{selected_plainly}
-use Rattle.select_statement.specs.Selected.{bare, begins, named_from, selected}
-use Rattle.change_statement.specs.Changed.{Changing, changed_by}
+use Rattle.select_statement.specs.Plain.{answer_in, selected_plainly}
+use Rattle.select_statement.specs.Selected.{Told, bare, begins, named_from, selected}
+use Rattle.change_statement.specs.Changed.{Changing, Told as ChangeTold, begun_or_left, changed_on}
 use Rattle.change_statement.specs.Deleted.{deleted, deleting}
 use Rattle.change_statement.specs.Gathered.{gathered}
 use Rattle.change_statement.specs.Laws.{plainly_changed}
+use Rattle.change_statement.specs.Standing.{left_of}
 use Rattle.change_statement.specs.Updated.{updated, updating}
 
 -- ---- SELECT
@@ -31,27 +33,30 @@ abbrev pub named_plainly : (prunes : Bool) → List (List ℕ) → Caller → Se
 named_plainly prunes names c t = follow (named_from names c [] (from_of t)) (selected_plainly prunes names c t)
 
 abbrev pub items_plainly : (prunes : Bool) → List (List ℕ) → Caller → SelectTree → List Joined → History → Made Answer
-items_plainly prunes names c t [] = follow (begins c) (λ u. bare c t)
+items_plainly prunes names c t [] = λ h. giving answer_in (follow (begins c) (λ u. bare c t) h)
 items_plainly prunes names c t (j ∷ js) = follow (begins c) (λ u. named_plainly prunes names c t)
 
 abbrev pub all_selected : (prunes : Bool) → List (List ℕ) → Caller → SelectTree → History → Made Answer
 all_selected prunes names c t = items_plainly prunes names c t (from_of t)
 
--- ---- UPDATE and DELETE
+-- ---- UPDATE and DELETE, with how many rows they change
 
-abbrev pub begun_plainly : (change : Found → Changing) → (prunes : Bool) → List (List ℕ) → List Param → Caller → NamedTable → List Setting → Option Tree → History → Made (Unit {0})
+abbrev pub rows_in : ChangeTold → ℕ
+rows_in t = t.rows
+
+abbrev pub begun_plainly : (change : Found → Changing) → (prunes : Bool) → List (List ℕ) → List Param → Caller → NamedTable → List Setting → Option Tree → History → Made ℕ
 begun_plainly change prunes names params c table settings condition =
     follow (held_at c.level c.session c.cmd) (λ u.
     follow (gathered prunes names params c table settings condition) (λ g. plainly_changed (change g) names c g))
 
 -- one that goes on takes the rows that it has left
-abbrev pub all_changed_by : (change : Found → Changing) → (prunes : Bool) → List (List ℕ) → List Param → Caller → Option Rest → NamedTable → List Setting → Option Tree → History → Made (Unit {0})
-all_changed_by change prunes names params c rest table settings condition = changed_by change names c rest (begun_plainly change prunes names params c table settings condition)
+abbrev pub all_changed_by : (change : Found → Changing) → (prunes : Bool) → List (List ℕ) → List Param → Caller → Option Rest → NamedTable → List Setting → Option Tree → History → Made ℕ
+all_changed_by change prunes names params c rest table settings condition h = begun_or_left (begun_plainly change prunes names params c table settings condition) (changed_on change names c) (left_of h c rest) h
 
-abbrev pub all_updated : (prunes : Bool) → List (List ℕ) → List Param → Caller → Option Rest → NamedTable → List Setting → Option Tree → History → Made (Unit {0})
+abbrev pub all_updated : (prunes : Bool) → List (List ℕ) → List Param → Caller → Option Rest → NamedTable → List Setting → Option Tree → History → Made ℕ
 all_updated prunes names params c = all_changed_by (λ g. updating c g) prunes names params c
 
-abbrev pub all_deleted : (prunes : Bool) → List (List ℕ) → List Param → Caller → Option Rest → NamedTable → Option Tree → History → Made (Unit {0})
+abbrev pub all_deleted : (prunes : Bool) → List (List ℕ) → List Param → Caller → Option Rest → NamedTable → Option Tree → History → Made ℕ
 all_deleted prunes names params c rest table condition = all_changed_by (λ g. deleting c) prunes names params c rest table [] condition
 
 -- ---- what is said of a moment of a run
@@ -65,17 +70,18 @@ pub record IsCaller (c : Caller) (h : History) : Type 0 where
 -- a SELECT of up to four tables that has come to its end there made of the history before, and answered, what one does that
 -- scans all leaves of the trees of its snapshot
 abbrev pub CompletedSelectsArePlain : History → Type 0
-CompletedSelectsArePlain h = (prunes : Bool) (names : List (List ℕ)) (c : Caller) (t : SelectTree) (a : Answer) (before : History)
-    → h ≡ (selected prunes names c t before).events ++ before → IsCaller c before → length (from_of t) ≤ 4 → (selected prunes names c t before).told ≡ Ok a → selected prunes names c t before ≡ all_selected prunes names c t before
+CompletedSelectsArePlain h = (prunes : Bool) (names : List (List ℕ)) (c : Caller) (t : SelectTree) (a : Told) (before : History)
+    → h ≡ (selected prunes names c t before).events ++ before → IsCaller c before → length (from_of t) ≤ 4 → (selected prunes names c t before).told ≡ Ok a → giving answer_in (selected prunes names c t before) ≡ all_selected prunes names c t before
 
--- an UPDATE or a DELETE, from its beginning or from where it stood, made what one does over all leaves of its table's tree
+-- an UPDATE or a DELETE, from its beginning or from where it stood, made what one does over all leaves of its table's tree,
+-- and changed as many rows
 abbrev pub UpdatesArePlain : History → Type 0
 UpdatesArePlain h = (prunes : Bool) (names : List (List ℕ)) (params : List Param) (c : Caller) (rest : Option Rest) (table : NamedTable) (settings : List Setting) (condition : Option Tree) (before : History)
-    → h ≡ (updated prunes names params c rest table settings condition before).events ++ before → IsCaller c before → updated prunes names params c rest table settings condition before ≡ all_updated prunes names params c rest table settings condition before
+    → h ≡ (updated prunes names params c rest table settings condition before).events ++ before → IsCaller c before → giving rows_in (updated prunes names params c rest table settings condition before) ≡ all_updated prunes names params c rest table settings condition before
 
 abbrev pub DeletesArePlain : History → Type 0
 DeletesArePlain h = (prunes : Bool) (names : List (List ℕ)) (params : List Param) (c : Caller) (rest : Option Rest) (table : NamedTable) (condition : Option Tree) (before : History)
-    → h ≡ (deleted prunes names params c rest table condition before).events ++ before → IsCaller c before → deleted prunes names params c rest table condition before ≡ all_deleted prunes names params c rest table condition before
+    → h ≡ (deleted prunes names params c rest table condition before).events ++ before → IsCaller c before → giving rows_in (deleted prunes names params c rest table condition before) ≡ all_deleted prunes names params c rest table condition before
 
 pub record WholeStatementsArePlain (h : History) : Type 0 where
   pub selects : CompletedSelectsArePlain h

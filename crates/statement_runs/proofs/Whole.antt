@@ -18,10 +18,11 @@ use Rattle.sql_ast.specs.declared.select.Select.{Select}
 use Rattle.sql_ast.specs.declared.table_definition.ColumnDefinition.{ColumnDefinition}
 use Rattle.sql_ast.specs.declared.table_definition.Partitioning.{Partitioning}
 use Rattle.history.specs.History.{History}
+use Rattle.part_catalog.specs.Stands.{CatalogueStands}
 use Rattle.stores.specs.declared.stores.Stores.{Stores}
 use Rattle.statement_steps.specs.Attempts.{MayAttempt}
-use Rattle.statement_steps.specs.Ended.{Ended, ended, silent_end, told_as}
-use Rattle.statement_steps.specs.Made.{Made, Halt, Refused}
+use Rattle.statement_steps.specs.Ended.{Done, Ended, ended, silent_end, told_as}
+use Rattle.statement_steps.specs.Made.{Halt, Made, Refused}
 use Rattle.statement_steps.specs.declared.caller.Caller.{Caller}
 use Rattle.statement_steps.specs.declared.ending.Ending.{Ending}
 use Rattle.statement_steps.specs.declared.ending.Ending.TheVariants as endings
@@ -33,7 +34,7 @@ use Rattle.statement_steps.proofs.Numbers.{one_later}
 use Rattle.statement_steps.proofs.Parts.{stays, still_on}
 use Rattle.change_statement.specs.Running.{IsCommand}
 use Rattle.change_statement.proofs.Commands.{goes_anywhere, waits_later}
-use Rattle.statement_runs.specs.Attempted.{nothing, table, as_table, silent, tabled, staged, omitted, command_attempted, query_attempted}
+use Rattle.statement_runs.specs.Attempted.{as_table, command_attempted, nothing, omitted, printed, query_attempted, silent, staged, table, tabled}
 use Rattle.statement_runs.specs.LeftOut.{command_word, query_word}
 use Rattle.statement_runs.specs.Printed.{IsStatement}
 
@@ -84,24 +85,56 @@ staged_is left (Err (stop.Refused fault)) old new caller f before step = record 
 }
 staged_is left (Err stop.NoMemory) old new caller f before step = record { is = λ h stands at go. tt; keeps = step.keeps; waits = tt }
 
+-- ---- it prints by what is told
+
+pub printed_is : {X T : Type 0} (left : Option Rest) (view : X → T) (text : History → T → List ℕ) (x : X) (old new : Stores) (caller : Caller) (f : History → Made T) (before after : List ℕ) → ((h : History) → CatalogueStands new.catalog h → after ≡ before ++ text h (view x))
+    → IsStep view (Ok x) old new caller (caller.cmd + 1) f → IsStatement left (Ok endings.Done) old new before after caller (printed text f)
+printed_is left view text x old new caller f before after prints step = record {
+  is = λ h stands at go.
+      let t = step.is h stands at in
+      let later = (f h).events ++ h in
+      (text later (view x), ap (told_as (λ y. Done (text later y))) t.0, prints later t.1.stands.all.catalog, t.1);
+  keeps = step.keeps;
+  waits = step.waits;
+}
+
+pub printed_stops : {X T : Type 0} (left : Option Rest) (view : X → T) (text : History → T → List ℕ) (e : Stop) (old new : Stores) (caller : Caller) (f : History → Made T) (before : List ℕ) → IsStep view (Err e) old new caller (caller.cmd + 1) f → IsStatement left (Err e) old new before before caller (printed text f)
+printed_stops left view text (stop.Waits rest) old new caller f before step = record {
+  is = λ h stands at go. let t = step.is h stands at in (ap (told_as (λ y. Done (text ((f h).events ++ h) y))) t.0, refl, waits_later rest new caller h ((f h).events ++ h) t.1, goes_anywhere rest ((f h).events ++ h) caller.session step.waits.1);
+  keeps = step.keeps;
+  waits = step.waits.0;
+}
+printed_stops left view text (stop.Refused fault) old new caller f before step = record {
+  is = λ h stands at go. let t = step.is h stands at in (ap (told_as (λ y. Done (text ((f h).events ++ h) y))) t.0, refl, t.1);
+  keeps = step.keeps;
+  waits = step.waits;
+}
+printed_stops left view text stop.NoMemory old new caller f before step = record { is = λ h stands at go. tt; keeps = step.keeps; waits = tt }
+
 -- and so does a statement that may wait in the middle of its run
-pub command_is : (left : Option Rest) → (r : Result (Unit {0}) Stop) (old new : Stores) (caller : Caller) (f : History → Made (Unit {0})) (before : List ℕ) → IsCommand left r old new caller f → IsStatement left (ended r) old new before before caller (silent f)
-command_is left (Ok u) old new caller f before step = record {
-  is = λ h stands at go. let t = step.is h stands at go in ([], ap (told_as nothing) t.0, sym (append-nil before), t.1);
+pub command_is : {X T : Type 0} (left : Option Rest) (view : X → T) (text : History → T → List ℕ) (x : X) (old new : Stores) (caller : Caller) (f : History → Made T) (before after : List ℕ) → ((h : History) → CatalogueStands new.catalog h → after ≡ before ++ text h (view x))
+    → IsCommand left view (Ok x) old new caller f → IsStatement left (Ok endings.Done) old new before after caller (printed text f)
+command_is left view text x old new caller f before after prints step = record {
+  is = λ h stands at go.
+      let t = step.is h stands at go in
+      let later = (f h).events ++ h in
+      (text later (view x), ap (told_as (λ y. Done (text later y))) t.0, prints later t.1.stands.all.catalog, t.1);
   keeps = step.keeps;
   waits = step.waits;
 }
-command_is left (Err (stop.Waits rest)) old new caller f before step = record {
-  is = λ h stands at go. let t = step.is h stands at go in (ap (told_as nothing) t.0, refl, t.1, t.2);
+
+pub command_stops : {X T : Type 0} (left : Option Rest) (view : X → T) (text : History → T → List ℕ) (e : Stop) (old new : Stores) (caller : Caller) (f : History → Made T) (before : List ℕ) → IsCommand left view (Err e) old new caller f → IsStatement left (Err e) old new before before caller (printed text f)
+command_stops left view text (stop.Waits rest) old new caller f before step = record {
+  is = λ h stands at go. let t = step.is h stands at go in (ap (told_as (λ y. Done (text ((f h).events ++ h) y))) t.0, refl, t.1, t.2);
   keeps = step.keeps;
   waits = step.waits;
 }
-command_is left (Err (stop.Refused fault)) old new caller f before step = record {
-  is = λ h stands at go. let t = step.is h stands at go in (ap (told_as nothing) t.0, refl, t.1);
+command_stops left view text (stop.Refused fault) old new caller f before step = record {
+  is = λ h stands at go. let t = step.is h stands at go in (ap (told_as (λ y. Done (text ((f h).events ++ h) y))) t.0, refl, t.1);
   keeps = step.keeps;
   waits = step.waits;
 }
-command_is left (Err stop.NoMemory) old new caller f before step = record { is = λ h stands at go. tt; keeps = step.keeps; waits = tt }
+command_stops left view text stop.NoMemory old new caller f before step = record { is = λ h stands at go. tt; keeps = step.keeps; waits = tt }
 
 -- ---- it prints a table
 
@@ -138,13 +171,13 @@ omitted_is left word fault stores caller before may is = record {
 }
 
 -- as what has no case of its own
-pub query_omitted : (prunes : Bool) (names : List (List ℕ)) (caller : Caller) (rest : Option Rest) (q : Query) → ((s : RowStatement) → q ≡ queries.Rows s → ⊥) → ((analyze : Bool) (s : Select) → q ≡ queries.ExplainSelect analyze s → ⊥)
-    → query_attempted prunes names caller rest (query_tree q) ≡ omitted (query_word (query_tree q))
-query_omitted prunes names caller rest (queries.Rows s) rows explains = absurd (rows s refl)
-query_omitted prunes names caller rest (queries.Prepare name kinds s) rows explains = refl
-query_omitted prunes names caller rest (queries.Execute name arguments) rows explains = refl
-query_omitted prunes names caller rest (queries.ExplainSelect analyze s) rows explains = absurd (explains analyze s refl)
-query_omitted prunes names caller rest (queries.ExplainExecute analyze name arguments) rows explains = refl
+pub query_omitted : (trailed prunes : Bool) (names : List (List ℕ)) (caller : Caller) (rest : Option Rest) (q : Query) → ((s : RowStatement) → q ≡ queries.Rows s → ⊥) → ((analyze : Bool) (s : Select) → q ≡ queries.ExplainSelect analyze s → ⊥)
+    → query_attempted trailed prunes names caller rest (query_tree q) ≡ omitted (query_word (query_tree q))
+query_omitted trailed prunes names caller rest (queries.Rows s) rows explains = absurd (rows s refl)
+query_omitted trailed prunes names caller rest (queries.Prepare name kinds s) rows explains = refl
+query_omitted trailed prunes names caller rest (queries.Execute name arguments) rows explains = refl
+query_omitted trailed prunes names caller rest (queries.ExplainSelect analyze s) rows explains = absurd (explains analyze s refl)
+query_omitted trailed prunes names caller rest (queries.ExplainExecute analyze name arguments) rows explains = refl
 
 pub command_omitted : (names : List (List ℕ)) (caller : Caller) (rest : Option Rest) (t : Command)
     → ((name : List ℕ) (columns : List ColumnDefinition) (by : Option Partitioning) → t ≡ commands.CreateTable name columns by → ⊥)

@@ -1,8 +1,10 @@
 -- What a statement of a session makes of a history, and what it prints (VI. SQL Commands).
-use Rattle.std.specs.Prelude.{ℕ, Bool, true, false, List, [], Option, codes}
+use Rattle.std.specs.Prelude.{ℕ, ◌&&◌, Bool, true, false, List, [], ◌++◌, Option, codes, length}
 use Rattle.pg_values.specs.declared.answer.Answer.{Answer}
 use Rattle.refusals.specs.Refusals.{left_out}
 use Rattle.history.specs.History.{History}
+use Rattle.schedule.specs.declared.block.BlockKind.{BlockKind}
+use Rattle.schedule.specs.declared.block.BlockKind.TheVariants.{Step}
 use Rattle.sessions.specs.declared.settings.Settings.{Settings}
 use Rattle.sql_ast.specs.Commands.{CommandTree, makes_table, makes_partition, drops, attaches, detaches, locks}
 use Rattle.sql_ast.specs.declared.detachment.Detachment.TheVariants.{AtOnce, Concurrently, Finalize}
@@ -15,8 +17,9 @@ use Rattle.statement_steps.specs.declared.caller.Caller.{Caller}
 use Rattle.statement_steps.specs.declared.ending.Ending.{Ending}
 use Rattle.statement_steps.specs.declared.rest.Rest.{Rest}
 use Rattle.select_statement.specs.Explained.{explained}
-use Rattle.select_statement.specs.Selected.{selected}
+use Rattle.select_statement.specs.Selected.{Told as SelectTold, selected}
 use Rattle.insert_statement.specs.Inserted.{inserted}
+use Rattle.change_statement.specs.Changed.{Told as ChangeTold}
 use Rattle.change_statement.specs.Deleted.{deleted}
 use Rattle.change_statement.specs.Updated.{updated}
 use Rattle.table_statements.specs.Tables.{created}
@@ -28,6 +31,22 @@ use Rattle.detach_statement.specs.Concurrent.{detached_concurrently}
 use Rattle.detach_statement.specs.Finalized.{finalized}
 use Rattle.attach_statement.specs.Attached.{attached}
 use Rattle.statement_runs.specs.LeftOut.{command_word, query_word}
+use Rattle.statement_runs.specs.Trails.{trail_text}
+
+-- ---- what a run is told beside its script
+
+-- the names of its sessions, the control session's first, and whether it prints the trails of statements
+pub record Options : Type 0 where
+  pub names : List (List ℕ)
+  pub trail : Bool
+
+abbrev pub is_step : BlockKind → Bool
+is_step Step = true
+is_step _ = false
+
+-- those of steps alone
+abbrev pub is_trailed : Options → Caller → Bool
+is_trailed o c = o.trail && is_step c.kind
 
 -- ---- what is printed
 
@@ -45,6 +64,21 @@ silent f h = giving nothing (f h)
 
 abbrev pub tabled : (History → Made Answer) → History → Made Ended
 tabled f h = giving as_table (f h)
+
+-- by what is told, and by what has happened then
+abbrev pub printed : {T : Type 0} → (History → T → List ℕ) → (History → Made T) → History → Made Ended
+printed text f h = giving (λ x. Done (text ((f h).events ++ h) x)) (f h)
+
+-- an answer, and the trail, where that is asked for
+abbrev pub answer_text : (trailed : Bool) → History → SelectTold → List ℕ
+answer_text trailed h t = table t.answer ++ trail_text trailed (codes "SELECT") (length t.answer.rows) t.reads h
+
+-- INSERT reads no leaf
+abbrev pub inserted_text : (trailed : Bool) → (count : ℕ) → History → Unit {0} → List ℕ
+inserted_text trailed count h u = trail_text trailed (codes "INSERT") count [] h
+
+abbrev pub changed_text : (trailed : Bool) → (word : List ℕ) → History → ChangeTold → List ℕ
+changed_text trailed word h t = trail_text trailed word t.rows t.reads h
 
 -- where it may commit what it did first
 abbrev pub staged : (History → Made Ending) → History → Made Ended
@@ -66,26 +100,26 @@ command_attempted names c rest (detaches parent name Finalize) = silent (finaliz
 command_attempted names c rest (locks tables mode) = silent (locked names c.session tables mode)
 command_attempted names c rest t = omitted (command_word t)
 
-abbrev pub select_attempted : (prunes : Bool) → (names : List (List ℕ)) → Caller → SelectTree → History → Made Ended
-select_attempted prunes names c s = tabled (selected prunes names c s)
+abbrev pub select_attempted : (trailed prunes : Bool) → (names : List (List ℕ)) → Caller → SelectTree → History → Made Ended
+select_attempted trailed prunes names c s = printed (answer_text trailed) (selected prunes names c s)
 
-abbrev pub row_attempted : (prunes : Bool) → (names : List (List ℕ)) → Caller → Option Rest → RowTree → History → Made Ended
-row_attempted prunes names c rest (selects s) = select_attempted prunes names c s
-row_attempted prunes names c rest (inserts table columns values) = silent (inserted names [] c table columns values)
-row_attempted prunes names c rest (updates table settings condition) = silent (updated prunes names [] c rest table settings condition)
-row_attempted prunes names c rest (deletes table condition) = silent (deleted prunes names [] c rest table condition)
+abbrev pub row_attempted : (trailed prunes : Bool) → (names : List (List ℕ)) → Caller → Option Rest → RowTree → History → Made Ended
+row_attempted trailed prunes names c rest (selects s) = select_attempted trailed prunes names c s
+row_attempted trailed prunes names c rest (inserts table columns values) = printed (inserted_text trailed (length values)) (inserted names [] c table columns values)
+row_attempted trailed prunes names c rest (updates table settings condition) = printed (changed_text trailed (codes "UPDATE")) (updated prunes names [] c rest table settings condition)
+row_attempted trailed prunes names c rest (deletes table condition) = printed (changed_text trailed (codes "DELETE")) (deleted prunes names [] c rest table condition)
 
 -- one that runs the SELECT too is left out
 abbrev pub explain_attempted : (prunes : Bool) → (names : List (List ℕ)) → Caller → (analyze : Bool) → SelectTree → History → Made Ended
 explain_attempted prunes names c false s = tabled (explained prunes names c s)
 explain_attempted prunes names c true s = omitted (codes "ANALYZE")
 
-abbrev pub query_attempted : (prunes : Bool) → (names : List (List ℕ)) → Caller → Option Rest → QueryTree → History → Made Ended
-query_attempted prunes names c rest (rows r) = row_attempted prunes names c rest r
-query_attempted prunes names c rest (explains_select analyze s) = explain_attempted prunes names c analyze s
-query_attempted prunes names c rest t = omitted (query_word t)
+abbrev pub query_attempted : (trailed prunes : Bool) → (names : List (List ℕ)) → Caller → Option Rest → QueryTree → History → Made Ended
+query_attempted trailed prunes names c rest (rows r) = row_attempted trailed prunes names c rest r
+query_attempted trailed prunes names c rest (explains_select analyze s) = explain_attempted prunes names c analyze s
+query_attempted trailed prunes names c rest t = omitted (query_word t)
 
 -- from its beginning, or from where it stood, in a session with these settings
-abbrev pub attempted : (names : List (List ℕ)) → Caller → Option Rest → Settings → StatementTree → History → Made Ended
-attempted names c rest g (commands t) = command_attempted names c rest t
-attempted names c rest g (queries t) = query_attempted g.enable_partition_pruning names c rest t
+abbrev pub attempted : Options → Caller → Option Rest → Settings → StatementTree → History → Made Ended
+attempted o c rest g (commands t) = command_attempted o.names c rest t
+attempted o c rest g (queries t) = query_attempted (is_trailed o c) g.enable_partition_pruning o.names c rest t

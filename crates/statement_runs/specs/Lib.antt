@@ -16,5 +16,6 @@ pub mod Reading
 pub mod Roles
 pub mod StatementWords
 pub mod StatementsOnce
+pub mod Trails
 pub mod Weight
 pub mod Words

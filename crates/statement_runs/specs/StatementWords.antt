@@ -1,4 +1,4 @@
--- What the statements of a run mean. The run is told the names of its sessions.
+-- What the statements of a run mean.
 use Rattle.std.specs.Prelude.{ℕ, ◌-◌, Bool, false, List, [], Option, None, is_some}
 use Rattle.pg_values.specs.declared.fault.Fault.{Fault}
 use Rattle.history.specs.History.{History}
@@ -20,7 +20,7 @@ use Rattle.table_statements.specs.Places.{lock_misplaced}
 use Rattle.detach_statement.specs.Concurrent.{detach_of}
 use Rattle.detach_statement.specs.Places.{detach_misplaced}
 use Rattle.select_statement.specs.Cancels.{cancelled}
-use Rattle.statement_runs.specs.Attempted.{attempted}
+use Rattle.statement_runs.specs.Attempted.{Options, attempted}
 
 -- of the statements that are run over the stores LOCK and a concurrent DETACH cannot stand everywhere
 abbrev pub command_misplaced : Place → CommandTree → Option Fault
@@ -56,10 +56,10 @@ statement_cancelled s sessions (commands t) = []
 statement_cancelled s sessions (queries t) = query_cancelled s (sessions - 1) t
 
 -- what a statement does: its definition is opened where that matters alone
-unfoldable pub statement_attempted : List (List ℕ) → Caller → Option Rest → History → Settings → StatementTree → Made Ended
-statement_attempted names c rest h settings t = attempted names c rest settings t h
+unfoldable pub statement_attempted : Options → Caller → Option Rest → History → Settings → StatementTree → Made Ended
+statement_attempted o c rest h settings t = attempted o c rest settings t h
 
-abbrev pub statement_words : Words (List (List ℕ)) StatementTree
+abbrev pub statement_words : Words Options StatementTree
 statement_words = record {
   parsed = read_block;
   role = role_of;

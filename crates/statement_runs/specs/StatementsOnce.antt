@@ -1,5 +1,5 @@
 -- A statement commits what it did first once at most.
-use Rattle.std.specs.Prelude.{ℕ, List, [], Bool, true, false, refl, Option, Some, None, is_some, Result, Ok, Err}
+use Rattle.std.specs.Prelude.{ℕ, List, [], ◌++◌, Bool, true, false, refl, codes, length, Option, Some, None, is_some, Result, Ok, Err}
 use Rattle.std.proofs.lemmas.Bool.{false≢true}
 use Rattle.history.specs.History.{History}
 use Rattle.sessions.specs.Commits.{CommitsOnce}
@@ -31,7 +31,7 @@ use Rattle.detach_statement.specs.Concurrent.{behind_nobody, by_rest, detach_of,
 use Rattle.detach_statement.specs.Detached.{detached}
 use Rattle.detach_statement.specs.Finalized.{finalized}
 use Rattle.attach_statement.specs.Attached.{attached}
-use Rattle.statement_runs.specs.Attempted.{command_attempted, row_attempted, query_attempted, table}
+use Rattle.statement_runs.specs.Attempted.{Options, answer_text, changed_text, command_attempted, inserted_text, is_trailed, query_attempted, row_attempted, table}
 use Rattle.statement_runs.specs.StatementWords.{statement_attempted, command_committed, statement_words}
 
 -- one that is done, or stops
@@ -77,27 +77,27 @@ command_once names c rest h (resets name) = tt
 command_once names c rest h (deallocates name) = tt
 command_once names c rest h deallocates_all = tt
 
-row_once : (prunes : Bool) (names : List (List ℕ)) (c : Caller) (rest : Option Rest) (h : History) (t : RowTree)
-    → CommitsOnce false false (outcome_told (row_attempted prunes names c rest t h).told)
-row_once prunes names c rest h (selects s) = plain_once (λ r. false) table (selected prunes names c s h).told
-row_once prunes names c rest h (inserts name columns values) = plain_once (λ r. false) (λ (u : Unit {0}). []) (inserted names [] c name columns values h).told
-row_once prunes names c rest h (updates name settings condition) = plain_once (λ r. false) (λ (u : Unit {0}). []) (updated prunes names [] c rest name settings condition h).told
-row_once prunes names c rest h (deletes name condition) = plain_once (λ r. false) (λ (u : Unit {0}). []) (deleted prunes names [] c rest name condition h).told
+row_once : (trailed prunes : Bool) (names : List (List ℕ)) (c : Caller) (rest : Option Rest) (h : History) (t : RowTree)
+    → CommitsOnce false false (outcome_told (row_attempted trailed prunes names c rest t h).told)
+row_once trailed prunes names c rest h (selects s) = let m = selected prunes names c s h in plain_once (λ r. false) (answer_text trailed (m.events ++ h)) m.told
+row_once trailed prunes names c rest h (inserts name columns values) = let m = inserted names [] c name columns values h in plain_once (λ r. false) (inserted_text trailed (length values) (m.events ++ h)) m.told
+row_once trailed prunes names c rest h (updates name settings condition) = let m = updated prunes names [] c rest name settings condition h in plain_once (λ r. false) (changed_text trailed (codes "UPDATE") (m.events ++ h)) m.told
+row_once trailed prunes names c rest h (deletes name condition) = let m = deleted prunes names [] c rest name condition h in plain_once (λ r. false) (changed_text trailed (codes "DELETE") (m.events ++ h)) m.told
 
-query_once : (prunes : Bool) (names : List (List ℕ)) (c : Caller) (rest : Option Rest) (h : History) (t : QueryTree)
-    → CommitsOnce false false (outcome_told (query_attempted prunes names c rest t h).told)
-query_once prunes names c rest h (rows r) = row_once prunes names c rest h r
-query_once prunes names c rest h (prepares name kinds r) = tt
-query_once prunes names c rest h (executes name values) = tt
-query_once prunes names c rest h (explains_select true s) = tt
-query_once prunes names c rest h (explains_select false s) = plain_once (λ r. false) table (explained prunes names c s h).told
-query_once prunes names c rest h (explains_execute costs name values) = tt
+query_once : (trailed prunes : Bool) (names : List (List ℕ)) (c : Caller) (rest : Option Rest) (h : History) (t : QueryTree)
+    → CommitsOnce false false (outcome_told (query_attempted trailed prunes names c rest t h).told)
+query_once trailed prunes names c rest h (rows r) = row_once trailed prunes names c rest h r
+query_once trailed prunes names c rest h (prepares name kinds r) = tt
+query_once trailed prunes names c rest h (executes name values) = tt
+query_once trailed prunes names c rest h (explains_select true s) = tt
+query_once trailed prunes names c rest h (explains_select false s) = plain_once (λ r. false) table (explained prunes names c s h).told
+query_once trailed prunes names c rest h (explains_execute costs name values) = tt
 
-each_once : (names : List (List ℕ)) (c : Caller) (rest : Option Rest) (h : History) (g : Settings) (t : StatementTree)
-    → CommitsOnce (statement_words.has_committed rest t) (statement_words.has_committed (rest_told (statement_words.attempted names c rest h g t).told) t) (outcome_told (statement_words.attempted names c rest h g t).told)
+each_once : (o : Options) (c : Caller) (rest : Option Rest) (h : History) (g : Settings) (t : StatementTree)
+    → CommitsOnce (statement_words.has_committed rest t) (statement_words.has_committed (rest_told (statement_words.attempted o c rest h g t).told) t) (outcome_told (statement_words.attempted o c rest h g t).told)
 unfolding statement_attempted
-each_once names c rest h g (commands t) = command_once names c rest h t
-each_once names c rest h g (queries t) = query_once g.enable_partition_pruning names c rest h t
+each_once o c rest h g (commands t) = command_once o.names c rest h t
+each_once o c rest h g (queries t) = query_once (is_trailed o c) g.enable_partition_pruning o.names c rest h t
 
 pub all_once : AllCommitOnce statement_words
 all_once = record { each = each_once }

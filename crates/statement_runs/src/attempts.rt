@@ -1,24 +1,37 @@
-ghost use Rattle.std.specs.Prelude.{◌≡◌, ◌≤◌, Option, length, false};
+ghost use Rattle.std.specs.Prelude.{◌≡◌, ◌≤◌, ◌&&◌, ◌++◌, [], OnOk, Option, codes, false, length, map};
+ghost use Rattle.history.specs.History.{History};
+ghost use Rattle.part_catalog.specs.Stands.{CatalogueStands};
 ghost use Rattle.sql_ast.specs.Commands.{command_tree};
-ghost use Rattle.sql_ast.specs.Queries.{query_tree, row_tree, select_tree};
+ghost use Rattle.sql_ast.specs.Expressions.{trees};
+ghost use Rattle.sql_ast.specs.Queries.{maybe_tree, query_tree, row_tree, select_tree, setting};
 ghost use Rattle.sql_ast.specs.Statements.{statement_tree};
 ghost use Rattle.statement_steps.specs.Attempts.{MayAttempt, MayGoOn};
 ghost use Rattle.statement_steps.specs.Ended.{ended};
 ghost use Rattle.statement_steps.specs.declared.rest.Rest.{Rest as Left};
+ghost use Rattle.select_statement.specs.Selected as selected;
+ghost use Rattle.insert_statement.specs.Inserted.{inserted};
+ghost use Rattle.change_statement.specs.Changed as changed;
+ghost use Rattle.change_statement.specs.Deleted.{deleted};
+ghost use Rattle.change_statement.specs.Updated.{updated};
 ghost use Rattle.statement_runs.specs.Attempted as attempted;
 ghost use Rattle.statement_runs.specs.Printed.{IsStatement};
 
 use crate::left_out::{command_word, query_word};
+use crate::trails::write_trail;
 use attach_statement::attach;
-use change_statement::{delete, update};
+use change_statement::{ChangedRows, delete, update};
 use detach_statement::{detach, detach_concurrently, finalize};
 use insert_statement::insert;
 use out_text::write_table;
+use part_catalog::Catalog;
 use pg_values::NoMemory;
 use refusals::left_out;
-use select_statement::{explain, select};
+use schedule::BlockKind;
+use select_statement::{Answered, explain, select};
 use sessions::Settings;
-use sql_ast::{Command, Detachment, Query, RowStatement, Select, Statement};
+use sql_ast::{
+    Command, Delete, Detachment, Insert, Query, RowStatement, Select, Statement, Update,
+};
 use statement_steps::{Caller, Ending, Rest, SessionNames, Stop, ended};
 use std::alloc::Global;
 use stores::{Stores, tables_are_few};
@@ -93,25 +106,168 @@ fn attempt_command(
     }
 }
 
-// The answer is printed as a table.
+// ---- rows
+
+fn is_step(kind: BlockKind) -> bool
+    ensures { result ≡ attempted.is_step kind }
+{
+    match kind {
+        BlockKind::Step => true,
+        BlockKind::Setup | BlockKind::Teardown | BlockKind::ControlTeardown => false,
+    }
+}
+
+// The trail of a statement of a step is printed where the run is asked for it.
+fn is_trailed(trail: bool, caller: Caller) -> bool
+    ensures { result ≡ (trail && attempted.is_step caller.kind) }
+{
+    trail && is_step(caller.kind)
+}
+
+// The answer is printed as a table, and the trail behind it.
+fn print_answer(
+    alloc: Global,
+    catalog: &Catalog,
+    trailed: bool,
+    answered: &Answered,
+    out: &mut Vec<u8>,
+) -> Result<(), NoMemory>
+    ensures { OnOk result ((h : History) → CatalogueStands catalog.now h → out.new.items ≡ out.old.items ++ attempted.answer_text trailed h (selected.told_by answered.now)) }
+{
+    let rows = answered.answer.rows.len() as u64;
+    write_table(alloc, &answered.answer, out)?;
+    write_trail(
+        alloc,
+        catalog,
+        trailed,
+        b"SELECT",
+        rows,
+        answered.trail.leaves(),
+        out,
+    )
+}
+
 fn attempt_select(
     alloc: Global,
     stores: &mut Stores,
     names: &SessionNames,
     caller: Caller,
     prunes: bool,
+    trailed: bool,
     statement: &Select,
     out: &mut Vec<u8>,
 ) -> Result<(), Stop>
     requires { MayAttempt stores.old caller }
-    ensures { (left : Option Left) → IsStatement left (ended result) stores.old stores.new out.old.items out.new.items caller (attempted.select_attempted prunes names.now caller (select_tree statement.now)) }
+    ensures { (left : Option Left) → IsStatement left (ended result) stores.old stores.new out.old.items out.new.items caller (attempted.select_attempted trailed prunes names.now caller (select_tree statement.now)) }
 {
     check_room(stores, caller);
     match select(alloc, stores, names, caller, prunes, statement) {
-        Ok(answer) => match write_table(alloc, &answer, out) {
+        Ok(answered) => match print_answer(alloc, &stores.catalog, trailed, &answered, out) {
             Ok(()) => Ok(()),
             Err(NoMemory) => Err(Stop::NoMemory),
         },
+        Err(stop) => Err(stop),
+    }
+}
+
+fn attempt_insert(
+    alloc: Global,
+    stores: &mut Stores,
+    names: &SessionNames,
+    caller: Caller,
+    trailed: bool,
+    statement: &Insert,
+    out: &mut Vec<u8>,
+) -> Result<(), Stop>
+    requires { MayAttempt stores.old caller }
+    ensures { (left : Option Left) → IsStatement left (ended result) stores.old stores.new out.old.items out.new.items caller
+        (attempted.printed (attempted.inserted_text trailed (length (map trees statement.now.rows))) (inserted names.now [] caller statement.now.table statement.now.columns (map trees statement.now.rows))) }
+{
+    check_room(stores, caller);
+    let rows = statement.rows.as_slice().len() as u64;
+    match insert(alloc, stores, names, &[], caller, statement) {
+        Ok(()) => match write_trail(alloc, &stores.catalog, trailed, b"INSERT", rows, &[], out) {
+            Ok(()) => Ok(()),
+            Err(NoMemory) => Err(Stop::NoMemory),
+        },
+        Err(stop) => Err(stop),
+    }
+}
+
+// The trail of an UPDATE or a DELETE is printed, which may stop.
+fn print_changes(
+    alloc: Global,
+    catalog: &Catalog,
+    trailed: bool,
+    word: &[u8],
+    changes: &ChangedRows,
+    out: &mut Vec<u8>,
+) -> Result<(), NoMemory>
+    ensures { OnOk result ((h : History) → CatalogueStands catalog.now h → out.new.items ≡ out.old.items ++ attempted.changed_text trailed word.now h (changed.told_by changes.now)) }
+{
+    write_trail(
+        alloc,
+        catalog,
+        trailed,
+        word,
+        changes.count,
+        &changes.reads,
+        out,
+    )
+}
+
+fn attempt_update(
+    alloc: Global,
+    stores: &mut Stores,
+    names: &SessionNames,
+    caller: Caller,
+    prunes: bool,
+    trailed: bool,
+    rest: Option<Rest>,
+    statement: &Update,
+    out: &mut Vec<u8>,
+) -> Result<(), Stop>
+    requires may { MayAttempt stores.old caller }
+    requires rest { MayGoOn stores.old caller rest }
+    ensures { IsStatement rest (ended result) stores.old stores.new out.old.items out.new.items caller
+        (attempted.printed (attempted.changed_text trailed (codes "UPDATE")) (updated prunes names.now [] caller rest statement.now.table (map setting statement.now.assignments) (maybe_tree statement.now.condition))) }
+{
+    check_room(stores, caller);
+    match update(alloc, stores, names, &[], caller, prunes, rest, statement) {
+        Ok(changes) => {
+            match print_changes(alloc, &stores.catalog, trailed, b"UPDATE", &changes, out) {
+                Ok(()) => Ok(()),
+                Err(NoMemory) => Err(Stop::NoMemory),
+            }
+        }
+        Err(stop) => Err(stop),
+    }
+}
+
+fn attempt_delete(
+    alloc: Global,
+    stores: &mut Stores,
+    names: &SessionNames,
+    caller: Caller,
+    prunes: bool,
+    trailed: bool,
+    rest: Option<Rest>,
+    statement: &Delete,
+    out: &mut Vec<u8>,
+) -> Result<(), Stop>
+    requires may { MayAttempt stores.old caller }
+    requires rest { MayGoOn stores.old caller rest }
+    ensures { IsStatement rest (ended result) stores.old stores.new out.old.items out.new.items caller
+        (attempted.printed (attempted.changed_text trailed (codes "DELETE")) (deleted prunes names.now [] caller rest statement.now.table (maybe_tree statement.now.condition))) }
+{
+    check_room(stores, caller);
+    match delete(alloc, stores, names, &[], caller, prunes, rest, statement) {
+        Ok(changes) => {
+            match print_changes(alloc, &stores.catalog, trailed, b"DELETE", &changes, out) {
+                Ok(()) => Ok(()),
+                Err(NoMemory) => Err(Stop::NoMemory),
+            }
+        }
         Err(stop) => Err(stop),
     }
 }
@@ -122,22 +278,30 @@ fn attempt_rows(
     names: &SessionNames,
     caller: Caller,
     prunes: bool,
+    trailed: bool,
     rest: Option<Rest>,
     statement: &RowStatement,
     out: &mut Vec<u8>,
 ) -> Result<(), Stop>
     requires may { MayAttempt stores.old caller }
     requires rest { MayGoOn stores.old caller rest }
-    ensures { IsStatement rest (ended result) stores.old stores.new out.old.items out.new.items caller (attempted.row_attempted prunes names.now caller rest (row_tree statement.now)) }
+    ensures { IsStatement rest (ended result) stores.old stores.new out.old.items out.new.items caller (attempted.row_attempted trailed prunes names.now caller rest (row_tree statement.now)) }
 {
-    check_room(stores, caller);
     match statement {
-        RowStatement::Select(s) => attempt_select(alloc, stores, names, caller, prunes, s, out),
-        RowStatement::Insert(s) => insert(alloc, stores, names, &[], caller, s),
-        RowStatement::Update(s) => update(alloc, stores, names, &[], caller, prunes, rest, s),
-        RowStatement::Delete(s) => delete(alloc, stores, names, &[], caller, prunes, rest, s),
+        RowStatement::Select(s) => {
+            attempt_select(alloc, stores, names, caller, prunes, trailed, s, out)
+        }
+        RowStatement::Insert(s) => attempt_insert(alloc, stores, names, caller, trailed, s, out),
+        RowStatement::Update(s) => attempt_update(
+            alloc, stores, names, caller, prunes, trailed, rest, s, out,
+        ),
+        RowStatement::Delete(s) => attempt_delete(
+            alloc, stores, names, caller, prunes, trailed, rest, s, out,
+        ),
     }
 }
+
+// ---- plans
 
 // The plan is printed as a table; the SELECT is not run.
 fn attempt_plan(
@@ -188,16 +352,19 @@ fn attempt_query(
     names: &SessionNames,
     caller: Caller,
     prunes: bool,
+    trailed: bool,
     rest: Option<Rest>,
     query: &Query,
     out: &mut Vec<u8>,
 ) -> Result<(), Stop>
     requires may { MayAttempt stores.old caller }
     requires rest { MayGoOn stores.old caller rest }
-    ensures { IsStatement rest (ended result) stores.old stores.new out.old.items out.new.items caller (attempted.query_attempted prunes names.now caller rest (query_tree query.now)) }
+    ensures { IsStatement rest (ended result) stores.old stores.new out.old.items out.new.items caller (attempted.query_attempted trailed prunes names.now caller rest (query_tree query.now)) }
 {
     match query {
-        Query::Rows(s) => attempt_rows(alloc, stores, names, caller, prunes, rest, s, out),
+        Query::Rows(s) => {
+            attempt_rows(alloc, stores, names, caller, prunes, trailed, rest, s, out)
+        }
         Query::ExplainSelect(analyze, s) => {
             attempt_explain(alloc, stores, names, caller, prunes, *analyze, s, out)
         }
@@ -206,11 +373,12 @@ fn attempt_query(
 }
 
 /// A statement from its beginning, or from where it stood, up to its end or to a wait. Where it is done it
-/// prints its answer, if it has one.
+/// prints its answer, if it has one, and its trail, where that is asked for.
 pub(crate) fn attempt(
     alloc: Global,
     stores: &mut Stores,
     names: &SessionNames,
+    trail: bool,
     caller: Caller,
     rest: Option<Rest>,
     settings: Settings,
@@ -219,7 +387,7 @@ pub(crate) fn attempt(
 ) -> Result<Ending, Stop>
     requires may { MayAttempt stores.old caller }
     requires rest { MayGoOn stores.old caller rest }
-    ensures { IsStatement rest result stores.old stores.new out.old.items out.new.items caller (attempted.attempted names.now caller rest settings (statement_tree statement.now)) }
+    ensures { IsStatement rest result stores.old stores.new out.old.items out.new.items caller (attempted.attempted (record { names = names.now; trail = trail }) caller rest settings (statement_tree statement.now)) }
 {
     match statement {
         Statement::Command(command) => {
@@ -227,7 +395,10 @@ pub(crate) fn attempt(
         }
         Statement::Query(query) => {
             let prunes = settings.enable_partition_pruning;
-            let done = attempt_query(alloc, stores, names, caller, prunes, rest, query, out);
+            let trailed = is_trailed(trail, caller);
+            let done = attempt_query(
+                alloc, stores, names, caller, prunes, trailed, rest, query, out,
+            );
             ended(done)
         }
     }

@@ -15,6 +15,9 @@
 //! The statements of sessions over the stores: how a block is read, what each statement is for its
 //! session, what it makes of the stores, and what it prints.
 //!
+//! Where a run is asked for it, each SELECT, INSERT, UPDATE and DELETE of a step prints its trail behind its
+//! answer: how many rows it gave or changed, and the leaves that it read (`specs/Trails.antt`).
+//!
 //! A kind of statement is one case here, which leads to a crate of its own. What has no case yet is
 //! refused with 0A000 by its first word.
 //!
@@ -45,6 +48,7 @@ mod reading;
 mod roles;
 mod seats;
 mod statements;
+mod trails;
 
 pub use changes::{reset, set};
 pub use executor::StoreExecutor;

@@ -18,6 +18,8 @@ use table_statements::lock_misplaced;
 pub struct Statements {
     /// The names of its sessions, the control session's first.
     pub names: SessionNames,
+    /// Whether the trails of statements are printed.
+    pub trail: bool,
 }
 
 fn copied(alloc: Global, names: &SessionNames) -> Result<SessionNames, NoMemory>
@@ -31,9 +33,9 @@ fn copied(alloc: Global, names: &SessionNames) -> Result<SessionNames, NoMemory>
 }
 
 impl Kinds for Statements {
-    ghost use Rattle.std.specs.Prelude.{ℕ, List};
     ghost use Rattle.sql_ast.specs.Statements.{StatementTree, statement_tree};
     ghost use Rattle.sql_syntax.specs.declared.parse.TheConstants.{MOST_STATEMENTS};
+    ghost use Rattle.statement_runs.specs.Attempted as attempted;
     ghost use Rattle.statement_runs.specs.ReadMoments.{StatementsAreSound, good_statements};
     ghost use Rattle.statement_runs.specs.StatementsOnce.{all_once};
     ghost use Rattle.statement_runs.specs.StatementWords.{statement_words};
@@ -44,9 +46,9 @@ impl Kinds for Statements {
 
     ghost tree = { statement_tree };
 
-    ghost Options = { List (List ℕ) };
+    ghost Options = { attempted.Options };
 
-    ghost options = { λ s. s.names };
+    ghost options = { λ s. record { names = s.names; trail = s.trail } };
 
     ghost words = { statement_words };
 
@@ -61,6 +63,7 @@ impl Kinds for Statements {
     fn copy(&self, alloc: Global) -> Result<Self, NoMemory> {
         Ok(Statements {
             names: copied(alloc, &self.names)?,
+            trail: self.trail,
         })
     }
 
@@ -119,7 +122,10 @@ impl Kinds for Statements {
         out: &mut Vec<u8>,
     ) -> Result<Ending, Stop> {
         let names = &self.names;
-        attempt(alloc, stores, names, caller, rest, settings, statement, out)
+        let trail = self.trail;
+        attempt(
+            alloc, stores, names, trail, caller, rest, settings, statement, out,
+        )
     }
 
     fn write_fault(alloc: Global, fault: &Fault, out: &mut Vec<u8>) -> Result<(), NoMemory> {

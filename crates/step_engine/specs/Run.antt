@@ -1,10 +1,11 @@
 -- The run of a script over the stores: what its database is before anything has happened, and what happens in it.
-use Rattle.std.specs.Prelude.{ℕ, ◌+◌, List, ◌∷◌, Option, Some, None, Result, Ok, Err, length, map, replicate, codes}
+use Rattle.std.specs.Prelude.{ℕ, ◌+◌, Bool, List, ◌∷◌, Option, Some, None, Result, Ok, Err, length, map, replicate, codes}
 use Rattle.pg_values.specs.declared.fault.Fault.{Fault}
 use Rattle.schedule.specs.Rules.{Rules}
 use Rattle.spec_reader.specs.declared.spec.Spec.{Spec}
 use Rattle.spec_reader.specs.declared.spec.SessionSpec.{SessionSpec}
 use Rattle.sessions.specs.Sessions.{State, new_session, rules_of}
+use Rattle.statement_runs.specs.Attempted.{Options}
 use Rattle.statement_runs.specs.Database.{Database, course, empty}
 use Rattle.statement_runs.specs.Moments.{Always, AlwaysInOneLeaf}
 use Rattle.sql_ast.specs.Statements.{StatementTree}
@@ -13,7 +14,7 @@ use Rattle.statement_runs.specs.Reading.{read_block}
 use Rattle.statement_runs.specs.StatementWords.{statement_words}
 
 abbrev pub RunState : Type 0
-RunState = State (Database (List (List ℕ))) StatementTree
+RunState = State (Database Options) StatementTree
 
 abbrev pub rules : Rules RunState
 rules = rules_of (course statement_words)
@@ -39,10 +40,14 @@ name_of session = session.name
 abbrev pub session_names : Spec → List (List ℕ)
 session_names script = codes "control" ∷ map name_of script.sessions
 
--- sessions that have done nothing, over stores in which nothing has happened
-abbrev pub opened : Spec → RunState
-opened script = record {
-  executor = empty (session_names script) (length script.sessions + 1);
+-- what a run is told beside its script
+abbrev pub options : (trail : Bool) → Spec → Options
+options trail script = record { names = session_names script; trail = trail }
+
+-- sessions that have done nothing, over stores in which nothing has happened; trails are printed, or are not
+abbrev pub opened : (trail : Bool) → Spec → RunState
+opened trail script = record {
+  executor = empty (options trail script) (length script.sessions + 1);
   sessions = replicate (length script.sessions + 1) new_session;
 }
 

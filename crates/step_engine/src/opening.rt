@@ -30,13 +30,18 @@ impl Opener for OpensStores {
 
     type Db = Sessions<StoreExecutor<Statements>>;
 
-    ghost opens = { λ script d. ⟦<Sessions<StoreExecutor<Statements>> as Database>⟧.stands d (opened script) };
+    ghost opens = { λ trail script d. ⟦<Sessions<StoreExecutor<Statements>> as Database>⟧.stands d (opened trail script) };
 
     ghost refused = { refused };
 
-    fn open(alloc: Global, script: &Spec) -> Result<Sessions<StoreExecutor<Statements>>, NoMemory> {
+    fn open(
+        alloc: Global,
+        script: &Spec,
+        trail: bool,
+    ) -> Result<Sessions<StoreExecutor<Statements>>, NoMemory> {
         let names = session_names(alloc, script)?;
-        let executor = StoreExecutor::new(alloc, Statements { names }, script.sessions.len() + 1)?;
+        let statements = Statements { names, trail };
+        let executor = StoreExecutor::new(alloc, statements, script.sessions.len() + 1)?;
         Sessions::new(alloc, executor)
     }
 
@@ -50,7 +55,7 @@ impl Opener for OpensStores {
 }
 
 /// Judges the words behind the program's name, reads the whole of `input`, and does what the words ask for with the
-/// script that it is: runs it, or tells which of its blocks are refused. The run is written to `out` as it happens,
+/// script that it is: runs it, with the trails of its statements or without, or tells which of its blocks are refused. The run is written to `out` as it happens,
 /// the one line of a refusal to `err`.
 pub fn partscript_run<S: Source, K: Sink, E: Sink>(
     alloc: Global,

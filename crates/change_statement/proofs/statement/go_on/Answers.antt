@@ -1,7 +1,8 @@
 use Rattle.std.proofs.Common.{All, sym, ◌∙◌, subst, List}
 use Rattle.statement_steps.specs.Gathered.{Found, found_of}
 use Rattle.statement_steps.specs.declared.rest.TargetRow.{TargetRow}
-use Rattle.change_statement.specs.Changed.{all_changed}
+use Rattle.statement_steps.specs.Ended.{giving}
+use Rattle.change_statement.specs.Changed.{all_changed, changed_on, told_by, told_of}
 use Rattle.change_statement.specs.Changing.{changing}
 use Rattle.change_statement.specs.Running.{IsRun, IsTargetIn, MayRun}
 use Rattle.change_statement.proofs.Commands.{may_go, left_in, left_is_command}
@@ -17,7 +18,7 @@ change_rows-requires-clause-targets c =
 
 pub returns : goal.returns
 returns c =
-    left_is_command c.change_rows.result c.args.stores.now c.change_rows.new.stores c.args.caller c.args.rest (all_changed (changing c.args.change c.args.caller c.args.rest.found) c.args.names.now c.args.caller c.args.rest.found c.args.rest.left c.args.rest.changed) c.requires.own
-    (subst (λ n. IsRun c.args.rest.found (λ (u : Unit {0}). u) c.change_rows.result c.args.stores.now c.change_rows.new.stores c.args.caller (all_changed (changing c.args.change c.args.caller c.args.rest.found) c.args.names.now c.args.caller c.args.rest.found c.args.rest.left n)) c.into_parts-gathered.ensures.changed
-    (subst (λ (ts : List TargetRow). IsRun c.args.rest.found (λ (u : Unit {0}). u) c.change_rows.result c.args.stores.now c.change_rows.new.stores c.args.caller (all_changed (changing c.args.change c.args.caller c.args.rest.found) c.args.names.now c.args.caller c.args.rest.found ts c.into_parts-gathered.result.2)) (c.deref.ensures.value ∙ c.into_parts-gathered.ensures.left)
-    (subst (λ (g : Found). IsRun g (λ (u : Unit {0}). u) c.change_rows.result c.args.stores.now c.change_rows.new.stores c.args.caller (all_changed (changing c.args.change c.args.caller g) c.args.names.now c.args.caller g c.deref.result.now c.into_parts-gathered.result.2)) c.into_parts-gathered.ensures.found c.change_rows.ensures)))
+    left_is_command told_by c.change_rows.result c.args.stores.now c.change_rows.new.stores c.args.caller c.args.rest (λ h. giving (told_of c.args.rest.found) (changed_on (λ g. changing c.args.change c.args.caller g) c.args.names.now c.args.caller c.args.rest h)) c.requires.own
+    (subst (λ n. IsRun c.args.rest.found told_by c.change_rows.result c.args.stores.now c.change_rows.new.stores c.args.caller (λ h. giving (told_of c.args.rest.found) (all_changed (changing c.args.change c.args.caller c.args.rest.found) c.args.names.now c.args.caller c.args.rest.found c.args.rest.left n h))) c.into_parts-gathered.ensures.changed
+    (subst (λ (ts : List TargetRow). IsRun c.args.rest.found told_by c.change_rows.result c.args.stores.now c.change_rows.new.stores c.args.caller (λ h. giving (told_of c.args.rest.found) (all_changed (changing c.args.change c.args.caller c.args.rest.found) c.args.names.now c.args.caller c.args.rest.found ts c.into_parts-gathered.result.2 h))) (c.deref.ensures.value ∙ c.into_parts-gathered.ensures.left)
+    (subst (λ (g : Found). IsRun g told_by c.change_rows.result c.args.stores.now c.change_rows.new.stores c.args.caller (λ h. giving (told_of g) (all_changed (changing c.args.change c.args.caller g) c.args.names.now c.args.caller g c.deref.result.now c.into_parts-gathered.result.2 h))) c.into_parts-gathered.ensures.found c.change_rows.ensures)))

@@ -13,9 +13,9 @@ pub returns : goal.returns
 returns g c =
     let R = g.D.Database.rules in
     record {
-      run = λ opened refused words text spec o asked is answers.
-          script_ends text R Anything opened spec o is (read_ends (WorkEnds R Anything opened refused) words (Whole text) Run text o asked refl answers);
-      good = λ opened refused words text spec o lines w asked is answers reaches.
-          let ends = script_ends text R g.D.Database.good opened spec o is (read_ends (WorkEnds R g.D.Database.good opened refused) words (Whole text) Run text o asked refl answers) in
-          good_at R g.D.Database.good (beginning R (opened spec) spec) ends.lines ends.last ends.runs.reaches ends.runs.ends ends.good lines w reaches;
+      run = λ opened trail refused words text spec o asked is answers.
+          script_ends text R Anything (opened trail) spec o is (read_ends (WorkEnds R Anything opened refused) words (Whole text) (Run trail) text o asked refl answers);
+      good = λ opened trail refused words text spec o lines w asked is answers reaches.
+          let ends = script_ends text R g.D.Database.good (opened trail) spec o is (read_ends (WorkEnds R g.D.Database.good opened refused) words (Whole text) (Run trail) text o asked refl answers) in
+          good_at R g.D.Database.good (beginning R (opened trail spec) spec) ends.lines ends.last ends.runs.reaches ends.runs.ends ends.good lines w reaches;
     }

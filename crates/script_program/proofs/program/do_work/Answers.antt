@@ -1,7 +1,7 @@
 use Rattle.script_program.proofs.program.do_work.Goals as goal
 
 pub returns-in-Run : goal.returns-in-Run
-returns-in-Run g c opened stands = rw c.in-Run.is (c.run_text.ensures opened stands)
+returns-in-Run g c opened stands = rw c.in-Run.is (c.run_text.ensures (opened c.in-Run.trail) (stands c.in-Run.trail))
 
 pub returns-in-Check : goal.returns-in-Check
 returns-in-Check g c opened stands = rw c.in-Check.is c.check_text.ensures

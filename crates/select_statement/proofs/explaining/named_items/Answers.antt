@@ -1,4 +1,3 @@
-use Rattle.std.proofs.Common.{map}
 use Rattle.sql_ast.specs.Queries.{joined_tree}
 use Rattle.row_router.specs.Seen.{seen}
 use Rattle.select_statement.proofs.Scopes.{one_named}

@@ -1,4 +1,4 @@
-use Rattle.std.proofs.Common.{[], ◌∙◌, ◌≤◌, ap, length, map, refl, subst, sym}
+use Rattle.std.proofs.Common.{[], ap, length, map, subst, ◌∙◌, ◌≤◌}
 use Rattle.row_router.specs.Seen.{seen}
 use Rattle.sql_ast.specs.Queries.{select_tree}
 use Rattle.sql_binder.specs.Selects.{from_of}

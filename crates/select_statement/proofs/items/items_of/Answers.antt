@@ -1,4 +1,4 @@
-use Rattle.std.proofs.Common.{◌≡◌, ◌≤◌, arith, map}
+use Rattle.std.proofs.Common.{arith}
 use Rattle.sql_ast.specs.Queries.{joined_tree}
 use Rattle.row_router.specs.Seen.{seen}
 use Rattle.select_statement.proofs.Scopes.{one_item}

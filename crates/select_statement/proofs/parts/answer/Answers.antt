@@ -1,14 +1,16 @@
-use Rattle.std.proofs.Common.{refl, Ok, Err}
+use Rattle.std.proofs.Common.{Err, Ok, refl}
 use Rattle.cond_logic.specs.Asked.{select_meant}
 use Rattle.plan_tree.specs.Plans.{planned}
+use Rattle.select_statement.proofs.Steps.{answer_done, answer_refused, read_for_it, told_for}
+use Rattle.select_statement.specs.Selected.{told_by}
 use Rattle.statement_steps.proofs.Steps.{handed_on}
-use Rattle.select_statement.proofs.Steps.{told_for, answer_done, answer_refused}
 use Rattle.select_statement.proofs.parts.answer.Goals as goal
 
 pub returns : goal.returns
 returns c =
-    answer_done c.in_ok-answer.answer c.args.stores.now c.args.caller (select_meant c.args.ask.now) (planned c.args.plan.now) c.args.snap.now c.requires.may c.requires.look
+    answer_done (record { answer = c.in_ok-answer.answer; trail = c.run_select.new.trail }) c.args.stores.now c.args.caller (select_meant c.args.ask.now) (planned c.args.plan.now) c.args.snap.now c.requires.may c.requires.look
     (told_for (Ok c.in_ok-answer.answer) c.args.stores.now c.args.caller (select_meant c.args.ask.now) (planned c.args.plan.now) c.args.snap.now _ _ _ refl refl c.in_ok-trail.ensures.0 c.in_ok-answer.ensures.answer)
+    (read_for_it (Ok c.in_ok-answer.answer) _ c.args.stores.now c.args.caller (select_meant c.args.ask.now) (planned c.args.plan.now) c.args.snap.now _ _ _ refl refl c.in_ok-trail.ensures.0 c.in_ok-answer.ensures.trail)
 
 pub returns-in_err-answer : goal.returns-in_err-answer
 returns-in_err-answer c =

@@ -1,7 +1,6 @@
 use Rattle.std.proofs.Common.{◌≤◌, length, subst, sym}
 use Rattle.sql_ast.specs.Queries.{select_tree}
 use Rattle.stores.specs.declared.stores.Stores.{Stores}
-use Rattle.plan_tree.specs.Plans.{Planned}
 use Rattle.statement_steps.specs.Steps.{follow}
 use Rattle.statement_steps.proofs.Steps.{goes, handed_on, may_go_on, stops}
 use Rattle.select_statement.specs.Gathered.{Found, found_by, gathered, planned_under}
