@@ -66,6 +66,13 @@ fn read_edge(alloc: Global, kind: Kind, raw: &RawEdge) -> Result<Edge, Refusal>
     }
 }
 
+fn add_edge(edges: &mut Vec<Edge>, edge: Edge) -> Result<(), NoMemory>
+    ensures { OnOk result (edges.new.items ≡ edges.old.items ++ edge ∷ []) }
+{
+    edges.push(edge)?;
+    Ok(())
+}
+
 /// The point of FROM or TO, filled up with MIN.
 pub(crate) fn read_point(
     alloc: Global,
@@ -75,12 +82,12 @@ pub(crate) fn read_point(
     requires { length edges.now ≡ length columns.now }
     ensures { IsAnswer result (or_first (faults_in (edges_for columns.now edges.now)) (read_in (edges_for columns.now edges.now) ++ Min ∷ [])) }
 {
-    let mut point = Point::new(alloc);
+    let mut point = Vec::new(alloc);
     for (i, edge) in edges.iter().enumerate() {
-        point.push(read_edge(alloc, columns[i].kind, edge)?)?;
+        add_edge(&mut point, read_edge(alloc, columns[i].kind, edge)?)?;
     }
-    point.push(Edge::Min)?;
-    Ok(point)
+    add_edge(&mut point, Edge::Min)?;
+    Ok(Point::new(alloc, point)?)
 }
 
 // Adds the value, unless it is listed already.

@@ -35,8 +35,8 @@ pub fn copy_bound(alloc: Global, b: &Bound) -> Result<Bound, NoMemory>
 {
     match b {
         Bound::Range { lower, upper } => {
-            let lower = copy_point(alloc, lower)?;
-            let upper = copy_point(alloc, upper)?;
+            let lower = copy_point(lower)?;
+            let upper = copy_point(upper)?;
             Ok(Bound::Range { lower, upper })
         }
         Bound::List { values } => {

@@ -1,11 +1,12 @@
-ghost use Rattle.std.specs.Prelude.{◌≡◌, ◌∷◌, ◌++◌, [], OnOk, OnErr, IfOk, All, ◌<◌, ◌≤◌, length, slice_index_or};
+ghost use Rattle.std.specs.Prelude.{◌≡◌, IfOk, All, ◌<◌, ◌≤◌, length, slice_index_or};
 ghost use Rattle.bound_forms.specs.Points.{fill_edge, end_edge, end_of, edge_order, point_order, point_of, EdgesFit, PointsFit, EdgeOfKind};
 
 use crate::Key;
-use pg_values::{KeyKind, NoMemory, Value, copy_value};
+use pg_values::{KeyKind, NoMemory, Value};
 use std::alloc::Global;
 use std::cmp::Ordering;
 use std::marker::Model;
+use std::rc::Rc;
 
 /// One place of a point: MINVALUE, a value or MAXVALUE.
 #[derive(Debug, Drop)]
@@ -22,10 +23,10 @@ pub enum Fill {
     Max,
 }
 
-/// A point, seen as the list of its edges.
+/// A point, seen as the list of its edges, which its copies share.
 #[derive(Debug, Drop)]
 pub struct Point {
-    edges: Vec<Edge>,
+    edges: Rc<Vec<Edge>>,
 }
 
 impl Model for Point {
@@ -34,16 +35,16 @@ impl Model for Point {
 
     ghost Value = { List Edge };
 
-    ghost view = { λ p. p.edges.items };
+    ghost view = { λ p. p.edges.value.items };
 }
 
 impl Point {
-    pub fn new(alloc: Global) -> Self
-        ensures { result ≡ [] }
+    pub fn new(alloc: Global, edges: Vec<Edge>) -> Result<Self, NoMemory>
+        ensures { IfOk result (λ p. p ≡ edges.items) }
     {
-        Point {
-            edges: Vec::new(alloc),
-        }
+        Ok(Point {
+            edges: Rc::new(alloc, edges)?,
+        })
     }
 
     pub fn as_slice(&self) -> &[Edge]
@@ -51,34 +52,14 @@ impl Point {
     {
         &self.edges
     }
-
-    pub fn push(&mut self, edge: Edge) -> Result<(), NoMemory>
-        ensures ok { OnOk result (self.new ≡ self.old ++ edge ∷ []) }
-        ensures err { OnErr result (self.new ≡ self.old) }
-    {
-        self.edges.push(edge)?;
-        Ok(())
-    }
 }
 
-fn copy_edge(alloc: Global, edge: &Edge) -> Result<Edge, NoMemory>
-    ensures { IfOk result (λ copy. copy ≡ edge.now) }
-{
-    match edge {
-        Edge::Min => Ok(Edge::Min),
-        Edge::At(value) => Ok(Edge::At(copy_value(alloc, value)?)),
-        Edge::Max => Ok(Edge::Max),
-    }
-}
-
-pub(crate) fn copy_point(alloc: Global, point: &Point) -> Result<Point, NoMemory>
+pub(crate) fn copy_point(point: &Point) -> Result<Point, NoMemory>
     ensures { IfOk result (λ copy. copy ≡ point.now) }
 {
-    let mut edges = Vec::with_capacity(alloc, point.edges.len())?;
-    for edge in &point.edges {
-        edges.push(copy_edge(alloc, edge)?)?;
-    }
-    Ok(Point { edges })
+    Ok(Point {
+        edges: point.edges.clone()?,
+    })
 }
 
 // The order of two edges.
@@ -141,8 +122,8 @@ pub fn cmp_points<K: KeyKind>(kind: &K, a: &Point, b: &Point) -> Ordering
     requires of_kind { All (EdgeOfKind (K.admits kind.now)) a.now }
     ensures { result ≡ point_order a.now b.now }
 {
-    for (i, edge) in a.edges.iter().enumerate() {
-        let order = cmp_edges(kind, edge, &b.edges[i]);
+    for (i, edge) in a.as_slice().iter().enumerate() {
+        let order = cmp_edges(kind, edge, &b.as_slice()[i]);
         if order != Ordering::Equal {
             return order;
         }
@@ -156,7 +137,7 @@ pub(crate) fn cmp_key<K: KeyKind, Q: Key>(kind: &K, point: &Point, key: &Q) -> O
     requires of_kind { All (EdgeOfKind (K.admits kind.now)) point.now }
     ensures { result ≡ point_order point.now (point_of (Q.values key.now)) }
 {
-    for (i, edge) in point.edges.iter().enumerate() {
+    for (i, edge) in point.as_slice().iter().enumerate() {
         let order = cmp_place(kind, edge, key, i);
         if order != Ordering::Equal {
             return order;
@@ -213,7 +194,7 @@ pub fn cmp_end<K: KeyKind, Q: Key>(
     requires of_kind { All (EdgeOfKind (K.admits kind.now)) point.now }
     ensures { result ≡ point_order point.now (end_of (length point.now) n fill (Q.values key.now)) }
 {
-    for (i, edge) in point.edges.iter().enumerate() {
+    for (i, edge) in point.as_slice().iter().enumerate() {
         let order = cmp_end_place(kind, edge, key, n, fill, i);
         if order != Ordering::Equal {
             return order;

@@ -1,10 +1,11 @@
-ghost use Rattle.std.specs.Prelude.{◌≡◌, ◌++◌, ◌∷◌, [], length, OnOk, OnErr, IfOk};
+ghost use Rattle.std.specs.Prelude.{◌≡◌, IfOk};
 
 use crate::TxId;
 use bound_forms::{Bound, Level};
 use pg_values::{Kind, LeafId, NoMemory, PgText, TableNo};
 use std::alloc::Global;
 use std::marker::Model;
+use std::rc::Rc;
 
 /// A column of a table.
 #[derive(Debug, Drop)]
@@ -26,10 +27,10 @@ impl Column {
     }
 }
 
-/// The columns of a table in their order, seen as their list.
+/// The columns of a table in their order, seen as their list, which their copies share.
 #[derive(Debug, Drop)]
 pub struct Columns {
-    columns: Vec<Column>,
+    columns: Rc<Vec<Column>>,
 }
 
 impl Model for Columns {
@@ -38,16 +39,16 @@ impl Model for Columns {
 
     ghost Value = { List Column };
 
-    ghost view = { λ c. c.columns.items };
+    ghost view = { λ c. c.columns.value.items };
 }
 
 impl Columns {
-    pub fn new(alloc: Global) -> Self
-        ensures { result ≡ [] }
+    pub fn new(alloc: Global, columns: Vec<Column>) -> Result<Self, NoMemory>
+        ensures { IfOk result (λ c. c ≡ columns.items) }
     {
-        Columns {
-            columns: Vec::new(alloc),
-        }
+        Ok(Columns {
+            columns: Rc::new(alloc, columns)?,
+        })
     }
 
     pub fn as_slice(&self) -> &[Column]
@@ -56,22 +57,12 @@ impl Columns {
         &self.columns
     }
 
-    pub fn push(&mut self, column: Column) -> Result<(), NoMemory>
-        ensures ok { OnOk result (self.new ≡ self.old ++ column ∷ []) }
-        ensures err { OnErr result (self.new ≡ self.old) }
-    {
-        self.columns.push(column)?;
-        Ok(())
-    }
-
-    pub fn copy(&self, alloc: Global) -> Result<Self, NoMemory>
+    pub fn copy(&self, _alloc: Global) -> Result<Self, NoMemory>
         ensures { IfOk result (λ copy. copy ≡ self.now) }
     {
-        let mut columns = Vec::with_capacity(alloc, self.columns.len())?;
-        for column in &self.columns {
-            columns.push(column.copy(alloc)?)?;
-        }
-        Ok(Columns { columns })
+        Ok(Columns {
+            columns: self.columns.clone()?,
+        })
     }
 }
 

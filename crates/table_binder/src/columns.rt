@@ -1,4 +1,4 @@
-ghost use Rattle.std.specs.Prelude.{◌≡◌, ◌++◌, ◌∷◌, [], map, nat_le, length, unwrap_or, OnOk, IfOk};
+ghost use Rattle.std.specs.Prelude.{◌≡◌, ◌++◌, ◌∷◌, [], map, nat_le, length, unwrap_or, OnOk};
 ghost use Rattle.std.specs.List.{list_any};
 ghost use Rattle.std.specs.Str.{bytes_eq};
 ghost use Rattle.pg_values.specs.declared.which.Which.TheVariants.{Columns as WhichColumns};
@@ -114,8 +114,8 @@ fn column(alloc: Global, definition: &ColumnDefinition) -> Result<Column, Refusa
     }
 }
 
-fn add(columns: &mut Columns, column: Column) -> Result<(), NoMemory>
-    ensures { OnOk result (columns.new ≡ columns.old ++ column ∷ []) }
+fn add(columns: &mut Vec<Column>, column: Column) -> Result<(), NoMemory>
+    ensures { OnOk result (columns.new.items ≡ columns.old.items ++ column ∷ []) }
 {
     columns.push(column)?;
     Ok(())
@@ -125,12 +125,12 @@ fn add(columns: &mut Columns, column: Column) -> Result<(), NoMemory>
 fn make_columns(alloc: Global, definitions: &[ColumnDefinition]) -> Result<Columns, Refusal>
     ensures { IsAnswer result (or_first (spec.type_faults definitions.now) (map spec.column_of definitions.now)) }
 {
-    let mut columns = Columns::new(alloc);
+    let mut columns = Vec::new(alloc);
     for definition in definitions {
         let made = column(alloc, definition)?;
         add(&mut columns, made)?;
     }
-    Ok(columns)
+    Ok(Columns::new(alloc, columns)?)
 }
 
 /// The columns of a table in their order, with their kinds; or the first fault: 54000 for more than 32,

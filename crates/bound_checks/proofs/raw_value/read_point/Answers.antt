@@ -18,8 +18,8 @@ loop-i-preserved c =
     let step : edges_for (drop i columns) (drop i edges) ≡ Ok x ∷ rest =
     edges_step columns edges i d c.index-edges-i.result within c.loop-i-test.true c.index-edges-i.is ∙ ap (λ r. r ∷ rest) c.in_ok-read_edge.ensures
     in
-    let is : c.push.new.self ≡ c.loop-i.point ++ x ∷ [] = search rules in
+    let is : c.add_edge.new.edges.items ≡ c.loop-i.point.items ++ x ∷ [] = search rules in
     record {
       faults = sym (ap faults_in step) ∙ c.loop-i.invariant.faults;
-      read = read_more c.loop-i.point c.push.new.self x (read_in rest) (read_in (edges_for columns edges)) is (ap (λ r. c.loop-i.point ++ read_in r) (sym step) ∙ c.loop-i.invariant.read);
+      read = read_more c.loop-i.point.items c.add_edge.new.edges.items x (read_in rest) (read_in (edges_for columns edges)) is (ap (λ r. c.loop-i.point.items ++ read_in r) (sym step) ∙ c.loop-i.invariant.read);
     }

@@ -7,5 +7,5 @@ use Rattle.bound_checks.proofs.raw_value.read_point.Given as goal
 abbrev pub invariant-loop-i : goal.invariant-loop-i
 invariant-loop-i l = record {
   faults : faults_in (edges_for (drop l.i l.columns) (drop l.i l.edges)) ≡ faults_in (edges_for l.columns l.edges);
-  read : l.point ++ read_in (edges_for (drop l.i l.columns) (drop l.i l.edges)) ≡ read_in (edges_for l.columns l.edges);
+  read : l.point.items ++ read_in (edges_for (drop l.i l.columns) (drop l.i l.edges)) ≡ read_in (edges_for l.columns l.edges);
 }

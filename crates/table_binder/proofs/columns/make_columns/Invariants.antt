@@ -6,5 +6,5 @@ use Rattle.table_binder.proofs.columns.make_columns.Given as goal
 abbrev pub invariant-loop-definition : goal.invariant-loop-definition
 invariant-loop-definition l = record {
   faults : type_faults (drop l.definition-index l.definitions) ≡ type_faults l.definitions;
-  made : l.columns ++ map column_of (drop l.definition-index l.definitions) ≡ map column_of l.definitions;
+  made : l.columns.items ++ map column_of (drop l.definition-index l.definitions) ≡ map column_of l.definitions;
 }
