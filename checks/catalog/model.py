@@ -3,7 +3,7 @@
 
 A history is the list of all events so far. Which tables and entries are there for a session, the tree of a
 table, the path above it, which leaf accepts a row and which table a name means are looked up in that list,
-event by event, as `crates/history/specs`, `crates/table_trees/specs`, `crates/part_catalog/specs` and
+event by event, as `crates/history/specs`, `crates/row_router/specs`, `crates/part_catalog/specs` and
 `crates/row_router/specs` define them; a snapshot's place is the number of events before it. Nothing here is
 kept from one question to the next, and a row is routed by asking each leaf. The form of the steps and the
 answers stands in `checks/catalog/program.rattle`.

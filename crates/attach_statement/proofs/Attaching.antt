@@ -19,8 +19,8 @@ use Rattle.history.specs.Locks.{holds}
 use Rattle.history.specs.History.{History, CatalogueChange, tx_events, lock_events, catalogue_events}
 use Rattle.history.specs.Presence.{entries_present}
 use Rattle.history.proofs.Open.{open_own}
-use Rattle.table_trees.specs.Histories.{bound_of, path_of}
-use Rattle.table_trees.specs.Siblings.{AreSiblings, CanStandTogether}
+use Rattle.row_router.specs.Histories.{bound_of, path_of}
+use Rattle.row_router.specs.Siblings.{AreSiblings, CanStandTogether}
 use Rattle.row_router.specs.declared.path.PathTest.TheVariants.{Bounds, Checks}
 use Rattle.row_router.specs.Paths.{refused}
 use Rattle.tx_table.specs.Stands.{TableStands}

@@ -19,7 +19,7 @@ use Rattle.history.specs.declared.catalogue.KeptCheck.{KeptCheck}
 use Rattle.history.specs.declared.catalogue.TableShape.TheVariants.{Level}
 use Rattle.history.specs.History.{History}
 use Rattle.history.specs.Presence.{entries_present, checks_of}
-use Rattle.table_trees.specs.Histories.{above, kept_of}
+use Rattle.row_router.specs.Histories.{above, kept_of}
 use Rattle.part_catalog.specs.Answers.{parent_told}
 use Rattle.part_catalog.specs.Found.{made_at}
 use Rattle.part_ddl.specs.Placing.{IsFault, level_at}

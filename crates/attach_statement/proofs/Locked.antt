@@ -8,8 +8,8 @@ use Rattle.pg_values.specs.declared.lock_mode.LockMode.TheVariants.{ShareUpdateE
 use Rattle.history.specs.declared.wait.Wanted.TheVariants.{Lock}
 use Rattle.history.specs.Locks.{holds}
 use Rattle.history.specs.History.{History, LockChange, lock_events}
-use Rattle.table_trees.specs.declared.path_part.PathPart.{PathPart}
-use Rattle.table_trees.specs.Trees.{TableTree}
+use Rattle.row_router.specs.declared.path_part.PathPart.{PathPart}
+use Rattle.row_router.specs.Trees.{TableTree}
 use Rattle.tx_table.specs.Stands.{TableStands}
 use Rattle.lock_table.specs.Asked.{AskedView, AtOnce, WaitsBehind, ClosesCycle, asked, events_of}
 use Rattle.part_catalog.specs.Found.{resolved}

@@ -17,9 +17,9 @@ use Rattle.history.specs.declared.catalogue.Entry.{Entry}
 use Rattle.history.specs.Catalogue.{tables_made}
 use Rattle.history.specs.History.{History, catalogue_events}
 use Rattle.history.specs.Presence.{entries_present, checks_of}
-use Rattle.table_trees.specs.declared.path_part.PathPart.{PathPart}
-use Rattle.table_trees.specs.Histories.{path_of, above, parent_in, part_of, upwards, ddl_tree}
-use Rattle.table_trees.specs.Trees.{TableTree, LeafTable, LevelTable, height}
+use Rattle.row_router.specs.declared.path_part.PathPart.{PathPart}
+use Rattle.row_router.specs.Histories.{path_of, above, parent_in, part_of, upwards, ddl_tree}
+use Rattle.row_router.specs.Trees.{TableTree, LeafTable, LevelTable, height}
 use Rattle.soundness.proofs.Listed.{none_in, cases_in}
 use Rattle.sql_ast.specs.Commands.{Bound}
 use Rattle.table_binder.specs.Bounds.{bound_for}

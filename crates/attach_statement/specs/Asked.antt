@@ -8,9 +8,9 @@ use Rattle.bound_forms.specs.declared.partition_bound.Bound.{Bound}
 use Rattle.history.specs.History.{History}
 use Rattle.history.specs.Places.{TakesBound, HasColumnsOf}
 use Rattle.history.specs.Presence.{entries_present}
-use Rattle.table_trees.specs.declared.path_part.PathPart.{PathPart}
-use Rattle.table_trees.specs.Histories.{above, ddl_tree, path_of}
-use Rattle.table_trees.specs.Trees.{TableTree, height}
+use Rattle.row_router.specs.declared.path_part.PathPart.{PathPart}
+use Rattle.row_router.specs.Histories.{above, ddl_tree, path_of}
+use Rattle.row_router.specs.Trees.{TableTree, height}
 use Rattle.tx_table.specs.Stands.{TableStands}
 use Rattle.lock_table.specs.Kept.{held_at}
 use Rattle.part_catalog.specs.Found.{made_at, resolved}

@@ -6,7 +6,7 @@ use Rattle.bound_forms.specs.declared.partition_bound.Bound.{Bound as MeantBound
 use Rattle.history.specs.declared.catalogue.Entry.{Entry}
 use Rattle.history.specs.Catalogue.{EntryAdded, entries_added}
 use Rattle.history.specs.History.{History, CatalogueChange, catalogue_events}
-use Rattle.table_trees.specs.Histories.{table_of}
+use Rattle.row_router.specs.Histories.{table_of}
 use Rattle.sql_ast.specs.Commands.{Bound}
 use Rattle.part_ddl.specs.Below.{default_of}
 use Rattle.partition_scans.specs.Places.{place_scan, default_scan}

@@ -6,8 +6,8 @@ use Rattle.bound_forms.specs.declared.partition_bound.Bound.{Bound as MeantBound
 use Rattle.pg_values.specs.Refusals.{unless}
 use Rattle.refusals.specs.Refusals.{already_a_partition, is_above}
 use Rattle.history.specs.History.{History}
-use Rattle.table_trees.specs.Histories.{ddl_tree}
-use Rattle.table_trees.specs.Trees.{height}
+use Rattle.row_router.specs.Histories.{ddl_tree}
+use Rattle.row_router.specs.Trees.{height}
 use Rattle.sql_ast.specs.Commands.{Bound}
 use Rattle.table_binder.specs.Bounds.{bound_for}
 use Rattle.part_catalog.specs.Found.{made_at}

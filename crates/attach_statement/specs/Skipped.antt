@@ -10,7 +10,7 @@ use Rattle.bound_forms.specs.declared.partition_bound.Bound.{Bound}
 use Rattle.history.specs.declared.catalogue.KeptCheck.{KeptCheck}
 use Rattle.history.specs.History.{History}
 use Rattle.history.specs.Presence.{checks_of}
-use Rattle.table_trees.specs.Histories.{kept_of}
+use Rattle.row_router.specs.Histories.{kept_of}
 use Rattle.part_ddl.specs.Placing.{level_at}
 use Rattle.table_statements.specs.Drops.{parent_in}
 use Rattle.detach_statement.specs.Kept.{implies}

@@ -7,8 +7,8 @@ ghost use Rattle.pg_values.specs.declared.which.Which.TheVariants.{Levels};
 ghost use Rattle.refusals.specs.Refusals as refusals;
 ghost use Rattle.history.specs.History.{History};
 ghost use Rattle.tx_table.specs.Stands.{TableStands};
-ghost use Rattle.table_trees.specs.Seen.{seen};
-ghost use Rattle.table_trees.specs.Trees.{height};
+ghost use Rattle.row_router.specs.Seen.{seen};
+ghost use Rattle.row_router.specs.Trees.{height};
 ghost use Rattle.part_catalog.specs.Answers.{AreTogether};
 ghost use Rattle.part_catalog.specs.Stands.{CatalogueStands};
 ghost use Rattle.part_ddl.specs.Below as below;
@@ -26,12 +26,12 @@ use part_catalog::{Catalog, LEVEL_LIMIT};
 use part_ddl::{check_place, parent_level};
 use pg_values::{Refusal, TableNo, Which};
 use refusals::{already_a_partition, is_above, too_many};
+use row_router::{PathPart, Tree, height_up_to};
 use sql_ast::BoundText;
 use statement_steps::{Caller, Stop};
 use std::alloc::Global;
 use stores::{Stores, trees_are_together};
 use table_binder::bind_bound;
-use table_trees::{PathPart, Tree, height_up_to};
 use tx_table::TxTable;
 
 pub(crate) fn is_there(found: Option<TableNo>) -> bool

@@ -4,7 +4,7 @@ ghost use Rattle.std.specs.Prelude.{◌≡◌, ◌<◌, ◌==◌, ℕ, IfOk, len
 ghost use Rattle.history.specs.History.{History};
 ghost use Rattle.history.specs.Places.{TakesBound};
 ghost use Rattle.tx_table.specs.Stands.{TableStands};
-ghost use Rattle.table_trees.specs.Histories.{path_of};
+ghost use Rattle.row_router.specs.Histories.{path_of};
 ghost use Rattle.part_catalog.specs.Answers.{AreTogether};
 ghost use Rattle.part_catalog.specs.Found.{made_at};
 ghost use Rattle.part_catalog.specs.Stands.{CatalogueStands};
@@ -17,8 +17,8 @@ use detach_statement::is_implied;
 use part_catalog::Catalog;
 use part_ddl::parent_level;
 use pg_values::{NoMemory, Refusal, TableNo};
+use row_router::PathPart;
 use std::alloc::Global;
-use table_trees::PathPart;
 use tx_table::TxTable;
 
 // No CHECK is kept for the first table of the path.

@@ -2,7 +2,7 @@ ghost use Rattle.std.specs.Prelude.{◌≡◌, ◌<◌, ◌≤◌, ◌+◌, ℕ,
 ghost use Rattle.pg_values.specs.Sets.{has};
 ghost use Rattle.pg_values.specs.Refusals.{IsAnswer};
 ghost use Rattle.history.specs.History.{History};
-ghost use Rattle.table_trees.specs.Seen.{seen};
+ghost use Rattle.row_router.specs.Seen.{seen};
 ghost use Rattle.part_ddl.specs.Below.{IsTreeOf};
 ghost use Rattle.partition_scans.specs.Data.{DataStand};
 ghost use Rattle.partition_scans.specs.Places.{place_scan};
@@ -27,13 +27,13 @@ use part_catalog::CatalogRefused;
 use part_ddl::passed_have_places;
 use partition_scans::{judge_default, judge_table, wait_for_snapshots};
 use pg_values::{LockMode, NoMemory, Refusal, SessionSet, TableNo};
+use row_router::{PathPart, Tree};
 use soundness::{legal_keeps_all, sessions_have_siblings};
 use sql_ast::BoundText;
 use statement_steps::{Caller, SessionNames, Stop, hold_if_repeatable, lock_named, lock_tables};
 use std::alloc::Global;
 use stores::{Stores, trees_are_together};
 use table_statements::{lock_default, tables_from};
-use table_trees::{PathPart, Tree};
 
 // The last part: the table becomes a partition.
 fn add_entry(

@@ -13,7 +13,7 @@ use Rattle.expression_binder.specs.Firsts.{fault_in}
 use Rattle.expression_binder.specs.Kinds.{count_faults}
 use Rattle.expression_binder.specs.Scopes.{Scope}
 use Rattle.binding_laws.proofs.Operands.{front_none, back_none, kept}
-use Rattle.change_binder.specs.Inserts.{place_of, target_faults, column_faults, places_of, from_to, value_faults, count_of, row_faults, stored_value, value_constants, row_constants, read_in, row_values, all_values, first_count, targets, named_faults}
+use Rattle.sql_binder.specs.Inserts.{place_of, target_faults, column_faults, places_of, from_to, value_faults, count_of, row_faults, stored_value, value_constants, row_constants, read_in, row_values, all_values, first_count, targets, named_faults}
 use Rattle.binding_laws.specs.FittingAsks.{RowFits, RowsFit, AreWithin}
 use Rattle.binding_laws.proofs.Settings.{stored_is, target_within}
 

@@ -24,8 +24,8 @@ use Rattle.expression_binder.specs.Scopes.{Item, Scope}
 use Rattle.binding_laws.specs.Fitting.{IsOf, HasKind, IsSound}
 use Rattle.binding_laws.proofs.Names.{within}
 use Rattle.binding_laws.proofs.Operands.{front_none, back_none, kept, Gives, scalar_has}
-use Rattle.change_binder.specs.Changes.{set_kind, setting_faults, settings_faults, literal_of, stored_as, stored_scalar, new_value, settings_constants, meant_if, settings_meant}
-use Rattle.change_binder.specs.Inserts.{place_of, place_or, target_faults}
+use Rattle.sql_binder.specs.Changes.{set_kind, setting_faults, settings_faults, literal_of, stored_as, stored_scalar, new_value, settings_constants, meant_if, settings_meant}
+use Rattle.sql_binder.specs.Inserts.{place_of, place_or, target_faults}
 use Rattle.binding_laws.specs.FittingAsks.{SettingsFit}
 
 pub alike_self : (k : Kind) → are_alike k k ≡ true

@@ -15,8 +15,8 @@ use Rattle.sql_binder.specs.From.{from_faults, all_conditions, condition_faults,
 use Rattle.sql_binder.specs.Items.{list_faults, list_constants}
 use Rattle.sql_binder.specs.Selects as selects
 use Rattle.sql_binder.specs.Selects.{list_scope, select_faults, bound_select}
-use Rattle.change_binder.specs.Inserts.{value_scope, row_faults, named_faults, targets, kinds_of, kind_at, insert_faults, all_values, bound_insert}
-use Rattle.change_binder.specs.Changes.{set_scope, where_scope, settings_faults, settings_constants, settings_meant, where_faults, where_constants, where_meaning, change_faults, bound_change}
+use Rattle.sql_binder.specs.Inserts.{value_scope, row_faults, named_faults, targets, kinds_of, kind_at, insert_faults, all_values, bound_insert}
+use Rattle.sql_binder.specs.Changes.{set_scope, where_scope, settings_faults, settings_constants, settings_meant, where_faults, where_constants, where_meaning, change_faults, bound_change}
 use Rattle.binding_laws.specs.FittingAsks.{SelectFits, InsertFits, ChangeFits, MaybeFits}
 use Rattle.binding_laws.proofs.Inserts.{targets_within, rows_fit}
 use Rattle.binding_laws.proofs.Selects.{list_fits, conditions_fit}

@@ -12,8 +12,8 @@ use Rattle.expression_binder.specs.declared.scope.ScopeColumn.{ScopeColumn}
 use Rattle.binding_laws.specs.Fitting.{IsOf, ArgumentsFit, Fits, AllFit, HasKind}
 use Rattle.cond_logic.specs.Asked.{OutputTree, SelectMeant, InsertMeant, SettingMeant, ChangeMeant}
 use Rattle.sql_binder.specs.Selects.{bound_select}
-use Rattle.change_binder.specs.Inserts.{bound_insert, kind_at, kinds_of}
-use Rattle.change_binder.specs.Changes.{bound_change}
+use Rattle.sql_binder.specs.Inserts.{bound_insert, kind_at, kinds_of}
+use Rattle.sql_binder.specs.Changes.{bound_change}
 
 -- each output has the kind that it is told to have, of columns that lie in their items
 abbrev pub OutputsFit : List Item → List OutputTree → Type 0

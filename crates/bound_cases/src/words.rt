@@ -1,8 +1,8 @@
 //! Levels and bounds from words.
 
 use bound_checks::{RawBound, RawEdge, RawEdges, RawValue, RawValues};
-use bound_forms::{KeyColumn, KeyColumns, Level, Strategy};
-use pg_values::{Kind, NoMemory, PgText, Value};
+use bound_forms::{KeyColumn, KeyColumns, Level};
+use pg_values::{Kind, NoMemory, PgText, Strategy, Value};
 use refusals::left_out;
 use std::alloc::Global;
 

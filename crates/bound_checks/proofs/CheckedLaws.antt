@@ -11,8 +11,8 @@ use Rattle.pg_values.specs.declared.value.Kind.{Kind}
 use Rattle.pg_values.specs.declared.value.Value.{Value}
 use Rattle.refusals.specs.Refusals.{wrong_bound_count, null_in_range, empty_range, bad_remainder}
 use Rattle.bound_forms.specs.declared.level.Level.{Level}
-use Rattle.bound_forms.specs.declared.level.Strategy.{Strategy}
-use Rattle.bound_forms.specs.declared.level.Strategy.TheVariants.{Range as ByRange, List as ByList, Hash as ByHash}
+use Rattle.pg_values.specs.declared.strategy.Strategy.{Strategy}
+use Rattle.pg_values.specs.declared.strategy.Strategy.TheVariants.{Range as ByRange, List as ByList, Hash as ByHash}
 use Rattle.bound_forms.specs.declared.level.KeyColumn.{KeyColumn}
 use Rattle.bound_checks.specs.declared.raw_bound.RawValue.{RawValue}
 use Rattle.bound_checks.specs.declared.raw_bound.RawEdge.{RawEdge}

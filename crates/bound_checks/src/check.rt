@@ -19,8 +19,8 @@ ghost use Rattle.bound_checks.specs.Checks.{count_faults, has_null_edge, repeat_
 
 use crate::raw_value::{read_list, read_point};
 use crate::{RawBound, RawEdge, RawValue};
-use bound_forms::{Bound, KeyColumn, Level, MOST_MODULUS, Point, Strategy, cmp_points, is_null};
-use pg_values::{Refusal, ValueKey};
+use bound_forms::{Bound, KeyColumn, Level, MOST_MODULUS, Point, cmp_points, is_null};
+use pg_values::{Refusal, Strategy, ValueKey};
 use refusals::{
     bad_remainder, bound_does_not_suit, empty_range, no_hash_default, not_repeated, null_in_range,
     wrong_bound_count,

@@ -1,17 +1,9 @@
 ghost use Rattle.std.specs.Prelude.{◌≡◌, ◌++◌, ◌∷◌, [], length, OnOk, OnErr};
-ghost use Rattle.bound_forms.specs.declared.level.Strategy.TheVariants.{List as ByList};
+ghost use Rattle.pg_values.specs.declared.strategy.Strategy.TheVariants.{List as ByList};
 
-use pg_values::{Kind, NoMemory};
+use pg_values::{Kind, NoMemory, Strategy};
 use std::alloc::Global;
 use std::marker::Model;
-
-/// How the rows of a partitioned table are shared out: PARTITION BY RANGE, LIST or HASH.
-#[derive(Clone, Copy, Debug, PartialEq, Eq)]
-pub enum Strategy {
-    Range,
-    List,
-    Hash,
-}
 
 /// A column of a partition key: its place among the columns of the table, and its kind.
 #[derive(Clone, Copy, Debug)]

@@ -32,7 +32,7 @@ pub use laws::{
     overlap_is_shared_residue, plain_order_is_sorted, plain_order_keeps, rows_give_keys,
     within_accepts,
 };
-pub use level::{KeyColumn, KeyColumns, Level, Strategy};
+pub use level::{KeyColumn, KeyColumns, Level};
 pub use listed::{cmp_least, is_same, lists};
 pub use moduli::{moduli_suit, modulus_of, remainders_meet};
 pub use ordered::comes_after;

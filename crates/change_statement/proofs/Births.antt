@@ -17,7 +17,7 @@ use Rattle.history.specs.Transactions.{open_of}
 use Rattle.history.specs.Rows.{RowEvent, RowBorn, RowEnded, leaf_count}
 use Rattle.history.specs.History.{History, RowChange, tx_events, row_events, catalogue_events, versions}
 use Rattle.history.specs.Legal.{IsInOrder}
-use Rattle.table_trees.specs.Trees.{TableTree, LeafTable, LevelTable, Trees, End as NoTrees, More, leaves, all_leaves, routed, routed_in, child_of}
+use Rattle.row_router.specs.Trees.{TableTree, LeafTable, LevelTable, Trees, End as NoTrees, More, leaves, all_leaves, routed, routed_in, child_of}
 use Rattle.tx_table.specs.Stands.{TableStands}
 use Rattle.row_store.specs.Kept.{KeptRows, stored_at}
 use Rattle.row_store.specs.Stands.{StoreStands, newborn}

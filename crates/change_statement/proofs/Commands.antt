@@ -3,7 +3,7 @@ use Rattle.std.proofs.Common.{◌≡◌, ℕ, zero, suc, ◌+◌, ◌<◌, ◌==
 use Rattle.std.proofs.lemmas.Bool.Decides.{nat_tests}
 use Rattle.std.proofs.lemmas.List.{length-map}
 use Rattle.history.specs.declared.version.Version.{Version}
-use Rattle.table_trees.specs.Trees.{leaves}
+use Rattle.row_router.specs.Trees.{leaves}
 use Rattle.row_store.specs.Kept.{KeptRows, stored_at, version_of}
 use Rattle.row_store.specs.Stands.{StoreStands}
 use Rattle.soundness.proofs.Presence.{all_more}

@@ -14,7 +14,7 @@ use Rattle.row_store.specs.Kept.{KeptRows, stored_at}
 use Rattle.row_store.specs.Stands.{StoreStands}
 use Rattle.row_change.specs.Succession.{KeepsVersions}
 use Rattle.row_change.specs.Ways.{AllTables, AllTablesOf}
-use Rattle.table_trees.specs.Trees.{TableTree, LeafTable, LevelTable, Trees, End, More}
+use Rattle.row_router.specs.Trees.{TableTree, LeafTable, LevelTable, Trees, End, More}
 use Rattle.part_catalog.specs.Stands.{CatalogueStands}
 use Rattle.change_statement.specs.Targets.{targets}
 use Rattle.change_statement.specs.Verdicts.{UpdaterMeant, Decision, Changes, PassesBy, WaitsFor, Refuses, decided, MayEnd}

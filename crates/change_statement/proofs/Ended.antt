@@ -45,7 +45,7 @@ use Rattle.change_statement.specs.Running.{IsInRun, IsRunTold, IsRun, MayEndIn, 
 use Rattle.change_statement.proofs.Kept.{one_of}
 use Rattle.change_statement.proofs.Still.{open_leaf}
 use Rattle.std.specs.List.{Contains}
-use Rattle.table_trees.specs.Trees.{leaves}
+use Rattle.row_router.specs.Trees.{leaves}
 use Rattle.legal_statements.specs.Locked.{IsWritable}
 
 -- ---- an event

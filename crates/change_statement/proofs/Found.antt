@@ -10,9 +10,9 @@ use Rattle.pg_values.specs.declared.ids.TableNo.{TableNo}
 use Rattle.history.specs.declared.catalogue.Column.{Column}
 use Rattle.history.specs.Catalogue.{tables_made}
 use Rattle.history.specs.History.{History, catalogue_events}
-use Rattle.table_trees.specs.declared.path_part.PathPart.{PathPart}
-use Rattle.table_trees.specs.Histories.{path_of}
-use Rattle.table_trees.specs.Trees.{TableTree, leaves}
+use Rattle.row_router.specs.declared.path_part.PathPart.{PathPart}
+use Rattle.row_router.specs.Histories.{path_of}
+use Rattle.row_router.specs.Trees.{TableTree, leaves}
 use Rattle.cond_logic.specs.Tables.{Leaf}
 use Rattle.plan_tree.specs.Kept.{Keeps, id_of, kept_leaves, kept_tables}
 use Rattle.part_catalog.specs.Found.{made_at}
@@ -26,7 +26,7 @@ use Rattle.plan_tree.specs.Laws.{TreesCanBePruned}
 use Rattle.plan_tree.specs.Prunable.{CanPrune}
 use Rattle.cond_logic.specs.Asked.{ChangeMeant, SettingMeant, change_meant}
 use Rattle.cond_logic.specs.declared.change.ChangeAsk.{ChangeAsk}
-use Rattle.change_binder.specs.Changes.{bound_change}
+use Rattle.sql_binder.specs.Changes.{bound_change}
 use Rattle.row_change.specs.Ways.{AllTables, root}
 use Rattle.soundness.specs.Worlds.{HasLeaf}
 use Rattle.soundness.proofs.Listed.{none_in}

@@ -6,7 +6,7 @@ use Rattle.std.proofs.lemmas.List.Elements.{All-nil, All-cons, All-append, Conta
 use Rattle.pg_values.specs.declared.ids.LeafId.{LeafId}
 use Rattle.pg_values.specs.declared.ids.TableNo.{TableNo}
 use Rattle.bound_forms.specs.declared.partition_bound.Bound.{Bound}
-use Rattle.table_trees.specs.Trees.{TableTree, LeafTable, LevelTable, Trees, End, More, leaves, all_leaves}
+use Rattle.row_router.specs.Trees.{TableTree, LeafTable, LevelTable, Trees, End, More, leaves, all_leaves}
 use Rattle.legal_statements.specs.Below.{tables_in, all_tables}
 use Rattle.row_change.specs.Ways.{AllTables, AllTablesOf, root}
 use Rattle.cond_logic.specs.Tables.{Leaf}

@@ -11,9 +11,9 @@ use Rattle.history.specs.Locks.{holds}
 use Rattle.history.specs.Catalogue.{tables_made}
 use Rattle.history.specs.History.{History, tx_events, lock_events, catalogue_events}
 use Rattle.history.specs.Places.{table_at}
-use Rattle.table_trees.specs.declared.path_part.PathPart.{PathPart}
-use Rattle.table_trees.specs.Trees.{TableTree, leaves}
-use Rattle.table_trees.specs.Histories.{table_of}
+use Rattle.row_router.specs.declared.path_part.PathPart.{PathPart}
+use Rattle.row_router.specs.Trees.{TableTree, leaves}
+use Rattle.row_router.specs.Histories.{table_of}
 use Rattle.part_catalog.specs.Kept.{KeptCatalogue, table_in}
 use Rattle.row_store.specs.Kept.{KeptRows}
 use Rattle.row_change.specs.Succession.{KeepsVersions}

@@ -13,7 +13,7 @@ use Rattle.value_rules.specs.declared.assignment.CoerceFault.{CoerceFault}
 use Rattle.value_rules.specs.declared.assignment.CoerceFault.TheVariants.{Kinds, Range}
 use Rattle.history.specs.declared.catalogue.Column.{Column}
 use Rattle.bound_forms.specs.Levels.{IsOf}
-use Rattle.table_trees.specs.Trees.{IsRowOf}
+use Rattle.row_router.specs.Trees.{IsRowOf}
 use Rattle.cond_logic.specs.Asked.{SettingMeant, setting_meant}
 use Rattle.cond_logic.specs.declared.change.Setting.{Setting}
 use Rattle.change_statement.specs.NewRows.{kind_at, or_refused, assigned_to, set_value, with_value, set_in}

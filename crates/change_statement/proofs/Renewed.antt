@@ -12,8 +12,8 @@ use Rattle.pg_values.specs.declared.ids.TableNo.{TableNo}
 use Rattle.history.specs.declared.catalogue.Column.{Column}
 use Rattle.history.specs.Catalogue.{tables_made}
 use Rattle.history.specs.History.{History, catalogue_events}
-use Rattle.table_trees.specs.Histories.{tree_of, path_of}
-use Rattle.table_trees.specs.Trees.{IsRowOf, TableTree, LeafTable, LevelTable, Trees, End, More, leaves, all_leaves}
+use Rattle.row_router.specs.Histories.{tree_of, path_of}
+use Rattle.row_router.specs.Trees.{IsRowOf, TableTree, LeafTable, LevelTable, Trees, End, More, leaves, all_leaves}
 use Rattle.std.specs.List.{Contains}
 use Rattle.std.proofs.lemmas.List.Elements.{Contains-append_cases}
 use Rattle.std.proofs.lemmas.Bool.Decides.{nat_tests}

@@ -16,10 +16,10 @@ use Rattle.history.specs.History.{History, TxChange, SnapshotChange, RowChange, 
 use Rattle.history.specs.Presence.{counts, entries_shown}
 use Rattle.history.specs.Legal.{IsLegal}
 use Rattle.history.proofs.Open.{open_runs}
-use Rattle.table_trees.specs.declared.node.Node.{Node}
-use Rattle.table_trees.specs.Trees.{TableTree, trees_of, leaves, all_leaves, routed}
-use Rattle.table_trees.specs.Histories.{tree_of, path_of, table_of, tree_within, grown, node_at, children, bound_of, child_of_entry}
-use Rattle.table_trees.proofs.Order.{all_children, under_children}
+use Rattle.row_router.specs.declared.node.Node.{Node}
+use Rattle.row_router.specs.Trees.{TableTree, trees_of, leaves, all_leaves, routed}
+use Rattle.row_router.specs.Histories.{tree_of, path_of, table_of, tree_within, grown, node_at, children, bound_of, child_of_entry}
+use Rattle.row_router.proofs.Order.{all_children, under_children}
 use Rattle.row_router.specs.declared.path.PathTest.TheVariants.{Bounds, Checks}
 use Rattle.row_router.specs.Paths.{refused}
 use Rattle.row_change.specs.Targets.{HasWay}

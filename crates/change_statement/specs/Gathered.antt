@@ -5,9 +5,9 @@ use Rattle.pg_values.specs.declared.ids.TableNo.{TableNo}
 use Rattle.pg_values.specs.declared.lock_mode.LockMode.TheVariants.{RowExclusive}
 use Rattle.history.specs.declared.catalogue.Column.{Column}
 use Rattle.history.specs.History.{History}
-use Rattle.table_trees.specs.declared.path_part.PathPart.{PathPart}
-use Rattle.table_trees.specs.Histories.{tree_of, path_of, table_of}
-use Rattle.table_trees.specs.Trees.{TableTree}
+use Rattle.row_router.specs.declared.path_part.PathPart.{PathPart}
+use Rattle.row_router.specs.Histories.{tree_of, path_of, table_of}
+use Rattle.row_router.specs.Trees.{TableTree}
 use Rattle.part_catalog.specs.Found.{made_at}
 use Rattle.sql_ast.specs.Expressions.{Tree}
 use Rattle.sql_ast.specs.Queries.{Setting, maybe_tree, setting}
@@ -16,7 +16,7 @@ use Rattle.sql_binder.specs.From.{item_name}
 use Rattle.expression_binder.specs.Scopes.{Item}
 use Rattle.expression_binder.specs.declared.scope.Param.{Param}
 use Rattle.cond_logic.specs.Asked.{ChangeMeant}
-use Rattle.change_binder.specs.Changes.{bound_change}
+use Rattle.sql_binder.specs.Changes.{bound_change}
 use Rattle.stores.specs.Events.{look_of}
 use Rattle.statement_steps.specs.Made.{Made, made}
 use Rattle.statement_steps.specs.declared.caller.Caller.{Caller}

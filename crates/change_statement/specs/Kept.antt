@@ -3,7 +3,7 @@
 use Rattle.std.specs.Prelude.{Bool, false, if◌then◌else◌, List, [], ◌∷◌, map, Option, Some, None}
 use Rattle.pg_values.specs.declared.ids.LeafId.{LeafId}
 use Rattle.pg_values.specs.declared.ids.TableNo.{TableNo}
-use Rattle.table_trees.specs.Trees.{TableTree}
+use Rattle.row_router.specs.Trees.{TableTree}
 use Rattle.cond_logic.specs.Trees.{CondTree}
 use Rattle.plan_tree.specs.Conditions.{all_hold}
 use Rattle.plan_tree.specs.Kept.{Keeps, keeps_by, id_of, kept_leaves, kept_tables}

@@ -8,7 +8,7 @@ use Rattle.pg_values.specs.declared.ids.RowId.{RowId}
 use Rattle.history.specs.Transactions.{open_of}
 use Rattle.history.specs.History.{History, tx_events, catalogue_events, stands}
 use Rattle.history.specs.Legal.{IsInOrder}
-use Rattle.table_trees.specs.Trees.{leaves}
+use Rattle.row_router.specs.Trees.{leaves}
 use Rattle.tx_table.specs.Stands.{TableStands, sees_now_by}
 use Rattle.row_store.specs.Kept.{KeptRows, stored_at}
 use Rattle.row_store.specs.Stands.{StoreStands}

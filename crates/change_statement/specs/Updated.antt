@@ -9,8 +9,8 @@ use Rattle.history.specs.declared.transaction.TxId.{TxId}
 use Rattle.history.specs.declared.catalogue.Table.{Table}
 use Rattle.history.specs.History.{History}
 use Rattle.part_catalog.specs.Found.{made_at}
-use Rattle.table_trees.specs.declared.path_part.PathPart.{PathPart}
-use Rattle.table_trees.specs.Trees.{TableTree}
+use Rattle.row_router.specs.declared.path_part.PathPart.{PathPart}
+use Rattle.row_router.specs.Trees.{TableTree}
 use Rattle.row_store.specs.Stands.{newborn}
 use Rattle.row_change.specs.Placing.{bounds_faults, first_or, placed}
 use Rattle.row_change.specs.Storing.{check_faults, full_faults}

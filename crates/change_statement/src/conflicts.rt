@@ -4,7 +4,7 @@ ghost use Rattle.std.specs.Prelude.{◌≡◌, ◌<◌, [], IfOk, length, unwrap
 ghost use Rattle.history.specs.History.{History};
 ghost use Rattle.part_catalog.specs.Stands.{CatalogueStands};
 ghost use Rattle.row_change.specs.Ways.{root, way_to, AllTables};
-ghost use Rattle.table_trees.specs.Seen.{seen};
+ghost use Rattle.row_router.specs.Seen.{seen};
 ghost use Rattle.statement_steps.specs.Faults as faults;
 ghost use Rattle.insert_statement.specs.Inserted as inserted;
 ghost use Rattle.change_statement.specs.Changed as changed;
@@ -13,9 +13,9 @@ use crate::{Conflict, could_not_serialize};
 use part_catalog::Catalog;
 use pg_values::{Fault, LeafId, NoMemory, PgText, TableNo};
 use row_change::leaf_way;
+use row_router::Tree;
 use statement_steps::SessionNames;
 use std::alloc::Global;
-use table_trees::Tree;
 
 fn last_or(first: TableNo, way: &[TableNo]) -> TableNo
     ensures { result ≡ inserted.last_or first way.now }

@@ -1,7 +1,7 @@
 //! What is gathered before the rows are looked at.
 
 ghost use Rattle.std.specs.Prelude.{◌≡◌, ◌<◌, ◌≤◌, ◌∷◌, [], All, IfOk, length, map};
-ghost use Rattle.table_trees.specs.Seen.{seen};
+ghost use Rattle.row_router.specs.Seen.{seen};
 ghost use Rattle.cond_logic.specs.Asked.{change_meant};
 ghost use Rattle.plan_tree.specs.Prunable.{CanPrune};
 ghost use Rattle.row_change.specs.Ways.{AllTables};
@@ -20,10 +20,10 @@ use expression_binder::Param;
 use insert_statement::tree_and_path;
 use pg_values::{LockMode, NoMemory, TableNo};
 use plan_tree::trees_can_be_pruned;
+use row_router::{PathPart, Tree};
 use statement_steps::{Caller, Gathered, SessionNames, Stop, lock_named, lock_tables};
 use std::alloc::Global;
 use stores::Stores;
-use table_trees::{PathPart, Tree};
 
 fn lock_all(
     alloc: Global,

@@ -2,7 +2,7 @@
 
 ghost use Rattle.std.specs.Prelude.{◌≡◌, IfOk, map};
 ghost use Rattle.std.specs.List.{list_any};
-ghost use Rattle.table_trees.specs.Seen.{seen};
+ghost use Rattle.row_router.specs.Seen.{seen};
 ghost use Rattle.plan_tree.specs.Kept.{id_of, kept_leaves, kept_tables};
 ghost use Rattle.plan_tree.specs.Prunable.{CanPrune};
 ghost use Rattle.cond_logic.specs.Asked.{change_meant, maybe_cond, setting_meant};
@@ -14,9 +14,9 @@ use bound_forms::KeyColumn;
 use cond_logic::{ChangeAsk, Cond, NamedLeaf, Setting};
 use pg_values::{LeafId, NoMemory, TableNo};
 use plan_tree::{KeptParts, all_hold, prune_tree};
+use row_router::{Shape, Tree};
 use select_statement::tables_below;
 use std::alloc::Global;
-use table_trees::{Shape, Tree};
 
 /// What a statement needs of a tree.
 #[derive(Drop)]

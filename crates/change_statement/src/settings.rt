@@ -1,7 +1,7 @@
 ghost use Rattle.std.specs.Prelude.{◌≡◌, IfOk, length, map, slice_set};
 ghost use Rattle.pg_values.specs.Refusals.{IsAnswer};
 ghost use Rattle.value_rules.specs.Assignment.{assigned};
-ghost use Rattle.table_trees.specs.Trees.{IsRowOf};
+ghost use Rattle.row_router.specs.Trees.{IsRowOf};
 ghost use Rattle.cond_logic.specs.Asked.{setting_meant};
 ghost use Rattle.change_statement.specs.NewRows as rows;
 

@@ -4,8 +4,8 @@ ghost use Rattle.std.specs.Prelude.{◌≡◌, ◌<◌, ◌∷◌, [], true, fal
 ghost use Rattle.pg_values.specs.Refusals.{IsAnswer, or_first};
 ghost use Rattle.bound_forms.specs.Levels.{IsOf};
 ghost use Rattle.history.specs.History.{History};
-ghost use Rattle.table_trees.specs.Seen.{seen};
-ghost use Rattle.table_trees.specs.Trees.{IsRowOf};
+ghost use Rattle.row_router.specs.Seen.{seen};
+ghost use Rattle.row_router.specs.Trees.{IsRowOf};
 ghost use Rattle.row_store.specs.Kept.{stored_at};
 ghost use Rattle.std.specs.List.{Contains};
 ghost use Rattle.row_change.specs.Succession.{KeepsVersions};

@@ -20,9 +20,9 @@ use Rattle.history.specs.declared.catalogue.Table.{Table}
 use Rattle.history.specs.declared.catalogue.TableShape.{TableShape}
 use Rattle.history.specs.declared.catalogue.TableShape.TheVariants.{Leaf, Level}
 use Rattle.history.specs.Places.{table_at}
-use Rattle.table_trees.specs.Trees.{TableTree}
-use Rattle.table_trees.specs.declared.path_part.PathPart.{PathPart}
-use Rattle.table_trees.specs.Histories.{placed, all_placed, is_under, is_over, is_entry, children, above, parent_in, place_among, place_of, upwards, bound_of, child_of_entry, node_at, grown, tree_within}
+use Rattle.row_router.specs.Trees.{TableTree}
+use Rattle.row_router.specs.declared.path_part.PathPart.{PathPart}
+use Rattle.row_router.specs.Histories.{placed, all_placed, is_under, is_over, is_entry, children, above, parent_in, place_among, place_of, upwards, bound_of, child_of_entry, node_at, grown, tree_within}
 use Rattle.detach_laws.proofs.Behind.{other_number}
 
 -- ---- two entries that are placed

@@ -23,13 +23,13 @@ use Rattle.history.specs.declared.version.Version.{Version}
 use Rattle.history.specs.History.{History, CatalogueChange, tx_events, row_events, catalogue_events, seen, sees_end}
 use Rattle.history.specs.Places.{AreCatalogueSound, TakesBound, table_at}
 use Rattle.history.specs.Presence.{counts, stamp_counts, sees_stamp, is_present, entries_present, is_check_of, checks_of}
-use Rattle.table_trees.specs.Trees.{TableTree}
-use Rattle.table_trees.specs.Siblings.{AreSiblings, CanStandTogether}
-use Rattle.table_trees.specs.declared.path_part.Place.{Place}
-use Rattle.table_trees.specs.declared.path_part.PathPart.{PathPart}
-use Rattle.table_trees.specs.Histories.{table_of, kept_of, children, above, parent_in, place_among, place_of, part_of, upwards, tree_within, tree_of, path_of}
-use Rattle.table_trees.proofs.Order.{siblings_kept, all_kept}
-use Rattle.table_trees.proofs.Suited.{all_suit}
+use Rattle.row_router.specs.Trees.{TableTree}
+use Rattle.row_router.specs.Siblings.{AreSiblings, CanStandTogether}
+use Rattle.row_router.specs.declared.path_part.Place.{Place}
+use Rattle.row_router.specs.declared.path_part.PathPart.{PathPart}
+use Rattle.row_router.specs.Histories.{table_of, kept_of, children, above, parent_in, place_among, place_of, part_of, upwards, tree_within, tree_of, path_of}
+use Rattle.row_router.proofs.Order.{siblings_kept, all_kept}
+use Rattle.row_router.proofs.Suited.{all_suit}
 use Rattle.soundness.proofs.Listed.{cases_in, none_in}
 use Rattle.detach_laws.specs.Back.{IsBackAgain, number_behind, entry_behind, event_behind}
 use Rattle.detach_laws.proofs.Alike.{StandsApart, trees_alike, children_alike, AreLike, like_append, like_trees, like_found, like_place, like_parent, same_upwards, moved_found}

@@ -11,10 +11,10 @@ use Rattle.history.specs.Catalogue.{tables_made}
 use Rattle.history.specs.History.{History, catalogue_events}
 use Rattle.history.specs.Presence.{entries_shown}
 use Rattle.history.specs.Snapshots.{TakenSnapshot}
-use Rattle.table_trees.specs.declared.node.Node.{Node}
-use Rattle.table_trees.specs.Trees.{TableTree, trees_of, leaves, all_leaves}
-use Rattle.table_trees.specs.Histories.{tree_of, tree_within, grown, node_at, children, bound_of, child_of_entry}
-use Rattle.table_trees.proofs.Order.{all_children, under_children}
+use Rattle.row_router.specs.declared.node.Node.{Node}
+use Rattle.row_router.specs.Trees.{TableTree, trees_of, leaves, all_leaves}
+use Rattle.row_router.specs.Histories.{tree_of, tree_within, grown, node_at, children, bound_of, child_of_entry}
+use Rattle.row_router.proofs.Order.{all_children, under_children}
 use Rattle.soundness.specs.Worlds.{table_in, IsMade}
 use Rattle.soundness.proofs.Listed.{none_in, only_one}
 use Rattle.soundness.proofs.Sound.{sound_of, catalogue_sound_of}
@@ -72,7 +72,7 @@ led_within (suc n) h session s leaf entries named t made all makes at =
     (λ c made_c at_c. led_within n h session s leaf entries named c made_c all makes at_c) at
 
 pub trees_show_what_is_attached : TreesShowWhatIsAttached
-unfolding Rattle.table_trees.specs.Histories.tree_of
+unfolding Rattle.row_router.specs.Histories.tree_of
 trees_show_what_is_attached h legal permitted session top s leaf made at =
     let i = legal_keeps_all h legal permitted in
     led_within 7 h session s leaf (entries_shown h session s) top top made (all_attached h session s (sound_of h legal) (catalogue_sound_of h legal)) (λ e a. (i.entries.suited e a.present.0).child) at

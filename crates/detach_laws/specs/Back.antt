@@ -8,7 +8,7 @@ use Rattle.history.specs.Snapshots.{TakenSnapshot}
 use Rattle.history.specs.Catalogue.{CatalogueEvent, CatalogueEvents, TableMade, TableDropped, EntryAdded, EntryEnded, EntryMarked, CheckKept, entries_added, entry_ends, marks, counted_of}
 use Rattle.history.specs.History.{History, tx_events, row_events, catalogue_events, seen}
 use Rattle.history.specs.Legal.{IsLegal}
-use Rattle.table_trees.specs.Histories.{tree_of, path_of}
+use Rattle.row_router.specs.Histories.{tree_of, path_of}
 use Rattle.soundness.specs.Legal.{ArePermitted}
 
 -- ---- an entry more

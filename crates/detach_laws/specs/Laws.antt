@@ -10,8 +10,8 @@ use Rattle.history.specs.Catalogue.{CatalogueEvents, EntryAdded, EntryMarked, Is
 use Rattle.history.specs.History.{History, CatalogueChange, tx_events, catalogue_events}
 use Rattle.history.specs.Presence.{counts}
 use Rattle.history.specs.Legal.{IsLegal}
-use Rattle.table_trees.specs.Histories.{tree_of}
-use Rattle.table_trees.specs.Trees.{leaves}
+use Rattle.row_router.specs.Histories.{tree_of}
+use Rattle.row_router.specs.Trees.{leaves}
 use Rattle.soundness.specs.Worlds.{IsMade, HasLeaf, Present}
 use Rattle.soundness.specs.Legal.{ArePermitted}
 

@@ -15,8 +15,8 @@ use Rattle.history.specs.Catalogue.{tables_made}
 use Rattle.history.specs.History.{History, catalogue_events}
 use Rattle.history.specs.Places.{table_at, LiesIn, KeysLieIn, TakesBound, HasColumnsOf, AreCatalogueSound}
 use Rattle.history.specs.Presence.{checks_of}
-use Rattle.table_trees.specs.Histories.{is_over, kept_of}
-use Rattle.table_trees.proofs.Suited.{all_keys_lie}
+use Rattle.row_router.specs.Histories.{is_over, kept_of}
+use Rattle.row_router.proofs.Suited.{all_keys_lie}
 use Rattle.part_catalog.specs.Found.{made_at}
 use Rattle.part_ddl.specs.Placing.{level_told, level_at, partitions_of}
 use Rattle.table_statements.proofs.Below.{found_in, below_listed, entry_suits}

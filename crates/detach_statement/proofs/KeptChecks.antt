@@ -15,8 +15,8 @@ use Rattle.history.specs.Catalogue.{CheckKept, tables_made, checks_kept}
 use Rattle.history.specs.History.{History, CatalogueChange, tx_events, catalogue_events}
 use Rattle.history.specs.Places.{AreCatalogueSound}
 use Rattle.history.specs.Presence.{entries_present, checks_of, is_check_of}
-use Rattle.table_trees.specs.declared.path_part.PathPart.{PathPart}
-use Rattle.table_trees.specs.Histories.{above, kept_of, parent_in, part_of, path_of, upwards}
+use Rattle.row_router.specs.declared.path_part.PathPart.{PathPart}
+use Rattle.row_router.specs.Histories.{above, kept_of, parent_in, part_of, path_of, upwards}
 use Rattle.part_ddl.specs.Placing.{IsFault}
 use Rattle.detach_statement.specs.Kept.{check_told, same_check, unless_equal}
 
@@ -41,7 +41,7 @@ kept_have_levels h s t sound = all_kept (checks_of h s t) (All-filter (is_check_
 
 -- a path begins at the table itself
 pub path_starts : (h : History) (s t : ℕ) → (ps : List PathPart) × (path_of h s t ≡ part_of (tables_made (catalogue_events h)) (entries_present h s) (checks_of h s) t ∷ ps)
-unfolding Rattle.table_trees.specs.Histories.path_of
+unfolding Rattle.row_router.specs.Histories.path_of
 path_starts h s t = (upwards 7 (part_of (tables_made (catalogue_events h)) (entries_present h s) (checks_of h s)) (above (entries_present h s)) (parent_in (above (entries_present h s) t)), refl)
 
 -- ---- what is told of the partition's place

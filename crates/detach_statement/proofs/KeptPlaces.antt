@@ -14,7 +14,7 @@ use Rattle.history.specs.Catalogue.{EntryEnded, CheckKept, entry_ends, counted_o
 use Rattle.history.specs.History.{History, CatalogueChange, tx_events, catalogue_events}
 use Rattle.history.specs.Places.{table_at, LiesIn, IsCatalogueSound}
 use Rattle.history.specs.Presence.{entries_present, checks_of}
-use Rattle.table_trees.specs.Histories.{above, is_over, kept_of, table_of}
+use Rattle.row_router.specs.Histories.{above, is_over, kept_of, table_of}
 use Rattle.tx_table.specs.Kept.{KeptTable}
 use Rattle.tx_table.specs.Stands.{TableStands}
 use Rattle.part_catalog.specs.Answers.{entry_between, IsStanding}

@@ -9,7 +9,7 @@ use Rattle.history.specs.Catalogue.{EntryEnded, entry_ends, counted_of}
 use Rattle.history.specs.History.{History, CatalogueChange, tx_events, catalogue_events}
 use Rattle.history.specs.Presence.{entries_present}
 use Rattle.history.proofs.Open.{open_own}
-use Rattle.table_trees.specs.Histories.{above, is_over, table_of}
+use Rattle.row_router.specs.Histories.{above, is_over, table_of}
 use Rattle.tx_table.specs.Stands.{TableStands}
 use Rattle.part_catalog.specs.Answers.{entry_between, IsStanding}
 use Rattle.part_catalog.specs.Kept.{KeptCatalogue}

@@ -20,7 +20,7 @@ use Rattle.history.specs.Presence.{entries_present, is_present, is_pending}
 use Rattle.history.specs.Transactions.{open_of, session_of}
 use Rattle.history.proofs.Open.{open_own}
 use Rattle.history.proofs.Stamps.{newest_mark_counts}
-use Rattle.table_trees.specs.Histories.{table_of}
+use Rattle.row_router.specs.Histories.{table_of}
 use Rattle.tx_table.specs.Kept.{KeptTable}
 use Rattle.tx_table.specs.Stands.{TableStands}
 use Rattle.part_catalog.specs.Answers.{child_told, entry_between, is_pending_below, pending_entry, IsUnmarked}

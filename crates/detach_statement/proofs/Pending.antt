@@ -11,7 +11,7 @@ use Rattle.history.specs.Catalogue.{CatalogueEvents, TableMade, TableDropped, En
 use Rattle.history.specs.History.{History, tx_events, catalogue_events}
 use Rattle.history.specs.Presence.{counts, stamp_counts, entries_present, is_present, is_pending}
 use Rattle.history.specs.Legal.{IsLegal}
-use Rattle.table_trees.specs.Histories.{above}
+use Rattle.row_router.specs.Histories.{above}
 use Rattle.tx_table.specs.Stands.{TableStands}
 use Rattle.part_catalog.specs.Answers.{child_told, parent_told, marker_told, is_pending_below, pending_entry}
 use Rattle.part_catalog.specs.Kept.{KeptCatalogue}

@@ -13,8 +13,8 @@ use Rattle.pg_values.specs.KeyKinds.{order_total}
 use Rattle.pg_values.specs.Order.{order}
 use Rattle.bound_forms.specs.declared.level.KeyColumn.{KeyColumn}
 use Rattle.bound_forms.specs.declared.level.Level.{Level}
-use Rattle.bound_forms.specs.declared.level.Strategy.{Strategy}
-use Rattle.bound_forms.specs.declared.level.Strategy.TheVariants as strategies
+use Rattle.pg_values.specs.declared.strategy.Strategy.{Strategy}
+use Rattle.pg_values.specs.declared.strategy.Strategy.TheVariants as strategies
 use Rattle.bound_forms.specs.declared.partition_bound.Bound.{Bound}
 use Rattle.bound_forms.specs.declared.partition_bound.Bound.TheVariants.{Range, List as Listed, Hash, Default}
 use Rattle.bound_forms.specs.declared.point.Edge.{Edge}
@@ -27,7 +27,7 @@ use Rattle.bound_forms.proofs.PointOrder.{point_total}
 use Rattle.bound_forms.proofs.TotalOrder.{turn}
 use Rattle.history.specs.declared.catalogue.Check.{Check}
 use Rattle.history.specs.declared.catalogue.KeptCheck.{KeptCheck}
-use Rattle.table_trees.specs.Histories.{kept_of}
+use Rattle.row_router.specs.Histories.{kept_of}
 use Rattle.soundness.proofs.Listed.{none_in, cases_in}
 use Rattle.detach_statement.specs.Kept.{same_strategy, same_kind, same_columns, same_level, same_check}
 

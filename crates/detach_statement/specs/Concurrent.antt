@@ -17,7 +17,7 @@ use Rattle.history.specs.declared.wait.WaitOn.TheVariants.{Ends}
 use Rattle.history.specs.Catalogue.{EntryMarked}
 use Rattle.history.specs.History.{History, CatalogueChange, lock_events}
 use Rattle.history.specs.Locks.{holds_any}
-use Rattle.table_trees.specs.Histories.{table_of}
+use Rattle.row_router.specs.Histories.{table_of}
 use Rattle.part_catalog.specs.Answers.{child_told, entry_between, marker_told, pending_entry}
 use Rattle.part_ddl.specs.Below.{default_of}
 use Rattle.part_ddl.specs.Dropped.{place_ended}

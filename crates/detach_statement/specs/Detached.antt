@@ -7,7 +7,7 @@ use Rattle.pg_values.specs.declared.lock_mode.LockMode.TheVariants.{AccessExclus
 use Rattle.pg_values.specs.Refusals.{unless}
 use Rattle.refusals.specs.Refusals.{partition_is_pending, not_a_partition}
 use Rattle.history.specs.History.{History}
-use Rattle.table_trees.specs.Histories.{table_of}
+use Rattle.row_router.specs.Histories.{table_of}
 use Rattle.part_catalog.specs.Answers.{child_told, pending_entry}
 use Rattle.part_catalog.specs.Found.{made_at}
 use Rattle.part_ddl.specs.Below.{default_of}

@@ -8,8 +8,8 @@ use Rattle.pg_values.specs.declared.value.Kind.TheVariants as kinds
 use Rattle.pg_values.specs.declared.ids.TableNo.{TableNo}
 use Rattle.bound_forms.specs.declared.level.KeyColumn.{KeyColumn}
 use Rattle.bound_forms.specs.declared.level.Level.{Level}
-use Rattle.bound_forms.specs.declared.level.Strategy.{Strategy}
-use Rattle.bound_forms.specs.declared.level.Strategy.TheVariants as strategies
+use Rattle.pg_values.specs.declared.strategy.Strategy.{Strategy}
+use Rattle.pg_values.specs.declared.strategy.Strategy.TheVariants as strategies
 use Rattle.bound_forms.specs.declared.partition_bound.Bound.{Bound}
 use Rattle.bound_forms.specs.Within.{within}
 use Rattle.history.specs.declared.catalogue.Check.{Check}
@@ -19,7 +19,7 @@ use Rattle.history.specs.declared.transaction.TxId.{TxId}
 use Rattle.history.specs.Catalogue.{CheckKept}
 use Rattle.history.specs.History.{History, CatalogueChange}
 use Rattle.history.specs.Presence.{checks_of}
-use Rattle.table_trees.specs.Histories.{is_over, kept_of, table_of}
+use Rattle.row_router.specs.Histories.{is_over, kept_of, table_of}
 use Rattle.part_ddl.specs.Placing.{level_at, partitions_of}
 use Rattle.statement_steps.specs.declared.caller.Caller.{Caller}
 use Rattle.table_statements.specs.Tables.{own}

@@ -6,7 +6,7 @@ ghost use Rattle.bound_forms.specs.Levels.{IsOfLevel};
 ghost use Rattle.history.specs.History.{History};
 ghost use Rattle.history.specs.Presence.{checks_of};
 ghost use Rattle.tx_table.specs.Stands.{TableStands};
-ghost use Rattle.table_trees.specs.Histories.{kept_of};
+ghost use Rattle.row_router.specs.Histories.{kept_of};
 ghost use Rattle.part_catalog.specs.Answers.{AreTogether};
 ghost use Rattle.part_catalog.specs.Stands.{CatalogueStands};
 ghost use Rattle.detach_statement.specs.Kept as kept;

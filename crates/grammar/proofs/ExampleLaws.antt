@@ -1,7 +1,7 @@
 -- The law of each production of the worked example.
 use Rattle.std.proofs.Common.{◌≡◌, Bool, true, false, ◌&&◌, ◌||◌, not, List, [], ◌∷◌, refl, lit<}
-use Rattle.grammar.specs.declared.example.Kind.{Kind}
-use Rattle.grammar.specs.declared.example.Kind.TheVariants as kinds
+use Rattle.grammar.specs.declared.example.SampleKind.{SampleKind}
+use Rattle.grammar.specs.declared.example.SampleKind.TheVariants as kinds
 use Rattle.grammar.specs.declared.example.Token.{Token}
 use Rattle.grammar.specs.declared.example.Entry.TheVariants.{Name}
 use Rattle.grammar.specs.Reading.{Class}
@@ -14,16 +14,16 @@ use Rattle.grammar.proofs.KindClasses as sides
 use Rattle.grammar.proofs.Build.{token, empty, valued, wide, maybe, alt, then_by, chained_by}
 
 -- Every kind, a proof that there is no other, and a token of each.
-abbrev kinds_list : List Kind
+abbrev kinds_list : List SampleKind
 kinds_list = kinds.Comma ∷ kinds.Name ∷ kinds.Each ∷ kinds.Number ∷ []
 
-complete : (p : Kind → Bool) → every p kinds_list ≡ true → (k : Kind) → p k ≡ true
+complete : (p : SampleKind → Bool) → every p kinds_list ≡ true → (k : SampleKind) → p k ≡ true
 complete p h kinds.Comma = sides.every_at p kinds_list kinds.Comma 0 h (lit< tt)
 complete p h kinds.Name = sides.every_at p kinds_list kinds.Comma 1 h (lit< tt)
 complete p h kinds.Each = sides.every_at p kinds_list kinds.Comma 2 h (lit< tt)
 complete p h kinds.Number = sides.every_at p kinds_list kinds.Comma 3 h (lit< tt)
 
-abbrev sample : Kind → Token
+abbrev sample : SampleKind → Token
 sample k = record { kind = k; value = 0 }
 
 -- The side conditions, by computation over the kinds.

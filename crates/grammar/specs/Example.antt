@@ -5,8 +5,8 @@
 --
 -- where a number stands behind the name "each" and behind no other.
 use Rattle.std.specs.Prelude.{Bool, true, false, List, [], ◌∷◌, ◌++◌, length, nat_lt}
-use Rattle.grammar.specs.declared.example.Kind.{Kind}
-use Rattle.grammar.specs.declared.example.Kind.TheVariants as kinds
+use Rattle.grammar.specs.declared.example.SampleKind.{SampleKind}
+use Rattle.grammar.specs.declared.example.SampleKind.TheVariants as kinds
 use Rattle.grammar.specs.declared.example.Token.{Token}
 use Rattle.grammar.specs.declared.example.Entry.{Entry}
 use Rattle.grammar.specs.declared.example.Entry.TheVariants.{Number, Name, Each}
@@ -15,32 +15,32 @@ use Rattle.grammar.specs.Repeats.{second_of, chain_by}
 use Rattle.grammar.specs.KindClasses.{of_kind}
 
 -- What a token is.
-abbrev pub kind_of : Token → Kind
+abbrev pub kind_of : Token → SampleKind
 kind_of t = t.kind
 
 -- The sign between two entries.
-abbrev pub comma : Kind → Bool
+abbrev pub comma : SampleKind → Bool
 comma kinds.Comma = true
 comma kinds.Name = false
 comma kinds.Each = false
 comma kinds.Number = false
 
 -- Each name, "each" among them.
-abbrev pub name : Kind → Bool
+abbrev pub name : SampleKind → Bool
 name kinds.Comma = false
 name kinds.Name = true
 name kinds.Each = true
 name kinds.Number = false
 
 -- The name that a number stands behind.
-abbrev pub each : Kind → Bool
+abbrev pub each : SampleKind → Bool
 each kinds.Comma = false
 each kinds.Name = false
 each kinds.Each = true
 each kinds.Number = false
 
 -- A number.
-abbrev pub number : Kind → Bool
+abbrev pub number : SampleKind → Bool
 number kinds.Comma = false
 number kinds.Name = false
 number kinds.Each = false

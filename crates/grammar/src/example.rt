@@ -35,7 +35,7 @@ use std::alloc::Global;
 
 /// What a token is.
 #[derive(Clone, Copy, Debug, PartialEq, Eq)]
-pub enum Kind {
+pub enum SampleKind {
     Comma,
     Name,
     Each,
@@ -45,7 +45,7 @@ pub enum Kind {
 /// A token. The value is a number's, or tells one name from another.
 #[derive(Clone, Copy, Debug, PartialEq, Eq)]
 pub struct Token {
-    pub kind: Kind,
+    pub kind: SampleKind,
     pub value: u8,
 }
 
@@ -60,19 +60,19 @@ pub enum Entry {
 fn is_comma(token: Token) -> bool
     ensures { result ≡ grammar.is_comma token }
 {
-    matches!(token.kind, Kind::Comma)
+    matches!(token.kind, SampleKind::Comma)
 }
 
 fn is_name(token: Token) -> bool
     ensures { result ≡ grammar.is_name token }
 {
-    matches!(token.kind, Kind::Name | Kind::Each)
+    matches!(token.kind, SampleKind::Name | SampleKind::Each)
 }
 
 fn is_number(token: Token) -> bool
     ensures { result ≡ grammar.is_number token }
 {
-    matches!(token.kind, Kind::Number)
+    matches!(token.kind, SampleKind::Number)
 }
 
 fn number(tokens: &[Token]) -> Result<(Token, &[Token]), Refused>
@@ -93,7 +93,7 @@ fn number(tokens: &[Token]) -> Result<(Token, &[Token]), Refused>
 fn behind_name(name: Token, tokens: &[Token]) -> Result<(Entry, &[Token]), Refused>
     ensures { Gives (λ x. (x.0, x.1.now)) result ((grammar.behind_name name).read tokens.now) }
 {
-    if matches!(name.kind, Kind::Each) {
+    if matches!(name.kind, SampleKind::Each) {
         let (count, rest) = number(tokens)?;
         return Ok((Entry::Each(count.value), rest));
     }

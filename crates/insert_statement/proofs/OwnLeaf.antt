@@ -14,9 +14,9 @@ use Rattle.history.specs.Catalogue.{tables_made}
 use Rattle.history.specs.History.{History, tx_events, row_events, catalogue_events}
 use Rattle.history.specs.Places.{table_at}
 use Rattle.history.specs.Presence.{entries_shown}
-use Rattle.table_trees.specs.declared.path_part.PathPart.{PathPart}
-use Rattle.table_trees.specs.Histories.{tree_of, tree_within, path_of, grown, node_at, children, bound_of, child_of_entry}
-use Rattle.table_trees.specs.Trees.{routed}
+use Rattle.row_router.specs.declared.path_part.PathPart.{PathPart}
+use Rattle.row_router.specs.Histories.{tree_of, tree_within, path_of, grown, node_at, children, bound_of, child_of_entry}
+use Rattle.row_router.specs.Trees.{routed}
 use Rattle.part_catalog.specs.Found.{made_at}
 use Rattle.part_catalog.specs.Stands.{CatalogueStands}
 use Rattle.row_router.specs.declared.path.PathTest.TheVariants.{Bounds, Checks}

@@ -4,9 +4,9 @@ use Rattle.pg_values.specs.declared.value.Value.{Value}
 use Rattle.history.specs.Catalogue.{tables_made}
 use Rattle.history.specs.History.{History, catalogue_events}
 use Rattle.history.specs.Places.{AreCatalogueSound}
-use Rattle.table_trees.specs.declared.path_part.PathPart.{PathPart}
-use Rattle.table_trees.specs.Histories.{tree_of, path_of}
-use Rattle.table_trees.specs.Trees.{TableTree}
+use Rattle.row_router.specs.declared.path_part.PathPart.{PathPart}
+use Rattle.row_router.specs.Histories.{tree_of, path_of}
+use Rattle.row_router.specs.Trees.{TableTree}
 use Rattle.row_change.specs.declared.target.Target.{Target}
 use Rattle.row_change.specs.Placing.{CanBePlaced, IsNumbered, IsPartNumbered}
 use Rattle.row_change.specs.Storing.{FitsTargets, IsTargetNumbered}

@@ -10,8 +10,8 @@ use Rattle.pg_values.specs.declared.ids.TableNo.{TableNo}
 use Rattle.history.specs.declared.catalogue.Table.{Table}
 use Rattle.history.specs.declared.transaction.TxId.{TxId}
 use Rattle.history.specs.History.{History}
-use Rattle.table_trees.specs.Histories.{path_of}
-use Rattle.table_trees.specs.Trees.{TableTree}
+use Rattle.row_router.specs.Histories.{path_of}
+use Rattle.row_router.specs.Trees.{TableTree}
 use Rattle.row_router.specs.declared.path.PathTest.TheVariants.{Checks}
 use Rattle.row_router.specs.Paths.{refused}
 use Rattle.row_change.specs.declared.target.Target.{Target}

@@ -10,9 +10,9 @@ use Rattle.pg_values.specs.declared.ids.TableNo.{TableNo}
 use Rattle.history.specs.declared.catalogue.TableShape.TheVariants.{Leaf, Level}
 use Rattle.history.specs.History.{History}
 use Rattle.bound_forms.specs.declared.level.Level.{Level as OneLevel}
-use Rattle.table_trees.specs.declared.path_part.PathPart.{PathPart}
-use Rattle.table_trees.specs.Histories.{path_of}
-use Rattle.table_trees.specs.Trees.{TableTree}
+use Rattle.row_router.specs.declared.path_part.PathPart.{PathPart}
+use Rattle.row_router.specs.Histories.{path_of}
+use Rattle.row_router.specs.Trees.{TableTree}
 use Rattle.part_catalog.specs.Found.{made_at}
 use Rattle.part_catalog.specs.Stands.{CatalogueStands}
 use Rattle.row_change.specs.declared.target.Target.{Target}

@@ -13,10 +13,10 @@ use Rattle.history.specs.Catalogue.{tables_made}
 use Rattle.history.specs.History.{History, catalogue_events}
 use Rattle.history.specs.Places.{table_at}
 use Rattle.history.specs.Presence.{entries_shown}
-use Rattle.table_trees.specs.declared.node.Node.{Node}
-use Rattle.table_trees.specs.Histories.{tree_of, tree_within, grown, node_at, children, bound_of, child_of_entry, table_of}
-use Rattle.table_trees.specs.Trees.{TableTree, LeafTable, LevelTable, Trees, End, More, trees_of}
-use Rattle.table_trees.proofs.Order.{all_children}
+use Rattle.row_router.specs.declared.node.Node.{Node}
+use Rattle.row_router.specs.Histories.{tree_of, tree_within, grown, node_at, children, bound_of, child_of_entry, table_of}
+use Rattle.row_router.specs.Trees.{TableTree, LeafTable, LevelTable, Trees, End, More, trees_of}
+use Rattle.row_router.proofs.Order.{all_children}
 use Rattle.row_change.specs.Ways.{AllTables, AllTablesOf, root}
 
 -- ---- the tables, and each leaf with its table

@@ -11,9 +11,9 @@ use Rattle.pg_values.specs.Refusals.{faults_in, read_in, or_first}
 use Rattle.history.specs.declared.catalogue.Table.{Table}
 use Rattle.history.specs.declared.catalogue.TableShape.TheVariants.{Leaf, Level}
 use Rattle.history.specs.Places.{table_at}
-use Rattle.table_trees.specs.declared.path_part.PathPart.{PathPart}
-use Rattle.table_trees.specs.declared.tree.NoPartition.{NoPartition}
-use Rattle.table_trees.specs.Trees.{TableTree, LeafTable, LevelTable, Trees, End, More, child_of, routed, routed_in}
+use Rattle.row_router.specs.declared.path_part.PathPart.{PathPart}
+use Rattle.row_router.specs.declared.tree.NoPartition.{NoPartition}
+use Rattle.row_router.specs.Trees.{TableTree, LeafTable, LevelTable, Trees, End, More, child_of, routed, routed_in}
 use Rattle.row_change.specs.Placing.{placed, first_or, way_told, bounds_faults}
 use Rattle.row_change.specs.Ways.{AllTables, root, way_below, way_among, ways_below}
 use Rattle.row_change.proofs.Ways.{all_below}

@@ -11,7 +11,7 @@ use Rattle.bound_forms.specs.Levels.{IsOf}
 use Rattle.history.specs.declared.catalogue.Column.{Column}
 use Rattle.history.specs.Catalogue.{tables_made}
 use Rattle.history.specs.History.{History, catalogue_events}
-use Rattle.table_trees.specs.Trees.{IsRowOf}
+use Rattle.row_router.specs.Trees.{IsRowOf}
 use Rattle.part_catalog.specs.Found.{made_at}
 use Rattle.part_catalog.specs.Kept.{KeptCatalogue}
 use Rattle.part_catalog.specs.Stands.{CatalogueStands}
@@ -20,7 +20,7 @@ use Rattle.expression_binder.specs.declared.scope.Param.{Param}
 use Rattle.expression_binder.specs.declared.scope.ScopeColumn.{ScopeColumn}
 use Rattle.cond_logic.specs.Asked.{InsertMeant}
 use Rattle.binding_laws.specs.Fitting.{IsOf as IsOfKind}
-use Rattle.change_binder.specs.Inserts.{bound_insert, kind_at, kinds_of}
+use Rattle.sql_binder.specs.Inserts.{bound_insert, kind_at, kinds_of}
 use Rattle.binding_laws.specs.FittingAsks.{RowFits, RowsFit, InsertsFit}
 use Rattle.row_change.specs.FullRows.{value_for, full_row}
 use Rattle.stores.proofs.Goodness.{same_session}

@@ -6,9 +6,9 @@ use Rattle.pg_values.specs.declared.ids.TableNo.{TableNo}
 use Rattle.history.specs.Snapshots.{TakenSnapshot}
 use Rattle.history.specs.Rows.{leaf_count}
 use Rattle.history.specs.History.{History, row_events, catalogue_events}
-use Rattle.table_trees.specs.declared.path_part.PathPart.{PathPart}
-use Rattle.table_trees.specs.Histories.{tree_of, path_of}
-use Rattle.table_trees.specs.Trees.{TableTree, routed}
+use Rattle.row_router.specs.declared.path_part.PathPart.{PathPart}
+use Rattle.row_router.specs.Histories.{tree_of, path_of}
+use Rattle.row_router.specs.Trees.{TableTree, routed}
 use Rattle.bound_forms.specs.declared.level.Level.{Level}
 use Rattle.history.specs.declared.catalogue.TableShape.TheVariants.{Level as Levels}
 use Rattle.tx_table.specs.Kept.{KeptTable}

@@ -8,7 +8,7 @@ use Rattle.history.specs.declared.transaction.TxId.{TxId}
 use Rattle.history.specs.declared.catalogue.Table.{Table}
 use Rattle.history.specs.Rows.{RowBorn}
 use Rattle.history.specs.History.{History, RowChange}
-use Rattle.table_trees.specs.declared.path_part.PathPart.{PathPart}
+use Rattle.row_router.specs.declared.path_part.PathPart.{PathPart}
 use Rattle.row_store.specs.Stands.{newborn}
 use Rattle.row_change.specs.Placing.{bounds_faults}
 use Rattle.row_change.specs.Storing.{own_null_faults, check_faults, full_faults}

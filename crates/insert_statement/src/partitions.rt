@@ -7,7 +7,7 @@ ghost use Rattle.history.specs.declared.catalogue.TableShape.TheVariants.{Level}
 ghost use Rattle.history.specs.History.{History};
 ghost use Rattle.part_catalog.specs.Found.{made_at};
 ghost use Rattle.part_catalog.specs.Stands.{CatalogueStands};
-ghost use Rattle.table_trees.specs.Seen.{seen};
+ghost use Rattle.row_router.specs.Seen.{seen};
 ghost use Rattle.row_change.specs.Placing.{all_placed, CanBePlaced, IsNumbered, IsPartNumbered};
 ghost use Rattle.row_change.specs.Targets.{HasWay};
 ghost use Rattle.row_change.specs.Ways.{AllTables, ways_below};
@@ -23,12 +23,12 @@ use crate::storing::put_rows;
 use part_catalog::Catalog;
 use pg_values::{LeafId, LockMode, NoMemory, Refusal, Row, Steps, TableNo};
 use row_change::{LeafList, leaf_targets, place_rows};
+use row_router::{PathPart, Tree};
 use statement_steps::{Caller, SessionNames, Stop, lock_tables};
 use std::alloc::Global;
 use std::marker::Brand;
 use std::sync::ledger::{Blank, Ledger};
 use stores::{Stores, trees_are_together};
-use table_trees::{PathPart, Tree};
 
 fn place_from<L: Ledger>(
     alloc: Global,

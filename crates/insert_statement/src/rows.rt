@@ -12,13 +12,13 @@ ghost use Rattle.insert_statement.specs.Asked.{AreRowsOf};
 
 use crate::stopping::stop_by;
 use binding_laws::inserts_fit;
-use change_binder::bind_insert;
 use cond_logic::InsertAsk;
 use expression_binder::{Param, ScopeColumn};
 use history::Column;
 use pg_values::{NoMemory, Refusal, Row, RowList, TableNo};
 use row_change::full_row;
 use sql_ast::Insert;
+use sql_binder::bind_insert;
 use statement_steps::{Caller, Stop};
 use std::alloc::Global;
 use stores::Stores;

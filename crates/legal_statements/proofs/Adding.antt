@@ -12,8 +12,8 @@ use Rattle.history.specs.Catalogue.{tables_made, entries_added}
 use Rattle.history.specs.History.{History, tx_events, row_events, catalogue_events}
 use Rattle.history.specs.Presence.{entries_present, is_present, checks_of, counts}
 use Rattle.history.specs.Legal.{IsLegal}
-use Rattle.table_trees.specs.declared.path_part.PathPart.{PathPart}
-use Rattle.table_trees.specs.Histories.{path_of, above, is_over, parent_in, part_of, upwards}
+use Rattle.row_router.specs.declared.path_part.PathPart.{PathPart}
+use Rattle.row_router.specs.Histories.{path_of, above, is_over, parent_in, part_of, upwards}
 use Rattle.soundness.specs.Versions.{IsVersion}
 use Rattle.soundness.specs.Worlds.{HasLeaf, Present, table_in}
 use Rattle.soundness.specs.Legal.{ArePermitted, Has, HasCheck, Below, Judges, HasPlace as HasFreePlace}

@@ -6,7 +6,7 @@ use Rattle.history.specs.Snapshots.{TakenSnapshot}
 use Rattle.history.specs.Rows.{RowBorn}
 use Rattle.history.specs.History.{History, RowChange, versions, next_version}
 use Rattle.history.specs.Legal.{IsInOrder}
-use Rattle.table_trees.specs.Trees.{routed}
+use Rattle.row_router.specs.Trees.{routed}
 use Rattle.row_router.specs.declared.path.PathTest.TheVariants.{Bounds, Checks}
 use Rattle.row_router.specs.Paths.{refused}
 use Rattle.soundness.proofs.Listed.{first_in, later_in}

@@ -13,8 +13,8 @@ use Rattle.history.specs.Transactions.{TxEvents, fate, was_aborted, was_committe
 use Rattle.history.specs.Snapshots.{TakenSnapshot, sees, held_by}
 use Rattle.history.specs.Rows.{RowEvents, LeafAdded, RowBorn, RowEnded, births, end_in}
 use Rattle.history.specs.History.{History, tx_events, snapshot_events, row_events, versions, end_of, sees_end, is_seen}
-use Rattle.table_trees.specs.Histories.{ddl_tree}
-use Rattle.table_trees.specs.Trees.{leaves}
+use Rattle.row_router.specs.Histories.{ddl_tree}
+use Rattle.row_router.specs.Trees.{leaves}
 use Rattle.soundness.specs.Versions.{IsVersion, IsEnd}
 use Rattle.soundness.specs.Worlds.{same_tx, is_running}
 use Rattle.soundness.specs.Shown.{IsLive, IsSeenBy}

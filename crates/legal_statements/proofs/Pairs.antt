@@ -13,7 +13,7 @@ use Rattle.history.specs.Catalogue.{TableMade, TableDropped, EntryAdded, EntryEn
 use Rattle.history.specs.History.{History, TxChange, SnapshotChange, RowChange, CatalogueChange, LockChange, catalogue_events}
 use Rattle.history.specs.Places.{AreCatalogueSound}
 use Rattle.history.specs.Presence.{is_present, entries_present}
-use Rattle.table_trees.specs.Histories.{placed, all_placed, is_under, children}
+use Rattle.row_router.specs.Histories.{placed, all_placed, is_under, children}
 use Rattle.soundness.proofs.Listed.{none_in, first_in, later_in, cases_in}
 
 -- ---- each of a list

@@ -1,7 +1,7 @@
 -- Events of rows, locks and snapshots change no tree and no path.
 use Rattle.std.proofs.Common.{refl}
 use Rattle.history.specs.History.{TxChange, SnapshotChange, RowChange, CatalogueChange, LockChange}
-use Rattle.table_trees.specs.Histories.{tree_of, ddl_tree, path_of}
+use Rattle.row_router.specs.Histories.{tree_of, ddl_tree, path_of}
 use Rattle.legal_statements.specs.Laws.{TreesStay}
 
 pub trees_stay : TreesStay

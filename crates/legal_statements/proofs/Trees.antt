@@ -12,10 +12,10 @@ use Rattle.history.specs.Catalogue.{CatalogueEvents, tables_made}
 use Rattle.history.specs.History.{tx_events, catalogue_events}
 use Rattle.history.specs.Places.{TakesBound}
 use Rattle.history.specs.Presence.{counts, entries_present}
-use Rattle.table_trees.specs.declared.node.Node.{Node}
-use Rattle.table_trees.specs.Trees.{TableTree, trees_of}
-use Rattle.table_trees.specs.Histories.{ddl_tree, tree_within, grown, node_at, children, bound_of, child_of_entry, table_of}
-use Rattle.table_trees.proofs.Order.{all_children, under_children}
+use Rattle.row_router.specs.declared.node.Node.{Node}
+use Rattle.row_router.specs.Trees.{TableTree, trees_of}
+use Rattle.row_router.specs.Histories.{ddl_tree, tree_within, grown, node_at, children, bound_of, child_of_entry, table_of}
+use Rattle.row_router.proofs.Order.{all_children, under_children}
 use Rattle.soundness.specs.Worlds.{World, table_in, Present, Under, view}
 use Rattle.soundness.specs.Parts.{AreEntries, Siblings}
 use Rattle.soundness.proofs.Under.{under_map, under_top}

@@ -10,7 +10,7 @@ use Rattle.history.specs.Transactions.{open_of}
 use Rattle.history.specs.History.{History, tx_events}
 use Rattle.history.specs.Presence.{counts, entries_present}
 use Rattle.history.specs.Legal.{IsLegal}
-use Rattle.table_trees.specs.Histories.{above, is_over}
+use Rattle.row_router.specs.Histories.{above, is_over}
 use Rattle.soundness.specs.Worlds.{view}
 use Rattle.soundness.specs.Parts.{InvariantOf}
 use Rattle.soundness.specs.Legal.{Has, HasTable, Below}

@@ -3,8 +3,8 @@ use Rattle.std.specs.Prelude.{◌≢◌, ℕ, List, [], ◌∷◌, ◌++◌, map
 use Rattle.std.specs.List.{AllPairs, Contains}
 use Rattle.pg_values.specs.declared.ids.TableNo.{TableNo}
 use Rattle.history.specs.History.{History}
-use Rattle.table_trees.specs.Trees.{TableTree, LeafTable, LevelTable, Trees, End, More}
-use Rattle.table_trees.specs.Histories.{ddl_tree}
+use Rattle.row_router.specs.Trees.{TableTree, LeafTable, LevelTable, Trees, End, More}
+use Rattle.row_router.specs.Histories.{ddl_tree}
 use Rattle.soundness.specs.Legal.{Below}
 
 -- the tables of a tree in plain order, each before those below it

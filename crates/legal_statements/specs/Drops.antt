@@ -9,7 +9,7 @@ use Rattle.history.specs.Catalogue.{TableDropped, EntryEnded}
 use Rattle.history.specs.History.{Event, History, CatalogueChange, tx_events}
 use Rattle.history.specs.Presence.{entries_present}
 use Rattle.history.specs.Legal.{IsInOrder}
-use Rattle.table_trees.specs.Histories.{above}
+use Rattle.row_router.specs.Histories.{above}
 use Rattle.soundness.specs.Legal.{Has, HasTable}
 use Rattle.legal_statements.specs.Below.{numbers_from}
 use Rattle.legal_statements.specs.Locked.{IsOwned, IsGuarded}

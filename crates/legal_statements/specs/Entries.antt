@@ -17,9 +17,9 @@ use Rattle.history.specs.Places.{Suits, IsCatalogueSound}
 use Rattle.history.specs.Presence.{entries_present, is_pending, checks_of}
 use Rattle.history.specs.History.{History, tx_events, snapshot_events, row_events, catalogue_events}
 use Rattle.history.specs.Legal.{IsInOrder}
-use Rattle.table_trees.specs.Histories.{ddl_tree, path_of, above}
-use Rattle.table_trees.specs.Siblings.{CanStandTogether}
-use Rattle.table_trees.specs.Trees.{leaves}
+use Rattle.row_router.specs.Histories.{ddl_tree, path_of, above}
+use Rattle.row_router.specs.Siblings.{CanStandTogether}
+use Rattle.row_router.specs.Trees.{leaves}
 use Rattle.row_router.specs.declared.path.PathTest.TheVariants.{Bounds, Checks}
 use Rattle.row_router.specs.Paths.{refused}
 use Rattle.soundness.specs.Versions.{IsVersion}

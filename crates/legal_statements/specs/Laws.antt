@@ -23,8 +23,8 @@ use Rattle.history.specs.Locks.{wanted}
 use Rattle.history.specs.History.{Event, History, RowChange, CatalogueChange, LockChange, tx_events, lock_events, catalogue_events}
 use Rattle.history.specs.Presence.{entries_present, is_pending}
 use Rattle.history.specs.Legal.{IsLegal}
-use Rattle.table_trees.specs.Histories.{ddl_tree}
-use Rattle.table_trees.specs.Trees.{leaves}
+use Rattle.row_router.specs.Histories.{ddl_tree}
+use Rattle.row_router.specs.Trees.{leaves}
 use Rattle.row_store.specs.Judged.{refusing, seeing}
 use Rattle.soundness.specs.Legal.{ArePermitted, Has, HasTable}
 use Rattle.soundness.specs.Parts.{IsKnown}

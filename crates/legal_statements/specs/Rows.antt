@@ -9,8 +9,8 @@ use Rattle.history.specs.Rows.{RowBorn, leaf_count}
 use Rattle.history.specs.RowsSound.{IsEndSound}
 use Rattle.history.specs.History.{Event, History, RowChange, tx_events, row_events, catalogue_events, next_version}
 use Rattle.history.specs.Legal.{IsInOrder}
-use Rattle.table_trees.specs.Histories.{tree_of, path_of}
-use Rattle.table_trees.specs.Trees.{routed}
+use Rattle.row_router.specs.Histories.{tree_of, path_of}
+use Rattle.row_router.specs.Trees.{routed}
 use Rattle.row_router.specs.declared.path.PathTest.TheVariants.{Bounds, Checks}
 use Rattle.row_router.specs.Paths.{refused}
 use Rattle.soundness.specs.Worlds.{IsMade, HasLeaf}

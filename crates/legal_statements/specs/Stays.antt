@@ -3,7 +3,7 @@ use Rattle.std.specs.Prelude.{◌≡◌, ℕ, ◌∷◌}
 use Rattle.history.specs.Snapshots.{TakenSnapshot}
 use Rattle.history.specs.Presence.{entries_present}
 use Rattle.history.specs.History.{Event, History, TxChange, CatalogueChange}
-use Rattle.table_trees.specs.Histories.{tree_of, ddl_tree, path_of}
+use Rattle.row_router.specs.Histories.{tree_of, ddl_tree, path_of}
 
 -- the event is none of transactions or of the catalogue
 abbrev pub LeavesTrees : Event → Type 0

@@ -9,9 +9,9 @@ use Rattle.expression_binder.specs.declared.typed.Given.{Given}
 use Rattle.expression_binder.specs.declared.typed.Given.TheVariants.{Of}
 use Rattle.expression_binder.specs.Operands.{typed}
 use Rattle.expression_binder.specs.Scopes.{Item}
-use Rattle.change_binder.specs.declared.arguments.Wanted.{Wanted}
-use Rattle.change_binder.specs.declared.arguments.Wanted.TheVariants.{Declared, Placed, Free}
-use Rattle.change_binder.specs.Arguments.{argument_scope, bound_arguments}
+use Rattle.sql_binder.specs.declared.arguments.Wanted.{Wanted}
+use Rattle.sql_binder.specs.declared.arguments.Wanted.TheVariants.{Declared, Placed, Free}
+use Rattle.sql_binder.specs.Arguments.{argument_scope, bound_arguments}
 use Rattle.parameter_kinds.specs.Places.{Place, kind_of}
 use Rattle.parameter_kinds.specs.Statements.{statement_places}
 

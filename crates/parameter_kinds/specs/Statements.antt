@@ -8,7 +8,7 @@ use Rattle.expression_binder.specs.declared.scope.ScopeColumn.{ScopeColumn}
 use Rattle.expression_binder.specs.declared.typed.Given.{Given}
 use Rattle.expression_binder.specs.Scopes.{Item, Scope, condition_scope}
 use Rattle.sql_binder.specs.From.{joined_items, start_of}
-use Rattle.change_binder.specs.Inserts.{place_of, kind_at, first_count}
+use Rattle.sql_binder.specs.Inserts.{place_of, kind_at, first_count}
 use Rattle.parameter_kinds.specs.Places.{Place, at, places}
 
 -- the items that may be named; what parameters are is said by their kinds

@@ -1,7 +1,7 @@
 ghost use Rattle.std.specs.Prelude.{◌≡◌, ◌∷◌, [], map, take, drop};
 ghost use Rattle.sql_ast.specs.Expressions.{tree, trees, listed};
 ghost use Rattle.sql_ast.specs.Queries.{maybe_tree, setting};
-ghost use Rattle.change_binder.specs.Inserts as inserts;
+ghost use Rattle.sql_binder.specs.Inserts as inserts;
 ghost use Rattle.parameter_kinds.specs.Places.{kind_of};
 ghost use Rattle.parameter_kinds.specs.Statements as statements;
 

@@ -8,10 +8,10 @@ ghost use Rattle.parameter_kinds.specs.Statements.{statement_places};
 
 use crate::changes::{kind_in_delete, kind_in_insert, kind_in_update};
 use crate::selects::kind_in_select;
-use change_binder::{Wanted, bind_arguments};
 use expression_binder::{Given, Param, ScopeItem, condition_names, typed_of};
 use pg_values::{Kind, NoMemory, Refusal};
 use sql_ast::{Expr, ExprList, RowStatement};
+use sql_binder::{Wanted, bind_arguments};
 use std::alloc::Global;
 
 /// The kind that the first of the parameter's places in a statement gives it. The tables of a SELECT are

@@ -8,9 +8,9 @@ use Rattle.history.specs.Catalogue.{tables_made}
 use Rattle.history.specs.History.{History, tx_events, catalogue_events}
 use Rattle.history.specs.Places.{table_at, Suits, TakesBound}
 use Rattle.history.specs.Presence.{entries_present}
-use Rattle.table_trees.specs.Histories.{children, above, table_of}
-use Rattle.table_trees.proofs.Order.{all_children, under_children}
-use Rattle.table_trees.proofs.Suited.{all_suit}
+use Rattle.row_router.specs.Histories.{children, above, table_of}
+use Rattle.row_router.proofs.Order.{all_children, under_children}
+use Rattle.row_router.proofs.Suited.{all_suit}
 use Rattle.part_catalog.specs.declared.stored.StoredEntry.{StoredEntry}
 use Rattle.part_catalog.specs.Kept.{KeptCatalogue, entry_in, number_of, no_entry}
 use Rattle.part_catalog.specs.Stands.{CatalogueStands, present_by, is_flagged, flagged_number}

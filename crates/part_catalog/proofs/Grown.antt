@@ -12,11 +12,11 @@ use Rattle.history.specs.declared.catalogue.Table.{Table}
 use Rattle.history.specs.declared.catalogue.Entry.{Entry}
 use Rattle.history.specs.Places.{table_at, no_table}
 use Rattle.pg_values.specs.declared.ids.LeafId.{LeafId}
-use Rattle.table_trees.specs.declared.node.Node.{Node}
-use Rattle.table_trees.specs.Trees.{TableTree, LeafTable, LevelTable, trees_of}
-use Rattle.table_trees.specs.Histories.{tree_within, node_at, children, bound_of, child_of_entry, grown}
-use Rattle.table_trees.specs.Siblings.{AreSiblings}
-use Rattle.table_trees.proofs.Order.{children_of_part, siblings_in_order, all_children, all_kept}
+use Rattle.row_router.specs.declared.node.Node.{Node}
+use Rattle.row_router.specs.Trees.{TableTree, LeafTable, LevelTable, trees_of}
+use Rattle.row_router.specs.Histories.{tree_within, node_at, children, bound_of, child_of_entry, grown}
+use Rattle.row_router.specs.Siblings.{AreSiblings}
+use Rattle.row_router.proofs.Order.{children_of_part, siblings_in_order, all_children, all_kept}
 use Rattle.part_catalog.specs.declared.stored.StoredTable.{StoredTable}
 use Rattle.part_catalog.specs.declared.stored.StoredEntry.{StoredEntry}
 use Rattle.part_catalog.specs.Kept.{entry_in, table_in, number_of, no_entry}

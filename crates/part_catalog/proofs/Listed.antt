@@ -8,8 +8,8 @@ use Rattle.std.proofs.lemmas.List.{length-append, length-map, map-append, length
 use Rattle.std.proofs.lemmas.List.Elements.{All-head, All-tail, filter-append}
 use Rattle.history.specs.declared.catalogue.Entry.{Entry}
 use Rattle.bound_forms.specs.Bounds.{comes_after}
-use Rattle.table_trees.specs.Histories.{children, placed, all_placed, is_under}
-use Rattle.table_trees.proofs.Order.{all_children}
+use Rattle.row_router.specs.Histories.{children, placed, all_placed, is_under}
+use Rattle.row_router.proofs.Order.{all_children}
 use Rattle.part_catalog.specs.declared.stored.StoredTable.{StoredTable}
 use Rattle.part_catalog.specs.declared.stored.StoredEntry.{StoredEntry}
 use Rattle.part_catalog.specs.declared.names.Names.{Names}

@@ -9,8 +9,8 @@ use Rattle.history.specs.declared.catalogue.Entry.{Entry}
 use Rattle.history.specs.Catalogue.{entries_added}
 use Rattle.history.specs.History.{History, tx_events, catalogue_events}
 use Rattle.history.specs.Presence.{is_present, entries_present}
-use Rattle.table_trees.specs.Histories.{children}
-use Rattle.table_trees.proofs.Order.{children_of_part, all_children}
+use Rattle.row_router.specs.Histories.{children}
+use Rattle.row_router.proofs.Order.{children_of_part, all_children}
 use Rattle.part_catalog.specs.declared.stored.StoredEntry.{StoredEntry}
 use Rattle.part_catalog.specs.Kept.{KeptCatalogue, entry_in, number_of, no_entry, stored_at}
 use Rattle.part_catalog.specs.Stands.{CatalogueStands, present_by}

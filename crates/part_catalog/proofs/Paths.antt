@@ -5,9 +5,9 @@ use Rattle.std.specs.Option.{option_map}
 use Rattle.std.proofs.lemmas.Bool.{cases_Bool}
 use Rattle.std.proofs.lemmas.List.{length-map}
 use Rattle.history.specs.declared.catalogue.Entry.{Entry}
-use Rattle.table_trees.specs.declared.path_part.PathPart.{PathPart}
-use Rattle.table_trees.specs.Histories.{above, is_over, is_entry, parent_in, upwards, children}
-use Rattle.table_trees.proofs.Order.{children_of_part}
+use Rattle.row_router.specs.declared.path_part.PathPart.{PathPart}
+use Rattle.row_router.specs.Histories.{above, is_over, is_entry, parent_in, upwards, children}
+use Rattle.row_router.proofs.Order.{children_of_part}
 use Rattle.part_catalog.specs.declared.stored.StoredEntry.{StoredEntry}
 use Rattle.part_catalog.specs.Kept.{entry_in, number_of}
 use Rattle.part_catalog.specs.Stands.{is_flagged, flagged_number, is_number, shown_above}

@@ -13,9 +13,9 @@ use Rattle.history.specs.History.{History, tx_events, catalogue_events}
 use Rattle.history.specs.Presence.{is_present, is_pending, is_shown, stamp_counts, entries_present, entries_shown}
 use Rattle.history.specs.Transactions.{TxEvents, was_aborted}
 use Rattle.history.proofs.Stamps.{newest_end_counts, newest_mark_counts}
-use Rattle.table_trees.specs.Histories.{above, is_over}
-use Rattle.table_trees.specs.Siblings.{AreSiblings}
-use Rattle.table_trees.proofs.Order.{siblings_kept}
+use Rattle.row_router.specs.Histories.{above, is_over}
+use Rattle.row_router.specs.Siblings.{AreSiblings}
+use Rattle.row_router.proofs.Order.{siblings_kept}
 use Rattle.part_catalog.specs.declared.stored.StoredEntry.{StoredEntry}
 use Rattle.part_catalog.specs.Kept.{KeptCatalogue, entry_in, no_entry}
 use Rattle.part_catalog.specs.Answers.{is_pending_below, pending_entry, marker_told}

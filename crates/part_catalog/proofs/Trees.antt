@@ -12,8 +12,8 @@ use Rattle.history.specs.Snapshots.{TakenSnapshot}
 use Rattle.history.specs.Catalogue.{tables_made}
 use Rattle.history.specs.History.{History, tx_events, catalogue_events}
 use Rattle.history.specs.Places.{table_at, TakesBound, Suits}
-use Rattle.table_trees.specs.Histories.{tree_within, tree_of, ddl_tree}
-use Rattle.table_trees.proofs.Suited.{all_suit}
+use Rattle.row_router.specs.Histories.{tree_within, tree_of, ddl_tree}
+use Rattle.row_router.proofs.Suited.{all_suit}
 use Rattle.part_catalog.specs.declared.stored.StoredTable.{StoredTable}
 use Rattle.part_catalog.specs.declared.stored.StoredEntry.{StoredEntry}
 use Rattle.part_catalog.specs.Kept.{KeptCatalogue, AreListed, IsKept, table_in, entry_in, no_entry}
@@ -23,17 +23,17 @@ use Rattle.part_catalog.specs.Answers.{AreTogether}
 use Rattle.part_catalog.specs.declared.names.Names.{Names}
 use Rattle.tx_table.specs.Kept.{KeptTable}
 use Rattle.tx_table.specs.Stands.{TableStands}
-use Rattle.table_trees.specs.Siblings.{AreSiblings}
+use Rattle.row_router.specs.Siblings.{AreSiblings}
 use Rattle.part_catalog.proofs.Told.{AreNumbered, present_flagged, shown_flagged, shown_siblings, present_siblings}
 
 pub tree_is : (kept : KeptCatalogue) (h : History) (s t : ℕ) (snap : TakenSnapshot) (flags : List Bool) → CatalogueStands kept h → AreNumbered kept.entries → flags ≡ map (shown_by (tx_events h) s snap) kept.entries → tree_within 7 (map table_in kept.tables) (filter (is_flagged flags) (map entry_in kept.entries)) t t ≡ tree_of h s t snap
-unfolding Rattle.table_trees.specs.Histories.tree_of
+unfolding Rattle.row_router.specs.Histories.tree_of
 tree_is kept h s t snap flags st num are =
     ap (λ ts. tree_within 7 ts (filter (is_flagged flags) (map entry_in kept.entries)) t t) st.tables
     ∙ ap (λ es. tree_within 7 (tables_made (catalogue_events h)) es t t) (shown_flagged kept h s snap flags st num are)
 
 pub ddl_tree_is : (kept : KeptCatalogue) (h : History) (s t : ℕ) (flags : List Bool) → CatalogueStands kept h → AreNumbered kept.entries → flags ≡ map (present_by (tx_events h) s) kept.entries → tree_within 7 (map table_in kept.tables) (filter (is_flagged flags) (map entry_in kept.entries)) t t ≡ ddl_tree h s t
-unfolding Rattle.table_trees.specs.Histories.ddl_tree
+unfolding Rattle.row_router.specs.Histories.ddl_tree
 ddl_tree_is kept h s t flags st num are =
     ap (λ ts. tree_within 7 ts (filter (is_flagged flags) (map entry_in kept.entries)) t t) st.tables
     ∙ ap (λ es. tree_within 7 (tables_made (catalogue_events h)) es t t) (present_flagged kept h s flags st num are)

@@ -16,10 +16,10 @@ use Rattle.history.specs.Catalogue.{tables_made}
 use Rattle.history.specs.History.{History, tx_events, catalogue_events}
 use Rattle.history.specs.Places.{table_at}
 use Rattle.history.specs.Presence.{entries_present, checks_of, is_check_of}
-use Rattle.table_trees.specs.declared.path_part.Place.{Place}
-use Rattle.table_trees.specs.declared.path_part.PathPart.{PathPart}
-use Rattle.table_trees.specs.Histories.{above, bound_of, children, is_entry, is_over, kept_of, parent_in, part_of, place_among, place_of, upwards}
-use Rattle.table_trees.proofs.Order.{all_kept}
+use Rattle.row_router.specs.declared.path_part.Place.{Place}
+use Rattle.row_router.specs.declared.path_part.PathPart.{PathPart}
+use Rattle.row_router.specs.Histories.{above, bound_of, children, is_entry, is_over, kept_of, parent_in, part_of, place_among, place_of, upwards}
+use Rattle.row_router.proofs.Order.{all_kept}
 use Rattle.part_catalog.specs.declared.stored.StoredTable.{StoredTable}
 use Rattle.part_catalog.specs.declared.stored.StoredEntry.{StoredEntry}
 use Rattle.part_catalog.specs.Kept.{KeptCatalogue, IsBetween, entry_in, table_in, no_entry}

@@ -8,7 +8,7 @@ use Rattle.history.specs.History.{History, tx_events, catalogue_events}
 use Rattle.history.specs.Presence.{is_present, is_pending, entries_present}
 use Rattle.tx_table.specs.Kept.{KeptTable}
 use Rattle.tx_table.specs.Stands.{TableStands}
-use Rattle.table_trees.specs.Siblings.{AreSiblings}
+use Rattle.row_router.specs.Siblings.{AreSiblings}
 use Rattle.part_catalog.specs.Kept.{KeptCatalogue}
 use Rattle.part_catalog.specs.Stands.{CatalogueStands}
 

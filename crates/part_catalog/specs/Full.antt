@@ -9,9 +9,9 @@ use Rattle.history.specs.Presence.{entries_present}
 use Rattle.history.specs.Places.{Suits}
 use Rattle.tx_table.specs.Kept.{KeptTable}
 use Rattle.tx_table.specs.Stands.{TableStands}
-use Rattle.table_trees.specs.Trees.{height}
-use Rattle.table_trees.specs.Histories.{children, ddl_tree, above, parent_in}
-use Rattle.table_trees.specs.Siblings.{AreSiblings}
+use Rattle.row_router.specs.Trees.{height}
+use Rattle.row_router.specs.Histories.{children, ddl_tree, above, parent_in}
+use Rattle.row_router.specs.Siblings.{AreSiblings}
 use Rattle.part_catalog.specs.declared.new_table.CatalogRefused.{CatalogRefused}
 use Rattle.part_catalog.specs.declared.new_table.CatalogRefused.TheVariants.{Full, NoMemory}
 use Rattle.part_catalog.specs.Kept.{KeptCatalogue}

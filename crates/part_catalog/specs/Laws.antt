@@ -4,7 +4,7 @@ use Rattle.history.specs.declared.catalogue.Entry.{Entry}
 use Rattle.history.specs.Catalogue.{EntryAdded}
 use Rattle.history.specs.History.{History, CatalogueChange}
 use Rattle.history.specs.Presence.{entries_present}
-use Rattle.table_trees.specs.Siblings.{AreSiblings, CanStandTogether}
+use Rattle.row_router.specs.Siblings.{AreSiblings, CanStandTogether}
 
 -- an entry that can stand beside each that is present leaves siblings
 abbrev pub SiblingsAreKept : Type 0

@@ -18,7 +18,7 @@ use crate::{Catalog, CatalogRefused, LEVEL_LIMIT, NewTable, PARTITION_LIMIT, TAB
 use bound_forms::Bound;
 use history::{Check, Entry, EntryId, KeptCheck, Table, TxId};
 use pg_values::{NoMemory, TableNo, Which};
-use table_trees::height_up_to;
+use row_router::height_up_to;
 use tx_table::TxTable;
 
 impl Catalog {

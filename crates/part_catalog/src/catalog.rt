@@ -6,9 +6,9 @@ ghost use Rattle.history.specs.History.{History, tx_events, catalogue_events};
 ghost use Rattle.history.specs.Places.{table_at};
 ghost use Rattle.history.specs.Presence.{entries_present};
 ghost use Rattle.tx_table.specs.Stands.{TableStands, SnapshotStands};
-ghost use Rattle.table_trees.specs.Seen.{seen};
-ghost use Rattle.table_trees.specs.Siblings.{AreSiblings};
-ghost use Rattle.table_trees.specs.Histories.{tree_of, ddl_tree, above, children, parent_in};
+ghost use Rattle.row_router.specs.Seen.{seen};
+ghost use Rattle.row_router.specs.Siblings.{AreSiblings};
+ghost use Rattle.row_router.specs.Histories.{tree_of, ddl_tree, above, children, parent_in};
 ghost use Rattle.part_catalog.specs.Stands.{CatalogueStands};
 ghost use Rattle.part_catalog.specs.Answers.{parent_told, child_told, marker_told, pending_entry, AreTogether};
 
@@ -19,9 +19,9 @@ use crate::see;
 use crate::stored::{StoredEntry, StoredTable};
 use history::{Check, Entry, Stamp, Table, TxId};
 use pg_values::{NoMemory, TableNo};
+use row_router::Tree;
 use std::alloc::Global;
 use std::marker::Model;
-use table_trees::Tree;
 use tx_table::{Snapshot, TxTable};
 
 /// All tables, entries and kept CHECKs of a run.

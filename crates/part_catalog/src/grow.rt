@@ -1,8 +1,8 @@
 //! Trees over plain lists: all tables, all entries, and which of them are to be shown.
 
 ghost use Rattle.std.specs.Prelude.{◌≡◌, ◌<◌, ℕ, map, filter, get_or, length, IfOk};
-ghost use Rattle.table_trees.specs.Seen.{seen};
-ghost use Rattle.table_trees.specs.Histories.{tree_within, node_at, children, bound_of};
+ghost use Rattle.row_router.specs.Seen.{seen};
+ghost use Rattle.row_router.specs.Histories.{tree_within, node_at, children, bound_of};
 ghost use Rattle.history.specs.Places.{table_at};
 ghost use Rattle.part_catalog.specs.Kept.{table_in, entry_in};
 ghost use Rattle.part_catalog.specs.Stands.{is_flagged};
@@ -14,8 +14,8 @@ use bound_forms::copy_bound;
 use history::TableShape;
 use part_bounds::{BoundSet, set_in_order};
 use pg_values::{NoMemory, TableNo, ValueKey};
+use row_router::{Node, Tree, copy_level};
 use std::alloc::Global;
-use table_trees::{Node, Tree, copy_level};
 
 // What a tree of the table `named` says of a table in it.
 fn node(

@@ -5,8 +5,8 @@ ghost use Rattle.std.specs.List.{position_or_len};
 ghost use Rattle.history.specs.History.{History, tx_events};
 ghost use Rattle.history.specs.Presence.{is_check_of};
 ghost use Rattle.tx_table.specs.Stands.{TableStands};
-ghost use Rattle.table_trees.specs.Histories as spec;
-ghost use Rattle.table_trees.specs.Histories.{above, kept_of, path_of};
+ghost use Rattle.row_router.specs.Histories as spec;
+ghost use Rattle.row_router.specs.Histories.{above, kept_of, path_of};
 ghost use Rattle.part_catalog.specs.Answers.{parent_told, AreTogether};
 ghost use Rattle.part_catalog.specs.Groves.{IsGrove};
 ghost use Rattle.part_catalog.specs.Kept.{table_in, entry_in};
@@ -19,14 +19,14 @@ use crate::{Catalog, see};
 use bound_forms::copy_bound;
 use history::{Check, KeptCheck, TableShape};
 use pg_values::{NoMemory, TableNo};
+use row_router::{KeptChecks, PathPart, Place, copy_level};
 use std::alloc::Global;
-use table_trees::{KeptChecks, PathPart, Place, copy_level};
 use tx_table::TxTable;
 
 impl Catalog {
     /// A table and those above it, upwards: the CHECKs kept for each, and its place where it is a
     /// partition. Pending entries count.
-    #[tactic(auto, unfolding(table_trees::specs::Histories::path_of))]
+    #[tactic(auto, unfolding(row_router::specs::Histories::path_of))]
     pub fn path(
         &self,
         alloc: Global,

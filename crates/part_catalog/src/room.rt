@@ -2,7 +2,7 @@
 
 ghost use Rattle.std.specs.Prelude.{◌≡◌, ◌≤◌, map, filter, length};
 ghost use Rattle.std.specs.List.{All, position_or_len};
-ghost use Rattle.table_trees.specs.Histories.{above};
+ghost use Rattle.row_router.specs.Histories.{above};
 ghost use Rattle.part_catalog.specs.Kept.{entry_in};
 ghost use Rattle.part_catalog.specs.Stands.{is_flagged, flagged_number};
 ghost use Rattle.part_catalog.specs.Full.{tables_above};

@@ -13,9 +13,9 @@ use Rattle.history.specs.Places.{table_at, TakesBound, Suits}
 use Rattle.history.specs.Presence.{is_present, entries_present}
 use Rattle.tx_table.specs.Kept.{KeptTable}
 use Rattle.tx_table.specs.Stands.{TableStands}
-use Rattle.table_trees.specs.Histories.{bound_of}
-use Rattle.table_trees.proofs.Order.{all_children, all_kept, under_children}
-use Rattle.table_trees.proofs.Suited.{all_suit}
+use Rattle.row_router.specs.Histories.{bound_of}
+use Rattle.row_router.proofs.Order.{all_children, all_kept, under_children}
+use Rattle.row_router.proofs.Suited.{all_suit}
 use Rattle.part_catalog.specs.Answers.{AreTogether}
 use Rattle.part_catalog.specs.Found.{made_at}
 use Rattle.part_catalog.specs.Kept.{KeptCatalogue, no_entry}

@@ -18,10 +18,10 @@ use Rattle.history.specs.Catalogue.{tables_made, entries_added}
 use Rattle.history.specs.History.{History, catalogue_events}
 use Rattle.history.specs.Places.{table_at, TakesBound, Suits, AreCatalogueSound}
 use Rattle.history.specs.Presence.{is_present, entries_present}
-use Rattle.table_trees.specs.declared.tree.Tree.{Tree}
-use Rattle.table_trees.specs.Histories.{bound_of}
-use Rattle.table_trees.proofs.Order.{all_children, all_kept, under_children}
-use Rattle.table_trees.proofs.Suited.{all_suit}
+use Rattle.row_router.specs.declared.tree.Tree.{Tree}
+use Rattle.row_router.specs.Histories.{bound_of}
+use Rattle.row_router.proofs.Order.{all_children, all_kept, under_children}
+use Rattle.row_router.proofs.Suited.{all_suit}
 use Rattle.part_catalog.specs.Found.{made_at}
 use Rattle.part_catalog.specs.Kept.{no_entry}
 use Rattle.part_ddl.specs.Below.{default_of, has_default_bound}

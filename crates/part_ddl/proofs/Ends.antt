@@ -14,7 +14,7 @@ use Rattle.history.specs.Catalogue.{EntryEnded, Stamps, entries_added, entry_end
 use Rattle.history.specs.History.{History, CatalogueChange, tx_events, catalogue_events}
 use Rattle.history.specs.Presence.{counts, stamp_counts, is_present, entries_present}
 use Rattle.history.proofs.Open.{open_runs, open_own}
-use Rattle.table_trees.specs.Histories.{above, is_over}
+use Rattle.row_router.specs.Histories.{above, is_over}
 use Rattle.tx_table.specs.Kept.{KeptTable}
 use Rattle.tx_table.specs.Stands.{TableStands, IsOpen}
 use Rattle.part_catalog.specs.Answers.{entry_between, parent_told, IsStanding}

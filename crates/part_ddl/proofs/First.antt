@@ -19,7 +19,7 @@ use Rattle.bound_forms.specs.Accepts.{is_default}
 use Rattle.bound_forms.specs.Bounds.{overlaps}
 use Rattle.history.specs.declared.catalogue.Entry.{Entry}
 use Rattle.history.specs.History.{History}
-use Rattle.table_trees.specs.Histories.{bound_of}
+use Rattle.row_router.specs.Histories.{bound_of}
 use Rattle.part_catalog.specs.Found.{made_at}
 use Rattle.part_ddl.specs.Placing.{child_name, fault_at, pending_faults, default_faults, overlap_faults}
 

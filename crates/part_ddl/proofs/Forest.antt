@@ -16,10 +16,10 @@ use Rattle.history.specs.Catalogue.{tables_made}
 use Rattle.history.specs.History.{catalogue_events}
 use Rattle.history.specs.Places.{table_at}
 use Rattle.history.specs.Presence.{entries_present}
-use Rattle.table_trees.specs.declared.node.Node.{Node}
-use Rattle.table_trees.specs.Trees.{TableTree, trees_of}
-use Rattle.table_trees.specs.Histories.{ddl_tree, tree_within, grown, node_at, placed, all_placed, children, is_under, bound_of, child_of_entry}
-use Rattle.table_trees.proofs.Order.{all_children, under_children}
+use Rattle.row_router.specs.declared.node.Node.{Node}
+use Rattle.row_router.specs.Trees.{TableTree, trees_of}
+use Rattle.row_router.specs.Histories.{ddl_tree, tree_within, grown, node_at, placed, all_placed, children, is_under, bound_of, child_of_entry}
+use Rattle.row_router.proofs.Order.{all_children, under_children}
 use Rattle.part_ddl.specs.Below.{tables_in, all_tables}
 use Rattle.part_ddl.specs.Dropped.{AreTwo}
 use Rattle.part_ddl.specs.Laws.{IsWay, IsForest, HaveTwoChildren, TablesStandOnce}
@@ -209,5 +209,5 @@ once (suc n) tables entries named t forest =
     (kids_once entries t f es forest (λ c. once n tables entries named c forest) (λ c. ways n tables entries named c) (are_kids entries t) (children_two entries t forest.one_parent))
 
 pub tables_stand_once : TablesStandOnce
-unfolding Rattle.table_trees.specs.Histories.ddl_tree
+unfolding Rattle.row_router.specs.Histories.ddl_tree
 tables_stand_once h session table forest = once 7 (tables_made (catalogue_events h)) (entries_present h session) table table forest

@@ -27,9 +27,9 @@ use Rattle.history.specs.Catalogue.{tables_made, entries_added}
 use Rattle.history.specs.History.{History, catalogue_events}
 use Rattle.history.specs.Places.{table_at, TakesBound, Suits, AreCatalogueSound}
 use Rattle.history.specs.Presence.{is_present, entries_present}
-use Rattle.table_trees.specs.Histories.{placed, all_placed, children, bound_of, is_under}
-use Rattle.table_trees.proofs.Order.{all_children, all_kept, children_of_part, under_children}
-use Rattle.table_trees.proofs.Suited.{all_suit}
+use Rattle.row_router.specs.Histories.{placed, all_placed, children, bound_of, is_under}
+use Rattle.row_router.proofs.Order.{all_children, all_kept, children_of_part, under_children}
+use Rattle.row_router.proofs.Suited.{all_suit}
 use Rattle.part_catalog.specs.Answers.{is_pending_below, pending_entry}
 use Rattle.part_catalog.specs.Found.{made_at}
 use Rattle.part_ddl.specs.Placing.{child_name, partitions_of, names_below, bounds_below, fault_at, pending_faults, default_faults, modulus_faults, overlap_faults, bound_faults, room_faults, pending_name, levels_with, place_faults}

@@ -14,7 +14,7 @@ use Rattle.history.specs.Snapshots.{SnapshotEvents, held_by}
 use Rattle.history.specs.Catalogue.{TableDropped, Stamps, tables_made, drops, counted_of}
 use Rattle.history.specs.History.{History, CatalogueChange, tx_events, snapshot_events, catalogue_events}
 use Rattle.history.specs.Presence.{entries_present}
-use Rattle.table_trees.specs.Histories.{above}
+use Rattle.row_router.specs.Histories.{above}
 use Rattle.tx_table.specs.Kept.{KeptTable}
 use Rattle.tx_table.specs.Stands.{TableStands, HeldStands, IsOpen}
 use Rattle.part_catalog.specs.Kept.{KeptCatalogue, table_in}

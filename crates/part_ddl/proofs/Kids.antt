@@ -15,25 +15,25 @@ use Rattle.history.specs.Catalogue.{tables_made}
 use Rattle.history.specs.History.{History, catalogue_events}
 use Rattle.history.specs.Places.{table_at, AreCatalogueSound}
 use Rattle.history.specs.Presence.{entries_present}
-use Rattle.table_trees.specs.declared.node.Node.{Node}
-use Rattle.table_trees.specs.declared.tree.Tree.{Tree}
-use Rattle.table_trees.specs.declared.tree.Shape.{Shape, Leaf as ShapeLeaf, Level as ShapeLevel}
-use Rattle.table_trees.specs.declared.tree.Shape.TheOpen.{Shape-F}
-use Rattle.table_trees.specs.declared.tree.Shape.TheFolds.{fold-Shape, fold_out-Tree, fold_out-Shape}
-use Rattle.table_trees.specs.declared.tree.TreeList.{TreeList}
-use Rattle.table_trees.specs.Trees.{TableTree, LeafTable, LevelTable, Trees, trees_of, IsSound}
-use Rattle.table_trees.specs.Seen.{seen, seen_step, items_of}
-use Rattle.table_trees.specs.Histories.{ddl_tree, tree_within, grown, node_at, children, bound_of, child_of_entry}
-use Rattle.table_trees.specs.Siblings.{AreSiblings}
-use Rattle.table_trees.proofs.Seen.{seen_level}
-use Rattle.table_trees.proofs.Sound.{ddl_tree_sound}
+use Rattle.row_router.specs.declared.node.Node.{Node}
+use Rattle.row_router.specs.declared.tree.Tree.{Tree}
+use Rattle.row_router.specs.declared.tree.Shape.{Shape, Leaf as ShapeLeaf, Level as ShapeLevel}
+use Rattle.row_router.specs.declared.tree.Shape.TheOpen.{Shape-F}
+use Rattle.row_router.specs.declared.tree.Shape.TheFolds.{fold-Shape, fold_out-Tree, fold_out-Shape}
+use Rattle.row_router.specs.declared.tree.TreeList.{TreeList}
+use Rattle.row_router.specs.Trees.{TableTree, LeafTable, LevelTable, Trees, trees_of, IsSound}
+use Rattle.row_router.specs.Seen.{seen, seen_step, items_of}
+use Rattle.row_router.specs.Histories.{ddl_tree, tree_within, grown, node_at, children, bound_of, child_of_entry}
+use Rattle.row_router.specs.Siblings.{AreSiblings}
+use Rattle.row_router.proofs.Seen.{seen_level}
+use Rattle.row_router.proofs.Sound.{ddl_tree_sound}
 use Rattle.part_catalog.specs.Found.{made_at}
 use Rattle.part_ddl.specs.Placing.{partitions_of, bounds_below}
 
 -- ---- what a tree says of its top
 
 pub seen_leaf : (t : Tree) (leaf : LeafId) → t.shape ≡ ShapeLeaf leaf → seen t ≡ LeafTable t.node leaf
-unfolding Rattle.table_trees.specs.declared.tree.Shape.TheViews.out-Shape denote.Hole.Carrier.out
+unfolding Rattle.row_router.specs.declared.tree.Shape.TheViews.out-Shape denote.Hole.Carrier.out
 seen_leaf t leaf is =
     let F : Shape → Node → TableTree = fold-Shape (Node → TableTree) TableTree (List TableTree) seen_step (λ u. u.shape u.node) (λ l. l.trees.items) in
     let a : seen t ≡ F t.shape t.node = fold_out-Tree (Node → TableTree) TableTree (List TableTree) seen_step (λ u. u.shape u.node) (λ l. l.trees.items) t in
@@ -108,7 +108,7 @@ level_grown (Leaf leaf) node n level bs bounds ks kids e = absurd (cc)
 level_grown (Level own) node n level bs bounds ks kids e = record { shape_is = cc; bounds_are = cc; kids_are = cc }
 
 pub told : (h : History) (s p : ℕ) (t : Tree) (level : OneLevel) (bounds : List Bound) (kids : TreeList) → t.shape ≡ ShapeLevel level bounds kids → seen t ≡ ddl_tree h s p → IsTold h s p level bounds (items_of kids)
-unfolding Rattle.table_trees.specs.Histories.ddl_tree
+unfolding Rattle.row_router.specs.Histories.ddl_tree
 told h s p t level bounds kids is tree =
     let tables = tables_made (catalogue_events h) in
     let es = children (entries_present h s) p in
@@ -129,7 +129,7 @@ leaf_grown (Leaf own) node n leaf bounds kids e = cc
 leaf_grown (Level level) node n leaf bounds kids e = absurd (cc)
 
 pub leaf_told : (h : History) (s p : ℕ) (t : Tree) (leaf : LeafId) → t.shape ≡ ShapeLeaf leaf → seen t ≡ ddl_tree h s p → (made_at h p).shape ≡ Leaf leaf
-unfolding Rattle.table_trees.specs.Histories.ddl_tree
+unfolding Rattle.row_router.specs.Histories.ddl_tree
 leaf_told h s p t leaf is tree =
     let tables = tables_made (catalogue_events h) in
     let es = children (entries_present h s) p in

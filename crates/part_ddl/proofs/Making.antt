@@ -23,12 +23,12 @@ use Rattle.history.specs.Catalogue.{tables_made, entries_added}
 use Rattle.history.specs.History.{History, tx_events, catalogue_events}
 use Rattle.history.specs.Places.{table_at, HasColumnsOf, TakesBound, Suits}
 use Rattle.history.specs.Presence.{is_present, entries_present}
-use Rattle.table_trees.specs.declared.node.Node.{Node}
-use Rattle.table_trees.specs.Trees.{TableTree, height}
-use Rattle.table_trees.specs.Histories.{table_of, above, is_under, children, all_placed, bound_of, child_of_entry, node_at, grown, tree_within, ddl_tree}
-use Rattle.table_trees.specs.Siblings.{AreSiblings}
-use Rattle.table_trees.proofs.Order.{all_kept}
-use Rattle.table_trees.proofs.Suited.{all_suit}
+use Rattle.row_router.specs.declared.node.Node.{Node}
+use Rattle.row_router.specs.Trees.{TableTree, height}
+use Rattle.row_router.specs.Histories.{table_of, above, is_under, children, all_placed, bound_of, child_of_entry, node_at, grown, tree_within, ddl_tree}
+use Rattle.row_router.specs.Siblings.{AreSiblings}
+use Rattle.row_router.proofs.Order.{all_kept}
+use Rattle.row_router.proofs.Suited.{all_suit}
 use Rattle.tx_table.specs.Kept.{KeptTable}
 use Rattle.tx_table.specs.Stands.{TableStands}
 use Rattle.row_store.specs.Kept.{KeptRows}
@@ -122,7 +122,7 @@ bare_height (Leaf leaf) node = refl
 bare_height (Level level) node = refl
 
 lone_height : (h : History) (s t : ℕ) → All (λ e. e.parent.number < t) (entries_present h s) → height (ddl_tree h s t) ≡ 1
-unfolding Rattle.table_trees.specs.Histories.ddl_tree
+unfolding Rattle.row_router.specs.Histories.ddl_tree
 lone_height h s t below =
     let tables = tables_made (catalogue_events h) in
     let es = entries_present h s in

@@ -12,11 +12,11 @@ use Rattle.history.specs.Catalogue.{tables_made, entries_added}
 use Rattle.history.specs.History.{History, catalogue_events}
 use Rattle.history.specs.Places.{table_at, Suits, AreCatalogueSound}
 use Rattle.history.specs.Presence.{is_present, entries_present}
-use Rattle.table_trees.specs.declared.node.Node.{Node}
-use Rattle.table_trees.specs.Trees.{TableTree, trees_of}
-use Rattle.table_trees.specs.Histories.{ddl_tree, tree_within, grown, node_at, children, bound_of, child_of_entry}
-use Rattle.table_trees.proofs.Order.{all_children, all_kept}
-use Rattle.table_trees.proofs.Suited.{all_suit}
+use Rattle.row_router.specs.declared.node.Node.{Node}
+use Rattle.row_router.specs.Trees.{TableTree, trees_of}
+use Rattle.row_router.specs.Histories.{ddl_tree, tree_within, grown, node_at, children, bound_of, child_of_entry}
+use Rattle.row_router.proofs.Order.{all_children, all_kept}
+use Rattle.row_router.proofs.Suited.{all_suit}
 use Rattle.part_ddl.specs.Below.{tables_in, all_tables, tables_from}
 
 abbrev pub IsBelow : ℕ → TableNo → Type 0
@@ -41,7 +41,7 @@ within_below (suc m) n tables entries named t lt h =
     (kids_below n (λ c. tree_within m tables entries named c) (children entries t) (λ c less. within_below m n tables entries named c less h) (all_children (HasChild n) entries t h))
 
 pub tables_are_made : (h : History) (s t : ℕ) → AreCatalogueSound h → t < length (tables_made (catalogue_events h)) → All (IsBelow (length (tables_made (catalogue_events h)))) (tables_from h s t)
-unfolding Rattle.table_trees.specs.Histories.ddl_tree
+unfolding Rattle.row_router.specs.Histories.ddl_tree
 tables_are_made h s t sound lt =
     let tables = tables_made (catalogue_events h) in
     let suits : All (Suits tables) (entries_present h s) = all_kept (Suits tables) (is_present h s) (entries_added (catalogue_events h)) (all_suit h sound) in

@@ -13,7 +13,7 @@ use Rattle.bound_forms.specs.Levels.{IsOfLevel}
 use Rattle.bound_forms.proofs.LevelLaws.{level_filled, level_fits}
 use Rattle.bound_forms.proofs.OverlapLaws.{overlaps_turned}
 use Rattle.history.specs.declared.catalogue.Entry.{Entry}
-use Rattle.table_trees.specs.Histories.{bound_of}
+use Rattle.row_router.specs.Histories.{bound_of}
 use Rattle.part_ddl.specs.Placing.{modulus_told, modulus_faults, AreOfOneLevel}
 use Rattle.part_ddl.proofs.First.{next_at, past_end}
 

@@ -9,8 +9,8 @@ use Rattle.history.specs.Transactions.{session_of}
 use Rattle.history.specs.Catalogue.{TableDropped, EntryEnded, drops, entry_ends, counted_of}
 use Rattle.history.specs.History.{History, CatalogueChange, tx_events, catalogue_events}
 use Rattle.history.specs.Presence.{entries_present}
-use Rattle.table_trees.specs.Histories.{above, is_over}
-use Rattle.table_trees.specs.Siblings.{AreSiblings}
+use Rattle.row_router.specs.Histories.{above, is_over}
+use Rattle.row_router.specs.Siblings.{AreSiblings}
 use Rattle.tx_table.specs.Kept.{KeptTable}
 use Rattle.tx_table.specs.Stands.{TableStands}
 use Rattle.part_catalog.specs.Kept.{KeptCatalogue}

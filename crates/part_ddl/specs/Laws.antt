@@ -6,7 +6,7 @@ use Rattle.history.specs.declared.catalogue.Entry.{Entry}
 use Rattle.history.specs.History.{History}
 use Rattle.history.specs.Places.{TakesBound, AreCatalogueSound}
 use Rattle.history.specs.Presence.{entries_present, is_pending}
-use Rattle.table_trees.specs.Siblings.{CanStandTogether}
+use Rattle.row_router.specs.Siblings.{CanStandTogether}
 use Rattle.part_catalog.specs.Found.{made_at}
 use Rattle.part_ddl.specs.Below.{tables_from}
 use Rattle.part_ddl.specs.Dropped.{AreTwo}

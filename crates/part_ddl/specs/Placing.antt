@@ -19,7 +19,7 @@ use Rattle.history.specs.declared.catalogue.TableShape.{TableShape}
 use Rattle.history.specs.declared.catalogue.TableShape.TheVariants.{Leaf, Level}
 use Rattle.history.specs.History.{History}
 use Rattle.history.specs.Presence.{entries_present}
-use Rattle.table_trees.specs.Histories.{above, bound_of, children}
+use Rattle.row_router.specs.Histories.{above, bound_of, children}
 use Rattle.part_catalog.specs.Answers.{pending_entry}
 use Rattle.part_catalog.specs.Found.{made_at}
 use Rattle.part_catalog.specs.Full.{tables_above}

@@ -16,7 +16,7 @@ use Rattle.history.specs.Rows.{LeafAdded, leaf_count}
 use Rattle.history.specs.Catalogue.{TableMade}
 use Rattle.history.specs.History.{History, RowChange, CatalogueChange, row_events}
 use Rattle.history.specs.Places.{KeysLieIn}
-use Rattle.table_trees.specs.Histories.{table_of}
+use Rattle.row_router.specs.Histories.{table_of}
 use Rattle.part_catalog.specs.Found.{resolved, table_number}
 use Rattle.part_ddl.specs.Made.{Made, made_by}
 

@@ -2,8 +2,8 @@ ghost use Rattle.std.specs.Prelude.{◌≡◌, ◌<◌, ◌++◌, ℕ, IfOk, OnO
 ghost use Rattle.history.specs.History.{History};
 ghost use Rattle.history.specs.Places.{AreCatalogueSound};
 ghost use Rattle.tx_table.specs.Stands.{TableStands};
-ghost use Rattle.table_trees.specs.Histories.{ddl_tree};
-ghost use Rattle.table_trees.specs.Seen.{seen};
+ghost use Rattle.row_router.specs.Histories.{ddl_tree};
+ghost use Rattle.row_router.specs.Seen.{seen};
 ghost use Rattle.part_catalog.specs.Answers.{AreTogether};
 ghost use Rattle.part_catalog.specs.Stands.{CatalogueStands};
 ghost use Rattle.part_ddl.specs.Below as below;
@@ -13,8 +13,8 @@ use history::Entry;
 use part_bounds::default_child;
 use part_catalog::Catalog;
 use pg_values::{NoMemory, TableNo};
+use row_router::{Shape, Tree};
 use std::alloc::Global;
-use table_trees::{Shape, Tree};
 use tx_table::TxTable;
 
 /// Puts the tables of a tree behind the list, in plain order, each before those below it.

@@ -20,20 +20,20 @@ use Rattle.history.specs.Catalogue.{tables_made}
 use Rattle.history.specs.History.{History, catalogue_events}
 use Rattle.history.specs.Places.{table_at, LiesIn, AreCatalogueSound}
 use Rattle.history.specs.Presence.{entries_present}
-use Rattle.table_trees.specs.declared.node.Node.{Node}
-use Rattle.table_trees.specs.declared.tree.Shape.TheVariants.{Level as ShapeLevel}
-use Rattle.table_trees.specs.declared.tree.Tree.{Tree}
-use Rattle.table_trees.specs.declared.tree.TreeList.{TreeList}
-use Rattle.table_trees.specs.Histories.{ddl_tree, node_at, path_of}
-use Rattle.table_trees.specs.Seen.{seen, items_of}
-use Rattle.table_trees.specs.Siblings.{AreSiblings}
-use Rattle.table_trees.specs.Trees.{TableTree, LeafTable, LevelTable, End, More, trees_of, key_of, IsRowOf, IsSound, Fits}
-use Rattle.table_trees.proofs.RowsFit.{rows_fit}
-use Rattle.table_trees.proofs.Seen.{seen_level}
-use Rattle.table_trees.proofs.Sound.{ddl_tree_sound}
+use Rattle.row_router.specs.declared.node.Node.{Node}
+use Rattle.row_router.specs.declared.tree.Shape.TheVariants.{Level as ShapeLevel}
+use Rattle.row_router.specs.declared.tree.Tree.{Tree}
+use Rattle.row_router.specs.declared.tree.TreeList.{TreeList}
+use Rattle.row_router.specs.Histories.{ddl_tree, node_at, path_of}
+use Rattle.row_router.specs.Seen.{seen, items_of}
+use Rattle.row_router.specs.Siblings.{AreSiblings}
+use Rattle.row_router.specs.Trees.{TableTree, LeafTable, LevelTable, End, More, trees_of, key_of, IsRowOf, IsSound, Fits}
+use Rattle.row_router.proofs.RowsFit.{rows_fit}
+use Rattle.row_router.proofs.Seen.{seen_level}
+use Rattle.row_router.proofs.Sound.{ddl_tree_sound}
 use Rattle.part_catalog.specs.Found.{made_at}
 use Rattle.part_ddl.specs.Placing.{names_below, bounds_below, pending_name, fault_at, default_faults, bound_faults, place_faults}
-use Rattle.table_trees.specs.declared.path_part.PathPart.{PathPart}
+use Rattle.row_router.specs.declared.path_part.PathPart.{PathPart}
 use Rattle.row_router.specs.Paths.{PartFits}
 use Rattle.row_change.specs.Laws.{PathsFit}
 use Rattle.soundness.specs.Laws.{SessionsHaveSiblings}

@@ -12,10 +12,10 @@ use Rattle.history.specs.Catalogue.{CatalogueEvents, tables_made}
 use Rattle.history.specs.History.{History, tx_events, catalogue_events}
 use Rattle.history.specs.Places.{table_at}
 use Rattle.history.specs.Presence.{counts, entries_present}
-use Rattle.table_trees.specs.declared.node.Node.{Node}
-use Rattle.table_trees.specs.Trees.{TableTree, trees_of, leaves, all_leaves}
-use Rattle.table_trees.specs.Histories.{ddl_tree, node_at, grown, tree_within, children, bound_of, child_of_entry}
-use Rattle.table_trees.proofs.Order.{all_children}
+use Rattle.row_router.specs.declared.node.Node.{Node}
+use Rattle.row_router.specs.Trees.{TableTree, trees_of, leaves, all_leaves}
+use Rattle.row_router.specs.Histories.{ddl_tree, node_at, grown, tree_within, children, bound_of, child_of_entry}
+use Rattle.row_router.proofs.Order.{all_children}
 use Rattle.soundness.specs.Worlds.{IsMade, HasLeaf, Present}
 use Rattle.soundness.proofs.All.{legal_keeps_all}
 use Rattle.soundness.proofs.Looking.{counts_world}

@@ -6,7 +6,7 @@ use Rattle.pg_values.specs.declared.value.Value.{Value}
 use Rattle.pg_values.specs.declared.value.Value.TheVariants.{Null, Int4, Int8, Text, Day, Truth}
 use Rattle.history.specs.declared.catalogue.Column.{Column}
 use Rattle.bound_forms.specs.Levels.{IsOf}
-use Rattle.table_trees.specs.Trees.{IsRowOf}
+use Rattle.row_router.specs.Trees.{IsRowOf}
 use Rattle.partition_scans.specs.Fitting.{is_of, is_row_of}
 
 both : (a b : Bool) → (a && b) ≡ true → (a ≡ true) × (b ≡ true)

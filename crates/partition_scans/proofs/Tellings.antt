@@ -21,9 +21,9 @@ use Rattle.row_store.specs.Judged.{seeing}
 use Rattle.row_router.specs.declared.path.PathTest.TheVariants.{Bounds, Checks}
 use Rattle.row_router.specs.Paths.{refused}
 use Rattle.soundness.specs.Worlds.{key_in}
-use Rattle.table_trees.specs.declared.path_part.PathPart.{PathPart}
-use Rattle.table_trees.specs.Histories.{ddl_tree, path_of}
-use Rattle.table_trees.specs.Trees.{key_of, leaves}
+use Rattle.row_router.specs.declared.path_part.PathPart.{PathPart}
+use Rattle.row_router.specs.Histories.{ddl_tree, path_of}
+use Rattle.row_router.specs.Trees.{key_of, leaves}
 use Rattle.part_catalog.specs.Found.{made_at}
 use Rattle.part_ddl.specs.Placing.{bounds_below}
 use Rattle.partition_scans.specs.Fitting.{is_row_of}

@@ -11,7 +11,7 @@ use Rattle.bound_forms.specs.declared.partition_bound.Bound.{Bound}
 use Rattle.bound_forms.specs.Accepts.{is_default, FitsBound, FitsSet}
 use Rattle.bound_forms.specs.Bounds.{BoundOfKind}
 use Rattle.history.specs.declared.catalogue.Column.{Column}
-use Rattle.table_trees.specs.Trees.{key_of}
+use Rattle.row_router.specs.Trees.{key_of}
 
 -- null, or a value of the kind
 abbrev pub is_of : Kind → Value → Bool

@@ -7,8 +7,8 @@ use Rattle.refusals.specs.Refusals.{outside_new_bounds, default_has_row}
 use Rattle.bound_forms.specs.declared.partition_bound.Bound.{Bound}
 use Rattle.bound_forms.specs.Accepts.{accepts, accepts_among}
 use Rattle.history.specs.History.{History, catalogue_events}
-use Rattle.table_trees.specs.Histories.{ddl_tree, path_of}
-use Rattle.table_trees.specs.Trees.{leaves}
+use Rattle.row_router.specs.Histories.{ddl_tree, path_of}
+use Rattle.row_router.specs.Trees.{leaves}
 use Rattle.row_router.specs.declared.path.PathTest.TheVariants.{Bounds, Checks}
 use Rattle.row_router.specs.Paths.{refused}
 use Rattle.part_catalog.specs.Found.{made_at}

@@ -1,6 +1,6 @@
 ghost use Rattle.std.specs.Prelude.{◌≡◌, ◌||◌, not, true};
 ghost use Rattle.bound_forms.specs.Accepts.{accepts};
-ghost use Rattle.table_trees.specs.Trees.{key_of};
+ghost use Rattle.row_router.specs.Trees.{key_of};
 ghost use Rattle.partition_scans.specs.Fitting as fitting;
 ghost use Rattle.partition_scans.specs.Fitting.{KeyFits};
 
@@ -8,8 +8,8 @@ use crate::fitting::is_row_of;
 use bound_forms::{Bound, Level, bound_accepts};
 use history::Column;
 use pg_values::{Row, ValueKey};
+use row_router::LevelKey;
 use row_store::RowTest;
-use table_trees::LevelKey;
 
 /// The rows that a default partition may not keep beside a new bound: those that the bound accepts, and what is
 /// no row of the parent's columns.

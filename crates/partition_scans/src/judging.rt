@@ -8,12 +8,12 @@ ghost use Rattle.part_catalog.specs.Found.{made_at};
 ghost use Rattle.part_catalog.specs.Stands.{CatalogueStands};
 ghost use Rattle.part_ddl.specs.Below.{IsTreeOf, default_of};
 ghost use Rattle.part_ddl.specs.Placing.{place_faults};
-ghost use Rattle.table_trees.specs.Seen.{seen};
+ghost use Rattle.row_router.specs.Seen.{seen};
 ghost use Rattle.statement_steps.specs.Attempts.{MayAttempt};
 ghost use Rattle.history.specs.declared.catalogue.TableShape.TheVariants.{Level as Levels};
 ghost use Rattle.row_store.specs.Judged.{AreSuited};
-ghost use Rattle.table_trees.specs.Histories.{ddl_tree, path_of};
-ghost use Rattle.table_trees.specs.Trees.{leaves};
+ghost use Rattle.row_router.specs.Histories.{ddl_tree, path_of};
+ghost use Rattle.row_router.specs.Trees.{leaves};
 ghost use Rattle.tx_table.specs.Stands.{TableStands};
 ghost use Rattle.part_ddl.specs.Placing.{bounds_below};
 ghost use Rattle.partition_scans.specs.Data.{DataStand};
@@ -29,12 +29,12 @@ use part_ddl::default_in;
 use pg_values::{LeafId, NoMemory, Refusal, Row, SessionSet, TableNo, ValueKey};
 use refusals::{default_has_row, outside_new_bounds};
 use row_change::rows_fit_paths;
+use row_router::{PathPart, Shape, Tree, push_leaves};
 use row_store::{RowTest, Verdict};
 use soundness::sessions_have_siblings;
 use statement_steps::Caller;
 use std::alloc::Global;
 use stores::{Stores, leaves_are_housed, trees_are_together};
-use table_trees::{PathPart, Shape, Tree, push_leaves};
 
 // The leaves of a table and of those below it.
 fn leaves_of(

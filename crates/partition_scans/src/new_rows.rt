@@ -3,7 +3,7 @@ ghost use Rattle.std.specs.List.{list_any};
 ghost use Rattle.bound_forms.specs.Accepts.{accepts_among, is_default, FitsBound, FitsSet};
 ghost use Rattle.row_router.specs.declared.path.PathTest.TheVariants.{Bounds, Checks};
 ghost use Rattle.row_router.specs.Paths.{refused, PartFits};
-ghost use Rattle.table_trees.specs.Trees.{key_of};
+ghost use Rattle.row_router.specs.Trees.{key_of};
 ghost use Rattle.partition_scans.specs.Fitting as fitting;
 ghost use Rattle.bound_forms.specs.Bounds.{BoundOfKind};
 ghost use Rattle.pg_values.specs.KeyKinds.{IsNotNull};
@@ -14,9 +14,8 @@ use bound_forms::{Bound, Key, Level, bound_accepts};
 use history::Column;
 use part_bounds::{BoundSet, find_child_uncounted};
 use pg_values::{Row, ValueKey};
-use row_router::{PathTest, fits_path};
+use row_router::{LevelKey, PathPart, PathTest, fits_path};
 use row_store::RowTest;
-use table_trees::{LevelKey, PathPart};
 
 /// The rows that a table may not have below a new bound: those that the bound does not accept among its
 /// siblings, those that a table above refuses, and what is no row of the parent's columns.

@@ -13,8 +13,8 @@ use Rattle.bound_forms.specs.declared.partition_bound.Bound.{Bound}
 use Rattle.bound_forms.specs.declared.partition_bound.Bound.TheVariants.{Default}
 use Rattle.bound_forms.specs.Accepts.{accepts_among}
 use Rattle.bound_forms.specs.Levels.{IsOfLevel}
-use Rattle.table_trees.specs.declared.node.Node.{Node}
-use Rattle.table_trees.specs.Trees.{TableTree, LeafTable, LevelTable, Trees, End, More, count, key_of, leaves, all_leaves}
+use Rattle.row_router.specs.declared.node.Node.{Node}
+use Rattle.row_router.specs.Trees.{TableTree, LeafTable, LevelTable, Trees, End, More, count, key_of, leaves, all_leaves}
 use Rattle.cond_logic.specs.declared.truth.Truth3.{Truth3}
 use Rattle.cond_logic.specs.declared.truth.Truth3.TheVariants.{Yes, No, Unknown}
 use Rattle.cond_logic.specs.Rewriting.{pushed, with_args}

@@ -1,11 +1,11 @@
 -- What a tree says of its table.
 use Rattle.std.proofs.Common.{◌≡◌, ap, refl, ◌∙◌, List}
-use Rattle.table_trees.specs.declared.node.Node.{Node}
-use Rattle.table_trees.specs.declared.tree.Tree.{Tree}
-use Rattle.table_trees.specs.declared.tree.Shape.TheOpen.{Shape-F}
-use Rattle.table_trees.specs.declared.tree.Shape.TheFolds.{fold_out-Tree, fold_out-Shape}
-use Rattle.table_trees.specs.Trees.{TableTree}
-use Rattle.table_trees.specs.Seen.{seen, seen_step}
+use Rattle.row_router.specs.declared.node.Node.{Node}
+use Rattle.row_router.specs.declared.tree.Tree.{Tree}
+use Rattle.row_router.specs.declared.tree.Shape.TheOpen.{Shape-F}
+use Rattle.row_router.specs.declared.tree.Shape.TheFolds.{fold_out-Tree, fold_out-Shape}
+use Rattle.row_router.specs.Trees.{TableTree}
+use Rattle.row_router.specs.Seen.{seen, seen_step}
 use Rattle.plan_tree.specs.Kept.{node_of}
 
 node_step : (s : Shape-F (Node → TableTree) TableTree (List TableTree)) (n : Node) → node_of (seen_step s n) ≡ n

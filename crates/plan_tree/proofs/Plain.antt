@@ -3,8 +3,8 @@ use Rattle.std.proofs.Common.{◌≡◌, ℕ, arith, Bool, List, [], ◌∷◌, 
 use native.Mathlib.Nat.{ℕ_set}
 use Rattle.bound_forms.specs.declared.level.KeyColumn.{KeyColumn}
 use Rattle.bound_forms.specs.declared.level.Level.{Level}
-use Rattle.bound_forms.specs.declared.level.Strategy.{Strategy}
-use Rattle.bound_forms.specs.declared.level.Strategy.TheVariants.{Range as ByRange, List as ByList, Hash as ByHash}
+use Rattle.pg_values.specs.declared.strategy.Strategy.{Strategy}
+use Rattle.pg_values.specs.declared.strategy.Strategy.TheVariants.{Range as ByRange, List as ByList, Hash as ByHash}
 use Rattle.bound_forms.specs.declared.partition_bound.Bound.{Bound}
 use Rattle.bound_forms.specs.declared.partition_bound.Bound.TheVariants.{Default}
 use Rattle.bound_forms.specs.Bounds.{in_plain_order}

@@ -8,12 +8,12 @@ use Rattle.bound_forms.specs.declared.level.Level.{Level}
 use Rattle.bound_forms.specs.Levels.{IsOfLevel}
 use Rattle.bound_forms.specs.declared.partition_bound.Bound.{Bound}
 use Rattle.bound_forms.specs.declared.partition_bound.Bound.TheVariants.{Default}
-use Rattle.table_trees.specs.declared.tree.Tree.{Tree}
-use Rattle.table_trees.specs.declared.tree.TreeList.{TreeList}
-use Rattle.table_trees.specs.declared.tree.Shape.{Level as ShapeLevel}
-use Rattle.table_trees.specs.Seen.{seen, items_of}
-use Rattle.table_trees.proofs.Seen.{seen_level}
-use Rattle.table_trees.specs.Trees.{TableTree, LeafTable, LevelTable, Trees, trees_of, count, height, heights}
+use Rattle.row_router.specs.declared.tree.Tree.{Tree}
+use Rattle.row_router.specs.declared.tree.TreeList.{TreeList}
+use Rattle.row_router.specs.declared.tree.Shape.{Level as ShapeLevel}
+use Rattle.row_router.specs.Seen.{seen, items_of}
+use Rattle.row_router.proofs.Seen.{seen_level}
+use Rattle.row_router.specs.Trees.{TableTree, LeafTable, LevelTable, Trees, trees_of, count, height, heights}
 use Rattle.cond_logic.specs.Tables.{Leaf}
 use Rattle.plan_tree.specs.Kept.{Keeps, AreKept, is_kept, led, leaves_below, leaves_among, kept_tables, tables_among, node_of}
 use Rattle.plan_tree.specs.Prunable.{CanPrune, AllCanPrune}

@@ -20,10 +20,10 @@ use Rattle.history.specs.Snapshots.{TakenSnapshot}
 use Rattle.history.specs.History.{History, tx_events, row_events, catalogue_events, versions, is_seen, seen}
 use Rattle.history.specs.Legal.{IsLegal}
 use Rattle.history.specs.Presence.{counts, entries_shown}
-use Rattle.table_trees.specs.declared.node.Node.{Node}
-use Rattle.table_trees.specs.Trees.{TableTree, trees_of, key_of, leaves, all_leaves}
-use Rattle.table_trees.specs.Histories.{tree_within, tree_of, grown, node_at, children, bound_of, child_of_entry}
-use Rattle.table_trees.proofs.Order.{all_children, under_children}
+use Rattle.row_router.specs.declared.node.Node.{Node}
+use Rattle.row_router.specs.Trees.{TableTree, trees_of, key_of, leaves, all_leaves}
+use Rattle.row_router.specs.Histories.{tree_within, tree_of, grown, node_at, children, bound_of, child_of_entry}
+use Rattle.row_router.proofs.Order.{all_children, under_children}
 use Rattle.soundness.specs.Laws.{IsLooking}
 use Rattle.soundness.specs.Parts.{InvariantOf}
 use Rattle.soundness.specs.Versions.{IsVersion}
@@ -160,7 +160,7 @@ shown_accepted h session s legal i looking x leaf own =
     i.fit w v world is (looking_shows h session s v legal i looking is parts.1) x (subst (λ (l : LeafId). HasLeaf cats x l) (sym (same_leaf v.leaf leaf same)) own))
 
 pub shown_right : ShownLieRight
-unfolding Rattle.table_trees.specs.Histories.tree_of
+unfolding Rattle.row_router.specs.Histories.tree_of
 shown_right h session table s legal permitted looking made =
     let i = legal_keeps_all h legal permitted in
     right_within 7 (catalogue_events h) (counts (tx_events h) session) (shown h s) (entries_shown h session s) table table (all_shown h session s (sound_of h legal) (catalogue_sound_of h legal)) (λ e p. (i.entries.suited e p.0).child)

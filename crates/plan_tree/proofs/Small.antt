@@ -18,11 +18,11 @@ use Rattle.history.specs.Catalogue.{tables_made, entries_added}
 use Rattle.history.specs.History.{History, tx_events, catalogue_events}
 use Rattle.history.specs.Places.{table_at}
 use Rattle.history.specs.Presence.{counts, is_shown, entries_shown}
-use Rattle.table_trees.specs.declared.node.Node.{Node}
-use Rattle.table_trees.specs.Trees.{TableTree, LeafTable, LevelTable, Trees, End, More, trees_of, IsSound, AreSound}
-use Rattle.table_trees.specs.Histories.{grown, node_at, tree_within, tree_of, children, is_under, bound_of, child_of_entry}
-use Rattle.table_trees.proofs.Order.{children_bounds}
-use Rattle.table_trees.proofs.Sound.{tree_sound}
+use Rattle.row_router.specs.declared.node.Node.{Node}
+use Rattle.row_router.specs.Trees.{TableTree, LeafTable, LevelTable, Trees, End, More, trees_of, IsSound, AreSound}
+use Rattle.row_router.specs.Histories.{grown, node_at, tree_within, tree_of, children, is_under, bound_of, child_of_entry}
+use Rattle.row_router.proofs.Order.{children_bounds}
+use Rattle.row_router.proofs.Sound.{tree_sound}
 use Rattle.soundness.specs.Worlds.{Present}
 use Rattle.soundness.specs.Parts.{AreChildren, InvariantOf}
 use Rattle.soundness.proofs.All.{legal_keeps_all}
@@ -94,7 +94,7 @@ few_children h session s i present two few t =
     omega (arith, here, n)
 
 pub trees_prunable : TreesCanBePruned
-unfolding Rattle.table_trees.specs.Histories.tree_of
+unfolding Rattle.row_router.specs.Histories.tree_of
 trees_prunable h session table s legal permitted made =
     let sound = catalogue_sound_of h legal in
     let i = legal_keeps_all h legal permitted in

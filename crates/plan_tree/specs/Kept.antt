@@ -5,11 +5,11 @@ use Rattle.pg_values.specs.declared.ids.LeafId.{LeafId}
 use Rattle.pg_values.specs.declared.ids.TableNo.{TableNo}
 use Rattle.bound_forms.specs.declared.level.KeyColumn.{KeyColumn}
 use Rattle.bound_forms.specs.declared.level.Level.{Level}
-use Rattle.bound_forms.specs.declared.level.Strategy.TheVariants.{Range as ByRange, List as ByList}
+use Rattle.pg_values.specs.declared.strategy.Strategy.TheVariants.{Range as ByRange, List as ByList}
 use Rattle.bound_forms.specs.declared.partition_bound.Bound.{Bound}
 use Rattle.bound_forms.specs.declared.partition_bound.Bound.TheVariants.{Default}
-use Rattle.table_trees.specs.declared.node.Node.{Node}
-use Rattle.table_trees.specs.Trees.{TableTree, LeafTable, LevelTable, Trees, End, More}
+use Rattle.row_router.specs.declared.node.Node.{Node}
+use Rattle.row_router.specs.Trees.{TableTree, LeafTable, LevelTable, Trees, End, More}
 use Rattle.cond_logic.specs.Tables.{Leaf}
 use Rattle.cond_logic.specs.Trees.{CondTree}
 use Rattle.prune_steps.specs.Atoms.{asked}

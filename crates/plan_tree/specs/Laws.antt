@@ -9,8 +9,8 @@ use Rattle.history.specs.declared.version.Version.{Version}
 use Rattle.history.specs.Snapshots.{TakenSnapshot}
 use Rattle.history.specs.History.{History, catalogue_events, seen}
 use Rattle.history.specs.Legal.{IsLegal}
-use Rattle.table_trees.specs.Histories.{tree_of}
-use Rattle.table_trees.specs.Trees.{TableTree, LeafTable, LevelTable, Trees, End, More, key_of, leaves}
+use Rattle.row_router.specs.Histories.{tree_of}
+use Rattle.row_router.specs.Trees.{TableTree, LeafTable, LevelTable, Trees, End, More, key_of, leaves}
 use Rattle.cond_logic.specs.declared.truth.Truth3.{Truth3}
 use Rattle.cond_logic.specs.declared.truth.Truth3.TheVariants.{Yes, No, Unknown}
 use Rattle.cond_logic.specs.Trees.{CondTree}

@@ -1,7 +1,7 @@
 -- Which trees can be pruned.
 use Rattle.std.specs.Prelude.{◌≡◌, ◌≤◌, All, length}
 use Rattle.bound_forms.specs.Levels.{IsOfLevel}
-use Rattle.table_trees.specs.Trees.{TableTree, LeafTable, LevelTable, Trees, End, More, count}
+use Rattle.row_router.specs.Trees.{TableTree, LeafTable, LevelTable, Trees, End, More, count}
 
 -- at each level there is a bound for each partition, each such as a check gives for the level, and of partitions there are
 -- no more than a table may have

@@ -4,7 +4,7 @@ ghost use Rattle.std.specs.Prelude.{◌≡◌, ◌<◌, ◌≤◌, ◌++◌, ℕ
 ghost use Rattle.bound_forms.specs.declared.partition_bound.Bound.TheVariants.{Default as ByDefault};
 ghost use Rattle.bound_forms.specs.Levels.{IsOfLevel};
 ghost use Rattle.cond_logic.specs.Trees.{cond_tree};
-ghost use Rattle.table_trees.specs.Seen.{seen};
+ghost use Rattle.row_router.specs.Seen.{seen};
 ghost use Rattle.prune_steps.specs.Atoms.{asked};
 ghost use Rattle.prune_steps.specs.Bits.{AreBits};
 ghost use Rattle.prune_steps.specs.Kept as kept_one;
@@ -13,15 +13,15 @@ ghost use Rattle.plan_tree.specs.Kept.{AreKept, is_kept, keeps_by, keeps_for, ke
 ghost use Rattle.plan_tree.specs.Prunable.{CanPrune};
 
 use crate::condition::copy_cond;
-use bound_forms::{Bound, KeyColumns, Level, Strategy};
+use bound_forms::{Bound, KeyColumns, Level};
 use cond_logic::{Cond, NamedLeaf};
 use part_bounds::{BoundSet, make_set};
-use pg_values::{NoMemory, Steps, TableNo, ValueKey};
+use pg_values::{NoMemory, Steps, Strategy, TableNo, ValueKey};
 use prune_steps::{KeptSet, make_steps, run_steps};
+use row_router::{Shape, Tree};
 use std::alloc::Global;
 use std::marker::Brand;
 use std::sync::ledger::{Blank, Ledger};
-use table_trees::{Shape, Tree};
 
 /// The kept leaves of a tree, and the tables under it that lead to them.
 #[derive(Debug, Drop)]

@@ -10,7 +10,7 @@ use Rattle.pg_values.specs.Order.{AreComparable}
 use Rattle.pg_values.specs.Kinds.{kind_of}
 use Rattle.bound_forms.specs.declared.level.Level.{Level}
 use Rattle.bound_forms.specs.declared.level.KeyColumn.{KeyColumn}
-use Rattle.bound_forms.specs.declared.level.Strategy.TheVariants.{Range as ByRange, List as ByList, Hash as ByHash}
+use Rattle.pg_values.specs.declared.strategy.Strategy.TheVariants.{Range as ByRange, List as ByList, Hash as ByHash}
 use Rattle.bound_forms.specs.declared.partition_bound.Bound.{Bound}
 use Rattle.bound_forms.specs.declared.partition_bound.Bound.TheVariants.{Range, List as Listed, Hash, Default}
 use Rattle.bound_forms.specs.declared.point.Fill.{Fill}

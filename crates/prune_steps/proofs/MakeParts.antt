@@ -6,8 +6,8 @@ use Rattle.std.proofs.lemmas.Bool.{cases_lt}
 use Rattle.std.specs.declared.result.Result.{Result}
 use Rattle.std.specs.declared.result.Result.TheVariants.{Ok, Err}
 use Rattle.pg_values.specs.declared.value.Value.{Value}
-use Rattle.bound_forms.specs.declared.level.Strategy.{Strategy}
-use Rattle.bound_forms.specs.declared.level.Strategy.TheVariants.{Range as ByRange, List as ByList, Hash as ByHash}
+use Rattle.pg_values.specs.declared.strategy.Strategy.{Strategy}
+use Rattle.pg_values.specs.declared.strategy.Strategy.TheVariants.{Range as ByRange, List as ByList, Hash as ByHash}
 use Rattle.bound_forms.specs.declared.partition_bound.Bound.{Bound}
 use Rattle.cond_logic.specs.declared.cond.CompareOp.{CompareOp}
 use Rattle.cond_logic.specs.declared.cond.Operand.{Operand}

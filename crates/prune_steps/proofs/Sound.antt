@@ -15,8 +15,8 @@ use Rattle.pg_values.specs.Order.{order, are_comparable}
 use Rattle.pg_values.specs.Hash.{value_hash, next_hash, key_hash, key_hash_from}
 use Rattle.pg_values.specs.KeyKinds.{order_total, hash_alike}
 use Rattle.bound_forms.specs.declared.level.KeyColumn.{KeyColumn}
-use Rattle.bound_forms.specs.declared.level.Strategy.{Strategy}
-use Rattle.bound_forms.specs.declared.level.Strategy.TheVariants.{Range as ByRange, List as ByList, Hash as ByHash}
+use Rattle.pg_values.specs.declared.strategy.Strategy.{Strategy}
+use Rattle.pg_values.specs.declared.strategy.Strategy.TheVariants.{Range as ByRange, List as ByList, Hash as ByHash}
 use Rattle.bound_forms.specs.declared.partition_bound.Bound.{Bound}
 use Rattle.bound_forms.specs.declared.partition_bound.Bound.TheVariants.{Range, List as Listed, Hash, Default}
 use Rattle.bound_forms.specs.declared.point.Edge.{Edge}

@@ -3,8 +3,8 @@ use Rattle.std.specs.Prelude.{ℕ, ◌+◌, nat_lt, Bool, true, false, not, ◌&
 use Rattle.std.specs.List.{list_any}
 use Rattle.pg_values.specs.declared.value.Value.{Value}
 use Rattle.pg_values.specs.Order.{order}
-use Rattle.bound_forms.specs.declared.level.Strategy.{Strategy}
-use Rattle.bound_forms.specs.declared.level.Strategy.TheVariants.{Range as ByRange, List as ByList, Hash as ByHash}
+use Rattle.pg_values.specs.declared.strategy.Strategy.{Strategy}
+use Rattle.pg_values.specs.declared.strategy.Strategy.TheVariants.{Range as ByRange, List as ByList, Hash as ByHash}
 use Rattle.bound_forms.specs.declared.partition_bound.Bound.{Bound}
 use Rattle.bound_forms.specs.declared.partition_bound.Bound.TheVariants.{Default}
 use Rattle.bound_forms.specs.Points.{is_null}

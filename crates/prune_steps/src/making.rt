@@ -1,7 +1,7 @@
 //! Pruning steps are made of a condition.
 
 ghost use Rattle.std.specs.Prelude.{◌≡◌, ◌&&◌, ℕ, Bool, true, false, List, IfOk, IfSome, length, map, slice_get};
-ghost use Rattle.bound_forms.specs.declared.level.Strategy.TheVariants.{Range as ByRange, List as ByList, Hash as ByHash};
+ghost use Rattle.pg_values.specs.declared.strategy.Strategy.TheVariants.{Range as ByRange, List as ByList, Hash as ByHash};
 ghost use Rattle.bound_forms.specs.declared.partition_bound.Bound.{Bound};
 ghost use Rattle.cond_logic.specs.Trees.{cond_tree, listed};
 ghost use Rattle.prune_steps.specs.Atoms.{Asked, asked, given, suits};
@@ -16,9 +16,9 @@ use crate::PruneSteps;
 use crate::atoms::{key_of, read, values_before};
 use crate::reading::Reading;
 use crate::step::{ChainOp, ChainStep, ListStep, Step, StepList};
-use bound_forms::{Level, Strategy};
+use bound_forms::Level;
 use cond_logic::{CompareOp, Cond, Operand, Truth3, bind_params, push_not};
-use pg_values::{NoMemory, Row, Value};
+use pg_values::{NoMemory, Row, Strategy, Value};
 use std::alloc::Global;
 
 fn chain_op(op: CompareOp) -> Option<ChainOp>

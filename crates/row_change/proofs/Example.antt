@@ -7,13 +7,13 @@ use Rattle.pg_values.specs.declared.value.Value.TheVariants.{Null, Text}
 use Rattle.pg_values.specs.declared.fault.Fault.{Fault}
 use Rattle.refusals.specs.Refusals.{fault_of}
 use Rattle.bound_forms.specs.declared.level.Level.{Level as OneLevel}
-use Rattle.bound_forms.specs.declared.level.Strategy.TheVariants.{Range as ByRange}
+use Rattle.pg_values.specs.declared.strategy.Strategy.TheVariants.{Range as ByRange}
 use Rattle.bound_forms.specs.declared.partition_bound.Bound.{Bound}
 use Rattle.bound_forms.specs.declared.partition_bound.Bound.TheVariants.{Range}
 use Rattle.bound_forms.specs.declared.point.Edge.TheVariants.{Min, At}
 use Rattle.history.specs.declared.catalogue.Table.{Table}
 use Rattle.history.specs.declared.catalogue.TableShape.TheVariants.{Leaf}
-use Rattle.table_trees.specs.declared.path_part.PathPart.{PathPart}
+use Rattle.row_router.specs.declared.path_part.PathPart.{PathPart}
 use Rattle.row_change.specs.declared.target.Target.{Target}
 use Rattle.row_change.specs.Placing.{bounds_faults}
 use Rattle.row_change.specs.Storing.{target_faults, own_null_faults, check_faults}

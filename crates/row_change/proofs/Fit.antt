@@ -23,12 +23,12 @@ use Rattle.history.specs.Catalogue.{TableMade, CheckKept, tables_made, checks_ke
 use Rattle.history.specs.History.{History, CatalogueChange, tx_events, catalogue_events}
 use Rattle.history.specs.Places.{table_at, LiesIn, AreCatalogueSound}
 use Rattle.history.specs.Presence.{entries_present, checks_of, is_check_of, counts}
-use Rattle.table_trees.specs.declared.node.Node.{Node}
-use Rattle.table_trees.specs.Siblings.{AreSiblings}
-use Rattle.table_trees.specs.Trees.{TableTree, LeafTable, LevelTable, End, More, key_of, IsRowOf, IsSound, Fits}
-use Rattle.table_trees.specs.Histories.{placed, all_placed, children, bound_of, child_of_entry, is_under, is_over, above, is_entry, place_among, place_of, kept_of, parent_in, part_of, path_of, node_at, grown, tree_within, tree_of, ddl_tree}
-use Rattle.table_trees.proofs.RowsFit.{rows_fit}
-use Rattle.table_trees.proofs.Sound.{tree_sound, ddl_tree_sound}
+use Rattle.row_router.specs.declared.node.Node.{Node}
+use Rattle.row_router.specs.Siblings.{AreSiblings}
+use Rattle.row_router.specs.Trees.{TableTree, LeafTable, LevelTable, End, More, key_of, IsRowOf, IsSound, Fits}
+use Rattle.row_router.specs.Histories.{placed, all_placed, children, bound_of, child_of_entry, is_under, is_over, above, is_entry, place_among, place_of, kept_of, parent_in, part_of, path_of, node_at, grown, tree_within, tree_of, ddl_tree}
+use Rattle.row_router.proofs.RowsFit.{rows_fit}
+use Rattle.row_router.proofs.Sound.{tree_sound, ddl_tree_sound}
 use Rattle.row_router.specs.Paths.{CheckFits, FitsAt, PartFits}
 use Rattle.row_change.specs.Laws.{IsRowIn, PathsFit, RowsCanBePlaced}
 use Rattle.row_change.proofs.Made.{IsHere, upwards_all, goes_up, row_links, present_suit}
@@ -120,7 +120,7 @@ grown_fits row (Level level) node kids trees e has fits = (has_bound kids e has,
 -- the row is one of the parent's columns
 place_fits : (h : History) (session : ℕ) (row : List Value) (e : Entry) → AreCatalogueSound h → AreSiblings (entries_present h session) → IsRowOf (table_at (tables_made (catalogue_events h)) e.parent.number).columns row → Has (is_entry e) (children (entries_present h session) e.parent.number)
     → FitsAt row (place_among (children (entries_present h session) e.parent.number) (table_at (tables_made (catalogue_events h)) e.parent.number).shape e)
-unfolding Rattle.table_trees.specs.Histories.ddl_tree
+unfolding Rattle.row_router.specs.Histories.ddl_tree
 place_fits h session row e sound siblings r has =
     let tables = tables_made (catalogue_events h) in
     let entries = entries_present h session in
@@ -209,7 +209,7 @@ checks_fit tables txs session t row (c ∷ cs) all r =
 -- ---- the laws
 
 pub paths_fit : PathsFit
-unfolding Rattle.table_trees.specs.Histories.path_of
+unfolding Rattle.row_router.specs.Histories.path_of
 paths_fit h session t row sound siblings is =
     let tables = tables_made (catalogue_events h) in
     let entries = entries_present h session in

@@ -19,12 +19,12 @@ use Rattle.history.specs.Catalogue.{tables_made, entries_added}
 use Rattle.history.specs.History.{History, catalogue_events}
 use Rattle.history.specs.Places.{table_at, HasColumnsOf, Suits, AreCatalogueSound}
 use Rattle.history.specs.Presence.{is_present, is_shown, entries_present, entries_shown, checks_of}
-use Rattle.table_trees.specs.declared.node.Node.{Node}
-use Rattle.table_trees.specs.declared.path_part.PathPart.{PathPart}
-use Rattle.table_trees.specs.Trees.{TableTree, trees_of, IsRowOf}
-use Rattle.table_trees.specs.Histories.{tree_within, tree_of, ddl_tree, path_of, node_at, grown, children, bound_of, child_of_entry, is_over, above, parent_in, part_of, upwards, table_of}
-use Rattle.table_trees.proofs.Order.{all_children, all_kept, under_children}
-use Rattle.table_trees.proofs.Suited.{all_suit}
+use Rattle.row_router.specs.declared.node.Node.{Node}
+use Rattle.row_router.specs.declared.path_part.PathPart.{PathPart}
+use Rattle.row_router.specs.Trees.{TableTree, trees_of, IsRowOf}
+use Rattle.row_router.specs.Histories.{tree_within, tree_of, ddl_tree, path_of, node_at, grown, children, bound_of, child_of_entry, is_over, above, parent_in, part_of, upwards, table_of}
+use Rattle.row_router.proofs.Order.{all_children, all_kept, under_children}
+use Rattle.row_router.proofs.Suited.{all_suit}
 use Rattle.row_change.specs.Placing.{IsPartNumbered}
 use Rattle.row_change.specs.Ways.{AllTables, AllTablesOf}
 use Rattle.row_change.specs.Laws.{IsMade, IsRowIn, PathsAreMade, TreesAreMade, RowsAreOfWays}
@@ -146,16 +146,16 @@ part_made h session n o sound here part is =
     (λ t made. subst (λ (x : TableNo). x.number < length (tables_made (catalogue_events h))) (sym (is t)) made) n o here
 
 pub paths_are_made : PathsAreMade
-unfolding Rattle.table_trees.specs.Histories.path_of
+unfolding Rattle.row_router.specs.Histories.path_of
 paths_are_made h session t sound made = part_made h session 8 (Some t.number) sound made (part_of (tables_made (catalogue_events h)) (entries_present h session) (checks_of h session)) (λ k. refl)
 
 pub tree_all : (h : History) (session : ℕ) (t : TableNo) (snap : TakenSnapshot) (P : TableNo → Type 0) → Links P (tables_made (catalogue_events h)) → AreCatalogueSound h → P t → AllTables P (tree_of h session t.number snap)
-unfolding Rattle.table_trees.specs.Histories.tree_of
+unfolding Rattle.row_router.specs.Histories.tree_of
 tree_all h session t snap P links sound here =
     within_all P (tables_made (catalogue_events h)) (entries_shown h session snap) t.number 7 t.number (goes_down P (tables_made (catalogue_events h)) (entries_shown h session snap) links (shown_suit h session snap sound)) here
 
 ddl_all : (h : History) (session : ℕ) (t : TableNo) (P : TableNo → Type 0) → Links P (tables_made (catalogue_events h)) → AreCatalogueSound h → P t → AllTables P (ddl_tree h session t.number)
-unfolding Rattle.table_trees.specs.Histories.ddl_tree
+unfolding Rattle.row_router.specs.Histories.ddl_tree
 ddl_all h session t P links sound here =
     within_all P (tables_made (catalogue_events h)) (entries_present h session) t.number 7 t.number (goes_down P (tables_made (catalogue_events h)) (entries_present h session) links (present_suit h session sound)) here
 

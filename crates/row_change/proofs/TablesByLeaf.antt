@@ -4,10 +4,10 @@ use Rattle.std.specs.Prelude.{is_some, option_map}
 use Rattle.std.specs.Option.{option_or}
 use Rattle.pg_values.specs.declared.ids.LeafId.{LeafId}
 use Rattle.pg_values.specs.declared.ids.TableNo.{TableNo}
-use Rattle.table_trees.specs.declared.node.Node.{Node}
-use Rattle.table_trees.specs.declared.tree.Tree.{Tree}
-use Rattle.table_trees.specs.Trees.{TableTree, LeafTable, LevelTable, Trees, End, More, trees_of}
-use Rattle.table_trees.specs.Seen.{seen}
+use Rattle.row_router.specs.declared.node.Node.{Node}
+use Rattle.row_router.specs.declared.tree.Tree.{Tree}
+use Rattle.row_router.specs.Trees.{TableTree, LeafTable, LevelTable, Trees, End, More, trees_of}
+use Rattle.row_router.specs.Seen.{seen}
 use Rattle.row_change.specs.declared.by_leaf.ByLeaf.{ByLeaf}
 use Rattle.row_change.specs.Placing.{IsNumbered}
 use Rattle.row_change.specs.Places.{noted, AreHolders}

@@ -12,8 +12,8 @@ use Rattle.pg_values.specs.declared.ids.LeafId.{LeafId}
 use Rattle.pg_values.specs.declared.ids.TableNo.{TableNo}
 use Rattle.history.specs.Catalogue.{tables_made}
 use Rattle.history.specs.History.{catalogue_events}
-use Rattle.table_trees.specs.Histories.{tree_of}
-use Rattle.table_trees.specs.Trees.{TableTree, LeafTable, LevelTable, Trees, End, More, child_of, routed, routed_in}
+use Rattle.row_router.specs.Histories.{tree_of}
+use Rattle.row_router.specs.Trees.{TableTree, LeafTable, LevelTable, Trees, End, More, child_of, routed, routed_in}
 use Rattle.row_change.specs.Laws.{IsRowIn}
 use Rattle.row_change.specs.Placing.{IsNumbered}
 use Rattle.row_change.specs.declared.target.Target.{Target}

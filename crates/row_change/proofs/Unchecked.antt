@@ -8,8 +8,8 @@ use Rattle.history.specs.declared.catalogue.Check.{Check}
 use Rattle.history.specs.Catalogue.{tables_made, checks_kept}
 use Rattle.history.specs.History.{History, tx_events, catalogue_events}
 use Rattle.history.specs.Presence.{entries_present, checks_of, is_check_of}
-use Rattle.table_trees.specs.declared.path_part.PathPart.{PathPart}
-use Rattle.table_trees.specs.Histories.{path_of, part_of, above, kept_of, parent_in}
+use Rattle.row_router.specs.declared.path_part.PathPart.{PathPart}
+use Rattle.row_router.specs.Histories.{path_of, part_of, above, kept_of, parent_in}
 use Rattle.row_router.specs.declared.path.PathTest.TheVariants.{Checks}
 use Rattle.row_router.specs.Paths.{refused, check_refuses, PartFits}
 use Rattle.row_change.specs.Placing.{IsPartNumbered}
@@ -29,7 +29,7 @@ none_of : (h : History) (session t : ℕ) → checks_kept (catalogue_events h) �
 none_of h session t none = ap (λ (cs : List Check). map kept_of (filter (is_check_of (tx_events h) session t) cs)) none
 
 path_is : (h : History) (session t : ℕ) → checks_kept (catalogue_events h) ≡ [] → All IsUnchecked (path_of h session t)
-unfolding Rattle.table_trees.specs.Histories.path_of
+unfolding Rattle.row_router.specs.Histories.path_of
 path_is h session t none =
     upwards_all (λ n. Unit {0}) IsUnchecked (part_of (tables_made (catalogue_events h)) (entries_present h session) (checks_of h session)) (above (entries_present h session))
     (λ n here. goes (parent_in (above (entries_present h session) n))) (λ n here. none_of h session n none) 8 (Some t) tt

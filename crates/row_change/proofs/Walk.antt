@@ -3,15 +3,15 @@ use Rattle.std.proofs.Common.{◌≡◌, ℕ, zero, suc, ◌<◌, arith, ap, ref
 use Rattle.pg_values.specs.declared.value.Value.{Value}
 use Rattle.bound_forms.specs.declared.partition_bound.Bound.{Bound}
 use Rattle.bound_forms.specs.declared.level.Level.{Level}
-use Rattle.table_trees.specs.declared.node.Node.{Node}
-use Rattle.table_trees.specs.declared.tree.Tree.{Tree}
-use Rattle.table_trees.specs.declared.tree.Shape.{Level as ShapeLevel}
-use Rattle.table_trees.specs.declared.tree.TreeList.{TreeList}
-use Rattle.table_trees.specs.declared.tree.Shape.TheOpen.{Shape-F}
-use Rattle.table_trees.specs.declared.tree.Shape.TheFolds.{fold_out-Tree, fold_out-Shape}
-use Rattle.table_trees.specs.Trees.{TableTree, trees_of, child_of}
-use Rattle.table_trees.specs.Seen.{seen, seen_step, items_of}
-use Rattle.table_trees.proofs.Seen.{seen_level}
+use Rattle.row_router.specs.declared.node.Node.{Node}
+use Rattle.row_router.specs.declared.tree.Tree.{Tree}
+use Rattle.row_router.specs.declared.tree.Shape.{Level as ShapeLevel}
+use Rattle.row_router.specs.declared.tree.TreeList.{TreeList}
+use Rattle.row_router.specs.declared.tree.Shape.TheOpen.{Shape-F}
+use Rattle.row_router.specs.declared.tree.Shape.TheFolds.{fold_out-Tree, fold_out-Shape}
+use Rattle.row_router.specs.Trees.{TableTree, trees_of, child_of}
+use Rattle.row_router.specs.Seen.{seen, seen_step, items_of}
+use Rattle.row_router.proofs.Seen.{seen_level}
 use Rattle.row_change.specs.Ways.{root, way_below, way_among}
 
 root_step : (s : Shape-F (Node → TableTree) TableTree (List TableTree)) (n : Node) → root (seen_step s n) ≡ n.table

@@ -9,9 +9,9 @@ use Rattle.history.specs.Catalogue.{tables_made}
 use Rattle.history.specs.History.{History, catalogue_events}
 use Rattle.history.specs.Places.{table_at, AreCatalogueSound}
 use Rattle.history.specs.Presence.{entries_present}
-use Rattle.table_trees.specs.Histories.{tree_of, ddl_tree, path_of}
-use Rattle.table_trees.specs.Siblings.{AreSiblings}
-use Rattle.table_trees.specs.Trees.{TableTree, IsRowOf, leaves, routed}
+use Rattle.row_router.specs.Histories.{tree_of, ddl_tree, path_of}
+use Rattle.row_router.specs.Siblings.{AreSiblings}
+use Rattle.row_router.specs.Trees.{TableTree, IsRowOf, leaves, routed}
 use Rattle.row_router.specs.Paths.{PartFits}
 use Rattle.row_change.specs.Placing.{CanBePlaced, IsNumbered, IsPartNumbered}
 use Rattle.row_change.specs.Ways.{way_below, way_to}

@@ -2,7 +2,7 @@
 use Rattle.std.specs.Prelude.{◌≡◌, ℕ, ◌<◌, List, Option, Some, None, find, length, slice_get, slice_index_or}
 use Rattle.pg_values.specs.declared.ids.LeafId.{LeafId}
 use Rattle.pg_values.specs.declared.ids.TableNo.{TableNo}
-use Rattle.table_trees.specs.Trees.{TableTree}
+use Rattle.row_router.specs.Trees.{TableTree}
 use Rattle.row_change.specs.declared.by_leaf.ByLeaf.{ByLeaf}
 use Rattle.row_change.specs.declared.target.Target.{Target}
 use Rattle.row_change.specs.Storing.{is_into}

@@ -10,10 +10,10 @@ use Rattle.history.specs.declared.catalogue.Table.{Table}
 use Rattle.history.specs.declared.catalogue.TableShape.{TableShape}
 use Rattle.history.specs.declared.catalogue.TableShape.TheVariants.{Leaf, Level}
 use Rattle.history.specs.Places.{table_at}
-use Rattle.table_trees.specs.declared.path_part.Place.{Place}
-use Rattle.table_trees.specs.declared.path_part.PathPart.{PathPart}
-use Rattle.table_trees.specs.declared.tree.NoPartition.{NoPartition}
-use Rattle.table_trees.specs.Trees.{TableTree, Fits, key_of, routed}
+use Rattle.row_router.specs.declared.path_part.Place.{Place}
+use Rattle.row_router.specs.declared.path_part.PathPart.{PathPart}
+use Rattle.row_router.specs.declared.tree.NoPartition.{NoPartition}
+use Rattle.row_router.specs.Trees.{TableTree, Fits, key_of, routed}
 use Rattle.row_router.specs.declared.path.PathTest.TheVariants.{Bounds}
 use Rattle.row_router.specs.Paths.{refuses, PartFits}
 use Rattle.row_change.specs.Ways.{AllTables}

@@ -18,7 +18,7 @@ use Rattle.history.specs.Rows.{RowBorn}
 use Rattle.history.specs.Catalogue.{tables_made}
 use Rattle.history.specs.History.{History, RowChange, versions, catalogue_events}
 use Rattle.history.specs.Places.{table_at}
-use Rattle.table_trees.specs.declared.path_part.PathPart.{PathPart}
+use Rattle.row_router.specs.declared.path_part.PathPart.{PathPart}
 use Rattle.row_router.specs.declared.path.PathTest.TheVariants.{Checks}
 use Rattle.row_router.specs.Paths.{refused, PartFits}
 use Rattle.row_store.specs.declared.refused.PutCause.{PutCause}

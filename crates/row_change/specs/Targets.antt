@@ -9,10 +9,10 @@ use Rattle.history.specs.Catalogue.{tables_made}
 use Rattle.history.specs.History.{History, catalogue_events}
 use Rattle.history.specs.Places.{AreCatalogueSound}
 use Rattle.history.specs.Presence.{entries_present}
-use Rattle.table_trees.specs.Histories.{tree_of, path_of}
-use Rattle.table_trees.specs.declared.path_part.PathPart.{PathPart}
-use Rattle.table_trees.specs.Siblings.{AreSiblings}
-use Rattle.table_trees.specs.Trees.{TableTree, routed}
+use Rattle.row_router.specs.Histories.{tree_of, path_of}
+use Rattle.row_router.specs.declared.path_part.PathPart.{PathPart}
+use Rattle.row_router.specs.Siblings.{AreSiblings}
+use Rattle.row_router.specs.Trees.{TableTree, routed}
 use Rattle.row_router.specs.declared.path.PathTest.TheVariants.{Checks}
 use Rattle.row_router.specs.Paths.{refused, PartFits}
 use Rattle.row_change.specs.declared.target.Target.{Target}

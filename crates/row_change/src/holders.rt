@@ -1,14 +1,14 @@
 ghost use Rattle.std.specs.Prelude.{◌≡◌, IfOk, OnOk};
 ghost use Rattle.std.specs.Option.{option_or};
 ghost use Rattle.pg_values.specs.declared.ids.LeafId.{LeafId};
-ghost use Rattle.table_trees.specs.Seen.{seen};
+ghost use Rattle.row_router.specs.Seen.{seen};
 ghost use Rattle.row_change.specs.Places.{noted, AreHolders};
 ghost use Rattle.row_change.specs.Targets.{holder_in};
 
 use crate::by_leaf::ByLeaf;
 use pg_values::{NoMemory, TableNo};
+use row_router::{Shape, Tree};
 use std::alloc::Global;
-use table_trees::{Shape, Tree};
 
 // Notes the tables of the tree by their leaves, each leaf's first one.
 #[tactic(auto, using(crate::proofs::TablesByLeaf::own_holder, crate::proofs::TablesByLeaf::holder_step))]

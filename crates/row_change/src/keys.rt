@@ -3,15 +3,15 @@
 ghost use Rattle.std.specs.Prelude.{◌≡◌, IfOk, map, slice_index_or};
 ghost use Rattle.pg_values.specs.declared.value.Value.TheVariants.{Null};
 ghost use Rattle.bound_forms.specs.Points.{picked};
-ghost use Rattle.table_trees.specs.Trees.{key_of};
+ghost use Rattle.row_router.specs.Trees.{key_of};
 ghost use Rattle.row_change.specs.Placing as placing;
 
 use crate::full_rows::add_value;
 use bound_forms::{KeyColumn, Level};
 use history::TableShape;
 use pg_values::{NoMemory, Row, Value, copy_value};
+use row_router::Place;
 use std::alloc::Global;
-use table_trees::Place;
 
 fn value_at(alloc: Global, row: &[Value], place: usize) -> Result<Value, NoMemory>
     ensures { IfOk result (λ v. v ≡ slice_index_or row.now place Null) }

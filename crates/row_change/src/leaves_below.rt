@@ -4,9 +4,9 @@ ghost use Rattle.std.specs.Prelude.{◌≡◌, ◌<◌, Some, All, IfOk, OnOk, l
 ghost use Rattle.pg_values.specs.declared.ids.LeafId.{LeafId};
 ghost use Rattle.history.specs.History.{History};
 ghost use Rattle.tx_table.specs.Stands.{TableStands};
-ghost use Rattle.table_trees.specs.Histories.{path_of};
-ghost use Rattle.table_trees.specs.Seen.{seen};
-ghost use Rattle.table_trees.specs.Trees.{TableTree};
+ghost use Rattle.row_router.specs.Histories.{path_of};
+ghost use Rattle.row_router.specs.Seen.{seen};
+ghost use Rattle.row_router.specs.Trees.{TableTree};
 ghost use Rattle.part_catalog.specs.Answers.{AreTogether};
 ghost use Rattle.part_catalog.specs.Stands.{CatalogueStands};
 ghost use Rattle.row_change.specs.Placing.{IsNumbered};
@@ -18,8 +18,8 @@ use crate::by_leaf::ByLeaf;
 use crate::holders::holders_of;
 use part_catalog::Catalog;
 use pg_values::{LeafId, NoMemory, TableNo};
+use row_router::{PathPart, Tree};
 use std::alloc::Global;
-use table_trees::{PathPart, Tree};
 use tx_table::TxTable;
 
 // The path of a table, as far as rows from above are asked of it: where no CHECK was ever kept, nothing of it is.

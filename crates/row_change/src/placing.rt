@@ -7,8 +7,8 @@ ghost use Rattle.refusals.specs.Refusals as refusals;
 ghost use Rattle.history.specs.Catalogue.{tables_made};
 ghost use Rattle.history.specs.History.{History, catalogue_events};
 ghost use Rattle.history.specs.Places.{table_at};
-ghost use Rattle.table_trees.specs.Seen.{seen};
-ghost use Rattle.table_trees.specs.Trees.{routed, Fits};
+ghost use Rattle.row_router.specs.Seen.{seen};
+ghost use Rattle.row_router.specs.Trees.{routed, Fits};
 ghost use Rattle.row_router.specs.Paths as paths;
 ghost use Rattle.row_router.specs.Paths.{PartFits};
 ghost use Rattle.row_router.specs.declared.path.PathTest.TheVariants.{Bounds};
@@ -24,11 +24,10 @@ use crate::way::push_way;
 use part_catalog::Catalog;
 use pg_values::{Fault, LeafId, NoMemory, Refusal, Row, Steps, TableNo};
 use refusals::{does_not_accept, no_partition};
-use row_router::{PathTest, fits_path};
+use row_router::{PathPart, PathTest, Tree, fits_path};
 use std::alloc::Global;
 use std::slice::from_ref;
 use std::sync::ledger::Ledger;
-use table_trees::{PathPart, Tree};
 
 // ---- the bounds above
 

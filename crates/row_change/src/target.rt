@@ -1,5 +1,5 @@
 use pg_values::{LeafId, TableNo};
-use table_trees::PathPart;
+use row_router::PathPart;
 
 /// A leaf that takes rows: its table, what of the path from the table upwards is asked of a row, and whether
 /// the statement names the table itself, so that the bounds of the path are asked too.

@@ -17,9 +17,8 @@ use history::Column;
 use part_catalog::Catalog;
 use pg_values::{Fault, NoMemory, Refusal, Row, TableNo, Value};
 use refusals::{kept_check, null_column};
-use row_router::{PathTest, fits_path};
+use row_router::{PathPart, PathTest, fits_path};
 use std::alloc::Global;
-use table_trees::PathPart;
 
 fn is_null(value: &Value) -> bool
     ensures { result ≡ points.is_null value.now }

@@ -1,16 +1,16 @@
 //! The tables on the way of a row, and to a leaf.
 
 ghost use Rattle.std.specs.Prelude.{◌≡◌, ◌≤◌, ◌-◌, ◌^◌, ◌++◌, true, false, Some, None, OnOk, IfOk, MatchOption};
-ghost use Rattle.table_trees.specs.Trees.{routed, Fits};
-ghost use Rattle.table_trees.specs.Seen.{seen};
+ghost use Rattle.row_router.specs.Trees.{routed, Fits};
+ghost use Rattle.row_router.specs.Seen.{seen};
 ghost use Rattle.row_router.specs.Costs.{way_outcomes};
 ghost use Rattle.row_change.specs.Ways.{way_below, way_to};
 
 use part_bounds::{find_child, stands_in_plain_order};
 use pg_values::{LeafId, NoMemory, Row, Steps, TableNo};
+use row_router::{LevelKey, NoPartition, Shape, Tree};
 use std::alloc::Global;
 use std::sync::ledger::Ledger;
-use table_trees::{LevelKey, NoPartition, Shape, Tree};
 
 /// The leaf of a row, or the table at which it is lost: each level on the way is searched by halves. The tables
 /// below the tree's own that the row comes to are put behind the list, each before those below it.

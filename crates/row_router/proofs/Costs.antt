@@ -5,12 +5,12 @@ use Rattle.std.proofs.lemmas.Nat.{pow-add}
 use Rattle.pg_values.specs.declared.value.Value.{Value}
 use Rattle.bound_forms.specs.declared.partition_bound.Bound.{Bound}
 use Rattle.bound_forms.specs.declared.level.Level.{Level}
-use Rattle.table_trees.specs.declared.tree.Tree.{Tree}
-use Rattle.table_trees.specs.declared.tree.Shape.{Level as ShapeLevel}
-use Rattle.table_trees.specs.declared.tree.TreeList.{TreeList}
-use Rattle.table_trees.specs.Trees.{TableTree, trees_of, child_of}
-use Rattle.table_trees.specs.Seen.{seen, items_of}
-use Rattle.table_trees.proofs.Seen.{seen_level}
+use Rattle.row_router.specs.declared.tree.Tree.{Tree}
+use Rattle.row_router.specs.declared.tree.Shape.{Level as ShapeLevel}
+use Rattle.row_router.specs.declared.tree.TreeList.{TreeList}
+use Rattle.row_router.specs.Trees.{TableTree, trees_of, child_of}
+use Rattle.row_router.specs.Seen.{seen, items_of}
+use Rattle.row_router.proofs.Seen.{seen_level}
 use Rattle.row_router.specs.Costs.{outcomes, way_outcomes, outcomes_in}
 
 at_child : {T : Type 0} (f : T → TableTree) (row : List Value) (i : ℕ) (ks : List T) (k : T) → i < length ks → k ≡ get_or ks i k → outcomes_in row (Some i) (trees_of (map f ks)) ≡ way_outcomes row (f k)

@@ -1,1 +1,10 @@
 pub mod Costs
+pub mod Defaults
+pub mod Keys
+pub mod Levels
+pub mod OneLeaf
+pub mod Order
+pub mod RowsFit
+pub mod Seen
+pub mod Sound
+pub mod Suited

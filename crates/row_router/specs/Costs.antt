@@ -3,7 +3,7 @@ use Rattle.std.specs.Prelude.{ℕ, ◌+◌, ◌*◌, zero, suc, List, Option, So
 use Rattle.pg_values.specs.declared.value.Value.{Value}
 use Rattle.bound_forms.specs.declared.partition_bound.Bound.{Bound}
 use Rattle.part_bounds.specs.Stored.{stored}
-use Rattle.table_trees.specs.Trees.{TableTree, LeafTable, LevelTable, Trees, End, More, child_of}
+use Rattle.row_router.specs.Trees.{TableTree, LeafTable, LevelTable, Trees, End, More, child_of}
 
 -- among so many outcomes a level decides: two for each stored point, and two
 abbrev pub outcomes : List Bound → ℕ

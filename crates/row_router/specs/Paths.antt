@@ -8,9 +8,9 @@ use Rattle.bound_forms.specs.declared.partition_bound.Bound.TheVariants.{Default
 use Rattle.bound_forms.specs.Bounds.{BoundOfKind}
 use Rattle.bound_forms.specs.Accepts.{accepts, accepts_among, FitsBound, FitsSet}
 use Rattle.history.specs.declared.catalogue.KeptCheck.{KeptCheck}
-use Rattle.table_trees.specs.declared.path_part.Place.{Place}
-use Rattle.table_trees.specs.declared.path_part.PathPart.{PathPart}
-use Rattle.table_trees.specs.Trees.{key_of}
+use Rattle.row_router.specs.declared.path_part.Place.{Place}
+use Rattle.row_router.specs.declared.path_part.PathPart.{PathPart}
+use Rattle.row_router.specs.Trees.{key_of}
 use Rattle.row_router.specs.declared.path.PathTest.{PathTest}
 use Rattle.row_router.specs.declared.path.PathTest.TheVariants.{Bounds, Checks}
 

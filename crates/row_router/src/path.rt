@@ -3,11 +3,11 @@ ghost use Rattle.std.specs.List.{list_any};
 ghost use Rattle.row_router.specs.Paths as paths;
 ghost use Rattle.row_router.specs.Paths.{check_refuses, place_refuses, refused, CheckFits, PartFits, PlaceFits};
 
+use crate::{LevelKey, PathPart, Place};
 use bound_forms::bound_accepts;
 use history::KeptCheck;
 use part_bounds::accepts;
 use pg_values::{Row, TableNo, ValueKey};
-use table_trees::{LevelKey, PathPart, Place};
 
 /// What of a path is tested.
 #[derive(Clone, Copy, Debug, PartialEq, Eq)]

@@ -1,12 +1,12 @@
 ghost use Rattle.std.specs.Prelude.{◌≡◌, ◌≤◌, ◌-◌, ◌^◌};
-ghost use Rattle.table_trees.specs.Trees.{routed, accepting, found_leaf, Fits};
-ghost use Rattle.table_trees.specs.Seen.{seen};
+ghost use Rattle.row_router.specs.Trees.{routed, accepting, found_leaf, Fits};
+ghost use Rattle.row_router.specs.Seen.{seen};
 ghost use Rattle.row_router.specs.Costs.{way_outcomes};
 
+use crate::{LevelKey, NoPartition, Shape, Tree};
 use part_bounds::{find_child, stands_in_plain_order};
 use pg_values::{LeafId, Row, Steps};
 use std::sync::ledger::Ledger;
-use table_trees::{LevelKey, NoPartition, Shape, Tree};
 
 /// The one leaf of the tree that accepts the row; or, where none does, the table at which the row
 /// found no partition. Each level on the way is searched by halves.

@@ -10,8 +10,8 @@ use Rattle.sessions.specs.Weight.{of_phase, of_statement, of_rest, of_block, poi
 use Rattle.sessions.proofs.Weights.{points_few, two_at_least}
 use Rattle.sessions.specs.declared.outcome.Outcome.{Outcome}
 use Rattle.sessions.specs.declared.outcome.Outcome.TheVariants as outcomes
-use Rattle.sessions.specs.declared.phase.Isolation.{Isolation}
-use Rattle.sessions.specs.declared.phase.Isolation.TheVariants.{ReadCommitted}
+use Rattle.pg_values.specs.declared.isolation.Isolation.{Isolation}
+use Rattle.pg_values.specs.declared.isolation.Isolation.TheVariants.{ReadCommitted}
 use Rattle.sessions.specs.declared.phase.Phase.{Phase}
 use Rattle.sessions.specs.declared.phase.Phase.TheVariants.{Idle, Implicit, Explicit, Failed}
 use Rattle.sessions.specs.declared.role.Role.{Role}

@@ -3,7 +3,7 @@ use Rattle.std.proofs.Common.{◌≡◌, ◌<◌, ◌≤◌, ◌+◌, ℕ, zero,
 use Rattle.std.proofs.lemmas.List.{get_or-map, length-map}
 use Rattle.std.proofs.Math.Seq.{map-set_same}
 use Rattle.pg_values.specs.declared.fault.Fault.{Fault}
-use Rattle.schedule.specs.declared.block.Kind.{Kind}
+use Rattle.schedule.specs.declared.block.BlockKind.{BlockKind}
 use Rattle.schedule.specs.declared.database.Progress.{Progress}
 use Rattle.schedule.specs.declared.database.Progress.TheVariants as progress
 use Rattle.run_ends.specs.Ranks as ranks
@@ -55,7 +55,7 @@ pub new_opened : (T : Type 0) (n : ℕ) → transactions (replicate n (new_sessi
 new_opened T zero = refl
 new_opened T (suc n) = ap (λ l. false ∷ l) (new_opened T n)
 
-block_phase : {T : Type 0} (x : SessionView T) (k : Kind) (r : Result (List T) Fault) → has_open (with_block x k r).phase ≡ has_open x.phase
+block_phase : {T : Type 0} (x : SessionView T) (k : BlockKind) (r : Result (List T) Fault) → has_open (with_block x k r).phase ≡ has_open x.phase
 block_phase x k (Ok ts) = refl
 block_phase x k (Err f) = refl
 

@@ -12,8 +12,8 @@ use Rattle.schedule.proofs.Comes.{comes}
 use Rattle.schedule.proofs.Tasks.{first_known, others_known}
 use Rattle.schedule.specs.declared.database.Progress.{Progress}
 use Rattle.schedule.specs.declared.database.Progress.TheVariants.{Goes, Waits, Ended}
-use Rattle.schedule.specs.declared.block.Kind.{Kind}
-use Rattle.schedule.specs.declared.block.Kind.TheVariants.{Setup, Step, Teardown, ControlTeardown}
+use Rattle.schedule.specs.declared.block.BlockKind.{BlockKind}
+use Rattle.schedule.specs.declared.block.BlockKind.TheVariants.{Setup, Step, Teardown, ControlTeardown}
 use Rattle.schedule.specs.declared.task.Task.{Task}
 use Rattle.schedule.specs.declared.task.Task.TheVariants.{Launch, Settle, RollBack}
 use Rattle.schedule.specs.declared.event.Event.{Event}
@@ -32,7 +32,7 @@ module _ {S : Type 0} (R : Rules S) (n : ℕ) (Q : S → Option ℕ → Type 0) 
   tells_kept : (w : World S) (s : ℕ) (seat : Seated) → Kept w → Kept (tells w s seat).world
   tells_kept w s seat h = record { known = h.known; later = h.later; seats = set_length w.seats s _ h.seats; property = h.property }
 
-  pauses_kept : (w : World S) (s : ℕ) (seat : Seated) (kind : Kind) → Q (R.cancelled w.db s) (Some s) → Kept w → Kept (pauses R w s seat kind).world
+  pauses_kept : (w : World S) (s : ℕ) (seat : Seated) (kind : BlockKind) → Q (R.cancelled w.db s) (Some s) → Kept w → Kept (pauses R w s seat kind).world
   pauses_kept w s seat Setup q h = record { known = h.known; later = h.later; seats = h.seats; property = q }
   pauses_kept w s seat Step q h = record { known = h.known; later = h.later; seats = set_length w.seats s _ h.seats; property = h.property }
   pauses_kept w s seat Teardown q h = record { known = h.known; later = h.later; seats = h.seats; property = q }
@@ -42,7 +42,7 @@ module _ {S : Type 0} (R : Rules S) (n : ℕ) (Q : S → Option ℕ → Type 0) 
   held_kept w s seat true h = record { known = h.known; later = h.later; seats = set_length w.seats s _ h.seats; property = h.property }
   held_kept w s seat false h = tells_kept w s seat h
 
-  ends_kept : (w : World S) (s : ℕ) (seat : Seated) (kind : Kind) → Kept w → Kept (ends R w s seat kind).world
+  ends_kept : (w : World S) (s : ℕ) (seat : Seated) (kind : BlockKind) → Kept w → Kept (ends R w s seat kind).world
   ends_kept w s seat Setup h = record { known = h.known; later = h.later; seats = h.seats; property = h.property }
   ends_kept w s seat Step h = held_kept w s seat (is_held_back w.seats w.last s seat) h
   ends_kept w s seat Teardown h = record { known = h.known; later = h.later; seats = h.seats; property = h.property }

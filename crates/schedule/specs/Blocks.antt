@@ -1,11 +1,11 @@
 -- Blocks of SQL as plain data, and what is noted of the block that a session runs.
 use Rattle.std.specs.Prelude.{ℕ, Bool, true, false, List, [], slice_index_or}
-use Rattle.schedule.specs.declared.block.Kind.{Kind}
-use Rattle.schedule.specs.declared.block.Kind.TheVariants.{Setup, Step, Teardown, ControlTeardown}
+use Rattle.schedule.specs.declared.block.BlockKind.{BlockKind}
+use Rattle.schedule.specs.declared.block.BlockKind.TheVariants.{Setup, Step, Teardown, ControlTeardown}
 
 -- a block at its place in a permutation
 pub record BlockView : Type 0 where
-  pub kind : Kind
+  pub kind : BlockKind
   pub session : ℕ  -- 0 is the control session
   pub step : ℕ  -- the number of a step
   pub name : List ℕ  -- that of a step, or of the session of a teardown
@@ -15,7 +15,7 @@ pub record BlockView : Type 0 where
 
 -- the block that a session runs, or ran last
 pub record Seated : Type 0 where
-  pub kind : Kind
+  pub kind : BlockKind
   pub step : ℕ
   pub name : List ℕ
   pub text : List ℕ
@@ -24,7 +24,7 @@ pub record Seated : Type 0 where
   pub waited : Bool  -- it was reported as waiting
   pub is_open : Bool  -- it is a step whose end was not reported
 
-abbrev pub is_step : Kind → Bool
+abbrev pub is_step : BlockKind → Bool
 is_step Setup = false
 is_step Step = true
 is_step Teardown = false

@@ -1,13 +1,13 @@
 -- A database as a pure machine: its states, and what each call makes of them.
 use Rattle.std.specs.Prelude.{ℕ, Bool, List, Option}
 use Rattle.pg_values.specs.declared.fault.Fault.{Fault}
-use Rattle.schedule.specs.declared.block.Kind.{Kind}
+use Rattle.schedule.specs.declared.block.BlockKind.{BlockKind}
 use Rattle.schedule.specs.declared.database.Progress.{Progress}
 use Rattle.schedule.specs.declared.tally.Tally.{Tally}
 
 pub record Rules (S : Type 0) : Type 0 where
   pub fresh : S → S  -- the same sessions, options and tally, and nothing else: no tables, default settings
-  pub begun : S → ℕ → Kind → List ℕ → S  -- the session begins a block of this kind and text
+  pub begun : S → ℕ → BlockKind → List ℕ → S  -- the session begins a block of this kind and text
   pub stepped : S → ℕ → S  -- it goes on by one small event
   pub progress : S → ℕ → Progress  -- what that event comes to
   pub interrupted : S → Option ℕ  -- the first whose wait was cancelled by another session's statement

@@ -7,8 +7,8 @@ use Rattle.schedule.specs.Blocks.{BlockView, Seated, is_step, no_seat, seat_at, 
 use Rattle.schedule.specs.Lines.{permutation_lines, waiting_line, end_lines, teardown_lines}
 use Rattle.schedule.specs.Lists.{first, is_in, any_of, without}
 use Rattle.schedule.specs.Rules.{Rules}
-use Rattle.schedule.specs.declared.block.Kind.{Kind}
-use Rattle.schedule.specs.declared.block.Kind.TheVariants.{Setup, Step, Teardown, ControlTeardown}
+use Rattle.schedule.specs.declared.block.BlockKind.{BlockKind}
+use Rattle.schedule.specs.declared.block.BlockKind.TheVariants.{Setup, Step, Teardown, ControlTeardown}
 use Rattle.schedule.specs.declared.database.Progress.{Progress}
 use Rattle.schedule.specs.declared.database.Progress.TheVariants.{Goes, Waits, Ended}
 use Rattle.schedule.specs.declared.event.Event.{Event}
@@ -104,7 +104,7 @@ abbrev pub cancels : {S : Type 0} → Rules S → World S → ℕ → Effect S
 cancels R w s = silent (record w { db = R.cancelled w.db s; turn = Some s })
 
 -- a statement would wait: in a setup or a teardown it is cancelled at once
-abbrev pub pauses : {S : Type 0} → Rules S → World S → ℕ → Seated → Kind → Effect S
+abbrev pub pauses : {S : Type 0} → Rules S → World S → ℕ → Seated → BlockKind → Effect S
 pauses R w s seat Setup = cancels R w s
 pauses R w s seat Step = waits w s seat
 pauses R w s seat Teardown = cancels R w s
@@ -120,7 +120,7 @@ teardown_end None = All
 teardown_end (Some fault) = TeardownFailed fault
 
 -- a block has ended: the failure of a session's teardown is printed, and the run goes on
-abbrev pub ends : {S : Type 0} → Rules S → World S → ℕ → Seated → Kind → Effect S
+abbrev pub ends : {S : Type 0} → Rules S → World S → ℕ → Seated → BlockKind → Effect S
 ends R w s seat Setup = record { world = record w { end = setup_end s (R.fault w.db s) }; report = Output s }
 ends R w s seat Step = if is_held_back w.seats w.last s seat then holds w s seat else tells w s seat
 ends R w s seat Teardown = record { world = w; report = TornDown s }

@@ -1,12 +1,12 @@
 ghost use Rattle.std.specs.Prelude.{◌≡◌, false, []};
-ghost use Rattle.schedule.specs.declared.block.Kind.TheVariants as kinds;
+ghost use Rattle.schedule.specs.declared.block.BlockKind.TheVariants as kinds;
 
 use std::alloc::Global;
 use std::marker::Model;
 
 /// What a block of SQL is in a script.
 #[derive(Clone, Copy, Debug, PartialEq, Eq)]
-pub enum Kind {
+pub enum BlockKind {
     /// A setup of the control session, or of another one.
     Setup,
     Step,
@@ -19,7 +19,7 @@ pub enum Kind {
 /// A block of SQL at its place in a permutation.
 #[derive(Debug, Drop)]
 pub struct Block<'s> {
-    kind: Kind,
+    kind: BlockKind,
     session: usize,
     step: usize,
     name: &'s [u8],
@@ -50,7 +50,7 @@ impl<'s> Block<'s> {
         ensures { result ≡ record { kind = kinds.Step; session = session; step = step; name = name.now; text = text.now; starred = starred; behind = behind.items } }
     {
         Block {
-            kind: Kind::Step,
+            kind: BlockKind::Step,
             session,
             step,
             name,
@@ -61,7 +61,13 @@ impl<'s> Block<'s> {
     }
 
     /// A setup or a teardown of the session that is called so; 0 is the control session.
-    pub fn plain(alloc: Global, kind: Kind, session: usize, name: &'s [u8], text: &'s [u8]) -> Self
+    pub fn plain(
+        alloc: Global,
+        kind: BlockKind,
+        session: usize,
+        name: &'s [u8],
+        text: &'s [u8],
+    ) -> Self
         ensures { result ≡ record { kind = kind; session = session; step = 0; name = name.now; text = text.now; starred = false; behind = [] } }
     {
         Block {
@@ -75,7 +81,7 @@ impl<'s> Block<'s> {
         }
     }
 
-    pub fn kind(&self) -> Kind
+    pub fn kind(&self) -> BlockKind
         ensures { result ≡ self.now.kind }
     {
         self.kind

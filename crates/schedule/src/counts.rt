@@ -7,7 +7,7 @@ ghost use Rattle.schedule.specs.Stands.{Stands, IsOf, Leaves, MayCome};
 ghost use Rattle.schedule.specs.Tasks.{AreKnown};
 ghost use Rattle.schedule.specs.Weight.{Falls};
 
-use crate::block::Kind;
+use crate::block::BlockKind;
 use crate::database::Database;
 use crate::engine::Engine;
 use crate::event::{Event, Report};
@@ -39,7 +39,7 @@ fn is_step_next(tasks: &[Task<'_>]) -> bool
     ensures { result ≡ is_step_next tasks.now }
 {
     match tasks.first() {
-        Some(Task::Launch { block }) => matches!(block.kind(), Kind::Step),
+        Some(Task::Launch { block }) => matches!(block.kind(), BlockKind::Step),
         _ => false,
     }
 }

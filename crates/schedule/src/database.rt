@@ -1,7 +1,7 @@
 ghost use Rattle.std.specs.Prelude.{◌≡◌, ◌<◌, ◌≤◌, ◌+◌, ◌++◌, ℕ, Bool, true, false, Ok, IfOk, OnOk, IfSome, option_copied};
 ghost use Rattle.schedule.specs.Rules.{Rules, Carries};
 
-use crate::block::Kind;
+use crate::block::BlockKind;
 use crate::tally::Tally;
 use pg_values::{Fault, NoMemory};
 use std::alloc::Global;
@@ -65,7 +65,7 @@ pub trait Database: Sized + Drop {
         &mut self,
         alloc: Global,
         session: usize,
-        kind: Kind,
+        kind: BlockKind,
         text: &[u8],
     ) -> Result<(), NoMemory>
         requires known { session < count self.old }

@@ -6,10 +6,10 @@ ghost use Rattle.schedule.specs.Stands.{Stands, Leaves, Reports, IsLaunch, IsOf}
 ghost use Rattle.schedule.specs.Tasks.{AreKnown};
 ghost use Rattle.schedule.specs.Weight.{Falls, Lowers, left, small, of_permutation};
 ghost use Rattle.std.specs.List.{sum_by};
-ghost use Rattle.schedule.specs.declared.block.Kind.{Kind};
+ghost use Rattle.schedule.specs.declared.block.BlockKind.{BlockKind};
 ghost use Rattle.schedule.specs.declared.event.Event.{Event};
 
-use crate::block::{Block, Kind};
+use crate::block::{Block, BlockKind};
 use crate::database::{Database, Progress};
 use crate::engine::Engine;
 use crate::event::Report;
@@ -124,8 +124,8 @@ impl<'e, 's, D: Database> Engine<'e, 's, D> {
         ensures small { small D.Database self.new ≤ small D.Database self.old + 1 }
     {
         match self.seats[s].kind() {
-            Kind::Step => self.wait(s),
-            Kind::Setup | Kind::Teardown | Kind::ControlTeardown => {
+            BlockKind::Step => self.wait(s),
+            BlockKind::Setup | BlockKind::Teardown | BlockKind::ControlTeardown => {
                 self.cancel(alloc, s);
                 Report::Nothing
             }
@@ -163,8 +163,8 @@ impl<'e, 's, D: Database> Engine<'e, 's, D> {
     fn end_step(&mut self, s: usize) -> Result<Report, NoMemory>
         requires known { s < self.old.sessions }
         requires idle { self.old.turn ≡ None }
-        ensures leaves { OnOk result (Leaves D.Database (λ w. ends D.rules w s (seat_at w.seats s) Kind.Step) self.old self.new) }
-        ensures report { IfOk result (Reports D.Database (λ w. ends D.rules w s (seat_at w.seats s) Kind.Step) self.old) }
+        ensures leaves { OnOk result (Leaves D.Database (λ w. ends D.rules w s (seat_at w.seats s) BlockKind.Step) self.old self.new) }
+        ensures report { IfOk result (Reports D.Database (λ w. ends D.rules w s (seat_at w.seats s) BlockKind.Step) self.old) }
         ensures of { IfOk result (IsOf self.new.sessions) }
         ensures left { OnOk result (left D.Database self.new ≡ left D.Database self.old) }
         ensures small { OnOk result (small D.Database self.new ≤ small D.Database self.old + 1) }
@@ -187,13 +187,13 @@ impl<'e, 's, D: Database> Engine<'e, 's, D> {
         ensures small { OnOk result (small D.Database self.new ≤ small D.Database self.old + 1) }
     {
         match self.seats[s].kind() {
-            Kind::Setup => {
+            BlockKind::Setup => {
                 self.end = self.setup_end(alloc, s)?;
                 Ok(Report::Output { session: s })
             }
-            Kind::Step => self.end_step(s),
-            Kind::Teardown => Ok(Report::TornDown { session: s }),
-            Kind::ControlTeardown => {
+            BlockKind::Step => self.end_step(s),
+            BlockKind::Teardown => Ok(Report::TornDown { session: s }),
+            BlockKind::ControlTeardown => {
                 self.end = self.teardown_end(alloc, s)?;
                 Ok(Report::Output { session: s })
             }

@@ -34,7 +34,7 @@ mod task;
 mod whole;
 mod write;
 
-pub use block::{Block, Kind};
+pub use block::{Block, BlockKind};
 pub use counts::{Counted, Counts, count};
 pub use database::{Database, Progress};
 pub use event::{Event, Report};

@@ -2,7 +2,7 @@ ghost use Rattle.std.specs.Prelude.{◌≡◌, ◌++◌, [], codes, IfOk, OnOk, 
 ghost use Rattle.std.specs.List.{flat_map};
 ghost use Rattle.schedule.specs.Lines as lines;
 
-use crate::block::Kind;
+use crate::block::BlockKind;
 use crate::database::Database;
 use crate::seat::Seat;
 use crate::task::Task;
@@ -25,7 +25,7 @@ fn write_step_name(task: &Task<'_>, out: &mut Vec<u8>) -> Result<(), NoMemory>
     ensures { OnOk result (out.new.items ≡ out.old.items ++ lines.name_of_step task.now) }
 {
     if let Task::Launch { block } = task {
-        if block.kind() == Kind::Step {
+        if block.kind() == BlockKind::Step {
             out.extend_from_slice(b" ")?;
             out.extend_from_slice(block.name())?;
         }

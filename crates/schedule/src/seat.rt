@@ -1,23 +1,23 @@
 ghost use Rattle.std.specs.Prelude.{◌≡◌, ◌==◌, ◌&&◌, true, false};
 ghost use Rattle.schedule.specs.Blocks.{no_seat, seat_of, is_step};
 
-use crate::block::{Block, Kind};
+use crate::block::{Block, BlockKind};
 use std::marker::Model;
 
 /// Whether the block is that of a step.
-pub(crate) fn is_step(kind: Kind) -> bool
+pub(crate) fn is_step(kind: BlockKind) -> bool
     ensures { result ≡ is_step kind }
 {
     match kind {
-        Kind::Step => true,
-        Kind::Setup | Kind::Teardown | Kind::ControlTeardown => false,
+        BlockKind::Step => true,
+        BlockKind::Setup | BlockKind::Teardown | BlockKind::ControlTeardown => false,
     }
 }
 
 /// The block that a session runs, or ran last.
 #[derive(Drop)]
 pub struct Seat<'e> {
-    kind: Kind,
+    kind: BlockKind,
     step: usize,
     name: &'e [u8],
     text: &'e [u8],
@@ -41,7 +41,7 @@ impl<'e> Seat<'e> {
         ensures { result ≡ no_seat }
     {
         Seat {
-            kind: Kind::Setup,
+            kind: BlockKind::Setup,
             step: 0,
             name: &[],
             text: &[],
@@ -68,7 +68,7 @@ impl<'e> Seat<'e> {
         }
     }
 
-    pub fn kind(&self) -> Kind
+    pub fn kind(&self) -> BlockKind
         ensures { result ≡ self.now.kind }
     {
         self.kind

@@ -5,8 +5,8 @@ use Rattle.std.proofs.lemmas.List.Elements.{All-append, All-map}
 use Rattle.std.proofs.lemmas.List.Concat.{flat_map-cons}
 use Rattle.std.proofs.lemmas.List.FromFn.{length-range_with_len, get_or-range_with_len}
 use Rattle.schedule.specs.Tasks.{session_of, AreKnown}
-use Rattle.schedule.specs.declared.block.Kind.{Kind}
-use Rattle.schedule.specs.declared.block.Kind.TheVariants.{Setup, Teardown, ControlTeardown}
+use Rattle.schedule.specs.declared.block.BlockKind.{BlockKind}
+use Rattle.schedule.specs.declared.block.BlockKind.TheVariants.{Setup, Teardown, ControlTeardown}
 use Rattle.schedule.specs.declared.task.Task.{Task}
 use Rattle.schedule.specs.declared.task.Task.TheVariants.{Settle, RollBack}
 use Rattle.spec_reader.specs.declared.spec.SessionSpec.{SessionSpec}
@@ -37,7 +37,7 @@ module _ (n : ℕ) where
   abbrev IsOf : StepView → Type 0
   IsOf s = s.session < n
 
-  plain_if_known : (kind : Kind) (session : ℕ) (name : List ℕ) (text : Option (List ℕ)) → session < n → AreKnown n (plain_if kind session name text)
+  plain_if_known : (kind : BlockKind) (session : ℕ) (name : List ℕ) (text : Option (List ℕ)) → session < n → AreKnown n (plain_if kind session name text)
   plain_if_known kind session name None lt = none Known
   plain_if_known kind session name (Some text) lt = one Known (plain kind session name text) lt
 

@@ -3,8 +3,8 @@
 -- teardown.
 use Rattle.std.specs.Prelude.{ℕ, ◌+◌, Bool, true, false, List, [], ◌∷◌, ◌++◌, Option, Some, None, length, map, codes}
 use Rattle.std.specs.List.{flat_map, list_any, range_with_len}
-use Rattle.schedule.specs.declared.block.Kind.{Kind}
-use Rattle.schedule.specs.declared.block.Kind.TheVariants.{Setup, Step, Teardown, ControlTeardown}
+use Rattle.schedule.specs.declared.block.BlockKind.{BlockKind}
+use Rattle.schedule.specs.declared.block.BlockKind.TheVariants.{Setup, Step, Teardown, ControlTeardown}
 use Rattle.schedule.specs.declared.task.Task.{Task}
 use Rattle.schedule.specs.declared.task.Task.TheVariants.{Launch, Settle, RollBack}
 use Rattle.spec_reader.specs.declared.spec.Marker.{Marker}
@@ -15,10 +15,10 @@ use Rattle.spec_reader.specs.declared.spec.StepUse.{StepUse}
 use Rattle.script_program.specs.Steps.{StepView, numbered, steps_of, number_of, step_at}
 
 -- a block that is no step, where there is one
-abbrev pub plain : Kind → ℕ → List ℕ → List ℕ → Task
+abbrev pub plain : BlockKind → ℕ → List ℕ → List ℕ → Task
 plain kind session name text = Launch (record { kind = kind; session = session; step = 0; name = name; text = text; starred = false; behind = [] })
 
-abbrev pub plain_if : Kind → ℕ → List ℕ → Option (List ℕ) → List Task
+abbrev pub plain_if : BlockKind → ℕ → List ℕ → Option (List ℕ) → List Task
 plain_if kind session name None = []
 plain_if kind session name (Some text) = plain kind session name text ∷ []
 

@@ -8,7 +8,7 @@ use crate::tasks::{
     push_control_setups, push_plain_if, push_rollbacks, push_setups, push_teardowns, push_uses,
 };
 use pg_values::NoMemory;
-use schedule::{Kind, Permutation, Task};
+use schedule::{BlockKind, Permutation, Task};
 use spec_reader::{Spec, StepUse};
 use std::alloc::Global;
 
@@ -36,7 +36,7 @@ fn push_behind<'s>(
     push_rollbacks(sessions.len() + 1, out)?;
     push_plain_if(
         alloc,
-        Kind::ControlTeardown,
+        BlockKind::ControlTeardown,
         0,
         b"control",
         &script.teardown,

@@ -1,19 +1,19 @@
 ghost use Rattle.std.specs.Prelude.{◌≡◌, ◌++◌, [], ◌∷◌, map, length, codes, OnOk, IfOk, option_copied};
 ghost use Rattle.std.specs.List.{flat_map, list_any, range_with_len};
 ghost use Rattle.schedule.specs.declared.task.Task.TheVariants.{RollBack};
-ghost use Rattle.schedule.specs.declared.block.Kind.{Kind};
+ghost use Rattle.schedule.specs.declared.block.BlockKind.{BlockKind};
 ghost use Rattle.script_program.specs.Steps.{numbered};
 ghost use Rattle.script_program.specs.Tasks as spec;
 
 use crate::step::{Step, number_of};
 use pg_values::{NoMemory, PgText};
-use schedule::{Block, Kind, Permutation, Task};
+use schedule::{Block, BlockKind, Permutation, Task};
 use spec_reader::{Marker, SessionSpec, StepUse};
 use std::alloc::Global;
 
 fn push_plain<'s>(
     alloc: Global,
-    kind: Kind,
+    kind: BlockKind,
     session: usize,
     name: &'s [u8],
     text: &'s PgText,
@@ -29,7 +29,7 @@ fn push_plain<'s>(
 // A block that is no step, where there is one.
 pub(crate) fn push_plain_if<'s>(
     alloc: Global,
-    kind: Kind,
+    kind: BlockKind,
     session: usize,
     name: &'s [u8],
     text: &'s Option<PgText>,
@@ -49,10 +49,10 @@ pub(crate) fn push_control_setups<'s>(
     setups: &'s [PgText],
     out: &mut Permutation<'s>,
 ) -> Result<(), NoMemory>
-    ensures { OnOk result (out.new ≡ out.old ++ map (spec.plain Kind.Setup 0 (codes "control")) setups.now) }
+    ensures { OnOk result (out.new ≡ out.old ++ map (spec.plain BlockKind.Setup 0 (codes "control")) setups.now) }
 {
     for text in setups {
-        push_plain(alloc, Kind::Setup, 0, b"control", text, out)?;
+        push_plain(alloc, BlockKind::Setup, 0, b"control", text, out)?;
     }
     Ok(())
 }
@@ -69,7 +69,7 @@ pub(crate) fn push_setups<'s>(
         let session = &sessions[i];
         push_plain_if(
             alloc,
-            Kind::Setup,
+            BlockKind::Setup,
             i + 1,
             session.name.as_bytes(),
             &session.setup,
@@ -91,7 +91,7 @@ pub(crate) fn push_teardowns<'s>(
         let session = &sessions[i];
         push_plain_if(
             alloc,
-            Kind::Teardown,
+            BlockKind::Teardown,
             i + 1,
             session.name.as_bytes(),
             &session.teardown,

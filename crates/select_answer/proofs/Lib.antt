@@ -7,5 +7,4 @@ pub mod Marks
 pub mod Plain
 pub mod Pruned
 pub mod ReadLeaves
-pub mod Stable
 pub mod Total

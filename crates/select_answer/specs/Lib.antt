@@ -3,5 +3,4 @@ pub mod Course
 pub mod Keys
 pub mod Laws
 pub mod Rows
-pub mod Sorted
 pub mod Tuples

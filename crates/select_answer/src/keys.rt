@@ -2,7 +2,7 @@ ghost use Rattle.std.specs.Prelude.{◌≡◌, ℕ, ◌+◌, OnOk, OnErr, slice_
 ghost use Rattle.pg_values.specs.declared.value.Value.TheVariants.{Null};
 ghost use Rattle.cond_logic.specs.Truths as truths;
 ghost use Rattle.select_answer.specs.Keys.{null_rank, directed, value_order, keys_order, row_less};
-ghost use Rattle.select_answer.specs.Sorted.{sorted};
+ghost use Rattle.part_bounds.specs.Sorted.{sorted};
 
 use crate::KeyedRow;
 use cond_logic::SortKey;

@@ -9,8 +9,8 @@ use Rattle.history.specs.declared.catalogue.Entry.{Entry}
 use Rattle.history.specs.Catalogue.{CatalogueEvents, tables_made, entries_added}
 use Rattle.history.specs.History.{tx_events, catalogue_events}
 use Rattle.history.specs.Presence.{counts, is_shown, entries_shown}
-use Rattle.table_trees.specs.Trees.{TableTree, LeafTable, LevelTable, Trees, End, More, leaves, all_leaves}
-use Rattle.table_trees.specs.Histories.{tree_of, tree_within}
+use Rattle.row_router.specs.Trees.{TableTree, LeafTable, LevelTable, Trees, End, More, leaves, all_leaves}
+use Rattle.row_router.specs.Histories.{tree_of, tree_within}
 use Rattle.soundness.specs.Worlds.{World, IsMade, Present, Under}
 use Rattle.soundness.proofs.All.{legal_keeps_all}
 use Rattle.soundness.proofs.Counted.{AreTwo}

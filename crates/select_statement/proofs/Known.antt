@@ -12,7 +12,7 @@ use Rattle.history.specs.Catalogue.{tables_made}
 use Rattle.history.specs.History.{History, tx_events, catalogue_events}
 use Rattle.history.specs.Presence.{is_own, counts, entries_shown}
 use Rattle.tx_table.specs.Kept.{KeptSnapshot}
-use Rattle.table_trees.specs.Histories.{tree_of, table_of}
+use Rattle.row_router.specs.Histories.{tree_of, table_of}
 use Rattle.soundness.specs.Worlds.{IsMade, IsThere, Present, table_in}
 use Rattle.soundness.specs.Parts.{IsKnown}
 use Rattle.soundness.proofs.All.{legal_keeps_all}

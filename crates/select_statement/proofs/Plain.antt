@@ -12,8 +12,8 @@ use Rattle.history.specs.Locks.{LockEvent}
 use Rattle.history.specs.History.{History, TxChange, SnapshotChange, RowChange, CatalogueChange, LockChange, catalogue_events, lock_events}
 use Rattle.history.specs.declared.wait.Wanted.TheVariants.{Lock}
 use Rattle.row_store.specs.declared.TheConstants.{SCAN_LIMIT}
-use Rattle.table_trees.specs.Histories.{tree_of}
-use Rattle.table_trees.specs.Trees.{TableTree, LeafTable, LevelTable, Trees, End, More, leaves, all_leaves}
+use Rattle.row_router.specs.Histories.{tree_of}
+use Rattle.row_router.specs.Trees.{TableTree, LeafTable, LevelTable, Trees, End, More, leaves, all_leaves}
 use Rattle.soundness.specs.Worlds.{IsMade}
 use Rattle.cond_logic.specs.Tables.{Leaf}
 use Rattle.cond_logic.specs.Trees.{CondTree}

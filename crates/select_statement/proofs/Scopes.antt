@@ -1,6 +1,6 @@
 -- The items of FROM, one after the other.
 use Rattle.std.proofs.Common.{◌≡◌, ℕ, suc, ◌+◌, ◌<◌, arith, List, [], ◌∷◌, ◌++◌, length, get_or, drop, map, sym, ap, ◌∙◌, append_assoc, add-one, drop-cons}
-use Rattle.table_trees.specs.Trees.{TableTree}
+use Rattle.row_router.specs.Trees.{TableTree}
 use Rattle.expression_binder.specs.Scopes.{Item}
 use Rattle.sql_ast.specs.Queries.{Joined}
 use Rattle.sql_binder.specs.From.{item_name}

@@ -9,10 +9,10 @@ use Rattle.history.specs.declared.catalogue.TableShape.{TableShape}
 use Rattle.history.specs.declared.catalogue.TableShape.TheVariants.{Leaf, Level}
 use Rattle.history.specs.Catalogue.{CatalogueEvents, tables_made}
 use Rattle.history.specs.Places.{table_at}
-use Rattle.table_trees.specs.declared.node.Node.{Node}
-use Rattle.table_trees.specs.Trees.{TableTree, trees_of, leaves, all_leaves}
-use Rattle.table_trees.specs.Histories.{table_of, node_at, grown, tree_within, children, bound_of, child_of_entry}
-use Rattle.table_trees.proofs.Order.{all_children}
+use Rattle.row_router.specs.declared.node.Node.{Node}
+use Rattle.row_router.specs.Trees.{TableTree, trees_of, leaves, all_leaves}
+use Rattle.row_router.specs.Histories.{table_of, node_at, grown, tree_within, children, bound_of, child_of_entry}
+use Rattle.row_router.proofs.Order.{all_children}
 use Rattle.soundness.specs.Worlds.{IsMade, HasLeaf}
 use Rattle.soundness.proofs.Presence.{all_more}
 use Rattle.legal_statements.specs.Below.{tables_in, all_tables}

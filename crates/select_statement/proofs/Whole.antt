@@ -14,8 +14,8 @@ use Rattle.history.specs.Snapshots.{TakenSnapshot}
 use Rattle.history.specs.History.{History, tx_events}
 use Rattle.tx_table.specs.Kept.{KeptSnapshot}
 use Rattle.tx_table.specs.Stands.{SnapshotStands}
-use Rattle.table_trees.specs.Trees.{TableTree}
-use Rattle.table_trees.specs.Histories.{tree_of}
+use Rattle.row_router.specs.Trees.{TableTree}
+use Rattle.row_router.specs.Histories.{tree_of}
 use Rattle.cond_logic.specs.Trees.{CondTree}
 use Rattle.plan_tree.specs.Kept.{kept_tables}
 use Rattle.plan_tree.specs.Laws.{TreesCanBePruned}

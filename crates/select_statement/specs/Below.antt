@@ -1,7 +1,7 @@
 -- The tables under a table (the manual, 5.11.2 Declarative Partitioning).
 use Rattle.std.specs.Prelude.{ℕ, List, [], map}
 use Rattle.pg_values.specs.declared.ids.TableNo.{TableNo}
-use Rattle.table_trees.specs.Trees.{TableTree, LeafTable, LevelTable}
+use Rattle.row_router.specs.Trees.{TableTree, LeafTable, LevelTable}
 use Rattle.legal_statements.specs.Below.{all_tables}
 
 -- in plain order, each before those below it

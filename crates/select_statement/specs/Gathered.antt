@@ -2,8 +2,8 @@
 -- the plan reads is locked. An EXPLAIN of the SELECT does the same.
 use Rattle.std.specs.Prelude.{ℕ, Bool, List, [], map}
 use Rattle.history.specs.History.{History}
-use Rattle.table_trees.specs.Seen.{seen}
-use Rattle.table_trees.specs.Trees.{TableTree}
+use Rattle.row_router.specs.Seen.{seen}
+use Rattle.row_router.specs.Trees.{TableTree}
 use Rattle.sql_ast.specs.Queries.{SelectTree}
 use Rattle.sql_binder.specs.Selects.{from_of}
 use Rattle.cond_logic.specs.Asked.{SelectMeant, select_meant}

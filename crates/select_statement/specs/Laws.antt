@@ -7,8 +7,8 @@ use Rattle.history.specs.Snapshots.{TakenSnapshot}
 use Rattle.history.specs.History.{History, catalogue_events}
 use Rattle.history.specs.Legal.{IsLegal}
 use Rattle.row_store.specs.declared.TheConstants.{SCAN_LIMIT}
-use Rattle.table_trees.specs.Histories.{tree_of}
-use Rattle.table_trees.specs.Trees.{leaves}
+use Rattle.row_router.specs.Histories.{tree_of}
+use Rattle.row_router.specs.Trees.{leaves}
 use Rattle.soundness.specs.Worlds.{IsMade}
 use Rattle.soundness.specs.Legal.{ArePermitted}
 use Rattle.soundness.specs.Laws.{IsLooking}

@@ -5,7 +5,7 @@ use Rattle.history.specs.Transactions.{IsPast}
 use Rattle.history.specs.History.{History, tx_events}
 use Rattle.tx_table.specs.Kept.{KeptSnapshot}
 use Rattle.tx_table.specs.Stands.{TableStands, SnapshotStands}
-use Rattle.table_trees.specs.Trees.{TableTree, leaves}
+use Rattle.row_router.specs.Trees.{TableTree, leaves}
 use Rattle.cond_logic.specs.Tables.{Leaf}
 use Rattle.plan_tree.specs.Kept.{id_of}
 use Rattle.plan_tree.specs.Prunable.{CanPrune}

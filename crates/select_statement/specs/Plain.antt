@@ -3,7 +3,7 @@
 use Rattle.std.specs.Prelude.{ℕ, ◌-◌, Bool, List}
 use Rattle.pg_values.specs.declared.answer.Answer.{Answer}
 use Rattle.history.specs.History.{History}
-use Rattle.table_trees.specs.Trees.{TableTree}
+use Rattle.row_router.specs.Trees.{TableTree}
 use Rattle.plan_tree.specs.Laws.{shown}
 use Rattle.sql_ast.specs.Queries.{SelectTree}
 use Rattle.sql_binder.specs.Selects.{from_of}

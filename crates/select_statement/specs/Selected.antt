@@ -7,8 +7,8 @@ use Rattle.pg_values.specs.declared.ids.TableNo.{TableNo}
 use Rattle.pg_values.specs.declared.lock_mode.LockMode.TheVariants.{AccessShare}
 use Rattle.refusals.specs.Refusals.{statement_cancelled}
 use Rattle.history.specs.History.{History}
-use Rattle.table_trees.specs.Trees.{TableTree}
-use Rattle.table_trees.specs.Histories.{tree_of}
+use Rattle.row_router.specs.Trees.{TableTree}
+use Rattle.row_router.specs.Histories.{tree_of}
 use Rattle.plan_tree.specs.Laws.{shown}
 use Rattle.sql_ast.specs.Queries.{Joined, SelectTree}
 use Rattle.expression_binder.specs.Scopes.{Item}

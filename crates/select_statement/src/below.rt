@@ -1,11 +1,11 @@
 ghost use Rattle.std.specs.Prelude.{◌≡◌, ◌++◌, IfOk, OnOk};
-ghost use Rattle.table_trees.specs.Seen.{seen};
+ghost use Rattle.row_router.specs.Seen.{seen};
 ghost use Rattle.legal_statements.specs.Below.{tables_in};
 ghost use Rattle.select_statement.specs.Below.{below};
 
 use pg_values::{NoMemory, TableNo};
+use row_router::{Shape, Tree};
 use std::alloc::Global;
-use table_trees::{Shape, Tree};
 
 // Puts the tables of a tree behind the list, each before those below it.
 fn push_tables(tree: &Tree, out: &mut Vec<TableNo>) -> Result<(), NoMemory>

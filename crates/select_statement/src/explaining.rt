@@ -1,7 +1,7 @@
 //! EXPLAIN of a SELECT.
 
 ghost use Rattle.std.specs.Prelude.{◌≡◌, ◌+◌, ◌≤◌, IfErr, IfOk, length, map};
-ghost use Rattle.table_trees.specs.Seen.{seen};
+ghost use Rattle.row_router.specs.Seen.{seen};
 ghost use Rattle.sql_ast.specs.Queries.{joined_tree, select_tree};
 ghost use Rattle.sql_binder.specs.Selects.{from_of};
 ghost use Rattle.cond_logic.specs.Asked.{select_meant};
@@ -21,12 +21,12 @@ use history::Column;
 use pg_values::{Answer, NameList, NoMemory, PgText};
 use plan_text::{NamedItem, write_plan};
 use plan_tree::Plan;
+use row_router::Tree;
 use select_answer::one_item_is_read_once;
 use sql_ast::{FromItem, Select};
 use statement_steps::{Caller, SessionNames, Stop, hold_if_repeatable};
 use std::alloc::Global;
 use stores::Stores;
-use table_trees::Tree;
 
 /// A SELECT of tables reads by the plan that its EXPLAIN prints: both gather and plan alike.
 pub fn selects_run_their_plan()

@@ -1,5 +1,5 @@
 use cond_logic::SelectAsk;
-use table_trees::Tree;
+use row_router::Tree;
 use tx_table::Snapshot;
 
 /// What a SELECT stands for: what it asks for, the trees of its tables, and the snapshot of its command, under

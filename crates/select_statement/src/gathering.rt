@@ -2,7 +2,7 @@
 
 ghost use Rattle.std.specs.Prelude.{◌≡◌, ◌≤◌, All, IfErr, IfOk, length, map};
 ghost use Rattle.history.specs.History.{History};
-ghost use Rattle.table_trees.specs.Seen.{seen};
+ghost use Rattle.row_router.specs.Seen.{seen};
 ghost use Rattle.sql_ast.specs.Queries.{select_tree};
 ghost use Rattle.sql_binder.specs.Selects.{from_of};
 ghost use Rattle.cond_logic.specs.Asked.{select_meant};
@@ -26,11 +26,11 @@ use crate::tables::{lock_items, read_trees};
 use cond_logic::SelectAsk;
 use pg_values::{NoMemory, TableNo};
 use plan_tree::{Plan, make_plan};
+use row_router::Tree;
 use sql_ast::Select;
 use statement_steps::{Caller, SessionNames, Stop};
 use std::alloc::Global;
 use stores::Stores;
-use table_trees::Tree;
 use tx_table::Snapshot;
 
 // ---- what the statement stands for

@@ -1,16 +1,16 @@
 ghost use Rattle.std.specs.Prelude.{◌≡◌, ◌≤◌, IfOk, length, map};
 ghost use Rattle.sql_ast.specs.Queries.{joined_tree};
 ghost use Rattle.sql_binder.specs.From as from;
-ghost use Rattle.table_trees.specs.Seen.{seen};
+ghost use Rattle.row_router.specs.Seen.{seen};
 ghost use Rattle.select_statement.specs.Items as items;
 ghost use Rattle.select_statement.specs.Items.{column_named};
 
 use expression_binder::{ScopeColumn, ScopeItem};
 use history::Column;
 use pg_values::{NoMemory, PgText};
+use row_router::{Node, Tree};
 use sql_ast::FromItem;
 use std::alloc::Global;
-use table_trees::{Node, Tree};
 
 /// The name that an item of FROM goes by: an alias hides the table's name.
 pub(crate) fn item_name(item: &FromItem) -> &[u8]

@@ -2,8 +2,8 @@
 
 ghost use Rattle.std.specs.Prelude.{◌≡◌, ◌≤◌, ◌∷◌, [], All, IfOk, length, map};
 ghost use Rattle.history.specs.History.{History};
-ghost use Rattle.table_trees.specs.Histories.{tree_of};
-ghost use Rattle.table_trees.specs.Seen.{seen};
+ghost use Rattle.row_router.specs.Histories.{tree_of};
+ghost use Rattle.row_router.specs.Seen.{seen};
 ghost use Rattle.sql_ast.specs.Queries.{joined_tree};
 ghost use Rattle.stores.specs.Events.{look_of};
 ghost use Rattle.stores.specs.Stand.{Stands};
@@ -16,11 +16,11 @@ ghost use Rattle.select_statement.specs.Selected as selected;
 
 use pg_values::{LockMode, NoMemory, TableNo};
 use plan_tree::trees_can_be_pruned;
+use row_router::Tree;
 use sql_ast::FromItem;
 use statement_steps::{Caller, SessionNames, Stop, lock_named};
 use std::alloc::Global;
 use stores::{Stores, leaves_are_housed};
-use table_trees::Tree;
 use tx_table::Snapshot;
 
 /// The tables of the items are found and locked in text order.

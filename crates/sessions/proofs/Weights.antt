@@ -3,7 +3,7 @@ use Rattle.std.proofs.Common.{◌≡◌, ◌<◌, ◌≤◌, ◌+◌, ◌*◌, �
 use Rattle.std.proofs.Math.Nat.{mul-le-mul_right}
 use Rattle.sessions.specs.Sessions.{SessionView, kept, opened}
 use Rattle.sessions.specs.Weight.{of_statement, of_rest, of_block, points, most_points, points_with, weight_of}
-use Rattle.sessions.specs.declared.phase.Isolation.{Isolation}
+use Rattle.pg_values.specs.declared.isolation.Isolation.{Isolation}
 use Rattle.sessions.specs.declared.phase.Phase.{Phase}
 use Rattle.sessions.specs.declared.phase.Phase.TheVariants.{Idle, Implicit}
 

@@ -4,7 +4,7 @@ use Rattle.std.proofs.lemmas.List.{map-set, get_or-map, length-map}
 use Rattle.std.proofs.Math.Nat.{mul-le-mul_right}
 use Rattle.std.proofs.Math.Seq.{map-set_same}
 use Rattle.pg_values.specs.declared.fault.Fault.{Fault}
-use Rattle.schedule.specs.declared.block.Kind.{Kind}
+use Rattle.schedule.specs.declared.block.BlockKind.{BlockKind}
 use Rattle.sessions.specs.Commits.{AreAsBefore, OthersAreAsBefore}
 use Rattle.sessions.specs.Seen.{seen}
 use Rattle.sessions.specs.Sessions.{SessionView, State, Turn, has_open, new_session, session_at, with_block, with_session}
@@ -76,7 +76,7 @@ if_ok_on (Err e) A B f a = a
 
 -- ---- a block begins
 
-block_seen : {T U : Type 0} (tree : T → U) (x : SessionView T) (k : Kind) (ts : List T) → seen tree (with_block x k (Ok ts)) ≡ with_block (seen tree x) k (Ok (map tree ts))
+block_seen : {T U : Type 0} (tree : T → U) (x : SessionView T) (k : BlockKind) (ts : List T) → seen tree (with_block x k (Ok ts)) ≡ with_block (seen tree x) k (Ok (map tree ts))
 block_seen tree x k ts =
     ap (λ n. record {
       phase = x.phase;
@@ -106,13 +106,13 @@ changes stands tree e xs s x y v f lt is st made =
     })
 
 pub begins_block : {E S T U : Type 0} (stands : E → S → Type 0) (tree : T → U) (e : E) (xs : List (SessionView T)) (s : ℕ) (x y : SessionView T) (v : State S U)
-    (k : Kind) (ts : List T) (parsed : Result (List U) Fault) → s < length xs → x ≡ slice_index_or xs s x → y ≡ with_block x k (Ok ts) → parsed ≡ Ok (map tree ts)
+    (k : BlockKind) (ts : List T) (parsed : Result (List U) Fault) → s < length xs → x ≡ slice_index_or xs s x → y ≡ with_block x k (Ok ts) → parsed ≡ Ok (map tree ts)
     → Stands stands tree e xs v → Stands stands tree e (slice_set xs s y) (record v { sessions = slice_set v.sessions s (with_block (session_at v.sessions s) k parsed) })
 begins_block stands tree e xs s x y v k ts parsed lt is made read st =
     changes stands tree e xs s x y v (λ z. with_block z k parsed) lt is st (ap (seen tree) made ∙ block_seen tree x k ts ∙ ap (with_block (seen tree x) k) (sym read))
 
 pub begins_broken : {E S T U : Type 0} (stands : E → S → Type 0) (tree : T → U) (e : E) (xs : List (SessionView T)) (s : ℕ) (x y : SessionView T) (v : State S U)
-    (k : Kind) (f : Fault) (parsed : Result (List U) Fault) → s < length xs → x ≡ slice_index_or xs s x → y ≡ with_block x k (Err f) → parsed ≡ Err f
+    (k : BlockKind) (f : Fault) (parsed : Result (List U) Fault) → s < length xs → x ≡ slice_index_or xs s x → y ≡ with_block x k (Err f) → parsed ≡ Err f
     → Stands stands tree e xs v → Stands stands tree e (slice_set xs s y) (record v { sessions = slice_set v.sessions s (with_block (session_at v.sessions s) k parsed) })
 begins_broken stands tree e xs s x y v k f parsed lt is made read st =
     changes stands tree e xs s x y v (λ z. with_block z k parsed) lt is st (ap (seen tree) made ∙ ap (with_block (seen tree x) k) (sym read))
@@ -127,10 +127,10 @@ phase_points Implicit = omega arith
 phase_points Explicit = omega arith
 phase_points Failed = omega arith
 
-pub block_points : {T : Type 0} (x y : SessionView T) (k : Kind) (ts : List T) (n : ℕ) → y ≡ with_block x k (Ok ts) → length ts ≤ n → most_points y ≤ 3 * n + 3
+pub block_points : {T : Type 0} (x y : SessionView T) (k : BlockKind) (ts : List T) (n : ℕ) → y ≡ with_block x k (Ok ts) → length ts ≤ n → most_points y ≤ 3 * n + 3
 block_points x y k ts n e few = rw e (let h = phase_points x.phase in omega (arith, h, few))
 
-pub broken_points : {T : Type 0} (x y : SessionView T) (k : Kind) (f : Fault) (n : ℕ) → y ≡ with_block x k (Err f) → most_points y ≤ 3 * n + 3
+pub broken_points : {T : Type 0} (x y : SessionView T) (k : BlockKind) (f : Fault) (n : ℕ) → y ≡ with_block x k (Err f) → most_points y ≤ 3 * n + 3
 broken_points x y k f n e = rw e (let h = phase_points x.phase in omega (arith, h))
 
 -- ---- new sessions

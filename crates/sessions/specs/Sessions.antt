@@ -4,8 +4,8 @@ use Rattle.std.specs.Prelude.{ℕ, ◌+◌, ◌==◌, ◌||◌, ◌&&◌, not, B
 use Rattle.pg_values.specs.declared.fault.Fault.{Fault}
 use Rattle.refusals.specs.Refusals.{the_transaction_has_failed, isolation_level_after_a_snapshot}
 use Rattle.schedule.specs.Rules.{Rules}
-use Rattle.schedule.specs.declared.block.Kind.{Kind}
-use Rattle.schedule.specs.declared.block.Kind.TheVariants.{Setup}
+use Rattle.schedule.specs.declared.block.BlockKind.{BlockKind}
+use Rattle.schedule.specs.declared.block.BlockKind.TheVariants.{Setup}
 use Rattle.schedule.specs.declared.database.Progress.{Progress}
 use Rattle.schedule.specs.declared.database.Progress.TheVariants as progress
 use Rattle.sessions.specs.Course.{Course}
@@ -13,8 +13,8 @@ use Rattle.sessions.specs.declared.asker.Asker.{Asker}
 use Rattle.sessions.specs.declared.asker.Place.{Place}
 use Rattle.sessions.specs.declared.outcome.Outcome.{Outcome}
 use Rattle.sessions.specs.declared.outcome.Outcome.TheVariants.{Goes, Waits, Commits, Done, Refused}
-use Rattle.sessions.specs.declared.phase.Isolation.{Isolation}
-use Rattle.sessions.specs.declared.phase.Isolation.TheVariants.{ReadCommitted, ReadUncommitted, RepeatableRead}
+use Rattle.pg_values.specs.declared.isolation.Isolation.{Isolation}
+use Rattle.pg_values.specs.declared.isolation.Isolation.TheVariants.{ReadCommitted, ReadUncommitted, RepeatableRead}
 use Rattle.sessions.specs.declared.phase.Phase.{Phase}
 use Rattle.sessions.specs.declared.phase.Phase.TheVariants.{Idle, Implicit, Explicit, Failed}
 use Rattle.sessions.specs.declared.role.Role.{Role}
@@ -29,7 +29,7 @@ pub record SessionView (T : Type 0) : Type 0 where
   pub cmd : ℕ  -- so many statements of its transaction are done
   pub settings : Settings
   pub saved : Settings  -- the settings before its transaction
-  pub kind : Kind  -- what its block is in the script
+  pub kind : BlockKind  -- what its block is in the script
   pub alone : Bool  -- the block has one statement
   pub in_block : Bool
   pub rest : List T  -- what is left of the block
@@ -283,7 +283,7 @@ abbrev pub session_at : {T : Type 0} → List (SessionView T) → ℕ → Sessio
 session_at xs s = slice_index_or xs s new_session
 
 -- a block begins
-abbrev pub with_block : {T : Type 0} → SessionView T → Kind → Result (List T) Fault → SessionView T
+abbrev pub with_block : {T : Type 0} → SessionView T → BlockKind → Result (List T) Fault → SessionView T
 with_block x k (Ok ts) = record x { kind = k; alone = length ts == 1; in_block = true; rest = ts; broken = None; told = []; fault = None }
 with_block x k (Err f) = record x { kind = k; alone = false; in_block = true; rest = []; broken = Some f; told = []; fault = None }
 

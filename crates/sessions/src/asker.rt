@@ -1,5 +1,5 @@
-use crate::Isolation;
-use schedule::Kind;
+use pg_values::Isolation;
+use schedule::BlockKind;
 
 /// For whom a statement runs: the session, the level of its transaction, how many of the transaction's
 /// statements are done, and what its block is in the script.
@@ -8,7 +8,7 @@ pub struct Asker {
     pub session: usize,
     pub level: Isolation,
     pub cmd: u32,
-    pub kind: Kind,
+    pub kind: BlockKind,
 }
 
 /// Where a statement stands: in an explicit transaction, and alone in its block.

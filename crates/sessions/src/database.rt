@@ -7,7 +7,7 @@ use crate::transactions::roll_back;
 use crate::turns::turn;
 use crate::{Executor, Sessions};
 use pg_values::{Fault, NoMemory, Refusal};
-use schedule::{Database, Kind, Progress, Tally};
+use schedule::{BlockKind, Database, Progress, Tally};
 use std::alloc::Global;
 
 fn new_sessions<T: Drop>(alloc: Global, count: usize) -> Result<Vec<Session<T>>, NoMemory>
@@ -72,7 +72,7 @@ impl<E: Executor> Database for Sessions<E> {
         &mut self,
         alloc: Global,
         session: usize,
-        kind: Kind,
+        kind: BlockKind,
         text: &[u8],
     ) -> Result<(), NoMemory> {
         match E::parse(alloc, text) {

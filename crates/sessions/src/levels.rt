@@ -1,7 +1,7 @@
 ghost use Rattle.std.specs.Prelude.{◌≡◌};
 ghost use Rattle.sessions.specs.Sessions as spec;
 
-use crate::Isolation;
+use pg_values::Isolation;
 
 pub(crate) fn is_level(a: Isolation, b: Isolation) -> bool
     ensures { result ≡ spec.is_level a b }

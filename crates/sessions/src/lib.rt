@@ -28,7 +28,7 @@ mod turns;
 pub use asker::{Asker, Place};
 pub use executor::Executor;
 pub use outcome::Outcome;
-pub use phase::{Isolation, Phase};
+pub use phase::Phase;
 pub use role::Role;
 pub use sessions::Sessions;
 pub use settings::{PlanCacheMode, Settings};

@@ -10,11 +10,3 @@ pub enum Phase {
     /// A statement of its explicit transaction failed.
     Failed,
 }
-
-/// The isolation level of a transaction, as BEGIN names it.
-#[derive(Clone, Copy, Debug, PartialEq, Eq)]
-pub enum Isolation {
-    ReadCommitted,
-    ReadUncommitted,
-    RepeatableRead,
-}

@@ -1,4 +1,4 @@
-use crate::Isolation;
+use pg_values::Isolation;
 
 /// What a statement is in the course of a session.
 #[derive(Clone, Copy, Debug, PartialEq, Eq)]

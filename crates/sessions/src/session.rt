@@ -2,9 +2,9 @@ ghost use Rattle.std.specs.Prelude.{◌≡◌, [], true, None, Ok, Err, OnOk, On
 ghost use Rattle.sessions.specs.Sessions as spec;
 ghost use Rattle.sessions.specs.declared.phase.Phase.TheVariants as phases;
 
-use crate::{Asker, Isolation, Phase, Place, Settings};
-use pg_values::{Fault, NoMemory};
-use schedule::Kind;
+use crate::{Asker, Phase, Place, Settings};
+use pg_values::{Fault, Isolation, NoMemory};
+use schedule::BlockKind;
 use std::alloc::Global;
 use std::marker::Model;
 
@@ -17,7 +17,7 @@ pub(crate) struct Session<T> {
     pub(crate) cmd: u32,
     pub(crate) settings: Settings,
     pub(crate) saved: Settings,
-    pub(crate) kind: Kind,
+    pub(crate) kind: BlockKind,
     pub(crate) alone: bool,
     pub(crate) in_block: bool,
     pub(crate) rest: Vec<T>,
@@ -47,7 +47,7 @@ impl<T: Drop> Session<T> {
             cmd: 0,
             settings: Settings::defaults(),
             saved: Settings::defaults(),
-            kind: Kind::Setup,
+            kind: BlockKind::Setup,
             alone: false,
             in_block: false,
             rest: Vec::new(alloc),
@@ -88,7 +88,7 @@ impl<T: Drop> Session<T> {
     }
 
     /// A block begins.
-    pub(crate) fn take_block(&mut self, alloc: Global, kind: Kind, statements: Vec<T>)
+    pub(crate) fn take_block(&mut self, alloc: Global, kind: BlockKind, statements: Vec<T>)
         ensures { self.new ≡ spec.with_block self.old kind (Ok statements.items) }
     {
         self.alone = statements.len() == 1;
@@ -99,7 +99,7 @@ impl<T: Drop> Session<T> {
     }
 
     /// A block begins that is none of SQL.
-    pub(crate) fn take_broken(&mut self, alloc: Global, kind: Kind, fault: Fault)
+    pub(crate) fn take_broken(&mut self, alloc: Global, kind: BlockKind, fault: Fault)
         ensures { self.new ≡ spec.with_block self.old kind (Err fault) }
     {
         self.alone = false;
@@ -108,7 +108,7 @@ impl<T: Drop> Session<T> {
         self.begin_block(alloc, kind);
     }
 
-    fn begin_block(&mut self, alloc: Global, kind: Kind)
+    fn begin_block(&mut self, alloc: Global, kind: BlockKind)
         ensures { self.new ≡ record self.old { kind = kind; in_block = true; told = []; fault = None } }
     {
         self.kind = kind;

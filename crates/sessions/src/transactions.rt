@@ -12,8 +12,8 @@ ghost use Rattle.sessions.specs.declared.phase.Phase.TheVariants as phases;
 ghost use Rattle.sessions.specs.Weight.{most_points};
 
 use crate::session::Session;
-use crate::{Executor, Isolation, Phase};
-use pg_values::{Fault, NoMemory, Refusal};
+use crate::{Executor, Phase};
+use pg_values::{Fault, Isolation, NoMemory, Refusal};
 use schedule::Progress;
 use std::alloc::Global;
 

@@ -11,8 +11,8 @@ ghost use Rattle.sessions.specs.Weight.{most_points, points_in, points_with, wei
 use crate::levels::is_level;
 use crate::session::Session;
 use crate::transactions::{begin, begin_transaction, commit, fail, roll_back, set};
-use crate::{Executor, Isolation, Outcome, Phase, Role};
-use pg_values::{Fault, NoMemory};
+use crate::{Executor, Outcome, Phase, Role};
+use pg_values::{Fault, Isolation, NoMemory};
 use refusals::{isolation_level_after_a_snapshot, the_transaction_has_failed};
 use schedule::Progress;
 use std::alloc::Global;

@@ -6,7 +6,7 @@ use Rattle.history.specs.Catalogue.{EntryAdded, tables_made, IsEntry, IsMark}
 use Rattle.history.specs.Places.{Suits}
 use Rattle.bound_forms.specs.Accepts.{is_default}
 use Rattle.history.specs.Transactions.{IsRunning}
-use Rattle.table_trees.specs.Siblings.{CanStandTogether}
+use Rattle.row_router.specs.Siblings.{CanStandTogether}
 use Rattle.bound_forms.proofs.OverlapLaws.{overlaps_turned, siblings_turn}
 use Rattle.history.specs.History.{History, tx_events, catalogue_events}
 use Rattle.soundness.specs.Worlds.{World, IsWorld, table_in, Present, IsThere, IsPending, Under, view}

@@ -1,7 +1,7 @@
 -- A scan can be left out: a partition with a row leaves its place, a CHECK stays, and the table comes back at a wider bound.
 use Rattle.std.proofs.Common.{◌≡◌, ℕ, ◌+◌, ◌<◌, zero, suc, arith, List, [], ◌∷◌, inl, inr, refl, ap, sym, subst, length}
 use Rattle.std.proofs.lemmas.List.Elements.{All-cons, All-nil}
-use Rattle.bound_forms.specs.declared.level.Strategy.TheVariants.{Range as ByRange}
+use Rattle.pg_values.specs.declared.strategy.Strategy.TheVariants.{Range as ByRange}
 use Rattle.history.specs.declared.catalogue.Check.{Check}
 use Rattle.history.specs.declared.catalogue.Entry.{Entry}
 use Rattle.history.specs.declared.catalogue.Stamp.{Stamp}

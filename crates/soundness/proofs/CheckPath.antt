@@ -17,9 +17,9 @@ use Rattle.history.specs.History.{History, tx_events, row_events, catalogue_even
 use Rattle.history.specs.Presence.{counts, entries_present, checks_of, is_check_of}
 use Rattle.history.specs.Legal.{IsLegal}
 use Rattle.history.proofs.Open.{open_runs}
-use Rattle.table_trees.specs.declared.path_part.PathPart.{PathPart}
-use Rattle.table_trees.specs.Trees.{key_of}
-use Rattle.table_trees.specs.Histories.{path_of, part_of, upwards, above, parent_in, kept_of, is_over}
+use Rattle.row_router.specs.declared.path_part.PathPart.{PathPart}
+use Rattle.row_router.specs.Trees.{key_of}
+use Rattle.row_router.specs.Histories.{path_of, part_of, upwards, above, parent_in, kept_of, is_over}
 use Rattle.row_router.specs.declared.path.PathTest.TheVariants.{Checks}
 use Rattle.row_router.specs.Paths.{check_refuses, refuses, refused}
 use Rattle.bound_forms.specs.Accepts.{accepts}
@@ -107,7 +107,7 @@ walk h session row part legal siblings (suc n) (suc fuel) x y lt (e, p, child, r
     walk h session row part legal siblings n fuel e.parent.number y (omega (arith, lt)) rest (subst (λ o. refused Checks row (upwards fuel part up (parent_in o)) ≡ None) at later)
 
 pub path_passes_in : (h : History) (session x : ℕ) (row : List Value) → IsLegal h → InvariantOf h → refused Checks row (path_of h session x) ≡ None → PassAbove (catalogue_events h) (counts (tx_events h) session) x row
-unfolding Rattle.table_trees.specs.Histories.path_of
+unfolding Rattle.row_router.specs.Histories.path_of
 path_passes_in h session x row legal i none c n is low =
     let siblings = i.siblings (counts (tx_events h) session) (counts_world (tx_events h) session (sound_of h legal)) in
     let lt = few_steps (catalogue_events h) (counts (tx_events h) session) n c.table.number x siblings low in
@@ -156,7 +156,7 @@ climb h session row legal (suc fuel) x pass =
     rw here (climb_on h session row legal fuel x pass (above (entries_present h session) x) refl (climb h session row legal fuel))
 
 pub path_none : (h : History) (session x : ℕ) (row : List Value) → IsLegal h → PassAbove (catalogue_events h) (counts (tx_events h) session) x row → refused Checks row (path_of h session x) ≡ None
-unfolding Rattle.table_trees.specs.Histories.path_of
+unfolding Rattle.row_router.specs.Histories.path_of
 path_none h session x row legal pass = climb h session row legal 8 x pass
 
 all_versions : (rows : RowEvents) → All (IsVersion rows) (births rows)

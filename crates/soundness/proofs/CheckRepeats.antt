@@ -9,7 +9,7 @@ use Rattle.history.specs.declared.catalogue.Check.{Check}
 use Rattle.history.specs.Transactions.{TxEvents, fate}
 use Rattle.history.specs.Catalogue.{CatalogueEvents}
 use Rattle.history.specs.History.{History, tx_events, catalogue_events, lock_events}
-use Rattle.table_trees.specs.Trees.{key_of}
+use Rattle.row_router.specs.Trees.{key_of}
 use Rattle.soundness.specs.Worlds.{World, same_tx, IsWorld, view, Present, Accepts, key_at, key_in}
 use Rattle.soundness.proofs.Worlds.{both_ways, split, view_world}
 use Rattle.soundness.specs.Kept.{Passes, Repeats, IsRepeated}

@@ -13,7 +13,7 @@ use Rattle.history.specs.Snapshots.{TakenSnapshot, held_by, sees}
 use Rattle.history.specs.Legal.{IsLegal}
 use Rattle.history.specs.History.{History, tx_events, snapshot_events, row_events, catalogue_events}
 use Rattle.bound_forms.specs.declared.level.KeyColumn.{KeyColumn}
-use Rattle.table_trees.specs.Trees.{key_of}
+use Rattle.row_router.specs.Trees.{key_of}
 use Rattle.bound_forms.specs.Points.{picked}
 use Rattle.soundness.specs.Versions.{IsVersion}
 use Rattle.soundness.specs.Worlds.{World, IsPart, HasLeaf, key_at, key_in, same_tx, is_running, view}

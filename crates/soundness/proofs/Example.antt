@@ -9,7 +9,7 @@ use Rattle.pg_values.specs.declared.value.Value.TheVariants.{Int4}
 use Rattle.pg_values.specs.declared.ids.LeafId.{LeafId}
 use Rattle.pg_values.specs.declared.lock_mode.LockMode.TheVariants.{RowExclusive}
 use Rattle.bound_forms.specs.declared.level.KeyColumn.{KeyColumn}
-use Rattle.bound_forms.specs.declared.level.Strategy.TheVariants.{Range as ByRange}
+use Rattle.pg_values.specs.declared.strategy.Strategy.TheVariants.{Range as ByRange}
 use Rattle.bound_forms.specs.declared.partition_bound.Bound.{Bound}
 use Rattle.bound_forms.specs.declared.partition_bound.Bound.TheVariants.{Range}
 use Rattle.bound_forms.specs.declared.point.Edge.TheVariants.{Min, At}
@@ -31,8 +31,8 @@ use Rattle.history.specs.History.{History, TxChange, SnapshotChange, RowChange, 
 use Rattle.history.specs.Places.{LiesIn, Suits}
 use Rattle.history.specs.LocksSound.{IsGotSound}
 use Rattle.history.specs.Legal.{command_of, IsNotAfter, IsInOrder, IsLegal}
-use Rattle.table_trees.specs.Histories.{tree_of}
-use Rattle.table_trees.specs.Trees.{leaves}
+use Rattle.row_router.specs.Histories.{tree_of}
+use Rattle.row_router.specs.Trees.{leaves}
 use Rattle.bound_forms.specs.Accepts.{accepts}
 use Rattle.soundness.specs.Worlds.{view, table_in, IsMade, HasLeaf, key_at}
 use Rattle.soundness.specs.Parts.{IsKnown, AreChildren}
@@ -262,7 +262,7 @@ are_permitted : ArePermitted emptied
 are_permitted = (may_end, (is_known, (tt, (tt, (tt, (inl may_add, (may_bear, (may_make_child, (may_make_parent, (tt, (tt, tt)))))))))))
 
 shown_leaf : Contains (leaves (tree_of emptied 0 0 (fresh (tx_events emptied) 0))) five.leaf
-unfolding Rattle.table_trees.specs.Histories.tree_of
+unfolding Rattle.row_router.specs.Histories.tree_of
 shown_leaf = (0, omega arith, refl)
 
 pub conditions_can_be_met : ConditionsCanBeMet

@@ -11,9 +11,9 @@ use Rattle.history.specs.History.{History, tx_events, catalogue_events}
 use Rattle.history.specs.Places.{TakesBound}
 use Rattle.history.specs.Presence.{counts, entries_present}
 use Rattle.history.proofs.Open.{open_runs}
-use Rattle.table_trees.specs.declared.node.Node.{Node}
-use Rattle.table_trees.specs.Trees.{TableTree, trees_of, leaves, all_leaves}
-use Rattle.table_trees.specs.Histories.{ddl_tree, tree_within, grown, node_at, children, bound_of, child_of_entry}
+use Rattle.row_router.specs.declared.node.Node.{Node}
+use Rattle.row_router.specs.Trees.{TableTree, trees_of, leaves, all_leaves}
+use Rattle.row_router.specs.Histories.{ddl_tree, tree_within, grown, node_at, children, bound_of, child_of_entry}
 use Rattle.soundness.specs.Worlds.{World, table_in, HasLeaf, Present, Under, view}
 use Rattle.soundness.specs.Parts.{AreEntries, Siblings, InvariantOf}
 use Rattle.soundness.specs.Laws.{TreeHasAllBelow}
@@ -69,7 +69,7 @@ leaf_in cats w entries named leaf are listed (suc n) (suc fuel) top x le (e, p, 
     (leaf_in cats w entries named leaf are listed n fuel e.child.number x (omega (arith, le)) rest at)
 
 all_below : (h : History) (session top n x : ℕ) (leaf : LeafId) → InvariantOf h → Siblings (catalogue_events h) (counts (tx_events h) session) → Under (catalogue_events h) (counts (tx_events h) session) n top x → HasLeaf (catalogue_events h) x leaf → Contains (leaves (ddl_tree h session top)) leaf
-unfolding Rattle.table_trees.specs.Histories.ddl_tree
+unfolding Rattle.row_router.specs.Histories.ddl_tree
 all_below h session top n x leaf i siblings low at =
     let lt = few_steps (catalogue_events h) (counts (tx_events h) session) n top x siblings low in
     leaf_in (catalogue_events h) (counts (tx_events h) session) (entries_present h session) top leaf i.entries (λ e p. present_listed h session e p) n 7 top x (omega (arith, lt)) (down_of (catalogue_events h) (counts (tx_events h) session) n top x low) at

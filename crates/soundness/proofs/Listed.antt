@@ -12,7 +12,7 @@ use Rattle.history.specs.Catalogue.{CatalogueEvents, TableMade, TableDropped, En
 use Rattle.history.specs.History.{History, tx_events, catalogue_events}
 use Rattle.history.specs.Presence.{counts, stamp_counts, is_present, entries_present, sees_stamp, is_shown, entries_shown}
 use Rattle.history.specs.Snapshots.{TakenSnapshot, sees}
-use Rattle.table_trees.specs.Histories.{placed, all_placed, is_under, children}
+use Rattle.row_router.specs.Histories.{placed, all_placed, is_under, children}
 use Rattle.soundness.specs.Worlds.{Present, IsPending}
 
 -- ---- lists

@@ -14,10 +14,10 @@ use Rattle.history.specs.Places.{TakesBound}
 use Rattle.history.specs.Presence.{counts, entries_present, checks_of}
 use Rattle.history.specs.Legal.{IsLegal}
 use Rattle.history.proofs.Open.{open_runs}
-use Rattle.table_trees.specs.declared.node.Node.{Node}
-use Rattle.table_trees.specs.declared.path_part.PathPart.{PathPart}
-use Rattle.table_trees.specs.Trees.{TableTree, trees_of, height, heights}
-use Rattle.table_trees.specs.Histories.{ddl_tree, path_of, tree_within, grown, node_at, children, bound_of, child_of_entry, above, parent_in, part_of, upwards}
+use Rattle.row_router.specs.declared.node.Node.{Node}
+use Rattle.row_router.specs.declared.path_part.PathPart.{PathPart}
+use Rattle.row_router.specs.Trees.{TableTree, trees_of, height, heights}
+use Rattle.row_router.specs.Histories.{ddl_tree, path_of, tree_within, grown, node_at, children, bound_of, child_of_entry, above, parent_in, part_of, upwards}
 use Rattle.soundness.specs.Worlds.{World, table_in, Present, Under, view}
 use Rattle.soundness.specs.Parts.{AreEntries, Siblings, InvariantOf}
 use Rattle.soundness.specs.Laws.{ChildrenAreCounted, WaysAreShort}
@@ -103,7 +103,7 @@ deep cats w entries named are listed (suc n) (suc fuel) top x le (e, p, parent, 
     (deep cats w entries named are listed n fuel e.child.number x (omega (arith, le)) rest)
 
 low_way : (h : History) (session n top x : ℕ) → InvariantOf h → Siblings (catalogue_events h) (counts (tx_events h) session) → Under (catalogue_events h) (counts (tx_events h) session) n top x → n < height (ddl_tree h session top)
-unfolding Rattle.table_trees.specs.Histories.ddl_tree
+unfolding Rattle.row_router.specs.Histories.ddl_tree
 low_way h session n top x i siblings low =
     let lt = few_steps (catalogue_events h) (counts (tx_events h) session) n top x siblings low in
     deep (catalogue_events h) (counts (tx_events h) session) (entries_present h session) top i.entries (λ e p. present_listed h session e p) n 7 top x (omega (arith, lt)) (down_of (catalogue_events h) (counts (tx_events h) session) n top x low)
@@ -120,7 +120,7 @@ long h session part legal siblings (suc n) (suc fuel) x y lt (e, p, child, rest)
     rw at (omega (arith, more))
 
 high_way : (h : History) (session n top x : ℕ) → IsLegal h → Siblings (catalogue_events h) (counts (tx_events h) session) → Under (catalogue_events h) (counts (tx_events h) session) n top x → n < length (path_of h session x)
-unfolding Rattle.table_trees.specs.Histories.path_of
+unfolding Rattle.row_router.specs.Histories.path_of
 high_way h session n top x legal siblings low =
     long h session (part_of (tables_made (catalogue_events h)) (entries_present h session) (checks_of h session)) legal siblings n 8 x top (few_steps (catalogue_events h) (counts (tx_events h) session) n top x siblings low) low
 

@@ -11,11 +11,11 @@ use Rattle.history.specs.Rows.{RowEvents, LeafAdded, RowBorn, RowEnded, births}
 use Rattle.history.specs.History.{History, tx_events, row_events, catalogue_events, versions, is_seen, seen}
 use Rattle.history.specs.Presence.{counts, entries_shown}
 use Rattle.history.specs.Legal.{IsLegal}
-use Rattle.table_trees.specs.declared.tree.NoPartition.{NoPartition}
-use Rattle.table_trees.specs.Trees.{leaves, accepting, routed, found_leaf}
-use Rattle.table_trees.specs.Histories.{tree_of}
-use Rattle.table_trees.proofs.OneLeaf.{one_leaf}
-use Rattle.table_trees.proofs.Sound.{tree_sound}
+use Rattle.row_router.specs.declared.tree.NoPartition.{NoPartition}
+use Rattle.row_router.specs.Trees.{leaves, accepting, routed, found_leaf}
+use Rattle.row_router.specs.Histories.{tree_of}
+use Rattle.row_router.proofs.OneLeaf.{one_leaf}
+use Rattle.row_router.proofs.Sound.{tree_sound}
 use Rattle.history.specs.Catalogue.{tables_made}
 use Rattle.history.specs.Places.{table_at}
 use Rattle.soundness.specs.Versions.{IsVersion}
@@ -44,7 +44,7 @@ same_leaf a b is = ap (λ n. record { number = n }) is
 
 leaf_accepts : (h : History) (session table : ℕ) (s : TakenSnapshot) (leaf : LeafId) (v : Version) → IsLegal h → InvariantOf h → IsLooking h session s → IsMade (catalogue_events h) table → Contains (leaves (tree_of h session table s)) leaf
     → IsVersion (row_events h) v → is_seen h s v ≡ true → v.leaf ≡ leaf → Contains (accepting v.row (tree_of h session table s)) leaf
-unfolding Rattle.table_trees.specs.Histories.tree_of
+unfolding Rattle.row_router.specs.Histories.tree_of
 leaf_accepts h session table s leaf v legal i looking made at is shown same =
     let world = counts_world (tx_events h) session (sound_of h legal) in
     let fit = i.fit (counts (tx_events h) session) v world is (looking_shows h session s v legal i looking is shown) in

@@ -11,7 +11,7 @@ use Rattle.bound_forms.specs.declared.partition_bound.Bound.{Bound}
 use Rattle.bound_forms.specs.declared.partition_bound.Bound.TheVariants.{Default}
 use Rattle.bound_forms.specs.Accepts.{accepts, is_default, accepts_among}
 use Rattle.history.specs.declared.transaction.Fate.TheVariants.{Running}
-use Rattle.table_trees.proofs.Order.{all_children}
+use Rattle.row_router.proofs.Order.{all_children}
 use Rattle.std.proofs.lemmas.List.Elements.{All-contains}
 use Rattle.history.specs.declared.catalogue.TableShape.{TableShape}
 use Rattle.history.specs.declared.catalogue.TableShape.TheVariants.{Leaf, Level}
@@ -22,9 +22,9 @@ use Rattle.history.specs.History.{History, tx_events, catalogue_events}
 use Rattle.history.specs.Places.{TakesBound}
 use Rattle.history.specs.Presence.{counts, entries_present, checks_of}
 use Rattle.history.specs.Legal.{IsLegal}
-use Rattle.table_trees.specs.declared.path_part.PathPart.{PathPart}
-use Rattle.table_trees.specs.Trees.{key_of}
-use Rattle.table_trees.specs.Histories.{children, bound_of, is_over, above, is_entry, place_among, place_of, part_of, parent_in, upwards, path_of}
+use Rattle.row_router.specs.declared.path_part.PathPart.{PathPart}
+use Rattle.row_router.specs.Trees.{key_of}
+use Rattle.row_router.specs.Histories.{children, bound_of, is_over, above, is_entry, place_among, place_of, part_of, parent_in, upwards, path_of}
 use Rattle.row_router.specs.declared.path.PathTest.TheVariants.{Bounds}
 use Rattle.row_router.specs.Paths.{refuses_at, refuses, refused}
 use Rattle.soundness.specs.Worlds.{World, table_in, Present, Under, key_in, key_at, AcceptsKey, AcceptAbove, same_tx, is_running, view}
@@ -170,7 +170,7 @@ few_steps cats w n top x siblings low = elim (cases_Bool (nat_lt n 8)) [
 ]
 
 pub path_accepts_in : (h : History) (session x : ℕ) (row : List Value) → IsLegal h → InvariantOf h → refused Bounds row (path_of h session x) ≡ None → AcceptAbove (catalogue_events h) (counts (tx_events h) session) x row
-unfolding Rattle.table_trees.specs.Histories.path_of
+unfolding Rattle.row_router.specs.Histories.path_of
 path_accepts_in h session x row legal i none e n p low =
     let siblings = i.siblings (counts (tx_events h) session) (counts_world (tx_events h) session (sound_of h legal)) in
     let lt = few_steps (catalogue_events h) (counts (tx_events h) session) (suc n) e.parent.number x siblings (under_top (catalogue_events h) (counts (tx_events h) session) e p n x low) in

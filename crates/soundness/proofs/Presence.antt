@@ -17,7 +17,7 @@ use Rattle.history.specs.History.{History, TxChange, SnapshotChange, RowChange, 
 use Rattle.history.specs.Places.{AreCatalogueSound}
 use Rattle.history.specs.Presence.{counts, stamp_counts, is_present, is_shown, entries_present, entries_shown}
 use Rattle.history.proofs.Settled.{AbortsStay, aborts_before}
-use Rattle.table_trees.specs.Siblings.{AreSiblings}
+use Rattle.row_router.specs.Siblings.{AreSiblings}
 use Rattle.soundness.specs.Worlds.{Present}
 use Rattle.soundness.specs.Parts.{Siblings}
 use Rattle.soundness.proofs.Counted.{AreTwo}

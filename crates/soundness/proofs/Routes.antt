@@ -18,13 +18,13 @@ use Rattle.history.specs.Places.{table_at}
 use Rattle.history.specs.Presence.{counts, entries_shown}
 use Rattle.history.specs.Legal.{IsLegal}
 use Rattle.history.proofs.Open.{open_runs}
-use Rattle.table_trees.specs.declared.node.Node.{Node}
-use Rattle.table_trees.specs.declared.tree.NoPartition.{NoPartition}
-use Rattle.table_trees.specs.Trees.{TableTree, trees_of, key_of, accepting, accepting_in, routed, found_leaf}
-use Rattle.table_trees.specs.Histories.{tree_of, path_of, tree_within, grown, node_at, children, bound_of, child_of_entry}
-use Rattle.table_trees.proofs.OneLeaf.{one_leaf}
-use Rattle.table_trees.proofs.Sound.{tree_sound}
-use Rattle.table_trees.proofs.Order.{all_children, under_children}
+use Rattle.row_router.specs.declared.node.Node.{Node}
+use Rattle.row_router.specs.declared.tree.NoPartition.{NoPartition}
+use Rattle.row_router.specs.Trees.{TableTree, trees_of, key_of, accepting, accepting_in, routed, found_leaf}
+use Rattle.row_router.specs.Histories.{tree_of, path_of, tree_within, grown, node_at, children, bound_of, child_of_entry}
+use Rattle.row_router.proofs.OneLeaf.{one_leaf}
+use Rattle.row_router.proofs.Sound.{tree_sound}
+use Rattle.row_router.proofs.Order.{all_children, under_children}
 use Rattle.row_router.specs.declared.path.PathTest.TheVariants.{Bounds}
 use Rattle.row_router.specs.Paths.{refused}
 use Rattle.soundness.specs.Legal.{ArePermitted}
@@ -145,7 +145,7 @@ are_shown h session s legal i sight =
 
 routed_leads : (h : History) (session table : ℕ) (s : TakenSnapshot) (leaf : LeafId) (row : List Value) → IsLegal h → InvariantOf h → SeesWhatCounts h session s → IsMade (catalogue_events h) table → Contains (accepting row (tree_of h session table s)) leaf
     → IsLed (catalogue_events h) (counts (tx_events h) session) row leaf table
-unfolding Rattle.table_trees.specs.Histories.tree_of
+unfolding Rattle.row_router.specs.Histories.tree_of
 routed_leads h session table s leaf row legal i sight made at = led_within 7 (catalogue_events h) (counts (tx_events h) session) row leaf (entries_shown h session s) table table (are_shown h session s legal i sight) made at
 
 found_there : (leaf : LeafId) (r : Result LeafId NoPartition) → r ≡ Ok leaf → Contains (found_leaf r) leaf

@@ -12,10 +12,10 @@ use Rattle.history.specs.declared.catalogue.TableShape.{TableShape}
 use Rattle.history.specs.declared.catalogue.TableShape.TheVariants.{Leaf, Level}
 use Rattle.history.specs.declared.catalogue.Entry.{Entry}
 use Rattle.history.specs.Catalogue.{CatalogueEvents, tables_made}
-use Rattle.table_trees.specs.declared.node.Node.{Node}
-use Rattle.table_trees.specs.Trees.{TableTree, trees_of, key_of, leaves, all_leaves, accepting, accepting_in}
-use Rattle.table_trees.specs.Histories.{tree_within, grown, node_at, children, bound_of, child_of_entry}
-use Rattle.table_trees.proofs.Order.{all_children, under_children}
+use Rattle.row_router.specs.declared.node.Node.{Node}
+use Rattle.row_router.specs.Trees.{TableTree, trees_of, key_of, leaves, all_leaves, accepting, accepting_in}
+use Rattle.row_router.specs.Histories.{tree_within, grown, node_at, children, bound_of, child_of_entry}
+use Rattle.row_router.proofs.Order.{all_children, under_children}
 use Rattle.soundness.specs.Worlds.{World, table_in, IsMade, HasLeaf, Present, Under, key_in, key_at, AcceptsKey, AcceptAbove}
 use Rattle.soundness.proofs.Under.{under_top}
 use Rattle.soundness.proofs.Listed.{none_in, only_one}

@@ -13,7 +13,7 @@ use Rattle.history.specs.Rows.{RowEvents}
 use Rattle.history.specs.Catalogue.{CatalogueEvents, IsEntry, IsEntryEnd, IsKeptCheck}
 use Rattle.history.specs.Locks.{LockEvents}
 use Rattle.history.specs.History.{History, tx_events, snapshot_events, row_events, catalogue_events, lock_events}
-use Rattle.table_trees.specs.Trees.{key_of}
+use Rattle.row_router.specs.Trees.{key_of}
 use Rattle.soundness.specs.Versions.{IsVersion}
 use Rattle.soundness.specs.Worlds.{World, IsWorld, table_in, HasLeaf, Under}
 use Rattle.soundness.specs.Shown.{MayShow}

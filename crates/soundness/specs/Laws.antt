@@ -10,11 +10,11 @@ use Rattle.history.specs.Catalogue.{EntryAdded, CheckKept}
 use Rattle.history.specs.History.{Event, History, CatalogueChange, tx_events, snapshot_events, catalogue_events, versions, fresh, seen}
 use Rattle.history.specs.Presence.{counts, entries_present, entries_shown}
 use Rattle.history.specs.Legal.{MayHold, IsLegal}
-use Rattle.table_trees.specs.Histories.{tree_of, ddl_tree, path_of, children}
+use Rattle.row_router.specs.Histories.{tree_of, ddl_tree, path_of, children}
 use Rattle.row_router.specs.declared.path.PathTest.TheVariants.{Bounds, Checks}
 use Rattle.row_router.specs.Paths.{refused}
-use Rattle.table_trees.specs.Siblings.{AreSiblings}
-use Rattle.table_trees.specs.Trees.{leaves, height, accepting, routed}
+use Rattle.row_router.specs.Siblings.{AreSiblings}
+use Rattle.row_router.specs.Trees.{leaves, height, accepting, routed}
 use Rattle.soundness.specs.Worlds.{same_tx, view, IsMade, AcceptAbove, HasLeaf}
 use Rattle.soundness.specs.Kept.{PassAbove, ChecksOf}
 use Rattle.soundness.specs.Legal.{Below, MayAdd, MaySkip, MayCreate, ArePermitted}

@@ -21,7 +21,7 @@ use Rattle.history.specs.Rows.{RowBorn, RowEnded}
 use Rattle.history.specs.Catalogue.{TableMade, TableDropped, EntryAdded, EntryEnded, EntryMarked, CheckKept, IsEntry}
 use Rattle.history.specs.Locks.{LockGot, LocksGivenUp, WaitBegan}
 use Rattle.history.specs.History.{Event, History, RowChange, CatalogueChange, LockChange, tx_events, snapshot_events, row_events, catalogue_events}
-use Rattle.table_trees.specs.Siblings.{CanStandTogether}
+use Rattle.row_router.specs.Siblings.{CanStandTogether}
 use Rattle.soundness.specs.Versions.{IsVersion}
 use Rattle.soundness.specs.Worlds.{view, table_in, IsMade, HasLeaf, key_at, Present, IsThere, IsPending, Under, Accepts, AcceptAbove}
 use Rattle.soundness.specs.Shown.{IsJudged}

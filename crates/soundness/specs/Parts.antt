@@ -19,7 +19,7 @@ use Rattle.history.specs.Catalogue.{CatalogueEvents, tables_made, IsDropped, IsE
 use Rattle.history.specs.Locks.{LockEvents, holds, wanted}
 use Rattle.history.specs.History.{History, tx_events, snapshot_events, row_events, catalogue_events, lock_events}
 use Rattle.history.specs.Places.{Suits}
-use Rattle.table_trees.specs.Siblings.{CanStandTogether}
+use Rattle.row_router.specs.Siblings.{CanStandTogether}
 use Rattle.soundness.specs.Versions.{IsVersion, IsEnd}
 use Rattle.soundness.specs.Worlds.{World, same_tx, IsWorld, table_in, IsMade, HasLeaf, IsThere, Present, IsPending, Under, AcceptAbove}
 use Rattle.soundness.specs.Shown.{MayShow}

@@ -14,7 +14,7 @@ use Rattle.history.specs.declared.catalogue.Entry.{Entry}
 use Rattle.history.specs.Transactions.{TxEvents, fate, is_committed}
 use Rattle.history.specs.Catalogue.{CatalogueEvents, tables_made, IsDropped, IsEntry, IsEntryEnd, IsMark}
 use Rattle.history.specs.Places.{table_at}
-use Rattle.table_trees.specs.Trees.{key_of}
+use Rattle.row_router.specs.Trees.{key_of}
 
 abbrev pub World : Type 0
 World = ℕ → Bool

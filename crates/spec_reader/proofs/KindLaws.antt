@@ -5,8 +5,8 @@ use Rattle.grammar.specs.Reading.{Class}
 use Rattle.grammar.proofs.KindClasses as sides
 use Rattle.grammar.proofs.Laws.{Disjoint, Within}
 use Rattle.spec_reader.specs.Words.{kinds_list}
-use Rattle.spec_reader.specs.declared.kind.Kind.{Kind}
-use Rattle.spec_reader.specs.declared.kind.Kind.TheVariants as kinds
+use Rattle.spec_reader.specs.declared.kind.ScriptTokenKind.{ScriptTokenKind}
+use Rattle.spec_reader.specs.declared.kind.ScriptTokenKind.TheVariants as kinds
 use Rattle.spec_reader.specs.declared.token.Token.{Token}
 
 and_left : (a b : Bool) → (a && b) ≡ true → a ≡ true
@@ -17,12 +17,12 @@ and_right : (a b : Bool) → (a && b) ≡ true → b ≡ true
 and_right true b h = h
 and_right false b h = cc
 
-every_at : (p : Kind → Bool) (ks : List Kind) (n : ℕ) → every p ks ≡ true → n < length ks → p (get_or ks n kinds.Name) ≡ true
+every_at : (p : ScriptTokenKind → Bool) (ks : List ScriptTokenKind) (n : ℕ) → every p ks ≡ true → n < length ks → p (get_or ks n kinds.Name) ≡ true
 every_at p [] n h g = absurd (omega arith)
 every_at p (k ∷ ks) zero h g = and_left (p k) (every p ks) h
 every_at p (k ∷ ks) (suc n) h g = every_at p ks n (and_right (p k) (every p ks) h) (omega arith)
 
-pub each_kind : (p : Kind → Bool) → every p kinds_list ≡ true → (k : Kind) → p k ≡ true
+pub each_kind : (p : ScriptTokenKind → Bool) → every p kinds_list ≡ true → (k : ScriptTokenKind) → p k ≡ true
 each_kind p h kinds.Setup = every_at p kinds_list 0 h (lit< tt)
 each_kind p h kinds.Teardown = every_at p kinds_list 1 h (lit< tt)
 each_kind p h kinds.Session = every_at p kinds_list 2 h (lit< tt)
@@ -40,13 +40,13 @@ each_kind p h kinds.Star = every_at p kinds_list 13 h (lit< tt)
 each_kind p h kinds.Fault = every_at p kinds_list 14 h (lit< tt)
 
 -- a token of each kind
-abbrev pub sample : Kind → Token
+abbrev pub sample : ScriptTokenKind → Token
 sample k = record { kind = k; start = 0; end = 0 }
 
-abbrev kind_of : Token → Kind
+abbrev kind_of : Token → ScriptTokenKind
 kind_of t = t.kind
 
-complete : (p : Kind → Bool) → every p kinds_list ≡ true → (k : Kind) → p k ≡ true
+complete : (p : ScriptTokenKind → Bool) → every p kinds_list ≡ true → (k : ScriptTokenKind) → p k ≡ true
 complete p h k = each_kind p h k
 
 pub apart : (f c : Class Token) → ((t : Token) → (f t && c t) ≡ (f (sample t.kind) && c (sample t.kind))) → every (λ k. not (f (sample k) && c (sample k))) kinds_list ≡ true → Disjoint f c

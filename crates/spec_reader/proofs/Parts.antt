@@ -6,8 +6,8 @@ use Rattle.std.proofs.lemmas.List.{drop-drop}
 use Rattle.std.proofs.Math.Seq.{take-append_seam, drop-append_seam}
 use Rattle.grammar.specs.Reading.{Rule, both, behind, as_value}
 use Rattle.spec_reader.specs.declared.bytes.Run.TheVariants as runs
-use Rattle.spec_reader.specs.declared.kind.Kind.{Kind}
-use Rattle.spec_reader.specs.declared.kind.Kind.TheVariants as kinds
+use Rattle.spec_reader.specs.declared.kind.ScriptTokenKind.{ScriptTokenKind}
+use Rattle.spec_reader.specs.declared.kind.ScriptTokenKind.TheVariants as kinds
 use Rattle.spec_reader.specs.declared.token.Token.{Token}
 use Rattle.spec_reader.specs.Bytes.{goes_on, trimmed}
 use Rattle.grammar.specs.TextPlaces.{inside, slice}
@@ -38,7 +38,7 @@ pub moved : (whole : List ℕ) (at n : ℕ) (text rest : List ℕ) → drop at w
 moved whole at n text rest h e = sym (drop-drop n at whole) ∙ (ap (λ (x : List ℕ). drop n x) h ∙ e)
 
 -- one token, and a blank
-pub token_at : (at : ℕ) (text : List ℕ) (k : Kind) (n : ℕ) (rest : List ℕ) → piece_of text ≡ token k n → 0 < length text → 0 < n → drop n text ≡ rest →
+pub token_at : (at : ℕ) (text : List ℕ) (k : ScriptTokenKind) (n : ℕ) (rest : List ℕ) → piece_of text ≡ token k n → 0 < length text → 0 < n → drop n text ≡ rest →
     tokens_from 0 at text ≡ record { kind = k; start = at; end = at + n } ∷ tokens_from 0 (at + n) rest
 token_at at text k n rest e h j d = piece_step at text (token k n) e h j ∙ ap (λ (x : List ℕ). record { kind = k; start = at; end = at + n } ∷ tokens_from 0 (at + n) x) d
 
@@ -67,7 +67,7 @@ module _ (whole : List ℕ) where
       record { next = x.next; tokens = x.tokens; cut = blank_at at text ∙ x.cut; stands = x.stands; says = x.says }
 
   -- a word and a blank
-  pub word_says : {A : Type 0} (k : Kind) (w : List ℕ) (n : ℕ) (p : Rule Token A) (text : List ℕ) (a : A) (rest : List ℕ) →
+  pub word_says : {A : Type 0} (k : ScriptTokenKind) (w : List ℕ) (n : ℕ) (p : Rule Token A) (text : List ℕ) (a : A) (rest : List ℕ) →
       piece_of (w ++ 32 ∷ text) ≡ token k n → length w ≡ n → 0 < n → is k k ≡ true → Says whole p.texts text a rest → Says whole (behind (kind_of k) p).texts (w ++ 32 ∷ text) a rest
   word_says k w n p text a rest e size some same l at h =
       let d : drop n (w ++ 32 ∷ text) ≡ 32 ∷ text = ap (λ (z : ℕ). drop z (w ++ 32 ∷ text)) (sym size) ∙ drop-append_seam w (32 ∷ text) in

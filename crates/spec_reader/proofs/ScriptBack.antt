@@ -13,8 +13,8 @@ use Rattle.spec_reader.specs.Tokens.{tokens_from, tokens_of}
 use Rattle.spec_reader.specs.Words.{is}
 use Rattle.spec_reader.specs.Written.{quoted, braced, IsOneLine, IsBlock}
 use Rattle.spec_reader.specs.WrittenScripts.{all_of, with_name, with_block, with_setup, with_maybe_setup, with_teardown, with_step, with_session, with_marker, with_comma, with_markers, with_use, with_permutation, written_text, marker_as, use_as, uses_as, written_as, script_text, Each, IfThere, IsStep, IsSession, IsMarker, IsUse, IsPermutation, IsWritableScript}
-use Rattle.spec_reader.specs.declared.kind.Kind.{Kind}
-use Rattle.spec_reader.specs.declared.kind.Kind.TheVariants as kinds
+use Rattle.spec_reader.specs.declared.kind.ScriptTokenKind.{ScriptTokenKind}
+use Rattle.spec_reader.specs.declared.kind.ScriptTokenKind.TheVariants as kinds
 use Rattle.spec_reader.specs.declared.spec.Marker.{Marker}
 use Rattle.spec_reader.specs.declared.spec.Marker.TheVariants as marks
 use Rattle.spec_reader.specs.declared.spec.SessionSpec.{SessionSpec}
@@ -139,13 +139,13 @@ module _ (whole : List ℕ) where
       (teardown_says x.teardown rest w.4))))))
 
   -- a token of the kind, then a text of P
-  abbrev Signed : {A : Type 0} → Kind → (List Token → A → Type 0) → List Token → A → Type 0
+  abbrev Signed : {A : Type 0} → ScriptTokenKind → (List Token → A → Type 0) → List Token → A → Type 0
   Signed k P ts x = (t : Token) × (v : List Token) × (ts ≡ t ∷ v) × (is t.kind k ≡ true) × P v x
 
-  from_signed : {A : Type 0} (k : Kind) (p : Rule Token A) (ts : List Token) (x : A) → Signed k p.texts ts x → (behind (a k) p).texts ts x
+  from_signed : {A : Type 0} (k : ScriptTokenKind) (p : Rule Token A) (ts : List Token) (x : A) → Signed k p.texts ts x → (behind (a k) p).texts ts x
   from_signed k p ts x s = ((s.0, x), (s.0 ∷ [], s.1, s.2, (refl, s.3), s.4), refl)
 
-  sign_says : {A : Type 0} (k : Kind) (w : List ℕ) (n : ℕ) (P : List Token → A → Type 0) (text : List ℕ) (x : A) (rest : List ℕ) →
+  sign_says : {A : Type 0} (k : ScriptTokenKind) (w : List ℕ) (n : ℕ) (P : List Token → A → Type 0) (text : List ℕ) (x : A) (rest : List ℕ) →
       piece_of (w ++ text) ≡ token k n → length w ≡ n → 0 < n → is k k ≡ true → Says whole P text x rest → Says whole (Signed k P) (32 ∷ (w ++ text)) x rest
   sign_says k w n P text x rest e size some same l =
       blank_says whole (Signed k P) (w ++ text) x rest (λ at h.

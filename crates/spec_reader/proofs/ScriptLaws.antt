@@ -8,8 +8,8 @@ use Rattle.grammar.proofs.WordLaws.{means_law, between_law, separated_law, some_
 use Rattle.spec_reader.specs.Contents.{name_in, block_in}
 use Rattle.spec_reader.specs.Scripts.{a, a_name, name, block, block_of, maybe_block, step_of, step, session_of, session, notices, marker_of, named_marker, marker, markers, or_none, maybe_markers, use_of, one_use, permutation, script_of, script}
 use Rattle.spec_reader.specs.Words.{is}
-use Rattle.spec_reader.specs.declared.kind.Kind.{Kind}
-use Rattle.spec_reader.specs.declared.kind.Kind.TheVariants as word
+use Rattle.spec_reader.specs.declared.kind.ScriptTokenKind.{ScriptTokenKind}
+use Rattle.spec_reader.specs.declared.kind.ScriptTokenKind.TheVariants as word
 use Rattle.spec_reader.specs.declared.token.Token.{Token}
 use Rattle.spec_reader.specs.declared.written.WrittenMarker.TheVariants as written
 use Rattle.spec_reader.proofs.KindLaws.{sample, apart, within}
@@ -20,10 +20,10 @@ name_law text = valued (name_in text) (token a_name (sample word.Name) refl)
 block_law : (text : List ℕ) → Law (block text) (a word.Block) false none
 block_law text = valued (block_in text) (token (a word.Block) (sample word.Block) refl)
 
-block_of_law : (text : List ℕ) (k : Kind) → is k k ≡ true → Law (block_of text k) (a k) false none
+block_of_law : (text : List ℕ) (k : ScriptTokenKind) → is k k ≡ true → Law (block_of text k) (a k) false none
 block_of_law text k e = after_token (a k) (sample k) e (block_law text)
 
-maybe_block_law : (text : List ℕ) (k : Kind) → is k k ≡ true → Law (maybe_block text k) (a k) true (a k)
+maybe_block_law : (text : List ℕ) (k : ScriptTokenKind) → is k k ≡ true → Law (maybe_block text k) (a k) true (a k)
 maybe_block_law text k e = wide (opt (block_of_law text k e)) (λ t h. h) (λ t h. h)
 
 step_law : (text : List ℕ) → Law (step text) (a word.Step) false none

@@ -2,7 +2,7 @@
 use Rattle.std.specs.Prelude.{ℕ, false, if◌then◌else◌, List}
 use Rattle.grammar.specs.TextPlaces.{inside, slice}
 use Rattle.grammar.specs.Quotes.{undoubled}
-use Rattle.spec_reader.specs.declared.kind.Kind.TheVariants as kinds
+use Rattle.spec_reader.specs.declared.kind.ScriptTokenKind.TheVariants as kinds
 use Rattle.spec_reader.specs.declared.token.Token.{Token}
 use Rattle.spec_reader.specs.Bytes.{trimmed}
 use Rattle.spec_reader.specs.Words.{is}

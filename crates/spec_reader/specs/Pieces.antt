@@ -2,8 +2,8 @@
 use Rattle.std.specs.Prelude.{ℕ, suc, Bool, ◌==◌, nat_lt, if◌then◌else◌, List, [], ◌∷◌, false, Option, Some, None, length, take, drop}
 use Rattle.std.specs.List.{prefix_len}
 use Rattle.spec_reader.specs.declared.bytes.Run.TheVariants as runs
-use Rattle.spec_reader.specs.declared.kind.Kind.{Kind}
-use Rattle.spec_reader.specs.declared.kind.Kind.TheVariants as kinds
+use Rattle.spec_reader.specs.declared.kind.ScriptTokenKind.{ScriptTokenKind}
+use Rattle.spec_reader.specs.declared.kind.ScriptTokenKind.TheVariants as kinds
 use Rattle.spec_reader.specs.declared.piece.Piece.{Piece}
 use Rattle.spec_reader.specs.Bytes.{is_blank, is_digit, begins_name, goes_on}
 use Rattle.grammar.specs.Quotes.{closing}
@@ -13,7 +13,7 @@ use Rattle.spec_reader.specs.Words.{word_kind}
 abbrev pub gap : ℕ → Piece
 gap n = record { kind = None; len = n }
 
-abbrev pub token : Kind → ℕ → Piece
+abbrev pub token : ScriptTokenKind → ℕ → Piece
 token k n = record { kind = Some k; len = n }
 
 -- what begins no token, of so many bytes: by them it is known that none begins there

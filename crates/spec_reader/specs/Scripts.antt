@@ -17,8 +17,8 @@ use Rattle.grammar.specs.Words.{◌>>◌, ◌&◌, means, between, separated, so
 use Rattle.spec_reader.specs.Contents.{name_in, block_in}
 use Rattle.spec_reader.specs.Tokens.{tokens_of}
 use Rattle.spec_reader.specs.Words.{is, is_name}
-use Rattle.spec_reader.specs.declared.kind.Kind.{Kind}
-use Rattle.spec_reader.specs.declared.kind.Kind.TheVariants as word
+use Rattle.spec_reader.specs.declared.kind.ScriptTokenKind.{ScriptTokenKind}
+use Rattle.spec_reader.specs.declared.kind.ScriptTokenKind.TheVariants as word
 use Rattle.spec_reader.specs.declared.spec.SessionSpec.{SessionSpec}
 use Rattle.spec_reader.specs.declared.spec.StepSpec.{StepSpec}
 use Rattle.spec_reader.specs.declared.token.Token.{Token}
@@ -28,7 +28,7 @@ use Rattle.spec_reader.specs.declared.written.WrittenSpec.{WrittenSpec}
 use Rattle.spec_reader.specs.declared.written.WrittenUse.{WrittenUse}
 
 -- a token of the kind, and one that is a name
-abbrev pub a : Kind → Class Token
+abbrev pub a : ScriptTokenKind → Class Token
 a k t = is t.kind k
 
 abbrev pub a_name : Class Token
@@ -42,10 +42,10 @@ abbrev pub block : List ℕ → Rule Token (List ℕ)
 block text = as_value (block_in text) (one (a word.Block))
 
 -- a block behind its word, and one that may be missing
-abbrev pub block_of : List ℕ → Kind → Rule Token (List ℕ)
+abbrev pub block_of : List ℕ → ScriptTokenKind → Rule Token (List ℕ)
 block_of text k = a k >> block text
 
-abbrev pub maybe_block : List ℕ → Kind → Rule Token (Option (List ℕ))
+abbrev pub maybe_block : List ℕ → ScriptTokenKind → Rule Token (Option (List ℕ))
 maybe_block text k = optional (a k) (block_of text k)
 
 abbrev pub setup : List ℕ → Rule Token (List ℕ)

@@ -2,14 +2,14 @@
 use Rattle.std.specs.Prelude.{ℕ, zero, suc, ◌+◌, ◌-◌, Bool, nat_le, if◌then◌else◌, filter, List, [], ◌∷◌, ◌++◌, Option, Some, None, length}
 use Rattle.std.specs.Str.{is_utf8}
 use Rattle.std.specs.Str.Lossy.{utf8_valid_len}
-use Rattle.spec_reader.specs.declared.kind.Kind.{Kind}
-use Rattle.spec_reader.specs.declared.kind.Kind.TheVariants as kinds
+use Rattle.spec_reader.specs.declared.kind.ScriptTokenKind.{ScriptTokenKind}
+use Rattle.spec_reader.specs.declared.kind.ScriptTokenKind.TheVariants as kinds
 use Rattle.spec_reader.specs.declared.piece.Piece.{Piece}
 use Rattle.spec_reader.specs.declared.token.Token.{Token}
 use Rattle.spec_reader.specs.Pieces.{piece_of}
 
 -- a token of the kind at its places; none for a gap
-abbrev pub noted : Option Kind → ℕ → ℕ → List Token
+abbrev pub noted : Option ScriptTokenKind → ℕ → ℕ → List Token
 noted None start end = []
 noted (Some k) start end = record { kind = k; start = start; end = end } ∷ []
 

@@ -2,7 +2,7 @@ ghost use Rattle.std.specs.Prelude.{◌≡◌, IfOk};
 ghost use Rattle.spec_reader.specs.Contents as contents;
 
 use crate::bytes::trimmed;
-use crate::kind::{Kind, same_kind};
+use crate::kind::{ScriptTokenKind, same_kind};
 use crate::token::Token;
 use grammar::{inside_of, slice, undoubled};
 use pg_values::{NoMemory, PgText};
@@ -13,7 +13,7 @@ pub fn name_of(alloc: Global, text: &[u8], token: Token) -> Result<PgText, NoMem
     ensures { IfOk result (λ name. name ≡ contents.name_in text.now token) }
 {
     let bytes = slice(text, token.start, token.end);
-    if same_kind(token.kind, Kind::QuotedName) {
+    if same_kind(token.kind, ScriptTokenKind::QuotedName) {
         return PgText::from_vec(alloc, undoubled(alloc, b'"', inside_of(bytes))?);
     }
     PgText::from_bytes(alloc, bytes)

@@ -3,7 +3,7 @@ ghost use Rattle.spec_reader.specs.Words as words;
 
 /// What a token is.
 #[derive(Clone, Copy, Debug, PartialEq, Eq)]
-pub enum Kind {
+pub enum ScriptTokenKind {
     Setup,
     Teardown,
     Session,
@@ -27,15 +27,15 @@ pub enum Kind {
     Fault,
 }
 
-pub fn same_kind(a: Kind, b: Kind) -> bool
+pub fn same_kind(a: ScriptTokenKind, b: ScriptTokenKind) -> bool
     ensures { result ≡ words.is a b }
 {
     (a as u8) == (b as u8)
 }
 
 /// Whether a token of the kind is a name.
-pub fn is_name(kind: Kind) -> bool
+pub fn is_name(kind: ScriptTokenKind) -> bool
     ensures { result ≡ words.is_name kind }
 {
-    same_kind(kind, Kind::Name) || same_kind(kind, Kind::QuotedName)
+    same_kind(kind, ScriptTokenKind::Name) || same_kind(kind, ScriptTokenKind::QuotedName)
 }

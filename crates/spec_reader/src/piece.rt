@@ -2,14 +2,14 @@ ghost use Rattle.std.specs.Prelude.{◌≡◌, ◌≤◌, ◌<◌, ◌≢◌, []
 ghost use Rattle.spec_reader.specs.Pieces as pieces;
 
 use crate::bytes::{Run, begins_name, is_blank, is_digit, run_len};
-use crate::kind::Kind;
+use crate::kind::ScriptTokenKind;
 use crate::words::word_kind;
 use grammar::closing;
 
 /// What stands at the front of a text: a token of a kind, or a gap between tokens; and its length.
 #[derive(Clone, Copy)]
 pub struct Piece {
-    pub kind: Option<Kind>,
+    pub kind: Option<ScriptTokenKind>,
     pub len: usize,
 }
 
@@ -19,7 +19,7 @@ fn gap(len: usize) -> Piece
     Piece { kind: None, len }
 }
 
-fn token(kind: Kind, len: usize) -> Piece
+fn token(kind: ScriptTokenKind, len: usize) -> Piece
     ensures { result ≡ pieces.token kind len }
 {
     Piece {
@@ -47,7 +47,10 @@ fn unclosed(text: &[u8]) -> Piece
     ensures some { 0 < result.len }
     ensures within { result.len ≤ length text.now }
 {
-    token(Kind::Fault, run_len(Run::Comment, &text[1..]) + 1)
+    token(
+        ScriptTokenKind::Fault,
+        run_len(Run::Comment, &text[1..]) + 1,
+    )
 }
 
 fn quoted_name(text: &[u8]) -> Piece
@@ -58,7 +61,7 @@ fn quoted_name(text: &[u8]) -> Piece
 {
     let rest = &text[1..];
     match closing(b'"', rest) {
-        Some(n) if is_one_line(&text[..n]) => token(Kind::QuotedName, n),
+        Some(n) if is_one_line(&text[..n]) => token(ScriptTokenKind::QuotedName, n),
         _ => unclosed(text),
     }
 }
@@ -68,9 +71,9 @@ fn block(text: &[u8]) -> Piece
 {
     let len = run_len(Run::Block, text);
     if len < text.len() {
-        token(Kind::Block, len + 1)
+        token(ScriptTokenKind::Block, len + 1)
     } else {
-        token(Kind::Fault, text.len())
+        token(ScriptTokenKind::Fault, text.len())
     }
 }
 
@@ -78,11 +81,11 @@ fn sign(b: u8) -> Piece
     ensures { result ≡ pieces.sign b }
 {
     match b {
-        b'(' => token(Kind::OpenParenthesis, 1),
-        b')' => token(Kind::CloseParenthesis, 1),
-        b',' => token(Kind::Comma, 1),
-        b'*' => token(Kind::Star, 1),
-        _ => token(Kind::Fault, 1),
+        b'(' => token(ScriptTokenKind::OpenParenthesis, 1),
+        b')' => token(ScriptTokenKind::CloseParenthesis, 1),
+        b',' => token(ScriptTokenKind::Comma, 1),
+        b'*' => token(ScriptTokenKind::Star, 1),
+        _ => token(ScriptTokenKind::Fault, 1),
     }
 }
 
@@ -101,7 +104,7 @@ pub fn piece_of(text: &[u8]) -> Piece
     } else if begins_name(b) {
         name(text)
     } else if is_digit(b) {
-        token(Kind::Number, run_len(Run::Digits, text))
+        token(ScriptTokenKind::Number, run_len(Run::Digits, text))
     } else if b == b'"' {
         quoted_name(text)
     } else if b == b'{' {

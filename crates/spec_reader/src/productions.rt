@@ -5,7 +5,7 @@ ghost use Rattle.spec_reader.specs.Scripts as scripts;
 
 use crate::contents::{block_of, name_of};
 use crate::in_order::InOrder;
-use crate::kind::Kind;
+use crate::kind::ScriptTokenKind;
 use crate::spec::{SessionSpec, StepSpec};
 use crate::token::Token;
 use crate::written::{WrittenMarker, WrittenSpec, WrittenUse};
@@ -31,7 +31,7 @@ fn block<'t>(
 ) -> Result<(PgText, &'t [Token]), Refused>
     ensures { Gives (λ x. (x.0, x.1.now)) result ((scripts.block text.now).read tokens.now) }
 {
-    let (token, rest) = word(tokens, Kind::Block)?;
+    let (token, rest) = word(tokens, ScriptTokenKind::Block)?;
     Ok((block_of(alloc, text, token)?, rest))
 }
 
@@ -39,7 +39,7 @@ fn block<'t>(
 fn block_behind<'t>(
     alloc: Global,
     text: &[u8],
-    kind: Kind,
+    kind: ScriptTokenKind,
     tokens: &'t [Token],
 ) -> Result<(PgText, &'t [Token]), Refused>
     ensures { Gives (λ x. (x.0, x.1.now)) result ((scripts.block_of text.now kind).read tokens.now) }
@@ -51,7 +51,7 @@ fn block_behind<'t>(
 fn maybe_block<'t>(
     alloc: Global,
     text: &[u8],
-    kind: Kind,
+    kind: ScriptTokenKind,
     tokens: &'t [Token],
 ) -> Result<(Option<PgText>, &'t [Token]), Refused>
     ensures { Gives (λ x. (x.0, x.1.now)) result ((scripts.maybe_block text.now kind).read tokens.now) }
@@ -84,18 +84,18 @@ impl Part for Setup {
         text: &[u8],
         tokens: &'a [Token],
     ) -> Result<(PgText, &'a [Token]), Refused> {
-        block_behind(alloc, text, Kind::Setup, tokens)
+        block_behind(alloc, text, ScriptTokenKind::Setup, tokens)
     }
 }
 
 impl Begun for Setup {
     ghost use Rattle.spec_reader.specs.Scripts as scripts;
-    ghost use Rattle.spec_reader.specs.declared.kind.Kind.TheVariants as kinds;
+    ghost use Rattle.spec_reader.specs.declared.kind.ScriptTokenKind.TheVariants as kinds;
 
     ghost begins = { scripts.a kinds.Setup };
 
     fn comes(tokens: &[Token]) -> bool {
-        comes(tokens, Kind::Setup)
+        comes(tokens, ScriptTokenKind::Setup)
     }
 }
 
@@ -120,7 +120,7 @@ impl Part for Step {
         text: &[u8],
         tokens: &'a [Token],
     ) -> Result<(StepSpec, &'a [Token]), Refused> {
-        let (_, rest) = word(tokens, Kind::Step)?;
+        let (_, rest) = word(tokens, ScriptTokenKind::Step)?;
         let (name, rest) = name(alloc, text, rest)?;
         let (block, rest) = block(alloc, text, rest)?;
         Ok((StepSpec { name, block }, rest))
@@ -129,12 +129,12 @@ impl Part for Step {
 
 impl Begun for Step {
     ghost use Rattle.spec_reader.specs.Scripts as scripts;
-    ghost use Rattle.spec_reader.specs.declared.kind.Kind.TheVariants as kinds;
+    ghost use Rattle.spec_reader.specs.declared.kind.ScriptTokenKind.TheVariants as kinds;
 
     ghost begins = { scripts.a kinds.Step };
 
     fn comes(tokens: &[Token]) -> bool {
-        comes(tokens, Kind::Step)
+        comes(tokens, ScriptTokenKind::Step)
     }
 }
 
@@ -159,11 +159,11 @@ impl Part for Session {
         text: &[u8],
         tokens: &'a [Token],
     ) -> Result<(SessionSpec, &'a [Token]), Refused> {
-        let (_, rest) = word(tokens, Kind::Session)?;
+        let (_, rest) = word(tokens, ScriptTokenKind::Session)?;
         let (name, rest) = name(alloc, text, rest)?;
-        let (setup, rest) = maybe_block(alloc, text, Kind::Setup, rest)?;
+        let (setup, rest) = maybe_block(alloc, text, ScriptTokenKind::Setup, rest)?;
         let (steps, rest) = some::<Step>(alloc, text, rest)?;
-        let (teardown, rest) = maybe_block(alloc, text, Kind::Teardown, rest)?;
+        let (teardown, rest) = maybe_block(alloc, text, ScriptTokenKind::Teardown, rest)?;
         let session = SessionSpec {
             name,
             setup,
@@ -176,23 +176,23 @@ impl Part for Session {
 
 impl Begun for Session {
     ghost use Rattle.spec_reader.specs.Scripts as scripts;
-    ghost use Rattle.spec_reader.specs.declared.kind.Kind.TheVariants as kinds;
+    ghost use Rattle.spec_reader.specs.declared.kind.ScriptTokenKind.TheVariants as kinds;
 
     ghost begins = { scripts.a kinds.Session };
 
     fn comes(tokens: &[Token]) -> bool {
-        comes(tokens, Kind::Session)
+        comes(tokens, ScriptTokenKind::Session)
     }
 }
 
 fn notices(tokens: &[Token]) -> Result<(Option<Token>, &[Token]), Refused>
     ensures { Gives (λ x. (x.0, x.1.now)) result (scripts.notices.read tokens.now) }
 {
-    if !comes(tokens, Kind::Notices) {
+    if !comes(tokens, ScriptTokenKind::Notices) {
         return Ok((None, tokens));
     }
-    let (_, rest) = word(tokens, Kind::Notices)?;
-    let (count, rest) = word(rest, Kind::Number)?;
+    let (_, rest) = word(tokens, ScriptTokenKind::Notices)?;
+    let (count, rest) = word(rest, ScriptTokenKind::Number)?;
     Ok((Some(count), rest))
 }
 
@@ -232,8 +232,8 @@ impl Part for Marker {
         text: &[u8],
         tokens: &'a [Token],
     ) -> Result<(WrittenMarker, &'a [Token]), Refused> {
-        if comes(tokens, Kind::Star) {
-            let (_, rest) = word(tokens, Kind::Star)?;
+        if comes(tokens, ScriptTokenKind::Star) {
+            let (_, rest) = word(tokens, ScriptTokenKind::Star)?;
             return Ok((WrittenMarker::Waiting, rest));
         }
         named_marker(alloc, text, tokens)
@@ -247,12 +247,12 @@ fn maybe_markers<'t>(
 ) -> Result<(InOrder<WrittenMarker>, &'t [Token]), Refused>
     ensures { Gives (λ x. (x.0, x.1.now)) result ((scripts.maybe_markers text.now).read tokens.now) }
 {
-    if !comes(tokens, Kind::OpenParenthesis) {
+    if !comes(tokens, ScriptTokenKind::OpenParenthesis) {
         return Ok((InOrder::from_vec(Vec::new(alloc)), tokens));
     }
-    let (_, rest) = word(tokens, Kind::OpenParenthesis)?;
-    let (markers, rest) = separated::<Marker>(alloc, text, Kind::Comma, rest)?;
-    let (_, rest) = word(rest, Kind::CloseParenthesis)?;
+    let (_, rest) = word(tokens, ScriptTokenKind::OpenParenthesis)?;
+    let (markers, rest) = separated::<Marker>(alloc, text, ScriptTokenKind::Comma, rest)?;
+    let (_, rest) = word(rest, ScriptTokenKind::CloseParenthesis)?;
     Ok((InOrder::from_vec(markers), rest))
 }
 
@@ -315,7 +315,7 @@ impl Part for Permutation {
         text: &[u8],
         tokens: &'a [Token],
     ) -> Result<(InOrder<WrittenUse>, &'a [Token]), Refused> {
-        let (_, rest) = word(tokens, Kind::Permutation)?;
+        let (_, rest) = word(tokens, ScriptTokenKind::Permutation)?;
         let (uses, rest) = some::<Use>(alloc, text, rest)?;
         Ok((InOrder::from_vec(uses), rest))
     }
@@ -323,12 +323,12 @@ impl Part for Permutation {
 
 impl Begun for Permutation {
     ghost use Rattle.spec_reader.specs.Scripts as scripts;
-    ghost use Rattle.spec_reader.specs.declared.kind.Kind.TheVariants as kinds;
+    ghost use Rattle.spec_reader.specs.declared.kind.ScriptTokenKind.TheVariants as kinds;
 
     ghost begins = { scripts.a kinds.Permutation };
 
     fn comes(tokens: &[Token]) -> bool {
-        comes(tokens, Kind::Permutation)
+        comes(tokens, ScriptTokenKind::Permutation)
     }
 }
 
@@ -355,7 +355,7 @@ impl Part for Script {
         tokens: &'a [Token],
     ) -> Result<(WrittenSpec, &'a [Token]), Refused> {
         let (setups, rest) = any::<Setup>(alloc, text, tokens)?;
-        let (teardown, rest) = maybe_block(alloc, text, Kind::Teardown, rest)?;
+        let (teardown, rest) = maybe_block(alloc, text, ScriptTokenKind::Teardown, rest)?;
         let (sessions, rest) = some::<Session>(alloc, text, rest)?;
         let (permutations, rest) = any::<Permutation>(alloc, text, rest)?;
         let spec = WrittenSpec {

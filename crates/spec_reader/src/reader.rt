@@ -1,8 +1,8 @@
 ghost use Rattle.std.specs.Prelude.{◌≡◌, ◌∷◌, [], ◌++◌, ◌+◌, ◌<◌, ◌^◌, if◌then◌else◌, filter, Some, OnOk, IfOk};
 ghost use Rattle.spec_reader.specs.Tokens as cut;
-ghost use Rattle.spec_reader.specs.declared.kind.Kind.TheVariants.{Fault};
+ghost use Rattle.spec_reader.specs.declared.kind.ScriptTokenKind.TheVariants.{Fault};
 
-use crate::kind::Kind;
+use crate::kind::ScriptTokenKind;
 use crate::piece::{Piece, piece_of};
 use crate::token::Token;
 use pg_values::NoMemory;
@@ -66,7 +66,7 @@ fn up_to_fault(
 {
     let mut list = ended_by(alloc, tokens, start)?;
     list.push(Token {
-        kind: Kind::Fault,
+        kind: ScriptTokenKind::Fault,
         start,
         end,
     })?;

@@ -1,10 +1,10 @@
-use crate::kind::{Kind, is_name, same_kind};
+use crate::kind::{ScriptTokenKind, is_name, same_kind};
 use grammar::Lexeme;
 
 /// A token and its places in the text: its first byte, and the byte behind its last.
 #[derive(Clone, Copy, Debug, PartialEq, Eq)]
 pub struct Token {
-    pub kind: Kind,
+    pub kind: ScriptTokenKind,
     pub start: usize,
     pub end: usize,
 }
@@ -12,13 +12,13 @@ pub struct Token {
 impl Lexeme for Token {
     ghost use Rattle.spec_reader.specs.Scripts as scripts;
 
-    type Kind = Kind;
+    type Kind = ScriptTokenKind;
 
     ghost a = { scripts.a };
 
     ghost a_name = { scripts.a_name };
 
-    fn is(self, kind: Kind) -> bool {
+    fn is(self, kind: ScriptTokenKind) -> bool {
         same_kind(self.kind, kind)
     }
 

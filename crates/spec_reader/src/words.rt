@@ -2,7 +2,7 @@ ghost use Rattle.std.specs.Prelude.{◌≡◌};
 ghost use Rattle.std.specs.Str.{bytes_eq};
 ghost use Rattle.spec_reader.specs.Words as words;
 
-use crate::kind::Kind;
+use crate::kind::ScriptTokenKind;
 
 fn same_word(a: &[u8], b: &[u8]) -> bool
     ensures { result ≡ bytes_eq a.now b.now }
@@ -11,22 +11,22 @@ fn same_word(a: &[u8], b: &[u8]) -> bool
 }
 
 /// The kind of a keyword, or of a name.
-pub fn word_kind(word: &[u8]) -> Kind
+pub fn word_kind(word: &[u8]) -> ScriptTokenKind
     ensures { result ≡ words.word_kind word.now }
 {
     if same_word(word, b"setup") {
-        Kind::Setup
+        ScriptTokenKind::Setup
     } else if same_word(word, b"teardown") {
-        Kind::Teardown
+        ScriptTokenKind::Teardown
     } else if same_word(word, b"session") {
-        Kind::Session
+        ScriptTokenKind::Session
     } else if same_word(word, b"step") {
-        Kind::Step
+        ScriptTokenKind::Step
     } else if same_word(word, b"permutation") {
-        Kind::Permutation
+        ScriptTokenKind::Permutation
     } else if same_word(word, b"notices") {
-        Kind::Notices
+        ScriptTokenKind::Notices
     } else {
-        Kind::Name
+        ScriptTokenKind::Name
     }
 }

@@ -9,7 +9,7 @@ use Rattle.sql_ast.specs.declared.bound.EdgeText.TheVariants as edges
 use Rattle.sql_ast.specs.declared.command.Command.{Command}
 use Rattle.sql_ast.specs.declared.command.Command.TheVariants as commands
 use Rattle.sql_ast.specs.declared.detachment.Detachment.{Detachment}
-use Rattle.sql_ast.specs.declared.isolation.Isolation.{Isolation}
+use Rattle.pg_values.specs.declared.isolation.Isolation.{Isolation}
 use Rattle.sql_ast.specs.declared.locked_table.LockedTable.{LockedTable}
 use Rattle.sql_ast.specs.declared.setting_value.SettingValue.{SettingValue}
 use Rattle.sql_ast.specs.declared.table_definition.ColumnDefinition.{ColumnDefinition}

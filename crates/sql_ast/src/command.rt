@@ -1,8 +1,7 @@
 use crate::{
-    BoundText, ColumnList, Detachment, Isolation, LockedTableList, NameList, Partitioning,
-    SettingValue,
+    BoundText, ColumnList, Detachment, LockedTableList, NameList, Partitioning, SettingValue,
 };
-use pg_values::{LockMode, PgText};
+use pg_values::{Isolation, LockMode, PgText};
 
 /// A statement that reads and changes no rows, as its text says it.
 #[derive(Debug, Drop)]

@@ -1,5 +1,5 @@
 use crate::{ListOf, NameList};
-use pg_values::PgText;
+use pg_values::{PgText, Strategy};
 
 /// A column, the name of its type, and whether it may not be null.
 #[derive(Debug, Drop)]
@@ -11,14 +11,6 @@ pub struct ColumnDefinition {
 
 /// Columns in order.
 pub type ColumnList = ListOf<ColumnDefinition>;
-
-/// The strategy of PARTITION BY.
-#[derive(Clone, Copy, Debug, PartialEq, Eq)]
-pub enum Strategy {
-    Range,
-    List,
-    Hash,
-}
 
 /// How a table is partitioned: PARTITION BY, and the columns of its key.
 #[derive(Debug, Drop)]

@@ -1,5 +1,8 @@
 pub mod Conditions
 pub mod Earlier
+pub mod EarlierColumns
 pub mod Joins
 pub mod Parts
+pub mod Places
+pub mod Settings
 pub mod Steps

@@ -1,18 +1,26 @@
-//! What a SELECT means, or the first reason why it means nothing.
+//! What a SELECT, a statement that changes rows and the arguments of a prepared one mean, or the first reason
+//! why they mean nothing.
 //!
-//! The tables are known before: `bind_select` is given the FROM items with their columns, and the
-//! parameters with their arguments. It answers what the statement asks for by places and values, or its
-//! first fault: too many FROM items, then a name that two of them have, then names and kinds in text
-//! order, then constants in text order.
+//! The tables are known before: `bind_select` is given the FROM items with their columns, `bind_insert`,
+//! `bind_update` and `bind_delete` the columns of their table, and all of them the parameters with their
+//! arguments. They answer what the statement asks for by places and values, or its first fault: of a SELECT
+//! too many FROM items and a name that two of them have, then names and kinds in text order, then constants in
+//! text order. `bind_arguments` answers the parameters themselves in the same way.
 //!
-//! The answer is a list of faults and a meaning that is total: the first fault, else the meaning. The
+//! Each answer is a list of faults and a meaning that is total: the first fault, else the meaning. The
 //! lists are put together of those of expressions (`expression_binder`).
 #![tactic(auto)]
 
+mod arguments;
+mod changes;
 mod counts;
 mod from;
+mod inserts;
 mod items;
 mod keys;
 mod selects;
 
+pub use arguments::{Wanted, bind_arguments};
+pub use changes::{bind_delete, bind_update};
+pub use inserts::bind_insert;
 pub use selects::bind_select;

@@ -6,8 +6,8 @@ use Rattle.grammar.specs.Repeats.{second_of, chain_by, read_repeats}
 use Rattle.grammar.specs.declared.refused.Refused.{Refused}
 use Rattle.grammar.proofs.WholeLaws.{gives_by}
 use Rattle.std.specs.Prelude.{Result}
-use Rattle.sql_tokens.specs.declared.kind.Kind.{Kind}
-use Rattle.sql_tokens.specs.declared.kind.Kind.TheVariants as word
+use Rattle.sql_tokens.specs.declared.kind.TokenKind.{TokenKind}
+use Rattle.sql_tokens.specs.declared.kind.TokenKind.TheVariants as word
 use Rattle.sql_tokens.specs.declared.token.Token.{Token}
 use Rattle.sql_expressions.specs.Grammar.{any, below, freed, nullity_at, rules, sum_at, test_at, under_depth}
 use Rattle.sql_expressions.specs.Levels.{Deep, Room, Rules, begins_nested, begins_test, is_comparison, nested, call_of, tested, compared, inverted_by, unary, named_leaf, test, comparison, negation}
@@ -28,7 +28,7 @@ module _ (room : Room) (everything lower : Rules) (ts : List Token) where
   unary_with_room : (text : List ℕ) → begins_in begins_nested ts ≡ true → room 0 ≡ true → (unary text room everything lower).read ts ≡ (nested lower).read ts
   unary_with_room text b l = rw (b, l) refl
 
-  named_with_room : (text : List ℕ) (x : Kind × List ℕ) (rest : List Token) → (name text).read ts ≡ Ok (x, rest) → begins_in (a word.OpenParenthesis) rest ≡ true → room 0 ≡ true →
+  named_with_room : (text : List ℕ) (x : TokenKind × List ℕ) (rest : List Token) → (name text).read ts ≡ Ok (x, rest) → begins_in (a word.OpenParenthesis) rest ≡ true → room 0 ≡ true →
       (named_leaf text room everything lower).read ts ≡ (call_of lower.expression x.1).read rest
   named_with_room text x rest e b l = rw (e, b, l) (second_read x ((call_of lower.expression x.1).read rest))
 
@@ -54,7 +54,7 @@ module _ (text : List ℕ) (n m : ℕ) (h : n ≡ suc m) (ts : List Token) where
   unfolding under_depth
   unary_deeper b = subst (λ k. (rules text k).unary.read ts ≡ (nested (rules text m)).read ts) (sym h) (unary_with_room (below (suc m)) (any text) lower ts text b (is_below 0 (suc m) (omega arith)))
 
-  pub named_deeper : (x : Kind × List ℕ) (rest : List Token) → (name text).read ts ≡ Ok (x, rest) → begins_in (a word.OpenParenthesis) rest ≡ true → (named_at text n).read ts ≡ (call_of (rules text m).expression x.1).read rest
+  pub named_deeper : (x : TokenKind × List ℕ) (rest : List Token) → (name text).read ts ≡ Ok (x, rest) → begins_in (a word.OpenParenthesis) rest ≡ true → (named_at text n).read ts ≡ (call_of (rules text m).expression x.1).read rest
   unfolding under_depth
   named_deeper x rest e b = subst (λ k. (named_at text k).read ts ≡ (call_of (rules text m).expression x.1).read rest) (sym h) (named_with_room (below (suc m)) (any text) lower ts text x rest e b (is_below 0 (suc m) (omega arith)))
 

@@ -5,8 +5,8 @@ use Rattle.grammar.specs.Reading.{Class, one_texts, nothing_texts, both_texts, f
 use Rattle.grammar.specs.Repeats.{repeats_texts, always, second_of}
 use Rattle.grammar.proofs.Depths.{Inside, Grows, Union, grows_by, fixed, follow_union, both_union, value_union, either_union, repeats_union}
 use Rattle.grammar.proofs.Depths as depths
-use Rattle.sql_tokens.specs.declared.kind.Kind.{Kind}
-use Rattle.sql_tokens.specs.declared.kind.Kind.TheVariants as word
+use Rattle.sql_tokens.specs.declared.kind.TokenKind.{TokenKind}
+use Rattle.sql_tokens.specs.declared.kind.TokenKind.TheVariants as word
 use Rattle.sql_tokens.specs.declared.token.Token.{Token}
 use Rattle.sql_tokens.specs.Classes.{a}
 use Rattle.sql_expressions.specs.Words.{name, literal, column}
@@ -21,10 +21,10 @@ abbrev Of : Type 0 → Type 1
 Of A = List Token → A → Type 0
 
 -- words before and behind
-behind_union : {A : Type 0} {G : Family A} {P : Of A} (k : Kind) → Union G P → Union (λ n. value_texts (λ (x : Token × A). x.1) (both_texts (one_texts (a k)) (G n))) (value_texts (λ (x : Token × A). x.1) (both_texts (one_texts (a k)) P))
+behind_union : {A : Type 0} {G : Family A} {P : Of A} (k : TokenKind) → Union G P → Union (λ n. value_texts (λ (x : Token × A). x.1) (both_texts (one_texts (a k)) (G n))) (value_texts (λ (x : Token × A). x.1) (both_texts (one_texts (a k)) P))
 behind_union {A} {G = G} {P = P} k u = value_union (λ (x : Token × A). x.1) (both_union (fixed (one_texts (a k))) u)
 
-before_union : {A : Type 0} {G : Family A} {P : Of A} (k : Kind) → Union G P → Union (λ n. value_texts (λ (x : A × Token). x.0) (both_texts (G n) (one_texts (a k)))) (value_texts (λ (x : A × Token). x.0) (both_texts P (one_texts (a k))))
+before_union : {A : Type 0} {G : Family A} {P : Of A} (k : TokenKind) → Union G P → Union (λ n. value_texts (λ (x : A × Token). x.0) (both_texts (G n) (one_texts (a k)))) (value_texts (λ (x : A × Token). x.0) (both_texts P (one_texts (a k))))
 before_union {A} {G = G} {P = P} k u = value_union (λ (x : A × Token). x.0) (both_union u (fixed (one_texts (a k))))
 
 -- chains

@@ -6,8 +6,8 @@ use Rattle.grammar.specs.Repeats.{second_of, always}
 use Rattle.grammar.proofs.Laws.{Law, Disjoint, head_eq, or_true_left, or_true_right}
 use Rattle.grammar.proofs.Chain.{none, with, or_false}
 use Rattle.grammar.proofs.Build.{token, empty, valued, wide, seq, then_by, alt, after_token, before_token, chained_by}
-use Rattle.sql_tokens.specs.declared.kind.Kind.{Kind}
-use Rattle.sql_tokens.specs.declared.kind.Kind.TheVariants as word
+use Rattle.sql_tokens.specs.declared.kind.TokenKind.{TokenKind}
+use Rattle.sql_tokens.specs.declared.kind.TokenKind.TheVariants as word
 use Rattle.sql_tokens.specs.declared.token.Token.{Token}
 use Rattle.sql_tokens.specs.Classes.{a, a_name}
 use Rattle.sql_expressions.specs.Words.{a_literal, literal, column}
@@ -267,7 +267,7 @@ module _ (text : List ℕ) (room : Room) (any : Rules) (s : Sample any) (r : Rul
   abbrev below : Rules
   below = within_any any r
 
-  behind_name_law : (x : Kind × List ℕ) → Law (behind_name text room any below x) after_unary true after_unary
+  behind_name_law : (x : TokenKind × List ℕ) → Law (behind_name text room any below x) after_unary true after_unary
   behind_name_law x =
       wide (if_room_law (a word.OpenParenthesis) (call_of any.expression x.1).texts (call_of below.expression x.1) (as_value flat (column text x)) behind_column true none behind_column
       (call_opens any s x.1) (λ ts d w. w) (λ ts d w. w) (valued flat (column_law text x)) (apart _ _ (λ t. refl) refl) (room 0) (λ h. call_law below (laws 0 h) x.1))

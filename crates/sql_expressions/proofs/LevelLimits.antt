@@ -4,8 +4,8 @@ use Rattle.std.proofs.Common.{◌≡◌, ℕ, suc, ◌<◌, ◌≤◌, max, zero
 use Rattle.grammar.specs.Reading.{Class, Rule, one_texts, both_texts, value_texts, either_texts, as_value}
 use Rattle.grammar.specs.Repeats.{always, second_of}
 use Rattle.grammar.proofs.Laws.{Disjoint}
-use Rattle.sql_tokens.specs.declared.kind.Kind.{Kind}
-use Rattle.sql_tokens.specs.declared.kind.Kind.TheVariants as word
+use Rattle.sql_tokens.specs.declared.kind.TokenKind.{TokenKind}
+use Rattle.sql_tokens.specs.declared.kind.TokenKind.TheVariants as word
 use Rattle.sql_tokens.specs.declared.token.Token.{Token}
 use Rattle.sql_expressions.specs.Grammar.{below}
 use Rattle.sql_expressions.specs.Levels.{Deep, Parts, Rules, flat, under, deeper, itself, join, only_part, add_part, node_of, has_room, parts_room, list_of, all_call, call_value, arguments, call_of, behind_name, named_leaf, nested, unary, chain, is_comparison, in_value, between_value, in_or_between, tested, maybe_tested, test, compared_value, compared, maybe_compared, comparison, said, null_or_not, null_join, nullity, inverted_by, negation, parts, all_value, any_value, conjunction, disjunction}
@@ -231,7 +231,7 @@ module _ (text : List ℕ) (n : ℕ) where
     abbrev lower : Rules
     lower = within_any any r
 
-    behind_name_limited : (x : Kind × List ℕ) → Lim (Unit {0}) High (behind_name text (below n) any lower x).texts (behind_name text (below n) any lower x).free
+    behind_name_limited : (x : TokenKind × List ℕ) → Lim (Unit {0}) High (behind_name text (below n) any lower x).texts (behind_name text (below n) any lower x).free
     behind_name_limited x =
         room_limited (value_limited {G = High} flat (adapt (column_limited text x) (λ y g. zero-le) (λ y g. tt))) (below n 0)
         (λ e. call_limited any r (l 0 e) (is_below n 0 e) x.1) (λ ts y w g. let i = (call_deep any x.1).holds ts y w in has_below n 0 (omega arith))

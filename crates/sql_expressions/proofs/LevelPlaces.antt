@@ -8,8 +8,8 @@ use Rattle.grammar.specs.Reading.{Class, Rule, nothing_texts, follow_texts, valu
 use Rattle.grammar.specs.Repeats.{always, second_of}
 use Rattle.sql_tokens.specs.Contents.{string_in}
 use Rattle.sql_tokens.specs.Words as words
-use Rattle.sql_tokens.specs.declared.kind.Kind.{Kind}
-use Rattle.sql_tokens.specs.declared.kind.Kind.TheVariants as word
+use Rattle.sql_tokens.specs.declared.kind.TokenKind.{TokenKind}
+use Rattle.sql_tokens.specs.declared.kind.TokenKind.TheVariants as word
 use Rattle.sql_tokens.specs.declared.token.Token.{Token}
 use Rattle.sql_expressions.specs.Grammar.{Texts, endless, product_over, sum_over, conjunction_over, expression_over, test_over, over, nullity_over, nesting, any}
 use Rattle.sql_expressions.specs.Levels as Levels
@@ -175,7 +175,7 @@ module _ (u : Token) (h : begins_unary u ≡ true) (text : List ℕ) where
       (λ x. maybe_cast (words.is x.0 word.Tableoid) (leaf.TableNameOf table) (leaf.ColumnOf table x.1))
       (λ c x y b k. ([], leaf.ColumnOf table x.1, if_some (words.is x.0 word.Tableoid) (a word.TypeCast) (Words.cast (leaf.TableNameOf table)) (nothing (leaf.ColumnOf table x.1)) (leaf.ColumnOf table x.1) (refl, refl)))))
 
-  column_fits : (x : Kind × List ℕ) → Goes_on (column text x)
+  column_fits : (x : TokenKind × List ℕ) → Goes_on (column text x)
   column_fits x =
       let casts = maybe_cast (words.is x.0 word.Tableoid) leaf.TableName (leaf.Column x.1) in
       either_fits u h (dotted_fits x.1)
@@ -253,7 +253,7 @@ module _ (u : Token) (h : begins_unary u ≡ true) (text : List ℕ) where
         into u h (either_fits u h (value_fits u h (Levels.under _) (behind_fits u h word.Not before_free (leads before before (a word.Not) (λ t. refl) refl) negations))
         (chain_fits u h (a word.Is) always Levels.itself Levels.null_join (leads behind before (a word.Is) (λ t. refl) refl) comparisons null_or_not_fits)) (negation_to text)
 
-    abbrev behind_name_texts : Rules → Kind × List ℕ → Of Deep
+    abbrev behind_name_texts : Rules → TokenKind × List ℕ → Of Deep
     behind_name_texts r x = either_texts (Levels.call_of r.expression x.1).texts (as_value Levels.flat (column text x)).free
 
     next_unary : Operand (Levels.unary text endless (over K) (over K)).free (any text).unary.texts

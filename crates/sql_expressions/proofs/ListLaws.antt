@@ -6,8 +6,8 @@ use Rattle.grammar.proofs.Chain.{none, with}
 use Rattle.grammar.proofs.Build.{token, valued}
 use Rattle.grammar.proofs.WordLaws.{between_law, separated_law}
 use Rattle.sql_tokens.specs.Contents.{name_in, number_in}
-use Rattle.sql_tokens.specs.declared.kind.Kind.{Kind}
-use Rattle.sql_tokens.specs.declared.kind.Kind.TheVariants as word
+use Rattle.sql_tokens.specs.declared.kind.TokenKind.{TokenKind}
+use Rattle.sql_tokens.specs.declared.kind.TokenKind.TheVariants as word
 use Rattle.sql_tokens.specs.declared.token.Token.{Token}
 use Rattle.sql_tokens.specs.Classes.{a, a_name}
 use Rattle.sql_expressions.specs.Words.{is_long_name}
@@ -30,7 +30,7 @@ first_true : (u v : Bool) → (u && v) ≡ true → u ≡ true
 first_true true v h = refl
 first_true false v h = cc
 
-pub name_but_law : (text : List ℕ) (k : Kind) → (a_name (sample word.Name) && not (is_long_name text (sample word.Name) && not (a k (sample word.Name)))) ≡ true → Law (lists.name_but text k) a_name false none
+pub name_but_law : (text : List ℕ) (k : TokenKind) → (a_name (sample word.Name) && not (is_long_name text (sample word.Name) && not (a k (sample word.Name)))) ≡ true → Law (lists.name_but text k) a_name false none
 name_but_law text k e =
     valued (name_in text) (no_longer_law a_name (lists.is_long_but text k) (λ t h. first_true (a_name t) _ (first_true (is_long_name text t) _ h)) (sample word.Name) e)
 
@@ -39,5 +39,5 @@ both_true true true w h = h
 both_true true false w h = cc
 both_true false v w h = cc
 
-pub other_name_law : (text : List ℕ) (k : Kind) → (lists.is_other_name k (sample word.Name) && not (is_long_name text (sample word.Name) && not (a k (sample word.Name)))) ≡ true → Law (lists.other_name text k) (lists.is_other_name k) false none
+pub other_name_law : (text : List ℕ) (k : TokenKind) → (lists.is_other_name k (sample word.Name) && not (is_long_name text (sample word.Name) && not (a k (sample word.Name)))) ≡ true → Law (lists.other_name text k) (lists.is_other_name k) false none
 other_name_law text k e = valued (name_in text) (no_longer_law (lists.is_other_name k) (λ t. is_long_name text t && not (a k t)) (λ t h. both_true (a_name t) _ _ h) (sample word.Name) e)

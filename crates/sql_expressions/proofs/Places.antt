@@ -4,7 +4,7 @@ use Rattle.std.proofs.lemmas.List.{append_assoc}
 use Rattle.std.proofs.lemmas.List.Elements.{All-nil, All-cons}
 use Rattle.grammar.specs.Reading.{Class, Rule, limit_at, Stop, begins_in, follow, as_value, either}
 use Rattle.grammar.specs.Repeats.{second_of, chain_by}
-use Rattle.sql_tokens.specs.declared.kind.Kind.TheVariants as word
+use Rattle.sql_tokens.specs.declared.kind.TokenKind.TheVariants as word
 use Rattle.sql_tokens.specs.declared.token.Token.{Token}
 use Rattle.sql_expressions.specs.Grammar.{any, freed, below, unary_at, product_at, sum_at, test_at, comparison_at, nullity_at, negation_at, conjunction_at, expression_at, under_depth, tree_of, expression}
 use Rattle.sql_expressions.specs.Levels as Levels

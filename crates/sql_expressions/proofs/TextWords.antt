@@ -15,8 +15,8 @@ use Rattle.sql_tokens.specs.Signs.{greater, less, sign, single}
 use Rattle.sql_tokens.specs.Tokens.{behind, taken, told, tokens_by, tokens_of}
 use Rattle.sql_tokens.specs.Words.{is, is_name, word_kind, words_of, look_up, two, three, four, five, six, seven, eight, nine, ten, eleven, twelve}
 use Rattle.sql_tokens.specs.declared.bytes.Class.TheVariants as class
-use Rattle.sql_tokens.specs.declared.kind.Kind.{Kind}
-use Rattle.sql_tokens.specs.declared.kind.Kind.TheVariants as word
+use Rattle.sql_tokens.specs.declared.kind.TokenKind.{TokenKind}
+use Rattle.sql_tokens.specs.declared.kind.TokenKind.TheVariants as word
 use Rattle.sql_tokens.specs.declared.numbers.TheConstants.{MOST_PARAMETER}
 use Rattle.sql_tokens.specs.declared.piece.Piece.{Piece}
 use Rattle.sql_tokens.specs.declared.piece.Piece.TheVariants.{Gap, Lexeme, Broken}
@@ -34,10 +34,10 @@ abbrev pub may_be_long : Class Token
 may_be_long t = a word.Name t || (a word.QuotedName t || a word.Text t)
 
 -- a kind of words or signs alone has no long name
-abbrev is_written : Kind → Bool
+abbrev is_written : TokenKind → Bool
 is_written k = is k word.Name || is k word.QuotedName
 
-abbrev IsBrief : Kind → List ℕ → Type 0
+abbrev IsBrief : TokenKind → List ℕ → Type 0
 IsBrief k bytes = is_written k ≡ false → is_name k ≡ true → nat_lt MOST_NAME_BYTES (length bytes) ≡ false
 
 abbrev IsBriefPiece : List ℕ → Piece → Type 0
@@ -46,7 +46,7 @@ IsBriefPiece z (Lexeme k n) = IsBrief k (take n z)
 IsBriefPiece z Broken = Unit {0}
 
 -- words
-skip : (b : Bool) (ws vs : List (List ℕ × Kind)) → b ≡ false → vs ≡ [] → cond b ws vs ≡ []
+skip : (b : Bool) (ws vs : List (List ℕ × TokenKind)) → b ≡ false → vs ≡ [] → cond b ws vs ≡ []
 skip true ws vs h e = cc
 skip false ws vs h e = e
 
@@ -54,7 +54,7 @@ module _ (n : ℕ) (h : nat_lt MOST_NAME_BYTES n ≡ true) where
   differs : (m : ℕ) → m < 64 → (n == m) ≡ false
   differs m l = grind (arith, h, l)
 
-  none : (m : ℕ) (ws vs : List (List ℕ × Kind)) → m < 64 → vs ≡ [] → cond (n == m) ws vs ≡ []
+  none : (m : ℕ) (ws vs : List (List ℕ × TokenKind)) → m < 64 → vs ≡ [] → cond (n == m) ws vs ≡ []
   none m ws vs l e = skip (n == m) ws vs (differs m l) e
 
   no_words : words_of n ≡ []
@@ -89,13 +89,13 @@ pick : (z : List ℕ) (b : Bool) (p q : Piece) → IsBriefPiece z p → IsBriefP
 pick z true p q h g = h
 pick z false p q h g = g
 
-other : (k : Kind) (w : List ℕ) → is_name k ≡ false → IsBrief k w
+other : (k : TokenKind) (w : List ℕ) → is_name k ≡ false → IsBrief k w
 other k w h e i = let f : true ≡ false = sym i ∙ h in cc
 
 quoted : (w : List ℕ) → IsBrief word.QuotedName w
 quoted w e i = let f : true ≡ false = e in cc
 
-sign_piece : (z : List ℕ) (k : Kind) (n : ℕ) → is_name k ≡ false → IsBriefPiece z (Lexeme k n)
+sign_piece : (z : List ℕ) (k : TokenKind) (n : ℕ) → is_name k ≡ false → IsBriefPiece z (Lexeme k n)
 sign_piece z k n h = other k (take n z) h
 
 closed_brief : (z : List ℕ) (o : Option ℕ) → IsBriefPiece z (closed o)
@@ -126,7 +126,7 @@ quoted_brief : (z : List ℕ) → IsBriefPiece z (quoted_name z)
 unfolding quoted_name
 quoted_brief z = name_of z (closing 34 false 1 (drop 1 z))
 
-apart_brief : (k : Kind) (z : List ℕ) (end : ℕ) → is_name k ≡ false → IsBriefPiece z (apart k z end)
+apart_brief : (k : TokenKind) (z : List ℕ) (end : ℕ) → is_name k ≡ false → IsBriefPiece z (apart k z end)
 apart_brief k z end h = pick z (belongs class.NameStart (slice_index z end)) Broken (Lexeme k end) tt (sign_piece z k end h)
 
 of_two : (b : Bool) → is_name (cond b word.Number word.Decimal) ≡ false
@@ -209,7 +209,7 @@ module _ (text : List ℕ) where
       append BriefToken _ _ (told_brief at (b ∷ z) e (next_piece (b ∷ z)) (next_brief (b ∷ z)))
       (behind_brief (tokens_by count) (λ m y i. tokens_brief count m y i) at (b ∷ z) e (taken (next_piece (b ∷ z))))
 
-  short_name : (k : Kind) (bytes : List ℕ) (quoted folded : List ℕ) → is k word.QuotedName ≡ false → length folded ≡ length bytes →
+  short_name : (k : TokenKind) (bytes : List ℕ) (quoted folded : List ℕ) → is k word.QuotedName ≡ false → length folded ≡ length bytes →
       (is_name k ≡ true → nat_lt MOST_NAME_BYTES (length bytes) ≡ false) → (b : Bool) → b ≡ is_name k →
       (b && nat_lt MOST_NAME_BYTES (length (cond (is k word.QuotedName) quoted folded))) ≡ false
   short_name k bytes quoted folded q e h true i = rw (q, e) (h (sym i))

@@ -9,8 +9,8 @@ use Rattle.grammar.specs.Repeats.{all_repeats, repeats_texts, step_to, second_of
 use Rattle.grammar.proofs.Depths.{Inside, value_inside}
 use Rattle.grammar.proofs.Laws.{head_eq, tail_eq}
 use Rattle.sql_tokens.specs.Words as words
-use Rattle.sql_tokens.specs.declared.kind.Kind.{Kind}
-use Rattle.sql_tokens.specs.declared.kind.Kind.TheVariants as word
+use Rattle.sql_tokens.specs.declared.kind.TokenKind.{TokenKind}
+use Rattle.sql_tokens.specs.declared.kind.TokenKind.TheVariants as word
 use Rattle.sql_tokens.specs.declared.token.Token.{Token}
 use Rattle.sql_tokens.specs.Classes.{a, a_name}
 use Rattle.sql_expressions.proofs.LevelLaws.{begins_leaf, begins_unary}
@@ -218,7 +218,7 @@ module _ (u : Token) (h : begins_unary u ≡ true) where
       record { goes = o.goes; inside = o.inside; swaps = o.swaps }
 
   -- a word before
-  pub behind_fits : {A : Type 0} {p q r : Place} {P U : Of A} (k : Kind) → NotBound p → Leads p (a k) q → Fits q r P U →
+  pub behind_fits : {A : Type 0} {p q r : Place} {P U : Of A} (k : TokenKind) → NotBound p → Leads p (a k) q → Fits q r P U →
       Fits p r (value_texts (λ (x : Token × A). x.1) (both_texts (one_texts (a k)) P)) (value_texts (λ (x : Token × A). x.1) (both_texts (one_texts (a k)) U))
   behind_fits {A} k n e l = value_fits (λ (x : Token × A). x.1) (both_fits (one_fits (a k) n e) l)
 

@@ -9,8 +9,8 @@ use Rattle.grammar.proofs.KindClasses as sides
 use Rattle.grammar.proofs.Build.{token, empty, valued, wide, then_by, alt, after_token, bar}
 use Rattle.sql_tokens.specs.Contents.{string_in}
 use Rattle.sql_tokens.specs.Words as words
-use Rattle.sql_tokens.specs.declared.kind.Kind.{Kind}
-use Rattle.sql_tokens.specs.declared.kind.Kind.TheVariants as word
+use Rattle.sql_tokens.specs.declared.kind.TokenKind.{TokenKind}
+use Rattle.sql_tokens.specs.declared.kind.TokenKind.TheVariants as word
 use Rattle.sql_tokens.specs.declared.token.Token.{Token}
 use Rattle.sql_tokens.proofs.EachKind.{each_kind}
 use Rattle.sql_ast.specs.declared.leaf.Leaf.{Leaf}
@@ -19,13 +19,13 @@ use Rattle.sql_tokens.specs.Classes.{a, a_name}
 use Rattle.sql_expressions.specs.Words.{a_literal, is_long_name, is_long_text, no_longer, named, name, string, literal_of, literal, either_if, cast, dotted, column}
 
 -- a token of each kind
-abbrev pub sample : Kind → Token
+abbrev pub sample : TokenKind → Token
 sample k = record { kind = k; start = 0; end = 0 }
 
-abbrev kind_of : Token → Kind
+abbrev kind_of : Token → TokenKind
 kind_of t = t.kind
 
-complete : (p : Kind → Bool) → every p words.kinds_list ≡ true → (k : Kind) → p k ≡ true
+complete : (p : TokenKind → Bool) → every p words.kinds_list ≡ true → (k : TokenKind) → p k ≡ true
 complete p h k = each_kind p h k
 
 -- the side conditions, by computation over the kinds
@@ -92,7 +92,7 @@ maybe_date_law text true l =
     wide (alt (a word.Text) (valued leaf.Date (string_law text)) (λ t h. h) l (apart _ _ (λ t. refl) refl)) (within _ _ (λ t. refl) refl) (within _ _ (λ t. refl) refl)
 maybe_date_law text false l = wide l (within _ _ (λ t. refl) refl) (within _ _ (λ t. refl) refl)
 
-pub column_law : (text : List ℕ) (x : Kind × List ℕ) → Law (column text x) behind_column true behind_column
+pub column_law : (text : List ℕ) (x : TokenKind × List ℕ) → Law (column text x) behind_column true behind_column
 column_law text x =
     wide (alt (a word.Dot) (dotted_law text x.1) (λ t h. h)
     (maybe_date_law text (words.is x.0 word.Date) (maybe_cast_law (words.is x.0 word.Tableoid) leaf.TableName (leaf.Column x.1)))

@@ -7,8 +7,8 @@ use Rattle.grammar.proofs.Laws.{Disjoint}
 use Rattle.sql_tokens.specs.Contents.{string_in}
 use Rattle.sql_tokens.specs.Tokens.{tokens_of}
 use Rattle.sql_tokens.specs.Words as words
-use Rattle.sql_tokens.specs.declared.kind.Kind.{Kind}
-use Rattle.sql_tokens.specs.declared.kind.Kind.TheVariants as word
+use Rattle.sql_tokens.specs.declared.kind.TokenKind.{TokenKind}
+use Rattle.sql_tokens.specs.declared.kind.TokenKind.TheVariants as word
 use Rattle.sql_tokens.specs.declared.token.Token.{Token}
 use Rattle.sql_expressions.specs.Limits.{IsShort}
 use Rattle.sql_tokens.specs.Classes.{a, a_name}
@@ -42,7 +42,7 @@ abbrev pub ShortThere : List ℕ → Token → Type 0
 ShortThere text t = Contains (tokens_of text) t → IsShort text t
 
 -- tokens that are neither names nor strings
-same_kind : (k : Kind) (t : Token) → may_be_long (sample k) ≡ false → a k t ≡ true → may_be_long t ≡ false
+same_kind : (k : TokenKind) (t : Token) → may_be_long (sample k) ≡ false → a k t ≡ true → may_be_long t ≡ false
 same_kind k t h e =
     let i : words.code t.kind ≡ words.code k = eqb-true (words.code t.kind) (words.code k) e in
     rw i h
@@ -53,7 +53,7 @@ module _ (text : List ℕ) where
       let p = neither (a word.Name t) (a word.QuotedName t) (a word.Text t) (d t h) in
       (word_is_short text t there p.0, not_first (a word.Text t) _ p.1)
 
-  pub plain_word : (k : Kind) → may_be_long (sample k) ≡ false → (t : Token) → a k t ≡ true → ShortThere text t
+  pub plain_word : (k : TokenKind) → may_be_long (sample k) ≡ false → (t : Token) → a k t ≡ true → ShortThere text t
   plain_word k h = plain (a k) (λ t e. same_kind k t h e)
 
   abbrev pub Always : {A : Type 0} → Of A → Of A → Type 0
@@ -93,7 +93,7 @@ module _ (text : List ℕ) where
       behind_limited (a word.Dot) (plain_word word.Dot refl)
       (value_limited second_of (follow_limited name_limited (λ x. maybe_cast (words.is x.0 word.Tableoid) (leaf.TableNameOf table) (leaf.ColumnOf table x.1))))
 
-  pub column_limited : (x : Kind × List ℕ) → Always (column text x).texts (column text x).free
+  pub column_limited : (x : TokenKind × List ℕ) → Always (column text x).texts (column text x).free
   column_limited x =
       let casts = maybe_cast (words.is x.0 word.Tableoid) leaf.TableName (leaf.Column x.1) in
       either_limited

@@ -3,8 +3,8 @@
 use Rattle.std.specs.Prelude.{ℕ, suc, Bool, true, false, ◌||◌, if◌then◌else◌, List, [], ◌∷◌, ◌++◌, length, max, Err}
 use Rattle.grammar.specs.Reading.{Class, Rule, one, nothing, follow, as_value, either, either_texts, begins_in, limit_at}
 use Rattle.grammar.specs.Repeats.{second_of, chain_by, always}
-use Rattle.sql_tokens.specs.declared.kind.Kind.{Kind}
-use Rattle.sql_tokens.specs.declared.kind.Kind.TheVariants as word
+use Rattle.sql_tokens.specs.declared.kind.TokenKind.{TokenKind}
+use Rattle.sql_tokens.specs.declared.kind.TokenKind.TheVariants as word
 use Rattle.sql_tokens.specs.declared.token.Token.{Token}
 use Rattle.sql_ast.specs.declared.leaf.Leaf.{Leaf}
 use Rattle.sql_ast.specs.declared.leaf.Operator.{Operator}
@@ -99,7 +99,7 @@ call_of expr f =
     a word.OpenParenthesis >> either (a word.Star) (as_value (all_call f) (one (a word.Star))) (as_value (call_value f) (arguments expr)) << a word.CloseParenthesis
 
 -- behind a name: a call, or the rest of a column
-abbrev pub behind_name : List ℕ → Room → Rules → Rules → Kind × List ℕ → Rule Token Deep
+abbrev pub behind_name : List ℕ → Room → Rules → Rules → TokenKind × List ℕ → Rule Token Deep
 behind_name text room any below x =
     if_room (room 0) (a word.OpenParenthesis) (call_of any.expression x.1).texts (call_of below.expression x.1) (as_value flat (column text x))
 

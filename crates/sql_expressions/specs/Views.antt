@@ -1,7 +1,7 @@
 -- How the code sees what it reads, and its levels by number.
 use Rattle.std.specs.Prelude.{◌≡◌, ◌<◌, ◌≤◌, ◌⊎◌, ℕ, List, length, map}
 use Rattle.grammar.specs.Reading.{Class, Rule}
-use Rattle.sql_tokens.specs.declared.kind.Kind.TheVariants as word
+use Rattle.sql_tokens.specs.declared.kind.TokenKind.TheVariants as word
 use Rattle.sql_tokens.specs.declared.token.Token.{Token}
 use Rattle.sql_expressions.specs.Levels as level
 use Rattle.grammar.specs.Reading.{as_value}

@@ -7,8 +7,8 @@ use Rattle.grammar.specs.Words.{◌>>◌}
 use Rattle.sql_tokens.specs.Classes.{a, a_name}
 use Rattle.sql_tokens.specs.Contents.{name_in, number_in, string_in}
 use Rattle.sql_tokens.specs.Words as words
-use Rattle.sql_tokens.specs.declared.kind.Kind.{Kind}
-use Rattle.sql_tokens.specs.declared.kind.Kind.TheVariants as word
+use Rattle.sql_tokens.specs.declared.kind.TokenKind.{TokenKind}
+use Rattle.sql_tokens.specs.declared.kind.TokenKind.TheVariants as word
 use Rattle.sql_tokens.specs.declared.token.Token.{Token}
 use Rattle.sql_ast.specs.declared.leaf.Leaf.{Leaf}
 use Rattle.sql_ast.specs.declared.leaf.Leaf.TheVariants as leaf
@@ -26,10 +26,10 @@ abbrev pub no_longer : Class Token → Class Token → Rule Token Token
 no_longer c long = barred long (one_texts long) (one (λ t. c t && not (long t)))
 
 -- name, with its kind
-abbrev pub named : List ℕ → Token → Kind × List ℕ
+abbrev pub named : List ℕ → Token → TokenKind × List ℕ
 named text t = (t.kind, name_in text t)
 
-abbrev pub name : List ℕ → Rule Token (Kind × List ℕ)
+abbrev pub name : List ℕ → Rule Token (TokenKind × List ℕ)
 name text = as_value (named text) (no_longer a_name (is_long_name text))
 
 -- string
@@ -65,14 +65,14 @@ abbrev pub cast : Leaf → Rule Token Leaf
 cast l = as_value (λ (t : Token). l) past_cast
 
 -- behind "table" ".": the name of a column; behind TABLEOID a cast makes it the name of the row's table
-abbrev pub column_of : List ℕ → Kind × List ℕ → Rule Token Leaf
+abbrev pub column_of : List ℕ → TokenKind × List ℕ → Rule Token Leaf
 column_of table x = either_if (words.is x.0 word.Tableoid) (a word.TypeCast) (cast (leaf.TableNameOf table)) (nothing (leaf.ColumnOf table x.1))
 
 abbrev pub dotted : List ℕ → List ℕ → Rule Token Leaf
 dotted text table = a word.Dot >> as_value second_of (follow (name text) (column_of table))
 
 -- behind a name that is no function: "." name, a string behind DATE, a cast behind TABLEOID, or nothing
-abbrev pub column : List ℕ → Kind × List ℕ → Rule Token Leaf
+abbrev pub column : List ℕ → TokenKind × List ℕ → Rule Token Leaf
 column text x =
     either (a word.Dot) (dotted text x.1)
     (either_if (words.is x.0 word.Date) (a word.Text) (as_value leaf.Date (string text))

@@ -8,18 +8,22 @@ ghost use Rattle.sql_expressions.specs.Lists as lists;
 use crate::{MOST_NAME_BYTES, name};
 use grammar::{Refused, comes, split, word};
 use pg_values::PgText;
-use sql_tokens::{Kind, Token, is_name, name_of, number_of, same_kind};
+use sql_tokens::{Token, TokenKind, is_name, name_of, number_of, same_kind};
 use std::alloc::Global;
 
 /// Whether one of two words comes next.
-pub fn one_of_comes(tokens: &[Token], one: Kind, other: Kind) -> bool
+pub fn one_of_comes(tokens: &[Token], one: TokenKind, other: TokenKind) -> bool
     ensures { result ≡ begins_in (words.one_of (a one) (a other)) tokens.now }
 {
     comes(tokens, one) || comes(tokens, other)
 }
 
 /// One of two words.
-pub fn one_of(tokens: &[Token], one: Kind, other: Kind) -> Result<(Token, &[Token]), Refused>
+pub fn one_of(
+    tokens: &[Token],
+    one: TokenKind,
+    other: TokenKind,
+) -> Result<(Token, &[Token]), Refused>
     ensures { Gives (λ x. (x.0, x.1.now)) result (read_one (words.one_of (a one) (a other)) tokens.now) }
 {
     match split(tokens) {
@@ -37,8 +41,8 @@ pub fn one_of(tokens: &[Token], one: Kind, other: Kind) -> Result<(Token, &[Toke
 /// One of two words, or nothing.
 pub fn maybe_one_of(
     tokens: &[Token],
-    one: Kind,
-    other: Kind,
+    one: TokenKind,
+    other: TokenKind,
 ) -> Result<(Option<Token>, &[Token]), Refused>
     ensures { Gives (λ x. (x.0, x.1.now)) result ((words.maybe (words.one_of (a one) (a other))).read tokens.now) }
 {
@@ -62,7 +66,7 @@ pub fn plain_name<'a>(
 }
 
 /// Whether a name that is not this word comes next.
-pub fn other_name_comes(tokens: &[Token], kind: Kind) -> bool
+pub fn other_name_comes(tokens: &[Token], kind: TokenKind) -> bool
     ensures { result ≡ begins_in (lists.is_other_name kind) tokens.now }
 {
     match split(tokens) {
@@ -75,7 +79,7 @@ pub fn other_name_comes(tokens: &[Token], kind: Kind) -> bool
 pub fn other_name<'a>(
     alloc: Global,
     text: &[u8],
-    kind: Kind,
+    kind: TokenKind,
     tokens: &'a [Token],
 ) -> Result<(PgText, &'a [Token]), Refused>
     ensures { Gives (λ x. (x.0, x.1.now)) result ((lists.other_name text.now kind).read tokens.now) }
@@ -97,7 +101,7 @@ pub fn other_name<'a>(
 pub fn name_but<'a>(
     alloc: Global,
     text: &[u8],
-    kind: Kind,
+    kind: TokenKind,
     tokens: &'a [Token],
 ) -> Result<(PgText, &'a [Token]), Refused>
     ensures { Gives (λ x. (x.0, x.1.now)) result ((lists.name_but text.now kind).read tokens.now) }
@@ -119,6 +123,6 @@ pub fn name_but<'a>(
 pub fn number<'a>(text: &[u8], tokens: &'a [Token]) -> Result<(u64, &'a [Token]), Refused>
     ensures { Gives (λ x. (x.0, x.1.now)) result ((lists.number text.now).read tokens.now) }
 {
-    let (first, rest) = word(tokens, Kind::Number)?;
+    let (first, rest) = word(tokens, TokenKind::Number)?;
     Ok((number_of(text, first), rest))
 }

@@ -5,7 +5,7 @@ ghost use Rattle.sql_expressions.specs.Lists as lists;
 use crate::plain_name;
 use grammar::{Part, Refused, more_parts, separated};
 use pg_values::PgText;
-use sql_tokens::{Kind, Token};
+use sql_tokens::{Token, TokenKind};
 use std::alloc::Global;
 
 struct Name;
@@ -44,7 +44,7 @@ pub fn with_more_names<'a>(
 {
     let mut names = Vec::new(alloc);
     names.push(name)?;
-    more_parts::<Name>(alloc, text, Kind::Comma, names, tokens)
+    more_parts::<Name>(alloc, text, TokenKind::Comma, names, tokens)
 }
 
 /// Names with commas between.
@@ -55,5 +55,5 @@ pub fn names<'a>(
 ) -> Result<(Vec<PgText>, &'a [Token]), Refused>
     ensures { Gives (λ x. (x.0.items, x.1.now)) result ((lists.commas (lists.plain_name text.now)).read tokens.now) }
 {
-    separated::<Name>(alloc, text, Kind::Comma, tokens)
+    separated::<Name>(alloc, text, TokenKind::Comma, tokens)
 }

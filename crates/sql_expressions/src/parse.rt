@@ -10,7 +10,7 @@ use grammar::{Part, Refused, token_at, whole};
 use pg_values::{NoMemory, Which};
 use sql_ast::Expr;
 use sql_tokens::{
-    Kind, Token, called, is_left_out, is_name, name_of, read_tokens, same_kind, string_of,
+    Token, TokenKind, called, is_left_out, is_name, name_of, read_tokens, same_kind, string_of,
 };
 use std::alloc::Global;
 
@@ -41,7 +41,7 @@ fn is_long_name(alloc: Global, text: &[u8], token: Token) -> Result<bool, NoMemo
 fn is_long_text(alloc: Global, text: &[u8], token: Token) -> Result<bool, NoMemory>
     ensures { IfOk result (λ b. b ≡ words.is_long_text text.now token) }
 {
-    if !same_kind(token.kind, Kind::Text) {
+    if !same_kind(token.kind, TokenKind::Text) {
         return Ok(false);
     }
     let string = string_of(alloc, text, token)?;

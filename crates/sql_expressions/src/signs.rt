@@ -7,7 +7,7 @@ ghost use Rattle.sql_expressions.specs.Views as views;
 use crate::words::literal_comes;
 use grammar::{Refused, comes, name_comes, split};
 use sql_ast::Operator;
-use sql_tokens::{Kind, Token};
+use sql_tokens::{Token, TokenKind};
 
 /// A chain of operators that are taken together from the left.
 #[derive(Clone, Copy)]
@@ -27,16 +27,16 @@ pub(crate) fn operator_of(sign: Token) -> Operator
     ensures { result ≡ levels.operator_of sign }
 {
     match sign.kind {
-        Kind::Plus => Operator::Add,
-        Kind::Minus => Operator::Subtract,
-        Kind::Star => Operator::Multiply,
-        Kind::Slash => Operator::Divide,
-        Kind::Percent => Operator::Remainder,
-        Kind::Equal => Operator::Equal,
-        Kind::NotEqual => Operator::NotEqual,
-        Kind::Less => Operator::Less,
-        Kind::LessEqual => Operator::LessEqual,
-        Kind::Greater => Operator::Greater,
+        TokenKind::Plus => Operator::Add,
+        TokenKind::Minus => Operator::Subtract,
+        TokenKind::Star => Operator::Multiply,
+        TokenKind::Slash => Operator::Divide,
+        TokenKind::Percent => Operator::Remainder,
+        TokenKind::Equal => Operator::Equal,
+        TokenKind::NotEqual => Operator::NotEqual,
+        TokenKind::Less => Operator::Less,
+        TokenKind::LessEqual => Operator::LessEqual,
+        TokenKind::Greater => Operator::Greater,
         _ => Operator::GreaterEqual,
     }
 }
@@ -45,9 +45,11 @@ pub(crate) fn sign_comes(chain: Chain, tokens: &[Token]) -> bool
     ensures { result ≡ begins_in (views.sign_of chain) tokens.now }
 {
     match chain {
-        Chain::Sum => comes(tokens, Kind::Plus) || comes(tokens, Kind::Minus),
+        Chain::Sum => comes(tokens, TokenKind::Plus) || comes(tokens, TokenKind::Minus),
         Chain::Product => {
-            comes(tokens, Kind::Star) || comes(tokens, Kind::Slash) || comes(tokens, Kind::Percent)
+            comes(tokens, TokenKind::Star)
+                || comes(tokens, TokenKind::Slash)
+                || comes(tokens, TokenKind::Percent)
         }
     }
 }
@@ -55,38 +57,43 @@ pub(crate) fn sign_comes(chain: Chain, tokens: &[Token]) -> bool
 pub(crate) fn comparison_comes(tokens: &[Token]) -> bool
     ensures { result ≡ begins_in levels.is_comparison tokens.now }
 {
-    comes(tokens, Kind::Equal)
-        || comes(tokens, Kind::NotEqual)
-        || comes(tokens, Kind::Less)
-        || comes(tokens, Kind::LessEqual)
-        || comes(tokens, Kind::Greater)
-        || comes(tokens, Kind::GreaterEqual)
+    comes(tokens, TokenKind::Equal)
+        || comes(tokens, TokenKind::NotEqual)
+        || comes(tokens, TokenKind::Less)
+        || comes(tokens, TokenKind::LessEqual)
+        || comes(tokens, TokenKind::Greater)
+        || comes(tokens, TokenKind::GreaterEqual)
 }
 
 pub(crate) fn test_comes(tokens: &[Token]) -> bool
     ensures { result ≡ begins_in levels.begins_test tokens.now }
 {
-    comes(tokens, Kind::Not) || comes(tokens, Kind::In) || comes(tokens, Kind::Between)
+    comes(tokens, TokenKind::Not)
+        || comes(tokens, TokenKind::In)
+        || comes(tokens, TokenKind::Between)
 }
 
 pub(crate) fn nested_comes(tokens: &[Token]) -> bool
     ensures { result ≡ begins_in levels.begins_nested tokens.now }
 {
-    comes(tokens, Kind::Minus) || comes(tokens, Kind::OpenParenthesis)
+    comes(tokens, TokenKind::Minus) || comes(tokens, TokenKind::OpenParenthesis)
 }
 
 pub(crate) fn expression_comes(tokens: &[Token]) -> bool
     ensures { result ≡ begins_in levels.begins_expression tokens.now }
 {
-    comes(tokens, Kind::Not) || nested_comes(tokens) || name_comes(tokens) || literal_comes(tokens)
+    comes(tokens, TokenKind::Not)
+        || nested_comes(tokens)
+        || name_comes(tokens)
+        || literal_comes(tokens)
 }
 
 pub(crate) fn joint_comes(joint: Joint, tokens: &[Token]) -> bool
     ensures { result ≡ begins_in (views.joint_sign joint) tokens.now }
 {
     match joint {
-        Joint::Or => comes(tokens, Kind::Or),
-        Joint::And => comes(tokens, Kind::And),
+        Joint::Or => comes(tokens, TokenKind::Or),
+        Joint::And => comes(tokens, TokenKind::And),
     }
 }
 

@@ -6,7 +6,7 @@ ghost use Rattle.sql_expressions.specs.Words as words;
 use grammar::{Refused, comes, split, word};
 use pg_values::PgText;
 use sql_ast::Leaf;
-use sql_tokens::{Kind, Token, is_name, name_of, number_of, same_kind, string_of};
+use sql_tokens::{Token, TokenKind, is_name, name_of, number_of, same_kind, string_of};
 use std::alloc::Global;
 
 /// The most bytes of a name, behind its folding and between its quotes.
@@ -20,7 +20,7 @@ pub fn name<'a>(
     alloc: Global,
     text: &[u8],
     tokens: &'a [Token],
-) -> Result<(Kind, PgText, &'a [Token]), Refused>
+) -> Result<(TokenKind, PgText, &'a [Token]), Refused>
     ensures { Gives (λ x. ((x.0, x.1), x.2.now)) result ((words.name text.now).read tokens.now) }
 {
     let Some((first, rest)) = split(tokens) else {
@@ -47,7 +47,7 @@ pub fn string<'a>(
     let Some((first, rest)) = split(tokens) else {
         return Err(Refused::Syntax(0));
     };
-    if !same_kind(first.kind, Kind::Text) {
+    if !same_kind(first.kind, TokenKind::Text) {
         return Err(Refused::Syntax(tokens.len()));
     }
     let string = string_of(alloc, text, first)?;
@@ -68,18 +68,18 @@ pub(crate) fn literal<'a>(
     let Some((first, rest)) = split(tokens) else {
         return Err(Refused::Syntax(0));
     };
-    if same_kind(first.kind, Kind::Number) {
+    if same_kind(first.kind, TokenKind::Number) {
         Ok((Leaf::Number(number_of(text, first)), rest))
-    } else if same_kind(first.kind, Kind::Text) {
+    } else if same_kind(first.kind, TokenKind::Text) {
         let (string, rest) = string(alloc, text, tokens)?;
         Ok((Leaf::Text(string), rest))
-    } else if same_kind(first.kind, Kind::Null) {
+    } else if same_kind(first.kind, TokenKind::Null) {
         Ok((Leaf::Null, rest))
-    } else if same_kind(first.kind, Kind::True) {
+    } else if same_kind(first.kind, TokenKind::True) {
         Ok((Leaf::Truth(true), rest))
-    } else if same_kind(first.kind, Kind::False) {
+    } else if same_kind(first.kind, TokenKind::False) {
         Ok((Leaf::Truth(false), rest))
-    } else if same_kind(first.kind, Kind::Parameter) {
+    } else if same_kind(first.kind, TokenKind::Parameter) {
         Ok((Leaf::Parameter(number_of(text, first)), rest))
     } else {
         Err(Refused::Syntax(tokens.len()))
@@ -90,20 +90,20 @@ pub(crate) fn literal<'a>(
 pub(crate) fn literal_comes(tokens: &[Token]) -> bool
     ensures { result ≡ begins_in words.a_literal tokens.now }
 {
-    comes(tokens, Kind::Number)
-        || comes(tokens, Kind::Text)
-        || comes(tokens, Kind::Null)
-        || comes(tokens, Kind::True)
-        || comes(tokens, Kind::False)
-        || comes(tokens, Kind::Parameter)
+    comes(tokens, TokenKind::Number)
+        || comes(tokens, TokenKind::Text)
+        || comes(tokens, TokenKind::Null)
+        || comes(tokens, TokenKind::True)
+        || comes(tokens, TokenKind::False)
+        || comes(tokens, TokenKind::Parameter)
 }
 
 /// A cast to `regclass`.
 fn cast(tokens: &[Token]) -> Result<(Token, &[Token]), Refused>
     ensures { Gives (λ x. (x.0, x.1.now)) result (words.past_cast.read tokens.now) }
 {
-    let (_, rest) = word(tokens, Kind::TypeCast)?;
-    word(rest, Kind::Regclass)
+    let (_, rest) = word(tokens, TokenKind::TypeCast)?;
+    word(rest, TokenKind::Regclass)
 }
 
 /// Behind the name of a table: a point and a column.
@@ -115,9 +115,9 @@ fn dotted<'a>(
 ) -> Result<(Leaf, &'a [Token]), Refused>
     ensures { Gives (λ x. (x.0, x.1.now)) result ((words.dotted text.now table).read tokens.now) }
 {
-    let (_, rest) = word(tokens, Kind::Dot)?;
+    let (_, rest) = word(tokens, TokenKind::Dot)?;
     let (kind, column, rest) = name(alloc, text, rest)?;
-    if same_kind(kind, Kind::Tableoid) && comes(rest, Kind::TypeCast) {
+    if same_kind(kind, TokenKind::Tableoid) && comes(rest, TokenKind::TypeCast) {
         let (_, rest) = cast(rest)?;
         return Ok((Leaf::TableNameOf(table), rest));
     }
@@ -128,20 +128,20 @@ fn dotted<'a>(
 pub(crate) fn column<'a>(
     alloc: Global,
     text: &[u8],
-    kind: Kind,
+    kind: TokenKind,
     name: PgText,
     tokens: &'a [Token],
 ) -> Result<(Leaf, &'a [Token]), Refused>
     ensures { Gives (λ x. (x.0, x.1.now)) result ((words.column text.now (kind, name)).read tokens.now) }
 {
-    if comes(tokens, Kind::Dot) {
+    if comes(tokens, TokenKind::Dot) {
         return dotted(alloc, text, name, tokens);
     }
-    if same_kind(kind, Kind::Date) && comes(tokens, Kind::Text) {
+    if same_kind(kind, TokenKind::Date) && comes(tokens, TokenKind::Text) {
         let (day, rest) = string(alloc, text, tokens)?;
         return Ok((Leaf::Date(day), rest));
     }
-    if same_kind(kind, Kind::Tableoid) && comes(tokens, Kind::TypeCast) {
+    if same_kind(kind, TokenKind::Tableoid) && comes(tokens, TokenKind::TypeCast) {
         let (_, rest) = cast(tokens)?;
         return Ok((Leaf::TableName, rest));
     }

@@ -6,7 +6,7 @@ use Rattle.grammar.proofs.Chain.{none, or_false}
 use Rattle.grammar.proofs.Follow.{follow_shape}
 use Rattle.grammar.proofs.Build.{token, valued, wide, alt, opt, after_token, before_token}
 use Rattle.sql_tokens.specs.Contents.{name_in}
-use Rattle.sql_tokens.specs.declared.kind.Kind.TheVariants as word
+use Rattle.sql_tokens.specs.declared.kind.TokenKind.TheVariants as word
 use Rattle.sql_tokens.specs.declared.token.Token.{Token}
 use Rattle.sql_expressions.specs.Grammar.{expression}
 use Rattle.sql_expressions.specs.Levels.{begins_expression}

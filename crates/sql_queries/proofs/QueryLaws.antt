@@ -5,7 +5,7 @@ use Rattle.grammar.specs.Repeats.{second_of}
 use Rattle.grammar.proofs.Laws.{Law}
 use Rattle.grammar.proofs.Chain.{none}
 use Rattle.grammar.proofs.Build.{token, empty, valued, wide, seq, then_by, alt, opt, after_token, repeated}
-use Rattle.sql_tokens.specs.declared.kind.Kind.TheVariants as word
+use Rattle.sql_tokens.specs.declared.kind.TokenKind.TheVariants as word
 use Rattle.sql_tokens.specs.declared.token.Token.{Token}
 use Rattle.sql_expressions.specs.Levels.{begins_expression}
 use Rattle.sql_ast.specs.Expressions.{Tree, no_more, listed}

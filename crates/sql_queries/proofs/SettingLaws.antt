@@ -5,8 +5,8 @@ use Rattle.grammar.specs.Repeats.{always, repeats_texts, second_of}
 use Rattle.grammar.proofs.Laws.{Law, Within, pair_eq}
 use Rattle.grammar.proofs.Build.{token, valued, wide, seq, then_by, alt, after_token, more, chained_after, said}
 use Rattle.sql_tokens.specs.Contents.{name_in}
-use Rattle.sql_tokens.specs.declared.kind.Kind.{Kind}
-use Rattle.sql_tokens.specs.declared.kind.Kind.TheVariants as word
+use Rattle.sql_tokens.specs.declared.kind.TokenKind.{TokenKind}
+use Rattle.sql_tokens.specs.declared.kind.TokenKind.TheVariants as word
 use Rattle.sql_tokens.specs.declared.token.Token.{Token}
 use Rattle.sql_expressions.specs.Grammar.{expression}
 use Rattle.sql_ast.specs.Expressions.{Tree}
@@ -92,20 +92,20 @@ module _ (text : List ℕ) where
       (λ k h. h) (within _ _ (λ t. refl) refl)
 
 -- A text behind one word.
-abbrev behind_word : {A : Type 0} → Kind → (List Token → A → Type 0) → List Token → A → Type 0
+abbrev behind_word : {A : Type 0} → TokenKind → (List Token → A → Type 0) → List Token → A → Type 0
 behind_word {A} k Q = value_texts (λ (x : Token × A). x.1) (both_texts (one_texts (a k)) Q)
 
-put : {A : Type 0} (k : Kind) (Q : List Token → A → Type 0) (ts : List Token) (t : Token) (z : List Token) (b : A) → ts ≡ t ∷ z → a k t ≡ true → Q z b → behind_word k Q ts b
+put : {A : Type 0} (k : TokenKind) (Q : List Token → A → Type 0) (ts : List Token) (t : Token) (z : List Token) (b : A) → ts ≡ t ∷ z → a k t ≡ true → Q z b → behind_word k Q ts b
 put k Q ts t z b e h q = ((t, b), (t ∷ [], z, e, (refl, h), q), refl)
 
-record Behind {A : Type 0} (k : Kind) (Q : List Token → A → Type 0) (ts : List Token) (b : A) : Type 0 where
+record Behind {A : Type 0} (k : TokenKind) (Q : List Token → A → Type 0) (ts : List Token) (b : A) : Type 0 where
   first : Token
   rest : List Token
   whole : ts ≡ first ∷ rest
   is : a k first ≡ true
   text : Q rest b
 
-taken : {A : Type 0} (k : Kind) (Q : List Token → A → Type 0) (ts : List Token) (b : A) → behind_word k Q ts b → Behind k Q ts b
+taken : {A : Type 0} (k : TokenKind) (Q : List Token → A → Type 0) (ts : List Token) (b : A) → behind_word k Q ts b → Behind k Q ts b
 taken k Q ts b w = record {
   first = w.0.0;
   rest = w.1.1;

@@ -4,12 +4,12 @@ use Rattle.grammar.specs.Gives.{Gives}
 use Rattle.grammar.specs.declared.refused.Refused.{Refused}
 use Rattle.grammar.specs.Reading.{Reading, Rule, given, read_one, as_value, follow, ◌>>=◌}
 use Rattle.grammar.specs.Repeats.{second_of}
-use Rattle.sql_tokens.specs.declared.kind.Kind.{Kind}
+use Rattle.sql_tokens.specs.declared.kind.TokenKind.{TokenKind}
 use Rattle.sql_tokens.specs.declared.token.Token.{Token}
 use Rattle.grammar.specs.Words.{◌>>◌}
 use Rattle.sql_tokens.specs.Classes.{a}
 
-module _ {A B C : Type 0} (g : B → C) (k : Kind) (p : Rule Token A) (q : A → Rule Token B) where
+module _ {A B C : Type 0} (g : B → C) (k : TokenKind) (p : Rule Token A) (q : A → Rule Token B) where
   abbrev all_with : Token → (A × B) × List Token → Reading Token (Token × (A × B))
   all_with t y = given (t, y.0) y.1
 

@@ -5,7 +5,7 @@ use Rattle.std.specs.List.{list_any}
 use Rattle.grammar.specs.Reading.{Class, Rule, one, nothing, follow, as_value, either, optional}
 use Rattle.grammar.specs.Repeats.{second_of, many, chain_after}
 use Rattle.sql_tokens.specs.Contents.{name_in}
-use Rattle.sql_tokens.specs.declared.kind.Kind.TheVariants as word
+use Rattle.sql_tokens.specs.declared.kind.TokenKind.TheVariants as word
 use Rattle.sql_tokens.specs.declared.token.Token.{Token}
 use Rattle.sql_expressions.specs.Grammar.{expression}
 use Rattle.sql_ast.specs.Expressions.{Tree, Trees, no_more, listed}

@@ -3,7 +3,7 @@
 use Rattle.std.specs.Prelude.{ℕ, Bool, false, ◌-◌, ◌&&◌, ◌||◌, not, if◌then◌else◌, List, [], ◌∷◌, length, take, drop, Option, Some, None, Ok, Err}
 use Rattle.grammar.specs.Reading.{Class, Reading, Rule, Stop, syntax_at, limit_at, one, both_texts, as_value, either, either_texts, optional, begins_in, given, ◌>>=◌}
 use Rattle.sql_tokens.specs.Contents.{name_in}
-use Rattle.sql_tokens.specs.declared.kind.Kind.TheVariants as word
+use Rattle.sql_tokens.specs.declared.kind.TokenKind.TheVariants as word
 use Rattle.sql_tokens.specs.declared.token.Token.{Token}
 use Rattle.sql_expressions.specs.Grammar.{expression}
 use Rattle.sql_expressions.specs.Levels.{begins_nested}

@@ -13,7 +13,7 @@ use sql_ast::{
     Assignment, Delete, Expr, ExprList, Insert, ListOf, NameList, NamedTable, RowStatement, Update,
 };
 use sql_expressions::{ExprPart, expression, name_but, names, other_name, plain_name};
-use sql_tokens::{Kind, Token, name_of};
+use sql_tokens::{Token, TokenKind, name_of};
 use std::alloc::Global;
 
 /// The columns of an INSERT, where they are named.
@@ -24,12 +24,12 @@ fn columns<'a>(
 ) -> Result<(Option<NameList>, &'a [Token]), Refused>
     ensures { Gives (λ x. (x.0, x.1.now)) result ((grammar.columns text.now).read tokens.now) }
 {
-    if !comes(tokens, Kind::OpenParenthesis) {
+    if !comes(tokens, TokenKind::OpenParenthesis) {
         return Ok((None, tokens));
     }
-    let (_, rest) = word(tokens, Kind::OpenParenthesis)?;
+    let (_, rest) = word(tokens, TokenKind::OpenParenthesis)?;
     let (names, rest) = names(alloc, text, rest)?;
-    let (_, rest) = word(rest, Kind::CloseParenthesis)?;
+    let (_, rest) = word(rest, TokenKind::CloseParenthesis)?;
     Ok((Some(NameList::from_vec(names)), rest))
 }
 
@@ -40,9 +40,9 @@ fn row<'a>(
 ) -> Result<(ExprList, &'a [Token]), Refused>
     ensures { Gives (λ x. (trees x.0, x.1.now)) result ((grammar.row text.now).read tokens.now) }
 {
-    let (_, rest) = word(tokens, Kind::OpenParenthesis)?;
-    let (values, rest) = separated::<ExprPart>(alloc, text, Kind::Comma, rest)?;
-    let (_, rest) = word(rest, Kind::CloseParenthesis)?;
+    let (_, rest) = word(tokens, TokenKind::OpenParenthesis)?;
+    let (values, rest) = separated::<ExprPart>(alloc, text, TokenKind::Comma, rest)?;
+    let (_, rest) = word(rest, TokenKind::CloseParenthesis)?;
     Ok((ExprList::from_vec(values), rest))
 }
 
@@ -78,12 +78,12 @@ pub(crate) fn insert<'a>(
 ) -> Result<(RowStatement, &'a [Token]), Refused>
     ensures { Gives (λ x. (row_tree x.0, x.1.now)) result ((grammar.insert text.now).read tokens.now) }
 {
-    let (_, rest) = word(tokens, Kind::Insert)?;
-    let (_, rest) = word(rest, Kind::Into)?;
+    let (_, rest) = word(tokens, TokenKind::Insert)?;
+    let (_, rest) = word(rest, TokenKind::Into)?;
     let (table, rest) = plain_name(alloc, text, rest)?;
     let (columns, rest) = columns(alloc, text, rest)?;
-    let (_, rest) = word(rest, Kind::Values)?;
-    let (rows, rest) = separated::<EachRow>(alloc, text, Kind::Comma, rest)?;
+    let (_, rest) = word(rest, TokenKind::Values)?;
+    let (rows, rest) = separated::<EachRow>(alloc, text, TokenKind::Comma, rest)?;
     let insert = Insert {
         table,
         columns,
@@ -99,8 +99,8 @@ fn assignment<'a>(
 ) -> Result<(Assignment, &'a [Token]), Refused>
     ensures { Gives (λ x. (setting x.0, x.1.now)) result ((grammar.assignment text.now).read tokens.now) }
 {
-    let (column, rest) = name_but(alloc, text, Kind::Set, tokens)?;
-    let (_, rest) = word(rest, Kind::Equal)?;
+    let (column, rest) = name_but(alloc, text, TokenKind::Set, tokens)?;
+    let (_, rest) = word(rest, TokenKind::Equal)?;
     let (value, rest) = expression(alloc, text, rest)?;
     Ok((Assignment { column, value }, rest))
 }
@@ -146,8 +146,8 @@ fn behind_alias<'a>(
 ) -> Result<(Settings, &'a [Token]), Refused>
     ensures { Gives (λ x. ((x.0.alias, map setting x.0.assignments.items), x.1.now)) result ((grammar.behind_alias text.now alias).read tokens.now) }
 {
-    let (_, rest) = word(tokens, Kind::Set)?;
-    let (assignments, rest) = separated::<EachAssignment>(alloc, text, Kind::Comma, rest)?;
+    let (_, rest) = word(tokens, TokenKind::Set)?;
+    let (assignments, rest) = separated::<EachAssignment>(alloc, text, TokenKind::Comma, rest)?;
     let alias = Some(alias);
     Ok((Settings { alias, assignments }, rest))
 }
@@ -163,7 +163,7 @@ fn with_more<'a>(
 {
     let mut first = Vec::new(alloc);
     first.push(one)?;
-    more_parts::<EachAssignment>(alloc, text, Kind::Comma, first, tokens)
+    more_parts::<EachAssignment>(alloc, text, TokenKind::Comma, first, tokens)
 }
 
 /// The new values behind the first, which is of the column that a token names.
@@ -201,7 +201,7 @@ fn column_in_steps<'a>(
 ) -> Result<(Settings, &'a [Token]), Refused>
     ensures { Gives (λ x. ((x.0.alias, map setting x.0.assignments.items), x.1.now)) result ((column_in_steps text.now column).read tokens.now) }
 {
-    let (_, rest) = word(tokens, Kind::Equal)?;
+    let (_, rest) = word(tokens, TokenKind::Equal)?;
     let (assignments, rest) = value_and_more(alloc, text, column, rest)?;
     let alias = None;
     Ok((Settings { alias, assignments }, rest))
@@ -229,10 +229,10 @@ fn behind_two<'a>(
 ) -> Result<(Settings, &'a [Token]), Refused>
     ensures { Gives (λ x. ((x.0.alias, map setting x.0.assignments.items), x.1.now)) result ((grammar.behind_two text.now one two).read tokens.now) }
 {
-    if comes(tokens, Kind::Equal) {
+    if comes(tokens, TokenKind::Equal) {
         return column_set(alloc, text, two, tokens);
     }
-    let (assignments, rest) = separated::<EachAssignment>(alloc, text, Kind::Comma, tokens)?;
+    let (assignments, rest) = separated::<EachAssignment>(alloc, text, TokenKind::Comma, tokens)?;
     let alias = Some(name_of(alloc, text, one)?);
     Ok((Settings { alias, assignments }, rest))
 }
@@ -245,8 +245,8 @@ fn other_first<'a>(
 ) -> Result<(Settings, &'a [Token]), Refused>
     ensures { Gives (λ x. ((x.0.alias, map setting x.0.assignments.items), x.1.now)) result ((grammar.other_first text.now).read tokens.now) }
 {
-    let (column, rest) = other_name(alloc, text, Kind::Set, tokens)?;
-    let (_, rest) = word(rest, Kind::Equal)?;
+    let (column, rest) = other_name(alloc, text, TokenKind::Set, tokens)?;
+    let (_, rest) = word(rest, TokenKind::Equal)?;
     let (value, rest) = expression(alloc, text, rest)?;
     let (assignments, rest) = with_more(alloc, text, Assignment { column, value }, rest)?;
     let alias = None;
@@ -262,8 +262,8 @@ fn behind_set<'a>(
 ) -> Result<(Settings, &'a [Token]), Refused>
     ensures { Gives (λ x. ((x.0.alias, map setting x.0.assignments.items), x.1.now)) result ((grammar.behind_set text.now one).read tokens.now) }
 {
-    if comes(tokens, Kind::Set) {
-        let (two, rest) = word(tokens, Kind::Set)?;
+    if comes(tokens, TokenKind::Set) {
+        let (two, rest) = word(tokens, TokenKind::Set)?;
         return behind_two(alloc, text, one, two, rest);
     }
     other_first(alloc, text, tokens)
@@ -277,16 +277,16 @@ fn behind_table<'a>(
 ) -> Result<(Settings, &'a [Token]), Refused>
     ensures { Gives (λ x. ((x.0.alias, map setting x.0.assignments.items), x.1.now)) result ((grammar.behind_table text.now).read tokens.now) }
 {
-    if comes(tokens, Kind::As) {
-        let (_, rest) = word(tokens, Kind::As)?;
+    if comes(tokens, TokenKind::As) {
+        let (_, rest) = word(tokens, TokenKind::As)?;
         let (alias, rest) = plain_name(alloc, text, rest)?;
         return behind_alias(alloc, text, alias, rest);
     }
-    if comes(tokens, Kind::Set) {
-        let (one, rest) = word(tokens, Kind::Set)?;
+    if comes(tokens, TokenKind::Set) {
+        let (one, rest) = word(tokens, TokenKind::Set)?;
         return behind_set(alloc, text, one, rest);
     }
-    let (alias, rest) = other_name(alloc, text, Kind::Set, tokens)?;
+    let (alias, rest) = other_name(alloc, text, TokenKind::Set, tokens)?;
     behind_alias(alloc, text, alias, rest)
 }
 
@@ -297,7 +297,7 @@ pub(crate) fn update<'a>(
 ) -> Result<(RowStatement, &'a [Token]), Refused>
     ensures { Gives (λ x. (row_tree x.0, x.1.now)) result ((grammar.update text.now).read tokens.now) }
 {
-    let (_, rest) = word(tokens, Kind::Update)?;
+    let (_, rest) = word(tokens, TokenKind::Update)?;
     let (name, rest) = plain_name(alloc, text, rest)?;
     let (settings, rest) = behind_table(alloc, text, rest)?;
     let (condition, rest) = condition(alloc, text, rest)?;
@@ -320,8 +320,8 @@ pub(crate) fn delete<'a>(
 ) -> Result<(RowStatement, &'a [Token]), Refused>
     ensures { Gives (λ x. (row_tree x.0, x.1.now)) result ((grammar.delete text.now).read tokens.now) }
 {
-    let (_, rest) = word(tokens, Kind::Delete)?;
-    let (_, rest) = word(rest, Kind::From)?;
+    let (_, rest) = word(tokens, TokenKind::Delete)?;
+    let (_, rest) = word(rest, TokenKind::From)?;
     let (table, rest) = named_table(alloc, text, rest)?;
     let (condition, rest) = condition(alloc, text, rest)?;
     Ok((RowStatement::Delete(Delete { table, condition }), rest))

@@ -8,7 +8,7 @@ use grammar::{Begun, Part, Refused, comes, many, name_comes, word};
 use pg_values::PgText;
 use sql_ast::{Expr, FromItem, NamedTable};
 use sql_expressions::{expression, plain_name};
-use sql_tokens::{Kind, Token};
+use sql_tokens::{Token, TokenKind};
 use std::alloc::Global;
 
 fn table_alias<'a>(
@@ -18,8 +18,8 @@ fn table_alias<'a>(
 ) -> Result<(Option<PgText>, &'a [Token]), Refused>
     ensures { Gives (λ x. (x.0, x.1.now)) result ((grammar.table_alias text.now).read tokens.now) }
 {
-    if comes(tokens, Kind::As) {
-        let (_, rest) = word(tokens, Kind::As)?;
+    if comes(tokens, TokenKind::As) {
+        let (_, rest) = word(tokens, TokenKind::As)?;
         let (name, rest) = plain_name(alloc, text, rest)?;
         return Ok((Some(name), rest));
     }
@@ -51,9 +51,9 @@ fn joined_table<'a>(
 ) -> Result<(FromItem, &'a [Token]), Refused>
     ensures { Gives (λ x. (joined_tree x.0, x.1.now)) result ((grammar.joined_table text.now).read tokens.now) }
 {
-    let (_, rest) = word(tokens, Kind::Join)?;
+    let (_, rest) = word(tokens, TokenKind::Join)?;
     let (table, rest) = named_table(alloc, text, rest)?;
-    let (_, rest) = word(rest, Kind::On)?;
+    let (_, rest) = word(rest, TokenKind::On)?;
     let (condition, rest) = expression(alloc, text, rest)?;
     let on = Some(condition);
     Ok((FromItem { table, on }, rest))
@@ -67,13 +67,13 @@ fn joint<'a>(
 ) -> Result<(FromItem, &'a [Token]), Refused>
     ensures { Gives (λ x. (joined_tree x.0, x.1.now)) result ((grammar.joint text.now).read tokens.now) }
 {
-    if comes(tokens, Kind::Comma) {
-        let (_, rest) = word(tokens, Kind::Comma)?;
+    if comes(tokens, TokenKind::Comma) {
+        let (_, rest) = word(tokens, TokenKind::Comma)?;
         let (table, rest) = named_table(alloc, text, rest)?;
         return Ok((FromItem { table, on: None }, rest));
     }
-    if comes(tokens, Kind::Inner) {
-        let (_, rest) = word(tokens, Kind::Inner)?;
+    if comes(tokens, TokenKind::Inner) {
+        let (_, rest) = word(tokens, TokenKind::Inner)?;
         return joined_table(alloc, text, rest);
     }
     joined_table(alloc, text, tokens)
@@ -110,7 +110,9 @@ impl Begun for EachJoint {
     ghost begins = { grammar.is_joint };
 
     fn comes(tokens: &[Token]) -> bool {
-        comes(tokens, Kind::Comma) || comes(tokens, Kind::Inner) || comes(tokens, Kind::Join)
+        comes(tokens, TokenKind::Comma)
+            || comes(tokens, TokenKind::Inner)
+            || comes(tokens, TokenKind::Join)
     }
 }
 
@@ -136,10 +138,10 @@ pub(crate) fn from<'a>(
 ) -> Result<(Vec<FromItem>, &'a [Token]), Refused>
     ensures { Gives (λ x. (map joined_tree x.0.items, x.1.now)) result ((grammar.from text.now).read tokens.now) }
 {
-    if !comes(tokens, Kind::From) {
+    if !comes(tokens, TokenKind::From) {
         return Ok((Vec::new(alloc), tokens));
     }
-    let (_, rest) = word(tokens, Kind::From)?;
+    let (_, rest) = word(tokens, TokenKind::From)?;
     tables(alloc, text, rest)
 }
 
@@ -151,10 +153,10 @@ pub(crate) fn condition<'a>(
 ) -> Result<(Option<Expr>, &'a [Token]), Refused>
     ensures { Gives (λ x. (maybe_tree x.0, x.1.now)) result ((grammar.condition text.now).read tokens.now) }
 {
-    if !comes(tokens, Kind::Where) {
+    if !comes(tokens, TokenKind::Where) {
         return Ok((None, tokens));
     }
-    let (_, rest) = word(tokens, Kind::Where)?;
+    let (_, rest) = word(tokens, TokenKind::Where)?;
     let (condition, rest) = expression(alloc, text, rest)?;
     Ok((Some(condition), rest))
 }

@@ -10,7 +10,7 @@ use grammar::{Part, Refused, comes, name_comes, split, word};
 use pg_values::{NoMemory, PgText};
 use sql_ast::{Expr, SelectItem};
 use sql_expressions::{MOST_NAME_BYTES, expression, name_but, plain_name};
-use sql_tokens::{Kind, Token, is_name, name_of, same_kind};
+use sql_tokens::{Token, TokenKind, is_name, name_of, same_kind};
 use std::alloc::Global;
 
 /// An expression, and its alias.
@@ -28,15 +28,15 @@ fn maybe_alias<'a>(
 ) -> Result<(Option<PgText>, &'a [Token]), Refused>
     ensures { Gives (λ x. (x.0, x.1.now)) result ((items.maybe_alias text.now).read tokens.now) }
 {
-    if comes(tokens, Kind::As) {
-        let (_, rest) = word(tokens, Kind::As)?;
+    if comes(tokens, TokenKind::As) {
+        let (_, rest) = word(tokens, TokenKind::As)?;
         let (name, rest) = plain_name(alloc, text, rest)?;
         return Ok((Some(name), rest));
     }
     if !name_comes(tokens) {
         return Ok((None, tokens));
     }
-    let (name, rest) = name_but(alloc, text, Kind::Between, tokens)?;
+    let (name, rest) = name_but(alloc, text, TokenKind::Between, tokens)?;
     Ok((Some(name), rest))
 }
 
@@ -74,7 +74,7 @@ fn ended_at<'a>(
     let Some((word, rest)) = split(behind(tokens, n)) else {
         return Ok(None);
     };
-    if !same_kind(word.kind, Kind::Between) {
+    if !same_kind(word.kind, TokenKind::Between) {
         return Ok(None);
     }
     match expression(alloc, text, first(tokens, n)) {
@@ -101,22 +101,22 @@ fn operand_comes(tokens: &[Token]) -> bool
 fn begins_operand(token: Token) -> bool
     ensures { result ≡ items.begins_operand token }
 {
-    same_kind(token.kind, Kind::Minus)
-        || same_kind(token.kind, Kind::OpenParenthesis)
+    same_kind(token.kind, TokenKind::Minus)
+        || same_kind(token.kind, TokenKind::OpenParenthesis)
         || is_name(token.kind)
-        || same_kind(token.kind, Kind::Number)
-        || same_kind(token.kind, Kind::Text)
-        || same_kind(token.kind, Kind::Null)
-        || same_kind(token.kind, Kind::True)
-        || same_kind(token.kind, Kind::False)
-        || same_kind(token.kind, Kind::Parameter)
+        || same_kind(token.kind, TokenKind::Number)
+        || same_kind(token.kind, TokenKind::Text)
+        || same_kind(token.kind, TokenKind::Null)
+        || same_kind(token.kind, TokenKind::True)
+        || same_kind(token.kind, TokenKind::False)
+        || same_kind(token.kind, TokenKind::Parameter)
 }
 
 /// Where BETWEEN may stand, if the reader of an expression stopped behind n tokens.
 fn place_of_word(n: usize, tokens: &[Token]) -> usize
     ensures { result ≡ items.place_of_word n tokens.now }
 {
-    if comes(behind(tokens, n), Kind::Between) {
+    if comes(behind(tokens, n), TokenKind::Between) {
         n
     } else {
         n.saturating_sub(1)
@@ -203,7 +203,10 @@ fn starred<'a>(
     let Some((star, rest)) = split(rest) else {
         return Ok(None);
     };
-    if !is_name(name.kind) || !same_kind(dot.kind, Kind::Dot) || !same_kind(star.kind, Kind::Star) {
+    if !is_name(name.kind)
+        || !same_kind(dot.kind, TokenKind::Dot)
+        || !same_kind(star.kind, TokenKind::Star)
+    {
         return Ok(None);
     }
     let table = name_of(alloc, text, name)?;
@@ -234,8 +237,8 @@ pub(crate) fn item<'a>(
 ) -> Result<(SelectItem, &'a [Token]), Refused>
     ensures { Gives (λ x. (item_tree x.0, x.1.now)) result ((items.item text.now).read tokens.now) }
 {
-    if comes(tokens, Kind::Star) {
-        let (_, rest) = word(tokens, Kind::Star)?;
+    if comes(tokens, TokenKind::Star) {
+        let (_, rest) = word(tokens, TokenKind::Star)?;
         return Ok((SelectItem::All, rest));
     }
     starred_or_output(alloc, text, tokens)

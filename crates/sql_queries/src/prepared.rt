@@ -11,7 +11,7 @@ use grammar::{Part, Refused, comes, separated, split, word};
 use pg_values::PgText;
 use sql_ast::{ExprList, NameList, Query, RowStatement};
 use sql_expressions::{ExprPart, names, other_name, plain_name};
-use sql_tokens::{Kind, Token, same_kind};
+use sql_tokens::{Token, TokenKind, same_kind};
 use std::alloc::Global;
 
 /// SELECT, INSERT, UPDATE or DELETE.
@@ -22,13 +22,13 @@ pub(crate) fn row_statement<'a>(
 ) -> Result<(RowStatement, &'a [Token]), Refused>
     ensures { Gives (λ x. (row_tree x.0, x.1.now)) result ((grammar.row_statement text.now).read tokens.now) }
 {
-    if comes(tokens, Kind::Select) {
+    if comes(tokens, TokenKind::Select) {
         let (select, rest) = select(alloc, text, tokens)?;
         return Ok((RowStatement::Select(select), rest));
     }
-    if comes(tokens, Kind::Insert) {
+    if comes(tokens, TokenKind::Insert) {
         insert(alloc, text, tokens)
-    } else if comes(tokens, Kind::Update) {
+    } else if comes(tokens, TokenKind::Update) {
         update(alloc, text, tokens)
     } else {
         delete(alloc, text, tokens)
@@ -43,12 +43,12 @@ fn kinds<'a>(
 ) -> Result<(NameList, &'a [Token]), Refused>
     ensures { Gives (λ x. (x.0, x.1.now)) result ((grammar.kinds text.now).read tokens.now) }
 {
-    if !comes(tokens, Kind::OpenParenthesis) {
+    if !comes(tokens, TokenKind::OpenParenthesis) {
         return Ok((NameList::from_vec(Vec::new(alloc)), tokens));
     }
-    let (_, rest) = word(tokens, Kind::OpenParenthesis)?;
+    let (_, rest) = word(tokens, TokenKind::OpenParenthesis)?;
     let (names, rest) = names(alloc, text, rest)?;
-    let (_, rest) = word(rest, Kind::CloseParenthesis)?;
+    let (_, rest) = word(rest, TokenKind::CloseParenthesis)?;
     Ok((NameList::from_vec(names), rest))
 }
 
@@ -59,10 +59,10 @@ pub(crate) fn prepare<'a>(
 ) -> Result<(Query, &'a [Token]), Refused>
     ensures { Gives (λ x. (query_tree x.0, x.1.now)) result ((grammar.prepare text.now).read tokens.now) }
 {
-    let (_, rest) = word(tokens, Kind::Prepare)?;
-    let (name, rest) = other_name(alloc, text, Kind::Transaction, rest)?;
+    let (_, rest) = word(tokens, TokenKind::Prepare)?;
+    let (name, rest) = other_name(alloc, text, TokenKind::Transaction, rest)?;
     let (kinds, rest) = kinds(alloc, text, rest)?;
-    let (_, rest) = word(rest, Kind::As)?;
+    let (_, rest) = word(rest, TokenKind::As)?;
     let (statement, rest) = row_statement(alloc, text, rest)?;
     Ok((Query::Prepare(name, kinds, statement), rest))
 }
@@ -74,12 +74,12 @@ fn arguments<'a>(
 ) -> Result<(ExprList, &'a [Token]), Refused>
     ensures { Gives (λ x. (trees x.0, x.1.now)) result ((grammar.arguments text.now).read tokens.now) }
 {
-    if !comes(tokens, Kind::OpenParenthesis) {
+    if !comes(tokens, TokenKind::OpenParenthesis) {
         return Ok((ExprList::from_vec(Vec::new(alloc)), tokens));
     }
-    let (_, rest) = word(tokens, Kind::OpenParenthesis)?;
-    let (values, rest) = separated::<ExprPart>(alloc, text, Kind::Comma, rest)?;
-    let (_, rest) = word(rest, Kind::CloseParenthesis)?;
+    let (_, rest) = word(tokens, TokenKind::OpenParenthesis)?;
+    let (values, rest) = separated::<ExprPart>(alloc, text, TokenKind::Comma, rest)?;
+    let (_, rest) = word(rest, TokenKind::CloseParenthesis)?;
     Ok((ExprList::from_vec(values), rest))
 }
 
@@ -97,7 +97,7 @@ pub(crate) fn execute<'a>(
 ) -> Result<(Execution, &'a [Token]), Refused>
     ensures { Gives (λ x. ((x.0.name, trees x.0.arguments), x.1.now)) result ((grammar.execute text.now).read tokens.now) }
 {
-    let (_, rest) = word(tokens, Kind::Execute)?;
+    let (_, rest) = word(tokens, TokenKind::Execute)?;
     let (name, rest) = plain_name(alloc, text, rest)?;
     let (arguments, rest) = arguments(alloc, text, rest)?;
     Ok((Execution { name, arguments }, rest))
@@ -106,9 +106,9 @@ pub(crate) fn execute<'a>(
 fn is_plain_option(token: Token) -> bool
     ensures { result ≡ grammar.is_plain_option token }
 {
-    same_kind(token.kind, Kind::Costs)
-        || same_kind(token.kind, Kind::Timing)
-        || same_kind(token.kind, Kind::Summary)
+    same_kind(token.kind, TokenKind::Costs)
+        || same_kind(token.kind, TokenKind::Timing)
+        || same_kind(token.kind, TokenKind::Summary)
 }
 
 /// COSTS, TIMING or SUMMARY.
@@ -131,12 +131,12 @@ fn plain_option(tokens: &[Token]) -> Result<(Token, &[Token]), Refused>
 fn option(tokens: &[Token]) -> Result<(bool, &[Token]), Refused>
     ensures { Gives (λ x. (x.0, x.1.now)) result ((grammar.option).read tokens.now) }
 {
-    if comes(tokens, Kind::Analyze) {
-        let (_, rest) = word(tokens, Kind::Analyze)?;
+    if comes(tokens, TokenKind::Analyze) {
+        let (_, rest) = word(tokens, TokenKind::Analyze)?;
         return Ok((true, rest));
     }
     let (_, rest) = plain_option(tokens)?;
-    let (_, rest) = word(rest, Kind::Off)?;
+    let (_, rest) = word(rest, TokenKind::Off)?;
     Ok((false, rest))
 }
 
@@ -179,14 +179,14 @@ fn options<'a>(
 ) -> Result<(bool, &'a [Token]), Refused>
     ensures { Gives (λ x. (x.0, x.1.now)) result (grammar.options.read tokens.now) }
 {
-    if comes(tokens, Kind::Analyze) {
-        let (_, rest) = word(tokens, Kind::Analyze)?;
+    if comes(tokens, TokenKind::Analyze) {
+        let (_, rest) = word(tokens, TokenKind::Analyze)?;
         return Ok((true, rest));
     }
-    if comes(tokens, Kind::OpenParenthesis) {
-        let (_, rest) = word(tokens, Kind::OpenParenthesis)?;
-        let (options, rest) = separated::<EachOption>(alloc, text, Kind::Comma, rest)?;
-        let (_, rest) = word(rest, Kind::CloseParenthesis)?;
+    if comes(tokens, TokenKind::OpenParenthesis) {
+        let (_, rest) = word(tokens, TokenKind::OpenParenthesis)?;
+        let (options, rest) = separated::<EachOption>(alloc, text, TokenKind::Comma, rest)?;
+        let (_, rest) = word(rest, TokenKind::CloseParenthesis)?;
         return Ok((has_true(&options), rest));
     }
     Ok((false, tokens))
@@ -201,7 +201,7 @@ fn explained<'a>(
 ) -> Result<(Query, &'a [Token]), Refused>
     ensures { Gives (λ x. (query_tree x.0, x.1.now)) result ((grammar.explained text.now analyze).read tokens.now) }
 {
-    if comes(tokens, Kind::Select) {
+    if comes(tokens, TokenKind::Select) {
         let (select, rest) = select(alloc, text, tokens)?;
         return Ok((Query::ExplainSelect(analyze, select), rest));
     }
@@ -217,7 +217,7 @@ pub(crate) fn explain<'a>(
 ) -> Result<(Query, &'a [Token]), Refused>
     ensures { Gives (λ x. (query_tree x.0, x.1.now)) result ((grammar.explain text.now).read tokens.now) }
 {
-    let (_, rest) = word(tokens, Kind::Explain)?;
+    let (_, rest) = word(tokens, TokenKind::Explain)?;
     let (analyze, rest) = options(alloc, text, rest)?;
     explained(alloc, text, analyze, rest)
 }

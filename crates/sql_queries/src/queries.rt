@@ -10,16 +10,16 @@ ghost use Rattle.sql_ast.specs.Queries.{QueryTree, query_tree};
 use crate::prepared::{execute, explain, prepare, row_statement};
 use grammar::{Refused, comes};
 use sql_ast::Query;
-use sql_tokens::{Kind, Token};
+use sql_tokens::{Token, TokenKind};
 use std::alloc::Global;
 
 fn row_statement_comes(tokens: &[Token]) -> bool
     ensures { result ≡ begins_in grammar.begins_row_statement tokens.now }
 {
-    comes(tokens, Kind::Select)
-        || comes(tokens, Kind::Insert)
-        || comes(tokens, Kind::Update)
-        || comes(tokens, Kind::Delete)
+    comes(tokens, TokenKind::Select)
+        || comes(tokens, TokenKind::Insert)
+        || comes(tokens, TokenKind::Update)
+        || comes(tokens, TokenKind::Delete)
 }
 
 fn row_query<'a>(
@@ -55,9 +55,9 @@ pub fn query<'a>(
 {
     if row_statement_comes(tokens) {
         row_query(alloc, text, tokens)
-    } else if comes(tokens, Kind::Prepare) {
+    } else if comes(tokens, TokenKind::Prepare) {
         prepare(alloc, text, tokens)
-    } else if comes(tokens, Kind::Execute) {
+    } else if comes(tokens, TokenKind::Execute) {
         executed(alloc, text, tokens)
     } else {
         explain(alloc, text, tokens)

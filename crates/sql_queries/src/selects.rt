@@ -8,18 +8,18 @@ use crate::items::EachItem;
 use grammar::{Part, Refused, comes, separated, word};
 use sql_ast::{Expr, ListOf, Select, SortKey};
 use sql_expressions::{expression, maybe_one_of, one_of};
-use sql_tokens::{Kind, Token, same_kind};
+use sql_tokens::{Token, TokenKind, same_kind};
 use std::alloc::Global;
 
 /// NULLS FIRST or NULLS LAST, or nothing.
 fn nulls(tokens: &[Token]) -> Result<(Option<Token>, &[Token]), Refused>
     ensures { Gives (λ x. (x.0, x.1.now)) result ((grammar.nulls).read tokens.now) }
 {
-    if !comes(tokens, Kind::Nulls) {
+    if !comes(tokens, TokenKind::Nulls) {
         return Ok((None, tokens));
     }
-    let (_, rest) = word(tokens, Kind::Nulls)?;
-    let (end, rest) = one_of(rest, Kind::First, Kind::Last)?;
+    let (_, rest) = word(tokens, TokenKind::Nulls)?;
+    let (end, rest) = one_of(rest, TokenKind::First, TokenKind::Last)?;
     Ok((Some(end), rest))
 }
 
@@ -28,7 +28,7 @@ fn descends(direction: Option<Token>) -> bool
 {
     match direction {
         None => false,
-        Some(token) => same_kind(token.kind, Kind::Desc),
+        Some(token) => same_kind(token.kind, TokenKind::Desc),
     }
 }
 
@@ -37,7 +37,7 @@ fn are_first(descending: bool, end: Option<Token>) -> bool
 {
     match end {
         None => descending,
-        Some(token) => same_kind(token.kind, Kind::First),
+        Some(token) => same_kind(token.kind, TokenKind::First),
     }
 }
 
@@ -49,7 +49,7 @@ fn key<'a>(
     ensures { Gives (λ x. (key_tree x.0, x.1.now)) result ((grammar.key text.now).read tokens.now) }
 {
     let (value, rest) = expression(alloc, text, tokens)?;
-    let (direction, rest) = maybe_one_of(rest, Kind::Asc, Kind::Desc)?;
+    let (direction, rest) = maybe_one_of(rest, TokenKind::Asc, TokenKind::Desc)?;
     let (end, rest) = nulls(rest)?;
     let descending = descends(direction);
     let nulls_first = are_first(descending, end);
@@ -94,12 +94,12 @@ fn order<'a>(
 ) -> Result<(Vec<SortKey>, &'a [Token]), Refused>
     ensures { Gives (λ x. (map key_tree x.0.items, x.1.now)) result ((grammar.order text.now).read tokens.now) }
 {
-    if !comes(tokens, Kind::Order) {
+    if !comes(tokens, TokenKind::Order) {
         return Ok((Vec::new(alloc), tokens));
     }
-    let (_, rest) = word(tokens, Kind::Order)?;
-    let (_, rest) = word(rest, Kind::By)?;
-    separated::<EachKey>(alloc, text, Kind::Comma, rest)
+    let (_, rest) = word(tokens, TokenKind::Order)?;
+    let (_, rest) = word(rest, TokenKind::By)?;
+    separated::<EachKey>(alloc, text, TokenKind::Comma, rest)
 }
 
 fn count<'a>(
@@ -109,8 +109,8 @@ fn count<'a>(
 ) -> Result<(Option<Expr>, &'a [Token]), Refused>
     ensures { Gives (λ x. (maybe_tree x.0, x.1.now)) result ((grammar.count text.now).read tokens.now) }
 {
-    if comes(tokens, Kind::All) {
-        let (_, rest) = word(tokens, Kind::All)?;
+    if comes(tokens, TokenKind::All) {
+        let (_, rest) = word(tokens, TokenKind::All)?;
         return Ok((None, rest));
     }
     let (count, rest) = expression(alloc, text, tokens)?;
@@ -124,10 +124,10 @@ fn limit<'a>(
 ) -> Result<(Option<Expr>, &'a [Token]), Refused>
     ensures { Gives (λ x. (maybe_tree x.0, x.1.now)) result ((grammar.limit text.now).read tokens.now) }
 {
-    if !comes(tokens, Kind::Limit) {
+    if !comes(tokens, TokenKind::Limit) {
         return Ok((None, tokens));
     }
-    let (_, rest) = word(tokens, Kind::Limit)?;
+    let (_, rest) = word(tokens, TokenKind::Limit)?;
     count(alloc, text, rest)
 }
 
@@ -138,10 +138,10 @@ fn offset<'a>(
 ) -> Result<(Option<Expr>, &'a [Token]), Refused>
     ensures { Gives (λ x. (maybe_tree x.0, x.1.now)) result ((grammar.offset text.now).read tokens.now) }
 {
-    if !comes(tokens, Kind::Offset) {
+    if !comes(tokens, TokenKind::Offset) {
         return Ok((None, tokens));
     }
-    let (_, rest) = word(tokens, Kind::Offset)?;
+    let (_, rest) = word(tokens, TokenKind::Offset)?;
     let (offset, rest) = expression(alloc, text, rest)?;
     Ok((Some(offset), rest))
 }
@@ -153,8 +153,8 @@ pub(crate) fn select<'a>(
 ) -> Result<(Select, &'a [Token]), Refused>
     ensures { Gives (λ x. (select_tree x.0, x.1.now)) result ((grammar.select text.now).read tokens.now) }
 {
-    let (_, rest) = word(tokens, Kind::Select)?;
-    let (items, rest) = separated::<EachItem>(alloc, text, Kind::Comma, rest)?;
+    let (_, rest) = word(tokens, TokenKind::Select)?;
+    let (items, rest) = separated::<EachItem>(alloc, text, TokenKind::Comma, rest)?;
     let (from, rest) = from(alloc, text, rest)?;
     let (condition, rest) = condition(alloc, text, rest)?;
     let (order, rest) = order(alloc, text, rest)?;

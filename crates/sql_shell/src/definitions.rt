@@ -1,9 +1,9 @@
 use crate::bound::{write_between, write_row};
 use crate::bound_trees::write_literal;
 use crate::trees::write_number;
-use bound_forms::{Bound, Edge, Level, Point, Strategy};
+use bound_forms::{Bound, Edge, Level, Point};
 use history::{Column, Columns};
-use pg_values::{NoMemory, Refusal};
+use pg_values::{NoMemory, Refusal, Strategy};
 use refusals::kind_word;
 use sql_ast::{BoundText, ColumnList, Partitioning};
 use std::alloc::Global;

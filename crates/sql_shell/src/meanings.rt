@@ -18,7 +18,7 @@
 //! A column is written by the place of its FROM item and its own place there, `0.2`, a bigint with an `L`
 //! behind it, and each operator stands before its operands.
 //!
-//! That the first rule that is broken is told is proved in `sql_binder`, `change_binder` and `table_binder`, and that
+//! That the first rule that is broken is told is proved in `sql_binder` and `table_binder`, and that
 //! the first place counts in `parameter_kinds`. Here the rules are seen: `stdin` has the statements, and `stdout` what
 //! was worked out by hand from them.
 
@@ -26,10 +26,9 @@ use crate::bound::{write_change, write_insert, write_params, write_select};
 use crate::definitions::{write_partition, write_table};
 use crate::kinds::{write_bound, write_kinds};
 use crate::tables::{columns_of, item_of, items_of, params};
-use change_binder::{Wanted, bind_arguments, bind_delete, bind_insert, bind_update};
 use pg_values::{Fault, Kind, NoMemory, Refusal};
 use sql_ast::{Command, Delete, ExprList, Insert, Query, RowStatement, Select, Statement, Update};
-use sql_binder::bind_select;
+use sql_binder::{Wanted, bind_arguments, bind_delete, bind_insert, bind_select, bind_update};
 use sql_syntax::parse_block;
 use std::alloc::Global;
 

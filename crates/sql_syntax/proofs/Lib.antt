@@ -1,4 +1,8 @@
 pub mod BlockLaws
+pub mod CommandLaws
+pub mod NameFirst
 pub mod Openings
-pub mod StatementLaws
 pub mod Starts
+pub mod StatementLaws
+pub mod TextLaws
+pub mod ZeroLaws

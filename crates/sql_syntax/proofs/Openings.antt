@@ -4,17 +4,17 @@ use Rattle.grammar.specs.Reading.{Class, Rule, as_value}
 use Rattle.grammar.specs.Repeats.{second_of}
 use Rattle.grammar.proofs.Laws.{Law}
 use Rattle.grammar.proofs.Build.{token, seq}
-use Rattle.sql_tokens.specs.declared.kind.Kind.{Kind}
-use Rattle.sql_tokens.specs.declared.kind.Kind.TheVariants as word
+use Rattle.sql_tokens.specs.declared.kind.TokenKind.{TokenKind}
+use Rattle.sql_tokens.specs.declared.kind.TokenKind.TheVariants as word
 use Rattle.sql_tokens.specs.declared.token.Token.{Token}
 use Rattle.grammar.specs.Words.{◌>>◌}
 use Rattle.sql_tokens.specs.Classes.{a}
 use Rattle.sql_expressions.proofs.WordLaws.{sample}
 use Rattle.grammar.proofs.WordLaws.{maybe_law}
 use Rattle.sql_expressions.proofs.ListLaws.{other_name_law, plain_name_law}
-use Rattle.sql_commands.specs.Grammar as commands
+use Rattle.sql_syntax.specs.CommandGrammar as commands
 use Rattle.sql_ast.specs.Commands.{resets}
-use Rattle.sql_commands.proofs.CommandLaws.{setting_value_law, create_law, drop_law, alter_law, lock_law, deallocate_law}
+use Rattle.sql_syntax.proofs.CommandLaws.{setting_value_law, create_law, drop_law, alter_law, lock_law, deallocate_law}
 use Rattle.sql_queries.specs.Grammar as queries
 use Rattle.sql_ast.specs.Queries.{selects, rows}
 use Rattle.sql_queries.proofs.QueryLaws.{select_law, insert_law, delete_law, prepare_law, execute_law, explain_law}
@@ -24,14 +24,14 @@ use Rattle.sql_ast.specs.Statements as trees
 use Rattle.sql_syntax.proofs.Starts.{Starts, starts_value, starts_either, starts_both, starts_one, starts_behind, restart}
 
 -- a rule that begins with a word, by its law
-word_starts : {A : Type 0} {f : Class Token} {n : Bool} {c : Class Token} (k : Kind) (p : Rule Token A) → Law (a k >> p) f n c → Starts (a k >> p).free (a k)
+word_starts : {A : Type 0} {f : Class Token} {n : Bool} {c : Class Token} (k : TokenKind) (p : Rule Token A) → Law (a k >> p) f n c → Starts (a k >> p).free (a k)
 word_starts k p l = restart p.free (a k) _ _ (l.shape.within l.shape.text l.shape.value l.shape.sample)
 
-valued_starts : {A B : Type 0} {f : Class Token} {n : Bool} {c : Class Token} (g : A → B) (k : Kind) (p : Rule Token A) → Law (as_value g (a k >> p)) f n c → Starts (as_value g (a k >> p)).free (a k)
+valued_starts : {A B : Type 0} {f : Class Token} {n : Bool} {c : Class Token} (g : A → B) (k : TokenKind) (p : Rule Token A) → Law (as_value g (a k >> p)) f n c → Starts (as_value g (a k >> p)).free (a k)
 valued_starts g k p l = starts_value g (restart p.free (a k) _ _ (l.shape.within l.shape.text l.shape.value l.shape.sample).1)
 
 -- behind a word, a text that a law has
-behind_starts : {A : Type 0} {p : Rule Token A} {f : Class Token} {n : Bool} {c : Class Token} (k : Kind) → Law p f n c → Starts (a k >> p).free (a k)
+behind_starts : {A : Type 0} {p : Rule Token A} {f : Class Token} {n : Bool} {c : Class Token} (k : TokenKind) → Law p f n c → Starts (a k >> p).free (a k)
 behind_starts {p = p} k l = starts_behind p.free (a k) l.shape.text l.shape.value (l.shape.within l.shape.text l.shape.value l.shape.sample)
 
 module _ (text : List ℕ) where

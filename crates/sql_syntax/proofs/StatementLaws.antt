@@ -5,12 +5,12 @@ use Rattle.grammar.specs.Repeats.{always}
 use Rattle.grammar.proofs.Laws.{Law}
 use Rattle.grammar.proofs.Chain.{none}
 use Rattle.grammar.proofs.Build.{empty, valued, wide, alt, chained_by}
-use Rattle.sql_tokens.specs.declared.kind.Kind.TheVariants as word
+use Rattle.sql_tokens.specs.declared.kind.TokenKind.TheVariants as word
 use Rattle.sql_tokens.specs.declared.token.Token.{Token}
 use Rattle.sql_tokens.specs.Classes.{a}
 use Rattle.sql_expressions.proofs.RoomLaws.{Opens, if_room_law}
 use Rattle.sql_expressions.proofs.WordLaws.{sample, apart, within}
-use Rattle.sql_commands.proofs.CommandLaws.{after_command, command_law}
+use Rattle.sql_syntax.proofs.CommandLaws.{after_command, command_law}
 use Rattle.sql_queries.proofs.QueryLaws.{after_query, query_law}
 use Rattle.sql_syntax.specs.Grammar.{begins_statement, begins_query, statement, some_statement, maybe_statement, first_of, join, block}
 use Rattle.sql_ast.specs.Statements.{StatementTree, commands, queries}

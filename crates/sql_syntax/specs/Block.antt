@@ -6,7 +6,7 @@ use Rattle.pg_values.specs.declared.which.Which.{Which}
 use Rattle.pg_values.specs.declared.which.Which.TheVariants as which
 use Rattle.sql_tokens.specs.Classes.{a}
 use Rattle.sql_tokens.specs.Tokens.{tokens_of}
-use Rattle.sql_tokens.specs.declared.kind.Kind.TheVariants as word
+use Rattle.sql_tokens.specs.declared.kind.TokenKind.TheVariants as word
 use Rattle.sql_tokens.specs.declared.token.Token.{Token}
 use Rattle.sql_expressions.specs.Parsed as parsed
 use Rattle.sql_syntax.specs.Grammar.{begins_statement, block}

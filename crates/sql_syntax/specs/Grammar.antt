@@ -2,11 +2,11 @@
 use Rattle.std.specs.Prelude.{ℕ, ◌||◌, List, [], ◌∷◌, ◌++◌, length, nat_lt, Option, Some, None}
 use Rattle.grammar.specs.Reading.{Class, Rule, nothing, as_value, either}
 use Rattle.grammar.specs.Repeats.{always, chain_by}
-use Rattle.sql_tokens.specs.declared.kind.Kind.TheVariants as word
+use Rattle.sql_tokens.specs.declared.kind.TokenKind.TheVariants as word
 use Rattle.sql_tokens.specs.declared.token.Token.{Token}
 use Rattle.sql_expressions.specs.Levels.{if_room}
 use Rattle.sql_tokens.specs.Classes.{a}
-use Rattle.sql_commands.specs.Grammar.{command, begins_command}
+use Rattle.sql_syntax.specs.CommandGrammar.{command, begins_command}
 use Rattle.grammar.specs.Words.{one_of}
 use Rattle.sql_queries.specs.Grammar.{query, begins_row_statement}
 use Rattle.sql_ast.specs.Statements.{StatementTree, commands, queries}

@@ -1,3 +1,12 @@
+pub mod Alter
 pub mod Block
+pub mod Bound
+pub mod CommandGrammar
+pub mod Create
+pub mod Deallocate
+pub mod Drop
 pub mod Grammar
+pub mod Lock
+pub mod Setting
+pub mod Transaction
 pub mod Views

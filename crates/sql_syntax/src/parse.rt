@@ -11,7 +11,7 @@ use grammar::{Refused, comes, whole};
 use pg_values::{NoMemory, Which};
 use sql_ast::Statement;
 use sql_expressions::{ParseRefused, refusal};
-use sql_tokens::{Kind, Token, read_tokens};
+use sql_tokens::{Token, TokenKind, read_tokens};
 use std::alloc::Global;
 
 /// A block has at most so many statements.
@@ -23,7 +23,7 @@ fn statement_begins(tokens: &[Token], at: usize) -> bool
     requires { at ≤ length tokens.now }
     ensures { result ≡ block.statement_begins tokens.now at }
 {
-    statement_comes(&tokens[at..]) && (at == 0 || comes(&tokens[at - 1..], Kind::Semicolon))
+    statement_comes(&tokens[at..]) && (at == 0 || comes(&tokens[at - 1..], TokenKind::Semicolon))
 }
 
 /// The refusal of a block where its last tokens do not fit.

@@ -7,24 +7,23 @@ ghost use Rattle.sql_syntax.specs.Grammar as grammar;
 ghost use Rattle.sql_ast.specs.Statements.{statement_tree};
 ghost use Rattle.sql_syntax.specs.Views.{maybe_tree};
 
-use crate::MOST_STATEMENTS;
+use crate::{MOST_STATEMENTS, command, command_comes};
 use grammar::{Part, Refused, comes, word};
 use pg_values::NoMemory;
 use sql_ast::Statement;
-use sql_commands::{command, command_comes};
 use sql_expressions::one_of_comes;
 use sql_queries::query;
-use sql_tokens::{Kind, Token};
+use sql_tokens::{Token, TokenKind};
 use std::alloc::Global;
 
 fn query_comes(tokens: &[Token]) -> bool
     ensures { result ≡ begins_in grammar.begins_query tokens.now }
 {
-    comes(tokens, Kind::Select)
-        || comes(tokens, Kind::Insert)
-        || one_of_comes(tokens, Kind::Update, Kind::Delete)
-        || comes(tokens, Kind::Prepare)
-        || one_of_comes(tokens, Kind::Execute, Kind::Explain)
+    comes(tokens, TokenKind::Select)
+        || comes(tokens, TokenKind::Insert)
+        || one_of_comes(tokens, TokenKind::Update, TokenKind::Delete)
+        || comes(tokens, TokenKind::Prepare)
+        || one_of_comes(tokens, TokenKind::Execute, TokenKind::Explain)
 }
 
 /// Whether a statement comes next.
@@ -75,12 +74,12 @@ fn next_statement<'a>(
     mut done: Vec<Statement>,
     tokens: &'a [Token],
 ) -> Result<(bool, Vec<Statement>, &'a [Token]), Refused>
-    ensures { Gives (λ x. ((x.0, map statement_tree x.1.items), x.2.now)) result (read_step (a Kind.Semicolon) always grammar.join (λ xs. (grammar.maybe_statement text.now (length xs)).read) (map statement_tree done.items) tokens.now) }
+    ensures { Gives (λ x. ((x.0, map statement_tree x.1.items), x.2.now)) result (read_step (a TokenKind.Semicolon) always grammar.join (λ xs. (grammar.maybe_statement text.now (length xs)).read) (map statement_tree done.items) tokens.now) }
 {
-    if !comes(tokens, Kind::Semicolon) {
+    if !comes(tokens, TokenKind::Semicolon) {
         return Ok((false, done, tokens));
     }
-    let (_, rest) = word(tokens, Kind::Semicolon)?;
+    let (_, rest) = word(tokens, TokenKind::Semicolon)?;
     let (next, rest) = maybe_statement(alloc, text, done.len(), rest)?;
     if let Some(next) = next {
         done.push(next)?;
@@ -95,7 +94,7 @@ fn more_statements<'a>(
     first: Vec<Statement>,
     tokens: &'a [Token],
 ) -> Result<(Vec<Statement>, &'a [Token]), Refused>
-    ensures { Gives (λ x. (map statement_tree x.0.items, x.1.now)) result (read_repeats (a Kind.Semicolon) always grammar.join (λ xs. (grammar.maybe_statement text.now (length xs)).read) (length tokens.now) (map statement_tree first.items) tokens.now) }
+    ensures { Gives (λ x. (map statement_tree x.0.items, x.1.now)) result (read_repeats (a TokenKind.Semicolon) always grammar.join (λ xs. (grammar.maybe_statement text.now (length xs)).read) (length tokens.now) (map statement_tree first.items) tokens.now) }
 {
     let mut done = first;
     let mut rest = tokens;

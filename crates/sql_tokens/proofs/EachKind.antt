@@ -1,10 +1,10 @@
 -- A fact about every kind, by computation over their list.
 use Rattle.std.proofs.Common.{◌≡◌, ℕ, zero, suc, ◌<◌, lit<, arith, length, get_or, Bool, true, false, ◌&&◌, List, [], ◌∷◌, refl}
-use Rattle.sql_tokens.specs.declared.kind.Kind.{Kind}
-use Rattle.sql_tokens.specs.declared.kind.Kind.TheVariants as kinds
+use Rattle.sql_tokens.specs.declared.kind.TokenKind.{TokenKind}
+use Rattle.sql_tokens.specs.declared.kind.TokenKind.TheVariants as kinds
 use Rattle.sql_tokens.specs.Words.{kinds_list}
 
-abbrev pub every : (Kind → Bool) → List Kind → Bool
+abbrev pub every : (TokenKind → Bool) → List TokenKind → Bool
 every p [] = true
 every p (k ∷ ks) = p k && every p ks
 
@@ -16,12 +16,12 @@ and_right : (a b : Bool) → (a && b) ≡ true → b ≡ true
 and_right true b h = h
 and_right false b h = cc
 
-every_at : (p : Kind → Bool) (ks : List Kind) (n : ℕ) → every p ks ≡ true → n < length ks → p (get_or ks n kinds.Name) ≡ true
+every_at : (p : TokenKind → Bool) (ks : List TokenKind) (n : ℕ) → every p ks ≡ true → n < length ks → p (get_or ks n kinds.Name) ≡ true
 every_at p [] n h g = absurd (omega arith)
 every_at p (k ∷ ks) zero h g = and_left (p k) (every p ks) h
 every_at p (k ∷ ks) (suc n) h g = every_at p ks n (and_right (p k) (every p ks) h) (omega arith)
 
-pub each_kind : (p : Kind → Bool) → every p kinds_list ≡ true → (k : Kind) → p k ≡ true
+pub each_kind : (p : TokenKind → Bool) → every p kinds_list ≡ true → (k : TokenKind) → p k ≡ true
 each_kind p h kinds.Abort = every_at p kinds_list 0 h (lit< tt)
 each_kind p h kinds.Access = every_at p kinds_list 1 h (lit< tt)
 each_kind p h kinds.Alter = every_at p kinds_list 2 h (lit< tt)

@@ -1,6 +1,6 @@
 -- Where the tokens of a text stand.
 use Rattle.std.proofs.Common.{◌≡◌, ℕ, ◌+◌, ◌<◌, ◌≤◌, false, List, [], ◌∷◌, ◌++◌, length, Some, None, inl, inr, sym, subst, append-nil, ◌∙◌, arith}
-use Rattle.sql_tokens.specs.declared.kind.Kind.TheVariants.{Fault}
+use Rattle.sql_tokens.specs.declared.kind.TokenKind.TheVariants.{Fault}
 use Rattle.sql_tokens.specs.declared.piece.Piece.{Piece}
 use Rattle.sql_tokens.specs.declared.piece.Piece.TheVariants.{Gap, Lexeme, Broken}
 use Rattle.sql_tokens.specs.declared.token.Token.{Token}

@@ -2,8 +2,8 @@
 use Rattle.std.proofs.Common.{◌≡◌, ℕ, suc, ◌+◌, ◌-◌, ◌<◌, true, false, cond, ◌==◌, List, [], ◌∷◌, length, take, drop, Some, refl, ap, ◌∙◌, arith, length-drop, zero-add}
 use Rattle.std.proofs.lemmas.Grind.{common_steps}
 use Rattle.std.specs.Str.{is_utf8}
-use Rattle.sql_tokens.specs.declared.kind.Kind.{Kind}
-use Rattle.sql_tokens.specs.declared.kind.Kind.TheVariants.{Text, QuotedName}
+use Rattle.sql_tokens.specs.declared.kind.TokenKind.{TokenKind}
+use Rattle.sql_tokens.specs.declared.kind.TokenKind.TheVariants.{Text, QuotedName}
 use Rattle.sql_tokens.specs.declared.piece.Piece.TheVariants.{Lexeme}
 use Rattle.sql_tokens.specs.Contents.{name_in, string_in}
 use Rattle.sql_tokens.specs.Pieces.{front, mark, next_piece}
@@ -36,11 +36,11 @@ name_front z h =
     let p : 1 + length (doubled 34 z) + 1 ≡ length (quoted 34 z) = omega (arith, length_quoted 34 z) in
     ap closed_name (closing_doubled 34 1 z [] refl refl) ∙ closed_long (1 + length (doubled 34 z) + 1) (length (quoted 34 z)) p (omega (arith, doubled_some 34 z h))
 
-whole_piece : (z : List ℕ) (k : Kind) → is_utf8 z ≡ true → front z ≡ Lexeme k (length z) → next_piece z ≡ Lexeme k (length z)
+whole_piece : (z : List ℕ) (k : TokenKind) → is_utf8 z ≡ true → front z ≡ Lexeme k (length z) → next_piece z ≡ Lexeme k (length z)
 unfolding next_piece
 whole_piece z k u e = let all : take (length z) z ≡ z = grind (arith, common_steps) in rw (e, all, u) refl
 
-one_token : (z : List ℕ) (k : Kind) → 0 < length z → next_piece z ≡ Lexeme k (length z) → tokens_of z ≡ whole k z ∷ []
+one_token : (z : List ℕ) (k : TokenKind) → 0 < length z → next_piece z ≡ Lexeme k (length z) → tokens_of z ≡ whole k z ∷ []
 one_token z k h e =
     let none : tokens_by (length z - 1) (0 + length z) (drop (length z) z) ≡ [] = none_left (length z - 1) (0 + length z) (drop (length z) z) (omega (arith, length-drop (length z) z)) in
     step (length z) (length z - 1) 0 z (omega arith) h ∙ rw (e, none, zero-add) refl

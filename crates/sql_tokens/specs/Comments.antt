@@ -1,7 +1,7 @@
 -- Comments (4.1.5 Comments), and the signs that begin as they do.
 use Rattle.std.specs.Prelude.{ℕ, ◌+◌, ◌-◌, Bool, true, false, ◌&&◌, if◌then◌else◌, ◌==◌, List, [], ◌∷◌, Option, Some, None, drop, slice_index}
 use Rattle.sql_tokens.specs.declared.bytes.Class.TheVariants as class
-use Rattle.sql_tokens.specs.declared.kind.Kind.TheVariants.{Minus, Slash}
+use Rattle.sql_tokens.specs.declared.kind.TokenKind.TheVariants.{Minus, Slash}
 use Rattle.sql_tokens.specs.declared.piece.Piece.{Piece}
 use Rattle.sql_tokens.specs.declared.piece.Piece.TheVariants.{Gap, Lexeme, Broken}
 use Rattle.sql_tokens.specs.Bytes.{past}

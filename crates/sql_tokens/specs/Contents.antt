@@ -1,7 +1,7 @@
 -- What a token says (4.1.1 Identifiers and Key Words, 4.1.2 Constants). A place behind the text's end stands for the end.
 use Rattle.std.specs.Prelude.{ℕ, false, if◌then◌else◌, List, map}
 use Rattle.std.specs.Char.{to_ascii_lowercase, to_ascii_uppercase}
-use Rattle.sql_tokens.specs.declared.kind.Kind.TheVariants.{Decimal, QuotedName}
+use Rattle.sql_tokens.specs.declared.kind.TokenKind.TheVariants.{Decimal, QuotedName}
 use Rattle.sql_tokens.specs.declared.token.Token.{Token}
 use Rattle.sql_tokens.specs.Numbers.{number_of_digits}
 use Rattle.sql_tokens.specs.Quotes.{inside, slice, undoubled}

@@ -1,8 +1,8 @@
 -- Numbers and parameters (4.1.2.6 Numeric Constants, 4.2.2 Positional Parameters).
 use Rattle.std.specs.Prelude.{ℕ, ◌+◌, ◌*◌, ◌-◌, Bool, not, ◌&&◌, ◌||◌, if◌then◌else◌, ◌==◌, nat_lt, List, [], ◌∷◌, take, slice_index, min}
 use Rattle.sql_tokens.specs.declared.bytes.Class.TheVariants as class
-use Rattle.sql_tokens.specs.declared.kind.Kind.{Kind}
-use Rattle.sql_tokens.specs.declared.kind.Kind.TheVariants.{Number, Decimal, Parameter}
+use Rattle.sql_tokens.specs.declared.kind.TokenKind.{TokenKind}
+use Rattle.sql_tokens.specs.declared.kind.TokenKind.TheVariants.{Number, Decimal, Parameter}
 use Rattle.sql_tokens.specs.declared.numbers.TheConstants.{MOST_PARAMETER, NO_BIGINT}
 use Rattle.sql_tokens.specs.declared.piece.Piece.{Piece}
 use Rattle.sql_tokens.specs.declared.piece.Piece.TheVariants.{Lexeme, Broken}
@@ -31,11 +31,11 @@ abbrev pub begins_number : List ℕ → Bool
 begins_number z = is_digit_at z 0 || (slice_index z 0 == 46 && is_digit_at z 1)
 
 -- a piece of the kind up to `end`, unless a name begins there
-abbrev pub apart : Kind → List ℕ → ℕ → Piece
+abbrev pub apart : TokenKind → List ℕ → ℕ → Piece
 apart kind z end = if belongs class.NameStart (slice_index z end) then Broken else Lexeme kind end
 
 -- digits alone, or with a point or an exponent
-abbrev pub kind_of : ℕ → ℕ → Kind
+abbrev pub kind_of : ℕ → ℕ → TokenKind
 kind_of whole end = if end == whole then Number else Decimal
 
 unfoldable pub number : List ℕ → Piece

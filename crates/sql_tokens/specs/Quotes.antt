@@ -2,7 +2,7 @@
 use Rattle.std.specs.Prelude.{ℕ, false, if◌then◌else◌, ◌==◌, List, Option, Some, None, drop}
 pub use Rattle.grammar.specs.TextPlaces.{inside, slice}
 pub use Rattle.grammar.specs.Quotes.{closing, kept, undoubled}
-use Rattle.sql_tokens.specs.declared.kind.Kind.TheVariants.{Text, QuotedName}
+use Rattle.sql_tokens.specs.declared.kind.TokenKind.TheVariants.{Text, QuotedName}
 use Rattle.sql_tokens.specs.declared.piece.Piece.{Piece}
 use Rattle.sql_tokens.specs.declared.piece.Piece.TheVariants.{Lexeme, Broken}
 

@@ -1,6 +1,6 @@
 -- Signs (4.1.3 Operators, 4.1.4 Special Characters), by their first two bytes, the longest first. `-` and `/` may begin a comment and stand there.
 use Rattle.std.specs.Prelude.{◌≡◌, ℕ, ◌<◌, ◌≤◌, false, ◌&&◌, if◌then◌else◌, ◌==◌}
-use Rattle.sql_tokens.specs.declared.kind.Kind.TheVariants.{OpenParenthesis, CloseParenthesis, Comma, Semicolon, Dot, Equal, NotEqual, Less, LessEqual, Greater, GreaterEqual, Plus, Star, Percent, TypeCast, Fault}
+use Rattle.sql_tokens.specs.declared.kind.TokenKind.TheVariants.{OpenParenthesis, CloseParenthesis, Comma, Semicolon, Dot, Equal, NotEqual, Less, LessEqual, Greater, GreaterEqual, Plus, Star, Percent, TypeCast, Fault}
 use Rattle.sql_tokens.specs.declared.piece.Piece.{Piece}
 use Rattle.sql_tokens.specs.declared.piece.Piece.TheVariants.{Gap, Lexeme, Broken}
 use Rattle.sql_tokens.specs.Words.{is}

@@ -1,6 +1,6 @@
 -- The tokens of a text (4.1 Lexical Structure): piece after piece, up to its end or to the first that is broken.
 use Rattle.std.specs.Prelude.{◌≡◌, ◌<◌, ◌≤◌, ◌⊎◌, false, ℕ, zero, suc, ◌+◌, List, [], ◌∷◌, ◌++◌, length, drop, Option, Some, None}
-use Rattle.sql_tokens.specs.declared.kind.Kind.TheVariants.{Fault}
+use Rattle.sql_tokens.specs.declared.kind.TokenKind.TheVariants.{Fault}
 use Rattle.sql_tokens.specs.declared.piece.Piece.{Piece}
 use Rattle.sql_tokens.specs.declared.piece.Piece.TheVariants.{Gap, Lexeme, Broken}
 use Rattle.sql_tokens.specs.declared.token.Token.{Token}

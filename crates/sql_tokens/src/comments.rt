@@ -2,7 +2,7 @@ ghost use Rattle.std.specs.Prelude.{◌≡◌, ◌<◌, ◌≤◌, ◌+◌, ◌^
 ghost use Rattle.sql_tokens.specs.Comments as comments;
 ghost use Rattle.sql_tokens.specs.Pieces as pieces;
 
-use crate::Kind;
+use crate::TokenKind;
 use crate::bytes::{Class, past};
 use crate::piece::Piece;
 use grammar::byte;
@@ -17,7 +17,7 @@ pub fn minus(z: &[u8]) -> Piece
     if byte(z, 1) == b'-' {
         Piece::Gap(past(Class::Line, z, 2))
     } else {
-        Piece::Lexeme(Kind::Minus, 1)
+        Piece::Lexeme(TokenKind::Minus, 1)
     }
 }
 
@@ -71,7 +71,7 @@ pub fn slash(z: &[u8]) -> Piece
     ensures within { pieces.IsWithin z.now result }
 {
     if byte(z, 1) != b'*' {
-        return Piece::Lexeme(Kind::Slash, 1);
+        return Piece::Lexeme(TokenKind::Slash, 1);
     }
     match comment_end(&z[2..]) {
         None => Piece::Broken,

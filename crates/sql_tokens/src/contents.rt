@@ -3,7 +3,7 @@ ghost use Rattle.std.specs.Char.{to_ascii_lowercase, to_ascii_uppercase};
 ghost use Rattle.sql_tokens.specs.Contents as contents;
 
 use crate::numbers::number_of_digits;
-use crate::{Kind, Token, same_kind};
+use crate::{Token, TokenKind, same_kind};
 use grammar::{inside_of, slice, undoubled};
 use pg_values::{NoMemory, PgText};
 use std::alloc::Global;
@@ -26,7 +26,7 @@ pub fn name_of(alloc: Global, text: &[u8], token: Token) -> Result<PgText, NoMem
     ensures { IfOk result (λ n. n ≡ contents.name_in text.now token) }
 {
     let bytes = bytes_of(text, token);
-    if same_kind(token.kind, Kind::QuotedName) {
+    if same_kind(token.kind, TokenKind::QuotedName) {
         return PgText::from_vec(alloc, undoubled(alloc, b'"', inside_of(bytes))?);
     }
     PgText::from_vec(alloc, folded(alloc, bytes)?)
@@ -61,7 +61,7 @@ pub fn called(alloc: Global, text: &[u8], token: Token) -> Result<PgText, NoMemo
     ensures { IfOk result (λ t. t ≡ contents.called text.now token) }
 {
     let bytes = bytes_of(text, token);
-    if same_kind(token.kind, Kind::Decimal) {
+    if same_kind(token.kind, TokenKind::Decimal) {
         return PgText::from_bytes(alloc, bytes);
     }
     PgText::from_vec(alloc, raised(alloc, bytes)?)

@@ -4,7 +4,7 @@ ghost use Rattle.sql_tokens.specs.Words as words;
 /// What a token is. Words stand first, those that may be names before those that may not, and those
 /// of statements and clauses that are left out in one row.
 #[derive(Clone, Copy, Debug, PartialEq, Eq)]
-pub enum Kind {
+pub enum TokenKind {
     Abort,
     Access,
     Alter,
@@ -143,35 +143,35 @@ pub enum Kind {
 }
 
 /// The first of the words that are left out.
-pub const FIRST_LEFT_OUT: Kind = Kind::Exists;
+pub const FIRST_LEFT_OUT: TokenKind = TokenKind::Exists;
 
 /// The first of the words that may not be names.
-pub const FIRST_RESERVED: Kind = Kind::Analyze;
+pub const FIRST_RESERVED: TokenKind = TokenKind::Analyze;
 
 /// The first word behind those that are left out.
-pub const FIRST_KEPT: Kind = Kind::All;
+pub const FIRST_KEPT: TokenKind = TokenKind::All;
 
-pub fn same_kind(a: Kind, b: Kind) -> bool
+pub fn same_kind(a: TokenKind, b: TokenKind) -> bool
     ensures { result ≡ words.is a b }
 {
     (a as u8) == (b as u8)
 }
 
 /// Whether a token of the kind may stand where a name is wanted.
-pub fn is_name(kind: Kind) -> bool
+pub fn is_name(kind: TokenKind) -> bool
     ensures { result ≡ words.is_name kind }
 {
     (kind as u8) < (FIRST_RESERVED as u8)
-        || same_kind(kind, Kind::Name)
-        || same_kind(kind, Kind::QuotedName)
+        || same_kind(kind, TokenKind::Name)
+        || same_kind(kind, TokenKind::QuotedName)
 }
 
 /// Whether a token of the kind belongs to what is left out by name: a word of a statement or clause
 /// that is not there, `::`, or a number with a point or an exponent. Most of them may stand elsewhere.
-pub fn is_left_out(kind: Kind) -> bool
+pub fn is_left_out(kind: TokenKind) -> bool
     ensures { result ≡ words.is_left_out kind }
 {
     (FIRST_LEFT_OUT as u8) <= (kind as u8) && (kind as u8) < (FIRST_KEPT as u8)
-        || same_kind(kind, Kind::Decimal)
-        || same_kind(kind, Kind::TypeCast)
+        || same_kind(kind, TokenKind::Decimal)
+        || same_kind(kind, TokenKind::TypeCast)
 }

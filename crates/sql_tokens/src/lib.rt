@@ -11,7 +11,7 @@
 //! tell what a token says when it is asked for. A name without quotes is folded to lower case and
 //! may be a word, in any case of letters; one in quotes is taken as it is, and is no word.
 //!
-//! `Kind` has the words that may be names before the reserved words, which may not. `is_left_out`
+//! `TokenKind` has the words that may be names before the reserved words, which may not. `is_left_out`
 //! tells which tokens are named in a refusal, because what they begin is left out; `called` is the
 //! name by which they go there.
 #![tactic(auto)]
@@ -31,7 +31,7 @@ mod written;
 
 pub use bytes::{Class, belongs};
 pub use contents::{called, name_of, number_of, string_of};
-pub use kind::{Kind, is_left_out, is_name, same_kind};
+pub use kind::{TokenKind, is_left_out, is_name, same_kind};
 pub use reader::read_tokens;
 pub use token::Token;
 pub use words::word_kind;

@@ -3,7 +3,7 @@ ghost use Rattle.sql_tokens.specs.Numbers as numbers;
 ghost use Rattle.sql_tokens.specs.Pieces as pieces;
 ghost use Rattle.sql_tokens.specs.Words.{is};
 
-use crate::Kind;
+use crate::TokenKind;
 use crate::bytes::{Class, belongs, past};
 use crate::piece::Piece;
 use grammar::byte;
@@ -73,9 +73,9 @@ pub fn begins_number(z: &[u8]) -> bool
 }
 
 /// A piece of the kind, unless a name stands right behind it.
-fn apart(kind: Kind, z: &[u8], end: usize) -> Piece
+fn apart(kind: TokenKind, z: &[u8], end: usize) -> Piece
     requires within { (0 < end) × (end ≤ length z.now) }
-    requires kind { is kind Kind.Fault ≡ false }
+    requires kind { is kind TokenKind.Fault ≡ false }
     ensures value { result ≡ numbers.apart kind z.now end }
     ensures within { pieces.IsWithin z.now result }
 {
@@ -86,14 +86,14 @@ fn apart(kind: Kind, z: &[u8], end: usize) -> Piece
     }
 }
 
-fn kind_of(whole: usize, end: usize) -> Kind
+fn kind_of(whole: usize, end: usize) -> TokenKind
     ensures value { result ≡ numbers.kind_of whole end }
-    ensures kind { is result Kind.Fault ≡ false }
+    ensures kind { is result TokenKind.Fault ≡ false }
 {
     if end == whole {
-        Kind::Number
+        TokenKind::Number
     } else {
-        Kind::Decimal
+        TokenKind::Decimal
     }
 }
 
@@ -119,7 +119,7 @@ pub fn parameter(z: &[u8]) -> Piece
     if end == 1 || MOST_PARAMETER < number_of_digits(&z[..end]) {
         Piece::Broken
     } else {
-        apart(Kind::Parameter, z, end)
+        apart(TokenKind::Parameter, z, end)
     }
 }
 

@@ -2,7 +2,7 @@ ghost use Rattle.std.specs.Prelude.{◌≡◌, ◌<◌, ◌≤◌, ◌+◌, ◌^
 ghost use Rattle.std.specs.Str.{is_utf8};
 ghost use Rattle.sql_tokens.specs.Pieces as pieces;
 
-use crate::Kind;
+use crate::TokenKind;
 use crate::bytes::{Class, belongs, past};
 use crate::comments::{minus, slash};
 use crate::numbers::{begins_number, number, parameter};
@@ -16,7 +16,7 @@ use grammar::byte;
 pub enum Piece {
     /// Blanks or a comment.
     Gap(usize),
-    Lexeme(Kind, usize),
+    Lexeme(TokenKind, usize),
     /// Nothing that can be read.
     Broken,
 }

@@ -2,7 +2,7 @@ ghost use Rattle.std.specs.Prelude.{◌≡◌, ◌<◌, length};
 ghost use Rattle.sql_tokens.specs.Pieces as pieces;
 ghost use Rattle.sql_tokens.specs.Quotes as quotes;
 
-use crate::Kind;
+use crate::TokenKind;
 use crate::piece::Piece;
 use grammar::closing;
 
@@ -15,7 +15,7 @@ pub fn string(z: &[u8]) -> Piece
 {
     match closing(b'\'', &z[1..]) {
         None => Piece::Broken,
-        Some(end) => Piece::Lexeme(Kind::Text, end),
+        Some(end) => Piece::Lexeme(TokenKind::Text, end),
     }
 }
 
@@ -29,6 +29,6 @@ pub fn quoted_name(z: &[u8]) -> Piece
     match closing(b'"', &z[1..]) {
         None => Piece::Broken,
         Some(2) => Piece::Broken,
-        Some(end) => Piece::Lexeme(Kind::QuotedName, end),
+        Some(end) => Piece::Lexeme(TokenKind::QuotedName, end),
     }
 }

@@ -3,7 +3,7 @@ ghost use Rattle.sql_tokens.specs.Pieces as pieces;
 ghost use Rattle.sql_tokens.specs.Tokens as tokens;
 
 use crate::piece::{Piece, next_piece};
-use crate::{Kind, Token};
+use crate::{Token, TokenKind};
 use grammar::behind;
 use pg_values::NoMemory;
 use std::alloc::Global;
@@ -28,7 +28,7 @@ fn read_piece(told: &mut Vec<Token>, at: usize, z: &[u8]) -> Result<Option<usize
         }
         Piece::Broken => {
             told.push(Token {
-                kind: Kind::Fault,
+                kind: TokenKind::Fault,
                 start: at,
                 end: at,
             })?;

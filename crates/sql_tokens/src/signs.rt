@@ -1,7 +1,7 @@
 ghost use Rattle.std.specs.Prelude.{◌≡◌};
 ghost use Rattle.sql_tokens.specs.Signs as signs;
 
-use crate::Kind;
+use crate::TokenKind;
 use crate::piece::Piece;
 
 fn less(next: u8) -> Piece
@@ -9,9 +9,9 @@ fn less(next: u8) -> Piece
     ensures within { signs.IsShort next result }
 {
     match next {
-        b'=' => Piece::Lexeme(Kind::LessEqual, 2),
-        b'>' => Piece::Lexeme(Kind::NotEqual, 2),
-        _ => Piece::Lexeme(Kind::Less, 1),
+        b'=' => Piece::Lexeme(TokenKind::LessEqual, 2),
+        b'>' => Piece::Lexeme(TokenKind::NotEqual, 2),
+        _ => Piece::Lexeme(TokenKind::Less, 1),
     }
 }
 
@@ -20,8 +20,8 @@ fn greater(next: u8) -> Piece
     ensures within { signs.IsShort next result }
 {
     match next {
-        b'=' => Piece::Lexeme(Kind::GreaterEqual, 2),
-        _ => Piece::Lexeme(Kind::Greater, 1),
+        b'=' => Piece::Lexeme(TokenKind::GreaterEqual, 2),
+        _ => Piece::Lexeme(TokenKind::Greater, 1),
     }
 }
 
@@ -30,15 +30,15 @@ fn single(b: u8) -> Piece
     ensures within { signs.IsShort 0 result }
 {
     match b {
-        b'(' => Piece::Lexeme(Kind::OpenParenthesis, 1),
-        b')' => Piece::Lexeme(Kind::CloseParenthesis, 1),
-        b',' => Piece::Lexeme(Kind::Comma, 1),
-        b';' => Piece::Lexeme(Kind::Semicolon, 1),
-        b'.' => Piece::Lexeme(Kind::Dot, 1),
-        b'=' => Piece::Lexeme(Kind::Equal, 1),
-        b'+' => Piece::Lexeme(Kind::Plus, 1),
-        b'*' => Piece::Lexeme(Kind::Star, 1),
-        b'%' => Piece::Lexeme(Kind::Percent, 1),
+        b'(' => Piece::Lexeme(TokenKind::OpenParenthesis, 1),
+        b')' => Piece::Lexeme(TokenKind::CloseParenthesis, 1),
+        b',' => Piece::Lexeme(TokenKind::Comma, 1),
+        b';' => Piece::Lexeme(TokenKind::Semicolon, 1),
+        b'.' => Piece::Lexeme(TokenKind::Dot, 1),
+        b'=' => Piece::Lexeme(TokenKind::Equal, 1),
+        b'+' => Piece::Lexeme(TokenKind::Plus, 1),
+        b'*' => Piece::Lexeme(TokenKind::Star, 1),
+        b'%' => Piece::Lexeme(TokenKind::Percent, 1),
         _ => Piece::Broken,
     }
 }
@@ -52,8 +52,8 @@ pub fn sign(b: u8, next: u8) -> Piece
     match b {
         b'<' => less(next),
         b'>' => greater(next),
-        b'!' if next == b'=' => Piece::Lexeme(Kind::NotEqual, 2),
-        b':' if next == b':' => Piece::Lexeme(Kind::TypeCast, 2),
+        b'!' if next == b'=' => Piece::Lexeme(TokenKind::NotEqual, 2),
+        b':' if next == b':' => Piece::Lexeme(TokenKind::TypeCast, 2),
         _ => single(b),
     }
 }

@@ -2,202 +2,202 @@ ghost use Rattle.std.specs.Prelude.{◌≡◌, map, false};
 ghost use Rattle.std.specs.Str.{str_eq_ignore_ascii_case};
 ghost use Rattle.sql_tokens.specs.Words as words;
 
-use crate::Kind;
+use crate::TokenKind;
 
-const TWO: [(&[u8], Kind); 10] = [
-    (b"by", Kind::By),
-    (b"of", Kind::Of),
-    (b"if", Kind::If),
-    (b"on", Kind::On),
-    (b"to", Kind::To),
-    (b"do", Kind::LeftReserved),
-    (b"as", Kind::As),
-    (b"in", Kind::In),
-    (b"is", Kind::Is),
-    (b"or", Kind::Or),
+const TWO: [(&[u8], TokenKind); 10] = [
+    (b"by", TokenKind::By),
+    (b"of", TokenKind::Of),
+    (b"if", TokenKind::If),
+    (b"on", TokenKind::On),
+    (b"to", TokenKind::To),
+    (b"do", TokenKind::LeftReserved),
+    (b"as", TokenKind::As),
+    (b"in", TokenKind::In),
+    (b"is", TokenKind::Is),
+    (b"or", TokenKind::Or),
 ];
 
-const THREE: [(&[u8], Kind); 10] = [
-    (b"end", Kind::End),
-    (b"int", Kind::Int),
-    (b"off", Kind::Off),
-    (b"row", Kind::Row),
-    (b"set", Kind::Set),
-    (b"for", Kind::For),
-    (b"all", Kind::All),
-    (b"and", Kind::And),
-    (b"asc", Kind::Asc),
-    (b"not", Kind::Not),
+const THREE: [(&[u8], TokenKind); 10] = [
+    (b"end", TokenKind::End),
+    (b"int", TokenKind::Int),
+    (b"off", TokenKind::Off),
+    (b"row", TokenKind::Row),
+    (b"set", TokenKind::Set),
+    (b"for", TokenKind::For),
+    (b"all", TokenKind::All),
+    (b"and", TokenKind::And),
+    (b"asc", TokenKind::Asc),
+    (b"not", TokenKind::Not),
 ];
 
-const FOUR: [(&[u8], Kind); 28] = [
-    (b"date", Kind::Date),
-    (b"drop", Kind::Drop),
-    (b"hash", Kind::Hash),
-    (b"last", Kind::Last),
-    (b"list", Kind::List),
-    (b"lock", Kind::Lock),
-    (b"mode", Kind::Mode),
-    (b"read", Kind::Read),
-    (b"work", Kind::Work),
-    (b"call", Kind::LeftName),
-    (b"copy", Kind::LeftName),
-    (b"rule", Kind::LeftName),
-    (b"show", Kind::LeftName),
-    (b"temp", Kind::LeftName),
-    (b"view", Kind::LeftName),
-    (b"from", Kind::From),
-    (b"only", Kind::Only),
-    (b"with", Kind::With),
-    (b"case", Kind::LeftReserved),
-    (b"cast", Kind::LeftReserved),
-    (b"full", Kind::LeftReserved),
-    (b"left", Kind::LeftReserved),
-    (b"like", Kind::LeftReserved),
-    (b"desc", Kind::Desc),
-    (b"into", Kind::Into),
-    (b"join", Kind::Join),
-    (b"null", Kind::Null),
-    (b"true", Kind::True),
+const FOUR: [(&[u8], TokenKind); 28] = [
+    (b"date", TokenKind::Date),
+    (b"drop", TokenKind::Drop),
+    (b"hash", TokenKind::Hash),
+    (b"last", TokenKind::Last),
+    (b"list", TokenKind::List),
+    (b"lock", TokenKind::Lock),
+    (b"mode", TokenKind::Mode),
+    (b"read", TokenKind::Read),
+    (b"work", TokenKind::Work),
+    (b"call", TokenKind::LeftName),
+    (b"copy", TokenKind::LeftName),
+    (b"rule", TokenKind::LeftName),
+    (b"show", TokenKind::LeftName),
+    (b"temp", TokenKind::LeftName),
+    (b"view", TokenKind::LeftName),
+    (b"from", TokenKind::From),
+    (b"only", TokenKind::Only),
+    (b"with", TokenKind::With),
+    (b"case", TokenKind::LeftReserved),
+    (b"cast", TokenKind::LeftReserved),
+    (b"full", TokenKind::LeftReserved),
+    (b"left", TokenKind::LeftReserved),
+    (b"like", TokenKind::LeftReserved),
+    (b"desc", TokenKind::Desc),
+    (b"into", TokenKind::Into),
+    (b"join", TokenKind::Join),
+    (b"null", TokenKind::Null),
+    (b"true", TokenKind::True),
 ];
 
-const FIVE: [(&[u8], Kind); 31] = [
-    (b"abort", Kind::Abort),
-    (b"alter", Kind::Alter),
-    (b"begin", Kind::Begin),
-    (b"costs", Kind::Costs),
-    (b"first", Kind::First),
-    (b"level", Kind::Level),
-    (b"nulls", Kind::Nulls),
-    (b"range", Kind::Range),
-    (b"reset", Kind::Reset),
-    (b"share", Kind::Share),
-    (b"start", Kind::Start),
-    (b"local", Kind::Local),
-    (b"close", Kind::LeftName),
-    (b"index", Kind::LeftName),
-    (b"merge", Kind::LeftName),
-    (b"check", Kind::LeftReserved),
-    (b"cross", Kind::LeftReserved),
-    (b"fetch", Kind::LeftReserved),
-    (b"grant", Kind::LeftReserved),
-    (b"group", Kind::LeftReserved),
-    (b"ilike", Kind::LeftReserved),
-    (b"outer", Kind::LeftReserved),
-    (b"right", Kind::LeftReserved),
-    (b"union", Kind::LeftReserved),
-    (b"using", Kind::LeftReserved),
-    (b"false", Kind::False),
-    (b"inner", Kind::Inner),
-    (b"limit", Kind::Limit),
-    (b"order", Kind::Order),
-    (b"table", Kind::Table),
-    (b"where", Kind::Where),
+const FIVE: [(&[u8], TokenKind); 31] = [
+    (b"abort", TokenKind::Abort),
+    (b"alter", TokenKind::Alter),
+    (b"begin", TokenKind::Begin),
+    (b"costs", TokenKind::Costs),
+    (b"first", TokenKind::First),
+    (b"level", TokenKind::Level),
+    (b"nulls", TokenKind::Nulls),
+    (b"range", TokenKind::Range),
+    (b"reset", TokenKind::Reset),
+    (b"share", TokenKind::Share),
+    (b"start", TokenKind::Start),
+    (b"local", TokenKind::Local),
+    (b"close", TokenKind::LeftName),
+    (b"index", TokenKind::LeftName),
+    (b"merge", TokenKind::LeftName),
+    (b"check", TokenKind::LeftReserved),
+    (b"cross", TokenKind::LeftReserved),
+    (b"fetch", TokenKind::LeftReserved),
+    (b"grant", TokenKind::LeftReserved),
+    (b"group", TokenKind::LeftReserved),
+    (b"ilike", TokenKind::LeftReserved),
+    (b"outer", TokenKind::LeftReserved),
+    (b"right", TokenKind::LeftReserved),
+    (b"union", TokenKind::LeftReserved),
+    (b"using", TokenKind::LeftReserved),
+    (b"false", TokenKind::False),
+    (b"inner", TokenKind::Inner),
+    (b"limit", TokenKind::Limit),
+    (b"order", TokenKind::Order),
+    (b"table", TokenKind::Table),
+    (b"where", TokenKind::Where),
 ];
 
-const SIX: [(&[u8], Kind); 22] = [
-    (b"access", Kind::Access),
-    (b"attach", Kind::Attach),
-    (b"commit", Kind::Commit),
-    (b"delete", Kind::Delete),
-    (b"detach", Kind::Detach),
-    (b"insert", Kind::Insert),
-    (b"timing", Kind::Timing),
-    (b"update", Kind::Update),
-    (b"exists", Kind::Exists),
-    (b"values", Kind::Values),
-    (b"listen", Kind::LeftName),
-    (b"notify", Kind::LeftName),
-    (b"nowait", Kind::LeftName),
-    (b"revoke", Kind::LeftName),
-    (b"vacuum", Kind::LeftName),
-    (b"create", Kind::Create),
-    (b"select", Kind::Select),
-    (b"except", Kind::LeftReserved),
-    (b"having", Kind::LeftReserved),
-    (b"unique", Kind::LeftReserved),
-    (b"window", Kind::LeftReserved),
-    (b"offset", Kind::Offset),
+const SIX: [(&[u8], TokenKind); 22] = [
+    (b"access", TokenKind::Access),
+    (b"attach", TokenKind::Attach),
+    (b"commit", TokenKind::Commit),
+    (b"delete", TokenKind::Delete),
+    (b"detach", TokenKind::Detach),
+    (b"insert", TokenKind::Insert),
+    (b"timing", TokenKind::Timing),
+    (b"update", TokenKind::Update),
+    (b"exists", TokenKind::Exists),
+    (b"values", TokenKind::Values),
+    (b"listen", TokenKind::LeftName),
+    (b"notify", TokenKind::LeftName),
+    (b"nowait", TokenKind::LeftName),
+    (b"revoke", TokenKind::LeftName),
+    (b"vacuum", TokenKind::LeftName),
+    (b"create", TokenKind::Create),
+    (b"select", TokenKind::Select),
+    (b"except", TokenKind::LeftReserved),
+    (b"having", TokenKind::LeftReserved),
+    (b"unique", TokenKind::LeftReserved),
+    (b"window", TokenKind::LeftReserved),
+    (b"offset", TokenKind::Offset),
 ];
 
-const SEVEN: [(&[u8], Kind); 23] = [
-    (b"between", Kind::Between),
-    (b"cascade", Kind::Cascade),
-    (b"execute", Kind::Execute),
-    (b"explain", Kind::Explain),
-    (b"modulus", Kind::Modulus),
-    (b"prepare", Kind::Prepare),
-    (b"summary", Kind::Summary),
-    (b"buffers", Kind::LeftName),
-    (b"cluster", Kind::LeftName),
-    (b"comment", Kind::LeftName),
-    (b"declare", Kind::LeftName),
-    (b"exclude", Kind::LeftName),
-    (b"include", Kind::LeftName),
-    (b"release", Kind::LeftName),
-    (b"trigger", Kind::LeftName),
-    (b"verbose", Kind::LeftName),
-    (b"analyze", Kind::Analyze),
-    (b"default", Kind::Default),
-    (b"collate", Kind::LeftReserved),
-    (b"foreign", Kind::LeftReserved),
-    (b"natural", Kind::LeftReserved),
-    (b"primary", Kind::LeftReserved),
-    (b"similar", Kind::LeftReserved),
+const SEVEN: [(&[u8], TokenKind); 23] = [
+    (b"between", TokenKind::Between),
+    (b"cascade", TokenKind::Cascade),
+    (b"execute", TokenKind::Execute),
+    (b"explain", TokenKind::Explain),
+    (b"modulus", TokenKind::Modulus),
+    (b"prepare", TokenKind::Prepare),
+    (b"summary", TokenKind::Summary),
+    (b"buffers", TokenKind::LeftName),
+    (b"cluster", TokenKind::LeftName),
+    (b"comment", TokenKind::LeftName),
+    (b"declare", TokenKind::LeftName),
+    (b"exclude", TokenKind::LeftName),
+    (b"include", TokenKind::LeftName),
+    (b"release", TokenKind::LeftName),
+    (b"trigger", TokenKind::LeftName),
+    (b"verbose", TokenKind::LeftName),
+    (b"analyze", TokenKind::Analyze),
+    (b"default", TokenKind::Default),
+    (b"collate", TokenKind::LeftReserved),
+    (b"foreign", TokenKind::LeftReserved),
+    (b"natural", TokenKind::LeftReserved),
+    (b"primary", TokenKind::LeftReserved),
+    (b"similar", TokenKind::LeftReserved),
 ];
 
-const EIGHT: [(&[u8], Kind); 13] = [
-    (b"finalize", Kind::Finalize),
-    (b"maxvalue", Kind::Maxvalue),
-    (b"minvalue", Kind::Minvalue),
-    (b"regclass", Kind::Regclass),
-    (b"restrict", Kind::Restrict),
-    (b"rollback", Kind::Rollback),
-    (b"tableoid", Kind::Tableoid),
-    (b"function", Kind::LeftName),
-    (b"inherits", Kind::LeftName),
-    (b"prepared", Kind::LeftName),
-    (b"truncate", Kind::LeftName),
-    (b"unlogged", Kind::LeftName),
-    (b"distinct", Kind::LeftReserved),
+const EIGHT: [(&[u8], TokenKind); 13] = [
+    (b"finalize", TokenKind::Finalize),
+    (b"maxvalue", TokenKind::Maxvalue),
+    (b"minvalue", TokenKind::Minvalue),
+    (b"regclass", TokenKind::Regclass),
+    (b"restrict", TokenKind::Restrict),
+    (b"rollback", TokenKind::Rollback),
+    (b"tableoid", TokenKind::Tableoid),
+    (b"function", TokenKind::LeftName),
+    (b"inherits", TokenKind::LeftName),
+    (b"prepared", TokenKind::LeftName),
+    (b"truncate", TokenKind::LeftName),
+    (b"unlogged", TokenKind::LeftName),
+    (b"distinct", TokenKind::LeftReserved),
 ];
 
-const NINE: [(&[u8], Kind); 11] = [
-    (b"committed", Kind::Committed),
-    (b"exclusive", Kind::Exclusive),
-    (b"isolation", Kind::Isolation),
-    (b"partition", Kind::Partition),
-    (b"remainder", Kind::Remainder),
-    (b"generated", Kind::LeftName),
-    (b"recursive", Kind::LeftName),
-    (b"savepoint", Kind::LeftName),
-    (b"temporary", Kind::LeftName),
-    (b"intersect", Kind::LeftReserved),
-    (b"returning", Kind::LeftReserved),
+const NINE: [(&[u8], TokenKind); 11] = [
+    (b"committed", TokenKind::Committed),
+    (b"exclusive", TokenKind::Exclusive),
+    (b"isolation", TokenKind::Isolation),
+    (b"partition", TokenKind::Partition),
+    (b"remainder", TokenKind::Remainder),
+    (b"generated", TokenKind::LeftName),
+    (b"recursive", TokenKind::LeftName),
+    (b"savepoint", TokenKind::LeftName),
+    (b"temporary", TokenKind::LeftName),
+    (b"intersect", TokenKind::LeftReserved),
+    (b"returning", TokenKind::LeftReserved),
 ];
 
-const TEN: [(&[u8], Kind); 4] = [
-    (b"deallocate", Kind::Deallocate),
-    (b"repeatable", Kind::Repeatable),
-    (b"constraint", Kind::LeftReserved),
-    (b"references", Kind::LeftReserved),
+const TEN: [(&[u8], TokenKind); 4] = [
+    (b"deallocate", TokenKind::Deallocate),
+    (b"repeatable", TokenKind::Repeatable),
+    (b"constraint", TokenKind::LeftReserved),
+    (b"references", TokenKind::LeftReserved),
 ];
 
-const ELEVEN: [(&[u8], Kind); 3] = [
-    (b"uncommitted", Kind::Uncommitted),
-    (b"transaction", Kind::Transaction),
-    (b"tablesample", Kind::LeftReserved),
+const ELEVEN: [(&[u8], TokenKind); 3] = [
+    (b"uncommitted", TokenKind::Uncommitted),
+    (b"transaction", TokenKind::Transaction),
+    (b"tablesample", TokenKind::LeftReserved),
 ];
 
-const TWELVE: [(&[u8], Kind); 3] = [
-    (b"concurrently", Kind::Concurrently),
-    (b"materialized", Kind::LeftName),
-    (b"serializable", Kind::LeftName),
+const TWELVE: [(&[u8], TokenKind); 3] = [
+    (b"concurrently", TokenKind::Concurrently),
+    (b"materialized", TokenKind::LeftName),
+    (b"serializable", TokenKind::LeftName),
 ];
 
 /// The words of so many letters that have a kind of their own, and the other words that are reserved
 /// or left out.
-fn words_of(n: usize) -> &'static [(&'static [u8], Kind)]
+fn words_of(n: usize) -> &'static [(&'static [u8], TokenKind)]
     ensures { map (λ w. (w.0.now, w.1)) result.now ≡ words.words_of n }
 {
     match n {
@@ -222,7 +222,7 @@ fn same_word(a: &[u8], b: &[u8]) -> bool
     a.eq_ignore_ascii_case(b)
 }
 
-fn look_up(mut table: &[(&[u8], Kind)], word: &[u8]) -> Kind
+fn look_up(mut table: &[(&[u8], TokenKind)], word: &[u8]) -> TokenKind
     ensures { result ≡ words.look_up (map (λ w. (w.0.now, w.1)) table.entry.now) word.now }
 {
     while let [entry, rest @ ..] = table {
@@ -231,14 +231,14 @@ fn look_up(mut table: &[(&[u8], Kind)], word: &[u8]) -> Kind
         }
         table = rest;
     }
-    Kind::Name
+    TokenKind::Name
 }
 
 /// The kind of a word in any case of letters, or of a name.
 #[tactic(auto, unfolding(crate::specs::Words::word_kind))]
-pub fn word_kind(word: &[u8]) -> Kind
+pub fn word_kind(word: &[u8]) -> TokenKind
     ensures value { result ≡ words.word_kind word.now }
-    ensures kind { words.is result Kind.Fault ≡ false }
+    ensures kind { words.is result TokenKind.Fault ≡ false }
 {
     look_up(words_of(word.len()), word)
 }

@@ -3,7 +3,7 @@
 
 ghost use Rattle.std.specs.Prelude.{◌≡◌, ◌<◌, ℕ, List, length, true};
 ghost use Rattle.std.specs.Str.{is_utf8};
-ghost use Rattle.sql_tokens.specs.declared.kind.Kind.TheVariants as kinds;
+ghost use Rattle.sql_tokens.specs.declared.kind.TokenKind.TheVariants as kinds;
 ghost use Rattle.sql_tokens.specs.Contents.{name_in, string_in};
 ghost use Rattle.sql_tokens.specs.Written.{IsToken, quoted};
 

@@ -4,8 +4,8 @@ use Rattle.std.specs.Prelude.{codes}
 use Rattle.grammar.specs.Reading.{one_texts, both_texts}
 use Rattle.grammar.specs.Repeats.{repeats_texts, always}
 use Rattle.sql_tokens.specs.Words.{is}
-use Rattle.sql_tokens.specs.declared.kind.Kind.{Kind}
-use Rattle.sql_tokens.specs.declared.kind.Kind.TheVariants as kinds
+use Rattle.sql_tokens.specs.declared.kind.TokenKind.{TokenKind}
+use Rattle.sql_tokens.specs.declared.kind.TokenKind.TheVariants as kinds
 use Rattle.sql_tokens.specs.declared.token.Token.{Token}
 use Rattle.sql_expressions.specs.Grammar.{any}
 use Rattle.sql_expressions.specs.Levels as level
@@ -36,7 +36,7 @@ listed_back (and_more t ts) = ap (and_more t) (listed_back ts)
 
 module _ (text : List ℕ) where
   -- a sign and what stands behind it
-  abbrev Behind : Kind → List Token → List Mark → Type 0
+  abbrev Behind : TokenKind → List Token → List Mark → Type 0
   Behind k ts ms = (from : ℕ) × (to : ℕ) × (rest : List Token) × (ts ≡ token k from to ∷ rest) × Are text rest ms
 
   behind_sign : (op : Operator) (ts : List Token) (ms : List Mark) → Are text ts (spelled.sign op ∷ ms) → Behind (sign_kind text op) ts ms
@@ -66,7 +66,7 @@ module _ (text : List ℕ) where
   behind_blank (any_of _) ts ms h = h
 
   -- calls
-  called : (k : Kind) (f : List ℕ) (x y ts : List Token) (d : Deep) → ts ≡ x ++ y → (name text).free x (k, f) → (level.call_of (any text).expression f).texts y d → (any text).unary.texts ts d
+  called : (k : TokenKind) (f : List ℕ) (x y ts : List Token) (d : Deep) → ts ≡ x ++ y → (name text).free x (k, f) → (level.call_of (any text).expression f).texts y d → (any text).unary.texts ts d
   called k f x y ts d e n c = unary_to text ts d (inr (inl (((k, f), d), (x, y, e, n, inl c), refl)))
 
   call_texts : (f : List ℕ) (from to m n : ℕ) (x v y : List Token) (p : Parts) → y ≡ token kinds.OpenParenthesis from to ∷ v → v ≡ x ++ token kinds.CloseParenthesis m n ∷ [] →
@@ -86,14 +86,14 @@ module _ (text : List ℕ) where
       ((s, (call_of_all f, 1)), (s ∷ [], r ∷ t ∷ [], d, (refl, refl), (((call_of_all f, 1), t), (r ∷ [], t ∷ [], refl, inl (r, (refl, refl), refl), (refl, refl)), refl)), refl)
 
   -- lists and chains
-  abbrev pub parts_texts : Kind → Level → Of Parts
+  abbrev pub parts_texts : TokenKind → Level → Of Parts
   parts_texts k place = chain_texts (a k) level.only_part level.add_part (texts_at text place) (texts_at text place)
 
-  abbrev more_texts : Kind → Level → Parts → Of Parts
+  abbrev more_texts : TokenKind → Level → Parts → Of Parts
   more_texts k place p = repeats_texts always level.add_part (λ (l : Parts). both_texts (one_texts (a k)) (texts_at text place)) p
 
   -- marks that say one token of a kind
-  record Says (k : Kind) (sign : List Mark) : Type 0 where
+  record Says (k : TokenKind) (sign : List Mark) : Type 0 where
     self : is k k ≡ true
     one : (ts : List Token) (ms : List Mark) → Are text ts (sign ++ ms) → Behind k ts ms
 
@@ -229,7 +229,7 @@ module _ (text : List ℕ) where
     back (all_of us) w ts h = conjunction_of us (chain_depth negation us) ts w.0 (back_chain kinds.And and_between and_says negation us (two_one us w.0) w.1 ts h)
     back (any_of us) w ts h = disjunction_of us (chain_depth conjunction us) ts w.0 (back_chain kinds.Or or_between or_says conjunction us (two_one us w.0) w.1 ts h)
 
-    back_chain : (k : Kind) (sign : List Mark) → Says k sign → (place : Level) (us : Trees) → HasOne us → HaveTexts us → (ts : List Token) → Are text ts (chain sign place us) → parts_texts k place ts (of_trees us, chain_depth place us)
+    back_chain : (k : TokenKind) (sign : List Mark) → Says k sign → (place : Level) (us : Trees) → HasOne us → HaveTexts us → (ts : List Token) → Are text ts (chain sign place us) → parts_texts k place ts (of_trees us, chain_depth place us)
     back_chain k sign s place no_more one w ts h = absurd one
     back_chain k sign s place (and_more t us) one w ts h =
         let p = parted text ts (in_parentheses (needs_parentheses place t) (marks t)) (more sign place us) h in
@@ -245,7 +245,7 @@ module _ (text : List ℕ) where
           refl,
         )
 
-    back_more : (k : Kind) (sign : List Mark) → Says k sign → (place : Level) (us : Trees) → HaveTexts us → (p : Parts) (ts : List Token) → Are text ts (more sign place us) → more_texts k place p ts (p.0 ++ of_trees us, max p.1 (chain_depth place us))
+    back_more : (k : TokenKind) (sign : List Mark) → Says k sign → (place : Level) (us : Trees) → HaveTexts us → (p : Parts) (ts : List Token) → Are text ts (more sign place us) → more_texts k place p ts (p.0 ++ of_trees us, max p.1 (chain_depth place us))
     back_more k sign s place no_more w p ts h = ([], (h, ended p))
     back_more k sign s place (and_more t us) w p ts h =
         let q = s.one ts (in_parentheses (needs_parentheses place t) (marks t) ++ more sign place us) h in

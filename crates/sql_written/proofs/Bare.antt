@@ -4,15 +4,15 @@ use Rattle.std.specs.Prelude.{codes}
 use Rattle.std.specs.Str.{bytes_eq}
 use Rattle.sql_tokens.specs.Contents.{name_in}
 use Rattle.sql_tokens.specs.Words.{is, is_name, word_kind}
-use Rattle.sql_tokens.specs.declared.kind.Kind.{Kind}
-use Rattle.sql_tokens.specs.declared.kind.Kind.TheVariants as kinds
+use Rattle.sql_tokens.specs.declared.kind.TokenKind.{TokenKind}
+use Rattle.sql_tokens.specs.declared.kind.TokenKind.TheVariants as kinds
 use Rattle.sql_tokens.specs.declared.token.Token.{Token}
 use Rattle.sql_expressions.specs.Grammar.{expression}
 use Rattle.sql_ast.specs.Expressions.{Tree, leaf}
 use Rattle.sql_tokens.specs.Classes.{a, a_name}
 use Rattle.sql_ast.specs.declared.leaf.Leaf.TheVariants.{Column}
 use Rattle.sql_expressions.specs.Lists.{is_long_but, is_other_name, other_name, plain_name}
-use Rattle.sql_commands.specs.Grammar as grammar
+use Rattle.sql_syntax.specs.CommandGrammar as grammar
 use Rattle.sql_ast.specs.Commands.{Edge, min, max, at}
 use Rattle.sql_ast.specs.declared.setting_value.SettingValue.TheVariants as setting
 use Rattle.sql_written.specs.Marks.{Mark, mark}
@@ -29,7 +29,7 @@ the_one : (t u : Token) → t ∷ [] ≡ u ∷ [] → u ≡ t
 the_one t u e = cc
 
 module _ (text : List ℕ) (t : Token) (b : IsBare text t) where
-  unless_said : (c : Kind → Bool) → c t.kind ≡ false → name_unless c (name_in text t) ≡ mark t.kind (name_in text t)
+  unless_said : (c : TokenKind → Bool) → c t.kind ≡ false → name_unless c (name_in text t) ≡ mark t.kind (name_in text t)
   unless_said c n =
       let kind = said_kind text t b.0 b.1 b.2 in
       let free : c (word_kind (name_in text t)) ≡ false = ap c kind ∙ n in
@@ -39,10 +39,10 @@ pub plain_bare : BareWhereItMay plain_name (λ z. z) spelled.name
 plain_bare text name t b h =
     let u = h.1.0 in
     let same : u ≡ t = the_one t u h.1.1.0 in
-    let z : name ≡ name_in text t = h.2 ∙ ap (λ (x : Kind × List ℕ). x.1) h.1.2 ∙ ap (name_in text) same in
+    let z : name ≡ name_in text t = h.2 ∙ ap (λ (x : TokenKind × List ℕ). x.1) h.1.2 ∙ ap (name_in text) same in
     subst (λ y. spelled.name y ≡ mark t.kind y) (sym z) (said_bare text t b.0 b.1 b.2)
 
-pub other_bare : (k : Kind) → BareWhereItMay (λ text. other_name text k) (λ z. z) (name_unless (λ j. is j k))
+pub other_bare : (k : TokenKind) → BareWhereItMay (λ text. other_name text k) (λ z. z) (name_unless (λ j. is j k))
 other_bare k text name t b h =
     let u = h.0 in
     let same : u ≡ t = the_one t u h.1.0 in
@@ -68,13 +68,13 @@ edge_bare text name t b h =
 
 -- a word of a setting: no name is ON, TRUE or FALSE
 module _ (text : List ℕ) (t : Token) (b : IsBare text t) where
-  no_word : (k : Kind) (y : List ℕ) → word_kind y ≡ k → is_name k ≡ false → name_in text t ≡ y → ⊥
+  no_word : (k : TokenKind) (y : List ℕ) → word_kind y ≡ k → is_name k ≡ false → name_in text t ≡ y → ⊥
   no_word k y w n e =
       let same : t.kind ≡ k = sym (said_kind text t b.0 b.1 b.2) ∙ ap word_kind e ∙ w in
       let f : true ≡ false = sym b.1 ∙ ap is_name same ∙ n in
       cc
 
-  skip : (k : Kind) (y : List ℕ) (m : Mark) (f : Bool) → word_kind y ≡ k → is_name k ≡ false → bytes_eq (name_in text t) y ≡ f → cond f (word k) m ≡ m
+  skip : (k : TokenKind) (y : List ℕ) (m : Mark) (f : Bool) → word_kind y ≡ k → is_name k ≡ false → bytes_eq (name_in text t) y ≡ f → cond f (word k) m ≡ m
   skip k y m true w n e = absurd (no_word k y w n (equal_bytes (name_in text t) y e))
   skip k y m false w n e = refl
 

@@ -8,8 +8,8 @@ use Rattle.grammar.specs.Reading.{one_texts, nothing_texts, both_texts, value_te
 use Rattle.grammar.specs.Repeats.{second_of}
 use Rattle.sql_tokens.specs.Contents.{bytes_of, name_in}
 use Rattle.sql_tokens.specs.Words.{is, is_name}
-use Rattle.sql_tokens.specs.declared.kind.Kind.{Kind}
-use Rattle.sql_tokens.specs.declared.kind.Kind.TheVariants as kinds
+use Rattle.sql_tokens.specs.declared.kind.TokenKind.{TokenKind}
+use Rattle.sql_tokens.specs.declared.kind.TokenKind.TheVariants as kinds
 use Rattle.sql_tokens.specs.declared.numbers.TheConstants.{NO_BIGINT}
 use Rattle.sql_tokens.specs.declared.token.Token.{Token}
 use Rattle.sql_tokens.proofs.EachKind.{each_kind}
@@ -20,18 +20,18 @@ use Rattle.sql_ast.specs.declared.leaf.Leaf.TheVariants.{Column}
 use Rattle.sql_expressions.specs.declared.words.TheConstants.{MOST_NAME_BYTES}
 use Rattle.grammar.specs.Words.{maybe}
 use Rattle.sql_expressions.specs.Lists.{commas, name_word, plain_name}
-use Rattle.sql_commands.specs.Grammar as grammar
+use Rattle.sql_syntax.specs.CommandGrammar as grammar
 use Rattle.sql_ast.specs.Commands.{Edge, min, max, at, Bound, range, listed, hash, other, CommandTree, begins, commits, rolls_back, sets, resets, makes_table, makes_partition, drops, attaches, detaches, locks, deallocates, deallocates_all}
 use Rattle.sql_ast.specs.declared.detachment.Detachment.{Detachment}
 use Rattle.sql_ast.specs.declared.detachment.Detachment.TheVariants as detachment
-use Rattle.sql_ast.specs.declared.isolation.Isolation.{Isolation}
-use Rattle.sql_ast.specs.declared.isolation.Isolation.TheVariants as isolation
+use Rattle.pg_values.specs.declared.isolation.Isolation.{Isolation}
+use Rattle.pg_values.specs.declared.isolation.Isolation.TheVariants as isolation
 use Rattle.pg_values.specs.declared.lock_mode.LockMode.{LockMode}
 use Rattle.pg_values.specs.declared.lock_mode.LockMode.TheVariants as mode
 use Rattle.sql_ast.specs.declared.setting_value.SettingValue.{SettingValue}
 use Rattle.sql_ast.specs.declared.setting_value.SettingValue.TheVariants as setting
-use Rattle.sql_ast.specs.declared.table_definition.Strategy.{Strategy}
-use Rattle.sql_ast.specs.declared.table_definition.Strategy.TheVariants as strategy
+use Rattle.pg_values.specs.declared.strategy.Strategy.{Strategy}
+use Rattle.pg_values.specs.declared.strategy.Strategy.TheVariants as strategy
 use Rattle.sql_ast.specs.declared.table_definition.ColumnDefinition.{ColumnDefinition}
 use Rattle.sql_ast.specs.declared.locked_table.LockedTable.{LockedTable}
 use Rattle.sql_ast.specs.declared.table_definition.Partitioning.{Partitioning}
@@ -65,7 +65,7 @@ list_back no_more = refl
 list_back (and_more t ts) = ap (and_more t) (list_back ts)
 
 -- MINVALUE and MAXVALUE may be names
-end_named : (k : Kind) → (is k kinds.Minvalue || is k kinds.Maxvalue) ≡ true → is_name k ≡ true
+end_named : (k : TokenKind) → (is k kinds.Minvalue || is k kinds.Maxvalue) ≡ true → is_name k ≡ true
 end_named k h = implied (is k kinds.Minvalue || is k kinds.Maxvalue) (is_name k) (each_kind (λ j. not (is j kinds.Minvalue || is j kinds.Maxvalue) || is_name j) refl k) h
 
 module _ (text : List ℕ) where
@@ -96,7 +96,7 @@ module _ (text : List ℕ) where
   rollback_spells = exactly rolls_back (valued grammar.finished (both (one_of kinds.Rollback refl grammar.is_finish (λ i j. refl)) noise_spells)) (λ i. refl)
 
   -- SET, RESET
-  or_name : (z y : List ℕ) (b : Bool) (k : Kind) (m : Mark) → is_written k ≡ true → ((i j : ℕ) → grammar.is_setting_word (token k i j) ≡ true) → ((ts : List Token) → Are text ts (word k ∷ []) → (grammar.setting_word text).texts ts (setting.Word y)) → bytes_eq z y ≡ b →
+  or_name : (z y : List ℕ) (b : Bool) (k : TokenKind) (m : Mark) → is_written k ≡ true → ((i j : ℕ) → grammar.is_setting_word (token k i j) ≡ true) → ((ts : List Token) → Are text ts (word k ∷ []) → (grammar.setting_word text).texts ts (setting.Word y)) → bytes_eq z y ≡ b →
       Exactly Begins text (grammar.setting_word text).texts (m ∷ []) (setting.Word z) → Exactly Begins text (grammar.setting_word text).texts (cond b (word k) m ∷ []) (setting.Word z)
   or_name z y false k m w c h e on = on
   or_name z y true k m w c h e on =
@@ -190,7 +190,7 @@ module _ (text : List ℕ) where
   column_spells c w = exactly c (valued grammar.column_value (both (plain_name_spells text c.name w.0) (spaced (both (plain_name_spells text c.kind w.1) (null_spells c.not_null))))) (λ i. refl)
 
   -- edges
-  end_token : (k : Kind) (z : List ℕ) (i j : ℕ) → is_name k ≡ true → name_in text (token k i j) ≡ z → nat_lt MOST_NAME_BYTES (length z) ≡ false → NameToken text z (λ k. false) k i j
+  end_token : (k : TokenKind) (z : List ℕ) (i j : ℕ) → is_name k ≡ true → name_in text (token k i j) ≡ z → nat_lt MOST_NAME_BYTES (length z) ≡ false → NameToken text z (λ k. false) k i j
   end_token k z i j n e s = record { named = n; says = e; short = ap (λ y. nat_lt MOST_NAME_BYTES (length y)) e ∙ s; other = refl }
 
   min_read : (ts : List Token) → Are text ts (word kinds.Minvalue ∷ []) → (grammar.edge text).texts ts min
@@ -205,7 +205,7 @@ module _ (text : List ℕ) where
       subst (λ us. (grammar.edge text).texts us max) (sym (only text kinds.Maxvalue (codes "MAXVALUE") ts h))
       (leaf (Column (codes "maxvalue")), column_read text (codes "maxvalue") (λ k. false) kinds.Maxvalue h.0 h.1 t, refl)
 
-  no_end : (k : Kind) (i j : ℕ) (e : Tree) → is_end k ≡ false → grammar.word_or (token k i j) e ≡ at e
+  no_end : (k : TokenKind) (i j : ℕ) (e : Tree) → is_end k ≡ false → grammar.word_or (token k i j) e ≡ at e
   no_end k i j e h =
       let n = either_false (is k kinds.Minvalue) (is k kinds.Maxvalue) h in
       rw (n.0, n.1) refl
@@ -219,7 +219,7 @@ module _ (text : List ℕ) where
       (leaf (Column z), column_read text z is_end t.0 t.1 t.2 n, sym (no_end t.0 t.1 t.2 (leaf (Column z)) n.other))
 
   -- any other expression
-  stays_by : (k : Kind) (i j : ℕ) (e : Tree) (b : Bool) → is_end k ≡ b → ((z : List ℕ) → leaf (Column z) ≡ e → ⊥) → (expression text).texts (token k i j ∷ []) e → at e ≡ grammar.word_or (token k i j) e
+  stays_by : (k : TokenKind) (i j : ℕ) (e : Tree) (b : Bool) → is_end k ≡ b → ((z : List ℕ) → leaf (Column z) ≡ e → ⊥) → (expression text).texts (token k i j ∷ []) e → at e ≡ grammar.word_or (token k i j) e
   stays_by k i j e true m no_column h = absurd (no_column (name_in text (token k i j)) (column_alone text e k i j (end_named k m) h))
   stays_by k i j e false m no_column h = sym (no_end k i j e m)
 
@@ -374,7 +374,7 @@ module _ (text : List ℕ) where
   exclusive_spells : (s e : LockMode) → Exactly Begins text (grammar.share_or_exclusive s e).texts (word kinds.Exclusive ∷ []) e
   exclusive_spells s e = exactly e (valued (grammar.shared_or s e) (one_of kinds.Exclusive refl grammar.is_share_or_exclusive (λ i j. refl))) (λ i. refl)
 
-  share_of : (k : Kind) → is_written k ≡ true → (m : LockMode) → Exactly Begins text (value_texts (λ (t : Token). m) (value_texts (λ (x : Token × Token). x.1) (both_texts (one_texts (a k)) (one_texts (a kinds.Exclusive))))) (word k ∷ blank ∷ word kinds.Exclusive ∷ []) m
+  share_of : (k : TokenKind) → is_written k ≡ true → (m : LockMode) → Exactly Begins text (value_texts (λ (t : Token). m) (value_texts (λ (x : Token × Token). x.1) (both_texts (one_texts (a k)) (one_texts (a kinds.Exclusive))))) (word k ∷ blank ∷ word kinds.Exclusive ∷ []) m
   share_of k e m = exactly m (valued (λ (t : Token). m) (behind k e (spaced (one_of kinds.Exclusive refl (a kinds.Exclusive) (λ i j. refl))))) (λ i. refl)
 
   mode_spells : (m : LockMode) → Exactly Ends text grammar.maybe_mode.texts (mode_marks m) m

@@ -2,8 +2,8 @@
 use Rattle.std.proofs.Common.{◌≡◌, ℕ, suc, ◌+◌, Bool, true, false, cond, not, ◌&&◌, List, [], ◌∷◌, ◌++◌, refl, ap, ◌∙◌, arith}
 use Rattle.sql_tokens.specs.Words.{is, is_name, word_kind}
 use Rattle.sql_tokens.specs.Written.{quoted}
-use Rattle.sql_tokens.specs.declared.kind.Kind.{Kind}
-use Rattle.sql_tokens.specs.declared.kind.Kind.TheVariants as kinds
+use Rattle.sql_tokens.specs.declared.kind.TokenKind.{TokenKind}
+use Rattle.sql_tokens.specs.declared.kind.TokenKind.TheVariants as kinds
 use Rattle.sql_tokens.specs.declared.token.Token.{Token}
 use Rattle.sql_tokens.proofs.EachKind.{each_kind}
 use Rattle.sql_ast.specs.Expressions.{Tree, Trees, no_more, and_more, leaf, call, call_of_all, negated, binary, in_list, between, is_null, inverted, all_of, any_of}
@@ -60,10 +60,10 @@ opened_tokens text [] ts h = ap opened h
 opened_tokens text (blank ∷ ms) ts h = opened_tokens text ms ts h
 opened_tokens text (mark k z ∷ ms) ts h = ap opened h.3 ∙ omega (arith, opened_tokens text ms h.2 h.5)
 
-name_no_opening : (k : Kind) → is_name k ≡ true → is k kinds.OpenParenthesis ≡ false
+name_no_opening : (k : TokenKind) → is_name k ≡ true → is k kinds.OpenParenthesis ≡ false
 name_no_opening k n = never_both (is_name k) (is k kinds.OpenParenthesis) (each_kind (λ j. not (is_name j && is j kinds.OpenParenthesis)) refl k) n
 
-pub opened_plain : (k : Kind) (z : List ℕ) (ms : List Mark) → is_name k ≡ true → opened_by (mark k z ∷ ms) ≡ opened_by ms
+pub opened_plain : (k : TokenKind) (z : List ℕ) (ms : List Mark) → is_name k ≡ true → opened_by (mark k z ∷ ms) ≡ opened_by ms
 opened_plain k z ms n = let e : is k kinds.OpenParenthesis ≡ false = name_no_opening k n in rw e (omega arith)
 
 either_opened : (z : List ℕ) (ms : List Mark) (f : Bool) → is_plain z ≡ f → opened_by (cond f (mark (word_kind z) z) (mark kinds.QuotedName (quoted 34 z)) ∷ ms) ≡ opened_by ms

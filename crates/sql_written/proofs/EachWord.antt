@@ -5,22 +5,22 @@ use Rattle.std.specs.Prelude.{nat_lt}
 use Rattle.sql_tokens.specs.Bytes.{belongs}
 use Rattle.sql_tokens.specs.Words.{is, word_kind}
 use Rattle.sql_tokens.specs.declared.bytes.Class.TheVariants as class
-use Rattle.sql_tokens.specs.declared.kind.Kind.{Kind}
-use Rattle.sql_tokens.specs.declared.kind.Kind.TheVariants as kinds
+use Rattle.sql_tokens.specs.declared.kind.TokenKind.{TokenKind}
+use Rattle.sql_tokens.specs.declared.kind.TokenKind.TheVariants as kinds
 use Rattle.sql_written.proofs.Fronts.{is_ascii}
 use Rattle.sql_written.specs.Words.{capitals}
 
-pub record IsWord (k : Kind) : Type 0 where
+pub record IsWord (k : TokenKind) : Type 0 where
   pub start : belongs class.NameStart (slice_index (capitals k) 0) ≡ true
   pub parts : prefix_len (belongs class.NamePart) (capitals k) ≡ length (capitals k)
   pub ascii : is_ascii (capitals k) ≡ true
   pub kind : word_kind (capitals k) ≡ k
   pub self : is k k ≡ true
 
-abbrev pub is_written : Kind → Bool
+abbrev pub is_written : TokenKind → Bool
 is_written k = nat_lt 0 (length (capitals k))
 
-pub word_is : (k : Kind) → is_written k ≡ true → IsWord k
+pub word_is : (k : TokenKind) → is_written k ≡ true → IsWord k
 unfolding word_kind
 word_is kinds.Access h = record { start = refl; parts = refl; ascii = refl; kind = refl; self = refl }
 word_is kinds.All h = record { start = refl; parts = refl; ascii = refl; kind = refl; self = refl }

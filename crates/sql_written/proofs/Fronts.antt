@@ -17,8 +17,8 @@ use Rattle.sql_tokens.specs.Written.{doubled, quoted}
 use Rattle.sql_tokens.specs.declared.numbers.TheConstants.{MOST_PARAMETER}
 use Rattle.sql_tokens.proofs.ReadBack.{closing_doubled}
 use Rattle.sql_tokens.specs.declared.bytes.Class.TheVariants as class
-use Rattle.sql_tokens.specs.declared.kind.Kind.{Kind}
-use Rattle.sql_tokens.specs.declared.kind.Kind.TheVariants as kinds
+use Rattle.sql_tokens.specs.declared.kind.TokenKind.{TokenKind}
+use Rattle.sql_tokens.specs.declared.kind.TokenKind.TheVariants as kinds
 use Rattle.sql_tokens.specs.declared.piece.Piece.{Piece}
 use Rattle.sql_tokens.specs.declared.piece.Piece.TheVariants.{Gap, Lexeme}
 
@@ -39,7 +39,7 @@ up_to p [] rest e h = stops_at p rest h
 up_to p (b ∷ z) rest e h = one_more p b (length z) (length z) (z ++ rest) z (p b) refl e (λ i. up_to p z rest i h)
 
 -- a piece is whole where its bytes are UTF-8
-pub piece_of : (k : Kind) (z rest : List ℕ) → is_utf8 z ≡ true → front (z ++ rest) ≡ Lexeme k (length z) → next_piece (z ++ rest) ≡ Lexeme k (length z)
+pub piece_of : (k : TokenKind) (z rest : List ℕ) → is_utf8 z ≡ true → front (z ++ rest) ≡ Lexeme k (length z) → next_piece (z ++ rest) ≡ Lexeme k (length z)
 unfolding next_piece
 piece_of k z rest u e = let all : take (length z) (z ++ rest) ≡ z = take-append_seam z rest in rw (e, all, u) refl
 

@@ -5,8 +5,8 @@ use Rattle.std.specs.Prelude.{Contains}
 use Rattle.grammar.specs.Reading.{Class, one_texts, nothing_texts, both_texts, follow_texts, value_texts, either_texts}
 use Rattle.grammar.specs.Repeats.{all_repeats, always, many_texts}
 use Rattle.sql_tokens.specs.Tokens.{tokens_of}
-use Rattle.sql_tokens.specs.declared.kind.Kind.{Kind}
-use Rattle.sql_tokens.specs.declared.kind.Kind.TheVariants as kinds
+use Rattle.sql_tokens.specs.declared.kind.TokenKind.{TokenKind}
+use Rattle.sql_tokens.specs.declared.kind.TokenKind.TheVariants as kinds
 use Rattle.sql_tokens.specs.declared.token.Token.{Token}
 use Rattle.sql_tokens.specs.Classes.{a}
 use Rattle.sql_expressions.proofs.Limited.{Each as EachToken}
@@ -116,10 +116,10 @@ module _ {text : List ℕ} where
   }
 
   -- behind or before a word or a sign
-  pub behind : {A : Type 0} {P : Of A} {cost : A → ℕ} {W : A → Type 0} (k : Kind) → Gives text P cost W → Gives text (value_texts (λ (x : Token × A). x.1) (both_texts (one_texts (a k)) P)) cost W
+  pub behind : {A : Type 0} {P : Of A} {cost : A → ℕ} {W : A → Type 0} (k : TokenKind) → Gives text P cost W → Gives text (value_texts (λ (x : Token × A). x.1) (both_texts (one_texts (a k)) P)) cost W
   behind {cost = cost} {W = W} k g = valued (λ x. x.1) cost W (λ x. omega arith) (λ x w. w.1) (both (one (a k)) g)
 
-  pub before : {A : Type 0} {P : Of A} {cost : A → ℕ} {W : A → Type 0} (k : Kind) → Gives text P cost W → Gives text (value_texts (λ (x : A × Token). x.0) (both_texts P (one_texts (a k)))) cost W
+  pub before : {A : Type 0} {P : Of A} {cost : A → ℕ} {W : A → Type 0} (k : TokenKind) → Gives text P cost W → Gives text (value_texts (λ (x : A × Token). x.0) (both_texts P (one_texts (a k)))) cost W
   before {cost = cost} {W = W} k g = valued (λ x. x.0) cost W (λ x. omega arith) (λ x w. w.0) (both g (one (a k)))
 
   -- behind an opening parenthesis, and in parentheses

@@ -3,24 +3,24 @@ use Rattle.std.proofs.Common.{◌≡◌, ℕ, suc, ◌+◌, ◌≤◌, Bool, tru
 use Rattle.std.specs.Prelude.{codes}
 use Rattle.std.specs.Str.{bytes_eq}
 use Rattle.grammar.specs.Repeats.{second_of}
-use Rattle.sql_tokens.specs.declared.kind.Kind.TheVariants as kinds
+use Rattle.sql_tokens.specs.declared.kind.TokenKind.TheVariants as kinds
 use Rattle.sql_tokens.specs.declared.token.Token.{Token}
 use Rattle.sql_ast.specs.Expressions.{Tree, leaf, call, call_of_all, negated, binary, in_list, between, is_null, inverted, all_of, any_of, listed as list_of_trees}
 use Rattle.sql_tokens.specs.Classes.{a}
 use Rattle.sql_ast.specs.declared.leaf.Leaf.TheVariants.{Number, Text, Date, Null, Truth, Parameter, Column, ColumnOf, TableName, TableNameOf}
 use Rattle.sql_expressions.specs.Lists.{commas as commas_of, plain_name}
-use Rattle.sql_commands.specs.Grammar as grammar
+use Rattle.sql_syntax.specs.CommandGrammar as grammar
 use Rattle.sql_ast.specs.Commands.{Edge, min, max, at, Bound, range, other, CommandTree, begins, commits, rolls_back, sets, resets, makes_table, makes_partition, drops, attaches, detaches, locks, deallocates, deallocates_all}
 use Rattle.sql_ast.specs.declared.detachment.Detachment.{Detachment}
 use Rattle.sql_ast.specs.declared.detachment.Detachment.TheVariants as detachment
-use Rattle.sql_ast.specs.declared.isolation.Isolation.{Isolation}
-use Rattle.sql_ast.specs.declared.isolation.Isolation.TheVariants as isolation
+use Rattle.pg_values.specs.declared.isolation.Isolation.{Isolation}
+use Rattle.pg_values.specs.declared.isolation.Isolation.TheVariants as isolation
 use Rattle.pg_values.specs.declared.lock_mode.LockMode.{LockMode}
 use Rattle.pg_values.specs.declared.lock_mode.LockMode.TheVariants as mode
 use Rattle.sql_ast.specs.declared.setting_value.SettingValue.{SettingValue}
 use Rattle.sql_ast.specs.declared.setting_value.SettingValue.TheVariants as setting
-use Rattle.sql_ast.specs.declared.table_definition.Strategy.{Strategy}
-use Rattle.sql_ast.specs.declared.table_definition.Strategy.TheVariants as strategy
+use Rattle.pg_values.specs.declared.strategy.Strategy.{Strategy}
+use Rattle.pg_values.specs.declared.strategy.Strategy.TheVariants as strategy
 use Rattle.sql_ast.specs.declared.table_definition.ColumnDefinition.{ColumnDefinition}
 use Rattle.sql_ast.specs.declared.locked_table.LockedTable.{LockedTable}
 use Rattle.sql_ast.specs.declared.table_definition.Partitioning.{Partitioning}

@@ -6,8 +6,8 @@ use Rattle.std.specs.Prelude.{nat_lt}
 use Rattle.sql_tokens.specs.Contents.{bytes_of, name_in, number_in, string_in}
 use Rattle.sql_tokens.specs.Quotes.{inside, undoubled}
 use Rattle.sql_tokens.specs.Words.{is, is_name, word_kind}
-use Rattle.sql_tokens.specs.declared.kind.Kind.{Kind}
-use Rattle.sql_tokens.specs.declared.kind.Kind.TheVariants as kinds
+use Rattle.sql_tokens.specs.declared.kind.TokenKind.{TokenKind}
+use Rattle.sql_tokens.specs.declared.kind.TokenKind.TheVariants as kinds
 use Rattle.sql_tokens.specs.declared.numbers.TheConstants.{NO_BIGINT}
 use Rattle.sql_tokens.specs.declared.token.Token.{Token}
 use Rattle.sql_tokens.proofs.EachKind.{each_kind}
@@ -20,7 +20,7 @@ use Rattle.sql_expressions.specs.declared.words.TheConstants.{MOST_NAME_BYTES}
 use Rattle.sql_expressions.proofs.Limited.{all_of_each}
 use Rattle.sql_expressions.proofs.TextWords.{long_is_name, word_is_short}
 use Rattle.sql_expressions.specs.Lists.{is_long_but, is_other_name, name_but, number, other_name, plain_name, said}
-use Rattle.sql_commands.specs.Setting.{is_setting_word, setting_number, setting_word, without_zeros}
+use Rattle.sql_syntax.specs.Setting.{is_setting_word, setting_number, setting_word, without_zeros}
 use Rattle.sql_ast.specs.declared.setting_value.SettingValue.TheVariants as setting
 use Rattle.sql_written.specs.Writable.{IsName, IsText, IsWritable as IsExpression}
 use Rattle.sql_written.specs.Written.{marks}
@@ -40,36 +40,36 @@ not_long true true h g = g refl
 not_long true false h g = cc
 not_long false c h g = refl
 
-text_no_name : (k : Kind) → is k kinds.Text ≡ true → is_name k ≡ false
+text_no_name : (k : TokenKind) → is k kinds.Text ≡ true → is_name k ≡ false
 text_no_name k n = never_both (is k kinds.Text) (is_name k) (each_kind (λ j. not (is j kinds.Text && is_name j)) refl k) n
 
 -- the kinds of words that are names by their kind alone
-abbrev pub is_own_word : Kind → Kind → Bool
+abbrev pub is_own_word : TokenKind → TokenKind → Bool
 is_own_word k j = not (is j k && (is j kinds.Name || is j kinds.QuotedName))
 
 -- a word that is no name but says a setting
-abbrev is_other_word : Kind → Bool
+abbrev is_other_word : TokenKind → Bool
 is_other_word k = not (is_name k) && (is k kinds.On || (is k kinds.True || is k kinds.False))
 
-other_spelled : (k : Kind) → is_other_word k ≡ true → is_spelled k ≡ true
+other_spelled : (k : TokenKind) → is_other_word k ≡ true → is_spelled k ≡ true
 other_spelled k h = implied (is_other_word k) (is_spelled k) (each_kind (λ j. not (is_other_word j) || is_spelled j) refl k) h
 
-other_unquoted : (k : Kind) → is_other_word k ≡ true → is k kinds.QuotedName ≡ false
+other_unquoted : (k : TokenKind) → is_other_word k ≡ true → is k kinds.QuotedName ≡ false
 other_unquoted k h = never_both (is_other_word k) (is k kinds.QuotedName) (each_kind (λ j. not (is_other_word j && is j kinds.QuotedName)) refl k) h
 
-other_no_fault : (k : Kind) → is_other_word k ≡ true → is k kinds.Fault ≡ false
+other_no_fault : (k : TokenKind) → is_other_word k ≡ true → is k kinds.Fault ≡ false
 other_no_fault k h = never_both (is_other_word k) (is k kinds.Fault) (each_kind (λ j. not (is_other_word j && is j kinds.Fault)) refl k) h
 
 longer_or : (n most : ℕ) (b : Bool) → nat_lt most n ≡ b → (b ≡ true → ⊥) → n ≤ most
 longer_or n most true e h = absurd (h refl)
 longer_or n most false e h = grind (arith, e)
 
-other_short : (k : Kind) (z : List ℕ) → is_other_word k ≡ true → word_kind z ≡ k → length z ≤ MOST_NAME_BYTES
+other_short : (k : TokenKind) (z : List ℕ) → is_other_word k ≡ true → word_kind z ≡ k → length z ≤ MOST_NAME_BYTES
 other_short k z o w =
     longer_or (length z) MOST_NAME_BYTES (nat_lt MOST_NAME_BYTES (length z)) refl
     (λ h. let f : is_other_word kinds.Name ≡ true = subst (λ j. is_other_word j ≡ true) (sym w ∙ long_is_name z h) o in cc)
 
-other_name_of : (k : Kind) (z quoted : List ℕ) → is_other_word k ≡ true → Tells k z → IsName (cond (is k kinds.QuotedName) quoted (map to_ascii_lowercase z))
+other_name_of : (k : TokenKind) (z quoted : List ℕ) → is_other_word k ≡ true → Tells k z → IsName (cond (is k kinds.QuotedName) quoted (map to_ascii_lowercase z))
 other_name_of k z quoted o t =
     let u = other_unquoted k o in
     let w = t.says.word (other_spelled k o) u in
@@ -83,32 +83,32 @@ module _ (text : List ℕ) where
   name_of : (t : Token) → Own text t → a_name t ≡ true → is_long_name text t ≡ false → IsName (name_in text t)
   name_of t o n h = name_fits text t (o, short_name t n h) n
 
-  pub name_gives : Gives text (name text).texts free (λ (x : Kind × List ℕ). IsName x.1)
+  pub name_gives : Gives text (name text).texts free (λ (x : TokenKind × List ℕ). IsName x.1)
   name_gives =
-      valued (named text) free (λ (x : Kind × List ℕ). IsName x.1) (λ t. omega arith)
+      valued (named text) free (λ (x : TokenKind × List ℕ). IsName x.1) (λ t. omega arith)
       (λ t w. name_of t w.0 (first_of (a_name t) (not (is_long_name text t)) w.1) (second_of (a_name t) (is_long_name text t) w.1)) (one (λ t. a_name t && not (is_long_name text t)))
 
   pub plain_name_gives : Gives text (plain_name text).texts free IsName
   plain_name_gives = valued said free IsName (λ x. omega arith) (λ x w. w) name_gives
 
   -- a name, or a word that is a name by its kind and so is short
-  but_of : (k : Kind) → ((j : Kind) → is_own_word k j ≡ true) → (t : Token) → Own text t → (a_name t && not (is_long_but text k t)) ≡ true → IsName (name_in text t)
+  but_of : (k : TokenKind) → ((j : TokenKind) → is_own_word k j ≡ true) → (t : Token) → Own text t → (a_name t && not (is_long_but text k t)) ≡ true → IsName (name_in text t)
   but_of k own t o h =
       let l = second_of (a_name t) (is_long_but text k t) h in
       let short : a k t ≡ true → is_long_name text t ≡ false = λ e. word_is_short text t o (never_both (a k t) (a kinds.Name t || a kinds.QuotedName t) (own t.kind) e) in
       name_of t o (first_of (a_name t) (not (is_long_but text k t)) h) (not_long (is_long_name text t) (a k t) l short)
 
-  pub name_but_gives : (k : Kind) → ((j : Kind) → is_own_word k j ≡ true) → Gives text (name_but text k).texts free IsName
+  pub name_but_gives : (k : TokenKind) → ((j : TokenKind) → is_own_word k j ≡ true) → Gives text (name_but text k).texts free IsName
   name_but_gives k own = valued (name_in text) free IsName (λ t. omega arith) (λ t w. but_of k own t w.0 w.1) (one (λ t. a_name t && not (is_long_but text k t)))
 
-  other_of : (k : Kind) (t : Token) → Own text t → (is_other_name k t && not (is_long_but text k t)) ≡ true → IsName (name_in text t)
+  other_of : (k : TokenKind) (t : Token) → Own text t → (is_other_name k t && not (is_long_but text k t)) ≡ true → IsName (name_in text t)
   other_of k t o h =
       let n = first_of (is_other_name k t) (not (is_long_but text k t)) h in
       let other = second_of (a_name t) (a k t) n in
       let l = second_of (is_other_name k t) (is_long_but text k t) h in
       name_of t o (first_of (a_name t) (not (a k t)) n) (not_long (is_long_name text t) (a k t) l (λ e. let f : true ≡ false = sym e ∙ other in cc))
 
-  pub other_name_gives : (k : Kind) → Gives text (other_name text k).texts free IsName
+  pub other_name_gives : (k : TokenKind) → Gives text (other_name text k).texts free IsName
   other_name_gives k = valued (name_in text) free IsName (λ t. omega arith) (λ t w. other_of k t w.0 w.1) (one (λ t. is_other_name k t && not (is_long_but text k t)))
 
   -- constants
@@ -141,7 +141,7 @@ module _ (text : List ℕ) where
       valued (λ (t : Token). setting.Word (name_in text t)) free IsSetting (λ t. omega arith) (λ t w. either_word t (a_name t) refl w.0 w.1) (one (λ t. is_setting_word t && not (is_long_name text t)))
 
   -- the numbers of settings
-  number_no_fault : (k : Kind) → is k kinds.Number ≡ true → is k kinds.Fault ≡ false
+  number_no_fault : (k : TokenKind) → is k kinds.Number ≡ true → is k kinds.Fault ≡ false
   number_no_fault k h = never_both (is k kinds.Number) (is k kinds.Fault) (each_kind (λ j. not (is j kinds.Number && is j kinds.Fault)) refl k) h
 
   pub setting_number_gives : Gives text (setting_number text).texts free IsSetting

@@ -3,8 +3,8 @@ use Rattle.std.proofs.Common.{◌≡◌, ℕ, ◌≤◌, suc, ◌+◌, Bool, tru
 use Rattle.grammar.specs.Reading.{either_texts, one as one_token, nothing_texts, optional, value_texts}
 use Rattle.grammar.specs.Repeats.{second_of}
 use Rattle.sql_tokens.specs.Words.{is}
-use Rattle.sql_tokens.specs.declared.kind.Kind.{Kind}
-use Rattle.sql_tokens.specs.declared.kind.Kind.TheVariants as kinds
+use Rattle.sql_tokens.specs.declared.kind.TokenKind.{TokenKind}
+use Rattle.sql_tokens.specs.declared.kind.TokenKind.TheVariants as kinds
 use Rattle.sql_tokens.specs.declared.token.Token.{Token}
 use Rattle.sql_tokens.proofs.EachKind.{each_kind}
 use Rattle.sql_expressions.specs.Grammar.{expression}
@@ -101,7 +101,7 @@ abbrev clause_cost : Option Tree → ℕ
 clause_cost None = 0
 clause_cost (Some e) = opened_by (marks e)
 
-opened_clause : (k : Kind) → is k kinds.OpenParenthesis ≡ false → (o : Option Tree) → opened_by (clause k o) ≡ clause_cost o
+opened_clause : (k : TokenKind) → is k kinds.OpenParenthesis ≡ false → (o : Option Tree) → opened_by (clause k o) ≡ clause_cost o
 opened_clause k h None = refl
 opened_clause k h (Some e) = rw h (omega arith)
 
@@ -214,7 +214,7 @@ module _ (text : List ℕ) where
   some_expression : Gives text (value_texts (λ (e : Tree). Some e) (expression text).texts) clause_cost (Maybe IsExpression)
   some_expression = valued (λ (e : Tree). Some e) clause_cost (Maybe IsExpression) (λ e. omega arith) (λ e w. w) (expression_gives text)
 
-  clause_gives : (k : Kind) → Gives text (optional (a k) (a k >> expression text)).texts clause_cost (Maybe IsExpression)
+  clause_gives : (k : TokenKind) → Gives text (optional (a k) (a k >> expression text)).texts clause_cost (Maybe IsExpression)
   clause_gives k =
       either (valued (λ (e : Tree). Some e) clause_cost (Maybe IsExpression) (λ e. omega arith) (λ e w. w) (behind k (expression_gives text)))
       (nothing None clause_cost (Maybe IsExpression) refl tt)

@@ -9,8 +9,8 @@ use Rattle.sql_tokens.specs.Quotes.{inside, undoubled}
 use Rattle.sql_tokens.specs.Tokens.{tokens_of}
 use Rattle.sql_tokens.specs.Words.{is, is_name}
 use Rattle.sql_tokens.specs.Written.{quoted}
-use Rattle.sql_tokens.specs.declared.kind.Kind.{Kind}
-use Rattle.sql_tokens.specs.declared.kind.Kind.TheVariants as kinds
+use Rattle.sql_tokens.specs.declared.kind.TokenKind.{TokenKind}
+use Rattle.sql_tokens.specs.declared.kind.TokenKind.TheVariants as kinds
 use Rattle.sql_tokens.specs.declared.token.Token.{Token}
 use Rattle.sql_tokens.proofs.EachKind.{each_kind}
 use Rattle.sql_expressions.specs.Grammar.{any, deep_expression, expression}
@@ -53,13 +53,13 @@ pub one_true : (b c : Bool) → b ≡ true → (b || c) ≡ true
 one_true true c h = refl
 one_true false c h = cc
 
-pub no_fault : (k : Kind) → is_name k ≡ true → is k kinds.Fault ≡ false
+pub no_fault : (k : TokenKind) → is_name k ≡ true → is k kinds.Fault ≡ false
 no_fault k n = never_both (is_name k) (is k kinds.Fault) (each_kind (λ j. not (is_name j && is j kinds.Fault)) refl k) n
 
-no_fault_text : (k : Kind) → is k kinds.Text ≡ true → is k kinds.Fault ≡ false
+no_fault_text : (k : TokenKind) → is k kinds.Text ≡ true → is k kinds.Fault ≡ false
 no_fault_text k n = never_both (is k kinds.Text) (is k kinds.Fault) (each_kind (λ j. not (is j kinds.Text && is j kinds.Fault)) refl k) n
 
-no_fault_parameter : (k : Kind) → is k kinds.Parameter ≡ true → is k kinds.Fault ≡ false
+no_fault_parameter : (k : TokenKind) → is k kinds.Parameter ≡ true → is k kinds.Fault ≡ false
 no_fault_parameter k n = never_both (is k kinds.Parameter) (is k kinds.Fault) (each_kind (λ j. not (is j kinds.Parameter && is j kinds.Fault)) refl k) n
 
 module _ (text : List ℕ) where
@@ -67,7 +67,7 @@ module _ (text : List ℕ) where
   abbrev Fits : Token → Type 0
   Fits t = Contains (tokens_of text) t × IsShort text t
 
-  name_by : (k : Kind) (z : List ℕ) (b : Bool) → is k kinds.QuotedName ≡ b → is_name k ≡ true → Tells k z → length (cond b (undoubled 34 false (inside z)) (map to_ascii_lowercase z)) ≤ MOST_NAME_BYTES → IsName (cond b (undoubled 34 false (inside z)) (map to_ascii_lowercase z))
+  name_by : (k : TokenKind) (z : List ℕ) (b : Bool) → is k kinds.QuotedName ≡ b → is_name k ≡ true → Tells k z → length (cond b (undoubled 34 false (inside z)) (map to_ascii_lowercase z)) ≤ MOST_NAME_BYTES → IsName (cond b (undoubled 34 false (inside z)) (map to_ascii_lowercase z))
   name_by k z true e n t h =
       let q = t.says.name e in
       let x = q.0.text in

@@ -8,8 +8,8 @@ use Rattle.sql_tokens.specs.Numbers.{number_of_digits}
 use Rattle.sql_tokens.specs.Quotes.{inside, undoubled}
 use Rattle.sql_tokens.specs.Words.{is, is_name, word_kind}
 use Rattle.sql_tokens.specs.Written.{quoted}
-use Rattle.sql_tokens.specs.declared.kind.Kind.{Kind}
-use Rattle.sql_tokens.specs.declared.kind.Kind.TheVariants as kinds
+use Rattle.sql_tokens.specs.declared.kind.TokenKind.{TokenKind}
+use Rattle.sql_tokens.specs.declared.kind.TokenKind.TheVariants as kinds
 use Rattle.sql_tokens.specs.declared.token.Token.{Token}
 use Rattle.sql_expressions.specs.Grammar.{any}
 use Rattle.sql_ast.specs.Expressions.{leaf}
@@ -31,24 +31,24 @@ not_longer m n h = grind (arith, h)
 
 module _ (text : List ℕ) where
   -- one token
-  pub only : (k : Kind) (z : List ℕ) (ts : List Token) (h : Are text ts (mark k z ∷ [])) → ts ≡ token k h.0 h.1 ∷ []
+  pub only : (k : TokenKind) (z : List ℕ) (ts : List Token) (h : Are text ts (mark k z ∷ [])) → ts ≡ token k h.0 h.1 ∷ []
   only k z ts h = h.3 ∙ ap (λ r. token k h.0 h.1 ∷ r) h.5
 
   -- names
-  name_token : (k : Kind) (w z : List ℕ) (from to : ℕ) → is_name k ≡ true → name_said k w ≡ z → length z ≤ MOST_NAME_BYTES → bytes_of text (token k from to) ≡ w → (name text).free (token k from to ∷ []) (k, z)
+  name_token : (k : TokenKind) (w z : List ℕ) (from to : ℕ) → is_name k ≡ true → name_said k w ≡ z → length z ≤ MOST_NAME_BYTES → bytes_of text (token k from to) ≡ w → (name text).free (token k from to ∷ []) (k, z)
   name_token k w z from to n e l b =
       let said : name_in text (token k from to) ≡ z = ap (name_said k) b ∙ e in
       let short : nat_lt MOST_NAME_BYTES (length z) ≡ false = not_longer MOST_NAME_BYTES (length z) l in
       (token k from to, inr (refl, rw (n, said, short) refl), ap (λ (x : List ℕ). (k, x)) (sym said))
 
-  name_mark : (k : Kind) (w z : List ℕ) (ts : List Token) → is_name k ≡ true → name_said k w ≡ z → length z ≤ MOST_NAME_BYTES → Are text ts (mark k w ∷ []) → (name text).free ts (k, z)
+  name_mark : (k : TokenKind) (w z : List ℕ) (ts : List Token) → is_name k ≡ true → name_said k w ≡ z → length z ≤ MOST_NAME_BYTES → Are text ts (mark k w ∷ []) → (name text).free ts (k, z)
   name_mark k w z ts n e l h = subst (λ x. (name text).free x (k, z)) (sym (only k w ts h)) (name_token k w z h.0 h.1 n e l h.4)
 
-  either_name : (z : List ℕ) (ts : List Token) (f : Bool) → is_plain z ≡ f → length z ≤ MOST_NAME_BYTES → Are text ts (cond f (mark (word_kind z) z) (mark kinds.QuotedName (quoted 34 z)) ∷ []) → (k : Kind) × (name text).free ts (k, z)
+  either_name : (z : List ℕ) (ts : List Token) (f : Bool) → is_plain z ≡ f → length z ≤ MOST_NAME_BYTES → Are text ts (cond f (mark (word_kind z) z) (mark kinds.QuotedName (quoted 34 z)) ∷ []) → (k : TokenKind) × (name text).free ts (k, z)
   either_name z ts true e l h = let p = plain_is z e in (word_kind z, name_mark (word_kind z) z z ts p.named (plain_said z p) l h)
   either_name z ts false e l h = (kinds.QuotedName, name_mark kinds.QuotedName (quoted 34 z) z ts refl (quoted_said 34 z refl) l h)
 
-  pub name_texts : (z : List ℕ) → IsName z → (ts : List Token) → Are text ts (spelled.name z ∷ []) → (k : Kind) × (name text).free ts (k, z)
+  pub name_texts : (z : List ℕ) → IsName z → (ts : List Token) → Are text ts (spelled.name z ∷ []) → (k : TokenKind) × (name text).free ts (k, z)
   name_texts z w ts h = either_name z ts (is_plain z) refl w.1 h
 
   -- strings
@@ -65,7 +65,7 @@ module _ (text : List ℕ) where
       (t, inr (only kinds.Text (quoted 39 z) ts h, rw short refl), sym (string_said z h.0 h.1 h.4))
 
   -- an expression that begins with a name
-  pub named : (k : Kind) (z : List ℕ) (x y ts : List Token) (l : Leaf) → ts ≡ x ++ y → (name text).free x (k, z) → (column text (k, z)).free y l → (any text).unary.texts ts (leaf l, 0)
+  pub named : (k : TokenKind) (z : List ℕ) (x y ts : List Token) (l : Leaf) → ts ≡ x ++ y → (name text).free x (k, z) → (column text (k, z)).free y l → (any text).unary.texts ts (leaf l, 0)
   named k z x y ts l e n c = unary_to text ts (leaf l, 0) (inr (inl (((k, z), (leaf l, 0)), (x, y, e, n, inr (l, c, refl)), refl)))
 
   constant : (ts : List Token) (l : Leaf) → (literal text).free ts l → (any text).unary.texts ts (leaf l, 0)
@@ -75,10 +75,10 @@ module _ (text : List ℕ) where
   if_second true c p q ts x h = inr h
   if_second false c p q ts x h = h
 
-  pub no_more_of : (k : Kind) (z : List ℕ) → (column text (k, z)).free [] (Column z)
+  pub no_more_of : (k : TokenKind) (z : List ℕ) → (column text (k, z)).free [] (Column z)
   no_more_of k z = inr (if_second (is k kinds.Date) (a kinds.Text) _ _ [] (Column z) (if_second (is k kinds.Tableoid) (a kinds.TypeCast) _ _ [] (Column z) (refl, refl)))
 
-  no_more_behind : (k : Kind) (t z : List ℕ) → (column_of t (k, z)).free [] (ColumnOf t z)
+  no_more_behind : (k : TokenKind) (t z : List ℕ) → (column_of t (k, z)).free [] (ColumnOf t z)
   no_more_behind k t z = if_second (is k kinds.Tableoid) (a kinds.TypeCast) _ _ [] (ColumnOf t z) (refl, refl)
 
   -- "::" "REGCLASS"
@@ -99,7 +99,7 @@ module _ (text : List ℕ) where
   table_of t ts h = inl (cast_texts (TableNameOf t) ts h)
 
   -- "." and a name behind the name of a table
-  dotted_texts : (k : Kind) (t : List ℕ) (j : Kind) (z : List ℕ) (from to : ℕ) (ts x y : List Token) (l : Leaf) → ts ≡ token kinds.Dot from to ∷ (x ++ y) → (name text).free x (j, z) → (column_of t (j, z)).free y l → (column text (k, t)).free ts l
+  dotted_texts : (k : TokenKind) (t : List ℕ) (j : TokenKind) (z : List ℕ) (from to : ℕ) (ts x y : List Token) (l : Leaf) → ts ≡ token kinds.Dot from to ∷ (x ++ y) → (name text).free x (j, z) → (column_of t (j, z)).free y l → (column text (k, t)).free ts l
   dotted_texts k t j z from to ts x y l e n c =
       let s = token kinds.Dot from to in
       inl ((s, l), (s ∷ [], x ++ y, e, (refl, refl), (((j, z), l), (x, y, refl, n, c), refl)), refl)

@@ -2,8 +2,8 @@
 -- be spelled.
 use Rattle.std.proofs.Common.{◌≡◌, ℕ, suc, ◌+◌, ◌≤◌, Bool, true, false, cond, not, ◌||◌, max, List, [], ◌∷◌, ◌++◌, refl, sym, ap, ◌∙◌, subst, arith}
 use Rattle.std.specs.Prelude.{nat_lt}
-use Rattle.sql_tokens.specs.declared.kind.Kind.{Kind}
-use Rattle.sql_tokens.specs.declared.kind.Kind.TheVariants as kinds
+use Rattle.sql_tokens.specs.declared.kind.TokenKind.{TokenKind}
+use Rattle.sql_tokens.specs.declared.kind.TokenKind.TheVariants as kinds
 use Rattle.sql_tokens.specs.declared.token.Token.{Token}
 use Rattle.sql_tokens.proofs.EachKind.{each_kind}
 use Rattle.sql_expressions.specs.Levels as level
@@ -156,7 +156,7 @@ pub implied : (b c : Bool) → (not b || c) ≡ true → b ≡ true → c ≡ tr
 implied true c h e = h
 implied false c h e = cc
 
-abbrev a_token : Kind → Token
+abbrev a_token : TokenKind → Token
 a_token k = record { kind = k; start = 0; end = 0 }
 
 pub product_sign : (t : Token) → level.is_product t ≡ true → Stands product product unary (level.operator_of t)

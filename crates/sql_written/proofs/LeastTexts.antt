@@ -5,8 +5,8 @@ use Rattle.grammar.specs.Reading.{Class, Rule, as_value, nothing, one_texts, not
 use Rattle.grammar.specs.Repeats.{all_repeats, always, second_of}
 use Rattle.sql_tokens.specs.Contents.{name_in, number_in, string_in}
 use Rattle.sql_tokens.specs.Words.{is}
-use Rattle.sql_tokens.specs.declared.kind.Kind.{Kind}
-use Rattle.sql_tokens.specs.declared.kind.Kind.TheVariants as kinds
+use Rattle.sql_tokens.specs.declared.kind.TokenKind.{TokenKind}
+use Rattle.sql_tokens.specs.declared.kind.TokenKind.TheVariants as kinds
 use Rattle.sql_tokens.specs.declared.numbers.TheConstants.{MOST_PARAMETER, NO_BIGINT}
 use Rattle.sql_tokens.specs.declared.token.Token.{Token}
 use Rattle.sql_expressions.specs.Grammar.{Texts, any, endless, nesting, over, nullity_over, product_over, sum_over, conjunction_over, expression_over, test_over}
@@ -138,10 +138,10 @@ module _ (text : List ℕ) (R : Token → Type 0) (good : Spelled text R) where
   first_true true c h = refl
   first_true false c h = cc
 
-  token_name : (ts : List Token) (t : Token) (z : Kind × List ℕ) → ts ≡ t ∷ [] → a_name t ≡ true → z ≡ (t.kind, name_in text t) → Each R ts → IsName z.1
-  token_name ts t z e n v h = subst (λ (y : Kind × List ℕ). IsName y.1) (sym v) (good.name t (subst (Each R) e h).0 n)
+  token_name : (ts : List Token) (t : Token) (z : TokenKind × List ℕ) → ts ≡ t ∷ [] → a_name t ≡ true → z ≡ (t.kind, name_in text t) → Each R ts → IsName z.1
+  token_name ts t z e n v h = subst (λ (y : TokenKind × List ℕ). IsName y.1) (sym v) (good.name t (subst (Each R) e h).0 n)
 
-  name_has : (ts : List Token) (z : Kind × List ℕ) → (name text).free ts z → Each R ts → IsName z.1
+  name_has : (ts : List Token) (z : TokenKind × List ℕ) → (name text).free ts z → Each R ts → IsName z.1
   name_has ts z w h = go w.0 w.1 w.2
     where
       go : (t : Token) → either_texts (one_texts (is_long_name text)) (one_texts (λ t. a_name t && not (is_long_name text t))) ts t → z ≡ (t.kind, name_in text t) → IsName z.1
@@ -204,7 +204,7 @@ module _ (text : List ℕ) (R : Token → Type 0) (good : Spelled text R) where
   of_if true c p q ts x w = w
   of_if false c p q ts x w = inr w
 
-  behind_table : (t : List ℕ) → IsName t → (x : Kind × List ℕ) → IsName x.1 → (ts : List Token) (l : Leaf) → (column_of t x).free ts l → IsLeaf l
+  behind_table : (t : List ℕ) → IsName t → (x : TokenKind × List ℕ) → IsName x.1 → (ts : List Token) (l : Leaf) → (column_of t x).free ts l → IsLeaf l
   behind_table t n x m ts l w = go (of_if (is x.0 kinds.Tableoid) (a kinds.TypeCast) (cast (TableNameOf t)) (nothing (ColumnOf t x.1)) ts l w)
     where
       go : (cast (TableNameOf t)).free ts l ⊎ (nothing (ColumnOf t x.1)).free ts l → IsLeaf l
@@ -218,7 +218,7 @@ module _ (text : List ℕ) (R : Token → Type 0) (good : Spelled text R) where
       let e = parts_of c.0 b.0 b.1 b.2 (c.2 h) in
       subst IsLeaf (sym c.3.2) (behind_table t n c.3.0.0 (name_has b.0 c.3.0.0 b.3 e.0) b.1 c.3.0.1 b.4)
 
-  column_has : (x : Kind × List ℕ) → IsName x.1 → (ts : List Token) (l : Leaf) → (column text x).free ts l → Each R ts → IsLeaf l
+  column_has : (x : TokenKind × List ℕ) → IsName x.1 → (ts : List Token) (l : Leaf) → (column text x).free ts l → Each R ts → IsLeaf l
   column_has x n ts l (inl w) h = dotted_has x.1 n ts l w h
   column_has x n ts l (inr w) h = go (of_if (is x.0 kinds.Date) (a kinds.Text) (as_value Date (string text)) (either_if (is x.0 kinds.Tableoid) (a kinds.TypeCast) (cast TableName) (nothing (Column x.1))) ts l w)
     where
@@ -390,7 +390,7 @@ module _ (text : List ℕ) (R : Token → Type 0) (good : Spelled text R) where
         })
 
     -- names: calls and columns
-    named_least : (x : Kind × List ℕ) (ts : List Token) (v : Deep) → either_texts (level.call_of (expression_over k) x.1).texts (value_texts level.flat (column text x).free) ts v → Least unary (opened ts) (IsName x.1 × Each R ts) v
+    named_least : (x : TokenKind × List ℕ) (ts : List Token) (v : Deep) → either_texts (level.call_of (expression_over k) x.1).texts (value_texts level.flat (column text x).free) ts v → Least unary (opened ts) (IsName x.1 × Each R ts) v
     named_least x ts v (inl w) = call_least x.1 ts v w
     named_least x ts v (inr w) =
         subst (λ (d : Deep). Least unary (opened ts) (IsName x.1 × Each R ts) d) (sym w.2)

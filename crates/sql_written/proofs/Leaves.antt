@@ -7,8 +7,8 @@ use Rattle.sql_tokens.specs.Contents.{bytes_of, name_in, number_in, string_in}
 use Rattle.sql_tokens.specs.Numbers.{number_of_digits}
 use Rattle.sql_tokens.specs.Words.{is, is_name, word_kind}
 use Rattle.sql_tokens.specs.Written.{quoted}
-use Rattle.sql_tokens.specs.declared.kind.Kind.{Kind}
-use Rattle.sql_tokens.specs.declared.kind.Kind.TheVariants as kinds
+use Rattle.sql_tokens.specs.declared.kind.TokenKind.{TokenKind}
+use Rattle.sql_tokens.specs.declared.kind.TokenKind.TheVariants as kinds
 use Rattle.sql_tokens.specs.declared.numbers.TheConstants.{NO_BIGINT}
 use Rattle.sql_tokens.specs.declared.token.Token.{Token}
 use Rattle.sql_expressions.specs.Grammar.{any, deep_expression, expression}
@@ -62,19 +62,19 @@ mark_first z n true p = (plain_first z n (plain_is z (p refl))).blank
 mark_first z n false p = refl
 
 -- the token of a name
-pub record NameToken (text : List ℕ) (z : List ℕ) (c : Kind → Bool) (k : Kind) (i j : ℕ) : Type 0 where
+pub record NameToken (text : List ℕ) (z : List ℕ) (c : TokenKind → Bool) (k : TokenKind) (i j : ℕ) : Type 0 where
   pub named : is_name k ≡ true
   pub says : name_in text (token k i j) ≡ z
   pub short : nat_lt MOST_NAME_BYTES (length (name_in text (token k i j))) ≡ false
   pub other : c k ≡ false
 
-name_token : (text z : List ℕ) (c : Kind → Bool) (k : Kind) (w : List ℕ) (i j : ℕ) → is_name k ≡ true → c k ≡ false → name_said k w ≡ z → length z ≤ MOST_NAME_BYTES → bytes_of text (token k i j) ≡ w → NameToken text z c k i j
+name_token : (text z : List ℕ) (c : TokenKind → Bool) (k : TokenKind) (w : List ℕ) (i j : ℕ) → is_name k ≡ true → c k ≡ false → name_said k w ≡ z → length z ≤ MOST_NAME_BYTES → bytes_of text (token k i j) ≡ w → NameToken text z c k i j
 name_token text z c k w i j n o e l b =
     let said : name_in text (token k i j) ≡ z = ap (name_said k) b ∙ e in
     record { named = n; says = said; short = rw said (not_longer MOST_NAME_BYTES (length z) l); other = o }
 
-either_token : (text z : List ℕ) (c : Kind → Bool) (f : Bool) → c kinds.QuotedName ≡ false → IsName z → (f ≡ true → is_plain z ≡ true) → (f ≡ true → c (word_kind z) ≡ false) → (ts : List Token) → Are text ts (NameMark f z ∷ []) →
-    (k : Kind) × (i : ℕ) × (j : ℕ) × (ts ≡ token k i j ∷ []) × NameToken text z c k i j
+either_token : (text z : List ℕ) (c : TokenKind → Bool) (f : Bool) → c kinds.QuotedName ≡ false → IsName z → (f ≡ true → is_plain z ≡ true) → (f ≡ true → c (word_kind z) ≡ false) → (ts : List Token) → Are text ts (NameMark f z ∷ []) →
+    (k : TokenKind) × (i : ℕ) × (j : ℕ) × (ts ≡ token k i j ∷ []) × NameToken text z c k i j
 either_token text z c true q w p o ts h =
     let n = plain_is z (p refl) in
     (word_kind z, h.0, h.1, only text (word_kind z) z ts h, name_token text z c (word_kind z) z h.0 h.1 n.named (o refl) (plain_said z n) w.1 h.4)
@@ -84,7 +84,7 @@ either_token text z c false q w p o ts h =
 module _ (text : List ℕ) where
   -- a name by each rule of names
   module _ (z : List ℕ) (w : IsName z) where
-    name_spells : Spells Begins text (name text).texts (spelled.name z ∷ []) (λ (k : Kind). (k, z))
+    name_spells : Spells Begins text (name text).texts (spelled.name z ∷ []) (λ (k : TokenKind). (k, z))
     name_spells = record {
       reads = λ ts h.
           let t = either_token text z (λ k. false) (is_plain z) refl w (λ e. e) (λ e. refl) ts h in
@@ -97,7 +97,7 @@ module _ (text : List ℕ) where
     pub plain_name_spells : Exactly Begins text (plain_name text).texts (spelled.name z ∷ []) z
     plain_name_spells = exactly z (valued said name_spells) (λ k. refl)
 
-    pub name_but_spells : (k : Kind) → Exactly Begins text (name_but text k).texts (spelled.name z ∷ []) z
+    pub name_but_spells : (k : TokenKind) → Exactly Begins text (name_but text k).texts (spelled.name z ∷ []) z
     name_but_spells k = record {
       reads = λ ts h.
           let t = either_token text z (λ j. false) (is_plain z) refl w (λ e. e) (λ e. refl) ts h in
@@ -107,12 +107,12 @@ module _ (text : List ℕ) where
       first = λ n e. subst (λ b. Begins b) (sym (next_append (bytes_of_mark (spelled.name z)) [] n)) (name_first z n).blank;
     }
 
-    pub name_there : (ts : List Token) → Are text ts (spelled.name z ∷ []) → (k : Kind) × (i : ℕ) × (j : ℕ) × (ts ≡ token k i j ∷ []) × NameToken text z (λ k. false) k i j
+    pub name_there : (ts : List Token) → Are text ts (spelled.name z ∷ []) → (k : TokenKind) × (i : ℕ) × (j : ℕ) × (ts ≡ token k i j ∷ []) × NameToken text z (λ k. false) k i j
     name_there ts h = either_token text z (λ k. false) (is_plain z) refl w (λ e. e) (λ e. refl) ts h
 
     -- in quotes also where it is a word of the kinds c
-    module _ (c : Kind → Bool) (q : c kinds.QuotedName ≡ false) where
-      pub unless_token : (ts : List Token) → Are text ts (name_unless c z ∷ []) → (k : Kind) × (i : ℕ) × (j : ℕ) × (ts ≡ token k i j ∷ []) × NameToken text z c k i j
+    module _ (c : TokenKind → Bool) (q : c kinds.QuotedName ≡ false) where
+      pub unless_token : (ts : List Token) → Are text ts (name_unless c z ∷ []) → (k : TokenKind) × (i : ℕ) × (j : ℕ) × (ts ≡ token k i j ∷ []) × NameToken text z c k i j
       unless_token ts h =
           either_token text z c (is_plain z && not (c (word_kind z))) q w (λ e. first_of (is_plain z) (not (c (word_kind z))) e) (λ e. second_of (is_plain z) (c (word_kind z)) e) ts h
 
@@ -124,7 +124,7 @@ module _ (text : List ℕ) where
           subst (λ b. Begins b) (sym (next_append (bytes_of_mark (name_unless c z)) [] n))
           (mark_first z n (is_plain z && not (c (word_kind z))) (λ i. first_of (is_plain z) (not (c (word_kind z))) i))
 
-    pub other_name_spells : (k : Kind) → is kinds.QuotedName k ≡ false → Exactly Begins text (other_name text k).texts (name_unless (λ j. is j k) z ∷ []) z
+    pub other_name_spells : (k : TokenKind) → is kinds.QuotedName k ≡ false → Exactly Begins text (other_name text k).texts (name_unless (λ j. is j k) z ∷ []) z
     other_name_spells k q = record {
       reads = λ ts h.
           let t = unless_token (λ j. is j k) q ts h in
@@ -170,12 +170,12 @@ module _ (text : List ℕ) where
   }
 
   -- a name alone is the column of that name
-  column_free : (k : Kind) (i j : ℕ) (z : List ℕ) → (name text).free (token k i j ∷ []) (k, z) → (deep_expression text).free (token k i j ∷ []) (leaf (Column z), 0)
+  column_free : (k : TokenKind) (i j : ℕ) (z : List ℕ) → (name text).free (token k i j ∷ []) (k, z) → (deep_expression text).free (token k i j ∷ []) (leaf (Column z), 0)
   column_free k i j z n =
       let ts = token k i j ∷ [] in
       free_at ts (leaf (Column z), 0) (climb text unary disjunction ts (leaf (Column z), 0) refl (named text k z ts [] ts (Column z) refl n (no_more_of text k z)))
 
-  pub column_read : (z : List ℕ) (c : Kind → Bool) (k : Kind) (i j : ℕ) → NameToken text z c k i j → (expression text).texts (token k i j ∷ []) (leaf (Column z))
+  pub column_read : (z : List ℕ) (c : TokenKind → Bool) (k : TokenKind) (i j : ℕ) → NameToken text z c k i j → (expression text).texts (token k i j ∷ []) (leaf (Column z))
   column_read z c k i j n =
       let t = token k i j in
       let free : (name text).free (t ∷ []) (k, z) = (t, inr (refl, rw (n.named, n.short) refl), ap (λ (y : List ℕ). (k, y)) (sym n.says)) in
@@ -184,11 +184,11 @@ module _ (text : List ℕ) where
       all text (t ∷ []) (leaf (Column z)) (0, column_free k i j z free, omega arith, all_of_each (IsShort text) (t ∷ []) (short, tt))
 
   -- so no other expression is a name alone
-  free_name : (k : Kind) (i j : ℕ) (b : Bool) → is_name k ≡ true → nat_lt MOST_NAME_BYTES (length (name_in text (token k i j))) ≡ b → (name text).free (token k i j ∷ []) (k, name_in text (token k i j))
+  free_name : (k : TokenKind) (i j : ℕ) (b : Bool) → is_name k ≡ true → nat_lt MOST_NAME_BYTES (length (name_in text (token k i j))) ≡ b → (name text).free (token k i j ∷ []) (k, name_in text (token k i j))
   free_name k i j true n e = (token k i j, inl (refl, rw (n, e) refl), refl)
   free_name k i j false n e = (token k i j, inr (refl, rw (n, e) refl), refl)
 
-  pub column_alone : (e : Tree) (k : Kind) (i j : ℕ) → is_name k ≡ true → (expression text).texts (token k i j ∷ []) e → leaf (Column (name_in text (token k i j))) ≡ e
+  pub column_alone : (e : Tree) (k : TokenKind) (i j : ℕ) → is_name k ≡ true → (expression text).texts (token k i j ∷ []) e → leaf (Column (name_in text (token k i j))) ≡ e
   column_alone e k i j n h =
       let ts = token k i j ∷ [] in
       let z = name_in text (token k i j) in

@@ -4,8 +4,8 @@ use Rattle.std.specs.Prelude.{codes}
 use Rattle.grammar.specs.Depths.{AtSome}
 use Rattle.grammar.specs.Reading.{Class, one_texts, nothing_texts, both_texts, follow_texts, value_texts, either_texts}
 use Rattle.grammar.specs.Repeats.{all_repeats, repeats_texts, always, step_to, second_of}
-use Rattle.sql_tokens.specs.declared.kind.Kind.{Kind}
-use Rattle.sql_tokens.specs.declared.kind.Kind.TheVariants as kinds
+use Rattle.sql_tokens.specs.declared.kind.TokenKind.{TokenKind}
+use Rattle.sql_tokens.specs.declared.kind.TokenKind.TheVariants as kinds
 use Rattle.sql_tokens.specs.declared.token.Token.{Token}
 use Rattle.sql_expressions.specs.Grammar.{Texts, any, nesting}
 use Rattle.sql_expressions.specs.Levels as level
@@ -249,7 +249,7 @@ module _ (text : List ℕ) where
   compared_on : (s : Token) (x y : List Token) (l r : Deep) → level.is_comparison s ≡ true → (any text).test.texts x l → (any text).test.texts y r → comparison_texts (x ++ s ∷ y) (level.join l s r)
   compared_on s x y l r e h k = ((l, level.join l s r), (x, s ∷ y, refl, h, inl ((s, r), (s ∷ [], y, refl, (refl, e), k), refl)), refl)
 
-  abbrev pub sign_kind : Operator → Kind
+  abbrev pub sign_kind : Operator → TokenKind
   sign_kind operator.Add = kinds.Plus
   sign_kind operator.Subtract = kinds.Minus
   sign_kind operator.Multiply = kinds.Star

@@ -5,7 +5,7 @@ use Rattle.sql_tokens.specs.Bytes.{belongs}
 use Rattle.sql_tokens.specs.Pieces.{next_piece}
 use Rattle.sql_tokens.specs.Tokens.{behind, taken, told, tokens_by, tokens_of}
 use Rattle.sql_tokens.specs.declared.bytes.Class.TheVariants as class
-use Rattle.sql_tokens.specs.declared.kind.Kind.{Kind}
+use Rattle.sql_tokens.specs.declared.kind.TokenKind.{TokenKind}
 use Rattle.sql_tokens.specs.declared.token.Token.{Token}
 use Rattle.sql_tokens.specs.declared.piece.Piece.{Piece}
 use Rattle.sql_tokens.specs.declared.piece.Piece.TheVariants.{Gap, Lexeme}
@@ -33,7 +33,7 @@ text_append [] ys = refl
 text_append (m ∷ xs) ys = ap (λ x. bytes_of m ++ x) (text_append xs ys) ∙ sym (append_assoc (bytes_of m) (text_of xs) (text_of ys))
 
 -- A mark stands apart from a byte n behind it if it is read as it is, whatever else comes.
-pub record IsPiece (k : Kind) (z : List ℕ) (n : ℕ) : Type 0 where
+pub record IsPiece (k : TokenKind) (z : List ℕ) (n : ℕ) : Type 0 where
   pub some : 0 < length z
   pub read : (rest : List ℕ) → slice_index rest 0 ≡ n → next_piece (z ++ rest) ≡ Lexeme k (length z)
 

@@ -14,8 +14,8 @@ use Rattle.sql_tokens.specs.Signs.{sign}
 use Rattle.sql_tokens.specs.Words.{is_name, word_kind}
 use Rattle.sql_tokens.specs.Written.{quoted}
 use Rattle.sql_tokens.specs.declared.bytes.Class.TheVariants as class
-use Rattle.sql_tokens.specs.declared.kind.Kind.{Kind}
-use Rattle.sql_tokens.specs.declared.kind.Kind.TheVariants as kinds
+use Rattle.sql_tokens.specs.declared.kind.TokenKind.{TokenKind}
+use Rattle.sql_tokens.specs.declared.kind.TokenKind.TheVariants as kinds
 use Rattle.sql_tokens.specs.declared.numbers.TheConstants.{MOST_PARAMETER, NO_BIGINT}
 use Rattle.sql_tokens.specs.declared.piece.Piece.TheVariants.{Lexeme}
 use Rattle.sql_ast.specs.declared.leaf.Operator.{Operator}
@@ -55,7 +55,7 @@ pub comma_ends : Ends 44
 comma_ends = record { part = refl; name_quote = refl; string_quote = refl; number = ends_number 44 refl refl refl refl refl }
 
 -- words
-pub word_apart : (k : Kind) (b : ℕ) (z : List ℕ) (n : ℕ) → belongs class.NameStart b ≡ true → prefix_len (belongs class.NamePart) (b ∷ z) ≡ length (b ∷ z) → is_utf8 (b ∷ z) ≡ true →
+pub word_apart : (k : TokenKind) (b : ℕ) (z : List ℕ) (n : ℕ) → belongs class.NameStart b ≡ true → prefix_len (belongs class.NamePart) (b ∷ z) ≡ length (b ∷ z) → is_utf8 (b ∷ z) ≡ true →
     word_kind (b ∷ z) ≡ k → belongs class.NamePart n ≡ false → IsPiece k (b ∷ z) n
 word_apart k b z n s e u w h = record {
   some = omega arith;
@@ -272,7 +272,7 @@ parameter_apart m n w h =
     }
 
 -- signs
-by_front : (k : Kind) (z : List ℕ) (n : ℕ) → 0 < length z → is_ascii z ≡ true → ((rest : List ℕ) → slice_index rest 0 ≡ n → front (z ++ rest) ≡ Lexeme k (length z)) → IsPiece k z n
+by_front : (k : TokenKind) (z : List ℕ) (n : ℕ) → 0 < length z → is_ascii z ≡ true → ((rest : List ℕ) → slice_index rest 0 ≡ n → front (z ++ rest) ≡ Lexeme k (length z)) → IsPiece k z n
 by_front k z n some u f = record { some = some; read = λ rest i. piece_of k z rest (ascii_utf8 z u) (f rest i) }
 
 pub opening_apart : (n : ℕ) → StandsApart spelled.opening n

@@ -13,8 +13,8 @@ use Rattle.sql_tokens.specs.Contents.{bytes_of, name_in}
 use Rattle.sql_tokens.specs.Tokens.{tokens_of}
 use Rattle.sql_tokens.specs.Words.{is_name, look_up, word_kind, words_of}
 use Rattle.sql_tokens.specs.declared.bytes.Class.TheVariants as class
-use Rattle.sql_tokens.specs.declared.kind.Kind.{Kind}
-use Rattle.sql_tokens.specs.declared.kind.Kind.TheVariants as kinds
+use Rattle.sql_tokens.specs.declared.kind.TokenKind.{TokenKind}
+use Rattle.sql_tokens.specs.declared.kind.TokenKind.TheVariants as kinds
 use Rattle.sql_tokens.specs.declared.token.Token.{Token}
 use Rattle.sql_tokens.specs.Classes.{a, a_name}
 use Rattle.sql_written.specs.Marks.{mark}
@@ -76,15 +76,15 @@ twice (b ∷ z) = ap (λ c. c ∷ map to_ascii_lowercase (map to_ascii_lowercase
 same_case : (w z : List ℕ) → str_eq_ignore_ascii_case w (map to_ascii_lowercase z) ≡ str_eq_ignore_ascii_case w z
 same_case w z = ap (λ (y : List ℕ). pointwise eqb (map to_ascii_lowercase w) y) (twice z)
 
-same_look : (ws : List (List ℕ × Kind)) (z : List ℕ) → look_up ws (map to_ascii_lowercase z) ≡ look_up ws z
+same_look : (ws : List (List ℕ × TokenKind)) (z : List ℕ) → look_up ws (map to_ascii_lowercase z) ≡ look_up ws z
 same_look [] z = refl
-same_look (w ∷ ws) z = ap (λ (b : Bool). cond b w.1 (look_up ws (map to_ascii_lowercase z))) (same_case w.0 z) ∙ ap (λ (k : Kind). cond (str_eq_ignore_ascii_case w.0 z) w.1 k) (same_look ws z)
+same_look (w ∷ ws) z = ap (λ (b : Bool). cond b w.1 (look_up ws (map to_ascii_lowercase z))) (same_case w.0 z) ∙ ap (λ (k : TokenKind). cond (str_eq_ignore_ascii_case w.0 z) w.1 k) (same_look ws z)
 
 kind_small : (z : List ℕ) → word_kind (map to_ascii_lowercase z) ≡ word_kind z
 unfolding word_kind
 kind_small z = ap (λ (n : ℕ). look_up (words_of n) (map to_ascii_lowercase z)) (length-map z to_ascii_lowercase) ∙ same_look (words_of (length z)) z
 
-plain_small : (k : Kind) (z : List ℕ) → IsWord z → word_kind z ≡ k → is_name k ≡ true → is_plain (map to_ascii_lowercase z) ≡ true
+plain_small : (k : TokenKind) (z : List ℕ) → IsWord z → word_kind z ≡ k → is_name k ≡ true → is_plain (map to_ascii_lowercase z) ≡ true
 plain_small k z w e n =
     let begins = begins_small z w.start in
     let all = kept_small z w.parts in

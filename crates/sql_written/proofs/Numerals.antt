@@ -3,7 +3,7 @@ use Rattle.std.proofs.Common.{◌≡◌, ℕ, suc, ◌+◌, ◌<◌, Bool, true,
 use Rattle.std.specs.List.{prefix_len}
 use Rattle.sql_tokens.specs.Bytes.{belongs}
 use Rattle.sql_tokens.specs.declared.bytes.Class.TheVariants as class
-use Rattle.sql_commands.specs.Setting.{without_zeros}
+use Rattle.sql_syntax.specs.Setting.{without_zeros}
 use Rattle.sql_written.proofs.NumbersSay.{AreDigits}
 use Rattle.sql_written.specs.WritableCommands.{IsNumeral}
 

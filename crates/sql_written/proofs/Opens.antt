@@ -2,8 +2,8 @@
 use Rattle.std.proofs.Common.{◌≡◌, ℕ, suc, Bool, true, false, cond, ◌&&◌, not, List, [], ◌∷◌, refl, ◌∙◌, arith}
 use Rattle.sql_tokens.specs.Words.{word_kind}
 use Rattle.sql_tokens.specs.Written.{quoted}
-use Rattle.sql_tokens.specs.declared.kind.Kind.{Kind}
-use Rattle.sql_tokens.specs.declared.kind.Kind.TheVariants as kinds
+use Rattle.sql_tokens.specs.declared.kind.TokenKind.{TokenKind}
+use Rattle.sql_tokens.specs.declared.kind.TokenKind.TheVariants as kinds
 use Rattle.sql_ast.specs.Expressions.{Tree, Trees}
 use Rattle.sql_written.specs.Marks.{Mark, mark}
 use Rattle.sql_written.specs.Spelling as spelled
@@ -48,5 +48,5 @@ unless_by : (z : List ℕ) (ms : List Mark) (f : Bool) → (f ≡ true → is_pl
 unless_by z ms true p = opened_plain (word_kind z) z ms (plain_is z (p refl)).named
 unless_by z ms false p = omega arith
 
-pub opened_unless : (c : Kind → Bool) (z : List ℕ) (ms : List Mark) → opened_by (name_unless c z ∷ ms) ≡ opened_by ms
+pub opened_unless : (c : TokenKind → Bool) (z : List ℕ) (ms : List Mark) → opened_by (name_unless c z ∷ ms) ≡ opened_by ms
 opened_unless c z ms = unless_by z ms (is_plain z && not (c (word_kind z))) (λ e. first_of (is_plain z) (not (c (word_kind z))) e)

@@ -3,8 +3,8 @@ use Rattle.std.proofs.Common.{◌≡◌, ℕ, Bool, true, false, List, [], ◌�
 use Rattle.std.specs.Prelude.{codes}
 use Rattle.grammar.specs.Reading.{one, one_texts, nothing_texts, value_texts, optional}
 use Rattle.grammar.specs.Repeats.{many, many_texts, second_of}
-use Rattle.sql_tokens.specs.declared.kind.Kind.{Kind}
-use Rattle.sql_tokens.specs.declared.kind.Kind.TheVariants as kinds
+use Rattle.sql_tokens.specs.declared.kind.TokenKind.{TokenKind}
+use Rattle.sql_tokens.specs.declared.kind.TokenKind.TheVariants as kinds
 use Rattle.sql_tokens.specs.declared.token.Token.{Token}
 use Rattle.sql_expressions.specs.Grammar.{expression}
 use Rattle.sql_ast.specs.Expressions.{Tree, Trees, no_more, and_more, listed as list_of_trees}
@@ -108,7 +108,7 @@ module _ (text : List ℕ) where
       (λ i. ap (λ (o : Option Tree). (x.0, o) ∷ xs) (sym w.1)))
 
   -- clauses of one expression
-  clause_spells : (k : Kind) → is_written k ≡ true → (o : Option Tree) → Maybe IsExpression o → Exactly Ends text (optional (a k) (a k >> expression text)).texts (clause k o) o
+  clause_spells : (k : TokenKind) → is_written k ≡ true → (o : Option Tree) → Maybe IsExpression o → Exactly Ends text (optional (a k) (a k >> expression text)).texts (clause k o) o
   clause_spells k e None w = right _ (none None)
   clause_spells k e (Some t) w = left _ (exactly (Some t) (valued (λ (x : Tree). Some x) (spaced (behind k e (spaced (tree_spells text t w))))) (λ i. refl))
 
@@ -123,7 +123,7 @@ module _ (text : List ℕ) where
   asc_spells : Exactly Ends text (maybe grammar.is_direction).texts (direction_marks false) None
   asc_spells = right (value_texts (λ (t : Token). Some t) (one_texts grammar.is_direction)) (none None)
 
-  nulls_spell : (k : Kind) → is_written k ≡ true → ((i j : ℕ) → grammar.is_end (token k i j) ≡ true) → Spells Ends text grammar.nulls.texts (blank ∷ word kinds.Nulls ∷ blank ∷ word k ∷ []) (λ (i : ℕ × ℕ). Some (token k i.0 i.1))
+  nulls_spell : (k : TokenKind) → is_written k ≡ true → ((i j : ℕ) → grammar.is_end (token k i j) ≡ true) → Spells Ends text grammar.nulls.texts (blank ∷ word kinds.Nulls ∷ blank ∷ word k ∷ []) (λ (i : ℕ × ℕ). Some (token k i.0 i.1))
   nulls_spell k e h = left (nothing_texts None) (valued (λ (t : Token). Some t) (spaced (behind kinds.Nulls refl (spaced (one_of k e grammar.is_end h)))))
 
   no_nulls : Exactly Ends text grammar.nulls.texts [] None

@@ -10,8 +10,8 @@ use Rattle.sql_tokens.specs.Quotes.{inside, undoubled}
 use Rattle.sql_tokens.specs.Words.{is, look_up, word_kind, words_of, two, three, four, five, six, seven, eight, nine, ten, eleven, twelve}
 use Rattle.sql_tokens.specs.Written.{doubled, quoted}
 use Rattle.sql_tokens.specs.declared.bytes.Class.TheVariants as class
-use Rattle.sql_tokens.specs.declared.kind.Kind.{Kind}
-use Rattle.sql_tokens.specs.declared.kind.Kind.TheVariants as kinds
+use Rattle.sql_tokens.specs.declared.kind.TokenKind.{TokenKind}
+use Rattle.sql_tokens.specs.declared.kind.TokenKind.TheVariants as kinds
 use Rattle.sql_tokens.specs.declared.token.Token.{Token}
 use Rattle.sql_tokens.proofs.ReadBack.{undoubled-doubled}
 use Rattle.sql_written.proofs.MarkTokens.{tokens_at}
@@ -19,7 +19,7 @@ use Rattle.sql_written.specs.Marks.{Mark, blank, mark, text_of}
 use Rattle.sql_written.specs.Spelling.{is_kept}
 use Rattle.sql_written.proofs.MarksApart.{IsPlain}
 
-abbrev pub token : Kind → ℕ → ℕ → Token
+abbrev pub token : TokenKind → ℕ → ℕ → Token
 token k from to = record { kind = k; start = from; end = to }
 
 -- the tokens of a text are some marks
@@ -39,7 +39,7 @@ parted text ts (mark k z ∷ xs) ys h =
     (token k h.0 h.1 ∷ p.0, p.1, h.3 ∙ ap (λ r. token k h.0 h.1 ∷ r) p.2, (h.0, h.1, p.0, refl, h.4, p.3), p.4)
 
 -- those of their own text
-bytes_there : (before z after : List ℕ) (k : Kind) → contents.bytes_of (before ++ (z ++ after)) (token k (length before) (length before + length z)) ≡ z
+bytes_there : (before z after : List ℕ) (k : TokenKind) → contents.bytes_of (before ++ (z ++ after)) (token k (length before) (length before + length z)) ≡ z
 bytes_there before z after k =
     let n : length before + length z - length before ≡ length z = omega arith in
     let d : drop (length before) (before ++ (z ++ after)) ≡ z ++ after = drop-append_seam before (z ++ after) in
@@ -62,7 +62,7 @@ pub are_written : (ms : List Mark) → Are (text_of ms) (tokens_at 0 ms) ms
 are_written ms = are_there (text_of ms) [] ms 0 refl refl
 
 -- what is spelled is said
-abbrev pub name_said : Kind → List ℕ → List ℕ
+abbrev pub name_said : TokenKind → List ℕ → List ℕ
 name_said k z = cond (is k kinds.QuotedName) (undoubled 34 false (inside z)) (map to_ascii_lowercase z)
 
 inside_quoted : (q : ℕ) (z : List ℕ) → inside (quoted q z) ≡ doubled q z
@@ -74,14 +74,14 @@ pub quoted_said : (q : ℕ) (z : List ℕ) → (q == q) ≡ true → undoubled q
 quoted_said q z e = ap (undoubled q false) (inside_quoted q z) ∙ undoubled-doubled q z e
 
 -- no word is a quoted name, a string or a parameter
-abbrev is_constant : Kind → Bool
+abbrev is_constant : TokenKind → Bool
 is_constant k = is k kinds.QuotedName || (is k kinds.Text || (is k kinds.Parameter || is k kinds.Number))
 
-abbrev words_alone : List (List ℕ × Kind) → Bool
+abbrev words_alone : List (List ℕ × TokenKind) → Bool
 words_alone [] = true
 words_alone (w ∷ ws) = not (is_constant w.1) && words_alone ws
 
-pick : (f : Bool) (k j : Kind) → is_constant k ≡ false → is_constant j ≡ false → is_constant (cond f k j) ≡ false
+pick : (f : Bool) (k j : TokenKind) → is_constant k ≡ false → is_constant j ≡ false → is_constant (cond f k j) ≡ false
 pick true k j g h = g
 pick false k j g h = h
 
@@ -93,12 +93,12 @@ second_of_both : (a b : Bool) → (not a && b) ≡ true → b ≡ true
 second_of_both true b h = cc
 second_of_both false b h = h
 
-look_up_word : (ws : List (List ℕ × Kind)) (word : List ℕ) → words_alone ws ≡ true → is_constant (look_up ws word) ≡ false
+look_up_word : (ws : List (List ℕ × TokenKind)) (word : List ℕ) → words_alone ws ≡ true → is_constant (look_up ws word) ≡ false
 look_up_word [] word h = refl
 look_up_word (w ∷ ws) word h =
     pick (str_eq_ignore_ascii_case w.0 word) w.1 (look_up ws word) (first_of_both (is_constant w.1) (words_alone ws) h) (look_up_word ws word (second_of_both (is_constant w.1) (words_alone ws) h))
 
-choose : (b : Bool) (xs ys : List (List ℕ × Kind)) → words_alone xs ≡ true → words_alone ys ≡ true → words_alone (cond b xs ys) ≡ true
+choose : (b : Bool) (xs ys : List (List ℕ × TokenKind)) → words_alone xs ≡ true → words_alone ys ≡ true → words_alone (cond b xs ys) ≡ true
 choose true xs ys h g = h
 choose false xs ys h g = g
 

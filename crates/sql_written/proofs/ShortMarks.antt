@@ -4,8 +4,8 @@ use Rattle.std.specs.Prelude.{nat_lt}
 use Rattle.sql_tokens.specs.Quotes.{inside, undoubled}
 use Rattle.sql_tokens.specs.Words.{is, is_name, word_kind}
 use Rattle.sql_tokens.specs.Written.{quoted}
-use Rattle.sql_tokens.specs.declared.kind.Kind.{Kind}
-use Rattle.sql_tokens.specs.declared.kind.Kind.TheVariants as kinds
+use Rattle.sql_tokens.specs.declared.kind.TokenKind.{TokenKind}
+use Rattle.sql_tokens.specs.declared.kind.TokenKind.TheVariants as kinds
 use Rattle.sql_tokens.specs.declared.token.Token.{Token}
 use Rattle.sql_tokens.proofs.EachKind.{each_kind}
 use Rattle.sql_expressions.specs.Limits.{IsShort}
@@ -56,7 +56,7 @@ no_text_of : (b : Bool) → b ≡ false → (c : Bool) → (b && c) ≡ false
 no_text_of true h c = cc
 no_text_of false h c = refl
 
-name_short : (k : Kind) (w z : List ℕ) → is k kinds.Text ≡ false → name_said k w ≡ z → length z ≤ MOST_NAME_BYTES → ShortMark (mark k w)
+name_short : (k : TokenKind) (w z : List ℕ) → is k kinds.Text ≡ false → name_said k w ≡ z → length z ≤ MOST_NAME_BYTES → ShortMark (mark k w)
 name_short k w z t e l =
     let short : nat_lt MOST_NAME_BYTES (length (name_said k w)) ≡ false = rw e (not_longer MOST_NAME_BYTES (length z) l) in
     (not_both (is_name k) _ short, no_text_of (is k kinds.Text) t _)
@@ -66,7 +66,7 @@ never_both true true h e = cc
 never_both true false h e = refl
 never_both false c h e = cc
 
-pub name_is_no_text : (k : Kind) → is_name k ≡ true → is k kinds.Text ≡ false
+pub name_is_no_text : (k : TokenKind) → is_name k ≡ true → is k kinds.Text ≡ false
 name_is_no_text k n = never_both (is_name k) (is k kinds.Text) (each_kind (λ j. not (is_name j && is j kinds.Text)) refl k) n
 
 either_name : (z : List ℕ) (f : Bool) → is_plain z ≡ f → length z ≤ MOST_NAME_BYTES → ShortMark (cond f (mark (word_kind z) z) (mark kinds.QuotedName (quoted 34 z)))

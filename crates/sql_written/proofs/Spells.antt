@@ -8,8 +8,8 @@ use Rattle.grammar.specs.Repeats.{repeats_texts, always}
 use Rattle.sql_tokens.specs.Bytes.{belongs}
 use Rattle.sql_tokens.specs.Words.{is, word_kind}
 use Rattle.sql_tokens.specs.declared.bytes.Class.TheVariants as class
-use Rattle.sql_tokens.specs.declared.kind.Kind.{Kind}
-use Rattle.sql_tokens.specs.declared.kind.Kind.TheVariants as kinds
+use Rattle.sql_tokens.specs.declared.kind.TokenKind.{TokenKind}
+use Rattle.sql_tokens.specs.declared.kind.TokenKind.TheVariants as kinds
 use Rattle.sql_tokens.specs.declared.token.Token.{Token}
 use Rattle.sql_tokens.specs.Classes.{a}
 use Rattle.sql_ast.specs.declared.leaf.Operator.TheVariants.{Equal}
@@ -43,7 +43,7 @@ Exactly F text {A} P ms x = Spells F text P ms (λ (u : Unit {0}). x)
 first_behind : (F : ℕ → Type 0) (xs ys : List Mark) (n : ℕ) → F (next (text_of xs) (next (text_of ys) n)) → F (next (text_of (xs ++ ys)) n)
 first_behind F xs ys n h = subst F (sym (ap (λ z. next z n) (text_append xs ys) ∙ next_append (text_of xs) (text_of ys) n)) h
 
-word_stands : (k : Kind) (z : List ℕ) → z ≡ capitals k → belongs class.NameStart (slice_index z 0) ≡ true → IsWord k → (n : ℕ) → belongs class.NamePart n ≡ false → StandsApart (mark k z) n
+word_stands : (k : TokenKind) (z : List ℕ) → z ≡ capitals k → belongs class.NameStart (slice_index z 0) ≡ true → IsWord k → (n : ℕ) → belongs class.NamePart n ≡ false → StandsApart (mark k z) n
 word_stands k [] e s w n h = let f : false ≡ true = s in cc
 word_stands k (b ∷ z) e s w n h =
     let parts = subst (λ y. prefix_len (belongs class.NamePart) y ≡ length y) (sym e) w.parts in
@@ -58,7 +58,7 @@ word_begins : (z : List ℕ) (n : ℕ) → belongs class.NameStart (slice_index 
 word_begins [] n s = let f : false ≡ true = s in cc
 word_begins (b ∷ z) n s = start_begins b s
 
-pub word_there : (k : Kind) → is_written k ≡ true → (n : ℕ) → belongs class.NamePart n ≡ false → StandsApart (word k) n
+pub word_there : (k : TokenKind) → is_written k ≡ true → (n : ℕ) → belongs class.NamePart n ≡ false → StandsApart (word k) n
 word_there k e n h = let w = word_is k e in word_stands k (capitals k) refl w.start w n h
 
 module _ {F : ℕ → Type 0} {text : List ℕ} where
@@ -137,7 +137,7 @@ module _ {text : List ℕ} where
   none x = record { reads = λ ts w. (tt, (w, refl)); apart = λ n e. tt; first = λ n e. e }
 
   -- a word of a class
-  pub one_of : (k : Kind) → is_written k ≡ true → (c : Class Token) → ((i j : ℕ) → c (token k i j) ≡ true) → Spells Begins text (one_texts c) (word k ∷ []) (λ (i : ℕ × ℕ). token k i.0 i.1)
+  pub one_of : (k : TokenKind) → is_written k ≡ true → (c : Class Token) → ((i j : ℕ) → c (token k i j) ≡ true) → Spells Begins text (one_texts c) (word k ∷ []) (λ (i : ℕ × ℕ). token k i.0 i.1)
   one_of k e c h = record {
     reads = λ ts w. ((w.0, w.1), (only text k (capitals k) ts w, h w.0 w.1));
     apart = λ n i. (word_there k e n i.part, tt);
@@ -145,7 +145,7 @@ module _ {text : List ℕ} where
   }
 
   -- a token of a kind, then a text
-  behind_mark : {F G : ℕ → Type 0} {I A : Type 0} {P : Of A} {ms : List Mark} {g : I → A} (k : Kind) (z : List ℕ) → is k k ≡ true → ((n : ℕ) → G n → StandsApart (mark k z) n) → ((n : ℕ) → F (next z n)) → Spells G text P ms g →
+  behind_mark : {F G : ℕ → Type 0} {I A : Type 0} {P : Of A} {ms : List Mark} {g : I → A} (k : TokenKind) (z : List ℕ) → is k k ≡ true → ((n : ℕ) → G n → StandsApart (mark k z) n) → ((n : ℕ) → F (next z n)) → Spells G text P ms g →
       Spells F text (value_texts (λ (x : Token × A). x.1) (both_texts (one_texts (a k)) P)) (mark k z ∷ ms) g
   behind_mark {F = F} {ms = ms} {g = g} k z s st f h = record {
     reads = λ ts w.
@@ -156,7 +156,7 @@ module _ {text : List ℕ} where
     first = λ n e. subst F (sym (next_append z (text_of ms) n)) (f (next (text_of ms) n));
   }
 
-  pub behind : {I A : Type 0} {P : Of A} {ms : List Mark} {g : I → A} (k : Kind) → is_written k ≡ true → Spells Ends text P ms g →
+  pub behind : {I A : Type 0} {P : Of A} {ms : List Mark} {g : I → A} (k : TokenKind) → is_written k ≡ true → Spells Ends text P ms g →
       Spells Begins text (value_texts (λ (x : Token × A). x.1) (both_texts (one_texts (a k)) P)) (word k ∷ ms) g
   behind k e h = let w = word_is k e in behind_mark k (capitals k) w.self (λ n i. word_there k e n i.part) (λ n. word_begins (capitals k) n w.start) h
 

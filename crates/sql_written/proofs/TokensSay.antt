@@ -14,8 +14,8 @@ use Rattle.sql_tokens.specs.Tokens.{behind, taken, told, tokens_by, tokens_of}
 use Rattle.sql_tokens.specs.Words.{is, is_name, word_kind}
 use Rattle.sql_tokens.specs.Written.{doubled}
 use Rattle.sql_tokens.specs.declared.bytes.Class.TheVariants as class
-use Rattle.sql_tokens.specs.declared.kind.Kind.{Kind}
-use Rattle.sql_tokens.specs.declared.kind.Kind.TheVariants as kinds
+use Rattle.sql_tokens.specs.declared.kind.TokenKind.{TokenKind}
+use Rattle.sql_tokens.specs.declared.kind.TokenKind.TheVariants as kinds
 use Rattle.sql_tokens.specs.declared.numbers.TheConstants.{MOST_PARAMETER}
 use Rattle.sql_tokens.specs.declared.piece.Piece.{Piece}
 use Rattle.sql_tokens.specs.declared.piece.Piece.TheVariants.{Gap, Lexeme, Broken}
@@ -30,11 +30,11 @@ pub record IsWord (z : List ℕ) : Type 0 where
   pub parts : prefix_len (belongs class.NamePart) z ≡ length z
 
 -- what may be a name, and three words that are none
-abbrev pub is_spelled : Kind → Bool
+abbrev pub is_spelled : TokenKind → Bool
 is_spelled k = is_name k || (is k kinds.On || (is k kinds.True || is k kinds.False))
 
 -- the bytes of a token of a kind
-pub record Says (k : Kind) (z : List ℕ) : Type 0 where
+pub record Says (k : TokenKind) (z : List ℕ) : Type 0 where
   pub word : is_spelled k ≡ true → is k kinds.QuotedName ≡ false → IsWord z × (word_kind z ≡ k)
   pub name : is k kinds.QuotedName ≡ true → IsQuoted 34 z × (2 < length z)
   pub string : is k kinds.Text ≡ true → IsQuoted 39 z
@@ -50,7 +50,7 @@ pick : (z : List ℕ) (b : Bool) (p q : Piece) → (b ≡ true → SaysPiece z p
 pick z true p q h g = h refl
 pick z false p q h g = g refl
 
-other : (k : Kind) (z : List ℕ) → is_spelled k ≡ false → is k kinds.QuotedName ≡ false → is k kinds.Text ≡ false → is k kinds.Parameter ≡ false → is k kinds.Number ≡ false → Says k z
+other : (k : TokenKind) (z : List ℕ) → is_spelled k ≡ false → is k kinds.QuotedName ≡ false → is k kinds.Text ≡ false → is k kinds.Parameter ≡ false → is k kinds.Number ≡ false → Says k z
 other k z a b c d f = record {
   word = λ e i. let f : true ≡ false = sym e ∙ a in cc;
   name = λ e. let f : true ≡ false = sym e ∙ b in cc;
@@ -133,7 +133,7 @@ quoted_says [] h = cc
 quoted_says (b ∷ w) h = subst (λ c. SaysPiece (c ∷ w) (closed_name (closing 34 false 1 w))) (sym (eqb-true b 34 h)) (closed_quoted w (closing 34 false 1 w) refl)
 
 -- numbers and parameters
-piece_of : (z : List ℕ) (k : Kind) (n : ℕ) → is_spelled k ≡ false → is k kinds.QuotedName ≡ false → is k kinds.Text ≡ false → is k kinds.Parameter ≡ false → is k kinds.Number ≡ false → SaysPiece z (Lexeme k n)
+piece_of : (z : List ℕ) (k : TokenKind) (n : ℕ) → is_spelled k ≡ false → is k kinds.QuotedName ≡ false → is k kinds.Text ≡ false → is k kinds.Parameter ≡ false → is k kinds.Number ≡ false → SaysPiece z (Lexeme k n)
 piece_of z k n a b c d f = other k (take n z) a b c d f
 
 number_of : (z : List ℕ) → AreDigits z → Says kinds.Number z
@@ -258,7 +258,7 @@ unfolding next_piece
 next_tells z = choose z (front z) (is_utf8 (take (length_of (front z)) z)) (λ u. tells z (front z) (front_says z) u)
 
 -- tokens
-pub record Tells (k : Kind) (z : List ℕ) : Type 0 where
+pub record Tells (k : TokenKind) (z : List ℕ) : Type 0 where
   pub says : Says k z
   pub utf8 : is_utf8 z ≡ true
 

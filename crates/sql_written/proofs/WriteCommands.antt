@@ -2,7 +2,7 @@
 use Rattle.std.proofs.Common.{◌≡◌, ℕ, Bool, true, false, List, [], ◌∷◌, ◌++◌, Result, refl, ap, ◌∙◌, subst}
 use Rattle.std.specs.Prelude.{OnOk}
 use Rattle.sql_ast.specs.Commands.{CommandTree, deallocates, drops}
-use Rattle.sql_tokens.specs.declared.kind.Kind.TheVariants as kinds
+use Rattle.sql_tokens.specs.declared.kind.TokenKind.TheVariants as kinds
 use Rattle.sql_written.specs.Marks.{Mark, blank, bytes_of, text_of}
 use Rattle.sql_written.specs.Spelling as spelled
 use Rattle.sql_written.proofs.WriteSteps.{behind, on_ok}

@@ -2,7 +2,7 @@
 use Rattle.std.specs.Prelude.{◌≡◌, ℕ, true, false, List, [], ◌∷◌, Contains}
 use Rattle.grammar.specs.Reading.{Rule}
 use Rattle.sql_tokens.specs.Tokens.{tokens_of}
-use Rattle.sql_tokens.specs.declared.kind.Kind.TheVariants.{QuotedName}
+use Rattle.sql_tokens.specs.declared.kind.TokenKind.TheVariants.{QuotedName}
 use Rattle.sql_tokens.specs.declared.token.Token.{Token}
 use Rattle.sql_tokens.specs.Classes.{a, a_name}
 use Rattle.sql_written.specs.Marks.{Mark, mark}

@@ -2,21 +2,21 @@
 use Rattle.std.specs.Prelude.{ℕ, Bool, true, false, ◌||◌, if◌then◌else◌, List, [], ◌∷◌, ◌++◌, Option, Some, None, codes}
 use Rattle.std.specs.Str.{bytes_eq}
 use Rattle.sql_tokens.specs.Words.{is}
-use Rattle.sql_tokens.specs.declared.kind.Kind.{Kind}
-use Rattle.sql_tokens.specs.declared.kind.Kind.TheVariants as kinds
+use Rattle.sql_tokens.specs.declared.kind.TokenKind.{TokenKind}
+use Rattle.sql_tokens.specs.declared.kind.TokenKind.TheVariants as kinds
 use Rattle.sql_ast.specs.Expressions.{Tree, leaf}
 use Rattle.sql_ast.specs.declared.leaf.Leaf.TheVariants.{Column}
 use Rattle.sql_ast.specs.Commands.{Edge, min, max, at, Bound, range, listed, hash, other, CommandTree, begins, commits, rolls_back, sets, resets, makes_table, makes_partition, drops, attaches, detaches, locks, deallocates, deallocates_all}
 use Rattle.sql_ast.specs.declared.detachment.Detachment.{Detachment}
 use Rattle.sql_ast.specs.declared.detachment.Detachment.TheVariants as detachment
-use Rattle.sql_ast.specs.declared.isolation.Isolation.{Isolation}
-use Rattle.sql_ast.specs.declared.isolation.Isolation.TheVariants as isolation
+use Rattle.pg_values.specs.declared.isolation.Isolation.{Isolation}
+use Rattle.pg_values.specs.declared.isolation.Isolation.TheVariants as isolation
 use Rattle.pg_values.specs.declared.lock_mode.LockMode.{LockMode}
 use Rattle.pg_values.specs.declared.lock_mode.LockMode.TheVariants as mode
 use Rattle.sql_ast.specs.declared.setting_value.SettingValue.{SettingValue}
 use Rattle.sql_ast.specs.declared.setting_value.SettingValue.TheVariants as setting
-use Rattle.sql_ast.specs.declared.table_definition.Strategy.{Strategy}
-use Rattle.sql_ast.specs.declared.table_definition.Strategy.TheVariants as strategy
+use Rattle.pg_values.specs.declared.strategy.Strategy.{Strategy}
+use Rattle.pg_values.specs.declared.strategy.Strategy.TheVariants as strategy
 use Rattle.sql_ast.specs.declared.table_definition.ColumnDefinition.{ColumnDefinition}
 use Rattle.sql_ast.specs.declared.locked_table.LockedTable.{LockedTable}
 use Rattle.sql_ast.specs.declared.table_definition.Partitioning.{Partitioning}
@@ -37,7 +37,7 @@ isolation_marks None = []
 isolation_marks (Some level) = blank ∷ word kinds.Isolation ∷ blank ∷ word kinds.Level ∷ blank ∷ level_marks level
 
 -- SET, where LOCAL is no name, and where a word may be one of three that no name is without quotes
-abbrev pub is_local : Kind → Bool
+abbrev pub is_local : TokenKind → Bool
 is_local k = is k kinds.Local
 
 abbrev pub setting_name : List ℕ → Mark
@@ -77,7 +77,7 @@ abbrev pub column_marks : ColumnDefinition → List Mark
 column_marks c = spelled.name c.name ∷ blank ∷ spelled.name c.kind ∷ null_marks c.not_null
 
 -- edges: a column that alone would be MINVALUE or MAXVALUE stands in quotes
-abbrev pub is_end : Kind → Bool
+abbrev pub is_end : TokenKind → Bool
 is_end k = is k kinds.Minvalue || is k kinds.Maxvalue
 
 abbrev pub edge_name : List ℕ → Mark

@@ -1,11 +1,11 @@
 -- What is written: words, signs and constants, each of a kind, and the blanks between them (4.1 Lexical Structure).
 use Rattle.std.specs.Prelude.{ℕ, List, [], ◌∷◌, ◌++◌}
-use Rattle.sql_tokens.specs.declared.kind.Kind.{Kind}
+use Rattle.sql_tokens.specs.declared.kind.TokenKind.{TokenKind}
 
 -- a word, a sign or a constant by its kind and its bytes; or a blank
 pub data Mark : Type 0 where
   blank : Mark
-  mark : Kind → List ℕ → Mark
+  mark : TokenKind → List ℕ → Mark
 
 abbrev pub bytes_of : Mark → List ℕ
 bytes_of blank = 32 ∷ []

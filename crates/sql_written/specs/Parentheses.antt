@@ -1,6 +1,6 @@
 -- How many parentheses a text opens.
 use Rattle.std.specs.Prelude.{ℕ, ◌+◌, if◌then◌else◌, List, [], ◌∷◌}
-use Rattle.sql_tokens.specs.declared.kind.Kind.TheVariants.{OpenParenthesis}
+use Rattle.sql_tokens.specs.declared.kind.TokenKind.TheVariants.{OpenParenthesis}
 use Rattle.sql_tokens.specs.declared.token.Token.{Token}
 use Rattle.sql_tokens.specs.Classes.{a}
 

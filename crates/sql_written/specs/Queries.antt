@@ -1,8 +1,8 @@
 -- What is written of each query (VI. SQL Commands). What is said by leaving it out is left out, but for AS.
 use Rattle.std.specs.Prelude.{ℕ, Bool, true, false, List, [], ◌∷◌, ◌++◌, Option, Some, None}
 use Rattle.sql_tokens.specs.Words.{is}
-use Rattle.sql_tokens.specs.declared.kind.Kind.{Kind}
-use Rattle.sql_tokens.specs.declared.kind.Kind.TheVariants as kinds
+use Rattle.sql_tokens.specs.declared.kind.TokenKind.{TokenKind}
+use Rattle.sql_tokens.specs.declared.kind.TokenKind.TheVariants as kinds
 use Rattle.sql_ast.specs.Expressions.{Tree, Trees, no_more, and_more}
 use Rattle.sql_ast.specs.declared.leaf.Operator.TheVariants.{Equal}
 use Rattle.sql_ast.specs.Queries.{Item, all_columns, columns_of, one_column, Joined, Key, Setting, SelectTree, selected, RowTree, selects, inserts, updates, deletes, QueryTree, rows, prepares, executes, explains_select, explains_execute}
@@ -41,7 +41,7 @@ from_marks [] = []
 from_marks (x ∷ xs) = blank ∷ word kinds.From ∷ blank ∷ (table_marks x.0 ++ more_tables xs)
 
 -- a clause of one expression, where there is one
-abbrev pub clause : Kind → Option Tree → List Mark
+abbrev pub clause : TokenKind → Option Tree → List Mark
 clause k None = []
 clause k (Some e) = blank ∷ word k ∷ blank ∷ marks e
 
@@ -90,7 +90,7 @@ row_statement_marks (updates table settings condition) =
 row_statement_marks (deletes table condition) = word kinds.Delete ∷ blank ∷ word kinds.From ∷ blank ∷ (table_marks table ++ clause kinds.Where condition)
 
 -- PREPARE, where TRANSACTION is no name
-abbrev pub is_transaction : Kind → Bool
+abbrev pub is_transaction : TokenKind → Bool
 is_transaction k = is k kinds.Transaction
 
 abbrev pub kinds_marks : List (List ℕ) → List Mark

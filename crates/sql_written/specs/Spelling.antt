@@ -7,7 +7,7 @@ use Rattle.sql_tokens.specs.Bytes.{belongs}
 use Rattle.sql_tokens.specs.Words.{is_name, word_kind}
 use Rattle.sql_tokens.specs.Written.{quoted}
 use Rattle.sql_tokens.specs.declared.bytes.Class.TheVariants as class
-use Rattle.sql_tokens.specs.declared.kind.Kind.TheVariants as kinds
+use Rattle.sql_tokens.specs.declared.kind.TokenKind.TheVariants as kinds
 use Rattle.sql_ast.specs.declared.leaf.Leaf.{Leaf}
 use Rattle.sql_ast.specs.declared.leaf.Leaf.TheVariants.{Number, Text, Date, Null, Truth, Parameter, Column, ColumnOf, TableName, TableNameOf}
 use Rattle.sql_ast.specs.declared.leaf.Operator.{Operator}

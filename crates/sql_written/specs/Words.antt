@@ -2,13 +2,13 @@
 use Rattle.std.specs.Prelude.{ℕ, Bool, ◌&&◌, not, if◌then◌else◌, List, [], codes}
 use Rattle.sql_tokens.specs.Words.{word_kind}
 use Rattle.sql_tokens.specs.Written.{quoted}
-use Rattle.sql_tokens.specs.declared.kind.Kind.{Kind}
-use Rattle.sql_tokens.specs.declared.kind.Kind.TheVariants as kinds
+use Rattle.sql_tokens.specs.declared.kind.TokenKind.{TokenKind}
+use Rattle.sql_tokens.specs.declared.kind.TokenKind.TheVariants as kinds
 use Rattle.sql_written.specs.Marks.{Mark, mark}
 use Rattle.sql_written.specs.Spelling.{is_plain}
 
 -- what is written of a word: nothing of those that are left out
-abbrev pub capitals : Kind → List ℕ
+abbrev pub capitals : TokenKind → List ℕ
 capitals kinds.Access = codes "ACCESS"
 capitals kinds.All = codes "ALL"
 capitals kinds.Alter = codes "ALTER"
@@ -82,9 +82,9 @@ capitals kinds.Where = codes "WHERE"
 capitals kinds.With = codes "WITH"
 capitals _ = []
 
-abbrev pub word : Kind → Mark
+abbrev pub word : TokenKind → Mark
 word k = mark k (capitals k)
 
 -- a name, in quotes also where it would be one of these words
-abbrev pub name_unless : (Kind → Bool) → List ℕ → Mark
+abbrev pub name_unless : (TokenKind → Bool) → List ℕ → Mark
 name_unless c z = if is_plain z && not (c (word_kind z)) then mark (word_kind z) z else mark kinds.QuotedName (quoted 34 z)

@@ -5,7 +5,7 @@ use Rattle.sql_tokens.specs.Bytes.{belongs}
 use Rattle.sql_tokens.specs.declared.bytes.Class.TheVariants as class
 use Rattle.sql_tokens.specs.declared.numbers.TheConstants.{NO_BIGINT}
 use Rattle.sql_ast.specs.Expressions.{Trees}
-use Rattle.sql_commands.specs.Setting.{without_zeros}
+use Rattle.sql_syntax.specs.Setting.{without_zeros}
 use Rattle.sql_ast.specs.Commands.{Edge, min, max, at, Bound, range, listed, hash, other, CommandTree, begins, commits, rolls_back, sets, resets, makes_table, makes_partition, drops, attaches, detaches, locks, deallocates, deallocates_all}
 use Rattle.sql_ast.specs.declared.setting_value.SettingValue.{SettingValue}
 use Rattle.sql_ast.specs.declared.setting_value.SettingValue.TheVariants as setting

@@ -11,10 +11,10 @@ use crate::parts::{
 };
 use crate::words::{write_edge_name, write_setting_name};
 use crate::{write_expression, write_name, write_number, write_quoted};
-use pg_values::{LockMode, NoMemory};
+use pg_values::{Isolation, LockMode, NoMemory, Strategy};
 use sql_ast::{
-    BoundText, ColumnDefinition, Command, Detachment, EdgeList, EdgeText, Expr, Isolation, Leaf,
-    LockedTable, NameList, Partitioning, SettingValue, Strategy,
+    BoundText, ColumnDefinition, Command, Detachment, EdgeList, EdgeText, Expr, Leaf, LockedTable,
+    NameList, Partitioning, SettingValue,
 };
 
 fn write_isolation(level: Option<Isolation>, out: &mut Vec<u8>) -> Result<(), NoMemory>

@@ -10,7 +10,7 @@ ghost use Rattle.sql_expressions.specs.declared.refused.ParseRefused.TheVariants
 ghost use Rattle.sql_tokens.specs.Classes.{a, a_name};
 ghost use Rattle.sql_tokens.specs.Contents.{name_in};
 ghost use Rattle.sql_tokens.specs.Tokens.{tokens_of};
-ghost use Rattle.sql_tokens.specs.declared.kind.Kind.TheVariants.{QuotedName};
+ghost use Rattle.sql_tokens.specs.declared.kind.TokenKind.TheVariants.{QuotedName};
 ghost use Rattle.sql_tokens.specs.declared.token.Token.{Token as OneToken};
 ghost use Rattle.sql_written.specs.Marks.{mark};
 ghost use Rattle.sql_written.specs.Parentheses.{opened};

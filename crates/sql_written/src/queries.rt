@@ -17,7 +17,7 @@ use pg_values::NoMemory;
 use sql_ast::{
     Delete, Expr, ExprList, Insert, NameList, Query, RowStatement, Select, SortKey, Update,
 };
-use sql_tokens::Kind;
+use sql_tokens::TokenKind;
 
 /// What stands behind the condition of a SELECT.
 fn write_order_and_limits(
@@ -26,7 +26,7 @@ fn write_order_and_limits(
     offset: &Option<Expr>,
     out: &mut Vec<u8>,
 ) -> Result<(), NoMemory>
-    ensures { OnOk result (out.new.items ≡ out.old.items ++ text_of (shown.order_marks (map key_tree order.now) ++ (shown.clause Kind.Limit (maybe_tree limit.now) ++ shown.clause Kind.Offset (maybe_tree offset.now)))) }
+    ensures { OnOk result (out.new.items ≡ out.old.items ++ text_of (shown.order_marks (map key_tree order.now) ++ (shown.clause TokenKind.Limit (maybe_tree limit.now) ++ shown.clause TokenKind.Offset (maybe_tree offset.now)))) }
 {
     write_order(order, out)?;
     write_limit(limit, out)?;
@@ -139,7 +139,7 @@ fn write_execute(name: &[u8], arguments: &ExprList, out: &mut Vec<u8>) -> Result
 
 /// What stands before a statement that is explained.
 fn write_explain(analyze: bool, out: &mut Vec<u8>) -> Result<(), NoMemory>
-    ensures { OnOk result (out.new.items ≡ out.old.items ++ text_of (word Kind.Explain ∷ (shown.analyze_marks analyze ++ blank ∷ []))) }
+    ensures { OnOk result (out.new.items ≡ out.old.items ++ text_of (word TokenKind.Explain ∷ (shown.analyze_marks analyze ++ blank ∷ []))) }
 {
     out.extend_from_slice(b"EXPLAIN ")?;
     if analyze {

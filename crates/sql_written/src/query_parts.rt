@@ -9,7 +9,7 @@ use crate::parts::{Part, write_enclosed_values, write_parts};
 use crate::{write_expression, write_name};
 use pg_values::{NoMemory, PgText};
 use sql_ast::{Assignment, Expr, ExprList, FromItem, NamedTable, SelectItem, SortKey};
-use sql_tokens::Kind;
+use sql_tokens::TokenKind;
 
 fn write_alias(alias: &Option<PgText>, out: &mut Vec<u8>) -> Result<(), NoMemory>
     ensures { OnOk result (out.new.items ≡ out.old.items ++ text_of (shown.alias_marks alias.now)) }
@@ -108,7 +108,7 @@ pub(crate) fn write_from(items: &[FromItem], out: &mut Vec<u8>) -> Result<(), No
 
 /// Appends WHERE and its condition: nothing where there is none.
 pub(crate) fn write_where(condition: &Option<Expr>, out: &mut Vec<u8>) -> Result<(), NoMemory>
-    ensures { OnOk result (out.new.items ≡ out.old.items ++ text_of (shown.clause Kind.Where (maybe_tree condition.now))) }
+    ensures { OnOk result (out.new.items ≡ out.old.items ++ text_of (shown.clause TokenKind.Where (maybe_tree condition.now))) }
 {
     if let Some(e) = condition {
         out.extend_from_slice(b" WHERE ")?;
@@ -119,7 +119,7 @@ pub(crate) fn write_where(condition: &Option<Expr>, out: &mut Vec<u8>) -> Result
 
 /// Appends LIMIT and its expression: nothing where there is none.
 pub(crate) fn write_limit(limit: &Option<Expr>, out: &mut Vec<u8>) -> Result<(), NoMemory>
-    ensures { OnOk result (out.new.items ≡ out.old.items ++ text_of (shown.clause Kind.Limit (maybe_tree limit.now))) }
+    ensures { OnOk result (out.new.items ≡ out.old.items ++ text_of (shown.clause TokenKind.Limit (maybe_tree limit.now))) }
 {
     if let Some(e) = limit {
         out.extend_from_slice(b" LIMIT ")?;
@@ -130,7 +130,7 @@ pub(crate) fn write_limit(limit: &Option<Expr>, out: &mut Vec<u8>) -> Result<(),
 
 /// Appends OFFSET and its expression: nothing where there is none.
 pub(crate) fn write_offset(offset: &Option<Expr>, out: &mut Vec<u8>) -> Result<(), NoMemory>
-    ensures { OnOk result (out.new.items ≡ out.old.items ++ text_of (shown.clause Kind.Offset (maybe_tree offset.now))) }
+    ensures { OnOk result (out.new.items ≡ out.old.items ++ text_of (shown.clause TokenKind.Offset (maybe_tree offset.now))) }
 {
     if let Some(e) = offset {
         out.extend_from_slice(b" OFFSET ")?;

@@ -7,7 +7,7 @@ ghost use Rattle.sql_written.specs.Spelling as spelled;
 
 use pg_values::NoMemory;
 use sql_ast::{Leaf, Operator};
-use sql_tokens::{Class, Kind, belongs, is_name, word_kind};
+use sql_tokens::{Class, TokenKind, belongs, is_name, word_kind};
 use std::alloc::Global;
 
 /// Whether a name without quotes goes on with the byte, and says it as it is.
@@ -84,7 +84,7 @@ pub fn write_quoted(quote: u8, text: &[u8], out: &mut Vec<u8>) -> Result<(), NoM
 
 /// Appends a name, between quotes unless it may stand without: all of it or nothing.
 pub fn write_name_if(plain: bool, name: &[u8], out: &mut Vec<u8>) -> Result<(), NoMemory>
-    ensures ok { OnOk result (out.new.items ≡ out.old.items ++ bytes_of (if plain then mark (kind_of name.now) name.now else mark Kind.QuotedName (quotes.quoted 34 name.now))) }
+    ensures ok { OnOk result (out.new.items ≡ out.old.items ++ bytes_of (if plain then mark (kind_of name.now) name.now else mark TokenKind.QuotedName (quotes.quoted 34 name.now))) }
     ensures err { OnErr result (out.new.items ≡ out.old.items) }
 {
     if plain {

@@ -6,13 +6,13 @@ ghost use Rattle.sql_written.specs.Words.{name_unless};
 
 use crate::{is_plain, write_name_if};
 use pg_values::NoMemory;
-use sql_tokens::{Kind, same_kind, word_kind};
+use sql_tokens::{TokenKind, same_kind, word_kind};
 
 /// Appends the name of a setting.
 pub(crate) fn write_setting_name(name: &[u8], out: &mut Vec<u8>) -> Result<(), NoMemory>
     ensures { OnOk result (out.new.items ≡ out.old.items ++ bytes_of (commands.setting_name name.now)) }
 {
-    let plain = is_plain(name) && !same_kind(word_kind(name), Kind::Local);
+    let plain = is_plain(name) && !same_kind(word_kind(name), TokenKind::Local);
     write_name_if(plain, name, out)
 }
 
@@ -20,14 +20,14 @@ pub(crate) fn write_setting_name(name: &[u8], out: &mut Vec<u8>) -> Result<(), N
 pub(crate) fn write_prepared_name(name: &[u8], out: &mut Vec<u8>) -> Result<(), NoMemory>
     ensures { OnOk result (out.new.items ≡ out.old.items ++ bytes_of (name_unless queries.is_transaction name.now)) }
 {
-    let plain = is_plain(name) && !same_kind(word_kind(name), Kind::Transaction);
+    let plain = is_plain(name) && !same_kind(word_kind(name), TokenKind::Transaction);
     write_name_if(plain, name, out)
 }
 
-fn is_end(kind: Kind) -> bool
+fn is_end(kind: TokenKind) -> bool
     ensures { result ≡ commands.is_end kind }
 {
-    same_kind(kind, Kind::Minvalue) || same_kind(kind, Kind::Maxvalue)
+    same_kind(kind, TokenKind::Minvalue) || same_kind(kind, TokenKind::Maxvalue)
 }
 
 /// Appends a column that stands alone as an edge of a range.

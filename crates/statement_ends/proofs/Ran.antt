@@ -12,8 +12,8 @@ use Rattle.history.specs.LocksSound.{AreLocksSound}
 use Rattle.schedule.specs.declared.tally.Tally.{Tally}
 use Rattle.sessions.specs.declared.asker.Asker.{Asker}
 use Rattle.sessions.specs.declared.outcome.Outcome.TheVariants as outcomes
-use Rattle.sessions.specs.declared.phase.Isolation.{Isolation}
-use Rattle.sessions.specs.declared.phase.Isolation.TheVariants.{ReadCommitted, ReadUncommitted, RepeatableRead}
+use Rattle.pg_values.specs.declared.isolation.Isolation.{Isolation}
+use Rattle.pg_values.specs.declared.isolation.Isolation.TheVariants.{ReadCommitted, ReadUncommitted, RepeatableRead}
 use Rattle.stores.specs.Events.{let_go}
 use Rattle.statement_steps.specs.Ended.{Ended, Done, Commits}
 use Rattle.statement_steps.specs.Made.{Made, Halt, Waits, Refused, halted}

@@ -17,9 +17,9 @@ use Rattle.part_catalog.proofs.Found.{last_is}
 use Rattle.plan_tree.specs.Laws.{Rows, shown}
 use Rattle.plan_tree.specs.Plans.{plan_for, plan_tables}
 use Rattle.cond_logic.specs.Asked.{ChangeMeant, SelectMeant}
+use Rattle.pg_values.specs.declared.isolation.Isolation.{Isolation}
+use Rattle.pg_values.specs.declared.isolation.Isolation.TheVariants.{ReadCommitted, ReadUncommitted, RepeatableRead}
 use Rattle.select_answer.specs.Answer.{select_course}
-use Rattle.sessions.specs.declared.phase.Isolation.{Isolation}
-use Rattle.sessions.specs.declared.phase.Isolation.TheVariants.{ReadCommitted, ReadUncommitted, RepeatableRead}
 use Rattle.soundness.specs.Worlds.{IsMade}
 use Rattle.sql_ast.specs.Expressions.{Tree}
 use Rattle.sql_ast.specs.Queries.{Joined, SelectTree, Setting}
@@ -36,9 +36,9 @@ use Rattle.statement_steps.specs.Made.{Halt, Made, and_then, behind, made, then_
 use Rattle.statement_steps.specs.Steps.{follow}
 use Rattle.statement_steps.specs.declared.caller.Caller.{Caller}
 use Rattle.statement_steps.specs.declared.rest.Rest.{Rest}
-use Rattle.table_trees.specs.declared.path_part.PathPart.{PathPart}
-use Rattle.table_trees.specs.Histories.{path_of, table_of, tree_of}
-use Rattle.table_trees.specs.Trees.{TableTree}
+use Rattle.row_router.specs.declared.path_part.PathPart.{PathPart}
+use Rattle.row_router.specs.Histories.{path_of, table_of, tree_of}
+use Rattle.row_router.specs.Trees.{TableTree}
 use Rattle.select_statement.specs.Below.{number_of}
 use Rattle.select_statement.specs.Items.{items_of}
 use Rattle.select_statement.specs.Laws.{Looks}
@@ -51,7 +51,7 @@ use Rattle.select_statement.proofs.Plain.{AreLocks, all_locks, both_locks, by_pl
 use Rattle.insert_statement.specs.Inserted.{answered as answered_by}
 use Rattle.change_statement.specs.Changed.{Changing, Told as ChangeTold, begun_or_left, changed, changed_by, changed_from, changed_on, told_of as change_told}
 use Rattle.change_statement.specs.Deleted.{deleting}
-use Rattle.change_binder.specs.Changes.{bound_change}
+use Rattle.sql_binder.specs.Changes.{bound_change}
 use Rattle.change_statement.specs.Gathered.{found_by, gathered, item_of, locked_all, meant, of_table}
 use Rattle.change_statement.specs.Gathered as changes
 use Rattle.change_statement.specs.Kept.{keeps_for, tables_locked}

@@ -5,7 +5,7 @@ use Rattle.grammar.specs.Reading.{both_texts, nothing_texts, one_texts}
 use Rattle.grammar.specs.Repeats.{always, all_repeats, step_to}
 use Rattle.sql_expressions.specs.Levels.{room_texts}
 use Rattle.sql_tokens.specs.Classes.{a}
-use Rattle.sql_tokens.specs.declared.kind.Kind.TheVariants as word
+use Rattle.sql_tokens.specs.declared.kind.TokenKind.TheVariants as word
 use Rattle.sql_tokens.specs.declared.token.Token.{Token}
 use Rattle.sql_syntax.specs.Grammar.{and_maybe, block, first_of, join, maybe_statement}
 use Rattle.sql_ast.specs.Statements.{StatementTree}

@@ -19,7 +19,7 @@ use Rattle.lock_table.specs.Stands.{IsIdle, TableStands as LocksStand, names}
 use Rattle.schedule.specs.declared.tally.Tally.{Tally}
 use Rattle.sessions.specs.declared.asker.Asker.{Asker}
 use Rattle.sessions.specs.declared.outcome.Outcome.{Outcome}
-use Rattle.sessions.specs.declared.phase.Isolation.{Isolation}
+use Rattle.pg_values.specs.declared.isolation.Isolation.{Isolation}
 use Rattle.sessions.specs.declared.settings.Settings.{Settings}
 use Rattle.sessions.specs.declared.outcome.Outcome.TheVariants as outcomes
 use Rattle.stores.specs.Numbers.{IsAt}

@@ -3,8 +3,8 @@ use Rattle.std.specs.Prelude.{ℕ, ◌&&◌, Bool, true, false, List, [], ◌++�
 use Rattle.pg_values.specs.declared.answer.Answer.{Answer}
 use Rattle.refusals.specs.Refusals.{left_out}
 use Rattle.history.specs.History.{History}
-use Rattle.schedule.specs.declared.block.Kind.{Kind}
-use Rattle.schedule.specs.declared.block.Kind.TheVariants.{Step}
+use Rattle.schedule.specs.declared.block.BlockKind.{BlockKind}
+use Rattle.schedule.specs.declared.block.BlockKind.TheVariants.{Step}
 use Rattle.sessions.specs.declared.settings.Settings.{Settings}
 use Rattle.sql_ast.specs.Commands.{CommandTree, makes_table, makes_partition, drops, attaches, detaches, locks}
 use Rattle.sql_ast.specs.declared.detachment.Detachment.TheVariants.{AtOnce, Concurrently, Finalize}
@@ -40,7 +40,7 @@ pub record Options : Type 0 where
   pub names : List (List ℕ)
   pub trail : Bool
 
-abbrev pub is_step : Kind → Bool
+abbrev pub is_step : BlockKind → Bool
 is_step Step = true
 is_step _ = false
 

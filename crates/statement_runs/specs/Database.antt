@@ -10,8 +10,8 @@ use Rattle.sessions.specs.Course.{Course}
 use Rattle.sessions.specs.declared.asker.Asker.{Asker}
 use Rattle.sessions.specs.declared.outcome.Outcome.{Outcome}
 use Rattle.sessions.specs.declared.outcome.Outcome.TheVariants as outcomes
-use Rattle.sessions.specs.declared.phase.Isolation.{Isolation}
-use Rattle.sessions.specs.declared.phase.Isolation.TheVariants.{ReadCommitted, ReadUncommitted, RepeatableRead}
+use Rattle.pg_values.specs.declared.isolation.Isolation.{Isolation}
+use Rattle.pg_values.specs.declared.isolation.Isolation.TheVariants.{ReadCommitted, ReadUncommitted, RepeatableRead}
 use Rattle.sessions.specs.declared.settings.Settings.{Settings}
 use Rattle.stores.specs.Events.{begun, committed, aborted, let_go, withdrawn, resumed}
 use Rattle.statement_steps.specs.Ended.{Ended, Done, Commits}

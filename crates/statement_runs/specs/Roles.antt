@@ -1,24 +1,15 @@
 -- What a statement is in the course of a session (VI. SQL Commands).
-use Rattle.std.specs.Prelude.{Bool, true, false, Result, Ok, option_map}
+use Rattle.std.specs.Prelude.{Bool, true, false, Result, Ok}
 use Rattle.pg_values.specs.declared.fault.Fault.{Fault}
-use Rattle.sessions.specs.declared.phase.Isolation.{Isolation}
-use Rattle.sessions.specs.declared.phase.Isolation.TheVariants as levels
 use Rattle.sessions.specs.declared.role.Role.{Role}
 use Rattle.sessions.specs.declared.role.Role.TheVariants.{Begin, Commit, Rollback, Set, Query}
 use Rattle.sessions.specs.declared.settings.Settings.{Settings}
 use Rattle.sql_ast.specs.Commands.{CommandTree, begins, commits, rolls_back, sets, resets, locks}
-use Rattle.sql_ast.specs.declared.isolation.Isolation.{Isolation as WrittenIsolation}
-use Rattle.sql_ast.specs.declared.isolation.Isolation.TheVariants as written
 use Rattle.sql_ast.specs.Statements.{StatementTree, commands, queries}
 use Rattle.statement_runs.specs.Changes as settings
 
-abbrev pub level_of : WrittenIsolation → Isolation
-level_of written.ReadCommitted = levels.ReadCommitted
-level_of written.ReadUncommitted = levels.ReadUncommitted
-level_of written.RepeatableRead = levels.RepeatableRead
-
 abbrev pub command_role : CommandTree → Role
-command_role (begins level) = Begin (option_map level_of level)
+command_role (begins level) = Begin level
 command_role commits = Commit
 command_role rolls_back = Rollback
 command_role (sets name value) = Set

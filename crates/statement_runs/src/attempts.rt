@@ -29,7 +29,7 @@ use out_text::write_table;
 use part_catalog::Catalog;
 use pg_values::NoMemory;
 use refusals::left_out;
-use schedule::{Kind, Tally};
+use schedule::{BlockKind, Tally};
 use select_statement::{Answered, explain, select};
 use sessions::Settings;
 use sql_ast::{
@@ -111,12 +111,12 @@ fn attempt_command(
 
 // ---- rows
 
-fn is_step(kind: Kind) -> bool
+fn is_step(kind: BlockKind) -> bool
     ensures { result ≡ attempted.is_step kind }
 {
     match kind {
-        Kind::Step => true,
-        Kind::Setup | Kind::Teardown | Kind::ControlTeardown => false,
+        BlockKind::Step => true,
+        BlockKind::Setup | BlockKind::Teardown | BlockKind::ControlTeardown => false,
     }
 }
 

@@ -5,27 +5,16 @@ ghost use Rattle.statement_runs.specs.Roles as roles;
 
 use crate::{reset, set};
 use pg_values::Refusal;
-use sessions::{Isolation, Role, Settings};
-use sql_ast::{Command, Isolation as WrittenIsolation, Statement};
+use sessions::{Role, Settings};
+use sql_ast::{Command, Statement};
 use std::alloc::Global;
-
-fn level_of(level: WrittenIsolation) -> Isolation
-    ensures { result ≡ roles.level_of level }
-{
-    match level {
-        WrittenIsolation::ReadCommitted => Isolation::ReadCommitted,
-        WrittenIsolation::ReadUncommitted => Isolation::ReadUncommitted,
-        WrittenIsolation::RepeatableRead => Isolation::RepeatableRead,
-    }
-}
 
 /// What the statement is in the course of its session.
 pub fn role_of(statement: &Statement) -> Role
     ensures { result ≡ roles.role_of (statement_tree statement.now) }
 {
     match statement {
-        Statement::Command(Command::Begin(Some(level))) => Role::Begin(Some(level_of(*level))),
-        Statement::Command(Command::Begin(None)) => Role::Begin(None),
+        Statement::Command(Command::Begin(level)) => Role::Begin(*level),
         Statement::Command(Command::Commit) => Role::Commit,
         Statement::Command(Command::Rollback) => Role::Rollback,
         Statement::Command(Command::Set(_, _) | Command::Reset(_)) => Role::Set,

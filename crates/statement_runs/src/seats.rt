@@ -13,10 +13,10 @@ ghost use Rattle.statement_runs.specs.Weight.{slack, most};
 
 use crate::Kinds;
 use history::{WaitOn, Wanted};
-use pg_values::{NoMemory, SessionSet};
+use pg_values::{Isolation, NoMemory, SessionSet};
 use refusals::statement_cancelled;
 use schedule::{Tally, leave};
-use sessions::{Asker, Isolation, Outcome, Settings};
+use sessions::{Asker, Outcome, Settings};
 use statement_steps::{Caller, Ending, Rest, Stop};
 use std::alloc::Global;
 use std::marker::Model;

@@ -7,8 +7,8 @@ use Rattle.history.specs.declared.wait.Wanted.TheVariants.{Lock, Others}
 use Rattle.history.specs.History.{History, LockChange, lock_events}
 use Rattle.part_catalog.specs.Found.{resolved}
 use Rattle.lock_table.specs.Asked.{AskedView, AtOnce, WaitsBehind, ClosesCycle, asked, asked_events}
-use Rattle.sessions.specs.declared.phase.Isolation.{Isolation}
-use Rattle.sessions.specs.declared.phase.Isolation.TheVariants.{ReadCommitted, ReadUncommitted, RepeatableRead}
+use Rattle.pg_values.specs.declared.isolation.Isolation.{Isolation}
+use Rattle.pg_values.specs.declared.isolation.Isolation.TheVariants.{ReadCommitted, ReadUncommitted, RepeatableRead}
 use Rattle.stores.specs.Events.{held}
 use Rattle.statement_steps.specs.Made.{Made, Halt, Waits, Refused, made, halted}
 use Rattle.statement_steps.specs.declared.rest.Rest.{Rest}

@@ -7,9 +7,9 @@ use Rattle.pg_values.specs.declared.ids.TableNo.{TableNo}
 use Rattle.bound_forms.specs.declared.level.Level.{Level}
 use Rattle.bound_forms.specs.declared.partition_bound.Bound.{Bound}
 use Rattle.history.specs.declared.transaction.TxId.{TxId}
-use Rattle.table_trees.specs.declared.node.Node.{Node}
-use Rattle.table_trees.specs.declared.path_part.PathPart.{PathPart}
-use Rattle.table_trees.specs.Trees.{TableTree, LeafTable, LevelTable, Trees, End, More}
+use Rattle.row_router.specs.declared.node.Node.{Node}
+use Rattle.row_router.specs.declared.path_part.PathPart.{PathPart}
+use Rattle.row_router.specs.Trees.{TableTree, LeafTable, LevelTable, Trees, End, More}
 use Rattle.value_rules.specs.declared.operators.Arith.{Arith as Operation}
 use Rattle.cond_logic.specs.Asked.{ChangeMeant, SettingMeant}
 use Rattle.cond_logic.specs.declared.cond.ColumnId.{ColumnId}

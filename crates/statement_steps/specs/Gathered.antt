@@ -10,10 +10,10 @@ use Rattle.history.specs.declared.version.Version.{Version}
 use Rattle.history.specs.Transactions.{next_tx, open_of}
 use Rattle.history.specs.Snapshots.{TakenSnapshot}
 use Rattle.history.specs.History.{History, tx_events, catalogue_events, versions}
-use Rattle.table_trees.specs.declared.path_part.PathPart.{PathPart}
-use Rattle.table_trees.specs.Histories.{tree_of, path_of}
-use Rattle.table_trees.specs.Trees.{TableTree, LeafTable, LevelTable, Trees, End, More, leaves}
-use Rattle.table_trees.specs.Seen.{seen}
+use Rattle.row_router.specs.declared.path_part.PathPart.{PathPart}
+use Rattle.row_router.specs.Histories.{tree_of, path_of}
+use Rattle.row_router.specs.Trees.{TableTree, LeafTable, LevelTable, Trees, End, More, leaves}
+use Rattle.row_router.specs.Seen.{seen}
 use Rattle.cond_logic.specs.Asked.{ChangeMeant, SettingMeant, change_meant}
 use Rattle.soundness.specs.Worlds.{IsMade, HasLeaf}
 use Rattle.legal_statements.specs.Locked.{IsWritable}

@@ -1,5 +1,5 @@
-use schedule::Kind;
-use sessions::Isolation;
+use pg_values::Isolation;
+use schedule::BlockKind;
 
 /// For whom a statement runs: the session, how many sessions there are, the level of its transaction, the
 /// number of the command in it, and what its block is in the script.
@@ -9,5 +9,5 @@ pub struct Caller {
     pub sessions: u32,
     pub level: Isolation,
     pub cmd: u32,
-    pub kind: Kind,
+    pub kind: BlockKind,
 }

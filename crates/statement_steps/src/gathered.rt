@@ -1,6 +1,6 @@
 use cond_logic::ChangeAsk;
 use pg_values::{LeafId, TableNo};
-use table_trees::{PathPart, Tree};
+use row_router::{PathPart, Tree};
 
 /// What a statement that changes rows has before it looks at them: the named table, its tree and the path above
 /// it, what is asked, the leaves that are read, and whether rows may move from these to others.

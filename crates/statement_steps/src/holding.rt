@@ -6,8 +6,7 @@ ghost use Rattle.statement_steps.specs.Asks as asks;
 ghost use Rattle.statement_steps.specs.Steps.{IsStep};
 
 use crate::{Caller, Stop};
-use pg_values::NoMemory;
-use sessions::Isolation;
+use pg_values::{Isolation, NoMemory};
 use std::alloc::Global;
 use stores::Stores;
 

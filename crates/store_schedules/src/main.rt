@@ -2,9 +2,13 @@
 //! schedule. The lines behind `= locks` are of locks (`locks.rt` says in which form), those behind `= versions` of
 //! transactions and row versions (`versions.rt`). Models in `checks/` made both files beside this program: the answers
 //! come from the definitions, without the stores.
+//!
+//! The tests call the crates at the ground with what no script and no line of a program can give them.
 #![tactic(auto)]
 
 mod locks;
+#[cfg(test)]
+mod tests;
 mod versions;
 
 use pg_values::NoMemory;

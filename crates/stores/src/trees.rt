@@ -3,14 +3,14 @@ ghost use Rattle.history.specs.Transactions.{IsPast};
 ghost use Rattle.history.specs.Snapshots.{TakenSnapshot};
 ghost use Rattle.history.specs.History.{History, tx_events};
 ghost use Rattle.tx_table.specs.Stands.{SnapshotStands};
-ghost use Rattle.table_trees.specs.Seen.{seen};
-ghost use Rattle.table_trees.specs.Histories.{tree_of, ddl_tree, path_of};
+ghost use Rattle.row_router.specs.Seen.{seen};
+ghost use Rattle.row_router.specs.Histories.{tree_of, ddl_tree, path_of};
 ghost use Rattle.stores.specs.Stand.{AllStand, IsSound};
 
 use crate::{Stores, trees_are_together};
 use pg_values::{NoMemory, TableNo};
+use row_router::{PathPart, Tree};
 use std::alloc::Global;
-use table_trees::{PathPart, Tree};
 use tx_table::Snapshot;
 
 impl Stores {

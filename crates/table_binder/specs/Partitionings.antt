@@ -5,21 +5,14 @@ use Rattle.pg_values.specs.declared.which.Which.TheVariants.{KeyColumns as Which
 use Rattle.pg_values.specs.declared.fault.Fault.{Fault}
 use Rattle.pg_values.specs.declared.value.Kind.TheVariants.{Text as KText}
 use Rattle.refusals.specs.Refusals.{no_column, too_many, takes_one_column, twice_in_key}
-use Rattle.sql_ast.specs.declared.table_definition.Strategy.{Strategy as Word}
-use Rattle.sql_ast.specs.declared.table_definition.Strategy.TheVariants as word
 use Rattle.sql_ast.specs.declared.table_definition.Partitioning.{Partitioning}
-use Rattle.bound_forms.specs.declared.level.Strategy.{Strategy}
-use Rattle.bound_forms.specs.declared.level.Strategy.TheVariants.{Range as ByRange, List as ByList, Hash as ByHash}
+use Rattle.pg_values.specs.declared.strategy.Strategy.{Strategy}
+use Rattle.pg_values.specs.declared.strategy.Strategy.TheVariants.{Range as ByRange, List as ByList, Hash as ByHash}
 use Rattle.bound_forms.specs.declared.level.KeyColumn.{KeyColumn}
 use Rattle.bound_forms.specs.declared.level.Level.{Level}
 use Rattle.history.specs.declared.catalogue.Column.{Column}
 use Rattle.expression_binder.specs.Firsts.{or_first, unless}
 use Rattle.table_binder.specs.Names.{twice_faults}
-
-abbrev pub strategy_of : Word → Strategy
-strategy_of word.Range = ByRange
-strategy_of word.List = ByList
-strategy_of word.Hash = ByHash
 
 -- LIST has one key column
 abbrev pub count_faults : Strategy → ℕ → List Fault
@@ -64,5 +57,5 @@ key_of level = record { strategy = level.strategy; columns = level.columns }
 
 abbrev pub bound_key : List Column → Partitioning → Result Key Fault
 bound_key columns by =
-    or_first (key_faults columns (strategy_of by.strategy) by.columns)
-    (record { strategy = strategy_of by.strategy; columns = map (key_column columns) by.columns })
+    or_first (key_faults columns by.strategy by.columns)
+    (record { strategy = by.strategy; columns = map (key_column columns) by.columns })

@@ -9,22 +9,12 @@ ghost use Rattle.expression_binder.specs.Firsts.{or_first, unless, IsAnswerBy};
 ghost use Rattle.table_binder.specs.Names as names_spec;
 ghost use Rattle.table_binder.specs.Partitionings as spec;
 
-use bound_forms::{KeyColumn, KeyColumns, Level, Strategy};
+use bound_forms::{KeyColumn, KeyColumns, Level};
 use history::Column;
-use pg_values::{NoMemory, PgText, Refusal, Which};
+use pg_values::{NoMemory, PgText, Refusal, Strategy, Which};
 use refusals::{no_column, takes_one_column, too_many, twice_in_key};
-use sql_ast::{Partitioning, Strategy as Word};
+use sql_ast::Partitioning;
 use std::alloc::Global;
-
-fn strategy_of(word: Word) -> Strategy
-    ensures { result ≡ spec.strategy_of word }
-{
-    match word {
-        Word::Range => Strategy::Range,
-        Word::List => Strategy::List,
-        Word::Hash => Strategy::Hash,
-    }
-}
 
 fn check_one_if_list(alloc: Global, strategy: Strategy, count: usize) -> Result<(), Refusal>
     ensures { IsAnswer result (or_first (spec.count_faults strategy count) tt) }
@@ -139,7 +129,7 @@ pub fn bind_partitioning(
     ensures answer { IsAnswerBy spec.key_of result (spec.bound_key columns.now by.now) }
     ensures lie { IfOk result (λ level. All (LiesIn columns.now) level.columns) }
 {
-    let strategy = strategy_of(by.strategy);
+    let strategy = by.strategy;
     let names = by.columns.as_slice();
     check_key(alloc, strategy, names)?;
     let columns = key_columns(alloc, columns, names)?;

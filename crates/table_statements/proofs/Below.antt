@@ -15,11 +15,11 @@ use Rattle.history.specs.History.{History, tx_events, catalogue_events}
 use Rattle.history.specs.Legal.{IsLegal}
 use Rattle.history.specs.Places.{table_at, AreCatalogueSound, Suits}
 use Rattle.history.specs.Presence.{is_present, entries_present}
-use Rattle.table_trees.specs.Trees.{TableTree, LeafTable, LevelTable, Trees, End, More}
-use Rattle.table_trees.specs.declared.node.Node.{Node}
-use Rattle.table_trees.specs.Histories.{table_of, ddl_tree, tree_within, grown, node_at, bound_of, child_of_entry, children, above, is_over}
-use Rattle.table_trees.proofs.Order.{all_children, under_children}
-use Rattle.table_trees.proofs.Suited.{all_suit}
+use Rattle.row_router.specs.Trees.{TableTree, LeafTable, LevelTable, Trees, End, More}
+use Rattle.row_router.specs.declared.node.Node.{Node}
+use Rattle.row_router.specs.Histories.{table_of, ddl_tree, tree_within, grown, node_at, bound_of, child_of_entry, children, above, is_over}
+use Rattle.row_router.proofs.Order.{all_children, under_children}
+use Rattle.row_router.proofs.Suited.{all_suit}
 use Rattle.tx_table.specs.Kept.{KeptTable}
 use Rattle.tx_table.specs.Stands.{TableStands}
 use Rattle.soundness.specs.Legal.{ArePermitted, HasTable, Below}

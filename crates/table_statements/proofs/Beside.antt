@@ -20,11 +20,11 @@ use Rattle.history.specs.Locks.{holds}
 use Rattle.history.specs.History.{History, catalogue_events, lock_events}
 use Rattle.history.specs.Places.{table_at}
 use Rattle.history.specs.Presence.{entries_present}
-use Rattle.table_trees.specs.declared.node.Node.{Node}
-use Rattle.table_trees.specs.Siblings.{AreSiblings, CanStandTogether}
-use Rattle.table_trees.specs.Trees.{TableTree, leaves}
-use Rattle.table_trees.specs.Histories.{table_of, bound_of, child_of_entry, children, node_at, grown, tree_within, ddl_tree}
-use Rattle.table_trees.proofs.Order.{all_children}
+use Rattle.row_router.specs.declared.node.Node.{Node}
+use Rattle.row_router.specs.Siblings.{AreSiblings, CanStandTogether}
+use Rattle.row_router.specs.Trees.{TableTree, leaves}
+use Rattle.row_router.specs.Histories.{table_of, bound_of, child_of_entry, children, node_at, grown, tree_within, ddl_tree}
+use Rattle.row_router.proofs.Order.{all_children}
 use Rattle.tx_table.specs.Stands.{TableStands}
 use Rattle.soundness.specs.Worlds.{key_at}
 use Rattle.soundness.proofs.Listed.{child_listed}

@@ -7,8 +7,8 @@ use Rattle.pg_values.specs.declared.fault.Refusal.{Refusal}
 use Rattle.pg_values.specs.declared.fault.Refusal.TheVariants.{Sql, NoMemory}
 use Rattle.bound_forms.specs.declared.level.KeyColumn.{KeyColumn}
 use Rattle.bound_forms.specs.declared.level.Level.{Level}
-use Rattle.bound_forms.specs.declared.level.Strategy.{Strategy}
-use Rattle.bound_forms.specs.declared.level.Strategy.TheVariants.{Range as ByRange, List as ByList, Hash as ByHash}
+use Rattle.pg_values.specs.declared.strategy.Strategy.{Strategy}
+use Rattle.pg_values.specs.declared.strategy.Strategy.TheVariants.{Range as ByRange, List as ByList, Hash as ByHash}
 use Rattle.bound_forms.specs.declared.partition_bound.Bound.{Bound as MeantBound}
 use Rattle.history.specs.declared.catalogue.Column.{Column}
 use Rattle.history.specs.History.{History}

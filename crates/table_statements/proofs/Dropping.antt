@@ -15,7 +15,7 @@ use Rattle.history.specs.History.{Event, History, TxChange, SnapshotChange, RowC
 use Rattle.history.specs.Legal.{IsInOrder, IsLegal}
 use Rattle.history.specs.Presence.{counts, entries_present}
 use Rattle.history.proofs.Open.{open_own}
-use Rattle.table_trees.specs.Histories.{is_over}
+use Rattle.row_router.specs.Histories.{is_over}
 use Rattle.tx_table.specs.Stands.{TableStands}
 use Rattle.row_store.specs.Kept.{KeptRows}
 use Rattle.row_store.specs.Stands.{StoreStands}

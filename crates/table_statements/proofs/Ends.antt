@@ -13,7 +13,7 @@ use Rattle.history.specs.Catalogue.{Stamps, TableDropped, EntryEnded, entries_ad
 use Rattle.history.specs.History.{Event, History, CatalogueChange, tx_events, catalogue_events}
 use Rattle.history.specs.Places.{AreCatalogueSound}
 use Rattle.history.specs.Presence.{counts, stamp_counts, is_present, entries_present}
-use Rattle.table_trees.specs.Histories.{above, is_over}
+use Rattle.row_router.specs.Histories.{above, is_over}
 use Rattle.soundness.proofs.Listed.{first_in, later_in}
 use Rattle.part_ddl.specs.Below.{tables_from}
 use Rattle.part_ddl.specs.Dropped.{ended, place_ended, places_ended, tables_dropped, drop_events}

@@ -15,8 +15,8 @@ use Rattle.history.specs.History.{History, tx_events, catalogue_events}
 use Rattle.history.specs.Places.{AreCatalogueSound}
 use Rattle.history.specs.Presence.{counts, is_present, entries_present}
 use Rattle.history.proofs.Open.{open_runs, open_own}
-use Rattle.table_trees.specs.Histories.{is_over}
-use Rattle.table_trees.specs.Siblings.{AreSiblings}
+use Rattle.row_router.specs.Histories.{is_over}
+use Rattle.row_router.specs.Siblings.{AreSiblings}
 use Rattle.soundness.specs.Worlds.{same_tx, view, IsThere, Present, Under}
 use Rattle.soundness.specs.Legal.{OwnsNow, GuardsNow}
 use Rattle.soundness.specs.Parts.{Siblings, InvariantOf, OwnsIn, GuardsIn}

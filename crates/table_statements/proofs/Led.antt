@@ -12,10 +12,10 @@ use Rattle.history.specs.Catalogue.{tables_made}
 use Rattle.history.specs.History.{History, catalogue_events}
 use Rattle.history.specs.Places.{table_at}
 use Rattle.history.specs.Presence.{entries_present}
-use Rattle.table_trees.specs.declared.node.Node.{Node}
-use Rattle.table_trees.specs.Trees.{TableTree, trees_of}
-use Rattle.table_trees.specs.Histories.{ddl_tree, tree_within, grown, node_at, children, bound_of, child_of_entry}
-use Rattle.table_trees.proofs.Order.{all_children, under_children}
+use Rattle.row_router.specs.declared.node.Node.{Node}
+use Rattle.row_router.specs.Trees.{TableTree, trees_of}
+use Rattle.row_router.specs.Histories.{ddl_tree, tree_within, grown, node_at, children, bound_of, child_of_entry}
+use Rattle.row_router.proofs.Order.{all_children, under_children}
 use Rattle.part_ddl.specs.Below.{tables_in, all_tables, tables_from}
 
 -- a table of that number is in the list
@@ -68,5 +68,5 @@ led (suc n) tables entries named t =
     grown_led entries t (λ c. tree_within n tables entries named c) (children entries t) (table_at tables t).shape (node_at tables named t) (map bound_of (children entries t)) refl (λ c. led n tables entries named c) (are_kids entries t)
 
 pub all_led : (h : History) (s t : ℕ) → All (IsLed (entries_present h s) (tables_from h s t) t) (tables_from h s t)
-unfolding Rattle.table_trees.specs.Histories.ddl_tree
+unfolding Rattle.row_router.specs.Histories.ddl_tree
 all_led h s t = led 7 (tables_made (catalogue_events h)) (entries_present h s) t t

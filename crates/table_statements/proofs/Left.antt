@@ -12,7 +12,7 @@ use Rattle.history.specs.declared.catalogue.Entry.{Entry}
 use Rattle.history.specs.Transactions.{open_of}
 use Rattle.history.specs.History.{Event, History, tx_events}
 use Rattle.history.specs.Presence.{entries_present}
-use Rattle.table_trees.specs.Histories.{is_over}
+use Rattle.row_router.specs.Histories.{is_over}
 use Rattle.tx_table.specs.Stands.{TableStands}
 use Rattle.lock_table.specs.Kept.{KeptLocks}
 use Rattle.lock_table.specs.Stands.{IsIdle}

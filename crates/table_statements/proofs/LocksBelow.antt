@@ -4,8 +4,8 @@ use Rattle.std.proofs.lemmas.List.Elements.{All-nil, All-cons, All-head, All-tai
 use Rattle.pg_values.specs.declared.ids.TableNo.{TableNo}
 use Rattle.history.specs.Transactions.{open_of}
 use Rattle.history.specs.History.{History, tx_events}
-use Rattle.table_trees.specs.Trees.{TableTree, LeafTable, LevelTable, Trees, End, More}
-use Rattle.table_trees.specs.Histories.{ddl_tree}
+use Rattle.row_router.specs.Trees.{TableTree, LeafTable, LevelTable, Trees, End, More}
+use Rattle.row_router.specs.Histories.{ddl_tree}
 use Rattle.soundness.specs.Legal.{HasTable, Below}
 use Rattle.soundness.specs.Worlds.{view}
 use Rattle.soundness.proofs.All.{legal_keeps_all}

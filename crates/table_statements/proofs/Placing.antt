@@ -29,10 +29,10 @@ use Rattle.history.specs.Legal.{IsInOrder, IsLegal}
 use Rattle.history.specs.Places.{table_at, HasColumnsOf, TakesBound, Suits, AreCatalogueSound}
 use Rattle.history.specs.Presence.{entries_present}
 use Rattle.history.proofs.Open.{open_own}
-use Rattle.table_trees.specs.declared.node.Node.{Node}
-use Rattle.table_trees.specs.Siblings.{AreSiblings, CanStandTogether}
-use Rattle.table_trees.specs.Trees.{TableTree, height, leaves}
-use Rattle.table_trees.specs.Histories.{table_of, is_under, children, all_placed, bound_of, child_of_entry, node_at, grown, tree_within, ddl_tree, above}
+use Rattle.row_router.specs.declared.node.Node.{Node}
+use Rattle.row_router.specs.Siblings.{AreSiblings, CanStandTogether}
+use Rattle.row_router.specs.Trees.{TableTree, height, leaves}
+use Rattle.row_router.specs.Histories.{table_of, is_under, children, all_placed, bound_of, child_of_entry, node_at, grown, tree_within, ddl_tree, above}
 use Rattle.tx_table.specs.Stands.{TableStands}
 use Rattle.row_store.specs.Kept.{KeptRows}
 use Rattle.row_store.specs.Stands.{StoreStands}
@@ -120,7 +120,7 @@ bare_height (Leaf leaf) node = refl
 bare_height (Level level) node = refl
 
 lone_height : (h : History) (s t : ℕ) → All (λ e. e.parent.number < t) (entries_present h s) → height (ddl_tree h s t) ≡ 1
-unfolding Rattle.table_trees.specs.Histories.ddl_tree
+unfolding Rattle.row_router.specs.Histories.ddl_tree
 lone_height h s t below =
     let tables = tables_made (catalogue_events h) in
     let es = entries_present h s in

@@ -6,7 +6,7 @@ use Rattle.refusals.specs.Refusals.{no_table}
 use Rattle.history.specs.declared.catalogue.Stamp.{Stamp}
 use Rattle.history.specs.History.{History}
 use Rattle.history.specs.Presence.{entries_present}
-use Rattle.table_trees.specs.Histories.{above}
+use Rattle.row_router.specs.Histories.{above}
 use Rattle.part_catalog.specs.Answers.{parent_told}
 use Rattle.part_catalog.specs.Found.{made_at, resolved}
 use Rattle.part_ddl.specs.Below.{default_of, tables_from}

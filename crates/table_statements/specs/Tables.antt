@@ -5,8 +5,8 @@ use Rattle.pg_values.specs.declared.fault.Fault.{Fault}
 use Rattle.refusals.specs.Refusals.{takes_one_column}
 use Rattle.bound_forms.specs.declared.level.KeyColumn.{KeyColumn}
 use Rattle.bound_forms.specs.declared.level.Level.{Level}
-use Rattle.bound_forms.specs.declared.level.Strategy.{Strategy}
-use Rattle.bound_forms.specs.declared.level.Strategy.TheVariants.{Range as ByRange, List as ByList, Hash as ByHash}
+use Rattle.pg_values.specs.declared.strategy.Strategy.{Strategy}
+use Rattle.pg_values.specs.declared.strategy.Strategy.TheVariants.{Range as ByRange, List as ByList, Hash as ByHash}
 use Rattle.history.specs.declared.catalogue.Column.{Column}
 use Rattle.history.specs.declared.transaction.TxId.{TxId}
 use Rattle.history.specs.History.{History}

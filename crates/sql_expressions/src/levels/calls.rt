@@ -12,7 +12,7 @@ use crate::signs::expression_comes;
 use grammar::{Refused, comes, word};
 use pg_values::PgText;
 use sql_ast::{Expr, ExprList};
-use sql_tokens::{Kind, Token};
+use sql_tokens::{Token, TokenKind};
 use std::alloc::Global;
 
 /// The parentheses of a call.
@@ -28,10 +28,10 @@ pub(crate) fn called<'a>(
     ensures reads { Gives (λ x. (views.deep x.0, x.1.now)) result ((levels.call_of (grammar.rules text.now below).expression function).read tokens.now) }
     ensures within { IfOk result (λ x. x.0.depth ≤ below + 1) }
 {
-    let (_, rest) = word(tokens, Kind::OpenParenthesis)?;
-    if comes(rest, Kind::Star) {
-        let (_, rest) = word(rest, Kind::Star)?;
-        let (_, rest) = word(rest, Kind::CloseParenthesis)?;
+    let (_, rest) = word(tokens, TokenKind::OpenParenthesis)?;
+    if comes(rest, TokenKind::Star) {
+        let (_, rest) = word(rest, TokenKind::Star)?;
+        let (_, rest) = word(rest, TokenKind::CloseParenthesis)?;
         let deep = Deep {
             expr: Expr::CallOfAll(function),
             depth: 1,
@@ -39,7 +39,7 @@ pub(crate) fn called<'a>(
         return Ok((deep, rest));
     }
     let (list, rest) = arguments(alloc, text, rest, below)?;
-    let (_, rest) = word(rest, Kind::CloseParenthesis)?;
+    let (_, rest) = word(rest, TokenKind::CloseParenthesis)?;
     let deep = Deep {
         expr: Expr::Call(function, ExprList::from_vec(list.items)),
         depth: list.depth + 1,
@@ -96,13 +96,13 @@ fn item_step<'a>(
 ) -> Result<(bool, Parts, &'a [Token]), Refused>
     requires budget { below < 255 }
     requires within { list.depth ≤ below }
-    ensures reads { Gives (λ x. ((x.0, views.parts x.1), x.2.now)) result (read_step (a Kind.Comma) always levels.add_part (λ _. (grammar.rules text.now below).expression.read) (views.parts list) tokens.now) }
+    ensures reads { Gives (λ x. ((x.0, views.parts x.1), x.2.now)) result (read_step (a TokenKind.Comma) always levels.add_part (λ _. (grammar.rules text.now below).expression.read) (views.parts list) tokens.now) }
     ensures within { IfOk result (λ x. x.1.depth ≤ below) }
 {
-    if !comes(tokens, Kind::Comma) {
+    if !comes(tokens, TokenKind::Comma) {
         return Ok((false, list, tokens));
     }
-    let (_, rest) = word(tokens, Kind::Comma)?;
+    let (_, rest) = word(tokens, TokenKind::Comma)?;
     let (next, rest) = disjunction(alloc, text, rest, below)?;
     list.items.push(next.expr)?;
     list.depth = list.depth.max(next.depth);
@@ -119,7 +119,7 @@ fn more_items<'a>(
 ) -> Result<(Parts, &'a [Token]), Refused>
     requires budget { below < 255 }
     requires within { first.depth ≤ below }
-    ensures reads { Gives (λ x. (views.parts x.0, x.1.now)) result (read_repeats (a Kind.Comma) always levels.add_part (λ _. (grammar.rules text.now below).expression.read) (length tokens.now) (views.parts first) tokens.now) }
+    ensures reads { Gives (λ x. (views.parts x.0, x.1.now)) result (read_repeats (a TokenKind.Comma) always levels.add_part (λ _. (grammar.rules text.now below).expression.read) (length tokens.now) (views.parts first) tokens.now) }
     ensures within { IfOk result (λ x. x.0.depth ≤ below) }
 {
     let mut done = first;

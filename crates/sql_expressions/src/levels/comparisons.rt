@@ -10,7 +10,7 @@ use crate::levels::calls::list;
 use crate::levels::sums::chain_of_operators;
 use crate::signs::{Chain, comparison_comes, operator_of, sign, test_comes};
 use grammar::{Refused, comes, word};
-use sql_tokens::{Kind, Token};
+use sql_tokens::{Token, TokenKind};
 use std::alloc::Global;
 
 /// A sum, and IN or BETWEEN behind it.
@@ -46,8 +46,8 @@ fn tested<'a>(
     ensures reads { Gives (λ x. (views.deep x.0, x.1.now)) result ((levels.tested (grammar.rules text.now below) (views.deep operand)).read tokens.now) }
     ensures within { IfOk result (λ x. x.0.depth ≤ below + 1) }
 {
-    if comes(tokens, Kind::Not) {
-        let (_, rest) = word(tokens, Kind::Not)?;
+    if comes(tokens, TokenKind::Not) {
+        let (_, rest) = word(tokens, TokenKind::Not)?;
         return in_or_between(alloc, text, true, operand, rest, below);
     }
     in_or_between(alloc, text, false, operand, tokens, below)
@@ -66,16 +66,16 @@ fn in_or_between<'a>(
     ensures reads { Gives (λ x. (views.deep x.0, x.1.now)) result ((levels.in_or_between (grammar.rules text.now below) is_not (views.deep operand)).read tokens.now) }
     ensures within { IfOk result (λ x. x.0.depth ≤ below + 1) }
 {
-    if comes(tokens, Kind::In) {
-        let (_, rest) = word(tokens, Kind::In)?;
-        let (_, rest) = word(rest, Kind::OpenParenthesis)?;
+    if comes(tokens, TokenKind::In) {
+        let (_, rest) = word(tokens, TokenKind::In)?;
+        let (_, rest) = word(rest, TokenKind::OpenParenthesis)?;
         let (items, rest) = list(alloc, text, rest, below)?;
-        let (_, rest) = word(rest, Kind::CloseParenthesis)?;
+        let (_, rest) = word(rest, TokenKind::CloseParenthesis)?;
         return Ok((in_list(alloc, is_not, operand, items)?, rest));
     }
-    let (_, rest) = word(tokens, Kind::Between)?;
+    let (_, rest) = word(tokens, TokenKind::Between)?;
     let (from, rest) = chain_of_operators(alloc, text, Chain::Sum, rest, below)?;
-    let (_, rest) = word(rest, Kind::And)?;
+    let (_, rest) = word(rest, TokenKind::And)?;
     let (to, rest) = chain_of_operators(alloc, text, Chain::Sum, rest, below)?;
     Ok((between(alloc, is_not, operand, from, to)?, rest))
 }

@@ -9,19 +9,19 @@ ghost use Rattle.sql_tokens.specs.Classes.{a};
 use crate::deep::{Deep, inverted, is_null};
 use crate::levels::comparisons::comparison;
 use grammar::{Refused, comes, word};
-use sql_tokens::{Kind, Token};
+use sql_tokens::{Token, TokenKind};
 use std::alloc::Global;
 
 /// NULL or NOT NULL.
 fn null_or_not(tokens: &[Token]) -> Result<(bool, &[Token]), Refused>
     ensures { Gives (λ x. (x.0, x.1.now)) result (levels.null_or_not.read tokens.now) }
 {
-    if comes(tokens, Kind::Not) {
-        let (_, rest) = word(tokens, Kind::Not)?;
-        let (_, rest) = word(rest, Kind::Null)?;
+    if comes(tokens, TokenKind::Not) {
+        let (_, rest) = word(tokens, TokenKind::Not)?;
+        let (_, rest) = word(rest, TokenKind::Null)?;
         return Ok((true, rest));
     }
-    let (_, rest) = word(tokens, Kind::Null)?;
+    let (_, rest) = word(tokens, TokenKind::Null)?;
     Ok((false, rest))
 }
 
@@ -33,16 +33,16 @@ fn null_step<'a>(
     budget: u8,
 ) -> Result<(bool, Deep, &'a [Token]), Refused>
     requires { left.depth ≤ budget }
-    ensures reads { Gives (λ x. ((x.0, views.deep x.1), x.2.now)) result (read_step (a Kind.Is) (levels.has_room (grammar.below budget)) levels.null_join (λ _. levels.null_or_not.read) (views.deep left) tokens.now) }
+    ensures reads { Gives (λ x. ((x.0, views.deep x.1), x.2.now)) result (read_step (a TokenKind.Is) (levels.has_room (grammar.below budget)) levels.null_join (λ _. levels.null_or_not.read) (views.deep left) tokens.now) }
     ensures within { IfOk result (λ x. x.1.depth ≤ budget) }
 {
-    if !comes(tokens, Kind::Is) {
+    if !comes(tokens, TokenKind::Is) {
         return Ok((false, left, tokens));
     }
     if left.depth >= budget {
         return Err(Refused::Limit(tokens.len()));
     }
-    let (_, rest) = word(tokens, Kind::Is)?;
+    let (_, rest) = word(tokens, TokenKind::Is)?;
     let (is_not, rest) = null_or_not(rest)?;
     Ok((true, is_null(alloc, is_not, left)?, rest))
 }
@@ -54,7 +54,7 @@ fn more_nulls<'a>(
     budget: u8,
 ) -> Result<(Deep, &'a [Token]), Refused>
     requires { first.depth ≤ budget }
-    ensures reads { Gives (λ x. (views.deep x.0, x.1.now)) result (read_repeats (a Kind.Is) (levels.has_room (grammar.below budget)) levels.null_join (λ _. levels.null_or_not.read) (length tokens.now) (views.deep first) tokens.now) }
+    ensures reads { Gives (λ x. (views.deep x.0, x.1.now)) result (read_repeats (a TokenKind.Is) (levels.has_room (grammar.below budget)) levels.null_join (λ _. levels.null_or_not.read) (length tokens.now) (views.deep first) tokens.now) }
     ensures within { IfOk result (λ x. x.0.depth ≤ budget) }
 {
     let mut left = first;
@@ -82,7 +82,7 @@ fn nullity<'a>(
     ensures within { IfOk result (λ x. x.0.depth ≤ budget) }
 {
     let (first, rest) = comparison(alloc, text, tokens, budget)?;
-    if !comes(rest, Kind::Is) {
+    if !comes(rest, TokenKind::Is) {
         return Ok((first, rest));
     }
     more_nulls(alloc, first, rest, budget)
@@ -98,7 +98,7 @@ pub(crate) fn negation<'a>(
     ensures reads { Gives (λ x. (views.deep x.0, x.1.now)) result ((grammar.rules text.now budget).negation.read tokens.now) }
     ensures within { IfOk result (λ x. x.0.depth ≤ budget) }
 {
-    if comes(tokens, Kind::Not) {
+    if comes(tokens, TokenKind::Not) {
         if budget == 0 {
             return Err(Refused::Limit(tokens.len()));
         }
@@ -118,7 +118,7 @@ fn inverted_by<'a>(
     ensures reads { Gives (λ x. (views.deep x.0, x.1.now)) result ((levels.inverted_by (grammar.rules text.now below)).read tokens.now) }
     ensures within { IfOk result (λ x. x.0.depth ≤ below + 1) }
 {
-    let (_, rest) = word(tokens, Kind::Not)?;
+    let (_, rest) = word(tokens, TokenKind::Not)?;
     let (operand, rest) = negation(alloc, text, rest, below)?;
     Ok((inverted(alloc, operand)?, rest))
 }

@@ -11,7 +11,7 @@ use crate::signs::nested_comes;
 use crate::words::{column, literal, name};
 use grammar::{Refused, comes, name_comes, word};
 use sql_ast::Expr;
-use sql_tokens::{Kind, Token};
+use sql_tokens::{Token, TokenKind};
 use std::alloc::Global;
 
 #[cycle(levels)]
@@ -55,14 +55,14 @@ fn nested<'a>(
     ensures reads { Gives (λ x. (views.deep x.0, x.1.now)) result ((levels.nested (grammar.rules text.now below)).read tokens.now) }
     ensures within { IfOk result (λ x. x.0.depth ≤ below + 1) }
 {
-    if comes(tokens, Kind::Minus) {
-        let (_, rest) = word(tokens, Kind::Minus)?;
+    if comes(tokens, TokenKind::Minus) {
+        let (_, rest) = word(tokens, TokenKind::Minus)?;
         let (operand, rest) = unary(alloc, text, rest, below)?;
         return Ok((negated(alloc, operand)?, rest));
     }
-    let (_, rest) = word(tokens, Kind::OpenParenthesis)?;
+    let (_, rest) = word(tokens, TokenKind::OpenParenthesis)?;
     let (inner, rest) = disjunction(alloc, text, rest, below)?;
-    let (_, rest) = word(rest, Kind::CloseParenthesis)?;
+    let (_, rest) = word(rest, TokenKind::CloseParenthesis)?;
     Ok((
         Deep {
             expr: inner.expr,
@@ -84,7 +84,7 @@ fn named<'a>(
     ensures within { IfOk result (λ x. x.0.depth ≤ budget) }
 {
     let (kind, name, rest) = name(alloc, text, tokens)?;
-    if comes(rest, Kind::OpenParenthesis) {
+    if comes(rest, TokenKind::OpenParenthesis) {
         if budget == 0 {
             return Err(Refused::Limit(rest.len()));
         }

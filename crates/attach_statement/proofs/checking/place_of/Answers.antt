@@ -7,9 +7,9 @@ use Rattle.pg_values.specs.declared.fault.Refusal.{Refusal}
 use Rattle.refusals.specs.Refusals.{too_many}
 use Rattle.bound_forms.specs.declared.partition_bound.Bound.{Bound}
 use Rattle.history.specs.History.{History}
-use Rattle.table_trees.specs.Histories.{ddl_tree, path_of}
-use Rattle.table_trees.specs.Seen.{seen}
-use Rattle.table_trees.specs.Trees.{TableTree, height}
+use Rattle.row_router.specs.Histories.{ddl_tree, path_of}
+use Rattle.row_router.specs.Seen.{seen}
+use Rattle.row_router.specs.Trees.{TableTree, height}
 use Rattle.sql_ast.specs.Commands.{bound_tree}
 use Rattle.table_binder.specs.Bounds.{bound_for}
 use Rattle.part_catalog.specs.Found.{made_at}

@@ -1,6 +1,6 @@
 use Rattle.std.proofs.Common.{◌+◌}
 use Rattle.sql_ast.specs.Commands.{bound_tree}
-use Rattle.table_trees.specs.Seen.{seen}
+use Rattle.row_router.specs.Seen.{seen}
 use Rattle.statement_steps.proofs.Steps.{then_step, stop_step, may_go_on}
 use Rattle.table_statements.specs.Partitions.{default_locked}
 use Rattle.table_statements.proofs.Held.{still_named}

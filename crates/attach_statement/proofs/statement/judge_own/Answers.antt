@@ -1,6 +1,6 @@
 use Rattle.std.proofs.Common.{sym, ◌∙◌}
-use Rattle.table_trees.specs.Histories.{ddl_tree}
-use Rattle.table_trees.specs.Trees.{height}
+use Rattle.row_router.specs.Histories.{ddl_tree}
+use Rattle.row_router.specs.Trees.{height}
 use Rattle.partition_scans.specs.Places.{place_scan}
 use Rattle.attach_statement.specs.Skipped.{is_skipped}
 use Rattle.attach_statement.proofs.Scanned.{takes_always}

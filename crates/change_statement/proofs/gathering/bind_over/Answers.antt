@@ -1,4 +1,4 @@
-use Rattle.table_trees.specs.Seen.{seen}
+use Rattle.row_router.specs.Seen.{seen}
 use Rattle.cond_logic.specs.Asked.{change_meant}
 use Rattle.statement_steps.proofs.Steps.{then_step, stop_step}
 use Rattle.change_statement.specs.Gathered.{meant, locked, table_named, settings_of, condition_of}

@@ -1,5 +1,5 @@
 use Rattle.std.proofs.Common.{◌∙◌, [], ap, subst, Ok, Err}
-use Rattle.table_trees.specs.Seen.{seen}
+use Rattle.row_router.specs.Seen.{seen}
 use Rattle.cond_logic.specs.Asked.{change_meant}
 use Rattle.statement_steps.specs.Made.{made}
 use Rattle.statement_steps.proofs.Parts.{nothing_done, no_memory, stays}

@@ -1,4 +1,4 @@
-use Rattle.table_trees.specs.Seen.{seen}
+use Rattle.row_router.specs.Seen.{seen}
 use Rattle.statement_steps.proofs.Parts.{stays, no_memory}
 use Rattle.insert_statement.proofs.Tables.{tree_locks}
 use Rattle.change_statement.specs.Gathered.{of_table, table_named, settings_of, condition_of}

@@ -1,6 +1,6 @@
 use Rattle.std.proofs.Common.{◌≡◌, drop, map}
-use Rattle.table_trees.specs.Trees.{trees_of}
-use Rattle.table_trees.specs.Seen.{seen}
+use Rattle.row_router.specs.Trees.{trees_of}
+use Rattle.row_router.specs.Seen.{seen}
 use Rattle.cond_logic.specs.Asked.{setting_meant}
 use Rattle.statement_steps.specs.Gathered.{sets_key, sets_key_of}
 use Rattle.change_statement.proofs.keeping.+sets_key.Given as goal

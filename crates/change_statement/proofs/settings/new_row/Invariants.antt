@@ -1,5 +1,5 @@
 use Rattle.std.proofs.Common.{◌≡◌, drop, length, map}
-use Rattle.table_trees.specs.Trees.{IsRowOf}
+use Rattle.row_router.specs.Trees.{IsRowOf}
 use Rattle.cond_logic.specs.Asked.{setting_meant}
 use Rattle.change_statement.specs.NewRows.{set_in}
 use Rattle.change_statement.proofs.settings.new_row.Given as goal

@@ -1,5 +1,5 @@
 use Rattle.std.proofs.Common.{drop}
-use Rattle.table_trees.specs.Trees.{IsRowOf}
+use Rattle.row_router.specs.Trees.{IsRowOf}
 use Rattle.change_statement.proofs.updating.are_of.Given as goal
 
 -- where those that are left are of their columns, all are

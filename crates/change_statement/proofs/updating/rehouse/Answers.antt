@@ -1,7 +1,7 @@
 use Rattle.std.proofs.Common.{Ok, Err, sym, subst, IfOk}
 use Rattle.std.specs.List.{Contains}
 use Rattle.pg_values.specs.declared.ids.LeafId.{LeafId}
-use Rattle.table_trees.specs.Trees.{leaves}
+use Rattle.row_router.specs.Trees.{leaves}
 use Rattle.insert_statement.specs.Inserted.{tables_of}
 use Rattle.statement_steps.specs.Gathered.{found_of}
 use Rattle.statement_steps.specs.declared.stop.Stop.{Stop}

@@ -1,6 +1,6 @@
 use Rattle.std.proofs.Common.{◌≡◌, drop, map}
 use Rattle.std.specs.List.{find}
-use Rattle.table_trees.specs.Histories.{is_over}
+use Rattle.row_router.specs.Histories.{is_over}
 use Rattle.detach_statement.proofs.keeping.find_child.Given as goal
 
 abbrev pub invariant-loop-entry : goal.invariant-loop-entry

@@ -1,6 +1,6 @@
 use Rattle.std.proofs.Common.{◌≡◌, sym, ◌∙◌, map}
 use Rattle.history.specs.Presence.{checks_of}
-use Rattle.table_trees.specs.Histories.{kept_of}
+use Rattle.row_router.specs.Histories.{kept_of}
 use Rattle.part_ddl.specs.Placing.{level_at}
 use Rattle.detach_statement.specs.Kept.{check_told, place_below}
 use Rattle.detach_statement.proofs.Checks.{told_suits}

@@ -1,5 +1,5 @@
 use Rattle.std.proofs.Common.{◌+◌, sym, subst}
-use Rattle.table_trees.specs.Seen.{seen}
+use Rattle.row_router.specs.Seen.{seen}
 use Rattle.statement_steps.proofs.Parts.{stays, no_memory}
 use Rattle.insert_statement.specs.Inserted.{into_partitions}
 use Rattle.insert_statement.specs.Asked.{IsReadOf}

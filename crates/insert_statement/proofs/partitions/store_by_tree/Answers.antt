@@ -1,7 +1,7 @@
 use Rattle.std.proofs.Common.{◌∙◌, ◌+◌, ◌++◌, ap, List, sym, subst, Err}
 use Rattle.pg_values.specs.declared.ids.LeafId.{LeafId}
 use Rattle.pg_values.specs.declared.ids.TableNo.{TableNo}
-use Rattle.table_trees.specs.Seen.{seen}
+use Rattle.row_router.specs.Seen.{seen}
 use Rattle.row_change.specs.Placing.{all_placed}
 use Rattle.row_change.specs.Ways.{ways_below}
 use Rattle.statement_steps.specs.Steps.{IsStep}

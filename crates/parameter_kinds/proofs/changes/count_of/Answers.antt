@@ -1,6 +1,6 @@
 use Rattle.std.proofs.Common.{sym, ap, ◌∙◌}
-use Rattle.change_binder.specs.Inserts as inserts
-use Rattle.change_binder.proofs.Steps.{count_is}
+use Rattle.sql_binder.specs.Inserts as inserts
+use Rattle.sql_binder.proofs.Places.{count_is}
 use Rattle.parameter_kinds.proofs.changes.count_of.Goals as goal
 
 pub returns : goal.returns

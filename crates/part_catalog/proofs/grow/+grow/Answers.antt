@@ -4,13 +4,13 @@ use Rattle.std.proofs.lemmas.Grind.{common_steps, elements}
 use Rattle.history.specs.declared.catalogue.Table.{Table}
 use Rattle.history.specs.declared.catalogue.Entry.{Entry}
 use Rattle.history.specs.Places.{table_at}
-use Rattle.table_trees.specs.declared.tree.Tree.{Tree}
+use Rattle.row_router.specs.declared.tree.Tree.{Tree}
 use Rattle.part_catalog.specs.declared.stored.StoredTable.{StoredTable}
 use Rattle.part_catalog.specs.declared.stored.StoredEntry.{StoredEntry}
 use Rattle.history.specs.declared.catalogue.TableShape.TheVariants.{Leaf as LeafShape, Level as LevelShape}
-use Rattle.table_trees.specs.Seen.{seen}
-use Rattle.table_trees.specs.Trees.{TableTree, LeafTable}
-use Rattle.table_trees.specs.Histories.{children, tree_within, child_of_entry}
+use Rattle.row_router.specs.Seen.{seen}
+use Rattle.row_router.specs.Trees.{TableTree, LeafTable}
+use Rattle.row_router.specs.Histories.{children, tree_within, child_of_entry}
 use Rattle.part_catalog.specs.Kept.{table_in, entry_in, number_of, no_entry}
 use Rattle.part_catalog.specs.Stands.{is_flagged}
 use Rattle.part_catalog.proofs.Grown.{kid_at, take_step, skip_step, all_done, level_of, table_is, none_in_order, grown_bare, grown_leaf, grown_level, level_made}

@@ -1,7 +1,7 @@
 use Rattle.std.proofs.Common.{◌≡◌, ◌++◌, ◌-◌, map, filter, drop}
 use Rattle.history.specs.declared.catalogue.Entry.{Entry}
-use Rattle.table_trees.specs.Seen.{seen}
-use Rattle.table_trees.specs.Histories.{tree_within, children, child_of_entry}
+use Rattle.row_router.specs.Seen.{seen}
+use Rattle.row_router.specs.Histories.{tree_within, children, child_of_entry}
 use Rattle.part_catalog.specs.Kept.{table_in, entry_in}
 use Rattle.part_catalog.specs.Stands.{is_flagged}
 use Rattle.part_catalog.proofs.grow.+grow.Given as goal

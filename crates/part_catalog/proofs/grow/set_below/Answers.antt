@@ -2,7 +2,7 @@ use Rattle.std.proofs.Common.{◌≡◌, ◌≤◌, ◌+◌, ◌++◌, ◌∷◌
 use Rattle.std.proofs.lemmas.Grind.{common_steps, elements}
 use Rattle.std.proofs.lemmas.List.{length-map}
 use Rattle.bound_forms.specs.declared.partition_bound.Bound.{Bound}
-use Rattle.table_trees.specs.Histories.{children, bound_of}
+use Rattle.row_router.specs.Histories.{children, bound_of}
 use Rattle.part_catalog.specs.declared.stored.StoredEntry.{StoredEntry}
 use Rattle.part_catalog.specs.Kept.{entry_in, number_of, no_entry}
 use Rattle.part_catalog.specs.Stands.{is_flagged}

@@ -1,5 +1,5 @@
 use Rattle.std.proofs.Common.{◌≡◌, ◌++◌, map, filter, drop}
-use Rattle.table_trees.specs.Histories.{children, bound_of}
+use Rattle.row_router.specs.Histories.{children, bound_of}
 use Rattle.part_catalog.specs.Kept.{entry_in}
 use Rattle.part_catalog.specs.Stands.{is_flagged}
 use Rattle.part_catalog.proofs.grow.set_below.Given as goal

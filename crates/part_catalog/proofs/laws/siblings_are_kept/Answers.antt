@@ -6,7 +6,7 @@ use Rattle.history.specs.declared.catalogue.Entry.{Entry}
 use Rattle.history.specs.Catalogue.{entries_added}
 use Rattle.history.specs.History.{catalogue_events}
 use Rattle.history.specs.Presence.{entries_present, is_present}
-use Rattle.table_trees.specs.Siblings.{AreSiblings, CanStandTogether}
+use Rattle.row_router.specs.Siblings.{AreSiblings, CanStandTogether}
 use Rattle.part_catalog.proofs.laws.siblings_are_kept.Goals as goal
 
 pub returns : goal.returns

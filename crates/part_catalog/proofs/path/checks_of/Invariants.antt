@@ -2,7 +2,7 @@ use Rattle.std.proofs.Common.{◌≡◌, ◌++◌, map, filter, drop}
 use Rattle.history.specs.History.{History, tx_events}
 use Rattle.history.specs.Presence.{is_check_of}
 use Rattle.tx_table.specs.Stands.{TableStands}
-use Rattle.table_trees.specs.Histories.{kept_of}
+use Rattle.row_router.specs.Histories.{kept_of}
 use Rattle.part_catalog.proofs.path.checks_of.Given as goal
 
 abbrev pub invariant-loop-check : goal.invariant-loop-check

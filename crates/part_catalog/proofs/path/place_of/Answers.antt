@@ -4,8 +4,8 @@ use Rattle.std.specs.Option.{option_map}
 use Rattle.history.specs.declared.catalogue.Table.{Table}
 use Rattle.history.specs.declared.catalogue.TableShape.TheVariants.{Leaf as LeafShape, Level as LevelShape}
 use Rattle.history.specs.Places.{table_at}
-use Rattle.table_trees.specs.Histories.{above, bound_of, children, is_entry}
-use Rattle.table_trees.proofs.Order.{children_of_part}
+use Rattle.row_router.specs.Histories.{above, bound_of, children, is_entry}
+use Rattle.row_router.proofs.Order.{children_of_part}
 use Rattle.part_catalog.specs.declared.stored.StoredTable.{StoredTable}
 use Rattle.part_catalog.specs.declared.stored.StoredEntry.{StoredEntry}
 use Rattle.part_catalog.specs.Groves.{IsLevel}

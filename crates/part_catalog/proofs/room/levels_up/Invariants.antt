@@ -1,5 +1,5 @@
 use Rattle.std.proofs.Common.{◌≡◌, ◌+◌, ◌-◌, ◌≤◌, filter, map}
-use Rattle.table_trees.specs.Histories.{above}
+use Rattle.row_router.specs.Histories.{above}
 use Rattle.part_catalog.specs.Kept.{entry_in}
 use Rattle.part_catalog.specs.Stands.{is_flagged}
 use Rattle.part_catalog.specs.Answers.{number_told}

@@ -1,7 +1,7 @@
 use Rattle.std.proofs.Common.{◌≡◌, ◌∙◌, arith, sym, Some, position}
 use Rattle.bound_forms.specs.Accepts.{is_default}
-use Rattle.table_trees.specs.Seen.{items_of}
-use Rattle.table_trees.proofs.Levels.{found_within}
+use Rattle.row_router.specs.Seen.{items_of}
+use Rattle.row_router.proofs.Levels.{found_within}
 use Rattle.part_ddl.proofs.Defaults.{default_is, no_default, leaf_has_none}
 use Rattle.part_ddl.proofs.Kids.{told, leaf_told}
 use Rattle.part_ddl.proofs.below.default_in.Goals as goal

@@ -1,6 +1,6 @@
 use Rattle.std.proofs.Common.{◌≡◌, ◌++◌, map, drop}
-use Rattle.table_trees.specs.Trees.{trees_of}
-use Rattle.table_trees.specs.Seen.{seen}
+use Rattle.row_router.specs.Trees.{trees_of}
+use Rattle.row_router.specs.Seen.{seen}
 use Rattle.part_ddl.specs.Below.{below_top, all_tables}
 use Rattle.part_ddl.proofs.below.push_below.Given as goal
 

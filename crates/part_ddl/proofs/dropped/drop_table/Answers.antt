@@ -3,8 +3,8 @@ use Rattle.pg_values.specs.declared.ids.TableNo.{TableNo}
 use Rattle.history.specs.declared.catalogue.Stamp.{Stamp}
 use Rattle.history.specs.History.{History, tx_events}
 use Rattle.history.specs.Transactions.{session_of}
-use Rattle.table_trees.specs.Histories.{ddl_tree}
-use Rattle.table_trees.specs.Seen.{seen}
+use Rattle.row_router.specs.Histories.{ddl_tree}
+use Rattle.row_router.specs.Seen.{seen}
 use Rattle.tx_table.specs.Stands.{TableStands}
 use Rattle.part_catalog.specs.Stands.{CatalogueStands}
 use Rattle.part_ddl.specs.Below.{tables_in, tables_from}

@@ -2,7 +2,7 @@ use Rattle.std.proofs.Common.{◌≡◌, ◌∙◌, Some, ap, sym}
 use Rattle.history.specs.History.{tx_events}
 use Rattle.history.specs.Presence.{entries_present}
 use Rattle.history.specs.Transactions.{session_of}
-use Rattle.table_trees.specs.Histories.{above}
+use Rattle.row_router.specs.Histories.{above}
 use Rattle.part_catalog.specs.Answers.{parent_told}
 use Rattle.part_ddl.proofs.Ends.{is_standing, place_gone}
 use Rattle.part_ddl.proofs.dropped.end_place.Goals as goal

@@ -1,5 +1,5 @@
 use Rattle.std.proofs.Common.{◌≡◌, ◌∙◌, Some, None, map, sym}
-use Rattle.table_trees.specs.Histories.{bound_of}
+use Rattle.row_router.specs.Histories.{bound_of}
 use Rattle.part_ddl.proofs.Suiting.{none_bad, plain_of}
 use Rattle.part_ddl.proofs.placing.check_modulus.Goals as goal
 

@@ -5,7 +5,7 @@ use Rattle.pg_values.specs.Refusals.{IsAnswer, or_first}
 use Rattle.history.specs.declared.catalogue.Entry.{Entry}
 use Rattle.history.specs.History.{History}
 use Rattle.tx_table.specs.Stands.{TableStands}
-use Rattle.table_trees.specs.Histories.{bound_of}
+use Rattle.row_router.specs.Histories.{bound_of}
 use Rattle.part_catalog.specs.Stands.{CatalogueStands}
 use Rattle.part_ddl.specs.Placing.{child_name, partitions_of}
 use Rattle.part_ddl.proofs.Among.{SameWords, place_same, children_known, of_one_level}

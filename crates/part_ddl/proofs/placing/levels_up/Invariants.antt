@@ -1,7 +1,7 @@
 use Rattle.std.proofs.Common.{◌≡◌, ◌+◌, ◌-◌, ◌≤◌}
 use Rattle.history.specs.History.{History}
 use Rattle.history.specs.Presence.{entries_present}
-use Rattle.table_trees.specs.Histories.{above}
+use Rattle.row_router.specs.Histories.{above}
 use Rattle.tx_table.specs.Stands.{TableStands}
 use Rattle.part_catalog.specs.Answers.{number_told}
 use Rattle.part_catalog.specs.Full.{tables_up, tables_above}

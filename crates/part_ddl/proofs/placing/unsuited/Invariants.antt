@@ -1,6 +1,6 @@
 use Rattle.std.proofs.Common.{◌≡◌, drop, map}
 use Rattle.bound_forms.specs.Moduli.{bad_modulus}
-use Rattle.table_trees.specs.Histories.{bound_of}
+use Rattle.row_router.specs.Histories.{bound_of}
 use Rattle.part_ddl.proofs.placing.unsuited.Given as goal
 
 -- the moduli so far suit, so the rest decides

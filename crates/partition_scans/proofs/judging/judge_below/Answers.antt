@@ -1,8 +1,8 @@
 use Rattle.std.proofs.Common.{List, ℕ, ◌∙◌, ap, sym, Err}
 use Rattle.refusals.specs.Refusals.{outside_new_bounds}
 use Rattle.history.specs.declared.catalogue.Table.{Table}
-use Rattle.table_trees.specs.Histories.{ddl_tree}
-use Rattle.table_trees.specs.Trees.{leaves}
+use Rattle.row_router.specs.Histories.{ddl_tree}
+use Rattle.row_router.specs.Trees.{leaves}
 use Rattle.part_catalog.specs.Found.{made_at}
 use Rattle.partition_scans.specs.Places.{breaks_place}
 use Rattle.partition_scans.specs.Scans.{Scan}

@@ -1,8 +1,8 @@
 use Rattle.std.proofs.Common.{◌≡◌, ◌<◌, List, ◌++◌, ◌∙◌, ap, sym, subst, All}
 use Rattle.pg_values.specs.declared.ids.LeafId.{LeafId}
-use Rattle.table_trees.specs.Histories.{ddl_tree}
-use Rattle.table_trees.specs.Seen.{seen}
-use Rattle.table_trees.specs.Trees.{leaves}
+use Rattle.row_router.specs.Histories.{ddl_tree}
+use Rattle.row_router.specs.Seen.{seen}
+use Rattle.row_router.specs.Trees.{leaves}
 use Rattle.partition_scans.proofs.Leaves.{leaves_there}
 use Rattle.partition_scans.proofs.judging.leaves_of.Goals as goal
 

@@ -1,8 +1,8 @@
 use Rattle.std.proofs.Common.{[], ◌∷◌, ◌++◌, ap, arith, map, sym, ◌∙◌}
 use Rattle.std.proofs.lemmas.Bool.Decides.{nat_tests}
 use Rattle.cond_logic.specs.Trees.{cond_tree}
-use Rattle.table_trees.specs.declared.node.Node.{Node}
-use Rattle.table_trees.specs.Seen.{seen}
+use Rattle.row_router.specs.declared.node.Node.{Node}
+use Rattle.row_router.specs.Seen.{seen}
 use Rattle.plan_tree.specs.Kept.{keeps_for, node_of}
 use Rattle.plan_tree.proofs.Nodes.{node_seen}
 use Rattle.plan_tree.proofs.Pushing.{led_behind, begins, child_lower, child_prunes}

@@ -1,7 +1,7 @@
 use Rattle.std.proofs.Common.{◌+◌, ◌*◌, map}
 use Rattle.cond_logic.specs.Trees.{cond_tree}
-use Rattle.table_trees.specs.Seen.{seen}
-use Rattle.table_trees.specs.Trees.{height}
+use Rattle.row_router.specs.Seen.{seen}
+use Rattle.row_router.specs.Trees.{height}
 use Rattle.plan_tree.specs.Kept.{keeps_for}
 use Rattle.plan_tree.proofs.Pushing.{Going}
 use Rattle.plan_tree.proofs.pruning.+pruning.Given as goal

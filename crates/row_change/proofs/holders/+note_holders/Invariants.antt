@@ -1,8 +1,8 @@
 use Rattle.std.proofs.Common.{◌≡◌, map, drop}
 use Rattle.std.specs.Option.{option_or}
 use Rattle.pg_values.specs.declared.ids.LeafId.{LeafId}
-use Rattle.table_trees.specs.Trees.{trees_of}
-use Rattle.table_trees.specs.Seen.{seen}
+use Rattle.row_router.specs.Trees.{trees_of}
+use Rattle.row_router.specs.Seen.{seen}
 use Rattle.row_change.specs.Places.{noted}
 use Rattle.row_change.specs.Targets.{holder_in}
 use Rattle.row_change.specs.Ways.{root}

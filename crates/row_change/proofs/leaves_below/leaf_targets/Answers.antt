@@ -1,4 +1,4 @@
-use Rattle.table_trees.specs.Seen.{seen}
+use Rattle.row_router.specs.Seen.{seen}
 use Rattle.row_change.proofs.Targets.{one_more_read}
 use Rattle.row_change.proofs.leaves_below.leaf_targets.Goals as goal
 

@@ -1,7 +1,7 @@
 use Rattle.std.specs.List.{All}
 use Rattle.history.specs.History.{History}
 use Rattle.tx_table.specs.Stands.{TableStands}
-use Rattle.table_trees.specs.Seen.{seen}
+use Rattle.row_router.specs.Seen.{seen}
 use Rattle.part_catalog.specs.Stands.{CatalogueStands}
 use Rattle.row_change.specs.Places.{ArePlaces}
 use Rattle.row_change.specs.Targets.{IsTargetOf}

@@ -1,5 +1,5 @@
 use Rattle.std.proofs.Common.{[], sym, subst, ap}
-use Rattle.table_trees.specs.Histories.{path_of}
+use Rattle.row_router.specs.Histories.{path_of}
 use Rattle.row_change.specs.Targets.{HasChecksOf}
 use Rattle.row_change.proofs.Unchecked.{nothing_asked, all_asked}
 use Rattle.row_change.proofs.leaves_below.path_for.Goals as goal

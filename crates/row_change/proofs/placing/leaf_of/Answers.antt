@@ -1,5 +1,5 @@
 use Rattle.std.proofs.Common.{sym, ◌∙◌}
-use Rattle.table_trees.specs.Seen.{seen}
+use Rattle.row_router.specs.Seen.{seen}
 use Rattle.row_change.proofs.Ways.{lost_is_numbered}
 use Rattle.row_change.proofs.placing.leaf_of.Goals as goal
 

@@ -3,9 +3,9 @@ use Rattle.pg_values.specs.declared.ids.TableNo.{TableNo}
 use Rattle.bound_forms.specs.declared.level.KeyColumn.{KeyColumn}
 use Rattle.bound_forms.specs.Points.{picked}
 use Rattle.bound_forms.specs.Accepts.{accepts_among, FitsSet}
-use Rattle.table_trees.specs.Trees.{key_of}
-use Rattle.table_trees.specs.Seen.{seen, items_of}
-use Rattle.table_trees.proofs.Levels.{here, chosen, none_chosen, found_within}
+use Rattle.row_router.specs.Trees.{key_of}
+use Rattle.row_router.specs.Seen.{seen, items_of}
+use Rattle.row_router.proofs.Levels.{here, chosen, none_chosen, found_within}
 use Rattle.row_router.proofs.Costs.{chosen_outcomes, no_outcomes, costs_more}
 use Rattle.row_change.specs.Ways.{way_below}
 use Rattle.row_change.proofs.Costs.{costs_so_far}

@@ -1,6 +1,6 @@
 use Rattle.std.proofs.Common.{◌≡◌, ◌≤◌, ◌*◌, ◌-◌, ◌^◌, ◌++◌}
-use Rattle.table_trees.specs.Trees.{routed, Fits, height}
-use Rattle.table_trees.specs.Seen.{seen}
+use Rattle.row_router.specs.Trees.{routed, Fits, height}
+use Rattle.row_router.specs.Seen.{seen}
 use Rattle.row_router.specs.Costs.{way_outcomes}
 use Rattle.row_change.specs.Ways.{way_below}
 use Rattle.row_change.proofs.way.push_way.Given as goal

@@ -1,6 +1,6 @@
 use Rattle.std.proofs.Common.{◌≡◌, ◌≤◌, ◌*◌, ◌-◌, ◌^◌}
-use Rattle.table_trees.specs.Trees.{routed, accepting, Fits, height}
-use Rattle.table_trees.specs.Seen.{seen}
+use Rattle.row_router.specs.Trees.{routed, accepting, Fits, height}
+use Rattle.row_router.specs.Seen.{seen}
 use Rattle.row_router.specs.Costs.{way_outcomes}
 use Rattle.row_router.proofs.way.route.Given as goal
 

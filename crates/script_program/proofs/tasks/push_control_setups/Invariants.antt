@@ -1,5 +1,5 @@
 use Rattle.std.proofs.Common.{◌≡◌, ◌++◌, map, take, codes}
-use Rattle.schedule.specs.declared.block.Kind.TheVariants.{Setup}
+use Rattle.schedule.specs.declared.block.BlockKind.TheVariants.{Setup}
 use Rattle.script_program.specs.Tasks.{plain}
 use Rattle.script_program.proofs.tasks.push_control_setups.Given as goal
 

@@ -1,7 +1,7 @@
 use Rattle.std.proofs.Common.{rules}
 use Rattle.std.proofs.lemmas.Fn.{always_returns_same}
 use Rattle.select_answer.specs.Keys.{row_less}
-use Rattle.select_answer.proofs.Stable.{stably_sorted}
+use Rattle.part_bounds.proofs.Stable.{stably_sorted}
 use Rattle.select_answer.proofs.Total.{row_weak}
 use Rattle.select_answer.proofs.keys.sort_rows.Goals as goal
 

@@ -1,6 +1,6 @@
 use Rattle.std.proofs.Common.{◌≡◌, ◌++◌, map, drop}
-use Rattle.table_trees.specs.Trees.{trees_of}
-use Rattle.table_trees.specs.Seen.{seen}
+use Rattle.row_router.specs.Trees.{trees_of}
+use Rattle.row_router.specs.Seen.{seen}
 use Rattle.legal_statements.specs.Below.{tables_in, all_tables}
 use Rattle.select_statement.proofs.below.+push_tables.Given as goal
 

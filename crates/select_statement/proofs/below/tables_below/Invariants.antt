@@ -1,6 +1,6 @@
 use Rattle.std.proofs.Common.{◌≡◌, ◌++◌, map, drop}
-use Rattle.table_trees.specs.Trees.{trees_of}
-use Rattle.table_trees.specs.Seen.{seen}
+use Rattle.row_router.specs.Trees.{trees_of}
+use Rattle.row_router.specs.Seen.{seen}
 use Rattle.legal_statements.specs.Below.{all_tables}
 use Rattle.select_statement.specs.Below.{below}
 use Rattle.select_statement.proofs.below.tables_below.Given as goal

@@ -1,5 +1,5 @@
 use Rattle.sql_ast.specs.Queries.{joined_tree}
-use Rattle.table_trees.specs.Seen.{seen}
+use Rattle.row_router.specs.Seen.{seen}
 use Rattle.select_statement.proofs.Scopes.{one_named}
 use Rattle.select_statement.proofs.explaining.named_items.Goals as goal
 

@@ -1,5 +1,5 @@
 use Rattle.std.proofs.Common.{[], ◌≤◌, arith, map, length, subst, sym}
-use Rattle.table_trees.specs.Seen.{seen}
+use Rattle.row_router.specs.Seen.{seen}
 use Rattle.sql_ast.specs.Queries.{select_tree}
 use Rattle.sql_binder.specs.Selects.{from_of}
 use Rattle.cond_logic.specs.Asked.{select_meant}

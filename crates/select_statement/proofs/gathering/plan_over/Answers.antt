@@ -1,5 +1,5 @@
-use Rattle.std.proofs.Common.{◌∙◌, ◌≤◌, All, ap, length, map, subst, sym}
-use Rattle.table_trees.specs.Seen.{seen}
+use Rattle.row_router.specs.Seen.{seen}
+use Rattle.std.proofs.Common.{All, ap, length, map, subst, sym, ◌∙◌, ◌≤◌}
 use Rattle.cond_logic.specs.Trees.{cond_tree}
 use Rattle.cond_logic.specs.Asked.{select_meant}
 use Rattle.plan_tree.specs.Plans.{plan_for}

@@ -1,6 +1,6 @@
 use Rattle.std.proofs.Common.{◌≡◌, ◌≤◌, ◌++◌, drop, map}
 use Rattle.sql_ast.specs.Queries.{joined_tree}
-use Rattle.table_trees.specs.Seen.{seen}
+use Rattle.row_router.specs.Seen.{seen}
 use Rattle.select_statement.specs.Items as items
 use Rattle.select_statement.proofs.items.items_of.Given as goal
 

@@ -1,5 +1,5 @@
 use Rattle.std.proofs.lemmas.Result.{IfOk-weaker}
-use Rattle.table_trees.specs.Seen.{seen}
+use Rattle.row_router.specs.Seen.{seen}
 use Rattle.select_statement.proofs.Whole.{is_sound, tree_read, read_for}
 use Rattle.select_statement.proofs.tables.read_tree.Goals as goal
 

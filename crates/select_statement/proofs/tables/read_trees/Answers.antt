@@ -1,6 +1,6 @@
 use Rattle.std.proofs.Common.{◌≡◌, ◌++◌, ◌∷◌, [], All, rules, sym, subst}
 use Rattle.std.proofs.lemmas.List.Elements.{All-nil, All-cons, All-append}
-use Rattle.table_trees.specs.Seen.{seen}
+use Rattle.row_router.specs.Seen.{seen}
 use Rattle.select_statement.specs.Lent.{IsTreeFor}
 use Rattle.select_statement.proofs.Whole.{one_tree}
 use Rattle.select_statement.proofs.tables.read_trees.Goals as goal

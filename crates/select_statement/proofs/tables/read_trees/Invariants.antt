@@ -1,6 +1,6 @@
 use Rattle.std.proofs.Common.{◌≡◌, ◌++◌, All, drop, map}
 use Rattle.history.specs.History.{History}
-use Rattle.table_trees.specs.Seen.{seen}
+use Rattle.row_router.specs.Seen.{seen}
 use Rattle.stores.specs.Stand.{Stands}
 use Rattle.select_statement.specs.Below.{number_of}
 use Rattle.select_statement.specs.Lent.{IsTreeFor}

@@ -1,7 +1,7 @@
 use Rattle.std.proofs.Common.{◌≡◌, ◌≤◌, ◌+◌, ◌∙◌, ap}
 use Rattle.sessions.specs.Sessions.{kept, opened}
 use Rattle.sessions.specs.Weight.{points_in, points_with}
-use Rattle.sessions.specs.declared.phase.Isolation.TheVariants.{ReadCommitted}
+use Rattle.pg_values.specs.declared.isolation.Isolation.TheVariants.{ReadCommitted}
 use Rattle.sessions.specs.declared.phase.Phase.TheVariants.{Implicit}
 use Rattle.sessions.proofs.Weights.{opened_points, falls, falls_at_least}
 use Rattle.sessions.proofs.turns.open_block.Goals as goal

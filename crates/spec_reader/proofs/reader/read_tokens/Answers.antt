@@ -1,5 +1,5 @@
 use Rattle.std.proofs.Common.{ℕ, List, ◌≡◌, ◌++◌, filter, ap, ◌∙◌, subst, Some, length, IfOk}
-use Rattle.spec_reader.specs.declared.kind.Kind.TheVariants as kinds
+use Rattle.spec_reader.specs.declared.kind.ScriptTokenKind.TheVariants as kinds
 use Rattle.spec_reader.specs.declared.token.Token.{Token}
 use Rattle.spec_reader.specs.Tokens.{ends_by, noted, tokens_from}
 use Rattle.spec_reader.proofs.TokenSteps.{tokens_of_utf8, tokens_of_others}

@@ -7,7 +7,7 @@ use Rattle.sql_expressions.proofs.Alone.{alone, goes_on, single, valued_alone}
 use Rattle.sql_expressions.proofs.Deeper.{chain_gives, comparison_deeper, named_deeper, negation_deeper, operand_deeper, part_deeper, test_deeper, unary_deeper}
 use Rattle.grammar.specs.Repeats.{always}
 use Rattle.sql_tokens.specs.Classes.{a}
-use Rattle.sql_tokens.specs.declared.kind.Kind.TheVariants as kinds
+use Rattle.sql_tokens.specs.declared.kind.TokenKind.TheVariants as kinds
 use Rattle.sql_expressions.specs.Grammar as grammar
 use Rattle.sql_expressions.specs.Levels as levels
 use Rattle.sql_expressions.specs.Views as views

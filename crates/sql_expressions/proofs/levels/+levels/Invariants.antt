@@ -1,7 +1,7 @@
 use Rattle.std.proofs.Common.{◌≡◌, ◌≤◌, ℕ, ◌+◌, ◌-◌, ◌*◌, length}
 use Rattle.grammar.specs.Repeats.{always, read_repeats}
 use Rattle.sql_tokens.specs.Classes.{a}
-use Rattle.sql_tokens.specs.declared.kind.Kind.TheVariants as kinds
+use Rattle.sql_tokens.specs.declared.kind.TokenKind.TheVariants as kinds
 use Rattle.sql_expressions.specs.Grammar as grammar
 use Rattle.sql_expressions.specs.Levels as levels
 use Rattle.sql_expressions.specs.Views as views

@@ -1,4 +1,4 @@
-use Rattle.sql_tokens.specs.declared.kind.Kind.TheVariants as word
+use Rattle.sql_tokens.specs.declared.kind.TokenKind.TheVariants as word
 use Rattle.sql_expressions.specs.Grammar.{expression}
 use Rattle.sql_queries.specs.Grammar.{more_settings, unaliased}
 use Rattle.sql_queries.proofs.StepCode.{in_steps}

@@ -1,6 +1,6 @@
 use Rattle.std.proofs.Common.{length}
 use Rattle.grammar.specs.Repeats.{always}
-use Rattle.sql_tokens.specs.declared.kind.Kind.TheVariants as kinds
+use Rattle.sql_tokens.specs.declared.kind.TokenKind.TheVariants as kinds
 use Rattle.sql_tokens.specs.Classes.{a}
 use Rattle.sql_expressions.proofs.Deeper.{chain_gives}
 use Rattle.sql_syntax.specs.Grammar as grammar

@@ -1,6 +1,6 @@
 use Rattle.std.proofs.Common.{◌≡◌, ◌-◌, length, map}
 use Rattle.grammar.specs.Repeats.{always, read_repeats}
-use Rattle.sql_tokens.specs.declared.kind.Kind.TheVariants as kinds
+use Rattle.sql_tokens.specs.declared.kind.TokenKind.TheVariants as kinds
 use Rattle.sql_tokens.specs.Classes.{a}
 use Rattle.sql_syntax.specs.Grammar as grammar
 use Rattle.sql_ast.specs.Statements.{statement_tree}

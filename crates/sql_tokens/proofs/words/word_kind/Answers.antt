@@ -1,6 +1,6 @@
 use Rattle.std.proofs.Common.{◌≡◌, false, rules, arith, sym, subst}
 use Rattle.std.proofs.lemmas.Grind.{common_steps}
-use Rattle.sql_tokens.specs.declared.kind.Kind.TheVariants.{Fault}
+use Rattle.sql_tokens.specs.declared.kind.TokenKind.TheVariants.{Fault}
 use Rattle.sql_tokens.specs.Words.{is, word_kind}
 use Rattle.sql_tokens.proofs.NoFault.{word_kind_sound}
 use Rattle.sql_tokens.proofs.words.word_kind.Goals as goal

@@ -1,4 +1,4 @@
-use Rattle.sql_tokens.specs.declared.kind.Kind.TheVariants.{Local, Transaction}
+use Rattle.sql_tokens.specs.declared.kind.TokenKind.TheVariants.{Local, Transaction}
 use Rattle.sql_written.proofs.Bare.{edge_bare, other_bare, plain_bare, word_bare}
 use Rattle.sql_written.proofs.block_laws.quotes_in_blocks_are_needed.Goals as goal
 

@@ -1,5 +1,5 @@
 use Rattle.std.proofs.Common.{[], ◌∷◌}
-use Rattle.sql_tokens.specs.declared.kind.Kind.TheVariants as kinds
+use Rattle.sql_tokens.specs.declared.kind.TokenKind.TheVariants as kinds
 use Rattle.sql_ast.specs.Queries.{maybe_tree}
 use Rattle.sql_written.specs.Marks.{blank}
 use Rattle.sql_written.proofs.WriteSteps.{on_ok}

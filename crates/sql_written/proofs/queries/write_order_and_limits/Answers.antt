@@ -1,5 +1,5 @@
 use Rattle.std.proofs.Common.{map}
-use Rattle.sql_tokens.specs.declared.kind.Kind.TheVariants as kinds
+use Rattle.sql_tokens.specs.declared.kind.TokenKind.TheVariants as kinds
 use Rattle.sql_ast.specs.Queries.{key_tree, maybe_tree}
 use Rattle.sql_written.proofs.WriteSteps.{on_ok}
 use Rattle.sql_written.specs.Queries.{clause, order_marks}

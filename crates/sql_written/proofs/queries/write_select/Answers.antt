@@ -1,5 +1,5 @@
 use Rattle.std.proofs.Common.{◌++◌, List, map}
-use Rattle.sql_tokens.specs.declared.kind.Kind.TheVariants as kinds
+use Rattle.sql_tokens.specs.declared.kind.TokenKind.TheVariants as kinds
 use Rattle.sql_ast.specs.Queries.{item_tree, joined_tree, key_tree, maybe_tree}
 use Rattle.sql_ast.specs.declared.select.FromItem.{FromItem}
 use Rattle.sql_ast.specs.declared.select.SelectItem.{SelectItem}

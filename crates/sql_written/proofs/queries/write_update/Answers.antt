@@ -1,5 +1,5 @@
 use Rattle.std.proofs.Common.{List, map}
-use Rattle.sql_tokens.specs.declared.kind.Kind.TheVariants as kinds
+use Rattle.sql_tokens.specs.declared.kind.TokenKind.TheVariants as kinds
 use Rattle.sql_ast.specs.Queries.{maybe_tree, setting}
 use Rattle.sql_ast.specs.declared.changes.Assignment.{Assignment}
 use Rattle.sql_written.specs.Marks.{text_of}

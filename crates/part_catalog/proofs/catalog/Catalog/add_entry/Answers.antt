@@ -7,8 +7,8 @@ use Rattle.history.specs.History.{CatalogueChange, tx_events, catalogue_events}
 use Rattle.history.specs.Places.{Suits}
 use Rattle.history.specs.Presence.{entries_present}
 use Rattle.history.specs.Transactions.{session_of}
-use Rattle.table_trees.specs.Trees.{TableTree, height}
-use Rattle.table_trees.specs.Histories.{above, children, ddl_tree}
+use Rattle.row_router.specs.Trees.{TableTree, height}
+use Rattle.row_router.specs.Histories.{above, children, ddl_tree}
 use Rattle.part_catalog.specs.declared.stored.StoredTable.{StoredTable}
 use Rattle.part_catalog.specs.declared.stored.StoredEntry.{StoredEntry}
 use Rattle.part_catalog.specs.Full.{partitions, tables_above}

@@ -4,8 +4,8 @@ use Rattle.history.specs.declared.catalogue.Check.{Check}
 use Rattle.history.specs.Catalogue.{tables_made}
 use Rattle.history.specs.History.{tx_events, catalogue_events}
 use Rattle.history.specs.Presence.{entries_present, checks_of, is_check_of}
-use Rattle.table_trees.specs.declared.path_part.PathPart.{PathPart}
-use Rattle.table_trees.specs.Histories.{above, kept_of, part_of, path_of, place_of, upwards}
+use Rattle.row_router.specs.declared.path_part.PathPart.{PathPart}
+use Rattle.row_router.specs.Histories.{above, kept_of, part_of, path_of, place_of, upwards}
 use Rattle.part_catalog.specs.declared.stored.StoredTable.{StoredTable}
 use Rattle.part_catalog.specs.declared.stored.StoredEntry.{StoredEntry}
 use Rattle.part_catalog.specs.Answers.{number_told, parent_told}

@@ -3,7 +3,7 @@ use Rattle.history.specs.Catalogue.{tables_made}
 use Rattle.history.specs.History.{History, catalogue_events}
 use Rattle.history.specs.Presence.{entries_present, checks_of}
 use Rattle.tx_table.specs.Stands.{TableStands}
-use Rattle.table_trees.specs.Histories.{above, part_of, upwards, path_of}
+use Rattle.row_router.specs.Histories.{above, part_of, upwards, path_of}
 use Rattle.part_catalog.specs.Answers.{number_told}
 use Rattle.part_catalog.specs.Stands.{CatalogueStands}
 use Rattle.part_catalog.proofs.catalog.Catalog.path.Given as goal

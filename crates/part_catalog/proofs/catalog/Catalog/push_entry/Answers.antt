@@ -1,7 +1,7 @@
 use Rattle.std.proofs.Common.{◌≡◌, ◌∙◌, ◌<◌, ◌++◌, ◌∷◌, [], ap, sym, subst, arith, List, length, map, get_or, slice_set}
 use Rattle.std.specs.List.{position_or_len}
 use Rattle.std.proofs.lemmas.Grind.{common_steps, elements}
-use Rattle.table_trees.specs.Histories.{children, placed}
+use Rattle.row_router.specs.Histories.{children, placed}
 use Rattle.part_catalog.specs.declared.stored.StoredTable.{StoredTable}
 use Rattle.part_catalog.specs.declared.stored.StoredEntry.{StoredEntry}
 use Rattle.part_catalog.specs.Kept.{KeptCatalogue, IsBetween, IsKept, entry_in, fresh, number_of}

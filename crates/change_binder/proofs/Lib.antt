@@ -1,3 +1,0 @@
-pub mod Earlier
-pub mod Settings
-pub mod Steps

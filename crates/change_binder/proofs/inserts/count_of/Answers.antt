@@ -1,7 +1,0 @@
-use Rattle.std.proofs.Common.{sym, ap, ◌∙◌}
-use Rattle.change_binder.specs.Inserts as inserts
-use Rattle.change_binder.proofs.Steps.{count_is}
-use Rattle.change_binder.proofs.inserts.count_of.Goals as goal
-
-pub returns : goal.returns
-returns c = sym (count_is c.as_slice.result.now) ∙ ap inserts.count_of c.as_slice.ensures

@@ -1,8 +1,0 @@
-/// The isolation level of a transaction as it is written. READ UNCOMMITTED behaves as READ COMMITTED,
-/// but a statement that sets the one does not set the other.
-#[derive(Clone, Copy, Debug, PartialEq, Eq)]
-pub enum Isolation {
-    ReadCommitted,
-    ReadUncommitted,
-    RepeatableRead,
-}

@@ -1,4 +1,0 @@
-pub mod CommandLaws
-pub mod NameFirst
-pub mod TextLaws
-pub mod ZeroLaws

@@ -1,9 +1,0 @@
-pub mod Alter
-pub mod Bound
-pub mod Create
-pub mod Deallocate
-pub mod Drop
-pub mod Grammar
-pub mod Lock
-pub mod Setting
-pub mod Transaction

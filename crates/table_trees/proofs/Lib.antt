@@ -1,9 +1,0 @@
-pub mod Defaults
-pub mod Keys
-pub mod Levels
-pub mod OneLeaf
-pub mod Order
-pub mod RowsFit
-pub mod Seen
-pub mod Sound
-pub mod Suited

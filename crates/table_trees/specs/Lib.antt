@@ -1,5 +1,0 @@
-pub mod Histories
-pub mod Laws
-pub mod Seen
-pub mod Siblings
-pub mod Trees
