@@ -8,7 +8,7 @@ use Rattle.history.specs.declared.wait.Wanted.{Wanted}
 use Rattle.schedule.specs.declared.tally.Tally.{Tally}
 use Rattle.schedule.specs.Lists.{first, is_in, without}
 use Rattle.stores.specs.Events.{resumed, withdrawn}
-use Rattle.statement_runs.specs.Database.{Database, is_cancelled, waits, cancels, cuts, all_cut, interrupted, is_ready, resumes, happened}
+use Rattle.statement_runs.specs.Database.{Database, anew, empty, is_cancelled, waits, cancels, cuts, all_cut, interrupted, is_ready, resumes, happened}
 use Rattle.statement_runs.specs.Kept.{KeptSeats, AreSeated, AreKept, Adds, StandsFor, waits_in, due_in, interrupted_in, may_go_on}
 use Rattle.statement_runs.specs.Weight.{of_mark, sum_below, slack, most, cut_of, left, most_left}
 use Rattle.statement_runs.proofs.Weights.{sum_less, sum_most}
@@ -265,3 +265,10 @@ withdrawn_idle w old new s r idle others is =
 -- who is no session does not wait
 pub past_idle : (e : KeptSeats) (s : ℕ) → AreSeated e → length e.opened ≤ s → waits_in e s ≡ false
 past_idle e s seated past = ap (λ o. e.whole && is_some o) (get_or_past e.stores.locks.wants s None (rw seated.waits past)) ∙ and_off e.whole
+
+-- ---- a fresh one
+
+pub fresh_stands : {O : Type 0} (o p : O) (e : KeptSeats) (cut : List ℕ) (n m : Tally) (k : ℕ) (v : Database O) → StandsFor o e cut n (empty p k) → p ≡ v.options → k ≡ v.sessions → m ≡ v.tally → StandsFor o e cut m (anew v)
+fresh_stands o p e cut n m k v stands same count given =
+    let x = subst (λ j. StandsFor o e cut n (empty v.options j)) count (subst (λ q. StandsFor o e cut n (empty q k)) same stands) in
+    record { whole = x.whole; options = x.options; sessions = x.sessions; tells = x.tells; commands = x.commands; cancelled = x.cancelled; rests = x.rests; cut = x.cut; given = given }

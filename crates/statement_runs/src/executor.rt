@@ -148,11 +148,10 @@ impl<K: Kinds> Executor for StoreExecutor<K> {
     }
 
     fn fresh(&self, alloc: Global) -> Result<Self, NoMemory> {
-        let executor = StoreExecutor::new(alloc, self.kinds.copy(alloc)?, self.seats.count())?;
-        Ok(StoreExecutor {
-            tally: self.tally,
-            ..executor
-        })
+        let kinds = self.kinds.copy(alloc)?;
+        let mut executor = StoreExecutor::new(alloc, kinds, self.seats.count())?;
+        executor.tally = self.tally;
+        Ok(executor)
     }
 
     fn parse(alloc: Global, text: &[u8]) -> Result<Vec<K::Statement>, Refusal> {
