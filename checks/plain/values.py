@@ -309,7 +309,7 @@ def several(word, parts):
 
 
 def opposite(part):
-    return Test("not", [part], lambda row: None if part(row) is None else not part(row))
+    return Test("not", [part], lambda row: {True: False, False: True}.get(part(row)))
 
 
 def moved(day, days):

@@ -2,7 +2,6 @@
 use Rattle.std.proofs.Common.{◌≡◌, ℕ, ◌+◌, ◌<◌, ◌&&◌, ◌||◌, not, Bool, true, false, List, [], ◌∷◌, ◌++◌, ◌⊎◌, inl, inr, refl, sym, ap, ◌∙◌, subst, arith, Option, Some, None, Ok, Err, map, length}
 use Rattle.std.specs.Prelude.{is_some, ◌≤◌}
 use Rattle.std.specs.List.{Contains, list_any}
-use Rattle.std.proofs.lemmas.Bool.{cases_Bool}
 use Rattle.std.proofs.lemmas.List.{length-map}
 use Rattle.std.proofs.lemmas.List.Elements.{All-contains}
 use Rattle.pg_values.specs.declared.value.Value.{Value}
@@ -37,10 +36,9 @@ use Rattle.soundness.specs.Legal.{Takes}
 use Rattle.soundness.specs.Worlds.{key_at}
 use Rattle.soundness.proofs.Listed.{child_listed, none_in, cases_in}
 use Rattle.soundness.proofs.Sound.{catalogue_sound_of}
-use Rattle.legal_statements.specs.Below.{numbers_from}
-use Rattle.legal_statements.specs.Entries.{IsDefaultOf, IsScanned, IsNewPlace, IsAttached, IsSkipped}
+use Rattle.legal_statements.specs.Entries.{IsDefaultOf, IsScanned, IsNewPlace, IsAttached}
 use Rattle.legal_statements.specs.Follows.{MayFollow}
-use Rattle.legal_statements.specs.Laws.{NamedIsThere, AttachMayFollow, SkipMayFollow, NoneBreaks}
+use Rattle.legal_statements.specs.Laws.{NamedIsThere, AttachMayFollow, NoneBreaks}
 use Rattle.legal_statements.proofs.Adding.{listed_for}
 use Rattle.pg_values.specs.declared.which.Which.{Which}
 use Rattle.part_catalog.specs.declared.new_table.CatalogRefused.TheVariants.{Full}
@@ -49,33 +47,27 @@ use Rattle.stores.specs.Numbers.{IsAt}
 use Rattle.stores.specs.Stand.{Stands}
 use Rattle.stores.specs.declared.stores.Stores.{Stores}
 use Rattle.stores.proofs.Commands.{commands_are_in_order}
-use Rattle.stores.proofs.Goodness.{held_own, legal_of, permitted_of}
+use Rattle.stores.proofs.Goodness.{legal_of, permitted_of}
 use Rattle.statement_steps.specs.Attempts.{MayAttempt}
 use Rattle.statement_steps.specs.declared.caller.Caller.{Caller}
 use Rattle.statement_steps.specs.declared.stop.Stop.TheVariants as stop
 use Rattle.statement_steps.specs.Steps.{IsStep}
 use Rattle.statement_steps.proofs.Parts.{locks_same, no_memory}
-use Rattle.partition_scans.specs.Fitting.{is_row_of}
 use Rattle.partition_scans.specs.Places.{breaks_place, is_refused_above, place_scan, default_scan}
 use Rattle.partition_scans.specs.Scans.{IsClean}
-use Rattle.partition_scans.proofs.Cleaning.{clean_first}
-use Rattle.table_statements.specs.Asked.{IsLocked}
+use Rattle.partition_scans.proofs.Cleaning.{clean_first, clean_rest}
 use Rattle.table_statements.specs.Tables.{own}
-use Rattle.table_statements.proofs.Below.{from_numbers, unmapped_in}
 use Rattle.table_statements.proofs.Beside.{stands_apart}
 use Rattle.table_statements.proofs.Deeds.{IsDeed, deed_step}
 use Rattle.table_statements.proofs.Fresh.{IsOwn, own_is, own_number}
-use Rattle.table_statements.proofs.Held.{held_at_history}
-use Rattle.attach_statement.specs.Asked.{MayBeAttached, HasPlace, HasLockedAll, AreRowsClean}
-use Rattle.attach_statement.specs.Attached.{new_entry, entry_added, own_scan, scans}
-use Rattle.attach_statement.specs.Skipped.{is_skipped}
+use Rattle.attach_statement.specs.Asked.{MayBeAttached, HasPlace, HasLockedAll, AreRowsClean, IsJudgedIn}
+use Rattle.attach_statement.specs.Attached.{new_entry, entry_added, scans}
 use Rattle.attach_statement.specs.Places.{name_at}
-use Rattle.attach_statement.proofs.LeftOut.{left_out, rest_clean}
+use Rattle.attach_statement.proofs.LeftOut.{judged_now}
 
 pub record AttachLaws : Type 0 where
   pub named : NamedIsThere
   pub follow : AttachMayFollow
-  pub skip : SkipMayFollow
   pub passed : PassedHavePlaces
   pub none : NoneBreaks
   pub siblings : SessionsHaveSiblings
@@ -93,12 +85,6 @@ not_false false e = refl
 none_refused : (o : Option TableNo) → is_some o ≡ false → o ≡ None
 none_refused None e = refl
 none_refused (Some t) e = absurd (let c = e in cc)
-
-three_false : (a b c : Bool) → (a || (b || c)) ≡ false → (a ≡ false) × (b ≡ false) × (c ≡ false)
-three_false false false false e = (refl, refl, refl)
-three_false true b c e = absurd (let d = e in cc)
-three_false false true c e = absurd (let d = e in cc)
-three_false false false true e = absurd (let d = e in cc)
 
 left_of : (a b : Bool) → (a || b) ≡ false → a ≡ false
 left_of false b e = refl
@@ -133,11 +119,8 @@ module _ (laws : AttachLaws) (stores : Stores) (caller : Caller) (p t : ℕ) (b 
   guarded : holds (lock_events h) caller.session p ShareUpdateExclusive ≡ true
   guarded = sym (stands.all.locks.tells.held caller.session p ShareUpdateExclusive) ∙ all.guarded.guarded
 
-  owned : (x : ℕ) → Contains (numbers_from h caller.session t) x → holds (lock_events h) caller.session x AccessExclusive ≡ true
-  owned x listed =
-      let found = unmapped_in (tables_from h caller.session t) x (subst (λ (ns : List ℕ). Contains ns x) (sym (from_numbers h caller.session t)) listed) in
-      let held = All-contains (λ (y : TableNo). IsLocked stores caller.session y.number) (tables_from h caller.session t) found.0 (all.family h stands.all.txs stands.all.catalog) found.1 in
-      subst (λ (k : ℕ). holds (lock_events h) caller.session k AccessExclusive ≡ true) found.2 (held_at_history stores h caller.session found.0.number stands held)
+  here : IsJudgedIn stores caller.session t h
+  here = judged_now stores caller.session t h stands all.family
 
   takes_row : (row : List Value) → accepts_among (bounds_below h caller.session p) (key_at (catalogue_events h) p row) b ≡ true → Takes h (tx_in h caller.session) (new_entry caller p t b h) row
   takes_row row is =
@@ -150,17 +133,16 @@ module _ (laws : AttachLaws) (stores : Stores) (caller : Caller) (p t : ℕ) (b 
             inr (two.0, λ f present under. none_of_all key (partitions_of h caller.session p) f none (child_listed (entries_present h caller.session) p f (listed_for h caller.session (tx_in h caller.session) f (legal_of h stands.good) ours present) under))
       ]
 
-  scanned : is_skipped h caller.session p t b ≡ false → (v : Version) → IsScanned h caller.session (tx_in h caller.session) t v → Takes h (tx_in h caller.session) (new_entry caller p t b h) v.row × (refused Bounds v.row (path_of h caller.session p) ≡ None) × (refused Checks v.row (path_of h caller.session p) ≡ None)
-  scanned out v it =
-      let others = default_scan h caller.session p b (name_at h t) (default_of h caller.session p) in
-      let both = subst (λ (skip : Bool). IsClean h caller.session (own_scan skip (place_scan h caller.session p t b) ++ others)) out clean in
-      let first = clean_first h caller.session (place_scan h caller.session p t b) others both in
+  scanned : (v : Version) → IsScanned h caller.session (tx_in h caller.session) t v → Takes h (tx_in h caller.session) (new_entry caller p t b h) v.row × (refused Bounds v.row (path_of h caller.session p) ≡ None) × (refused Checks v.row (path_of h caller.session p) ≡ None)
+  scanned v it =
+      let first = clean_first h caller.session (place_scan h caller.session p t b) (default_scan h caller.session p b (name_at h t) (default_of h caller.session p)) clean in
       let breaks = laws.none h caller.session (tx_in h caller.session) t (breaks_place h caller.session p b) first.0 first.1 v it in
       let key = key_at (catalogue_events h) p v.row in
-      let parts = three_false (not (is_row_of (made_at h p).columns v.row)) (not (accepts_among (bounds_below h caller.session p) key b)) (is_refused_above h caller.session p v.row) breaks in (
-        takes_row v.row (not_true (accepts_among (bounds_below h caller.session p) key b) parts.1),
-        none_refused (refused Bounds v.row (path_of h caller.session p)) (left_of (is_some (refused Bounds v.row (path_of h caller.session p))) (is_some (refused Checks v.row (path_of h caller.session p))) parts.2),
-        none_refused (refused Checks v.row (path_of h caller.session p)) (right_of (is_some (refused Bounds v.row (path_of h caller.session p))) (is_some (refused Checks v.row (path_of h caller.session p))) parts.2),
+      let own = left_of (not (accepts_among (bounds_below h caller.session p) key b)) (is_refused_above h caller.session p v.row) breaks in
+      let above = right_of (not (accepts_among (bounds_below h caller.session p) key b)) (is_refused_above h caller.session p v.row) breaks in (
+        takes_row v.row (not_true (accepts_among (bounds_below h caller.session p) key b) own),
+        none_refused (refused Bounds v.row (path_of h caller.session p)) (left_of (is_some (refused Bounds v.row (path_of h caller.session p))) (is_some (refused Checks v.row (path_of h caller.session p))) above),
+        none_refused (refused Checks v.row (path_of h caller.session p)) (right_of (is_some (refused Bounds v.row (path_of h caller.session p))) (is_some (refused Checks v.row (path_of h caller.session p))) above),
       )
 
   place : IsNewPlace h caller.session (new_entry caller p t b h)
@@ -169,7 +151,7 @@ module _ (laws : AttachLaws) (stores : Stores) (caller : Caller) (p t : ℕ) (b 
       let permitted = permitted_of h stands.good in
       let law = laws.passed h caller.session _ (new_entry caller p t b h) (catalogue_sound_of h legal) may.takes may.place in
       let count = table_count stores.catalog h stands.all.catalog in
-      let rest = rest_clean h caller.session (place_scan h caller.session p t b) (default_scan h caller.session p b (name_at h t) (default_of h caller.session p)) (is_skipped h caller.session p t b) clean in
+      let rest = clean_rest h caller.session (place_scan h caller.session p t b) (default_scan h caller.session p b (name_at h t) (default_of h caller.session p)) clean in
       let apart = λ (d : Entry) (is : IsDefaultOf h caller.session p d). stands_apart laws.none stores h caller.session (tx_in h caller.session) p b (name_at h t) d stands (laws.siblings h caller.session legal permitted) refl (all.default h stands.all.txs stands.all.catalog) rest is in
       record {
         own = ours;
@@ -186,41 +168,17 @@ module _ (laws : AttachLaws) (stores : Stores) (caller : Caller) (p t : ℕ) (b 
         default_scanned = λ d v is it. (apart d is).scanned v it;
       }
 
-  is_attached : is_skipped h caller.session p t b ≡ false → IsAttached h caller.session (new_entry caller p t b h)
-  is_attached out = record {
+  is_attached : IsAttached h caller.session (new_entry caller p t b h)
+  is_attached = record {
     place = place;
-    child_owned = λ x listed. inl (owned x listed);
+    child_owned = here.owned;
     no_partition = may.no_partition;
     not_above = may.not_above;
-    scanned = scanned out;
+    scanned = scanned;
   }
 
-  -- where the scan is left out
-  is_unscanned : is_skipped h caller.session p t b ≡ true → IsSkipped h caller.session (new_entry caller p t b h)
-  is_unscanned out =
-      let known = left_out h caller.session p t b out in
-      let said = known.said in
-      record {
-        place = place;
-        child_owned = λ x listed. inl (owned x listed);
-        no_partition = may.no_partition;
-        not_above = may.not_above;
-        parent_alone = known.alone;
-        parent_unchecked = known.unchecked;
-        check = said.check;
-        kept = said.kept;
-        level = said.level;
-        shape = said.shape;
-        columns = said.columns;
-        inside = said.inside;
-        looking = λ r x held. held_own h r x stands.good held;
-      }
-
   pub entry_may_follow : MayFollow (CatalogueChange (EntryAdded (new_entry caller p t b h)) ∷ []) h
-  entry_may_follow = elim (cases_Bool (is_skipped h caller.session p t b)) [
-    | inl out ↦ laws.skip h caller.session (new_entry caller p t b h) (legal_of h stands.good) (permitted_of h stands.good) (is_unscanned out)
-    | inr out ↦ laws.follow h caller.session (new_entry caller p t b h) (legal_of h stands.good) (permitted_of h stands.good) (is_attached out)
-  ]
+  entry_may_follow = laws.follow h caller.session (new_entry caller p t b h) (legal_of h stands.good) (permitted_of h stands.good) is_attached
 
 -- ---- the catalogue takes it
 
@@ -273,7 +231,7 @@ module _ (laws : AttachLaws) (stores : Stores) (caller : Caller) (p t : TableNo)
   add_deed clean catalog adds h stands at n its =
       let s = caller.session in
       let rows = stands.all.rows in
-      let told = clean h (record { txs = stands.all.txs; rows = stands.all.rows; catalog = stands.all.catalog }) in
+      let told = clean h (judged_now stores s t.number h stands all.family) in
       record {
         done = (ap (λ (m : ℕ). Some (m, caller.cmd)) (own_number h s n its), tt);
         may = entry_may_follow laws stores caller p.number t.number b h stands at n its (own_number h s n its) all (place h stands.all.txs stands.all.catalog) told;

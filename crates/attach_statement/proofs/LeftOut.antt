@@ -1,15 +1,19 @@
 -- What it says that the rows of the table need not be judged.
-use Rattle.std.proofs.Common.{◌≡◌, ◌≤◌, ℕ, ◌==◌, ◌&&◌, ◌||◌, Bool, true, false, List, [], ◌∷◌, ◌++◌, inl, inr, refl, sym, ap, ◌∙◌, subst, arith, Option, Some, None, Result, Ok, Err, length, map}
-use Rattle.std.specs.Prelude.{IfOk, is_some, is_none}
+use Rattle.std.proofs.Common.{◌≡◌, ℕ, ◌<◌, ◌==◌, ◌&&◌, ◌||◌, not, Bool, true, false, List, [], ◌∷◌, ◌++◌, inl, refl, sym, ap, ◌∙◌, subst, arith, Option, Some, None, Result, Ok, Err, length, map, slice_index_or}
+use Rattle.std.specs.Prelude.{IfOk, IsSome, is_some, is_none}
 use Rattle.std.specs.List.{Contains, list_any}
 use Rattle.std.proofs.lemmas.Bool.{and_parts, cases_Bool}
+use Rattle.std.proofs.lemmas.List.Elements.{All-contains}
+use Rattle.pg_values.specs.declared.value.Value.{Value}
 use Rattle.pg_values.specs.declared.fault.Fault.{Fault}
 use Rattle.pg_values.specs.declared.fault.Refusal.{Refusal}
-use Rattle.pg_values.specs.declared.fault.Refusal.TheVariants.{Sql, NoMemory}
-use Rattle.pg_values.specs.Refusals.{IsAnswer}
+use Rattle.pg_values.specs.declared.fault.Refusal.TheVariants.{Sql}
+use Rattle.pg_values.specs.declared.lock_mode.LockMode.TheVariants.{AccessExclusive}
+use Rattle.pg_values.specs.Refusals.{IsAnswer, or_first}
 use Rattle.pg_values.specs.Sets.{has}
 use Rattle.pg_values.specs.declared.ids.TableNo.{TableNo}
 use Rattle.pg_values.specs.declared.session_set.SessionSet.{SessionSet}
+use Rattle.bound_forms.specs.Accepts.{accepts, accepts_among, is_default}
 use Rattle.bound_forms.specs.declared.level.Level.{Level as OneLevel}
 use Rattle.bound_forms.specs.declared.partition_bound.Bound.{Bound}
 use Rattle.bound_forms.specs.Within.{within}
@@ -17,25 +21,64 @@ use Rattle.history.specs.declared.catalogue.Check.{Check}
 use Rattle.history.specs.declared.catalogue.Entry.{Entry}
 use Rattle.history.specs.declared.catalogue.KeptCheck.{KeptCheck}
 use Rattle.history.specs.declared.catalogue.TableShape.TheVariants.{Level}
-use Rattle.history.specs.History.{History}
-use Rattle.history.specs.Presence.{entries_present, checks_of}
-use Rattle.row_router.specs.Histories.{above, kept_of}
+use Rattle.history.specs.declared.version.Version.{Version}
+use Rattle.history.specs.Transactions.{open_of}
+use Rattle.history.specs.Catalogue.{tables_made}
+use Rattle.history.specs.Locks.{holds}
+use Rattle.history.specs.History.{History, tx_events, lock_events, catalogue_events}
+use Rattle.history.specs.Presence.{counts, entries_present, checks_of}
+use Rattle.row_router.specs.declared.path.PathTest.TheVariants.{Bounds, Checks}
+use Rattle.row_router.specs.declared.path_part.PathPart.{PathPart}
+use Rattle.row_router.specs.Histories.{above, ddl_tree, kept_of, part_of, parent_in as parent_of, path_of, place_of as part_place, table_of, upwards}
+use Rattle.row_router.specs.Paths.{refused}
+use Rattle.row_router.specs.Trees.{leaves}
+use Rattle.tx_table.specs.Stands.{TableStands}
+use Rattle.row_store.specs.Judged.{refusing}
+use Rattle.row_store.specs.Stands.{StoreStands}
 use Rattle.part_catalog.specs.Answers.{parent_told}
 use Rattle.part_catalog.specs.Found.{made_at}
-use Rattle.part_ddl.specs.Placing.{IsFault, level_at}
+use Rattle.part_catalog.specs.Stands.{CatalogueStands}
+use Rattle.part_ddl.specs.Below.{tables_from}
+use Rattle.part_ddl.specs.Placing.{IsFault, bounds_below, level_at}
+use Rattle.part_ddl.proofs.Making.{table_count}
 use Rattle.partition_scans.specs.Data.{DataStand}
-use Rattle.partition_scans.specs.Scans.{Scan, IsClean, judged, watches}
-use Rattle.partition_scans.proofs.Cleaning.{clean_rest}
+use Rattle.partition_scans.specs.Places.{breaks_place, is_refused_above, place_scan}
+use Rattle.partition_scans.specs.Scans.{Scan, IsClean, fault_told, judged, refusals, watches}
+use Rattle.partition_scans.specs.Sessions.{those}
+use Rattle.partition_scans.proofs.Cleaning.{NoneWatch, no_faults, own_watches}
+use Rattle.soundness.specs.Worlds.{IsMade, Present, key_at, view}
+use Rattle.soundness.proofs.All.{legal_keeps_all, legal_keeps_checks}
+use Rattle.soundness.proofs.CheckSkip.{implied_accepts}
+use Rattle.soundness.proofs.Columns.{house_present}
 use Rattle.soundness.proofs.Listed.{first_in, later_in}
+use Rattle.soundness.proofs.Paths.{agree}
+use Rattle.soundness.proofs.Under.{under_map}
+use Rattle.legal_statements.specs.Below.{numbers_from}
+use Rattle.legal_statements.specs.Entries.{IsScanned}
+use Rattle.legal_statements.specs.Locked.{IsOwned}
+use Rattle.legal_statements.proofs.Adding.{check_for}
+use Rattle.legal_statements.proofs.Finding.{nothing_is_found}
+use Rattle.legal_statements.proofs.Holding.{owns_of, session_runs}
+use Rattle.legal_statements.proofs.Trees.{tree_is_whole}
+use Rattle.stores.specs.Events.{tx_in}
+use Rattle.stores.specs.Good.{IsGood}
+use Rattle.stores.specs.Stand.{Stands}
 use Rattle.stores.specs.declared.stores.Stores.{Stores}
+use Rattle.stores.proofs.Goodness.{held_own, legal_of, permitted_of}
+use Rattle.statement_steps.specs.Attempts.{MayAttempt}
+use Rattle.statement_steps.specs.declared.caller.Caller.{Caller}
+use Rattle.table_statements.specs.Asked.{IsLocked}
 use Rattle.table_statements.specs.Drops.{parent_in}
+use Rattle.table_statements.proofs.Below.{from_numbers, unmapped_in}
 use Rattle.table_statements.proofs.Ends.{same_number}
+use Rattle.table_statements.proofs.Fresh.{own_number}
+use Rattle.table_statements.proofs.Held.{held_at_history}
 use Rattle.detach_statement.specs.Kept.{implies, same_columns, same_level, same_strategy}
 use Rattle.detach_statement.proofs.Checks.{shape_at}
 use Rattle.detach_statement.proofs.Levels.{columns_are}
-use Rattle.attach_statement.specs.Attached.{own_scan}
-use Rattle.attach_statement.specs.Skipped.{asks_nothing, is_implied, is_skipped, kept_for}
-use Rattle.attach_statement.proofs.Scanned.{are_those, first_refuses, others_refuse, nobody_refuses, both_watch, same_sets}
+use Rattle.attach_statement.specs.Asked.{HasFamilyLocked, IsJudgedIn}
+use Rattle.attach_statement.specs.Skipped.{SkippedIsClean, asks_nothing, is_implied, is_skipped, kept_for}
+use Rattle.attach_statement.proofs.Scanned.{are_those}
 
 -- ---- it is told
 
@@ -130,54 +173,124 @@ left_out h s p t b is =
       said = said_by h s p t b (level_at h p) refl parts.1;
     }
 
--- ---- the scans
+-- ---- a scan finds nothing
 
-module _ (h : History) (s : ℕ) (x : Scan) (xs : List Scan) where
-  -- with the other scans behind it
-  pub own_refuses : (skip : Bool) (r : Refusal) → IsAnswer {T = SessionSet} (Err r) (judged h s (own_scan skip x)) → IsAnswer {T = SessionSet} (Err r) (judged h s (own_scan skip x ++ xs))
-  own_refuses true (Sql f) e = absurd (let c = e in cc)
-  own_refuses true NoMemory e = tt
-  own_refuses false r e = first_refuses h s x xs r e
+-- nothing above the parent refuses a row
+path_alone : (h : History) (s p : ℕ) → above (entries_present h s) p ≡ None → checks_of h s p ≡ [] → path_of h s p ≡ record { table = table_of p; checks = []; place = None } ∷ []
+unfolding path_of
+path_alone h s p alone unchecked =
+    let tables = tables_made (catalogue_events h) in
+    let entries = entries_present h s in
+    let path : Option Entry → List Check → List PathPart = λ o cs. record { table = table_of p; checks = map kept_of cs; place = part_place tables entries o } ∷ upwards 7 (part_of tables entries (checks_of h s)) (above entries) (parent_of o) in
+    ap (λ o. path o (checks_of h s p)) alone ∙ ap (λ cs. path None cs) unchecked
 
-  pub rest_refuses : (skip : Bool) (set : SessionSet) (r : Refusal) → judged h s (own_scan skip x) ≡ Ok set → IsAnswer {T = SessionSet} (Err r) (judged h s xs) → IsAnswer {T = SessionSet} (Err r) (judged h s (own_scan skip x ++ xs))
-  rest_refuses true set r none e = e
-  rest_refuses false set r none e = others_refuse h s x xs set r none e
+none_above : (h : History) (s p : ℕ) (row : List Value) → above (entries_present h s) p ≡ None → checks_of h s p ≡ [] → is_refused_above h s p row ≡ false
+none_above h s p row alone unchecked = ap (λ path. is_some (refused Bounds row path) || is_some (refused Checks row path)) (path_alone h s p alone unchecked)
 
-  pub none_refuses : (skip : Bool) (set all both : SessionSet) → judged h s (own_scan skip x) ≡ Ok set → judged h s xs ≡ Ok all → ((r : ℕ) → has set r ≡ watches h s (own_scan skip x) r) → ((r : ℕ) → has all r ≡ watches h s xs r)
-      → ((r : ℕ) → has both r ≡ (has set r || has all r)) → ((r : ℕ) → 128 ≤ r → has both r ≡ false) → judged h s (own_scan skip x ++ xs) ≡ Ok both
-  none_refuses true set all both none rest one others joined low =
-      let same : all ≡ both = same_sets all both (λ k. sym (joined k ∙ ap (λ (b : Bool). b || has all k) (one k))) in
-      rest ∙ ap Ok same
-  none_refuses false set all both none rest one others joined low = nobody_refuses h s x xs set all both none rest one others joined low
+among_of : (a b : Bool) → a ≡ true → (a || b) ≡ true
+among_of true b is = refl
+among_of false b is = absurd (let c = is in cc)
 
-  pub all_watch : (skip : Bool) (set all both : SessionSet) → ((r : ℕ) → has set r ≡ watches h s (own_scan skip x) r) → ((r : ℕ) → has all r ≡ watches h s xs r) → ((r : ℕ) → has both r ≡ (has set r || has all r)) → (r : ℕ) → has both r ≡ watches h s (own_scan skip x ++ xs) r
-  all_watch true set all both one others joined r = joined r ∙ (ap (λ (b : Bool). b || has all r) (one r) ∙ others r)
-  all_watch false set all both one others joined r = both_watch h s x xs set all both one others joined r
+not_broken : (a b : Bool) → a ≡ true → b ≡ false → (not a || b) ≡ false
+not_broken true b is out = out
+not_broken false b is out = absurd (let c = is in cc)
 
-  -- those behind it are clean
-  pub rest_clean : (skip : Bool) → IsClean h s (own_scan skip x ++ xs) → IsClean h s xs
-  rest_clean true clean = clean
-  rest_clean false clean = clean_rest h s x xs clean
+-- the entry that is to come
+abbrev entry_to : (p t tx : ℕ) → Bound → Entry
+entry_to p t tx b = record { id = record { number = 0 }; parent = table_of p; child = table_of t; bound = b; by = record { number = tx }; cmd = 0 }
 
--- a scan that is not made tells of nobody
-pub nobody_judged : (h : History) (s : ℕ) (x : Scan) (skip : Bool) (set : SessionSet) → skip ≡ true → ((k : ℕ) → has set k ≡ false) → IsAnswer {T = SessionSet} (Ok set) (judged h s (own_scan skip x))
-nobody_judged h s x true set e none = ap Ok (are_those set (λ r. false) none (λ k le. none k))
-nobody_judged h s x false set e none = absurd (let c = e in cc)
+module _ (h : History) (s p t tx : ℕ) (b : Bound) (good : IsGood h) (own : open_of (tx_events h) s ≡ Some tx) (made : IsMade (catalogue_events h) t) (owned : (x : ℕ) → Contains (numbers_from h s t) x → IsOwned h s x) (out : IsLeftOut h s p t b) where
+  accepts_row : (v : Version) → IsScanned h s tx t v → accepts (key_at (catalogue_events h) p v.row) b ≡ true
+  accepts_row v is =
+      let legal = legal_of h good in
+      let permitted = permitted_of h good in
+      let runs = session_runs h s tx legal own in
+      let house = house_present h s t v.leaf legal (legal_keeps_all h legal permitted) made is.leaf in
+      let to : (e : Entry) → Present (catalogue_events h) (counts (tx_events h) s) e → Present (catalogue_events h) (view (tx_events h) tx) e =
+      λ e there. (there.0, sym (agree (tx_events h) s tx e.by.number own runs.runs) ∙ there.1, λ u end. sym (agree (tx_events h) s tx u own runs.runs) ∙ there.2 u end) in
+      let low = under_map (catalogue_events h) (catalogue_events h) (counts (tx_events h) s) (view (tx_events h) tx) to house.steps t house.table house.under in
+      let mine = owns_of h s tx house.table legal own (owned house.table ((tree_is_whole h s tx t legal permitted own).all house.steps house.table low)) in
+      let said = out.said in
+      let kept = check_for h s tx t said.check legal own said.kept in
+      implied_accepts h (entry_to p t tx b) v house.steps house.table legal (legal_keeps_all h legal permitted) (legal_keeps_checks h legal permitted) runs (λ r look held. (session_runs h r look.tx legal (held_own h r look good held)).runs)
+      said.check (record { kept = kept.0; child = kept.1; level = said.level; shape = said.shape; columns = said.columns; inside = said.inside }) mine is.version house.has low is.judged
 
-pub nobody_watches : (h : History) (s : ℕ) (x : Scan) (skip : Bool) (set : SessionSet) → skip ≡ true → ((k : ℕ) → has set k ≡ false) → (r : ℕ) → has set r ≡ watches h s (own_scan skip x) r
-nobody_watches h s x true set e none r = none r
-nobody_watches h s x false set e none r = absurd (let c = e in cc)
+  breaks_none : (v : Version) → IsScanned h s tx t v → breaks_place h s p b v.row ≡ false
+  breaks_none v is =
+      let key = key_at (catalogue_events h) p v.row in
+      not_broken (accepts_among (bounds_below h s p) key b) (is_refused_above h s p v.row) (among_of (accepts key b) (is_default b && not (list_any (accepts key) (bounds_below h s p))) (accepts_row v is)) (none_above h s p v.row out.alone out.unchecked)
 
--- and one that is made tells what it tells
-pub made_judged : (h : History) (s : ℕ) (x : Scan) (skip : Bool) (r : Result SessionSet Refusal) → skip ≡ false → IsAnswer r (judged h s (x ∷ [])) → IsAnswer r (judged h s (own_scan skip x))
-made_judged h s x true r e is = absurd (let c = e in cc)
-made_judged h s x false r e is = is
+  finds_nothing : IsClean h s (place_scan h s p t b ∷ [])
+  finds_nothing =
+      let none = nothing_is_found h s tx t (breaks_place h s p b) (legal_of h good) own breaks_none in
+      let first : refusing h s (tx_in h s) (leaves (ddl_tree h s t)) (breaks_place h s p b) ≡ None = subst (λ n. refusing h s n (leaves (ddl_tree h s t)) (breaks_place h s p b) ≡ None) (sym (own_number h s tx own)) none.0 in (
+        ap (λ (o : Option Version). fault_told (place_scan h s p t b).fault o ++ []) first,
+        λ r. ap (λ (w : Bool). w || false) (none.1 r),
+      )
 
-watches_by : (h : History) (s : ℕ) (x : Scan) (skip : Bool) (set : SessionSet) → skip ≡ false → ((r : ℕ) → has set r ≡ watches h s (x ∷ []) r) → (r : ℕ) → has set r ≡ watches h s (own_scan skip x) r
-watches_by h s x true set e is r = absurd (let c = e in cc)
-watches_by h s x false set e is r = is r
+pub skipped_is_clean : SkippedIsClean
+skipped_is_clean h s p t tx b good own made owned is = finds_nothing h s p t tx b good own made owned (left_out h s p t b is)
 
-pub made_watches : (stores : Stores) (s : ℕ) (x : History → Scan) (skip : History → Bool) (r : Result SessionSet Refusal) → ((h : History) → DataStand stores h → skip h ≡ false)
-    → IfOk r (λ set. (h : History) → DataStand stores h → (k : ℕ) → has set k ≡ watches h s (x h ∷ []) k) → IfOk r (λ set. (h : History) → DataStand stores h → (k : ℕ) → has set k ≡ watches h s (own_scan (skip h) (x h)) k)
-made_watches stores s x skip (Ok set) out is = λ h told k. watches_by h s (x h) (skip h) set (out h told) (is h told) k
-made_watches stores s x skip (Err e) out is = tt
+-- ---- what is told where it is not made
+
+clean_judged : (h : History) (s : ℕ) (xs : List Scan) (set : SessionSet) → IsClean h s xs → ((k : ℕ) → has set k ≡ false) → judged h s xs ≡ Ok set
+clean_judged h s xs set clean none = ap (λ fs. or_first fs (those (watches h s xs))) clean.0 ∙ ap Ok (are_those set (watches h s xs) (λ r. none r ∙ sym (clean.1 r)) (λ k le. none k))
+
+some_of : (o : Option ℕ) → IsSome o → (n : ℕ) × (o ≡ Some n)
+some_of None is = absurd is
+some_of (Some n) is = (n, refl)
+
+pub clean_in : SkippedIsClean → (stores : Stores) (caller : Caller) (p t : ℕ) (b : Bound) (h : History) → MayAttempt stores caller → t < length stores.catalog.tables → IsJudgedIn stores caller.session t h → is_skipped h caller.session p t b ≡ true → IsClean h caller.session (place_scan h caller.session p t b ∷ [])
+clean_in law stores caller p t b h may low it is =
+    let tx = some_of (slice_index_or stores.txs.current caller.session None) may.transaction in
+    let count = table_count stores.catalog h it.tells.catalog in
+    law h caller.session p t tx.0 b it.good (sym (it.tells.txs.current caller.session) ∙ tx.1) (omega (arith, count, low)) it.owned is
+
+pub nobody_judged : (h : History) (s p t : ℕ) (b : Bound) (set : SessionSet) → IsClean h s (place_scan h s p t b ∷ []) → ((k : ℕ) → has set k ≡ false) → IsAnswer {T = SessionSet} (Ok set) (judged h s (place_scan h s p t b ∷ []))
+nobody_judged h s p t b set clean none = clean_judged h s (place_scan h s p t b ∷ []) set clean none
+
+pub nobody_watches : (h : History) (s p t : ℕ) (b : Bound) (set : SessionSet) → IsClean h s (place_scan h s p t b ∷ []) → ((k : ℕ) → has set k ≡ false) → (r : ℕ) → has set r ≡ watches h s (place_scan h s p t b ∷ []) r
+nobody_watches h s p t b set clean none r = none r ∙ sym (clean.1 r)
+
+-- ---- in each history in which the rows are judged
+
+pub judged_now : (stores : Stores) (s t : ℕ) (h : History) → Stands stores h → HasFamilyLocked stores s t → IsJudgedIn stores s t h
+judged_now stores s t h stands family = record {
+  tells = record { txs = stands.all.txs; rows = stands.all.rows; catalog = stands.all.catalog };
+  good = stands.good;
+  owned = λ x listed.
+      let found = unmapped_in (tables_from h s t) x (subst (λ (ns : List ℕ). Contains ns x) (sym (from_numbers h s t)) listed) in
+      let held = All-contains (λ (y : TableNo). IsLocked stores s y.number) (tables_from h s t) found.0 (family h stands.all.txs stands.all.catalog) found.1 in
+      inl (subst (λ (k : ℕ). holds (lock_events h) s k AccessExclusive ≡ true) found.2 (held_at_history stores h s found.0.number stands held));
+}
+
+-- those who watch
+abbrev pub AreWatching : Stores → (session table : ℕ) → (History → List Scan) → SessionSet → Type 0
+AreWatching stores s t rows set = (h : History) → IsJudgedIn stores s t h → (r : ℕ) → has set r ≡ watches h s (rows h) r
+
+-- what is told of all in which the data stand
+pub each_data : (stores : Stores) (s t : ℕ) (rows : History → List Scan) (judgement : Result SessionSet Refusal) → IfOk judgement (λ set. (h : History) → DataStand stores h → (r : ℕ) → has set r ≡ watches h s (rows h) r) → IfOk judgement (AreWatching stores s t rows)
+each_data stores s t rows (Ok set) all = λ h it. all h it.tells
+each_data stores s t rows (Err e) all = tt
+
+pub own_never : (s t : ℕ) (judgement : Result SessionSet Refusal) (stores : Stores) (caller : Caller) → MayAttempt stores caller → HasFamilyLocked stores s t → (rows : History → List Scan) → IfOk judgement (AreWatching stores s t rows) → IfOk judgement (λ set. has set s ≡ false)
+own_never s t (Ok set) stores caller may family rows all =
+    let h = may.sound.0 in
+    all h (judged_now stores s t h may.sound.1 family) s ∙ own_watches h s (rows h)
+own_never s t (Err e) stores caller may family rows all = tt
+
+pub found_clean : (s t : ℕ) (judgement : Result SessionSet Refusal) (old new : Stores) → new ≡ record old { locks = new.locks } → (rows : History → List Scan)
+    → ((h : History) → IsJudgedIn old s t h → IsAnswer judgement (judged h s (rows h))) → IfOk judgement (AreWatching old s t rows) → NoneWatch judgement → (h : History) → IsJudgedIn new s t h → IsClean h s (rows h)
+found_clean s t judgement old new rest rows answer all (set, is, nobody) h it =
+    let told : (g : History) → IsJudgedIn old s t g → judged g s (rows g) ≡ Ok set = subst (λ (j : Result SessionSet Refusal). (g : History) → IsJudgedIn old s t g → IsAnswer j (judged g s (rows g))) is answer in
+    let watching : AreWatching old s t rows set = subst (λ (j : Result SessionSet Refusal). IfOk j (AreWatching old s t rows)) is all in
+    let was : IsJudgedIn old s t h = record {
+      tells = record {
+        txs = subst (λ (x : Stores). TableStands x.txs h) rest it.tells.txs;
+        rows = subst (λ (x : Stores). StoreStands x.rows h) rest it.tells.rows;
+        catalog = subst (λ (x : Stores). CatalogueStands x.catalog h) rest it.tells.catalog;
+      };
+      good = it.good;
+      owned = it.owned;
+    } in
+    (no_faults (refusals h s (rows h)) (those (watches h s (rows h))) set (told h was), λ r. sym (watching h was r) ∙ nobody r)

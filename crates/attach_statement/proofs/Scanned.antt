@@ -14,7 +14,7 @@ use Rattle.pg_values.specs.declared.session_set.SessionSet.{SessionSet}
 use Rattle.pg_values.proofs.Bits.{set_has}
 use Rattle.bound_forms.specs.declared.partition_bound.Bound.{Bound}
 use Rattle.history.specs.History.{History}
-use Rattle.history.specs.Places.{table_at, TakesBound}
+use Rattle.history.specs.Places.{table_at, HasColumnsOf, TakesBound}
 use Rattle.history.specs.declared.catalogue.Table.{Table}
 use Rattle.row_store.specs.Judged.{seeing, refusing}
 use Rattle.stores.specs.Events.{tx_in}
@@ -148,3 +148,11 @@ takes_always stores caller p t b may place h catalog =
     let g = may.sound.0 in
     let stands = may.sound.1 in
     subst (λ (x : Table). TakesBound x.shape b) (same_made stores.catalog g h p stands.all.catalog catalog) (place g stands.all.txs stands.all.catalog).takes
+
+-- and the table has the parent's columns
+pub columns_always : (stores : Stores) (caller : Caller) (p t : ℕ) (b : Bound) → MayAttempt stores caller → HasPlace stores caller.session p t b → (h : History) → CatalogueStands stores.catalog h → HasColumnsOf (made_at h p).columns (made_at h t).columns
+columns_always stores caller p t b may place h catalog =
+    let g = may.sound.0 in
+    let stands = may.sound.1 in
+    subst (λ (x : Table). HasColumnsOf x.columns (made_at h t).columns) (same_made stores.catalog g h p stands.all.catalog catalog)
+    (subst (λ (x : Table). HasColumnsOf (made_at g p).columns x.columns) (same_made stores.catalog g h t stands.all.catalog catalog) (place g stands.all.txs stands.all.catalog).columns)

@@ -18,6 +18,8 @@ use Rattle.part_catalog.specs.Stands.{CatalogueStands}
 use Rattle.part_ddl.specs.Below.{tables_from, IsTreeOf}
 use Rattle.part_ddl.specs.Placing.{place_faults}
 use Rattle.legal_statements.specs.Below.{numbers_from}
+use Rattle.legal_statements.specs.Locked.{IsOwned}
+use Rattle.stores.specs.Good.{IsGood}
 use Rattle.stores.specs.declared.stores.Stores.{Stores}
 use Rattle.partition_scans.specs.Data.{DataStand}
 use Rattle.partition_scans.specs.Scans.{IsClean}
@@ -36,9 +38,15 @@ pub record MayBeAttached (h : History) (session parent table : ℕ) (b : Bound) 
 abbrev pub HasPlace : Stores → (session parent table : ℕ) → Bound → Type 0
 HasPlace stores s p t b = (h : History) → TableStands stores.txs h → CatalogueStands stores.catalog h → MayBeAttached h s p t b
 
+-- transactions, rows and tables stand for a history of a run, in which nobody else may use the table and what is below it
+pub record IsJudgedIn (stores : Stores) (session table : ℕ) (h : History) : Type 0 where
+  pub tells : DataStand stores h
+  pub good : IsGood h
+  pub owned : (x : ℕ) → Contains (numbers_from h session table) x → IsOwned h session x
+
 -- no row of the table, and none of the default partition of the parent, stands against it
 abbrev pub AreRowsClean : Stores → (session parent table : ℕ) → Bound → Type 0
-AreRowsClean stores s p t b = (h : History) → DataStand stores h → IsClean h s (scans s p t b h)
+AreRowsClean stores s p t b = (h : History) → IsJudgedIn stores s t h → IsClean h s (scans s p t b h)
 
 -- ---- the locks
 

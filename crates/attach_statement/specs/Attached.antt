@@ -1,6 +1,6 @@
 -- ALTER TABLE, ATTACH PARTITION of a session (the manual, ALTER TABLE; 5.11.2.2 Partition Maintenance; 13.3.1 Table-Level
 -- Locks).
-use Rattle.std.specs.Prelude.{ℕ, Bool, true, false, List, [], ◌∷◌, ◌++◌, Some, length}
+use Rattle.std.specs.Prelude.{ℕ, List, [], ◌∷◌, Some, length}
 use Rattle.pg_values.specs.declared.lock_mode.LockMode.TheVariants.{ShareUpdateExclusive, AccessExclusive}
 use Rattle.bound_forms.specs.declared.partition_bound.Bound.{Bound as MeantBound}
 use Rattle.history.specs.declared.catalogue.Entry.{Entry}
@@ -20,7 +20,6 @@ use Rattle.table_statements.specs.Partitions.{default_locked, numbers_under}
 use Rattle.table_statements.specs.Refused.{answered}
 use Rattle.table_statements.specs.Tables.{own}
 use Rattle.attach_statement.specs.Places.{attach_place, name_at}
-use Rattle.attach_statement.specs.Skipped.{is_skipped}
 
 -- ---- the table and those under it are locked
 
@@ -32,14 +31,9 @@ family_locked names s t h = all_locked names s AccessExclusive (numbers_under h 
 abbrev pub place_found : (session parent table : ℕ) → Bound → History → Made MeantBound
 place_found s p t b h = answered (attach_place h s p t b)
 
--- that of the table, unless it need not be made
-abbrev pub own_scan : (is_skipped : Bool) → Scan → List Scan
-own_scan true x = []
-own_scan false x = x ∷ []
-
 -- the rows of the table are judged, and those of the default partition of the parent
 abbrev pub scans : (session parent table : ℕ) → MeantBound → History → List Scan
-scans s p t b h = own_scan (is_skipped h s p t b) (place_scan h s p t b) ++ default_scan h s p b (name_at h t) (default_of h s p)
+scans s p t b h = place_scan h s p t b ∷ default_scan h s p b (name_at h t) (default_of h s p)
 
 -- ---- the entry by which the table is a partition
 

@@ -1,10 +1,9 @@
-ghost use Rattle.std.specs.Prelude.{◌≡◌, ◌<◌, ◌≤◌, ◌+◌, ℕ, false, IfOk, length};
+ghost use Rattle.std.specs.Prelude.{◌≡◌, ◌<◌, ◌≤◌, ◌+◌, ◌∷◌, [], ℕ, false, IfOk, length};
 ghost use Rattle.pg_values.specs.Sets.{has};
 ghost use Rattle.pg_values.specs.Refusals.{IsAnswer};
 ghost use Rattle.history.specs.History.{History};
 ghost use Rattle.row_router.specs.Seen.{seen};
 ghost use Rattle.part_ddl.specs.Below.{IsTreeOf};
-ghost use Rattle.partition_scans.specs.Data.{DataStand};
 ghost use Rattle.partition_scans.specs.Places.{place_scan};
 ghost use Rattle.partition_scans.specs.Scans.{judged, watches};
 ghost use Rattle.sql_ast.specs.Commands.{bound_tree};
@@ -12,16 +11,15 @@ ghost use Rattle.statement_steps.specs.Attempts.{MayAttempt};
 ghost use Rattle.statement_steps.specs.Known.{IsKnownTo};
 ghost use Rattle.statement_steps.specs.Steps.{IsStep};
 ghost use Rattle.table_statements.specs.Asked.{IsLockedNamed};
-ghost use Rattle.attach_statement.specs.Asked.{AreFrom, AreRowsClean, HasFamilyLocked, HasLockedAll, HasPlace, IsGuardedNamed, IsPathOf, SeesBoth};
+ghost use Rattle.attach_statement.specs.Asked.{AreFrom, AreRowsClean, HasFamilyLocked, HasLockedAll, HasPlace, IsGuardedNamed, IsJudgedIn, IsPathOf, SeesBoth};
 ghost use Rattle.attach_statement.specs.Attached as attached;
-ghost use Rattle.attach_statement.specs.Skipped as skipped;
 
 use crate::checking::place_found;
+use crate::laws::skipped_is_clean;
 use crate::skipping::is_skipped;
 use bound_forms::Bound;
 use legal_statements::{
-    attach_may_follow, listed_is_there, named_is_there, none_breaks, skip_may_follow,
-    there_is_known, tree_is_whole,
+    attach_may_follow, listed_is_there, named_is_there, none_breaks, there_is_known, tree_is_whole,
 };
 use part_catalog::CatalogRefused;
 use part_ddl::passed_have_places;
@@ -50,7 +48,6 @@ fn add_entry(
     ensures { IsStep (λ u. u) result stores.old stores.new caller (caller.cmd + 1) (attached.entry_added caller parent.number table.number bound) }
 {
     attach_may_follow();
-    skip_may_follow();
     named_is_there();
     none_breaks();
     passed_have_places();
@@ -71,7 +68,7 @@ fn sessions_are_low(set: SessionSet)
     ensures { (k : ℕ) → 128 ≤ k → has set k ≡ false }
 {}
 
-// The rows of the table are judged, unless a CHECK says what would be asked of them.
+// The rows of the table are judged. Where a CHECK says what would be asked of them they are not looked at.
 fn judge_own(
     alloc: Global,
     stores: &Stores,
@@ -88,9 +85,10 @@ fn judge_own(
     requires tree { IsTreeOf stores.now.txs stores.now.catalog caller.session parent.number (seen tree.now) }
     requires path { IsPathOf stores.now caller.session parent.number path.now }
     requires place { HasPlace stores.now caller.session parent.number table.number bound.now }
-    ensures answer { (h : History) → DataStand stores.now h → IsAnswer result (judged h caller.session (attached.own_scan (skipped.is_skipped h caller.session parent.number table.number bound.now) (place_scan h caller.session parent.number table.number bound.now))) }
-    ensures all { IfOk result (λ others. (h : History) → DataStand stores.now h → (r : ℕ) → has others r ≡ watches h caller.session (attached.own_scan (skipped.is_skipped h caller.session parent.number table.number bound.now) (place_scan h caller.session parent.number table.number bound.now)) r) }
+    ensures answer { (h : History) → IsJudgedIn stores.now caller.session table.number h → IsAnswer result (judged h caller.session (place_scan h caller.session parent.number table.number bound.now ∷ [])) }
+    ensures all { IfOk result (λ others. (h : History) → IsJudgedIn stores.now caller.session table.number h → (r : ℕ) → has others r ≡ watches h caller.session (place_scan h caller.session parent.number table.number bound.now ∷ []) r) }
 {
+    skipped_is_clean();
     trees_are_together();
     let Stores { txs, catalog, .. } = stores;
     let session = caller.session;
@@ -119,8 +117,8 @@ fn judge_rows(
     requires tree { IsTreeOf stores.now.txs stores.now.catalog caller.session parent.number (seen tree.now) }
     requires path { IsPathOf stores.now caller.session parent.number path.now }
     requires place { HasPlace stores.now caller.session parent.number table.number bound.now }
-    ensures answer { (h : History) → DataStand stores.now h → IsAnswer result (judged h caller.session (attached.scans caller.session parent.number table.number bound.now h)) }
-    ensures all { IfOk result (λ others. (h : History) → DataStand stores.now h → (r : ℕ) → has others r ≡ watches h caller.session (attached.scans caller.session parent.number table.number bound.now h) r) }
+    ensures answer { (h : History) → IsJudgedIn stores.now caller.session table.number h → IsAnswer result (judged h caller.session (attached.scans caller.session parent.number table.number bound.now h)) }
+    ensures all { IfOk result (λ others. (h : History) → IsJudgedIn stores.now caller.session table.number h → (r : ℕ) → has others r ≡ watches h caller.session (attached.scans caller.session parent.number table.number bound.now h) r) }
 {
     let of_table = judge_own(alloc, stores, caller, parent, tree, path, table, bound)?;
     let name = stores.catalog.name_of(table);

@@ -1,14 +1,12 @@
 -- A row version that is followed by another one.
 use Rattle.std.proofs.Common.{◌≡◌, Bool, true, false, ℕ, zero, suc, ◌+◌, ◌<◌, List, [], ◌∷◌, ◌++◌, refl, ap, sym, ◌∙◌, subst, arith, Option, Some, None, Result, Ok, Err, slice_get, slice_index_or}
 use Rattle.std.specs.List.{Contains}
-use Rattle.std.proofs.lemmas.List.Elements.{Contains-append_left, Contains-append_right}
 use Rattle.pg_values.specs.declared.value.Value.{Value}
 use Rattle.pg_values.specs.declared.fault.Fault.{Fault}
 use Rattle.pg_values.specs.declared.fault.Refusal.{Refusal}
 use Rattle.pg_values.specs.declared.fault.Refusal.TheVariants.{Sql, NoMemory}
 use Rattle.pg_values.specs.declared.ids.LeafId.{LeafId}
 use Rattle.pg_values.specs.declared.ids.RowId.{RowId}
-use Rattle.pg_values.specs.declared.ids.TableNo.{TableNo}
 use Rattle.pg_values.specs.Refusals.{or_first}
 use Rattle.history.specs.declared.transaction.TxId.{TxId}
 use Rattle.history.specs.declared.version.Version.{Version}
@@ -17,16 +15,18 @@ use Rattle.history.specs.Transactions.{open_of}
 use Rattle.history.specs.Rows.{RowEvent, RowBorn, RowEnded, leaf_count}
 use Rattle.history.specs.History.{History, RowChange, tx_events, row_events, catalogue_events, versions}
 use Rattle.history.specs.Legal.{IsInOrder}
-use Rattle.row_router.specs.Trees.{TableTree, LeafTable, LevelTable, Trees, End as NoTrees, More, leaves, all_leaves, routed, routed_in, child_of}
+use Rattle.row_router.specs.Trees.{leaves}
 use Rattle.tx_table.specs.Stands.{TableStands}
 use Rattle.row_store.specs.Kept.{KeptRows, stored_at}
 use Rattle.row_store.specs.Stands.{StoreStands, newborn}
+use Rattle.part_catalog.specs.Found.{made_at}
+use Rattle.row_change.specs.Laws.{IsRowIn}
 use Rattle.row_change.specs.Placing.{bounds_faults, first_or}
 use Rattle.row_change.specs.Storing.{IsMade, check_faults, full_faults, made_by}
 use Rattle.row_change.specs.Succession as rows_spec
 use Rattle.row_change.specs.Succession.{ending_to, follows}
 use Rattle.soundness.specs.Worlds.{AcceptAbove, HasLeaf, view}
-use Rattle.soundness.proofs.Listed.{first_in}
+use Rattle.soundness.proofs.Columns.{row_down, routed_leaf}
 use Rattle.legal_statements.specs.Follows.{MayFollow}
 use Rattle.legal_statements.specs.Locked.{IsWritable}
 use Rattle.legal_statements.specs.Rows.{IsOldRow}
@@ -42,7 +42,7 @@ use Rattle.statement_steps.specs.Attempts.{WentOn}
 use Rattle.statement_steps.specs.declared.caller.Caller.{Caller}
 use Rattle.statement_steps.specs.declared.stop.Stop.{Stop}
 use Rattle.statement_steps.specs.declared.stop.Stop.TheVariants as stop
-use Rattle.insert_statement.specs.Asked.{stopped}
+use Rattle.insert_statement.specs.Asked.{AreRowsOf, stopped}
 use Rattle.insert_statement.specs.Born.{unless_refused}
 use Rattle.insert_statement.specs.Inserted.{answered, holder_faults, tables_of}
 use Rattle.insert_statement.proofs.OwnLeaf.{none_refuses}
@@ -51,25 +51,12 @@ use Rattle.insert_statement.proofs.Ways.{is_placed}
 use Rattle.change_statement.proofs.Ended.{Came, came_on, came_one, end_writes, got_at, own_is, rows_keep}
 use Rattle.change_statement.proofs.Kept.{one_of}
 use Rattle.change_statement.proofs.Stays.{ended_fits}
-use Rattle.change_statement.proofs.Still.{kept_accepts, leaf_is_there, open_leaf, routed_accepts, taken_above}
+use Rattle.change_statement.proofs.Still.{kept_accepts, leaf_columns, leaf_is_there, open_leaf, routed_accepts, taken_above}
 use Rattle.change_statement.specs.Running.{Agree, IsInRun, IsPlacedIn, IsRun, IsRunTold, IsTakenIn, MayEndIn, MayRun}
 use Rattle.change_statement.specs.Updated.{against, housed, succeeded, succeeded_by, tested}
 use Rattle.statement_steps.proofs.Since.{since_now, since_on}
 use Rattle.statement_steps.specs.Gathered.{Found, IsStill, MayWriteAt}
 use Rattle.change_statement.proofs.Runs.{no_memory_run}
-
--- ---- the leaf is one of the tree's
-
-mutual
-  pub routed_among : (row : List Value) (tree : TableTree) (leaf : LeafId) → routed row tree ≡ Ok leaf → Contains (leaves tree) leaf
-  routed_among row (LeafTable node own) leaf e = let same : own ≡ leaf = (let c = e in cc) in subst (Contains (own ∷ [])) same (first_in own [])
-  routed_among row (LevelTable node level bounds kids) leaf e = routed_under row node.table (child_of level bounds row) kids leaf e
-
-  routed_under : (row : List Value) (table : TableNo) (place : Option ℕ) (kids : Trees) (leaf : LeafId) → routed_in row table place kids ≡ Ok leaf → Contains (all_leaves kids) leaf
-  routed_under row table None kids leaf e = absurd (let c = e in cc)
-  routed_under row table (Some i) NoTrees leaf e = absurd (let c = e in cc)
-  routed_under row table (Some zero) (More k ks) leaf e = Contains-append_left (leaves k) (all_leaves ks) leaf (routed_among row k leaf e)
-  routed_under row table (Some (suc i)) (More k ks) leaf e = Contains-append_right (leaves k) (all_leaves ks) leaf (routed_under row table (Some i) ks leaf e)
 
 -- ---- the leaf where a row goes
 
@@ -90,7 +77,7 @@ may_take stores caller g id old leaf row t h stands run version own keys mine tr
     let still = run.still in
     let its = still.gathered in
     let placed = is_placed (tables_of h) g.tree g.path row leaf e in
-    let among = routed_among row g.tree leaf placed.routed in
+    let among = routed_leaf row g.tree leaf placed.routed in
     let may = one_of (MayWriteAt still.earlier s) (leaves g.tree) leaf among (its.moves on) in
     record {
       among = among;
@@ -128,7 +115,7 @@ placed_among stores caller g id old leaf row may version own at =
     subst (λ n. leaf.number < n) (sym stands.all.rows.leaves) (leaf_known h caller.session g leaf stands.good still among)
   where
     by : (b : Bool) → g.moves ≡ b → housed b (tables_of may.sound.0) g.tree g.path old row ≡ Ok leaf → Contains (leaves g.tree) leaf
-    by true on e = routed_among row g.tree leaf (is_placed (tables_of may.sound.0) g.tree g.path row leaf e).routed
+    by true on e = routed_leaf row g.tree leaf (is_placed (tables_of may.sound.0) g.tree g.path row leaf e).routed
     by false off e =
         let told = first_ok (bounds_faults (tables_of may.sound.0) g.path row) old leaf e in
         one_of (Contains (leaves g.tree)) g.leaves leaf (subst (Contains g.leaves) (own ∙ told.1) version.among) may.sound.2.still.gathered.among
@@ -146,8 +133,9 @@ none_stands stores caller g leaf row ran h stands run = none_of (against h calle
 -- ---- the row that is born
 
 born_in : (stores : Stores) (caller : Caller) (g : Found) (id : RowId) (old leaf : LeafId) (row : List Value) (by : TxId) (h : History) → Stands stores h → IsInRun g h caller → MayEndIn g stores caller id → (stored_at stores.rows.stored id).version.leaf ≡ old
-    → Agree g.asked.settings (stored_at stores.rows.stored id).version.row row → IsPlacedIn stores g old leaf row → IsTakenIn stores caller g leaf row → open_of (tx_events h) caller.session ≡ Some by.number → MayFollow (RowChange (RowBorn (newborn h leaf row by caller.cmd)) ∷ []) h
-born_in stores caller g id old leaf row by h stands run version own keys at taken mine =
+    → Agree g.asked.settings (stored_at stores.rows.stored id).version.row row → IsRowIn h row g.table → IsPlacedIn stores g old leaf row → IsTakenIn stores caller g leaf row → open_of (tx_events h) caller.session ≡ Some by.number
+    → MayFollow (RowChange (RowBorn (newborn h leaf row by caller.cmd)) ∷ []) h
+born_in stores caller g id old leaf row by h stands run version own keys of at taken mine =
     let s = caller.session in
     let legal = legal_of h stands.good in
     let take = may_take stores caller g id old leaf row by.number h stands run version own keys mine g.moves refl (at.placed h stands.all.catalog) in (
@@ -156,6 +144,7 @@ born_in stores caller g id old leaf row by h stands run version own keys at take
         in_order = run.order by.number mine;
         permitted = record {
           locked = λ x has. writes_of h s by.number x legal mine (take.writes x has);
+          columns = λ x has. row_down (made_at h g.table.number).columns (made_at h x).columns row (leaf_columns h s g leaf x stands.good run.still take.among has) of.1;
           routed = take.accepts;
           passes = taken_above h s by.number g leaf row stands.good run.still mine at.way (nothing_before (holder_faults h s g.tree leaf row) (check_faults (tables_of h) g.path row) (taken h stands run));
         };
@@ -208,12 +197,12 @@ nothing_came f h caller good run = record {
 }
 
 follows_came : (stores : Stores) (rows : KeptRows) (caller : Caller) (g : Found) (from : LeafId) (id : RowId) (leaf : LeafId) (row : List Value) (by : TxId) (h : History) → Stands stores h → IsInRun g h caller → MayEndIn g stores caller id → (stored_at stores.rows.stored id).version.leaf ≡ from
-    → Agree g.asked.settings (stored_at stores.rows.stored id).version.row row → IsPlacedIn stores g from leaf row → IsTakenIn stores caller g leaf row
+    → Agree g.asked.settings (stored_at stores.rows.stored id).version.row row → IsRowIn h row g.table → IsPlacedIn stores g from leaf row → IsTakenIn stores caller g leaf row
     → open_of (tx_events h) caller.session ≡ Some by.number → StoreStands rows (follows from id (newborn h leaf row by caller.cmd) ++ h) → Came g h caller (follows from id (newborn h leaf row by caller.cmd) ++ h)
-follows_came stores rows caller g from id leaf row by h stands run may own keys at taken mine store =
+follows_came stores rows caller g from id leaf row by h stands run may own keys of at taken mine store =
     let v = newborn h leaf row by caller.cmd in
     let e : End = record { by = by; cmd = caller.cmd; how = ending_to from leaf v.id } in
-    let born = born_in stores caller g id from leaf row by h stands run may own keys at taken mine in
+    let born = born_in stores caller g id from leaf row by h stands run may own keys of at taken mine in
     let first = came_one g (RowBorn v) h caller by.number mine refl born stands.good run in
     let h1 = RowChange (RowBorn v) ∷ h in
     let ended = old_row_may_follow h1 caller.session id.number e (legal_of h1 first.good) (old_row_behind stores rows caller g id e v h stands first.good first.run may mine refl store) in
@@ -238,20 +227,20 @@ abbrev pub ends : Result (Unit {0}) Refusal → Result (Unit {0}) Stop
 ends (Ok u) = Ok tt
 ends (Err r) = Err (stopped r)
 
-pub succeeded_run : (r : Result (Unit {0}) Refusal) (old : Stores) (rows : KeptRows) (caller : Caller) (g : Found) (from : LeafId) (id : RowId) (leaf : LeafId) (row : List Value) (by : TxId) → MayRun g old caller → MayEndIn g old caller id → (stored_at old.rows.stored id).version.leaf ≡ from → Agree g.asked.settings (stored_at old.rows.stored id).version.row row → IsPlacedIn old g from leaf row → IsTakenIn old caller g leaf row
+pub succeeded_run : (r : Result (Unit {0}) Refusal) (old : Stores) (rows : KeptRows) (caller : Caller) (g : Found) (from : LeafId) (id : RowId) (leaf : LeafId) (row : List Value) (by : TxId) → MayRun g old caller → MayEndIn g old caller id → (stored_at old.rows.stored id).version.leaf ≡ from → Agree g.asked.settings (stored_at old.rows.stored id).version.row row → AreRowsOf old.catalog g.table (row ∷ []) → IsPlacedIn old g from leaf row → IsTakenIn old caller g leaf row
     → slice_index_or old.txs.current caller.session None ≡ Some by.number → ((h : History) → TableStands old.txs h → StoreStands old.rows h → IsMade r rows h (rows_spec.succeeded h from id leaf row by caller.cmd))
     → IsRun g (λ (u : Unit {0}). u) (ends r) old (record old { rows = rows }) caller (succeeded caller from id leaf row)
-succeeded_run (Ok u) old rows caller g from id leaf row by may version own keys at taken mine added = record {
+succeeded_run (Ok u) old rows caller g from id leaf row by may version own keys of at taken mine added = record {
   is = λ h stands run.
       let new = record old { rows = rows } in
       let open_in : open_of (tx_events h) caller.session ≡ Some by.number = sym (stands.all.txs.current caller.session) ∙ mine in
       subst (λ (b : TxId). IsRunTold g (λ (x : Unit {0}). x) (Ok tt) new caller h (succeeded_by b caller from id leaf row h)) (own_is h caller.session by open_in)
       (stands_made g (full_faults h row) (follows from id (newborn h leaf row by caller.cmd)) h rows new caller (added h stands.all.txs stands.all.rows)
-      (λ store. let came = follows_came old rows caller g from id leaf row by h stands run version own keys at taken open_in store in (came_on g old rows caller h (follows from id (newborn h leaf row by caller.cmd) ++ h) stands came store, came.run)));
+      (λ store. let came = follows_came old rows caller g from id leaf row by h stands run version own keys (of h stands.all.catalog 0 row (omega arith)) at taken open_in store in (came_on g old rows caller h (follows from id (newborn h leaf row by caller.cmd) ++ h) stands came store, came.run)));
   keeps = rows_keep old rows caller.session;
   waits = may.may.idle;
 }
-succeeded_run (Err (Sql f)) old rows caller g from id leaf row by may version own keys at taken mine added = record {
+succeeded_run (Err (Sql f)) old rows caller g from id leaf row by may version own keys of at taken mine added = record {
   is = λ h stands run.
       let new = record old { rows = rows } in
       let open_in : open_of (tx_events h) caller.session ≡ Some by.number = sym (stands.all.txs.current caller.session) ∙ mine in
@@ -261,4 +250,4 @@ succeeded_run (Err (Sql f)) old rows caller g from id leaf row by may version ow
   keeps = rows_keep old rows caller.session;
   waits = may.may.idle;
 }
-succeeded_run (Err NoMemory) old rows caller g from id leaf row by may version own keys at taken mine added = no_memory_run g (λ (u : Unit {0}). u) old (record old { rows = rows }) caller (succeeded caller from id leaf row) (rows_keep old rows caller.session)
+succeeded_run (Err NoMemory) old rows caller g from id leaf row by may version own keys of at taken mine added = no_memory_run g (λ (u : Unit {0}). u) old (record old { rows = rows }) caller (succeeded caller from id leaf row) (rows_keep old rows caller.session)

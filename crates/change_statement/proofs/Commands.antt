@@ -72,7 +72,7 @@ may_begin stores caller g may its =
     let s = may.sound in
     let run = begins_run g s.0 caller s.2 (still_now stores caller g s.0 may s.1 its) in
     record {
-      may = record { sound = (s.0, s.1, run.at); transaction = may.transaction; idle = may.idle; known = may.known; few = may.few; sessions = may.sessions; tables = may.tables };
+      may = record { sound = (s.0, s.1, run.at); transaction = may.transaction; idle = may.idle; known = may.known; few = may.few; sessions = may.sessions; seats = may.seats; tables = may.tables };
       sound = (s.0, s.1, run);
     }
 
@@ -99,7 +99,7 @@ may_go stores caller r may its =
     let s = its.sound in
     let run = begins_run r.found s.0 caller s.2 (s.3.still (its.own s.0 s.1)) in
     record {
-      may = record { sound = (s.0, s.1, run.at); transaction = may.transaction; idle = may.idle; known = may.known; few = may.few; sessions = may.sessions; tables = may.tables };
+      may = record { sound = (s.0, s.1, run.at); transaction = may.transaction; idle = may.idle; known = may.known; few = may.few; sessions = may.sessions; seats = may.seats; tables = may.tables };
       sound = (s.0, s.1, run);
     }
 

@@ -104,6 +104,10 @@ may_end_in stores caller g t tx seen target mine may = record {
   among = subst (Contains g.leaves) (sym (may.leaf ∙ target.leaf)) target.among;
 }
 
+-- a session that is waited for is one of the run's
+pub is_seat : (stores : Stores) (caller : Caller) (g : Found) (other : ℕ) → MayRun g stores caller → other < length stores.txs.current → other < 128
+is_seat stores caller g other may known = let seats = may.may.seats in let few = may.may.few in omega (arith, known, seats, few)
+
 -- ---- all tables of the tree are kept
 
 mutual

@@ -11,7 +11,8 @@ use Rattle.pg_values.specs.declared.ids.RowId.{RowId}
 use Rattle.pg_values.specs.declared.ids.TableNo.{TableNo}
 use Rattle.history.specs.declared.catalogue.Column.{Column}
 use Rattle.history.specs.Catalogue.{tables_made}
-use Rattle.history.specs.History.{History, catalogue_events}
+use Rattle.history.specs.History.{History, row_events, catalogue_events}
+use Rattle.history.specs.Places.{table_at}
 use Rattle.row_router.specs.Histories.{tree_of, path_of}
 use Rattle.row_router.specs.Trees.{IsRowOf, TableTree, LeafTable, LevelTable, Trees, End, More, leaves, all_leaves}
 use Rattle.std.specs.List.{Contains}
@@ -21,6 +22,7 @@ use Rattle.history.specs.declared.catalogue.Table.{Table}
 use Rattle.part_catalog.specs.Found.{made_at}
 use Rattle.part_catalog.specs.Stands.{CatalogueStands}
 use Rattle.part_catalog.specs.Kept.{KeptCatalogue}
+use Rattle.row_store.specs.Kept.{blank, stored_at}
 use Rattle.row_change.specs.declared.target.Target.{Target}
 use Rattle.row_change.specs.Laws.{IsRowIn}
 use Rattle.row_change.specs.Placing.{first_or, placed, all_placed, CanBePlaced, IsNumbered, IsPartNumbered}
@@ -32,7 +34,7 @@ use Rattle.row_change.proofs.Made.{paths_are_made, row_links, tree_all, trees_ar
 use Rattle.row_change.proofs.Ways.{all_to}
 use Rattle.row_change.proofs.Targets.{last_in_tree}
 use Rattle.change_statement.specs.NewRows.{new_row}
-use Rattle.soundness.proofs.OneLeaf.{sessions_have_siblings}
+use Rattle.soundness.proofs.OneLeaf.{all_versions, sessions_have_siblings}
 use Rattle.stores.specs.Stand.{Stands}
 use Rattle.stores.specs.declared.stores.Stores.{Stores}
 use Rattle.stores.proofs.Goodness.{legal_of, permitted_of}
@@ -45,15 +47,19 @@ use Rattle.insert_statement.proofs.Targets.{found_target, one_told}
 use Rattle.insert_statement.proofs.Placed.{one_numbered}
 use Rattle.statement_steps.proofs.Parts.{stays}
 use Rattle.statement_steps.specs.Gathered.{Found}
-use Rattle.change_statement.specs.Running.{IsRun, MayRun, Takes}
+use Rattle.change_statement.specs.Running.{IsRun, MayEndIn, MayRun, Takes}
 use Rattle.change_statement.specs.Updated.{renewed, stored, updating}
 use Rattle.statement_steps.specs.Waiting.{Since}
+use Rattle.soundness.specs.Versions.{IsVersion}
 use Rattle.soundness.specs.Worlds.{IsMade}
+use Rattle.soundness.proofs.Columns.{columns_of, row_up}
 use Rattle.soundness.proofs.Listed.{none_in, only_one}
 use Rattle.soundness.proofs.Presence.{all_more}
 use Rattle.soundness.proofs.Sound.{catalogue_sound_of}
 use Rattle.change_statement.proofs.EachRow.{all_low}
-use Rattle.change_statement.proofs.Still.{good_then, table_stays}
+use Rattle.change_statement.proofs.Kept.{one_of}
+use Rattle.change_statement.proofs.Still.{good_then, leaf_columns, leaf_is_there, table_stays}
+use Rattle.change_statement.proofs.Targets.{version_numbered}
 use Rattle.change_statement.proofs.Runs.{then_run, stop_run, nothing_run, refused_run, no_memory_run}
 
 -- ---- what is answered
@@ -71,18 +77,34 @@ refusal_run {T} g NoMemory stores caller f may is = no_memory_run g (λ (y : T).
 abbrev pub IsNew : Result (List Value) Refusal → Stores → Found → List Value → Type 0
 IsNew r stores g row = (h : History) → CatalogueStands stores.catalog h → IsAnswer r (new_row (made_at h g.table.number).columns g.asked.settings row)
 
-pub same_or_none : (r : Result (List Value) Refusal) (columns : List Column) (row : List Value) (wanted : Result (List Value) Fault) → MatchResult r (λ new. (new ≡ row) × IsRowOf columns new) (λ e. e ≡ NoMemory) → wanted ≡ Ok row → IsAnswer r wanted
-same_or_none (Ok new) columns row wanted is told = told ∙ ap Ok (sym is.0)
-same_or_none (Err e) columns row wanted is told = subst (λ x. IsAnswer (Err x) wanted) (sym is) tt
-
-pub only_rows : (r : Result (List Value) Refusal) (catalog : KeptCatalogue) (t : TableNo) (columns : List Column) (row : List Value) → t.number < length catalog.tables → ((h : History) → CatalogueStands catalog h → columns ≡ (made_at h t.number).columns)
-    → MatchResult r (λ new. (new ≡ row) × IsRowOf columns new) (λ e. e ≡ NoMemory) → IfOk r (λ new. AreRowsOf catalog t (new ∷ []))
-only_rows (Ok new) catalog t columns row known are is = λ h stands.
-    let kept = tables_kept catalog h stands in
-    let made : t.number < length (tables_made (catalogue_events h)) = omega (arith, kept, known) in
+-- what is made of a row of the table's columns is one of them
+pub renewed_of : (r : Result (List Value) Refusal) (catalog : KeptCatalogue) (t : TableNo) (columns : List Column) (row : List Value) → ((h : History) → CatalogueStands catalog h → columns ≡ (made_at h t.number).columns) → AreRowsOf catalog t (row ∷ [])
+    → IfOk r (λ new. IsRowOf columns row → IsRowOf columns new) → IfOk r (λ new. AreRowsOf catalog t (new ∷ []))
+renewed_of (Ok new) catalog t columns row are of to = λ h stands.
+    let old = of h stands 0 row (omega arith) in
     let P = λ (x : List Value). IsRowIn h x t in
-    All-cons P new [] (made, subst (λ cs. IsRowOf cs new) (are h stands) is.1) (All-nil P)
-only_rows (Err e) catalog t columns row known are is = tt
+    All-cons P new [] (old.0, subst (λ cs. IsRowOf cs new) (are h stands) (to (subst (λ cs. IsRowOf cs row) (sym (are h stands)) old.1))) (All-nil P)
+renewed_of (Err e) catalog t columns row are of to = tt
+
+-- a version in a leaf that is read is one of the named table's columns
+pub read_of : (stores : Stores) (caller : Caller) (g : Found) (id : RowId) (row : List Value) → MayRun g stores caller → MayEndIn g stores caller id → row ≡ (stored_at stores.rows.stored id).version.row → AreRowsOf stores.catalog g.table (row ∷ [])
+read_of stores caller g id row may version is = λ k catalog.
+    let h = may.sound.0 in
+    let stands = may.sound.1 in
+    let s = caller.session in
+    let still = may.sound.2.still in
+    let v = (stored_at stores.rows.stored id).version in
+    let among = one_of (Contains (leaves g.tree)) g.leaves v.leaf version.among still.gathered.among in
+    let home = leaf_is_there h s g v.leaf stands.good still among in
+    let about = version_numbered stores.rows h id version.known stands.all.rows in
+    let there : IsVersion (row_events h) v = subst (IsVersion (row_events h)) about.there (all_versions (row_events h) id.number blank.version about.within) in
+    let low = columns_of h (permitted_of h stands.good) v home.0 there home.1 in
+    let columns = leaf_columns h s g v.leaf home.0 stands.good still among home.1 in
+    let of = row_up (made_at h g.table.number).columns (made_at h home.0).columns v.row columns low in
+    let top = table_stays h s still.earlier g.table.number still.since still.gathered.made in
+    let tables : tables_made (catalogue_events h) ≡ tables_made (catalogue_events k) = sym stands.all.catalog.tables ∙ catalog.tables in
+    let P = λ (x : List Value). IsRowIn k x g.table in
+    All-cons P row [] (subst (λ (x : List Value). IsRowIn k x g.table) (sym is) (subst (λ (ts : List Table). (g.table.number < length ts) × IsRowOf (table_at ts g.table.number).columns v.row) tables (top.made, of))) (All-nil P)
 
 pub updated_run : (new : List Value) (r : Result (Unit {0}) Stop) (old mid : Stores) (caller : Caller) (g : Found) (leaf : LeafId) (id : RowId) (row : List Value) → MayRun g old caller → IsNew (Ok new) old g row → IsRun g (λ (u : Unit {0}). u) r old mid caller (stored caller g leaf id new)
     → IsRun g (λ (u : Unit {0}). u) r old mid caller (updating caller g leaf id row)
@@ -100,6 +122,15 @@ faulty_run r stores caller g leaf id row may is =
 one_leaf : (p : Result LeafId Fault) (leaf : LeafId) (leaves : List LeafId) → or_first (faults_in (p ∷ [])) (read_in (p ∷ [])) ≡ Ok (leaf ∷ leaves) → p ≡ Ok leaf
 one_leaf (Ok own) leaf leaves e = let c = e in cc
 one_leaf (Err f) leaf leaves e = absurd (let c = e in cc)
+
+-- a row that is placed has a leaf
+no_leaf : (p : Result LeafId Fault) → or_first (faults_in (p ∷ [])) (read_in (p ∷ [])) ≡ Ok [] → ⊥
+no_leaf (Ok own) e = let c = e in cc
+no_leaf (Err f) e = let c = e in cc
+
+pub is_somewhere : (g : Found) (row : List Value) (h : History) (leaves : List LeafId) → length leaves ≡ 0 → all_placed (tables_of h) g.tree g.path (row ∷ []) ≡ Ok leaves → ⊥
+is_somewhere g row h [] none e = no_leaf (placed (tables_of h) g.tree g.path row) e
+is_somewhere g row h (l ∷ ls) none e = omega (arith, none)
 
 one_fault : (p : Result LeafId Fault) (f : Fault) → or_first (faults_in (p ∷ [])) (read_in (p ∷ [])) ≡ Err f → p ≡ Err f
 one_fault (Ok own) f e = absurd (let c = e in cc)

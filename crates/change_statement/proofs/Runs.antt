@@ -1,5 +1,5 @@
 -- Parts of a run, one after another.
-use Rattle.std.proofs.Common.{◌≡◌, ℕ, ◌+◌, [], ◌∷◌, ◌++◌, refl, ap, sym, ◌∙◌, subst, append_assoc, Some, None, Result, Ok, Err, IsSome, slice_index_or}
+use Rattle.std.proofs.Common.{Err, IsSome, None, Ok, Result, Some, ℕ, [], ap, append_assoc, length, refl, slice_index_or, subst, sym, ◌++◌, ◌+◌, ◌∙◌, ◌∷◌, ◌≡◌}
 use Rattle.pg_values.specs.declared.fault.Fault.{Fault}
 use Rattle.history.specs.History.{History}
 use Rattle.stores.specs.Stand.{Stands}
@@ -108,6 +108,7 @@ may_run_on g see x old mid caller f may first =
         known = may.may.known;
         few = may.may.few;
         sessions = first.keeps.size.sessions ∙ may.may.sessions;
+        seats = ap length first.keeps.transactions ∙ may.may.seats;
         tables = first.keeps.size.tables ∙ may.may.tables;
       };
       sound = (k, a.1.stands, a.2);

@@ -6,6 +6,7 @@ use Rattle.std.proofs.lemmas.List.Elements.{All-contains, Contains-append_cases}
 use Rattle.pg_values.specs.declared.value.Value.{Value}
 use Rattle.pg_values.specs.declared.ids.LeafId.{LeafId}
 use Rattle.pg_values.specs.declared.ids.TableNo.{TableNo}
+use Rattle.history.specs.declared.catalogue.Table.{Table}
 use Rattle.history.specs.declared.catalogue.TableShape.{TableShape}
 use Rattle.history.specs.declared.catalogue.TableShape.TheVariants.{Leaf, Level}
 use Rattle.history.specs.declared.catalogue.Entry.{Entry}
@@ -13,6 +14,7 @@ use Rattle.history.specs.Transactions.{open_of}
 use Rattle.history.specs.Snapshots.{TakenSnapshot}
 use Rattle.history.specs.Catalogue.{CatalogueEvents, TableMade, TableDropped, EntryAdded, EntryEnded, EntryMarked, CheckKept, tables_made}
 use Rattle.history.specs.History.{History, TxChange, SnapshotChange, RowChange, LockChange, CatalogueChange, tx_events, catalogue_events}
+use Rattle.history.specs.Places.{HasColumnsOf}
 use Rattle.history.specs.Presence.{counts, entries_shown}
 use Rattle.history.specs.Legal.{IsLegal}
 use Rattle.history.proofs.Open.{open_runs}
@@ -29,6 +31,7 @@ use Rattle.soundness.specs.Worlds.{World, table_in, IsMade, HasLeaf, Present, Un
 use Rattle.soundness.specs.Parts.{Siblings, InvariantOf}
 use Rattle.soundness.proofs.All.{legal_keeps_all}
 use Rattle.soundness.proofs.CheckPath.{path_passes}
+use Rattle.soundness.proofs.Columns.{leaves_have_columns}
 use Rattle.soundness.proofs.Listed.{none_in, only_one, first_in, later_in}
 use Rattle.soundness.proofs.Looking.{counts_world}
 use Rattle.soundness.proofs.Made.{same_table, made_more}
@@ -114,6 +117,21 @@ pub leaf_is_there : (h : History) (s : ℕ) (g : Found) (leaf : LeafId) → IsGo
 leaf_is_there h s g leaf good still at =
     let home = leaf_home still.earlier s g leaf (good_then h s still.earlier good still.since) still.gathered at in
     (home.0, leaf_stays h s still.earlier home.0 leaf still.since home.1)
+
+-- it has the columns of the named table
+pub leaf_columns : (h : History) (s : ℕ) (g : Found) (leaf : LeafId) (x : ℕ) → IsGood h → IsStill h s g → Contains (leaves g.tree) leaf → HasLeaf (catalogue_events h) x leaf → HasColumnsOf (table_in (catalogue_events h) g.table.number).columns (table_in (catalogue_events h) x).columns
+leaf_columns h s g leaf x good still at has =
+    let earlier = still.earlier in
+    let its = still.gathered in
+    let before = good_then h s earlier good still.since in
+    let cats = catalogue_events h in
+    let house = leaves_have_columns earlier s g.table.number its.look leaf (legal_of earlier before) (permitted_of earlier before) its.made (inl (subst (λ t. Contains (leaves t) leaf) its.tree at)) in
+    let top = table_stays h s earlier g.table.number still.since its.made in
+    let low = table_stays h s earlier house.0 still.since house.1.0 in
+    let i = legal_keeps_all h (legal_of h good) (permitted_of h good) in
+    let same : house.0 ≡ x = i.tables.one_home house.0 x leaf (leaf_stays h s earlier house.0 leaf still.since house.1) has in
+    subst (λ y. HasColumnsOf (table_in cats g.table.number).columns (table_in cats y).columns) same
+    (subst (λ (t : Table). HasColumnsOf t.columns (table_in cats house.0).columns) (sym top.same) (subst (λ (t : Table). HasColumnsOf (table_in (catalogue_events earlier) g.table.number).columns t.columns) (sym low.same) house.2))
 
 -- ---- a leaf that could be written then
 

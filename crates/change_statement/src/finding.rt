@@ -11,7 +11,7 @@ ghost use Rattle.change_statement.specs.Targets.{IsTargetThere, taken, targets, 
 use crate::condition::takes;
 use cond_logic::Cond;
 use pg_values::{LeafId, NoMemory};
-use row_store::{RowStore, Scan, SeenRow, Trail};
+use row_store::{RowStore, Scan, SeenRow, Trail, TrailRefused};
 use statement_steps::TargetRow;
 use std::alloc::Global;
 use tx_table::{Snapshot, TxTable};
@@ -32,7 +32,8 @@ fn scan_leaf<'s>(
     let mut trail = Trail::new(alloc)?;
     match trail.reserve(1) {
         Ok(()) => Ok(store.scan(txs, leaf, snap, &mut trail)),
-        Err(_) => Err(NoMemory),
+        Err(TrailRefused::NoMemory) => Err(NoMemory),
+        Err(TrailRefused::Full) => unreachable!(),
     }
 }
 

@@ -1,18 +1,15 @@
 //! A row version that is followed by another one.
 
-ghost use Rattle.std.specs.Prelude.{◌≡◌, ◌<◌, ◌∷◌, [], true, false, IfOk, MatchResult, length};
+ghost use Rattle.std.specs.Prelude.{◌≡◌, ◌<◌, ◌∷◌, [], IfOk, length};
 ghost use Rattle.pg_values.specs.Refusals.{IsAnswer, or_first};
-ghost use Rattle.bound_forms.specs.Levels.{IsOf};
 ghost use Rattle.history.specs.History.{History};
 ghost use Rattle.row_router.specs.Seen.{seen};
-ghost use Rattle.row_router.specs.Trees.{IsRowOf};
 ghost use Rattle.row_store.specs.Kept.{stored_at};
 ghost use Rattle.std.specs.List.{Contains};
 ghost use Rattle.row_change.specs.Succession.{KeepsVersions};
 ghost use Rattle.row_change.specs.Targets.{HasWay};
 ghost use Rattle.part_catalog.specs.Found.{made_at};
 ghost use Rattle.part_catalog.specs.Stands.{CatalogueStands};
-ghost use Rattle.pg_values.specs.declared.fault.Refusal.TheVariants.{NoMemory};
 ghost use Rattle.change_statement.specs.NewRows.{new_row};
 ghost use Rattle.cond_logic.specs.Asked.{change_meant};
 ghost use Rattle.stores.specs.Stand.{Stands};
@@ -24,10 +21,9 @@ ghost use Rattle.change_statement.specs.Updated as updated;
 
 use crate::asking::stop_by;
 use crate::new_row;
-use history::Column;
 use insert_statement::leaves_of;
 use part_catalog::Catalog;
-use pg_values::{Kind, LeafId, Refusal, Row, RowId, Value, kind_of};
+use pg_values::{LeafId, Refusal, Row, RowId};
 use row_change::{check_bounds, check_kept, check_leaf, leaf_targets, succeed_row};
 use statement_steps::{Caller, Gathered, Stop};
 use std::alloc::Global;
@@ -36,61 +32,20 @@ use stores::{Stores, trees_are_together};
 
 // ---- the new row
 
-fn is_of(kind: Kind, value: &Value) -> bool
-    ensures { result ≡ true → IsOf kind value.now }
-{
-    match value {
-        Value::Null => true,
-        _ => kind_of(value) == kind,
-    }
-}
-
-// A value for each of the columns, of its kind.
-fn are_of(columns: &[Column], values: &[Value]) -> bool
-    ensures { result ≡ true → IsRowOf columns.now values.now }
-{
-    let mut left = values;
-    for column in columns {
-        match left.split_first() {
-            None => return false,
-            Some((value, others)) => {
-                if !is_of(column.kind, value) {
-                    return false;
-                }
-                left = others;
-            }
-        }
-    }
-    left.is_empty()
-}
-
-// Rows of the table are of its columns: want of memory is never told for another one.
-fn only_of(columns: &[Column], row: Row) -> Result<Row, Refusal>
-    ensures { MatchResult result (λ new. (new ≡ row) × IsRowOf columns.now new) (λ r. r ≡ NoMemory) }
-{
-    if are_of(columns, row.as_slice()) {
-        Ok(row)
-    } else {
-        Err(Refusal::NoMemory)
-    }
-}
-
-/// The row with the values that the statement sets in it.
+/// The row, which is one of the table's columns, with the values that the statement sets in it.
 pub(crate) fn renew(
     alloc: Global,
     catalog: &Catalog,
     gathered: &Gathered,
     row: &Row,
 ) -> Result<Row, Refusal>
-    requires { gathered.now.table.number < length catalog.now.tables }
+    requires known { gathered.now.table.number < length catalog.now.tables }
+    requires of { AreRowsOf catalog.now gathered.now.table (row.now ∷ []) }
     ensures is { (h : History) → CatalogueStands catalog.now h → IsAnswer result (new_row (made_at h gathered.now.table.number).columns (change_meant gathered.now.ask).settings row.now) }
     ensures of { IfOk result (λ new. AreRowsOf catalog.now gathered.now.table (new ∷ [])) }
 {
     let columns = catalog.table(gathered.table).columns.as_slice();
-    match new_row(alloc, columns, &gathered.ask.settings, row) {
-        Ok(new) => only_of(columns, new),
-        Err(refusal) => Err(refusal),
-    }
+    new_row(alloc, columns, &gathered.ask.settings, row)
 }
 
 // ---- its leaf
@@ -103,6 +58,7 @@ fn house(
     from: LeafId,
     row: &Row,
 ) -> Result<LeafId, Refusal>
+    requires sound { (h : History) × CatalogueStands stores.now.catalog h }
     requires takes { Takes (length stores.now.catalog.tables) (found_of gathered.now) row.now }
     requires own { HasWay (found_of gathered.now).tree from }
     ensures is { (h : History) → CatalogueStands stores.now.catalog h → IsAnswer result (updated.housed gathered.now.moves (tables_of h) (seen gathered.now.tree) gathered.now.path.items from row.now) }
@@ -122,7 +78,7 @@ fn house(
     )?;
     match leaves.as_slice().split_first() {
         Some((leaf, _)) => Ok(*leaf),
-        None => Err(Refusal::NoMemory),
+        None => unreachable!(),
     }
 }
 
@@ -223,6 +179,7 @@ fn succeed(
     requires version { MayEndIn (found_of gathered.now) stores.old caller id }
     requires own { (stored_at stores.old.rows.stored id).version.leaf ≡ from }
     requires keys { Agree (change_meant gathered.now.ask).settings (stored_at stores.old.rows.stored id).version.row row }
+    requires of { AreRowsOf stores.old.catalog (found_of gathered.now).table (row ∷ []) }
     requires placed { IsPlacedIn stores.old (found_of gathered.now) from leaf row }
     requires taken { IsTakenIn stores.old caller (found_of gathered.now) leaf row }
     ensures run { IsRun (found_of gathered.now) (λ u. u) result stores.old stores.new caller (updated.succeeded caller from id leaf row) }

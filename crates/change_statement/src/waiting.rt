@@ -79,16 +79,13 @@ pub(crate) fn pause(
 ) -> Stop
     requires may { MayRun (found_of gathered) stores.old caller }
     requires another { other ≢ caller.session }
+    requires known { other < 128 }
     requires left { All (IsTargetIn stores.old.rows (found_of gathered)) left.now }
     ensures { IsRun (found_of gathered) (λ u. u) (Err result) stores.old stores.new caller (λ h. changed_spec.paused names.now caller other (standing_spec.standing h caller (found_of gathered) left.now changed) h) }
 {
     let Some(cmd) = caller.cmd.checked_add(1) else {
         return Stop::NoMemory;
     };
-    // A set has places for 128 sessions.
-    if other >= 128 {
-        return Stop::NoMemory;
-    }
     let Some(by) = stores.txs.open_of(caller.session) else {
         unreachable!()
     };

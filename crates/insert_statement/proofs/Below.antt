@@ -1,6 +1,7 @@
 -- Rows that were placed below a partitioned table may be stored in their leaves.
 use Rattle.std.proofs.Common.{◌≡◌, ℕ, ◌<◌, List, [], ap, sym, ◌∙◌, subst, arith, Some, None, Ok, All, find, length}
 use Rattle.std.specs.List.{Contains}
+use Rattle.std.proofs.lemmas.List.Elements.{All-contains}
 use Rattle.pg_values.specs.declared.value.Value.{Value}
 use Rattle.pg_values.specs.declared.ids.LeafId.{LeafId}
 use Rattle.pg_values.specs.declared.ids.TableNo.{TableNo}
@@ -19,12 +20,14 @@ use Rattle.row_router.specs.Trees.{TableTree, routed}
 use Rattle.row_router.specs.declared.path.PathTest.TheVariants.{Bounds, Checks}
 use Rattle.row_router.specs.Paths.{refused}
 use Rattle.row_change.specs.declared.target.Target.{Target}
+use Rattle.row_change.specs.Laws.{IsRowIn}
 use Rattle.row_change.specs.Placing.{placed}
 use Rattle.row_change.specs.Storing.{IsLeafKnown, is_into, leaf_faults}
 use Rattle.row_change.specs.Targets.{HasTarget, HasWay, IsTargetOf}
 use Rattle.row_change.specs.Ways.{AllTables, root, ways_below}
 use Rattle.row_change.proofs.Ways.{all_below}
 use Rattle.soundness.specs.Worlds.{HasLeaf}
+use Rattle.soundness.specs.Columns.{IsOfTable}
 use Rattle.soundness.proofs.All.{legal_keeps_all}
 use Rattle.legal_statements.specs.Locked.{IsWritable}
 use Rattle.legal_statements.specs.Tables.{LeavesAreThere}
@@ -51,8 +54,9 @@ use Rattle.insert_statement.proofs.Ways.{way_ends_below, in_ways, IsPlaced, is_p
 
 -- ---- one row
 
--- the row may go into the leaf, by which it gets a place below the table
+-- the row is one of the table's columns and may go into the leaf, by which it gets a place below the table
 pub record HasWayDown (h : History) (s table : ℕ) (look : TakenSnapshot) (leaf : LeafId) (row : List Value) : Type 0 where
+  pub columns : IsOfTable (catalogue_events h) table row
   pub placed : refused Bounds row (path_of h s table) ≡ None
   pub routed : routed row (tree_of h s table look) ≡ Ok leaf
   pub locked : (x : ℕ) → HasLeaf (catalogue_events h) x leaf → IsWritable h s x
@@ -60,7 +64,7 @@ pub record HasWayDown (h : History) (s table : ℕ) (look : TakenSnapshot) (leaf
 
 -- and it does, where it passes the CHECKs there
 goes_where_passed : (h : History) (s table : ℕ) (look : TakenSnapshot) (leaf : LeafId) (row : List Value) → HasWayDown h s table look leaf row → ((x : ℕ) → HasLeaf (catalogue_events h) x leaf → refused Checks row (path_of h s x) ≡ None) → MayGo h s table look leaf row
-goes_where_passed h s table look leaf row way passes = record { placed = way.placed; routed = way.routed; passes = passes; locked = way.locked; there = way.there }
+goes_where_passed h s table look leaf row way passes = record { columns = way.columns; placed = way.placed; routed = way.routed; passes = passes; locked = way.locked; there = way.there }
 
 -- what is known of the tree in the history
 pub record Known (h : History) (s : ℕ) (tree : TableTree) (path : List PathPart) (table : ℕ) (look : TakenSnapshot) : Type 0 where
@@ -73,9 +77,9 @@ pub record Known (h : History) (s : ℕ) (tree : TableTree) (path : List PathPar
   pub one_home : (x y : ℕ) (l : LeafId) → HasLeaf (catalogue_events h) x l → HasLeaf (catalogue_events h) y l → x ≡ y
   pub there : LeavesAreThere h
 
-goes_down : (h : History) (s : ℕ) (tree : TableTree) (path : List PathPart) (table : ℕ) (look : TakenSnapshot) (rows : List (List Value)) (leaf : LeafId) (row : List Value) → Known h s tree path table look → All (λ t. IsWritable h s t.number) (ways_below tree rows)
+goes_down : (h : History) (s : ℕ) (tree : TableTree) (path : List PathPart) (table : ℕ) (look : TakenSnapshot) (rows : List (List Value)) (leaf : LeafId) (row : List Value) → Known h s tree path table look → IsOfTable (catalogue_events h) table row → All (λ t. IsWritable h s t.number) (ways_below tree rows)
     → Contains rows row → IsPlaced (tables_of h) tree path leaf row → HasWayDown h s table look leaf row
-goes_down h s tree path table look rows leaf row known writable at placed =
+goes_down h s tree path table look rows leaf row known of writable at placed =
     let tables = tables_made (catalogue_events h) in
     let are = tree_are h s table look (IsMade h) known.shown known.made in
     let home = subst (AtHome (IsHome tables)) (sym known.is_tree) are.home in
@@ -89,6 +93,7 @@ goes_down h s tree path table look rows leaf row known writable at placed =
     let made : IsMade h t = subst (IsMade h) end.2.2 (all_below (IsMade h) row tree all end.2.0 t end.2.1) in
     let mine : HasLeaf (catalogue_events h) t.number leaf = (made, end.1) in
     record {
+      columns = of;
       placed = subst (λ p. refused Bounds row p ≡ None) known.is_path (none_refuses (tables_of h) row path placed.bounds);
       routed = subst (λ x. routed row x ≡ Ok leaf) known.is_tree placed.routed;
       locked = λ x own. subst (IsWritable h s) (known.one_home t.number x leaf mine own) may;
@@ -121,7 +126,7 @@ all_go stores caller tree leaves rows h stands are writable =
       there = λ x leaf at. leaves_are_housed h x leaf stands.good at;
     } in
     each_placed (placed (tables_of h) tree are.path) (Goes h caller it.table.number) rows leaves
-    (λ l row at is. goes_down h s tree are.path it.table.number look rows l row known (writable h stands) at (is_placed (tables_of h) tree are.path row l is)) (are.placed h stands.all.catalog)
+    (λ l row at is. goes_down h s tree are.path it.table.number look rows l row known (All-contains (λ r. IsRowIn h r it.table) rows row (it.rows_of h stands.all.catalog) at).1 (writable h stands) at (is_placed (tables_of h) tree are.path row l is)) (are.placed h stands.all.catalog)
 
 placed_may_put : (stores : Stores) (caller : Caller) (tree : TableTree) (leaves : List LeafId) (rows : List (List Value)) (targets : List Target) (h : History) (tx : ℕ) → Stands stores h → open_of (tx_events h) caller.session ≡ Some tx
     → ArePlaced stores.txs stores.catalog caller tree leaves rows → MayWrite stores caller.session (ways_below tree rows) → All (IsTargetOf h caller.session tree) targets → All (HasTarget targets) leaves → MayPut h caller.session targets leaves rows

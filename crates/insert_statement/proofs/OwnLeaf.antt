@@ -22,6 +22,7 @@ use Rattle.part_catalog.specs.Stands.{CatalogueStands}
 use Rattle.row_router.specs.declared.path.PathTest.TheVariants.{Bounds, Checks}
 use Rattle.row_router.specs.Paths.{refuses, refused, PartFits}
 use Rattle.row_change.specs.declared.target.Target.{Target}
+use Rattle.row_change.specs.Laws.{IsRowIn}
 use Rattle.row_change.specs.Placing.{bounds_faults, refused_by, IsPartNumbered}
 use Rattle.row_change.specs.Storing.{is_into, leaf_faults, own_null_faults, check_faults, IsLeafKnown, IsTargetNumbered}
 use Rattle.row_change.specs.Targets.{HasTarget}
@@ -43,7 +44,7 @@ use Rattle.statement_steps.specs.declared.caller.Caller.{Caller}
 use Rattle.statement_steps.proofs.Parts.{own_tx}
 use Rattle.insert_statement.specs.Inserted.{tables_of}
 use Rattle.insert_statement.specs.Asked.{AreRowsOf, IsOwnTarget, MayGo, MayPut, MayStore, MayWrite}
-use Rattle.insert_statement.proofs.Pairs.{each_all, each_same}
+use Rattle.insert_statement.proofs.Pairs.{each_all, each_of, each_same}
 use Rattle.insert_statement.proofs.Passing.{nothing_behind, taken_passes}
 use Rattle.insert_statement.proofs.Tables.{tables_kept}
 use Rattle.insert_statement.proofs.Targets.{own_found, own_has}
@@ -84,10 +85,11 @@ record Known (h : History) (s t : ℕ) (leaf : LeafId) : Type 0 where
   there : leaf.number < leaf_count (row_events h)
   writable : IsWritable h s t
 
-one_goes : (h : History) (s : ℕ) (t : TableNo) (look : TakenSnapshot) (leaf : LeafId) (target : Target) (row : List Value) → IsOwnTarget h s t leaf target → Known h s t.number leaf → leaf_faults (tables_of h) (find (is_into leaf) (target ∷ [])) row ≡ [] → MayGo h s t.number look leaf row
-one_goes h s t look leaf target row is known none =
+one_goes : (h : History) (s : ℕ) (t : TableNo) (look : TakenSnapshot) (leaf : LeafId) (target : Target) (row : List Value) → IsOwnTarget h s t leaf target → Known h s t.number leaf → IsRowIn h row t → leaf_faults (tables_of h) (find (is_into leaf) (target ∷ [])) row ≡ [] → MayGo h s t.number look leaf row
+one_goes h s t look leaf target row is known of none =
     let faults : leaf_faults (tables_of h) (Some target) row ≡ [] = ap (λ o. leaf_faults (tables_of h) o row) (sym (own_found leaf target is.leaf_is)) ∙ none in
     record {
+      columns = of.1;
       placed = subst (λ p. refused Bounds row p ≡ None) is.path (none_refuses (tables_of h) row target.path.items (only_faults (tables_of h) target row is.is_named faults));
       routed = routed_here h s t.number look leaf row known.mine.1;
       passes = λ x own. subst (λ n. refused Checks row (path_of h s n) ≡ None) (known.one_home t.number x leaf known.mine own)
@@ -128,7 +130,8 @@ own_may_put stores s cmd tx t leaf target rows h stands mine it =
       look = look;
       made = has.0;
       own_look = record { own = mine ∙ ap Some (sym (look_is_own h s tx cmd stands.good mine)); past = look_is_past stores.txs h s cmd stands.all.txs };
-      go = each_same (λ l row. leaf_faults (tables_of h) (find (is_into l) (target ∷ [])) row ≡ [] → MayGo h s t.number look l row) leaf rows (λ row none. one_goes h s t look leaf target row (it.target_is h stands.all) known none);
+      go = each_of (λ l row. leaf_faults (tables_of h) (find (is_into l) (target ∷ [])) row ≡ [] → MayGo h s t.number look l row) (λ row. IsRowIn h row t) leaf rows (λ row of none. one_goes h s t look leaf target row (it.target_is h stands.all) known of none)
+          (it.rows_of h stands.all.catalog);
     }
 
 -- of the one leaf all is so that is so of it

@@ -9,6 +9,11 @@ pub each_same : (P : LeafId → List Value → Type 0) (leaf : LeafId) (rows : L
 each_same P leaf [] all = tt
 each_same P leaf (r ∷ rs) all = (all r, each_same P leaf rs all)
 
+-- of the one leaf and each row that is so
+pub each_of : (P : LeafId → List Value → Type 0) (Q : List Value → Type 0) (leaf : LeafId) (rows : List (List Value)) → ((row : List Value) → Q row → P leaf row) → All Q rows → Each P (map (λ row. leaf) rows) rows
+each_of P Q leaf [] to all = tt
+each_of P Q leaf (r ∷ rs) to all = (to r (All-head Q r rs all), each_of P Q leaf rs to (All-tail Q r rs all))
+
 pub each_with : (P R : LeafId → List Value → Type 0) (Q : LeafId → Type 0) (ls : List LeafId) (rs : List (List Value)) → ((l : LeafId) (r : List Value) → Q l → P l r → R l r) → All Q ls → Each P ls rs → Each R ls rs
 each_with P R Q [] rs to all each = tt
 each_with P R Q (l ∷ ls) [] to all each = absurd each

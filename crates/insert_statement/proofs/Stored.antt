@@ -77,7 +77,7 @@ since_born vs h r = record { events = rows_born vs; is = refl; same = ap (λ t. 
 -- ---- the new versions
 
 stored_at : (h : History) (s table : ℕ) (look : TakenSnapshot) (v : Version) → MayGo h s table look v.leaf v.row → IsStored h s table look v
-stored_at h s table look v may = record { placed = may.placed; routed = may.routed; passes = may.passes; locked = may.locked; leaf = may.there }
+stored_at h s table look v may = record { columns = may.columns; placed = may.placed; routed = may.routed; passes = may.passes; locked = may.locked; leaf = may.there }
 
 new_rows : (h : History) (s tx cmd : ℕ) (by : TxId) (targets : List Target) (ls : List LeafId) (rs : List (List Value)) (events : History) (may : MayPut h s targets ls rs) (b : Births h by cmd (MayGo h s may.table may.look) events)
     → by.number ≡ tx → open_of (tx_events h) s ≡ Some tx → IsAt h s cmd → AreNewRows h s may.table may.look tx cmd b.rows

@@ -24,6 +24,7 @@ use Rattle.row_change.specs.Placing.{all_placed}
 use Rattle.row_change.specs.Storing.{is_into, leaf_faults, FitsTargets, IsLeafKnown, IsTargetNumbered}
 use Rattle.row_change.specs.Targets.{HasTarget, HasWay}
 use Rattle.soundness.specs.Worlds.{IsMade, HasLeaf}
+use Rattle.soundness.specs.Columns.{IsOfTable}
 use Rattle.legal_statements.specs.Locked.{IsWritable}
 use Rattle.legal_statements.specs.Rows.{IsOwnLook}
 use Rattle.stores.specs.Events.{look_of}
@@ -85,8 +86,10 @@ Each P (l ∷ ls) (r ∷ rs) = P l r × Each P ls rs
 abbrev pub put : List Target → Caller → List LeafId → List (List Value) → History → Made (Unit {0})
 put targets caller leaves rows h = all_born (own h caller.session) caller.cmd (λ l row. leaf_faults (tables_of h) (find (is_into l) targets) row) leaves rows h
 
--- the row may go into the leaf, by which it gets a place below the table, and whose CHECKs it passes
+-- the row is one of the table's columns and may go into the leaf, by which it gets a place below the table, and whose CHECKs
+-- it passes
 pub record MayGo (h : History) (session table : ℕ) (s : TakenSnapshot) (leaf : LeafId) (row : List Value) : Type 0 where
+  pub columns : IsOfTable (catalogue_events h) table row
   pub placed : refused Bounds row (path_of h session table) ≡ None
   pub routed : routed row (tree_of h session table s) ≡ Ok leaf
   pub passes : (x : ℕ) → HasLeaf (catalogue_events h) x leaf → refused Checks row (path_of h session x) ≡ None

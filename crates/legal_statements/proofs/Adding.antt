@@ -148,7 +148,7 @@ attach_may_follow h session e legal permitted new =
     )
 
 -- a CHECK that counts for the session counts for its transaction, and the other way round
-check_for : (h : History) (session t x : ℕ) (c : Check) → IsLegal h → open_of (tx_events h) session ≡ Some t → Contains (checks_of h session x) c → HasCheck h t c × (c.table.number ≡ x)
+pub check_for : (h : History) (session t x : ℕ) (c : Check) → IsLegal h → open_of (tx_events h) session ≡ Some t → Contains (checks_of h session x) c → HasCheck h t c × (c.table.number ≡ x)
 check_for h session t x c legal own at =
     let its = check_counts h session x c at in
     ((its.0.0, sym (agree (tx_events h) session t c.by.number own (session_runs h session t legal own).runs) ∙ its.0.1), its.1)

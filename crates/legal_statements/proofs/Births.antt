@@ -34,6 +34,7 @@ still_stored : (h : History) (session table : ℕ) (s : TakenSnapshot) (v w : Ve
 still_stored h session table s v w is =
     let same = trees_stay (RowChange (RowBorn v)) h session tt in
     record {
+      columns = is.columns;
       placed = subst (λ p. refused Bounds w.row p ≡ None) (sym (same.path table)) is.placed;
       routed = subst (λ t. routed w.row t ≡ Ok w.leaf) (sym (same.tree table s)) is.routed;
       passes = λ x at. subst (λ p. refused Checks w.row p ≡ None) (sym (same.path x)) (is.passes x at);

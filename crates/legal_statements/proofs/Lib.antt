@@ -2,6 +2,7 @@ pub mod Adding
 pub mod Asking
 pub mod Births
 pub mod Dropping
+pub mod Finding
 pub mod Following
 pub mod Holding
 pub mod Judging

@@ -18,6 +18,7 @@ use Rattle.soundness.proofs.Paths.{agree}
 use Rattle.soundness.proofs.Sound.{sound_of, version_at}
 use Rattle.soundness.proofs.Routes.{SeesWhatCounts, routed_by_sight}
 use Rattle.soundness.proofs.CheckPath.{path_passes}
+use Rattle.soundness.proofs.Columns.{routed_are_of_columns}
 use Rattle.legal_statements.specs.Rows.{IsOwnLook}
 use Rattle.legal_statements.specs.Laws.{NewRowMayFollow, OldRowMayFollow}
 use Rattle.legal_statements.proofs.Holding.{session_runs, writes_of}
@@ -41,6 +42,7 @@ new_row_may_follow h session table s v legal permitted new = (
     in_order = new.command;
     permitted = record {
       locked = λ x at. writes_of h session v.by.number x legal new.own (new.stored.locked x at);
+      columns = λ x at. routed_are_of_columns h session table x s v.leaf v.row legal permitted new.made new.stored.routed new.stored.columns at;
       routed = λ x at. routed_by_sight h session v.by.number table x s v.leaf v.row legal permitted (sees_what_counts h session s legal new.look) new.own new.made new.stored.placed new.stored.routed at;
       passes = λ x at. path_passes h session v.by.number x v.row legal permitted new.own (new.stored.passes x at);
     };

@@ -102,6 +102,11 @@ NoneBreaks = (h : History) (session t table : ℕ) (breaks : List Value → Bool
     → refusing h session t (leaves (ddl_tree h session table)) breaks ≡ None → ((r : ℕ) → seeing h session (leaves (ddl_tree h session table)) breaks r ≡ false)
     → (v : Version) → IsScanned h session t table v → breaks v.row ≡ false
 
+-- and the other way round: where no row that is judged there breaks the test, the scan finds nothing
+abbrev pub NothingIsFound : Type 0
+NothingIsFound = (h : History) (session t table : ℕ) (breaks : List Value → Bool) → IsLegal h → open_of (tx_events h) session ≡ Some t → ((v : Version) → IsScanned h session t table v → breaks v.row ≡ false)
+    → (refusing h session t (leaves (ddl_tree h session table)) breaks ≡ None) × ((r : ℕ) → seeing h session (leaves (ddl_tree h session table)) breaks r ≡ false)
+
 -- nor marked, where the session does not have it pending
 abbrev pub NobodyElseMarks : Type 0
 NobodyElseMarks = (h : History) (session t : ℕ) (e : Entry) → IsLegal h → ArePermitted h → open_of (tx_events h) session ≡ Some t → Has h t e → is_pending h session e ≡ false → IsGuarded h session e.parent.number

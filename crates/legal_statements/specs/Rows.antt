@@ -14,6 +14,7 @@ use Rattle.row_router.specs.Trees.{routed}
 use Rattle.row_router.specs.declared.path.PathTest.TheVariants.{Bounds, Checks}
 use Rattle.row_router.specs.Paths.{refused}
 use Rattle.soundness.specs.Worlds.{IsMade, HasLeaf}
+use Rattle.soundness.specs.Columns.{IsOfTable}
 use Rattle.legal_statements.specs.Locked.{IsWritable}
 
 -- a snapshot of the session's open transaction that was taken at some place of the history: what a statement reads under,
@@ -22,9 +23,10 @@ pub record IsOwnLook (h : History) (session : ℕ) (s : TakenSnapshot) : Type 0 
   pub own : open_of (tx_events h) session ≡ Some s.tx
   pub past : IsPast s.past (tx_events h)
 
--- a row that no place above the named table refuses goes to the leaf to which the table's tree routes it, which the
--- session may write; no kept CHECK on the leaf's path refuses it
+-- a row of the named table's columns that no place above the table refuses goes to the leaf to which the table's tree routes
+-- it, which the session may write; no kept CHECK on the leaf's path refuses it
 pub record IsStored (h : History) (session table : ℕ) (s : TakenSnapshot) (v : Version) : Type 0 where
+  pub columns : IsOfTable (catalogue_events h) table v.row
   pub placed : refused Bounds v.row (path_of h session table) ≡ None
   pub routed : routed v.row (tree_of h session table s) ≡ Ok v.leaf
   pub passes : (x : ℕ) → HasLeaf (catalogue_events h) x v.leaf → refused Checks v.row (path_of h session x) ≡ None

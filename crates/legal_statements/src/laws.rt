@@ -1,4 +1,4 @@
-ghost use Rattle.legal_statements.specs.Laws.{FollowedIsLegal, AskedMayFollow, NewRowMayFollow, OldRowMayFollow, NewLeafMayFollow, NewLevelMayFollow, LeavesStayThere, NobodyElseDrops, NobodyElseEnds, DropMayFollow, NewPartitionMayFollow, AttachMayFollow, SkipMayFollow, CheckMayFollow, NoneBreaks, NobodyElseMarks, MarkMayFollow, ListedIsThere, NamedIsThere, TreeIsWhole, TableDropMayFollow, TreesStay, NewRowsMayFollow, ThereIsKnown};
+ghost use Rattle.legal_statements.specs.Laws.{FollowedIsLegal, AskedMayFollow, NewRowMayFollow, OldRowMayFollow, NewLeafMayFollow, NewLevelMayFollow, LeavesStayThere, NobodyElseDrops, NobodyElseEnds, DropMayFollow, NewPartitionMayFollow, AttachMayFollow, SkipMayFollow, CheckMayFollow, NoneBreaks, NothingIsFound, NobodyElseMarks, MarkMayFollow, ListedIsThere, NamedIsThere, TreeIsWhole, TableDropMayFollow, TreesStay, NewRowsMayFollow, ThereIsKnown};
 
 /// A legal history with permitted events stays one when events come that may follow it.
 pub fn followed_is_legal()
@@ -66,6 +66,11 @@ pub fn attach_may_follow()
 /// breaks it.
 pub fn none_breaks()
     ensures { NoneBreaks }
+{}
+
+/// And where no row that is judged there breaks the test, the scan finds nothing.
+pub fn nothing_is_found()
+    ensures { NothingIsFound }
 {}
 
 /// No other transaction has marked a partition that is not pending, where the session has locked its

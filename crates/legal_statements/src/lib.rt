@@ -13,6 +13,7 @@ pub use laws::{
     asked_may_follow, attach_may_follow, check_may_follow, drop_may_follow, followed_is_legal,
     leaves_stay_there, listed_is_there, mark_may_follow, named_is_there, new_leaf_may_follow,
     new_level_may_follow, new_partition_may_follow, new_row_may_follow, new_rows_may_follow,
-    nobody_else_drops, nobody_else_ends, nobody_else_marks, none_breaks, old_row_may_follow,
-    skip_may_follow, table_drop_may_follow, there_is_known, tree_is_whole, trees_stay,
+    nobody_else_drops, nobody_else_ends, nobody_else_marks, none_breaks, nothing_is_found,
+    old_row_may_follow, skip_may_follow, table_drop_may_follow, there_is_known, tree_is_whole,
+    trees_stay,
 };

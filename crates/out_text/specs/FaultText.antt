@@ -66,7 +66,3 @@ filled_by None (text ∷ words) = filled text words
 -- `<code> <text>`
 abbrev pub fault_text : Fault → List ℕ
 fault_text f = f.code.bytes ++ codes " " ++ filled_by (text_beside f.code.bytes texts) f.args
-
--- `ERROR:  <code> <text>` on a line
-abbrev pub error_line : Fault → List ℕ
-error_line f = codes "ERROR:  " ++ fault_text f ++ codes "\n"

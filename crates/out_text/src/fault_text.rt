@@ -120,15 +120,3 @@ pub fn write_fault_text(alloc: Global, fault: &Fault, out: &mut Vec<u8>) -> Resu
     out.extend_from_slice(&text)?;
     Ok(())
 }
-
-/// Appends the line of an error: `ERROR:  <code> <text>`.
-pub fn write_fault(alloc: Global, fault: &Fault, out: &mut Vec<u8>) -> Result<(), NoMemory>
-    ensures ok { OnOk result (out.new.items ≡ out.old.items ++ spec.error_line fault.now) }
-    ensures err { OnErr result (out.new.items ≡ out.old.items) }
-{
-    let mut line = Vec::from_slice(alloc, b"ERROR:  ")?;
-    line.extend_from_slice(&text_of_fault(alloc, fault)?)?;
-    line.push(b'\n')?;
-    out.extend_from_slice(&line)?;
-    Ok(())
-}

@@ -13,5 +13,5 @@ mod table;
 mod width;
 
 pub use column::Column;
-pub use fault_text::{write_fault, write_fault_text};
+pub use fault_text::write_fault_text;
 pub use table::write_table;

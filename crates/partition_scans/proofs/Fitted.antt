@@ -40,26 +40,25 @@ use Rattle.soundness.specs.Laws.{SessionsHaveSiblings}
 use Rattle.stores.specs.Stand.{Stands}
 use Rattle.stores.specs.declared.stores.Stores.{Stores}
 use Rattle.stores.proofs.Goodness.{legal_of, permitted_of}
-use Rattle.partition_scans.specs.Fitting.{is_row_of, KeyFits, SiblingsFit}
+use Rattle.partition_scans.specs.Fitting.{KeyFits, SiblingsFit}
 use Rattle.partition_scans.proofs.Leaves.{tables_kept}
-use Rattle.partition_scans.proofs.RowsOf.{row_of}
 
 -- ---- one bound
 
 abbrev no_leaf : Node → TableTree
 no_leaf node = LeafTable node (record { number = 0 })
 
-pub key_fits : (columns : List Column) (level : OneLevel) (b : Bound) (row : List Value) → All (LiesIn columns) level.columns → IsOfLevel level b → is_row_of columns row ≡ true → KeyFits level b row
+pub key_fits : (columns : List Column) (level : OneLevel) (b : Bound) (row : List Value) → All (LiesIn columns) level.columns → IsOfLevel level b → IsRowOf columns row → KeyFits level b row
 key_fits columns level b row lie of is =
     let node = node_at [] 0 0 in
     let order : IsInPlainOrder (b ∷ []) = record { sorted = λ i j d lt le. absurd (omega arith); apart = λ i j d lt le. absurd (omega arith); siblings = λ i j d lt le. absurd (omega arith) } in
     let sound : IsSound columns (LevelTable node level (b ∷ []) (More (no_leaf node) End)) = (refl, All-cons (IsOfLevel level) b [] of (All-nil (IsOfLevel level)), order, lie, (tt, tt)) in
-    let fits : Fits row (LevelTable node level (b ∷ []) (More (no_leaf node) End)) = rows_fit columns row (LevelTable node level (b ∷ []) (More (no_leaf node) End)) sound (row_of columns row is) in
+    let fits : Fits row (LevelTable node level (b ∷ []) (More (no_leaf node) End)) = rows_fit columns row (LevelTable node level (b ∷ []) (More (no_leaf node) End)) sound is in
     record { columns = fits.1; bound = All-head (FitsBound (key_of level row)) b [] fits.2; kind = level_kind level b of }
 
 -- ---- all bounds of a level
 
-pub set_fits : (columns : List Column) (level : OneLevel) (bounds : List Bound) (row : List Value) → All (LiesIn columns) level.columns → All (IsOfLevel level) bounds → is_row_of columns row ≡ true → FitsSet bounds (key_of level row)
+pub set_fits : (columns : List Column) (level : OneLevel) (bounds : List Bound) (row : List Value) → All (LiesIn columns) level.columns → All (IsOfLevel level) bounds → IsRowOf columns row → FitsSet bounds (key_of level row)
 set_fits columns level [] row lie of is = All-nil (FitsBound (key_of level row))
 set_fits columns level (b ∷ bs) row lie of is =
     All-cons (FitsBound (key_of level row)) b bs (key_fits columns level b row lie (All-head (IsOfLevel level) b bs of) is).bound (set_fits columns level bs row lie (All-tail (IsOfLevel level) b bs of) is)
@@ -104,24 +103,20 @@ level_of_tree h s p t level bounds kids sound siblings is tree =
 
 -- ---- what the tests may be asked of
 
-pub lie_in : (columns others : List Column) (level : OneLevel) → columns ≡ others → All (LiesIn others) level.columns → All (LiesIn columns) level.columns
-lie_in columns others level same lie = subst (λ (cs : List Column). All (LiesIn cs) level.columns) (sym same) lie
-
-path_fits : PathsFit → SessionsHaveSiblings → (stores : Stores) (h : History) (s : ℕ) (p : TableNo) (columns : List Column) (row : List Value) → Stands stores h → p.number < length stores.catalog.tables → columns ≡ (made_at h p.number).columns → is_row_of columns row ≡ true
-    → All (PartFits row) (path_of h s p.number)
-path_fits fit together stores h s p columns row stands low same is =
+path_fits : PathsFit → SessionsHaveSiblings → (stores : Stores) (h : History) (s : ℕ) (p : TableNo) (row : List Value) → Stands stores h → p.number < length stores.catalog.tables → IsRowOf (made_at h p.number).columns row → All (PartFits row) (path_of h s p.number)
+path_fits fit together stores h s p row stands low is =
     let count = tables_kept stores h stands in
     let made : p.number < length (tables_made (catalogue_events h)) = omega (arith, count, low) in
-    fit h s p row stands.all.catalog.sound (together h s (legal_of h stands.good) (permitted_of h stands.good)) (made, subst (λ (cs : List Column). IsRowOf cs row) same (row_of columns row is))
+    fit h s p row stands.all.catalog.sound (together h s (legal_of h stands.good) (permitted_of h stands.good)) (made, is)
 
-pub place_fits : PathsFit → SessionsHaveSiblings → (stores : Stores) (h : History) (s : ℕ) (p : TableNo) (columns : List Column) (level : OneLevel) (bounds : List Bound) (path : List PathPart) (b : Bound) → Stands stores h → p.number < length stores.catalog.tables
-    → columns ≡ (made_at h p.number).columns → bounds ≡ bounds_below h s p.number → path ≡ path_of h s p.number → All (LiesIn columns) level.columns → IsOfLevel level b → All (IsOfLevel level) bounds
-    → (height : ℕ) → place_faults h s p.number b height ≡ [] → (row : List Value) → is_row_of columns row ≡ true → KeyFits level b row × SiblingsFit level bounds b row × All (PartFits row) path
-place_fits fit together stores h s p columns level bounds path b stands low same siblings above lie of all height none row is = (
-  key_fits columns level b row lie of is,
+pub place_fits : PathsFit → SessionsHaveSiblings → (stores : Stores) (h : History) (s : ℕ) (p : TableNo) (level : OneLevel) (bounds : List Bound) (path : List PathPart) (b : Bound) → Stands stores h → p.number < length stores.catalog.tables → bounds ≡ bounds_below h s p.number → path ≡ path_of h s p.number
+    → All (LiesIn (made_at h p.number).columns) level.columns → IsOfLevel level b → All (IsOfLevel level) bounds → (height : ℕ) → place_faults h s p.number b height ≡ [] → (row : List Value) → IsRowOf (made_at h p.number).columns row
+    → KeyFits level b row × SiblingsFit level bounds b row × All (PartFits row) path
+place_fits fit together stores h s p level bounds path b stands low siblings above lie of all height none row is = (
+  key_fits (made_at h p.number).columns level b row lie of is,
   record {
-    set = set_fits columns level bounds row lie all is;
+    set = set_fits (made_at h p.number).columns level bounds row lie all is;
     apart = λ e. subst (λ (bs : List Bound). list_any is_default bs ≡ false) (sym siblings) (no_default_beside h s p.number b height none e);
   },
-  subst (λ (ps : List PathPart). All (PartFits row) ps) (sym above) (path_fits fit together stores h s p columns row stands low same is),
+  subst (λ (ps : List PathPart). All (PartFits row) ps) (sym above) (path_fits fit together stores h s p row stands low is),
 )

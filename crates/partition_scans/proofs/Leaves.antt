@@ -77,7 +77,7 @@ leaves_there housed stores h s t stands low =
 
 -- ---- the default partition
 
-found_all : (P : TableNo → Type 0) (q : Entry → Bool) (es : List Entry) (d : TableNo) → All (λ (e : Entry). P e.child) es → option_map (λ (e : Entry). e.child) (find q es) ≡ Some d → P d
+pub found_all : (P : TableNo → Type 0) (q : Entry → Bool) (es : List Entry) (d : TableNo) → All (λ (e : Entry). P e.child) es → option_map (λ (e : Entry). e.child) (find q es) ≡ Some d → P d
 found_all P q [] d all is = absurd (let c = is in cc)
 found_all P q (e ∷ es) d all is = elim (cases_Bool (q e)) [
   | inl t ↦

@@ -12,7 +12,6 @@ use Rattle.pg_values.specs.Refusals.{or_first}
 use Rattle.bound_forms.specs.Accepts.{accepts, accepts_among}
 use Rattle.bound_forms.specs.declared.partition_bound.Bound.{Bound}
 use Rattle.bound_forms.specs.declared.level.Level.{Level as OneLevel}
-use Rattle.history.specs.declared.catalogue.Column.{Column}
 use Rattle.history.specs.declared.catalogue.TableShape.{TableShape}
 use Rattle.history.specs.declared.catalogue.TableShape.TheVariants.{Level}
 use Rattle.history.specs.declared.version.Version.{Version}
@@ -26,7 +25,6 @@ use Rattle.row_router.specs.Histories.{ddl_tree, path_of}
 use Rattle.row_router.specs.Trees.{key_of, leaves}
 use Rattle.part_catalog.specs.Found.{made_at}
 use Rattle.part_ddl.specs.Placing.{bounds_below}
-use Rattle.partition_scans.specs.Fitting.{is_row_of}
 use Rattle.partition_scans.specs.Places.{breaks_default, breaks_place}
 use Rattle.partition_scans.specs.Scans.{Scan, IsPassed, IsRefused, fault_told, watches, judged}
 use Rattle.partition_scans.specs.Sessions.{those}
@@ -59,46 +57,41 @@ nothing_judged h s = ap Ok (are_those empty (watches h s []) (λ r. none_has r) 
 
 -- ---- the tests of the code are those that are meant
 
-abbrev default_test : List Column → TableShape → Bound → List Value → Bool
-default_test columns shape b row = not (is_row_of columns row) || accepts (key_in shape row) b
+abbrev default_test : TableShape → Bound → List Value → Bool
+default_test shape b row = accepts (key_in shape row) b
 
-pub same_default_test : (h : History) (p : ℕ) (columns : List Column) (level : OneLevel) (b : Bound) → columns ≡ (made_at h p).columns → (made_at h p).shape ≡ Level level
-    → (λ (row : List Value). not (is_row_of columns row) || accepts (key_of level row) b) ≡ breaks_default h p b
-same_default_test h p columns level b cols shape =
-    ap (λ (cs : List Column). default_test cs (Level level) b) cols ∙ ap (λ (sh : TableShape). default_test (made_at h p).columns sh b) (sym shape)
+pub same_default_test : (h : History) (p : ℕ) (level : OneLevel) (b : Bound) → (made_at h p).shape ≡ Level level → (λ (row : List Value). accepts (key_of level row) b) ≡ breaks_default h p b
+same_default_test h p level b shape = ap (λ (sh : TableShape). default_test sh b) (sym shape)
 
-abbrev place_test : List Column → TableShape → List Bound → List PathPart → Bound → List Value → Bool
-place_test columns shape bounds path b row =
-    not (is_row_of columns row) || (not (accepts_among bounds (key_in shape row) b) || (is_some (refused Bounds row path) || is_some (refused Checks row path)))
+abbrev place_test : TableShape → List Bound → List PathPart → Bound → List Value → Bool
+place_test shape bounds path b row = not (accepts_among bounds (key_in shape row) b) || (is_some (refused Bounds row path) || is_some (refused Checks row path))
 
-pub same_place_test : (h : History) (s p : ℕ) (columns : List Column) (level : OneLevel) (bounds : List Bound) (path : List PathPart) (b : Bound) → columns ≡ (made_at h p).columns → (made_at h p).shape ≡ Level level → bounds ≡ bounds_below h s p → path ≡ path_of h s p
-    → (λ (row : List Value). not (is_row_of columns row) || (not (accepts_among bounds (key_of level row) b) || (is_some (refused Bounds row path) || is_some (refused Checks row path)))) ≡ breaks_place h s p b
-same_place_test h s p columns level bounds path b cols shape siblings above =
-    let cs = (made_at h p).columns in
+pub same_place_test : (h : History) (s p : ℕ) (level : OneLevel) (bounds : List Bound) (path : List PathPart) (b : Bound) → (made_at h p).shape ≡ Level level → bounds ≡ bounds_below h s p → path ≡ path_of h s p
+    → (λ (row : List Value). not (accepts_among bounds (key_of level row) b) || (is_some (refused Bounds row path) || is_some (refused Checks row path))) ≡ breaks_place h s p b
+same_place_test h s p level bounds path b shape siblings above =
     let sh = (made_at h p).shape in
-    ap (λ (x : List Column). place_test x (Level level) bounds path b) cols
-    ∙ (ap (λ (x : TableShape). place_test cs x bounds path b) (sym shape) ∙ (ap (λ (x : List Bound). place_test cs sh x path b) siblings ∙ ap (λ (x : List PathPart). place_test cs sh (bounds_below h s p) x b) above))
+    ap (λ (x : TableShape). place_test x bounds path b) (sym shape) ∙ (ap (λ (x : List Bound). place_test sh x path b) siblings ∙ ap (λ (x : List PathPart). place_test sh (bounds_below h s p) x b) above)
 
 -- ---- what a scan of the code comes to
 
-module _ (h : History) (s p : ℕ) (columns : List Column) (level : OneLevel) (b : Bound) (cols : columns ≡ (made_at h p).columns) (shape : (made_at h p).shape ≡ Level level) (ls : List LeafId) where
-  pub default_passed : (d : ℕ) (set : SessionSet) → ls ≡ leaves (ddl_tree h s d) → IsPassed h s ls (λ (row : List Value). not (is_row_of columns row) || accepts (key_of level row) b) set → IsPassed h s (leaves (ddl_tree h s d)) (breaks_default h p b) set
+module _ (h : History) (s p : ℕ) (level : OneLevel) (b : Bound) (shape : (made_at h p).shape ≡ Level level) (ls : List LeafId) where
+  pub default_passed : (d : ℕ) (set : SessionSet) → ls ≡ leaves (ddl_tree h s d) → IsPassed h s ls (λ (row : List Value). accepts (key_of level row) b) set → IsPassed h s (leaves (ddl_tree h s d)) (breaks_default h p b) set
   default_passed d set are its =
-      subst (λ (f : List Value → Bool). IsPassed h s (leaves (ddl_tree h s d)) f set) (same_default_test h p columns level b cols shape) (subst (λ (l : List LeafId). IsPassed h s l (λ (row : List Value). not (is_row_of columns row) || accepts (key_of level row) b) set) are its)
+      subst (λ (f : List Value → Bool). IsPassed h s (leaves (ddl_tree h s d)) f set) (same_default_test h p level b shape) (subst (λ (l : List LeafId). IsPassed h s l (λ (row : List Value). accepts (key_of level row) b) set) are its)
 
-  pub default_refused : (d : ℕ) (row : List Value) → ls ≡ leaves (ddl_tree h s d) → IsRefused h s ls (λ (r : List Value). not (is_row_of columns r) || accepts (key_of level r) b) row → IsRefused h s (leaves (ddl_tree h s d)) (breaks_default h p b) row
+  pub default_refused : (d : ℕ) (row : List Value) → ls ≡ leaves (ddl_tree h s d) → IsRefused h s ls (λ (r : List Value). accepts (key_of level r) b) row → IsRefused h s (leaves (ddl_tree h s d)) (breaks_default h p b) row
   default_refused d row are its =
-      subst (λ (f : List Value → Bool). IsRefused h s (leaves (ddl_tree h s d)) f row) (same_default_test h p columns level b cols shape) (subst (λ (l : List LeafId). IsRefused h s l (λ (r : List Value). not (is_row_of columns r) || accepts (key_of level r) b) row) are its)
+      subst (λ (f : List Value → Bool). IsRefused h s (leaves (ddl_tree h s d)) f row) (same_default_test h p level b shape) (subst (λ (l : List LeafId). IsRefused h s l (λ (r : List Value). accepts (key_of level r) b) row) are its)
 
   module _ (bounds : List Bound) (path : List PathPart) (siblings : bounds ≡ bounds_below h s p) (above : path ≡ path_of h s p) where
-    pub place_passed : (t : ℕ) (set : SessionSet) → ls ≡ leaves (ddl_tree h s t) → IsPassed h s ls (λ (row : List Value). not (is_row_of columns row) || (not (accepts_among bounds (key_of level row) b) || (is_some (refused Bounds row path) || is_some (refused Checks row path)))) set
+    pub place_passed : (t : ℕ) (set : SessionSet) → ls ≡ leaves (ddl_tree h s t) → IsPassed h s ls (λ (row : List Value). not (accepts_among bounds (key_of level row) b) || (is_some (refused Bounds row path) || is_some (refused Checks row path))) set
         → IsPassed h s (leaves (ddl_tree h s t)) (breaks_place h s p b) set
     place_passed t set are its =
-        subst (λ (f : List Value → Bool). IsPassed h s (leaves (ddl_tree h s t)) f set) (same_place_test h s p columns level bounds path b cols shape siblings above)
-        (subst (λ (l : List LeafId). IsPassed h s l (λ (row : List Value). not (is_row_of columns row) || (not (accepts_among bounds (key_of level row) b) || (is_some (refused Bounds row path) || is_some (refused Checks row path)))) set) are its)
+        subst (λ (f : List Value → Bool). IsPassed h s (leaves (ddl_tree h s t)) f set) (same_place_test h s p level bounds path b shape siblings above)
+        (subst (λ (l : List LeafId). IsPassed h s l (λ (row : List Value). not (accepts_among bounds (key_of level row) b) || (is_some (refused Bounds row path) || is_some (refused Checks row path))) set) are its)
 
-    pub place_refused : (t : ℕ) (row : List Value) → ls ≡ leaves (ddl_tree h s t) → IsRefused h s ls (λ (r : List Value). not (is_row_of columns r) || (not (accepts_among bounds (key_of level r) b) || (is_some (refused Bounds r path) || is_some (refused Checks r path)))) row
+    pub place_refused : (t : ℕ) (row : List Value) → ls ≡ leaves (ddl_tree h s t) → IsRefused h s ls (λ (r : List Value). not (accepts_among bounds (key_of level r) b) || (is_some (refused Bounds r path) || is_some (refused Checks r path))) row
         → IsRefused h s (leaves (ddl_tree h s t)) (breaks_place h s p b) row
     place_refused t row are its =
-        subst (λ (f : List Value → Bool). IsRefused h s (leaves (ddl_tree h s t)) f row) (same_place_test h s p columns level bounds path b cols shape siblings above)
-        (subst (λ (l : List LeafId). IsRefused h s l (λ (r : List Value). not (is_row_of columns r) || (not (accepts_among bounds (key_of level r) b) || (is_some (refused Bounds r path) || is_some (refused Checks r path)))) row) are its)
+        subst (λ (f : List Value → Bool). IsRefused h s (leaves (ddl_tree h s t)) f row) (same_place_test h s p level bounds path b shape siblings above)
+        (subst (λ (l : List LeafId). IsRefused h s l (λ (r : List Value). not (accepts_among bounds (key_of level r) b) || (is_some (refused Bounds r path) || is_some (refused Checks r path))) row) are its)

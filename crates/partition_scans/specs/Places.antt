@@ -14,7 +14,6 @@ use Rattle.row_router.specs.Paths.{refused}
 use Rattle.part_catalog.specs.Found.{made_at}
 use Rattle.part_ddl.specs.Placing.{bounds_below}
 use Rattle.soundness.specs.Worlds.{key_at}
-use Rattle.partition_scans.specs.Fitting.{is_row_of}
 use Rattle.partition_scans.specs.Scans.{Scan}
 
 -- ---- a table that becomes a partition
@@ -23,11 +22,9 @@ use Rattle.partition_scans.specs.Scans.{Scan}
 abbrev pub is_refused_above : History → (session parent : ℕ) → List Value → Bool
 is_refused_above h s p row = is_some (refused Bounds row (path_of h s p)) || is_some (refused Checks row (path_of h s p))
 
--- the new bound, among those of its siblings, does not accept the row, or it is refused above; and so is what is no row of
--- the parent's columns
+-- the new bound, among those of its siblings, does not accept the row, or it is refused above
 abbrev pub breaks_place : History → (session parent : ℕ) → Bound → List Value → Bool
-breaks_place h s p b row =
-    not (is_row_of (made_at h p).columns row) || (not (accepts_among (bounds_below h s p) (key_at (catalogue_events h) p row) b) || is_refused_above h s p row)
+breaks_place h s p b row = not (accepts_among (bounds_below h s p) (key_at (catalogue_events h) p row) b) || is_refused_above h s p row
 
 abbrev pub place_scan : History → (session parent table : ℕ) → Bound → Scan
 place_scan h s p t b = record {
@@ -38,9 +35,9 @@ place_scan h s p t b = record {
 
 -- ---- the default partition beside it
 
--- the new bound accepts the row; and so is what is no row of the parent's columns
+-- the new bound accepts the row
 abbrev pub breaks_default : History → (parent : ℕ) → Bound → List Value → Bool
-breaks_default h p b row = not (is_row_of (made_at h p).columns row) || accepts (key_at (catalogue_events h) p row) b
+breaks_default h p b row = accepts (key_at (catalogue_events h) p row) b
 
 abbrev pub default_scan : History → (session parent : ℕ) → Bound → (name : List ℕ) → Option TableNo → List Scan
 default_scan h s p b name None = []

@@ -1,34 +1,25 @@
-ghost use Rattle.std.specs.Prelude.{◌≡◌, ◌||◌, not, true};
 ghost use Rattle.bound_forms.specs.Accepts.{accepts};
 ghost use Rattle.row_router.specs.Trees.{key_of};
-ghost use Rattle.partition_scans.specs.Fitting as fitting;
 ghost use Rattle.partition_scans.specs.Fitting.{KeyFits};
 
-use crate::fitting::is_row_of;
 use bound_forms::{Bound, Level, bound_accepts};
-use history::Column;
 use pg_values::{Row, ValueKey};
 use row_router::LevelKey;
 use row_store::RowTest;
 
-/// The rows that a default partition may not keep beside a new bound: those that the bound accepts, and what is
-/// no row of the parent's columns.
+/// The rows that a default partition may not keep beside a new bound: those that the bound accepts.
 #[derive(Clone, Copy)]
 pub(crate) struct DefaultRows<'p> {
-    pub(crate) columns: &'p [Column],
     pub(crate) level: &'p Level,
     pub(crate) bound: &'p Bound,
 }
 
 impl<'p> RowTest for DefaultRows<'p> {
-    ghost suits = { λ t row. fitting.is_row_of t.columns.now row ≡ true → KeyFits t.level.now t.bound.now row };
+    ghost suits = { λ t row. KeyFits t.level.now t.bound.now row };
 
-    ghost broken = { λ t row. not (fitting.is_row_of t.columns.now row) || accepts (key_of t.level.now row) t.bound.now };
+    ghost broken = { λ t row. accepts (key_of t.level.now row) t.bound.now };
 
     fn breaks(&self, row: &Row) -> bool {
-        if !is_row_of(self.columns, row.as_slice()) {
-            return true;
-        }
         let columns = self.level.columns.as_slice();
         bound_accepts(&ValueKey, self.bound, &LevelKey { row, columns })
     }

@@ -3,7 +3,7 @@ ghost use Rattle.pg_values.specs.Sets.{has};
 ghost use Rattle.pg_values.specs.Refusals.{IsAnswer};
 ghost use Rattle.history.specs.History.{History};
 ghost use Rattle.bound_forms.specs.Levels.{IsOfLevel};
-ghost use Rattle.history.specs.Places.{LiesIn, TakesBound};
+ghost use Rattle.history.specs.Places.{HasColumnsOf, LiesIn, TakesBound};
 ghost use Rattle.part_catalog.specs.Found.{made_at};
 ghost use Rattle.part_catalog.specs.Stands.{CatalogueStands};
 ghost use Rattle.part_ddl.specs.Below.{IsTreeOf, default_of};
@@ -100,19 +100,15 @@ fn judge_default_of(
     requires may { MayAttempt stores.now caller }
     requires parent { parent.number < length stores.now.catalog.tables }
     requires default { default.number < length stores.now.catalog.tables }
+    requires columns { (h : History) → CatalogueStands stores.now.catalog h → HasColumnsOf (made_at h parent.number).columns (made_at h default.number).columns }
     requires level { (h : History) → TableStands stores.now.txs h → CatalogueStands stores.now.catalog h → (made_at h parent.number).shape ≡ Levels level.now }
     requires keys { (h : History) × CatalogueStands stores.now.catalog h × All (LiesIn (made_at h parent.number).columns) level.now.columns }
     requires mine { IsOfLevel level.now bound.now }
     ensures answer { (h : History) → DataStand stores.now h → IsAnswer result (judged h caller.session (default_scan h caller.session parent.number bound.now name.now (Some default))) }
     ensures all { IfOk result (λ others. (h : History) → DataStand stores.now h → (r : ℕ) → has others r ≡ watches h caller.session (default_scan h caller.session parent.number bound.now name.now (Some default)) r) }
 {
-    let columns = stores.catalog.table(parent).columns.as_slice();
     let leaves = leaves_of(alloc, stores, caller, default)?;
-    let test = DefaultRows {
-        columns,
-        level,
-        bound,
-    };
+    let test = DefaultRows { level, bound };
     match judge(stores, caller, &leaves, &test) {
         Ok(others) => Ok(others),
         Err(row) => {
@@ -167,6 +163,7 @@ fn judge_below(
     requires may { MayAttempt stores.now caller }
     requires parent { parent.number < length stores.now.catalog.tables }
     requires table { table.number < length stores.now.catalog.tables }
+    requires columns { (h : History) → CatalogueStands stores.now.catalog h → HasColumnsOf (made_at h parent.number).columns (made_at h table.number).columns }
     requires level { (h : History) → TableStands stores.now.txs h → CatalogueStands stores.now.catalog h → (made_at h parent.number).shape ≡ Levels level.now }
     requires siblings { (h : History) → TableStands stores.now.txs h → CatalogueStands stores.now.catalog h → siblings.now ≡ bounds_below h caller.session parent.number }
     requires path { (h : History) → TableStands stores.now.txs h → CatalogueStands stores.now.catalog h → path.now ≡ path_of h caller.session parent.number }
@@ -179,10 +176,8 @@ fn judge_below(
 {
     rows_fit_paths();
     sessions_have_siblings();
-    let columns = stores.catalog.table(parent).columns.as_slice();
     let leaves = leaves_of(alloc, stores, caller, table)?;
     let test = NewRows {
-        columns,
         level,
         siblings,
         bound,
@@ -197,8 +192,8 @@ fn judge_below(
     }
 }
 
-/// Judges the rows of a table that becomes a partition of the parent, whose tree and path are given, with that
-/// bound: 23514 for the first that does not suit the new place, or else the other sessions whose open snapshots
+/// Judges the rows of a table that becomes a partition of the parent, whose columns it has and whose tree and
+/// path are given, with that bound: 23514 for the first that does not suit the new place, or else the other sessions whose open snapshots
 /// see such a row.
 pub fn judge_table(
     alloc: Global,
@@ -213,6 +208,7 @@ pub fn judge_table(
     requires may { MayAttempt stores.now caller }
     requires parent { parent.number < length stores.now.catalog.tables }
     requires table { table.number < length stores.now.catalog.tables }
+    requires columns { (h : History) → CatalogueStands stores.now.catalog h → HasColumnsOf (made_at h parent.number).columns (made_at h table.number).columns }
     requires tree { IsTreeOf stores.now.txs stores.now.catalog caller.session parent.number (seen tree.now) }
     requires path { (h : History) → TableStands stores.now.txs h → CatalogueStands stores.now.catalog h → path.now ≡ path_of h caller.session parent.number }
     requires takes { (h : History) → CatalogueStands stores.now.catalog h → TakesBound (made_at h parent.number).shape bound.now }

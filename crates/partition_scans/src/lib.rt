@@ -7,11 +7,11 @@
 //! Here they count too. A row that is live, or that the session's own open snapshot sees, refuses the statement,
 //! the first one in plain order. Where only other sessions' open snapshots see such a row, the statement waits
 //! until they have gone, and then begins anew. A test of rows is a `RowTest` over what is known of the parent: its
-//! columns, its level, the bounds below it and the path above it.
+//! level, the bounds below it and the path above it. Rows are of their table's columns, and a table that is
+//! attached has those of the parent, so each of them may be asked.
 #![tactic(auto)]
 
 mod default_rows;
-mod fitting;
 mod judging;
 mod low;
 mod new_rows;

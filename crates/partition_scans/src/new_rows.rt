@@ -4,24 +4,20 @@ ghost use Rattle.bound_forms.specs.Accepts.{accepts_among, is_default, FitsBound
 ghost use Rattle.row_router.specs.declared.path.PathTest.TheVariants.{Bounds, Checks};
 ghost use Rattle.row_router.specs.Paths.{refused, PartFits};
 ghost use Rattle.row_router.specs.Trees.{key_of};
-ghost use Rattle.partition_scans.specs.Fitting as fitting;
 ghost use Rattle.bound_forms.specs.Bounds.{BoundOfKind};
 ghost use Rattle.pg_values.specs.KeyKinds.{IsNotNull};
 ghost use Rattle.partition_scans.specs.Fitting.{KeyFits, SiblingsFit};
 
-use crate::fitting::is_row_of;
 use bound_forms::{Bound, Key, Level, bound_accepts};
-use history::Column;
 use part_bounds::{BoundSet, find_child_uncounted};
 use pg_values::{Row, ValueKey};
 use row_router::{LevelKey, PathPart, PathTest, fits_path};
 use row_store::RowTest;
 
 /// The rows that a table may not have below a new bound: those that the bound does not accept among its
-/// siblings, those that a table above refuses, and what is no row of the parent's columns.
+/// siblings, and those that a table above refuses.
 #[derive(Clone, Copy)]
 pub(crate) struct NewRows<'p> {
-    pub(crate) columns: &'p [Column],
     pub(crate) level: &'p Level,
     pub(crate) siblings: &'p BoundSet<ValueKey>,
     pub(crate) bound: &'p Bound,
@@ -43,15 +39,11 @@ fn accepts_key<Q: Key>(siblings: &BoundSet<ValueKey>, bound: &Bound, key: &Q) ->
 }
 
 impl<'p> RowTest for NewRows<'p> {
-    ghost suits = { λ t row. fitting.is_row_of t.columns.now row ≡ true → KeyFits t.level.now t.bound.now row × SiblingsFit t.level.now t.siblings.now t.bound.now row × All (PartFits row) t.path.now };
+    ghost suits = { λ t row. KeyFits t.level.now t.bound.now row × SiblingsFit t.level.now t.siblings.now t.bound.now row × All (PartFits row) t.path.now };
 
-    ghost broken = { λ t row. not (fitting.is_row_of t.columns.now row)
-        || (not (accepts_among t.siblings.now (key_of t.level.now row) t.bound.now) || (is_some (refused Bounds row t.path.now) || is_some (refused Checks row t.path.now))) };
+    ghost broken = { λ t row. not (accepts_among t.siblings.now (key_of t.level.now row) t.bound.now) || (is_some (refused Bounds row t.path.now) || is_some (refused Checks row t.path.now)) };
 
     fn breaks(&self, row: &Row) -> bool {
-        if !is_row_of(self.columns, row.as_slice()) {
-            return true;
-        }
         let columns = self.level.columns.as_slice();
         !accepts_key(self.siblings, self.bound, &LevelKey { row, columns })
             || fits_path(self.path, row, PathTest::Bounds).is_some()

@@ -1,8 +1,10 @@
 pub mod Few
 pub mod Giving
+mod Joins
 mod Kept
 mod Known
 pub mod Moments
+mod Named
 mod Naming
 mod Nodes
 pub mod Numbers

@@ -4,8 +4,10 @@ pub mod Explained
 pub mod Gathered
 pub mod Halts
 pub mod Items
+pub mod Joins
 pub mod Laws
 pub mod Lent
 pub mod Moments
+pub mod Named
 pub mod Plain
 pub mod Selected

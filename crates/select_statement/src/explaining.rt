@@ -12,6 +12,8 @@ ghost use Rattle.statement_steps.specs.declared.stop.Stop.TheVariants as stops;
 ghost use Rattle.select_statement.specs.Explained.{OneTableReadsItsScans, SelectsRunTheirPlan};
 ghost use Rattle.select_statement.specs.Explained as explained;
 ghost use Rattle.select_statement.specs.Gathered.{found_by};
+ghost use Rattle.select_statement.specs.Joins.{JoinsReadTheirScans, ReachedScansAreRead, ReadsAreScanned};
+ghost use Rattle.select_statement.specs.Named.{ColumnsAreNamedAsAsked, ItemsAreNamedAsAsked};
 
 use crate::Gathered;
 use crate::gathering::{gather, plan_under};
@@ -40,7 +42,22 @@ pub fn one_table_reads_its_scans()
     one_item_is_read_once();
 }
 
+/// A SELECT of several tables reads, but for the order, what stands under the scans of its plan: each scan once
+/// for each tuple to its left beside which its leaf is kept. So it reads no leaf that is not printed, and all that
+/// are, where no left side comes out empty and none is pruned beside it.
+pub fn joins_read_their_scans()
+    ensures scans { JoinsReadTheirScans }
+    ensures printed { ReadsAreScanned }
+    ensures reached { ReachedScansAreRead }
+{}
+
 // ---- names
+
+/// A column is printed by the name by which the statement asks for it, and so is its item.
+pub fn names_are_as_asked()
+    ensures columns { ColumnsAreNamedAsAsked }
+    ensures items { ItemsAreNamedAsAsked }
+{}
 
 fn names_of(alloc: Global, columns: &[Column]) -> Result<NameList, NoMemory>
     ensures { IfOk result (λ names. names ≡ map explained.column_name columns.now) }

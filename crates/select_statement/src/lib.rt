@@ -35,7 +35,10 @@ mod tables;
 pub use answered::Answered;
 pub use below::tables_below;
 pub use cancels::cancelled;
-pub use explaining::{explain, one_table_reads_its_scans, selects_run_their_plan};
+pub use explaining::{
+    explain, joins_read_their_scans, names_are_as_asked, one_table_reads_its_scans,
+    selects_run_their_plan,
+};
 pub use gathered::Gathered;
 pub use laws::{leaves_are_few, one_table_is_plain, tables_are_plain};
 pub use statement::select;

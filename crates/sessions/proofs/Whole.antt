@@ -82,7 +82,6 @@ block_seen tree x k ts =
       phase = x.phase;
       level = x.level;
       looked = x.looked;
-      cmd = x.cmd;
       settings = x.settings;
       saved = x.saved;
       kind = k;

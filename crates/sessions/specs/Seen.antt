@@ -7,7 +7,6 @@ seen tree x = record {
   phase = x.phase;
   level = x.level;
   looked = x.looked;
-  cmd = x.cmd;
   settings = x.settings;
   saved = x.saved;
   kind = x.kind;

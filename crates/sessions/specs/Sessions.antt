@@ -26,7 +26,6 @@ pub record SessionView (T : Type 0) : Type 0 where
   pub phase : Phase
   pub level : Isolation  -- of its transaction
   pub looked : Bool  -- a statement of its transaction took a snapshot
-  pub cmd : ℕ  -- so many statements of its transaction are done
   pub settings : Settings
   pub saved : Settings  -- the settings before its transaction
   pub kind : BlockKind  -- what its block is in the script
@@ -145,7 +144,7 @@ fails C s v x f = turn (aborted_if C s (has_open x.phase) v) (failed x f) progre
 
 -- a transaction begins
 abbrev pub opened : {T : Type 0} → SessionView T → Phase → Isolation → SessionView T
-opened x p l = record x { phase = p; level = l; looked = false; cmd = 0; saved = x.settings }
+opened x p l = record x { phase = p; level = l; looked = false; saved = x.settings }
 
 -- BEGIN: it begins a transaction, or makes the one of the block explicit, or names the level of an explicit one
 abbrev pub begins : {S T : Type 0} → Course S T → ℕ → S → SessionView T → Option Isolation → Phase → Turn S T
@@ -171,7 +170,7 @@ rolls_back C s v x = turn (aborted_if C s (has_open x.phase) v) (back x) progres
 -- ---- statements
 
 abbrev pub asker_of : {T : Type 0} → ℕ → SessionView T → Asker
-asker_of s x = record { session = s; level = x.level; cmd = x.cmd; kind = x.kind }
+asker_of s x = record { session = s; level = x.level; kind = x.kind }
 
 abbrev pub sets : {S T : Type 0} → Course S T → ℕ → S → SessionView T → Result Settings Fault → Turn S T
 sets C s v x (Ok g) = turn v (record x { settings = g }) progress.Goes
@@ -181,9 +180,9 @@ sets C s v x (Err f) = fails C s v x f
 abbrev pub kept : {T : Type 0} → SessionView T → T → SessionView T
 kept x t = record x { rest = t ∷ x.rest }
 
--- it is done, and counts as one of its transaction
+-- it is done
 abbrev pub done : {T : Type 0} → SessionView T → Bool → SessionView T
-done x looks = record x { cmd = x.cmd + 1; looked = x.looked || looks }
+done x looks = record x { looked = x.looked || looks }
 
 -- what it did so far is committed, and it goes on in another transaction
 abbrev pub goes_on_again : {S T : Type 0} → Course S T → ℕ → S → SessionView T → T → Turn S T
@@ -267,7 +266,6 @@ new_session = record {
   phase = Idle;
   level = ReadCommitted;
   looked = false;
-  cmd = 0;
   settings = default_settings;
   saved = default_settings;
   kind = Setup;

@@ -1,13 +1,11 @@
 use pg_values::Isolation;
 use schedule::BlockKind;
 
-/// For whom a statement runs: the session, the level of its transaction, how many of the transaction's
-/// statements are done, and what its block is in the script.
+/// For whom a statement runs: the session, the level of its transaction, and what its block is in the script.
 #[derive(Clone, Copy, Debug, PartialEq, Eq)]
 pub struct Asker {
     pub session: usize,
     pub level: Isolation,
-    pub cmd: u32,
     pub kind: BlockKind,
 }
 

@@ -14,7 +14,6 @@ pub(crate) struct Session<T> {
     pub(crate) phase: Phase,
     pub(crate) level: Isolation,
     pub(crate) looked: bool,
-    pub(crate) cmd: u32,
     pub(crate) settings: Settings,
     pub(crate) saved: Settings,
     pub(crate) kind: BlockKind,
@@ -32,7 +31,7 @@ impl<T> Model for Session<T> {
 
     ghost Value = { SessionView T };
 
-    ghost view = { λ x. record { phase = x.phase; level = x.level; looked = x.looked; cmd = x.cmd; settings = x.settings; saved = x.saved; kind = x.kind; alone = x.alone; in_block = x.in_block; rest = reverse x.rest.items; broken = x.broken; told = x.told.items; fault = x.fault } };
+    ghost view = { λ x. record { phase = x.phase; level = x.level; looked = x.looked; settings = x.settings; saved = x.saved; kind = x.kind; alone = x.alone; in_block = x.in_block; rest = reverse x.rest.items; broken = x.broken; told = x.told.items; fault = x.fault } };
 }
 
 impl<T: Drop> Session<T> {
@@ -44,7 +43,6 @@ impl<T: Drop> Session<T> {
             phase: Phase::Idle,
             level: Isolation::ReadCommitted,
             looked: false,
-            cmd: 0,
             settings: Settings::defaults(),
             saved: Settings::defaults(),
             kind: BlockKind::Setup,
@@ -63,7 +61,6 @@ impl<T: Drop> Session<T> {
         Asker {
             session,
             level: self.level,
-            cmd: self.cmd,
             kind: self.kind,
         }
     }
@@ -157,16 +154,10 @@ impl<T: Drop> Session<T> {
     }
 
     /// A statement of its transaction is done.
-    pub(crate) fn done(&mut self, looks: bool) -> Result<(), NoMemory>
-        ensures ok { OnOk result (self.new ≡ spec.done self.old looks) }
-        ensures err { OnErr result (self.new ≡ self.old) }
+    pub(crate) fn done(&mut self, looks: bool)
+        ensures { self.new ≡ spec.done self.old looks }
     {
-        let Some(cmd) = self.cmd.checked_add(1) else {
-            return Err(NoMemory);
-        };
-        self.cmd = cmd;
         self.looked = self.looked || looks;
-        Ok(())
     }
 
     /// It has a transaction from now on.
@@ -176,7 +167,6 @@ impl<T: Drop> Session<T> {
         self.phase = phase;
         self.level = level;
         self.looked = false;
-        self.cmd = 0;
         self.saved = self.settings;
     }
 

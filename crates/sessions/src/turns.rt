@@ -87,7 +87,7 @@ fn run<E: Executor>(
         }
         Outcome::Commits => go_on_again(executor, session, x, statement),
         Outcome::Done => {
-            x.done(E::looks(&statement))?;
+            x.done(E::looks(&statement));
             Ok(Progress::Goes)
         }
         Outcome::Refused(fault) => Ok(fail(executor, session, x, fault)),

@@ -25,7 +25,7 @@ use Rattle.soundness.proofs.Held.{clash_write, own_here}
 use Rattle.soundness.proofs.Sees.{IsOlder, seen_of, counts_in, seen_in}
 use Rattle.soundness.proofs.Sound.{older}
 use Rattle.soundness.specs.Kept.{Passes, ChecksOf}
-use Rattle.soundness.specs.Legal.{HasCheck, MayAdd, MaySkip}
+use Rattle.soundness.specs.Legal.{HasCheck, Implies, MaySkip}
 use Rattle.soundness.proofs.CheckTables.{alive_of}
 
 -- ---- what a scan judges may be shown in the session's world
@@ -127,18 +127,21 @@ no_check_above : (h : History) (e : Entry) (c : Check) (n : ℕ) → MaySkip h e
 no_check_above h e c zero may has up = may.parent_unchecked c has up
 no_check_above h e c (suc n) may has up = no_more_above h e n c.table.number may up
 
--- the new entry accepts what is judged
-takes : (h : History) (e : Entry) (v : Version) (n x : ℕ) → IsLegal h → InvariantOf h → ChecksOf h → MaySkip h e → IsVersion (row_events h) v → HasLeaf (catalogue_events h) x v.leaf → Below h e.by.number n e.child.number x → IsJudged (tx_events h) (snapshot_events h) (row_events h) e.by.number v → Takes h e.by.number e v.row
-takes h e v n x legal i k may is at way j =
+-- the new bound accepts what is judged in a leaf that the transaction owns
+pub implied_accepts : (h : History) (e : Entry) (v : Version) (n x : ℕ) → IsLegal h → InvariantOf h → ChecksOf h → IsRunning (tx_events h) e.by.number → ((r : ℕ) (s : TakenSnapshot) → held_by (snapshot_events h) r ≡ Some s → fate (tx_events h) s.tx ≡ Running)
+    → (c : Check) → Implies h e c → OwnsNow h e.by.number x → IsVersion (row_events h) v → HasLeaf (catalogue_events h) x v.leaf → Below h e.by.number n e.child.number x → IsJudged (tx_events h) (snapshot_events h) (row_events h) e.by.number v
+    → accepts (key_at (catalogue_events h) e.parent.number v.row) e.bound ≡ true
+implied_accepts h e v n x legal i k acts looking c says owns is at way j =
     let t = e.by.number in
-    let c = may.implied.0 in
-    let says = may.implied.1 in
-    let shows = judged_shows h t v x legal i may.place.acts may.looking at (may.child_locked n x way) is j in
+    let shows = judged_shows h t v x legal i acts looking at owns is j in
     let down : Below h t n c.table.number x = subst (λ z. Below h t n z x) (sym says.child) way in
     let passes : Passes c v.row = k.checked (view (tx_events h) t) v x (view_world (tx_events h) t) is shows at c n says.kept down in
     let columns : key_of says.level v.row ≡ key_of c.kept.level v.row = ap (λ ks. picked v.row (map (λ (k : KeyColumn). k.position) ks)) says.columns in
     let key : key_at (catalogue_events h) e.parent.number v.row ≡ key_of c.kept.level v.row = ap (λ s. key_in s v.row) says.shape ∙ columns in
-    inl (subst (λ z. accepts z e.bound ≡ true) (sym key) (within_accepts c.kept.bound e.bound (key_of c.kept.level v.row) says.inside passes))
+    subst (λ z. accepts z e.bound ≡ true) (sym key) (within_accepts c.kept.bound e.bound (key_of c.kept.level v.row) says.inside passes)
+
+takes : (h : History) (e : Entry) (v : Version) (n x : ℕ) → IsLegal h → InvariantOf h → ChecksOf h → MaySkip h e → IsVersion (row_events h) v → HasLeaf (catalogue_events h) x v.leaf → Below h e.by.number n e.child.number x → IsJudged (tx_events h) (snapshot_events h) (row_events h) e.by.number v → Takes h e.by.number e v.row
+takes h e v n x legal i k may is at way j = inl (implied_accepts h e v n x legal i k may.place.acts may.looking may.implied.0 may.implied.1 (may.child_locked n x way) is at way j)
 
 pub skip_is_add : (h : History) (e : Entry) → IsLegal h → InvariantOf h → ChecksOf h → MaySkip h e → MayAdd h e
 skip_is_add h e legal i k may = record {

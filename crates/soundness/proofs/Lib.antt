@@ -3,6 +3,7 @@ pub mod AddedEntries
 pub mod AddedFit
 pub mod AddedSiblings
 pub mod All
+pub mod AttachExample
 pub mod CheckAdded
 pub mod CheckBorn
 pub mod CheckExample
@@ -14,6 +15,7 @@ pub mod CheckSkip
 pub mod CheckTables
 pub mod CheckWaiting
 pub mod Checks
+pub mod Columns
 pub mod Counted
 pub mod Created
 pub mod Ended

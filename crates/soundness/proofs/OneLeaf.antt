@@ -28,7 +28,7 @@ use Rattle.soundness.proofs.Presence.{all_more, all_shown, present_siblings}
 use Rattle.soundness.proofs.Trees.{accepts_there}
 use Rattle.soundness.proofs.All.{legal_keeps_all}
 
-all_versions : (rows : RowEvents) → All (IsVersion rows) (births rows)
+pub all_versions : (rows : RowEvents) → All (IsVersion rows) (births rows)
 all_versions [] = All-nil (IsVersion [])
 all_versions (LeafAdded l ∷ rows) = all_versions rows
 all_versions (RowEnded k e ∷ rows) = all_versions rows

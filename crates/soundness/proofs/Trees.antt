@@ -23,10 +23,10 @@ use Rattle.soundness.proofs.Listed.{none_in, only_one}
 -- ---- one level
 
 -- the leaf is one of a child
-abbrev IsOfChild : (ℕ → TableTree) → LeafId → Entry → Type 0
+abbrev pub IsOfChild : (ℕ → TableTree) → LeafId → Entry → Type 0
 IsOfChild f leaf e = Contains (leaves (f e.child.number)) leaf
 
-kid_of : (P : Entry → Type 0) (f : ℕ → TableTree) (leaf : LeafId) (es : List Entry) → All P es → Contains (all_leaves (trees_of (map (λ (e : Entry). f (child_of_entry e)) es))) leaf → (e : Entry) × P e × Contains es e × IsOfChild f leaf e
+pub kid_of : (P : Entry → Type 0) (f : ℕ → TableTree) (leaf : LeafId) (es : List Entry) → All P es → Contains (all_leaves (trees_of (map (λ (e : Entry). f (child_of_entry e)) es))) leaf → (e : Entry) × P e × Contains es e × IsOfChild f leaf e
 kid_of P f leaf [] all at = absurd (none_in leaf at)
 kid_of P f leaf (e ∷ es) all at = elim (Contains-append_cases (leaves (f e.child.number)) (all_leaves (trees_of (map (λ (e : Entry). f (child_of_entry e)) es))) leaf at) [
   | inl here ↦ (e, All-head P e es all, (zero, omega arith, refl), here)

@@ -3,21 +3,26 @@ use Rattle.std.specs.Prelude.{◌≡◌, ◌<◌, ◌≤◌, ℕ, true, false, L
 use Rattle.pg_values.specs.declared.value.Value.{Value}
 use Rattle.pg_values.specs.declared.ids.LeafId.{LeafId}
 use Rattle.history.specs.declared.transaction.Fate.TheVariants.{Running}
+use Rattle.history.specs.declared.version.Version.{Version}
 use Rattle.history.specs.declared.catalogue.Entry.{Entry}
 use Rattle.history.specs.Transactions.{TxEvents, open_of, fate, IsRunning}
 use Rattle.history.specs.Snapshots.{TakenSnapshot, SnapshotHeld, held_by}
 use Rattle.history.specs.Catalogue.{EntryAdded, CheckKept}
-use Rattle.history.specs.History.{Event, History, CatalogueChange, tx_events, snapshot_events, catalogue_events, versions, fresh, seen}
-use Rattle.history.specs.Presence.{counts, entries_present, entries_shown}
+use Rattle.history.specs.History.{Event, History, CatalogueChange, tx_events, snapshot_events, row_events, catalogue_events, versions, fresh, seen}
+use Rattle.history.specs.Places.{HasColumnsOf}
+use Rattle.history.specs.Presence.{counts, entries_present}
 use Rattle.history.specs.Legal.{MayHold, IsLegal}
 use Rattle.row_router.specs.Histories.{tree_of, ddl_tree, path_of, children}
 use Rattle.row_router.specs.declared.path.PathTest.TheVariants.{Bounds, Checks}
 use Rattle.row_router.specs.Paths.{refused}
+use Rattle.row_router.specs.Laws.{sees_mark}
 use Rattle.row_router.specs.Siblings.{AreSiblings}
 use Rattle.row_router.specs.Trees.{leaves, height, accepting, routed}
-use Rattle.soundness.specs.Worlds.{same_tx, view, IsMade, AcceptAbove, HasLeaf}
+use Rattle.soundness.specs.Versions.{IsVersion}
+use Rattle.soundness.specs.Worlds.{same_tx, view, table_in, IsMade, AcceptAbove, HasLeaf, Under}
 use Rattle.soundness.specs.Kept.{PassAbove, ChecksOf}
-use Rattle.soundness.specs.Legal.{Below, MayAdd, MaySkip, MayCreate, ArePermitted}
+use Rattle.soundness.specs.Columns.{IsOfTable, ColumnsOf, IsLeafBelow}
+use Rattle.soundness.specs.Legal.{Below, Has, HasPending, Judges, MayAdd, MaySkip, MayCreate, ArePermitted}
 use Rattle.soundness.specs.Parts.{AreChildren, WritesIn, InvariantOf}
 
 -- whatever comes, so long as each event is permitted, the invariant holds
@@ -27,6 +32,25 @@ LegalKeepsAll = (h : History) → IsLegal h → ArePermitted h → InvariantOf h
 -- and its parts on kept CHECKs
 abbrev pub LegalKeepsChecks : Type 0
 LegalKeepsChecks = (h : History) → IsLegal h → ArePermitted h → ChecksOf h
+
+-- and each stored row is one of its leaf's columns
+abbrev pub LegalKeepsColumns : Type 0
+LegalKeepsColumns = (h : History) → IsLegal h → ArePermitted h → ColumnsOf h
+
+-- a leaf of a table's tree is that of a table which has the other's columns, by name, kind and order
+abbrev pub LeavesHaveColumns : Type 0
+LeavesHaveColumns = (h : History) (session table : ℕ) (s : TakenSnapshot) (leaf : LeafId) → IsLegal h → ArePermitted h → IsMade (catalogue_events h) table → IsLeafBelow h session table s leaf
+    → (x : ℕ) × HasLeaf (catalogue_events h) x leaf × HasColumnsOf (table_in (catalogue_events h) table).columns (table_in (catalogue_events h) x).columns
+
+-- so each row that is stored there is one of the columns of the tree's table
+abbrev pub RowsAreOfTrees : Type 0
+RowsAreOfTrees = (h : History) (session table : ℕ) (s : TakenSnapshot) (v : Version) → IsLegal h → ArePermitted h → IsMade (catalogue_events h) table → IsLeafBelow h session table s v.leaf → IsVersion (row_events h) v
+    → IsOfTable (catalogue_events h) table v.row
+
+-- and a row of the columns of the tree's table, wherever the tree routes it, is one of the leaf's
+abbrev pub RoutedAreOfColumns : Type 0
+RoutedAreOfColumns = (h : History) (session table x : ℕ) (s : TakenSnapshot) (leaf : LeafId) (row : List Value) → IsLegal h → ArePermitted h → IsMade (catalogue_events h) table
+    → routed row (tree_of h session table s) ≡ Ok leaf → IsOfTable (catalogue_events h) table row → HasLeaf (catalogue_events h) x leaf → IsOfTable (catalogue_events h) x row
 
 -- a snapshot that the session has open, of a transaction that counts for it; or one that it could hold now, or take
 abbrev pub IsLooking : History → (session : ℕ) → TakenSnapshot → Type 0
@@ -110,10 +134,18 @@ WaitingPass = (e : Event) (h : History) (t x : ℕ) (row : List Value) → IsLeg
     → WritesIn h (view (tx_events h) t) t x → AcceptAbove (catalogue_events h) (view (tx_events h) t) x row → PassAbove (catalogue_events h) (view (tx_events h) t) x row
     → PassAbove (catalogue_events (e ∷ h)) (view (tx_events (e ∷ h)) t) x row
 
--- all that is asked above can be met: in some history a row is shown in the leaf of a partition
+-- all that is asked above can be met: in some history a row is shown in the leaf of a table that stands two steps below another
+-- one
 abbrev pub ConditionsCanBeMet : Type 0
-ConditionsCanBeMet = (h : History) × (session : ℕ) × (table : ℕ) × (s : TakenSnapshot) × (leaf : LeafId) × IsLegal h × ArePermitted h × IsLooking h session s × IsMade (catalogue_events h) table
-    × Contains (leaves (tree_of h session table s)) leaf × (length (entries_shown h session s) ≡ 1) × (length (seen h leaf.number s) ≡ 1)
+ConditionsCanBeMet = (h : History) × (session table x : ℕ) × (s : TakenSnapshot) × (leaf : LeafId) × IsLegal h × ArePermitted h × IsLooking h session s × IsMade (catalogue_events h) table
+    × Contains (leaves (tree_of h session table s)) leaf × Under (catalogue_events h) (counts (tx_events h) session) 2 table x × HasLeaf (catalogue_events h) x leaf × (length (seen h leaf.number s) ≡ 1)
+
+-- and in some other one a table that has a row is attached beside a pending partition, while another session has a snapshot from
+-- before the mark
+abbrev pub AttachCanBeMet : Type 0
+AttachCanBeMet = (h : History) × (e g : Entry) × (reader : ℕ) × (old : TakenSnapshot) × (v : Version) × IsLegal (CatalogueChange (EntryAdded e) ∷ h) × ArePermitted (CatalogueChange (EntryAdded e) ∷ h)
+    × (held_by (snapshot_events h) reader ≡ Some old) × Has h e.by.number g × HasPending h e.by.number g × (g.parent.number ≡ e.parent.number) × (sees_mark h old g ≡ false)
+    × IsVersion (row_events h) v × HasLeaf (catalogue_events h) e.child.number v.leaf × Judges h e.by.number v
 
 -- and a scan can be left out, of a table that has a row
 abbrev pub SkipCanBeMet : Type 0

@@ -14,19 +14,20 @@ use Rattle.history.specs.declared.catalogue.TableShape.TheVariants.{Leaf, Level 
 use Rattle.history.specs.declared.catalogue.Entry.{Entry}
 use Rattle.history.specs.declared.catalogue.Stamp.{Stamp}
 use Rattle.history.specs.declared.catalogue.Check.{Check}
-use Rattle.history.specs.declared.wait.Wanted.TheVariants.{Lock}
+use Rattle.history.specs.declared.wait.Wanted.TheVariants.{Lock, Others}
 use Rattle.history.specs.Transactions.{open_of, fate, IsRunning}
 use Rattle.history.specs.Snapshots.{TakenSnapshot, held_by}
-use Rattle.history.specs.Rows.{RowBorn, RowEnded}
+use Rattle.history.specs.Rows.{LeafAdded, RowBorn, RowEnded}
 use Rattle.history.specs.Catalogue.{TableMade, TableDropped, EntryAdded, EntryEnded, EntryMarked, CheckKept, IsEntry}
-use Rattle.history.specs.Locks.{LockGot, LocksGivenUp, WaitBegan}
-use Rattle.history.specs.History.{Event, History, RowChange, CatalogueChange, LockChange, tx_events, snapshot_events, row_events, catalogue_events}
+use Rattle.history.specs.Locks.{LockGot, LocksGivenUp, SnapshotGone, WaitBegan, WaitResumed, WaitWithdrawn}
+use Rattle.history.specs.History.{Event, History, TxChange, SnapshotChange, RowChange, CatalogueChange, LockChange, tx_events, snapshot_events, row_events, catalogue_events}
 use Rattle.row_router.specs.Siblings.{CanStandTogether}
 use Rattle.soundness.specs.Versions.{IsVersion}
 use Rattle.soundness.specs.Worlds.{view, table_in, IsMade, HasLeaf, key_at, Present, IsThere, IsPending, Under, Accepts, AcceptAbove}
 use Rattle.soundness.specs.Shown.{IsJudged}
 use Rattle.soundness.specs.Parts.{AreChildren, IsMaker, IsKnown, OwnsIn, WritesIn, GuardsIn}
 use Rattle.soundness.specs.Kept.{CountsIn, PassAbove, Repeats}
+use Rattle.soundness.specs.Columns.{IsOfTable}
 
 -- ---- what the session of a transaction has: entries, tables, and the ways through them
 
@@ -66,9 +67,11 @@ Judges h t v = IsJudged (tx_events h) (snapshot_events h) (row_events h) t v
 
 -- ---- rows
 
--- the leaf is locked with RE, each partition on its path accepts the row, and it passes each CHECK there
+-- the leaf is locked with RE, the row is one of its table's columns, each partition on its path accepts it, and it passes each
+-- CHECK there
 pub record MayBear (h : History) (v : Version) : Type 0 where
   pub locked : (x : ℕ) → HasLeaf (catalogue_events h) x v.leaf → WritesNow h v.by.number x
+  pub columns : (x : ℕ) → HasLeaf (catalogue_events h) x v.leaf → IsOfTable (catalogue_events h) x v.row
   pub routed : (x : ℕ) → HasLeaf (catalogue_events h) x v.leaf → AcceptAbove (catalogue_events h) (view (tx_events h) v.by.number) x v.row
   pub passes : (x : ℕ) → HasLeaf (catalogue_events h) x v.leaf → PassAbove (catalogue_events h) (view (tx_events h) v.by.number) x v.row
 
@@ -190,6 +193,9 @@ pub record MayKeep (h : History) (c : Check) : Type 0 where
 -- the event is permitted after the history: a lock is asked for only on a table that no open transaction of another
 -- session made, and locks are given up only where the session has no open transaction
 abbrev pub IsPermitted : Event → History → Type 0
+IsPermitted (TxChange e) h = Unit {0}
+IsPermitted (SnapshotChange e) h = Unit {0}
+IsPermitted (RowChange (LeafAdded leaf)) h = Unit {0}
 IsPermitted (RowChange (RowBorn v)) h = MayBear h v
 IsPermitted (RowChange (RowEnded k y)) h = MayEndRow h k y
 IsPermitted (CatalogueChange (TableMade t)) h = MayMake h t
@@ -201,7 +207,10 @@ IsPermitted (CatalogueChange (CheckKept c)) h = MayKeep h c
 IsPermitted (LockChange (LockGot s x m)) h = IsKnown (tx_events h) (catalogue_events h) s x
 IsPermitted (LockChange (WaitBegan s (Lock x m))) h = IsKnown (tx_events h) (catalogue_events h) s x.number
 IsPermitted (LockChange (LocksGivenUp s)) h = open_of (tx_events h) s ≡ None
-IsPermitted _ h = Unit {0}
+IsPermitted (LockChange (SnapshotGone s)) h = Unit {0}
+IsPermitted (LockChange (WaitBegan s (Others others))) h = Unit {0}
+IsPermitted (LockChange (WaitResumed s)) h = Unit {0}
+IsPermitted (LockChange (WaitWithdrawn s)) h = Unit {0}
 
 -- each event was permitted
 abbrev pub ArePermitted : History → Type 0

@@ -1,3 +1,4 @@
+pub mod Columns
 pub mod Kept
 pub mod Laws
 pub mod Legal

@@ -1,4 +1,4 @@
-ghost use Rattle.soundness.specs.Laws.{SkipCanBeMet, LegalKeepsAll, LegalKeepsChecks, AttachMaySkip, RowsPass, PathPasses, WaitingPass, OneLeafAccepts, SessionsHaveSiblings, CreateIsAdd, PathAccepts, RoutedAccepts, TreeHasAllBelow, WaysAreShort, ChildrenAreCounted, WaitingAccept, ConditionsCanBeMet};
+ghost use Rattle.soundness.specs.Laws.{AttachCanBeMet, SkipCanBeMet, LegalKeepsAll, LegalKeepsChecks, LegalKeepsColumns, LeavesHaveColumns, RowsAreOfTrees, RoutedAreOfColumns, AttachMaySkip, RowsPass, PathPasses, WaitingPass, OneLeafAccepts, SessionsHaveSiblings, CreateIsAdd, PathAccepts, RoutedAccepts, TreeHasAllBelow, WaysAreShort, ChildrenAreCounted, WaitingAccept, ConditionsCanBeMet};
 
 /// Each kind of event keeps the invariant, where it is permitted.
 pub fn legal_keeps_all()
@@ -8,6 +8,26 @@ pub fn legal_keeps_all()
 /// And its parts on kept CHECKs.
 pub fn legal_keeps_checks()
     ensures { LegalKeepsChecks }
+{}
+
+/// Each stored row is a row of the columns of the table that has its leaf.
+pub fn legal_keeps_columns()
+    ensures { LegalKeepsColumns }
+{}
+
+/// A leaf of a table's tree is that of a table with the same columns.
+pub fn leaves_have_columns()
+    ensures { LeavesHaveColumns }
+{}
+
+/// Each row that is stored in a leaf of a table's tree is a row of the table's columns.
+pub fn rows_are_of_trees()
+    ensures { RowsAreOfTrees }
+{}
+
+/// A row of a table's columns is one of the columns of the leaf to which the table's tree routes it.
+pub fn routed_are_of_columns()
+    ensures { RoutedAreOfColumns }
 {}
 
 /// An ATTACH that leaves its scan out, under the conditions for that, is an ATTACH whose scan finds nothing.
@@ -80,9 +100,16 @@ pub fn waiting_accept()
     ensures { WaitingAccept }
 {}
 
-/// What is asked of events and snapshots can be met, by a history in which a partition shows a row.
+/// What is asked of events and snapshots can be met, by a history in which a partition of a partition shows
+/// a row.
 pub fn conditions_can_be_met()
     ensures { ConditionsCanBeMet }
+{}
+
+/// And by one in which a table with a row is attached beside a pending partition, while a snapshot from before
+/// the mark is open.
+pub fn attach_can_be_met()
+    ensures { AttachCanBeMet }
 {}
 
 /// What is asked of an ATTACH without a scan can be met, of a table that has a row.

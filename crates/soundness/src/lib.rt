@@ -15,8 +15,9 @@
 mod laws;
 
 pub use laws::{
-    attach_may_skip, children_are_counted, conditions_can_be_met, create_is_add, legal_keeps_all,
-    legal_keeps_checks, one_leaf_accepts, path_accepts, path_passes, routed_accepts, rows_pass,
-    sessions_have_siblings, skip_can_be_met, tree_has_all_below, waiting_accept, waiting_pass,
-    ways_are_short,
+    attach_can_be_met, attach_may_skip, children_are_counted, conditions_can_be_met, create_is_add,
+    leaves_have_columns, legal_keeps_all, legal_keeps_checks, legal_keeps_columns,
+    one_leaf_accepts, path_accepts, path_passes, routed_accepts, routed_are_of_columns,
+    rows_are_of_trees, rows_pass, sessions_have_siblings, skip_can_be_met, tree_has_all_below,
+    waiting_accept, waiting_pass, ways_are_short,
 };

@@ -3,8 +3,11 @@
 //! A statement reads the leaves that its plan keeps. Of each SELECT that has come to its end, and of each UPDATE and DELETE
 //! whichever way it ended, it is said here that it made of what had happened before, and answered, what one does that
 //! scans all leaves of the trees of its snapshot.
+//!
+//! And a plan scans no partition that was detached, or whose mark its snapshot sees, whether a SELECT runs it or an EXPLAIN
+//! prints it.
 #![tactic(auto)]
 
 mod laws;
 
-pub use laws::whole_statements_are_plain;
+pub use laws::{scans_are_fresh, whole_statements_are_plain};

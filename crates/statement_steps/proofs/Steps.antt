@@ -1,5 +1,5 @@
 -- Parts of a statement, one after another.
-use Rattle.std.proofs.Common.{◌≡◌, ℕ, ◌+◌, List, [], ◌∷◌, ◌++◌, refl, ap, sym, ◌∙◌, subst, append_assoc, append-nil, Option, None, Result, Ok, Err, IsSome, slice_index_or}
+use Rattle.std.proofs.Common.{◌≡◌, ℕ, ◌+◌, List, [], ◌∷◌, ◌++◌, refl, ap, sym, ◌∙◌, subst, append_assoc, append-nil, Option, None, Result, Ok, Err, IsSome, length, slice_index_or}
 use Rattle.history.specs.Locks.{queue}
 use Rattle.history.specs.History.{History, lock_events}
 use Rattle.stores.specs.declared.stores.Stores.{Stores}
@@ -173,5 +173,6 @@ may_go_on see x old mid caller f may first = record {
   known = may.known;
   few = may.few;
   sessions = first.keeps.size.sessions ∙ may.sessions;
+  seats = ap length first.keeps.transactions ∙ may.seats;
   tables = first.keeps.size.tables ∙ may.tables;
 }

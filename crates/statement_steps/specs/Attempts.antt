@@ -35,6 +35,7 @@ pub record MayAttempt (stores : Stores) (caller : Caller) : Type 0 where
   pub known : caller.session < caller.sessions
   pub few : caller.sessions ≤ 65
   pub sessions : length stores.locks.wants ≡ caller.sessions
+  pub seats : length stores.txs.current ≡ caller.sessions
   pub tables : stores.locks.tables ≡ 4096
 
 -- what is left to the session's statement

@@ -1,5 +1,5 @@
 -- The default partition beside a new one: who has locked it, and which rows it has.
-use Rattle.std.proofs.Common.{◌≡◌, ℕ, zero, suc, ◌<◌, ◌||◌, not, Bool, true, false, List, [], ◌∷◌, ◌++◌, inl, inr, refl, sym, ap, ◌∙◌, subst, arith, Option, Some, None, Result, Ok, Err, All, IfOk, option_map, map, length, slice_index_or}
+use Rattle.std.proofs.Common.{◌≡◌, ℕ, zero, suc, ◌<◌, Bool, true, false, List, [], ◌∷◌, ◌++◌, inl, inr, refl, sym, ap, ◌∙◌, subst, arith, Option, Some, None, Result, Ok, Err, All, IfOk, option_map, map, length, slice_index_or}
 use Rattle.std.specs.List.{Contains}
 use Rattle.std.proofs.lemmas.Bool.{cases_lt}
 use Rattle.std.proofs.lemmas.Grind.{common_steps, elements}
@@ -35,7 +35,6 @@ use Rattle.part_ddl.specs.Placing.{partitions_of}
 use Rattle.legal_statements.specs.Below.{numbers_from}
 use Rattle.legal_statements.specs.Entries.{IsDefaultOf, IsScanned}
 use Rattle.legal_statements.specs.Laws.{NoneBreaks}
-use Rattle.partition_scans.specs.Fitting.{is_row_of}
 use Rattle.partition_scans.specs.Places.{breaks_default, default_scan}
 use Rattle.partition_scans.specs.Scans.{IsClean}
 use Rattle.partition_scans.proofs.Cleaning.{clean_first}
@@ -145,10 +144,6 @@ pub record IsApart (h : History) (s t p : ℕ) (b : Bound) (d : Entry) : Type 0 
   pub owned : (x : ℕ) → Contains (numbers_from h s d.child.number) x → holds (lock_events h) s x AccessExclusive ≡ true
   pub scanned : (v : Version) → IsScanned h s t d.child.number v → accepts (key_at (catalogue_events h) p v.row) b ≡ false
 
-right_false : (a b : Bool) → (a || b) ≡ false → b ≡ false
-right_false true b e = absurd (let c = e in cc)
-right_false false b e = e
-
 family_at : (h : History) (s x : ℕ) (d : TableNo) (stores : Stores) → Stands stores h → (o : Option TableNo) → o ≡ Some d → AreLocked stores s (family_of h s o) → Contains (numbers_from h s d.number) x → holds (lock_events h) s x AccessExclusive ≡ true
 family_at h s x d stores stands None is locked at = absurd (let c = is in cc)
 family_at h s x d stores stands (Some y) is locked at =
@@ -163,8 +158,7 @@ none_of law h s t p b name d v own None is clean scanned = absurd (let c = is in
 none_of law h s t p b name d v own (Some y) is clean scanned =
     let same : y ≡ d = (let c = is in cc) in
     let first = clean_first h s (record { leaves = leaves (ddl_tree h s y.number); breaks = breaks_default h p b; fault = λ (r : List Value). default_has_row (made_at h y.number).name r name }) [] clean in
-    let breaks = law h s t y.number (breaks_default h p b) (subst (λ (n : ℕ). refusing h s n (leaves (ddl_tree h s y.number)) (breaks_default h p b) ≡ None) own first.0) first.1 v (subst (λ (z : TableNo). IsScanned h s t z.number v) (sym same) scanned) in
-    right_false (not (is_row_of (made_at h p).columns v.row)) (accepts (key_at (catalogue_events h) p v.row) b) breaks
+    law h s t y.number (breaks_default h p b) (subst (λ (n : ℕ). refusing h s n (leaves (ddl_tree h s y.number)) (breaks_default h p b) ≡ None) own first.0) first.1 v (subst (λ (z : TableNo). IsScanned h s t z.number v) (sym same) scanned)
 
 pub stands_apart : NoneBreaks → (stores : Stores) (h : History) (s t p : ℕ) (b : Bound) (name : List ℕ) (d : Entry) → Stands stores h → AreSiblings (entries_present h s) → tx_in h s ≡ t → AreLocked stores s (family_of h s (default_of h s p)) → IsClean h s (default_scan h s p b name (default_of h s p))
     → IsDefaultOf h s p d → IsApart h s t p b d

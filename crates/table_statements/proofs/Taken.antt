@@ -1,5 +1,5 @@
 -- A name that another session has given to a table, and the end of its transaction.
-use Rattle.std.proofs.Common.{◌≡◌, ◌≢◌, ℕ, ◌<◌, ◌^◌, ◌==◌, ◌&&◌, ◌||◌, not, Bool, true, false, if◌then◌else◌, List, [], ◌∷◌, inl, inr, refl, sym, ap, ◌∙◌, subst, arith, Option, Some, None, Result, Ok, Err, IfOk, map}
+use Rattle.std.proofs.Common.{◌≡◌, ◌≢◌, ℕ, zero, suc, ◌<◌, ◌^◌, ◌==◌, ◌&&◌, ◌||◌, not, Bool, true, false, if◌then◌else◌, List, [], ◌∷◌, inl, inr, refl, sym, ap, ◌∙◌, subst, arith, Option, Some, None, Result, Ok, Err, IfOk, length, map, slice_index_or}
 use Rattle.std.specs.Int.{bit_at}
 use Rattle.std.specs.Str.{bytes_eq}
 use Rattle.std.proofs.lemmas.Bool.{cases_eq, cases_Bool}
@@ -27,6 +27,10 @@ use Rattle.part_catalog.specs.Names.{last_below}
 use Rattle.part_catalog.specs.Found.{made_at, table_number, is_made_elsewhere, taken_by}
 use Rattle.part_catalog.proofs.Found.{last_is}
 use Rattle.stores.specs.Good.{IsGood}
+use Rattle.stores.specs.Stand.{Stands}
+use Rattle.stores.specs.declared.stores.Stores.{Stores}
+use Rattle.statement_steps.specs.Attempts.{MayAttempt}
+use Rattle.statement_steps.specs.declared.caller.Caller.{Caller}
 use Rattle.statement_steps.specs.Asks.{told_by}
 use Rattle.table_statements.specs.Claims.{only, waits_for_end}
 use Rattle.table_statements.proofs.Below.{mapped_to}
@@ -169,15 +173,37 @@ all_pass false b c e = absurd (let d = e in cc)
 not_own : (t : ℕ) → is_own (Some t) t ≡ false → ⊥
 not_own t e = grind (arith, nat_tests, e)
 
-pub taken_by_another : (h : History) (s : ℕ) (name : List ℕ) (x : ℕ) → IsSound (tx_events h) → IsGood h → taken_by h s name ≡ Some x → x ≢ s
-taken_by_another h s name x sound good is same =
+-- it has a transaction that is open, which is not the session's own
+taken_open : (h : History) (s : ℕ) (name : List ℕ) (x : ℕ) → IsSound (tx_events h) → IsGood h → taken_by h s name ≡ Some x → (t : ℕ) × (open_of (tx_events h) x ≡ Some t) × (is_own (open_of (tx_events h) s) t ≡ false)
+taken_open h s name x sound good is =
     let found = mapped_to (λ (k : ℕ). session_of (tx_events h) (made_at h k).by.number) (last_below (is_made_elsewhere h s name) (table_number h)) x is in
     let at = last_is (is_made_elsewhere h s name) (table_number h) found.0 found.1 in
     let t = (made_at h found.0).by.number in
     let both = all_pass (bytes_eq name (made_at h found.0).name) (is_running (fate (tx_events h) t)) (is_own (open_of (tx_events h) s) t) at.1 in
     let opened = running_open (tx_events h) t sound (maker_began h found.0 good at.0) (is_run (fate (tx_events h) t) both.0) in
-    let own : open_of (tx_events h) s ≡ Some t = subst (λ (n : ℕ). open_of (tx_events h) n ≡ Some t) (found.2 ∙ same) opened in
-    not_own t (subst (λ (o : Option ℕ). is_own o t ≡ false) own both.1)
+    (t, subst (λ (n : ℕ). open_of (tx_events h) n ≡ Some t) found.2 opened, both.1)
+
+pub taken_by_another : (h : History) (s : ℕ) (name : List ℕ) (x : ℕ) → IsSound (tx_events h) → IsGood h → taken_by h s name ≡ Some x → x ≢ s
+taken_by_another h s name x sound good is same =
+    let it = taken_open h s name x sound good is in
+    let own : open_of (tx_events h) s ≡ Some it.0 = subst (λ (n : ℕ). open_of (tx_events h) n ≡ Some it.0) same it.1 in
+    not_own it.0 (subst (λ (o : Option ℕ). is_own o it.0 ≡ false) own it.2)
+
+pub taken_is_open : (h : History) (s : ℕ) (name : List ℕ) (x : ℕ) → IsSound (tx_events h) → IsGood h → taken_by h s name ≡ Some x → (t : ℕ) × (open_of (tx_events h) x ≡ Some t)
+taken_is_open h s name x sound good is = let it = taken_open h s name x sound good is in (it.0, it.1)
+
+-- a session that has one is one of the run's
+within_list : (xs : List (Option ℕ)) (k t : ℕ) → slice_index_or xs k None ≡ Some t → k < length xs
+within_list [] k t is = absurd (let c = is in cc)
+within_list (x ∷ xs) zero t is = omega arith
+within_list (x ∷ xs) (suc k) t is = let rest = within_list xs k t is in omega (arith, rest)
+
+pub is_seat : (stores : Stores) (caller : Caller) (h : History) (x t : ℕ) → MayAttempt stores caller → Stands stores h → open_of (tx_events h) x ≡ Some t → x < 128
+is_seat stores caller h x t may stands opened =
+    let low = within_list stores.txs.current x t (stands.all.txs.current x ∙ opened) in
+    let seats = may.seats in
+    let few = may.few in
+    omega (arith, low, seats, few)
 
 -- ---- what follows where a part is done
 

@@ -17,20 +17,17 @@ ghost use Rattle.table_statements.specs.Claims as claims;
 use crate::refused::stop_by;
 use history::WaitOn;
 use part_ddl::check_name;
-use pg_values::{NoMemory, SessionSet};
+use pg_values::SessionSet;
 use statement_steps::{Caller, SessionNames, Stop, wait_for};
 use std::alloc::Global;
 use stores::Stores;
 
-// The session alone. A set has room for 128 sessions.
-fn only(session: u32) -> Result<SessionSet, NoMemory>
-    ensures is { IfOk result (λ set. set ≡ claims.only session) }
-    ensures low { IfOk result (λ set. session < 128) }
+// The session alone.
+fn only(session: u32) -> SessionSet
+    requires { session < 128 }
+    ensures { result ≡ claims.only session }
 {
-    if session >= 128 {
-        return Err(NoMemory);
-    }
-    Ok(SessionSet::empty().with(session))
+    SessionSet::empty().with(session)
 }
 
 // The session waits for the end of the other's transaction. The statement begins anew then.
@@ -43,15 +40,20 @@ fn wait_for_end(
 ) -> Stop
     requires may { MayAttempt stores.old caller }
     requires another { other ≢ caller.session }
+    requires known { other < 128 }
     ensures step { IsStep (λ u. u) (Err result) stores.old stores.new caller caller.cmd (claims.waits_for_end names.now caller.session other) }
     ensures rest { stores.new ≡ record stores.old { locks = stores.new.locks } }
 {
-    match only(other) {
-        Ok(set) => match wait_for(alloc, stores, names, caller, WaitOn::Ends(set), None) {
-            Ok(()) => unreachable!(),
-            Err(stop) => stop,
-        },
-        Err(NoMemory) => Stop::NoMemory,
+    match wait_for(
+        alloc,
+        stores,
+        names,
+        caller,
+        WaitOn::Ends(only(other)),
+        None,
+    ) {
+        Ok(()) => unreachable!(),
+        Err(stop) => stop,
     }
 }
 

@@ -1,10 +1,9 @@
-use Rattle.std.proofs.Common.{sym, ◌∙◌}
+use Rattle.std.proofs.Common.{[], ◌∷◌, sym, ◌∙◌}
 use Rattle.row_router.specs.Histories.{ddl_tree}
 use Rattle.row_router.specs.Trees.{height}
 use Rattle.partition_scans.specs.Places.{place_scan}
-use Rattle.attach_statement.specs.Skipped.{is_skipped}
-use Rattle.attach_statement.proofs.Scanned.{takes_always}
-use Rattle.attach_statement.proofs.LeftOut.{made_judged, made_watches, nobody_judged, nobody_watches}
+use Rattle.attach_statement.proofs.Scanned.{columns_always, takes_always}
+use Rattle.attach_statement.proofs.LeftOut.{clean_in, each_data, nobody_judged, nobody_watches}
 use Rattle.attach_statement.proofs.statement.judge_own.Goals as goal
 
 pub is_skipped-requires-clause-siblings : goal.is_skipped-requires-clause-siblings
@@ -13,6 +12,9 @@ is_skipped-requires-clause-siblings c = c.trees_are_together.ensures c.args.stor
 pub is_skipped-requires-clause-takes : goal.is_skipped-requires-clause-takes
 is_skipped-requires-clause-takes c = takes_always c.args.stores.now c.args.caller c.args.parent.number c.args.table.number c.args.bound.now c.requires.may c.requires.place
 
+pub judge_table-requires-clause-columns : goal.judge_table-requires-clause-columns
+judge_table-requires-clause-columns c = columns_always c.args.stores.now c.args.caller c.args.parent.number c.args.table.number c.args.bound.now c.requires.may c.requires.place
+
 pub judge_table-requires-clause-takes : goal.judge_table-requires-clause-takes
 judge_table-requires-clause-takes c = takes_always c.args.stores.now c.args.caller c.args.parent.number c.args.table.number c.args.bound.now c.requires.may c.requires.place
 
@@ -20,33 +22,25 @@ pub judge_table-requires-clause-place : goal.judge_table-requires-clause-place
 judge_table-requires-clause-place c = λ h txs catalog. (height (ddl_tree h c.args.caller.session c.args.table.number), (c.requires.place h txs catalog).place)
 
 pub returns-then-known-clause-answer : goal.returns-then-known-clause-answer
-returns-then-known-clause-answer c = λ h told.
+returns-then-known-clause-answer c = λ h it.
     let s = c.args.caller.session in
     let p = c.args.parent.number in
     let t = c.args.table.number in
     let b = c.args.bound.now in
-    nobody_judged h s (place_scan h s p t b) (is_skipped h s p t b) c.empty.result (sym (c.in_ok-known.ensures h told.txs told.catalog) ∙ c.if-known.true) c.empty.ensures.has
+    let clean = clean_in c.skipped_is_clean.ensures c.args.stores.now c.args.caller p t b h c.requires.may c.requires.table it (sym (c.in_ok-known.ensures h it.tells.txs it.tells.catalog) ∙ c.if-known.true) in
+    nobody_judged h s p t b c.empty.result clean c.empty.ensures.has
 
 pub returns-then-known-clause-all : goal.returns-then-known-clause-all
-returns-then-known-clause-all c = λ h told.
+returns-then-known-clause-all c = λ h it.
     let s = c.args.caller.session in
     let p = c.args.parent.number in
     let t = c.args.table.number in
     let b = c.args.bound.now in
-    nobody_watches h s (place_scan h s p t b) (is_skipped h s p t b) c.empty.result (sym (c.in_ok-known.ensures h told.txs told.catalog) ∙ c.if-known.true) c.empty.ensures.has
+    let clean = clean_in c.skipped_is_clean.ensures c.args.stores.now c.args.caller p t b h c.requires.may c.requires.table it (sym (c.in_ok-known.ensures h it.tells.txs it.tells.catalog) ∙ c.if-known.true) in
+    nobody_watches h s p t b c.empty.result clean c.empty.ensures.has
 
 pub returns-else-known-clause-answer : goal.returns-else-known-clause-answer
-returns-else-known-clause-answer c = λ h told.
-    let s = c.args.caller.session in
-    let p = c.args.parent.number in
-    let t = c.args.table.number in
-    let b = c.args.bound.now in
-    made_judged h s (place_scan h s p t b) (is_skipped h s p t b) c.judge_table.result (sym (c.in_ok-known.ensures h told.txs told.catalog) ∙ c.if-known.false) (c.judge_table.ensures.answer h told)
+returns-else-known-clause-answer c = λ h it. c.judge_table.ensures.answer h it.tells
 
 pub returns-else-known-clause-all : goal.returns-else-known-clause-all
-returns-else-known-clause-all c =
-    let s = c.args.caller.session in
-    let p = c.args.parent.number in
-    let t = c.args.table.number in
-    let b = c.args.bound.now in
-    made_watches c.args.stores.now s (λ h. place_scan h s p t b) (λ h. is_skipped h s p t b) c.judge_table.result (λ h told. sym (c.in_ok-known.ensures h told.txs told.catalog) ∙ c.if-known.false) c.judge_table.ensures.all
+returns-else-known-clause-all c = each_data c.args.stores.now c.args.caller.session c.args.table.number (λ h. place_scan h c.args.caller.session c.args.parent.number c.args.table.number c.args.bound.now ∷ []) c.judge_table.result c.judge_table.ensures.all

@@ -7,30 +7,28 @@ use Rattle.part_ddl.specs.Below.{default_of}
 use Rattle.partition_scans.specs.Places.{place_scan, default_scan}
 use Rattle.partition_scans.specs.Scans.{judged, watches}
 use Rattle.attach_statement.specs.Places.{name_at}
-use Rattle.attach_statement.specs.Skipped.{is_skipped}
-use Rattle.attach_statement.proofs.Scanned.{takes_always}
-use Rattle.attach_statement.proofs.LeftOut.{own_refuses, rest_refuses, none_refuses, all_watch}
+use Rattle.attach_statement.proofs.Scanned.{first_refuses, others_refuse, nobody_refuses, both_watch, takes_always}
 use Rattle.attach_statement.proofs.statement.judge_rows.Goals as goal
 
 pub judge_default-requires-clause-takes : goal.judge_default-requires-clause-takes
 judge_default-requires-clause-takes c = takes_always c.args.stores.now c.args.caller c.args.parent.number c.args.table.number c.args.bound.now c.requires.may c.requires.place
 
 pub returns-in_err-of_table-clause-answer : goal.returns-in_err-of_table-clause-answer
-returns-in_err-of_table-clause-answer c = let p = err_from_is_err_and c.from_residual.result c.from_residual.ensures.1 in λ h told.
-    rw (p.1, p.2) (own_refuses h c.args.caller.session (place_scan h c.args.caller.session c.args.parent.number c.args.table.number c.args.bound.now) (default_scan h c.args.caller.session c.args.parent.number c.args.bound.now (name_at h c.args.table.number) (default_of h c.args.caller.session c.args.parent.number)) (is_skipped h c.args.caller.session c.args.parent.number c.args.table.number c.args.bound.now) c.in_err-of_table.field-0.0 (c.in_err-of_table.ensures.answer h told))
+returns-in_err-of_table-clause-answer c = let p = err_from_is_err_and c.from_residual.result c.from_residual.ensures.1 in λ h it.
+    rw (p.1, p.2) (first_refuses h c.args.caller.session (place_scan h c.args.caller.session c.args.parent.number c.args.table.number c.args.bound.now) (default_scan h c.args.caller.session c.args.parent.number c.args.bound.now (name_at h c.args.table.number) (default_of h c.args.caller.session c.args.parent.number)) c.in_err-of_table.field-0.0 (c.in_err-of_table.ensures.answer h it))
 
 pub returns-in_err-of_default-clause-answer : goal.returns-in_err-of_default-clause-answer
-returns-in_err-of_default-clause-answer c = let p = err_from_is_err_and c.from_residual-in_err-of_default.result c.from_residual-in_err-of_default.ensures.1 in λ h told.
-    rw (p.1, p.2) (rest_refuses h c.args.caller.session (place_scan h c.args.caller.session c.args.parent.number c.args.table.number c.args.bound.now) (default_scan h c.args.caller.session c.args.parent.number c.args.bound.now (name_at h c.args.table.number) (default_of h c.args.caller.session c.args.parent.number)) (is_skipped h c.args.caller.session c.args.parent.number c.args.table.number c.args.bound.now) c.in_ok-of_table.of_table c.in_err-of_default.field-0.0 (c.in_ok-of_table.ensures.answer h told)
-    (subst (λ (n : List ℕ). IsAnswer {T = SessionSet} (Err c.in_err-of_default.field-0.0) (judged h c.args.caller.session (default_scan h c.args.caller.session c.args.parent.number c.args.bound.now n (default_of h c.args.caller.session c.args.parent.number)))) (c.name_of-name.ensures h told.catalog) (c.in_err-of_default.ensures.answer h told)))
+returns-in_err-of_default-clause-answer c = let p = err_from_is_err_and c.from_residual-in_err-of_default.result c.from_residual-in_err-of_default.ensures.1 in λ h it.
+    rw (p.1, p.2) (others_refuse h c.args.caller.session (place_scan h c.args.caller.session c.args.parent.number c.args.table.number c.args.bound.now) (default_scan h c.args.caller.session c.args.parent.number c.args.bound.now (name_at h c.args.table.number) (default_of h c.args.caller.session c.args.parent.number)) c.in_ok-of_table.of_table c.in_err-of_default.field-0.0 (c.in_ok-of_table.ensures.answer h it)
+    (subst (λ (n : List ℕ). IsAnswer {T = SessionSet} (Err c.in_err-of_default.field-0.0) (judged h c.args.caller.session (default_scan h c.args.caller.session c.args.parent.number c.args.bound.now n (default_of h c.args.caller.session c.args.parent.number)))) (c.name_of-name.ensures h it.tells.catalog) (c.in_err-of_default.ensures.answer h it.tells)))
 
 pub returns-clause-answer : goal.returns-clause-answer
-returns-clause-answer c = λ h told.
-    none_refuses h c.args.caller.session (place_scan h c.args.caller.session c.args.parent.number c.args.table.number c.args.bound.now) (default_scan h c.args.caller.session c.args.parent.number c.args.bound.now (name_at h c.args.table.number) (default_of h c.args.caller.session c.args.parent.number)) (is_skipped h c.args.caller.session c.args.parent.number c.args.table.number c.args.bound.now) c.in_ok-of_table.of_table c.in_ok-of_default.of_default c.union-others.result (c.in_ok-of_table.ensures.answer h told)
-    (subst (λ (n : List ℕ). judged h c.args.caller.session (default_scan h c.args.caller.session c.args.parent.number c.args.bound.now n (default_of h c.args.caller.session c.args.parent.number)) ≡ Ok c.in_ok-of_default.of_default) (c.name_of-name.ensures h told.catalog) (c.in_ok-of_default.ensures.answer h told)) (c.in_ok-of_table.ensures.all h told)
-    (subst (λ (n : List ℕ). (r : ℕ) → has c.in_ok-of_default.of_default r ≡ watches h c.args.caller.session (default_scan h c.args.caller.session c.args.parent.number c.args.bound.now n (default_of h c.args.caller.session c.args.parent.number)) r) (c.name_of-name.ensures h told.catalog) (c.in_ok-of_default.ensures.all h told)) c.union-others.ensures c.sessions_are_low.ensures
+returns-clause-answer c = λ h it.
+    nobody_refuses h c.args.caller.session (place_scan h c.args.caller.session c.args.parent.number c.args.table.number c.args.bound.now) (default_scan h c.args.caller.session c.args.parent.number c.args.bound.now (name_at h c.args.table.number) (default_of h c.args.caller.session c.args.parent.number)) c.in_ok-of_table.of_table c.in_ok-of_default.of_default c.union-others.result (c.in_ok-of_table.ensures.answer h it)
+    (subst (λ (n : List ℕ). judged h c.args.caller.session (default_scan h c.args.caller.session c.args.parent.number c.args.bound.now n (default_of h c.args.caller.session c.args.parent.number)) ≡ Ok c.in_ok-of_default.of_default) (c.name_of-name.ensures h it.tells.catalog) (c.in_ok-of_default.ensures.answer h it.tells)) (c.in_ok-of_table.ensures.all h it)
+    (subst (λ (n : List ℕ). (r : ℕ) → has c.in_ok-of_default.of_default r ≡ watches h c.args.caller.session (default_scan h c.args.caller.session c.args.parent.number c.args.bound.now n (default_of h c.args.caller.session c.args.parent.number)) r) (c.name_of-name.ensures h it.tells.catalog) (c.in_ok-of_default.ensures.all h it.tells)) c.union-others.ensures c.sessions_are_low.ensures
 
 pub returns-clause-all : goal.returns-clause-all
-returns-clause-all c = λ h told.
-    all_watch h c.args.caller.session (place_scan h c.args.caller.session c.args.parent.number c.args.table.number c.args.bound.now) (default_scan h c.args.caller.session c.args.parent.number c.args.bound.now (name_at h c.args.table.number) (default_of h c.args.caller.session c.args.parent.number)) (is_skipped h c.args.caller.session c.args.parent.number c.args.table.number c.args.bound.now) c.in_ok-of_table.of_table c.in_ok-of_default.of_default c.union-others.result (c.in_ok-of_table.ensures.all h told)
-    (subst (λ (n : List ℕ). (r : ℕ) → has c.in_ok-of_default.of_default r ≡ watches h c.args.caller.session (default_scan h c.args.caller.session c.args.parent.number c.args.bound.now n (default_of h c.args.caller.session c.args.parent.number)) r) (c.name_of-name.ensures h told.catalog) (c.in_ok-of_default.ensures.all h told)) c.union-others.ensures
+returns-clause-all c = λ h it.
+    both_watch h c.args.caller.session (place_scan h c.args.caller.session c.args.parent.number c.args.table.number c.args.bound.now) (default_scan h c.args.caller.session c.args.parent.number c.args.bound.now (name_at h c.args.table.number) (default_of h c.args.caller.session c.args.parent.number)) c.in_ok-of_table.of_table c.in_ok-of_default.of_default c.union-others.result (c.in_ok-of_table.ensures.all h it)
+    (subst (λ (n : List ℕ). (r : ℕ) → has c.in_ok-of_default.of_default r ≡ watches h c.args.caller.session (default_scan h c.args.caller.session c.args.parent.number c.args.bound.now n (default_of h c.args.caller.session c.args.parent.number)) r) (c.name_of-name.ensures h it.tells.catalog) (c.in_ok-of_default.ensures.all h it.tells)) c.union-others.ensures

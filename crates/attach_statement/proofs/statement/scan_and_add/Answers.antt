@@ -1,25 +1,19 @@
 use Rattle.std.proofs.Common.{◌+◌, Ok}
-use Rattle.history.specs.History.{History}
-use Rattle.stores.specs.Stand.{Stands}
-use Rattle.partition_scans.specs.Data.{DataStand}
 use Rattle.partition_scans.specs.Waited.{scanned}
-use Rattle.partition_scans.proofs.Cleaning.{own_never, found_clean}
 use Rattle.statement_steps.specs.Steps.{IsStep}
 use Rattle.statement_steps.proofs.Steps.{then_step, stop_step, may_go_on}
 use Rattle.stores.specs.declared.stores.Stores.{Stores}
 use Rattle.table_statements.proofs.Beside.{still_default}
 use Rattle.table_statements.proofs.Held.{still_named}
 use Rattle.attach_statement.specs.Attached.{scans, entry_added}
+use Rattle.attach_statement.proofs.LeftOut.{found_clean, judged_now, own_never}
 use Rattle.attach_statement.proofs.Locked.{still_guarded, still_family, still_placed}
 use Rattle.attach_statement.proofs.statement.scan_and_add.Goals as goal
 use Rattle.attach_statement.proofs.statement.scan_and_add.Goals.{In-Ok}
 
-data_of : (stores : Stores) (h : History) → Stands stores h → DataStand stores h
-data_of stores h stands = record { txs = stands.all.txs; rows = stands.all.rows; catalog = stands.all.catalog }
-
 -- the rows are judged
 judges : (c : In-Ok) → IsStep (λ (u : Unit {0}). u) (Ok tt) c.args.stores.now c.wait_for_snapshots.new.stores c.args.caller c.args.caller.cmd (scanned c.args.names.now c.args.caller.session (scans c.args.caller.session c.args.parent.number c.args.table.number c.args.bound))
-judges c = c.in-Ok.ensures.step (scans c.args.caller.session c.args.parent.number c.args.table.number c.args.bound) (λ h stands. c.judge_rows-judged.ensures.answer h (data_of c.args.stores.now h stands))
+judges c = c.in-Ok.ensures.step (scans c.args.caller.session c.args.parent.number c.args.table.number c.args.bound) (λ h stands. c.judge_rows-judged.ensures.answer h (judged_now c.args.stores.now c.args.caller.session c.args.table.number h stands c.requires.locked.family))
 
 pub judge_rows-judged-requires-clause-parent : goal.judge_rows-judged-requires-clause-parent
 judge_rows-judged-requires-clause-parent c = c.requires.locked.guarded.made
@@ -28,7 +22,7 @@ pub judge_rows-judged-requires-clause-table : goal.judge_rows-judged-requires-cl
 judge_rows-judged-requires-clause-table c = c.requires.locked.locked.made
 
 pub wait_for_snapshots-requires-clause-others : goal.wait_for_snapshots-requires-clause-others
-wait_for_snapshots-requires-clause-others c = own_never c.args.caller.session c.judge_rows-judged.result c.args.stores.now c.args.caller c.requires.may (scans c.args.caller.session c.args.parent.number c.args.table.number c.args.bound) c.judge_rows-judged.ensures.all
+wait_for_snapshots-requires-clause-others c = own_never c.args.caller.session c.args.table.number c.judge_rows-judged.result c.args.stores.now c.args.caller c.requires.may c.requires.locked.family (scans c.args.caller.session c.args.parent.number c.args.table.number c.args.bound) c.judge_rows-judged.ensures.all
 
 pub add_entry-requires-clause-may : goal.add_entry-requires-clause-may
 add_entry-requires-clause-may c =
@@ -49,7 +43,7 @@ add_entry-requires-clause-place c = still_placed c.args.stores.now c.wait_for_sn
 
 pub add_entry-requires-clause-clean : goal.add_entry-requires-clause-clean
 add_entry-requires-clause-clean c =
-    found_clean c.args.caller.session (Ok tt) c.judge_rows-judged.result c.args.stores.now c.wait_for_snapshots.new.stores c.wait_for_snapshots.ensures.rest (scans c.args.caller.session c.args.parent.number c.args.table.number c.args.bound) c.judge_rows-judged.ensures.answer c.judge_rows-judged.ensures.all c.in-Ok.ensures.none
+    found_clean c.args.caller.session c.args.table.number c.judge_rows-judged.result c.args.stores.now c.wait_for_snapshots.new.stores c.wait_for_snapshots.ensures.rest (scans c.args.caller.session c.args.parent.number c.args.table.number c.args.bound) c.judge_rows-judged.ensures.answer c.judge_rows-judged.ensures.all c.in-Ok.ensures.none
 
 pub returns-in-Ok : goal.returns-in-Ok
 returns-in-Ok c =
@@ -60,4 +54,4 @@ pub returns-in-Err : goal.returns-in-Err
 returns-in-Err c =
     stop_step (λ (u : Unit {0}). u) (λ (u : Unit {0}). u) c.in-Err.stop c.args.stores.now c.wait_for_snapshots.new.stores c.args.caller (c.args.caller.cmd + 1) c.args.caller.cmd
     (scanned c.args.names.now c.args.caller.session (scans c.args.caller.session c.args.parent.number c.args.table.number c.args.bound)) (λ u. entry_added c.args.caller c.args.parent.number c.args.table.number c.args.bound)
-    (c.in-Err.ensures.step (scans c.args.caller.session c.args.parent.number c.args.table.number c.args.bound) (λ h stands. c.judge_rows-judged.ensures.answer h (data_of c.args.stores.now h stands)))
+    (c.in-Err.ensures.step (scans c.args.caller.session c.args.parent.number c.args.table.number c.args.bound) (λ h stands. c.judge_rows-judged.ensures.answer h (judged_now c.args.stores.now c.args.caller.session c.args.table.number h stands c.requires.locked.family)))

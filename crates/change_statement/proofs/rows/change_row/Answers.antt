@@ -8,8 +8,8 @@ use Rattle.change_statement.specs.Changing.{changing}
 use Rattle.change_statement.specs.Running.{IsRun}
 use Rattle.change_statement.specs.Turns.{IsTurn}
 use Rattle.change_statement.specs.declared.asking.Change.{Change}
-use Rattle.change_statement.proofs.EachRow.{decided_is, is_changed, is_stopped, is_passed, is_refused, is_out, may_end_in, tables_low}
-use Rattle.change_statement.proofs.Renewed.{updated_run, faulty_run, known_table}
+use Rattle.change_statement.proofs.EachRow.{decided_is, is_changed, is_seat, is_stopped, is_passed, is_refused, is_out, may_end_in, tables_low}
+use Rattle.change_statement.proofs.Renewed.{updated_run, faulty_run, known_table, read_of}
 use Rattle.change_statement.proofs.Stays.{agrees}
 use Rattle.change_statement.proofs.rows.change_row.Goals as goal
 
@@ -17,8 +17,14 @@ pub end_row-requires-clause-row : goal.end_row-requires-clause-row
 end_row-requires-clause-row c =
     may_end_in c.args.stores.now c.args.caller (found_of c.args.gathered.now) c.args.target c.updater-updater.result.tx.number c.in-Change.seen c.requires.target c.updater-updater.ensures.own c.in-Change.ensures.change
 
-pub renew-requires : goal.renew-requires
-renew-requires c = known_table c.args.stores.now c.args.caller (found_of c.args.gathered.now) c.requires.may
+pub renew-requires-clause-of : goal.renew-requires-clause-of
+renew-requires-clause-of c =
+    let g = found_of c.args.gathered.now in
+    let seen = c.in-Change.seen in
+    read_of c.args.stores.now c.args.caller g seen.id seen.row.now c.requires.may (may_end_in c.args.stores.now c.args.caller g c.args.target c.updater-updater.result.tx.number seen c.requires.target c.updater-updater.ensures.own c.in-Change.ensures.change) c.in-Change.ensures.change.row
+
+pub renew-requires-clause-known : goal.renew-requires-clause-known
+renew-requires-clause-known c = known_table c.args.stores.now c.args.caller (found_of c.args.gathered.now) c.requires.may
 
 pub store-requires-clause-version : goal.store-requires-clause-version
 store-requires-clause-version c =
@@ -96,6 +102,7 @@ returns-in-Wait c =
       refl,
       decided_is c.args.stores.now c.args.caller g c.args.target (updater_meant c.updater-updater.result) (WaitsFor c.in-Wait.other) c.updater-updater.ensures.is c.in-Wait.ensures.is,
       subst (λ s. c.in-Wait.other ≢ s) c.updater-updater.ensures.session c.in-Wait.ensures.wait.another,
+      is_seat c.args.stores.now c.args.caller (found_of c.args.gathered.now) c.in-Wait.other c.requires.may c.in-Wait.ensures.wait.known,
     )
 
 pub returns-in-Refuse : goal.returns-in-Refuse

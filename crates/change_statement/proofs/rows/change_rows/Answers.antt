@@ -28,6 +28,9 @@ pause-requires-clause-may c = subst (λ (s : Stores). MayRun (found_of c.args.ga
 pub pause-requires-clause-another : goal.pause-requires-clause-another
 pause-requires-clause-another c = (rw c.in-Ok-Waits.field-0-is at c.in-Ok-Waits.ensures).2
 
+pub pause-requires-clause-known : goal.pause-requires-clause-known
+pause-requires-clause-known c = (rw c.in-Ok-Waits.field-0-is at c.in-Ok-Waits.ensures).3
+
 pub pause-requires-clause-left : goal.pause-requires-clause-left
 pause-requires-clause-left c = subst (λ (s : Stores). All (IsTargetIn s.rows (found_of c.args.gathered)) c.loop-target.left.now) (sym (rw c.in-Ok-Waits.field-0-is at c.in-Ok-Waits.ensures).0) c.loop-target.invariant.all
 

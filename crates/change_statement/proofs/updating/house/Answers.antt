@@ -9,7 +9,7 @@ use Rattle.history.specs.History.{History}
 use Rattle.part_catalog.specs.Stands.{CatalogueStands}
 use Rattle.insert_statement.specs.Inserted.{tables_of}
 use Rattle.statement_steps.specs.Gathered.{found_of}
-use Rattle.change_statement.proofs.Renewed.{is_one, is_none, stays_told}
+use Rattle.change_statement.proofs.Renewed.{is_one, is_none, is_somewhere, stays_told}
 use Rattle.change_statement.proofs.updating.house.Goals as goal
 use Rattle.change_statement.proofs.updating.house.Goals.{In-Some}
 

@@ -14,6 +14,9 @@ use Rattle.change_statement.proofs.updating.rehouse.Goals as goal
 pub house-requires-clause-takes : goal.house-requires-clause-takes
 house-requires-clause-takes c = takes c.args.stores.now c.args.caller (found_of c.args.gathered.now) c.args.row.now c.requires.may c.requires.of
 
+pub house-requires-clause-sound : goal.house-requires-clause-sound
+house-requires-clause-sound c = (c.requires.may.sound.0, c.requires.may.sound.1.all.catalog)
+
 pub house-requires-clause-own : goal.house-requires-clause-own
 house-requires-clause-own c =
     let g = found_of c.args.gathered.now in

@@ -19,11 +19,11 @@ succeed_row-requires-clause-leaf c =
 
 pub returns-in-Ok-clause-run : goal.returns-in-Ok-clause-run
 returns-in-Ok-clause-run c =
-    succeeded_run (Ok tt) c.args.stores.now c.succeed_row.new.store c.args.caller (found_of c.args.gathered.now) c.args.from c.args.id c.args.leaf c.args.row c.in-Some.by c.requires.may c.requires.version c.requires.own c.requires.keys c.requires.placed c.requires.taken
+    succeeded_run (Ok tt) c.args.stores.now c.succeed_row.new.store c.args.caller (found_of c.args.gathered.now) c.args.from c.args.id c.args.leaf c.args.row c.in-Some.by c.requires.may c.requires.version c.requires.own c.requires.keys c.requires.of c.requires.placed c.requires.taken
     (sym c.in-Some.ensures.kept) (λ h txs store. c.in-Ok.ensures.made h txs store)
 
 pub returns-in-Err-clause-run : goal.returns-in-Err-clause-run
 returns-in-Err-clause-run c =
     subst (λ (e : Stop). IsRun (found_of c.args.gathered.now) (λ (u : Unit {0}). u) (Err e) c.args.stores.now (record c.args.stores.now { rows = c.succeed_row.new.store }) c.args.caller (succeeded c.args.caller c.args.from c.args.id c.args.leaf c.args.row)) (sym c.stop_by.ensures)
-    (succeeded_run (Err c.in-Err.refusal) c.args.stores.now c.succeed_row.new.store c.args.caller (found_of c.args.gathered.now) c.args.from c.args.id c.args.leaf c.args.row c.in-Some.by c.requires.may c.requires.version c.requires.own c.requires.keys c.requires.placed c.requires.taken
+    (succeeded_run (Err c.in-Err.refusal) c.args.stores.now c.succeed_row.new.store c.args.caller (found_of c.args.gathered.now) c.args.from c.args.id c.args.leaf c.args.row c.in-Some.by c.requires.may c.requires.version c.requires.own c.requires.keys c.requires.of c.requires.placed c.requires.taken
     (sym c.in-Some.ensures.kept) (λ h txs store. c.in-Err.ensures.made h txs store))

@@ -1,7 +1,8 @@
-use Rattle.std.proofs.Common.{◌≡◌, ◌∙◌, ap, sym, subst, Option, Ok}
+use Rattle.std.proofs.Common.{◌≡◌, ◌∙◌, List, ap, sym, subst, Option, Ok}
 use Rattle.pg_values.specs.declared.ids.TableNo.{TableNo}
 use Rattle.history.specs.declared.catalogue.TableShape.{TableShape}
-use Rattle.history.specs.Places.{TakesBound}
+use Rattle.history.specs.declared.catalogue.Table.{Table}
+use Rattle.history.specs.Places.{table_at, HasColumnsOf, TakesBound}
 use Rattle.part_catalog.specs.Found.{made_at}
 use Rattle.part_ddl.proofs.Defaults.{none_below}
 use Rattle.part_ddl.proofs.Kids.{told, leaf_told}
@@ -9,6 +10,7 @@ use Rattle.partition_scans.specs.Places.{default_scan}
 use Rattle.partition_scans.specs.Scans.{judged}
 use Rattle.partition_scans.proofs.Fitted.{level_of_tree}
 use Rattle.partition_scans.proofs.Leaves.{default_kept}
+use Rattle.partition_scans.proofs.RowsOf.{default_columns}
 use Rattle.partition_scans.proofs.Tellings.{nothing_judged}
 use Rattle.partition_scans.proofs.judging.judge_default.Goals as goal
 
@@ -26,6 +28,15 @@ judge_default_of-requires-clause-default c =
     let s = c.args.caller.session in
     let p = c.args.parent.number in
     default_kept c.args.stores.now h s p c.in-Some.default stands (sym (c.default_in.ensures h s p stands.all.catalog.sound (c.requires.tree h stands.all.txs stands.all.catalog)) ∙ c.in-Some.is)
+
+pub judge_default_of-requires-clause-columns : goal.judge_default_of-requires-clause-columns
+judge_default_of-requires-clause-columns c = λ h catalog.
+    let k = c.requires.may.sound.0 in
+    let stands = c.requires.may.sound.1 in
+    let s = c.args.caller.session in
+    let p = c.args.parent.number in
+    let is = sym (c.default_in.ensures k s p stands.all.catalog.sound (c.requires.tree k stands.all.txs stands.all.catalog)) ∙ c.in-Some.is in
+    subst (λ (ts : List Table). HasColumnsOf (table_at ts p).columns (table_at ts c.in-Some.default.number).columns) (sym stands.all.catalog.tables ∙ catalog.tables) (default_columns c.args.stores.now k s p c.in-Some.default stands is)
 
 pub judge_default_of-requires-clause-level : goal.judge_default_of-requires-clause-level
 judge_default_of-requires-clause-level c = λ h txs catalog. (told h c.args.caller.session c.args.parent.number c.args.tree.now c.in-Level.level c.in-Level.field-1 c.in-Level.field-2 c.in-Level.is (c.requires.tree h txs catalog)).shape

@@ -1,7 +1,7 @@
 use Rattle.std.proofs.Common.{sym, ap, ◌∙◌, Err}
 use Rattle.statement_steps.proofs.Parts.{nothing_done}
 use Rattle.table_statements.specs.Claims.{waits_if_taken, waits_for_end, name_waited}
-use Rattle.table_statements.proofs.Taken.{taken_by_another}
+use Rattle.table_statements.proofs.Taken.{is_seat, taken_by_another, taken_is_open}
 use Rattle.table_statements.proofs.Firsts.{same_step}
 use Rattle.table_statements.proofs.claims.wait_for_name.Goals as goal
 
@@ -18,6 +18,13 @@ wait_for_end-requires-clause-another c =
     let h = c.requires.may.sound.0 in
     let stands = c.requires.may.sound.1 in
     taken_by_another h c.args.caller.session c.args.name.now c.in-Some.other stands.all.txs.sound stands.good (sym (c.name_taken_by.ensures h stands.all.txs stands.all.catalog) ∙ c.in-Some.is)
+
+pub wait_for_end-requires-clause-known : goal.wait_for_end-requires-clause-known
+wait_for_end-requires-clause-known c =
+    let h = c.requires.may.sound.0 in
+    let stands = c.requires.may.sound.1 in
+    let opened = taken_is_open h c.args.caller.session c.args.name.now c.in-Some.other stands.all.txs.sound stands.good (sym (c.name_taken_by.ensures h stands.all.txs stands.all.catalog) ∙ c.in-Some.is) in
+    is_seat c.args.stores.now c.args.caller h c.in-Some.other opened.0 c.requires.may stands opened.1
 
 pub returns-in-Some-clause-step : goal.returns-in-Some-clause-step
 returns-in-Some-clause-step c =
