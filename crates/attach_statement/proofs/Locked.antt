@@ -24,9 +24,9 @@ use Rattle.statement_steps.specs.declared.stop.Stop.{Stop}
 use Rattle.statement_steps.specs.Asks.{told_of, locked, all_locked, meant_or_none, kept_number, number_or, named}
 use Rattle.statement_steps.specs.Known.{IsKnownTo}
 use Rattle.statement_steps.specs.Steps.{IsStep}
+use Rattle.statement_steps.proofs.Steps.{same_step}
 use Rattle.table_statements.specs.Asked.{IsLocked}
 use Rattle.table_statements.proofs.Below.{TreeLaws, here_of, tree_known}
-use Rattle.table_statements.proofs.Firsts.{same_step}
 use Rattle.table_statements.proofs.Held.{tables_locked}
 use Rattle.table_statements.proofs.Same.{same_resolved}
 use Rattle.attach_statement.specs.Asked.{IsGuardedNamed, HasFamilyLocked, HasPlace, AreFrom, IsPathOf, SeesBoth}

@@ -12,12 +12,11 @@ use Rattle.part_ddl.specs.Below.{default_of}
 use Rattle.partition_scans.specs.Places.{place_scan, default_scan}
 use Rattle.partition_scans.specs.Scans.{Scan}
 use Rattle.partition_scans.specs.Waited.{scanned}
-use Rattle.statement_steps.specs.Made.{Made, made}
+use Rattle.statement_steps.specs.Made.{Made, made, answered}
 use Rattle.statement_steps.specs.declared.caller.Caller.{Caller}
 use Rattle.statement_steps.specs.Asks.{named, held_at, all_locked}
 use Rattle.statement_steps.specs.Steps.{follow}
 use Rattle.table_statements.specs.Partitions.{default_locked, numbers_under}
-use Rattle.table_statements.specs.Refused.{answered}
 use Rattle.table_statements.specs.Tables.{own}
 use Rattle.attach_statement.specs.Places.{attach_place, name_at}
 

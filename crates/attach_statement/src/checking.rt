@@ -20,7 +20,6 @@ ghost use Rattle.attach_statement.specs.Attached as attached;
 ghost use Rattle.attach_statement.specs.Places.{attach_place, table_faults};
 
 use crate::columns::check_columns;
-use crate::faults::stop_by;
 use bound_forms::Bound;
 use part_catalog::{Catalog, LEVEL_LIMIT};
 use part_ddl::{check_place, parent_level};
@@ -138,10 +137,8 @@ pub(crate) fn place_found(
 {
     trees_are_together();
     let session = caller.session;
-    match place_of(
+    let bound = place_of(
         alloc, stores, session, parent, path, table, own, tables, bound,
-    ) {
-        Ok(bound) => Ok(bound),
-        Err(refusal) => Err(stop_by(refusal)),
-    }
+    )?;
+    Ok(bound)
 }

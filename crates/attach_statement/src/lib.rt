@@ -12,7 +12,6 @@
 
 mod checking;
 mod columns;
-mod faults;
 mod laws;
 mod skipping;
 mod statement;

@@ -1,4 +1,4 @@
-ghost use Rattle.std.specs.Prelude.{◌≡◌, ◌<◌, ◌≤◌, ◌+◌, ◌∷◌, [], ℕ, false, IfOk, length};
+ghost use Rattle.std.specs.Prelude.{◌≡◌, ◌<◌, ◌≤◌, ◌+◌, ◌∷◌, [], ℕ, IfOk, length};
 ghost use Rattle.pg_values.specs.Sets.{has};
 ghost use Rattle.pg_values.specs.Refusals.{IsAnswer};
 ghost use Rattle.history.specs.History.{History};
@@ -11,7 +11,7 @@ ghost use Rattle.statement_steps.specs.Attempts.{MayAttempt};
 ghost use Rattle.statement_steps.specs.Known.{IsKnownTo};
 ghost use Rattle.statement_steps.specs.Steps.{IsStep};
 ghost use Rattle.table_statements.specs.Asked.{IsLockedNamed};
-ghost use Rattle.attach_statement.specs.Asked.{AreFrom, AreRowsClean, HasFamilyLocked, HasLockedAll, HasPlace, IsGuardedNamed, IsJudgedIn, IsPathOf, SeesBoth};
+ghost use Rattle.attach_statement.specs.Asked.{AreFrom, AreRowsClean, HasFamilyLocked, HasLockedAll, HasPlace, IsGuardedNamed, IsJudgedIn, IsPathOf};
 ghost use Rattle.attach_statement.specs.Attached as attached;
 
 use crate::checking::place_found;
@@ -23,8 +23,8 @@ use legal_statements::{
 };
 use part_catalog::CatalogRefused;
 use part_ddl::passed_have_places;
-use partition_scans::{judge_default, judge_table, wait_for_snapshots};
-use pg_values::{LockMode, NoMemory, Refusal, SessionSet, TableNo};
+use partition_scans::{judge_default, judge_table, sessions_are_low, wait_for_snapshots};
+use pg_values::{LockMode, Refusal, SessionSet, TableNo};
 use row_router::{PathPart, Tree};
 use soundness::{legal_keeps_all, sessions_have_siblings};
 use sql_ast::BoundText;
@@ -62,11 +62,6 @@ fn add_entry(
         Err(CatalogRefused::Full { .. }) => unreachable!(),
     }
 }
-
-// The sessions of a set are numbers below 128.
-fn sessions_are_low(set: SessionSet)
-    ensures { (k : ℕ) → 128 ≤ k → has set k ≡ false }
-{}
 
 // The rows of the table are judged. Where a CHECK says what would be asked of them they are not looked at.
 fn judge_own(
@@ -128,188 +123,6 @@ fn judge_rows(
     Ok(others)
 }
 
-// The rows are judged, and the table becomes a partition.
-fn scan_and_add(
-    alloc: Global,
-    stores: &mut Stores,
-    names: &SessionNames,
-    caller: Caller,
-    parent: TableNo,
-    tree: &Tree,
-    path: &[PathPart],
-    table: TableNo,
-    bound: Bound,
-) -> Result<(), Stop>
-    requires may { MayAttempt stores.old caller }
-    requires locked { HasLockedAll stores.old caller.session parent.number table.number }
-    requires tree { IsTreeOf stores.old.txs stores.old.catalog caller.session parent.number (seen tree.now) }
-    requires path { IsPathOf stores.old caller.session parent.number path.now }
-    requires place { HasPlace stores.old caller.session parent.number table.number bound }
-    ensures { IsStep (λ u. u) result stores.old stores.new caller (caller.cmd + 1) (attached.scanned_and_added names.now caller parent.number table.number bound) }
-{
-    let judged = judge_rows(alloc, stores, caller, parent, tree, path, table, &bound);
-    match wait_for_snapshots(alloc, stores, names, caller, judged) {
-        Ok(()) => add_entry(stores, caller, parent, table, bound),
-        Err(stop) => Err(stop),
-    }
-}
-
-// The table gets its place, or the first refusal is told.
-fn place_and_add(
-    alloc: Global,
-    stores: &mut Stores,
-    names: &SessionNames,
-    caller: Caller,
-    parent: TableNo,
-    tree: &Tree,
-    path: &[PathPart],
-    table: TableNo,
-    own: &Tree,
-    tables: &[TableNo],
-    bound: &BoundText,
-) -> Result<(), Stop>
-    requires may { MayAttempt stores.old caller }
-    requires locked { HasLockedAll stores.old caller.session parent.number table.number }
-    requires sees { SeesBoth stores.old caller.session parent.number table.number (seen tree.now) (seen own.now) path.now tables.now }
-    ensures { IsStep (λ u. u) result stores.old stores.new caller (caller.cmd + 1) (attached.placed_and_added names.now caller parent.number table.number (bound_tree bound.now)) }
-{
-    match place_found(
-        alloc, stores, caller, parent, path, table, own, tables, bound,
-    ) {
-        Ok(bound) => scan_and_add(
-            alloc, stores, names, caller, parent, tree, path, table, bound,
-        ),
-        Err(stop) => Err(stop),
-    }
-}
-
-// The default partition of the parent is locked.
-fn attach_beside(
-    alloc: Global,
-    stores: &mut Stores,
-    names: &SessionNames,
-    caller: Caller,
-    parent: TableNo,
-    tree: &Tree,
-    path: &[PathPart],
-    table: TableNo,
-    own: &Tree,
-    tables: &[TableNo],
-    bound: &BoundText,
-) -> Result<(), Stop>
-    requires may { MayAttempt stores.old caller }
-    requires few { length stores.old.catalog.tables ≤ 4096 }
-    requires parent { IsGuardedNamed stores.old caller.session parent.number }
-    requires table { IsLockedNamed stores.old caller.session table.number }
-    requires family { HasFamilyLocked stores.old caller.session table.number }
-    requires sees { SeesBoth stores.old caller.session parent.number table.number (seen tree.now) (seen own.now) path.now tables.now }
-    ensures { IsStep (λ u. u) result stores.old stores.new caller (caller.cmd + 1) (attached.attached_beside names.now caller parent.number table.number (bound_tree bound.now)) }
-{
-    match lock_default(alloc, stores, names, caller, parent) {
-        Ok(()) => place_and_add(
-            alloc, stores, names, caller, parent, tree, path, table, own, tables, bound,
-        ),
-        Err(stop) => Err(stop),
-    }
-}
-
-// The tree of the table, the path of the parent and its tree are built once for all that is asked of them.
-fn attach_tree(
-    alloc: Global,
-    stores: &mut Stores,
-    names: &SessionNames,
-    caller: Caller,
-    parent: TableNo,
-    tree: &Tree,
-    path: &[PathPart],
-    table: TableNo,
-    tables: &[TableNo],
-    bound: &BoundText,
-) -> Result<(), Stop>
-    requires may { MayAttempt stores.old caller }
-    requires few { length stores.old.catalog.tables ≤ 4096 }
-    requires parent { IsGuardedNamed stores.old caller.session parent.number }
-    requires table { IsLockedNamed stores.old caller.session table.number }
-    requires family { HasFamilyLocked stores.old caller.session table.number }
-    requires tree { IsTreeOf stores.old.txs stores.old.catalog caller.session parent.number (seen tree.now) }
-    requires path { IsPathOf stores.old caller.session parent.number path.now }
-    requires tables { AreFrom stores.old caller.session table.number tables.now }
-    ensures { IsStep (λ u. u) result stores.old stores.new caller (caller.cmd + 1) (attached.attached_beside names.now caller parent.number table.number (bound_tree bound.now)) }
-{
-    trees_are_together();
-    match stores
-        .catalog
-        .ddl_tree(alloc, &stores.txs, table, caller.session)
-    {
-        Ok(own) => attach_beside(
-            alloc, stores, names, caller, parent, tree, path, table, &own, tables, bound,
-        ),
-        Err(NoMemory) => Err(Stop::NoMemory),
-    }
-}
-
-fn attach_on_path(
-    alloc: Global,
-    stores: &mut Stores,
-    names: &SessionNames,
-    caller: Caller,
-    parent: TableNo,
-    tree: &Tree,
-    table: TableNo,
-    tables: &[TableNo],
-    bound: &BoundText,
-) -> Result<(), Stop>
-    requires may { MayAttempt stores.old caller }
-    requires few { length stores.old.catalog.tables ≤ 4096 }
-    requires parent { IsGuardedNamed stores.old caller.session parent.number }
-    requires table { IsLockedNamed stores.old caller.session table.number }
-    requires family { HasFamilyLocked stores.old caller.session table.number }
-    requires tree { IsTreeOf stores.old.txs stores.old.catalog caller.session parent.number (seen tree.now) }
-    requires tables { AreFrom stores.old caller.session table.number tables.now }
-    ensures { IsStep (λ u. u) result stores.old stores.new caller (caller.cmd + 1) (attached.attached_beside names.now caller parent.number table.number (bound_tree bound.now)) }
-{
-    trees_are_together();
-    match stores
-        .catalog
-        .path(alloc, &stores.txs, parent, caller.session)
-    {
-        Ok(path) => attach_tree(
-            alloc, stores, names, caller, parent, tree, &path, table, tables, bound,
-        ),
-        Err(NoMemory) => Err(Stop::NoMemory),
-    }
-}
-
-fn attach_below(
-    alloc: Global,
-    stores: &mut Stores,
-    names: &SessionNames,
-    caller: Caller,
-    parent: TableNo,
-    table: TableNo,
-    tables: &[TableNo],
-    bound: &BoundText,
-) -> Result<(), Stop>
-    requires may { MayAttempt stores.old caller }
-    requires few { length stores.old.catalog.tables ≤ 4096 }
-    requires parent { IsGuardedNamed stores.old caller.session parent.number }
-    requires table { IsLockedNamed stores.old caller.session table.number }
-    requires family { HasFamilyLocked stores.old caller.session table.number }
-    requires tables { AreFrom stores.old caller.session table.number tables.now }
-    ensures { IsStep (λ u. u) result stores.old stores.new caller (caller.cmd + 1) (attached.attached_beside names.now caller parent.number table.number (bound_tree bound.now)) }
-{
-    trees_are_together();
-    match stores
-        .catalog
-        .ddl_tree(alloc, &stores.txs, parent, caller.session)
-    {
-        Ok(tree) => attach_on_path(
-            alloc, stores, names, caller, parent, &tree, table, tables, bound,
-        ),
-        Err(NoMemory) => Err(Stop::NoMemory),
-    }
-}
-
 // A part: the table and those under it, which are listed, are locked.
 fn lock_family(
     alloc: Global,
@@ -335,7 +148,10 @@ fn lock_family(
     lock_tables(alloc, stores, names, caller, tables, mode)
 }
 
-fn attach_family(
+// Behind these locks the trees of both tables and the path of the parent are read, once for all that is asked of
+// them. The default partition of the parent is locked; then come the refusals, the rows are judged, and the table
+// becomes a partition.
+fn attach_below(
     alloc: Global,
     stores: &mut Stores,
     names: &SessionNames,
@@ -349,63 +165,22 @@ fn attach_family(
     requires few { length stores.old.catalog.tables ≤ 4096 }
     requires parent { IsGuardedNamed stores.old caller.session parent.number }
     requires table { IsLockedNamed stores.old caller.session table.number }
-    requires known { IsKnownTo stores.old caller.session table.number }
+    requires family { HasFamilyLocked stores.old caller.session table.number }
     requires tables { AreFrom stores.old caller.session table.number tables.now }
-    ensures { IsStep (λ u. u) result stores.old stores.new caller (caller.cmd + 1) (attached.table_attached names.now caller parent.number table.number (bound_tree bound.now)) }
-{
-    match lock_family(alloc, stores, names, caller, table, tables) {
-        Ok(()) => attach_below(alloc, stores, names, caller, parent, table, tables, bound),
-        Err(stop) => Err(stop),
-    }
-}
-
-// The tables from the table down are found.
-fn attach_table(
-    alloc: Global,
-    stores: &mut Stores,
-    names: &SessionNames,
-    caller: Caller,
-    parent: TableNo,
-    table: TableNo,
-    bound: &BoundText,
-) -> Result<(), Stop>
-    requires may { MayAttempt stores.old caller }
-    requires few { length stores.old.catalog.tables ≤ 4096 }
-    requires parent { IsGuardedNamed stores.old caller.session parent.number }
-    requires table { IsLockedNamed stores.old caller.session table.number }
-    requires known { IsKnownTo stores.old caller.session table.number }
-    ensures { IsStep (λ u. u) result stores.old stores.new caller (caller.cmd + 1) (attached.table_attached names.now caller parent.number table.number (bound_tree bound.now)) }
+    ensures { IsStep (λ u. u) result stores.old stores.new caller (caller.cmd + 1) (attached.attached_beside names.now caller parent.number table.number (bound_tree bound.now)) }
 {
     trees_are_together();
-    match tables_from(alloc, &stores.catalog, &stores.txs, table, caller.session) {
-        Ok(tables) => attach_family(alloc, stores, names, caller, parent, table, &tables, bound),
-        Err(NoMemory) => Err(Stop::NoMemory),
-    }
-}
-
-// The parent is locked, then the table.
-fn lock_and_attach(
-    alloc: Global,
-    stores: &mut Stores,
-    names: &SessionNames,
-    caller: Caller,
-    parent: &[u8],
-    name: &[u8],
-    bound: &BoundText,
-) -> Result<(), Stop>
-    requires may { MayAttempt stores.old caller }
-    requires few { length stores.old.catalog.tables ≤ 4096 }
-    ensures { IsStep (λ u. u) result stores.old stores.new caller (caller.cmd + 1) (attached.locked_and_attached names.now caller parent.now name.now (bound_tree bound.now)) }
-{
-    let shared = LockMode::ShareUpdateExclusive;
-    let mode = LockMode::AccessExclusive;
-    match lock_named(alloc, stores, names, caller, parent, shared) {
-        Ok(parent) => match lock_named(alloc, stores, names, caller, name, mode) {
-            Ok(table) => attach_table(alloc, stores, names, caller, parent, table, bound),
-            Err(stop) => Err(stop),
-        },
-        Err(stop) => Err(stop),
-    }
+    let Stores { txs, catalog, .. } = &*stores;
+    let tree = catalog.ddl_tree(alloc, txs, parent, caller.session)?;
+    let path = catalog.path(alloc, txs, parent, caller.session)?;
+    let own = catalog.ddl_tree(alloc, txs, table, caller.session)?;
+    lock_default(alloc, stores, names, caller, parent)?;
+    let bound = place_found(
+        alloc, stores, caller, parent, &path, table, &own, tables, bound,
+    )?;
+    let judged = judge_rows(alloc, stores, caller, parent, &tree, &path, table, &bound);
+    wait_for_snapshots(alloc, stores, names, caller, judged)?;
+    add_entry(stores, caller, parent, table, bound)
 }
 
 /// ALTER TABLE, ATTACH PARTITION. The parent is found (42P01) and locked in SHARE UPDATE EXCLUSIVE mode, then the
@@ -427,8 +202,13 @@ pub fn attach(
     requires few { length stores.old.catalog.tables ≤ 4096 }
     ensures { IsStep (λ u. u) result stores.old stores.new caller (caller.cmd + 1) (attached.attached names.now caller parent.now name.now (bound_tree bound.now)) }
 {
-    match hold_if_repeatable(alloc, stores, caller) {
-        Ok(()) => lock_and_attach(alloc, stores, names, caller, parent, name, bound),
-        Err(stop) => Err(stop),
-    }
+    trees_are_together();
+    let guards = LockMode::ShareUpdateExclusive;
+    let owns = LockMode::AccessExclusive;
+    hold_if_repeatable(alloc, stores, caller)?;
+    let parent = lock_named(alloc, stores, names, caller, parent, guards)?;
+    let table = lock_named(alloc, stores, names, caller, name, owns)?;
+    let tables = tables_from(alloc, &stores.catalog, &stores.txs, table, caller.session)?;
+    lock_family(alloc, stores, names, caller, table, &tables)?;
+    attach_below(alloc, stores, names, caller, parent, table, &tables, bound)
 }

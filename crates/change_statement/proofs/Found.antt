@@ -43,7 +43,7 @@ use Rattle.statement_steps.specs.declared.stop.Stop.{Stop}
 use Rattle.statement_steps.specs.Known.{IsKnownTo}
 use Rattle.statement_steps.specs.Steps.{IsStep}
 use Rattle.statement_steps.proofs.Parts.{nothing_done, refused_here, no_memory, stays}
-use Rattle.select_statement.specs.Below.{below}
+use Rattle.statement_steps.specs.Below.{below}
 use Rattle.insert_statement.specs.Inserted.{answered}
 use Rattle.insert_statement.specs.Asked.{IsReadOf, MayLock, MayWrite, stopped}
 use Rattle.insert_statement.proofs.Locked.{may_write}

@@ -11,7 +11,7 @@ use Rattle.legal_statements.specs.Below.{tables_in, all_tables}
 use Rattle.row_change.specs.Ways.{AllTables, AllTablesOf, root}
 use Rattle.cond_logic.specs.Tables.{Leaf}
 use Rattle.plan_tree.specs.Kept.{Keeps, id_of, leaf_of, keeps_plain, leaves_below, leaves_among, kept_leaves, node_of, led, kept_tables, tables_among}
-use Rattle.select_statement.specs.Below.{below}
+use Rattle.statement_steps.specs.Below.{below}
 use Rattle.soundness.proofs.Listed.{none_in, first_in, only_one}
 use Rattle.insert_statement.proofs.Trees.{AtHome, AllAtHome}
 

@@ -24,7 +24,7 @@ use Rattle.statement_steps.specs.Asks.{named, all_locked}
 use Rattle.statement_steps.specs.Gathered.{Found}
 use Rattle.statement_steps.specs.Steps.{follow}
 use Rattle.plan_tree.specs.Kept.{Keeps}
-use Rattle.select_statement.specs.Below.{number_of}
+use Rattle.statement_steps.specs.Below.{number_of}
 use Rattle.insert_statement.specs.Inserted.{answered, scope_column}
 use Rattle.change_statement.specs.Kept.{keeps_for, leaves_read, moves, tables_locked}
 use Rattle.change_statement.specs.declared.asking.Change.{Change}

@@ -8,7 +8,7 @@ use Rattle.cond_logic.specs.Trees.{CondTree}
 use Rattle.plan_tree.specs.Conditions.{all_hold}
 use Rattle.plan_tree.specs.Kept.{Keeps, keeps_by, id_of, kept_leaves, kept_tables}
 use Rattle.cond_logic.specs.Asked.{SettingMeant}
-use Rattle.select_statement.specs.Below.{below}
+use Rattle.statement_steps.specs.Below.{below}
 use Rattle.statement_steps.specs.Gathered.{sets_key}
 
 -- ---- what the condition keeps

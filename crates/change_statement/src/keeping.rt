@@ -15,7 +15,7 @@ use cond_logic::{ChangeAsk, Cond, NamedLeaf, Setting};
 use pg_values::{LeafId, NoMemory, TableNo};
 use plan_tree::{KeptParts, all_hold, prune_tree};
 use row_router::{Shape, Tree};
-use select_statement::tables_below;
+use statement_steps::tables_below;
 use std::alloc::Global;
 
 /// What a statement needs of a tree.

@@ -24,7 +24,7 @@ use Rattle.part_ddl.specs.Dropped.{place_ended}
 use Rattle.part_ddl.specs.Placing.{level_at}
 use Rattle.partition_scans.specs.Sessions.{those}
 use Rattle.statement_steps.specs.Ended.{giving}
-use Rattle.statement_steps.specs.Made.{Made, made}
+use Rattle.statement_steps.specs.Made.{Made, made, answered}
 use Rattle.statement_steps.specs.declared.caller.Caller.{Caller}
 use Rattle.statement_steps.specs.declared.ending.Ending.{Ending}
 use Rattle.statement_steps.specs.declared.ending.Ending.TheVariants as endings
@@ -34,7 +34,7 @@ use Rattle.statement_steps.specs.declared.rest.RestOfDetach.{RestOfDetach}
 use Rattle.statement_steps.specs.Asks.{named, named_still, waited}
 use Rattle.statement_steps.specs.Steps.{follow, going_on}
 use Rattle.table_statements.specs.Drops.{parent_in, stamp}
-use Rattle.table_statements.specs.Refused.{next_answer, unless_faults, answered}
+use Rattle.table_statements.specs.Refused.{next_answer, unless_faults}
 use Rattle.table_statements.specs.Tables.{own}
 use Rattle.detach_statement.specs.Detached.{name_at, is_table}
 use Rattle.detach_statement.specs.Kept.{check_kept, new_check}

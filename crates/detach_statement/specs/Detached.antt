@@ -13,12 +13,12 @@ use Rattle.part_catalog.specs.Found.{made_at}
 use Rattle.part_ddl.specs.Below.{default_of}
 use Rattle.part_ddl.specs.Dropped.{place_ended}
 use Rattle.part_ddl.specs.Placing.{level_at}
-use Rattle.statement_steps.specs.Made.{Made, made}
+use Rattle.statement_steps.specs.Made.{Made, made, answered}
 use Rattle.statement_steps.specs.declared.caller.Caller.{Caller}
 use Rattle.statement_steps.specs.Asks.{locked, named, held_at}
 use Rattle.statement_steps.specs.Steps.{follow}
 use Rattle.table_statements.specs.Drops.{parent_in, stamp}
-use Rattle.table_statements.specs.Refused.{next_answer, unless_faults, answered}
+use Rattle.table_statements.specs.Refused.{next_answer, unless_faults}
 
 -- ---- the default partition beside it
 

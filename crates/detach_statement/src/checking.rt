@@ -10,7 +10,6 @@ ghost use Rattle.statement_steps.specs.Steps.{IsStep};
 ghost use Rattle.detach_statement.specs.Asked.{IsPartition};
 ghost use Rattle.detach_statement.specs.Detached as detached;
 
-use crate::faults::stop_by;
 use part_catalog::Catalog;
 use part_ddl::parent_level;
 use pg_values::{Refusal, TableNo};
@@ -70,8 +69,6 @@ pub(crate) fn check(
     ensures partition { IfOk result (λ u. IsPartition stores.now caller.session parent table.number) }
 {
     let Stores { txs, catalog, .. } = stores;
-    match check_partition(alloc, catalog, txs, caller.session, parent, table) {
-        Ok(()) => Ok(()),
-        Err(refusal) => Err(stop_by(refusal)),
-    }
+    check_partition(alloc, catalog, txs, caller.session, parent, table)?;
+    Ok(())
 }

@@ -12,7 +12,6 @@ ghost use Rattle.detach_statement.specs.Asked.{HasGuarded, HasOwned, IsPartition
 ghost use Rattle.detach_statement.specs.Finalized as finalized;
 
 use crate::checking::is_table;
-use crate::faults::stop_by;
 use crate::leaving::leave_parent;
 use history::{TxId, WaitOn};
 use legal_statements::listed_is_there;
@@ -69,10 +68,8 @@ fn check(
     legal_keeps_all();
     listed_is_there();
     let Stores { txs, catalog, .. } = stores;
-    match check_pending(alloc, catalog, txs, caller.session, parent, table) {
-        Ok(()) => Ok(()),
-        Err(refusal) => Err(stop_by(refusal)),
-    }
+    check_pending(alloc, catalog, txs, caller.session, parent, table)?;
+    Ok(())
 }
 
 // ---- snapshots that do not see the mark
@@ -138,56 +135,6 @@ fn wait_for_snapshots(
 
 // ---- the statement
 
-fn finalize_table(
-    alloc: Global,
-    stores: &mut Stores,
-    names: &SessionNames,
-    caller: Caller,
-    parent: TableNo,
-    table: TableNo,
-) -> Result<(), Stop>
-    requires may { MayAttempt stores.old caller }
-    requires guarded { HasGuarded stores.old caller.session parent.number }
-    requires owned { HasOwned stores.old caller.session table.number }
-    requires parent { parent.number < length stores.old.catalog.tables }
-    requires table { table.number < length stores.old.catalog.tables }
-    ensures { IsStep (λ u. u) result stores.old stores.new caller (caller.cmd + 1) (finalized.table_finalized names.now caller parent.number table.number) }
-{
-    match check(alloc, stores, caller, parent, table) {
-        Ok(()) => match wait_for_snapshots(alloc, stores, names, caller, parent) {
-            Ok(()) => leave_parent(alloc, stores, caller, parent, table),
-            Err(stop) => Err(stop),
-        },
-        Err(stop) => Err(stop),
-    }
-}
-
-// The parent is locked, then the table.
-fn lock_and_finalize(
-    alloc: Global,
-    stores: &mut Stores,
-    names: &SessionNames,
-    caller: Caller,
-    parent: &[u8],
-    name: &[u8],
-) -> Result<(), Stop>
-    requires may { MayAttempt stores.old caller }
-    requires few { length stores.old.catalog.tables ≤ 4096 }
-    ensures { IsStep (λ u. u) result stores.old stores.new caller (caller.cmd + 1) (finalized.locked_and_finalized names.now caller parent.now name.now) }
-{
-    let guards = LockMode::ShareUpdateExclusive;
-    match lock_named(alloc, stores, names, caller, parent, guards) {
-        Ok(parent) => {
-            let owns = LockMode::AccessExclusive;
-            match lock_named(alloc, stores, names, caller, name, owns) {
-                Ok(table) => finalize_table(alloc, stores, names, caller, parent, table),
-                Err(stop) => Err(stop),
-            }
-        }
-        Err(stop) => Err(stop),
-    }
-}
-
 /// ALTER TABLE, DETACH PARTITION FINALIZE. The parent is found (42P01) and locked in SHARE UPDATE EXCLUSIVE mode,
 /// then the table in ACCESS EXCLUSIVE mode. It is refused where the parent is not partitioned (42809), and where
 /// the table is not its pending partition (55000). It waits until no other session has an open snapshot that does
@@ -205,8 +152,12 @@ pub fn finalize(
     requires few { length stores.old.catalog.tables ≤ 4096 }
     ensures { IsStep (λ u. u) result stores.old stores.new caller (caller.cmd + 1) (finalized.finalized names.now caller parent.now name.now) }
 {
-    match hold_if_repeatable(alloc, stores, caller) {
-        Ok(()) => lock_and_finalize(alloc, stores, names, caller, parent, name),
-        Err(stop) => Err(stop),
-    }
+    let guards = LockMode::ShareUpdateExclusive;
+    let owns = LockMode::AccessExclusive;
+    hold_if_repeatable(alloc, stores, caller)?;
+    let parent = lock_named(alloc, stores, names, caller, parent, guards)?;
+    let table = lock_named(alloc, stores, names, caller, name, owns)?;
+    check(alloc, stores, caller, parent, table)?;
+    wait_for_snapshots(alloc, stores, names, caller, parent)?;
+    leave_parent(alloc, stores, caller, parent, table)
 }

@@ -66,14 +66,8 @@ pub(crate) fn leave_parent(
         unreachable!()
     };
     let Stores { txs, catalog, .. } = stores;
-    match new_check(alloc, catalog, txs, session, parent, table) {
-        Ok(check) => match keep(catalog, table, check, by, caller.cmd) {
-            Ok(()) => {
-                catalog.end_entry(txs, parent, table, by, caller.cmd);
-                Ok(())
-            }
-            Err(NoMemory) => Err(Stop::NoMemory),
-        },
-        Err(NoMemory) => Err(Stop::NoMemory),
-    }
+    let check = new_check(alloc, catalog, txs, session, parent, table)?;
+    keep(catalog, table, check, by, caller.cmd)?;
+    catalog.end_entry(txs, parent, table, by, caller.cmd);
+    Ok(())
 }

@@ -15,7 +15,6 @@
 #![tactic(auto)]
 
 mod checking;
-mod faults;
 mod finalizing;
 mod implying;
 mod keeping;

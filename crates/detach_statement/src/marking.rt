@@ -12,7 +12,6 @@ ghost use Rattle.detach_statement.specs.Asked.{HasGuarded, MayBeMarked};
 ghost use Rattle.detach_statement.specs.Concurrent as concurrent;
 
 use crate::checking::is_table;
-use crate::faults::stop_by;
 use legal_statements::{listed_is_there, mark_may_follow, nobody_else_marks};
 use part_catalog::Catalog;
 use part_ddl::{default_of, parent_level};
@@ -88,10 +87,8 @@ fn check(
 {
     trees_are_together();
     let Stores { txs, catalog, .. } = stores;
-    match check_partition(alloc, catalog, txs, caller.session, parent, table) {
-        Ok(()) => Ok(()),
-        Err(refusal) => Err(stop_by(refusal)),
-    }
+    check_partition(alloc, catalog, txs, caller.session, parent, table)?;
+    Ok(())
 }
 
 // The entry is marked pending. All who hold a lock on the parent are to be waited for.
@@ -124,25 +121,6 @@ fn mark(stores: &mut Stores, caller: Caller, parent: TableNo, table: TableNo) ->
     }
 }
 
-fn mark_table(
-    alloc: Global,
-    stores: &mut Stores,
-    caller: Caller,
-    parent: TableNo,
-    table: TableNo,
-) -> Result<RestOfDetach, Stop>
-    requires may { MayAttempt stores.old caller }
-    requires guarded { HasGuarded stores.old caller.session parent.number }
-    requires parent { parent.number < length stores.old.catalog.tables }
-    requires table { table.number < length stores.old.catalog.tables }
-    ensures { IsStep (λ d. d) result stores.old stores.new caller (caller.cmd + 1) (concurrent.table_marked caller parent.number table.number) }
-{
-    match check(alloc, stores, caller, parent, table) {
-        Ok(()) => Ok(mark(stores, caller, parent, table)),
-        Err(stop) => Err(stop),
-    }
-}
-
 /// Stage 1: the parent is locked, then the table, and its entry is marked.
 pub(crate) fn run_first_stage(
     alloc: Global,
@@ -157,11 +135,8 @@ pub(crate) fn run_first_stage(
     ensures { IsStep (λ d. d) result stores.old stores.new caller (caller.cmd + 1) (concurrent.first_stage names.now caller parent.now name.now) }
 {
     let mode = LockMode::ShareUpdateExclusive;
-    match lock_named(alloc, stores, names, caller, parent, mode) {
-        Ok(parent) => match lock_named(alloc, stores, names, caller, name, mode) {
-            Ok(table) => mark_table(alloc, stores, caller, parent, table),
-            Err(stop) => Err(stop),
-        },
-        Err(stop) => Err(stop),
-    }
+    let parent = lock_named(alloc, stores, names, caller, parent, mode)?;
+    let table = lock_named(alloc, stores, names, caller, name, mode)?;
+    check(alloc, stores, caller, parent, table)?;
+    Ok(mark(stores, caller, parent, table))
 }

@@ -12,7 +12,6 @@ ghost use Rattle.detach_statement.specs.Asked.{IsPartition, IsPendingPart};
 ghost use Rattle.detach_statement.specs.Concurrent as concurrent;
 
 use crate::checking::is_table;
-use crate::faults::stop_by;
 use crate::leaving::leave_parent;
 use crate::marking::run_first_stage;
 use history::{TxId, WaitOn};
@@ -102,45 +101,11 @@ fn check(alloc: Global, stores: &Stores, caller: Caller, rest: RestOfDetach) -> 
     legal_keeps_all();
     listed_is_there();
     let Stores { txs, catalog, .. } = stores;
-    match check_mark(alloc, catalog, txs, caller.session, rest) {
-        Ok(()) => Ok(()),
-        Err(refusal) => Err(stop_by(refusal)),
-    }
+    check_mark(alloc, catalog, txs, caller.session, rest)?;
+    Ok(())
 }
 
-// Both tables are locked anew, and the entry ends where it is pending still.
-fn run_third_stage(
-    alloc: Global,
-    stores: &mut Stores,
-    names: &SessionNames,
-    caller: Caller,
-    rest: RestOfDetach,
-    parent: &[u8],
-    name: &[u8],
-) -> Result<(), Stop>
-    requires may { MayAttempt stores.old caller }
-    requires few { length stores.old.catalog.tables ≤ 4096 }
-    ensures { IsStep (λ u. u) result stores.old stores.new caller (caller.cmd + 1) (concurrent.third_stage names.now caller rest parent.now name.now) }
-{
-    let above = rest.parent;
-    let table = rest.table;
-    let guards = LockMode::ShareUpdateExclusive;
-    match lock_named_still(alloc, stores, names, caller, parent, above, guards) {
-        Ok(()) => {
-            let owns = LockMode::AccessExclusive;
-            match lock_named_still(alloc, stores, names, caller, name, table, owns) {
-                Ok(()) => match check(alloc, stores, caller, rest) {
-                    Ok(()) => leave_parent(alloc, stores, caller, above, table),
-                    Err(stop) => Err(stop),
-                },
-                Err(stop) => Err(stop),
-            }
-        }
-        Err(stop) => Err(stop),
-    }
-}
-
-// The transactions of the others end, and then the entry.
+// The transactions of the others end. Then both tables are locked anew, and the entry ends where it is pending still.
 fn run_later_stages(
     alloc: Global,
     stores: &mut Stores,
@@ -154,10 +119,15 @@ fn run_later_stages(
     requires few { length stores.old.catalog.tables ≤ 4096 }
     ensures { IsStep (λ u. u) result stores.old stores.new caller (caller.cmd + 1) (concurrent.later_stages names.now caller rest parent.now name.now) }
 {
-    match wait_for_others(alloc, stores, names, caller, rest) {
-        Ok(()) => run_third_stage(alloc, stores, names, caller, rest, parent, name),
-        Err(stop) => Err(stop),
-    }
+    let above = rest.parent;
+    let table = rest.table;
+    let guards = LockMode::ShareUpdateExclusive;
+    let owns = LockMode::AccessExclusive;
+    wait_for_others(alloc, stores, names, caller, rest)?;
+    lock_named_still(alloc, stores, names, caller, parent, above, guards)?;
+    lock_named_still(alloc, stores, names, caller, name, table, owns)?;
+    check(alloc, stores, caller, rest)?;
+    leave_parent(alloc, stores, caller, above, table)
 }
 
 // It waits on in the same stage, or in the next one.
@@ -213,9 +183,9 @@ pub fn detach_concurrently(
 {
     match detach_of(rest) {
         Some(rest) => ended(go_on(alloc, stores, names, caller, rest, parent, name)),
-        None => match run_first_stage(alloc, stores, names, caller, parent, name) {
-            Ok(marked) => Ok(Ending::Commits(marked)),
-            Err(stop) => Err(stop),
-        },
+        None => {
+            let marked = run_first_stage(alloc, stores, names, caller, parent, name)?;
+            Ok(Ending::Commits(marked))
+        }
     }
 }

@@ -8,7 +8,7 @@ ghost use Rattle.detach_statement.specs.Detached as detached;
 use crate::checking::check;
 use legal_statements::{drop_may_follow, listed_is_there, nobody_else_ends, there_is_known};
 use part_ddl::default_of;
-use pg_values::{LockMode, NoMemory, TableNo};
+use pg_values::{LockMode, TableNo};
 use statement_steps::{Caller, SessionNames, Stop, hold_if_repeatable, lock_named, lock_table};
 use std::alloc::Global;
 use stores::{Stores, trees_are_together};
@@ -30,13 +30,13 @@ fn lock_default(
     trees_are_together();
     listed_is_there();
     there_is_known();
-    match default_of(alloc, &stores.catalog, &stores.txs, parent, caller.session) {
-        Ok(None) => Ok(()),
-        Ok(Some(default)) => {
+    let default = default_of(alloc, &stores.catalog, &stores.txs, parent, caller.session)?;
+    match default {
+        None => Ok(()),
+        Some(default) => {
             let mode = LockMode::AccessExclusive;
             lock_table(alloc, stores, names, caller, default, mode)
         }
-        Err(NoMemory) => Err(Stop::NoMemory),
     }
 }
 
@@ -57,56 +57,6 @@ fn leave_place(stores: &mut Stores, caller: Caller, parent: TableNo, table: Tabl
     catalog.end_entry(txs, parent, table, by, caller.cmd);
 }
 
-// The default partition is locked, and the table leaves its place where nothing stands against it.
-fn detach_table(
-    alloc: Global,
-    stores: &mut Stores,
-    names: &SessionNames,
-    caller: Caller,
-    parent: TableNo,
-    table: TableNo,
-) -> Result<(), Stop>
-    requires may { MayAttempt stores.old caller }
-    requires few { length stores.old.catalog.tables ≤ 4096 }
-    requires parent { IsLockedNamed stores.old caller.session parent.number }
-    requires table { table.number < length stores.old.catalog.tables }
-    ensures { IsStep (λ u. u) result stores.old stores.new caller (caller.cmd + 1) (detached.table_detached names.now caller parent.number table.number) }
-{
-    match lock_default(alloc, stores, names, caller, parent) {
-        Ok(()) => match check(alloc, stores, caller, parent, table) {
-            Ok(()) => {
-                leave_place(stores, caller, parent, table);
-                Ok(())
-            }
-            Err(stop) => Err(stop),
-        },
-        Err(stop) => Err(stop),
-    }
-}
-
-// The parent is locked, then the table.
-fn lock_and_detach(
-    alloc: Global,
-    stores: &mut Stores,
-    names: &SessionNames,
-    caller: Caller,
-    parent: &[u8],
-    name: &[u8],
-) -> Result<(), Stop>
-    requires may { MayAttempt stores.old caller }
-    requires few { length stores.old.catalog.tables ≤ 4096 }
-    ensures { IsStep (λ u. u) result stores.old stores.new caller (caller.cmd + 1) (detached.locked_and_detached names.now caller parent.now name.now) }
-{
-    let mode = LockMode::AccessExclusive;
-    match lock_named(alloc, stores, names, caller, parent, mode) {
-        Ok(parent) => match lock_named(alloc, stores, names, caller, name, mode) {
-            Ok(table) => detach_table(alloc, stores, names, caller, parent, table),
-            Err(stop) => Err(stop),
-        },
-        Err(stop) => Err(stop),
-    }
-}
-
 /// ALTER TABLE, DETACH PARTITION. The parent is found (42P01) and locked in ACCESS EXCLUSIVE mode, then the
 /// table, then the default partition beside it. It is refused where the parent is not partitioned (42809),
 /// where the table is not a partition of it (42P01), and where it is the pending one (55000).
@@ -122,8 +72,12 @@ pub fn detach(
     requires few { length stores.old.catalog.tables ≤ 4096 }
     ensures { IsStep (λ u. u) result stores.old stores.new caller (caller.cmd + 1) (detached.detached names.now caller parent.now name.now) }
 {
-    match hold_if_repeatable(alloc, stores, caller) {
-        Ok(()) => lock_and_detach(alloc, stores, names, caller, parent, name),
-        Err(stop) => Err(stop),
-    }
+    let mode = LockMode::AccessExclusive;
+    hold_if_repeatable(alloc, stores, caller)?;
+    let parent = lock_named(alloc, stores, names, caller, parent, mode)?;
+    let table = lock_named(alloc, stores, names, caller, name, mode)?;
+    lock_default(alloc, stores, names, caller, parent)?;
+    check(alloc, stores, caller, parent, table)?;
+    leave_place(stores, caller, parent, table);
+    Ok(())
 }

@@ -19,10 +19,10 @@ use Rattle.row_change.specs.FullRows.{full_row}
 use Rattle.stores.specs.declared.stores.Stores.{Stores}
 use Rattle.statement_steps.specs.Attempts.{MayAttempt}
 use Rattle.statement_steps.specs.declared.caller.Caller.{Caller}
+use Rattle.statement_steps.specs.Faults.{stop_of}
 use Rattle.statement_steps.specs.Steps.{IsStep}
+use Rattle.statement_steps.proofs.Parts.{answered_done, answered_refused}
 use Rattle.insert_statement.specs.Inserted.{whole, whole_rows, rows_meant}
-use Rattle.insert_statement.specs.Asked.{stopped}
-use Rattle.insert_statement.proofs.Told.{answer_done, answer_refused}
 
 -- ---- a value for each column
 
@@ -42,10 +42,10 @@ AreColumns stores t columns = (h : History) → CatalogueStands stores.catalog h
 pub rows_done : (rows : List (List Value)) (stores : Stores) (caller : Caller) (t : TableNo) (columns : List Column) (params : List Param) (names : Option (List (List ℕ))) (values : List Trees) → MayAttempt stores caller → AreColumns stores t columns
     → whole_rows columns params caller.session names values ≡ Ok rows → IsStep (λ (rs : List (List Value)). rs) (Ok rows) stores stores caller caller.cmd (rows_meant params caller.session t.number names values)
 rows_done rows stores caller t columns params names values may are is =
-    answer_done rows stores caller (λ h. whole_rows (made_at h t.number).columns params caller.session names values) may (λ h stands. ap (λ cs. whole_rows cs params caller.session names values) (sym (are h stands.all.catalog)) ∙ is)
+    answered_done (λ (rs : List (List Value)). rs) rows stores caller (λ h. whole_rows (made_at h t.number).columns params caller.session names values) may (λ h stands. ap (λ cs. whole_rows cs params caller.session names values) (sym (are h stands.all.catalog)) ∙ is)
 
 pub rows_refused : (r : Refusal) (stores : Stores) (caller : Caller) (t : TableNo) (columns : List Column) (params : List Param) (names : Option (List (List ℕ))) (values : List Trees) → MayAttempt stores caller → AreColumns stores t columns
-    → IsAnswer {T = List (List Value)} (Err r) (whole_rows columns params caller.session names values) → IsStep (λ (rs : List (List Value)). rs) (Err (stopped r)) stores stores caller caller.cmd (rows_meant params caller.session t.number names values)
+    → IsAnswer {T = List (List Value)} (Err r) (whole_rows columns params caller.session names values) → IsStep (λ (rs : List (List Value)). rs) (Err (stop_of r)) stores stores caller caller.cmd (rows_meant params caller.session t.number names values)
 rows_refused r stores caller t columns params names values may are is =
-    answer_refused r stores caller (λ h. whole_rows (made_at h t.number).columns params caller.session names values) may
+    answered_refused (λ (rs : List (List Value)). rs) r stores caller caller.cmd (λ h. whole_rows (made_at h t.number).columns params caller.session names values) may
     (λ h stands. subst (λ cs. IsAnswer {T = List (List Value)} (Err r) (whole_rows cs params caller.session names values)) (are h stands.all.catalog) is)

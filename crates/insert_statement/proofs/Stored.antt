@@ -38,7 +38,8 @@ use Rattle.statement_steps.proofs.Parts.{no_memory}
 use Rattle.statement_steps.proofs.Since.{add_append}
 use Rattle.insert_statement.specs.Born.{all_born}
 use Rattle.insert_statement.specs.Inserted.{tables_of, own}
-use Rattle.insert_statement.specs.Asked.{MayGo, MayPut, put, stopped}
+use Rattle.statement_steps.specs.Faults.{stop_of}
+use Rattle.insert_statement.specs.Asked.{MayGo, MayPut, put}
 use Rattle.insert_statement.proofs.Births.{Births, all_births, Quiet, quiet, good_rows, all_before}
 use Rattle.insert_statement.proofs.Same.{SameMade, same_all, told_as}
 
@@ -158,7 +159,7 @@ put_ok old rows caller targets ls rs may it = record {
 }
 
 pub put_refused : (old : Stores) (rows : KeptRows) (caller : Caller) (targets : List Target) (ls : List LeafId) (rs : List (List Value)) (refusal : Refusal) → MayAttempt old caller → IsPut old rows caller targets ls rs (Err refusal)
-    → IsStep (λ (u : Unit {0}). u) (Err (stopped refusal)) old (record old { rows = rows }) caller (caller.cmd + 1) (put targets caller ls rs)
+    → IsStep (λ (u : Unit {0}). u) (Err (stop_of refusal)) old (record old { rows = rows }) caller (caller.cmd + 1) (put targets caller ls rs)
 put_refused old rows caller targets ls rs (Sql f) may it = record {
   is = λ h stands at.
       let made = it.made h stands.all.txs stands.all.catalog stands.all.rows in

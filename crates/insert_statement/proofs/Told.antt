@@ -1,10 +1,6 @@
--- Parts that are told at once, and parts that are the same at each history.
+-- Parts of an INSERT that are the same at each history.
 use Rattle.std.proofs.Common.{◌≡◌, ℕ, ◌+◌, List, [], ◌∷◌, ap, sym, subst, ◌∙◌, Result, Ok, Err, All, map}
-use Rattle.pg_values.specs.Refusals.{IsAnswer}
 use Rattle.pg_values.specs.declared.value.Value.{Value}
-use Rattle.pg_values.specs.declared.fault.Fault.{Fault}
-use Rattle.pg_values.specs.declared.fault.Refusal.{Refusal}
-use Rattle.pg_values.specs.declared.fault.Refusal.TheVariants.{Sql, NoMemory}
 use Rattle.pg_values.specs.declared.ids.LeafId.{LeafId}
 use Rattle.pg_values.specs.declared.ids.TableNo.{TableNo}
 use Rattle.history.specs.declared.catalogue.TableShape.TheVariants.{Leaf, Level}
@@ -16,6 +12,7 @@ use Rattle.row_router.specs.Trees.{TableTree}
 use Rattle.part_catalog.specs.Found.{made_at}
 use Rattle.part_catalog.specs.Stands.{CatalogueStands}
 use Rattle.row_change.specs.declared.target.Target.{Target}
+use Rattle.row_change.specs.Placing.{all_placed}
 use Rattle.row_change.specs.Targets.{HasTarget, IsTargetOf}
 use Rattle.stores.specs.Stand.{AllStand, Stands}
 use Rattle.stores.specs.declared.stores.Stores.{Stores}
@@ -23,29 +20,12 @@ use Rattle.statement_steps.specs.Made.{Made}
 use Rattle.statement_steps.specs.Attempts.{MayAttempt}
 use Rattle.statement_steps.specs.declared.caller.Caller.{Caller}
 use Rattle.statement_steps.specs.declared.stop.Stop.{Stop}
-use Rattle.statement_steps.specs.Steps.{IsTold, IsStep}
-use Rattle.statement_steps.proofs.Parts.{stays, nothing_done, refused_here, no_memory}
-use Rattle.insert_statement.specs.Inserted.{answered, below, into, into_leaf, into_leaves, into_partitions, into_shape}
-use Rattle.insert_statement.specs.Asked.{Each, IsOwnTarget, IsReadOf, put, stopped}
+use Rattle.statement_steps.specs.Steps.{IsStep}
+use Rattle.statement_steps.proofs.Parts.{answered_done}
+use Rattle.statement_steps.proofs.Steps.{goes, same_step}
+use Rattle.insert_statement.specs.Inserted.{below, into, into_leaf, into_leaves, into_partitions, into_shape, locked_into, placed_rows, tables_of}
+use Rattle.insert_statement.specs.Asked.{Each, IsOwnTarget, IsReadOf, put}
 use Rattle.insert_statement.proofs.Targets.{put_in_own, put_is_meant}
-
-pub answer_done : {T : Type 0} (x : T) (stores : Stores) (caller : Caller) (wanted : History → Result T Fault) → MayAttempt stores caller → ((h : History) → Stands stores h → wanted h ≡ Ok x)
-    → IsStep (λ (y : T). y) (Ok x) stores stores caller caller.cmd (λ h. answered (wanted h))
-answer_done {T} x stores caller wanted may is = nothing_done (λ (y : T). y) x stores caller (λ h. answered (wanted h)) may (λ h stands. ap answered (is h stands))
-
-pub answer_refused : {T : Type 0} (r : Refusal) (stores : Stores) (caller : Caller) (wanted : History → Result T Fault) → MayAttempt stores caller → ((h : History) → Stands stores h → IsAnswer (Err r) (wanted h))
-    → IsStep (λ (y : T). y) (Err (stopped r)) stores stores caller caller.cmd (λ h. answered (wanted h))
-answer_refused {T} (Sql f) stores caller wanted may is = refused_here (λ (y : T). y) f stores caller caller.cmd (λ h. answered (wanted h)) may (λ h stands. ap answered (is h stands))
-answer_refused {T} NoMemory stores caller wanted may is = no_memory (λ (y : T). y) stores stores caller caller.cmd (λ h. answered (wanted h)) (stays stores caller.session)
-
-pub same_step : {X T : Type 0} (view : X → T) (r : Result X Stop) (old new : Stores) (caller : Caller) (n : ℕ) (f g : History → Made T) → ((h : History) → Stands old h → f h ≡ g h) → IsStep view r old new caller n g → IsStep view r old new caller n f
-same_step view r old new caller n f g same step = record {
-  is = λ h stands at. subst (IsTold view r new caller n h) (sym (same h stands)) (step.is h stands at);
-  keeps = step.keeps;
-  waits = step.waits;
-}
-
--- ---- of an INSERT
 
 -- what came of storing rows
 abbrev pub Stored : Result (Unit {0}) Stop → (old new : Stores) → Caller → (History → Made (Unit {0})) → Type 0
@@ -68,6 +48,13 @@ pub read_step : (names : List (List ℕ)) (r : Result (Unit {0}) Stop) (old new 
 read_step names r old new caller t tree path rows read step =
     same_step (λ (u : Unit {0}). u) r old new caller (caller.cmd + 1) (into_partitions names caller t.number rows) (below names caller tree path rows)
     (λ h stands. ap (λ x. below names caller x (path_of h caller.session t.number) rows h) (sym (read.is_tree h stands.all.txs stands.all.catalog)) ∙ ap (λ p. below names caller tree p rows h) (sym (read.is_path h stands.all.txs stands.all.catalog))) step
+
+-- its tree is read, and the rows are placed
+pub placed_step : (names : List (List ℕ)) (r : Result (Unit {0}) Stop) (old new : Stores) (caller : Caller) (t : TableNo) (tree : TableTree) (path : List PathPart) (leaves : List LeafId) (rows : List (List Value)) → MayAttempt old caller → IsReadOf old.txs old.catalog caller t tree path
+    → ((h : History) → CatalogueStands old.catalog h → all_placed (tables_of h) tree path rows ≡ Ok leaves) → Stored r old new caller (locked_into names caller tree leaves rows) → Stored r old new caller (into_partitions names caller t.number rows)
+placed_step names r old new caller t tree path leaves rows may read placed step =
+    read_step names r old new caller t tree path rows read (goes (placed_rows tree path rows) (λ ls. locked_into names caller tree ls rows)
+    (answered_done (λ (ls : List LeafId). ls) leaves old caller (λ h. all_placed (tables_of h) tree path rows) may (λ h stands. placed h stands.all.catalog)) step)
 
 pub leaf_step : (names : List (List ℕ)) (r : Result (Unit {0}) Stop) (old new : Stores) (caller : Caller) (t : TableNo) (leaf : LeafId) (rows : List (List Value)) → ((h : History) → CatalogueStands old.catalog h → (made_at h t.number).shape ≡ Leaf leaf)
     → Stored r old new caller (into_leaf caller t.number leaf rows) → Stored r old new caller (into names caller t.number rows)

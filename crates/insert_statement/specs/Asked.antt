@@ -32,10 +32,9 @@ use Rattle.stores.specs.Stand.{Stands}
 use Rattle.stores.specs.declared.stores.Stores.{Stores}
 use Rattle.statement_steps.specs.Made.{Made}
 use Rattle.pg_values.specs.declared.fault.Refusal.{Refusal}
-use Rattle.pg_values.specs.declared.fault.Refusal.TheVariants.{Sql, NoMemory}
 use Rattle.statement_steps.specs.declared.caller.Caller.{Caller}
 use Rattle.statement_steps.specs.declared.stop.Stop.{Stop}
-use Rattle.statement_steps.specs.declared.stop.Stop.TheVariants.{Refused, NoMemory as OutOfMemory}
+use Rattle.statement_steps.specs.Faults.{stop_of}
 use Rattle.statement_steps.specs.Known.{IsKnownTo}
 use Rattle.insert_statement.specs.Born.{all_born}
 use Rattle.insert_statement.specs.Inserted.{tables_of, own}
@@ -124,5 +123,4 @@ pub record IsOwnTarget (h : History) (s : ℕ) (t : TableNo) (leaf : LeafId) (ta
 -- ---- a refusal ends the statement
 
 abbrev pub stopped : Refusal → Stop
-stopped (Sql f) = Refused f
-stopped NoMemory = OutOfMemory
+stopped r = stop_of r

@@ -25,15 +25,12 @@ use Rattle.expression_binder.specs.declared.scope.ScopeColumn.{ScopeColumn}
 use Rattle.cond_logic.specs.Asked.{InsertMeant}
 use Rattle.sql_binder.specs.Inserts.{bound_insert}
 use Rattle.stores.specs.Events.{tx_in, look_of}
-use Rattle.statement_steps.specs.Made.{Made, Refused, made, halted}
+pub use Rattle.statement_steps.specs.Made.{answered}
+use Rattle.statement_steps.specs.Made.{Made}
 use Rattle.statement_steps.specs.declared.caller.Caller.{Caller}
 use Rattle.statement_steps.specs.Asks.{named, held_at, all_locked}
 use Rattle.statement_steps.specs.Steps.{follow}
 use Rattle.insert_statement.specs.Born.{table_faults, all_born}
-
-abbrev pub answered : {T : Type 0} → Result T Fault → Made T
-answered (Ok x) = made [] x
-answered (Err f) = halted [] (Refused f)
 
 -- the tables that were made, and the session's transaction
 abbrev pub tables_of : History → List Table

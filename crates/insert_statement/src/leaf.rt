@@ -49,36 +49,6 @@ fn target_of(
     })
 }
 
-fn store_for(
-    alloc: Global,
-    stores: &mut Stores,
-    caller: Caller,
-    table: TableNo,
-    target: &Target,
-    leaf: LeafId,
-    rows: &[Row],
-) -> Result<(), Stop>
-    requires may { MayAttempt stores.old caller }
-    requires known { table.number < length stores.old.catalog.tables }
-    requires leaf { (h : History) → CatalogueStands stores.old.catalog h → (made_at h table.number).shape ≡ Leaf leaf }
-    requires target { (h : History) → AllStand stores.old h → IsOwnTarget h caller.session table leaf target.now }
-    requires rows { AreRowsOf stores.old.catalog table rows.now }
-    requires locked { MayWrite stores.old caller.session (table ∷ []) }
-    ensures { IsStep (λ u. u) result stores.old stores.new caller (caller.cmd + 1) (into_leaf caller table.number leaf rows.now) }
-{
-    match same_leaf(alloc, leaf, rows) {
-        Ok(leaves) => put_rows(
-            alloc,
-            stores,
-            caller,
-            from_ref(target),
-            leaves.as_slice(),
-            rows,
-        ),
-        Err(NoMemory) => Err(Stop::NoMemory),
-    }
-}
-
 /// Stores the rows in the leaf of the table, each after the tests of the table and of those above it.
 pub(crate) fn store_in_leaf(
     alloc: Global,
@@ -95,8 +65,14 @@ pub(crate) fn store_in_leaf(
     requires locked { MayWrite stores.old caller.session (table ∷ []) }
     ensures { IsStep (λ u. u) result stores.old stores.new caller (caller.cmd + 1) (into_leaf caller table.number leaf rows.now) }
 {
-    match target_of(alloc, stores, caller, table, leaf) {
-        Ok(target) => store_for(alloc, stores, caller, table, &target, leaf, rows),
-        Err(NoMemory) => Err(Stop::NoMemory),
-    }
+    let target = target_of(alloc, stores, caller, table, leaf)?;
+    let leaves = same_leaf(alloc, leaf, rows)?;
+    put_rows(
+        alloc,
+        stores,
+        caller,
+        from_ref(&target),
+        leaves.as_slice(),
+        rows,
+    )
 }

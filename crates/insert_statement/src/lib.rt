@@ -11,7 +11,6 @@ mod leaf;
 mod partitions;
 mod rows;
 mod statement;
-mod stopping;
 mod storing;
 
 pub use partitions::{leaves_of, tree_and_path};

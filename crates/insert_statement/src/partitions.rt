@@ -10,15 +10,14 @@ ghost use Rattle.part_catalog.specs.Stands.{CatalogueStands};
 ghost use Rattle.row_router.specs.Seen.{seen};
 ghost use Rattle.row_change.specs.Placing.{all_placed, CanBePlaced, IsNumbered, IsPartNumbered};
 ghost use Rattle.row_change.specs.Targets.{HasWay};
-ghost use Rattle.row_change.specs.Ways.{AllTables, ways_below};
+ghost use Rattle.row_change.specs.Ways.{ways_below};
 ghost use Rattle.statement_steps.specs.Attempts.{MayAttempt};
 ghost use Rattle.statement_steps.specs.Known.{IsKnownTo};
 ghost use Rattle.statement_steps.specs.Steps.{IsStep};
 ghost use Rattle.insert_statement.specs.Inserted as inserted;
 ghost use Rattle.insert_statement.specs.Inserted.{tables_of};
-ghost use Rattle.insert_statement.specs.Asked.{ArePlaced, AreRowsOf, IsReadOf, IsTreeFor, MayLock, MayWrite};
+ghost use Rattle.insert_statement.specs.Asked.{ArePlaced, AreRowsOf, IsReadOf, MayWrite};
 
-use crate::stopping::stop_by;
 use crate::storing::put_rows;
 use part_catalog::Catalog;
 use pg_values::{LeafId, LockMode, NoMemory, Refusal, Row, Steps, TableNo};
@@ -105,66 +104,9 @@ fn store_in_leaves(
     ensures { IsStep (λ u. u) result stores.old stores.new caller (caller.cmd + 1) (inserted.into_leaves caller (seen tree.now) leaves.now rows.now) }
 {
     trees_are_together();
-    let catalog = &stores.catalog;
-    let session = caller.session;
-    match leaf_targets(alloc, catalog, &stores.txs, session, tree, leaves) {
-        Ok(targets) => put_rows(alloc, stores, caller, &targets, leaves, rows),
-        Err(NoMemory) => Err(Stop::NoMemory),
-    }
-}
-
-// The tables on the ways of the rows are locked, and the rows stored.
-fn lock_and_store(
-    alloc: Global,
-    stores: &mut Stores,
-    names: &SessionNames,
-    caller: Caller,
-    tree: &Tree,
-    leaves: &[LeafId],
-    ways: &[TableNo],
-    rows: &[Row],
-) -> Result<(), Stop>
-    requires may { MayAttempt stores.old caller }
-    requires tables { AllTables (MayLock stores.old caller.session) (seen tree.now) }
-    requires ways { ways.now ≡ ways_below (seen tree.now) rows.now }
-    requires placed { ArePlaced stores.old.txs stores.old.catalog caller (seen tree.now) leaves.now rows.now }
-    ensures { IsStep (λ u. u) result stores.old stores.new caller (caller.cmd + 1) (inserted.locked_into names.now caller (seen tree.now) leaves.now rows.now) }
-{
-    match lock_tables(alloc, stores, names, caller, ways, LockMode::RowExclusive) {
-        Ok(()) => store_in_leaves(alloc, stores, caller, tree, leaves, rows),
-        Err(stop) => Err(stop),
-    }
-}
-
-// Places the rows, locks the tables on their ways, and stores them.
-fn store_by_tree(
-    alloc: Global,
-    stores: &mut Stores,
-    names: &SessionNames,
-    caller: Caller,
-    tree: &Tree,
-    path: &[PathPart],
-    rows: &[Row],
-) -> Result<(), Stop>
-    requires may { MayAttempt stores.old caller }
-    requires tables { AllTables (MayLock stores.old caller.session) (seen tree.now) }
-    requires tree { IsTreeFor stores.old.txs stores.old.catalog caller (seen tree.now) path.now rows.now }
-    ensures { IsStep (λ u. u) result stores.old stores.new caller (caller.cmd + 1) (inserted.below names.now caller (seen tree.now) path.now rows.now) }
-{
-    let mut ways = Vec::new(alloc);
-    match leaves_and_ways(alloc, &stores.catalog, tree, path, rows, &mut ways) {
-        Ok(leaves) => lock_and_store(
-            alloc,
-            stores,
-            names,
-            caller,
-            tree,
-            leaves.as_slice(),
-            &ways,
-            rows,
-        ),
-        Err(refusal) => Err(stop_by(refusal)),
-    }
+    let Stores { txs, catalog, .. } = &*stores;
+    let targets = leaf_targets(alloc, catalog, txs, caller.session, tree, leaves)?;
+    put_rows(alloc, stores, caller, &targets, leaves, rows)
 }
 
 /// The tree that the session's command reads of a table, and the path above it.
@@ -187,7 +129,8 @@ pub fn tree_and_path(
     Ok((tree, path))
 }
 
-/// Stores the rows below a partitioned table, by the tree that the session's command reads.
+/// The rows are placed below a partitioned table, by the tree that the session's command reads; the tables on
+/// their ways are locked, and the rows are stored.
 pub(crate) fn store_below(
     alloc: Global,
     stores: &mut Stores,
@@ -203,8 +146,9 @@ pub(crate) fn store_below(
     requires rows { AreRowsOf stores.old.catalog table rows.now }
     ensures { IsStep (λ u. u) result stores.old stores.new caller (caller.cmd + 1) (inserted.into_partitions names.now caller table.number rows.now) }
 {
-    match tree_and_path(alloc, stores, caller, table) {
-        Ok((tree, path)) => store_by_tree(alloc, stores, names, caller, &tree, &path, rows),
-        Err(NoMemory) => Err(Stop::NoMemory),
-    }
+    let (tree, path) = tree_and_path(alloc, stores, caller, table)?;
+    let mut ways = Vec::new(alloc);
+    let leaves = leaves_and_ways(alloc, &stores.catalog, &tree, &path, rows, &mut ways)?;
+    lock_tables(alloc, stores, names, caller, &ways, LockMode::RowExclusive)?;
+    store_in_leaves(alloc, stores, caller, &tree, leaves.as_slice(), rows)
 }

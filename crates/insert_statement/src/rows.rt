@@ -10,7 +10,6 @@ ghost use Rattle.statement_steps.specs.Steps.{IsStep};
 ghost use Rattle.insert_statement.specs.Inserted as inserted;
 ghost use Rattle.insert_statement.specs.Asked.{AreRowsOf};
 
-use crate::stopping::stop_by;
 use binding_laws::inserts_fit;
 use cond_logic::InsertAsk;
 use expression_binder::{Param, ScopeColumn};
@@ -92,8 +91,6 @@ pub(crate) fn rows_meant(
 {
     inserts_fit();
     let columns = stores.catalog.table(table).columns.as_slice();
-    match rows_for(alloc, columns, params, caller.session, statement) {
-        Ok(rows) => Ok(rows),
-        Err(refusal) => Err(stop_by(refusal)),
-    }
+    let rows = rows_for(alloc, columns, params, caller.session, statement)?;
+    Ok(rows)
 }

@@ -6,7 +6,7 @@ ghost use Rattle.part_catalog.specs.Stands.{CatalogueStands};
 ghost use Rattle.sql_ast.specs.Expressions.{trees};
 ghost use Rattle.statement_steps.specs.Attempts.{MayAttempt};
 ghost use Rattle.statement_steps.specs.Known.{IsKnownTo};
-ghost use Rattle.statement_steps.specs.Steps.{IsStep, follow};
+ghost use Rattle.statement_steps.specs.Steps.{IsStep};
 ghost use Rattle.insert_statement.specs.Inserted as inserted_spec;
 ghost use Rattle.part_catalog.specs.Found.{made_at};
 ghost use Rattle.insert_statement.specs.Inserted.{inserted};
@@ -58,49 +58,6 @@ fn store_into(
     }
 }
 
-// The values are computed, and the rows go into the table, which is locked.
-fn insert_rows(
-    alloc: Global,
-    stores: &mut Stores,
-    names: &SessionNames,
-    params: &[Param],
-    caller: Caller,
-    table: TableNo,
-    statement: &Insert,
-) -> Result<(), Stop>
-    requires may { MayAttempt stores.old caller }
-    requires there { IsKnownTo stores.old caller.session table.number }
-    requires few { length stores.old.catalog.tables ≤ 4096 }
-    requires locked { MayWrite stores.old caller.session (table ∷ []) }
-    ensures { IsStep (λ u. u) result stores.old stores.new caller (caller.cmd + 1)
-        (follow (inserted_spec.rows_meant params.now caller.session table.number statement.now.columns (map trees statement.now.rows)) (λ rows. inserted_spec.into names.now caller table.number rows)) }
-{
-    match rows_meant(alloc, stores, params, caller, table, statement) {
-        Ok(rows) => store_into(alloc, stores, names, caller, table, rows.as_slice()),
-        Err(stop) => Err(stop),
-    }
-}
-
-// The table is locked, and the rows go into it.
-fn insert_into(
-    alloc: Global,
-    stores: &mut Stores,
-    names: &SessionNames,
-    params: &[Param],
-    caller: Caller,
-    statement: &Insert,
-) -> Result<(), Stop>
-    requires may { MayAttempt stores.old caller }
-    requires few { length stores.old.catalog.tables ≤ 4096 }
-    ensures { IsStep (λ u. u) result stores.old stores.new caller (caller.cmd + 1) (inserted_spec.gathered names.now params.now caller statement.now.table statement.now.columns (map trees statement.now.rows)) }
-{
-    let name = statement.table.as_bytes();
-    match lock_named(alloc, stores, names, caller, name, LockMode::RowExclusive) {
-        Ok(table) => insert_rows(alloc, stores, names, params, caller, table, statement),
-        Err(stop) => Err(stop),
-    }
-}
-
 /// The INSERT of a session, with the arguments of its parameters. The table is found (42P01) and locked in
 /// ROW EXCLUSIVE mode; the values are computed, or the first fault among them is told. Of a partitioned
 /// table each row is placed (23514), the tables on the ways of the rows are locked in the same mode, and
@@ -117,8 +74,9 @@ pub fn insert(
     requires few { length stores.old.catalog.tables ≤ 4096 }
     ensures { IsStep (λ u. u) result stores.old stores.new caller (caller.cmd + 1) (inserted names.now params.now caller statement.now.table statement.now.columns (map trees statement.now.rows)) }
 {
-    match hold_if_repeatable(alloc, stores, caller) {
-        Ok(()) => insert_into(alloc, stores, names, params, caller, statement),
-        Err(stop) => Err(stop),
-    }
+    hold_if_repeatable(alloc, stores, caller)?;
+    let name = statement.table.as_bytes();
+    let table = lock_named(alloc, stores, names, caller, name, LockMode::RowExclusive)?;
+    let rows = rows_meant(alloc, stores, params, caller, table, statement)?;
+    store_into(alloc, stores, names, caller, table, rows.as_slice())
 }

@@ -3,7 +3,6 @@ ghost use Rattle.statement_steps.specs.Attempts.{MayAttempt};
 ghost use Rattle.statement_steps.specs.Steps.{IsStep};
 ghost use Rattle.insert_statement.specs.Asked.{MayStore, put};
 
-use crate::stopping::stop_by;
 use pg_values::{LeafId, Row};
 use row_change::{Target, store_rows};
 use statement_steps::{Caller, Stop};
@@ -32,10 +31,8 @@ pub(crate) fn put_rows(
         catalog,
         ..
     } = stores;
-    match store_rows(
+    store_rows(
         alloc, catalog, txs, store, targets, leaves, rows, by, caller.cmd,
-    ) {
-        Ok(()) => Ok(()),
-        Err(refusal) => Err(stop_by(refusal)),
-    }
+    )?;
+    Ok(())
 }

@@ -33,13 +33,8 @@ pub fn wait_for_snapshots(
     ensures none { IfOk result (λ u. (set : SetOfSessions) × (judged ≡ Ok set) × ((r : ℕ) → has set r ≡ false)) }
     ensures rest { stores.new ≡ record stores.old { locks = stores.new.locks } }
 {
-    match judged {
-        Ok(others) => {
-            sessions_are_low(others);
-            let others = WaitOn::Snapshots(others);
-            wait_for(alloc, stores, names, caller, others, None)
-        }
-        Err(Refusal::Sql(fault)) => Err(Stop::Refused(fault)),
-        Err(Refusal::NoMemory) => Err(Stop::NoMemory),
-    }
+    let others = judged?;
+    sessions_are_low(others);
+    let what = WaitOn::Snapshots(others);
+    wait_for(alloc, stores, names, caller, what, None)
 }

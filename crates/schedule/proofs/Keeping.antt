@@ -8,7 +8,7 @@ use Rattle.schedule.specs.Tasks.{session_of, AreKnown}
 use Rattle.schedule.specs.Keeps.{Keeps}
 use Rattle.schedule.specs.Comes.{Comes, CanLaunch}
 use Rattle.schedule.specs.Run.{World, is_held_back, tells, holds, pauses, ends, proceeds, stepped, launches_next, others, opens, effect, start, Reaches, Here, Next}
-use Rattle.schedule.proofs.Comes.{comes}
+use Rattle.schedule.proofs.Comes.{comes, idle_at_resume, why_resumed, why_cancelled, idle_at_rest}
 use Rattle.schedule.proofs.Tasks.{first_known, others_known}
 use Rattle.schedule.specs.declared.database.Progress.{Progress}
 use Rattle.schedule.specs.declared.database.Progress.TheVariants.{Goes, Waits, Ended}
@@ -83,19 +83,19 @@ module _ {S : Type 0} (R : Rules S) (n : ℕ) (Q : S → Option ℕ → Type 0) 
   }
 
   event_kept : (w : World S) (e : Event) → Comes R w e → Kept w → Kept (effect R w e).world
-  event_kept w (Acts s) c h = proceeds_kept w s (seat_at w.seats s) (R.progress w.db s) refl (subst (Q w.db) c h.property) h
+  event_kept w (Acts s) c h = proceeds_kept w s (seat_at w.seats s) (R.progress w.db s) refl (subst (Q w.db) c.1 h.property) h
   event_kept w (Tells s) c h = tells_kept w s (seat_at w.seats s) h
-  event_kept w (Resumes s) c h = record { known = h.known; later = h.later; seats = h.seats; property = k.resumed w.db s (subst (Q w.db) c.0 h.property) c.1 }
-  event_kept w (Cancels s) c h = record { known = h.known; later = h.later; seats = h.seats; property = k.cancelled w.db s (subst (Q w.db) c.0.idle h.property) c.1 }
-  event_kept w Launches c h = launches_kept w w.tasks refl c.1 (subst (Q w.db) c.0.idle h.property) h
+  event_kept w (Resumes s) c h = record { known = h.known; later = h.later; seats = h.seats; property = k.resumed w.db s (subst (Q w.db) (idle_at_resume R w s c) h.property) (why_resumed R w s c) }
+  event_kept w (Cancels s) c h = record { known = h.known; later = h.later; seats = h.seats; property = k.cancelled w.db s (subst (Q w.db) (idle_at_rest R w c.0) h.property) (why_cancelled R w s c) }
+  event_kept w Launches c h = launches_kept w w.tasks refl c.1 (subst (Q w.db) (idle_at_rest R w c.0) h.property) h
   event_kept w Settles c h = record { known = others_are_known w.tasks h.known; later = h.later; seats = h.seats; property = h.property }
   event_kept w (RollsBack s) c h = record {
     known = others_are_known w.tasks h.known;
     later = h.later;
     seats = h.seats;
-    property = subst (Q (R.rolled_back w.db s)) (sym c.idle) (k.rolled_back w.db s (subst (Q w.db) c.idle h.property));
+    property = subst (Q (R.rolled_back w.db s)) (sym (idle_at_rest R w c.0)) (k.rolled_back w.db s (subst (Q w.db) (idle_at_rest R w c.0) h.property));
   }
-  event_kept w Opens c h = opens_kept w w.permutations refl (subst (Q w.db) c.0.idle h.property) h
+  event_kept w Opens c h = opens_kept w w.permutations refl (subst (Q w.db) (idle_at_rest R w c.0) h.property) h
 
   pub along : (w : World S) (a : List ℕ) (x : World S) → Reaches R w a x → Kept w → Kept x
   along w a x (Here w' lines last none same) h = rw same h

@@ -23,9 +23,10 @@ pub fn parts_are_beginnings<D: Database>()
     ensures { (w : World D.State) (a b : List ℕ) (x y : World D.State) → Reaches D.rules w a x → Runs D.rules w b y → (rest : List ℕ) × (a ++ rest ≡ b) }
 {}
 
-/// Each event comes where its rule says.
+/// Each event comes where its rule says, and nowhere else.
 pub fn events_come_in_order<D: Database>()
-    ensures { (w : World D.State) (e : Event) → next D.rules w ≡ Some e → Comes D.rules w e }
+    ensures where_it_comes { (w : World D.State) (e : Event) → next D.rules w ≡ Some e → Comes D.rules w e }
+    ensures there_it_comes { (w : World D.State) (e : Event) → Comes D.rules w e → next D.rules w ≡ Some e }
 {}
 
 /// Where no failure has ended a run, no task and no permutation is left.

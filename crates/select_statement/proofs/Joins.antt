@@ -19,6 +19,7 @@ use Rattle.plan_tree.specs.Kept.{Keeps, id_of, leaf_of, keeps_plain, leaves_belo
 use Rattle.plan_tree.specs.Laws.{Rows}
 use Rattle.plan_tree.specs.Plans.{PlannedItem, Planned, keeps_first, keeps_beside, is_joined, is_empty, is_none, item_for, items_from, kept_beside, leaves_for, plan_for}
 use Rattle.select_answer.specs.Tuples.{Tuple, Mark, Reads, Gives, no_tuple, passes, tuples_in, given_marks, leaf_marks, scan_marks, for_each, joined, tuples_of, reads_in}
+use Rattle.select_answer.specs.Laws.{plan_reads}
 use Rattle.select_answer.proofs.Kept.{in_first, in_second}
 use Rattle.select_answer.proofs.Plain.{reads_append, given_reads, leaves_reads, leaves_tuples}
 use Rattle.select_answer.proofs.Marks.{of_ids, asked_once}
@@ -70,7 +71,7 @@ module _ (rows : Rows) (cs : List CondTree) where
   -- behind the last item nothing is read
   at_end : (left : List Tuple) → flat_map (loops_reads []) left ≡ []
   at_end [] = refl
-  at_end (t ∷ left) = rw (given_reads (filter (passes [] cs) (t ∷ []))) (at_end left)
+  at_end (t ∷ left) = ap (λ l. l ++ flat_map (loops_reads []) left) (given_reads (filter (passes [] cs) (t ∷ []))) ∙ at_end left
 
   abbrev scan_ids : PlannedItem → Tuple → List LeafId
   scan_ids i t = map id_of (leaves_for i t.rows)
@@ -155,8 +156,8 @@ module _ (P : LeafId → Type 0) where
   -- of the leaves of an item, and those that are kept beside a tuple
   of_kept : (ls kept : List Leaf) → ((l : Leaf) → Contains kept l → Contains ls l) → All P (map id_of ls) → All P (map id_of kept)
   of_kept ls kept within h =
-      let each : All (λ l. P l.id) ls = of_ids P ls h in
-      All-map P id_of kept (All-weaker (Contains kept) (λ l. P l.id) (λ l at. All-contains (λ l. P l.id) ls l each (within l at)) kept (All-contains_itself kept))
+      let each : All (λ (l : Leaf). P l.id) ls = of_ids P ls h in
+      All-map P id_of kept (All-weaker (Contains kept) (λ (l : Leaf). P l.id) (λ l at. All-contains (λ (x : Leaf). P x.id) ls l each (within l at)) kept (All-contains_itself kept))
 
   of_beside : (prunes : Bool) (n : ℕ) (cs : List CondTree) (tree : TableTree) (left : List Tuple) → All P (map id_of (kept_leaves (keeps_first prunes n cs) tree)) → All P (read_beside (item_for prunes n cs tree) left)
   of_beside prunes n cs tree [] h = All-nil P
@@ -212,7 +213,7 @@ module _ (rows : Rows) where
 
 pub are_read : ReachedScansAreRead
 are_read prunes m rows trees h =
-    All-weaker (Contains (scans_read rows plan)) _ (λ x at. Contains-permutation (scans_read rows plan) _ x (joins_read prunes m rows trees) at) (map id_of (scanned plan)) (by (is_empty plan))
+    All-weaker (Contains (scans_read rows plan)) (Contains (plan_reads prunes m rows trees)) (λ x at. Contains-permutation (scans_read rows plan) _ x (joins_read prunes m rows trees) at) (map id_of (scanned plan)) (by (is_empty plan))
   where
     plan : Planned
     plan = plan_for prunes m.conditions trees

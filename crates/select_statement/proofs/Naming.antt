@@ -16,7 +16,7 @@ use Rattle.statement_steps.specs.Known.{IsKnownTo}
 use Rattle.statement_steps.specs.Steps.{IsStep}
 use Rattle.statement_steps.proofs.Parts.{nothing_done, no_memory}
 use Rattle.statement_steps.proofs.Steps.{then_step, stop_step, may_go_on}
-use Rattle.select_statement.specs.Below.{number_of}
+use Rattle.statement_steps.specs.Below.{number_of}
 use Rattle.select_statement.specs.Selected.{named_from}
 use Rattle.select_statement.proofs.Known.{known_stays}
 

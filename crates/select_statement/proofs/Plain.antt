@@ -35,7 +35,7 @@ use Rattle.statement_steps.specs.Made.{Made, Halt, behind, then_told, and_then}
 use Rattle.statement_steps.specs.declared.caller.Caller.{Caller}
 use Rattle.statement_steps.specs.Asks.{told_of, locked, all_locked}
 use Rattle.plan_text.specs.Plans.{scanned}
-use Rattle.select_statement.specs.Below.{number_of}
+use Rattle.statement_steps.specs.Below.{number_of}
 use Rattle.select_statement.specs.Explained.{OneTableReadsItsScans}
 use Rattle.select_statement.specs.Items.{items_of}
 use Rattle.select_statement.specs.Moments.{rows_for}

@@ -1,5 +1,5 @@
 -- The parts of a SELECT.
-use Rattle.std.proofs.Common.{◌≡◌, ℕ, ◌+◌, ◌-◌, List, [], refl, ap, sym, subst, ◌∙◌, Result, Ok, Err}
+use Rattle.std.proofs.Common.{Bool, Err, List, Ok, Result, ℕ, [], ap, false, refl, subst, sym, true, ◌+◌, ◌-◌, ◌∙◌, ◌≡◌}
 use Rattle.pg_values.specs.Refusals.{IsAnswer}
 use Rattle.pg_values.specs.declared.answer.Answer.{Answer}
 use Rattle.pg_values.specs.declared.fault.Fault.{Fault}
@@ -7,6 +7,7 @@ use Rattle.pg_values.specs.declared.fault.Refusal.{Refusal}
 use Rattle.pg_values.specs.declared.fault.Refusal.TheVariants.{Sql, NoMemory}
 use Rattle.pg_values.specs.declared.value.Value.{Value}
 use Rattle.pg_values.specs.declared.ids.LeafId.{LeafId}
+use Rattle.refusals.specs.Refusals.{statement_cancelled}
 use Rattle.history.specs.History.{History}
 use Rattle.history.specs.Snapshots.{TakenSnapshot}
 use Rattle.tx_table.specs.Kept.{KeptSnapshot}
@@ -19,20 +20,21 @@ use Rattle.select_answer.specs.Course.{Course, IsRead, reads_of}
 use Rattle.stores.specs.Events.{look_of}
 use Rattle.stores.specs.Stand.{Stands}
 use Rattle.stores.specs.declared.stores.Stores.{Stores}
-use Rattle.statement_steps.specs.Made.{Made, made}
+use Rattle.statement_steps.specs.Made.{Made, Refused, made, halted}
 use Rattle.statement_steps.specs.Attempts.{MayAttempt}
 use Rattle.statement_steps.specs.declared.caller.Caller.{Caller}
 use Rattle.statement_steps.specs.declared.stop.Stop.{Stop}
+use Rattle.statement_steps.specs.declared.stop.Stop.TheVariants as stop
 use Rattle.statement_steps.proofs.Numbers.{one_later}
+use Rattle.statement_steps.specs.Faults.{stop_of}
 use Rattle.statement_steps.specs.Steps.{IsTold, IsStep}
 use Rattle.statement_steps.proofs.Parts.{stays, still_on, nothing_done, refused_here, no_memory}
 use Rattle.sql_ast.specs.Queries.{SelectTree}
 use Rattle.select_statement.specs.Explained.{told, printed}
 use Rattle.select_statement.specs.Gathered.{Found}
-use Rattle.select_statement.specs.Halts.{stop_of}
 use Rattle.select_statement.specs.Lent.{IsLookFor}
+use Rattle.select_statement.specs.Selected.{Told, answered, outcome, told_by, told_of, uncancelled, with_reads}
 use Rattle.select_statement.specs.declared.answered.Answered.{Answered}
-use Rattle.select_statement.specs.Selected.{told_by, told_of, with_reads, outcome, answered}
 
 -- ---- a part by which nothing happens
 
@@ -110,11 +112,12 @@ printed_done a stores caller t g p may e = record {
   waits = may.idle;
 }
 
--- ---- what is the same at each history
+-- ---- a SELECT that cancels itself, or does not
 
-pub same_step : {X T : Type 0} (view : X → T) (r : Result X Stop) (old new : Stores) (caller : Caller) (n : ℕ) (f g : History → Made T) → ((h : History) → Stands old h → f h ≡ g h) → IsStep view r old new caller n g → IsStep view r old new caller n f
-same_step view r old new caller n f g same step = record {
-  is = λ h stands at. subst (IsTold view r new caller n h) (sym (same h stands)) (step.is h stands at);
-  keeps = step.keeps;
-  waits = step.waits;
-}
+pub cancelled_here : (own : Bool) (f : Fault) (g : History → Made Told) (stores : Stores) (caller : Caller) → MayAttempt stores caller → own ≡ true → f ≡ statement_cancelled
+    → IsStep told_by (Err (stop.Refused f)) stores stores caller (caller.cmd + 1) (uncancelled own g)
+cancelled_here own f g stores caller may e is =
+    refused_here told_by f stores caller (caller.cmd + 1) (uncancelled own g) may (λ h stands. ap (λ b. uncancelled b g h) e ∙ ap (λ x. halted [] (Refused x)) (sym is))
+
+pub not_cancelled : {r : Result Answered Stop} {stores : Stores} {caller : Caller} {n : ℕ} (own : Bool) (g : History → Made Told) → own ≡ false → IsStep told_by r stores stores caller n g → IsStep told_by r stores stores caller n (uncancelled own g)
+not_cancelled {r = r} {stores = stores} {caller = caller} {n = n} own g e step = subst (λ b. IsStep told_by r stores stores caller n (uncancelled b g)) (sym e) step

@@ -1,4 +1,4 @@
--- The exits of a straight function of parts, and its end; and parts that are grouped in another way.
+-- Parts that are grouped in another way.
 use Rattle.std.proofs.Common.{◌≡◌, ℕ, Bool, List, [], ◌∷◌, ◌++◌, refl, ap, sym, subst, ◌∙◌, append_assoc, append-nil, Result, Ok, Err}
 use Rattle.history.specs.History.{History}
 use Rattle.row_router.specs.Trees.{TableTree}
@@ -12,29 +12,12 @@ use Rattle.statement_steps.specs.Made.{Made, Halt, made, behind, then_told, and_
 use Rattle.statement_steps.specs.declared.caller.Caller.{Caller}
 use Rattle.statement_steps.specs.declared.stop.Stop.{Stop}
 use Rattle.statement_steps.specs.Steps.{IsStep, follow}
-use Rattle.statement_steps.proofs.Steps.{then_step, stop_step}
 use Rattle.select_statement.specs.Explained.{SelectsRunTheirPlan}
-use Rattle.select_statement.specs.Gathered.{Found, found_over, found_in, gathered, planned_under}
+use Rattle.select_statement.specs.Gathered.{Found, found_in, found_over, gathered, planned_under}
+use Rattle.statement_steps.proofs.Steps.{same_step}
 use Rattle.select_statement.specs.Items.{items_of}
 use Rattle.select_statement.specs.declared.answered.Answered.{Answered}
 use Rattle.select_statement.specs.Selected.{Told, meant, answered, locked_below, by_plan, of_trees, of_tables, trees_for, named_from, begins, of_named, of_items}
-use Rattle.select_statement.proofs.Steps.{same_step}
-
--- ---- exits
-
--- a part is done, and what is left is told from there
-pub goes : {X T Y U : Type 0} {see : X → T} {view : Y → U} {x : X} {r : Result Y Stop} {old mid new : Stores} {caller : Caller} {n : ℕ} (f : History → Made T) (next : T → History → Made U)
-    → IsStep see (Ok x) old mid caller caller.cmd f → IsStep view r mid new caller n (next (see x)) → IsStep view r old new caller n (follow f next)
-goes {see = see} {view = view} {x = x} {r = r} {old = old} {mid = mid} {new = new} {caller = caller} {n = n} f next first second = then_step see view x r old mid new caller n f next first second
-
--- a part stops
-pub stops : {X T Y U : Type 0} {see : X → T} {view : Y → U} {e : Stop} {old new : Stores} {caller : Caller} {n k : ℕ} (f : History → Made T) (next : T → History → Made U)
-    → IsStep see (Err e) old new caller k f → IsStep view (Err e) old new caller n (follow f next)
-stops {see = see} {view = view} {e = e} {old = old} {new = new} {caller = caller} {n = n} {k = k} f next first = stop_step see view e old new caller n k f next first
-
--- a part is told by something that is the same
-pub moved : {X T I : Type 0} {see : X → T} {r : Result X Stop} {old new : Stores} {caller : Caller} {n : ℕ} (f : I → History → Made T) (a b : I) → a ≡ b → IsStep see r old new caller n (f a) → IsStep see r old new caller n (f b)
-moved {see = see} {r = r} {old = old} {new = new} {caller = caller} {n = n} f a b same step = subst (λ i. IsStep see r old new caller n (f i)) same step
 
 -- ---- parts that are grouped in another way
 

@@ -16,7 +16,7 @@ use Rattle.row_router.proofs.Order.{all_children}
 use Rattle.soundness.specs.Worlds.{IsMade, HasLeaf}
 use Rattle.soundness.proofs.Presence.{all_more}
 use Rattle.legal_statements.specs.Below.{tables_in, all_tables}
-use Rattle.select_statement.specs.Below.{below}
+use Rattle.statement_steps.specs.Below.{below}
 
 -- the trees of the entries of a level
 abbrev kids : (ℕ → TableTree) → List Entry → List TableTree

@@ -42,7 +42,7 @@ use Rattle.statement_steps.specs.declared.stop.Stop.TheVariants as stop
 use Rattle.statement_steps.specs.Known.{IsKnownTo}
 use Rattle.statement_steps.specs.Steps.{IsStep}
 use Rattle.statement_steps.proofs.Parts.{refused_here}
-use Rattle.select_statement.specs.Below.{number_of}
+use Rattle.statement_steps.specs.Below.{number_of}
 use Rattle.select_statement.specs.Lent.{HasLeaves, MayLock, IsTreeFor, IsLookFor}
 use Rattle.select_statement.specs.declared.answered.Answered.{Answered}
 use Rattle.select_statement.specs.Selected.{Told, told_by, outcome, meant, uncancelled, trees_for}

@@ -13,7 +13,7 @@ use Rattle.stores.specs.Events.{look_of}
 use Rattle.stores.specs.declared.stores.Stores.{Stores}
 use Rattle.statement_steps.specs.declared.caller.Caller.{Caller}
 use Rattle.statement_steps.specs.Known.{IsKnownTo}
-use Rattle.select_statement.specs.Below.{below}
+use Rattle.statement_steps.specs.Below.{below}
 
 -- each of its leaves is there
 abbrev pub HasLeaves : Stores → TableTree → Type 0

@@ -1,8 +1,6 @@
-pub mod Below
 pub mod Cancels
 pub mod Explained
 pub mod Gathered
-pub mod Halts
 pub mod Items
 pub mod Joins
 pub mod Laws

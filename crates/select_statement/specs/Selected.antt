@@ -22,7 +22,7 @@ use Rattle.statement_steps.specs.Made.{Made, Refused, made, halted}
 use Rattle.statement_steps.specs.declared.caller.Caller.{Caller}
 use Rattle.statement_steps.specs.Asks.{named, held_at, all_locked}
 use Rattle.statement_steps.specs.Steps.{follow}
-use Rattle.select_statement.specs.Below.{number_of}
+use Rattle.statement_steps.specs.Below.{number_of}
 use Rattle.select_statement.specs.Cancels.{cancels_itself}
 use Rattle.select_statement.specs.Items.{items_of}
 use Rattle.select_statement.specs.declared.answered.Answered.{Answered}

@@ -1,6 +1,6 @@
 //! EXPLAIN of a SELECT.
 
-ghost use Rattle.std.specs.Prelude.{◌≡◌, ◌+◌, ◌≤◌, IfErr, IfOk, length, map};
+ghost use Rattle.std.specs.Prelude.{◌≡◌, ◌+◌, ◌≤◌, IfOk, length, map};
 ghost use Rattle.row_router.specs.Seen.{seen};
 ghost use Rattle.sql_ast.specs.Queries.{joined_tree, select_tree};
 ghost use Rattle.sql_binder.specs.Selects.{from_of};
@@ -8,7 +8,6 @@ ghost use Rattle.cond_logic.specs.Asked.{select_meant};
 ghost use Rattle.plan_tree.specs.Plans.{planned};
 ghost use Rattle.statement_steps.specs.Attempts.{MayAttempt};
 ghost use Rattle.statement_steps.specs.Steps.{IsStep};
-ghost use Rattle.statement_steps.specs.declared.stop.Stop.TheVariants as stops;
 ghost use Rattle.select_statement.specs.Explained.{OneTableReadsItsScans, SelectsRunTheirPlan};
 ghost use Rattle.select_statement.specs.Explained as explained;
 ghost use Rattle.select_statement.specs.Gathered.{found_by};
@@ -102,6 +101,7 @@ fn is_cut(select: &Select, ask: &SelectAsk) -> bool
 
 // ---- the statement
 
+// The plan as it is printed.
 fn plan_table(
     alloc: Global,
     select: &Select,
@@ -115,26 +115,6 @@ fn plan_table(
     let named = named_items(alloc, select.from.as_slice(), &found.trees)?;
     let is_cut = is_cut(select, &found.ask);
     write_plan(alloc, &named, is_cut, &found.ask, plan)
-}
-
-// The plan is printed.
-fn tell(
-    alloc: Global,
-    stores: &Stores,
-    caller: Caller,
-    select: &Select,
-    found: &Gathered,
-    plan: &Plan<'_>,
-) -> Result<Answer, Stop>
-    requires may { MayAttempt stores.now caller }
-    requires each { length found.now.trees.items ≡ length (from_of (select_tree select.now)) }
-    requires few { length (planned plan.now).items ≤ 4 }
-    ensures { IsStep (λ a. a) result stores.now stores.now caller (caller.cmd + 1) (explained.printed (select_tree select.now) (found_by found.now) (planned plan.now)) }
-{
-    match plan_table(alloc, select, found, plan) {
-        Ok(table) => Ok(table),
-        Err(NoMemory) => Err(Stop::NoMemory),
-    }
 }
 
 /// An EXPLAIN of a SELECT of a session: its plan, or why it stops. It locks what the SELECT locks, and is refused
@@ -154,5 +134,6 @@ pub fn explain(
     hold_if_repeatable(alloc, stores, caller)?;
     let found = gather(alloc, stores, names, caller, select)?;
     let plan = plan_under(alloc, stores, names, caller, prunes, &found)?;
-    tell(alloc, stores, caller, select, &found, &plan)
+    let table = plan_table(alloc, select, &found, &plan)?;
+    Ok(table)
 }

@@ -1,22 +1,21 @@
 //! What a SELECT does before it reads, and an EXPLAIN of it too.
 
-ghost use Rattle.std.specs.Prelude.{◌≡◌, ◌≤◌, All, IfErr, IfOk, length, map};
+ghost use Rattle.std.specs.Prelude.{◌≡◌, ◌≤◌, All, IfOk, length, map};
 ghost use Rattle.history.specs.History.{History};
 ghost use Rattle.row_router.specs.Seen.{seen};
 ghost use Rattle.sql_ast.specs.Queries.{select_tree};
 ghost use Rattle.sql_binder.specs.Selects.{from_of};
 ghost use Rattle.cond_logic.specs.Asked.{select_meant};
-ghost use Rattle.plan_tree.specs.Plans.{CanRead, plan_tables, planned};
+ghost use Rattle.plan_tree.specs.Plans.{CanRead, planned};
 ghost use Rattle.stores.specs.Stand.{Stands};
 ghost use Rattle.statement_steps.specs.Attempts.{MayAttempt};
 ghost use Rattle.statement_steps.specs.Known.{IsKnownTo};
 ghost use Rattle.statement_steps.specs.Steps.{IsStep};
-ghost use Rattle.statement_steps.specs.declared.stop.Stop.TheVariants as stops;
-ghost use Rattle.select_statement.specs.Below.{number_of};
-ghost use Rattle.select_statement.specs.Gathered.{found_by, plan_of};
+ghost use Rattle.statement_steps.specs.Below.{number_of};
+ghost use Rattle.select_statement.specs.Gathered.{found_by};
 ghost use Rattle.select_statement.specs.Gathered as gathered;
 ghost use Rattle.select_statement.specs.Items.{items_of as scope_of};
-ghost use Rattle.select_statement.specs.Lent.{IsTreeFor, IsLookFor, MayLock};
+ghost use Rattle.select_statement.specs.Lent.{IsTreeFor, IsLookFor};
 ghost use Rattle.select_statement.specs.Selected as selected;
 
 use crate::Gathered;
@@ -36,37 +35,11 @@ use tx_table::Snapshot;
 // ---- what the statement stands for
 
 /// The snapshot of the command.
-pub(crate) fn look(alloc: Global, stores: &Stores, caller: Caller) -> Result<Snapshot, Stop>
+pub(crate) fn look(alloc: Global, stores: &Stores, caller: Caller) -> Result<Snapshot, NoMemory>
     requires { MayAttempt stores.now caller }
-    ensures look { IfOk result (λ snap. IsLookFor stores.now caller snap) }
-    ensures err { IfErr result (λ e. e ≡ stops.NoMemory) }
+    ensures { IfOk result (λ snap. IsLookFor stores.now caller snap) }
 {
-    match stores.look(alloc, caller.session, caller.cmd) {
-        Ok(snap) => Ok(snap),
-        Err(NoMemory) => Err(Stop::NoMemory),
-    }
-}
-
-// The trees of the tables under the snapshot.
-fn trees_under(
-    alloc: Global,
-    stores: &Stores,
-    caller: Caller,
-    tables: &[TableNo],
-    snap: &Snapshot,
-) -> Result<Vec<Tree>, Stop>
-    requires may { MayAttempt stores.now caller }
-    requires few { length stores.now.catalog.tables ≤ 4096 }
-    requires known { All (λ t. IsKnownTo stores.now caller.session t.number) tables.now }
-    requires look { IsLookFor stores.now caller snap.now }
-    ensures trees { IfOk result (λ trees. (h : History) → Stands stores.now h → map seen trees.items ≡ selected.trees_for caller (map number_of tables.now) h) }
-    ensures each { IfOk result (λ trees. All (λ t. IsTreeFor stores.now caller (seen t)) trees.items) }
-    ensures err { IfErr result (λ e. e ≡ stops.NoMemory) }
-{
-    match read_trees(alloc, stores, caller, tables, snap) {
-        Ok(trees) => Ok(trees),
-        Err(NoMemory) => Err(Stop::NoMemory),
-    }
+    stores.look(alloc, caller.session, caller.cmd)
 }
 
 // The names of the statement stand for the tables of the trees, where these are not too many.
@@ -85,10 +58,8 @@ fn bind_over(
     if trees.len() > 4 {
         return bind(alloc, stores, caller, select, &[]);
     }
-    match items_of(alloc, select.from.as_slice(), trees) {
-        Ok(items) => bind(alloc, stores, caller, select, &items),
-        Err(NoMemory) => Err(Stop::NoMemory),
-    }
+    let items = items_of(alloc, select.from.as_slice(), trees)?;
+    bind(alloc, stores, caller, select, &items)
 }
 
 // The trees of the tables are read, and names and kinds bound over them.
@@ -110,7 +81,7 @@ fn find(
     ensures look { IfOk result (λ g. IsLookFor stores.now caller g.snap) }
 {
     let snap = look(alloc, stores, caller)?;
-    let trees = trees_under(alloc, stores, caller, tables, &snap)?;
+    let trees = read_trees(alloc, stores, caller, tables, &snap)?;
     let ask = bind_over(alloc, stores, caller, select, &trees)?;
     Ok(Gathered { ask, trees, snap })
 }
@@ -138,40 +109,6 @@ pub(crate) fn gather(
 
 // ---- the plan
 
-// The plan of what was found.
-fn plan_over<'t>(
-    alloc: Global,
-    stores: &Stores,
-    caller: Caller,
-    prunes: bool,
-    found: &'t Gathered,
-) -> Result<Plan<'t>, Stop>
-    requires may { MayAttempt stores.now caller }
-    requires few { length found.now.trees.items ≤ 4 }
-    requires trees { All (λ t. IsTreeFor stores.now caller (seen t)) found.now.trees.items }
-    ensures plan { IfOk result (λ p. planned p ≡ plan_of prunes (found_by found.now)) }
-    ensures locks { IfOk result (λ p. All (MayLock stores.now caller) (plan_tables (planned p))) }
-    ensures reads { IfOk result (λ p. All (CanRead stores.now.rows.leaves) (planned p).items) }
-    ensures few { IfOk result (λ p. length (planned p).items ≤ 4) }
-    ensures err { IfErr result (λ e. e ≡ stops.NoMemory) }
-{
-    match make_plan(alloc, prunes, &found.ask.conditions, &found.trees) {
-        Ok(plan) => Ok(plan),
-        Err(NoMemory) => Err(Stop::NoMemory),
-    }
-}
-
-// The tables that are locked under those of FROM.
-fn tables_of(alloc: Global, plan: &Plan<'_>) -> Result<Vec<TableNo>, Stop>
-    ensures tables { IfOk result (λ ts. ts.items ≡ plan_tables (planned plan.now)) }
-    ensures err { IfErr result (λ e. e ≡ stops.NoMemory) }
-{
-    match plan.tables(alloc) {
-        Ok(tables) => Ok(tables),
-        Err(NoMemory) => Err(Stop::NoMemory),
-    }
-}
-
 /// The plan is made, and what it reads is locked.
 pub(crate) fn plan_under<'t>(
     alloc: Global,
@@ -189,8 +126,8 @@ pub(crate) fn plan_under<'t>(
     ensures few { IfOk result (λ p. length (planned p).items ≤ 4) }
     ensures rest { stores.new ≡ record stores.old { locks = stores.new.locks } }
 {
-    let plan = plan_over(alloc, stores, caller, prunes, found)?;
-    let tables = tables_of(alloc, &plan)?;
+    let plan = make_plan(alloc, prunes, &found.ask.conditions, &found.trees)?;
+    let tables = plan.tables(alloc)?;
     lock_below(alloc, stores, names, caller, &tables)?;
     Ok(plan)
 }

@@ -21,7 +21,6 @@
 #![tactic(auto)]
 
 mod answered;
-mod below;
 mod cancels;
 mod explaining;
 mod gathered;
@@ -33,7 +32,6 @@ mod statement;
 mod tables;
 
 pub use answered::Answered;
-pub use below::tables_below;
 pub use cancels::cancelled;
 pub use explaining::{
     explain, joins_read_their_scans, names_are_as_asked, one_table_reads_its_scans,

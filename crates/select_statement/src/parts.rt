@@ -1,17 +1,16 @@
-ghost use Rattle.std.specs.Prelude.{◌≡◌, ◌+◌, [], All};
+ghost use Rattle.std.specs.Prelude.{◌≡◌, ◌+◌, All};
 ghost use Rattle.sql_ast.specs.Queries.{select_tree};
 ghost use Rattle.cond_logic.specs.Asked.{select_meant};
 ghost use Rattle.plan_tree.specs.Plans.{CanRead, planned};
 ghost use Rattle.statement_steps.specs.Attempts.{MayAttempt};
 ghost use Rattle.statement_steps.specs.Steps.{IsStep};
-ghost use Rattle.select_statement.specs.Halts as halts;
 ghost use Rattle.select_statement.specs.Lent.{IsLookFor, MayLock};
 ghost use Rattle.select_statement.specs.Selected as selected;
 
 use crate::Answered;
 use cond_logic::SelectAsk;
 use expression_binder::ScopeItem;
-use pg_values::{LockMode, NoMemory, Refusal, TableNo};
+use pg_values::{LockMode, TableNo};
 use plan_tree::Plan;
 use row_store::Trail;
 use select_answer::run_select;
@@ -21,15 +20,6 @@ use statement_steps::{Caller, SessionNames, Stop, lock_tables};
 use std::alloc::Global;
 use stores::Stores;
 use tx_table::Snapshot;
-
-fn stop_of(refusal: Refusal) -> Stop
-    ensures { result ≡ halts.stop_of refusal }
-{
-    match refusal {
-        Refusal::Sql(fault) => Stop::Refused(fault),
-        Refusal::NoMemory => Stop::NoMemory,
-    }
-}
 
 /// Names and kinds are bound, and constants evaluated.
 pub(crate) fn bind(
@@ -42,10 +32,8 @@ pub(crate) fn bind(
     requires { MayAttempt stores.now caller }
     ensures { IsStep select_meant result stores.now stores.now caller caller.cmd (selected.meant caller (select_tree select.now) items.now) }
 {
-    match bind_select(alloc, select, items, &[], caller.session) {
-        Ok(ask) => Ok(ask),
-        Err(refusal) => Err(stop_of(refusal)),
-    }
+    let ask = bind_select(alloc, select, items, &[], caller.session)?;
+    Ok(ask)
 }
 
 /// The tables are locked, one after the other.
@@ -64,32 +52,6 @@ pub(crate) fn lock_below(
     lock_tables(alloc, stores, names, caller, tables, LockMode::AccessShare)
 }
 
-// The answer, with a trail of what it reads.
-fn run(
-    alloc: Global,
-    stores: &Stores,
-    caller: Caller,
-    ask: &SelectAsk,
-    plan: &Plan<'_>,
-    snap: &Snapshot,
-    trail: Trail,
-) -> Result<Answered, Stop>
-    requires may { MayAttempt stores.now caller }
-    requires reads { All (CanRead stores.now.rows.leaves) (planned plan.now).items }
-    requires look { IsLookFor stores.now caller snap.now }
-    requires fresh { trail.leaves ≡ [] }
-    ensures { IsStep selected.told_by result stores.now stores.now caller (caller.cmd + 1) (selected.answered caller (select_meant ask.now) (planned plan.now)) }
-{
-    let sessions = caller.sessions - 1;
-    let rows = &stores.rows;
-    let txs = &stores.txs;
-    let mut trail = trail;
-    match run_select(alloc, ask, &[], sessions, plan, rows, txs, snap, &mut trail) {
-        Ok(answer) => Ok(Answered { answer, trail }),
-        Err(refusal) => Err(stop_of(refusal)),
-    }
-}
-
 /// The answer by the plan for the rows that the snapshot shows.
 pub(crate) fn answer(
     alloc: Global,
@@ -104,8 +66,9 @@ pub(crate) fn answer(
     requires look { IsLookFor stores.now caller snap.now }
     ensures { IsStep selected.told_by result stores.now stores.now caller (caller.cmd + 1) (selected.answered caller (select_meant ask.now) (planned plan.now)) }
 {
-    match Trail::new(alloc) {
-        Ok(trail) => run(alloc, stores, caller, ask, plan, snap, trail),
-        Err(NoMemory) => Err(Stop::NoMemory),
-    }
+    let sessions = caller.sessions - 1;
+    let Stores { txs, rows, .. } = stores;
+    let mut trail = Trail::new(alloc)?;
+    let answer = run_select(alloc, ask, &[], sessions, plan, rows, txs, snap, &mut trail)?;
+    Ok(Answered { answer, trail })
 }

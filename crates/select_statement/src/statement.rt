@@ -1,90 +1,21 @@
-ghost use Rattle.std.specs.Prelude.{◌≡◌, ◌+◌, ◌-◌, ◌≤◌, All, length};
+ghost use Rattle.std.specs.Prelude.{◌+◌, ◌≤◌, length};
 ghost use Rattle.sql_ast.specs.Queries.{select_tree};
-ghost use Rattle.cond_logic.specs.Asked.{select_meant};
-ghost use Rattle.plan_tree.specs.Plans.{CanRead, planned};
 ghost use Rattle.statement_steps.specs.Attempts.{MayAttempt};
 ghost use Rattle.statement_steps.specs.Steps.{IsStep, follow};
-ghost use Rattle.select_statement.specs.Lent.{IsLookFor};
-ghost use Rattle.select_statement.specs.Cancels.{cancels_itself};
 ghost use Rattle.select_statement.specs.Selected as selected;
 
 use crate::Answered;
 use crate::cancels::cancels_itself;
 use crate::gathering::{gather, look, plan_under};
 use crate::parts::{answer, bind};
-use cond_logic::SelectAsk;
-use pg_values::NoMemory;
-use plan_tree::{Plan, make_plan};
+use plan_tree::make_plan;
 use refusals::statement_cancelled;
 use sql_ast::Select;
 use statement_steps::{Caller, SessionNames, Stop, hold_if_repeatable};
 use std::alloc::Global;
 use stores::Stores;
-use tx_table::Snapshot;
 
 // ---- without FROM
-
-// The answer, unless the SELECT is cancelled.
-fn answer_unless(
-    alloc: Global,
-    stores: &Stores,
-    caller: Caller,
-    ask: &SelectAsk,
-    cancelled: bool,
-    plan: &Plan<'_>,
-    snap: &Snapshot,
-) -> Result<Answered, Stop>
-    requires may { MayAttempt stores.now caller }
-    requires reads { All (CanRead stores.now.rows.leaves) (planned plan.now).items }
-    requires look { IsLookFor stores.now caller snap.now }
-    ensures { IsStep selected.told_by result stores.now stores.now caller (caller.cmd + 1)
-        (selected.uncancelled cancelled (selected.answered caller (select_meant ask.now) (planned plan.now))) }
-{
-    if cancelled {
-        return Err(Stop::Refused(statement_cancelled(alloc)));
-    }
-    answer(alloc, stores, caller, ask, plan, snap)
-}
-
-// The answer, unless the SELECT cancels itself.
-fn answer_bare(
-    alloc: Global,
-    stores: &Stores,
-    caller: Caller,
-    ask: &SelectAsk,
-    plan: &Plan<'_>,
-    snap: &Snapshot,
-) -> Result<Answered, Stop>
-    requires may { MayAttempt stores.now caller }
-    requires reads { All (CanRead stores.now.rows.leaves) (planned plan.now).items }
-    requires look { IsLookFor stores.now caller snap.now }
-    ensures { IsStep selected.told_by result stores.now stores.now caller (caller.cmd + 1)
-        (selected.uncancelled (cancels_itself caller.session (caller.sessions - 1) (select_meant ask.now)) (selected.answered caller (select_meant ask.now) (planned plan.now))) }
-{
-    match cancels_itself(alloc, ask, caller.session, caller.sessions - 1) {
-        Ok(own) => answer_unless(alloc, stores, caller, ask, own, plan, snap),
-        Err(NoMemory) => Err(Stop::NoMemory),
-    }
-}
-
-// All of its conditions are asked once.
-fn plan_bare(
-    alloc: Global,
-    stores: &Stores,
-    caller: Caller,
-    ask: &SelectAsk,
-    snap: &Snapshot,
-) -> Result<Answered, Stop>
-    requires may { MayAttempt stores.now caller }
-    requires look { IsLookFor stores.now caller snap.now }
-    ensures { IsStep selected.told_by result stores.now stores.now caller (caller.cmd + 1)
-        (selected.uncancelled (cancels_itself caller.session (caller.sessions - 1) (select_meant ask.now)) (selected.answered caller (select_meant ask.now) (selected.bare_plan (select_meant ask.now)))) }
-{
-    match make_plan(alloc, false, &ask.conditions, &[]) {
-        Ok(plan) => answer_bare(alloc, stores, caller, ask, &plan, snap),
-        Err(NoMemory) => Err(Stop::NoMemory),
-    }
-}
 
 fn select_bare(
     alloc: Global,
@@ -99,7 +30,12 @@ fn select_bare(
     hold_if_repeatable(alloc, stores, caller)?;
     let snap = look(alloc, stores, caller)?;
     let ask = bind(alloc, stores, caller, select, &[])?;
-    plan_bare(alloc, stores, caller, &ask, &snap)
+    let plan = make_plan(alloc, false, &ask.conditions, &[])?;
+    let is_cancelled = cancels_itself(alloc, &ask, caller.session, caller.sessions - 1)?;
+    if is_cancelled {
+        return Err(Stop::Refused(statement_cancelled(alloc)));
+    }
+    answer(alloc, stores, caller, &ask, &plan, &snap)
 }
 
 // ---- of tables

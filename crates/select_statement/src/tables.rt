@@ -10,7 +10,7 @@ ghost use Rattle.stores.specs.Stand.{Stands};
 ghost use Rattle.statement_steps.specs.Attempts.{MayAttempt};
 ghost use Rattle.statement_steps.specs.Known.{IsKnownTo};
 ghost use Rattle.statement_steps.specs.Steps.{IsStep};
-ghost use Rattle.select_statement.specs.Below.{number_of};
+ghost use Rattle.statement_steps.specs.Below.{number_of};
 ghost use Rattle.select_statement.specs.Lent.{IsTreeFor, IsLookFor};
 ghost use Rattle.select_statement.specs.Selected as selected;
 
@@ -42,13 +42,9 @@ pub(crate) fn lock_items(
     let mut left = items;
     while let Some((item, others)) = left.split_first() {
         let name = item.table.name.as_bytes();
-        match lock_named(alloc, stores, names, caller, name, LockMode::AccessShare) {
-            Ok(table) => match tables.push(table) {
-                Ok(()) => left = others,
-                Err(_) => return Err(Stop::NoMemory),
-            },
-            Err(stop) => return Err(stop),
-        }
+        let table = lock_named(alloc, stores, names, caller, name, LockMode::AccessShare)?;
+        tables.push(table)?;
+        left = others;
     }
     Ok(tables)
 }

@@ -393,5 +393,7 @@ attach_can_be_met = (
   (2, inl (refl, refl), refl),
   refl,
   refl,
-  (inl refl, ((omega arith, refl), row_judged)),
+  inl refl,
+  (omega arith, refl),
+  row_judged,
 )

@@ -372,10 +372,16 @@ may_add_upper = record {
 is_known : IsKnown (tx_events with_snapshot) (catalogue_events with_snapshot) 1 1
 is_known = (omega arith, λ runs. let both : Committed ≡ Running = runs in absurd (cc))
 
+still_child : (x : ℕ) (l : LeafId) → HasLeaf (catalogue_events with_lock) x l → x ≡ 1
+still_child zero l at = absurd (level_leaf l at.1)
+still_child (suc zero) l at = refl
+still_child (suc (suc zero)) l at = absurd (level_leaf l at.1)
+still_child (suc (suc (suc x))) l at = absurd (omega (arith, at.0))
+
 may_end : MayEndRow with_lock 0 deleted
 may_end = record {
   locked = λ v x is same at.
-      let here : x ≡ 1 = is_child x v.leaf at in
+      let here : x ≡ 1 = still_child x v.leaf at in
       subst (λ z. WritesNow with_lock 1 z) (sym here) (1, same_refl (tx_events with_lock) 1, view_own (tx_events with_lock) 1 refl, inl (1, refl, refl));
 }
 

@@ -39,7 +39,7 @@ use Rattle.statement_steps.specs.declared.rest.Rest.{Rest}
 use Rattle.row_router.specs.declared.path_part.PathPart.{PathPart}
 use Rattle.row_router.specs.Histories.{path_of, table_of, tree_of}
 use Rattle.row_router.specs.Trees.{TableTree}
-use Rattle.select_statement.specs.Below.{number_of}
+use Rattle.statement_steps.specs.Below.{number_of}
 use Rattle.select_statement.specs.Items.{items_of}
 use Rattle.select_statement.specs.Laws.{Looks}
 use Rattle.select_statement.specs.Moments.{SelectsArePlain}

@@ -1,14 +1,16 @@
 -- Single parts of a statement: nothing done, a refusal, a lock, a snapshot that is kept.
 use Rattle.std.proofs.lemmas.Bool.Decides.{nat_tests}
 use Rattle.std.proofs.lemmas.List.{length-map, get_or-map}
-use Rattle.std.proofs.Common.{◌≡◌, ℕ, ◌+◌, ◌<◌, ◌==◌, ◌||◌, if◌then◌else◌, Bool, true, false, List, [], ◌∷◌, ◌++◌, refl, ap, sym, ◌∙◌, subst, arith, append-nil, Option, Some, None, Result, Ok, Err, IfOk, OnOk, map, length, slice_index_or}
+use Rattle.std.proofs.Common.{◌≡◌, ℕ, ◌+◌, ◌<◌, ◌==◌, ◌||◌, if◌then◌else◌, Bool, true, false, List, [], ◌∷◌, ◌++◌, refl, ap, sym, ◌∙◌, subst, arith, append-nil, Option, Some, None, Result, Ok, Err, IsErrAnd, OnOk, map, length, slice_index_or}
 use Rattle.pg_values.specs.declared.ids.TableNo.{TableNo}
 use Rattle.pg_values.specs.declared.session_set.SessionSet.{SessionSet}
 use Rattle.pg_values.specs.declared.session_list.SessionList.{SessionList}
 use Rattle.pg_values.specs.Lists.{listed}
 use Rattle.pg_values.specs.Sets.{has, sessions}
+use Rattle.pg_values.specs.Refusals.{IsAnswer}
 use Rattle.pg_values.specs.declared.fault.Fault.{Fault}
-use Rattle.pg_values.specs.declared.text.NoMemory.{NoMemory}
+use Rattle.pg_values.specs.declared.fault.Refusal.{Refusal}
+use Rattle.pg_values.specs.declared.fault.Refusal.TheVariants.{Sql, NoMemory}
 use Rattle.refusals.specs.Refusals.{no_table, deadlock}
 use Rattle.history.specs.declared.wait.WaitOn.TheVariants.{Ends, Snapshots}
 use Rattle.history.specs.declared.wait.Wanted.{Wanted}
@@ -38,7 +40,7 @@ use Rattle.stores.specs.Numbers.{IsAt}
 use Rattle.stores.specs.declared.stores.Stores.{Stores}
 use Rattle.lock_table.specs.AnswerLaws.{AnswerIsTold, HistoryIsTold}
 use Rattle.lock_table.specs.Asked.{asked, asked_view, asked_events, asked_history, AskedView, AtOnce, WaitsBehind, ClosesCycle}
-use Rattle.statement_steps.specs.Made.{Made, Waits, Refused, made, halted}
+use Rattle.statement_steps.specs.Made.{Made, Waits, Refused, answered, made, halted}
 use Rattle.statement_steps.specs.Attempts.{MayAttempt, NoRows, WentOn, GoesOn, HasCause, LocksStay}
 use Rattle.statement_steps.specs.declared.rest.Rest.{Rest}
 use Rattle.statement_steps.specs.declared.caller.Caller.{Caller}
@@ -47,9 +49,9 @@ use Rattle.statement_steps.specs.declared.stop.Stop.TheVariants as stop
 use Rattle.statement_steps.proofs.Numbers.{at_lock, one_later}
 use Rattle.statement_steps.specs.Waiting.{Since}
 use Rattle.statement_steps.proofs.Since.{since_now, since_locks, since_held}
-use Rattle.statement_steps.proofs.Steps.{halted_same}
+use Rattle.statement_steps.proofs.Steps.{halted_same, handed_on}
 use Rattle.statement_steps.proofs.Known.{some_of, has_known}
-use Rattle.statement_steps.specs.Faults.{name_of, stop_by}
+use Rattle.statement_steps.specs.Faults.{name_of, stop_of}
 use Rattle.statement_steps.specs.Asks.{told_by, found, meant_or_none, number_or, kept_number, same_or_gone}
 use Rattle.statement_steps.specs.Known.{maker_of, IsKnownTo}
 use Rattle.statement_steps.specs.Steps.{IsTold, IsPart, IsStep}
@@ -86,6 +88,21 @@ refused_here see fault stores caller n f may is = record {
 -- memory ran out: nothing but what the caller sees is told
 pub no_memory : {X T : Type 0} (see : X → T) (old new : Stores) (caller : Caller) (n : ℕ) (f : History → Made T) → GoesOn old new caller.session → IsStep see (Err stop.NoMemory) old new caller n f
 no_memory see old new caller n f keeps = record { is = λ h stands at. tt; keeps = keeps; waits = tt }
+
+-- a `?` hands that on
+pub out_here : {X T : Type 0} {view : X → T} {r : Result X Stop} {stores : Stores} {caller : Caller} {n : ℕ} {f : History → Made T} → IsErrAnd r (λ s. s ≡ stop.NoMemory) → IsStep view r stores stores caller n f
+out_here {view = view} {stores = stores} {caller = caller} {n = n} {f = f} is = handed_on is (no_memory view stores stores caller n f (stays stores caller.session))
+
+-- ---- what is answered
+
+pub answered_done : {X T : Type 0} (view : X → T) (x : X) (stores : Stores) (caller : Caller) (wanted : History → Result T Fault) → MayAttempt stores caller → ((h : History) → Stands stores h → wanted h ≡ Ok (view x))
+    → IsStep view (Ok x) stores stores caller caller.cmd (λ h. answered (wanted h))
+answered_done view x stores caller wanted may is = nothing_done view x stores caller (λ h. answered (wanted h)) may (λ h stands. ap answered (is h stands))
+
+pub answered_refused : {X T : Type 0} (view : X → T) (r : Refusal) (stores : Stores) (caller : Caller) (n : ℕ) (wanted : History → Result T Fault) → MayAttempt stores caller → ((h : History) → Stands stores h → IsAnswer {T = T} (Err r) (wanted h))
+    → IsStep view (Err (stop_of r)) stores stores caller n (λ h. answered (wanted h))
+answered_refused view (Sql f) stores caller n wanted may is = refused_here view f stores caller n (λ h. answered (wanted h)) may (λ h stands. ap answered (is h stands))
+answered_refused view NoMemory stores caller n wanted may is = no_memory view stores stores caller n (λ h. answered (wanted h)) (stays stores caller.session)
 
 -- ---- a lock
 
@@ -289,10 +306,9 @@ found_known stores caller h k name law may stands e =
     has_known h caller.session own.0 k own.1 (law h caller.session own.0 k name (legal_of h stands.good) own.1 e)
 
 -- a name that means nothing
-pub none_found : (stores : Stores) (caller : Caller) (name : List ℕ) (r : Result Fault NoMemory) → IfOk r (λ f. f ≡ no_table name) → MayAttempt stores caller
-    → ((h : History) → Stands stores h → resolved h caller.session name ≡ None) → IsStep (λ (t : TableNo). t.number) (Err (stop_by r)) stores stores caller caller.cmd (found caller.session name)
-none_found stores caller name (Ok f) is may none = refused_here (λ (t : TableNo). t.number) f stores caller caller.cmd (found caller.session name) may (λ h stands. ap (meant_or_none name) (none h stands) ∙ ap (λ x. halted [] (Refused x)) (sym is))
-none_found stores caller name (Err e) is may none = no_memory (λ (t : TableNo). t.number) stores stores caller caller.cmd (found caller.session name) (stays stores caller.session)
+pub none_found : (stores : Stores) (caller : Caller) (name : List ℕ) (f : Fault) → f ≡ no_table name → MayAttempt stores caller
+    → ((h : History) → Stands stores h → resolved h caller.session name ≡ None) → IsStep (λ (t : TableNo). t.number) (Err (stop.Refused f)) stores stores caller caller.cmd (found caller.session name)
+none_found stores caller name f is may none = refused_here (λ (t : TableNo). t.number) f stores caller caller.cmd (found caller.session name) may (λ h stands. ap (meant_or_none name) (none h stands) ∙ ap (λ x. halted [] (Refused x)) (sym is))
 
 -- a name that means the same table still, or another one
 abbrev same_told : List ℕ → Bool → Made (Unit {0})
@@ -307,16 +323,9 @@ is_other n t other = grind (arith, nat_tests, other)
 pub same_here : (stores : Stores) (caller : Caller) (name : List ℕ) (t n : ℕ) → MayAttempt stores caller → n ≡ t → IsStep (λ (u : Unit {0}). u) (Ok tt) stores stores caller caller.cmd (λ h. same_or_gone name t n)
 same_here stores caller name t n may same = nothing_done (λ (u : Unit {0}). u) tt stores caller (λ h. same_or_gone name t n) may (λ h stands. ap (same_told name) (is_same n t same))
 
-pub gone_here : (stores : Stores) (caller : Caller) (name : List ℕ) (t n : ℕ) (r : Result Fault NoMemory) → IfOk r (λ f. f ≡ no_table name) → MayAttempt stores caller → (n ≡ t → ⊥)
-    → IsStep (λ (u : Unit {0}). u) (Err (stop_by r)) stores stores caller caller.cmd (λ h. same_or_gone name t n)
-gone_here stores caller name t n (Ok f) is may other = refused_here (λ (u : Unit {0}). u) f stores caller caller.cmd (λ h. same_or_gone name t n) may (λ h stands. ap (same_told name) (is_other n t other) ∙ ap (λ x. halted [] (Refused x)) (sym is))
-gone_here stores caller name t n (Err e) is may other = no_memory (λ (u : Unit {0}). u) stores stores caller caller.cmd (λ h. same_or_gone name t n) (stays stores caller.session)
-
--- a cycle that would be closed
-pub closed : (names : List (List ℕ)) (old new : Stores) (caller : Caller) (w : Wanted) (rest : Option Rest) (cycle : SessionList) (r : Result Fault NoMemory) → IfOk r (λ f. f ≡ deadlock (map (name_of names) (listed cycle))) → MayAttempt old caller
-    → HasAsked old new caller w (Deadlock cycle) → IsStep (λ (u : Unit {0}). u) (Err (stop_by r)) old new caller caller.cmd (asked_for names caller.session w rest)
-closed names old new caller w rest cycle (Ok f) is may asked = closing_step names old new caller w rest cycle f is may asked
-closed names old new caller w rest cycle (Err e) is may asked = asked_and_out (λ (u : Unit {0}). u) old new caller w (Deadlock cycle) caller.cmd (asked_for names caller.session w rest) may asked
+pub gone_here : (stores : Stores) (caller : Caller) (name : List ℕ) (t n : ℕ) (f : Fault) → f ≡ no_table name → MayAttempt stores caller → (n ≡ t → ⊥)
+    → IsStep (λ (u : Unit {0}). u) (Err (stop.Refused f)) stores stores caller caller.cmd (λ h. same_or_gone name t n)
+gone_here stores caller name t n f is may other = refused_here (λ (u : Unit {0}). u) f stores caller caller.cmd (λ h. same_or_gone name t n) may (λ h stands. ap (same_told name) (is_other n t other) ∙ ap (λ x. halted [] (Refused x)) (sym is))
 
 -- ---- what the session knows, told from what is kept
 

@@ -1,7 +1,9 @@
 -- Parts of a statement, one after another.
-use Rattle.std.proofs.Common.{◌≡◌, ℕ, ◌+◌, List, [], ◌∷◌, ◌++◌, refl, ap, sym, ◌∙◌, subst, append_assoc, append-nil, Option, None, Result, Ok, Err, IsSome, length, slice_index_or}
+use Rattle.std.proofs.Common.{◌≡◌, ℕ, ◌+◌, List, [], ◌∷◌, ◌++◌, refl, ap, sym, ◌∙◌, subst, append_assoc, append-nil, Option, None, Result, Ok, Err, IsSome, IsErrAnd, length, slice_index_or}
+use Rattle.std.proofs.lemmas.Result.{err_from_is_err_and}
 use Rattle.history.specs.Locks.{queue}
 use Rattle.history.specs.History.{History, lock_events}
+use Rattle.stores.specs.Stand.{Stands}
 use Rattle.stores.specs.declared.stores.Stores.{Stores}
 use Rattle.statement_steps.specs.Ended.{told_as, giving}
 use Rattle.statement_steps.proofs.Since.{since_on}
@@ -175,4 +177,37 @@ may_go_on see x old mid caller f may first = record {
   sessions = first.keeps.size.sessions ∙ may.sessions;
   seats = ap length first.keeps.transactions ∙ may.seats;
   tables = first.keeps.size.tables ∙ may.tables;
+}
+
+-- ---- the exits of a function of parts, and its end
+
+-- a part is done, and what is left is told from there
+pub goes : {X T Y U : Type 0} {see : X → T} {view : Y → U} {x : X} {r : Result Y Stop} {old mid new : Stores} {caller : Caller} {n : ℕ} (f : History → Made T) (next : T → History → Made U)
+    → IsStep see (Ok x) old mid caller caller.cmd f → IsStep view r mid new caller n (next (see x)) → IsStep view r old new caller n (follow f next)
+goes {see = see} {view = view} {x = x} {r = r} {old = old} {mid = mid} {new = new} {caller = caller} {n = n} f next first second = then_step see view x r old mid new caller n f next first second
+
+-- a part stops
+pub stops : {X T Y U : Type 0} {see : X → T} {view : Y → U} {e : Stop} {old new : Stores} {caller : Caller} {n k : ℕ} (f : History → Made T) (next : T → History → Made U)
+    → IsStep see (Err e) old new caller k f → IsStep view (Err e) old new caller n (follow f next)
+stops {see = see} {view = view} {e = e} {old = old} {new = new} {caller = caller} {n = n} {k = k} f next first = stop_step see view e old new caller n k f next first
+
+-- so a `?` hands it on
+pub handed_on : {X T : Type 0} {view : X → T} {r : Result X Stop} {e : Stop} {old new : Stores} {caller : Caller} {n : ℕ} {f : History → Made T} → IsErrAnd r (λ s. s ≡ e) → IsStep view (Err e) old new caller n f → IsStep view r old new caller n f
+handed_on {view = view} {r = r} {old = old} {new = new} {caller = caller} {n = n} {f = f} is step = let p = err_from_is_err_and r is in subst (λ x. IsStep view x old new caller n f) (sym (p.1 ∙ ap Err p.2)) step
+
+-- memory runs out behind a part that is done
+pub out_behind : {X T Y U : Type 0} {see : X → T} {view : Y → U} {x : X} {r : Result Y Stop} {old new : Stores} {caller : Caller} {n k : ℕ} {f : History → Made T} {g : History → Made U} → IsErrAnd r (λ s. s ≡ stop.NoMemory) → IsStep see (Ok x) old new caller k f → IsStep view r old new caller n g
+out_behind {view = view} {r = r} {old = old} {new = new} {caller = caller} {n = n} {g = g} is first =
+    handed_on is (record { is = λ h stands at. tt; keeps = first.keeps; waits = tt })
+
+-- a part is told by something that is the same
+pub moved : {X T I : Type 0} {see : X → T} {r : Result X Stop} {old new : Stores} {caller : Caller} {n : ℕ} (f : I → History → Made T) (a b : I) → a ≡ b → IsStep see r old new caller n (f a) → IsStep see r old new caller n (f b)
+moved {see = see} {r = r} {old = old} {new = new} {caller = caller} {n = n} f a b same step = subst (λ i. IsStep see r old new caller n (f i)) same step
+
+-- and by something that is the same at each history that the stores stand for
+pub same_step : {X T : Type 0} (view : X → T) (r : Result X Stop) (old new : Stores) (caller : Caller) (n : ℕ) (f g : History → Made T) → ((h : History) → Stands old h → f h ≡ g h) → IsStep view r old new caller n g → IsStep view r old new caller n f
+same_step view r old new caller n f g same step = record {
+  is = λ h stands at. subst (IsTold view r new caller n h) (sym (same h stands)) (step.is h stands at);
+  keeps = step.keeps;
+  waits = step.waits;
 }

@@ -7,4 +7,5 @@ pub mod Steps
 pub mod Asks
 pub mod Codes
 pub mod Gathered
+pub mod Below
 pub mod Waiting

@@ -1,5 +1,5 @@
 -- What a part of a statement makes of a history, and how it ends.
-use Rattle.std.specs.Prelude.{ℕ, ◌+◌, ◌++◌, Option, Some, None, Result, Ok, Err}
+use Rattle.std.specs.Prelude.{ℕ, ◌+◌, [], ◌++◌, Option, Some, None, Result, Ok, Err}
 use Rattle.pg_values.specs.declared.fault.Fault.{Fault}
 use Rattle.history.specs.History.{History}
 use Rattle.statement_steps.specs.declared.rest.Rest.{Rest}
@@ -25,6 +25,11 @@ made events x = record { events = events; told = Ok x }
 
 abbrev pub halted : {T : Type 0} → History → Halt → Made T
 halted events stop = record { events = events; told = Err stop }
+
+-- a part by which nothing happens: what it gives, or the fault
+abbrev pub answered : {T : Type 0} → Result T Fault → Made T
+answered (Ok x) = made [] x
+answered (Err f) = halted [] (Refused f)
 
 -- a part behind another one, whose events are given
 abbrev pub behind : {T : Type 0} → History → Made T → Made T

@@ -16,8 +16,6 @@ pub enum Ending {
 pub fn ended(done: Result<(), Stop>) -> Result<Ending, Stop>
     ensures { result ≡ spec.ended done }
 {
-    match done {
-        Ok(()) => Ok(Ending::Done),
-        Err(stop) => Err(stop),
-    }
+    done?;
+    Ok(Ending::Done)
 }

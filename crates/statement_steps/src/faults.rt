@@ -3,20 +3,10 @@ ghost use Rattle.pg_values.specs.Lists.{listed};
 ghost use Rattle.refusals.specs.Refusals as refusals;
 ghost use Rattle.statement_steps.specs.Faults as faults;
 
-use crate::{SessionNames, Stop};
+use crate::SessionNames;
 use pg_values::{Args, Fault, NoMemory, PgText, SessionList};
 use refusals::deadlock;
 use std::alloc::Global;
-
-/// Why a statement stops that is refused with a fault, or with none for want of memory.
-pub(crate) fn stop_by(fault: Result<Fault, NoMemory>) -> Stop
-    ensures { result ≡ faults.stop_by fault }
-{
-    match fault {
-        Ok(fault) => Stop::Refused(fault),
-        Err(NoMemory) => Stop::NoMemory,
-    }
-}
 
 fn name_of(alloc: Global, names: &SessionNames, session: u32) -> Result<PgText, NoMemory>
     ensures { IfOk result (λ t. t ≡ faults.name_of names.now session) }

@@ -6,7 +6,7 @@ ghost use Rattle.statement_steps.specs.Asks as asks;
 ghost use Rattle.statement_steps.specs.Steps.{IsStep};
 
 use crate::{Caller, Stop};
-use pg_values::{Isolation, NoMemory};
+use pg_values::Isolation;
 use std::alloc::Global;
 use stores::Stores;
 
@@ -16,10 +16,8 @@ pub fn hold(alloc: Global, stores: &mut Stores, caller: Caller) -> Result<(), St
     ensures step { IsStep (λ u. u) result stores.old stores.new caller caller.cmd (λ h. made (held h caller.session caller.cmd) tt) }
     ensures rest { stores.new ≡ record stores.old { txs = stores.new.txs } }
 {
-    match stores.hold(alloc, caller.session, caller.cmd) {
-        Ok(()) => Ok(()),
-        Err(NoMemory) => Err(Stop::NoMemory),
-    }
+    stores.hold(alloc, caller.session, caller.cmd)?;
+    Ok(())
 }
 
 /// A transaction at REPEATABLE READ takes its snapshot before its first statement waits, and keeps it.

@@ -10,6 +10,7 @@
 //! whole statement owes to the executor above.
 #![tactic(auto)]
 
+mod below;
 mod caller;
 mod ending;
 mod faults;
@@ -22,6 +23,7 @@ mod names;
 mod rest;
 mod stop;
 
+pub use below::tables_below;
 pub use caller::Caller;
 pub use ending::{Ending, ended};
 pub use gathered::Gathered;

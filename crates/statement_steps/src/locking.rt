@@ -6,7 +6,7 @@ ghost use Rattle.statement_steps.specs.Known.{IsKnownTo};
 ghost use Rattle.statement_steps.specs.declared.rest.Rest.TheVariants.{Rows};
 ghost use Rattle.statement_steps.specs.Steps.{IsPart, IsStep};
 
-use crate::faults::{deadlock_of, stop_by};
+use crate::faults::deadlock_of;
 use crate::{Caller, Rest, RestOfRows, SessionNames, Stop};
 use history::WaitOn;
 use lock_table::{Asked, answer_is_told};
@@ -34,7 +34,7 @@ pub fn lock_table(
     match answer {
         Asked::Granted => Ok(()),
         Asked::Waits { .. } => Err(Stop::Waits(None)),
-        Asked::Deadlock { cycle } => Err(stop_by(deadlock_of(alloc, names, cycle))),
+        Asked::Deadlock { cycle } => Err(Stop::Refused(deadlock_of(alloc, names, cycle)?)),
     }
 }
 
@@ -59,7 +59,7 @@ pub fn wait_for(
     match answer {
         Asked::Granted => Ok(()),
         Asked::Waits { .. } => Err(Stop::Waits(rest)),
-        Asked::Deadlock { cycle } => Err(stop_by(deadlock_of(alloc, names, cycle))),
+        Asked::Deadlock { cycle } => Err(Stop::Refused(deadlock_of(alloc, names, cycle)?)),
     }
 }
 
@@ -82,7 +82,7 @@ pub fn wait_for_row(
     match answer {
         Asked::Granted => Ok(()),
         Asked::Waits { .. } => Err(Stop::Waits(Some(Rest::Rows(rest)))),
-        Asked::Deadlock { cycle } => Err(stop_by(deadlock_of(alloc, names, cycle))),
+        Asked::Deadlock { cycle } => Err(Stop::Refused(deadlock_of(alloc, names, cycle)?)),
     }
 }
 
@@ -103,10 +103,8 @@ pub fn lock_tables(
 {
     let mut left = tables;
     while let Some((table, others)) = left.split_first() {
-        match lock_table(alloc, stores, names, caller, *table, mode) {
-            Ok(()) => left = others,
-            Err(stop) => return Err(stop),
-        }
+        lock_table(alloc, stores, names, caller, *table, mode)?;
+        left = others;
     }
     Ok(())
 }

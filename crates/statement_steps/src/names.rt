@@ -5,7 +5,6 @@ ghost use Rattle.statement_steps.specs.Asks as asks;
 ghost use Rattle.statement_steps.specs.Known.{IsKnownTo};
 ghost use Rattle.statement_steps.specs.Steps.{IsStep};
 
-use crate::faults::stop_by;
 use crate::{Caller, Stop, lock_table};
 use legal_statements::named_is_there;
 use pg_values::{LockMode, NoMemory, PgText, TableNo};
@@ -67,7 +66,7 @@ pub fn find_table(
     named_is_there();
     match stores.catalog.resolve(&stores.txs, caller.session, name) {
         Some(table) => Ok(table),
-        None => Err(stop_by(no_table(alloc, name))),
+        None => Err(Stop::Refused(no_table(alloc, name)?)),
     }
 }
 
@@ -86,13 +85,9 @@ pub fn lock_named(
     ensures known { IfOk result (λ t. IsKnownTo stores.new caller.session t.number) }
     ensures rest { stores.new ≡ record stores.old { locks = stores.new.locks } }
 {
-    match find_table(alloc, stores, caller, name) {
-        Ok(table) => match lock_table(alloc, stores, names, caller, table, mode) {
-            Ok(()) => Ok(table),
-            Err(stop) => Err(stop),
-        },
-        Err(stop) => Err(stop),
-    }
+    let table = find_table(alloc, stores, caller, name)?;
+    lock_table(alloc, stores, names, caller, table, mode)?;
+    Ok(table)
 }
 
 // The table that was found is that one: another one of its name is none.
@@ -112,7 +107,7 @@ fn same_or_gone(
     if is_same {
         Ok(())
     } else {
-        Err(stop_by(no_table(alloc, name)))
+        Err(Stop::Refused(no_table(alloc, name)?))
     }
 }
 
@@ -132,11 +127,7 @@ pub fn lock_named_still(
     ensures known { OnOk result (IsKnownTo stores.new caller.session table.number) }
     ensures rest { stores.new ≡ record stores.old { locks = stores.new.locks } }
 {
-    match find_table(alloc, stores, caller, name) {
-        Ok(found) => match same_or_gone(alloc, stores, caller, name, table, found) {
-            Ok(()) => lock_table(alloc, stores, names, caller, table, mode),
-            Err(stop) => Err(stop),
-        },
-        Err(stop) => Err(stop),
-    }
+    let found = find_table(alloc, stores, caller, name)?;
+    same_or_gone(alloc, stores, caller, name, table, found)?;
+    lock_table(alloc, stores, names, caller, table, mode)
 }

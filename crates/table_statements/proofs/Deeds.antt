@@ -29,9 +29,9 @@ use Rattle.statement_steps.specs.Made.{Made, made}
 use Rattle.statement_steps.specs.Attempts.{MayAttempt, WentOn}
 use Rattle.statement_steps.specs.Waiting.{AddsNone, AddNone, Since}
 use Rattle.statement_steps.specs.declared.caller.Caller.{Caller}
+use Rattle.statement_steps.specs.Faults.{stop_of}
 use Rattle.statement_steps.specs.Steps.{IsStep}
 use Rattle.statement_steps.proofs.Parts.{own_tx, locks_same, no_memory}
-use Rattle.table_statements.specs.Asked.{stopped}
 
 -- ---- lists of events
 
@@ -224,7 +224,7 @@ only_memory (Sql f) (g ∷ gs) t events catalog rows h none is = absurd (let c =
 only_memory NoMemory fs t events catalog rows h none is = refl
 
 pub not_made : (old : Stores) (rows : KeptRows) (catalog : KeptCatalogue) (caller : Caller) (f : History → Made (Unit {0})) (r : Refusal) (fs : List Fault) (t : TableNo) (events : History) (h : History) → fs ≡ [] → IsMade (Err r) catalog rows h (made_by fs t events)
-    → IsStep (λ (u : Unit {0}). u) (Err (stopped r)) old (record old { rows = rows; catalog = catalog }) caller (caller.cmd + 1) f
+    → IsStep (λ (u : Unit {0}). u) (Err (stop_of r)) old (record old { rows = rows; catalog = catalog }) caller (caller.cmd + 1) f
 not_made old rows catalog caller f r fs t events h none is =
-    subst (λ (x : Refusal). IsStep (λ (u : Unit {0}). u) (Err (stopped x)) old (record old { rows = rows; catalog = catalog }) caller (caller.cmd + 1) f) (sym (only_memory r fs t events catalog rows h none is))
+    subst (λ (x : Refusal). IsStep (λ (u : Unit {0}). u) (Err (stop_of x)) old (record old { rows = rows; catalog = catalog }) caller (caller.cmd + 1) f) (sym (only_memory r fs t events catalog rows h none is))
     (no_memory (λ (u : Unit {0}). u) old (record old { rows = rows; catalog = catalog }) caller (caller.cmd + 1) f (locks_same old (record old { rows = rows; catalog = catalog }) caller.session refl refl))

@@ -15,13 +15,12 @@ use Rattle.expression_binder.specs.Firsts.{IsAnswerBy}
 use Rattle.stores.specs.Stand.{Stands}
 use Rattle.stores.specs.declared.stores.Stores.{Stores}
 use Rattle.statement_steps.specs.Attempts.{MayAttempt}
-use Rattle.statement_steps.specs.Made.{Made}
+use Rattle.statement_steps.specs.Made.{answered}
 use Rattle.statement_steps.specs.declared.caller.Caller.{Caller}
-use Rattle.statement_steps.specs.declared.stop.Stop.{Stop}
-use Rattle.statement_steps.specs.Steps.{IsTold, IsStep}
-use Rattle.statement_steps.proofs.Parts.{stays, nothing_done, refused_here, no_memory}
-use Rattle.table_statements.specs.Asked.{stopped}
-use Rattle.table_statements.specs.Refused.{next_answer, unless_faults, answered}
+use Rattle.statement_steps.specs.Faults.{stop_of}
+use Rattle.statement_steps.specs.Steps.{IsStep}
+use Rattle.statement_steps.proofs.Parts.{stays, refused_here, no_memory}
+use Rattle.table_statements.specs.Refused.{next_answer, unless_faults}
 
 -- ---- answers
 
@@ -83,20 +82,7 @@ few_tables h none = below_limit (table_number h) 4096 (too_many Tables) (nat_lt 
 
 -- ---- a part by which nothing happens
 
-pub answered_done : {X T : Type 0} (view : X → T) (x : X) (stores : Stores) (caller : Caller) (wanted : History → Result T Fault) → MayAttempt stores caller → ((h : History) → Stands stores h → wanted h ≡ Ok (view x))
-    → IsStep view (Ok x) stores stores caller caller.cmd (λ h. answered (wanted h))
-answered_done view x stores caller wanted may is = nothing_done view x stores caller (λ h. answered (wanted h)) may (λ h stands. ap answered (is h stands))
-
 pub answered_refused : {X T : Type 0} (view : X → T) (r : Refusal) (stores : Stores) (caller : Caller) (n : ℕ) (wanted : History → Result T Fault) → MayAttempt stores caller → ((h : History) → Stands stores h → IsAnswerBy view (Err r) (wanted h))
-    → IsStep view (Err (stopped r)) stores stores caller n (λ h. answered (wanted h))
+    → IsStep view (Err (stop_of r)) stores stores caller n (λ h. answered (wanted h))
 answered_refused view (Sql f) stores caller n wanted may is = refused_here view f stores caller n (λ h. answered (wanted h)) may (λ h stands. ap answered (is h stands))
 answered_refused view NoMemory stores caller n wanted may is = no_memory view stores stores caller n (λ h. answered (wanted h)) (stays stores caller.session)
-
--- ---- what is the same at each history
-
-pub same_step : {X T : Type 0} (view : X → T) (r : Result X Stop) (old new : Stores) (caller : Caller) (n : ℕ) (f g : History → Made T) → ((h : History) → Stands old h → f h ≡ g h) → IsStep view r old new caller n g → IsStep view r old new caller n f
-same_step view r old new caller n f g same step = record {
-  is = λ h stands at. subst (IsTold view r new caller n h) (sym (same h stands)) (step.is h stands at);
-  keeps = step.keeps;
-  waits = step.waits;
-}

@@ -27,8 +27,9 @@ use Rattle.stores.proofs.Commands.{commands_are_in_order}
 use Rattle.stores.proofs.Goodness.{legal_of}
 use Rattle.statement_steps.specs.Attempts.{MayAttempt}
 use Rattle.statement_steps.specs.declared.caller.Caller.{Caller}
+use Rattle.statement_steps.specs.Faults.{stop_of}
 use Rattle.statement_steps.specs.Steps.{IsStep}
-use Rattle.table_statements.specs.Asked.{MayBeMade, stopped}
+use Rattle.table_statements.specs.Asked.{MayBeMade}
 use Rattle.table_statements.specs.Tables.{own, table_made}
 use Rattle.table_statements.proofs.Deeds.{Each, IsDone, AreHoused, IsDeed, deed_step, made_stands, not_made}
 use Rattle.table_statements.proofs.Firsts.{few_tables}
@@ -116,7 +117,7 @@ table_step laws old rows catalog caller name columns level by u may fit free min
 
 pub table_not_made : (old : Stores) (rows : KeptRows) (catalog : KeptCatalogue) (caller : Caller) (name : List ℕ) (columns : List Column) (level : Option OneLevel) (by : TxId) (r : Refusal) → MayAttempt old caller
     → ((h : History) → TableStands old.txs h → CatalogueStands old.catalog h → MayBeMade h caller.session name) → TellsTable (Err r) old rows catalog name columns level by caller.cmd
-    → IsStep (λ (u : Unit {0}). u) (Err (stopped r)) old (record old { rows = rows; catalog = catalog }) caller (caller.cmd + 1) (table_made caller name (record { columns = columns; level = level }))
+    → IsStep (λ (u : Unit {0}). u) (Err (stop_of r)) old (record old { rows = rows; catalog = catalog }) caller (caller.cmd + 1) (table_made caller name (record { columns = columns; level = level }))
 table_not_made old rows catalog caller name columns level by r may free tells =
     let h = may.sound.0 in
     let stands = may.sound.1 in

@@ -36,7 +36,7 @@ use Rattle.statement_steps.specs.declared.stop.Stop.TheVariants as stop
 use Rattle.statement_steps.specs.Asks.{all_locked, found, meant_or_none}
 use Rattle.statement_steps.specs.Steps.{IsTold, IsStep, follow}
 use Rattle.statement_steps.proofs.Parts.{stays, nothing_done, locks_same, no_memory}
-use Rattle.statement_steps.proofs.Steps.{goes_on, then_step, stop_step, may_go_on, halted_same}
+use Rattle.statement_steps.proofs.Steps.{goes_on, then_step, stop_step, may_go_on, halted_same, same_step}
 use Rattle.table_statements.specs.Asked.{IsLocked, MayDropTable, IsGoing, MayGo, to_lock, family_of, one_or_none, numbers}
 use Rattle.table_statements.specs.Partitions.{numbers_under, default_locked}
 use Rattle.table_statements.specs.Drops.{one_number, parent_in, default_beside, tables_to_lock, drop_locked, locked_one, found_one, found_all, dropped_all}
@@ -44,7 +44,6 @@ use Rattle.table_statements.proofs.Below.{number, here_of, TreeLaws, from_number
 use Rattle.table_statements.proofs.Deeds.{Each, IsDone, each_append, went}
 use Rattle.table_statements.proofs.Dropping.{IsEnding, going_events, going_ends, going_done, going_on, going_first}
 use Rattle.table_statements.proofs.Ends.{is_same, same_number}
-use Rattle.table_statements.proofs.Firsts.{same_step}
 use Rattle.table_statements.proofs.Fresh.{IsOwn}
 
 -- ---- what a drop locks

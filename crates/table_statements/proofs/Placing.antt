@@ -64,8 +64,9 @@ use Rattle.stores.proofs.Commands.{commands_are_in_order}
 use Rattle.stores.proofs.Goodness.{legal_of, permitted_of}
 use Rattle.statement_steps.specs.Attempts.{MayAttempt}
 use Rattle.statement_steps.specs.declared.caller.Caller.{Caller}
+use Rattle.statement_steps.specs.Faults.{stop_of}
 use Rattle.statement_steps.specs.Steps.{IsStep}
-use Rattle.table_statements.specs.Asked.{IsLockedNamed, HasDefaultLocked, HasDefaultClean, MayBeMade, MayBePlaced, stopped}
+use Rattle.table_statements.specs.Asked.{IsLockedNamed, HasDefaultLocked, HasDefaultClean, MayBeMade, MayBePlaced}
 use Rattle.table_statements.specs.Partitions.{partition_made}
 use Rattle.table_statements.specs.Tables.{own}
 use Rattle.table_statements.proofs.Below.{entry_suits}
@@ -370,7 +371,7 @@ partition_step laws old rows catalog caller name parent b level by u may above l
 
 pub partition_not_made : (old : Stores) (rows : KeptRows) (catalog : KeptCatalogue) (caller : Caller) (name : List ℕ) (parent : ℕ) (b : Bound) (level : Option OneLevel) (by : TxId) (r : Refusal) → MayAttempt old caller
     → ((h : History) → TableStands old.txs h → CatalogueStands old.catalog h → MayBeMade h caller.session name) → TellsPartition (Err r) old rows catalog name parent b level by caller.cmd
-    → IsStep (λ (u : Unit {0}). u) (Err (stopped r)) old (record old { rows = rows; catalog = catalog }) caller (caller.cmd + 1) (partition_made caller name parent (record { bound = b; level = level }))
+    → IsStep (λ (u : Unit {0}). u) (Err (stop_of r)) old (record old { rows = rows; catalog = catalog }) caller (caller.cmd + 1) (partition_made caller name parent (record { bound = b; level = level }))
 partition_not_made old rows catalog caller name parent b level by r may free tells =
     let h = may.sound.0 in
     let stands = may.sound.1 in

@@ -29,9 +29,11 @@ use Rattle.part_catalog.proofs.Found.{last_is}
 use Rattle.stores.specs.Good.{IsGood}
 use Rattle.stores.specs.Stand.{Stands}
 use Rattle.stores.specs.declared.stores.Stores.{Stores}
-use Rattle.statement_steps.specs.Attempts.{MayAttempt}
-use Rattle.statement_steps.specs.declared.caller.Caller.{Caller}
 use Rattle.statement_steps.specs.Asks.{told_by}
+use Rattle.statement_steps.specs.Attempts.{MayAttempt}
+use Rattle.statement_steps.specs.Steps.{IsStep}
+use Rattle.statement_steps.specs.declared.caller.Caller.{Caller}
+use Rattle.statement_steps.specs.declared.stop.Stop.{Stop}
 use Rattle.table_statements.specs.Claims.{only, waits_for_end}
 use Rattle.table_statements.proofs.Below.{mapped_to}
 
@@ -68,7 +70,7 @@ free_at_once true o others e = refl
 free_at_once false None others e = absurd (let c = e in cc)
 free_at_once false (Some cycle) others e = absurd (let c = e in cc)
 
-pub has_to_wait : (names : List (List ℕ)) (h : History) (s other : ℕ) → other < 128 → (waits_for_end names s other h).told ≡ Ok tt → ⊥
+has_to_wait : (names : List (List ℕ)) (h : History) (s other : ℕ) → other < 128 → (waits_for_end names s other h).told ≡ Ok tt → ⊥
 has_to_wait names h s other low told =
     let w : Wanted = Others (Ends (only other)) in
     let k = lock_events h in
@@ -77,6 +79,12 @@ has_to_wait names h s other low told =
     let off : has (only other) other ≡ false = nobody_is (is_cause k s w) other low none in
     let on = only_has other in
     cc
+
+-- so nothing goes on behind it
+pub never_done : (names : List (List ℕ)) (r : Result (Unit {0}) Stop) (old new : Stores) (caller : Caller) (other : ℕ) (P : Unit {0} → Type 0) → MayAttempt old caller → other < 128
+    → IsStep (λ (u : Unit {0}). u) r old new caller caller.cmd (waits_for_end names caller.session other) → IfOk r P
+never_done names (Ok u) old new caller other P may low step = let s = may.sound in absurd (has_to_wait names s.0 caller.session other low (step.is s.0 s.1 s.2).0)
+never_done names (Err e) old new caller other P may low step = tt
 
 -- ---- who runs has its transaction open
 

@@ -5,8 +5,6 @@ use Rattle.std.specs.Option.{option_to_list}
 use Rattle.pg_values.specs.Sets.{has}
 use Rattle.pg_values.specs.declared.ids.TableNo.{TableNo}
 use Rattle.pg_values.specs.declared.lock_mode.LockMode.TheVariants.{AccessExclusive}
-use Rattle.pg_values.specs.declared.fault.Refusal.{Refusal}
-use Rattle.pg_values.specs.declared.fault.Refusal.TheVariants.{Sql, NoMemory}
 use Rattle.bound_forms.specs.declared.level.Level.{Level}
 use Rattle.bound_forms.specs.declared.partition_bound.Bound.{Bound}
 use Rattle.history.specs.declared.catalogue.Entry.{Entry}
@@ -31,8 +29,6 @@ use Rattle.partition_scans.specs.Places.{default_scan}
 use Rattle.partition_scans.specs.Scans.{IsClean}
 use Rattle.stores.specs.declared.stores.Stores.{Stores}
 use Rattle.statement_steps.specs.declared.caller.Caller.{Caller}
-use Rattle.statement_steps.specs.declared.stop.Stop.{Stop}
-use Rattle.statement_steps.specs.declared.stop.Stop.TheVariants.{Refused, NoMemory as OutOfMemory}
 use Rattle.table_statements.specs.Drops.{parent_in, default_beside}
 
 -- ---- tables that are made
@@ -116,8 +112,3 @@ one_or_none (Some t) = t.number ∷ []
 
 abbrev pub numbers : {A : Type 0} → Vec TableNo A → List ℕ
 numbers tables = map (λ t. t.number) tables.items
-
--- a refusal ends the statement
-abbrev pub stopped : Refusal → Stop
-stopped (Sql f) = Refused f
-stopped NoMemory = OutOfMemory

@@ -5,10 +5,10 @@ use Rattle.history.specs.declared.wait.WaitOn.TheVariants.{Ends}
 use Rattle.history.specs.History.{History}
 use Rattle.part_catalog.specs.Found.{taken_by}
 use Rattle.part_ddl.specs.Tables.{name_faults}
-use Rattle.statement_steps.specs.Made.{Made, made}
+use Rattle.statement_steps.specs.Made.{Made, made, answered}
 use Rattle.statement_steps.specs.Asks.{waited}
 use Rattle.statement_steps.specs.Steps.{follow}
-use Rattle.table_statements.specs.Refused.{unless_faults, answered}
+use Rattle.table_statements.specs.Refused.{unless_faults}
 
 -- the session alone
 abbrev pub only : ℕ → SessionSet

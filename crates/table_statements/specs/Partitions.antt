@@ -16,12 +16,12 @@ use Rattle.part_ddl.specs.Placing.{level_at, place_faults}
 use Rattle.part_ddl.specs.Tables.{count_faults}
 use Rattle.partition_scans.specs.Places.{default_scan}
 use Rattle.partition_scans.specs.Waited.{scanned}
-use Rattle.statement_steps.specs.Made.{Made, made}
+use Rattle.statement_steps.specs.Made.{Made, made, answered}
 use Rattle.statement_steps.specs.declared.caller.Caller.{Caller}
 use Rattle.statement_steps.specs.Asks.{named, held_at, all_locked}
 use Rattle.statement_steps.specs.Steps.{follow}
 use Rattle.table_statements.specs.Claims.{name_claimed}
-use Rattle.table_statements.specs.Refused.{next_answer, unless_faults, answered}
+use Rattle.table_statements.specs.Refused.{next_answer, unless_faults}
 use Rattle.table_statements.specs.Tables.{level_by, own}
 
 -- ---- the default partition beside it

@@ -16,12 +16,12 @@ use Rattle.table_binder.specs.Columns.{bound_columns}
 use Rattle.table_binder.specs.Partitionings.{Key, bound_key}
 use Rattle.part_ddl.specs.Tables.{count_faults, table_events}
 use Rattle.stores.specs.Events.{tx_in}
-use Rattle.statement_steps.specs.Made.{Made, made}
+use Rattle.statement_steps.specs.Made.{Made, made, answered}
 use Rattle.statement_steps.specs.declared.caller.Caller.{Caller}
 use Rattle.statement_steps.specs.Asks.{held_at}
 use Rattle.statement_steps.specs.Steps.{follow}
 use Rattle.table_statements.specs.Claims.{name_claimed}
-use Rattle.table_statements.specs.Refused.{next_answer, unless_faults, answered}
+use Rattle.table_statements.specs.Refused.{next_answer, unless_faults}
 
 -- ---- how a table is partitioned
 

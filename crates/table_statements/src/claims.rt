@@ -4,7 +4,7 @@
 //! open transaction has added waits until that one has ended: where it was committed the name is taken, and
 //! where it was aborted the name is free again.
 
-ghost use Rattle.std.specs.Prelude.{◌≡◌, ◌≢◌, ◌<◌, None, Err, IfOk};
+ghost use Rattle.std.specs.Prelude.{◌≡◌, ◌<◌, None, IfOk};
 ghost use Rattle.history.specs.History.{History};
 ghost use Rattle.tx_table.specs.Stands.{TableStands};
 ghost use Rattle.part_catalog.specs.Found.{taken_by};
@@ -14,7 +14,6 @@ ghost use Rattle.statement_steps.specs.Steps.{IsStep};
 ghost use Rattle.table_statements.specs.Asked.{IsFree};
 ghost use Rattle.table_statements.specs.Claims as claims;
 
-use crate::refused::stop_by;
 use history::WaitOn;
 use part_ddl::check_name;
 use pg_values::SessionSet;
@@ -30,34 +29,8 @@ fn only(session: u32) -> SessionSet
     SessionSet::empty().with(session)
 }
 
-// The session waits for the end of the other's transaction. The statement begins anew then.
-fn wait_for_end(
-    alloc: Global,
-    stores: &mut Stores,
-    names: &SessionNames,
-    caller: Caller,
-    other: u32,
-) -> Stop
-    requires may { MayAttempt stores.old caller }
-    requires another { other ≢ caller.session }
-    requires known { other < 128 }
-    ensures step { IsStep (λ u. u) (Err result) stores.old stores.new caller caller.cmd (claims.waits_for_end names.now caller.session other) }
-    ensures rest { stores.new ≡ record stores.old { locks = stores.new.locks } }
-{
-    match wait_for(
-        alloc,
-        stores,
-        names,
-        caller,
-        WaitOn::Ends(only(other)),
-        None,
-    ) {
-        Ok(()) => unreachable!(),
-        Err(stop) => stop,
-    }
-}
-
-// A part: no other open transaction has given the name to a table, or its end is waited for.
+// A part: no other open transaction has given the name to a table, or its end is waited for, and the statement
+// begins anew then.
 fn wait_for_name(
     alloc: Global,
     stores: &mut Stores,
@@ -75,7 +48,10 @@ fn wait_for_name(
         .name_taken_by(&stores.txs, caller.session, name)
     {
         None => Ok(()),
-        Some(other) => Err(wait_for_end(alloc, stores, names, caller, other)),
+        Some(other) => {
+            let set = only(other);
+            wait_for(alloc, stores, names, caller, WaitOn::Ends(set), None)
+        }
     }
 }
 
@@ -93,8 +69,6 @@ pub(crate) fn claim_name(
     ensures free { IfOk result (λ u. (h : History) → TableStands stores.new.txs h → CatalogueStands stores.new.catalog h → IsFree h caller.session name.now) }
     ensures rest { stores.new ≡ record stores.old { locks = stores.new.locks } }
 {
-    match check_name(alloc, &stores.catalog, &stores.txs, caller.session, name) {
-        Ok(()) => wait_for_name(alloc, stores, names, caller, name),
-        Err(refusal) => Err(stop_by(refusal)),
-    }
+    check_name(alloc, &stores.catalog, &stores.txs, caller.session, name)?;
+    wait_for_name(alloc, stores, names, caller, name)
 }

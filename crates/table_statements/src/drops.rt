@@ -100,17 +100,15 @@ fn lock_for(
     there_is_known();
     tree_is_whole();
     legal_keeps_all();
-    match tables_to_lock(alloc, &stores.catalog, &stores.txs, caller.session, table) {
-        Ok(tables) => lock_tables(
-            alloc,
-            stores,
-            names,
-            caller,
-            &tables,
-            LockMode::AccessExclusive,
-        ),
-        Err(NoMemory) => Err(Stop::NoMemory),
-    }
+    let tables = tables_to_lock(alloc, &stores.catalog, &stores.txs, caller.session, table)?;
+    lock_tables(
+        alloc,
+        stores,
+        names,
+        caller,
+        &tables,
+        LockMode::AccessExclusive,
+    )
 }
 
 // A part: a named table, where it is there, and what its drop needs is locked.
@@ -127,13 +125,9 @@ fn lock_to_drop(
     ensures drop { IfOk result (λ found. (t : TableNo) → found ≡ Some t → MayDropTable stores.new caller.session t) }
     ensures rest { stores.new ≡ record stores.old { locks = stores.new.locks } }
 {
-    match find_table(alloc, stores, caller, name) {
-        Ok(table) => match lock_for(alloc, stores, names, caller, table) {
-            Ok(()) => Ok(Some(table)),
-            Err(stop) => Err(stop),
-        },
-        Err(stop) => Err(stop),
-    }
+    let table = find_table(alloc, stores, caller, name)?;
+    lock_for(alloc, stores, names, caller, table)?;
+    Ok(Some(table))
 }
 
 // Whether the table is passed over: it is absent, and IF EXISTS is written.
@@ -187,13 +181,9 @@ fn lock_all_to_drop(
     let mut found = Vec::new(alloc);
     let mut left = tables;
     while let Some((name, others)) = left.split_first() {
-        match lock_if_there(alloc, stores, names, caller, if_there, name.as_bytes()) {
-            Ok(table) => match push_if_some(&mut found, table) {
-                Ok(()) => left = others,
-                Err(NoMemory) => return Err(Stop::NoMemory),
-            },
-            Err(stop) => return Err(stop),
-        }
+        let table = lock_if_there(alloc, stores, names, caller, if_there, name.as_bytes())?;
+        push_if_some(&mut found, table)?;
+        left = others;
     }
     Ok(found)
 }
@@ -249,31 +239,10 @@ fn drop_all(
     };
     let mut left = tables;
     while let Some((table, others)) = left.split_first() {
-        match drop_one(alloc, stores, caller, by, *table) {
-            Ok(()) => left = others,
-            Err(NoMemory) => return Err(Stop::NoMemory),
-        }
+        drop_one(alloc, stores, caller, by, *table)?;
+        left = others;
     }
     Ok(())
-}
-
-// The tables are locked, and go.
-fn lock_and_drop(
-    alloc: Global,
-    stores: &mut Stores,
-    names: &SessionNames,
-    caller: Caller,
-    if_there: bool,
-    tables: &[PgText],
-) -> Result<(), Stop>
-    requires may { MayAttempt stores.old caller }
-    requires few { length stores.old.catalog.tables ≤ 4096 }
-    ensures { IsStep (λ u. u) result stores.old stores.new caller (caller.cmd + 1) (drops.locked_and_dropped names.now caller if_there tables.now) }
-{
-    match lock_all_to_drop(alloc, stores, names, caller, if_there, tables) {
-        Ok(found) => drop_all(alloc, stores, caller, &found),
-        Err(stop) => Err(stop),
-    }
 }
 
 /// DROP TABLE. Each named table is found (42P01; with IF EXISTS an absent one is passed over) and locked in
@@ -291,8 +260,7 @@ pub fn drop_tables(
     requires few { length stores.old.catalog.tables ≤ 4096 }
     ensures { IsStep (λ u. u) result stores.old stores.new caller (caller.cmd + 1) (dropped names.now caller if_there tables.now) }
 {
-    match hold_if_repeatable(alloc, stores, caller) {
-        Ok(()) => lock_and_drop(alloc, stores, names, caller, if_there, tables),
-        Err(stop) => Err(stop),
-    }
+    hold_if_repeatable(alloc, stores, caller)?;
+    let found = lock_all_to_drop(alloc, stores, names, caller, if_there, tables)?;
+    drop_all(alloc, stores, caller, &found)
 }

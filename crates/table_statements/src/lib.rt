@@ -21,7 +21,6 @@ mod laws;
 mod named;
 mod partitions;
 mod places;
-mod refused;
 mod statement;
 mod tables;
 mod under;

@@ -47,10 +47,8 @@ fn lock_one(
     ensures known { IfOk result (λ found. IfSome found (λ t. IsKnownTo stores.new caller.session t.number)) }
     ensures rest { stores.new ≡ record stores.old { locks = stores.new.locks } }
 {
-    match lock_named(alloc, stores, names, caller, table.name.as_bytes(), mode) {
-        Ok(found) => Ok(unless_only(found, table.only)),
-        Err(stop) => Err(stop),
-    }
+    let found = lock_named(alloc, stores, names, caller, table.name.as_bytes(), mode)?;
+    Ok(unless_only(found, table.only))
 }
 
 /// The named tables are found and locked, in their order. Those without ONLY are told.
@@ -71,13 +69,9 @@ pub(crate) fn lock_all(
     let mut whole = Vec::new(alloc);
     let mut left = tables;
     while let Some((table, others)) = left.split_first() {
-        match lock_one(alloc, stores, names, caller, table, mode) {
-            Ok(found) => match push_if_some(&mut whole, found) {
-                Ok(()) => left = others,
-                Err(NoMemory) => return Err(Stop::NoMemory),
-            },
-            Err(stop) => return Err(stop),
-        }
+        let found = lock_one(alloc, stores, names, caller, table, mode)?;
+        push_if_some(&mut whole, found)?;
+        left = others;
     }
     Ok(whole)
 }

@@ -16,13 +16,12 @@ ghost use Rattle.statement_steps.specs.Attempts.{MayAttempt};
 ghost use Rattle.statement_steps.specs.Steps.{IsStep};
 ghost use Rattle.table_statements.specs.Partitions as partitions;
 ghost use Rattle.table_statements.specs.Partitions.{partitioned, partition_place};
-ghost use Rattle.table_statements.specs.Asked.{IsFree, IsLockedNamed, HasDefaultLocked, HasDefaultClean, MayBeMade, MayBePlaced, family_of};
+ghost use Rattle.table_statements.specs.Asked.{IsLockedNamed, HasDefaultLocked, HasDefaultClean, MayBeMade, MayBePlaced, family_of};
 ghost use Rattle.history.specs.Places.{TakesBound};
 ghost use Rattle.part_catalog.specs.Found.{made_at};
 ghost use Rattle.table_statements.specs.Seen.{seen_place};
 
 use crate::claims::claim_name;
-use crate::refused::stop_by;
 use crate::tables::level_by;
 use bound_forms::{Bound, Level};
 use legal_statements::{
@@ -109,17 +108,15 @@ pub fn lock_default(
     there_is_known();
     tree_is_whole();
     legal_keeps_all();
-    match default_tables(alloc, &stores.catalog, &stores.txs, parent, caller.session) {
-        Ok(tables) => lock_tables(
-            alloc,
-            stores,
-            names,
-            caller,
-            &tables,
-            LockMode::AccessExclusive,
-        ),
-        Err(NoMemory) => Err(Stop::NoMemory),
-    }
+    let tables = default_tables(alloc, &stores.catalog, &stores.txs, parent, caller.session)?;
+    lock_tables(
+        alloc,
+        stores,
+        names,
+        caller,
+        &tables,
+        LockMode::AccessExclusive,
+    )
 }
 
 // The place of the partition, or the first refusal.
@@ -164,10 +161,8 @@ fn place_found(
 {
     trees_are_together();
     let Stores { txs, catalog, .. } = stores;
-    match place_of(alloc, catalog, txs, caller.session, parent, bound, by) {
-        Ok(place) => Ok(place),
-        Err(refusal) => Err(stop_by(refusal)),
-    }
+    let place = place_of(alloc, catalog, txs, caller.session, parent, bound, by)?;
+    Ok(place)
 }
 
 // The last part: the table is made, and gets its place.
@@ -205,12 +200,10 @@ fn make_placed(
         catalog,
         ..
     } = stores;
-    match make_partition(
+    make_partition(
         alloc, catalog, rows, txs, name, parent, bound, level, by, caller.cmd,
-    ) {
-        Ok(_) => Ok(()),
-        Err(refusal) => Err(stop_by(refusal)),
-    }
+    )?;
+    Ok(())
 }
 
 // The rows of the default partition are judged. The tree of the parent is built only where there is one.
@@ -260,154 +253,14 @@ fn scan_default(
     wait_for_snapshots(alloc, stores, names, caller, judged)
 }
 
-// The default partition is scanned, and the table made in its place.
-fn scan_and_make(
-    alloc: Global,
-    stores: &mut Stores,
-    names: &SessionNames,
-    caller: Caller,
-    name: &PgText,
-    parent: TableNo,
-    place: Place,
-) -> Result<(), Stop>
-    requires may { MayAttempt stores.old caller }
-    requires parent { IsLockedNamed stores.old caller.session parent.number }
-    requires default { HasDefaultLocked stores.old caller.session parent.number }
-    requires free { (h : History) → TableStands stores.old.txs h → CatalogueStands stores.old.catalog h → MayBeMade h caller.session name.now }
-    requires placed { (h : History) → TableStands stores.old.txs h → CatalogueStands stores.old.catalog h → MayBePlaced h caller.session parent.number place.bound place.level }
-    ensures { IsStep (λ u. u) result stores.old stores.new caller (caller.cmd + 1) (partitions.scanned_and_made names.now caller name.now parent.number (seen_place place)) }
-{
-    let text = name.as_bytes();
-    match scan_default(alloc, stores, names, caller, text, parent, &place) {
-        Ok(()) => match name.copy(alloc) {
-            Ok(name) => make_placed(alloc, stores, caller, name, parent, place),
-            Err(NoMemory) => Err(Stop::NoMemory),
-        },
-        Err(stop) => Err(stop),
-    }
-}
-
-// The place is found, and the table made there.
-fn place_and_make(
-    alloc: Global,
-    stores: &mut Stores,
-    names: &SessionNames,
-    caller: Caller,
-    name: &PgText,
-    parent: TableNo,
-    bound: &BoundText,
-    by: &Option<Partitioning>,
-) -> Result<(), Stop>
-    requires may { MayAttempt stores.old caller }
-    requires parent { IsLockedNamed stores.old caller.session parent.number }
-    requires default { HasDefaultLocked stores.old caller.session parent.number }
-    requires free { (h : History) → TableStands stores.old.txs h → CatalogueStands stores.old.catalog h → IsFree h caller.session name.now }
-    ensures { IsStep (λ u. u) result stores.old stores.new caller (caller.cmd + 1) (partitions.placed_and_made names.now caller name.now parent.number (bound_tree bound.now) by.now) }
-{
-    match place_found(alloc, stores, caller, parent, bound, by) {
-        Ok(place) => scan_and_make(alloc, stores, names, caller, name, parent, place),
-        Err(stop) => Err(stop),
-    }
-}
-
 // A part: the parent is partitioned.
 fn check_parent(alloc: Global, stores: &Stores, caller: Caller, parent: TableNo) -> Result<(), Stop>
     requires may { MayAttempt stores.now caller }
     requires known { parent.number < length stores.now.catalog.tables }
     ensures { IsStep (λ u. u) result stores.now stores.now caller caller.cmd (partitions.parent_tested parent.number) }
 {
-    match parent_level(alloc, &stores.catalog, parent) {
-        Ok(_) => Ok(()),
-        Err(refusal) => Err(stop_by(refusal)),
-    }
-}
-
-// The table gets its name, and is made in its place.
-fn claim_and_place(
-    alloc: Global,
-    stores: &mut Stores,
-    names: &SessionNames,
-    caller: Caller,
-    name: &PgText,
-    parent: TableNo,
-    bound: &BoundText,
-    by: &Option<Partitioning>,
-) -> Result<(), Stop>
-    requires may { MayAttempt stores.old caller }
-    requires parent { IsLockedNamed stores.old caller.session parent.number }
-    requires default { HasDefaultLocked stores.old caller.session parent.number }
-    ensures { IsStep (λ u. u) result stores.old stores.new caller (caller.cmd + 1) (partitions.claimed_and_placed names.now caller name.now parent.number (bound_tree bound.now) by.now) }
-{
-    match claim_name(alloc, stores, names, caller, name.as_bytes()) {
-        Ok(()) => place_and_make(alloc, stores, names, caller, name, parent, bound, by),
-        Err(stop) => Err(stop),
-    }
-}
-
-// So it is where the parent is partitioned.
-fn claim_and_make(
-    alloc: Global,
-    stores: &mut Stores,
-    names: &SessionNames,
-    caller: Caller,
-    name: &PgText,
-    parent: TableNo,
-    bound: &BoundText,
-    by: &Option<Partitioning>,
-) -> Result<(), Stop>
-    requires may { MayAttempt stores.old caller }
-    requires parent { IsLockedNamed stores.old caller.session parent.number }
-    requires default { HasDefaultLocked stores.old caller.session parent.number }
-    ensures { IsStep (λ u. u) result stores.old stores.new caller (caller.cmd + 1) (partitions.claimed_and_made names.now caller name.now parent.number (bound_tree bound.now) by.now) }
-{
-    match check_parent(alloc, stores, caller, parent) {
-        Ok(()) => claim_and_place(alloc, stores, names, caller, name, parent, bound, by),
-        Err(stop) => Err(stop),
-    }
-}
-
-// The default partition of the parent, which is locked, is locked too, and the table made beside it.
-fn create_beside(
-    alloc: Global,
-    stores: &mut Stores,
-    names: &SessionNames,
-    caller: Caller,
-    name: &PgText,
-    parent: TableNo,
-    bound: &BoundText,
-    by: &Option<Partitioning>,
-) -> Result<(), Stop>
-    requires may { MayAttempt stores.old caller }
-    requires few { length stores.old.catalog.tables ≤ 4096 }
-    requires parent { IsLockedNamed stores.old caller.session parent.number }
-    ensures { IsStep (λ u. u) result stores.old stores.new caller (caller.cmd + 1) (partitions.made_beside names.now caller name.now parent.number (bound_tree bound.now) by.now) }
-{
-    match lock_default(alloc, stores, names, caller, parent) {
-        Ok(()) => claim_and_make(alloc, stores, names, caller, name, parent, bound, by),
-        Err(stop) => Err(stop),
-    }
-}
-
-// The parent is found and locked, and the table made below it.
-fn create_below(
-    alloc: Global,
-    stores: &mut Stores,
-    names: &SessionNames,
-    caller: Caller,
-    name: &PgText,
-    parent: &PgText,
-    bound: &BoundText,
-    by: &Option<Partitioning>,
-) -> Result<(), Stop>
-    requires may { MayAttempt stores.old caller }
-    requires few { length stores.old.catalog.tables ≤ 4096 }
-    ensures { IsStep (λ u. u) result stores.old stores.new caller (caller.cmd + 1) (partitions.made_below names.now caller name.now parent.now (bound_tree bound.now) by.now) }
-{
-    let mode = LockMode::AccessExclusive;
-    match lock_named(alloc, stores, names, caller, parent.as_bytes(), mode) {
-        Ok(parent) => create_beside(alloc, stores, names, caller, name, parent, bound, by),
-        Err(stop) => Err(stop),
-    }
+    parent_level(alloc, &stores.catalog, parent)?;
+    Ok(())
 }
 
 /// CREATE TABLE, PARTITION OF. The parent is found (42P01) and locked in ACCESS EXCLUSIVE mode, and so are
@@ -429,8 +282,15 @@ pub fn create_partition(
     requires few { length stores.old.catalog.tables ≤ 4096 }
     ensures { IsStep (λ u. u) result stores.old stores.new caller (caller.cmd + 1) (partitioned names.now caller name.now parent.now (bound_tree bound.now) by.now) }
 {
-    match hold_if_repeatable(alloc, stores, caller) {
-        Ok(()) => create_below(alloc, stores, names, caller, name, parent, bound, by),
-        Err(stop) => Err(stop),
-    }
+    let mode = LockMode::AccessExclusive;
+    let text = name.as_bytes();
+    hold_if_repeatable(alloc, stores, caller)?;
+    let parent = lock_named(alloc, stores, names, caller, parent.as_bytes(), mode)?;
+    lock_default(alloc, stores, names, caller, parent)?;
+    check_parent(alloc, stores, caller, parent)?;
+    claim_name(alloc, stores, names, caller, text)?;
+    let place = place_found(alloc, stores, caller, parent, bound, by)?;
+    scan_default(alloc, stores, names, caller, text, parent, &place)?;
+    let copy = name.copy(alloc)?;
+    make_placed(alloc, stores, caller, copy, parent, place)
 }

@@ -25,8 +25,6 @@ pub fn lock(
     requires few { length stores.old.catalog.tables ≤ 4096 }
     ensures { IsStep (λ u. u) result stores.old stores.new caller (caller.cmd + 1) (locked.locked names.now caller.session tables.now mode) }
 {
-    match lock_all(alloc, stores, names, caller, tables, mode) {
-        Ok(whole) => lock_all_below(alloc, stores, names, caller, &whole, mode),
-        Err(stop) => Err(stop),
-    }
+    let whole = lock_all(alloc, stores, names, caller, tables, mode)?;
+    lock_all_below(alloc, stores, names, caller, &whole, mode)
 }

@@ -7,19 +7,18 @@ ghost use Rattle.expression_binder.specs.Firsts.{IsAnswerBy};
 ghost use Rattle.part_ddl.specs.Tables.{KeysFit, count_faults};
 ghost use Rattle.statement_steps.specs.Attempts.{MayAttempt};
 ghost use Rattle.statement_steps.specs.Steps.{IsStep};
-ghost use Rattle.table_statements.specs.Asked.{IsFree, MayBeMade};
+ghost use Rattle.table_statements.specs.Asked.{MayBeMade};
 ghost use Rattle.table_statements.specs.Tables as tables;
 ghost use Rattle.table_statements.specs.Seen.{seen_plan};
 ghost use Rattle.table_statements.specs.Tables.{created, table_plan};
 
 use crate::claims::claim_name;
-use crate::refused::stop_by;
 use bound_forms::Level;
 use history::{Column, Columns};
 use legal_statements::{new_leaf_may_follow, new_level_may_follow};
 use part_catalog::Catalog;
 use part_ddl::{check_count, make_table};
-use pg_values::{NoMemory, PgText, Refusal};
+use pg_values::{PgText, Refusal};
 use sql_ast::{ColumnList, Partitioning};
 use statement_steps::{Caller, SessionNames, Stop, hold_if_repeatable};
 use std::alloc::Global;
@@ -88,10 +87,8 @@ fn planned(
     ensures fit { IfOk result (λ plan. KeysFit plan.columns plan.level) }
     ensures few { IfOk result (λ plan. (h : History) → CatalogueStands stores.now.catalog h → count_faults h ≡ []) }
 {
-    match plan_of(alloc, &stores.catalog, definitions, by) {
-        Ok(plan) => Ok(plan),
-        Err(refusal) => Err(stop_by(refusal)),
-    }
+    let plan = plan_of(alloc, &stores.catalog, definitions, by)?;
+    Ok(plan)
 }
 
 // The last part: the table is made.
@@ -115,51 +112,8 @@ fn make_planned(
     };
     let Plan { columns, level } = plan;
     let Stores { rows, catalog, .. } = stores;
-    match make_table(alloc, catalog, rows, name, columns, level, by, caller.cmd) {
-        Ok(_) => Ok(()),
-        Err(refusal) => Err(stop_by(refusal)),
-    }
-}
-
-// What the table has is found, and it is made.
-fn plan_and_make(
-    alloc: Global,
-    stores: &mut Stores,
-    caller: Caller,
-    name: &PgText,
-    columns: &ColumnList,
-    by: &Option<Partitioning>,
-) -> Result<(), Stop>
-    requires may { MayAttempt stores.old caller }
-    requires free { (h : History) → TableStands stores.old.txs h → CatalogueStands stores.old.catalog h → IsFree h caller.session name.now }
-    ensures { IsStep (λ u. u) result stores.old stores.new caller (caller.cmd + 1) (tables.planned_and_made caller name.now columns.now by.now) }
-{
-    match planned(alloc, stores, caller, columns, by) {
-        Ok(plan) => match name.copy(alloc) {
-            Ok(name) => make_planned(alloc, stores, caller, name, plan),
-            Err(NoMemory) => Err(Stop::NoMemory),
-        },
-        Err(stop) => Err(stop),
-    }
-}
-
-// It gets its name, and is made.
-fn claim_and_make(
-    alloc: Global,
-    stores: &mut Stores,
-    names: &SessionNames,
-    caller: Caller,
-    name: &PgText,
-    columns: &ColumnList,
-    by: &Option<Partitioning>,
-) -> Result<(), Stop>
-    requires { MayAttempt stores.old caller }
-    ensures { IsStep (λ u. u) result stores.old stores.new caller (caller.cmd + 1) (tables.claimed_and_made names.now caller name.now columns.now by.now) }
-{
-    match claim_name(alloc, stores, names, caller, name.as_bytes()) {
-        Ok(()) => plan_and_make(alloc, stores, caller, name, columns, by),
-        Err(stop) => Err(stop),
-    }
+    make_table(alloc, catalog, rows, name, columns, level, by, caller.cmd)?;
+    Ok(())
 }
 
 /// CREATE TABLE with columns of its own. It is refused with 42P07 where a table of the name is there, waits
@@ -177,8 +131,9 @@ pub fn create_table(
     requires { MayAttempt stores.old caller }
     ensures { IsStep (λ u. u) result stores.old stores.new caller (caller.cmd + 1) (created names.now caller name.now columns.now by.now) }
 {
-    match hold_if_repeatable(alloc, stores, caller) {
-        Ok(()) => claim_and_make(alloc, stores, names, caller, name, columns, by),
-        Err(stop) => Err(stop),
-    }
+    hold_if_repeatable(alloc, stores, caller)?;
+    claim_name(alloc, stores, names, caller, name.as_bytes())?;
+    let plan = planned(alloc, stores, caller, columns, by)?;
+    let copy = name.copy(alloc)?;
+    make_planned(alloc, stores, caller, copy, plan)
 }

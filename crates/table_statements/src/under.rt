@@ -5,7 +5,7 @@ ghost use Rattle.statement_steps.specs.Steps.{IsStep};
 ghost use Rattle.table_statements.specs.Locked as locked;
 
 use part_ddl::tables_below;
-use pg_values::{LockMode, NoMemory, TableNo};
+use pg_values::{LockMode, TableNo};
 use statement_steps::{Caller, SessionNames, Stop, lock_tables};
 use std::alloc::Global;
 use stores::Stores;
@@ -25,10 +25,8 @@ fn lock_below(
     ensures step { IsStep (λ u. u) result stores.old stores.new caller caller.cmd (locked.one_under names.now caller.session mode table.number) }
     ensures rest { stores.new ≡ record stores.old { locks = stores.new.locks } }
 {
-    match tables_below(alloc, &stores.catalog, &stores.txs, table, caller.session) {
-        Ok(tables) => lock_tables(alloc, stores, names, caller, &tables, mode),
-        Err(NoMemory) => Err(Stop::NoMemory),
-    }
+    let tables = tables_below(alloc, &stores.catalog, &stores.txs, table, caller.session)?;
+    lock_tables(alloc, stores, names, caller, &tables, mode)
 }
 
 /// The tables under each of these are locked, in their order.
@@ -47,10 +45,8 @@ pub(crate) fn lock_all_below(
 {
     let mut left = tables;
     while let Some((table, others)) = left.split_first() {
-        match lock_below(alloc, stores, names, caller, *table, mode) {
-            Ok(()) => left = others,
-            Err(stop) => return Err(stop),
-        }
+        lock_below(alloc, stores, names, caller, *table, mode)?;
+        left = others;
     }
     Ok(())
 }

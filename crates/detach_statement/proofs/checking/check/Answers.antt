@@ -1,21 +1,18 @@
-use Rattle.std.proofs.Common.{sym, subst, Err}
-use Rattle.statement_steps.specs.Steps.{IsStep}
-use Rattle.table_statements.proofs.Firsts.{by_view, answered_done, answered_refused}
-use Rattle.detach_statement.specs.Detached.{detachable, checked}
+use Rattle.statement_steps.proofs.Parts.{answered_done, answered_refused}
+use Rattle.statement_steps.proofs.Steps.{handed_on}
+use Rattle.detach_statement.specs.Detached.{detachable}
 use Rattle.detach_statement.proofs.Refusing.{is_partition}
 use Rattle.detach_statement.proofs.checking.check.Goals as goal
 
-pub returns-in-Ok-clause-step : goal.returns-in-Ok-clause-step
-returns-in-Ok-clause-step c =
+pub returns-clause-step : goal.returns-clause-step
+returns-clause-step c =
     answered_done (λ (u : Unit {0}). u) tt c.args.stores.now c.args.caller (λ h. detachable h c.args.caller.session c.args.parent.number c.args.table.number) c.requires.may
-    (λ h stands. c.in-Ok.ensures h stands.all.txs stands.all.catalog)
+    (λ h stands. c.in_ok-check_partition.ensures h stands.all.txs stands.all.catalog)
 
-pub returns-in-Ok-clause-partition : goal.returns-in-Ok-clause-partition
-returns-in-Ok-clause-partition c = λ h txs catalog. is_partition h c.args.caller.session c.args.table.number c.args.parent (c.in-Ok.ensures h txs catalog)
+pub returns-clause-partition : goal.returns-clause-partition
+returns-clause-partition c = λ h txs catalog. is_partition h c.args.caller.session c.args.table.number c.args.parent (c.in_ok-check_partition.ensures h txs catalog)
 
-pub returns-in-Err-clause-step : goal.returns-in-Err-clause-step
-returns-in-Err-clause-step c =
-    let s = c.args.caller.session in
-    subst (λ r. IsStep (λ (u : Unit {0}). u) (Err r) c.args.stores.now c.args.stores.now c.args.caller c.args.caller.cmd (checked s c.args.parent.number c.args.table.number)) (sym c.stop_by.ensures)
-    (answered_refused (λ (u : Unit {0}). u) c.in-Err.refusal c.args.stores.now c.args.caller c.args.caller.cmd (λ h. detachable h s c.args.parent.number c.args.table.number) c.requires.may
-    (λ h stands. by_view (λ (u : Unit {0}). u) c.in-Err.refusal (detachable h s c.args.parent.number c.args.table.number) (c.in-Err.ensures h stands.all.txs stands.all.catalog)))
+pub returns-in_err-check_partition-clause-step : goal.returns-in_err-check_partition-clause-step
+returns-in_err-check_partition-clause-step c =
+    handed_on c.from_residual.ensures.1 (answered_refused (λ (u : Unit {0}). u) c.in_err-check_partition.field-0.0 c.args.stores.now c.args.caller c.args.caller.cmd (λ h. detachable h c.args.caller.session c.args.parent.number c.args.table.number) c.requires.may
+    (λ h stands. c.in_err-check_partition.ensures h stands.all.txs stands.all.catalog))

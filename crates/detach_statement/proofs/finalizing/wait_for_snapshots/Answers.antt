@@ -5,7 +5,7 @@ use Rattle.history.specs.declared.wait.WaitOn.TheVariants.{Snapshots}
 use Rattle.history.specs.declared.transaction.TxId.{TxId}
 use Rattle.partition_scans.specs.Sessions.{those}
 use Rattle.statement_steps.specs.Asks.{waited}
-use Rattle.table_statements.proofs.Firsts.{same_step}
+use Rattle.statement_steps.proofs.Steps.{same_step}
 use Rattle.detach_statement.specs.Finalized.{unseeing, mark_seen}
 use Rattle.detach_statement.proofs.Waits.{sees_itself}
 use Rattle.detach_statement.proofs.SessionSets.{are_those}

@@ -1,5 +1,6 @@
 use Rattle.std.proofs.Common.{◌+◌, refl}
 use Rattle.statement_steps.proofs.Parts.{locks_same, no_memory}
+use Rattle.statement_steps.proofs.Steps.{handed_on}
 use Rattle.stores.specs.declared.stores.Stores.{Stores}
 use Rattle.detach_statement.specs.Concurrent.{partition_left}
 use Rattle.detach_statement.proofs.Guards.{may_change, may_own}
@@ -14,24 +15,24 @@ keep-requires c =
     let laws : KeepLaws = record { leave = record { listed = c.listed_is_there.ensures; ends = c.nobody_else_ends.ensures; follow = c.drop_may_follow.ensures }; keeps = c.legal_keeps_all.ensures; check = c.check_may_follow.ensures } in
     let old = c.args.stores.now in
     keepable laws old c.args.caller c.in-Some.by c.args.parent c.args.table.number c.requires.may c.in-Some.ensures.is (may_change old c.args.caller.session c.args.parent c.requires.guarded) c.requires.partition
-    c.requires.pending (may_own old c.args.caller.session c.args.table.number c.requires.owned) c.in-Ok.check c.in-Ok.ensures
+    c.requires.pending (may_own old c.args.caller.session c.args.table.number c.requires.owned) c.in_ok-check.check c.in_ok-check.ensures
 
 pub end_entry-requires : goal.end_entry-requires
 end_entry-requires c =
     let laws : KeepLaws = record { leave = record { listed = c.listed_is_there.ensures; ends = c.nobody_else_ends.ensures; follow = c.drop_may_follow.ensures }; keeps = c.legal_keeps_all.ensures; check = c.check_may_follow.ensures } in
     let old = c.args.stores.now in
     endable_behind laws old c.args.caller c.in-Some.by c.args.parent c.args.table.number c.requires.may c.in-Some.ensures.is (may_change old c.args.caller.session c.args.parent c.requires.guarded) c.requires.partition
-    c.requires.pending (may_own old c.args.caller.session c.args.table.number c.requires.owned) c.in-Ok.check c.in-Ok.ensures c.keep.new.catalog c.in-Ok-keep.ensures
+    c.requires.pending (may_own old c.args.caller.session c.args.table.number c.requires.owned) c.in_ok-check.check c.in_ok-check.ensures c.keep.new.catalog c.in_ok-keep.ensures
 
-pub returns-in-Ok-keep : goal.returns-in-Ok-keep
-returns-in-Ok-keep c =
+pub returns : goal.returns
+returns c =
     let laws : KeepLaws = record { leave = record { listed = c.listed_is_there.ensures; ends = c.nobody_else_ends.ensures; follow = c.drop_may_follow.ensures }; keeps = c.legal_keeps_all.ensures; check = c.check_may_follow.ensures } in
     let old = c.args.stores.now in
     kept_step laws old c.args.caller c.in-Some.by c.args.parent c.args.table.number c.requires.may c.in-Some.ensures.is (may_change old c.args.caller.session c.args.parent c.requires.guarded) c.requires.partition
-    c.requires.pending (may_own old c.args.caller.session c.args.table.number c.requires.owned) c.in-Ok.check c.in-Ok.ensures c.keep.new.catalog c.end_entry.new.self c.in-Ok-keep.ensures c.end_entry.ensures.added
+    c.requires.pending (may_own old c.args.caller.session c.args.table.number c.requires.owned) c.in_ok-check.check c.in_ok-check.ensures c.keep.new.catalog c.end_entry.new.self c.in_ok-keep.ensures c.end_entry.ensures.added
 
-pub returns-in-Err-keep : goal.returns-in-Err-keep
-returns-in-Err-keep c =
+pub returns-in_err-keep : goal.returns-in_err-keep
+returns-in_err-keep c =
     let old = c.args.stores.now in
     let new : Stores = record old { catalog = c.keep.new.catalog } in
-    no_memory (λ (u : Unit {0}). u) old new c.args.caller (c.args.caller.cmd + 1) (partition_left c.args.caller c.args.parent.number c.args.table.number) (locks_same old new c.args.caller.session refl refl)
+    handed_on c.from_residual-in_err-keep.ensures.1 (no_memory (λ (u : Unit {0}). u) old new c.args.caller (c.args.caller.cmd + 1) (partition_left c.args.caller c.args.parent.number c.args.table.number) (locks_same old new c.args.caller.session refl refl))

@@ -2,23 +2,23 @@ use Rattle.std.proofs.Common.{◌∙◌, sym, arith}
 use Rattle.statement_steps.specs.Known.{IsKnownTo}
 use Rattle.detach_statement.proofs.Defaults.{default_known}
 use Rattle.detach_statement.proofs.statement.lock_default.Goals as goal
-use Rattle.detach_statement.proofs.statement.lock_default.Goals.{In-Ok-Some}
+use Rattle.detach_statement.proofs.statement.lock_default.Goals.{In-Some}
 
 pub default_of-requires-clause-siblings : goal.default_of-requires-clause-siblings
 default_of-requires-clause-siblings c = c.trees_are_together.ensures c.args.stores.now c.requires.may.sound.0 c.args.caller.session c.requires.may.sound.1
 
 -- the session may ask for the default partition
-known : (c : In-Ok-Some) → IsKnownTo c.args.stores.now c.args.caller.session c.in-Ok-Some.default.number
+known : (c : In-Some) → IsKnownTo c.args.stores.now c.args.caller.session c.in-Some.default.number
 known c =
     let h = c.requires.may.sound.0 in
     let stands = c.requires.may.sound.1 in
-    default_known c.listed_is_there.ensures c.there_is_known.ensures c.args.stores.now c.args.caller h c.args.parent.number c.in-Ok-Some.default c.requires.may stands (sym (c.in-Ok-Some.ensures h stands.all.txs stands.all.catalog) ∙ c.in-Ok-Some.field-0-is)
+    default_known c.listed_is_there.ensures c.there_is_known.ensures c.args.stores.now c.args.caller h c.args.parent.number c.in-Some.default c.requires.may stands (sym (c.in_ok-default.ensures h stands.all.txs stands.all.catalog) ∙ c.in-Some.is)
 
 pub lock_table-requires-clause-known : goal.lock_table-requires-clause-known
 lock_table-requires-clause-known c =
-    let made = (known (goal.at.lock_table-requires-clause-known c).In-Ok-Some).made in
+    let made = (known (goal.at.lock_table-requires-clause-known c).In-Some).made in
     let few = c.requires.few in
     omega (arith, made, few)
 
 pub lock_table-requires-clause-there : goal.lock_table-requires-clause-there
-lock_table-requires-clause-there c = known (goal.at.lock_table-requires-clause-there c).In-Ok-Some
+lock_table-requires-clause-there c = known (goal.at.lock_table-requires-clause-there c).In-Some

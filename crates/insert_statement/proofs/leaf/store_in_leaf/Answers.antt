@@ -1,11 +1,29 @@
-use Rattle.std.proofs.Common.{◌+◌}
-use Rattle.statement_steps.proofs.Parts.{stays, no_memory}
-use Rattle.insert_statement.specs.Inserted.{into_leaf}
+use Rattle.std.proofs.Common.{[], ◌∷◌, ◌∙◌, sym, subst}
+use Rattle.statement_steps.proofs.Parts.{out_here}
+use Rattle.statement_steps.proofs.Steps.{moved}
+use Rattle.insert_statement.specs.Asked.{MayStore, put}
+use Rattle.insert_statement.proofs.OwnLeaf.{own_may_store}
+use Rattle.insert_statement.proofs.Told.{own_step}
 use Rattle.insert_statement.proofs.leaf.store_in_leaf.Goals as goal
 
 pub target_of-requires-clause-sound : goal.target_of-requires-clause-sound
 target_of-requires-clause-sound c = record { h = c.requires.may.sound.0; stands = c.requires.may.sound.1 }
 
-pub returns-in-Err : goal.returns-in-Err
-returns-in-Err c =
-    no_memory (λ (u : Unit {0}). u) c.args.stores.now c.args.stores.now c.args.caller (c.args.caller.cmd + 1) (into_leaf c.args.caller c.args.table.number c.args.leaf c.args.rows.now) (stays c.args.stores.now c.args.caller.session)
+pub put_rows-requires-clause-rows : goal.put_rows-requires-clause-rows
+put_rows-requires-clause-rows c =
+    subst (λ ts. MayStore c.args.stores.now c.args.caller.session ts c.as_slice.result.now c.args.rows.now) (sym c.from_ref.ensures.value)
+    (subst (λ ls. MayStore c.args.stores.now c.args.caller.session (c.in_ok-target.target ∷ []) ls c.args.rows.now) (sym (c.as_slice.ensures ∙ c.in_ok-leaves.ensures))
+    (own_may_store c.args.stores.now c.args.caller c.args.table c.args.leaf c.in_ok-target.target c.args.rows.now c.requires.may
+    (record { known = c.requires.known; leaf_is = c.requires.leaf; target_is = c.in_ok-target.ensures; rows_of = c.requires.rows; locked = c.requires.locked })))
+
+pub returns-in_err-target : goal.returns-in_err-target
+returns-in_err-target c = out_here c.from_residual.ensures.1
+
+pub returns-in_err-leaves : goal.returns-in_err-leaves
+returns-in_err-leaves c = out_here c.from_residual-in_err-leaves.ensures.1
+
+pub returns : goal.returns
+returns c =
+    own_step c.put_rows.result c.args.stores.now c.put_rows.new.stores c.args.caller c.args.table c.args.leaf c.in_ok-target.target c.args.rows.now c.in_ok-target.ensures
+    (moved (λ ls. put (c.in_ok-target.target ∷ []) c.args.caller ls c.args.rows.now) _ _ (c.as_slice.ensures ∙ c.in_ok-leaves.ensures)
+    (moved (λ ts. put ts c.args.caller c.as_slice.result.now c.args.rows.now) _ _ c.from_ref.ensures.value c.put_rows.ensures))

@@ -1,8 +1,7 @@
 use Rattle.std.proofs.Common.{◌+◌, sym, subst}
 use Rattle.row_router.specs.Seen.{seen}
 use Rattle.statement_steps.specs.Steps.{IsStep}
-use Rattle.statement_steps.proofs.Parts.{stays, no_memory}
-use Rattle.insert_statement.specs.Inserted.{into_leaves}
+use Rattle.statement_steps.proofs.Parts.{out_here}
 use Rattle.insert_statement.specs.Asked.{MayStore, put}
 use Rattle.insert_statement.proofs.Below.{Goes, all_go, placed_may_store}
 use Rattle.insert_statement.proofs.Placed.{takes}
@@ -19,16 +18,15 @@ leaf_targets-requires-clause-siblings c = c.trees_are_together.ensures c.args.st
 pub put_rows-requires-clause-rows : goal.put_rows-requires-clause-rows
 put_rows-requires-clause-rows c =
     subst (λ ts. MayStore c.args.stores.now c.args.caller.session ts c.args.leaves.now c.args.rows.now) (sym c.deref.ensures.value)
-    (placed_may_store c.args.stores.now c.args.caller (seen c.args.tree.now) c.args.leaves.now c.args.rows.now c.in-Ok.targets.items c.requires.may c.requires.placed c.requires.locked
-    (λ h stands. c.in-Ok.ensures.targets h stands.all.txs stands.all.catalog) (λ i d lt. c.in-Ok.ensures.each i d lt (c.requires.placed.ways i d lt)))
+    (placed_may_store c.args.stores.now c.args.caller (seen c.args.tree.now) c.args.leaves.now c.args.rows.now c.in_ok-targets.targets.items c.requires.may c.requires.placed c.requires.locked
+    (λ h stands. c.in_ok-targets.ensures.targets h stands.all.txs stands.all.catalog) (λ i d lt. c.in_ok-targets.ensures.each i d lt (c.requires.placed.ways i d lt)))
 
-pub returns-in-Ok : goal.returns-in-Ok
-returns-in-Ok c =
-    leaves_step (λ h. Goes h c.args.caller c.requires.placed.by_tree.table.number) c.put_rows.result c.args.stores.now c.put_rows.new.stores c.args.caller (seen c.args.tree.now) c.in-Ok.targets.items c.args.leaves.now c.args.rows.now
-    (λ h stands. c.in-Ok.ensures.targets h stands.all.txs stands.all.catalog) (λ i d lt. c.in-Ok.ensures.each i d lt (c.requires.placed.ways i d lt))
+pub returns : goal.returns
+returns c =
+    leaves_step (λ h. Goes h c.args.caller c.requires.placed.by_tree.table.number) c.put_rows.result c.args.stores.now c.put_rows.new.stores c.args.caller (seen c.args.tree.now) c.in_ok-targets.targets.items c.args.leaves.now c.args.rows.now
+    (λ h stands. c.in_ok-targets.ensures.targets h stands.all.txs stands.all.catalog) (λ i d lt. c.in_ok-targets.ensures.each i d lt (c.requires.placed.ways i d lt))
     (λ h stands. all_go c.args.stores.now c.args.caller (seen c.args.tree.now) c.args.leaves.now c.args.rows.now h stands c.requires.placed c.requires.locked)
     (subst (λ ts. IsStep (λ (u : Unit {0}). u) c.put_rows.result c.args.stores.now c.put_rows.new.stores c.args.caller (c.args.caller.cmd + 1) (put ts c.args.caller c.args.leaves.now c.args.rows.now)) c.deref.ensures.value c.put_rows.ensures)
 
-pub returns-in-Err : goal.returns-in-Err
-returns-in-Err c =
-    no_memory (λ (u : Unit {0}). u) c.args.stores.now c.args.stores.now c.args.caller (c.args.caller.cmd + 1) (into_leaves c.args.caller (seen c.args.tree.now) c.args.leaves.now c.args.rows.now) (stays c.args.stores.now c.args.caller.session)
+pub returns-in_err-targets : goal.returns-in_err-targets
+returns-in_err-targets c = out_here c.from_residual.ensures.1

@@ -1,6 +1,5 @@
-use Rattle.std.proofs.Common.{◌+◌, sym, subst, Err}
-use Rattle.statement_steps.specs.Steps.{IsStep}
-use Rattle.insert_statement.specs.Asked.{put}
+use Rattle.std.proofs.Common.{sym}
+use Rattle.statement_steps.proofs.Steps.{handed_on}
 use Rattle.insert_statement.proofs.Stored.{put_ok, put_refused}
 use Rattle.insert_statement.proofs.storing.put_rows.Goals as goal
 
@@ -19,13 +18,12 @@ store_rows-requires-clause-told c = c.requires.rows.told
 pub store_rows-requires-clause-runs : goal.store_rows-requires-clause-runs
 store_rows-requires-clause-runs c = (c.args.caller.session, sym c.in-Some.ensures.kept)
 
-pub returns-in-Ok : goal.returns-in-Ok
-returns-in-Ok c =
+pub returns : goal.returns
+returns c =
     put_ok c.args.stores.now c.store_rows.new.store c.args.caller c.args.targets.now c.args.leaves.now c.args.rows.now c.requires.may
-    (record { by = c.in-Some.by; own = c.in-Some.ensures.is; may = c.requires.rows.may; made = c.in-Ok.ensures.made })
+    (record { by = c.in-Some.by; own = c.in-Some.ensures.is; may = c.requires.rows.may; made = c.in_ok-store_rows.ensures.made })
 
-pub returns-in-Err : goal.returns-in-Err
-returns-in-Err c =
-    subst (λ r. IsStep (λ (u : Unit {0}). u) (Err r) c.args.stores.now (record c.args.stores.now { rows = c.store_rows.new.store }) c.args.caller (c.args.caller.cmd + 1) (put c.args.targets.now c.args.caller c.args.leaves.now c.args.rows.now)) (sym c.stop_by.ensures)
-    (put_refused c.args.stores.now c.store_rows.new.store c.args.caller c.args.targets.now c.args.leaves.now c.args.rows.now c.in-Err.refusal c.requires.may
-    (record { by = c.in-Some.by; own = c.in-Some.ensures.is; may = c.requires.rows.may; made = c.in-Err.ensures.made }))
+pub returns-in_err-store_rows : goal.returns-in_err-store_rows
+returns-in_err-store_rows c =
+    handed_on c.from_residual.ensures.1 (put_refused c.args.stores.now c.store_rows.new.store c.args.caller c.args.targets.now c.args.leaves.now c.args.rows.now c.in_err-store_rows.field-0.0 c.requires.may
+    (record { by = c.in-Some.by; own = c.in-Some.ensures.is; may = c.requires.rows.may; made = c.in_err-store_rows.ensures.made }))

@@ -1,13 +1,12 @@
 use Rattle.std.proofs.Common.{◌≤◌, length, subst, sym}
-use Rattle.std.proofs.lemmas.Result.{err_from_is_err_and}
 use Rattle.sql_ast.specs.Queries.{select_tree}
 use Rattle.stores.specs.declared.stores.Stores.{Stores}
 use Rattle.statement_steps.specs.Steps.{follow}
-use Rattle.statement_steps.proofs.Steps.{may_go_on}
+use Rattle.statement_steps.proofs.Steps.{goes, handed_on, may_go_on, stops}
 use Rattle.select_statement.specs.Explained.{printed}
 use Rattle.select_statement.specs.Gathered.{Found, found_by, gathered, planned_under}
 use Rattle.select_statement.specs.Selected.{begins}
-use Rattle.select_statement.proofs.Straight.{goes, stops}
+use Rattle.select_statement.proofs.Steps.{printed_done}
 use Rattle.select_statement.proofs.explaining.explain.Goals as goal
 
 pub gather-requires-clause-may : goal.gather-requires-clause-may
@@ -18,10 +17,9 @@ gather-requires-clause-few c = subst (λ (s : Stores). length s.catalog.tables �
 
 pub returns-in_err-found : goal.returns-in_err-found
 returns-in_err-found c =
-    let p = err_from_is_err_and c.from_residual-in_err-found.result c.from_residual-in_err-found.ensures.1 in
     let names = c.args.names.now in
     let t = select_tree c.args.select.now in
-    rw (p.1, p.2) (goes (begins c.args.caller) (λ u. follow (gathered names c.args.caller t) (λ (g : Found). follow (planned_under c.args.prunes names c.args.caller g) (printed t g))) c.in_ok-hold_if_repeatable.ensures.step
+    handed_on c.from_residual-in_err-found.ensures.1 (goes (begins c.args.caller) (λ u. follow (gathered names c.args.caller t) (λ (g : Found). follow (planned_under c.args.prunes names c.args.caller g) (printed t g))) c.in_ok-hold_if_repeatable.ensures.step
     (stops (gathered names c.args.caller t) (λ (g : Found). follow (planned_under c.args.prunes names c.args.caller g) (printed t g)) c.in_err-found.ensures.step))
 
 pub plan_under-requires-clause-may : goal.plan_under-requires-clause-may
@@ -29,17 +27,12 @@ plan_under-requires-clause-may c = may_go_on _ _ _ _ _ _ (may_go_on _ _ _ _ _ _ 
 
 pub returns-in_err-plan : goal.returns-in_err-plan
 returns-in_err-plan c =
-    let p = err_from_is_err_and c.from_residual-in_err-plan.result c.from_residual-in_err-plan.ensures.1 in
     let names = c.args.names.now in
     let t = select_tree c.args.select.now in
     let g = found_by c.in_ok-found.found in
-    rw (p.1, p.2) (goes (begins c.args.caller) (λ u. follow (gathered names c.args.caller t) (λ (x : Found). follow (planned_under c.args.prunes names c.args.caller x) (printed t x))) c.in_ok-hold_if_repeatable.ensures.step
+    handed_on c.from_residual-in_err-plan.ensures.1 (goes (begins c.args.caller) (λ u. follow (gathered names c.args.caller t) (λ (x : Found). follow (planned_under c.args.prunes names c.args.caller x) (printed t x))) c.in_ok-hold_if_repeatable.ensures.step
     (goes (gathered names c.args.caller t) (λ (x : Found). follow (planned_under c.args.prunes names c.args.caller x) (printed t x)) c.in_ok-found.ensures.step
     (stops (planned_under c.args.prunes names c.args.caller g) (printed t g) c.in_err-plan.ensures.step)))
-
-pub tell-requires-clause-may : goal.tell-requires-clause-may
-tell-requires-clause-may c =
-    may_go_on _ _ _ _ _ _ (may_go_on _ _ _ _ _ _ (may_go_on _ _ _ _ _ _ c.requires.may c.in_ok-hold_if_repeatable.ensures.step) c.in_ok-found.ensures.step) c.in_ok-plan.ensures.step
 
 pub returns : goal.returns
 returns c =

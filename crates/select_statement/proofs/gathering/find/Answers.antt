@@ -1,16 +1,16 @@
-use Rattle.std.proofs.Common.{[], ◌∙◌, ◌≤◌, ap, length, map, subst}
-use Rattle.std.proofs.lemmas.Result.{err_from_is_err_and}
+use Rattle.std.proofs.Common.{[], ap, length, map, subst, ◌∙◌, ◌≤◌}
 use Rattle.row_router.specs.Seen.{seen}
 use Rattle.sql_ast.specs.Queries.{select_tree}
 use Rattle.sql_binder.specs.Selects.{from_of}
 use Rattle.cond_logic.specs.Asked.{select_meant}
 use Rattle.statement_steps.specs.Made.{made}
 use Rattle.statement_steps.proofs.Parts.{nothing_done}
-use Rattle.select_statement.specs.Below.{number_of}
+use Rattle.statement_steps.proofs.Steps.{goes, handed_on, stops}
+use Rattle.statement_steps.specs.Below.{number_of}
 use Rattle.select_statement.specs.Gathered.{found_by}
 use Rattle.select_statement.specs.Items.{items_of}
 use Rattle.select_statement.specs.Selected.{meant}
-use Rattle.select_statement.proofs.Straight.{goes, stops, found_step}
+use Rattle.select_statement.proofs.Straight.{found_step}
 use Rattle.select_statement.proofs.Whole.{as_many}
 use Rattle.select_statement.proofs.gathering.find.Goals as goal
 
@@ -20,8 +20,7 @@ bind_over-requires-clause-each c =
 
 pub returns-in_err-ask-clause-step : goal.returns-in_err-ask-clause-step
 returns-in_err-ask-clause-step c =
-    let p = err_from_is_err_and c.from_residual-in_err-ask.result c.from_residual-in_err-ask.ensures.1 in
-    rw (p.1, p.2) (found_step c.args.caller (select_tree c.args.select.now) (map number_of c.args.tables.now) (map seen c.deref.result.now) _ _ _ (λ h stands. ap (map seen) c.deref.ensures.value ∙ c.in_ok-trees.ensures.trees h stands)
+    handed_on c.from_residual-in_err-ask.ensures.1 (found_step c.args.caller (select_tree c.args.select.now) (map number_of c.args.tables.now) (map seen c.deref.result.now) _ _ _ (λ h stands. ap (map seen) c.deref.ensures.value ∙ c.in_ok-trees.ensures.trees h stands)
     (stops (meant c.args.caller (select_tree c.args.select.now) (items_of 0 (from_of (select_tree c.args.select.now)) (map seen c.deref.result.now))) (λ m h. made [] (record { meant = m; trees = map seen c.deref.result.now })) c.in_err-ask.ensures.step))
 
 pub returns-clause-step : goal.returns-clause-step

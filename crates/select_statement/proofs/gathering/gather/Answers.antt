@@ -1,22 +1,19 @@
 use Rattle.std.proofs.Common.{◌∙◌, [], map, subst, sym, ap, length, All, Ok}
 use Rattle.std.proofs.lemmas.List.{length-map}
-use Rattle.std.proofs.lemmas.Result.{err_from_is_err_and}
 use Rattle.sql_ast.specs.Queries.{joined_tree, select_tree}
 use Rattle.sql_binder.specs.Selects.{from_of}
 use Rattle.statement_steps.specs.Known.{IsKnownTo}
 use Rattle.statement_steps.specs.Steps.{IsStep}
-use Rattle.statement_steps.proofs.Steps.{may_go_on}
-use Rattle.select_statement.specs.Below.{number_of}
+use Rattle.statement_steps.proofs.Steps.{goes, handed_on, may_go_on, moved, stops}
+use Rattle.statement_steps.specs.Below.{number_of}
 use Rattle.select_statement.specs.Gathered.{found_by, found_in}
 use Rattle.select_statement.specs.Selected.{named_from}
 use Rattle.select_statement.proofs.Naming.{few_stay, numbers}
-use Rattle.select_statement.proofs.Straight.{goes, moved, stops}
 use Rattle.select_statement.proofs.gathering.gather.Goals as goal
 
 pub returns-in_err-tables-clause-step : goal.returns-in_err-tables-clause-step
 returns-in_err-tables-clause-step c =
-    let p = err_from_is_err_and c.from_residual.result c.from_residual.ensures.1 in
-    rw (p.1, p.2) (stops (named_from c.args.names.now c.args.caller [] (from_of (select_tree c.args.select.now))) (found_in c.args.caller (select_tree c.args.select.now))
+    handed_on c.from_residual.ensures.1 (stops (named_from c.args.names.now c.args.caller [] (from_of (select_tree c.args.select.now))) (found_in c.args.caller (select_tree c.args.select.now))
     (moved (λ items. named_from c.args.names.now c.args.caller [] (map joined_tree items)) _ _ c.as_slice.ensures c.in_err-tables.ensures.step))
 
 pub find-requires-clause-may : goal.find-requires-clause-may

@@ -1,10 +1,18 @@
-use Rattle.std.proofs.Common.{◌+◌}
+use Rattle.std.proofs.Common.{Err, Ok, refl}
 use Rattle.cond_logic.specs.Asked.{select_meant}
 use Rattle.plan_tree.specs.Plans.{planned}
-use Rattle.statement_steps.proofs.Parts.{stays, no_memory}
-use Rattle.select_statement.specs.Selected.{answered, told_by}
+use Rattle.select_statement.proofs.Steps.{answer_done, answer_refused, read_for_it, told_for}
+use Rattle.select_statement.specs.Selected.{told_by}
+use Rattle.statement_steps.proofs.Steps.{handed_on}
 use Rattle.select_statement.proofs.parts.answer.Goals as goal
 
-pub returns-in-Err : goal.returns-in-Err
-returns-in-Err c =
-    no_memory told_by c.args.stores.now c.args.stores.now c.args.caller (c.args.caller.cmd + 1) (answered c.args.caller (select_meant c.args.ask.now) (planned c.args.plan.now)) (stays c.args.stores.now c.args.caller.session)
+pub returns : goal.returns
+returns c =
+    answer_done (record { answer = c.in_ok-answer.answer; trail = c.run_select.new.trail }) c.args.stores.now c.args.caller (select_meant c.args.ask.now) (planned c.args.plan.now) c.args.snap.now c.requires.may c.requires.look
+    (told_for (Ok c.in_ok-answer.answer) c.args.stores.now c.args.caller (select_meant c.args.ask.now) (planned c.args.plan.now) c.args.snap.now _ _ _ refl refl c.in_ok-trail.ensures.0 c.in_ok-answer.ensures.answer)
+    (read_for_it (Ok c.in_ok-answer.answer) _ c.args.stores.now c.args.caller (select_meant c.args.ask.now) (planned c.args.plan.now) c.args.snap.now _ _ _ refl refl c.in_ok-trail.ensures.0 c.in_ok-answer.ensures.trail)
+
+pub returns-in_err-answer : goal.returns-in_err-answer
+returns-in_err-answer c =
+    handed_on c.from_residual-in_err-answer.ensures.1 (answer_refused c.in_err-answer.field-0.0 c.args.stores.now c.args.caller (select_meant c.args.ask.now) (planned c.args.plan.now) c.args.snap.now c.requires.may c.requires.look
+    (told_for (Err c.in_err-answer.field-0.0) c.args.stores.now c.args.caller (select_meant c.args.ask.now) (planned c.args.plan.now) c.args.snap.now _ _ _ refl refl c.in_ok-trail.ensures.0 c.in_err-answer.ensures.answer))

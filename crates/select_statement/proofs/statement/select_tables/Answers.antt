@@ -1,13 +1,12 @@
 use Rattle.std.proofs.Common.{◌≤◌, length, subst, sym}
-use Rattle.std.proofs.lemmas.Result.{err_from_is_err_and}
 use Rattle.sql_ast.specs.Queries.{select_tree}
 use Rattle.stores.specs.declared.stores.Stores.{Stores}
 use Rattle.statement_steps.specs.Steps.{follow}
-use Rattle.statement_steps.proofs.Steps.{may_go_on}
+use Rattle.statement_steps.proofs.Steps.{goes, handed_on, may_go_on, stops}
 use Rattle.select_statement.specs.Gathered.{Found, found_by, gathered, planned_under}
 use Rattle.select_statement.specs.Selected.{answered, begins, of_named}
 use Rattle.select_statement.proofs.Known.{look_stays}
-use Rattle.select_statement.proofs.Straight.{goes, stops, runs_step}
+use Rattle.select_statement.proofs.Straight.{runs_step}
 use Rattle.select_statement.proofs.statement.select_tables.Goals as goal
 
 pub gather-requires-clause-may : goal.gather-requires-clause-may
@@ -18,10 +17,9 @@ gather-requires-clause-few c = subst (λ (s : Stores). length s.catalog.tables �
 
 pub returns-in_err-found : goal.returns-in_err-found
 returns-in_err-found c =
-    let p = err_from_is_err_and c.from_residual-in_err-found.result c.from_residual-in_err-found.ensures.1 in
     let names = c.args.names.now in
     let t = select_tree c.args.select.now in
-    rw (p.1, p.2) (goes (begins c.args.caller) (λ u. of_named c.args.prunes names c.args.caller t) c.in_ok-hold_if_repeatable.ensures.step
+    handed_on c.from_residual-in_err-found.ensures.1 (goes (begins c.args.caller) (λ u. of_named c.args.prunes names c.args.caller t) c.in_ok-hold_if_repeatable.ensures.step
     (runs_step c.args.prunes names c.args.caller t
     (stops (gathered names c.args.caller t) (λ (g : Found). follow (planned_under c.args.prunes names c.args.caller g) (λ p. answered c.args.caller g.meant p)) c.in_err-found.ensures.step)))
 
@@ -30,11 +28,10 @@ plan_under-requires-clause-may c = may_go_on _ _ _ _ _ _ (may_go_on _ _ _ _ _ _ 
 
 pub returns-in_err-plan : goal.returns-in_err-plan
 returns-in_err-plan c =
-    let p = err_from_is_err_and c.from_residual-in_err-plan.result c.from_residual-in_err-plan.ensures.1 in
     let names = c.args.names.now in
     let t = select_tree c.args.select.now in
     let g = found_by c.in_ok-found.found in
-    rw (p.1, p.2) (goes (begins c.args.caller) (λ u. of_named c.args.prunes names c.args.caller t) c.in_ok-hold_if_repeatable.ensures.step
+    handed_on c.from_residual-in_err-plan.ensures.1 (goes (begins c.args.caller) (λ u. of_named c.args.prunes names c.args.caller t) c.in_ok-hold_if_repeatable.ensures.step
     (runs_step c.args.prunes names c.args.caller t
     (goes (gathered names c.args.caller t) (λ (x : Found). follow (planned_under c.args.prunes names c.args.caller x) (λ p. answered c.args.caller x.meant p)) c.in_ok-found.ensures.step
     (stops (planned_under c.args.prunes names c.args.caller g) (λ p. answered c.args.caller g.meant p) c.in_err-plan.ensures.step))))

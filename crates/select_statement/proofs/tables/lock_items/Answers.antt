@@ -5,6 +5,7 @@ use Rattle.pg_values.specs.declared.lock_mode.LockMode.TheVariants.{AccessShare}
 use Rattle.sql_ast.specs.Queries.{joined_tree}
 use Rattle.statement_steps.specs.Asks.{named}
 use Rattle.statement_steps.specs.Steps.{IsStep}
+use Rattle.statement_steps.proofs.Steps.{handed_on}
 use Rattle.select_statement.proofs.Naming.{AreNamed, numbers, none_named, one_named, stops_naming, runs_out, all_named, rest_same}
 use Rattle.select_statement.proofs.tables.lock_items.Goals as goal
 
@@ -20,31 +21,31 @@ lock_named-requires-clause-few c = c.loop-item.invariant.few
 pub loop-item-preserved : goal.loop-item-preserved
 loop-item-preserved c =
     let whole : c.loop-item.left.now ≡ c.in-Some.item.now ∷ c.in-Some.others.now = search rules in
-    let more : c.push.new.self.items ≡ c.loop-item.tables.items ++ c.in-Ok.table ∷ [] = search rules in
-    one_named numbers c.args.stores.now c.loop-item.stores c.lock_named.new.stores c.args.caller c.args.names.now (map joined_tree c.args.items.now) c.loop-item.tables.items c.push.new.self.items (joined_tree c.in-Some.item.now) (map joined_tree c.in-Some.others.now) c.in-Ok.table
+    let more : c.push.new.self.items ≡ c.loop-item.tables.items ++ c.in_ok-table.table ∷ [] = search rules in
+    one_named numbers c.args.stores.now c.loop-item.stores c.lock_named.new.stores c.args.caller c.args.names.now (map joined_tree c.args.items.now) c.loop-item.tables.items c.push.new.self.items (joined_tree c.in-Some.item.now) (map joined_tree c.in-Some.others.now) c.in_ok-table.table
     (subst (λ left. AreNamed numbers c.args.stores.now c.loop-item.stores c.args.caller c.args.names.now (map joined_tree c.args.items.now) c.loop-item.tables.items (map joined_tree left)) whole c.loop-item.invariant)
-    (subst (λ name. IsStep (λ (t : TableNo). t.number) (Ok c.in-Ok.table) c.loop-item.stores c.lock_named.new.stores c.args.caller c.args.caller.cmd (named c.args.names.now c.args.caller.session AccessShare name)) c.as_bytes-name.ensures c.in-Ok.ensures.step)
-    c.in-Ok.ensures.known c.lock_named.ensures.rest more
+    (subst (λ name. IsStep (λ (t : TableNo). t.number) (Ok c.in_ok-table.table) c.loop-item.stores c.lock_named.new.stores c.args.caller c.args.caller.cmd (named c.args.names.now c.args.caller.session AccessShare name)) c.as_bytes-name.ensures c.in_ok-table.ensures.step)
+    c.in_ok-table.ensures.known c.lock_named.ensures.rest more
 
-pub returns-in-Err-push-clause-step : goal.returns-in-Err-push-clause-step
-returns-in-Err-push-clause-step c =
+pub returns-in_err-push-clause-step : goal.returns-in_err-push-clause-step
+returns-in_err-push-clause-step c =
     let whole : c.loop-item.left.now ≡ c.in-Some.item.now ∷ c.in-Some.others.now = search rules in
-    runs_out numbers c.args.stores.now c.loop-item.stores c.lock_named.new.stores c.args.caller c.args.names.now (map joined_tree c.args.items.now) c.loop-item.tables.items (joined_tree c.in-Some.item.now) (map joined_tree c.in-Some.others.now) c.in-Ok.table
+    handed_on c.from_residual-in_err-push.ensures.1 (runs_out numbers c.args.stores.now c.loop-item.stores c.lock_named.new.stores c.args.caller c.args.names.now (map joined_tree c.args.items.now) c.loop-item.tables.items (joined_tree c.in-Some.item.now) (map joined_tree c.in-Some.others.now) c.in_ok-table.table
     (subst (λ left. AreNamed numbers c.args.stores.now c.loop-item.stores c.args.caller c.args.names.now (map joined_tree c.args.items.now) c.loop-item.tables.items (map joined_tree left)) whole c.loop-item.invariant)
-    (subst (λ name. IsStep (λ (t : TableNo). t.number) (Ok c.in-Ok.table) c.loop-item.stores c.lock_named.new.stores c.args.caller c.args.caller.cmd (named c.args.names.now c.args.caller.session AccessShare name)) c.as_bytes-name.ensures c.in-Ok.ensures.step)
+    (subst (λ name. IsStep (λ (t : TableNo). t.number) (Ok c.in_ok-table.table) c.loop-item.stores c.lock_named.new.stores c.args.caller c.args.caller.cmd (named c.args.names.now c.args.caller.session AccessShare name)) c.as_bytes-name.ensures c.in_ok-table.ensures.step))
 
-pub returns-in-Err-push-clause-rest : goal.returns-in-Err-push-clause-rest
-returns-in-Err-push-clause-rest c = rest_same c.args.stores.now c.loop-item.stores c.lock_named.new.stores c.loop-item.invariant.rest c.lock_named.ensures.rest
+pub returns-in_err-push-clause-rest : goal.returns-in_err-push-clause-rest
+returns-in_err-push-clause-rest c = rest_same c.args.stores.now c.loop-item.stores c.lock_named.new.stores c.loop-item.invariant.rest c.lock_named.ensures.rest
 
-pub returns-in-Err-clause-step : goal.returns-in-Err-clause-step
-returns-in-Err-clause-step c =
+pub returns-in_err-table-clause-step : goal.returns-in_err-table-clause-step
+returns-in_err-table-clause-step c =
     let whole : c.loop-item.left.now ≡ c.in-Some.item.now ∷ c.in-Some.others.now = search rules in
-    stops_naming numbers c.args.stores.now c.loop-item.stores c.lock_named.new.stores c.args.caller c.args.names.now (map joined_tree c.args.items.now) c.loop-item.tables.items (joined_tree c.in-Some.item.now) (map joined_tree c.in-Some.others.now) c.in-Err.stop
+    handed_on c.from_residual.ensures.1 (stops_naming numbers c.args.stores.now c.loop-item.stores c.lock_named.new.stores c.args.caller c.args.names.now (map joined_tree c.args.items.now) c.loop-item.tables.items (joined_tree c.in-Some.item.now) (map joined_tree c.in-Some.others.now) c.in_err-table.field-0.0
     (subst (λ left. AreNamed numbers c.args.stores.now c.loop-item.stores c.args.caller c.args.names.now (map joined_tree c.args.items.now) c.loop-item.tables.items (map joined_tree left)) whole c.loop-item.invariant)
-    (subst (λ name. IsStep (λ (t : TableNo). t.number) (Err c.in-Err.stop) c.loop-item.stores c.lock_named.new.stores c.args.caller c.args.caller.cmd (named c.args.names.now c.args.caller.session AccessShare name)) c.as_bytes-name.ensures c.in-Err.ensures.step)
+    (subst (λ name. IsStep (λ (t : TableNo). t.number) (Err c.in_err-table.field-0.0) c.loop-item.stores c.lock_named.new.stores c.args.caller c.args.caller.cmd (named c.args.names.now c.args.caller.session AccessShare name)) c.as_bytes-name.ensures c.in_err-table.ensures.step))
 
-pub returns-in-Err-clause-rest : goal.returns-in-Err-clause-rest
-returns-in-Err-clause-rest c = rest_same c.args.stores.now c.loop-item.stores c.lock_named.new.stores c.loop-item.invariant.rest c.lock_named.ensures.rest
+pub returns-in_err-table-clause-rest : goal.returns-in_err-table-clause-rest
+returns-in_err-table-clause-rest c = rest_same c.args.stores.now c.loop-item.stores c.lock_named.new.stores c.loop-item.invariant.rest c.lock_named.ensures.rest
 
 pub returns-clause-step : goal.returns-clause-step
 returns-clause-step c =

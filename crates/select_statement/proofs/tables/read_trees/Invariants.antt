@@ -2,7 +2,7 @@ use Rattle.std.proofs.Common.{◌≡◌, ◌++◌, All, drop, map}
 use Rattle.history.specs.History.{History}
 use Rattle.row_router.specs.Seen.{seen}
 use Rattle.stores.specs.Stand.{Stands}
-use Rattle.select_statement.specs.Below.{number_of}
+use Rattle.statement_steps.specs.Below.{number_of}
 use Rattle.select_statement.specs.Lent.{IsTreeFor}
 use Rattle.select_statement.specs.Selected.{trees_for}
 use Rattle.select_statement.proofs.tables.read_trees.Given as goal

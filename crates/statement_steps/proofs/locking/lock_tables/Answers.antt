@@ -1,21 +1,22 @@
 use Rattle.std.proofs.Common.{rules, ◌≡◌, ◌∷◌, [], subst}
 use Rattle.statement_steps.proofs.Left.{IsLeft, all_left, one_less, stops_there, none_left, no_length}
+use Rattle.statement_steps.proofs.Steps.{handed_on}
 use Rattle.statement_steps.proofs.locking.lock_tables.Goals as goal
 
 pub loop-table-init : goal.loop-table-init
 loop-table-init c = all_left c.args.stores.now c.args.caller c.args.names.now c.args.mode c.args.tables.now c.requires.may c.requires.there c.requires.known
 
-pub returns-in-Err-clause-step : goal.returns-in-Err-clause-step
-returns-in-Err-clause-step c =
+pub returns-in_err-lock_table-clause-step : goal.returns-in_err-lock_table-clause-step
+returns-in_err-lock_table-clause-step c =
     let whole : c.loop-table.left.now ≡ c.in-Some.table.now ∷ c.in-Some.others.now = search rules in
-    stops_there c.args.stores.now c.loop-table.stores c.lock_table.new.stores c.args.caller c.args.names.now c.args.mode c.args.tables.now c.in-Some.table.now c.in-Some.others.now c.in-Err.stop
-    (subst (IsLeft c.args.stores.now c.loop-table.stores c.args.caller c.args.names.now c.args.mode c.args.tables.now) whole c.loop-table.invariant) c.in-Err.ensures.step
+    handed_on c.from_residual.ensures.1 (stops_there c.args.stores.now c.loop-table.stores c.lock_table.new.stores c.args.caller c.args.names.now c.args.mode c.args.tables.now c.in-Some.table.now c.in-Some.others.now c.in_err-lock_table.field-0.0
+    (subst (IsLeft c.args.stores.now c.loop-table.stores c.args.caller c.args.names.now c.args.mode c.args.tables.now) whole c.loop-table.invariant) c.in_err-lock_table.ensures.step)
 
 pub loop-table-preserved : goal.loop-table-preserved
 loop-table-preserved c =
     let whole : c.loop-table.left.now ≡ c.in-Some.table.now ∷ c.in-Some.others.now = search rules in
     one_less c.args.stores.now c.loop-table.stores c.lock_table.new.stores c.args.caller c.args.names.now c.args.mode c.args.tables.now c.in-Some.table.now c.in-Some.others.now
-    (subst (IsLeft c.args.stores.now c.loop-table.stores c.args.caller c.args.names.now c.args.mode c.args.tables.now) whole c.loop-table.invariant) c.in-Ok.ensures.step c.lock_table.ensures.rest
+    (subst (IsLeft c.args.stores.now c.loop-table.stores c.args.caller c.args.names.now c.args.mode c.args.tables.now) whole c.loop-table.invariant) c.in_ok-lock_table.ensures.step c.lock_table.ensures.rest
 
 pub returns-clause-step : goal.returns-clause-step
 returns-clause-step c =

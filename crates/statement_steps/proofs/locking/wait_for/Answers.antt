@@ -1,8 +1,6 @@
-use Rattle.std.proofs.Common.{sym, subst, Err}
+use Rattle.std.proofs.Common.{subst}
 use Rattle.history.specs.declared.wait.Wanted.TheVariants.{Others}
-use Rattle.statement_steps.specs.Asks.{waited}
-use Rattle.statement_steps.specs.Steps.{IsStep}
-use Rattle.statement_steps.proofs.Parts.{HasAsked, has_asked, granted_step, waiting_step, closed}
+use Rattle.statement_steps.proofs.Parts.{HasAsked, has_asked, granted_step, waiting_step, closing_step}
 use Rattle.statement_steps.proofs.locking.wait_for.Goals as goal
 
 pub returns-in-Granted-clause-step : goal.returns-in-Granted-clause-step
@@ -19,10 +17,9 @@ returns-in-Waits-clause-step c =
     (has_asked c.args.stores.now c.wait_on-answer.new.self c.args.caller (Others c.args.what) c.wait_on-answer.result c.requires.may c.wait_on-answer.ensures.good
     c.wait_on-answer.ensures.answer c.answer_is_told.ensures.view c.answer_is_told.ensures.history c.wait_on-answer.ensures.waits c.wait_on-answer.ensures.others c.wait_on-answer.ensures.size c.wait_on-answer.ensures.rest))
 
-pub returns-in-Deadlock-clause-step : goal.returns-in-Deadlock-clause-step
-returns-in-Deadlock-clause-step c =
-    subst (λ r. IsStep (λ (u : Unit {0}). u) (Err r) c.args.stores.now c.wait_on-answer.new.self c.args.caller c.args.caller.cmd (waited c.args.names.now c.args.caller.session c.args.what c.args.rest)) (sym c.stop_by.ensures)
-    (closed c.args.names.now c.args.stores.now c.wait_on-answer.new.self c.args.caller (Others c.args.what) c.args.rest c.in-Deadlock.cycle c.deadlock_of.result c.deadlock_of.ensures c.requires.may
+pub returns-in_ok-deadlock_of-in-Deadlock-clause-step : goal.returns-in_ok-deadlock_of-in-Deadlock-clause-step
+returns-in_ok-deadlock_of-in-Deadlock-clause-step c =
+    closing_step c.args.names.now c.args.stores.now c.wait_on-answer.new.self c.args.caller (Others c.args.what) c.args.rest c.in-Deadlock.cycle c.in_ok-deadlock_of-in-Deadlock.field-0 c.in_ok-deadlock_of-in-Deadlock.ensures c.requires.may
     (subst (HasAsked c.args.stores.now c.wait_on-answer.new.self c.args.caller (Others c.args.what)) c.in-Deadlock.is
     (has_asked c.args.stores.now c.wait_on-answer.new.self c.args.caller (Others c.args.what) c.wait_on-answer.result c.requires.may c.wait_on-answer.ensures.good
-    c.wait_on-answer.ensures.answer c.answer_is_told.ensures.view c.answer_is_told.ensures.history c.wait_on-answer.ensures.waits c.wait_on-answer.ensures.others c.wait_on-answer.ensures.size c.wait_on-answer.ensures.rest)))
+    c.wait_on-answer.ensures.answer c.answer_is_told.ensures.view c.answer_is_told.ensures.history c.wait_on-answer.ensures.waits c.wait_on-answer.ensures.others c.wait_on-answer.ensures.size c.wait_on-answer.ensures.rest))

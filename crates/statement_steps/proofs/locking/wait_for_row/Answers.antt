@@ -1,10 +1,8 @@
-use Rattle.std.proofs.Common.{sym, subst, Some, Ok, Err}
+use Rattle.std.proofs.Common.{subst, Some, Ok}
 use Rattle.history.specs.declared.wait.Wanted.TheVariants.{Others}
 use Rattle.statement_steps.specs.Asks.{waited}
-use Rattle.statement_steps.specs.Faults.{stop_by}
-use Rattle.statement_steps.specs.Steps.{IsPart}
 use Rattle.statement_steps.specs.declared.rest.Rest.TheVariants.{Rows}
-use Rattle.statement_steps.proofs.Parts.{HasAsked, has_asked, granted_step, waiting_part, closed}
+use Rattle.statement_steps.proofs.Parts.{HasAsked, has_asked, granted_step, waiting_part, closing_step}
 use Rattle.statement_steps.proofs.Steps.{as_part}
 use Rattle.statement_steps.proofs.locking.wait_for_row.Goals as goal
 
@@ -23,11 +21,10 @@ returns-in-Waits-clause-part c =
     (has_asked c.args.stores.now c.wait_on-answer.new.self c.args.caller (Others c.args.what) c.wait_on-answer.result c.requires.may c.wait_on-answer.ensures.good
     c.wait_on-answer.ensures.answer c.answer_is_told.ensures.view c.answer_is_told.ensures.history c.wait_on-answer.ensures.waits c.wait_on-answer.ensures.others c.wait_on-answer.ensures.size c.wait_on-answer.ensures.rest))
 
-pub returns-in-Deadlock-clause-part : goal.returns-in-Deadlock-clause-part
-returns-in-Deadlock-clause-part c =
-    subst (λ r. IsPart (λ (u : Unit {0}). u) (Err r) c.args.stores.now c.wait_on-answer.new.self c.args.caller c.args.caller.cmd (waited c.args.names.now c.args.caller.session c.args.what (Some (Rows c.args.rest)))) (sym c.stop_by.ensures)
-    (as_part (λ (u : Unit {0}). u) (Err (stop_by c.deadlock_of.result)) c.args.stores.now c.wait_on-answer.new.self c.args.caller c.args.caller.cmd (waited c.args.names.now c.args.caller.session c.args.what (Some (Rows c.args.rest)))
-    (closed c.args.names.now c.args.stores.now c.wait_on-answer.new.self c.args.caller (Others c.args.what) (Some (Rows c.args.rest)) c.in-Deadlock.cycle c.deadlock_of.result c.deadlock_of.ensures c.requires.may
+pub returns-in_ok-deadlock_of-in-Deadlock-clause-part : goal.returns-in_ok-deadlock_of-in-Deadlock-clause-part
+returns-in_ok-deadlock_of-in-Deadlock-clause-part c =
+    as_part _ _ _ _ _ _ _
+    (closing_step c.args.names.now c.args.stores.now c.wait_on-answer.new.self c.args.caller (Others c.args.what) (Some (Rows c.args.rest)) c.in-Deadlock.cycle c.in_ok-deadlock_of-in-Deadlock.field-0 c.in_ok-deadlock_of-in-Deadlock.ensures c.requires.may
     (subst (HasAsked c.args.stores.now c.wait_on-answer.new.self c.args.caller (Others c.args.what)) c.in-Deadlock.is
     (has_asked c.args.stores.now c.wait_on-answer.new.self c.args.caller (Others c.args.what) c.wait_on-answer.result c.requires.may c.wait_on-answer.ensures.good
-    c.wait_on-answer.ensures.answer c.answer_is_told.ensures.view c.answer_is_told.ensures.history c.wait_on-answer.ensures.waits c.wait_on-answer.ensures.others c.wait_on-answer.ensures.size c.wait_on-answer.ensures.rest))))
+    c.wait_on-answer.ensures.answer c.answer_is_told.ensures.view c.answer_is_told.ensures.history c.wait_on-answer.ensures.waits c.wait_on-answer.ensures.others c.wait_on-answer.ensures.size c.wait_on-answer.ensures.rest)))

@@ -1,10 +1,8 @@
-use Rattle.std.proofs.Common.{◌≡◌, sym, subst, ap, ◌∙◌, Some, Err, option_map}
+use Rattle.std.proofs.Common.{◌≡◌, sym, ap, ◌∙◌, Some, option_map}
 use Rattle.history.specs.History.{History}
 use Rattle.part_catalog.specs.Found.{resolved}
 use Rattle.stores.specs.Stand.{Stands}
 use Rattle.pg_values.specs.declared.ids.TableNo.{TableNo}
-use Rattle.statement_steps.specs.Asks.{found}
-use Rattle.statement_steps.specs.Steps.{IsStep}
 use Rattle.statement_steps.proofs.Parts.{found_below, found_known, none_found, known_by}
 use Rattle.statement_steps.proofs.names.find_table.Goals as goal
 
@@ -18,8 +16,7 @@ returns-in-Some-clause-known c =
     known_by c.args.stores.now h c.args.caller.session c.in-Some.table.number stands (found_below c.args.stores.now h c.args.caller.session c.in-Some.table.number c.args.name.now stands (meant c h stands))
     (found_known c.args.stores.now c.args.caller h c.in-Some.table.number c.args.name.now c.named_is_there.ensures c.requires stands (meant c h stands))
 
-pub returns-in-None-clause-step : goal.returns-in-None-clause-step
-returns-in-None-clause-step c =
-    subst (λ r. IsStep (λ (t : TableNo). t.number) (Err r) c.args.stores.now c.args.stores.now c.args.caller c.args.caller.cmd (found c.args.caller.session c.args.name.now)) (sym c.stop_by.ensures)
-    (none_found c.args.stores.now c.args.caller c.args.name.now c.no_table.result c.no_table.ensures c.requires
-    (λ h stands. sym (c.resolve.ensures h stands.all.txs stands.all.catalog) ∙ ap (option_map (λ (t : TableNo). t.number)) c.in-None.is))
+pub returns-in_ok-no_table-in-None-clause-step : goal.returns-in_ok-no_table-in-None-clause-step
+returns-in_ok-no_table-in-None-clause-step c =
+    none_found c.args.stores.now c.args.caller c.args.name.now c.in_ok-no_table-in-None.field-0 c.in_ok-no_table-in-None.ensures c.requires
+    (λ h stands. sym (c.resolve.ensures h stands.all.txs stands.all.catalog) ∙ ap (option_map (λ (t : TableNo). t.number)) c.in-None.is)

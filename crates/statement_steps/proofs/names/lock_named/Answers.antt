@@ -1,18 +1,17 @@
-use Rattle.pg_values.specs.declared.ids.TableNo.{TableNo}
 use Rattle.statement_steps.specs.Asks.{found, locked, kept_number}
 use Rattle.statement_steps.proofs.Parts.{number_done, number_stops}
-use Rattle.statement_steps.proofs.Steps.{then_step}
-use Rattle.std.proofs.Common.{Ok, Err}
+use Rattle.statement_steps.proofs.Steps.{goes, stops, handed_on}
 use Rattle.statement_steps.proofs.names.lock_named.Goals as goal
 
-pub returns-in-Ok-lock_table-clause-step : goal.returns-in-Ok-lock_table-clause-step
-returns-in-Ok-lock_table-clause-step c =
-    then_step (λ (t : TableNo). t.number) (λ (t : TableNo). t.number) c.in-Ok.table (Ok c.in-Ok.table) c.args.stores.now c.args.stores.now c.lock_table.new.stores c.args.caller c.args.caller.cmd
-    (found c.args.caller.session c.args.name.now) (λ t h. kept_number t (locked c.args.names.now c.args.caller.session t c.args.mode h)) c.in-Ok.ensures.step
-    (number_done c.in-Ok.table c.args.stores.now c.lock_table.new.stores c.args.caller c.args.caller.cmd (locked c.args.names.now c.args.caller.session c.in-Ok.table.number c.args.mode) c.in-Ok-lock_table.ensures.step)
+pub returns-in_err-table-clause-step : goal.returns-in_err-table-clause-step
+returns-in_err-table-clause-step c = handed_on c.from_residual.ensures.1 (stops (found c.args.caller.session c.args.name.now) (λ t h. kept_number t (locked c.args.names.now c.args.caller.session t c.args.mode h)) c.in_err-table.ensures.step)
 
-pub returns-in-Err-lock_table-clause-step : goal.returns-in-Err-lock_table-clause-step
-returns-in-Err-lock_table-clause-step c =
-    then_step (λ (t : TableNo). t.number) (λ (t : TableNo). t.number) c.in-Ok.table (Err c.in-Err-lock_table.stop) c.args.stores.now c.args.stores.now c.lock_table.new.stores c.args.caller c.args.caller.cmd
-    (found c.args.caller.session c.args.name.now) (λ t h. kept_number t (locked c.args.names.now c.args.caller.session t c.args.mode h)) c.in-Ok.ensures.step
-    (number_stops c.in-Ok.table c.in-Err-lock_table.stop c.args.stores.now c.lock_table.new.stores c.args.caller c.args.caller.cmd (locked c.args.names.now c.args.caller.session c.in-Ok.table.number c.args.mode) c.in-Err-lock_table.ensures.step)
+pub returns-in_err-lock_table-clause-step : goal.returns-in_err-lock_table-clause-step
+returns-in_err-lock_table-clause-step c =
+    handed_on c.from_residual-in_err-lock_table.ensures.1 (goes (found c.args.caller.session c.args.name.now) (λ t h. kept_number t (locked c.args.names.now c.args.caller.session t c.args.mode h)) c.in_ok-table.ensures.step
+    (number_stops c.in_ok-table.table _ _ _ c.args.caller c.args.caller.cmd _ c.in_err-lock_table.ensures.step))
+
+pub returns-clause-step : goal.returns-clause-step
+returns-clause-step c =
+    goes (found c.args.caller.session c.args.name.now) (λ t h. kept_number t (locked c.args.names.now c.args.caller.session t c.args.mode h)) c.in_ok-table.ensures.step
+    (number_done c.in_ok-table.table _ _ c.args.caller c.args.caller.cmd _ c.in_ok-lock_table.ensures.step)

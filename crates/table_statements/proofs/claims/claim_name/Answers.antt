@@ -1,4 +1,4 @@
-use Rattle.std.proofs.Common.{◌≡◌, None, Ok, Err, sym, ap, subst}
+use Rattle.std.proofs.Common.{◌≡◌, None, Ok, ap, subst}
 use Rattle.refusals.specs.Refusals.{table_is_there}
 use Rattle.part_ddl.specs.Tables.{name_faults}
 use Rattle.history.specs.History.{History}
@@ -7,36 +7,35 @@ use Rattle.part_catalog.specs.Stands.{CatalogueStands}
 use Rattle.tx_table.specs.Stands.{TableStands}
 use Rattle.stores.specs.declared.stores.Stores.{Stores}
 use Rattle.statement_steps.specs.Steps.{IsStep}
-use Rattle.statement_steps.proofs.Steps.{then_step, stop_step}
+use Rattle.statement_steps.proofs.Parts.{answered_done}
+use Rattle.statement_steps.proofs.Steps.{goes, handed_on, stops}
 use Rattle.table_statements.specs.Asked.{IsFree}
-use Rattle.table_statements.specs.Claims.{name_tested, name_waited, name_claimed}
+use Rattle.table_statements.specs.Claims.{name_tested, name_waited}
 use Rattle.table_statements.specs.Refused.{unless_faults}
 use Rattle.table_statements.proofs.Taken.{if_done}
-use Rattle.table_statements.proofs.Firsts.{stops_first, none_first, none_there, answered_done, answered_refused}
+use Rattle.table_statements.proofs.Firsts.{stops_first, none_first, none_there, answered_refused}
 use Rattle.table_statements.proofs.claims.claim_name.Goals as goal
-use Rattle.table_statements.proofs.claims.claim_name.Goals.{In-Ok}
+use Rattle.table_statements.proofs.claims.claim_name.Goals.{In_ok-check_name}
 
 -- no table of the name is there
-tests : (c : In-Ok) → IsStep (λ (u : Unit {0}). u) (Ok tt) c.args.stores.now c.args.stores.now c.args.caller c.args.caller.cmd (name_tested c.args.caller.session c.args.name.now)
+tests : (c : In_ok-check_name) → IsStep (λ (u : Unit {0}). u) (Ok tt) c.args.stores.now c.args.stores.now c.args.caller c.args.caller.cmd (name_tested c.args.caller.session c.args.name.now)
 tests c =
     answered_done (λ (u : Unit {0}). u) tt c.args.stores.now c.args.caller (λ h. unless_faults (name_faults h c.args.caller.session c.args.name.now) (Ok tt)) c.requires.may
-    (λ h stands. ap (λ fs. unless_faults fs (Ok tt)) (none_first (name_faults h c.args.caller.session c.args.name.now) tt (c.in-Ok.ensures h stands.all.txs stands.all.catalog)))
+    (λ h stands. ap (λ fs. unless_faults fs (Ok tt)) (none_first (name_faults h c.args.caller.session c.args.name.now) tt (c.in_ok-check_name.ensures h stands.all.txs stands.all.catalog)))
 
-pub returns-in-Ok-clause-step : goal.returns-in-Ok-clause-step
-returns-in-Ok-clause-step c =
-    then_step (λ (u : Unit {0}). u) (λ (u : Unit {0}). u) tt c.wait_for_name.result c.args.stores.now c.args.stores.now c.wait_for_name.new.stores c.args.caller c.args.caller.cmd
-    (name_tested c.args.caller.session c.args.name.now) (λ u. name_waited c.args.names.now c.args.caller.session c.args.name.now) (tests (goal.at.returns-in-Ok-clause-step c).In-Ok) c.wait_for_name.ensures.step
+pub returns-clause-step : goal.returns-clause-step
+returns-clause-step c =
+    goes (name_tested c.args.caller.session c.args.name.now) (λ u. name_waited c.args.names.now c.args.caller.session c.args.name.now) (tests (goal.at.returns-clause-step c).In_ok-check_name) c.wait_for_name.ensures.step
 
-pub returns-in-Err-clause-step : goal.returns-in-Err-clause-step
-returns-in-Err-clause-step c =
+pub returns-in_err-check_name-clause-step : goal.returns-in_err-check_name-clause-step
+returns-in_err-check_name-clause-step c =
     let s = c.args.caller.session in
-    subst (λ r. IsStep (λ (u : Unit {0}). u) (Err r) c.args.stores.now c.args.stores.now c.args.caller c.args.caller.cmd (name_claimed c.args.names.now s c.args.name.now)) (sym c.stop_by.ensures)
-    (stop_step (λ (u : Unit {0}). u) (λ (u : Unit {0}). u) _ c.args.stores.now c.args.stores.now c.args.caller c.args.caller.cmd c.args.caller.cmd (name_tested s c.args.name.now) (λ u. name_waited c.args.names.now s c.args.name.now)
-    (answered_refused (λ (u : Unit {0}). u) c.in-Err.refusal c.args.stores.now c.args.caller c.args.caller.cmd (λ h. unless_faults (name_faults h s c.args.name.now) (Ok tt)) c.requires.may
-    (λ h stands. stops_first (λ (u : Unit {0}). u) c.in-Err.refusal (name_faults h s c.args.name.now) (Ok tt) tt (c.in-Err.ensures h stands.all.txs stands.all.catalog))))
+    handed_on c.from_residual.ensures.1 (stops (name_tested s c.args.name.now) (λ u. name_waited c.args.names.now s c.args.name.now)
+    (answered_refused (λ (u : Unit {0}). u) c.in_err-check_name.field-0.0 c.args.stores.now c.args.caller c.args.caller.cmd (λ h. unless_faults (name_faults h s c.args.name.now) (Ok tt)) c.requires.may
+    (λ h stands. stops_first (λ (u : Unit {0}). u) c.in_err-check_name.field-0.0 (name_faults h s c.args.name.now) (Ok tt) tt (c.in_err-check_name.ensures h stands.all.txs stands.all.catalog))))
 
-pub returns-in-Ok-clause-free : goal.returns-in-Ok-clause-free
-returns-in-Ok-clause-free c =
+pub returns-clause-free : goal.returns-clause-free
+returns-clause-free c =
     let s = c.args.caller.session in
     let name = c.args.name.now in
     let new = c.wait_for_name.new.stores in
@@ -44,5 +43,5 @@ returns-in-Ok-clause-free c =
     (λ u unclaimed h txs catalog.
     let old_txs : TableStands c.args.stores.now.txs h = subst (λ (x : Stores). TableStands x.txs h) c.wait_for_name.ensures.rest txs in
     let old_catalog : CatalogueStands c.args.stores.now.catalog h = subst (λ (x : Stores). CatalogueStands x.catalog h) c.wait_for_name.ensures.rest catalog in
-    record { absent = none_there (resolved h s name) (table_is_there name) (none_first (name_faults h s name) tt (c.in-Ok.ensures h old_txs old_catalog)); unclaimed = unclaimed h txs catalog })
+    record { absent = none_there (resolved h s name) (table_is_there name) (none_first (name_faults h s name) tt (c.in_ok-check_name.ensures h old_txs old_catalog)); unclaimed = unclaimed h txs catalog })
     c.wait_for_name.ensures.unclaimed

@@ -1,5 +1,6 @@
 use Rattle.std.proofs.Common.{◌≡◌, ◌∷◌, [], List, rules, subst}
 use Rattle.pg_values.specs.declared.ids.TableNo.{TableNo}
+use Rattle.statement_steps.proofs.Steps.{handed_on}
 use Rattle.table_statements.proofs.Left.{IsGoneSoFar, none_gone, may_go, one_gone, gone_out, all_gone, no_tables}
 use Rattle.table_statements.proofs.drops.drop_all.Goals as goal
 use Rattle.table_statements.proofs.drops.drop_all.Goals.{In-Some-split_first}
@@ -20,10 +21,10 @@ drop_one-requires c =
 pub loop-table-preserved : goal.loop-table-preserved
 loop-table-preserved c =
     one_gone c.tree_is_whole.ensures c.args.stores.now c.loop-table.stores c.drop_one.new.stores c.args.caller c.in-Some.by c.args.tables.now c.in-Some-split_first.table.now c.in-Some-split_first.others.now
-    (at_table (goal.at.loop-table-preserved c).In-Some-split_first) c.drop_one.ensures.rest c.in-Ok.ensures.ok
+    (at_table (goal.at.loop-table-preserved c).In-Some-split_first) c.drop_one.ensures.rest c.in_ok-drop_one.ensures.ok
 
-pub returns-in-Err : goal.returns-in-Err
-returns-in-Err c = gone_out c.args.stores.now c.loop-table.stores c.drop_one.new.stores c.args.caller c.in-Some.by c.args.tables.now c.loop-table.left.now c.loop-table.invariant c.drop_one.ensures.rest
+pub returns-in_err-drop_one : goal.returns-in_err-drop_one
+returns-in_err-drop_one c = handed_on c.from_residual.ensures.1 (gone_out c.args.stores.now c.loop-table.stores c.drop_one.new.stores c.args.caller c.in-Some.by c.args.tables.now c.loop-table.left.now c.loop-table.invariant c.drop_one.ensures.rest)
 
 pub returns : goal.returns
 returns c =

@@ -1,9 +1,8 @@
-use Rattle.std.proofs.Common.{◌≡◌, ◌∷◌, [], List, ℕ, rules, sym, subst, Ok, Err}
+use Rattle.std.proofs.Common.{◌≡◌, ◌∷◌, [], List, ℕ, rules, sym, subst}
 use Rattle.pg_values.specs.declared.ids.TableNo.{TableNo}
-use Rattle.statement_steps.specs.Steps.{IsStep}
 use Rattle.statement_steps.proofs.Parts.{no_memory}
-use Rattle.statement_steps.proofs.Steps.{goes_on}
-use Rattle.table_statements.specs.Asked.{numbers, one_or_none}
+use Rattle.statement_steps.proofs.Steps.{goes_on, handed_on, moved}
+use Rattle.table_statements.specs.Asked.{numbers}
 use Rattle.table_statements.specs.Drops.{found_one, found_all}
 use Rattle.table_statements.proofs.Left.{IsLeft, all_left, one_less, stops_there, all_found, no_names}
 use Rattle.table_statements.proofs.drops.lock_all_to_drop.Goals as goal
@@ -29,21 +28,21 @@ lock_if_there-requires-clause-few c = c.loop-name.invariant.few
 pub loop-name-preserved : goal.loop-name-preserved
 loop-name-preserved c =
     let left = at_name (goal.at.loop-name-preserved c).In-Some in
-    let step = subst (λ (n : List ℕ). IsStep one_or_none (Ok c.in-Ok.table) c.loop-name.stores c.lock_if_there.new.stores c.args.caller c.args.caller.cmd (found_one c.args.names.now c.args.caller.session c.args.if_there n)) c.as_bytes.ensures c.in-Ok.ensures.step in
-    subst (λ (ts : List TableNo). IsLeft c.args.stores.now c.lock_if_there.new.stores c.args.caller c.args.names.now c.args.if_there c.args.tables.now c.in-Some.others.now ts) (sym c.in-Ok-push_if_some.ensures)
-    (one_less c.args.stores.now c.loop-name.stores c.lock_if_there.new.stores c.args.caller c.args.names.now c.args.if_there c.args.tables.now c.in-Some.name.now c.in-Some.others.now c.loop-name.found.items c.in-Ok.table
-    left step c.lock_if_there.ensures.rest c.in-Ok.ensures.drop)
+    let step = moved (found_one c.args.names.now c.args.caller.session c.args.if_there) _ _ c.as_bytes.ensures c.in_ok-table.ensures.step in
+    subst (λ (ts : List TableNo). IsLeft c.args.stores.now c.lock_if_there.new.stores c.args.caller c.args.names.now c.args.if_there c.args.tables.now c.in-Some.others.now ts) (sym c.in_ok-push_if_some.ensures)
+    (one_less c.args.stores.now c.loop-name.stores c.lock_if_there.new.stores c.args.caller c.args.names.now c.args.if_there c.args.tables.now c.in-Some.name.now c.in-Some.others.now c.loop-name.found.items c.in_ok-table.table
+    left step c.lock_if_there.ensures.rest c.in_ok-table.ensures.drop)
 
-pub returns-in-Err-push_if_some-clause-step : goal.returns-in-Err-push_if_some-clause-step
-returns-in-Err-push_if_some-clause-step c =
-    no_memory numbers c.args.stores.now c.lock_if_there.new.stores c.args.caller c.args.caller.cmd (found_all c.args.names.now c.args.caller.session c.args.if_there c.args.tables.now)
-    (goes_on c.args.stores.now c.loop-name.stores c.lock_if_there.new.stores c.args.caller.session c.loop-name.invariant.keeps c.lock_if_there.ensures.step.keeps)
+pub returns-in_err-push_if_some-clause-step : goal.returns-in_err-push_if_some-clause-step
+returns-in_err-push_if_some-clause-step c =
+    handed_on c.from_residual-in_err-push_if_some.ensures.1 (no_memory numbers c.args.stores.now c.lock_if_there.new.stores c.args.caller c.args.caller.cmd (found_all c.args.names.now c.args.caller.session c.args.if_there c.args.tables.now)
+    (goes_on c.args.stores.now c.loop-name.stores c.lock_if_there.new.stores c.args.caller.session c.loop-name.invariant.keeps c.lock_if_there.ensures.step.keeps))
 
-pub returns-in-Err-clause-step : goal.returns-in-Err-clause-step
-returns-in-Err-clause-step c =
-    let left = at_name (goal.at.returns-in-Err-clause-step c).In-Some in
-    let step = subst (λ (n : List ℕ). IsStep one_or_none (Err c.in-Err.stop) c.loop-name.stores c.lock_if_there.new.stores c.args.caller c.args.caller.cmd (found_one c.args.names.now c.args.caller.session c.args.if_there n)) c.as_bytes.ensures c.in-Err.ensures.step in
-    stops_there c.args.stores.now c.loop-name.stores c.lock_if_there.new.stores c.args.caller c.args.names.now c.args.if_there c.args.tables.now c.in-Some.name.now c.in-Some.others.now c.loop-name.found.items c.in-Err.stop left step
+pub returns-in_err-table-clause-step : goal.returns-in_err-table-clause-step
+returns-in_err-table-clause-step c =
+    let left = at_name (goal.at.returns-in_err-table-clause-step c).In-Some in
+    let step = moved (found_one c.args.names.now c.args.caller.session c.args.if_there) _ _ c.as_bytes.ensures c.in_err-table.ensures.step in
+    handed_on c.from_residual.ensures.1 (stops_there c.args.stores.now c.loop-name.stores c.lock_if_there.new.stores c.args.caller c.args.names.now c.args.if_there c.args.tables.now c.in-Some.name.now c.in-Some.others.now c.loop-name.found.items c.in_err-table.field-0.0 left step)
 
 -- nothing is left
 at_end : (c : In_default) → IsLeft c.args.stores.now c.loop-name.stores c.args.caller c.args.names.now c.args.if_there c.args.tables.now [] c.loop-name.found.items

@@ -7,51 +7,49 @@ use Rattle.statement_steps.specs.Asks.{all_locked}
 use Rattle.statement_steps.specs.Steps.{IsStep}
 use Rattle.statement_steps.specs.Known.{IsKnownTo}
 use Rattle.table_statements.specs.Asked.{MayDropTable}
-use Rattle.statement_steps.proofs.Parts.{stays, no_memory}
-use Rattle.table_statements.specs.Drops.{drop_locked}
+use Rattle.statement_steps.proofs.Parts.{out_here}
 use Rattle.table_statements.proofs.Below.{here_of, TreeLaws, to_lock_known, all_low}
 use Rattle.table_statements.proofs.Held.{tables_locked}
 use Rattle.table_statements.proofs.Left.{drop_step, locked_to_drop}
 use Rattle.table_statements.proofs.drops.lock_for.Goals as goal
-use Rattle.table_statements.proofs.drops.lock_for.Goals.{In-Ok}
+use Rattle.table_statements.proofs.drops.lock_for.Goals.{In_ok-tables}
 
 pub tables_to_lock-requires-clause-siblings : goal.tables_to_lock-requires-clause-siblings
 tables_to_lock-requires-clause-siblings c = c.trees_are_together.ensures c.args.stores.now c.requires.may.sound.0 c.args.caller.session c.requires.may.sound.1
 
-laws : (c : In-Ok) → TreeLaws
+laws : (c : In_ok-tables) → TreeLaws
 laws c = record { all = c.legal_keeps_all.ensures; listed = c.listed_is_there.ensures; known = c.there_is_known.ensures; whole = c.tree_is_whole.ensures }
 
 -- the tables are those that the session may ask for
-known : (c : In-Ok) → All (λ t. IsKnownTo c.args.stores.now c.args.caller.session t.number) c.in-Ok.tables.items
+known : (c : In_ok-tables) → All (λ t. IsKnownTo c.args.stores.now c.args.caller.session t.number) c.in_ok-tables.tables.items
 known c =
     let h = c.requires.may.sound.0 in
     let stands = c.requires.may.sound.1 in
     let here = here_of c.args.stores.now c.args.caller h c.requires.may stands in
-    let are = c.in-Ok.ensures h stands.all.txs stands.all.catalog in
+    let are = c.in_ok-tables.ensures h stands.all.txs stands.all.catalog in
     subst (λ (ts : List TableNo). All (λ t. IsKnownTo c.args.stores.now c.args.caller.session t.number) ts) (sym are) (to_lock_known (laws c) c.args.stores.now h c.args.caller.session here.0 c.args.table.number stands here.1 c.requires.known)
 
 pub lock_tables-requires-clause-known : goal.lock_tables-requires-clause-known
-lock_tables-requires-clause-known c = subst (λ (ts : List TableNo). All (λ t. t.number < 4096) ts) (sym c.deref.ensures.value) (all_low c.args.stores.now c.args.caller.session c.in-Ok.tables.items c.requires.few (known (goal.at.lock_tables-requires-clause-known c).In-Ok))
+lock_tables-requires-clause-known c = subst (λ (ts : List TableNo). All (λ t. t.number < 4096) ts) (sym c.deref.ensures.value) (all_low c.args.stores.now c.args.caller.session c.in_ok-tables.tables.items c.requires.few (known (goal.at.lock_tables-requires-clause-known c).In_ok-tables))
 
 pub lock_tables-requires-clause-there : goal.lock_tables-requires-clause-there
-lock_tables-requires-clause-there c = subst (λ (ts : List TableNo). All (λ t. IsKnownTo c.args.stores.now c.args.caller.session t.number) ts) (sym c.deref.ensures.value) (known (goal.at.lock_tables-requires-clause-there c).In-Ok)
+lock_tables-requires-clause-there c = subst (λ (ts : List TableNo). All (λ t. IsKnownTo c.args.stores.now c.args.caller.session t.number) ts) (sym c.deref.ensures.value) (known (goal.at.lock_tables-requires-clause-there c).In_ok-tables)
 
-pub returns-in-Ok-clause-step : goal.returns-in-Ok-clause-step
-returns-in-Ok-clause-step c =
+pub returns-clause-step : goal.returns-clause-step
+returns-clause-step c =
     drop_step c.args.names.now c.lock_tables.result c.args.stores.now c.lock_tables.new.stores c.args.caller c.args.table.number c.deref.result.now
-    (λ h txs catalog. c.deref.ensures.value ∙ c.in-Ok.ensures h txs catalog) c.lock_tables.ensures.step
+    (λ h txs catalog. c.deref.ensures.value ∙ c.in_ok-tables.ensures h txs catalog) c.lock_tables.ensures.step
 
 -- what is locked may be dropped
-locks : (c : In-Ok) (new : Stores) (tables : List TableNo) (r : Result (Unit {0}) Stop) → tables ≡ c.in-Ok.tables.items → new ≡ record c.args.stores.now { locks = new.locks }
+locks : (c : In_ok-tables) (new : Stores) (tables : List TableNo) (r : Result (Unit {0}) Stop) → tables ≡ c.in_ok-tables.tables.items → new ≡ record c.args.stores.now { locks = new.locks }
     → IsStep (λ (u : Unit {0}). u) r c.args.stores.now new c.args.caller c.args.caller.cmd (all_locked c.args.names.now c.args.caller.session AccessExclusive (map (λ t. t.number) tables)) → IfOk r (λ u. MayDropTable new c.args.caller.session c.args.table)
 locks c new tables (Ok u) are rest step =
-    locked_to_drop (laws c) c.args.stores.now new c.args.caller c.args.table tables c.requires.may rest c.requires.known.made (λ h txs catalog. are ∙ c.in-Ok.ensures h txs catalog)
+    locked_to_drop (laws c) c.args.stores.now new c.args.caller c.args.table tables c.requires.may rest c.requires.known.made (λ h txs catalog. are ∙ c.in_ok-tables.ensures h txs catalog)
     (tables_locked c.args.names.now c.args.stores.now new c.args.caller tables c.requires.may step)
 locks c new tables (Err e) are rest step = tt
 
-pub returns-in-Ok-clause-drop : goal.returns-in-Ok-clause-drop
-returns-in-Ok-clause-drop c = locks (goal.at.returns-in-Ok-clause-drop c).In-Ok c.lock_tables.new.stores c.deref.result.now c.lock_tables.result c.deref.ensures.value c.lock_tables.ensures.rest c.lock_tables.ensures.step
+pub returns-clause-drop : goal.returns-clause-drop
+returns-clause-drop c = locks (goal.at.returns-clause-drop c).In_ok-tables c.lock_tables.new.stores c.deref.result.now c.lock_tables.result c.deref.ensures.value c.lock_tables.ensures.rest c.lock_tables.ensures.step
 
-pub returns-in-Err-clause-step : goal.returns-in-Err-clause-step
-returns-in-Err-clause-step c =
-    no_memory (λ (u : Unit {0}). u) c.args.stores.now c.args.stores.now c.args.caller c.args.caller.cmd (drop_locked c.args.names.now c.args.caller.session c.args.table.number) (stays c.args.stores.now c.args.caller.session)
+pub returns-in_err-tables-clause-step : goal.returns-in_err-tables-clause-step
+returns-in_err-tables-clause-step c = out_here c.from_residual.ensures.1

@@ -3,7 +3,7 @@ use Rattle.std.proofs.lemmas.List.{nil_from_length}
 use Rattle.pg_values.specs.declared.ids.TableNo.{TableNo}
 use Rattle.sql_ast.specs.declared.locked_table.LockedTable.{LockedTable}
 use Rattle.statement_steps.proofs.Parts.{no_memory}
-use Rattle.statement_steps.proofs.Steps.{goes_on}
+use Rattle.statement_steps.proofs.Steps.{goes_on, handed_on}
 use Rattle.table_statements.specs.Locked.{all_named}
 use Rattle.table_statements.specs.SeenLocks.{numbers}
 use Rattle.table_statements.proofs.Finding.{IsLeft, all_left, one_less, stops_there, all_found, rest_same}
@@ -29,26 +29,26 @@ lock_one-requires-clause-few c = c.loop-table.invariant.few
 
 pub loop-table-preserved : goal.loop-table-preserved
 loop-table-preserved c =
-    subst (λ (ts : List TableNo). IsLeft c.args.stores.now c.lock_one.new.stores c.args.caller c.args.names.now c.args.mode c.args.tables.now c.in-Some.others.now ts) (sym c.in-Ok-push_if_some.ensures)
-    (one_less c.args.stores.now c.loop-table.stores c.lock_one.new.stores c.args.caller c.args.names.now c.args.mode c.args.tables.now c.in-Some.table.now c.in-Some.others.now c.loop-table.whole.items c.in-Ok.found
-    (at_table (goal.at.loop-table-preserved c).In-Some) c.in-Ok.ensures.step c.in-Ok.ensures.known c.lock_one.ensures.rest)
+    subst (λ (ts : List TableNo). IsLeft c.args.stores.now c.lock_one.new.stores c.args.caller c.args.names.now c.args.mode c.args.tables.now c.in-Some.others.now ts) (sym c.in_ok-push_if_some.ensures)
+    (one_less c.args.stores.now c.loop-table.stores c.lock_one.new.stores c.args.caller c.args.names.now c.args.mode c.args.tables.now c.in-Some.table.now c.in-Some.others.now c.loop-table.whole.items c.in_ok-found.found
+    (at_table (goal.at.loop-table-preserved c).In-Some) c.in_ok-found.ensures.step c.in_ok-found.ensures.known c.lock_one.ensures.rest)
 
-pub returns-in-Err-push_if_some-clause-step : goal.returns-in-Err-push_if_some-clause-step
-returns-in-Err-push_if_some-clause-step c =
-    no_memory numbers c.args.stores.now c.lock_one.new.stores c.args.caller c.args.caller.cmd (all_named c.args.names.now c.args.caller.session c.args.mode c.args.tables.now)
-    (goes_on c.args.stores.now c.loop-table.stores c.lock_one.new.stores c.args.caller.session c.loop-table.invariant.keeps c.lock_one.ensures.step.keeps)
+pub returns-in_err-push_if_some-clause-step : goal.returns-in_err-push_if_some-clause-step
+returns-in_err-push_if_some-clause-step c =
+    handed_on c.from_residual-in_err-push_if_some.ensures.1 (no_memory numbers c.args.stores.now c.lock_one.new.stores c.args.caller c.args.caller.cmd (all_named c.args.names.now c.args.caller.session c.args.mode c.args.tables.now)
+    (goes_on c.args.stores.now c.loop-table.stores c.lock_one.new.stores c.args.caller.session c.loop-table.invariant.keeps c.lock_one.ensures.step.keeps))
 
-pub returns-in-Err-clause-step : goal.returns-in-Err-clause-step
-returns-in-Err-clause-step c =
-    stops_there c.args.stores.now c.loop-table.stores c.lock_one.new.stores c.args.caller c.args.names.now c.args.mode c.args.tables.now c.in-Some.table.now c.in-Some.others.now c.loop-table.whole.items c.in-Err.stop
-    (at_table (goal.at.returns-in-Err-clause-step c).In-Some) c.in-Err.ensures.step
+pub returns-in_err-found-clause-step : goal.returns-in_err-found-clause-step
+returns-in_err-found-clause-step c =
+    handed_on c.from_residual.ensures.1 (stops_there c.args.stores.now c.loop-table.stores c.lock_one.new.stores c.args.caller c.args.names.now c.args.mode c.args.tables.now c.in-Some.table.now c.in-Some.others.now c.loop-table.whole.items c.in_err-found.field-0.0
+    (at_table (goal.at.returns-in_err-found-clause-step c).In-Some) c.in_err-found.ensures.step)
 
 -- the locks alone are changed
-pub returns-in-Err-push_if_some-clause-rest : goal.returns-in-Err-push_if_some-clause-rest
-returns-in-Err-push_if_some-clause-rest c = rest_same c.args.stores.now c.loop-table.stores c.lock_one.new.stores c.loop-table.invariant.rest c.lock_one.ensures.rest
+pub returns-in_err-push_if_some-clause-rest : goal.returns-in_err-push_if_some-clause-rest
+returns-in_err-push_if_some-clause-rest c = rest_same c.args.stores.now c.loop-table.stores c.lock_one.new.stores c.loop-table.invariant.rest c.lock_one.ensures.rest
 
-pub returns-in-Err-clause-rest : goal.returns-in-Err-clause-rest
-returns-in-Err-clause-rest c = rest_same c.args.stores.now c.loop-table.stores c.lock_one.new.stores c.loop-table.invariant.rest c.lock_one.ensures.rest
+pub returns-in_err-found-clause-rest : goal.returns-in_err-found-clause-rest
+returns-in_err-found-clause-rest c = rest_same c.args.stores.now c.loop-table.stores c.lock_one.new.stores c.loop-table.invariant.rest c.lock_one.ensures.rest
 
 -- nothing is left
 at_end : (c : In_default) → IsLeft c.args.stores.now c.loop-table.stores c.args.caller c.args.names.now c.args.mode c.args.tables.now [] c.loop-table.whole.items

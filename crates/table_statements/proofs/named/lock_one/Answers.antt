@@ -1,19 +1,17 @@
-use Rattle.std.proofs.Common.{List, ℕ, subst, Ok, Err}
-use Rattle.pg_values.specs.declared.ids.TableNo.{TableNo}
 use Rattle.statement_steps.specs.Asks.{named}
-use Rattle.statement_steps.specs.Steps.{IsStep}
+use Rattle.statement_steps.proofs.Steps.{handed_on, moved}
 use Rattle.table_statements.proofs.Finding.{one_found, one_stops, one_known}
 use Rattle.table_statements.proofs.named.lock_one.Goals as goal
 
-pub returns-in-Ok-clause-step : goal.returns-in-Ok-clause-step
-returns-in-Ok-clause-step c =
-    one_found c.args.names.now c.args.mode c.args.table.now c.in-Ok.found c.unless_only.result c.args.stores.now c.lock_named.new.stores c.args.caller c.unless_only.ensures.told c.requires.may
-    (subst (λ (n : List ℕ). IsStep (λ (t : TableNo). t.number) (Ok c.in-Ok.found) c.args.stores.now c.lock_named.new.stores c.args.caller c.args.caller.cmd (named c.args.names.now c.args.caller.session c.args.mode n)) c.as_bytes.ensures c.in-Ok.ensures.step)
+pub returns-clause-step : goal.returns-clause-step
+returns-clause-step c =
+    one_found c.args.names.now c.args.mode c.args.table.now c.in_ok-found.found c.unless_only.result c.args.stores.now c.lock_named.new.stores c.args.caller c.unless_only.ensures.told c.requires.may
+    (moved (named c.args.names.now c.args.caller.session c.args.mode) _ _ c.as_bytes.ensures c.in_ok-found.ensures.step)
 
-pub returns-in-Ok-clause-known : goal.returns-in-Ok-clause-known
-returns-in-Ok-clause-known c = one_known c.lock_named.new.stores c.args.caller.session c.in-Ok.found c.unless_only.result c.unless_only.ensures.same c.in-Ok.ensures.known
+pub returns-clause-known : goal.returns-clause-known
+returns-clause-known c = one_known c.lock_named.new.stores c.args.caller.session c.in_ok-found.found c.unless_only.result c.unless_only.ensures.same c.in_ok-found.ensures.known
 
-pub returns-in-Err-clause-step : goal.returns-in-Err-clause-step
-returns-in-Err-clause-step c =
-    one_stops c.args.names.now c.args.mode c.args.table.now c.in-Err.stop c.args.stores.now c.lock_named.new.stores c.args.caller
-    (subst (λ (n : List ℕ). IsStep (λ (t : TableNo). t.number) (Err c.in-Err.stop) c.args.stores.now c.lock_named.new.stores c.args.caller c.args.caller.cmd (named c.args.names.now c.args.caller.session c.args.mode n)) c.as_bytes.ensures c.in-Err.ensures.step)
+pub returns-in_err-found-clause-step : goal.returns-in_err-found-clause-step
+returns-in_err-found-clause-step c =
+    handed_on c.from_residual.ensures.1 (one_stops c.args.names.now c.args.mode c.args.table.now c.in_err-found.field-0.0 c.args.stores.now c.lock_named.new.stores c.args.caller
+    (moved (named c.args.names.now c.args.caller.session c.args.mode) _ _ c.as_bytes.ensures c.in_err-found.ensures.step))

@@ -1,7 +1,4 @@
-use Rattle.std.proofs.Common.{◌+◌, sym, subst, Err}
-use Rattle.statement_steps.specs.Steps.{IsStep}
-use Rattle.table_statements.specs.Seen.{seen_place}
-use Rattle.table_statements.specs.Partitions as partitions
+use Rattle.statement_steps.proofs.Steps.{handed_on}
 use Rattle.table_statements.proofs.Placing.{PartitionLaws, may_make, partition_step, partition_not_made}
 use Rattle.table_statements.proofs.partitions.make_placed.Goals as goal
 
@@ -9,8 +6,8 @@ pub make_partition-requires : goal.make_partition-requires
 make_partition-requires c =
     may_make c.sessions_have_siblings.ensures c.args.stores.now c.args.caller c.args.parent.number c.args.place.bound c.args.place.level c.in-Some.by c.requires.may c.in-Some.ensures.is c.requires.parent c.requires.placed
 
-pub returns-in-Ok : goal.returns-in-Ok
-returns-in-Ok c =
+pub returns : goal.returns
+returns c =
     let laws : PartitionLaws = record {
       tables = record { leaf = c.new_leaf_may_follow.ensures; level = c.new_level_may_follow.ensures; housed = c.leaves_are_housed.ensures };
       partition = c.new_partition_may_follow.ensures;
@@ -19,10 +16,9 @@ returns-in-Ok c =
       siblings = c.sessions_have_siblings.ensures;
       none = c.none_breaks.ensures;
     } in
-    partition_step laws c.args.stores.now c.make_partition.new.rows c.make_partition.new.catalog c.args.caller c.args.name c.args.parent.number c.args.place.bound c.args.place.level c.in-Some.by c.in-Ok.field-0
-    c.requires.may c.requires.parent c.requires.default c.requires.clean c.requires.free c.requires.placed c.in-Some.ensures.is c.in-Ok.ensures
+    partition_step laws c.args.stores.now c.make_partition.new.rows c.make_partition.new.catalog c.args.caller c.args.name c.args.parent.number c.args.place.bound c.args.place.level c.in-Some.by c.in_ok-make_partition.field-0
+    c.requires.may c.requires.parent c.requires.default c.requires.clean c.requires.free c.requires.placed c.in-Some.ensures.is c.in_ok-make_partition.ensures
 
-pub returns-in-Err : goal.returns-in-Err
-returns-in-Err c =
-    subst (λ r. IsStep (λ (u : Unit {0}). u) (Err r) c.args.stores.now (record c.args.stores.now { rows = c.make_partition.new.rows; catalog = c.make_partition.new.catalog }) c.args.caller (c.args.caller.cmd + 1) (partitions.partition_made c.args.caller c.args.name c.args.parent.number (seen_place c.args.place))) (sym c.stop_by.ensures)
-    (partition_not_made c.args.stores.now c.make_partition.new.rows c.make_partition.new.catalog c.args.caller c.args.name c.args.parent.number c.args.place.bound c.args.place.level c.in-Some.by c.in-Err.refusal c.requires.may c.requires.free c.in-Err.ensures)
+pub returns-in_err-make_partition : goal.returns-in_err-make_partition
+returns-in_err-make_partition c =
+    handed_on c.from_residual.ensures.1 (partition_not_made c.args.stores.now c.make_partition.new.rows c.make_partition.new.catalog c.args.caller c.args.name c.args.parent.number c.args.place.bound c.args.place.level c.in-Some.by c.in_err-make_partition.field-0.0 c.requires.may c.requires.free c.in_err-make_partition.ensures)

@@ -1,6 +1,7 @@
 use Rattle.std.proofs.Common.{rules, ◌≡◌, ◌∷◌, [], subst}
 use Rattle.std.proofs.lemmas.List.{nil_from_length}
 use Rattle.table_statements.proofs.Locking.{IsLeft, all_left, next_known, one_less, stops_there, none_left}
+use Rattle.statement_steps.proofs.Steps.{handed_on}
 use Rattle.table_statements.proofs.under.lock_all_below.Goals as goal
 use Rattle.table_statements.proofs.under.lock_all_below.Goals.{In-Some}
 
@@ -23,15 +24,15 @@ pub lock_below-requires-clause-known : goal.lock_below-requires-clause-known
 lock_below-requires-clause-known c =
     next_known c.args.stores.now c.loop-table.stores c.args.caller c.args.names.now c.args.mode c.args.tables.now c.in-Some.table.now c.in-Some.others.now (at_table (goal.at.lock_below-requires-clause-known c).In-Some)
 
-pub returns-in-Err : goal.returns-in-Err
-returns-in-Err c =
-    stops_there c.args.stores.now c.loop-table.stores c.lock_below.new.stores c.args.caller c.args.names.now c.args.mode c.args.tables.now c.in-Some.table.now c.in-Some.others.now c.in-Err.stop
-    (at_table (goal.at.returns-in-Err c).In-Some) c.in-Err.ensures.step
+pub returns-in_err-lock_below : goal.returns-in_err-lock_below
+returns-in_err-lock_below c =
+    handed_on c.from_residual.ensures.1 (stops_there c.args.stores.now c.loop-table.stores c.lock_below.new.stores c.args.caller c.args.names.now c.args.mode c.args.tables.now c.in-Some.table.now c.in-Some.others.now c.in_err-lock_below.field-0.0
+    (at_table (goal.at.returns-in_err-lock_below c).In-Some) c.in_err-lock_below.ensures.step)
 
 pub loop-table-preserved : goal.loop-table-preserved
 loop-table-preserved c =
     one_less c.args.stores.now c.loop-table.stores c.lock_below.new.stores c.args.caller c.args.names.now c.args.mode c.args.tables.now c.in-Some.table.now c.in-Some.others.now
-    (at_table (goal.at.loop-table-preserved c).In-Some) c.in-Ok.ensures.step c.lock_below.ensures.rest
+    (at_table (goal.at.loop-table-preserved c).In-Some) c.in_ok-lock_below.ensures.step c.lock_below.ensures.rest
 
 pub returns : goal.returns
 returns c =

@@ -1,7 +1,7 @@
 ghost use Rattle.std.specs.Prelude.{◌≡◌, ◌++◌, IfOk, OnOk};
 ghost use Rattle.row_router.specs.Seen.{seen};
 ghost use Rattle.legal_statements.specs.Below.{tables_in};
-ghost use Rattle.select_statement.specs.Below.{below};
+ghost use Rattle.statement_steps.specs.Below.{below};
 
 use pg_values::{NoMemory, TableNo};
 use row_router::{Shape, Tree};

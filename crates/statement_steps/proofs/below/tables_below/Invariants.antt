@@ -2,8 +2,8 @@ use Rattle.std.proofs.Common.{◌≡◌, ◌++◌, map, drop}
 use Rattle.row_router.specs.Trees.{trees_of}
 use Rattle.row_router.specs.Seen.{seen}
 use Rattle.legal_statements.specs.Below.{all_tables}
-use Rattle.select_statement.specs.Below.{below}
-use Rattle.select_statement.proofs.below.tables_below.Given as goal
+use Rattle.statement_steps.specs.Below.{below}
+use Rattle.statement_steps.proofs.below.tables_below.Given as goal
 
 abbrev pub invariant-loop-child : goal.invariant-loop-child
 invariant-loop-child l =

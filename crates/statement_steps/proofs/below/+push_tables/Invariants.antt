@@ -2,7 +2,7 @@ use Rattle.std.proofs.Common.{◌≡◌, ◌++◌, map, drop}
 use Rattle.row_router.specs.Trees.{trees_of}
 use Rattle.row_router.specs.Seen.{seen}
 use Rattle.legal_statements.specs.Below.{tables_in, all_tables}
-use Rattle.select_statement.proofs.below.+push_tables.Given as goal
+use Rattle.statement_steps.proofs.below.+push_tables.Given as goal
 
 abbrev pub invariant-loop-child : goal.invariant-loop-child
 invariant-loop-child l =

@@ -1,5 +1,5 @@
 -- The tables under a table (the manual, 5.11.2 Declarative Partitioning).
-use Rattle.std.specs.Prelude.{ℕ, List, [], map}
+use Rattle.std.specs.Prelude.{ℕ, List, []}
 use Rattle.pg_values.specs.declared.ids.TableNo.{TableNo}
 use Rattle.row_router.specs.Trees.{TableTree, LeafTable, LevelTable}
 use Rattle.legal_statements.specs.Below.{all_tables}
@@ -11,6 +11,3 @@ below (LevelTable node level bounds kids) = all_tables kids
 
 abbrev pub number_of : TableNo → ℕ
 number_of t = t.number
-
-abbrev pub numbers_below : TableTree → List ℕ
-numbers_below tree = map number_of (below tree)
