@@ -1,7 +1,9 @@
 pub mod Conditions
 pub mod Inserts
 pub mod Names
+pub mod Once
 pub mod Operands
+pub mod Rewritten
 pub mod Selects
 pub mod Settings
 pub mod Statements

@@ -11,6 +11,7 @@ use Rattle.cond_logic.specs.declared.cond.ColumnId.{ColumnId}
 use Rattle.cond_logic.specs.declared.cond.Operand.{Operand}
 use Rattle.cond_logic.specs.declared.cond.Operand.TheVariants.{Column, Lit, Param as Argument}
 use Rattle.cond_logic.specs.Scalars.{ScalarTree, column, literal, table_name, computes, cancels}
+use Rattle.cond_logic.specs.Rewriting.{pushed, negation, with_args}
 use Rattle.cond_logic.specs.Trees.{CondTree, CondTrees, no_more, and_more, all_of, any_of, inverted, compares, null_test, known}
 use Rattle.expression_binder.specs.declared.scope.Param.{Param}
 use Rattle.expression_binder.specs.Conditions.{cond_faults}
@@ -88,3 +89,15 @@ OperandsFit = (s : Scope) (t : Tree) (x : ScalarTree) → IsSound s → operand_
 
 abbrev pub ConditionsFit : Type 0
 ConditionsFit = (s : Scope) (t : Tree) → IsSound s → cond_faults s t ≡ [] → constant_faults s t ≡ [] → Fits s.items s.params (meaning s t)
+
+-- and fits as well once NOT is pushed inwards, as does its negation
+abbrev pub PushedFit : Type 0
+PushedFit = (items : List Item) (params : List Param) (c : CondTree) → Fits items params c → Fits items params (pushed c) × Fits items params (negation c)
+
+-- each value that is given for a parameter is of its kind, or null
+abbrev pub ValuesFit : List Param → List Value → Type 0
+ValuesFit params args = (i : ℕ) (p : Param) (v : Value) → slice_get params i ≡ Some p → slice_get args i ≡ Some v → IsOf v p.kind
+
+-- and with values in the places of parameters
+abbrev pub GivenFit : Type 0
+GivenFit = (items : List Item) (params : List Param) (args : List Value) (c : CondTree) → ValuesFit params args → Fits items params c → Fits items params (with_args args c)

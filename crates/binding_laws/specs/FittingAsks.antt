@@ -1,5 +1,5 @@
 -- What statements ask for fits their tables.
-use Rattle.std.specs.Prelude.{◌≡◌, ◌<◌, ℕ, nat_le, true, List, [], ◌∷◌, Option, Some, None, Ok, length}
+use Rattle.std.specs.Prelude.{◌≡◌, ◌≢◌, ◌<◌, ℕ, nat_le, true, List, [], ◌∷◌, Option, Some, None, Ok, length, map}
 use Rattle.pg_values.specs.declared.value.Kind.{Kind}
 use Rattle.pg_values.specs.declared.value.Value.{Value}
 use Rattle.sql_ast.specs.Expressions.{Tree, Trees}
@@ -63,3 +63,19 @@ InsertsFit = (columns : List ScopeColumn) (params : List Param) (session : ℕ) 
 
 abbrev pub ChangesFit : Type 0
 ChangesFit = (item : Item) (params : List Param) (session : ℕ) (ws : List Setting) (cond : Option Tree) (m : ChangeMeant) → ArgumentsFit params → nat_le session 2147483647 ≡ true → bound_change item params session ws cond ≡ Ok m → ChangeFits item params m
+
+-- ---- columns that are set come once
+
+abbrev pub IsAbsent : ℕ → List ℕ → Type 0
+IsAbsent p [] = Unit {0}
+IsAbsent p (q ∷ qs) = (p ≢ q) × IsAbsent p qs
+
+abbrev pub ComeOnce : List ℕ → Type 0
+ComeOnce [] = Unit {0}
+ComeOnce (p ∷ ps) = IsAbsent p ps × ComeOnce ps
+
+abbrev pub InsertsOnce : Type 0
+InsertsOnce = (columns : List ScopeColumn) (params : List Param) (session : ℕ) (names : Option (List (List ℕ))) (rows : List Trees) (m : InsertMeant) → bound_insert columns params session names rows ≡ Ok m → ComeOnce m.columns
+
+abbrev pub ChangesOnce : Type 0
+ChangesOnce = (item : Item) (params : List Param) (session : ℕ) (ws : List Setting) (cond : Option Tree) (m : ChangeMeant) → bound_change item params session ws cond ≡ Ok m → ComeOnce (map (λ w. w.column) m.settings)

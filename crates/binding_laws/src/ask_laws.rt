@@ -1,4 +1,4 @@
-ghost use Rattle.binding_laws.specs.FittingAsks.{ChangesFit, InsertsFit, SelectsFit};
+ghost use Rattle.binding_laws.specs.FittingAsks.{ChangesFit, ChangesOnce, InsertsFit, InsertsOnce, SelectsFit};
 
 /// What a SELECT asks for fits the items of its FROM.
 pub fn selects_fit()
@@ -13,4 +13,10 @@ pub fn inserts_fit()
 /// What an UPDATE or a DELETE asks for fits its table.
 pub fn changes_fit()
     ensures { ChangesFit }
+{}
+
+/// No column is set twice.
+pub fn columns_come_once()
+    ensures inserts { InsertsOnce }
+    ensures changes { ChangesOnce }
 {}

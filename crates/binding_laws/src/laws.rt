@@ -1,4 +1,4 @@
-ghost use Rattle.binding_laws.specs.Fitting.{ConditionsFit, OperandsFit};
+ghost use Rattle.binding_laws.specs.Fitting.{ConditionsFit, GivenFit, OperandsFit, PushedFit};
 
 /// An operand that is bound has its kind, and its columns lie in their items.
 pub fn operands_fit()
@@ -9,4 +9,10 @@ pub fn operands_fit()
 /// that may be compared.
 pub fn conditions_fit()
     ensures { ConditionsFit }
+{}
+
+/// So do they where NOT is pushed inwards, or where values stand in the places of parameters.
+pub fn rewritten_conditions_fit()
+    ensures pushed { PushedFit }
+    ensures given { GivenFit }
 {}

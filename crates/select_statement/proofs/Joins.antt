@@ -1,5 +1,5 @@
 -- What the scans of a plan read.
-use Rattle.std.proofs.Common.{◌≡◌, ℕ, ◌+◌, ◌<◌, ◌&&◌, arith, Bool, true, false, if◌then◌else◌, List, [], ◌∷◌, ◌++◌, inl, inr, length, map, refl, sym, ap, subst, ◌∙◌, append-nil, append_assoc}
+use Rattle.std.proofs.Common.{◌≡◌, ℕ, ◌+◌, ◌<◌, ◌&&◌, arith, Bool, true, false, if◌then◌else◌, List, [], ◌∷◌, ◌++◌, ⊎_elim, length, map, refl, sym, ap, subst, ◌∙◌, append-nil, append_assoc}
 use Rattle.std.specs.Prelude.{All, filter}
 use Rattle.std.specs.List.{Contains, flat_map}
 use Rattle.std.specs.List.Sorted.{IsPermutation}
@@ -10,12 +10,17 @@ use Rattle.std.proofs.lemmas.List.Sorted.{IsPermutation-refl, IsPermutation-tran
 use Rattle.pg_values.specs.declared.ids.LeafId.{LeafId}
 use Rattle.bound_forms.specs.declared.level.Level.{Level}
 use Rattle.bound_forms.specs.declared.partition_bound.Bound.{Bound}
+use Rattle.bound_forms.specs.declared.partition_bound.Bound.TheVariants.{Default}
 use Rattle.row_router.specs.Trees.{TableTree, LeafTable, LevelTable, Trees, End, More}
 use Rattle.cond_logic.specs.Trees.{CondTree}
 use Rattle.cond_logic.specs.Tables.{Leaf}
 use Rattle.cond_logic.specs.Tuples.{Places}
+use Rattle.prune_steps.specs.Atoms.{asked}
+use Rattle.prune_steps.specs.Kept.{kept}
+use Rattle.plan_tree.specs.Beside.{beside}
+use Rattle.plan_tree.specs.Conditions.{all_hold}
 use Rattle.plan_tree.specs.Conjuncts.{pool, asked_at, asked_later}
-use Rattle.plan_tree.specs.Kept.{Keeps, id_of, leaf_of, keeps_plain, leaves_below, leaves_among, kept_leaves}
+use Rattle.plan_tree.specs.Kept.{Keeps, id_of, leaf_of, no_keys, keeps_plain, leaves_below, leaves_among, kept_leaves}
 use Rattle.plan_tree.specs.Laws.{Rows}
 use Rattle.plan_tree.specs.Plans.{PlannedItem, Planned, keeps_first, keeps_beside, is_joined, is_empty, is_none, item_for, items_from, kept_beside, leaves_for, plan_for}
 use Rattle.select_answer.specs.Tuples.{Tuple, Mark, Reads, Gives, no_tuple, passes, tuples_in, given_marks, leaf_marks, scan_marks, for_each, joined, tuples_of, reads_in}
@@ -121,20 +126,20 @@ module _ (keeps wide : Keeps) (wider : (level : Level) (bounds : List Bound) (b 
     among test more to bs End l h = h
     among test more to [] (More k ks) l h = h
     among test more to (b ∷ bs) (More k ks) l h =
-        elim (Contains-append_cases (if test b then leaves_below keeps k else []) (leaves_among keeps test bs ks) l h) [
-          | inl here ↦ Contains-append_left (if more b then leaves_below wide k else []) (leaves_among wide more bs ks) l (by (test b) refl here)
-          | inr there ↦ Contains-append_right (if more b then leaves_below wide k else []) (leaves_among wide more bs ks) l (among test more to bs ks l there)
-        ]
+        ⊎_elim
+        (λ here. Contains-append_left (if more b then leaves_below wide k else []) (leaves_among wide more bs ks) l (by (test b) refl (below k l) here))
+        (λ there. Contains-append_right (if more b then leaves_below wide k else []) (leaves_among wide more bs ks) l (among test more to bs ks l there))
+        (Contains-append_cases (if test b then leaves_below keeps k else []) (leaves_among keeps test bs ks) l h)
       where
-        by : (v : Bool) → test b ≡ v → Contains (if v then leaves_below keeps k else []) l → Contains (if more b then leaves_below wide k else []) l
-        by true is here = subst (λ w. Contains (if w then leaves_below wide k else []) l) (sym (to b is)) (below k l here)
-        by false is here = nothing l here
+        by : (v : Bool) → test b ≡ v → (Contains (leaves_below keeps k) l → Contains (leaves_below wide k) l) → Contains (if v then leaves_below keeps k else []) l → Contains (if more b then leaves_below wide k else []) l
+        by true is within here = subst (λ w. Contains (if w then leaves_below wide k else []) l) (sym (to b is)) (within here)
+        by false is within here = nothing l here
 
   kept_within : (tree : TableTree) (l : Leaf) → Contains (kept_leaves keeps tree) l → Contains (kept_leaves wide tree) l
   kept_within (LeafTable node leaf) l h = by (keeps_plain keeps) refl h
     where
       by : (v : Bool) → keeps_plain keeps ≡ v → Contains (if v then leaf_of node leaf ∷ [] else []) l → Contains (if keeps_plain wide then leaf_of node leaf ∷ [] else []) l
-      by true is here = subst (λ w. Contains (if w then leaf_of node leaf ∷ [] else []) l) (sym (wider _ _ _ is)) here
+      by true is here = subst (λ w. Contains (if w then leaf_of node leaf ∷ [] else []) l) (sym (wider no_keys (Default ∷ []) Default is)) here
       by false is here = nothing l here
   kept_within (LevelTable node level bounds kids) l h = below (LevelTable node level bounds kids) l h
 
@@ -147,7 +152,7 @@ of_item false n cs tree rows l h = h
 of_item true n cs tree rows l h = by (is_joined n cs) h
   where
     by : (v : Bool) → Contains (if v then kept_leaves (keeps_beside n rows cs) tree else kept_leaves (keeps_first true n cs) tree) l → Contains (kept_leaves (keeps_first true n cs) tree) l
-    by true here = kept_within (keeps_beside n rows cs) (keeps_first true n cs) (λ level bounds b. first_of_two _ _) tree l here
+    by true here = kept_within (keeps_beside n rows cs) (keeps_first true n cs) (λ level bounds b. first_of_two (kept (asked n level) bounds [] (all_hold cs) b) (kept (asked n level) bounds [] (beside n rows (all_hold cs)) b)) tree l here
     by false here = here
 
 -- ---- what holds of the leaves under the scans holds of those that are read

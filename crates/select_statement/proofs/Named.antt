@@ -1,12 +1,14 @@
 -- The names of a plan are those of the binder.
-use Rattle.std.proofs.Common.{◌≡◌, ℕ, zero, suc, ◌+◌, ◌<◌, arith, Bool, true, false, if◌then◌else◌, List, [], ◌∷◌, Option, Some, None, length, map, get_or, position, slice_get, refl, sym, ap, ◌∙◌}
+use Rattle.std.proofs.Common.{◌≡◌, ℕ, zero, suc, ◌+◌, ◌<◌, arith, Bool, true, false, if◌then◌else◌, List, [], ◌∷◌, Option, Some, None, length, map, get_or, position, slice_get, slice_index_or, refl, sym, ap, ◌∙◌}
 use Rattle.std.specs.Str.{bytes_eq}
 use Rattle.std.proofs.lemmas.List.{get_or-map}
 use Rattle.std.proofs.lemmas.List.Quantifiers.{position-Some}
 use Rattle.std.proofs.lemmas.Slice.Eq.{bytes_eq-Decides}
+use Rattle.pg_values.specs.declared.value.Kind.TheVariants.{Text as KText}
 use Rattle.history.specs.declared.catalogue.Column.{Column}
 use Rattle.row_router.specs.Trees.{TableTree}
 use Rattle.sql_ast.specs.Queries.{Joined}
+use Rattle.sql_binder.specs.From.{item_name as name_of}
 use Rattle.expression_binder.specs.declared.naming.Hit.{Hit}
 use Rattle.expression_binder.specs.declared.naming.Lookup.{Lookup}
 use Rattle.expression_binder.specs.declared.naming.Lookup.TheVariants.{Missing, One, Several}
@@ -24,12 +26,15 @@ place_called : (name : List ℕ) (cs : List ScopeColumn) (p : ℕ) → position 
 place_called name [] p h = cc
 place_called name (c ∷ cs) p h =
     let is = position-Some (is_called name) (c ∷ cs) p c h in
-    get_or-map (λ x. x.name) (c ∷ cs) p c [] is.0 ∙ (bytes_eq-Decides (get_or (c ∷ cs) p c).name name).0 is.1
+    get_or-map (λ (x : ScopeColumn). x.name) (c ∷ cs) p c [] is.0 ∙ (bytes_eq-Decides (get_or (c ∷ cs) p c).name name).0 is.1
 
 -- a hit in an item is of its number, and stands where the item has the name
 pub record IsHit (item : Item) (name : List ℕ) (h : Hit) : Type 0 where
   pub number : h.column.item ≡ item.number
   pub called : get_or (map (λ c. c.name) item.columns) h.column.position [] ≡ name
+
+abbrev hit : Item → ℕ → Hit
+hit item place = record { column = record { item = item.number; position = place }; kind = slice_index_or (map (λ c. c.kind) item.columns) place KText }
 
 hit_called : (item : Item) (name : List ℕ) (h : Hit) → hit_in item name ≡ Some h → IsHit item name h
 hit_called item name h e = by (position (is_called name) item.columns) refl e
@@ -37,15 +42,17 @@ hit_called item name h e = by (position (is_called name) item.columns) refl e
     by : (o : Option ℕ) → position (is_called name) item.columns ≡ o → hit_at item o ≡ Some h → IsHit item name h
     by None p q = cc
     by (Some place) p q =
-        let number : h.column.item ≡ item.number = cc in
-        let position : h.column.position ≡ place = cc in
-        record { number = number; called = ap (λ k. get_or (map (λ c. c.name) item.columns) k []) position ∙ place_called name item.columns place p }
+        let same : hit item place ≡ h = cc in
+        record {
+          number = ap (λ (x : Hit). x.column.item) (sym same);
+          called = ap (λ (x : Hit). get_or (map (λ c. c.name) item.columns) x.column.position []) (sym same) ∙ place_called name item.columns place p;
+        }
 
 -- ---- an item
 
 -- the item of the plan at the place where the binder has this one
-pub record IsNamed (number place : ℕ) (item : Item) (named : Option NamedItem) : Type 0 where
-  pub number : item.number ≡ number + place
+pub record IsNamed (start place : ℕ) (item : Item) (named : Option NamedItem) : Type 0 where
+  pub number : item.number ≡ start + place
   pub name : name_in named ≡ item.name
   pub columns : columns_in named ≡ map (λ c. c.name) item.columns
 
@@ -57,10 +64,13 @@ named_at : (k : ℕ) (from : List Joined) (trees : List TableTree) (m : ℕ) (it
 named_at k [] trees m item e = cc
 named_at k (j ∷ js) [] m item e = cc
 named_at k (j ∷ js) (tree ∷ trees) zero item e =
-    let number : item.number ≡ k = cc in
-    let name : item.name ≡ (named_item j tree).name = cc in
-    let columns : item.columns ≡ map column_named (node_of tree).columns = cc in
-    record { number = omega (arith, number); name = sym name; columns = column_names (node_of tree).columns ∙ ap (map (λ c. c.name)) (sym columns) }
+    let same : item_of k (name_of j) tree ≡ item = cc in
+    let number : item.number ≡ k = ap (λ (x : Item). x.number) (sym same) in
+    record {
+      number = omega (arith, number);
+      name = ap (λ (x : Item). x.name) same;
+      columns = column_names (node_of tree).columns ∙ ap (λ (x : Item). map (λ c. c.name) x.columns) same;
+    }
 named_at k (j ∷ js) (tree ∷ trees) (suc m) item e =
     let is = named_at (k + 1) js trees m item e in
     let number = is.number in
@@ -75,14 +85,14 @@ module _ (from : List Joined) (trees : List TableTree) where
   printed_at : (m : ℕ) (item : Item) (name : List ℕ) (h : Hit) → slice_get (items_of 0 from trees) m ≡ Some item → hit_in item name ≡ Some h → ArePrinted item name h
   printed_at m item name h at e =
       let its = named_at 0 from trees m item at in
-      let hit = hit_called item name h e in
-      let a = hit.number in
+      let found = hit_called item name h e in
+      let a = found.number in
       let b = its.number in
       let place : h.column.item ≡ m = omega (arith, a, b) in
       record {
         item_is = ap (λ n. name_in (slice_get (named_items from trees) n)) place ∙ its.name;
         column_is = ap (λ n. get_or (columns_in (slice_get (named_items from trees) n)) h.column.position []) place
-            ∙ ap (λ cs. get_or cs h.column.position []) its.columns ∙ hit.called;
+            ∙ ap (λ cs. get_or cs h.column.position []) its.columns ∙ found.called;
       }
 
 -- ---- where a name is looked up

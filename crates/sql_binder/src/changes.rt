@@ -87,7 +87,7 @@ fn check_setting(
     check_new_value(alloc, item, names, assignment)
 }
 
-#[tactic(auto, using(crate::proofs::Earlier::setting_step))]
+#[tactic(auto, using(crate::proofs::EarlierColumns::setting_step))]
 fn check_settings(
     alloc: Global,
     item: &ScopeItem,

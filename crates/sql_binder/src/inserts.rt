@@ -123,7 +123,7 @@ fn places_of(
     Ok(places)
 }
 
-#[tactic(auto, using(crate::proofs::Steps::first_next))]
+#[tactic(auto, using(crate::proofs::Places::first_next))]
 fn first_places(alloc: Global, count: usize) -> Result<Vec<usize>, NoMemory>
     ensures { IfOk result (λ v. v.items ≡ inserts.from_to 0 count) }
 {

@@ -7,7 +7,7 @@ use Rattle.pg_values.specs.declared.session_set.SessionSet.{SessionSet}
 use Rattle.pg_values.specs.declared.session_list.SessionList.{SessionList}
 use Rattle.pg_values.specs.Lists.{listed}
 use Rattle.pg_values.specs.Sets.{has, sessions}
-use Rattle.pg_values.specs.Refusals.{IsAnswer}
+use Rattle.pg_values.specs.Refusals.{IsAnswer as IsAnswerOr}
 use Rattle.pg_values.specs.declared.fault.Fault.{Fault}
 use Rattle.pg_values.specs.declared.fault.Refusal.{Refusal}
 use Rattle.pg_values.specs.declared.fault.Refusal.TheVariants.{Sql, NoMemory}
@@ -99,7 +99,7 @@ pub answered_done : {X T : Type 0} (view : X → T) (x : X) (stores : Stores) (c
     → IsStep view (Ok x) stores stores caller caller.cmd (λ h. answered (wanted h))
 answered_done view x stores caller wanted may is = nothing_done view x stores caller (λ h. answered (wanted h)) may (λ h stands. ap answered (is h stands))
 
-pub answered_refused : {X T : Type 0} (view : X → T) (r : Refusal) (stores : Stores) (caller : Caller) (n : ℕ) (wanted : History → Result T Fault) → MayAttempt stores caller → ((h : History) → Stands stores h → IsAnswer {T = T} (Err r) (wanted h))
+pub answered_refused : {X T : Type 0} (view : X → T) (r : Refusal) (stores : Stores) (caller : Caller) (n : ℕ) (wanted : History → Result T Fault) → MayAttempt stores caller → ((h : History) → Stands stores h → IsAnswerOr {T = T} (Err r) (wanted h))
     → IsStep view (Err (stop_of r)) stores stores caller n (λ h. answered (wanted h))
 answered_refused view (Sql f) stores caller n wanted may is = refused_here view f stores caller n (λ h. answered (wanted h)) may (λ h stands. ap answered (is h stands))
 answered_refused view NoMemory stores caller n wanted may is = no_memory view stores stores caller n (λ h. answered (wanted h)) (stays stores caller.session)

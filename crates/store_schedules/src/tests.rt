@@ -3,9 +3,7 @@ use cond_logic::{
     push_not,
 };
 use grammar::Refused;
-use grammar::example::{
-    Entry, SampleSampleKind as Sort, Token, no_list_has_two_values, parse_entries,
-};
+use grammar::example::{Entry, SampleKind as Sort, Token, no_list_has_two_values, parse_entries};
 use pg_values::{
     DayKey, IntKey, KeyKind, Kind, LeafId, NoMemory, PgText, Row, TextKey, TruthKey, Value,
     ValueKey, Which,

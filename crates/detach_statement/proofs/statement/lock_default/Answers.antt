@@ -1,5 +1,6 @@
 use Rattle.std.proofs.Common.{◌∙◌, sym, arith}
 use Rattle.statement_steps.specs.Known.{IsKnownTo}
+use Rattle.statement_steps.proofs.Parts.{out_here}
 use Rattle.detach_statement.proofs.Defaults.{default_known}
 use Rattle.detach_statement.proofs.statement.lock_default.Goals as goal
 use Rattle.detach_statement.proofs.statement.lock_default.Goals.{In-Some}
@@ -22,3 +23,6 @@ lock_table-requires-clause-known c =
 
 pub lock_table-requires-clause-there : goal.lock_table-requires-clause-there
 lock_table-requires-clause-there c = known (goal.at.lock_table-requires-clause-there c).In-Some
+
+pub returns-in_err-default-clause-step : goal.returns-in_err-default-clause-step
+returns-in_err-default-clause-step c = out_here c.from_residual.ensures.1

@@ -2,7 +2,7 @@ use Rattle.std.proofs.Common.{◌≤◌, length, subst, sym}
 use Rattle.sql_ast.specs.Queries.{select_tree}
 use Rattle.stores.specs.declared.stores.Stores.{Stores}
 use Rattle.statement_steps.specs.Steps.{follow}
-use Rattle.statement_steps.proofs.Steps.{goes, handed_on, may_go_on, stops}
+use Rattle.statement_steps.proofs.Steps.{goes, handed_on, may_go_on, out_behind, stops}
 use Rattle.select_statement.specs.Explained.{printed}
 use Rattle.select_statement.specs.Gathered.{Found, found_by, gathered, planned_under}
 use Rattle.select_statement.specs.Selected.{begins}
@@ -41,4 +41,14 @@ returns c =
     let g = found_by c.in_ok-found.found in
     goes (begins c.args.caller) (λ u. follow (gathered names c.args.caller t) (λ (x : Found). follow (planned_under c.args.prunes names c.args.caller x) (printed t x))) c.in_ok-hold_if_repeatable.ensures.step
     (goes (gathered names c.args.caller t) (λ (x : Found). follow (planned_under c.args.prunes names c.args.caller x) (printed t x)) c.in_ok-found.ensures.step
-    (goes (planned_under c.args.prunes names c.args.caller g) (printed t g) c.in_ok-plan.ensures.step c.tell.ensures))
+    (goes (planned_under c.args.prunes names c.args.caller g) (printed t g) c.in_ok-plan.ensures.step
+    (printed_done c.in_ok-table.table _ c.args.caller t g _
+    (may_go_on _ _ _ _ _ _ (may_go_on _ _ _ _ _ _ (may_go_on _ _ _ _ _ _ c.requires.may c.in_ok-hold_if_repeatable.ensures.step) c.in_ok-found.ensures.step) c.in_ok-plan.ensures.step) c.in_ok-table.ensures)))
+
+pub returns-in_err-table : goal.returns-in_err-table
+returns-in_err-table c =
+    let names = c.args.names.now in
+    let t = select_tree c.args.select.now in
+    goes (begins c.args.caller) (λ u. follow (gathered names c.args.caller t) (λ (x : Found). follow (planned_under c.args.prunes names c.args.caller x) (printed t x))) c.in_ok-hold_if_repeatable.ensures.step
+    (goes (gathered names c.args.caller t) (λ (x : Found). follow (planned_under c.args.prunes names c.args.caller x) (printed t x)) c.in_ok-found.ensures.step
+    (out_behind c.from_residual-in_err-table.ensures.1 c.in_ok-plan.ensures.step))

@@ -4,7 +4,7 @@ use Rattle.sql_ast.specs.Queries.{select_tree}
 use Rattle.sql_binder.specs.Selects.{from_of}
 use Rattle.cond_logic.specs.Asked.{select_meant}
 use Rattle.statement_steps.specs.Made.{made}
-use Rattle.statement_steps.proofs.Parts.{nothing_done}
+use Rattle.statement_steps.proofs.Parts.{nothing_done, out_here}
 use Rattle.statement_steps.proofs.Steps.{goes, handed_on, stops}
 use Rattle.statement_steps.specs.Below.{number_of}
 use Rattle.select_statement.specs.Gathered.{found_by}
@@ -35,3 +35,9 @@ returns-clause-few c = subst (λ ts. length ts ≤ 4) c.deref.ensures.value c.in
 
 pub returns-clause-each : goal.returns-clause-each
 returns-clause-each c = as_many c.args.stores.now c.args.caller seen c.in_ok-trees.trees.items c.args.tables.now c.requires.may c.in_ok-trees.ensures.trees ∙ c.requires.each
+
+pub returns-in_err-snap-clause-step : goal.returns-in_err-snap-clause-step
+returns-in_err-snap-clause-step c = out_here c.from_residual.ensures.1
+
+pub returns-in_err-trees-clause-step : goal.returns-in_err-trees-clause-step
+returns-in_err-trees-clause-step c = out_here c.from_residual-in_err-trees.ensures.1

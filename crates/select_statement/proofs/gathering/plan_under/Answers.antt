@@ -5,7 +5,7 @@ use Rattle.cond_logic.specs.Asked.{select_meant}
 use Rattle.plan_tree.specs.Plans.{plan_for, planned, plan_tables}
 use Rattle.statement_steps.specs.Made.{made}
 use Rattle.statement_steps.specs.Steps.{IsStep}
-use Rattle.statement_steps.proofs.Parts.{nothing_done}
+use Rattle.statement_steps.proofs.Parts.{nothing_done, out_here}
 use Rattle.statement_steps.proofs.Steps.{goes, handed_on, may_go_on, moved, stops}
 use Rattle.select_statement.specs.Gathered.{found_by, plan_of}
 use Rattle.select_statement.specs.Lent.{IsTreeFor, MayLock}
@@ -57,3 +57,9 @@ returns-clause-few c =
     as_planned seen c.args.prunes (select_meant c.args.found.now.ask).conditions c.args.found.now.trees.items _
     (c.in_ok-plan.ensures ∙ ap (λ cs. plan_for c.args.prunes (map cond_tree cs) (map seen c.deref-2.result.now)) c.deref.ensures.value
     ∙ ap (λ ts. plan_for c.args.prunes (select_meant c.args.found.now.ask).conditions (map seen ts)) c.deref-2.ensures.value) c.requires.few
+
+pub returns-in_err-plan-clause-step : goal.returns-in_err-plan-clause-step
+returns-in_err-plan-clause-step c = out_here c.from_residual.ensures.1
+
+pub returns-in_err-tables-clause-step : goal.returns-in_err-tables-clause-step
+returns-in_err-tables-clause-step c = out_here c.from_residual-in_err-tables.ensures.1

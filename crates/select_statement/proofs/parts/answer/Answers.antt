@@ -2,7 +2,7 @@ use Rattle.std.proofs.Common.{Err, Ok, refl}
 use Rattle.cond_logic.specs.Asked.{select_meant}
 use Rattle.plan_tree.specs.Plans.{planned}
 use Rattle.select_statement.proofs.Steps.{answer_done, answer_refused, read_for_it, told_for}
-use Rattle.select_statement.specs.Selected.{told_by}
+use Rattle.statement_steps.proofs.Parts.{out_here}
 use Rattle.statement_steps.proofs.Steps.{handed_on}
 use Rattle.select_statement.proofs.parts.answer.Goals as goal
 
@@ -16,3 +16,6 @@ pub returns-in_err-answer : goal.returns-in_err-answer
 returns-in_err-answer c =
     handed_on c.from_residual-in_err-answer.ensures.1 (answer_refused c.in_err-answer.field-0.0 c.args.stores.now c.args.caller (select_meant c.args.ask.now) (planned c.args.plan.now) c.args.snap.now c.requires.may c.requires.look
     (told_for (Err c.in_err-answer.field-0.0) c.args.stores.now c.args.caller (select_meant c.args.ask.now) (planned c.args.plan.now) c.args.snap.now _ _ _ refl refl c.in_ok-trail.ensures.0 c.in_err-answer.ensures.answer))
+
+pub returns-in_err-trail : goal.returns-in_err-trail
+returns-in_err-trail c = out_here c.from_residual.ensures.1

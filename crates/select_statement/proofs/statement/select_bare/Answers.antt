@@ -4,7 +4,7 @@ use Rattle.sql_ast.specs.Queries.{select_tree}
 use Rattle.cond_logic.specs.Trees.{cond_tree}
 use Rattle.cond_logic.specs.Asked.{select_meant}
 use Rattle.plan_tree.specs.Plans.{Planned, CanRead, plan_for}
-use Rattle.statement_steps.proofs.Steps.{goes, handed_on, may_go_on, moved, stops}
+use Rattle.statement_steps.proofs.Steps.{goes, handed_on, may_go_on, moved, out_behind, stops}
 use Rattle.select_statement.specs.Cancels.{cancels_itself}
 use Rattle.select_statement.specs.Selected.{begins, meant, bare, answered, bare_plan, uncancelled}
 use Rattle.select_statement.proofs.Steps.{cancelled_here, not_cancelled}
@@ -43,3 +43,12 @@ returns c =
     (goes (meant c.args.caller (select_tree c.args.select.now) []) (λ m. uncancelled (cancels_itself c.args.caller.session (c.args.caller.sessions - 1) m) (answered c.args.caller m (bare_plan m))) c.in_ok-ask.ensures
     (not_cancelled (cancels_itself c.args.caller.session (c.args.caller.sessions - 1) m) (answered c.args.caller m (bare_plan m)) (sym c.in_ok-is_cancelled.ensures ∙ c.if-is_cancelled.false)
     (moved (answered c.args.caller m) _ _ (c.in_ok-plan.ensures ∙ ap (λ cs. plan_for false (map cond_tree cs) []) c.deref.ensures.value) c.answer.ensures)))
+
+pub returns-in_err-snap : goal.returns-in_err-snap
+returns-in_err-snap c = out_behind c.from_residual-in_err-snap.ensures.1 c.in_ok-hold_if_repeatable.ensures.step
+
+pub returns-in_err-plan : goal.returns-in_err-plan
+returns-in_err-plan c = out_behind c.from_residual-in_err-plan.ensures.1 c.in_ok-hold_if_repeatable.ensures.step
+
+pub returns-in_err-is_cancelled : goal.returns-in_err-is_cancelled
+returns-in_err-is_cancelled c = out_behind c.from_residual-in_err-is_cancelled.ensures.1 c.in_ok-hold_if_repeatable.ensures.step

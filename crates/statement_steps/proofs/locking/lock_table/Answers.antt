@@ -1,6 +1,9 @@
+use Rattle.lock_table.specs.declared.asked.Asked.TheVariants.{Deadlock}
 use Rattle.std.proofs.Common.{subst, None}
 use Rattle.history.specs.declared.wait.Wanted.TheVariants.{Lock}
-use Rattle.statement_steps.proofs.Parts.{HasAsked, has_asked, known_in, granted_step, waiting_step, closing_step}
+use Rattle.statement_steps.specs.Asks.{locked}
+use Rattle.statement_steps.proofs.Parts.{HasAsked, has_asked, known_in, granted_step, waiting_step, closing_step, asked_and_out}
+use Rattle.statement_steps.proofs.Steps.{handed_on}
 use Rattle.statement_steps.proofs.locking.lock_table.Goals as goal
 
 pub returns-in-Granted-clause-step : goal.returns-in-Granted-clause-step
@@ -23,3 +26,10 @@ returns-in_ok-deadlock_of-in-Deadlock-clause-step c =
     (subst (HasAsked c.args.stores.now c.request-answer.new.self c.args.caller (Lock c.args.table c.args.mode)) c.in-Deadlock.is
     (has_asked c.args.stores.now c.request-answer.new.self c.args.caller (Lock c.args.table c.args.mode) c.request-answer.result c.requires.may (λ h stands. c.request-answer.ensures.good h stands (known_in c.args.stores.now h c.args.caller.session c.args.table.number stands c.requires.there))
     c.request-answer.ensures.answer c.answer_is_told.ensures.view c.answer_is_told.ensures.history c.request-answer.ensures.waits c.request-answer.ensures.others c.request-answer.ensures.size c.request-answer.ensures.rest))
+
+pub returns-in_err-deadlock_of-in-Deadlock-clause-step : goal.returns-in_err-deadlock_of-in-Deadlock-clause-step
+returns-in_err-deadlock_of-in-Deadlock-clause-step c =
+    handed_on c.from_residual.ensures.1 (asked_and_out (λ (u : Unit {0}). u) c.args.stores.now c.request-answer.new.self c.args.caller (Lock c.args.table c.args.mode) (Deadlock c.in-Deadlock.cycle) c.args.caller.cmd (locked c.args.names.now c.args.caller.session c.args.table.number c.args.mode) c.requires.may
+    (subst (HasAsked c.args.stores.now c.request-answer.new.self c.args.caller (Lock c.args.table c.args.mode)) c.in-Deadlock.is
+    (has_asked c.args.stores.now c.request-answer.new.self c.args.caller (Lock c.args.table c.args.mode) c.request-answer.result c.requires.may (λ h stands. c.request-answer.ensures.good h stands (known_in c.args.stores.now h c.args.caller.session c.args.table.number stands c.requires.there))
+    c.request-answer.ensures.answer c.answer_is_told.ensures.view c.answer_is_told.ensures.history c.request-answer.ensures.waits c.request-answer.ensures.others c.request-answer.ensures.size c.request-answer.ensures.rest)))

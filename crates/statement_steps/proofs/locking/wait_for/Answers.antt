@@ -1,6 +1,9 @@
+use Rattle.lock_table.specs.declared.asked.Asked.TheVariants.{Deadlock}
 use Rattle.std.proofs.Common.{subst}
 use Rattle.history.specs.declared.wait.Wanted.TheVariants.{Others}
-use Rattle.statement_steps.proofs.Parts.{HasAsked, has_asked, granted_step, waiting_step, closing_step}
+use Rattle.statement_steps.specs.Asks.{waited}
+use Rattle.statement_steps.proofs.Parts.{HasAsked, has_asked, granted_step, waiting_step, closing_step, asked_and_out}
+use Rattle.statement_steps.proofs.Steps.{handed_on}
 use Rattle.statement_steps.proofs.locking.wait_for.Goals as goal
 
 pub returns-in-Granted-clause-step : goal.returns-in-Granted-clause-step
@@ -23,3 +26,10 @@ returns-in_ok-deadlock_of-in-Deadlock-clause-step c =
     (subst (HasAsked c.args.stores.now c.wait_on-answer.new.self c.args.caller (Others c.args.what)) c.in-Deadlock.is
     (has_asked c.args.stores.now c.wait_on-answer.new.self c.args.caller (Others c.args.what) c.wait_on-answer.result c.requires.may c.wait_on-answer.ensures.good
     c.wait_on-answer.ensures.answer c.answer_is_told.ensures.view c.answer_is_told.ensures.history c.wait_on-answer.ensures.waits c.wait_on-answer.ensures.others c.wait_on-answer.ensures.size c.wait_on-answer.ensures.rest))
+
+pub returns-in_err-deadlock_of-in-Deadlock-clause-step : goal.returns-in_err-deadlock_of-in-Deadlock-clause-step
+returns-in_err-deadlock_of-in-Deadlock-clause-step c =
+    handed_on c.from_residual.ensures.1 (asked_and_out (λ (u : Unit {0}). u) c.args.stores.now c.wait_on-answer.new.self c.args.caller (Others c.args.what) (Deadlock c.in-Deadlock.cycle) c.args.caller.cmd (waited c.args.names.now c.args.caller.session c.args.what c.args.rest) c.requires.may
+    (subst (HasAsked c.args.stores.now c.wait_on-answer.new.self c.args.caller (Others c.args.what)) c.in-Deadlock.is
+    (has_asked c.args.stores.now c.wait_on-answer.new.self c.args.caller (Others c.args.what) c.wait_on-answer.result c.requires.may c.wait_on-answer.ensures.good
+    c.wait_on-answer.ensures.answer c.answer_is_told.ensures.view c.answer_is_told.ensures.history c.wait_on-answer.ensures.waits c.wait_on-answer.ensures.others c.wait_on-answer.ensures.size c.wait_on-answer.ensures.rest)))
