@@ -1,7 +1,11 @@
 use Rattle.std.proofs.Common.{◌≡◌, ◌∙◌, false, None, ap, sym, subst}
 use Rattle.pg_values.specs.Sets.{has}
 use Rattle.pg_values.specs.declared.session_set.SessionSet.{SessionSet}
+use Rattle.history.specs.History.{History}
 use Rattle.history.specs.declared.wait.WaitOn.TheVariants.{Ends}
+use Rattle.part_catalog.specs.Found.{taken_by}
+use Rattle.part_catalog.specs.Stands.{CatalogueStands}
+use Rattle.tx_table.specs.Stands.{TableStands}
 use Rattle.statement_steps.specs.Asks.{waited}
 use Rattle.statement_steps.proofs.Parts.{nothing_done}
 use Rattle.statement_steps.proofs.Steps.{moved, same_step}
@@ -42,5 +46,6 @@ returns-in-Some-clause-unclaimed c =
     let h = c.requires.may.sound.0 in
     let stands = c.requires.may.sound.1 in
     let opened = taken_is_open h c.args.caller.session c.args.name.now c.in-Some.other stands.all.txs.sound stands.good (sym (c.name_taken_by.ensures h stands.all.txs stands.all.catalog) ∙ c.in-Some.is) in
-    never_done c.args.names.now c.wait_for.result c.args.stores.now c.wait_for.new.stores c.args.caller c.in-Some.other _ c.requires.may (is_seat c.args.stores.now c.args.caller h c.in-Some.other opened.0 c.requires.may stands opened.1)
+    never_done c.args.names.now c.wait_for.result c.args.stores.now c.wait_for.new.stores c.args.caller c.in-Some.other
+    (λ u. (h : History) → TableStands c.wait_for.new.stores.txs h → CatalogueStands c.wait_for.new.stores.catalog h → taken_by h c.args.caller.session c.args.name.now ≡ None) c.requires.may (is_seat c.args.stores.now c.args.caller h c.in-Some.other opened.0 c.requires.may stands opened.1)
     (moved (λ (o : SessionSet). waited c.args.names.now c.args.caller.session (Ends o) None) _ _ c.only-set.ensures c.wait_for.ensures.step)
