@@ -1,5 +1,6 @@
 use Rattle.std.proofs.Common.{◌≤◌, length, subst, sym}
 use Rattle.sql_ast.specs.Queries.{select_tree}
+use Rattle.plan_tree.specs.Plans.{planned}
 use Rattle.stores.specs.declared.stores.Stores.{Stores}
 use Rattle.statement_steps.specs.Steps.{follow}
 use Rattle.statement_steps.proofs.Steps.{goes, handed_on, may_go_on, out_behind, stops}
@@ -42,7 +43,7 @@ returns c =
     goes (begins c.args.caller) (λ u. follow (gathered names c.args.caller t) (λ (x : Found). follow (planned_under c.args.prunes names c.args.caller x) (printed t x))) c.in_ok-hold_if_repeatable.ensures.step
     (goes (gathered names c.args.caller t) (λ (x : Found). follow (planned_under c.args.prunes names c.args.caller x) (printed t x)) c.in_ok-found.ensures.step
     (goes (planned_under c.args.prunes names c.args.caller g) (printed t g) c.in_ok-plan.ensures.step
-    (printed_done c.in_ok-table.table _ c.args.caller t g _
+    (printed_done c.in_ok-table.table c.plan_under.new.stores c.args.caller t g (planned c.in_ok-plan.plan)
     (may_go_on _ _ _ _ _ _ (may_go_on _ _ _ _ _ _ (may_go_on _ _ _ _ _ _ c.requires.may c.in_ok-hold_if_repeatable.ensures.step) c.in_ok-found.ensures.step) c.in_ok-plan.ensures.step) c.in_ok-table.ensures)))
 
 pub returns-in_err-table : goal.returns-in_err-table

@@ -44,8 +44,8 @@ check_parent-requires-clause-known c =
     (named_locked c.args.names.now c.hold_if_repeatable.new.stores c.lock_named.new.stores c.args.caller c.args.parent.now c.in_ok-parent.parent (may_go_on _ _ _ _ _ _ c.requires.may c.in_ok-hold_if_repeatable.ensures.step) c.lock_named.ensures.rest c.in_ok-parent.ensures.known
     (moved (named c.args.names.now c.args.caller.session AccessExclusive) _ _ c.as_bytes.ensures c.in_ok-parent.ensures.step))).made
 
-pub claim_name-requires-clause-may : goal.claim_name-requires-clause-may
-claim_name-requires-clause-may c = may_go_on _ _ _ _ _ _ (may_go_on _ _ _ _ _ _ (may_go_on _ _ _ _ _ _ c.requires.may c.in_ok-hold_if_repeatable.ensures.step) c.in_ok-parent.ensures.step) c.in_ok-lock_default.ensures.step
+pub claim_name-requires : goal.claim_name-requires
+claim_name-requires c = may_go_on _ _ _ _ _ _ (may_go_on _ _ _ _ _ _ (may_go_on _ _ _ _ _ _ c.requires.may c.in_ok-hold_if_repeatable.ensures.step) c.in_ok-parent.ensures.step) c.in_ok-lock_default.ensures.step
 
 pub place_found-requires-clause-may : goal.place_found-requires-clause-may
 place_found-requires-clause-may c = may_go_on _ _ _ _ _ _ (may_go_on _ _ _ _ _ _ (may_go_on _ _ _ _ _ _ (may_go_on _ _ _ _ _ _ c.requires.may c.in_ok-hold_if_repeatable.ensures.step) c.in_ok-parent.ensures.step) c.in_ok-lock_default.ensures.step) c.in_ok-claim_name.ensures.step

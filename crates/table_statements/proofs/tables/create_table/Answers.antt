@@ -10,8 +10,8 @@ use Rattle.table_statements.specs.Seen.{seen_plan}
 use Rattle.table_statements.specs.Tables as tables
 use Rattle.table_statements.proofs.tables.create_table.Goals as goal
 
-pub claim_name-requires-clause-may : goal.claim_name-requires-clause-may
-claim_name-requires-clause-may c = may_go_on _ _ _ _ _ _ c.requires c.in_ok-hold_if_repeatable.ensures.step
+pub claim_name-requires : goal.claim_name-requires
+claim_name-requires c = may_go_on _ _ _ _ _ _ c.requires c.in_ok-hold_if_repeatable.ensures.step
 
 pub planned-requires : goal.planned-requires
 planned-requires c = may_go_on _ _ _ _ _ _ (may_go_on _ _ _ _ _ _ c.requires c.in_ok-hold_if_repeatable.ensures.step) c.in_ok-claim_name.ensures.step
