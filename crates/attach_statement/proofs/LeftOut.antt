@@ -1,8 +1,9 @@
 -- What it says that the rows of the table need not be judged.
-use Rattle.std.proofs.Common.{◌≡◌, ℕ, ◌<◌, ◌==◌, ◌&&◌, ◌||◌, not, Bool, true, false, List, [], ◌∷◌, ◌++◌, inl, refl, sym, ap, ◌∙◌, subst, arith, Option, Some, None, Result, Ok, Err, length, map, slice_index_or}
+use Rattle.std.proofs.Common.{◌≡◌, ℕ, ◌<◌, ◌==◌, ◌&&◌, ◌||◌, not, Bool, true, false, List, [], ◌∷◌, ◌++◌, inl, inr, refl, sym, ap, ◌∙◌, subst, arith, Option, Some, None, Result, Ok, Err, length, map, slice_index_or}
 use Rattle.std.specs.Prelude.{IfOk, IsSome, is_some, is_none}
 use Rattle.std.specs.List.{Contains, list_any}
 use Rattle.std.proofs.lemmas.Bool.{and_parts, cases_Bool}
+use Rattle.std.proofs.lemmas.Bool.Decides.{nat_tests}
 use Rattle.std.proofs.lemmas.List.Elements.{All-contains}
 use Rattle.pg_values.specs.declared.value.Value.{Value}
 use Rattle.pg_values.specs.declared.fault.Fault.{Fault}
@@ -33,7 +34,7 @@ use Rattle.row_router.specs.Histories.{above, ddl_tree, kept_of, part_of, parent
 use Rattle.row_router.specs.Paths.{refused}
 use Rattle.row_router.specs.Trees.{leaves}
 use Rattle.tx_table.specs.Stands.{TableStands}
-use Rattle.row_store.specs.Judged.{refusing}
+use Rattle.row_store.specs.Judged.{refusing, seeing}
 use Rattle.row_store.specs.Stands.{StoreStands}
 use Rattle.part_catalog.specs.Answers.{parent_told}
 use Rattle.part_catalog.specs.Found.{made_at}
@@ -45,7 +46,7 @@ use Rattle.partition_scans.specs.Data.{DataStand}
 use Rattle.partition_scans.specs.Places.{breaks_place, is_refused_above, place_scan}
 use Rattle.partition_scans.specs.Scans.{Scan, IsClean, fault_told, judged, refusals, watches}
 use Rattle.partition_scans.specs.Sessions.{those}
-use Rattle.partition_scans.proofs.Cleaning.{NoneWatch, no_faults, own_watches}
+use Rattle.partition_scans.proofs.Cleaning.{NoneWatch, no_faults}
 use Rattle.soundness.specs.Worlds.{IsMade, Present, key_at, view}
 use Rattle.soundness.proofs.All.{legal_keeps_all, legal_keeps_checks}
 use Rattle.soundness.proofs.CheckSkip.{implied_accepts}
@@ -237,7 +238,7 @@ clean_judged : (h : History) (s : ℕ) (xs : List Scan) (set : SessionSet) → I
 clean_judged h s xs set clean none = ap (λ fs. or_first fs (those (watches h s xs))) clean.0 ∙ ap Ok (are_those set (watches h s xs) (λ r. none r ∙ sym (clean.1 r)) (λ k le. none k))
 
 some_of : (o : Option ℕ) → IsSome o → (n : ℕ) × (o ≡ Some n)
-some_of None is = absurd is
+some_of None is = absurd (let c = is in cc)
 some_of (Some n) is = (n, refl)
 
 pub clean_in : SkippedIsClean → (stores : Stores) (caller : Caller) (p t : ℕ) (b : Bound) (h : History) → MayAttempt stores caller → t < length stores.catalog.tables → IsJudgedIn stores caller.session t h → is_skipped h caller.session p t b ≡ true → IsClean h caller.session (place_scan h caller.session p t b ∷ [])
@@ -272,6 +273,20 @@ AreWatching stores s t rows set = (h : History) → IsJudgedIn stores s t h → 
 pub each_data : (stores : Stores) (s t : ℕ) (rows : History → List Scan) (judgement : Result SessionSet Refusal) → IfOk judgement (λ set. (h : History) → DataStand stores h → (r : ℕ) → has set r ≡ watches h s (rows h) r) → IfOk judgement (AreWatching stores s t rows)
 each_data stores s t rows (Ok set) all = λ h it. all h it.tells
 each_data stores s t rows (Err e) all = tt
+
+itself : (n : ℕ) → (n == n) ≡ true
+itself n = grind (arith, nat_tests)
+
+not_seeing : (b c : Bool) → b ≡ true → (not b && c) ≡ false
+not_seeing true c e = refl
+not_seeing false c e = absurd (let d = e in cc)
+
+-- the session does not wait for itself
+own_watches : (h : History) (s : ℕ) (xs : List Scan) → watches h s xs s ≡ false
+own_watches h s [] = refl
+own_watches h s (x ∷ xs) =
+    let first : seeing h s x.leaves x.breaks s ≡ false = not_seeing (s == s) _ (itself s) in
+    ap (λ (b : Bool). b || watches h s xs s) first ∙ own_watches h s xs
 
 pub own_never : (s t : ℕ) (judgement : Result SessionSet Refusal) (stores : Stores) (caller : Caller) → MayAttempt stores caller → HasFamilyLocked stores s t → (rows : History → List Scan) → IfOk judgement (AreWatching stores s t rows) → IfOk judgement (λ set. has set s ≡ false)
 own_never s t (Ok set) stores caller may family rows all =

@@ -47,7 +47,7 @@ use Rattle.statement_steps.specs.Below.{below}
 use Rattle.insert_statement.specs.Inserted.{answered}
 use Rattle.insert_statement.specs.Asked.{IsReadOf, MayLock, MayWrite, stopped}
 use Rattle.insert_statement.proofs.Locked.{may_write}
-use Rattle.insert_statement.proofs.Told.{same_step}
+use Rattle.statement_steps.proofs.Steps.{same_step}
 use Rattle.insert_statement.proofs.Tables.{IsMade, tables_kept}
 use Rattle.insert_statement.proofs.Trees.{Are, IsHome, tree_root}
 use Rattle.change_statement.specs.Gathered.{found_by, item_of, meant, locked_all, over, of_table}

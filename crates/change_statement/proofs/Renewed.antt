@@ -52,7 +52,7 @@ use Rattle.change_statement.specs.Updated.{renewed, stored, updating}
 use Rattle.statement_steps.specs.Waiting.{Since}
 use Rattle.soundness.specs.Versions.{IsVersion}
 use Rattle.soundness.specs.Worlds.{IsMade}
-use Rattle.soundness.proofs.Columns.{columns_of, row_up}
+use Rattle.soundness.proofs.Columns.{legal_keeps_columns, row_up}
 use Rattle.soundness.proofs.Listed.{none_in, only_one}
 use Rattle.soundness.proofs.Presence.{all_more}
 use Rattle.soundness.proofs.Sound.{catalogue_sound_of}
@@ -98,7 +98,7 @@ read_of stores caller g id row may version is = λ k catalog.
     let home = leaf_is_there h s g v.leaf stands.good still among in
     let about = version_numbered stores.rows h id version.known stands.all.rows in
     let there : IsVersion (row_events h) v = subst (IsVersion (row_events h)) about.there (all_versions (row_events h) id.number blank.version about.within) in
-    let low = columns_of h (permitted_of h stands.good) v home.0 there home.1 in
+    let low = legal_keeps_columns h (legal_of h stands.good) (permitted_of h stands.good) v home.0 there home.1 in
     let columns = leaf_columns h s g v.leaf home.0 stands.good still among home.1 in
     let of = row_up (made_at h g.table.number).columns (made_at h home.0).columns v.row columns low in
     let top = table_stays h s still.earlier g.table.number still.since still.gathered.made in

@@ -26,8 +26,8 @@ lock_named-requires-2-clause-few c =
 pub check-requires-clause-may : goal.check-requires-clause-may
 check-requires-clause-may c = may_go_on _ _ _ _ _ _ (may_go_on _ _ _ _ _ _ (may_go_on _ _ _ _ _ _ c.requires.may c.in_ok-hold_if_repeatable.ensures.step) c.in_ok-parent.ensures.step) c.in_ok-table.ensures.step
 
-pub wait_for_snapshots-requires-clause-may : goal.wait_for_snapshots-requires-clause-may
-wait_for_snapshots-requires-clause-may c = may_go_on _ _ _ _ _ _ (may_go_on _ _ _ _ _ _ (may_go_on _ _ _ _ _ _ c.requires.may c.in_ok-hold_if_repeatable.ensures.step) c.in_ok-parent.ensures.step) c.in_ok-table.ensures.step
+pub wait_for_snapshots-requires : goal.wait_for_snapshots-requires
+wait_for_snapshots-requires c = record { may = may_go_on _ _ _ _ _ _ (may_go_on _ _ _ _ _ _ (may_go_on _ _ _ _ _ _ c.requires.may c.in_ok-hold_if_repeatable.ensures.step) c.in_ok-parent.ensures.step) c.in_ok-table.ensures.step }
 
 pub leave_parent-requires-clause-may : goal.leave_parent-requires-clause-may
 leave_parent-requires-clause-may c =

@@ -45,7 +45,7 @@ check_parent-requires-clause-known c =
     (moved (named c.args.names.now c.args.caller.session AccessExclusive) _ _ c.as_bytes.ensures c.in_ok-parent.ensures.step))).made
 
 pub claim_name-requires : goal.claim_name-requires
-claim_name-requires c = may_go_on _ _ _ _ _ _ (may_go_on _ _ _ _ _ _ (may_go_on _ _ _ _ _ _ c.requires.may c.in_ok-hold_if_repeatable.ensures.step) c.in_ok-parent.ensures.step) c.in_ok-lock_default.ensures.step
+claim_name-requires c = record { may = may_go_on _ _ _ _ _ _ (may_go_on _ _ _ _ _ _ (may_go_on _ _ _ _ _ _ c.requires.may c.in_ok-hold_if_repeatable.ensures.step) c.in_ok-parent.ensures.step) c.in_ok-lock_default.ensures.step }
 
 pub place_found-requires-clause-may : goal.place_found-requires-clause-may
 place_found-requires-clause-may c = may_go_on _ _ _ _ _ _ (may_go_on _ _ _ _ _ _ (may_go_on _ _ _ _ _ _ (may_go_on _ _ _ _ _ _ c.requires.may c.in_ok-hold_if_repeatable.ensures.step) c.in_ok-parent.ensures.step) c.in_ok-lock_default.ensures.step) c.in_ok-claim_name.ensures.step

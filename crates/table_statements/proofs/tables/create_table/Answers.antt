@@ -11,7 +11,7 @@ use Rattle.table_statements.specs.Tables as tables
 use Rattle.table_statements.proofs.tables.create_table.Goals as goal
 
 pub claim_name-requires : goal.claim_name-requires
-claim_name-requires c = may_go_on _ _ _ _ _ _ c.requires c.in_ok-hold_if_repeatable.ensures.step
+claim_name-requires c = record { may = may_go_on _ _ _ _ _ _ c.requires c.in_ok-hold_if_repeatable.ensures.step }
 
 pub planned-requires : goal.planned-requires
 planned-requires c = may_go_on _ _ _ _ _ _ (may_go_on _ _ _ _ _ _ c.requires c.in_ok-hold_if_repeatable.ensures.step) c.in_ok-claim_name.ensures.step
