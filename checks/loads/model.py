@@ -1,17 +1,16 @@
 #!/usr/bin/env python3
-"""The script that a seed gives, line by line from its rules, for what `crates/seeded_scripts` writes to be compared
-with.
+"""The script that a seed gives, line by line from its rules, for what the program counts of it to be compared with
+(checks/plain, checks/words).
 
-    checks/loads/model.py FOLDER     writes FOLDER/stdin, the seeds, and FOLDER/stdout, their scripts
+    checks/loads/model.py SEED     prints it
 """
 import os
 import sys
 
 sys.dont_write_bytecode = True
 sys.path.insert(0, os.path.dirname(os.path.dirname(os.path.abspath(__file__))))
-from schedules import Numbers, write
+from schedules import Numbers
 
-SEEDS = 0, 1, 2, 12345678901234567890, 2**64 - 1
 SESSIONS, STEPS, KEYS, VALUES, PARTITIONS, ROWS = 8, 64, 320, 1000, 32, 512
 
 
@@ -69,4 +68,4 @@ def script(seed):
 
 
 if __name__ == "__main__":
-    write(sys.argv[1], [(str(seed), script(seed)) for seed in SEEDS])
+    print(script(int(sys.argv[1])))

@@ -1,6 +1,8 @@
 -- There is one run.
 use Rattle.std.proofs.Common.{◌≡◌, ℕ, List, [], ◌++◌, Option, Some, None, refl, sym, ap, subst, ◌∙◌, append_assoc, append-nil}
+use Rattle.schedule.specs.Counts.{counts_of, with_event}
 use Rattle.schedule.specs.Rules.{Rules}
+use Rattle.schedule.specs.declared.counts.Counts.{Counts}
 use Rattle.schedule.specs.declared.event.Event.{Event}
 use Rattle.schedule.specs.Run.{World, effect, next, printed, Reaches, Here, Next, Throughout, Runs}
 
@@ -37,3 +39,13 @@ module _ {S : Type 0} (R : Rules S) where
   good_at Good w a x (Next w' lines last e rest comes front on) ends well b y (Next w'' lines' last' f rest' comes' front' on') =
       let same : f ≡ e = some_is e f (next R w) comes comes' in
       good_at Good (effect R w e).world rest x on ends well.1 rest' y (subst (λ g. Reaches R (effect R w g).world rest' y) same on')
+
+  -- whatever is counted of it
+  pub same_counts : (n : Counts) (w : World S) (a b : List ℕ) (x y : World S) (r : Reaches R w a x) (q : Reaches R w b y) → next R x ≡ None → next R y ≡ None → counts_of n r ≡ counts_of n q
+  same_counts n w a b x y (Here w' lines last none same) (Here w'' lines' last' none' same') end end' = refl
+  same_counts n w a b x y (Here w' lines last none same) (Next w'' lines' last' f rest' comes' front' on') end end' = absurd (let h : next R w ≡ None = ap (next R) (sym same) ∙ end in cc)
+  same_counts n w a b x y (Next w' lines last e rest comes front on) (Here w'' lines' last' none same) end end' = absurd (let h : next R w ≡ None = ap (next R) (sym same) ∙ end' in cc)
+  same_counts n w a b x y (Next w' lines last e rest comes front on) (Next w'' lines' last' f rest' comes' front' on') end end' =
+      let same : f ≡ e = some_is e f (next R w) comes comes' in
+      subst (λ g. (q : Reaches R (effect R w g).world rest' y) → counts_of (with_event R w n e) on ≡ counts_of (with_event R w n g) q) (sym same)
+      (λ q. same_counts (with_event R w n e) (effect R w e).world rest rest' x y on q end end') on'

@@ -5,5 +5,6 @@ pub mod Pieces
 pub mod Runs
 pub mod Weights
 pub mod Comes
+mod Counting
 pub mod Ends
 pub mod Keeping

@@ -1,5 +1,6 @@
 pub mod Lists
 pub mod Blocks
+pub mod Counts
 pub mod Rules
 pub mod Tasks
 pub mod Lines

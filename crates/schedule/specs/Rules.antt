@@ -3,9 +3,10 @@ use Rattle.std.specs.Prelude.{ℕ, Bool, List, Option}
 use Rattle.pg_values.specs.declared.fault.Fault.{Fault}
 use Rattle.schedule.specs.declared.block.BlockKind.{BlockKind}
 use Rattle.schedule.specs.declared.database.Progress.{Progress}
+use Rattle.schedule.specs.declared.tally.Tally.{Tally}
 
 pub record Rules (S : Type 0) : Type 0 where
-  pub fresh : S → S  -- the same sessions and options, and nothing else: no tables, default settings
+  pub fresh : S → S  -- the same sessions, options and tally, and nothing else: no tables, default settings
   pub begun : S → ℕ → BlockKind → List ℕ → S  -- the session begins a block of this kind and text
   pub stepped : S → ℕ → S  -- it goes on by one small event
   pub progress : S → ℕ → Progress  -- what that event comes to
@@ -18,6 +19,7 @@ pub record Rules (S : Type 0) : Type 0 where
   pub rolled_back : S → ℕ → S  -- its open transaction, if it has one
   pub report : S → ℕ → List ℕ  -- what the session's block has printed: tables and trail lines, in order
   pub fault : S → ℕ → Option Fault  -- why its block has failed
+  pub tally : S → Tally  -- what its statements have given and read up to now
   pub fault_text : Fault → List ℕ  -- the code and the text
 
 -- what stood for a state stands for the state after it

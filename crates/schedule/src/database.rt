@@ -2,6 +2,7 @@ ghost use Rattle.std.specs.Prelude.{◌≡◌, ◌<◌, ◌≤◌, ◌+◌, ◌+
 ghost use Rattle.schedule.specs.Rules.{Rules, Carries};
 
 use crate::block::BlockKind;
+use crate::tally::Tally;
 use pg_values::{Fault, NoMemory};
 use std::alloc::Global;
 
@@ -53,7 +54,7 @@ pub trait Database: Sized + Drop {
     fn sessions(&self) -> usize
         ensures { result ≡ count self.now };
 
-    /// One with the same sessions and options, in which nothing has happened yet.
+    /// One with the same sessions, options and tally, in which nothing has happened yet.
     fn fresh(&self, alloc: Global) -> Result<Self, NoMemory>
         ensures stands { IfOk result (λ d. (v : State) → stands self.now v → stands d (rules.fresh v)) }
         ensures count { IfOk result (λ d. count d ≡ count self.now) }
@@ -146,6 +147,10 @@ pub trait Database: Sized + Drop {
     fn fault(&self, session: usize) -> Option<&Fault>
         requires known { session < count self.now }
         ensures is { (v : State) → stands self.now v → option_copied result ≡ rules.fault v session };
+
+    /// What its statements have given and read up to now.
+    fn tally(&self) -> Tally
+        ensures { (v : State) → stands self.now v → result ≡ rules.tally v };
 
     /// Appends the code and the text of a fault.
     fn write_fault(alloc: Global, fault: &Fault, out: &mut Vec<u8>) -> Result<(), NoMemory>

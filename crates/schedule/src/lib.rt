@@ -16,6 +16,7 @@
 #![tactic(auto)]
 
 mod block;
+mod counts;
 mod database;
 mod engine;
 mod event;
@@ -28,11 +29,13 @@ mod next;
 mod output;
 mod run_end;
 mod seat;
+mod tally;
 mod task;
 mod whole;
 mod write;
 
 pub use block::{Block, BlockKind};
+pub use counts::{Counted, Counts, count};
 pub use database::{Database, Progress};
 pub use event::{Event, Report};
 pub use holding::leave;
@@ -41,5 +44,6 @@ pub use laws::{
     reached_worlds_are_good, runs_have_one_end,
 };
 pub use run_end::{RunEnd, RunRefused};
+pub use tally::Tally;
 pub use task::{Permutation, Task};
 pub use whole::run;

@@ -42,8 +42,8 @@ impl<'e, 's, D: Database> Engine<'e, 's, D> {
         })
     }
 
-    // Makes what happens happen, and answers what is reported of it.
-    fn apply(&mut self, alloc: Global, event: Event) -> Result<Report, NoMemory>
+    /// Makes what happens happen, and answers what is reported of it.
+    pub(crate) fn apply(&mut self, alloc: Global, event: Event) -> Result<Report, NoMemory>
         requires { MayCome D.Database self.old event }
         ensures leaves { OnOk result (Leaves D.Database (λ w. effect D.rules w event) self.old self.new) }
         ensures report { IfOk result (Reports D.Database (λ w. effect D.rules w event) self.old) }

@@ -8,6 +8,7 @@ pub mod Numbered
 pub mod Pieces
 pub mod RunEndings
 pub mod Runs
+pub mod SeedLaws
 pub mod Texts
 pub mod WorkLaws
 pub mod Works

@@ -3,6 +3,7 @@ pub mod Lines
 pub mod Outcomes
 pub mod Program
 pub mod Reading
+pub mod Seeded
 pub mod Steps
 pub mod Tasks
 pub mod Texts

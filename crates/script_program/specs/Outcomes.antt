@@ -16,6 +16,10 @@ pub record Outcome : Type 0 where
 abbrev pub refusal : Ended → List ℕ → Outcome
 refusal ended line = record { ended = ended; out = []; err = line }
 
+-- what `out` has come to at some point, where all that an outcome has on it is written at once: nothing yet, or all of it
+abbrev pub AtOnce : (outcomes : Outcome → Type 0) → (out : List ℕ) → Type 0
+AtOnce outcomes out = (out ≡ []) ⊎ ((o : Outcome) × outcomes o × (out ≡ o.out))
+
 -- A sink took all of these bytes, and no write failed.
 abbrev pub Takes : {K : Type 0} (g : Ghosts K) → K → K → List ℕ → Type 0
 Takes {K} g old new bytes = Appends (g.taken old) (g.taken new) bytes × (g.faults new ≡ g.faults old)

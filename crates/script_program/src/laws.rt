@@ -1,4 +1,4 @@
-ghost use Rattle.std.specs.Prelude.{◌≡◌, ◌≢◌, ◌++◌, ℕ, Bool, List, [], Option, Some};
+ghost use Rattle.std.specs.Prelude.{◌≡◌, ◌≢◌, ◌++◌, ℕ, Bool, false, List, [], Option, Some};
 ghost use Rattle.pg_values.specs.declared.fault.Fault.{Fault};
 ghost use Rattle.schedule.specs.Run.{World, Reaches, Anything};
 ghost use Rattle.spec_reader.specs.Specs.{IsScript};
@@ -6,7 +6,8 @@ ghost use Rattle.spec_reader.specs.declared.spec.Spec.{Spec};
 ghost use Rattle.script_program.specs.Checks.{checked};
 ghost use Rattle.script_program.specs.Outcomes.{Outcome};
 ghost use Rattle.script_program.specs.Program.{Answers, Begins, WorkBegins, WorkEnds};
-ghost use Rattle.script_program.specs.Reading.{Reading, Whole};
+ghost use Rattle.script_program.specs.Reading.{Reading, Unread, Whole};
+ghost use Rattle.script_program.specs.Seeded.{SeedEnds};
 ghost use Rattle.script_program.specs.Texts.{RunEnds, beginning};
 ghost use Rattle.script_program.specs.Work.{work_by};
 ghost use Rattle.script_program.specs.declared.work.Work.TheVariants as works;
@@ -47,6 +48,12 @@ pub fn scripts_are_run<D: Database>()
 pub fn scripts_are_checked<D: Database>()
     ensures { (opened : Bool → Spec → D.State) (refused : List ℕ → Option Fault) (words : List (List ℕ)) (text : List ℕ) (spec : Spec) (o : Outcome) → work_by words ≡ Some works.Check → IsScript text spec →
         Answers (WorkEnds D.rules Anything opened refused) words (Whole text) o → o ≡ record { ended = Ended.Done; out = checked D.rules refused spec; err = [] } }
+{}
+
+/// Where they ask for the load of a seed, no input is read, and the outcome is what is counted of the run of its script.
+pub fn seeds_are_counted<D: Database>()
+    ensures { (opened : Bool → Spec → D.State) (refused : List ℕ → Option Fault) (words : List (List ℕ)) (r : Reading) (seed : ℕ) (o : Outcome) → work_by words ≡ Some (works.Load seed) →
+        Answers (WorkEnds D.rules Anything opened refused) words r o → (r ≡ Unread) × SeedEnds D.rules Anything (opened false) seed o }
 {}
 
 /// No outcome is `WriteFault` or `NoMemory`: a call that answers so has not written its outcome.

@@ -1,9 +1,10 @@
-ghost use Rattle.std.specs.Prelude.{◌≡◌, ℕ, Bool, List, Some, map, string_bytes};
+ghost use Rattle.std.specs.Prelude.{◌≡◌, ℕ, Bool, true, List, Some, map, string_bytes};
 ghost use Rattle.spec_reader.specs.declared.spec.Spec.{Spec};
 ghost use Rattle.script_program.specs.Lines.{usage_line};
 ghost use Rattle.script_program.specs.Outcomes.{Ends, IsTold, refusal};
 ghost use Rattle.script_program.specs.Program.{Calls, WorkBegins, WorkEnds};
 ghost use Rattle.script_program.specs.Texts.{OpensEachAs};
+ghost use Rattle.script_program.specs.Work as works;
 ghost use Rattle.script_program.specs.Work.{work_by};
 
 use crate::check::check_text;
@@ -12,12 +13,13 @@ use crate::input::{ReadRefused, read_whole};
 use crate::opener::Opener;
 use crate::output::answer;
 use crate::script_run::run_text;
-use crate::work::{Work, read_work};
+use crate::seeded::run_seed;
+use crate::work::{Work, read_work, reads_input};
 use command_line::WordsRefused;
 use pg_values::{Sink, Source};
 use std::alloc::Global;
 
-// Does that with a text.
+// Does that with a text; the load of a seed needs none.
 fn do_work<O: Opener, K: Sink, E: Sink>(
     alloc: Global,
     work: Work,
@@ -30,6 +32,7 @@ fn do_work<O: Opener, K: Sink, E: Sink>(
     match work {
         Work::Run { trail } => run_text::<O, K, E>(alloc, trail, text, out, err),
         Work::Check => check_text::<O, K, E>(alloc, text, out, err),
+        Work::Load { seed } => run_seed::<O, K, E>(alloc, seed, out, err),
     }
 }
 
@@ -41,6 +44,7 @@ fn read_and_do<O: Opener, S: Source, K: Sink, E: Sink>(
     out: &mut K,
     err: &mut E,
 ) -> Ended
+    requires { works.reads_input work ≡ true }
     ensures { (opened : Bool → Spec → O.Db.State) → OpensEachAs O.opens O.Db.stands opened → (words : List (List ℕ)) → work_by words ≡ Some work →
         Calls S.Source K.Sink E.Sink (WorkEnds O.Db.rules O.Db.good opened O.refused) (WorkBegins O.Db.rules O.Db.good opened O.refused) words input.old input.new out.old out.new err.old err.new result }
 {
@@ -49,6 +53,24 @@ fn read_and_do<O: Opener, S: Source, K: Sink, E: Sink>(
         Err(ReadRefused::TooLarge) => answer(err, b"input over 4194304 bytes\n", Ended::TooLarge),
         Err(ReadRefused::Fault) => answer(err, b"read failed\n", Ended::ReadFault),
         Err(ReadRefused::NoMemory) => Ended::NoMemory,
+    }
+}
+
+// Does that, with the input if it is read.
+fn do_asked<O: Opener, S: Source, K: Sink, E: Sink>(
+    alloc: Global,
+    work: Work,
+    input: &mut S,
+    out: &mut K,
+    err: &mut E,
+) -> Ended
+    ensures { (opened : Bool → Spec → O.Db.State) → OpensEachAs O.opens O.Db.stands opened → (words : List (List ℕ)) → work_by words ≡ Some work →
+        Calls S.Source K.Sink E.Sink (WorkEnds O.Db.rules O.Db.good opened O.refused) (WorkBegins O.Db.rules O.Db.good opened O.refused) words input.old input.new out.old out.new err.old err.new result }
+{
+    if reads_input(work) {
+        read_and_do::<O, S, K, E>(alloc, work, input, out, err)
+    } else {
+        do_work::<O, K, E>(alloc, work, &[], out, err)
     }
 }
 
@@ -62,8 +84,9 @@ fn refuse_words<E: Sink>(err: &mut E) -> Ended
 }
 
 /// Judges the words behind the program's name, reads the whole of `input`, and does what the words ask for with the
-/// script that it is: runs it over the databases that `O` opens, or tells which of its blocks are refused. The run is
-/// written to `out` as it happens, the one line of a refusal to `err`.
+/// script that it is: runs it over the databases that `O` opens, or tells which of its blocks are refused. Or it reads
+/// no input, runs the script of a seed, and tells what is counted of the run. A run is written to `out` as it happens,
+/// the one line of a refusal to `err`.
 pub fn run_program<O: Opener, S: Source, K: Sink, E: Sink>(
     alloc: Global,
     words: &[String],
@@ -74,7 +97,7 @@ pub fn run_program<O: Opener, S: Source, K: Sink, E: Sink>(
     ensures { (opened : Bool → Spec → O.Db.State) → OpensEachAs O.opens O.Db.stands opened → Calls S.Source K.Sink E.Sink (WorkEnds O.Db.rules O.Db.good opened O.refused) (WorkBegins O.Db.rules O.Db.good opened O.refused) (map string_bytes words.now) input.old input.new out.old out.new err.old err.new result }
 {
     match read_work(alloc, words) {
-        Ok(work) => read_and_do::<O, S, K, E>(alloc, work, input, out, err),
+        Ok(work) => do_asked::<O, S, K, E>(alloc, work, input, out, err),
         Err(WordsRefused::Usage) => refuse_words(err),
         Err(WordsRefused::NoMemory) => Ended::NoMemory,
     }

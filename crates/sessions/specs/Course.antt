@@ -1,6 +1,7 @@
 -- Who runs statements, as a pure machine: its states, and what each call makes of them.
 use Rattle.std.specs.Prelude.{ℕ, Bool, List, Option, Result}
 use Rattle.pg_values.specs.declared.fault.Fault.{Fault}
+use Rattle.schedule.specs.declared.tally.Tally.{Tally}
 use Rattle.sessions.specs.declared.asker.Asker.{Asker}
 use Rattle.sessions.specs.declared.asker.Place.{Place}
 use Rattle.sessions.specs.declared.outcome.Outcome.{Outcome}
@@ -9,7 +10,7 @@ use Rattle.sessions.specs.declared.settings.Settings.{Settings}
 
 -- S are its states, T statements
 pub record Course (S T : Type 0) : Type 0 where
-  pub fresh : S → S  -- the same options, and nothing has happened
+  pub fresh : S → S  -- the same options and tally, and nothing has happened
   pub parsed : List ℕ → Result (List T) Fault  -- the statements of a block
   pub role : T → Role
   pub looks : T → Bool  -- it takes a snapshot
@@ -27,4 +28,5 @@ pub record Course (S T : Type 0) : Type 0 where
   pub waits : S → ℕ → Bool
   pub oldest : S → Option ℕ
   pub cancelled : S → ℕ → S  -- the wait ends, and the statement is refused as it goes on
+  pub tally : S → Tally  -- what statements have given and read up to now
   pub fault_text : Fault → List ℕ

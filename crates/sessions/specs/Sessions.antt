@@ -307,5 +307,6 @@ rules_of C = record {
   rolled_back = λ v s. with_session v s (rolls_back C s v.executor (session_at v.sessions s));
   report = λ v s. (session_at v.sessions s).told;
   fault = λ v s. (session_at v.sessions s).fault;
+  tally = λ v. C.tally v.executor;
   fault_text = C.fault_text;
 }

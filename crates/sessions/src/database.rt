@@ -7,7 +7,7 @@ use crate::transactions::roll_back;
 use crate::turns::turn;
 use crate::{Executor, Sessions};
 use pg_values::{Fault, NoMemory, Refusal};
-use schedule::{BlockKind, Database, Progress};
+use schedule::{BlockKind, Database, Progress, Tally};
 use std::alloc::Global;
 
 fn new_sessions<T: Drop>(alloc: Global, count: usize) -> Result<Vec<Session<T>>, NoMemory>
@@ -110,6 +110,10 @@ impl<E: Executor> Database for Sessions<E> {
 
     fn oldest(&self) -> Option<usize> {
         self.executor.oldest()
+    }
+
+    fn tally(&self) -> Tally {
+        self.executor.tally()
     }
 
     fn cancel(&mut self, alloc: Global, session: usize) {

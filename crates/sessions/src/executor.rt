@@ -2,6 +2,7 @@ ghost use Rattle.std.specs.Prelude.{◌≡◌};
 
 use crate::{Asker, Outcome, Place, Role, Settings};
 use pg_values::{Fault, NoMemory, Refusal};
+use schedule::Tally;
 use std::alloc::Global;
 
 /// Who runs the statements of sessions. Session 0 is the control session.
@@ -181,6 +182,10 @@ pub trait Executor: Sized + Drop {
         ensures is { (v : State) → stands self.now v → result ≡ course.oldest v }
         ensures known { IfSome result (λ s. s < length (in_transaction self.now)) }
         ensures waiting { IfSome result (λ s. waiting self.now s ≡ true) };
+
+    /// What statements have given and read up to now.
+    fn tally(&self) -> Tally
+        ensures { (v : State) → stands self.now v → result ≡ course.tally v };
 
     /// The session's wait is cancelled: its statement is refused as it goes on. The allocator is for the
     /// fault; no memory is taken.

@@ -17,7 +17,7 @@ use Rattle.lock_table.specs.Stands.{names}
 use Rattle.schedule.specs.Lists.{head_of, without}
 use Rattle.stores.specs.Events.{ended, resumed}
 use Rattle.statement_steps.specs.Attempts.{HasCause}
-use Rattle.statement_runs.specs.Database.{Database, empty, is_cancelled, waits, cancels, cuts, all_cut, interrupted, is_ready, resumes, happened}
+use Rattle.statement_runs.specs.Database.{Database, anew, empty, is_cancelled, waits, cancels, cuts, all_cut, interrupted, is_ready, resumes, happened}
 use Rattle.statement_runs.specs.Weight.{of_flag, of_mark}
 use Rattle.statement_ends.proofs.Cutting.{is_itself, ready_some, first_passes, first_in, cut_added, cut_gone}
 use Rattle.statement_ends.proofs.Waiting.{lacks_wanted, ready_names, ready_waits, first_waits, got_it, still_holds}
@@ -104,6 +104,11 @@ module _ {O : Type 0} (tables : CatalogueEvents → ℕ) (n : ℕ) where
     room = omega arith;
     goes_on = tt;
   }
+
+  pub anew_kept : (v : Database O) → v.sessions ≡ n → n ≤ 128 → IsKept tables n (tables []) (replicate n false) (anew v) None
+  anew_kept v same few =
+      let k = empty_kept v.options v.sessions same few in
+      record { few = k.few; sessions = k.sessions; cancelled = k.cancelled; rests = k.rests; marks = k.marks; sound = k.sound; waits = k.waits; room = k.room; goes_on = tt }
 
   -- ---- the turn
 

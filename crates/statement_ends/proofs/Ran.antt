@@ -9,6 +9,7 @@ use Rattle.history.specs.Catalogue.{CatalogueEvents}
 use Rattle.history.specs.History.{History, lock_events, catalogue_events}
 use Rattle.history.specs.Locks.{SnapshotGone, wanted}
 use Rattle.history.specs.LocksSound.{AreLocksSound}
+use Rattle.schedule.specs.declared.tally.Tally.{Tally}
 use Rattle.sessions.specs.declared.asker.Asker.{Asker}
 use Rattle.sessions.specs.declared.outcome.Outcome.TheVariants as outcomes
 use Rattle.pg_values.specs.declared.isolation.Isolation.{Isolation}
@@ -18,6 +19,7 @@ use Rattle.statement_steps.specs.Ended.{Ended, Done, Commits}
 use Rattle.statement_steps.specs.Made.{Made, Halt, Waits, Refused, halted}
 use Rattle.statement_steps.specs.declared.rest.Rest.{Rest}
 use Rattle.statement_runs.specs.Database.{Database, is_cancelled, rest_of, command_of, goes_on, given_up, let_go_at, next_command, rest_told, outcome_told, unless_cancelled}
+use Rattle.statement_runs.specs.Tallies.{added}
 use Rattle.statement_runs.specs.Weight.{of_flag}
 use Rattle.statement_ends.specs.Asking.{IsWaiting, WaitsAsTold, Asks}
 use Rattle.statement_ends.specs.Rank.{unheld, slack, Stands, IsKept}
@@ -73,7 +75,7 @@ pub record Waited {O : Type 0} (tables : CatalogueEvents → ℕ) (n bound : ℕ
   pub waits : wanted (lock_events w.history) session ≡ Some what
   pub no_higher : slack n bound moved w ≤ limit
 
-module _ {O : Type 0} (tables : CatalogueEvents → ℕ) (n : ℕ) (v : Database O) (a : Asker) (bound : ℕ) (moved : List Bool) (h : IsKept tables n bound moved v (Some a.session)) where
+module _ {O : Type 0} (tables : CatalogueEvents → ℕ) (n : ℕ) (v : Database O) (a : Asker) (more : Tally) (bound : ℕ) (moved : List Bool) (h : IsKept tables n bound moved v (Some a.session)) where
   abbrev s : ℕ
   s = a.session
 
@@ -84,6 +86,7 @@ module _ {O : Type 0} (tables : CatalogueEvents → ℕ) (n : ℕ) (v : Database
     commands = slice_set v.commands a.session (next_command m.told (command_of v a.session));
     cancelled = slice_set v.cancelled a.session false;
     rests = slice_set v.rests a.session (rest_told m.told);
+    tally = added v.tally more;
   }
 
   own : s < length v.cancelled
@@ -123,7 +126,7 @@ module _ {O : Type 0} (tables : CatalogueEvents → ℕ) (n : ℕ) (v : Database
       lock_no_higher (unheld n bound (lock_events v.history)) (unheld n bound (lock_events (m.events ++ v.history))) (sum_by of_flag v.cancelled) (sum_by of_flag (slice_set v.cancelled s false)) _ _
       (unheld_mono n bound (lock_events v.history) (lock_events (m.events ++ v.history)) asks.stay) (flags_same v.cancelled s false off)
 
-  pub run_waits : (b : Bool) (m : Made Ended) → is_cancelled v s ≡ b → Asks tables s v.history m → outcome_told (unless_cancelled b m).told ≡ outcomes.Waits → Waited tables n bound moved s (slack n bound moved v) (goes_on v a (unless_cancelled b m))
+  pub run_waits : (b : Bool) (m : Made Ended) → is_cancelled v s ≡ b → Asks tables s v.history m → outcome_told (unless_cancelled b m).told ≡ outcomes.Waits → Waited tables n bound moved s (slack n bound moved v) (goes_on v a (unless_cancelled b m) more)
   run_waits true m is asks e = absurd (cc)
   run_waits false m is asks e =
       let waits = waits_told s tables v.history (m.events ++ v.history) m.told e asks.told in
@@ -172,7 +175,7 @@ module _ {O : Type 0} (tables : CatalogueEvents → ℕ) (n : ℕ) (v : Database
       ]
 
   pub run_goes : (b : Bool) (m : Made Ended) → is_cancelled v s ≡ b → Asks tables s v.history m → (outcome_told (unless_cancelled b m).told ≡ outcomes.Waits → ⊥)
-      → (k : ℕ) × IsKept tables n k (replicate n true) (goes_on v a (unless_cancelled b m)) (Some s)
+      → (k : ℕ) × IsKept tables n k (replicate n true) (goes_on v a (unless_cancelled b m) more) (Some s)
   run_goes true m is asks e =
       let x : Made Ended = halted [] (Refused statement_cancelled) in
       given_kept (given_up a.level s (rest_of v s) x.told) v.history x (given_is a.level s (rest_of v s) x.told) h.sound (λ r w waits. (w, waits, λ k b. b))

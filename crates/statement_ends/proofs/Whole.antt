@@ -8,12 +8,12 @@ use Rattle.sessions.specs.declared.asker.Asker.{Asker}
 use Rattle.sessions.specs.declared.outcome.Outcome.TheVariants as outcomes
 use Rattle.sessions.specs.declared.settings.Settings.{Settings}
 use Rattle.stores.specs.Events.{tx_in}
-use Rattle.statement_runs.specs.Database.{Database, course, cut_by, caller_of, command_of, is_cancelled, rest_of, outcome_told, attempt_of, goes_on, empty}
+use Rattle.statement_runs.specs.Database.{Database, course, cut_by, caller_of, command_of, is_cancelled, rest_of, outcome_told, anew, attempt_of, given_by, goes_on}
 use Rattle.statement_runs.specs.Words.{Words}
 use Rattle.run_ends.specs.Executors.{HasRank, LowersIn}
 use Rattle.statement_ends.specs.Asking.{Asks, AllAsk}
 use Rattle.statement_ends.specs.Rank.{slack, IsKept, IsRanked}
-use Rattle.statement_ends.proofs.Kept.{ranked, empty_kept, turned, ended_kept, own_cancelled, all_cut_kept, resumes_lower, cancelled_lower, is_none}
+use Rattle.statement_ends.proofs.Kept.{ranked, anew_kept, turned, ended_kept, own_cancelled, all_cut_kept, resumes_lower, cancelled_lower, is_none}
 use Rattle.statement_ends.proofs.Ran.{Waited, run_waits, run_goes, never_goes}
 
 module _ {O T : Type 0} (W : Words O T) (tables : CatalogueEvents → ℕ) (asks : AllAsk W tables) (n : ℕ) where
@@ -28,27 +28,27 @@ module _ {O T : Type 0} (W : Words O T) (tables : CatalogueEvents → ℕ) (asks
       (record { known = (let few = h.few in let lt = h.goes_on.0 in omega (arith, few, lt)); sound = h.sound; idle = h.goes_on.1 })
 
   waited : (v : Database O) (os : List Bool) (k : ℕ) (a : Asker) (g : Settings) (t : T) (h : Q v (Some a.session) os k) → outcome_told (attempt_of W (cut_by W v a t) a g t).told ≡ outcomes.Waits
-      → Waited tables n h.bound h.moved a.session k (goes_on (cut_by W v a t) a (attempt_of W (cut_by W v a t) a g t))
+      → Waited tables n h.bound h.moved a.session k (goes_on (cut_by W v a t) a (attempt_of W (cut_by W v a t) a g t) (given_by W (cut_by W v a t) a g t))
   waited v os k a g t h e =
       let w = cut_by W v a t in
       let cut = all_cut_kept tables n (W.cancels a.session v.sessions t) v a.session h.bound h.moved h.kept in
-      let r = run_waits tables n w a h.bound h.moved cut.0 (is_cancelled w a.session) (W.attempted w.options (caller_of w.sessions (command_of w a.session) a) (rest_of w a.session) w.history g t) refl (asked w a g t h.bound h.moved cut.0) e in
+      let r = run_waits tables n w a (given_by W w a g t) h.bound h.moved cut.0 (is_cancelled w a.session) (W.attempted w.options (caller_of w.sessions (command_of w a.session) a) (rest_of w a.session) w.history g t) refl (asked w a g t h.bound h.moved cut.0) e in
       record { kept = r.kept; what = r.what; waits = r.waits; no_higher = thrice r.no_higher cut.1 h.rank }
     where
       thrice : {x y z u : ℕ} → x ≤ y → y ≤ z → z ≡ u → x ≤ u
       thrice p q r = omega (arith, p, q, r)
 
   goes : (v : Database O) (os : List Bool) (k : ℕ) (a : Asker) (g : Settings) (t : T) → Q v (Some a.session) os k → (outcome_told (attempt_of W (cut_by W v a t) a g t).told ≡ outcomes.Waits → ⊥)
-      → HasRank Q (goes_on (cut_by W v a t) a (attempt_of W (cut_by W v a t) a g t)) (Some a.session) os
+      → HasRank Q (goes_on (cut_by W v a t) a (attempt_of W (cut_by W v a t) a g t) (given_by W (cut_by W v a t) a g t)) (Some a.session) os
   goes v os k a g t h e =
       let w = cut_by W v a t in
       let cut = all_cut_kept tables n (W.cancels a.session v.sessions t) v a.session h.bound h.moved h.kept in
-      let r = run_goes tables n w a h.bound h.moved cut.0 (is_cancelled w a.session) (W.attempted w.options (caller_of w.sessions (command_of w a.session) a) (rest_of w a.session) w.history g t) refl (asked w a g t h.bound h.moved cut.0) e in
-      ranked tables n (goes_on w a (attempt_of W w a g t)) (Some a.session) os r.0 (replicate n true) r.1
+      let r = run_goes tables n w a (given_by W w a g t) h.bound h.moved cut.0 (is_cancelled w a.session) (W.attempted w.options (caller_of w.sessions (command_of w a.session) a) (rest_of w a.session) w.history g t) refl (asked w a g t h.bound h.moved cut.0) e in
+      ranked tables n (goes_on w a (attempt_of W w a g t) (given_by W w a g t)) (Some a.session) os r.0 (replicate n true) r.1
 
   pub course_lowers : LowersIn (course W) n Q
   course_lowers = record {
-    fresh = λ v os k h. ranked tables n (empty v.options v.sessions) None _ (tables []) (replicate n false) (empty_kept tables n v.options v.sessions h.kept.sessions h.kept.few);
+    fresh = λ v os k h. ranked tables n (anew v) None _ (tables []) (replicate n false) (anew_kept tables n v h.kept.sessions h.kept.few);
     takes = λ v os k s h lt free. ranked tables n v (Some s) os h.bound h.moved (turned tables n v None (Some s) h.bound h.moved h.kept (lt, is_none (wanted (lock_events v.history) s) free));
     gives_up = λ v os k s h. record { bound = h.bound; moved = h.moved; kept = turned tables n v (Some s) None h.bound h.moved h.kept tt; rank = h.rank };
     began = λ v os k s h closed.

@@ -1,6 +1,7 @@
 pub mod Counted
 mod Cuts
 pub mod Fixed
+mod Growing
 mod Lower
 mod Once
 mod Runs

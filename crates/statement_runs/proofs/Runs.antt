@@ -16,6 +16,7 @@ use Rattle.history.specs.Waits.{ready}
 use Rattle.history.specs.History.{History, TxChange, SnapshotChange, RowChange, LockChange, CatalogueChange, lock_events, versions}
 use Rattle.row_store.specs.Kept.{version_of}
 use Rattle.lock_table.specs.Stands.{IsIdle, TableStands as LocksStand, names}
+use Rattle.schedule.specs.declared.tally.Tally.{Tally}
 use Rattle.sessions.specs.declared.asker.Asker.{Asker}
 use Rattle.sessions.specs.declared.outcome.Outcome.{Outcome}
 use Rattle.pg_values.specs.declared.isolation.Isolation.{Isolation}
@@ -36,9 +37,11 @@ use Rattle.statement_steps.specs.declared.rest.RestOfDetach.{RestOfDetach}
 use Rattle.statement_steps.specs.declared.stop.Stop.{Stop}
 use Rattle.statement_steps.specs.declared.stop.Stop.TheVariants as stop
 use Rattle.statement_runs.specs.Words.{Words}
-use Rattle.statement_runs.specs.Database.{Database, unless_cancelled, caller_of, attempt_of, next_command, rest_told, let_go_at, given_up, outcome_told, text_told, all_cut, cut_by, goes_on as goes_on_to}
+use Rattle.statement_runs.specs.Database.{Database, unless_cancelled, caller_of, attempt_of, given_by, next_command, rest_told, let_go_at, given_up, outcome_told, text_told, all_cut, cut_by, goes_on as goes_on_to}
 use Rattle.statement_runs.specs.Kept.{KeptSeats, AreSeated, TellOf, AreKept, Adds, StandsFor}
-use Rattle.statement_runs.specs.Ran.{attempt_at, HasRun}
+use Rattle.statement_runs.specs.Tallies.{added, unless_cut}
+use Rattle.statement_runs.proofs.Growing.{nothing_more}
+use Rattle.statement_runs.specs.Ran.{given_at, attempt_at, HasRun}
 use Rattle.statement_steps.proofs.Numbers.{one_later}
 use Rattle.statement_steps.proofs.Lasting.{goes_on_still}
 use Rattle.statement_runs.proofs.Steps.{seats}
@@ -224,6 +227,21 @@ as_meant W o e a h g t n cmd rest r stores before after count number taken is =
     subst (λ x. came x (slice_index_or e.commands a.session 0) (slice_index_or e.rests a.session None)) count
     (subst (λ x. came n x (slice_index_or e.rests a.session None)) number (subst (λ x. came n cmd x) taken is))
 
+-- so much is given and read, unless its wait was cancelled
+pub given_in : {O T : Type 0} (W : Words O T) (o : O) (e : KeptSeats) (a : Asker) (h : History) (g : Settings) (t : T) (n cmd : ℕ) (rest : Option Rest) (before after : Tally)
+    → slice_index_or e.cancelled a.session false ≡ false → n ≡ length e.opened → cmd ≡ slice_index_or e.commands a.session 0 → rest ≡ slice_index_or e.rests a.session None
+    → after ≡ added before (W.given o (caller_of n cmd a) rest h g t) → after ≡ added before (given_at W o e a h g t)
+given_in W o e a h g t n cmd rest before after flag count number taken is =
+    is ∙ ap (added before)
+    (ap (λ x. W.given o (caller_of x cmd a) rest h g t) count
+    ∙ (ap (λ x. W.given o (caller_of (length e.opened) x a) rest h g t) number
+    ∙ (ap (λ x. W.given o (caller_in e a) x h g t) taken
+    ∙ sym (ap (λ b. unless_cut b (W.given o (caller_in e a) (slice_index_or e.rests a.session None) h g t)) flag))))
+
+pub cut_gives : {O T : Type 0} (W : Words O T) (o : O) (e : KeptSeats) (a : Asker) (h : History) (g : Settings) (t : T) (n : Tally) → slice_index_or e.cancelled a.session false ≡ true → n ≡ added n (given_at W o e a h g t)
+cut_gives W o e a h g t n flag =
+    sym (nothing_more n) ∙ ap (added n) (sym (ap (λ b. unless_cut b (W.given o (caller_in e a) (slice_index_or e.rests a.session None) h g t)) flag))
+
 -- what has come of it, where it was not cancelled
 abbrev pub Tried : (e new : KeptSeats) → Asker → (before after : List ℕ) (o : Outcome) (h : History) → Made Ended → Type 0
 Tried e new a before after o h m = HasRun (unless_cancelled (slice_index_or e.cancelled a.session false) m) a e new before after o h
@@ -366,23 +384,34 @@ one_more q xs s n is all lt = subst (All (λ r. r < n)) (sym is) (All-append (λ
 abbrev attempt_by : {O T : Type 0} → Words O T → Asker → History → Settings → T → O → ℕ → List ℕ → List Bool → List (Option Rest) → Made Ended
 attempt_by W a h g t o n commands cancelled rests = unless_cancelled (slice_index_or cancelled a.session false) (W.attempted o (caller_of n (slice_index_or commands a.session 0) a) (slice_index_or rests a.session None) h g t)
 
-same_attempt : {O T : Type 0} (W : Words O T) (o : O) (e : KeptSeats) (a : Asker) (g : Settings) (t : T) (cut : List ℕ) (v : Database O) → StandsFor o e cut v → attempt_at W o e a v.history g t ≡ attempt_of W v a g t
-same_attempt W o e a g t cut v stands =
+same_attempt : {O T : Type 0} (W : Words O T) (o : O) (e : KeptSeats) (a : Asker) (g : Settings) (t : T) (cut : List ℕ) (n : Tally) (v : Database O) → StandsFor o e cut n v → attempt_at W o e a v.history g t ≡ attempt_of W v a g t
+same_attempt W o e a g t cut n v stands =
     ap (λ x. attempt_by W a v.history g t x (length e.opened) e.commands e.cancelled e.rests) stands.options
     ∙ (ap (λ x. attempt_by W a v.history g t v.options x e.commands e.cancelled e.rests) stands.sessions
     ∙ (ap (λ x. attempt_by W a v.history g t v.options v.sessions x e.cancelled e.rests) stands.commands
     ∙ (ap (λ x. attempt_by W a v.history g t v.options v.sessions v.commands x e.rests) stands.cancelled
     ∙ ap (λ x. attempt_by W a v.history g t v.options v.sessions v.commands v.cancelled x) stands.rests)))
 
+abbrev given_with : {O T : Type 0} → Words O T → Asker → History → Settings → T → O → ℕ → List ℕ → List Bool → List (Option Rest) → Tally
+given_with W a h g t o n commands cancelled rests = unless_cut (slice_index_or cancelled a.session false) (W.given o (caller_of n (slice_index_or commands a.session 0) a) (slice_index_or rests a.session None) h g t)
+
+same_given : {O T : Type 0} (W : Words O T) (o : O) (e : KeptSeats) (a : Asker) (g : Settings) (t : T) (cut : List ℕ) (n : Tally) (v : Database O) → StandsFor o e cut n v → given_at W o e a v.history g t ≡ given_by W v a g t
+same_given W o e a g t cut n v stands =
+    ap (λ x. given_with W a v.history g t x (length e.opened) e.commands e.cancelled e.rests) stands.options
+    ∙ (ap (λ x. given_with W a v.history g t v.options x e.commands e.cancelled e.rests) stands.sessions
+    ∙ (ap (λ x. given_with W a v.history g t v.options v.sessions x e.cancelled e.rests) stands.commands
+    ∙ (ap (λ x. given_with W a v.history g t v.options v.sessions v.commands x e.rests) stands.cancelled
+    ∙ ap (λ x. given_with W a v.history g t v.options v.sessions v.commands v.cancelled x) stands.rests)))
+
 -- what has happened after it
 abbrev history_by : Asker → History → List (Option Rest) → Made Ended → History
 history_by a h rests m = given_up a.level a.session (slice_index_or rests a.session None) m.told ++ (m.events ++ h)
 
-pub stands_ran : {O T : Type 0} (W : Words O T) (o : O) (old new : KeptSeats) (a : Asker) (g : Settings) (t : T) (before after : List ℕ) (x : Outcome) (cut : List ℕ) (v : Database O)
-    → StandsFor o old cut v → HasRun (attempt_at W o old a v.history g t) a old new before after x v.history → new.opened ≡ old.opened
-    → StandsFor o new cut (goes_on_to v a (attempt_of W v a g t))
-stands_ran W o old new a g t before after x cut v stands ran same =
-    let meant = same_attempt W o old a g t cut v stands in
+pub stands_ran : {O T : Type 0} (W : Words O T) (o : O) (old new : KeptSeats) (a : Asker) (g : Settings) (t : T) (before after : List ℕ) (x : Outcome) (cut : List ℕ) (n m : Tally) (v : Database O)
+    → StandsFor o old cut n v → HasRun (attempt_at W o old a v.history g t) a old new before after x v.history → m ≡ added n (given_at W o old a v.history g t) → new.opened ≡ old.opened
+    → StandsFor o new cut m (goes_on_to v a (attempt_of W v a g t) (given_by W v a g t))
+stands_ran W o old new a g t before after x cut n m v stands ran grown same =
+    let meant = same_attempt W o old a g t cut n v stands in
     record {
       whole = ran.whole;
       options = stands.options;
@@ -393,25 +422,30 @@ stands_ran W o old new a g t before after x cut v stands ran same =
       cancelled = ran.cancelled ∙ ap (λ cs. slice_set cs a.session false) stands.cancelled;
       rests = ran.rests ∙ (ap (λ m. slice_set old.rests a.session (rest_told m.told)) meant ∙ ap (λ rs. slice_set rs a.session (rest_told (attempt_of W v a g t).told)) stands.rests);
       cut = stands.cut;
+      given = grown ∙ (ap (λ x. added x (given_at W o old a v.history g t)) stands.given ∙ ap (added v.tally) (same_given W o old a g t cut n v stands));
     }
 
-pub outcome_ran : {O T : Type 0} (W : Words O T) (o : O) (old new : KeptSeats) (a : Asker) (g : Settings) (t : T) (before after : List ℕ) (x : Outcome) (cut : List ℕ) (v : Database O)
-    → StandsFor o old cut v → HasRun (attempt_at W o old a v.history g t) a old new before after x v.history → x ≡ outcome_told (attempt_of W v a g t).told
-outcome_ran W o old new a g t before after x cut v stands ran = ran.outcome ∙ ap (λ m. outcome_told m.told) (same_attempt W o old a g t cut v stands)
+pub outcome_ran : {O T : Type 0} (W : Words O T) (o : O) (old new : KeptSeats) (a : Asker) (g : Settings) (t : T) (before after : List ℕ) (x : Outcome) (cut : List ℕ) (n : Tally) (v : Database O)
+    → StandsFor o old cut n v → HasRun (attempt_at W o old a v.history g t) a old new before after x v.history → x ≡ outcome_told (attempt_of W v a g t).told
+outcome_ran W o old new a g t before after x cut n v stands ran = ran.outcome ∙ ap (λ m. outcome_told m.told) (same_attempt W o old a g t cut n v stands)
 
-pub text_ran : {O T : Type 0} (W : Words O T) (o : O) (old new : KeptSeats) (a : Asker) (g : Settings) (t : T) (before after : List ℕ) (x : Outcome) (cut : List ℕ) (v : Database O)
-    → StandsFor o old cut v → HasRun (attempt_at W o old a v.history g t) a old new before after x v.history → after ≡ before ++ text_told (attempt_of W v a g t).told
-text_ran W o old new a g t before after x cut v stands ran = ran.text ∙ ap (λ m. before ++ text_told m.told) (same_attempt W o old a g t cut v stands)
+pub text_ran : {O T : Type 0} (W : Words O T) (o : O) (old new : KeptSeats) (a : Asker) (g : Settings) (t : T) (before after : List ℕ) (x : Outcome) (cut : List ℕ) (n : Tally) (v : Database O)
+    → StandsFor o old cut n v → HasRun (attempt_at W o old a v.history g t) a old new before after x v.history → after ≡ before ++ text_told (attempt_of W v a g t).told
+text_ran W o old new a g t before after x cut n v stands ran = ran.text ∙ ap (λ m. before ++ text_told m.told) (same_attempt W o old a g t cut n v stands)
 
 -- the waits that it cancels have ended before
-pub after_cuts : {O T : Type 0} (W : Words O T) (o p : O) (old mid : KeptSeats) (before cut : List ℕ) (others : List ℕ) (n : ℕ) (a : Asker) (t : T) (v : Database O)
-    → others ≡ W.cancels a.session n t → n ≡ length old.opened → StandsFor o old before v → StandsFor p mid cut (all_cut v others) → StandsFor p mid cut (cut_by W v a t)
-after_cuts W o p old mid before cut others n a t v are count stands ended =
-    subst (λ ss. StandsFor p mid cut (all_cut v ss)) (are ∙ ap (λ k. W.cancels a.session k t) (count ∙ stands.sessions)) ended
+pub after_cuts : {O T : Type 0} (W : Words O T) (o p : O) (old mid : KeptSeats) (before cut : List ℕ) (others : List ℕ) (n : ℕ) (a : Asker) (t : T) (first then' : Tally) (v : Database O)
+    → others ≡ W.cancels a.session n t → n ≡ length old.opened → StandsFor o old before first v → StandsFor p mid cut then' (all_cut v others) → StandsFor p mid cut then' (cut_by W v a t)
+after_cuts W o p old mid before cut others n a t first then' v are count stands ended =
+    subst (λ ss. StandsFor p mid cut then' (all_cut v ss)) (are ∙ ap (λ k. W.cancels a.session k t) (count ∙ stands.sessions)) ended
 
 pub if_on : {X E : Type 0} (r : Result X E) (P : X → Type 0) (Q : Type 0) → IfOk r P → ((x : X) → P x → Q) → OnOk r Q
 if_on (Ok x) P Q p f = f x p
 if_on (Err e) P Q p f = tt
+
+pub if_both_on : {X E : Type 0} (r : Result X E) (P R : X → Type 0) (Q : Type 0) → IfOk r P → IfOk r R → ((x : X) → P x → R x → Q) → OnOk r Q
+if_both_on (Ok x) P R Q p s f = f x p s
+if_both_on (Err e) P R Q p s f = tt
 
 pub if_ok : {X E : Type 0} (r : Result X E) (P Q : X → Type 0) → IfOk r P → ((x : X) → P x → Q x) → IfOk r Q
 if_ok (Ok x) P Q p f = f x p

@@ -5,6 +5,7 @@ use Rattle.history.specs.History.{History, lock_events}
 use Rattle.history.specs.Locks.{wanted, queue}
 use Rattle.history.specs.Waits.{ready}
 use Rattle.schedule.specs.Lists.{first, head_of, without}
+use Rattle.schedule.specs.declared.tally.Tally.{Tally}
 use Rattle.sessions.specs.Course.{Course}
 use Rattle.sessions.specs.declared.asker.Asker.{Asker}
 use Rattle.sessions.specs.declared.outcome.Outcome.{Outcome}
@@ -15,14 +16,16 @@ use Rattle.sessions.specs.declared.settings.Settings.{Settings}
 use Rattle.stores.specs.Events.{begun, committed, aborted, let_go, withdrawn, resumed}
 use Rattle.statement_steps.specs.Ended.{Ended, Done, Commits}
 use Rattle.statement_steps.specs.Made.{Made, Halt, Waits, Refused, number_after, halted}
+use Rattle.statement_runs.specs.Tallies.{none, added, unless_cut}
 use Rattle.statement_runs.specs.Words.{Words}
 use Rattle.statement_steps.specs.declared.caller.Caller.{Caller}
 use Rattle.statement_steps.specs.declared.rest.Rest.{Rest}
 use Rattle.statement_steps.specs.declared.rest.Rest.TheVariants.{Detach}
 
 -- all that has happened; of each session how many commands of its transaction have begun and ended, whether the
--- wait of its statement was cancelled, and where a statement stands that waits in the middle of its run; and whose
--- waits statements of others have cancelled, in this order, as long as these have not gone on
+-- wait of its statement was cancelled, and where a statement stands that waits in the middle of its run; whose waits
+-- statements of others have cancelled, in this order, as long as these have not gone on; and what completed statements
+-- have given and read
 pub record Database (O : Type 0) : Type 0 where
   pub options : O
   pub sessions : ℕ
@@ -31,9 +34,14 @@ pub record Database (O : Type 0) : Type 0 where
   pub cancelled : List Bool
   pub rests : List (Option Rest)
   pub cut : List ℕ
+  pub tally : Tally
 
 abbrev pub empty : {O : Type 0} → O → ℕ → Database O
-empty o n = record { options = o; sessions = n; history = []; commands = replicate n 0; cancelled = replicate n false; rests = replicate n None; cut = [] }
+empty o n = record { options = o; sessions = n; history = []; commands = replicate n 0; cancelled = replicate n false; rests = replicate n None; cut = []; tally = none }
+
+-- nothing has happened again; what statements have given and read is kept
+abbrev pub anew : {O : Type 0} → Database O → Database O
+anew v = record (empty v.options v.sessions) { tally = v.tally }
 
 abbrev pub command_of : {O : Type 0} → Database O → ℕ → ℕ
 command_of v s = slice_index_or v.commands s 0
@@ -56,6 +64,9 @@ unless_cancelled false m = m
 
 abbrev pub attempt_of : {O T : Type 0} → Words O T → Database O → Asker → Settings → T → Made Ended
 attempt_of W v a g t = unless_cancelled (is_cancelled v a.session) (W.attempted v.options (caller_of v.sessions (command_of v a.session) a) (rest_of v a.session) v.history g t)
+
+abbrev pub given_by : {O T : Type 0} → Words O T → Database O → Asker → Settings → T → Tally
+given_by W v a g t = unless_cut (is_cancelled v a.session) (W.given v.options (caller_of v.sessions (command_of v a.session) a) (rest_of v a.session) v.history g t)
 
 -- a command that is to begin anew keeps its number
 abbrev pub next_command : Result Ended Halt → ℕ → ℕ
@@ -80,12 +91,13 @@ abbrev pub given_up : Isolation → (session : ℕ) → Option Rest → Result E
 given_up level s (Some rest) (Ok (Done text)) = let_go_at level s
 given_up level s rest told = []
 
-abbrev pub goes_on : {O : Type 0} → Database O → Asker → Made Ended → Database O
-goes_on v a m = record v {
+abbrev pub goes_on : {O : Type 0} → Database O → Asker → Made Ended → Tally → Database O
+goes_on v a m given = record v {
   history = given_up a.level a.session (rest_of v a.session) m.told ++ (m.events ++ v.history);
   commands = slice_set v.commands a.session (next_command m.told (command_of v a.session));
   cancelled = slice_set v.cancelled a.session false;
   rests = slice_set v.rests a.session (rest_told m.told);
+  tally = added v.tally given;
 }
 
 abbrev pub outcome_told : Result Ended Halt → Outcome
@@ -141,7 +153,7 @@ resumes v s = if is_ready (interrupted v) s then record v { cut = without s v.cu
 -- sessions over a history
 abbrev pub course : {O T : Type 0} → Words O T → Course (Database O) T
 course W = record {
-  fresh = λ v. empty v.options v.sessions;
+  fresh = anew;
   parsed = W.parsed;
   role = W.role;
   looks = W.looks;
@@ -150,7 +162,7 @@ course W = record {
   began = λ v s. record (happened v (begun v.history s)) { commands = slice_set v.commands s 0 };
   committed = λ v s. happened v (committed v.history s);
   aborted = λ v s. happened v (aborted v.history s);
-  ran = λ v a g t. goes_on (cut_by W v a t) a (attempt_of W (cut_by W v a t) a g t);
+  ran = λ v a g t. goes_on (cut_by W v a t) a (attempt_of W (cut_by W v a t) a g t) (given_by W (cut_by W v a t) a g t);
   outcome = λ v a g t. outcome_told (attempt_of W (cut_by W v a t) a g t).told;
   text = λ v a g t. text_told (attempt_of W (cut_by W v a t) a g t).told;
   interrupted = interrupted;
@@ -159,5 +171,6 @@ course W = record {
   waits = waits;
   oldest = λ v. head_of (queue (lock_events v.history));
   cancelled = cancels;
+  tally = λ v. v.tally;
   fault_text = W.fault_text;
 }

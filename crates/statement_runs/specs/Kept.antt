@@ -6,6 +6,7 @@ use Rattle.history.specs.declared.wait.Wanted.TheVariants.{Lock, Others}
 use Rattle.history.specs.Locks.{wanted, queue}
 use Rattle.history.specs.Waits.{ready}
 use Rattle.schedule.specs.Lists.{first}
+use Rattle.schedule.specs.declared.tally.Tally.{Tally}
 use Rattle.history.specs.History.{Event, History, lock_events}
 use Rattle.lock_table.specs.Stands.{TableStands as LocksStand, names}
 use Rattle.stores.specs.Stand.{Stands}
@@ -68,8 +69,9 @@ pub record Adds (old new : KeptSeats) (events : History → List Event) : Type 0
   pub whole : new.whole ≡ old.whole
   pub tells : old.whole ≡ true → (h : History) → TellOf old h → TellOf new (events h ++ h)
 
--- it stands for a database, with those whose waits statements of others have cancelled
-pub record StandsFor {O : Type 0} (o : O) (kept : KeptSeats) (ended : List ℕ) (v : Database O) : Type 0 where
+-- it stands for a database, with those whose waits statements of others have cancelled, and with what statements have given
+-- and read
+pub record StandsFor {O : Type 0} (o : O) (kept : KeptSeats) (ended : List ℕ) (tally : Tally) (v : Database O) : Type 0 where
   pub whole : kept.whole ≡ true
   pub options : o ≡ v.options
   pub sessions : length kept.opened ≡ v.sessions
@@ -78,6 +80,7 @@ pub record StandsFor {O : Type 0} (o : O) (kept : KeptSeats) (ended : List ℕ) 
   pub cancelled : kept.cancelled ≡ v.cancelled
   pub rests : kept.rests ≡ v.rests
   pub cut : ended ≡ v.cut
+  pub given : tally ≡ v.tally
 
 -- whoever is waited for is a session, a number below 128
 abbrev pub AreSessions : Wanted → Type 0

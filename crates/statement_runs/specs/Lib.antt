@@ -3,6 +3,7 @@ pub mod Changes
 pub mod Codes
 pub mod Database
 pub mod Faults
+pub mod Given
 pub mod Kept
 pub mod LeftOut
 pub mod Moments
@@ -16,6 +17,7 @@ pub mod Reading
 pub mod Roles
 pub mod StatementWords
 pub mod StatementsOnce
+pub mod Tallies
 pub mod Trails
 pub mod Weight
 pub mod Words

@@ -1,12 +1,14 @@
 -- What running a statement of a session makes of what is kept.
 use Rattle.std.specs.Prelude.{◌≡◌, ℕ, Bool, true, false, List, ◌++◌, None, length, slice_index_or, slice_set}
 use Rattle.history.specs.History.{History}
+use Rattle.schedule.specs.declared.tally.Tally.{Tally}
 use Rattle.sessions.specs.declared.asker.Asker.{Asker}
 use Rattle.sessions.specs.declared.outcome.Outcome.{Outcome}
 use Rattle.sessions.specs.declared.outcome.Outcome.TheVariants.{Goes, Waits, Commits, Done, Refused}
 use Rattle.sessions.specs.declared.settings.Settings.{Settings}
 use Rattle.statement_steps.specs.Ended.{Ended}
 use Rattle.statement_steps.specs.Made.{Made}
+use Rattle.statement_runs.specs.Tallies.{unless_cut}
 use Rattle.statement_runs.specs.Words.{Words}
 use Rattle.statement_runs.specs.Database.{caller_of, unless_cancelled, next_command, rest_told, given_up, outcome_told, text_told}
 use Rattle.statement_runs.specs.Kept.{KeptSeats, TellOf}
@@ -15,6 +17,11 @@ use Rattle.statement_runs.specs.Kept.{KeptSeats, TellOf}
 abbrev pub attempt_at : {O T : Type 0} → Words O T → O → KeptSeats → Asker → History → Settings → T → Made Ended
 attempt_at W o kept a h g t =
     unless_cancelled (slice_index_or kept.cancelled a.session false) (W.attempted o (caller_of (length kept.opened) (slice_index_or kept.commands a.session 0) a) (slice_index_or kept.rests a.session None) h g t)
+
+-- and gives and reads there
+abbrev pub given_at : {O T : Type 0} → Words O T → O → KeptSeats → Asker → History → Settings → T → Tally
+given_at W o kept a h g t =
+    unless_cut (slice_index_or kept.cancelled a.session false) (W.given o (caller_of (length kept.opened) (slice_index_or kept.commands a.session 0) a) (slice_index_or kept.rests a.session None) h g t)
 
 -- that has come of it: its events, what it comes to and prints, and whether it counts as a command
 pub record HasRun (m : Made Ended) (a : Asker) (old new : KeptSeats) (before after : List ℕ) (o : Outcome) (h : History) : Type 0 where

@@ -2,6 +2,7 @@
 use Rattle.std.specs.Prelude.{ℕ, ◌-◌, Bool, false, List, [], Option, None, is_some}
 use Rattle.pg_values.specs.declared.fault.Fault.{Fault}
 use Rattle.history.specs.History.{History}
+use Rattle.schedule.specs.declared.tally.Tally.{Tally}
 use Rattle.sessions.specs.declared.asker.Place.{Place}
 use Rattle.sessions.specs.declared.settings.Settings.{Settings}
 use Rattle.sql_ast.specs.declared.detachment.Detachment.TheVariants.{Concurrently}
@@ -21,6 +22,7 @@ use Rattle.detach_statement.specs.Concurrent.{detach_of}
 use Rattle.detach_statement.specs.Places.{detach_misplaced}
 use Rattle.select_statement.specs.Cancels.{cancelled}
 use Rattle.statement_runs.specs.Attempted.{Options, attempted}
+use Rattle.statement_runs.specs.Given.{statement_given}
 
 -- of the statements that are run over the stores LOCK and a concurrent DETACH cannot stand everywhere
 abbrev pub command_misplaced : Place → CommandTree → Option Fault
@@ -59,6 +61,10 @@ statement_cancelled s sessions (queries t) = query_cancelled s (sessions - 1) t
 unfoldable pub statement_attempted : Options → Caller → Option Rest → History → Settings → StatementTree → Made Ended
 statement_attempted o c rest h settings t = attempted o c rest settings t h
 
+-- and gives and reads, likewise
+unfoldable pub statement_gives : Options → Caller → Option Rest → History → Settings → StatementTree → Tally
+statement_gives o c rest h settings t = statement_given o c rest settings t h
+
 abbrev pub statement_words : Words Options StatementTree
 statement_words = record {
   parsed = read_block;
@@ -69,5 +75,6 @@ statement_words = record {
   cancels = statement_cancelled;
   has_committed = has_committed;
   attempted = statement_attempted;
+  given = statement_gives;
   fault_text = fault_text;
 }

@@ -2,6 +2,7 @@
 use Rattle.std.specs.Prelude.{ℕ, Bool, List, Option, Result}
 use Rattle.pg_values.specs.declared.fault.Fault.{Fault}
 use Rattle.history.specs.History.{History}
+use Rattle.schedule.specs.declared.tally.Tally.{Tally}
 use Rattle.sessions.specs.declared.asker.Place.{Place}
 use Rattle.sessions.specs.declared.role.Role.{Role}
 use Rattle.sessions.specs.declared.settings.Settings.{Settings}
@@ -20,4 +21,5 @@ pub record Words (O T : Type 0) : Type 0 where
   pub cancels : (session sessions : ℕ) → T → List ℕ  -- the sessions whose waits it cancels, one after the other
   pub has_committed : Option Rest → T → Bool  -- it has committed what it did first, and goes on from there
   pub attempted : O → Caller → Option Rest → History → Settings → T → Made Ended  -- from the beginning, or from where it stood, up to a wait or its end
+  pub given : O → Caller → Option Rest → History → Settings → T → Tally  -- the rows that it gives and the leaves that it reads, if it comes to its end there
   pub fault_text : Fault → List ℕ

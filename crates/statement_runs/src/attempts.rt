@@ -14,9 +14,12 @@ ghost use Rattle.change_statement.specs.Changed as changed;
 ghost use Rattle.change_statement.specs.Deleted.{deleted};
 ghost use Rattle.change_statement.specs.Updated.{updated};
 ghost use Rattle.statement_runs.specs.Attempted as attempted;
-ghost use Rattle.statement_runs.specs.Printed.{IsStatement};
+ghost use Rattle.statement_runs.specs.Given as given;
+ghost use Rattle.statement_runs.specs.Printed.{IsStatement, IsTallied};
+ghost use Rattle.statement_runs.specs.Tallies.{added};
 
 use crate::left_out::{command_word, query_word};
+use crate::tallies::count;
 use crate::trails::write_trail;
 use attach_statement::attach;
 use change_statement::{ChangedRows, delete, update};
@@ -26,7 +29,7 @@ use out_text::write_table;
 use part_catalog::Catalog;
 use pg_values::NoMemory;
 use refusals::left_out;
-use schedule::BlockKind;
+use schedule::{BlockKind, Tally};
 use select_statement::{Answered, explain, select};
 use sessions::Settings;
 use sql_ast::{
@@ -124,17 +127,20 @@ fn is_trailed(trail: bool, caller: Caller) -> bool
     trail && is_step(caller.kind)
 }
 
-// The answer is printed as a table, and the trail behind it.
+// The answer is counted, and printed as a table, and the trail behind it.
 fn print_answer(
     alloc: Global,
     catalog: &Catalog,
     trailed: bool,
     answered: &Answered,
+    tally: &mut Tally,
     out: &mut Vec<u8>,
 ) -> Result<(), NoMemory>
-    ensures { OnOk result ((h : History) → CatalogueStands catalog.now h → out.new.items ≡ out.old.items ++ attempted.answer_text trailed h (selected.told_by answered.now)) }
+    ensures tally { OnOk result (tally.new ≡ added tally.old (given.of_select (selected.told_by answered.now))) }
+    ensures text { OnOk result ((h : History) → CatalogueStands catalog.now h → out.new.items ≡ out.old.items ++ attempted.answer_text trailed h (selected.told_by answered.now)) }
 {
     let rows = answered.answer.rows.len() as u64;
+    count(tally, rows, answered.trail.leaves().len() as u64)?;
     write_table(alloc, &answered.answer, out)?;
     write_trail(
         alloc,
@@ -155,17 +161,21 @@ fn attempt_select(
     prunes: bool,
     trailed: bool,
     statement: &Select,
+    tally: &mut Tally,
     out: &mut Vec<u8>,
 ) -> Result<(), Stop>
     requires { MayAttempt stores.old caller }
-    ensures { (left : Option Left) → IsStatement left (ended result) stores.old stores.new out.old.items out.new.items caller (attempted.select_attempted trailed prunes names.now caller (select_tree statement.now)) }
+    ensures tally { (left : Option Left) → IsTallied left result stores.old tally.old tally.new caller (given.select_given prunes names.now caller (select_tree statement.now)) }
+    ensures is { (left : Option Left) → IsStatement left (ended result) stores.old stores.new out.old.items out.new.items caller (attempted.select_attempted trailed prunes names.now caller (select_tree statement.now)) }
 {
     check_room(stores, caller);
     match select(alloc, stores, names, caller, prunes, statement) {
-        Ok(answered) => match print_answer(alloc, &stores.catalog, trailed, &answered, out) {
-            Ok(()) => Ok(()),
-            Err(NoMemory) => Err(Stop::NoMemory),
-        },
+        Ok(answered) => {
+            match print_answer(alloc, &stores.catalog, trailed, &answered, tally, out) {
+                Ok(()) => Ok(()),
+                Err(NoMemory) => Err(Stop::NoMemory),
+            }
+        }
         Err(stop) => Err(stop),
     }
 }
@@ -194,17 +204,20 @@ fn attempt_insert(
     }
 }
 
-// The trail of an UPDATE or a DELETE is printed, which may stop.
+// What an UPDATE or a DELETE has read is counted, and its trail is printed.
 fn print_changes(
     alloc: Global,
     catalog: &Catalog,
     trailed: bool,
     word: &[u8],
     changes: &ChangedRows,
+    tally: &mut Tally,
     out: &mut Vec<u8>,
 ) -> Result<(), NoMemory>
-    ensures { OnOk result ((h : History) → CatalogueStands catalog.now h → out.new.items ≡ out.old.items ++ attempted.changed_text trailed word.now h (changed.told_by changes.now)) }
+    ensures tally { OnOk result (tally.new ≡ added tally.old (given.of_change (changed.told_by changes.now))) }
+    ensures text { OnOk result ((h : History) → CatalogueStands catalog.now h → out.new.items ≡ out.old.items ++ attempted.changed_text trailed word.now h (changed.told_by changes.now)) }
 {
+    count(tally, 0, changes.reads.len() as u64)?;
     write_trail(
         alloc,
         catalog,
@@ -225,17 +238,27 @@ fn attempt_update(
     trailed: bool,
     rest: Option<Rest>,
     statement: &Update,
+    tally: &mut Tally,
     out: &mut Vec<u8>,
 ) -> Result<(), Stop>
     requires may { MayAttempt stores.old caller }
     requires rest { MayGoOn stores.old caller rest }
-    ensures { IsStatement rest (ended result) stores.old stores.new out.old.items out.new.items caller
+    ensures tally { IsTallied rest result stores.old tally.old tally.new caller (λ h. given.given given.of_change (updated prunes names.now [] caller rest statement.now.table (map setting statement.now.assignments) (maybe_tree statement.now.condition) h).told) }
+    ensures is { IsStatement rest (ended result) stores.old stores.new out.old.items out.new.items caller
         (attempted.printed (attempted.changed_text trailed (codes "UPDATE")) (updated prunes names.now [] caller rest statement.now.table (map setting statement.now.assignments) (maybe_tree statement.now.condition))) }
 {
     check_room(stores, caller);
     match update(alloc, stores, names, &[], caller, prunes, rest, statement) {
         Ok(changes) => {
-            match print_changes(alloc, &stores.catalog, trailed, b"UPDATE", &changes, out) {
+            match print_changes(
+                alloc,
+                &stores.catalog,
+                trailed,
+                b"UPDATE",
+                &changes,
+                tally,
+                out,
+            ) {
                 Ok(()) => Ok(()),
                 Err(NoMemory) => Err(Stop::NoMemory),
             }
@@ -253,17 +276,27 @@ fn attempt_delete(
     trailed: bool,
     rest: Option<Rest>,
     statement: &Delete,
+    tally: &mut Tally,
     out: &mut Vec<u8>,
 ) -> Result<(), Stop>
     requires may { MayAttempt stores.old caller }
     requires rest { MayGoOn stores.old caller rest }
-    ensures { IsStatement rest (ended result) stores.old stores.new out.old.items out.new.items caller
+    ensures tally { IsTallied rest result stores.old tally.old tally.new caller (λ h. given.given given.of_change (deleted prunes names.now [] caller rest statement.now.table (maybe_tree statement.now.condition) h).told) }
+    ensures is { IsStatement rest (ended result) stores.old stores.new out.old.items out.new.items caller
         (attempted.printed (attempted.changed_text trailed (codes "DELETE")) (deleted prunes names.now [] caller rest statement.now.table (maybe_tree statement.now.condition))) }
 {
     check_room(stores, caller);
     match delete(alloc, stores, names, &[], caller, prunes, rest, statement) {
         Ok(changes) => {
-            match print_changes(alloc, &stores.catalog, trailed, b"DELETE", &changes, out) {
+            match print_changes(
+                alloc,
+                &stores.catalog,
+                trailed,
+                b"DELETE",
+                &changes,
+                tally,
+                out,
+            ) {
                 Ok(()) => Ok(()),
                 Err(NoMemory) => Err(Stop::NoMemory),
             }
@@ -281,22 +314,24 @@ fn attempt_rows(
     trailed: bool,
     rest: Option<Rest>,
     statement: &RowStatement,
+    tally: &mut Tally,
     out: &mut Vec<u8>,
 ) -> Result<(), Stop>
     requires may { MayAttempt stores.old caller }
     requires rest { MayGoOn stores.old caller rest }
-    ensures { IsStatement rest (ended result) stores.old stores.new out.old.items out.new.items caller (attempted.row_attempted trailed prunes names.now caller rest (row_tree statement.now)) }
+    ensures tally { IsTallied rest result stores.old tally.old tally.new caller (given.row_given prunes names.now caller rest (row_tree statement.now)) }
+    ensures is { IsStatement rest (ended result) stores.old stores.new out.old.items out.new.items caller (attempted.row_attempted trailed prunes names.now caller rest (row_tree statement.now)) }
 {
     match statement {
         RowStatement::Select(s) => {
-            attempt_select(alloc, stores, names, caller, prunes, trailed, s, out)
+            attempt_select(alloc, stores, names, caller, prunes, trailed, s, tally, out)
         }
         RowStatement::Insert(s) => attempt_insert(alloc, stores, names, caller, trailed, s, out),
         RowStatement::Update(s) => attempt_update(
-            alloc, stores, names, caller, prunes, trailed, rest, s, out,
+            alloc, stores, names, caller, prunes, trailed, rest, s, tally, out,
         ),
         RowStatement::Delete(s) => attempt_delete(
-            alloc, stores, names, caller, prunes, trailed, rest, s, out,
+            alloc, stores, names, caller, prunes, trailed, rest, s, tally, out,
         ),
     }
 }
@@ -355,15 +390,19 @@ fn attempt_query(
     trailed: bool,
     rest: Option<Rest>,
     query: &Query,
+    tally: &mut Tally,
     out: &mut Vec<u8>,
 ) -> Result<(), Stop>
     requires may { MayAttempt stores.old caller }
     requires rest { MayGoOn stores.old caller rest }
-    ensures { IsStatement rest (ended result) stores.old stores.new out.old.items out.new.items caller (attempted.query_attempted trailed prunes names.now caller rest (query_tree query.now)) }
+    ensures tally { IsTallied rest result stores.old tally.old tally.new caller (given.query_given prunes names.now caller rest (query_tree query.now)) }
+    ensures is { IsStatement rest (ended result) stores.old stores.new out.old.items out.new.items caller (attempted.query_attempted trailed prunes names.now caller rest (query_tree query.now)) }
 {
     match query {
         Query::Rows(s) => {
-            attempt_rows(alloc, stores, names, caller, prunes, trailed, rest, s, out)
+            attempt_rows(
+                alloc, stores, names, caller, prunes, trailed, rest, s, tally, out,
+            )
         }
         Query::ExplainSelect(analyze, s) => {
             attempt_explain(alloc, stores, names, caller, prunes, *analyze, s, out)
@@ -373,7 +412,7 @@ fn attempt_query(
 }
 
 /// A statement from its beginning, or from where it stood, up to its end or to a wait. Where it is done it
-/// prints its answer, if it has one, and its trail, where that is asked for.
+/// prints its answer, if it has one, and its trail, where that is asked for; what it gives and reads is counted.
 pub(crate) fn attempt(
     alloc: Global,
     stores: &mut Stores,
@@ -383,11 +422,13 @@ pub(crate) fn attempt(
     rest: Option<Rest>,
     settings: Settings,
     statement: &Statement,
+    tally: &mut Tally,
     out: &mut Vec<u8>,
 ) -> Result<Ending, Stop>
     requires may { MayAttempt stores.old caller }
     requires rest { MayGoOn stores.old caller rest }
-    ensures { IsStatement rest result stores.old stores.new out.old.items out.new.items caller (attempted.attempted (record { names = names.now; trail = trail }) caller rest settings (statement_tree statement.now)) }
+    ensures tally { IsTallied rest result stores.old tally.old tally.new caller (given.statement_given (record { names = names.now; trail = trail }) caller rest settings (statement_tree statement.now)) }
+    ensures is { IsStatement rest result stores.old stores.new out.old.items out.new.items caller (attempted.attempted (record { names = names.now; trail = trail }) caller rest settings (statement_tree statement.now)) }
 {
     match statement {
         Statement::Command(command) => {
@@ -397,7 +438,7 @@ pub(crate) fn attempt(
             let prunes = settings.enable_partition_pruning;
             let trailed = is_trailed(trail, caller);
             let done = attempt_query(
-                alloc, stores, names, caller, prunes, trailed, rest, query, out,
+                alloc, stores, names, caller, prunes, trailed, rest, query, tally, out,
             );
             ended(done)
         }

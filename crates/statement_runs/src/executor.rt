@@ -7,7 +7,7 @@ ghost use Rattle.statement_runs.specs.Weight.{left, most_left};
 use crate::Kinds;
 use crate::seats::Seats;
 use pg_values::{Fault, NoMemory, Refusal};
-use schedule::leave;
+use schedule::{Tally, leave};
 use sessions::{Asker, Executor, Outcome, Place, Role, Settings};
 use std::alloc::Global;
 
@@ -18,13 +18,15 @@ pub struct StoreExecutor<K: Kinds> {
     pub seats: Seats,
     /// Whose waits statements of others have cancelled, in this order, as long as these have not gone on.
     pub cut: Vec<usize>,
+    /// What completed statements have given and read.
+    pub tally: Tally,
 }
 
 impl<K: Kinds> StoreExecutor<K> {
     /// So many sessions in which nothing has happened.
     pub fn new(alloc: Global, kinds: K, sessions: usize) -> Result<Self, NoMemory>
         requires { sessions ≤ 65 }
-        ensures stands { IfOk result (λ e. StandsFor (K.options e.kinds) e.seats e.cut.items (empty (K.options kinds) sessions)) }
+        ensures stands { IfOk result (λ e. StandsFor (K.options e.kinds) e.seats e.cut.items e.tally (empty (K.options kinds) sessions)) }
         ensures opened { IfOk result (λ e. e.seats.opened ≡ replicate sessions false) }
         ensures left { IfOk result (λ e. left e.seats e.cut.items ≤ most_left) }
     {
@@ -33,6 +35,7 @@ impl<K: Kinds> StoreExecutor<K> {
             kinds,
             seats,
             cut: Vec::new(alloc),
+            tally: Tally { rows: 0, reads: 0 },
         };
         executor.weigh();
         Ok(executor)
@@ -50,8 +53,8 @@ impl<K: Kinds> StoreExecutor<K> {
         ensures kinds { self.new.kinds ≡ self.old.kinds }
         ensures opened { self.new.seats.opened ≡ self.old.seats.opened }
         ensures rests { self.new.seats.rests ≡ self.old.seats.rests }
-        ensures stands { OnOk result ((v : Database K.Options) → StandsFor (K.options self.old.kinds) self.old.seats self.old.cut.items v →
-            StandsFor (K.options self.new.kinds) self.new.seats self.new.cut.items (cuts v session)) }
+        ensures stands { OnOk result ((v : Database K.Options) → StandsFor (K.options self.old.kinds) self.old.seats self.old.cut.items self.old.tally v →
+            StandsFor (K.options self.new.kinds) self.new.seats self.new.cut.items self.new.tally (cuts v session)) }
         ensures others { (s : ℕ) → waits_in self.old.seats s ≡ false → waits_in self.new.seats s ≡ false }
         ensures lower { left self.new.seats self.new.cut.items ≤ left self.old.seats self.old.cut.items }
     {
@@ -68,8 +71,8 @@ impl<K: Kinds> StoreExecutor<K> {
         ensures kinds { self.new.kinds ≡ self.old.kinds }
         ensures opened { self.new.seats.opened ≡ self.old.seats.opened }
         ensures rests { self.new.seats.rests ≡ self.old.seats.rests }
-        ensures stands { OnOk result ((v : Database K.Options) → StandsFor (K.options self.old.kinds) self.old.seats self.old.cut.items v →
-            StandsFor (K.options self.new.kinds) self.new.seats self.new.cut.items (all_cut v sessions.now)) }
+        ensures stands { OnOk result ((v : Database K.Options) → StandsFor (K.options self.old.kinds) self.old.seats self.old.cut.items self.old.tally v →
+            StandsFor (K.options self.new.kinds) self.new.seats self.new.cut.items self.new.tally (all_cut v sessions.now)) }
         ensures others { (s : ℕ) → waits_in self.old.seats s ≡ false → waits_in self.new.seats s ≡ false }
         ensures lower { left self.new.seats self.new.cut.items ≤ left self.old.seats self.old.cut.items }
     {
@@ -120,7 +123,7 @@ impl<K: Kinds> Executor for StoreExecutor<K> {
 
     ghost course = { course K.words };
 
-    ghost stands = { λ e v. StandsFor (K.options e.kinds) e.seats e.cut.items v };
+    ghost stands = { λ e v. StandsFor (K.options e.kinds) e.seats e.cut.items e.tally v };
 
     ghost good = { λ v. AlwaysInOneLeaf v.history × Always K.Holds v.history };
 
@@ -145,7 +148,10 @@ impl<K: Kinds> Executor for StoreExecutor<K> {
     }
 
     fn fresh(&self, alloc: Global) -> Result<Self, NoMemory> {
-        StoreExecutor::new(alloc, self.kinds.copy(alloc)?, self.seats.count())
+        let kinds = self.kinds.copy(alloc)?;
+        let mut executor = StoreExecutor::new(alloc, kinds, self.seats.count())?;
+        executor.tally = self.tally;
+        Ok(executor)
     }
 
     fn parse(alloc: Global, text: &[u8]) -> Result<Vec<K::Statement>, Refusal> {
@@ -203,9 +209,10 @@ impl<K: Kinds> Executor for StoreExecutor<K> {
         let sessions = self.seats.count() as u32;
         let others = K::cancels(alloc, asker.session as u32, sessions, statement)?;
         self.interrupt_all(&others)?;
+        let tally = &mut self.tally;
         let ran = self
             .seats
-            .run(alloc, &self.kinds, asker, settings, statement, out);
+            .run(alloc, &self.kinds, asker, settings, statement, tally, out);
         self.weigh();
         ran
     }
@@ -233,6 +240,10 @@ impl<K: Kinds> Executor for StoreExecutor<K> {
 
     fn oldest(&self) -> Option<usize> {
         self.seats.oldest()
+    }
+
+    fn tally(&self) -> Tally {
+        self.tally
     }
 
     fn cancel(&mut self, _alloc: Global, session: usize) {

@@ -1,6 +1,7 @@
 ghost use Rattle.std.specs.Prelude.{◌≡◌};
 
 use pg_values::{Fault, NoMemory, Refusal};
+use schedule::Tally;
 use sessions::{Place, Role, Settings};
 use statement_steps::{Caller, Ending, Rest, Stop};
 use std::alloc::Global;
@@ -15,6 +16,7 @@ pub trait Kinds: Sized + Drop {
     ghost use Rattle.stores.specs.Stand.{Stands};
     ghost use Rattle.stores.specs.Numbers.{IsAt};
     ghost use Rattle.statement_runs.specs.Once.{AllCommitOnce};
+    ghost use Rattle.statement_runs.specs.Tallies.{Grows};
     ghost use Rattle.statement_runs.specs.Words.{Words};
     ghost use Rattle.statement_steps.specs.Attempts.{CanGoOn, MayAttempt, MayGoOn, IsAttempt, IsHalt, GoesOn};
 
@@ -86,7 +88,8 @@ pub trait Kinds: Sized + Drop {
         ensures { IfOk result (λ cut. cut.items ≡ words.cancels session sessions (tree statement.now)) };
 
     /// A statement from its beginning, or from where it stood, up to its end, to a wait, or to where what it did
-    /// first is to be committed: it appends what it prints where it is done, and prints nothing else.
+    /// first is to be committed: where it is done it appends what it prints, and counts what it has given and
+    /// read; it prints and counts nothing else.
     fn attempt(
         &self,
         alloc: Global,
@@ -95,12 +98,15 @@ pub trait Kinds: Sized + Drop {
         rest: Option<Rest>,
         settings: Settings,
         statement: &Self::Statement,
+        tally: &mut Tally,
         out: &mut Vec<u8>,
     ) -> Result<Ending, Stop>
         requires may { MayAttempt stores.old caller }
         requires rest { MayGoOn stores.old caller rest }
         ensures is { (h : History) → Stands stores.old h → IsAt h caller.session caller.cmd → CanGoOn h caller.session rest →
             IsAttempt result stores.new out.old.items out.new.items caller h (words.attempted (options self.now) caller rest h settings (tree statement.now)) }
+        ensures tally { (h : History) → Stands stores.old h → IsAt h caller.session caller.cmd → CanGoOn h caller.session rest →
+            Grows result tally.old tally.new (words.given (options self.now) caller rest h settings (tree statement.now)) }
         ensures keeps { GoesOn stores.old stores.new caller.session }
         ensures waits { IsHalt result stores.new caller.session };
 

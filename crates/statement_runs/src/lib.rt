@@ -48,6 +48,7 @@ mod reading;
 mod roles;
 mod seats;
 mod statements;
+mod tallies;
 mod trails;
 
 pub use changes::{reset, set};

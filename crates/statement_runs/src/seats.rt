@@ -7,14 +7,15 @@ ghost use Rattle.stores.specs.Events.{begun, committed, aborted, let_go, withdra
 ghost use Rattle.statement_runs.specs.Database as database;
 ghost use Rattle.statement_steps.specs.Made as made;
 ghost use Rattle.statement_runs.specs.Kept.{Adds, AreSeated, AreSessions, TellOf, due_in, waits_in};
-ghost use Rattle.statement_runs.specs.Ran.{attempt_at, waits_by, HasRun};
+ghost use Rattle.statement_runs.specs.Ran.{attempt_at, given_at, waits_by, HasRun};
+ghost use Rattle.statement_runs.specs.Tallies.{added};
 ghost use Rattle.statement_runs.specs.Weight.{slack, most};
 
 use crate::Kinds;
 use history::{WaitOn, Wanted};
 use pg_values::{Isolation, NoMemory, SessionSet};
 use refusals::statement_cancelled;
-use schedule::leave;
+use schedule::{Tally, leave};
 use sessions::{Asker, Outcome, Settings};
 use statement_steps::{Caller, Ending, Rest, Stop};
 use std::alloc::Global;
@@ -376,7 +377,7 @@ impl Seats {
     }
 
     /// A statement of the session is run from its beginning, or from where it stood, up to its end or to a
-    /// wait. One whose wait was cancelled is refused.
+    /// wait, and what it gives and reads is counted. One whose wait was cancelled is refused.
     pub(crate) fn run<K: Kinds>(
         &mut self,
         alloc: Global,
@@ -384,6 +385,7 @@ impl Seats {
         asker: Asker,
         settings: Settings,
         statement: &K::Statement,
+        tally: &mut Tally,
         out: &mut Vec<u8>,
     ) -> Result<Outcome, NoMemory>
         requires known { asker.session < length self.old.opened }
@@ -391,6 +393,7 @@ impl Seats {
         requires free { waits_in self.old asker.session ≡ false }
         ensures ran { IfOk result (λ o. (h : History) → TellOf self.old h →
             HasRun (attempt_at K.words (K.options kinds.now) self.old asker h settings (K.tree statement.now)) asker self.old self.new out.old.items out.new.items o h) }
+        ensures tally { IfOk result (λ o. (h : History) → TellOf self.old h → tally.new ≡ added tally.old (given_at K.words (K.options kinds.now) self.old asker h settings (K.tree statement.now))) }
         ensures opened { self.new.opened ≡ self.old.opened }
         ensures waits { IfOk result (λ o. waits_in self.new asker.session ≡ waits_by o) }
         ensures lower { result ≡ Ok outcomes.Waits → slack self.new ≤ slack self.old }
@@ -428,6 +431,7 @@ impl Seats {
             rest,
             settings,
             statement,
+            tally,
             out,
         );
         self.ready = self.stores.locks.ready();

@@ -5,6 +5,7 @@ use crate::{Kinds, changed_settings, looks, read_block, role_of};
 use detach_statement::detach_misplaced;
 use out_text::write_fault_text;
 use pg_values::{Fault, NoMemory, Refusal};
+use schedule::Tally;
 use select_statement::cancelled;
 use sessions::{Place, Role, Settings};
 use sql_ast::{Command, Detachment, Query, RowStatement, Statement};
@@ -119,12 +120,13 @@ impl Kinds for Statements {
         rest: Option<Rest>,
         settings: Settings,
         statement: &Statement,
+        tally: &mut Tally,
         out: &mut Vec<u8>,
     ) -> Result<Ending, Stop> {
         let names = &self.names;
         let trail = self.trail;
         attempt(
-            alloc, stores, names, trail, caller, rest, settings, statement, out,
+            alloc, stores, names, trail, caller, rest, settings, statement, tally, out,
         )
     }
 

@@ -55,8 +55,9 @@ impl Opener for OpensStores {
 }
 
 /// Judges the words behind the program's name, reads the whole of `input`, and does what the words ask for with the
-/// script that it is: runs it, with the trails of its statements or without, or tells which of its blocks are refused. The run is written to `out` as it happens,
-/// the one line of a refusal to `err`.
+/// script that it is: runs it, with the trails of its statements or without, or tells which of its blocks are refused.
+/// Or it reads no input, runs the script of a seed, and tells what is counted of the run. A run is written to `out` as
+/// it happens, the one line of a refusal to `err`.
 pub fn partscript_run<S: Source, K: Sink, E: Sink>(
     alloc: Global,
     words: &[String],

@@ -10,7 +10,7 @@ use Rattle.script_program.proofs.Endings.{nothing, nothing_of, told}
 use Rattle.script_program.proofs.program.run_program.Goals as goal
 
 pub returns-in-Ok : goal.returns-in-Ok
-returns-in-Ok g c opened stands = c.read_and_do.ensures opened stands (map string_bytes c.args.words.now) c.in-Ok.ensures
+returns-in-Ok g c opened stands = c.do_asked.ensures opened stands (map string_bytes c.args.words.now) c.in-Ok.ensures
 
 pub returns-in-Err-Usage : goal.returns-in-Err-Usage
 returns-in-Err-Usage g c opened stands =

@@ -12,7 +12,7 @@ loop-session-preserved g c =
       opened = e.opened ∙ i.opened;
       rests = e.rests ∙ i.rests;
       stands = λ v s. let x = i.stands v s in
-          next_cut (λ y. StandsFor (g.K.Kinds.options c.interrupt.new.self.kinds) c.interrupt.new.self.seats c.interrupt.new.self.cut.items y) v x.0 c.args.sessions.now c.loop-session.session-index
+          next_cut (λ y. StandsFor (g.K.Kinds.options c.interrupt.new.self.kinds) c.interrupt.new.self.seats c.interrupt.new.self.cut.items c.interrupt.new.self.tally y) v x.0 c.args.sessions.now c.loop-session.session-index
           (get_or c.args.sessions.now c.loop-session.session-index 0) (omega arith) refl x.2 (e.stands x.0 x.1);
       others = λ s off. e.others s (i.others s off);
       lower = let a = e.lower in let b = i.lower in omega (arith, a, b);

@@ -7,7 +7,7 @@ use Rattle.statement_runs.proofs.executor.StoreExecutorExecutor.resume.Goals as 
 
 pub returns-then-is_ready-clause-stands : goal.returns-then-is_ready-clause-stands
 returns-then-is_ready-clause-stands g c = λ v stands.
-    cut_resumes (g.K.Kinds.options c.args.self.now.kinds) c.args.self.now.seats c.args.self.now.cut.items c.leave.new.held.items v c.args.session
+    cut_resumes (g.K.Kinds.options c.args.self.now.kinds) c.args.self.now.seats c.args.self.now.cut.items c.leave.new.held.items c.args.self.now.tally v c.args.session
     (ap (λ xs. is_ready (interrupted_in c.args.self.now.seats xs) c.args.session) (sym c.deref.ensures.value) ∙ (ap (λ o. is_ready o c.args.session) (sym c.first_cancelled-first.ensures.is) ∙ (sym c.is_ready.ensures ∙ c.if-is_ready.true)))
     c.leave.ensures.is stands
 
@@ -19,7 +19,7 @@ returns-then-is_ready-clause-lowers g c =
 
 pub returns-clause-stands : goal.returns-clause-stands
 returns-clause-stands g c = λ v stands.
-    wait_resumes (g.K.Kinds.options c.args.self.now.kinds) c.args.self.now.seats c.resume.new.self c.args.self.now.cut.items v c.args.session
+    wait_resumes (g.K.Kinds.options c.args.self.now.kinds) c.args.self.now.seats c.resume.new.self c.args.self.now.cut.items c.args.self.now.tally v c.args.session
     (ap (λ xs. is_ready (interrupted_in c.args.self.now.seats xs) c.args.session) (sym c.deref.ensures.value) ∙ (ap (λ o. is_ready o c.args.session) (sym c.first_cancelled-first.ensures.is) ∙ (sym c.is_ready.ensures ∙ c.if-is_ready.false)))
     c.resume.ensures.adds c.resume.ensures.opened c.resume.ensures.commands c.resume.ensures.cancelled c.resume.ensures.rests stands
 

@@ -6,15 +6,17 @@ use Rattle.statement_steps.specs.Attempts.{CanGoOn, IsAttempt, IsHalt}
 use Rattle.statement_runs.specs.Database.{caller_of}
 use Rattle.statement_steps.specs.Made.{number_after}
 use Rattle.statement_runs.specs.Kept.{AreSeated, TellOf}
-use Rattle.statement_runs.specs.Ran.{attempt_at, HasRun}
+use Rattle.statement_runs.specs.Ran.{attempt_at, given_at, HasRun}
+use Rattle.statement_runs.specs.Tallies.{added, Grows}
 use Rattle.statement_runs.specs.Weight.{slack}
 use Rattle.statement_runs.specs.contracts.seats.Seats.{the_view}
+use Rattle.statement_steps.specs.declared.ending.Ending.{Ending}
 use Rattle.statement_steps.specs.declared.ending.Ending.TheVariants as endings
 use Rattle.statement_steps.specs.declared.rest.Rest.TheVariants.{Detach}
 use Rattle.statement_steps.specs.declared.stop.Stop.TheVariants as stop
 use Rattle.statement_runs.proofs.Lower.{tried_lower}
 use Rattle.statement_runs.proofs.Steps.{seats, seated_after, same_size, as_long, known_of}
-use Rattle.statement_runs.proofs.Runs.{IsTried, tried, as_meant, set_twice, cancelled_ran, cancelled_tells, done_tells, done_ran, refused_tells, refused_ran, commits_tells, commits_ran, waits_tells, waits_ran, ran_kept, goes_size, one_more}
+use Rattle.statement_runs.proofs.Runs.{IsTried, tried, as_meant, cut_gives, given_in, set_twice, cancelled_ran, cancelled_tells, done_tells, done_ran, refused_tells, refused_ran, commits_tells, commits_ran, waits_tells, waits_ran, ran_kept, goes_size, one_more}
 use Rattle.statement_runs.proofs.seats.Seats.run.Goals as goal
 
 pub returns-then-flag_at-clause-ran : goal.returns-then-flag_at-clause-ran
@@ -203,3 +205,45 @@ returns-in-Commits-clause-heard g c = subst (λ v. (h : History) × TellOf v h �
 
 pub returns-else-is_err-clause-heard : goal.returns-else-is_err-clause-heard
 returns-else-is_err-clause-heard g c = subst (λ v. (h : History) × TellOf v h × AreSeated v) c.self.view_is (let told = c.self.invariant.sound c.if-not-self.false in (told.0, told.1, c.self.invariant.seated))
+
+-- ---- what is counted
+
+pub returns-then-flag_at-clause-tally : goal.returns-then-flag_at-clause-tally
+returns-then-flag_at-clause-tally g c h tells =
+    subst (λ v. TellOf v h → c.args.tally.now ≡ added c.args.tally.now (given_at g.K.Kinds.words (g.K.Kinds.options c.args.kinds.now) v c.args.asker h c.args.settings (g.K.Kinds.tree c.args.statement.now))) c.self.view_is
+    (λ told. cut_gives g.K.Kinds.words (g.K.Kinds.options c.args.kinds.now) (the_view c.self.inside) c.args.asker h c.args.settings (g.K.Kinds.tree c.args.statement.now) c.args.tally.now (ap (λ xs. slice_index_or xs c.args.asker.session false) (sym c.deref-2.ensures.value) ∙ (sym c.flag_at.ensures ∙ c.if-flag_at.true)))
+    tells
+
+pub returns-in-Done-clause-tally : goal.returns-in-Done-clause-tally
+returns-in-Done-clause-tally g c h tells =
+    let number = (c.number_at-cmd.ensures ∙ ap (λ xs. slice_index_or xs c.args.asker.session 0) c.deref.ensures.value) in
+    subst (λ v. TellOf v h → c.attempt-answer.new.tally ≡ added c.args.tally.now (given_at g.K.Kinds.words (g.K.Kinds.options c.args.kinds.now) v c.args.asker h c.args.settings (g.K.Kinds.tree c.args.statement.now))) c.self.view_is
+    (λ told. given_in g.K.Kinds.words (g.K.Kinds.options c.args.kinds.now) (the_view c.self.inside) c.args.asker h c.args.settings (g.K.Kinds.tree c.args.statement.now) c.count-sessions.result c.number_at-cmd.result c.take_rest-rest.result c.args.tally.now c.attempt-answer.new.tally (ap (λ xs. slice_index_or xs c.args.asker.session false) (sym c.deref-2.ensures.value) ∙ (sym c.flag_at.ensures ∙ c.if-flag_at.false)) (c.count-sessions.ensures.is ∙ ap (λ v. length v.opened) (sym c.self.view_is)) number c.take_rest-rest.ensures.is
+    (c.in-Ok.ensures.tally h told.stands (subst (IsAt h c.args.asker.session) (sym number) (told.numbered c.args.asker.session)) (subst (CanGoOn h c.args.asker.session) (sym c.take_rest-rest.ensures.is) (told.waits.going_on c.args.asker.session))))
+    tells
+
+pub returns-in-Err-Refused-clause-tally : goal.returns-in-Err-Refused-clause-tally
+returns-in-Err-Refused-clause-tally g c h tells =
+    let number = (c.number_at-cmd.ensures ∙ ap (λ xs. slice_index_or xs c.args.asker.session 0) c.deref.ensures.value) in
+    subst (λ v. TellOf v h → c.attempt-answer.new.tally ≡ added c.args.tally.now (given_at g.K.Kinds.words (g.K.Kinds.options c.args.kinds.now) v c.args.asker h c.args.settings (g.K.Kinds.tree c.args.statement.now))) c.self.view_is
+    (λ told. given_in g.K.Kinds.words (g.K.Kinds.options c.args.kinds.now) (the_view c.self.inside) c.args.asker h c.args.settings (g.K.Kinds.tree c.args.statement.now) c.count-sessions.result c.number_at-cmd.result c.take_rest-rest.result c.args.tally.now c.attempt-answer.new.tally (ap (λ xs. slice_index_or xs c.args.asker.session false) (sym c.deref-2.ensures.value) ∙ (sym c.flag_at.ensures ∙ c.if-flag_at.false)) (c.count-sessions.ensures.is ∙ ap (λ v. length v.opened) (sym c.self.view_is)) number c.take_rest-rest.ensures.is
+    (subst (λ x. Grows {X = Ending} (Err x) c.args.tally.now c.attempt-answer.new.tally (g.K.Kinds.words.given (g.K.Kinds.options c.args.kinds.now) (caller_of c.count-sessions.result c.number_at-cmd.result c.args.asker) c.take_rest-rest.result h c.args.settings (g.K.Kinds.tree c.args.statement.now))) c.in-Err-Refused.field-0-is
+    (c.in-Err-Refused.ensures.tally h told.stands (subst (IsAt h c.args.asker.session) (sym number) (told.numbered c.args.asker.session)) (subst (CanGoOn h c.args.asker.session) (sym c.take_rest-rest.ensures.is) (told.waits.going_on c.args.asker.session)))))
+    tells
+
+pub returns-in-Commits-clause-tally : goal.returns-in-Commits-clause-tally
+returns-in-Commits-clause-tally g c h tells =
+    let number = (c.number_at-cmd.ensures ∙ ap (λ xs. slice_index_or xs c.args.asker.session 0) c.deref.ensures.value) in
+    subst (λ v. TellOf v h → c.attempt-answer.new.tally ≡ added c.args.tally.now (given_at g.K.Kinds.words (g.K.Kinds.options c.args.kinds.now) v c.args.asker h c.args.settings (g.K.Kinds.tree c.args.statement.now))) c.self.view_is
+    (λ told. given_in g.K.Kinds.words (g.K.Kinds.options c.args.kinds.now) (the_view c.self.inside) c.args.asker h c.args.settings (g.K.Kinds.tree c.args.statement.now) c.count-sessions.result c.number_at-cmd.result c.take_rest-rest.result c.args.tally.now c.attempt-answer.new.tally (ap (λ xs. slice_index_or xs c.args.asker.session false) (sym c.deref-2.ensures.value) ∙ (sym c.flag_at.ensures ∙ c.if-flag_at.false)) (c.count-sessions.ensures.is ∙ ap (λ v. length v.opened) (sym c.self.view_is)) number c.take_rest-rest.ensures.is
+    (c.in-Ok.ensures.tally h told.stands (subst (IsAt h c.args.asker.session) (sym number) (told.numbered c.args.asker.session)) (subst (CanGoOn h c.args.asker.session) (sym c.take_rest-rest.ensures.is) (told.waits.going_on c.args.asker.session))))
+    tells
+
+pub returns-else-is_err-clause-tally : goal.returns-else-is_err-clause-tally
+returns-else-is_err-clause-tally g c h tells =
+    let number = (c.number_at-cmd.ensures ∙ ap (λ xs. slice_index_or xs c.args.asker.session 0) c.deref.ensures.value) in
+    subst (λ v. TellOf v h → c.attempt-answer.new.tally ≡ added c.args.tally.now (given_at g.K.Kinds.words (g.K.Kinds.options c.args.kinds.now) v c.args.asker h c.args.settings (g.K.Kinds.tree c.args.statement.now))) c.self.view_is
+    (λ told. given_in g.K.Kinds.words (g.K.Kinds.options c.args.kinds.now) (the_view c.self.inside) c.args.asker h c.args.settings (g.K.Kinds.tree c.args.statement.now) c.count-sessions.result c.number_at-cmd.result c.take_rest-rest.result c.args.tally.now c.attempt-answer.new.tally (ap (λ xs. slice_index_or xs c.args.asker.session false) (sym c.deref-2.ensures.value) ∙ (sym c.flag_at.ensures ∙ c.if-flag_at.false)) (c.count-sessions.ensures.is ∙ ap (λ v. length v.opened) (sym c.self.view_is)) number c.take_rest-rest.ensures.is
+    (subst (λ x. Grows {X = Ending} (Err x) c.args.tally.now c.attempt-answer.new.tally (g.K.Kinds.words.given (g.K.Kinds.options c.args.kinds.now) (caller_of c.count-sessions.result c.number_at-cmd.result c.args.asker) c.take_rest-rest.result h c.args.settings (g.K.Kinds.tree c.args.statement.now))) c.in-Err-Waits.field-0-is
+    (c.in-Err-Waits.ensures.tally h told.stands (subst (IsAt h c.args.asker.session) (sym number) (told.numbered c.args.asker.session)) (subst (CanGoOn h c.args.asker.session) (sym c.take_rest-rest.ensures.is) (told.waits.going_on c.args.asker.session)))))
+    tells
