@@ -3,6 +3,7 @@ pub mod Inserts
 pub mod Names
 pub mod Once
 pub mod Operands
+pub mod Orders
 pub mod Rewritten
 pub mod Selects
 pub mod Settings

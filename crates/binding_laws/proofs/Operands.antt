@@ -174,7 +174,7 @@ in_item_has : (items : List Item) (table name : List ℕ) (o : Option Item) → 
 in_item_has items table name None h = cc
 in_item_has items table name (Some item) h = h
 
-allowed_then : (b : Bool) (fs : List Fault) → table_name_faults b fs ≡ [] → fs ≡ []
+pub allowed_then : (b : Bool) (fs : List Fault) → table_name_faults b fs ≡ [] → fs ≡ []
 allowed_then true fs h = h
 allowed_then false fs h = cc
 

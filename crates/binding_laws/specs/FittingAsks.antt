@@ -5,11 +5,14 @@ use Rattle.pg_values.specs.declared.value.Value.{Value}
 use Rattle.sql_ast.specs.Expressions.{Tree, Trees}
 use Rattle.sql_ast.specs.Queries.{SelectTree, Setting}
 use Rattle.cond_logic.specs.Trees.{CondTree, listed}
+use Rattle.cond_logic.specs.declared.select.SortBy.{SortBy}
+use Rattle.cond_logic.specs.declared.select.SortBy.TheVariants as by
+use Rattle.cond_logic.specs.declared.select.SortKey.{SortKey}
 use Rattle.expression_binder.specs.Kinds.{are_alike}
 use Rattle.expression_binder.specs.Scopes.{Item}
 use Rattle.expression_binder.specs.declared.scope.Param.{Param}
 use Rattle.expression_binder.specs.declared.scope.ScopeColumn.{ScopeColumn}
-use Rattle.binding_laws.specs.Fitting.{IsOf, ArgumentsFit, Fits, AllFit, HasKind}
+use Rattle.binding_laws.specs.Fitting.{IsOf, Lies, IsNumbered, ArgumentsFit, Fits, AllFit, HasKind}
 use Rattle.cond_logic.specs.Asked.{OutputTree, SelectMeant, InsertMeant, SettingMeant, ChangeMeant}
 use Rattle.sql_binder.specs.Selects.{bound_select}
 use Rattle.sql_binder.specs.Inserts.{bound_insert, kind_at, kinds_of}
@@ -63,6 +66,21 @@ InsertsFit = (columns : List ScopeColumn) (params : List Param) (session : ℕ) 
 
 abbrev pub ChangesFit : Type 0
 ChangesFit = (item : Item) (params : List Param) (session : ℕ) (ws : List Setting) (cond : Option Tree) (m : ChangeMeant) → ArgumentsFit params → nat_le session 2147483647 ≡ true → bound_change item params session ws cond ≡ Ok m → ChangeFits item params m
+
+-- ---- ORDER BY
+
+-- an output that is there, a column that lies in its item, or the tables of an item
+abbrev pub KeyFits : List Item → (outputs : ℕ) → SortBy → Type 0
+KeyFits items n (by.Output place) = place < n
+KeyFits items n (by.Column c) = (k : Kind) × Lies items c k
+KeyFits items n (by.TableName i) = IsNumbered items i
+
+abbrev pub KeysFit : List Item → (outputs : ℕ) → List SortKey → Type 0
+KeysFit items n [] = Unit {0}
+KeysFit items n (k ∷ ks) = KeyFits items n k.by × KeysFit items n ks
+
+abbrev pub OrdersFit : Type 0
+OrdersFit = (items : List Item) (params : List Param) (session : ℕ) (t : SelectTree) (m : SelectMeant) → bound_select items params session t ≡ Ok m → KeysFit items (length m.outputs) m.order
 
 -- ---- columns that are set come once
 

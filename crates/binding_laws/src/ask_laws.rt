@@ -1,4 +1,4 @@
-ghost use Rattle.binding_laws.specs.FittingAsks.{ChangesFit, ChangesOnce, InsertsFit, InsertsOnce, SelectsFit};
+ghost use Rattle.binding_laws.specs.FittingAsks.{ChangesFit, ChangesOnce, InsertsFit, InsertsOnce, OrdersFit, SelectsFit};
 
 /// What a SELECT asks for fits the items of its FROM.
 pub fn selects_fit()
@@ -13,6 +13,11 @@ pub fn inserts_fit()
 /// What an UPDATE or a DELETE asks for fits its table.
 pub fn changes_fit()
     ensures { ChangesFit }
+{}
+
+/// What rows are sorted by is there.
+pub fn orders_fit()
+    ensures { OrdersFit }
 {}
 
 /// No column is set twice.

@@ -1,3 +1,4 @@
+pub mod Bare
 pub mod Conditions
 pub mod Earlier
 pub mod EarlierColumns

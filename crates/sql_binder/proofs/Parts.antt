@@ -10,7 +10,7 @@ use Rattle.expression_binder.specs.declared.scope.Param.{Param}
 use Rattle.expression_binder.proofs.Firsts.{value_of}
 use Rattle.sql_binder.specs.Counts.{count, or_none}
 use Rattle.sql_binder.specs.From.{all_conditions, condition_constants, condition_meanings}
-use Rattle.sql_binder.specs.Items.{list_constants, list_names, list_outputs}
+use Rattle.sql_binder.specs.Items.{HeadingView, list_constants, list_headings, list_outputs}
 use Rattle.sql_binder.specs.Keys.{keys_constants, sort_keys}
 use Rattle.sql_binder.specs.Selects as selects
 use Rattle.sql_binder.specs.Selects.{Front, Tail, list_scope, count_scope}
@@ -35,10 +35,10 @@ module _ (items : List Item) (params : List Param) (session : ℕ) (ls : List Li
   abbrev tail_faults : Scope → List Fault
   tail_faults k = keys_constants keys ++ (fault_in (count negative_limit k limit) ++ fault_in (count negative_offset k offset))
 
-  abbrev tail_meant : Scope → Scope → List (List ℕ) → Tail
+  abbrev tail_meant : Scope → Scope → List HeadingView → Tail
   tail_meant n k names = (sort_keys n names keys, (or_none (count negative_limit k limit), or_none (count negative_offset k offset)))
 
-  pub bound_parts : (n k : Scope) (names : List (List ℕ)) (front : Front) (tail : Tail) → n ≡ list_scope items params session → k ≡ count_scope items params session → names ≡ list_names items ls
+  pub bound_parts : (n k : Scope) (names : List HeadingView) (front : Front) (tail : Tail) → n ≡ list_scope items params session → k ≡ count_scope items params session → names ≡ list_headings items ls
       → or_first (front_faults n) (front_meant n) ≡ Ok front → or_first (tail_faults k) (tail_meant n k names) ≡ Ok tail
       → or_first (selects.constant_faults items params session (selected ls from cond keys limit offset)) (selects.meaning items params session (selected ls from cond keys limit offset)) ≡ Ok (made front tail)
   bound_parts n k names front tail a b c p q =
@@ -48,4 +48,4 @@ module _ (items : List Item) (params : List Param) (session : ℕ) (ls : List Li
       let q1 = subst (λ x. or_first (tail_faults k) (tail_meant x k names) ≡ Ok tail) a q in
       let q2 = subst (λ x. or_first (tail_faults x) (tail_meant s x names) ≡ Ok tail) b q1 in
       let q3 = subst (λ x. or_first (tail_faults j) (tail_meant s j x) ≡ Ok tail) c q2 in
-      both_parts made (front_faults s) (tail_faults j) (front_meant s) front (tail_meant s j (list_names items ls)) tail p1 q3
+      both_parts made (front_faults s) (tail_faults j) (front_meant s) front (tail_meant s j (list_headings items ls)) tail p1 q3

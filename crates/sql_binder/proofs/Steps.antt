@@ -1,13 +1,11 @@
 -- Steps of loops, and what stands behind what.
-use Rattle.std.proofs.Common.{ℕ, suc, ◌+◌, ◌<◌, ◌≡◌, List, [], ◌∷◌, ◌++◌, drop, length, get_or, refl, sym, ap, ◌∙◌, add-one, drop-cons, append_assoc}
-use Rattle.std.specs.Str.{bytes_eq}
+use Rattle.std.proofs.Common.{ℕ, ◌≡◌, List, [], ◌∷◌, ◌++◌, refl, sym, ap, ◌∙◌, append_assoc}
 use Rattle.sql_ast.specs.Expressions.{Tree}
 use Rattle.expression_binder.specs.Conditions.{cond_faults}
 use Rattle.expression_binder.specs.Meanings.{constant_faults, meaning}
 use Rattle.expression_binder.specs.declared.scope.Param.{Param}
 use Rattle.expression_binder.specs.Scopes.{Item, condition_scope}
 use Rattle.sql_binder.specs.From.{condition_faults, condition_constants, condition_meanings}
-use Rattle.sql_binder.specs.Keys.{with_output, outputs_named}
 
 -- ---- conditions
 
@@ -27,12 +25,3 @@ module _ (params : List Param) (session : ℕ) where
   pub meanings_behind : (cs ds : List (List Item × Tree)) → condition_meanings params session (cs ++ ds) ≡ condition_meanings params session cs ++ condition_meanings params session ds
   meanings_behind [] ds = refl
   meanings_behind (c ∷ cs) ds = ap (λ ms. meaning (condition_scope c.0 params session) c.1 ∷ ms) (meanings_behind cs ds)
-
--- what the last output columns say, and one before them
-pub output_step : (name : List ℕ) (os : List (List ℕ)) (p q : ℕ) (o : List ℕ) → q ≡ p + 1 → p < length os → o ≡ get_or os p o
-    → outputs_named name p (drop p os) ≡ with_output (bytes_eq o name) p (outputs_named name q (drop q os))
-output_step name os p q o next within is =
-    ap (outputs_named name p) (drop-cons os p o within)
-    ∙ (ap (λ y. with_output (bytes_eq y name) p (outputs_named name (p + 1) (drop (suc p) os))) (sym is)
-    ∙ (ap (λ n. with_output (bytes_eq o name) p (outputs_named name (p + 1) (drop n os))) (sym (add-one p))
-    ∙ ap (λ n. with_output (bytes_eq o name) p (outputs_named name n (drop n os))) (sym next)))

@@ -74,26 +74,37 @@ abbrev pub output_name : Tree → Option (List ℕ) → List ℕ
 output_name t None = own_name t
 output_name t (Some alias) = alias
 
--- the names of the output columns
-abbrev pub column_names : List ScopeColumn → List (List ℕ)
-column_names cs = map (λ c. c.name) cs
+-- an output column as ORDER BY finds it: its name, and the expression that it gives
+pub record HeadingView : Type 0 where
+  pub name : List ℕ
+  pub value : Tree
 
-abbrev pub all_names : List Item → List (List ℕ)
-all_names [] = []
-all_names (i ∷ is) = column_names i.columns ++ all_names is
+abbrev pub column_heading : (table : List ℕ) → ScopeColumn → HeadingView
+column_heading table c = record { name = c.name; value = leaf (ColumnOf table c.name) }
 
-abbrev pub names_of : Option Item → List (List ℕ)
-names_of None = []
-names_of (Some item) = column_names item.columns
+abbrev pub column_headings : (table : List ℕ) → List ScopeColumn → List HeadingView
+column_headings table [] = []
+column_headings table (c ∷ cs) = column_heading table c ∷ column_headings table cs
 
-abbrev pub listed_names : List Item → Listed → List (List ℕ)
-listed_names items all_columns = all_names items
-listed_names items (columns_of t) = names_of (item_called items t)
-listed_names items (one_column o) = output_name o.0 o.1 ∷ []
+abbrev pub item_headings : Item → List HeadingView
+item_headings item = column_headings item.name item.columns
 
-abbrev pub list_names : List Item → List Listed → List (List ℕ)
-list_names items [] = []
-list_names items (l ∷ ls) = listed_names items l ++ list_names items ls
+abbrev pub all_headings : List Item → List HeadingView
+all_headings [] = []
+all_headings (i ∷ is) = item_headings i ++ all_headings is
+
+abbrev pub headings_of : Option Item → List HeadingView
+headings_of None = []
+headings_of (Some item) = item_headings item
+
+abbrev pub listed_headings : List Item → Listed → List HeadingView
+listed_headings items all_columns = all_headings items
+listed_headings items (columns_of t) = headings_of (item_called items t)
+listed_headings items (one_column o) = record { name = output_name o.0 o.1; value = o.0 } ∷ []
+
+abbrev pub list_headings : List Item → List Listed → List HeadingView
+list_headings items [] = []
+list_headings items (l ∷ ls) = listed_headings items l ++ list_headings items ls
 
 abbrev pub output_scalar : Scope → Tree → Result ScalarTree Fault
 output_scalar s t = scalar s (kind_alone (typed s t).given) t

@@ -18,17 +18,23 @@ use Rattle.cond_logic.specs.declared.select.SortBy.TheVariants as by
 use Rattle.cond_logic.specs.declared.select.SortKey.{SortKey}
 use Rattle.sql_binder.specs.declared.keys.Named.{Named}
 use Rattle.sql_binder.specs.declared.keys.Named.TheVariants as named
+use Rattle.sql_binder.specs.Items.{HeadingView}
+use Rattle.sql_binder.specs.Same.{same}
 
-abbrev pub with_output : Bool → (place : ℕ) → Named → Named
-with_output false place found = found
-with_output true place named.Missing = named.One place
-with_output true place (named.One other) = named.Several
-with_output true place named.Several = named.Several
+-- the output columns of that name give that expression
+abbrev pub give_all : List Item → (name : List ℕ) → Tree → List HeadingView → Bool
+give_all items name t [] = true
+give_all items name t (h ∷ hs) = if bytes_eq h.name name && not (same items h.value t) then false else give_all items name t hs
 
--- the output columns of that name, from a place on
-abbrev pub outputs_named : List ℕ → (place : ℕ) → List (List ℕ) → Named
-outputs_named name place [] = named.Missing
-outputs_named name place (o ∷ os) = with_output (bytes_eq o name) place (outputs_named name (place + 1) os)
+-- the first of that name, where all give the same expression
+abbrev pub one_of : (place : ℕ) → Bool → Named
+one_of place true = named.One place
+one_of place false = named.Several
+
+-- the output columns of that name, from a place on: several that give the same expression count as one
+abbrev pub output_named : List Item → (name : List ℕ) → (place : ℕ) → List HeadingView → Named
+output_named items name place [] = named.Missing
+output_named items name place (h ∷ hs) = if bytes_eq h.name name then one_of place (give_all items name h.value hs) else output_named items name (place + 1) hs
 
 -- where no output column has the name it is a column's
 abbrev pub name_faults : Scope → List ℕ → Named → List Fault
@@ -51,15 +57,15 @@ computed_faults s (all_of ts) = cond_faults s (all_of ts)
 computed_faults s (any_of ts) = cond_faults s (any_of ts)
 computed_faults s t = operand_faults s t
 
-abbrev pub key_faults : Scope → List (List ℕ) → Tree → List Fault
+abbrev pub key_faults : Scope → List HeadingView → Tree → List Fault
 key_faults s os (leaf (Number n)) = position_faults n (length os)
-key_faults s os (leaf (Column c)) = name_faults s c (outputs_named c 0 os)
+key_faults s os (leaf (Column c)) = name_faults s c (output_named s.items c 0 os)
 key_faults s os (leaf (ColumnOf t c)) = operand_faults s (leaf (ColumnOf t c))
 key_faults s os (leaf TableName) = operand_faults s (leaf TableName)
 key_faults s os (leaf (TableNameOf t)) = operand_faults s (leaf (TableNameOf t))
 key_faults s os t = computed_faults s t ++ left_out (codes "ORDER") ∷ []
 
-abbrev pub keys_faults : Scope → List (List ℕ) → List Key → List Fault
+abbrev pub keys_faults : Scope → List HeadingView → List Key → List Fault
 keys_faults s os [] = []
 keys_faults s os (k ∷ ks) = key_faults s os k.0 ++ keys_faults s os ks
 
@@ -91,17 +97,17 @@ abbrev pub by_item_table : Option Item → SortBy
 by_item_table None = by.Output 0
 by_item_table (Some i) = by.TableName i.number
 
-abbrev pub key_by : Scope → List (List ℕ) → Tree → SortBy
+abbrev pub key_by : Scope → List HeadingView → Tree → SortBy
 key_by s os (leaf (Number n)) = by.Output (n - 1)
-key_by s os (leaf (Column c)) = by_name s c (outputs_named c 0 os)
+key_by s os (leaf (Column c)) = by_name s c (output_named s.items c 0 os)
 key_by s os (leaf (ColumnOf t c)) = by_column (look_up_in (item_called s.items t) c)
 key_by s os (leaf TableName) = by_row_table s.items
 key_by s os (leaf (TableNameOf t)) = by_item_table (item_called s.items t)
 key_by s os t = by.Output 0
 
-abbrev pub sort_key : Scope → List (List ℕ) → Key → SortKey
+abbrev pub sort_key : Scope → List HeadingView → Key → SortKey
 sort_key s os k = record { by = key_by s os k.0; descending = k.1.0; nulls_first = k.1.1 }
 
-abbrev pub sort_keys : Scope → List (List ℕ) → List Key → List SortKey
+abbrev pub sort_keys : Scope → List HeadingView → List Key → List SortKey
 sort_keys s os [] = []
 sort_keys s os (k ∷ ks) = sort_key s os k ∷ sort_keys s os ks

@@ -5,4 +5,6 @@ pub mod From
 pub mod Inserts
 pub mod Items
 pub mod Keys
+pub mod Lent
+pub mod Same
 pub mod Selects

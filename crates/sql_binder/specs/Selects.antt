@@ -9,7 +9,7 @@ use Rattle.expression_binder.specs.Firsts.{or_first, fault_in}
 use Rattle.expression_binder.specs.Scopes.{Item, Scope, condition_scope}
 use Rattle.sql_binder.specs.Counts.{count, count_faults, or_none}
 use Rattle.sql_binder.specs.From.{from_faults, all_conditions, condition_faults, condition_constants, condition_meanings}
-use Rattle.sql_binder.specs.Items.{in_a_select_list, list_faults, list_constants, list_names, list_outputs}
+use Rattle.sql_binder.specs.Items.{in_a_select_list, list_faults, list_constants, list_headings, list_outputs}
 use Rattle.sql_binder.specs.Keys.{keys_faults, keys_constants, sort_keys}
 use Rattle.cond_logic.specs.Asked.{OutputTree, SelectMeant}
 use Rattle.cond_logic.specs.declared.select.SortKey.{SortKey}
@@ -40,7 +40,7 @@ abbrev pub name_faults : List Item → List Param → ℕ → SelectTree → Lis
 name_faults items params session (selected ls from cond keys limit offset) =
     (list_faults (list_scope items params session) ls
     ++ condition_faults params session (all_conditions items from cond))
-    ++ (keys_faults (list_scope items params session) (list_names items ls) keys
+    ++ (keys_faults (list_scope items params session) (list_headings items ls) keys
     ++ (count_faults (count_scope items params session) limit
     ++ count_faults (count_scope items params session) offset))
 
@@ -62,7 +62,7 @@ abbrev pub meaning : List Item → List Param → ℕ → SelectTree → SelectM
 meaning items params session (selected ls from cond keys limit offset) = record {
   outputs = list_outputs (list_scope items params session) ls;
   conditions = condition_meanings params session (all_conditions items from cond);
-  order = sort_keys (list_scope items params session) (list_names items ls) keys;
+  order = sort_keys (list_scope items params session) (list_headings items ls) keys;
   limit = or_none (count negative_limit (count_scope items params session) limit);
   offset = or_none (count negative_offset (count_scope items params session) offset);
 }

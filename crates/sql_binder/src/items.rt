@@ -8,8 +8,10 @@ ghost use Rattle.expression_binder.specs.Kinds as kinds;
 ghost use Rattle.expression_binder.specs.Operands.{typed};
 ghost use Rattle.expression_binder.specs.Scopes as scopes;
 ghost use Rattle.sql_binder.specs.Items as items_of;
+ghost use Rattle.sql_binder.specs.Lent.{heading};
 ghost use Rattle.cond_logic.specs.Asked.{output_tree};
 
+use crate::heading::Heading;
 use cond_logic::{ColumnId, Output, Scalar};
 use expression_binder::{
     Allowed, Names, ScopeColumn, ScopeItem, bind_scalar, check_item, check_operand, item_called,
@@ -64,7 +66,7 @@ pub(crate) fn check_list(
     Ok(())
 }
 
-// ---- names
+// ---- headings
 
 fn leaf_name(leaf: &Leaf) -> &[u8]
     ensures { result.now ≡ items_of.leaf_name leaf.now }
@@ -105,81 +107,92 @@ fn output_name<'a>(e: &'a Expr, alias: &'a Option<PgText>) -> &'a [u8]
     }
 }
 
-fn add_name(alloc: Global, names: &mut Vec<PgText>, name: &[u8]) -> Result<(), NoMemory>
-    ensures { OnOk result (names.new.items ≡ names.old.items ++ name.now ∷ []) }
+fn add_heading<'a>(headings: &mut Vec<Heading<'a>>, one: Heading<'a>) -> Result<(), NoMemory>
+    ensures { OnOk result (map heading headings.new.items ≡ map heading headings.old.items ++ heading one.entry ∷ []) }
 {
-    names.push(PgText::from_bytes(alloc, name)?)?;
+    headings.push(one)?;
     Ok(())
 }
 
-fn add_names(
+fn add_item_headings<'a>(
     alloc: Global,
-    names: &mut Vec<PgText>,
-    columns: &[ScopeColumn],
+    headings: &mut Vec<Heading<'a>>,
+    item: &'a ScopeItem,
 ) -> Result<(), NoMemory>
-    ensures { OnOk result (names.new.items ≡ names.old.items ++ items_of.column_names columns.now) }
+    ensures { OnOk result (map heading headings.new.items ≡ map heading headings.old.items ++ items_of.item_headings item.now) }
 {
+    let columns = item.columns();
     for column in columns {
-        add_name(alloc, names, column.name.as_bytes())?;
+        add_heading(headings, Heading::of_column(alloc, item.name(), column)?)?;
     }
     Ok(())
 }
 
-fn add_all_names(
+fn add_all_headings<'a>(
     alloc: Global,
-    names: &mut Vec<PgText>,
-    items: &[ScopeItem],
+    headings: &mut Vec<Heading<'a>>,
+    items: &'a [ScopeItem],
 ) -> Result<(), NoMemory>
-    ensures { OnOk result (names.new.items ≡ names.old.items ++ items_of.all_names items.now) }
+    ensures { OnOk result (map heading headings.new.items ≡ map heading headings.old.items ++ items_of.all_headings items.now) }
 {
     for item in items {
-        add_names(alloc, names, item.columns())?;
+        add_item_headings(alloc, headings, item)?;
     }
     Ok(())
 }
 
-fn add_names_of(
+fn add_headings_of<'a>(
     alloc: Global,
-    names: &mut Vec<PgText>,
-    items: &[ScopeItem],
+    headings: &mut Vec<Heading<'a>>,
+    items: &'a [ScopeItem],
     table: &[u8],
 ) -> Result<(), NoMemory>
-    ensures { OnOk result (names.new.items ≡ names.old.items ++ items_of.names_of (scopes.item_called items.now table.now)) }
+    ensures { OnOk result (map heading headings.new.items ≡ map heading headings.old.items ++ items_of.headings_of (scopes.item_called items.now table.now)) }
 {
     match item_called(items, table) {
         None => Ok(()),
-        Some(item) => add_names(alloc, names, item.columns()),
+        Some(item) => add_item_headings(alloc, headings, item),
     }
 }
 
-fn add_listed_names(
-    alloc: Global,
-    names: &mut Vec<PgText>,
-    items: &[ScopeItem],
-    listed: &SelectItem,
+fn add_written<'a>(
+    headings: &mut Vec<Heading<'a>>,
+    e: &'a Expr,
+    alias: &'a Option<PgText>,
 ) -> Result<(), NoMemory>
-    ensures { OnOk result (names.new.items ≡ names.old.items ++ items_of.listed_names items.now (item_tree listed.now)) }
+    ensures { OnOk result (map heading headings.new.items ≡ map heading headings.old.items ++ record { name = items_of.output_name (tree e.now) alias.now; value = tree e.now } ∷ []) }
+{
+    add_heading(headings, Heading::of_expression(output_name(e, alias), e))
+}
+
+fn add_listed_headings<'a>(
+    alloc: Global,
+    headings: &mut Vec<Heading<'a>>,
+    items: &'a [ScopeItem],
+    listed: &'a SelectItem,
+) -> Result<(), NoMemory>
+    ensures { OnOk result (map heading headings.new.items ≡ map heading headings.old.items ++ items_of.listed_headings items.now (item_tree listed.now)) }
 {
     match listed {
-        SelectItem::All => add_all_names(alloc, names, items),
-        SelectItem::AllOf(table) => add_names_of(alloc, names, items, table.as_bytes()),
-        SelectItem::Output(e, alias) => add_name(alloc, names, output_name(e, alias)),
+        SelectItem::All => add_all_headings(alloc, headings, items),
+        SelectItem::AllOf(table) => add_headings_of(alloc, headings, items, table.as_bytes()),
+        SelectItem::Output(e, alias) => add_written(headings, e, alias),
     }
 }
 
-/// The names of the output columns.
-pub(crate) fn output_names(
+/// The output columns as ORDER BY finds them.
+pub(crate) fn output_headings<'a>(
     alloc: Global,
-    items: &[ScopeItem],
-    list: &[SelectItem],
-) -> Result<Vec<PgText>, NoMemory>
-    ensures { IfOk result (λ names. names.items ≡ items_of.list_names items.now (map item_tree list.now)) }
+    items: &'a [ScopeItem],
+    list: &'a [SelectItem],
+) -> Result<Vec<Heading<'a>>, NoMemory>
+    ensures { IfOk result (λ hs. map heading hs.items ≡ items_of.list_headings items.now (map item_tree list.now)) }
 {
-    let mut names = Vec::new(alloc);
+    let mut headings = Vec::new(alloc);
     for listed in list {
-        add_listed_names(alloc, &mut names, items, listed)?;
+        add_listed_headings(alloc, &mut headings, items, listed)?;
     }
-    Ok(names)
+    Ok(headings)
 }
 
 // ---- output columns

@@ -8,13 +8,16 @@ ghost use Rattle.expression_binder.specs.Firsts.{or_first, IsAnswerBy};
 ghost use Rattle.expression_binder.specs.Lent.{option_now};
 ghost use Rattle.expression_binder.specs.Operands.{operand_faults};
 ghost use Rattle.sql_binder.specs.Keys as keys;
+ghost use Rattle.sql_binder.specs.Lent.{heading};
 
+use crate::heading::Heading;
+use crate::same::same;
 use cond_logic::{SortBy, SortKey};
 use expression_binder::{
     Lookup, Names, ScopeItem, check_condition, check_look_up, check_operand, is_arithmetic,
     item_called, look_up, look_up_in,
 };
-use pg_values::{NoMemory, PgText, Refusal};
+use pg_values::{NoMemory, Refusal};
 use refusals::{ambiguous, left_out, no_output, out_of_range};
 use sql_ast::{Expr, Leaf, SortKey as Key};
 use std::alloc::Global;
@@ -27,42 +30,49 @@ pub enum Named {
     Several,
 }
 
-fn with_output(found: Named, place: usize, is_called: bool) -> Named
-    ensures { result ≡ keys.with_output is_called place found }
+// Whether the output columns of that name give the expression.
+fn give_all(items: &[ScopeItem], name: &[u8], first: &Expr, others: &[Heading<'_>]) -> bool
+    ensures { result ≡ keys.give_all items.now name.now (tree first.now) (map heading others.now) }
 {
-    if !is_called {
-        return found;
+    for other in others {
+        if other.name() == name && !same(items, other.value(), first) {
+            return false;
+        }
     }
-    match found {
-        Named::Missing => Named::One(place),
-        Named::One(_) => Named::Several,
-        Named::Several => Named::Several,
+    true
+}
+
+fn one_of(place: usize, is_one: bool) -> Named
+    ensures { result ≡ keys.one_of place is_one }
+{
+    if is_one {
+        Named::One(place)
+    } else {
+        Named::Several
     }
 }
 
-// The last ones first.
-#[tactic(auto, using(crate::proofs::Steps::output_step))]
-fn outputs_named(outputs: &[PgText], name: &[u8]) -> Named
-    ensures { result ≡ keys.outputs_named name.now 0 outputs.now }
+fn output_named(items: &[ScopeItem], outputs: &[Heading<'_>], name: &[u8]) -> Named
+    ensures { result ≡ keys.output_named items.now name.now 0 (map heading outputs.now) }
 {
-    let mut found = Named::Missing;
-    let mut place = outputs.len();
-    while place > 0 {
-        place -= 1;
-        found = with_output(found, place, outputs[place].as_bytes() == name);
+    for (place, output) in outputs.iter().enumerate() {
+        if output.name() == name {
+            let others = &outputs[place + 1..];
+            return one_of(place, give_all(items, name, output.value(), others));
+        }
     }
-    found
+    Named::Missing
 }
 
 fn check_name(
     alloc: Global,
     names: &Names<'_>,
     name: &[u8],
-    outputs: &[PgText],
+    outputs: &[Heading<'_>],
 ) -> Result<(), Refusal>
-    ensures { IsAnswer result (or_first (keys.name_faults names.now name.now (keys.outputs_named name.now 0 outputs.now)) tt) }
+    ensures { IsAnswer result (or_first (keys.name_faults names.now name.now (keys.output_named names.now.items name.now 0 (map heading outputs.now))) tt) }
 {
-    match outputs_named(outputs, name) {
+    match output_named(names.items(), outputs, name) {
         Named::Missing => check_look_up(alloc, name, look_up(names.items(), name)),
         Named::One(_) => Ok(()),
         Named::Several => Err(Refusal::Sql(ambiguous(alloc, name)?)),
@@ -95,12 +105,12 @@ fn check_as_condition(alloc: Global, names: &Names<'_>, e: &Expr) -> Result<(), 
 fn check_leaf(
     alloc: Global,
     names: &Names<'_>,
-    outputs: &[PgText],
+    outputs: &[Heading<'_>],
     e: &Expr,
     leaf: &Leaf,
 ) -> Result<(), Refusal>
     requires { tree e.now ≡ leaf_tree leaf.now }
-    ensures { IsAnswer result (or_first (keys.key_faults names.now outputs.now (leaf_tree leaf.now)) tt) }
+    ensures { IsAnswer result (or_first (keys.key_faults names.now (map heading outputs.now) (leaf_tree leaf.now)) tt) }
 {
     match leaf {
         Leaf::Number(n) => check_position(alloc, *n, outputs.len()),
@@ -116,8 +126,13 @@ fn check_leaf(
     }
 }
 
-fn check_key(alloc: Global, names: &Names<'_>, outputs: &[PgText], e: &Expr) -> Result<(), Refusal>
-    ensures { IsAnswer result (or_first (keys.key_faults names.now outputs.now (tree e.now)) tt) }
+fn check_key(
+    alloc: Global,
+    names: &Names<'_>,
+    outputs: &[Heading<'_>],
+    e: &Expr,
+) -> Result<(), Refusal>
+    ensures { IsAnswer result (or_first (keys.key_faults names.now (map heading outputs.now) (tree e.now)) tt) }
 {
     match e {
         Expr::Leaf(leaf) => check_leaf(alloc, names, outputs, e, leaf),
@@ -145,10 +160,10 @@ fn check_key(alloc: Global, names: &Names<'_>, outputs: &[PgText], e: &Expr) -> 
 pub(crate) fn check_keys(
     alloc: Global,
     names: &Names<'_>,
-    outputs: &[PgText],
+    outputs: &[Heading<'_>],
     order: &[Key],
 ) -> Result<(), Refusal>
-    ensures { IsAnswer result (or_first (keys.keys_faults names.now outputs.now (map key_tree order.now)) tt) }
+    ensures { IsAnswer result (or_first (keys.keys_faults names.now (map heading outputs.now) (map key_tree order.now)) tt) }
 {
     for key in order {
         check_key(alloc, names, outputs, &key.value)?;
@@ -180,10 +195,10 @@ fn by_column(found: Lookup) -> SortBy
     }
 }
 
-fn by_name(names: &Names<'_>, name: &[u8], outputs: &[PgText]) -> SortBy
-    ensures { result ≡ keys.by_name names.now name.now (keys.outputs_named name.now 0 outputs.now) }
+fn by_name(names: &Names<'_>, name: &[u8], outputs: &[Heading<'_>]) -> SortBy
+    ensures { result ≡ keys.by_name names.now name.now (keys.output_named names.now.items name.now 0 (map heading outputs.now)) }
 {
-    match outputs_named(outputs, name) {
+    match output_named(names.items(), outputs, name) {
         Named::Missing => by_column(look_up(names.items(), name)),
         Named::One(place) => SortBy::Output(place),
         Named::Several => SortBy::Output(0),
@@ -208,8 +223,8 @@ fn by_item_table(item: Option<&ScopeItem>) -> SortBy
     }
 }
 
-fn leaf_by(names: &Names<'_>, outputs: &[PgText], leaf: &Leaf) -> SortBy
-    ensures { result ≡ keys.key_by names.now outputs.now (leaf_tree leaf.now) }
+fn leaf_by(names: &Names<'_>, outputs: &[Heading<'_>], leaf: &Leaf) -> SortBy
+    ensures { result ≡ keys.key_by names.now (map heading outputs.now) (leaf_tree leaf.now) }
 {
     let items = names.items();
     match leaf {
@@ -228,8 +243,8 @@ fn leaf_by(names: &Names<'_>, outputs: &[PgText], leaf: &Leaf) -> SortBy
     }
 }
 
-fn key_by(names: &Names<'_>, outputs: &[PgText], e: &Expr) -> SortBy
-    ensures { result ≡ keys.key_by names.now outputs.now (tree e.now) }
+fn key_by(names: &Names<'_>, outputs: &[Heading<'_>], e: &Expr) -> SortBy
+    ensures { result ≡ keys.key_by names.now (map heading outputs.now) (tree e.now) }
 {
     match e {
         Expr::Leaf(leaf) => leaf_by(names, outputs, leaf),
@@ -246,8 +261,8 @@ fn key_by(names: &Names<'_>, outputs: &[PgText], e: &Expr) -> SortBy
     }
 }
 
-fn sort_key(names: &Names<'_>, outputs: &[PgText], key: &Key) -> SortKey
-    ensures { result ≡ keys.sort_key names.now outputs.now (key_tree key.now) }
+fn sort_key(names: &Names<'_>, outputs: &[Heading<'_>], key: &Key) -> SortKey
+    ensures { result ≡ keys.sort_key names.now (map heading outputs.now) (key_tree key.now) }
 {
     SortKey {
         by: key_by(names, outputs, &key.value),
@@ -267,10 +282,10 @@ fn add(sort: &mut Vec<SortKey>, key: SortKey) -> Result<(), NoMemory>
 pub(crate) fn bind_keys(
     alloc: Global,
     names: &Names<'_>,
-    outputs: &[PgText],
+    outputs: &[Heading<'_>],
     order: &[Key],
 ) -> Result<Vec<SortKey>, Refusal>
-    ensures { IsAnswerBy (λ v. v.items) result (or_first (keys.keys_constants (map key_tree order.now)) (keys.sort_keys names.now outputs.now (map key_tree order.now))) }
+    ensures { IsAnswerBy (λ v. v.items) result (or_first (keys.keys_constants (map key_tree order.now)) (keys.sort_keys names.now (map heading outputs.now) (map key_tree order.now))) }
 {
     let mut sort = Vec::new(alloc);
     for key in order {

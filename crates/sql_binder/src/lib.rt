@@ -15,9 +15,11 @@ mod arguments;
 mod changes;
 mod counts;
 mod from;
+mod heading;
 mod inserts;
 mod items;
 mod keys;
+mod same;
 mod selects;
 
 pub use arguments::{Wanted, bind_arguments};

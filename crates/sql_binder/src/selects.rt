@@ -8,13 +8,15 @@ ghost use Rattle.sql_binder.specs.Counts as counts;
 ghost use Rattle.sql_binder.specs.From as from;
 ghost use Rattle.sql_binder.specs.Items as items_of;
 ghost use Rattle.sql_binder.specs.Keys as keys;
+ghost use Rattle.sql_binder.specs.Lent.{heading};
 ghost use Rattle.sql_binder.specs.Selects as selects;
 ghost use Rattle.sql_binder.specs.Selects.{bound_select};
 ghost use Rattle.cond_logic.specs.Asked.{output_tree, select_meant};
 
 use crate::counts::{bind_count, check_count_of};
 use crate::from::{bind_conditions, check_conditions, check_from};
-use crate::items::{bind_list, check_list, in_a_select_list, output_names};
+use crate::heading::Heading;
+use crate::items::{bind_list, check_list, in_a_select_list, output_headings};
 use crate::keys::{bind_keys, check_keys};
 use cond_logic::{Cond, Output, SelectAsk, SortKey};
 use expression_binder::{Names, Param, ScopeItem, condition_names};
@@ -68,10 +70,10 @@ fn check_tail(
     alloc: Global,
     names: &Names<'_>,
     counting: &Names<'_>,
-    outputs: &[PgText],
+    outputs: &[Heading<'_>],
     select: &Select,
 ) -> Result<(), Refusal>
-    ensures { IsAnswer result (or_first (keys.keys_faults names.now outputs.now (map key_tree select.now.order) ++ (counts.count_faults counting.now (maybe_tree select.now.limit) ++ counts.count_faults counting.now (maybe_tree select.now.offset))) tt) }
+    ensures { IsAnswer result (or_first (keys.keys_faults names.now (map heading outputs.now) (map key_tree select.now.order) ++ (counts.count_faults counting.now (maybe_tree select.now.limit) ++ counts.count_faults counting.now (maybe_tree select.now.offset))) tt) }
 {
     check_keys(alloc, names, outputs, select.order.as_slice())?;
     check_count_of(alloc, counting, &select.limit)?;
@@ -85,10 +87,10 @@ fn check_names(
     params: &[Param],
     session: u32,
     counting: &Names<'_>,
-    outputs: &[PgText],
+    outputs: &[Heading<'_>],
 ) -> Result<(), Refusal>
     requires counting { counting.now ≡ selects.count_scope items.now params.now session }
-    requires outputs { outputs.now ≡ items_of.list_names items.now (map item_tree select.now.items) }
+    requires outputs { map heading outputs.now ≡ items_of.list_headings items.now (map item_tree select.now.items) }
     ensures { IsAnswer result (or_first (selects.name_faults items.now params.now session (select_tree select.now)) tt) }
 {
     let names = list_scope(items, params, session);
@@ -113,10 +115,10 @@ fn bind_tail(
     alloc: Global,
     names: &Names<'_>,
     counting: &Names<'_>,
-    outputs: &[PgText],
+    outputs: &[Heading<'_>],
     select: &Select,
 ) -> Result<(Vec<SortKey>, (Option<u64>, Option<u64>)), Refusal>
-    ensures { IsAnswerBy {U = selects.Tail} (λ p. (p.0.items, p.1)) result (or_first (keys.keys_constants (map key_tree select.now.order) ++ (fault_in (counts.count refusals.negative_limit counting.now (maybe_tree select.now.limit)) ++ fault_in (counts.count refusals.negative_offset counting.now (maybe_tree select.now.offset)))) (keys.sort_keys names.now outputs.now (map key_tree select.now.order), (counts.or_none (counts.count refusals.negative_limit counting.now (maybe_tree select.now.limit)), counts.or_none (counts.count refusals.negative_offset counting.now (maybe_tree select.now.offset))))) }
+    ensures { IsAnswerBy {U = selects.Tail} (λ p. (p.0.items, p.1)) result (or_first (keys.keys_constants (map key_tree select.now.order) ++ (fault_in (counts.count refusals.negative_limit counting.now (maybe_tree select.now.limit)) ++ fault_in (counts.count refusals.negative_offset counting.now (maybe_tree select.now.offset)))) (keys.sort_keys names.now (map heading outputs.now) (map key_tree select.now.order), (counts.or_none (counts.count refusals.negative_limit counting.now (maybe_tree select.now.limit)), counts.or_none (counts.count refusals.negative_offset counting.now (maybe_tree select.now.offset))))) }
 {
     let order = bind_keys(alloc, names, outputs, select.order.as_slice())?;
     let counts = bind_counts(alloc, counting, select)?;
@@ -147,15 +149,15 @@ fn bind_parts(
     params: &[Param],
     session: u32,
     counting: &Names<'_>,
-    output_names: &[PgText],
+    headings: &[Heading<'_>],
 ) -> Result<SelectAsk, Refusal>
     requires counting { counting.now ≡ selects.count_scope items.now params.now session }
-    requires outputs { output_names.now ≡ items_of.list_names items.now (map item_tree select.now.items) }
+    requires outputs { map heading headings.now ≡ items_of.list_headings items.now (map item_tree select.now.items) }
     ensures { IsAnswerBy select_meant result (or_first (selects.constant_faults items.now params.now session (select_tree select.now)) (selects.meaning items.now params.now session (select_tree select.now))) }
 {
     let names = list_scope(items, params, session);
     let (outputs, conditions) = bind_front(alloc, &names, select, items, params, session)?;
-    let (order, (limit, offset)) = bind_tail(alloc, &names, counting, output_names, select)?;
+    let (order, (limit, offset)) = bind_tail(alloc, &names, counting, headings, select)?;
     Ok(SelectAsk {
         outputs,
         conditions,
@@ -174,7 +176,7 @@ fn bind_checked(
 ) -> Result<SelectAsk, Refusal>
     ensures { IsAnswerBy select_meant result (or_first (selects.name_faults items.now params.now session (select_tree select.now) ++ selects.constant_faults items.now params.now session (select_tree select.now)) (selects.meaning items.now params.now session (select_tree select.now))) }
 {
-    let outputs = output_names(alloc, items, select.items.as_slice())?;
+    let outputs = output_headings(alloc, items, select.items.as_slice())?;
     let bare = bare_items(alloc, items)?;
     let counting = condition_names(&bare, params, session);
     check_names(alloc, select, items, params, session, &counting, &outputs)?;
