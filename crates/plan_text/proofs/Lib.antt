@@ -1,2 +1,3 @@
 pub mod Lying
+mod ScanLines
 pub mod Told

@@ -3,3 +3,4 @@ pub mod Keys
 pub mod Names
 pub mod Nodes
 pub mod Plans
+pub mod ScanLines

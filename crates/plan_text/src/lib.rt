@@ -10,12 +10,14 @@
 //! its own parentheses, a column on the left of a constant.
 //!
 //! The definitions say a node in a line each (`Plans`), and what stands under its depth in one place (`Nodes`): a
-//! node is a function of its depth. `write_plan` gives the lines as the table that EXPLAIN answers.
+//! node is a function of its depth. `write_plan` gives the lines as the table that EXPLAIN answers, and
+//! `scans_are_of_the_leaves` says that the lines which are scans tell the leaves of the plan's items.
 #![tactic(auto)]
 
 mod comparisons;
 mod conditions;
 mod keys;
+mod laws;
 mod named_item;
 mod names;
 mod nodes;
@@ -24,5 +26,6 @@ mod plan;
 mod rows;
 mod scans;
 
+pub use laws::scans_are_of_the_leaves;
 pub use named_item::NamedItem;
 pub use plan::write_plan;

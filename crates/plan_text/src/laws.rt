@@ -1,0 +1,6 @@
+ghost use Rattle.plan_text.specs.ScanLines.{ScansAreOfTheLeaves};
+
+/// The lines of a plan that are scans tell the leaves of its items, in order.
+pub fn scans_are_of_the_leaves()
+    ensures { ScansAreOfTheLeaves }
+{}
