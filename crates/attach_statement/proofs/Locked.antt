@@ -25,12 +25,12 @@ use Rattle.statement_steps.specs.Asks.{told_of, locked, all_locked, meant_or_non
 use Rattle.statement_steps.specs.Known.{IsKnownTo}
 use Rattle.statement_steps.specs.Steps.{IsStep}
 use Rattle.statement_steps.proofs.Steps.{same_step}
-use Rattle.table_statements.specs.Asked.{IsLocked}
-use Rattle.table_statements.proofs.Below.{TreeLaws, here_of, tree_known}
-use Rattle.table_statements.proofs.Held.{tables_locked}
-use Rattle.table_statements.proofs.Same.{same_resolved}
+use Rattle.ddl_steps.proofs.Below.{TreeLaws, here_of, tree_known}
+use Rattle.ddl_steps.proofs.Locks.{tables_locked}
+use Rattle.ddl_steps.proofs.Same.{same_resolved}
 use Rattle.attach_statement.specs.Asked.{IsGuardedNamed, HasFamilyLocked, HasPlace, AreFrom, IsPathOf, SeesBoth}
 use Rattle.attach_statement.specs.Attached.{family_locked}
+use Rattle.ddl_steps.specs.Locks.{IsLocked}
 
 -- ---- the tables from one down
 

@@ -24,8 +24,8 @@ use Rattle.part_catalog.specs.Kept.{KeptCatalogue}
 use Rattle.part_catalog.specs.Stands.{CatalogueStands}
 use Rattle.statement_steps.specs.Attempts.{MayAttempt}
 use Rattle.statement_steps.specs.declared.caller.Caller.{Caller}
-use Rattle.partition_scans.specs.Sessions.{joined_by, those_below, those}
-use Rattle.partition_scans.specs.Scans.{Scan, fault_told, refusals, watches, judged}
+use Rattle.ddl_steps.specs.Sessions.{joined_by, those_below, those}
+use Rattle.ddl_steps.specs.Scans.{Scan, fault_told, refusals, watches, judged}
 use Rattle.attach_statement.specs.Asked.{HasPlace}
 
 -- ---- the set of the sessions that pass a test

@@ -38,8 +38,8 @@ use Rattle.statement_steps.specs.declared.caller.Caller.{Caller}
 use Rattle.statement_steps.specs.Gathered.{Found, IsStill, MayWriteAt}
 use Rattle.statement_steps.specs.Waiting.{Since}
 use Rattle.statement_steps.proofs.Since.{since_on, since_row}
-use Rattle.insert_statement.specs.Inserted.{own}
 use Rattle.insert_statement.proofs.Births.{Quiet}
+use Rattle.statement_steps.specs.Owned.{own}
 use Rattle.change_statement.specs.Deleted.{ended}
 use Rattle.change_statement.specs.Running.{IsInRun, IsRunTold, IsRun, MayEndIn, MayRun}
 use Rattle.change_statement.proofs.Kept.{one_of}

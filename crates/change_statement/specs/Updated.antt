@@ -26,7 +26,8 @@ use Rattle.statement_steps.specs.declared.rest.Rest.{Rest}
 use Rattle.statement_steps.specs.Asks.{held_at}
 use Rattle.statement_steps.specs.Steps.{follow}
 use Rattle.insert_statement.specs.Born.{unless_refused}
-use Rattle.insert_statement.specs.Inserted.{answered, tables_of, own, holder_faults}
+use Rattle.insert_statement.specs.Inserted.{answered, tables_of, holder_faults}
+use Rattle.statement_steps.specs.Owned.{own}
 use Rattle.change_statement.specs.Changed.{Changing, Told, changed, changed_by}
 use Rattle.change_statement.specs.Gathered.{gathered}
 use Rattle.statement_steps.specs.Gathered.{Found}

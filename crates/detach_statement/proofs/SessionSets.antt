@@ -8,7 +8,7 @@ use Rattle.std.proofs.lemmas.Nat.Bits.{bit_at-zero, bit_at-lt, same_from_bits}
 use Rattle.pg_values.specs.Sets.{has, empty}
 use Rattle.pg_values.specs.declared.session_set.SessionSet.{SessionSet}
 use Rattle.pg_values.proofs.Bits.{set_has}
-use Rattle.partition_scans.specs.Sessions.{joined_by, those_below, those}
+use Rattle.ddl_steps.specs.Sessions.{joined_by, those_below, those}
 
 none_has : (k : ℕ) → has empty k ≡ false
 none_has k = grind (arith, common_steps, nat_tests, bit_at-zero k)

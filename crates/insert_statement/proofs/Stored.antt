@@ -37,11 +37,12 @@ use Rattle.statement_steps.specs.Waiting.{AddNone, Since}
 use Rattle.statement_steps.proofs.Parts.{no_memory}
 use Rattle.statement_steps.proofs.Since.{add_append}
 use Rattle.insert_statement.specs.Born.{all_born}
-use Rattle.insert_statement.specs.Inserted.{tables_of, own}
+use Rattle.insert_statement.specs.Inserted.{tables_of}
 use Rattle.statement_steps.specs.Faults.{stop_of}
 use Rattle.insert_statement.specs.Asked.{MayGo, MayPut, put}
 use Rattle.insert_statement.proofs.Births.{Births, all_births, Quiet, quiet, good_rows, all_before}
 use Rattle.insert_statement.proofs.Same.{SameMade, same_all, told_as}
+use Rattle.statement_steps.specs.Owned.{own}
 
 -- ---- the stores after it
 

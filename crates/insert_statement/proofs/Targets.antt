@@ -22,9 +22,10 @@ use Rattle.statement_steps.specs.Made.{Made, Halt, behind, then_told}
 use Rattle.statement_steps.specs.declared.caller.Caller.{Caller}
 use Rattle.statement_steps.specs.Steps.{follow}
 use Rattle.insert_statement.specs.Born.{table_faults, born, all_born}
-use Rattle.insert_statement.specs.Inserted.{tables_of, own, last_or, holder, holder_faults, into_leaf, into_leaves}
+use Rattle.insert_statement.specs.Inserted.{tables_of, last_or, holder, holder_faults, into_leaf, into_leaves}
 use Rattle.insert_statement.specs.Asked.{Each, IsOwnTarget, put}
 use Rattle.insert_statement.proofs.Pairs.{each_same, each_with}
+use Rattle.statement_steps.specs.Owned.{own}
 
 -- ---- the same faults
 

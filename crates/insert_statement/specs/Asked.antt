@@ -37,7 +37,8 @@ use Rattle.statement_steps.specs.declared.stop.Stop.{Stop}
 use Rattle.statement_steps.specs.Faults.{stop_of}
 use Rattle.statement_steps.specs.Known.{IsKnownTo}
 use Rattle.insert_statement.specs.Born.{all_born}
-use Rattle.insert_statement.specs.Inserted.{tables_of, own}
+use Rattle.insert_statement.specs.Inserted.{tables_of}
+use Rattle.statement_steps.specs.Owned.{own}
 
 -- the rows are of the table's columns
 abbrev pub AreRowsOf : KeptCatalogue → TableNo → List (List Value) → Type 0

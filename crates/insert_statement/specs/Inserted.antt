@@ -5,7 +5,6 @@ use Rattle.pg_values.specs.declared.fault.Fault.{Fault}
 use Rattle.pg_values.specs.declared.ids.LeafId.{LeafId}
 use Rattle.pg_values.specs.declared.ids.TableNo.{TableNo}
 use Rattle.pg_values.specs.declared.lock_mode.LockMode.TheVariants.{RowExclusive}
-use Rattle.history.specs.declared.transaction.TxId.{TxId}
 use Rattle.history.specs.declared.catalogue.Column.{Column}
 use Rattle.history.specs.declared.catalogue.Table.{Table}
 use Rattle.history.specs.declared.catalogue.TableShape.{TableShape}
@@ -24,20 +23,18 @@ use Rattle.expression_binder.specs.declared.scope.Param.{Param}
 use Rattle.expression_binder.specs.declared.scope.ScopeColumn.{ScopeColumn}
 use Rattle.cond_logic.specs.Asked.{InsertMeant}
 use Rattle.sql_binder.specs.Inserts.{bound_insert}
-use Rattle.stores.specs.Events.{tx_in, look_of}
+use Rattle.stores.specs.Events.{look_of}
 pub use Rattle.statement_steps.specs.Made.{answered}
 use Rattle.statement_steps.specs.Made.{Made}
 use Rattle.statement_steps.specs.declared.caller.Caller.{Caller}
 use Rattle.statement_steps.specs.Asks.{named, held_at, all_locked}
 use Rattle.statement_steps.specs.Steps.{follow}
 use Rattle.insert_statement.specs.Born.{table_faults, all_born}
+use Rattle.statement_steps.specs.Owned.{own}
 
 -- the tables that were made, and the session's transaction
 abbrev pub tables_of : History → List Table
 tables_of h = tables_made (catalogue_events h)
-
-abbrev pub own : History → (session : ℕ) → TxId
-own h s = record { number = tx_in h s }
 
 -- ---- the rows of VALUES
 

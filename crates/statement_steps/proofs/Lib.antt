@@ -6,3 +6,5 @@ pub mod Steps
 pub mod Lasting
 pub mod Since
 pub mod Waiting
+pub mod Owned
+pub mod Held

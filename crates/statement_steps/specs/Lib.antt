@@ -9,3 +9,4 @@ pub mod Codes
 pub mod Gathered
 pub mod Below
 pub mod Waiting
+pub mod Owned

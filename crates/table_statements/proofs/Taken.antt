@@ -35,7 +35,7 @@ use Rattle.statement_steps.specs.Steps.{IsStep}
 use Rattle.statement_steps.specs.declared.caller.Caller.{Caller}
 use Rattle.statement_steps.specs.declared.stop.Stop.{Stop}
 use Rattle.table_statements.specs.Claims.{only, waits_for_end}
-use Rattle.table_statements.proofs.Below.{mapped_to}
+use Rattle.ddl_steps.proofs.Below.{mapped_to}
 
 -- ---- the session alone
 

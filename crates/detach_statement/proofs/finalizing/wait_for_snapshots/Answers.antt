@@ -3,7 +3,7 @@ use Rattle.pg_values.specs.declared.session_set.SessionSet.{SessionSet}
 use Rattle.history.specs.History.{History}
 use Rattle.history.specs.declared.wait.WaitOn.TheVariants.{Snapshots}
 use Rattle.history.specs.declared.transaction.TxId.{TxId}
-use Rattle.partition_scans.specs.Sessions.{those}
+use Rattle.ddl_steps.specs.Sessions.{those}
 use Rattle.statement_steps.specs.Asks.{waited}
 use Rattle.statement_steps.proofs.Steps.{same_step}
 use Rattle.detach_statement.specs.Finalized.{unseeing, mark_seen}
