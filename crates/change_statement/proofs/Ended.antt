@@ -38,7 +38,6 @@ use Rattle.statement_steps.specs.declared.caller.Caller.{Caller}
 use Rattle.statement_steps.specs.Gathered.{Found, IsStill, MayWriteAt}
 use Rattle.statement_steps.specs.Waiting.{Since}
 use Rattle.statement_steps.proofs.Since.{since_on, since_row}
-use Rattle.insert_statement.proofs.Births.{Quiet}
 use Rattle.statement_steps.specs.Owned.{own}
 use Rattle.change_statement.specs.Deleted.{ended}
 use Rattle.change_statement.specs.Running.{IsInRun, IsRunTold, IsRun, MayEndIn, MayRun}
@@ -47,6 +46,7 @@ use Rattle.change_statement.proofs.Still.{open_leaf}
 use Rattle.std.specs.List.{Contains}
 use Rattle.row_router.specs.Trees.{leaves}
 use Rattle.legal_statements.specs.Locked.{IsWritable}
+use Rattle.row_change.proofs.Quiet.{Quiet}
 
 -- ---- an event
 

@@ -21,6 +21,8 @@ use Rattle.row_store.specs.Stands.{StoreStands}
 use Rattle.part_catalog.specs.Stands.{CatalogueStands}
 use Rattle.row_change.specs.declared.target.Target.{Target}
 use Rattle.row_change.specs.Storing.{all_stored, IsMade, is_into, leaf_faults}
+use Rattle.row_change.specs.Placing.{tables_of}
+use Rattle.row_change.proofs.Quiet.{Quiet}
 use Rattle.legal_statements.specs.Rows.{IsStored, AreNewRows, rows_born}
 use Rattle.legal_statements.proofs.Births.{new_rows_may_follow}
 use Rattle.stores.specs.Events.{tx_in}
@@ -37,10 +39,9 @@ use Rattle.statement_steps.specs.Waiting.{AddNone, Since}
 use Rattle.statement_steps.proofs.Parts.{no_memory}
 use Rattle.statement_steps.proofs.Since.{add_append}
 use Rattle.insert_statement.specs.Born.{all_born}
-use Rattle.insert_statement.specs.Inserted.{tables_of}
 use Rattle.statement_steps.specs.Faults.{stop_of}
 use Rattle.insert_statement.specs.Asked.{MayGo, MayPut, put}
-use Rattle.insert_statement.proofs.Births.{Births, all_births, Quiet, quiet, good_rows, all_before}
+use Rattle.insert_statement.proofs.Births.{Births, all_births, quiet, good_rows, all_before}
 use Rattle.insert_statement.proofs.Same.{SameMade, same_all, told_as}
 use Rattle.statement_steps.specs.Owned.{own}
 

@@ -8,3 +8,4 @@ pub mod Since
 pub mod Waiting
 pub mod Owned
 pub mod Held
+pub mod Rights

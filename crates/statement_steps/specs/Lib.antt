@@ -10,3 +10,5 @@ pub mod Gathered
 pub mod Below
 pub mod Waiting
 pub mod Owned
+pub mod Rights
+pub mod Scopes

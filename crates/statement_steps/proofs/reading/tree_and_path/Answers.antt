@@ -1,5 +1,5 @@
 use Rattle.stores.specs.Events.{look_of}
-use Rattle.insert_statement.proofs.partitions.tree_and_path.Goals as goal
+use Rattle.statement_steps.proofs.reading.tree_and_path.Goals as goal
 
 pub tree-requires-clause-siblings : goal.tree-requires-clause-siblings
 tree-requires-clause-siblings c = c.trees_are_together.ensures c.args.stores.now c.requires.may.sound.0 c.args.caller.session c.requires.may.sound.1
