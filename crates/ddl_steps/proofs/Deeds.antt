@@ -5,13 +5,13 @@ use Rattle.pg_values.specs.declared.fault.Fault.{Fault}
 use Rattle.pg_values.specs.declared.fault.Refusal.{Refusal}
 use Rattle.pg_values.specs.declared.fault.Refusal.TheVariants.{Sql, NoMemory}
 use Rattle.pg_values.specs.declared.ids.TableNo.{TableNo}
-use Rattle.history.specs.Transactions.{TxEvents, IsRunning, IsSound, open_of, session_of}
+use Rattle.history.specs.Transactions.{TxEvents, IsRunning, IsSound, open_of}
 use Rattle.history.specs.Locks.{queue}
 use Rattle.history.specs.Rows.{LeafAdded, RowBorn, RowEnded}
 use Rattle.history.specs.Catalogue.{CatalogueEvent, TableMade, TableDropped, EntryAdded, EntryEnded, EntryMarked, CheckKept, catalogue_command}
 use Rattle.history.specs.History.{Event, History, TxChange, SnapshotChange, RowChange, LockChange, CatalogueChange, tx_events, snapshot_events, lock_events}
 use Rattle.history.specs.Legal.{IsNotAfter, IsInOrder}
-use Rattle.history.proofs.Open.{open_own, open_runs}
+use Rattle.history.proofs.Open.{open_runs}
 use Rattle.tx_table.specs.Stands.{StandsFor}
 use Rattle.lock_table.specs.Stands.{StandsFor as LocksFor}
 use Rattle.row_store.specs.Kept.{KeptRows}
@@ -32,6 +32,7 @@ use Rattle.statement_steps.specs.declared.caller.Caller.{Caller}
 use Rattle.statement_steps.specs.Faults.{stop_of}
 use Rattle.statement_steps.specs.Steps.{IsStep}
 use Rattle.statement_steps.proofs.Parts.{own_tx, locks_same, no_memory}
+use Rattle.statement_steps.proofs.Open.{one_session}
 
 -- ---- lists of events
 
@@ -86,9 +87,6 @@ all_before t cmd u n (CatalogueChange e ∷ es) done low = All-cons (IsBefore u 
 pub at_later : (t cmd : ℕ) (es : List Event) (h : History) (s : ℕ) → Each (IsDone t cmd) es → IsAt h s cmd → IsAt (es ++ h) s (cmd + 1)
 at_later t cmd es h s done at =
     goes_on es h s cmd (cmd + 1) (omega arith) at (ap (λ (x : TxEvents). open_of x s) (quiet t cmd es h done).txs) (λ u own. all_before t cmd u (cmd + 1) es done (λ same. omega arith))
-
-one_session : (txs : TxEvents) (r s u t : ℕ) → IsSound txs → open_of txs r ≡ Some u → open_of txs s ≡ Some t → u ≡ t → r ≡ s
-one_session txs r s u t sound mine its same = sym (open_own txs r u sound mine) ∙ (ap (session_of txs) same ∙ open_own txs s t sound its)
 
 others_stay : (t cmd : ℕ) (es : List Event) (h : History) (s r n : ℕ) → Each (IsDone t cmd) es → IsSound (tx_events h) → open_of (tx_events h) s ≡ Some t → r ≢ s → IsAt h r n → IsAt (es ++ h) r n
 others_stay t cmd es h s r n done sound mine other at =

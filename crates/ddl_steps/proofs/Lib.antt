@@ -4,7 +4,7 @@ mod Fitted
 mod Leaves
 mod Tellings
 mod RowsOf
-mod Sets
+pub mod Sets
 mod Waiting
 pub mod Same
 pub mod Deeds

@@ -10,4 +10,3 @@ mod LaterStages
 mod Waits
 pub mod KeptChecks
 mod SameChecks
-mod SessionSets

@@ -51,12 +51,12 @@ use Rattle.ddl_steps.specs.Families.{parent_in}
 use Rattle.ddl_steps.proofs.Below.{here_of, none_passes, no_default_found}
 use Rattle.ddl_steps.proofs.Deeds.{IsDeed, deed_stands, went}
 use Rattle.ddl_steps.proofs.Firsts.{both_told, none_told}
+use Rattle.ddl_steps.proofs.Sets.{are_those}
 use Rattle.detach_statement.specs.Asked.{MayBeMarked}
 use Rattle.detach_statement.specs.Concurrent.{default_faults, pending_faults, none_beside, markable, marked, rest_of, place_marked}
 use Rattle.detach_statement.specs.Detached.{name_at, is_table}
 use Rattle.detach_statement.proofs.LeftPlaces.{MayChange, Over, over_is, over_present, over_guarded, over_between}
 use Rattle.detach_statement.proofs.Refusing.{none_against, is_parent}
-use Rattle.detach_statement.proofs.SessionSets.{are_those}
 
 pub record MarkLaws : Type 0 where
   pub listed : ListedIsThere

@@ -9,3 +9,4 @@ pub mod Waiting
 pub mod Owned
 pub mod Held
 pub mod Rights
+pub mod Open
