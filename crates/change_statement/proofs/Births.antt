@@ -125,7 +125,7 @@ none_of [] told = refl
 none_of (f ∷ fs) told = absurd (let c = told in cc)
 
 -- where it was tested
-pub none_stands : (stores : Stores) (caller : Caller) (g : Found) (leaf : LeafId) (row : List Value) → ((h : History) → Stands stores h → or_first (against h caller.session g leaf row) tt ≡ Ok tt) → IsTakenIn stores caller g leaf row
+pub none_stands : (stores : Stores) (caller : Caller) (g : Found) (leaf : LeafId) (row : List Value) → ((h : History) → Stands stores h → or_first {T = Unit {0}} (against h caller.session g leaf row) tt ≡ Ok tt) → IsTakenIn stores caller g leaf row
 none_stands stores caller g leaf row told h stands run = none_of (against h caller.session g leaf row) (told h stands)
 
 -- ---- the row that is born

@@ -91,8 +91,8 @@ pub is_out : (change : Changing) (names : List (List ℕ)) (old : Stores) (calle
 is_out change names old caller g t k ts = no_memory_run g (λ (m : ℕ). m) old old caller (one_changed change names caller g ts t k) (stays old caller.session)
 
 -- a `?` hands on why the statement stops
-pub handed_turn : {change : Changing} {names : List (List ℕ)} {r : Result Turn Stop} {e : Stop} {old new : Stores} {caller : Caller} {g : Found} {t : TargetRow} {k : ℕ} → IsErrAnd r (λ s. s ≡ e) → IsTurn change names (Err e) old new caller g t k → IsTurn change names r old new caller g t k
-handed_turn {change = change} {names = names} {r = r} {old = old} {new = new} {caller = caller} {g = g} {t = t} {k = k} is turn = let p = err_from_is_err_and r is in subst (λ x. IsTurn change names x old new caller g t k) (sym (p.1 ∙ ap Err p.2)) turn
+pub handed_turn : (change : Changing) (names : List (List ℕ)) (r : Result Turn Stop) (e : Stop) (old new : Stores) (caller : Caller) (g : Found) (t : TargetRow) (k : ℕ) → IsErrAnd r (λ s. s ≡ e) → IsTurn change names (Err e) old new caller g t k → IsTurn change names r old new caller g t k
+handed_turn change names r e old new caller g t k is turn = let p = err_from_is_err_and r is in subst (λ x. IsTurn change names x old new caller g t k) (sym (p.1 ∙ ap Err p.2)) turn
 
 -- ---- the version may be ended
 

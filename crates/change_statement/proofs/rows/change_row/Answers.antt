@@ -70,7 +70,7 @@ pub returns-in_err-store-in-Update : goal.returns-in_err-store-in-Update
 returns-in_err-store-in-Update c =
     let g = found_of c.args.gathered.now in
     let seen = c.in-Change.seen in
-    handed_turn c.from_residual-in_err-store-in-Update.ensures.1
+    handed_turn (changing c.args.change c.args.caller g) c.args.names.now _ _ c.args.stores.now c.store.new.stores c.args.caller g c.args.target c.args.changed c.from_residual-in_err-store-in-Update.ensures.1
     (is_stopped (changing c.args.change c.args.caller g) c.args.names.now c.in_err-store-in-Update.field-0.0 c.args.stores.now c.store.new.stores c.args.caller g c.args.target c.args.changed seen.id seen.row.now
     (decided_is c.args.stores.now c.args.caller g c.args.target (updater_meant c.updater-updater.result) (Changes seen.id seen.row.now) c.updater-updater.ensures.is c.in-Change.ensures.is)
     (subst (λ (ch : Change). IsRun g (λ (u : Unit {0}). u) (Err c.in_err-store-in-Update.field-0.0) c.args.stores.now c.store.new.stores c.args.caller (changing ch c.args.caller g c.args.target.leaf seen.id seen.row.now)) (sym c.in-Update.is)
@@ -81,7 +81,7 @@ returns-in_err-row-in-Update c =
     let g = found_of c.args.gathered.now in
     let seen = c.in-Change.seen in
     let e = stop_of c.in_err-row-in-Update.field-0.0 in
-    handed_turn c.from_residual.ensures.1
+    handed_turn (changing c.args.change c.args.caller g) c.args.names.now _ _ c.args.stores.now c.args.stores.now c.args.caller g c.args.target c.args.changed c.from_residual.ensures.1
     (is_stopped (changing c.args.change c.args.caller g) c.args.names.now e c.args.stores.now c.args.stores.now c.args.caller g c.args.target c.args.changed seen.id seen.row.now
     (decided_is c.args.stores.now c.args.caller g c.args.target (updater_meant c.updater-updater.result) (Changes seen.id seen.row.now) c.updater-updater.ensures.is c.in-Change.ensures.is)
     (subst (λ (ch : Change). IsRun g (λ (u : Unit {0}). u) (Err e) c.args.stores.now c.args.stores.now c.args.caller (changing ch c.args.caller g c.args.target.leaf seen.id seen.row.now)) (sym c.in-Update.is)
@@ -114,7 +114,8 @@ returns-in_ok-fault-in-Refuse c =
 pub returns-in_err-fault-in-Refuse : goal.returns-in_err-fault-in-Refuse
 returns-in_err-fault-in-Refuse c =
     let g = found_of c.args.gathered.now in
-    handed_turn c.from_residual-in_err-fault-in-Refuse.ensures.1 (is_out (changing c.args.change c.args.caller g) c.args.names.now c.args.stores.now c.args.caller g c.args.target c.args.changed)
+    handed_turn (changing c.args.change c.args.caller g) c.args.names.now _ _ c.args.stores.now c.args.stores.now c.args.caller g c.args.target c.args.changed c.from_residual-in_err-fault-in-Refuse.ensures.1
+    (is_out (changing c.args.change c.args.caller g) c.args.names.now c.args.stores.now c.args.caller g c.args.target c.args.changed)
 
 pub returns-in_default : goal.returns-in_default
 returns-in_default c = is_out (changing c.args.change c.args.caller (found_of c.args.gathered.now)) c.args.names.now c.args.stores.now c.args.caller (found_of c.args.gathered.now) c.args.target c.args.changed

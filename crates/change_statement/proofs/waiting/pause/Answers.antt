@@ -21,8 +21,8 @@ unreachable-requires-in-Ok-wait_for_end c =
     let may = subst (λ n. MayAttempt c.args.stores.now (record c.args.caller { cmd = n })) (sym next) c.requires.may.may in
     has_to_pause c.args.names.now (record c.args.caller { cmd = c.in-Some.cmd }) c.args.other c.new-rest.result may.sound.0 c.requires.known (c.in-Ok-wait_for_end.ensures.is may.sound.0 may.sound.1 may.sound.2).0
 
-pub returns-in-Err : goal.returns-in-Err
-returns-in-Err c =
+pub returns : goal.returns
+returns c =
     let g = found_of c.args.gathered in
     let next : c.in-Some.cmd ≡ c.args.caller.cmd + 1 = search rules in
     let left : List TargetRow → RowsLeft = λ ts. record { by = c.in-Some-open_of.by; found = g; left = ts; changed = c.args.changed } in
