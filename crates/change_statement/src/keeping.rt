@@ -113,7 +113,7 @@ pub(crate) fn keep(
 {
     let kept = prune(alloc, prunes, &ask.condition, tree)?;
     let leaves = ids_of(alloc, &kept.leaves)?;
-    let moves = !leaves.is_empty() && sets_key(&ask.settings, tree);
+    let moves = !leaves.is_empty() && sets_key(ask.settings.as_slice(), tree);
     let tables = if moves {
         tables_below(alloc, tree)?
     } else {

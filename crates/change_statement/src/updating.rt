@@ -45,7 +45,7 @@ pub(crate) fn renew(
     ensures of { IfOk result (λ new. AreRowsOf catalog.now gathered.now.table (new ∷ [])) }
 {
     let columns = catalog.table(gathered.table).columns.as_slice();
-    new_row(alloc, columns, &gathered.ask.settings, row)
+    new_row(alloc, columns, gathered.ask.settings.as_slice(), row)
 }
 
 // ---- its leaf

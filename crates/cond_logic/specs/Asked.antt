@@ -30,7 +30,7 @@ pub record SelectMeant : Type 0 where
   pub offset : Option ℕ
 
 abbrev pub select_meant : SelectAsk → SelectMeant
-select_meant a = record { outputs = map output_tree a.outputs.items; conditions = map cond_tree a.conditions.items; order = a.order.items; limit = a.limit; offset = a.offset }
+select_meant a = record { outputs = map output_tree a.outputs; conditions = map cond_tree a.conditions; order = a.order; limit = a.limit; offset = a.offset }
 
 -- an INSERT
 pub record InsertMeant : Type 0 where
@@ -38,7 +38,7 @@ pub record InsertMeant : Type 0 where
   pub rows : List (List Value)
 
 abbrev pub insert_meant : InsertAsk → InsertMeant
-insert_meant a = record { columns = a.columns.items; rows = a.rows }
+insert_meant a = record { columns = a.columns; rows = a.rows }
 
 -- a column by its place, and its new value
 pub record SettingMeant : Type 0 where
@@ -58,4 +58,4 @@ maybe_cond None = None
 maybe_cond (Some c) = Some (cond_tree c)
 
 abbrev pub change_meant : ChangeAsk → ChangeMeant
-change_meant a = record { settings = map setting_meant a.settings.items; condition = maybe_cond a.condition }
+change_meant a = record { settings = map setting_meant a.settings; condition = maybe_cond a.condition }

@@ -1,4 +1,5 @@
 use crate::{Cond, Scalar};
+use pg_values::ListOf;
 
 /// A column by its place, and its new value.
 #[derive(Debug, Drop)]
@@ -10,6 +11,6 @@ pub struct Setting {
 /// An UPDATE with its settings, or a DELETE with none; and the condition, where there is one.
 #[derive(Debug, Drop)]
 pub struct ChangeAsk {
-    pub settings: Vec<Setting>,
+    pub settings: ListOf<Setting>,
     pub condition: Option<Cond>,
 }

@@ -1,5 +1,5 @@
 use crate::{ColumnId, Cond, Scalar};
-use pg_values::{Kind, PgText};
+use pg_values::{Kind, ListOf, PgText};
 
 /// An output column: its name, its kind, and what is computed for it.
 #[derive(Debug, Drop)]
@@ -30,9 +30,9 @@ pub struct SortKey {
 /// none, and so is an offset.
 #[derive(Debug, Drop)]
 pub struct SelectAsk {
-    pub outputs: Vec<Output>,
-    pub conditions: Vec<Cond>,
-    pub order: Vec<SortKey>,
+    pub outputs: ListOf<Output>,
+    pub conditions: ListOf<Cond>,
+    pub order: ListOf<SortKey>,
     pub limit: Option<u64>,
     pub offset: Option<u64>,
 }

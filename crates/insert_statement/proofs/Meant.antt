@@ -26,7 +26,7 @@ use Rattle.insert_statement.specs.Inserted.{whole, whole_rows, rows_meant}
 
 -- ---- a value for each column
 
-pub whole_done : (width : ℕ) (ask : InsertAsk) (asked : Result InsertMeant Fault) (rows : List (List Value)) → asked ≡ Ok (insert_meant ask) → rows ≡ map (full_row width ask.columns.items) ask.rows → whole width asked ≡ Ok rows
+pub whole_done : (width : ℕ) (ask : InsertAsk) (asked : Result InsertMeant Fault) (rows : List (List Value)) → asked ≡ Ok (insert_meant ask) → rows ≡ map (full_row width ask.columns) ask.rows → whole width asked ≡ Ok rows
 whole_done width ask asked rows is are = ap (whole width) is ∙ ap Ok (sym are)
 
 pub whole_refused : (width : ℕ) (r : Refusal) (asked : Result InsertMeant Fault) → IsAnswerBy insert_meant (Err r) asked → IsAnswer {T = List (List Value)} (Err r) (whole width asked)

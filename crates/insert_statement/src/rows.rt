@@ -50,11 +50,11 @@ fn add_row(rows: &mut RowList, row: Row) -> Result<(), NoMemory>
 }
 
 fn whole_rows(alloc: Global, width: usize, ask: &InsertAsk) -> Result<RowList, NoMemory>
-    ensures { IfOk result (λ rows. rows ≡ map (full_rows.full_row width ask.now.columns.items) ask.now.rows) }
+    ensures { IfOk result (λ rows. rows ≡ map (full_rows.full_row width ask.now.columns) ask.now.rows) }
 {
     let mut rows = RowList::new(alloc);
     for values in ask.rows.as_slice() {
-        let row = full_row(alloc, width, &ask.columns, values)?;
+        let row = full_row(alloc, width, ask.columns.as_slice(), values)?;
         add_row(&mut rows, row)?;
     }
     Ok(rows)

@@ -1,7 +1,7 @@
 -- The words of the limits.
 use Rattle.std.specs.Prelude.{ℕ, List, codes}
 use Rattle.pg_values.specs.declared.which.Which.{Which}
-use Rattle.pg_values.specs.declared.which.Which.TheVariants.{Statements, Tables, Columns, KeyColumns, TablesInFrom, Partitions, Levels, BytesOfAName, BytesOfAText, NestedExpressions, Versions, BytesOfRows, Tuples, BytesOfTuples, Scans, Sessions, Steps, Permutations, SetupBlocks, Uses, Markers}
+use Rattle.pg_values.specs.declared.which.Which.TheVariants.{Statements, Tables, Columns, KeyColumns, TablesInFrom, Partitions, Levels, BytesOfAName, BytesOfAText, NestedExpressions, Versions, BytesOfRows, Tuples, BytesOfTuples, Scans, Commands, Sessions, Steps, Permutations, SetupBlocks, Uses, Markers}
 
 -- what a limit counts, as a fault tells it
 abbrev pub which_word : Which → List ℕ
@@ -20,6 +20,7 @@ which_word BytesOfRows = codes "bytes of rows"
 which_word Tuples = codes "tuples"
 which_word BytesOfTuples = codes "bytes of tuples"
 which_word Scans = codes "scans"
+which_word Commands = codes "commands"
 which_word Sessions = codes "sessions"
 which_word Steps = codes "steps"
 which_word Permutations = codes "permutations"

@@ -116,10 +116,26 @@ fn plan_lines(
     let mut lines = Vec::new(alloc);
     if is_cut {
         push_node(alloc, 0, b"Limit", &[], &mut lines)?;
-        push_sorted(alloc, items, &ask.outputs, &ask.order, plan, 1, &mut lines)?;
+        push_sorted(
+            alloc,
+            items,
+            ask.outputs.as_slice(),
+            ask.order.as_slice(),
+            plan,
+            1,
+            &mut lines,
+        )?;
         return Ok(lines);
     }
-    push_sorted(alloc, items, &ask.outputs, &ask.order, plan, 0, &mut lines)?;
+    push_sorted(
+        alloc,
+        items,
+        ask.outputs.as_slice(),
+        ask.order.as_slice(),
+        plan,
+        0,
+        &mut lines,
+    )?;
     Ok(lines)
 }
 

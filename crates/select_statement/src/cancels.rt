@@ -84,7 +84,7 @@ fn pass(conditions: &[Cond]) -> bool
 fn is_evaluated(ask: &SelectAsk) -> bool
     ensures { result ≡ cancels.is_evaluated (select_meant ask.now) }
 {
-    pass(&ask.conditions) && ask.limit != Some(0)
+    pass(ask.conditions.as_slice()) && ask.limit != Some(0)
 }
 
 // The sessions that a SELECT without FROM is to cancel, in text order.
@@ -92,7 +92,7 @@ fn asked(alloc: Global, ask: &SelectAsk, sessions: u32) -> Result<Vec<usize>, No
     ensures { IfOk result (λ list. list.items ≡ cancels.asked sessions (select_meant ask.now)) }
 {
     if is_evaluated(ask) {
-        all_called(alloc, &ask.outputs, sessions)
+        all_called(alloc, ask.outputs.as_slice(), sessions)
     } else {
         Ok(Vec::new(alloc))
     }

@@ -126,7 +126,7 @@ pub(crate) fn plan_under<'t>(
     ensures few { IfOk result (λ p. length (planned p).items ≤ 4) }
     ensures rest { stores.new ≡ record stores.old { locks = stores.new.locks } }
 {
-    let plan = make_plan(alloc, prunes, &found.ask.conditions, &found.trees)?;
+    let plan = make_plan(alloc, prunes, found.ask.conditions.as_slice(), &found.trees)?;
     let tables = plan.tables(alloc)?;
     lock_below(alloc, stores, names, caller, &tables)?;
     Ok(plan)

@@ -30,7 +30,7 @@ fn select_bare(
     hold_if_repeatable(alloc, stores, caller)?;
     let snap = look(alloc, stores, caller)?;
     let ask = bind(alloc, stores, caller, select, &[])?;
-    let plan = make_plan(alloc, false, &ask.conditions, &[])?;
+    let plan = make_plan(alloc, false, ask.conditions.as_slice(), &[])?;
     let is_cancelled = cancels_itself(alloc, &ask, caller.session, caller.sessions - 1)?;
     if is_cancelled {
         return Err(Stop::Refused(statement_cancelled(alloc)));

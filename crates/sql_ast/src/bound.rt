@@ -1,4 +1,5 @@
-use crate::{Expr, ExprList, ListOf};
+use crate::{Expr, ExprList};
+use pg_values::ListOf;
 
 /// A partition bound as it is written.
 #[derive(Debug, Drop)]

@@ -1,5 +1,5 @@
-use crate::{Expr, ExprList, ListOf, NameList, NamedTable};
-use pg_values::PgText;
+use crate::{Expr, ExprList, NameList, NamedTable};
+use pg_values::{ListOf, PgText};
 
 /// An INSERT: the columns where they are named, and the rows.
 #[derive(Debug, Drop)]

@@ -10,7 +10,6 @@
 //! - A `Command` is a statement that reads and changes no rows: a transaction's begin and end, a setting,
 //!   a table and its partitions, a lock. A `Query` reads or changes rows, or prepares, executes or
 //!   explains a statement that does. A `Statement` is one or the other.
-//! - A `ListOf` has parts of one sort in order. Contracts see it as their list.
 //!
 //! To contracts a tree is plain data, without where it lies in memory: `specs` has it beside the function
 //! that tells it of the code's (`tree` in `Expressions.antt`, `command_tree` in `Commands.antt`,
@@ -24,7 +23,6 @@ mod command;
 mod detachment;
 mod expr;
 mod leaf;
-mod list_of;
 mod locked_table;
 mod named_table;
 mod query;
@@ -39,9 +37,8 @@ pub use command::Command;
 pub use detachment::Detachment;
 pub use expr::{Expr, ExprList};
 pub use leaf::{Leaf, Operator};
-pub use list_of::{ListOf, NameList};
 pub use locked_table::{LockedTable, LockedTableList};
-pub use named_table::NamedTable;
+pub use named_table::{NameList, NamedTable};
 pub use query::{Query, RowStatement};
 pub use select::{FromItem, Select, SelectItem, SortKey};
 pub use setting_value::SettingValue;

@@ -1,5 +1,4 @@
-use crate::ListOf;
-use pg_values::PgText;
+use pg_values::{ListOf, PgText};
 
 /// A table that is to be locked, and whether ONLY stands before it.
 #[derive(Debug, Drop)]

@@ -1,5 +1,5 @@
-use crate::{Expr, ListOf, NamedTable};
-use pg_values::PgText;
+use crate::{Expr, NamedTable};
+use pg_values::{ListOf, PgText};
 
 /// What a SELECT lists.
 #[derive(Debug, Drop)]

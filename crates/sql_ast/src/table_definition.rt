@@ -1,5 +1,5 @@
-use crate::{ListOf, NameList};
-use pg_values::{PgText, Strategy};
+use crate::NameList;
+use pg_values::{ListOf, PgText, Strategy};
 
 /// A column, the name of its type, and whether it may not be null.
 #[derive(Debug, Drop)]

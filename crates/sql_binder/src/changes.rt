@@ -20,7 +20,7 @@ use expression_binder::{
     Allowed, Names, Param, ScopeItem, bind_condition, bind_scalar, check_condition,
     condition_names, store,
 };
-use pg_values::{Kind, NoMemory, Refusal};
+use pg_values::{Kind, ListOf, NoMemory, Refusal};
 use sql_ast::{Assignment, Delete, Expr, Update};
 use std::alloc::Global;
 use std::slice::from_ref;
@@ -219,7 +219,7 @@ fn bind_parts(
     let settings = bind_settings(alloc, item, in_set, settings)?;
     let condition = bind_where(alloc, in_where, condition)?;
     Ok(ChangeAsk {
-        settings,
+        settings: ListOf::from_vec(settings),
         condition,
     })
 }

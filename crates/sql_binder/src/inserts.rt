@@ -15,7 +15,7 @@ use expression_binder::{
     Names, Param, ScopeColumn, bind_constant, check_assigned, check_count, check_operand,
     condition_names, store, typed_of,
 };
-use pg_values::{Kind, NoMemory, PgText, Refusal, Row, RowList, Value};
+use pg_values::{Kind, ListOf, NoMemory, PgText, Refusal, Row, RowList, Value};
 use refusals::{no_column, set_twice};
 use sql_ast::{Expr, ExprList, Insert, NameList};
 use std::alloc::Global;
@@ -335,7 +335,7 @@ fn bind_into(
     let kinds = kinds_of(alloc, columns, &targets)?;
     let rows = check_and_bind(alloc, names, &kinds, rows)?;
     Ok(InsertAsk {
-        columns: targets,
+        columns: ListOf::from_vec(targets),
         rows,
     })
 }

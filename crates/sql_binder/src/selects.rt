@@ -20,7 +20,7 @@ use crate::items::{bind_list, check_list, in_a_select_list, output_headings};
 use crate::keys::{bind_keys, check_keys};
 use cond_logic::{Cond, Output, SelectAsk, SortKey};
 use expression_binder::{Names, Param, ScopeItem, condition_names};
-use pg_values::{NoMemory, PgText, Refusal};
+use pg_values::{ListOf, NoMemory, PgText, Refusal};
 use refusals::{negative_limit, negative_offset};
 use sql_ast::Select;
 use std::alloc::Global;
@@ -159,9 +159,9 @@ fn bind_parts(
     let (outputs, conditions) = bind_front(alloc, &names, select, items, params, session)?;
     let (order, (limit, offset)) = bind_tail(alloc, &names, counting, headings, select)?;
     Ok(SelectAsk {
-        outputs,
-        conditions,
-        order,
+        outputs: ListOf::from_vec(outputs),
+        conditions: ListOf::from_vec(conditions),
+        order: ListOf::from_vec(order),
         limit,
         offset,
     })

@@ -8,9 +8,9 @@ ghost use Rattle.sql_queries.specs.Views.{column_in_steps, value_and_more};
 
 use crate::from::{condition, named_table};
 use grammar::{Part, Refused, comes, more_parts, separated, word};
-use pg_values::PgText;
+use pg_values::{ListOf, PgText};
 use sql_ast::{
-    Assignment, Delete, Expr, ExprList, Insert, ListOf, NameList, NamedTable, RowStatement, Update,
+    Assignment, Delete, Expr, ExprList, Insert, NameList, NamedTable, RowStatement, Update,
 };
 use sql_expressions::{ExprPart, expression, name_but, names, other_name, plain_name};
 use sql_tokens::{Token, TokenKind, name_of};

@@ -82,12 +82,12 @@ pub(crate) fn write_select(
 ) -> Result<(), NoMemory> {
     out.extend_from_slice(b"select ")?;
     let mut is_first = true;
-    for output in &bound.outputs {
+    for output in bound.outputs.as_slice() {
         write_between(&mut is_first, b", ", out)?;
         write_output(alloc, output, out)?;
     }
-    write_conditions(alloc, &bound.conditions, out)?;
-    write_order(&bound.order, out)?;
+    write_conditions(alloc, bound.conditions.as_slice(), out)?;
+    write_order(bound.order.as_slice(), out)?;
     write_count(b" limit ", bound.limit, out)?;
     write_count(b" offset ", bound.offset, out)
 }
@@ -110,7 +110,7 @@ pub(crate) fn write_insert(
 ) -> Result<(), NoMemory> {
     out.extend_from_slice(b"insert [")?;
     let mut is_first = true;
-    for place in &bound.columns {
+    for place in bound.columns.as_slice() {
         write_between(&mut is_first, b" ", out)?;
         write_number(*place as u64, out)?;
     }
@@ -135,7 +135,7 @@ pub(crate) fn write_change(
 ) -> Result<(), NoMemory> {
     out.extend_from_slice(word)?;
     let mut is_first = true;
-    for setting in &bound.settings {
+    for setting in bound.settings.as_slice() {
         out.extend_from_slice(if is_first { b" " } else { b", " })?;
         is_first = false;
         write_setting(alloc, setting, out)?;

@@ -1,6 +1,5 @@
 ghost use Rattle.std.specs.Prelude.{◌≡◌};
 
-use pg_values::PgText;
 use std::marker::Model;
 
 /// Parts of one sort in order, seen as their list.
@@ -31,6 +30,3 @@ impl<T> ListOf<T> {
         &self.items
     }
 }
-
-/// Names in order, seen as the list of their bytes.
-pub type NameList = ListOf<PgText>;
