@@ -12,5 +12,5 @@ returns c words trail text script run is =
     let o = outcome_of rules script (printed script whole.lines) whole.last.end in
     record {
       outcome = o;
-      is = Read (works.Run trail) text run refl (Accepted script is (record { lines = whole.lines; last = whole.last; runs = whole.runs; good = over_anything _ _ _ _ whole.runs.reaches; is = refl }));
+      is = Read (works.Run trail) text run refl refl (Accepted script is (record { lines = whole.lines; last = whole.last; runs = whole.runs; good = over_anything _ _ _ _ whole.runs.reaches; is = refl }));
     }
