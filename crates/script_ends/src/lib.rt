@@ -7,4 +7,7 @@
 
 mod laws;
 
-pub use laws::{scripts_come_to_an_end, scripts_have_an_outcome, what_was_written_begins_it};
+pub use laws::{
+    scripts_come_to_an_end, scripts_have_an_outcome, seeds_have_an_outcome,
+    what_was_written_begins_it,
+};
