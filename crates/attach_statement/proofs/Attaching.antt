@@ -53,13 +53,13 @@ use Rattle.statement_steps.specs.declared.caller.Caller.{Caller}
 use Rattle.statement_steps.specs.declared.stop.Stop.TheVariants as stop
 use Rattle.statement_steps.specs.Steps.{IsStep}
 use Rattle.statement_steps.proofs.Parts.{locks_same, no_memory}
-use Rattle.partition_scans.specs.Places.{breaks_place, is_refused_above, place_scan, default_scan}
-use Rattle.partition_scans.specs.Scans.{IsClean}
-use Rattle.partition_scans.proofs.Cleaning.{clean_first, clean_rest}
-use Rattle.table_statements.specs.Tables.{own}
-use Rattle.table_statements.proofs.Beside.{stands_apart}
-use Rattle.table_statements.proofs.Deeds.{IsDeed, deed_step}
-use Rattle.table_statements.proofs.Fresh.{IsOwn, own_is, own_number}
+use Rattle.statement_steps.specs.Owned.{own}
+use Rattle.statement_steps.proofs.Owned.{own_number, own_is, IsOwn}
+use Rattle.ddl_steps.specs.Places.{breaks_place, is_refused_above, place_scan, default_scan}
+use Rattle.ddl_steps.specs.Scans.{IsClean}
+use Rattle.ddl_steps.proofs.Cleaning.{clean_first, clean_rest}
+use Rattle.ddl_steps.proofs.Beside.{stands_apart}
+use Rattle.ddl_steps.proofs.Deeds.{IsDeed, deed_step}
 use Rattle.attach_statement.specs.Asked.{MayBeAttached, HasPlace, HasLockedAll, AreRowsClean, IsJudgedIn}
 use Rattle.attach_statement.specs.Attached.{new_entry, entry_added, scans}
 use Rattle.attach_statement.specs.Places.{name_at}

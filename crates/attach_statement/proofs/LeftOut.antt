@@ -3,7 +3,6 @@ use Rattle.std.proofs.Common.{◌≡◌, ℕ, ◌<◌, ◌==◌, ◌&&◌, ◌||
 use Rattle.std.specs.Prelude.{IfOk, IsSome, is_some, is_none}
 use Rattle.std.specs.List.{Contains, list_any}
 use Rattle.std.proofs.lemmas.Bool.{and_parts, cases_Bool}
-use Rattle.std.proofs.lemmas.Bool.Decides.{nat_tests}
 use Rattle.std.proofs.lemmas.List.Elements.{All-contains}
 use Rattle.pg_values.specs.declared.value.Value.{Value}
 use Rattle.pg_values.specs.declared.fault.Fault.{Fault}
@@ -34,7 +33,7 @@ use Rattle.row_router.specs.Histories.{above, ddl_tree, kept_of, part_of, parent
 use Rattle.row_router.specs.Paths.{refused}
 use Rattle.row_router.specs.Trees.{leaves}
 use Rattle.tx_table.specs.Stands.{TableStands}
-use Rattle.row_store.specs.Judged.{refusing, seeing}
+use Rattle.row_store.specs.Judged.{refusing}
 use Rattle.row_store.specs.Stands.{StoreStands}
 use Rattle.part_catalog.specs.Answers.{parent_told}
 use Rattle.part_catalog.specs.Found.{made_at}
@@ -42,11 +41,14 @@ use Rattle.part_catalog.specs.Stands.{CatalogueStands}
 use Rattle.part_ddl.specs.Below.{tables_from}
 use Rattle.part_ddl.specs.Placing.{IsFault, bounds_below, level_at}
 use Rattle.part_ddl.proofs.Making.{table_count}
-use Rattle.partition_scans.specs.Data.{DataStand}
-use Rattle.partition_scans.specs.Places.{breaks_place, is_refused_above, place_scan}
-use Rattle.partition_scans.specs.Scans.{Scan, IsClean, fault_told, judged, refusals, watches}
-use Rattle.partition_scans.specs.Sessions.{those}
-use Rattle.partition_scans.proofs.Cleaning.{NoneWatch, no_faults}
+use Rattle.ddl_steps.specs.Data.{DataStand}
+use Rattle.ddl_steps.specs.Places.{breaks_place, is_refused_above, place_scan}
+use Rattle.ddl_steps.specs.Scans.{Scan, IsClean, fault_told, judged, refusals, watches}
+use Rattle.ddl_steps.specs.Sessions.{those}
+use Rattle.ddl_steps.proofs.Cleaning.{NoneWatch, no_faults, own_watches}
+use Rattle.ddl_steps.specs.Families.{parent_in}
+use Rattle.ddl_steps.specs.Locks.{IsLocked}
+use Rattle.ddl_steps.specs.Checks.{same_strategy, same_columns, same_level, implies}
 use Rattle.soundness.specs.Worlds.{IsMade, Present, key_at, view}
 use Rattle.soundness.proofs.All.{legal_keeps_all, legal_keeps_checks}
 use Rattle.soundness.proofs.CheckSkip.{implied_accepts}
@@ -68,18 +70,13 @@ use Rattle.stores.specs.declared.stores.Stores.{Stores}
 use Rattle.stores.proofs.Goodness.{held_own, legal_of, permitted_of}
 use Rattle.statement_steps.specs.Attempts.{MayAttempt}
 use Rattle.statement_steps.specs.declared.caller.Caller.{Caller}
-use Rattle.table_statements.specs.Asked.{IsLocked}
-use Rattle.table_statements.specs.Drops.{parent_in}
-use Rattle.table_statements.proofs.Below.{from_numbers, unmapped_in}
-use Rattle.table_statements.proofs.Ends.{same_number}
-use Rattle.table_statements.proofs.Fresh.{own_number}
-use Rattle.table_statements.proofs.Held.{held_at_history}
-use Rattle.detach_statement.specs.Kept.{implies, same_columns, same_level, same_strategy}
-use Rattle.detach_statement.proofs.Checks.{shape_at}
-use Rattle.detach_statement.proofs.Levels.{columns_are}
+use Rattle.statement_steps.proofs.Owned.{own_number}
+use Rattle.ddl_steps.proofs.Below.{from_numbers, unmapped_in, same_number}
+use Rattle.ddl_steps.proofs.Locks.{held_at_history}
+use Rattle.ddl_steps.proofs.Levels.{columns_are, shape_at}
+use Rattle.ddl_steps.proofs.Sets.{are_those}
 use Rattle.attach_statement.specs.Asked.{HasFamilyLocked, IsJudgedIn}
 use Rattle.attach_statement.specs.Skipped.{SkippedIsClean, asks_nothing, is_implied, is_skipped, kept_for}
-use Rattle.attach_statement.proofs.Scanned.{are_those}
 
 -- ---- it is told
 
@@ -273,20 +270,6 @@ AreWatching stores s t rows set = (h : History) → IsJudgedIn stores s t h → 
 pub each_data : (stores : Stores) (s t : ℕ) (rows : History → List Scan) (judgement : Result SessionSet Refusal) → IfOk judgement (λ set. (h : History) → DataStand stores h → (r : ℕ) → has set r ≡ watches h s (rows h) r) → IfOk judgement (AreWatching stores s t rows)
 each_data stores s t rows (Ok set) all = λ h it. all h it.tells
 each_data stores s t rows (Err e) all = tt
-
-itself : (n : ℕ) → (n == n) ≡ true
-itself n = grind (arith, nat_tests)
-
-not_seeing : (b c : Bool) → b ≡ true → (not b && c) ≡ false
-not_seeing true c e = refl
-not_seeing false c e = absurd (let d = e in cc)
-
--- the session does not wait for itself
-own_watches : (h : History) (s : ℕ) (xs : List Scan) → watches h s xs s ≡ false
-own_watches h s [] = refl
-own_watches h s (x ∷ xs) =
-    let first : seeing h s x.leaves x.breaks s ≡ false = not_seeing (s == s) _ (itself s) in
-    ap (λ (b : Bool). b || watches h s xs s) first ∙ own_watches h s xs
 
 pub own_never : (s t : ℕ) (judgement : Result SessionSet Refusal) (stores : Stores) (caller : Caller) → MayAttempt stores caller → HasFamilyLocked stores s t → (rows : History → List Scan) → IfOk judgement (AreWatching stores s t rows) → IfOk judgement (λ set. has set s ≡ false)
 own_never s t (Ok set) stores caller may family rows all =

@@ -30,10 +30,10 @@ use Rattle.part_ddl.specs.Below.{tables_from}
 use Rattle.part_ddl.specs.Placing.{level_at, partitions_of, pending_name, names_below, bounds_below, bound_faults, place_faults}
 use Rattle.expression_binder.specs.Firsts.{IsAnswerBy}
 use Rattle.legal_statements.specs.Below.{numbers_from}
-use Rattle.table_statements.specs.Refused.{next_answer, unless_faults}
-use Rattle.table_statements.proofs.Below.{from_numbers, unmapped_in}
-use Rattle.table_statements.proofs.Firsts.{to_answer, past_ok, past_none}
-use Rattle.table_statements.proofs.Placing.{takes_bound}
+use Rattle.ddl_steps.specs.Refused.{next_answer, unless_faults}
+use Rattle.ddl_steps.proofs.Below.{from_numbers, unmapped_in}
+use Rattle.ddl_steps.proofs.Firsts.{to_answer, past_ok, past_none}
+use Rattle.ddl_steps.proofs.Levels.{takes_bound}
 use Rattle.attach_statement.specs.Asked.{MayBeAttached}
 use Rattle.attach_statement.specs.Columns.{column_faults}
 use Rattle.attach_statement.specs.Places.{name_at, stands_above, table_faults, attach_place}

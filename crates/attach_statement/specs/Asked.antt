@@ -21,9 +21,9 @@ use Rattle.legal_statements.specs.Below.{numbers_from}
 use Rattle.legal_statements.specs.Locked.{IsOwned}
 use Rattle.stores.specs.Good.{IsGood}
 use Rattle.stores.specs.declared.stores.Stores.{Stores}
-use Rattle.partition_scans.specs.Data.{DataStand}
-use Rattle.partition_scans.specs.Scans.{IsClean}
-use Rattle.table_statements.specs.Asked.{AreLocked, HasDefaultLocked, IsLockedNamed}
+use Rattle.ddl_steps.specs.Data.{DataStand}
+use Rattle.ddl_steps.specs.Scans.{IsClean}
+use Rattle.ddl_steps.specs.Locks.{IsLockedNamed, AreLocked, HasDefaultLocked}
 use Rattle.attach_statement.specs.Attached.{scans}
 
 -- nothing stands against the table below the parent with that bound

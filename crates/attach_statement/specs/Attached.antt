@@ -9,15 +9,16 @@ use Rattle.history.specs.History.{History, CatalogueChange, catalogue_events}
 use Rattle.row_router.specs.Histories.{table_of}
 use Rattle.sql_ast.specs.Commands.{Bound}
 use Rattle.part_ddl.specs.Below.{default_of}
-use Rattle.partition_scans.specs.Places.{place_scan, default_scan}
-use Rattle.partition_scans.specs.Scans.{Scan}
-use Rattle.partition_scans.specs.Waited.{scanned}
+use Rattle.ddl_steps.specs.Places.{place_scan, default_scan}
+use Rattle.ddl_steps.specs.Scans.{Scan}
+use Rattle.ddl_steps.specs.Waited.{scanned}
+use Rattle.ddl_steps.specs.Families.{numbers_under}
+use Rattle.ddl_steps.specs.Locks.{default_locked}
 use Rattle.statement_steps.specs.Made.{Made, made, answered}
 use Rattle.statement_steps.specs.declared.caller.Caller.{Caller}
 use Rattle.statement_steps.specs.Asks.{named, held_at, all_locked}
 use Rattle.statement_steps.specs.Steps.{follow}
-use Rattle.table_statements.specs.Partitions.{default_locked, numbers_under}
-use Rattle.table_statements.specs.Tables.{own}
+use Rattle.statement_steps.specs.Owned.{own}
 use Rattle.attach_statement.specs.Places.{attach_place, name_at}
 
 -- ---- the table and those under it are locked

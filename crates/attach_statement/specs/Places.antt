@@ -13,8 +13,8 @@ use Rattle.table_binder.specs.Bounds.{bound_for}
 use Rattle.part_catalog.specs.Found.{made_at}
 use Rattle.part_ddl.specs.Below.{tables_from}
 use Rattle.part_ddl.specs.Placing.{level_at, place_faults}
-use Rattle.table_statements.specs.Drops.{parent_in}
-use Rattle.table_statements.specs.Refused.{next_answer, unless_faults}
+use Rattle.ddl_steps.specs.Refused.{next_answer, unless_faults}
+use Rattle.ddl_steps.specs.Families.{parent_in}
 use Rattle.attach_statement.specs.Columns.{column_faults}
 
 abbrev pub name_at : History → (table : ℕ) → List ℕ

@@ -17,10 +17,10 @@ use Rattle.part_ddl.specs.Placing.{level_at}
 use Rattle.legal_statements.specs.Below.{numbers_from}
 use Rattle.legal_statements.specs.Locked.{IsOwned}
 use Rattle.stores.specs.Good.{IsGood}
-use Rattle.partition_scans.specs.Places.{place_scan}
-use Rattle.partition_scans.specs.Scans.{IsClean}
-use Rattle.table_statements.specs.Drops.{parent_in}
-use Rattle.detach_statement.specs.Kept.{implies}
+use Rattle.ddl_steps.specs.Places.{place_scan}
+use Rattle.ddl_steps.specs.Scans.{IsClean}
+use Rattle.ddl_steps.specs.Families.{parent_in}
+use Rattle.ddl_steps.specs.Checks.{implies}
 
 abbrev pub kept_for : History → (session table : ℕ) → List KeptCheck
 kept_for h s t = map kept_of (checks_of h s t)

@@ -13,7 +13,7 @@ ghost use Rattle.attach_statement.specs.Skipped as skipped;
 
 use crate::checking::is_there;
 use bound_forms::Bound;
-use detach_statement::is_implied;
+use ddl_steps::is_implied;
 use part_catalog::Catalog;
 use part_ddl::parent_level;
 use pg_values::{NoMemory, Refusal, TableNo};

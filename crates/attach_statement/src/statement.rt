@@ -4,13 +4,13 @@ ghost use Rattle.pg_values.specs.Refusals.{IsAnswer};
 ghost use Rattle.history.specs.History.{History};
 ghost use Rattle.row_router.specs.Seen.{seen};
 ghost use Rattle.part_ddl.specs.Below.{IsTreeOf};
-ghost use Rattle.partition_scans.specs.Places.{place_scan};
-ghost use Rattle.partition_scans.specs.Scans.{judged, watches};
+ghost use Rattle.ddl_steps.specs.Places.{place_scan};
+ghost use Rattle.ddl_steps.specs.Scans.{judged, watches};
 ghost use Rattle.sql_ast.specs.Commands.{bound_tree};
 ghost use Rattle.statement_steps.specs.Attempts.{MayAttempt};
 ghost use Rattle.statement_steps.specs.Known.{IsKnownTo};
 ghost use Rattle.statement_steps.specs.Steps.{IsStep};
-ghost use Rattle.table_statements.specs.Asked.{IsLockedNamed};
+ghost use Rattle.ddl_steps.specs.Locks.{IsLockedNamed};
 ghost use Rattle.attach_statement.specs.Asked.{AreFrom, AreRowsClean, HasFamilyLocked, HasLockedAll, HasPlace, IsGuardedNamed, IsJudgedIn, IsPathOf};
 ghost use Rattle.attach_statement.specs.Attached as attached;
 
@@ -18,12 +18,14 @@ use crate::checking::place_found;
 use crate::laws::skipped_is_clean;
 use crate::skipping::is_skipped;
 use bound_forms::Bound;
+use ddl_steps::{
+    judge_default, judge_table, lock_default, sessions_are_low, tables_from, wait_for_snapshots,
+};
 use legal_statements::{
     attach_may_follow, listed_is_there, named_is_there, none_breaks, there_is_known, tree_is_whole,
 };
 use part_catalog::CatalogRefused;
 use part_ddl::passed_have_places;
-use partition_scans::{judge_default, judge_table, sessions_are_low, wait_for_snapshots};
 use pg_values::{LockMode, Refusal, SessionSet, TableNo};
 use row_router::{PathPart, Tree};
 use soundness::{legal_keeps_all, sessions_have_siblings};
@@ -31,7 +33,6 @@ use sql_ast::BoundText;
 use statement_steps::{Caller, SessionNames, Stop, hold_if_repeatable, lock_named, lock_tables};
 use std::alloc::Global;
 use stores::{Stores, trees_are_together};
-use table_statements::{lock_default, tables_from};
 
 // The last part: the table becomes a partition.
 fn add_entry(

@@ -20,11 +20,14 @@ use Rattle.tx_table.specs.Stands.{TableStands}
 use Rattle.row_store.specs.Kept.{KeptRows, stored_at}
 use Rattle.row_store.specs.Stands.{StoreStands, newborn}
 use Rattle.part_catalog.specs.Found.{made_at}
-use Rattle.row_change.specs.Laws.{IsRowIn}
-use Rattle.row_change.specs.Placing.{bounds_faults, first_or}
+use Rattle.row_change.specs.Laws.{IsRowIn, AreRowsOf}
+use Rattle.row_change.specs.Placing.{bounds_faults, first_or, tables_of}
 use Rattle.row_change.specs.Storing.{IsMade, check_faults, full_faults, made_by}
 use Rattle.row_change.specs.Succession as rows_spec
 use Rattle.row_change.specs.Succession.{ending_to, follows}
+use Rattle.row_change.specs.Targets.{holder_faults}
+use Rattle.row_change.proofs.Placed.{is_placed}
+use Rattle.row_change.proofs.Passing.{nothing_before, none_refuses}
 use Rattle.soundness.specs.Worlds.{AcceptAbove, HasLeaf, view}
 use Rattle.soundness.proofs.Columns.{row_down, routed_leaf}
 use Rattle.legal_statements.specs.Follows.{MayFollow}
@@ -37,17 +40,11 @@ use Rattle.stores.specs.Stand.{Stands}
 use Rattle.stores.specs.declared.stores.Stores.{Stores}
 use Rattle.stores.proofs.Goodness.{legal_of}
 use Rattle.stores.proofs.Housed.{leaves_are_housed}
-use Rattle.statement_steps.specs.Made.{Refused}
+use Rattle.statement_steps.specs.Made.{Refused, unless_refused, answered}
 use Rattle.statement_steps.specs.Attempts.{WentOn}
 use Rattle.statement_steps.specs.declared.caller.Caller.{Caller}
 use Rattle.statement_steps.specs.declared.stop.Stop.{Stop}
 use Rattle.statement_steps.specs.declared.stop.Stop.TheVariants as stop
-use Rattle.insert_statement.specs.Asked.{AreRowsOf, stopped}
-use Rattle.insert_statement.specs.Born.{unless_refused}
-use Rattle.insert_statement.specs.Inserted.{answered, holder_faults, tables_of}
-use Rattle.insert_statement.proofs.OwnLeaf.{none_refuses}
-use Rattle.insert_statement.proofs.Passing.{nothing_before}
-use Rattle.insert_statement.proofs.Ways.{is_placed}
 use Rattle.change_statement.proofs.Ended.{Came, came_on, came_one, end_writes, got_at, own_is, rows_keep}
 use Rattle.change_statement.proofs.Kept.{one_of}
 use Rattle.change_statement.proofs.Stays.{ended_fits}
@@ -56,6 +53,7 @@ use Rattle.change_statement.specs.Running.{Agree, IsInRun, IsPlacedIn, IsRun, Is
 use Rattle.change_statement.specs.Updated.{against, housed, succeeded, succeeded_by, tested}
 use Rattle.statement_steps.proofs.Since.{since_now, since_on}
 use Rattle.statement_steps.specs.Gathered.{Found, IsStill, MayWriteAt}
+use Rattle.statement_steps.specs.Faults.{stop_of as stopped}
 use Rattle.change_statement.proofs.Runs.{no_memory_run}
 
 -- ---- the leaf where a row goes

@@ -29,12 +29,12 @@ use Rattle.statement_steps.specs.declared.stop.Stop.TheVariants as stop
 use Rattle.statement_steps.proofs.Numbers.{one_later}
 use Rattle.statement_steps.specs.Steps.{IsTold, IsHalted, IsPaused, IsStep, follow}
 use Rattle.statement_steps.proofs.Steps.{went_on, goes_on}
+use Rattle.statement_steps.proofs.Rights.{tables_kept}
 use Rattle.change_statement.specs.Changed.{Changing, Told, begun_or_left, changed_by, changed_on, told_by, told_of}
 use Rattle.change_statement.specs.Standing.{left_of}
 use Rattle.change_statement.specs.declared.changed_rows.ChangedRows.{ChangedRows}
 use Rattle.change_statement.specs.Running.{IsGathered, IsInRun, IsRunTold, IsRun, IsCommandTold, IsCommand, IsOwnRun, IsTargetIn, MayRun, MayWriteIn}
 use Rattle.change_statement.proofs.Ended.{got_at}
-use Rattle.insert_statement.proofs.Tables.{tables_kept}
 
 -- ---- the run begins
 

@@ -31,8 +31,8 @@ use Rattle.statement_steps.specs.declared.stop.Stop.TheVariants as stop
 use Rattle.statement_steps.specs.Faults.{stop_by}
 use Rattle.statement_steps.proofs.Parts.{stays}
 use Rattle.soundness.specs.Worlds.{IsMade}
-use Rattle.insert_statement.proofs.Tables.{tables_kept}
 use Rattle.statement_steps.specs.Gathered.{Found}
+use Rattle.statement_steps.proofs.Rights.{tables_kept}
 use Rattle.change_statement.specs.Standing.{standing}
 use Rattle.change_statement.specs.Turns.{IsDecided, IsTurn}
 use Rattle.change_statement.specs.declared.turn.Turn.TheVariants.{Counted, Waits}

@@ -7,13 +7,13 @@ use Rattle.history.specs.declared.version.Version.{Version}
 use Rattle.history.specs.declared.version.End.{End}
 use Rattle.history.specs.declared.version.Ending.{Ending}
 use Rattle.history.specs.declared.version.Ending.TheVariants.{Deleted}
-use Rattle.history.specs.Transactions.{TxEvents, IsSound, open_of, session_of}
+use Rattle.history.specs.Transactions.{open_of}
 use Rattle.history.specs.Rows.{RowEvent, RowEnded}
 use Rattle.history.specs.Locks.{queue}
 use Rattle.history.specs.History.{History, RowChange, tx_events, snapshot_events, lock_events, catalogue_events, versions}
 use Rattle.history.specs.RowsSound.{IsEndingKnown}
 use Rattle.history.specs.Legal.{command_of, IsNotAfter}
-use Rattle.history.proofs.Open.{open_own, open_runs}
+use Rattle.history.proofs.Open.{open_runs}
 use Rattle.tx_table.specs.Stands.{StandsFor, TableStands}
 use Rattle.lock_table.specs.Stands.{StandsFor as LocksFor}
 use Rattle.row_store.specs.declared.stored.Stored.{Stored}
@@ -38,8 +38,8 @@ use Rattle.statement_steps.specs.declared.caller.Caller.{Caller}
 use Rattle.statement_steps.specs.Gathered.{Found, IsStill, MayWriteAt}
 use Rattle.statement_steps.specs.Waiting.{Since}
 use Rattle.statement_steps.proofs.Since.{since_on, since_row}
-use Rattle.insert_statement.specs.Inserted.{own}
-use Rattle.insert_statement.proofs.Births.{Quiet}
+use Rattle.statement_steps.specs.Owned.{own}
+use Rattle.statement_steps.proofs.Open.{one_session}
 use Rattle.change_statement.specs.Deleted.{ended}
 use Rattle.change_statement.specs.Running.{IsInRun, IsRunTold, IsRun, MayEndIn, MayRun}
 use Rattle.change_statement.proofs.Kept.{one_of}
@@ -47,6 +47,7 @@ use Rattle.change_statement.proofs.Still.{open_leaf}
 use Rattle.std.specs.List.{Contains}
 use Rattle.row_router.specs.Trees.{leaves}
 use Rattle.legal_statements.specs.Locked.{IsWritable}
+use Rattle.row_change.proofs.Quiet.{Quiet}
 
 -- ---- an event
 
@@ -57,9 +58,6 @@ pub record Came (f : Found) (h : History) (caller : Caller) (g : History) : Type
   pub others : (r n : ℕ) → r ≢ caller.session → IsAt h r n → IsAt g r n
   pub since : (r : ℕ) → Since r h g
   pub quiet : Quiet g h
-
-one_session : (txs : TxEvents) (r s u t : ℕ) → IsSound txs → open_of txs r ≡ Some u → open_of txs s ≡ Some t → u ≡ t → r ≡ s
-one_session txs r s u t sound mine its same = sym (open_own txs r u sound mine) ∙ (ap (session_of txs) same ∙ open_own txs s t sound its)
 
 still_on : (f : Found) (h g : History) (s : ℕ) → Since s h g → IsStill h s f → IsStill g s f
 still_on f h g s since still = record { earlier = still.earlier; gathered = still.gathered; since = since_on s still.earlier h g still.since since }

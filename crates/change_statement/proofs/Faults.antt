@@ -6,7 +6,7 @@ use Rattle.pg_values.specs.declared.ids.TableNo.{TableNo}
 use Rattle.row_router.specs.Trees.{TableTree}
 use Rattle.row_change.specs.Ways.{AllTables, root, way_to}
 use Rattle.row_change.proofs.Ways.{all_root, all_to}
-use Rattle.insert_statement.specs.Inserted.{last_or, holder}
+use Rattle.row_change.specs.Targets.{holder, last_table as last_or}
 
 pub holder_some : (tree : TableTree) (leaf : LeafId) (way : List TableNo) → way_to leaf tree ≡ Some way → last_or (root tree) way ≡ holder tree leaf
 holder_some tree leaf way is = ap (λ o. last_or (root tree) (unwrap_or o [])) (sym is)

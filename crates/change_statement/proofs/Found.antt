@@ -44,17 +44,18 @@ use Rattle.statement_steps.specs.Known.{IsKnownTo}
 use Rattle.statement_steps.specs.Steps.{IsStep}
 use Rattle.statement_steps.proofs.Parts.{nothing_done, refused_here, no_memory, stays}
 use Rattle.statement_steps.specs.Below.{below}
-use Rattle.insert_statement.specs.Inserted.{answered}
-use Rattle.insert_statement.specs.Asked.{IsReadOf, MayLock, MayWrite, stopped}
-use Rattle.insert_statement.proofs.Locked.{may_write}
 use Rattle.statement_steps.proofs.Steps.{same_step}
-use Rattle.insert_statement.proofs.Tables.{IsMade, tables_kept}
-use Rattle.insert_statement.proofs.Trees.{Are, IsHome, tree_root}
+use Rattle.row_change.proofs.Trees.{Are, IsHome, tree_root}
+use Rattle.row_change.specs.Laws.{IsMade}
 use Rattle.change_statement.specs.Gathered.{found_by, item_of, meant, locked_all, over, of_table}
 use Rattle.statement_steps.specs.Gathered.{Found, found_of, sets_key}
 use Rattle.change_statement.specs.Kept.{if_some, leaves_read, moves, tables_locked}
 use Rattle.change_statement.specs.Running.{IsGathered, MayWriteIn}
 use Rattle.statement_steps.specs.declared.gathered.Gathered.{Gathered}
+use Rattle.statement_steps.specs.Rights.{MayWrite, MayLock, IsReadOf}
+use Rattle.statement_steps.proofs.Rights.{may_write, tables_kept}
+use Rattle.statement_steps.specs.Made.{answered}
+use Rattle.statement_steps.specs.Faults.{stop_of as stopped}
 use Rattle.change_statement.proofs.Homes.{all_kept, all_under, home_of, kept_home, kept_in, root_and_below}
 use Rattle.change_statement.proofs.Kept.{Stay, each_of, home_written, homes_of, writable_moves}
 

@@ -13,7 +13,7 @@ use Rattle.cond_logic.specs.Tables.{Leaf}
 use Rattle.plan_tree.specs.Kept.{Keeps, id_of, leaf_of, keeps_plain, leaves_below, leaves_among, kept_leaves, node_of, led, kept_tables, tables_among}
 use Rattle.statement_steps.specs.Below.{below}
 use Rattle.soundness.proofs.Listed.{none_in, first_in, only_one}
-use Rattle.insert_statement.proofs.Trees.{AtHome, AllAtHome}
+use Rattle.row_change.proofs.Trees.{AtHome, AllAtHome}
 
 -- ---- the tables as a list
 

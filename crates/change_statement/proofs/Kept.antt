@@ -30,10 +30,11 @@ use Rattle.stores.proofs.Housed.{leaves_are_housed}
 use Rattle.statement_steps.specs.Attempts.{LocksStay}
 use Rattle.statement_steps.specs.declared.caller.Caller.{Caller}
 use Rattle.statement_steps.specs.Known.{IsKnownTo}
-use Rattle.insert_statement.specs.Asked.{IsReadOf}
-use Rattle.insert_statement.proofs.Tables.{IsMade, tables_kept, shown_made}
-use Rattle.insert_statement.proofs.Trees.{Are, IsHome, tree_are}
+use Rattle.row_change.proofs.Trees.{Are, IsHome, tree_are}
+use Rattle.row_change.specs.Laws.{IsMade}
 use Rattle.statement_steps.specs.Gathered.{Found}
+use Rattle.statement_steps.specs.Rights.{IsReadOf}
+use Rattle.statement_steps.proofs.Rights.{tables_kept, shown_made}
 use Rattle.change_statement.specs.Running.{IsGathered, IsTargetIn, MayRun, MayWriteIn}
 use Rattle.change_statement.proofs.Homes.{Home, home_of}
 

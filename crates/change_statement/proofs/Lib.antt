@@ -19,3 +19,4 @@ pub mod Still
 pub mod Taken
 pub mod Targets
 pub mod WaitedFor
+mod TreeLocks

@@ -24,15 +24,16 @@ use Rattle.part_catalog.specs.Stands.{CatalogueStands}
 use Rattle.part_catalog.specs.Kept.{KeptCatalogue}
 use Rattle.row_store.specs.Kept.{blank, stored_at}
 use Rattle.row_change.specs.declared.target.Target.{Target}
-use Rattle.row_change.specs.Laws.{IsRowIn}
-use Rattle.row_change.specs.Placing.{first_or, placed, all_placed, CanBePlaced, IsNumbered, IsPartNumbered}
+use Rattle.row_change.specs.Laws.{IsRowIn, AreRowsOf}
+use Rattle.row_change.specs.Placing.{first_or, placed, all_placed, CanBePlaced, IsNumbered, IsPartNumbered, tables_of}
 use Rattle.row_change.specs.Ways.{AllTables, root, way_to, way_to_one, first_way}
 use Rattle.row_change.specs.Storing.{FitsTargets, IsTargetNumbered, is_into, leaf_faults}
-use Rattle.row_change.specs.Targets.{HasTarget, HasWay, IsTargetOf}
+use Rattle.row_change.specs.Targets.{HasTarget, HasWay, IsTargetOf, holder_faults}
 use Rattle.row_change.proofs.Fit.{paths_fit, rows_can_be_placed}
 use Rattle.row_change.proofs.Made.{paths_are_made, row_links, tree_all, trees_are_made}
 use Rattle.row_change.proofs.Ways.{all_to}
 use Rattle.row_change.proofs.Targets.{last_in_tree}
+use Rattle.row_change.proofs.Told.{found_target, one_told, one_numbered}
 use Rattle.change_statement.specs.NewRows.{new_row}
 use Rattle.soundness.proofs.OneLeaf.{all_versions, sessions_have_siblings}
 use Rattle.stores.specs.Stand.{Stands}
@@ -40,16 +41,14 @@ use Rattle.stores.specs.declared.stores.Stores.{Stores}
 use Rattle.stores.proofs.Goodness.{legal_of, permitted_of}
 use Rattle.statement_steps.specs.declared.caller.Caller.{Caller}
 use Rattle.statement_steps.specs.declared.stop.Stop.{Stop}
-use Rattle.insert_statement.specs.Asked.{AreRowsOf, stopped}
-use Rattle.insert_statement.specs.Inserted.{answered, tables_of, holder_faults}
-use Rattle.insert_statement.proofs.Tables.{tables_kept}
-use Rattle.insert_statement.proofs.Targets.{found_target, one_told}
-use Rattle.insert_statement.proofs.Placed.{one_numbered}
 use Rattle.statement_steps.proofs.Parts.{stays}
 use Rattle.statement_steps.specs.Gathered.{Found}
 use Rattle.change_statement.specs.Running.{IsRun, MayEndIn, MayRun, Takes}
 use Rattle.change_statement.specs.Updated.{renewed, stored, updating}
 use Rattle.statement_steps.specs.Waiting.{Since}
+use Rattle.statement_steps.proofs.Rights.{tables_kept}
+use Rattle.statement_steps.specs.Made.{answered}
+use Rattle.statement_steps.specs.Faults.{stop_of as stopped}
 use Rattle.soundness.specs.Versions.{IsVersion}
 use Rattle.soundness.specs.Worlds.{IsMade}
 use Rattle.soundness.proofs.Columns.{legal_keeps_columns, row_up}

@@ -1,15 +1,13 @@
 -- A version that stands is accepted above its leaf, and so is the row that follows it where no key is set.
-use Rattle.std.proofs.Common.{◌≡◌, ℕ, ◌==◌, ◌||◌, arith, true, false, List, [], ◌∷◌, inl, inr, refl, sym, ap, subst, ◌∙◌, Option, Some, None, Ok, All, slice_index_or}
+use Rattle.std.proofs.Common.{◌≡◌, ℕ, ◌==◌, ◌||◌, arith, true, List, inl, inr, refl, sym, subst, ◌∙◌, Option, Some, None, Ok, slice_index_or}
 use Rattle.std.specs.Prelude.{is_none, nat_lt}
 use Rattle.std.proofs.lemmas.Bool.{and_parts, cases_Bool}
 use Rattle.std.proofs.lemmas.Bool.Decides.{nat_tests}
-use Rattle.std.proofs.lemmas.List.Elements.{All-append, All-cons, All-nil}
 use Rattle.pg_values.specs.declared.value.Value.{Value}
 use Rattle.pg_values.specs.declared.ids.RowId.{RowId}
 use Rattle.history.specs.declared.version.End.{End}
 use Rattle.history.specs.declared.version.Version.{Version}
 use Rattle.history.specs.Transactions.{is_committed, fate, open_of}
-use Rattle.history.specs.Rows.{RowEvents, LeafAdded, RowBorn, RowEnded, births}
 use Rattle.history.specs.History.{History, tx_events, snapshot_events, row_events, catalogue_events, end_of, next_version}
 use Rattle.history.specs.Legal.{IsLegal}
 use Rattle.history.specs.Presence.{counts}
@@ -25,8 +23,8 @@ use Rattle.soundness.specs.Worlds.{AcceptAbove, HasLeaf, view}
 use Rattle.soundness.proofs.All.{legal_keeps_all}
 use Rattle.soundness.proofs.Looking.{alive_by, counts_world}
 use Rattle.soundness.proofs.Paths.{agree, same_above}
-use Rattle.soundness.proofs.Presence.{all_more}
 use Rattle.soundness.proofs.Sound.{end_counts, sound_of}
+use Rattle.soundness.proofs.OneLeaf.{all_versions}
 use Rattle.part_catalog.specs.Found.{made_at}
 use Rattle.stores.specs.Stand.{Stands}
 use Rattle.stores.specs.declared.stores.Stores.{Stores}
@@ -62,13 +60,6 @@ shown_now h session v legal birth none =
       ),
     )
 
-version_born : (rows : RowEvents) → All (IsVersion rows) (births rows)
-version_born [] = All-nil (IsVersion [])
-version_born (LeafAdded l ∷ rows) = version_born rows
-version_born (RowEnded k e ∷ rows) = version_born rows
-version_born (RowBorn v ∷ rows) =
-    All-append (IsVersion (RowBorn v ∷ rows)) (births rows) (v ∷ []) (all_more (IsVersion rows) (IsVersion (RowBorn v ∷ rows)) (births rows) (λ x is. inr is) (version_born rows)) (All-cons (IsVersion (RowBorn v ∷ rows)) v [] (inl refl) (All-nil (IsVersion (RowBorn v ∷ rows))))
-
 none_of : (o : Option End) → is_none o ≡ true → o ≡ None
 none_of None e = refl
 none_of (Some x) e = absurd (cc)
@@ -96,7 +87,7 @@ ended_fits stores caller g id h tx x stands may opened has =
     let legal = legal_of h stands.good in
     let mine : slice_index_or stores.txs.current caller.session None ≡ Some tx = stands.all.txs.current caller.session ∙ opened in
     let about = version_numbered stores.rows h id may.known stands.all.rows in
-    let is : IsVersion (row_events h) v = subst (IsVersion (row_events h)) about.there (version_born (row_events h) k blank.version about.within) in
+    let is : IsVersion (row_events h) v = subst (IsVersion (row_events h)) about.there (all_versions (row_events h) k blank.version about.within) in
     let parts = and_parts (nat_lt k (next_version h)) (is_none (end_of h k)) (may.standing h stands.all.txs stands.all.rows) in
     let none : end_of h v.id.number ≡ None = subst (λ n. end_of h n ≡ None) (sym about.number) (none_of (end_of h k) parts.1) in
     let seen_now : (is_committed (fate (tx_events h) v.by.number) || (v.by.number == tx)) ≡ true = subst (λ f. (is_committed f || (v.by.number == tx)) ≡ true) (stands.all.txs.fates v.by.number) (may.born tx mine) in

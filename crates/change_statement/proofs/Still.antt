@@ -24,7 +24,8 @@ use Rattle.row_router.specs.Histories.{tree_of, path_of, table_of, tree_within, 
 use Rattle.row_router.proofs.Order.{all_children, under_children}
 use Rattle.row_router.specs.declared.path.PathTest.TheVariants.{Bounds, Checks}
 use Rattle.row_router.specs.Paths.{refused}
-use Rattle.row_change.specs.Targets.{HasWay}
+use Rattle.row_change.specs.Targets.{HasWay, holder, holder_faults}
+use Rattle.row_change.specs.Placing.{tables_of}
 use Rattle.cond_logic.specs.Asked.{SettingMeant}
 use Rattle.soundness.specs.Kept.{PassAbove}
 use Rattle.soundness.specs.Worlds.{World, table_in, IsMade, HasLeaf, Present, Under, key_at, key_in, AcceptsKey, Accepts, AcceptAbove, view}
@@ -48,10 +49,9 @@ use Rattle.stores.proofs.Housed.{leaves_are_housed}
 use Rattle.statement_steps.specs.Gathered.{Found, MayWriteAt, IsGatheredIn, IsStill, is_set, sets_key, sets_key_of}
 use Rattle.statement_steps.specs.Waiting.{Since}
 use Rattle.statement_steps.proofs.Waiting.{Meanwhile, meanwhile}
-use Rattle.insert_statement.specs.Inserted.{tables_of, holder, holder_faults}
-use Rattle.insert_statement.proofs.Passing.{holder_has, taken_passes}
-use Rattle.insert_statement.proofs.Tables.{shown_made}
-use Rattle.insert_statement.proofs.Trees.{Are, IsHome, tree_are}
+use Rattle.statement_steps.proofs.Rights.{shown_made}
+use Rattle.row_change.proofs.Trees.{Are, IsHome, tree_are}
+use Rattle.row_change.proofs.Passing.{taken_passes, holder_has}
 use Rattle.change_statement.specs.Running.{Agree}
 use Rattle.change_statement.proofs.Homes.{Home, home_of}
 use Rattle.change_statement.proofs.SameKeys.{same_picks}

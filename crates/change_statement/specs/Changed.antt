@@ -10,7 +10,8 @@ use Rattle.pg_values.specs.declared.session_set.SessionSet.{SessionSet}
 use Rattle.history.specs.declared.wait.WaitOn.TheVariants.{Ends}
 use Rattle.history.specs.History.{History}
 use Rattle.row_router.specs.Trees.{TableTree}
-use Rattle.row_change.specs.Placing.{name_at}
+use Rattle.row_change.specs.Placing.{name_at, tables_of}
+use Rattle.row_change.specs.Targets.{holder}
 use Rattle.change_statement.specs.Faults.{could_not_serialize, conflict_session}
 use Rattle.change_statement.specs.Targets.{targets}
 use Rattle.change_statement.specs.Verdicts.{UpdaterMeant, Decision, Changes, PassesBy, WaitsFor, Refuses, decided}
@@ -28,7 +29,6 @@ use Rattle.statement_steps.specs.Gathered.{Found, RowsLeft}
 use Rattle.statement_steps.specs.Asks.{waited}
 use Rattle.statement_steps.specs.Faults.{name_of}
 use Rattle.statement_steps.specs.Steps.{follow}
-use Rattle.insert_statement.specs.Inserted.{tables_of, holder}
 use Rattle.change_statement.specs.Standing.{following, left_of, standing}
 use Rattle.change_statement.specs.declared.changed_rows.ChangedRows.{ChangedRows}
 

@@ -13,9 +13,9 @@ use Rattle.statement_steps.specs.declared.caller.Caller.{Caller}
 use Rattle.statement_steps.specs.declared.rest.Rest.{Rest}
 use Rattle.statement_steps.specs.Asks.{held_at}
 use Rattle.statement_steps.specs.Steps.{follow}
-use Rattle.insert_statement.specs.Inserted.{own}
 use Rattle.change_statement.specs.Changed.{Changing, Told, changed, changed_by}
 use Rattle.change_statement.specs.Gathered.{gathered}
+use Rattle.statement_steps.specs.Owned.{own}
 
 -- the version ends, by the session's transaction
 abbrev pub ended : Caller → Ending → RowId → History → Made (Unit {0})

@@ -18,14 +18,14 @@ use Rattle.expression_binder.specs.declared.scope.Param.{Param}
 use Rattle.cond_logic.specs.Asked.{ChangeMeant}
 use Rattle.sql_binder.specs.Changes.{bound_change}
 use Rattle.stores.specs.Events.{look_of}
-use Rattle.statement_steps.specs.Made.{Made, made}
+use Rattle.statement_steps.specs.Made.{Made, made, answered}
 use Rattle.statement_steps.specs.declared.caller.Caller.{Caller}
 use Rattle.statement_steps.specs.Asks.{named, all_locked}
 use Rattle.statement_steps.specs.Gathered.{Found}
 use Rattle.statement_steps.specs.Steps.{follow}
 use Rattle.plan_tree.specs.Kept.{Keeps}
 use Rattle.statement_steps.specs.Below.{number_of}
-use Rattle.insert_statement.specs.Inserted.{answered, scope_column}
+use Rattle.statement_steps.specs.Scopes.{scope_column}
 use Rattle.change_statement.specs.Kept.{keeps_for, leaves_read, moves, tables_locked}
 use Rattle.change_statement.specs.declared.asking.Change.{Change}
 use Rattle.change_statement.specs.declared.asking.Change.TheVariants.{Update, Delete}

@@ -14,7 +14,7 @@ use Rattle.row_store.specs.Kept.{KeptRows, stored_at}
 use Rattle.row_store.specs.Stands.{StoreStands}
 use Rattle.soundness.specs.Worlds.{HasLeaf}
 use Rattle.part_catalog.specs.Stands.{CatalogueStands}
-use Rattle.row_change.specs.Placing.{CanBePlaced, IsNumbered, IsPartNumbered}
+use Rattle.row_change.specs.Placing.{CanBePlaced, IsNumbered, IsPartNumbered, tables_of}
 use Rattle.row_change.specs.Targets.{HasWay}
 use Rattle.statement_steps.specs.declared.rest.Rest.{Rest}
 use Rattle.statement_steps.specs.declared.rest.TargetRow.{TargetRow}
@@ -30,11 +30,10 @@ use Rattle.statement_steps.specs.declared.stop.Stop.{Stop}
 use Rattle.statement_steps.specs.declared.stop.Stop.TheVariants as stop
 use Rattle.statement_steps.specs.Known.{IsKnownTo}
 use Rattle.statement_steps.specs.Steps.{IsPaused}
-use Rattle.insert_statement.specs.Asked.{IsReadOf}
+use Rattle.statement_steps.specs.Rights.{IsReadOf}
 use Rattle.change_statement.specs.Standing.{following}
 use Rattle.change_statement.specs.Updated.{against, housed}
 use Rattle.cond_logic.specs.Asked.{SettingMeant}
-use Rattle.insert_statement.specs.Inserted.{tables_of}
 
 -- ---- its command
 

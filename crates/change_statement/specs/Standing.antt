@@ -7,7 +7,7 @@ use Rattle.statement_steps.specs.declared.caller.Caller.{Caller}
 use Rattle.statement_steps.specs.declared.rest.Rest.{Rest}
 use Rattle.statement_steps.specs.declared.rest.Rest.TheVariants.{Rows, Detach}
 use Rattle.statement_steps.specs.declared.rest.TargetRow.{TargetRow}
-use Rattle.insert_statement.specs.Inserted.{own}
+use Rattle.statement_steps.specs.Owned.{own}
 
 -- the transaction's next command
 abbrev pub following : Caller → Caller

@@ -12,21 +12,21 @@ use Rattle.part_catalog.specs.Found.{made_at}
 use Rattle.row_router.specs.declared.path_part.PathPart.{PathPart}
 use Rattle.row_router.specs.Trees.{TableTree}
 use Rattle.row_store.specs.Stands.{newborn}
-use Rattle.row_change.specs.Placing.{bounds_faults, first_or, placed}
+use Rattle.row_change.specs.Placing.{bounds_faults, first_or, placed, tables_of}
 use Rattle.row_change.specs.Storing.{check_faults, full_faults}
 use Rattle.row_change.specs.Succession.{follows}
+use Rattle.row_change.specs.Targets.{holder_faults}
 use Rattle.change_statement.specs.NewRows.{new_row}
 use Rattle.sql_ast.specs.Expressions.{Tree}
 use Rattle.sql_ast.specs.Queries.{Setting}
 use Rattle.sql_ast.specs.declared.named_table.NamedTable.{NamedTable}
 use Rattle.expression_binder.specs.declared.scope.Param.{Param}
-use Rattle.statement_steps.specs.Made.{Made}
+use Rattle.statement_steps.specs.Made.{Made, unless_refused, answered}
 use Rattle.statement_steps.specs.declared.caller.Caller.{Caller}
 use Rattle.statement_steps.specs.declared.rest.Rest.{Rest}
 use Rattle.statement_steps.specs.Asks.{held_at}
 use Rattle.statement_steps.specs.Steps.{follow}
-use Rattle.insert_statement.specs.Born.{unless_refused}
-use Rattle.insert_statement.specs.Inserted.{answered, tables_of, own, holder_faults}
+use Rattle.statement_steps.specs.Owned.{own}
 use Rattle.change_statement.specs.Changed.{Changing, Told, changed, changed_by}
 use Rattle.change_statement.specs.Gathered.{gathered}
 use Rattle.statement_steps.specs.Gathered.{Found}

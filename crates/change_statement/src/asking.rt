@@ -8,17 +8,16 @@ ghost use Rattle.sql_binder.specs.Changes.{bound_change};
 ghost use Rattle.sql_binder.specs.From.{item_name};
 ghost use Rattle.statement_steps.specs.Attempts.{MayAttempt};
 ghost use Rattle.statement_steps.specs.Steps.{IsStep};
-ghost use Rattle.insert_statement.specs.Asked.{stopped};
 ghost use Rattle.change_statement.specs.Gathered as gathered;
+ghost use Rattle.statement_steps.specs.Faults.{stop_of as stopped};
 
 use cond_logic::ChangeAsk;
 use expression_binder::{Param, ScopeItem};
 use history::Column;
-use insert_statement::scope_columns;
 use pg_values::{NoMemory, PgText, Refusal, TableNo};
 use sql_ast::{Delete, NamedTable, Update};
 use sql_binder::{bind_delete, bind_update};
-use statement_steps::{Caller, Stop};
+use statement_steps::{Caller, Stop, scope_columns};
 use std::alloc::Global;
 use stores::Stores;
 

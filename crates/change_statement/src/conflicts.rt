@@ -6,7 +6,7 @@ ghost use Rattle.part_catalog.specs.Stands.{CatalogueStands};
 ghost use Rattle.row_change.specs.Ways.{root, way_to, AllTables};
 ghost use Rattle.row_router.specs.Seen.{seen};
 ghost use Rattle.statement_steps.specs.Faults as faults;
-ghost use Rattle.insert_statement.specs.Inserted as inserted;
+ghost use Rattle.row_change.specs.Targets as targets;
 ghost use Rattle.change_statement.specs.Changed as changed;
 
 use crate::{Conflict, could_not_serialize};
@@ -18,7 +18,7 @@ use statement_steps::SessionNames;
 use std::alloc::Global;
 
 fn last_or(first: TableNo, way: &[TableNo]) -> TableNo
-    ensures { result ≡ inserted.last_or first way.now }
+    ensures { result ≡ targets.last_table first way.now }
 {
     let mut table = first;
     for below in way {
@@ -35,7 +35,7 @@ fn root_of(tree: &Tree) -> TableNo
 
 // The table of the tree that has the leaf.
 fn holder(alloc: Global, tree: &Tree, leaf: LeafId) -> Result<TableNo, NoMemory>
-    ensures { IfOk result (λ table. table ≡ inserted.holder (seen tree.now) leaf) }
+    ensures { IfOk result (λ table. table ≡ targets.holder (seen tree.now) leaf) }
 {
     match leaf_way(alloc, tree, leaf)? {
         Some(way) => Ok(last_or(root_of(tree), &way)),

@@ -8,7 +8,7 @@ ghost use Rattle.row_change.specs.Ways.{AllTables};
 ghost use Rattle.statement_steps.specs.Attempts.{MayAttempt};
 ghost use Rattle.statement_steps.specs.Known.{IsKnownTo};
 ghost use Rattle.statement_steps.specs.Steps.{IsStep};
-ghost use Rattle.insert_statement.specs.Asked.{IsReadOf, MayLock, MayWrite};
+ghost use Rattle.statement_steps.specs.Rights.{MayLock, MayWrite, IsReadOf};
 ghost use Rattle.change_statement.specs.Gathered as gathered;
 ghost use Rattle.statement_steps.specs.Gathered.{found_of};
 ghost use Rattle.change_statement.specs.Running.{IsGathered};
@@ -17,11 +17,12 @@ use crate::asking::{Change, bind, table_named};
 use crate::keeping::keep;
 use cond_logic::ChangeAsk;
 use expression_binder::Param;
-use insert_statement::tree_and_path;
 use pg_values::{LockMode, NoMemory, TableNo};
 use plan_tree::trees_can_be_pruned;
 use row_router::{PathPart, Tree};
-use statement_steps::{Caller, Gathered, SessionNames, Stop, lock_named, lock_tables};
+use statement_steps::{
+    Caller, Gathered, SessionNames, Stop, lock_named, lock_tables, tree_and_path,
+};
 use std::alloc::Global;
 use stores::Stores;
 

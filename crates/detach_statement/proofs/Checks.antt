@@ -9,8 +9,7 @@ use Rattle.bound_forms.specs.Levels.{IsOfLevel}
 use Rattle.history.specs.declared.catalogue.Column.{Column}
 use Rattle.history.specs.declared.catalogue.Entry.{Entry}
 use Rattle.history.specs.declared.catalogue.KeptCheck.{KeptCheck}
-use Rattle.history.specs.declared.catalogue.TableShape.{TableShape}
-use Rattle.history.specs.declared.catalogue.TableShape.TheVariants.{Leaf, Level}
+use Rattle.history.specs.declared.catalogue.TableShape.TheVariants.{Level}
 use Rattle.history.specs.Catalogue.{tables_made}
 use Rattle.history.specs.History.{History, catalogue_events}
 use Rattle.history.specs.Places.{table_at, LiesIn, KeysLieIn, TakesBound, HasColumnsOf, AreCatalogueSound}
@@ -18,10 +17,11 @@ use Rattle.history.specs.Presence.{checks_of}
 use Rattle.row_router.specs.Histories.{is_over, kept_of}
 use Rattle.row_router.proofs.Suited.{all_keys_lie}
 use Rattle.part_catalog.specs.Found.{made_at}
-use Rattle.part_ddl.specs.Placing.{level_told, level_at, partitions_of}
-use Rattle.table_statements.proofs.Below.{found_in, below_listed, entry_suits}
-use Rattle.table_statements.proofs.Ends.{same_number}
-use Rattle.detach_statement.specs.Kept.{place_below, check_told, unless_equal, same_check, new_check}
+use Rattle.part_ddl.specs.Placing.{level_at, partitions_of}
+use Rattle.ddl_steps.proofs.Below.{found_in, below_listed, entry_suits, same_number}
+use Rattle.detach_statement.specs.Kept.{place_below, check_told, unless_equal, new_check}
+use Rattle.ddl_steps.specs.Checks.{same_check}
+use Rattle.ddl_steps.proofs.Levels.{shape_at}
 
 -- ---- what a new CHECK is made of
 
@@ -49,10 +49,6 @@ made_of (Ok level) (Some e) c told = record {
 }
 
 -- ---- the level of the parent
-
-pub shape_at : (name : List ℕ) (shape : TableShape) (level : OneLevel) → level_told name shape ≡ Ok level → shape ≡ Level level
-shape_at name (Leaf leaf) level e = absurd (let d = e in cc)
-shape_at name (Level l) level e = let d = e in cc
 
 kind_of_column : Column → Kind
 kind_of_column c = c.kind

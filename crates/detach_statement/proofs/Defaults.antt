@@ -11,7 +11,7 @@ use Rattle.statement_steps.specs.Attempts.{MayAttempt}
 use Rattle.statement_steps.specs.declared.caller.Caller.{Caller}
 use Rattle.statement_steps.specs.Known.{IsKnownTo}
 use Rattle.statement_steps.proofs.Parts.{known_by}
-use Rattle.table_statements.proofs.Below.{default_entry, here_of}
+use Rattle.ddl_steps.proofs.Below.{default_entry, here_of}
 
 pub default_known : ListedIsThere → ThereIsKnown → (stores : Stores) (caller : Caller) (h : History) (p : ℕ) (d : TableNo) → MayAttempt stores caller → Stands stores h → default_of h caller.session p ≡ Some d → IsKnownTo stores caller.session d.number
 default_known listed there stores caller h p d may stands is =

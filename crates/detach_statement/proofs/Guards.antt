@@ -18,7 +18,7 @@ use Rattle.statement_steps.specs.Attempts.{MayAttempt, LocksStay}
 use Rattle.statement_steps.specs.declared.caller.Caller.{Caller}
 use Rattle.statement_steps.specs.Asks.{locked, meant_or_none, named, named_still, same_or_gone}
 use Rattle.statement_steps.specs.Steps.{IsStep}
-use Rattle.table_statements.proofs.Held.{Holds, view_gets, named_held}
+use Rattle.statement_steps.proofs.Held.{Holds, view_gets, named_held}
 use Rattle.detach_statement.specs.Asked.{HasGuarded, HasOwned}
 use Rattle.detach_statement.proofs.LeftPlaces.{MayChange}
 

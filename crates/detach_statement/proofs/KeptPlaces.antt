@@ -42,15 +42,15 @@ use Rattle.stores.proofs.Goodness.{legal_of, permitted_of}
 use Rattle.statement_steps.specs.Attempts.{MayAttempt}
 use Rattle.statement_steps.specs.declared.caller.Caller.{Caller}
 use Rattle.statement_steps.specs.Steps.{IsStep}
-use Rattle.table_statements.specs.Drops.{stamp}
-use Rattle.table_statements.proofs.Below.{below_listed, found_in}
-use Rattle.table_statements.proofs.Deeds.{IsDeed, deed_step}
-use Rattle.table_statements.proofs.Ends.{same_number}
-use Rattle.table_statements.proofs.Fresh.{IsOwn, own_is, own_number}
+use Rattle.statement_steps.specs.Owned.{stamp}
+use Rattle.statement_steps.proofs.Owned.{own_number, own_is, IsOwn}
+use Rattle.ddl_steps.proofs.Below.{below_listed, found_in, same_number}
+use Rattle.ddl_steps.proofs.Deeds.{IsDeed, deed_step}
+use Rattle.ddl_steps.proofs.Levels.{shape_at}
 use Rattle.detach_statement.specs.Asked.{IsPartition, IsPendingPart}
 use Rattle.detach_statement.specs.Concurrent.{partition_left}
 use Rattle.detach_statement.specs.Kept.{place_below, check_by, check_kept, check_told, new_check}
-use Rattle.detach_statement.proofs.Checks.{check_suits, made_of, of_told, shape_at}
+use Rattle.detach_statement.proofs.Checks.{check_suits, made_of, of_told}
 use Rattle.detach_statement.proofs.KeptChecks.{none_kept}
 use Rattle.detach_statement.proofs.LeftPlaces.{LeaveLaws, MayChange, over, owner, not_ended, may_end, over_present}
 use Rattle.detach_statement.proofs.Pending.{pending_is_named}

@@ -29,13 +29,14 @@ use Rattle.stores.proofs.Goodness.{legal_of, permitted_of}
 use Rattle.statement_steps.specs.Attempts.{MayAttempt}
 use Rattle.statement_steps.specs.declared.caller.Caller.{Caller}
 use Rattle.statement_steps.specs.Steps.{IsStep}
+use Rattle.statement_steps.specs.Owned.{stamp}
+use Rattle.statement_steps.proofs.Owned.{own_number, own_is, IsOwn}
 use Rattle.soundness.proofs.Listed.{none_in, only_one}
-use Rattle.table_statements.specs.Drops.{parent_in, stamp}
-use Rattle.table_statements.proofs.Below.{here_of, found_in}
-use Rattle.table_statements.proofs.Deeds.{IsDeed, deed_step}
-use Rattle.table_statements.proofs.Fresh.{IsOwn, own_is, own_number}
+use Rattle.ddl_steps.proofs.Below.{here_of, found_in}
+use Rattle.ddl_steps.proofs.Deeds.{IsDeed, deed_step}
 use Rattle.detach_statement.specs.Asked.{IsPartition}
 use Rattle.detach_statement.specs.Detached.{place_left}
+use Rattle.ddl_steps.specs.Families.{parent_in}
 
 pub record LeaveLaws : Type 0 where
   pub listed : ListedIsThere

@@ -8,7 +8,5 @@ mod Marks
 mod Pending
 mod LaterStages
 mod Waits
-pub mod Levels
 pub mod KeptChecks
 mod SameChecks
-mod SessionSets

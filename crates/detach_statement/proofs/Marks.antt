@@ -33,7 +33,7 @@ use Rattle.history.specs.Catalogue.{standing}
 use Rattle.legal_statements.specs.Entries.{IsNewMark}
 use Rattle.legal_statements.specs.Laws.{ListedIsThere, NobodyElseMarks, MarkMayFollow}
 use Rattle.soundness.proofs.Listed.{child_listed}
-use Rattle.partition_scans.specs.Sessions.{those}
+use Rattle.ddl_steps.specs.Sessions.{those}
 use Rattle.stores.specs.Numbers.{IsAt}
 use Rattle.stores.specs.Stand.{Stands}
 use Rattle.stores.specs.declared.stores.Stores.{Stores}
@@ -44,19 +44,19 @@ use Rattle.statement_steps.specs.declared.caller.Caller.{Caller}
 use Rattle.statement_steps.specs.declared.rest.RestOfDetach.{RestOfDetach}
 use Rattle.statement_steps.specs.Steps.{IsStep}
 use Rattle.statement_steps.proofs.Parts.{own_tx, locks_same}
-use Rattle.table_statements.specs.Drops.{parent_in, stamp}
-use Rattle.table_statements.specs.Refused.{unless_faults}
-use Rattle.table_statements.specs.Tables.{own}
-use Rattle.table_statements.proofs.Below.{here_of, none_passes, no_default_found}
-use Rattle.table_statements.proofs.Deeds.{IsDeed, deed_stands, went}
-use Rattle.table_statements.proofs.Firsts.{both_told, none_told}
-use Rattle.table_statements.proofs.Fresh.{IsOwn, own_is, own_number}
+use Rattle.statement_steps.specs.Owned.{own, stamp}
+use Rattle.statement_steps.proofs.Owned.{own_number, own_is, IsOwn}
+use Rattle.ddl_steps.specs.Refused.{unless_faults}
+use Rattle.ddl_steps.specs.Families.{parent_in}
+use Rattle.ddl_steps.proofs.Below.{here_of, none_passes, no_default_found}
+use Rattle.ddl_steps.proofs.Deeds.{IsDeed, deed_stands, went}
+use Rattle.ddl_steps.proofs.Firsts.{both_told, none_told}
+use Rattle.ddl_steps.proofs.Sets.{are_those}
 use Rattle.detach_statement.specs.Asked.{MayBeMarked}
 use Rattle.detach_statement.specs.Concurrent.{default_faults, pending_faults, none_beside, markable, marked, rest_of, place_marked}
 use Rattle.detach_statement.specs.Detached.{name_at, is_table}
 use Rattle.detach_statement.proofs.LeftPlaces.{MayChange, Over, over_is, over_present, over_guarded, over_between}
 use Rattle.detach_statement.proofs.Refusing.{none_against, is_parent}
-use Rattle.detach_statement.proofs.SessionSets.{are_those}
 
 pub record MarkLaws : Type 0 where
   pub listed : ListedIsThere

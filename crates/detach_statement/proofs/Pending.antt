@@ -35,10 +35,9 @@ use Rattle.stores.specs.declared.stores.Stores.{Stores}
 use Rattle.statement_steps.specs.Attempts.{MayAttempt}
 use Rattle.statement_steps.specs.declared.caller.Caller.{Caller}
 use Rattle.statement_steps.specs.declared.rest.RestOfDetach.{RestOfDetach}
-use Rattle.table_statements.specs.Refused.{unless_faults}
-use Rattle.table_statements.proofs.Below.{found_in, entry_suits, here_of}
-use Rattle.table_statements.proofs.Ends.{same_number}
-use Rattle.table_statements.proofs.Firsts.{both_told, none_told}
+use Rattle.ddl_steps.specs.Refused.{unless_faults}
+use Rattle.ddl_steps.proofs.Below.{found_in, entry_suits, here_of, same_number}
+use Rattle.ddl_steps.proofs.Firsts.{both_told, none_told}
 use Rattle.detach_statement.specs.Asked.{IsPartition, IsPendingPart}
 use Rattle.detach_statement.specs.Concurrent.{endable, is_by, is_marked_still}
 use Rattle.detach_statement.specs.Detached.{name_at, is_table}

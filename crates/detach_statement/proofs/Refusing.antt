@@ -7,11 +7,11 @@ use Rattle.refusals.specs.Refusals.{partition_is_pending, not_a_partition}
 use Rattle.history.specs.History.{History}
 use Rattle.part_catalog.specs.Answers.{child_told, pending_entry}
 use Rattle.part_ddl.specs.Placing.{level_at}
-use Rattle.table_statements.specs.Drops.{parent_in}
-use Rattle.table_statements.specs.Refused.{unless_faults}
-use Rattle.table_statements.proofs.Ends.{same_number}
-use Rattle.table_statements.proofs.Firsts.{both_told, none_told}
+use Rattle.ddl_steps.specs.Refused.{unless_faults}
+use Rattle.ddl_steps.specs.Families.{parent_in}
+use Rattle.ddl_steps.proofs.Firsts.{both_told, none_told}
 use Rattle.detach_statement.specs.Detached.{name_at, is_table, detachable}
+use Rattle.ddl_steps.proofs.Below.{same_number}
 
 pub none_against : (b : Bool) (f : Fault) → unless b f ≡ [] → b ≡ true
 none_against true f e = refl

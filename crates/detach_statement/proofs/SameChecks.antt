@@ -29,7 +29,7 @@ use Rattle.history.specs.declared.catalogue.Check.{Check}
 use Rattle.history.specs.declared.catalogue.KeptCheck.{KeptCheck}
 use Rattle.row_router.specs.Histories.{kept_of}
 use Rattle.soundness.proofs.Listed.{none_in, cases_in}
-use Rattle.detach_statement.specs.Kept.{same_strategy, same_kind, same_columns, same_level, same_check}
+use Rattle.ddl_steps.specs.Checks.{same_strategy, same_kind, same_columns, same_level, same_check}
 
 -- ---- levels
 

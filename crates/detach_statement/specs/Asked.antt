@@ -9,9 +9,9 @@ use Rattle.tx_table.specs.Stands.{TableStands}
 use Rattle.part_catalog.specs.Answers.{child_told, pending_entry}
 use Rattle.part_catalog.specs.Stands.{CatalogueStands}
 use Rattle.stores.specs.declared.stores.Stores.{Stores}
-use Rattle.table_statements.specs.Drops.{parent_in}
 use Rattle.detach_statement.specs.Concurrent.{markable}
 use Rattle.detach_statement.specs.Detached.{is_table}
+use Rattle.ddl_steps.specs.Families.{parent_in}
 
 -- the table is a partition of the parent for the session
 abbrev pub IsPartition : Stores → (session : ℕ) → (parent : TableNo) → (table : ℕ) → Type 0

@@ -22,7 +22,7 @@ use Rattle.part_catalog.specs.Answers.{child_told, entry_between, marker_told, p
 use Rattle.part_ddl.specs.Below.{default_of}
 use Rattle.part_ddl.specs.Dropped.{place_ended}
 use Rattle.part_ddl.specs.Placing.{level_at}
-use Rattle.partition_scans.specs.Sessions.{those}
+use Rattle.ddl_steps.specs.Sessions.{those}
 use Rattle.statement_steps.specs.Ended.{giving}
 use Rattle.statement_steps.specs.Made.{Made, made, answered}
 use Rattle.statement_steps.specs.declared.caller.Caller.{Caller}
@@ -33,9 +33,9 @@ use Rattle.statement_steps.specs.declared.rest.Rest.TheVariants.{Rows, Detach}
 use Rattle.statement_steps.specs.declared.rest.RestOfDetach.{RestOfDetach}
 use Rattle.statement_steps.specs.Asks.{named, named_still, waited}
 use Rattle.statement_steps.specs.Steps.{follow, going_on}
-use Rattle.table_statements.specs.Drops.{parent_in, stamp}
-use Rattle.table_statements.specs.Refused.{next_answer, unless_faults}
-use Rattle.table_statements.specs.Tables.{own}
+use Rattle.statement_steps.specs.Owned.{own, stamp}
+use Rattle.ddl_steps.specs.Refused.{next_answer, unless_faults}
+use Rattle.ddl_steps.specs.Families.{parent_in}
 use Rattle.detach_statement.specs.Detached.{name_at, is_table}
 use Rattle.detach_statement.specs.Kept.{check_kept, new_check}
 

@@ -17,8 +17,9 @@ use Rattle.statement_steps.specs.Made.{Made, made, answered}
 use Rattle.statement_steps.specs.declared.caller.Caller.{Caller}
 use Rattle.statement_steps.specs.Asks.{locked, named, held_at}
 use Rattle.statement_steps.specs.Steps.{follow}
-use Rattle.table_statements.specs.Drops.{parent_in, stamp}
-use Rattle.table_statements.specs.Refused.{next_answer, unless_faults}
+use Rattle.statement_steps.specs.Owned.{stamp}
+use Rattle.ddl_steps.specs.Refused.{next_answer, unless_faults}
+use Rattle.ddl_steps.specs.Families.{parent_in}
 
 -- ---- the default partition beside it
 

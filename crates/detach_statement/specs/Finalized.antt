@@ -11,12 +11,12 @@ use Rattle.history.specs.Transactions.{TxEvents}
 use Rattle.history.specs.History.{History, tx_events, snapshot_events}
 use Rattle.part_catalog.specs.Answers.{child_told, marker_told, pending_entry}
 use Rattle.part_ddl.specs.Placing.{level_at}
-use Rattle.partition_scans.specs.Sessions.{those}
+use Rattle.ddl_steps.specs.Sessions.{those}
 use Rattle.statement_steps.specs.Made.{Made, answered}
 use Rattle.statement_steps.specs.declared.caller.Caller.{Caller}
 use Rattle.statement_steps.specs.Asks.{named, held_at, waited}
 use Rattle.statement_steps.specs.Steps.{follow}
-use Rattle.table_statements.specs.Refused.{next_answer, unless_faults}
+use Rattle.ddl_steps.specs.Refused.{next_answer, unless_faults}
 use Rattle.detach_statement.specs.Detached.{name_at, is_table}
 use Rattle.detach_statement.specs.Concurrent.{partition_left}
 

@@ -13,11 +13,11 @@ ghost use Rattle.detach_statement.specs.Finalized as finalized;
 
 use crate::checking::is_table;
 use crate::leaving::leave_parent;
+use ddl_steps::sessions_are_low;
 use history::{TxId, WaitOn};
 use legal_statements::listed_is_there;
 use part_catalog::Catalog;
 use part_ddl::parent_level;
-use partition_scans::sessions_are_low;
 use pg_values::{LockMode, Refusal, SessionSet, TableNo};
 use refusals::not_the_pending_partition;
 use soundness::legal_keeps_all;

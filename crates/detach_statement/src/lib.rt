@@ -16,7 +16,6 @@
 
 mod checking;
 mod finalizing;
-mod implying;
 mod keeping;
 mod leaving;
 mod marking;
@@ -25,7 +24,6 @@ mod stages;
 mod statement;
 
 pub use finalizing::finalize;
-pub use implying::is_implied;
 pub use places::detach_misplaced;
 pub use stages::detach_concurrently;
 pub use statement::detach;

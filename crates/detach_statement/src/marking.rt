@@ -12,10 +12,10 @@ ghost use Rattle.detach_statement.specs.Asked.{HasGuarded, MayBeMarked};
 ghost use Rattle.detach_statement.specs.Concurrent as concurrent;
 
 use crate::checking::is_table;
+use ddl_steps::sessions_are_low;
 use legal_statements::{listed_is_there, mark_may_follow, nobody_else_marks};
 use part_catalog::Catalog;
 use part_ddl::{default_of, parent_level};
-use partition_scans::sessions_are_low;
 use pg_values::{LockMode, Refusal, TableNo};
 use refusals::{has_default_partition, not_a_partition, partition_is_pending};
 use statement_steps::{Caller, RestOfDetach, SessionNames, Stop, lock_named};

@@ -1,7 +1,7 @@
 ghost use Rattle.std.specs.Prelude.{◌≡◌, ◌+◌, ◌<◌, ◌≤◌, Ok, length};
 ghost use Rattle.statement_steps.specs.Attempts.{MayAttempt};
 ghost use Rattle.statement_steps.specs.Steps.{IsStep};
-ghost use Rattle.table_statements.specs.Asked.{IsLocked, IsLockedNamed};
+ghost use Rattle.ddl_steps.specs.Locks.{IsLocked, IsLockedNamed};
 ghost use Rattle.detach_statement.specs.Asked.{IsPartition};
 ghost use Rattle.detach_statement.specs.Detached as detached;
 

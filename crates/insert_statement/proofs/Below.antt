@@ -20,8 +20,8 @@ use Rattle.row_router.specs.Trees.{TableTree, routed}
 use Rattle.row_router.specs.declared.path.PathTest.TheVariants.{Bounds, Checks}
 use Rattle.row_router.specs.Paths.{refused}
 use Rattle.row_change.specs.declared.target.Target.{Target}
-use Rattle.row_change.specs.Laws.{IsRowIn}
-use Rattle.row_change.specs.Placing.{placed}
+use Rattle.row_change.specs.Laws.{IsRowIn, IsMade}
+use Rattle.row_change.specs.Placing.{placed, tables_of}
 use Rattle.row_change.specs.Storing.{IsLeafKnown, is_into, leaf_faults}
 use Rattle.row_change.specs.Targets.{HasTarget, HasWay, IsTargetOf}
 use Rattle.row_change.specs.Ways.{AllTables, root, ways_below}
@@ -41,16 +41,17 @@ use Rattle.stores.proofs.Housed.{leaves_are_housed}
 use Rattle.statement_steps.specs.Attempts.{MayAttempt}
 use Rattle.statement_steps.specs.declared.caller.Caller.{Caller}
 use Rattle.statement_steps.proofs.Parts.{own_tx}
-use Rattle.insert_statement.specs.Inserted.{tables_of}
-use Rattle.insert_statement.specs.Asked.{Each, ArePlaced, MayGo, MayPut, MayStore, MayWrite}
-use Rattle.insert_statement.proofs.OwnLeaf.{none_refuses}
+use Rattle.statement_steps.specs.Rights.{MayWrite}
+use Rattle.statement_steps.proofs.Rights.{tables_kept, shown_made}
+use Rattle.insert_statement.specs.Asked.{Each, ArePlaced, MayGo, MayPut, MayStore}
 use Rattle.insert_statement.proofs.Pairs.{each_all, each_with}
 use Rattle.insert_statement.proofs.Passing.{holder_passes}
 use Rattle.insert_statement.proofs.Placed.{targets_take}
-use Rattle.insert_statement.proofs.Tables.{IsMade, shown_made, tables_kept}
-use Rattle.insert_statement.proofs.Targets.{found_target, one_told}
-use Rattle.insert_statement.proofs.Trees.{AtHome, Child, IsHome, tree_are, tree_root}
-use Rattle.insert_statement.proofs.Ways.{way_ends_below, in_ways, IsPlaced, is_placed, each_placed}
+use Rattle.row_change.proofs.Trees.{AtHome, Child, IsHome, tree_are, tree_root}
+use Rattle.row_change.proofs.Told.{found_target, one_told}
+use Rattle.row_change.proofs.Placed.{IsPlaced, is_placed}
+use Rattle.row_change.proofs.Passing.{none_refuses}
+use Rattle.insert_statement.proofs.Ways.{way_ends_below, in_ways, each_placed}
 
 -- ---- one row
 

@@ -10,18 +10,18 @@ use Rattle.history.specs.declared.transaction.TxId.{TxId}
 use Rattle.history.specs.declared.version.Version.{Version}
 use Rattle.history.specs.Transactions.{IsRunning}
 use Rattle.history.specs.Rows.{RowBorn}
-use Rattle.history.specs.History.{History, RowChange, tx_events, snapshot_events, lock_events, catalogue_events, versions, next_version}
-use Rattle.history.specs.Places.{AreCatalogueSound}
+use Rattle.history.specs.History.{History, RowChange, tx_events, versions, next_version}
 use Rattle.row_store.specs.Stands.{newborn}
 use Rattle.row_change.specs.Storing.{full_faults}
+use Rattle.row_change.proofs.Quiet.{Quiet}
 use Rattle.soundness.proofs.Listed.{none_in, first_in, later_in, cases_in}
 use Rattle.legal_statements.specs.Follows.{MayCome, MayFollow}
 use Rattle.legal_statements.specs.Rows.{rows_born}
 use Rattle.stores.specs.Good.{IsGood}
 use Rattle.stores.specs.Numbers.{IsBefore}
-use Rattle.statement_steps.specs.Made.{Made}
+use Rattle.statement_steps.specs.Made.{Made, unless_refused}
 use Rattle.statement_steps.specs.Steps.{follow}
-use Rattle.insert_statement.specs.Born.{unless_refused, all_born}
+use Rattle.insert_statement.specs.Born.{all_born}
 use Rattle.insert_statement.specs.Asked.{Each}
 
 -- ---- which versions the events bear
@@ -70,13 +70,6 @@ all_births by cmd faults P (l ∷ ls) (r ∷ rs) h each =
     one_birth h by cmd P l r (faults l r) (full_faults h r) (all_born by cmd faults ls rs) each.0 (λ g. all_births by cmd faults P ls rs g each.1)
 
 -- ---- what they leave as it was
-
-pub record Quiet (g h : History) : Type 0 where
-  pub txs : tx_events g ≡ tx_events h
-  pub snapshots : snapshot_events g ≡ snapshot_events h
-  pub locks : lock_events g ≡ lock_events h
-  pub catalogue : catalogue_events g ≡ catalogue_events h
-  pub sound : AreCatalogueSound h → AreCatalogueSound g
 
 pub quiet : (vs : List Version) (h : History) → Quiet (rows_born vs ++ h) h
 quiet [] h = record { txs = refl; snapshots = refl; locks = refl; catalogue = refl; sound = λ s. s }

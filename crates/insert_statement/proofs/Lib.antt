@@ -1,6 +1,5 @@
 pub mod Below
 pub mod Births
-pub mod Locked
 pub mod Meant
 pub mod OwnLeaf
 pub mod Pairs
@@ -11,6 +10,5 @@ pub mod Stored
 pub mod Tables
 pub mod Targets
 pub mod Told
-pub mod Trees
 pub mod Ways
 pub mod Whole

@@ -1,5 +1,5 @@
 -- Rows of a table that holds rows itself may be stored there.
-use Rattle.std.proofs.Common.{◌≡◌, ℕ, ◌<◌, Bool, true, false, if◌then◌else◌, List, [], ◌∷◌, refl, ap, sym, ◌∙◌, subst, arith, Some, None, Ok, All, find, map, length, slice_index_or}
+use Rattle.std.proofs.Common.{◌≡◌, ℕ, ◌<◌, true, if◌then◌else◌, List, [], ◌∷◌, ap, sym, ◌∙◌, subst, arith, Some, None, Ok, All, find, map, length, slice_index_or}
 use Rattle.std.proofs.lemmas.List.Elements.{All-nil, All-cons, All-head}
 use Rattle.pg_values.specs.declared.value.Value.{Value}
 use Rattle.pg_values.specs.declared.ids.LeafId.{LeafId}
@@ -14,20 +14,20 @@ use Rattle.history.specs.Catalogue.{tables_made}
 use Rattle.history.specs.History.{History, tx_events, row_events, catalogue_events}
 use Rattle.history.specs.Places.{table_at}
 use Rattle.history.specs.Presence.{entries_shown}
-use Rattle.row_router.specs.declared.path_part.PathPart.{PathPart}
 use Rattle.row_router.specs.Histories.{tree_of, tree_within, path_of, grown, node_at, children, bound_of, child_of_entry}
 use Rattle.row_router.specs.Trees.{routed}
 use Rattle.part_catalog.specs.Found.{made_at}
 use Rattle.part_catalog.specs.Stands.{CatalogueStands}
 use Rattle.row_router.specs.declared.path.PathTest.TheVariants.{Bounds, Checks}
-use Rattle.row_router.specs.Paths.{refuses, refused, PartFits}
+use Rattle.row_router.specs.Paths.{refused, PartFits}
 use Rattle.row_change.specs.declared.target.Target.{Target}
-use Rattle.row_change.specs.Laws.{IsRowIn}
-use Rattle.row_change.specs.Placing.{bounds_faults, refused_by, IsPartNumbered}
+use Rattle.row_change.specs.Laws.{IsRowIn, AreRowsOf}
+use Rattle.row_change.specs.Placing.{bounds_faults, IsPartNumbered, tables_of}
 use Rattle.row_change.specs.Storing.{is_into, leaf_faults, own_null_faults, check_faults, IsLeafKnown, IsTargetNumbered}
 use Rattle.row_change.specs.Targets.{HasTarget}
 use Rattle.row_change.proofs.Fit.{paths_fit}
 use Rattle.row_change.proofs.Made.{paths_are_made}
+use Rattle.row_change.proofs.Passing.{nothing_behind, taken_passes, none_refuses}
 use Rattle.soundness.specs.Worlds.{HasLeaf}
 use Rattle.soundness.proofs.All.{legal_keeps_all}
 use Rattle.soundness.proofs.OneLeaf.{sessions_have_siblings}
@@ -42,23 +42,11 @@ use Rattle.stores.proofs.Housed.{leaves_are_housed}
 use Rattle.statement_steps.specs.Attempts.{MayAttempt}
 use Rattle.statement_steps.specs.declared.caller.Caller.{Caller}
 use Rattle.statement_steps.proofs.Parts.{own_tx}
-use Rattle.insert_statement.specs.Inserted.{tables_of}
-use Rattle.insert_statement.specs.Asked.{AreRowsOf, IsOwnTarget, MayGo, MayPut, MayStore, MayWrite}
+use Rattle.statement_steps.specs.Rights.{MayWrite}
+use Rattle.statement_steps.proofs.Rights.{tables_kept}
+use Rattle.insert_statement.specs.Asked.{IsOwnTarget, MayGo, MayPut, MayStore}
 use Rattle.insert_statement.proofs.Pairs.{each_all, each_of, each_same}
-use Rattle.insert_statement.proofs.Passing.{nothing_behind, taken_passes}
-use Rattle.insert_statement.proofs.Tables.{tables_kept}
 use Rattle.insert_statement.proofs.Targets.{own_found, own_has}
-
--- ---- nothing above refuses the row
-
-passed_on : (tables : List Table) (row : List Value) (p : PathPart) (ps : List PathPart) (b : Bool) → (refused_by tables row (find (refuses Bounds row) ps) ≡ [] → refused Bounds row ps ≡ None)
-    → refused_by tables row (if b then Some p else find (refuses Bounds row) ps) ≡ [] → (if b then Some p.table else refused Bounds row ps) ≡ None
-passed_on tables row p ps true rest e = absurd (let c = e in cc)
-passed_on tables row p ps false rest e = rest e
-
-pub none_refuses : (tables : List Table) (row : List Value) (path : List PathPart) → bounds_faults tables path row ≡ [] → refused Bounds row path ≡ None
-none_refuses tables row [] e = refl
-none_refuses tables row (p ∷ ps) e = passed_on tables row p ps (refuses Bounds row p) (none_refuses tables row ps) e
 
 -- ---- the tree is the table alone
 

@@ -1,9 +1,8 @@
 -- What may be asked of rows below a partitioned table, and of the targets of their leaves.
-use Rattle.std.proofs.Common.{◌≡◌, ℕ, ◌<◌, List, sym, subst, arith, All, length, slice_index_or}
+use Rattle.std.proofs.Common.{ℕ, ◌<◌, List, sym, subst, arith, All, length, slice_index_or}
 use Rattle.pg_values.specs.declared.value.Value.{Value}
 use Rattle.history.specs.Catalogue.{tables_made}
 use Rattle.history.specs.History.{History, catalogue_events}
-use Rattle.history.specs.Places.{AreCatalogueSound}
 use Rattle.row_router.specs.declared.path_part.PathPart.{PathPart}
 use Rattle.row_router.specs.Histories.{tree_of, path_of}
 use Rattle.row_router.specs.Trees.{TableTree}
@@ -13,15 +12,16 @@ use Rattle.row_change.specs.Storing.{FitsTargets, IsTargetNumbered}
 use Rattle.row_change.specs.Targets.{IsTargetOf}
 use Rattle.row_change.proofs.Fit.{rows_can_be_placed}
 use Rattle.row_change.proofs.Made.{paths_are_made, trees_are_made}
-use Rattle.row_change.proofs.Targets.{last_is_made, targets_fit}
+use Rattle.row_change.proofs.Targets.{targets_fit}
+use Rattle.row_change.proofs.Told.{one_numbered}
 use Rattle.soundness.proofs.OneLeaf.{sessions_have_siblings}
 use Rattle.stores.specs.Events.{look_of}
 use Rattle.stores.specs.Stand.{Stands}
 use Rattle.stores.specs.declared.stores.Stores.{Stores}
 use Rattle.stores.proofs.Goodness.{legal_of, permitted_of}
 use Rattle.statement_steps.specs.declared.caller.Caller.{Caller}
+use Rattle.statement_steps.proofs.Rights.{tables_kept}
 use Rattle.insert_statement.specs.Asked.{IsTreeFor}
-use Rattle.insert_statement.proofs.Tables.{tables_kept}
 
 -- the rows may be asked of the tree and the path, whose tables are there
 pub record Takes (n : ℕ) (tree : TableTree) (path : List PathPart) (rows : List (List Value)) : Type 0 where
@@ -53,12 +53,6 @@ takes stores caller tree path rows h stands it =
 pub record TargetsTake (n : ℕ) (targets : List Target) (rows : List (List Value)) : Type 0 where
   pub fits : All (FitsTargets targets) rows
   pub numbered : All (IsTargetNumbered n) targets
-
-pub one_numbered : (h : History) (s n : ℕ) (tree : TableTree) (target : Target) → n ≡ length (tables_made (catalogue_events h)) → AreCatalogueSound h → IsNumbered n tree → IsTargetOf h s tree target → IsTargetNumbered n target
-one_numbered h s n tree target same sound known is =
-    let low = last_is_made n tree target.leaf is.tables target.table known is.way is.table in
-    let made : target.table.number < length (tables_made (catalogue_events h)) = omega (arith, same, low) in
-    (low, is.path.numbered n (subst (λ k. All (IsPartNumbered k) (path_of h s target.table.number)) (sym same) (paths_are_made h s target.table sound made)))
 
 pub targets_take : (stores : Stores) (caller : Caller) (tree : TableTree) (path : List PathPart) (rows : List (List Value)) (targets : List Target) (h : History) → Stands stores h → IsTreeFor stores.txs stores.catalog caller tree path rows → All (IsTargetOf h caller.session tree) targets
     → TargetsTake (length stores.catalog.tables) targets rows

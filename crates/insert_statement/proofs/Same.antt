@@ -10,10 +10,10 @@ use Rattle.history.specs.History.{Event, History, RowChange}
 use Rattle.row_store.specs.Stands.{newborn}
 use Rattle.row_change.specs.declared.target.Target.{Target}
 use Rattle.row_change.specs.Storing.{Made as RowsMade, made_by, made_after, all_stored, is_into, leaf_faults, full_faults}
-use Rattle.statement_steps.specs.Made.{Made, Halt, Refused}
+use Rattle.row_change.specs.Placing.{tables_of}
+use Rattle.statement_steps.specs.Made.{Made, Halt, Refused, unless_refused}
 use Rattle.statement_steps.specs.Steps.{follow}
-use Rattle.insert_statement.specs.Born.{unless_refused, born, all_born}
-use Rattle.insert_statement.specs.Inserted.{tables_of}
+use Rattle.insert_statement.specs.Born.{born, all_born}
 
 abbrev pub told_as : Result (Unit {0}) Fault → Result (Unit {0}) Halt
 told_as (Ok u) = Ok tt

@@ -8,12 +8,12 @@ use Rattle.pg_values.specs.declared.fault.Refusal.TheVariants.{Sql, NoMemory}
 use Rattle.pg_values.specs.declared.ids.LeafId.{LeafId}
 use Rattle.history.specs.declared.transaction.TxId.{TxId}
 use Rattle.history.specs.declared.version.Version.{Version}
-use Rattle.history.specs.Transactions.{TxEvents, IsRunning, IsSound, open_of, session_of}
+use Rattle.history.specs.Transactions.{IsRunning, IsSound, open_of}
 use Rattle.history.specs.Snapshots.{TakenSnapshot}
 use Rattle.history.specs.Locks.{queue}
 use Rattle.history.specs.History.{History, tx_events, snapshot_events, lock_events, RowChange}
 use Rattle.history.specs.Rows.{RowBorn}
-use Rattle.history.proofs.Open.{open_own, open_runs}
+use Rattle.history.proofs.Open.{open_runs}
 use Rattle.tx_table.specs.Stands.{StandsFor, TableStands}
 use Rattle.lock_table.specs.Stands.{StandsFor as LocksFor}
 use Rattle.row_store.specs.Kept.{KeptRows}
@@ -21,6 +21,8 @@ use Rattle.row_store.specs.Stands.{StoreStands}
 use Rattle.part_catalog.specs.Stands.{CatalogueStands}
 use Rattle.row_change.specs.declared.target.Target.{Target}
 use Rattle.row_change.specs.Storing.{all_stored, IsMade, is_into, leaf_faults}
+use Rattle.row_change.specs.Placing.{tables_of}
+use Rattle.row_change.proofs.Quiet.{Quiet}
 use Rattle.legal_statements.specs.Rows.{IsStored, AreNewRows, rows_born}
 use Rattle.legal_statements.proofs.Births.{new_rows_may_follow}
 use Rattle.stores.specs.Events.{tx_in}
@@ -37,11 +39,12 @@ use Rattle.statement_steps.specs.Waiting.{AddNone, Since}
 use Rattle.statement_steps.proofs.Parts.{no_memory}
 use Rattle.statement_steps.proofs.Since.{add_append}
 use Rattle.insert_statement.specs.Born.{all_born}
-use Rattle.insert_statement.specs.Inserted.{tables_of, own}
 use Rattle.statement_steps.specs.Faults.{stop_of}
 use Rattle.insert_statement.specs.Asked.{MayGo, MayPut, put}
-use Rattle.insert_statement.proofs.Births.{Births, all_births, Quiet, quiet, good_rows, all_before}
+use Rattle.insert_statement.proofs.Births.{Births, all_births, quiet, good_rows, all_before}
 use Rattle.insert_statement.proofs.Same.{SameMade, same_all, told_as}
+use Rattle.statement_steps.specs.Owned.{own}
+use Rattle.statement_steps.proofs.Open.{one_session}
 
 -- ---- the stores after it
 
@@ -54,9 +57,6 @@ stored_stand old rows g h q new st = record {
 }
 
 -- ---- whose transaction it is
-
-one_session : (txs : TxEvents) (r s u t : ℕ) → IsSound txs → open_of txs r ≡ Some u → open_of txs s ≡ Some t → u ≡ t → r ≡ s
-one_session txs r s u t sound mine its same = sym (open_own txs r u sound mine) ∙ (ap (session_of txs) same ∙ open_own txs s t sound its)
 
 at_later : (vs : List Version) (h : History) (s tx cmd : ℕ) → open_of (tx_events h) s ≡ Some tx → ((v : Version) → Contains vs v → v.cmd ≡ cmd) → IsAt h s cmd → IsAt (rows_born vs ++ h) s (cmd + 1)
 at_later vs h s tx cmd mine by at =

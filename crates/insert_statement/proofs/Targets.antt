@@ -1,8 +1,6 @@
 -- Rows that are tested as their targets say are those that the tables of the leaves take.
-use Rattle.std.proofs.Common.{◌≡◌, ℕ, ◌==◌, ◌||◌, Bool, true, false, if◌then◌else◌, List, [], ◌∷◌, ◌++◌, refl, ap, sym, ◌∙◌, arith, Option, Some, None, Result, Ok, Err, All, find, map, unwrap_or}
-use Rattle.std.specs.List.{list_any}
+use Rattle.std.proofs.Common.{◌≡◌, ℕ, ◌||◌, Bool, true, false, if◌then◌else◌, List, [], ◌∷◌, ◌++◌, refl, ap, ◌∙◌, arith, Some, None, Result, Ok, Err, All, find, map}
 use Rattle.std.proofs.lemmas.Bool.Decides.{nat_tests}
-use Rattle.std.proofs.lemmas.List.Elements.{All-head, All-tail}
 use Rattle.pg_values.specs.declared.value.Value.{Value}
 use Rattle.pg_values.specs.declared.fault.Fault.{Fault}
 use Rattle.pg_values.specs.declared.ids.LeafId.{LeafId}
@@ -12,19 +10,19 @@ use Rattle.history.specs.declared.transaction.TxId.{TxId}
 use Rattle.history.specs.History.{History}
 use Rattle.row_router.specs.Histories.{path_of}
 use Rattle.row_router.specs.Trees.{TableTree}
-use Rattle.row_router.specs.declared.path.PathTest.TheVariants.{Checks}
-use Rattle.row_router.specs.Paths.{refused}
 use Rattle.row_change.specs.declared.target.Target.{Target}
-use Rattle.row_change.specs.Storing.{is_into, leaf_faults, own_null_faults, check_told}
-use Rattle.row_change.specs.Targets.{HasTarget, IsTargetOf, last_table}
-use Rattle.row_change.specs.Ways.{root}
+use Rattle.row_change.specs.Storing.{is_into, leaf_faults, table_faults}
+use Rattle.row_change.specs.Targets.{HasTarget, IsTargetOf, holder_faults}
+use Rattle.row_change.specs.Placing.{tables_of}
+use Rattle.row_change.proofs.Told.{found_target, one_told}
 use Rattle.statement_steps.specs.Made.{Made, Halt, behind, then_told}
 use Rattle.statement_steps.specs.declared.caller.Caller.{Caller}
 use Rattle.statement_steps.specs.Steps.{follow}
-use Rattle.insert_statement.specs.Born.{table_faults, born, all_born}
-use Rattle.insert_statement.specs.Inserted.{tables_of, own, last_or, holder, holder_faults, into_leaf, into_leaves}
+use Rattle.insert_statement.specs.Born.{born, all_born}
+use Rattle.insert_statement.specs.Inserted.{into_leaf, into_leaves}
 use Rattle.insert_statement.specs.Asked.{Each, IsOwnTarget, put}
 use Rattle.insert_statement.proofs.Pairs.{each_same, each_with}
+use Rattle.statement_steps.specs.Owned.{own}
 
 -- ---- the same faults
 
@@ -48,13 +46,6 @@ told_by tables h s t named target row table path is =
     ap (λ n. table_faults tables target.table target.path.items n row) is
     ∙ (ap (λ p. table_faults tables target.table p named row) path ∙ ap (λ x. table_faults tables x (path_of h s t.number) named row) table)
 
--- the same of a table that is not named: of the path only its CHECKs are asked
-told_from_above : (tables : List Table) (h : History) (s : ℕ) (t : TableNo) (target : Target) (row : List Value) → target.table ≡ t → refused Checks row target.path.items ≡ refused Checks row (path_of h s t.number) → target.is_named ≡ false
-    → leaf_faults tables (Some target) row ≡ table_faults tables t (path_of h s t.number) false row
-told_from_above tables h s t target row table refuses is =
-    ap (λ n. table_faults tables target.table target.path.items n row) is
-    ∙ (ap (λ r. own_null_faults tables target.table row ++ (check_told tables row r ++ [])) refuses ∙ ap (λ x. table_faults tables x (path_of h s t.number) false row) table)
-
 -- ---- the one target of a table that is named
 
 is_here : (leaf : LeafId) (target : Target) → target.leaf ≡ leaf → is_into leaf target ≡ true
@@ -74,42 +65,6 @@ put_in_own h caller t leaf target rows is =
     (λ row. ap (λ o. leaf_faults (tables_of h) o row) (own_found leaf target is.leaf_is) ∙ told_by (tables_of h) h s t true target row is.table is.path is.is_named))
 
 -- ---- the targets of the leaves of a tree
-
-pub record IsFound (P : Target → Type 0) (leaf : LeafId) (found : Option Target) : Type 0 where
-  pub target : Target
-  pub is : found ≡ Some target
-  pub holds : P target
-  pub same : target.leaf ≡ leaf
-
-pub same_leaf : (a b : LeafId) → (a.number == b.number) ≡ true → a ≡ b
-same_leaf a b e =
-    let n : a.number ≡ b.number = grind (arith, nat_tests, e) in
-    let leaf : ℕ → LeafId = λ k. record { number = k } in
-    ap leaf n
-
-found_first : (P : Target → Type 0) (leaf : LeafId) (x : Target) (xs : List Target) (b : Bool) → is_into leaf x ≡ b → P x → (list_any (is_into leaf) xs ≡ true → IsFound P leaf (find (is_into leaf) xs)) → (b || list_any (is_into leaf) xs) ≡ true → IsFound P leaf (if b then Some x else find (is_into leaf) xs)
-found_first P leaf x xs true here p later any = record { target = x; is = refl; holds = p; same = same_leaf x.leaf leaf here }
-found_first P leaf x xs false here p later any = later any
-
-pub found_target : (P : Target → Type 0) (leaf : LeafId) (targets : List Target) → All P targets → HasTarget targets leaf → IsFound P leaf (find (is_into leaf) targets)
-found_target P leaf [] all any = absurd (cc)
-found_target P leaf (x ∷ xs) all any = found_first P leaf x xs (is_into leaf x) refl (All-head P x xs all) (found_target P leaf xs (All-tail P x xs all)) any
-
-last_same : (t : TableNo) (ts : List TableNo) → last_table t ts ≡ last_or t ts
-last_same t [] = refl
-last_same t (x ∷ xs) = last_same x xs
-
-holder_is : (h : History) (s : ℕ) (tree : TableTree) (target : Target) → IsTargetOf h s tree target → target.table ≡ holder tree target.leaf
-holder_is h s tree target is = is.table ∙ (last_same (root tree) is.tables ∙ ap (λ o. last_or (root tree) (unwrap_or o [])) (sym is.way))
-
-pub one_told : (h : History) (s : ℕ) (tree : TableTree) (leaf : LeafId) (targets : List Target) (row : List Value) → IsFound (IsTargetOf h s tree) leaf (find (is_into leaf) targets)
-    → leaf_faults (tables_of h) (find (is_into leaf) targets) row ≡ holder_faults h s tree leaf row
-one_told h s tree leaf targets row found =
-    let t = found.target in
-    let table = holder_is h s tree t found.holds in
-    let refuses : refused Checks row t.path.items ≡ refused Checks row (path_of h s (holder tree t.leaf).number) = found.holds.path.refuses row ∙ ap (λ (x : TableNo). refused Checks row (path_of h s x.number)) table in
-    let told = told_from_above (tables_of h) h s (holder tree t.leaf) t row table refuses found.holds.is_named in
-    ap (λ o. leaf_faults (tables_of h) o row) found.is ∙ (told ∙ ap (λ l. holder_faults h s tree l row) found.same)
 
 pub put_is_meant : (P : LeafId → List Value → Type 0) (h : History) (caller : Caller) (tree : TableTree) (targets : List Target) (leaves : List LeafId) (rows : List (List Value)) → All (IsTargetOf h caller.session tree) targets → All (HasTarget targets) leaves → Each P leaves rows
     → put targets caller leaves rows h ≡ into_leaves caller tree leaves rows h

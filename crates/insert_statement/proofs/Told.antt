@@ -12,7 +12,7 @@ use Rattle.row_router.specs.Trees.{TableTree}
 use Rattle.part_catalog.specs.Found.{made_at}
 use Rattle.part_catalog.specs.Stands.{CatalogueStands}
 use Rattle.row_change.specs.declared.target.Target.{Target}
-use Rattle.row_change.specs.Placing.{all_placed}
+use Rattle.row_change.specs.Placing.{all_placed, tables_of}
 use Rattle.row_change.specs.Targets.{HasTarget, IsTargetOf}
 use Rattle.stores.specs.Stand.{AllStand, Stands}
 use Rattle.stores.specs.declared.stores.Stores.{Stores}
@@ -23,8 +23,9 @@ use Rattle.statement_steps.specs.declared.stop.Stop.{Stop}
 use Rattle.statement_steps.specs.Steps.{IsStep}
 use Rattle.statement_steps.proofs.Parts.{answered_done}
 use Rattle.statement_steps.proofs.Steps.{goes, same_step}
-use Rattle.insert_statement.specs.Inserted.{below, into, into_leaf, into_leaves, into_partitions, into_shape, locked_into, placed_rows, tables_of}
-use Rattle.insert_statement.specs.Asked.{Each, IsOwnTarget, IsReadOf, put}
+use Rattle.statement_steps.specs.Rights.{IsReadOf}
+use Rattle.insert_statement.specs.Inserted.{below, into, into_leaf, into_leaves, into_partitions, into_shape, locked_into, placed_rows}
+use Rattle.insert_statement.specs.Asked.{Each, IsOwnTarget, put}
 use Rattle.insert_statement.proofs.Targets.{put_in_own, put_is_meant}
 
 -- what came of storing rows

@@ -11,18 +11,16 @@ use Rattle.pg_values.specs.Refusals.{faults_in, read_in, or_first}
 use Rattle.history.specs.declared.catalogue.Table.{Table}
 use Rattle.history.specs.declared.catalogue.TableShape.TheVariants.{Leaf, Level}
 use Rattle.history.specs.Places.{table_at}
-use Rattle.row_router.specs.declared.path_part.PathPart.{PathPart}
-use Rattle.row_router.specs.declared.tree.NoPartition.{NoPartition}
 use Rattle.row_router.specs.Trees.{TableTree, LeafTable, LevelTable, Trees, End, More, child_of, routed, routed_in}
-use Rattle.row_change.specs.Placing.{placed, first_or, way_told, bounds_faults}
 use Rattle.row_change.specs.Ways.{AllTables, root, way_below, way_among, ways_below}
 use Rattle.row_change.proofs.Ways.{all_below}
 use Rattle.soundness.proofs.Listed.{none_in, first_in, later_in}
 use Rattle.soundness.proofs.Presence.{all_more}
 use Rattle.stores.specs.declared.stores.Stores.{Stores}
 use Rattle.statement_steps.specs.Known.{IsKnownTo}
-use Rattle.insert_statement.specs.Asked.{Each, MayLock}
-use Rattle.insert_statement.proofs.Trees.{AtHome, AllAtHome, IsHome}
+use Rattle.statement_steps.specs.Rights.{MayLock}
+use Rattle.insert_statement.specs.Asked.{Each}
+use Rattle.row_change.proofs.Trees.{AtHome, AllAtHome, IsHome}
 
 -- ---- the end of a way
 
@@ -79,21 +77,6 @@ pub ways_known : (stores : Stores) (s : ℕ) (tree : TableTree) (rows : List (Li
 ways_known stores s tree rows ways is all = all_more (MayLock stores s) (λ (t : TableNo). IsKnownTo stores s t.number) ways (λ t may. may.1) (ways_lock stores s tree rows ways is all)
 
 -- ---- each row with its leaf
-
--- what placing one row tells
-pub record IsPlaced (tables : List Table) (tree : TableTree) (path : List PathPart) (leaf : LeafId) (row : List Value) : Type 0 where
-  pub bounds : bounds_faults tables path row ≡ []
-  pub routed : routed row tree ≡ Ok leaf
-
-told_placed : (tables : List Table) (tree : TableTree) (path : List PathPart) (row : List Value) (leaf : LeafId) (faults : List Fault) (way : Result LeafId NoPartition) → first_or faults (way_told tables row way) ≡ Ok leaf → (faults ≡ []) × (way ≡ Ok leaf)
-told_placed tables tree path row leaf [] (Ok own) e = (refl, let c = e in cc)
-told_placed tables tree path row leaf [] (Err lost) e = absurd (let c = e in cc)
-told_placed tables tree path row leaf (f ∷ fs) way e = absurd (let c = e in cc)
-
-pub is_placed : (tables : List Table) (tree : TableTree) (path : List PathPart) (row : List Value) (leaf : LeafId) → placed tables tree path row ≡ Ok leaf → IsPlaced tables tree path leaf row
-is_placed tables tree path row leaf e =
-    let parts = told_placed tables tree path row leaf (bounds_faults tables path row) (routed row tree) e in
-    record { bounds = parts.0; routed = parts.1 }
 
 by_faults : (fs : List Fault) (read : List LeafId) (own : LeafId) (leaves : List LeafId) → or_first fs (own ∷ read) ≡ Ok leaves → (ls : List LeafId) × (leaves ≡ own ∷ ls) × (or_first fs read ≡ Ok ls)
 by_faults [] read own leaves e = (read, (let c = e in cc), refl)

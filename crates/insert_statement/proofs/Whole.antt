@@ -23,10 +23,11 @@ use Rattle.binding_laws.specs.Fitting.{IsOf as IsOfKind}
 use Rattle.sql_binder.specs.Inserts.{bound_insert, kind_at, kinds_of}
 use Rattle.binding_laws.specs.FittingAsks.{RowFits, RowsFit, InsertsFit}
 use Rattle.row_change.specs.FullRows.{value_for, full_row}
+use Rattle.row_change.specs.Laws.{AreRowsOf}
 use Rattle.stores.proofs.Goodness.{same_session}
-use Rattle.insert_statement.specs.Inserted.{scope_column, whole, whole_rows}
-use Rattle.insert_statement.specs.Asked.{AreRowsOf}
-use Rattle.insert_statement.proofs.Tables.{tables_kept}
+use Rattle.insert_statement.specs.Inserted.{whole, whole_rows}
+use Rattle.statement_steps.specs.Scopes.{scope_column}
+use Rattle.statement_steps.proofs.Rights.{tables_kept}
 
 of_kind : (v : Value) (k : Kind) → IsOfKind v k → IsOf k v
 of_kind Null k is none = absurd (cc)

@@ -12,51 +12,29 @@ use Rattle.row_router.specs.Trees.{TableTree, routed}
 use Rattle.bound_forms.specs.declared.level.Level.{Level}
 use Rattle.history.specs.declared.catalogue.TableShape.TheVariants.{Level as Levels}
 use Rattle.tx_table.specs.Kept.{KeptTable}
-use Rattle.tx_table.specs.Stands.{TableStands}
 use Rattle.part_catalog.specs.Found.{made_at}
 use Rattle.part_catalog.specs.Kept.{KeptCatalogue}
 use Rattle.part_catalog.specs.Stands.{CatalogueStands}
 use Rattle.row_router.specs.declared.path.PathTest.TheVariants.{Bounds, Checks}
 use Rattle.row_router.specs.Paths.{refused}
 use Rattle.row_change.specs.declared.target.Target.{Target}
-use Rattle.row_change.specs.Laws.{IsRowIn}
-use Rattle.row_change.specs.Placing.{all_placed}
+use Rattle.row_change.specs.Laws.{AreRowsOf}
+use Rattle.row_change.specs.Placing.{all_placed, tables_of}
 use Rattle.row_change.specs.Storing.{is_into, leaf_faults, FitsTargets, IsLeafKnown, IsTargetNumbered}
 use Rattle.row_change.specs.Targets.{HasTarget, HasWay}
 use Rattle.soundness.specs.Worlds.{IsMade, HasLeaf}
 use Rattle.soundness.specs.Columns.{IsOfTable}
 use Rattle.legal_statements.specs.Locked.{IsWritable}
 use Rattle.legal_statements.specs.Rows.{IsOwnLook}
-use Rattle.stores.specs.Events.{look_of}
 use Rattle.stores.specs.Stand.{Stands}
 use Rattle.stores.specs.declared.stores.Stores.{Stores}
 use Rattle.statement_steps.specs.Made.{Made}
-use Rattle.pg_values.specs.declared.fault.Refusal.{Refusal}
 use Rattle.statement_steps.specs.declared.caller.Caller.{Caller}
-use Rattle.statement_steps.specs.declared.stop.Stop.{Stop}
-use Rattle.statement_steps.specs.Faults.{stop_of}
-use Rattle.statement_steps.specs.Known.{IsKnownTo}
 use Rattle.insert_statement.specs.Born.{all_born}
-use Rattle.insert_statement.specs.Inserted.{tables_of, own}
-
--- the rows are of the table's columns
-abbrev pub AreRowsOf : KeptCatalogue → TableNo → List (List Value) → Type 0
-AreRowsOf catalog t rows = (h : History) → CatalogueStands catalog h → All (λ row. IsRowIn h row t) rows
-
--- the session may write the rows of these tables
-abbrev pub MayWrite : Stores → (session : ℕ) → List TableNo → Type 0
-MayWrite stores s tables = (h : History) → Stands stores h → All (λ t. IsWritable h s t.number) tables
-
--- the session may lock the table
-abbrev pub MayLock : Stores → (session : ℕ) → TableNo → Type 0
-MayLock stores s t = (t.number < 4096) × IsKnownTo stores s t.number
+use Rattle.statement_steps.specs.Owned.{own}
+use Rattle.statement_steps.specs.Rights.{IsReadOf}
 
 -- ---- rows below a partitioned table
-
--- the tree that the session's command reads of a table, and the path above it
-pub record IsReadOf (txs : KeptTable) (catalog : KeptCatalogue) (caller : Caller) (table : TableNo) (tree : TableTree) (path : List PathPart) : Type 0 where
-  pub is_tree : (h : History) → TableStands txs h → CatalogueStands catalog h → tree ≡ tree_of h caller.session table.number (look_of h caller.session caller.cmd)
-  pub is_path : (h : History) → TableStands txs h → CatalogueStands catalog h → path ≡ path_of h caller.session table.number
 
 -- they are those of a partitioned table, and the rows are of its columns
 pub record IsTreeFor (txs : KeptTable) (catalog : KeptCatalogue) (caller : Caller) (tree : TableTree) (path : List PathPart) (rows : List (List Value)) : Type 0 where
@@ -119,8 +97,3 @@ pub record IsOwnTarget (h : History) (s : ℕ) (t : TableNo) (leaf : LeafId) (ta
   pub table : target.table ≡ t
   pub path : target.path.items ≡ path_of h s t.number
   pub is_named : target.is_named ≡ true
-
--- ---- a refusal ends the statement
-
-abbrev pub stopped : Refusal → Stop
-stopped r = stop_of r

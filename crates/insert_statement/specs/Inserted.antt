@@ -1,48 +1,37 @@
 -- INSERT of a session (the manual, INSERT; 5.11.2 Declarative Partitioning; 13.3.1 Table-Level Locks).
-use Rattle.std.specs.Prelude.{ℕ, true, false, List, [], ◌∷◌, Option, Result, Ok, Err, map, length, unwrap_or}
+use Rattle.std.specs.Prelude.{ℕ, true, List, Option, Result, Ok, Err, map, length}
 use Rattle.pg_values.specs.declared.value.Value.{Value}
 use Rattle.pg_values.specs.declared.fault.Fault.{Fault}
 use Rattle.pg_values.specs.declared.ids.LeafId.{LeafId}
-use Rattle.pg_values.specs.declared.ids.TableNo.{TableNo}
 use Rattle.pg_values.specs.declared.lock_mode.LockMode.TheVariants.{RowExclusive}
-use Rattle.history.specs.declared.transaction.TxId.{TxId}
 use Rattle.history.specs.declared.catalogue.Column.{Column}
-use Rattle.history.specs.declared.catalogue.Table.{Table}
 use Rattle.history.specs.declared.catalogue.TableShape.{TableShape}
 use Rattle.history.specs.declared.catalogue.TableShape.TheVariants.{Leaf, Level}
-use Rattle.history.specs.Catalogue.{tables_made}
-use Rattle.history.specs.History.{History, catalogue_events}
+use Rattle.history.specs.History.{History}
 use Rattle.row_router.specs.declared.path_part.PathPart.{PathPart}
 use Rattle.row_router.specs.Histories.{tree_of, path_of}
 use Rattle.row_router.specs.Trees.{TableTree}
 use Rattle.part_catalog.specs.Found.{made_at}
 use Rattle.row_change.specs.FullRows.{full_row}
-use Rattle.row_change.specs.Placing.{all_placed}
-use Rattle.row_change.specs.Ways.{root, way_to, ways_below}
+use Rattle.row_change.specs.Placing.{all_placed, tables_of}
+use Rattle.row_change.specs.Ways.{ways_below}
+use Rattle.row_change.specs.Storing.{table_faults}
+use Rattle.row_change.specs.Targets.{holder_faults}
 use Rattle.sql_ast.specs.Expressions.{Trees}
 use Rattle.expression_binder.specs.declared.scope.Param.{Param}
-use Rattle.expression_binder.specs.declared.scope.ScopeColumn.{ScopeColumn}
 use Rattle.cond_logic.specs.Asked.{InsertMeant}
 use Rattle.sql_binder.specs.Inserts.{bound_insert}
-use Rattle.stores.specs.Events.{tx_in, look_of}
-pub use Rattle.statement_steps.specs.Made.{answered}
+use Rattle.stores.specs.Events.{look_of}
+use Rattle.statement_steps.specs.Made.{answered}
 use Rattle.statement_steps.specs.Made.{Made}
 use Rattle.statement_steps.specs.declared.caller.Caller.{Caller}
 use Rattle.statement_steps.specs.Asks.{named, held_at, all_locked}
 use Rattle.statement_steps.specs.Steps.{follow}
-use Rattle.insert_statement.specs.Born.{table_faults, all_born}
-
--- the tables that were made, and the session's transaction
-abbrev pub tables_of : History → List Table
-tables_of h = tables_made (catalogue_events h)
-
-abbrev pub own : History → (session : ℕ) → TxId
-own h s = record { number = tx_in h s }
+use Rattle.insert_statement.specs.Born.{all_born}
+use Rattle.statement_steps.specs.Owned.{own}
+use Rattle.statement_steps.specs.Scopes.{scope_column}
 
 -- ---- the rows of VALUES
-
-abbrev pub scope_column : Column → ScopeColumn
-scope_column c = record { name = c.name; kind = c.kind }
 
 -- with a value for each column of the table
 abbrev pub whole : (width : ℕ) → Result InsertMeant Fault → Result (List (List Value)) Fault
@@ -62,17 +51,6 @@ into_leaf caller t leaf rows h =
     all_born (own h caller.session) caller.cmd (λ l row. table_faults (tables_of h) (record { number = t }) (path_of h caller.session t) true row) (map (λ row. leaf) rows) rows h
 
 -- ---- into a partitioned table
-
-abbrev pub last_or : TableNo → List TableNo → TableNo
-last_or t [] = t
-last_or t (x ∷ xs) = last_or x xs
-
--- the table of the tree whose leaf it is
-abbrev pub holder : TableTree → LeafId → TableNo
-holder tree leaf = last_or (root tree) (unwrap_or (way_to leaf tree) [])
-
-abbrev pub holder_faults : History → (session : ℕ) → TableTree → LeafId → List Value → List Fault
-holder_faults h s tree leaf row = table_faults (tables_of h) (holder tree leaf) (path_of h s (holder tree leaf).number) false row
 
 abbrev pub into_leaves : Caller → TableTree → List LeafId → List (List Value) → History → Made (Unit {0})
 into_leaves caller tree leaves rows h = all_born (own h caller.session) caller.cmd (holder_faults h caller.session tree) leaves rows h

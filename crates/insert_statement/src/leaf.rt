@@ -9,7 +9,9 @@ ghost use Rattle.statement_steps.specs.Steps.{IsStep};
 ghost use Rattle.part_catalog.specs.Found.{made_at};
 ghost use Rattle.insert_statement.specs.Inserted.{into_leaf};
 ghost use Rattle.stores.specs.Stand.{AllStand, IsSound};
-ghost use Rattle.insert_statement.specs.Asked.{AreRowsOf, IsOwnTarget, MayWrite};
+ghost use Rattle.insert_statement.specs.Asked.{IsOwnTarget};
+ghost use Rattle.row_change.specs.Laws.{AreRowsOf};
+ghost use Rattle.statement_steps.specs.Rights.{MayWrite};
 
 use crate::storing::put_rows;
 use pg_values::{LeafId, NoMemory, Row, TableNo};

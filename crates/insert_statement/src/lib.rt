@@ -13,6 +13,4 @@ mod rows;
 mod statement;
 mod storing;
 
-pub use partitions::{leaves_of, tree_and_path};
-pub use rows::scope_columns;
 pub use statement::insert;

@@ -3,44 +3,23 @@
 ghost use Rattle.std.specs.Prelude.{◌≡◌, ◌<◌, ◌++◌, ◌∷◌, [], IfOk, OnOk, map, length};
 ghost use Rattle.sql_ast.specs.Expressions.{trees};
 ghost use Rattle.pg_values.specs.Refusals.{IsAnswer};
-ghost use Rattle.cond_logic.specs.Asked.{insert_meant};
 ghost use Rattle.row_change.specs.FullRows as full_rows;
 ghost use Rattle.statement_steps.specs.Attempts.{MayAttempt};
 ghost use Rattle.statement_steps.specs.Steps.{IsStep};
 ghost use Rattle.insert_statement.specs.Inserted as inserted;
-ghost use Rattle.insert_statement.specs.Asked.{AreRowsOf};
+ghost use Rattle.row_change.specs.Laws.{AreRowsOf};
 
 use binding_laws::inserts_fit;
 use cond_logic::InsertAsk;
-use expression_binder::{Param, ScopeColumn};
+use expression_binder::Param;
 use history::Column;
 use pg_values::{NoMemory, Refusal, Row, RowList, TableNo};
 use row_change::full_row;
 use sql_ast::Insert;
 use sql_binder::bind_insert;
-use statement_steps::{Caller, Stop};
+use statement_steps::{Caller, Stop, scope_columns};
 use std::alloc::Global;
 use stores::Stores;
-
-fn scope_column(alloc: Global, column: &Column) -> Result<ScopeColumn, NoMemory>
-    ensures { IfOk result (λ c. c ≡ inserted.scope_column column.now) }
-{
-    Ok(ScopeColumn {
-        name: column.name.copy(alloc)?,
-        kind: column.kind,
-    })
-}
-
-/// What the names of a statement stand for: the columns of its table.
-pub fn scope_columns(alloc: Global, columns: &[Column]) -> Result<Vec<ScopeColumn>, NoMemory>
-    ensures { IfOk result (λ v. v.items ≡ map inserted.scope_column columns.now) }
-{
-    let mut named = Vec::new(alloc);
-    for column in columns {
-        named.push(scope_column(alloc, column)?)?;
-    }
-    Ok(named)
-}
 
 fn add_row(rows: &mut RowList, row: Row) -> Result<(), NoMemory>
     ensures { OnOk result (rows.new ≡ rows.old ++ row ∷ []) }

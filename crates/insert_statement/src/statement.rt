@@ -10,7 +10,8 @@ ghost use Rattle.statement_steps.specs.Steps.{IsStep};
 ghost use Rattle.insert_statement.specs.Inserted as inserted_spec;
 ghost use Rattle.part_catalog.specs.Found.{made_at};
 ghost use Rattle.insert_statement.specs.Inserted.{inserted};
-ghost use Rattle.insert_statement.specs.Asked.{AreRowsOf, MayWrite};
+ghost use Rattle.row_change.specs.Laws.{AreRowsOf};
+ghost use Rattle.statement_steps.specs.Rights.{MayWrite};
 
 use crate::leaf::store_in_leaf;
 use crate::partitions::store_below;

@@ -21,8 +21,8 @@ mod search;
 mod stored;
 
 pub use bound_set::{
-    BoundSet, add_bound, bound, default_child, len, make_set, modulus_fault, set_in_order,
-    stands_in_plain_order,
+    BoundSet, add_bound, bound, copy_set, default_child, len, make_set, modulus_fault,
+    set_in_order, stands_in_plain_order,
 };
 pub use laws::{
     level_ends_fit, level_has_strategy, level_ranges_fit, stored_points_are_all,

@@ -14,7 +14,7 @@ use bound_forms::copy_bound;
 use history::TableShape;
 use part_bounds::{BoundSet, set_in_order};
 use pg_values::{NoMemory, TableNo, ValueKey};
-use row_router::{Node, Tree, copy_level};
+use row_router::{Node, Tree, TreeList, copy_level};
 use std::alloc::Global;
 
 // What a tree of the table `named` says of a table in it.
@@ -82,7 +82,8 @@ pub fn grow(
             if depth == 0 {
                 let none = set_in_order(alloc, Vec::new(alloc), ValueKey)?;
                 let trees = Vec::new(alloc);
-                return Ok(Tree::level(node, level, none, trees));
+                let bare = TreeList::new(alloc, trees)?;
+                return Ok(Tree::level(node, level, none, bare));
             }
             let list = &below[table.number as usize];
             let mut trees = Vec::with_capacity(alloc, list.numbers().len())?;
@@ -103,7 +104,8 @@ pub fn grow(
                 }
             }
             let bounds = set_below(alloc, entries, list, flags, table)?;
-            Ok(Tree::level(node, level, bounds, trees))
+            let shared = TreeList::new(alloc, trees)?;
+            Ok(Tree::level(node, level, bounds, shared))
         }
     }
 }

@@ -35,9 +35,9 @@ use Rattle.part_ddl.specs.Placing.{partitions_of, bounds_below}
 pub seen_leaf : (t : Tree) (leaf : LeafId) → t.shape ≡ ShapeLeaf leaf → seen t ≡ LeafTable t.node leaf
 unfolding Rattle.row_router.specs.declared.tree.Shape.TheViews.out-Shape denote.Hole.Carrier.out
 seen_leaf t leaf is =
-    let F : Shape → Node → TableTree = fold-Shape (Node → TableTree) TableTree (List TableTree) seen_step (λ u. u.shape u.node) (λ l. l.trees.items) in
-    let a : seen t ≡ F t.shape t.node = fold_out-Tree (Node → TableTree) TableTree (List TableTree) seen_step (λ u. u.shape u.node) (λ l. l.trees.items) t in
-    let b = ap (λ (f : Node → TableTree). f t.node) (fold_out-Shape (Node → TableTree) TableTree (List TableTree) seen_step (λ u. u.shape u.node) (λ l. l.trees.items) (ShapeLeaf leaf)) in
+    let F : Shape → Node → TableTree = fold-Shape (Node → TableTree) TableTree (List TableTree) seen_step (λ u. u.shape u.node) (λ l. l.trees.value.items) in
+    let a : seen t ≡ F t.shape t.node = fold_out-Tree (Node → TableTree) TableTree (List TableTree) seen_step (λ u. u.shape u.node) (λ l. l.trees.value.items) t in
+    let b = ap (λ (f : Node → TableTree). f t.node) (fold_out-Shape (Node → TableTree) TableTree (List TableTree) seen_step (λ u. u.shape u.node) (λ l. l.trees.value.items) (ShapeLeaf leaf)) in
     a ∙ ap (λ (s : Shape). F s t.node) is ∙ b
 
 abbrev pub node_of : TableTree → Node
@@ -50,8 +50,8 @@ step_node (Shape-F.Level level bounds kids) node = refl
 
 pub node_seen : (t : Tree) → node_of (seen t) ≡ t.node
 node_seen t =
-    let a = fold_out-Tree (Node → TableTree) TableTree (List TableTree) seen_step (λ u. u.shape u.node) (λ l. l.trees.items) t in
-    let b = ap (λ (f : Node → TableTree). f t.node) (fold_out-Shape (Node → TableTree) TableTree (List TableTree) seen_step (λ u. u.shape u.node) (λ l. l.trees.items) t.shape) in
+    let a = fold_out-Tree (Node → TableTree) TableTree (List TableTree) seen_step (λ u. u.shape u.node) (λ l. l.trees.value.items) t in
+    let b = ap (λ (f : Node → TableTree). f t.node) (fold_out-Shape (Node → TableTree) TableTree (List TableTree) seen_step (λ u. u.shape u.node) (λ l. l.trees.value.items) t.shape) in
     ap node_of (a ∙ b) ∙ step_node _ t.node
 
 grown_node : (shape : TableShape) (node : Node) (bounds : List Bound) (kids : List TableTree) → node_of (grown shape node bounds kids) ≡ node

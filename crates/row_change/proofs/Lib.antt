@@ -15,3 +15,7 @@ pub mod Targets
 pub mod Unchecked
 pub mod Walk
 pub mod Ways
+pub mod Trees
+pub mod Told
+pub mod Passing
+pub mod Quiet

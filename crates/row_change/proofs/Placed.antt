@@ -4,6 +4,11 @@ use Rattle.pg_values.specs.declared.value.Value.{Value}
 use Rattle.pg_values.specs.declared.fault.Fault.{Fault}
 use Rattle.pg_values.specs.declared.ids.LeafId.{LeafId}
 use Rattle.pg_values.specs.Refusals.{faults_in, read_in, or_first}
+use Rattle.history.specs.declared.catalogue.Table.{Table}
+use Rattle.row_router.specs.declared.path_part.PathPart.{PathPart}
+use Rattle.row_router.specs.declared.tree.NoPartition.{NoPartition}
+use Rattle.row_router.specs.Trees.{TableTree, routed}
+use Rattle.row_change.specs.Placing.{placed, first_or, way_told, bounds_faults}
 
 -- of all rows, those that are left decide, and these are the leaves of the others
 pub record ArePlaced (place : List Value → Result LeafId Fault) (rows left : List (List Value)) (leaves : List LeafId) : Type 0 where
@@ -41,3 +46,20 @@ refused_here place rows i row leaves f within is err a =
 pub all_have : (place : List Value → Result LeafId Fault) (rows : List (List Value)) (leaves : List LeafId) → ArePlaced place rows [] leaves → or_first (faults_in (map place rows)) (read_in (map place rows)) ≡ Ok leaves
 all_have place rows leaves a =
     ap (λ fs. or_first fs (read_in (map place rows))) (sym a.faults) ∙ ap Ok (sym a.found ∙ append-nil leaves)
+
+-- ---- what placing one row tells
+
+-- what placing one row tells
+pub record IsPlaced (tables : List Table) (tree : TableTree) (path : List PathPart) (leaf : LeafId) (row : List Value) : Type 0 where
+  pub bounds : bounds_faults tables path row ≡ []
+  pub routed : routed row tree ≡ Ok leaf
+
+told_placed : (tables : List Table) (tree : TableTree) (path : List PathPart) (row : List Value) (leaf : LeafId) (faults : List Fault) (way : Result LeafId NoPartition) → first_or faults (way_told tables row way) ≡ Ok leaf → (faults ≡ []) × (way ≡ Ok leaf)
+told_placed tables tree path row leaf [] (Ok own) e = (refl, let c = e in cc)
+told_placed tables tree path row leaf [] (Err lost) e = absurd (let c = e in cc)
+told_placed tables tree path row leaf (f ∷ fs) way e = absurd (let c = e in cc)
+
+pub is_placed : (tables : List Table) (tree : TableTree) (path : List PathPart) (row : List Value) (leaf : LeafId) → placed tables tree path row ≡ Ok leaf → IsPlaced tables tree path leaf row
+is_placed tables tree path row leaf e =
+    let parts = told_placed tables tree path row leaf (bounds_faults tables path row) (routed row tree) e in
+    record { bounds = parts.0; routed = parts.1 }

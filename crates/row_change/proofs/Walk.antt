@@ -21,8 +21,8 @@ root_step (Shape-F.Level level bounds kids) n = refl
 -- a tree is of its own table
 pub root_seen : (t : Tree) → root (seen t) ≡ t.node.table
 root_seen t =
-    let a = fold_out-Tree (Node → TableTree) TableTree (List TableTree) seen_step (λ u. u.shape u.node) (λ l. l.trees.items) t in
-    let b = ap (λ (f : Node → TableTree). f t.node) (fold_out-Shape (Node → TableTree) TableTree (List TableTree) seen_step (λ u. u.shape u.node) (λ l. l.trees.items) t.shape) in
+    let a = fold_out-Tree (Node → TableTree) TableTree (List TableTree) seen_step (λ u. u.shape u.node) (λ l. l.trees.value.items) t in
+    let b = ap (λ (f : Node → TableTree). f t.node) (fold_out-Shape (Node → TableTree) TableTree (List TableTree) seen_step (λ u. u.shape u.node) (λ l. l.trees.value.items) t.shape) in
     ap root (a ∙ b) ∙ root_step _ t.node
 
 one_among : {T : Type 0} (f : T → TableTree) (row : List Value) (i : ℕ) (ks : List T) (k : T) → i < length ks → k ≡ get_or ks i k → way_among row (Some i) (trees_of (map f ks)) ≡ root (f k) ∷ way_below row (f k)

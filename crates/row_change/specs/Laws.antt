@@ -15,6 +15,8 @@ use Rattle.row_router.specs.Trees.{TableTree, IsRowOf, leaves, routed}
 use Rattle.row_router.specs.Paths.{PartFits}
 use Rattle.row_change.specs.Placing.{CanBePlaced, IsNumbered, IsPartNumbered}
 use Rattle.row_change.specs.Ways.{way_below, way_to}
+use Rattle.part_catalog.specs.Kept.{KeptCatalogue}
+use Rattle.part_catalog.specs.Stands.{CatalogueStands}
 
 -- there is such a table
 abbrev pub IsMade : History → TableNo → Type 0
@@ -51,3 +53,7 @@ RowsAreOfWays = (h : History) (session : ℕ) (t : TableNo) (snap : TakenSnapsho
 -- where no two tables have one leaf, the way of a row is the way to its leaf
 abbrev pub WaysLeadToLeaves : Type 0
 WaysLeadToLeaves = (row : List Value) (t : TableTree) (leaf : LeafId) → AllPairs (λ a b. a.number ≢ b.number) (leaves t) → routed row t ≡ Ok leaf → way_to leaf t ≡ Some (way_below row t)
+
+-- the rows are of the table's columns
+abbrev pub AreRowsOf : KeptCatalogue → TableNo → List (List Value) → Type 0
+AreRowsOf catalog t rows = (h : History) → CatalogueStands catalog h → All (λ row. IsRowIn h row t) rows

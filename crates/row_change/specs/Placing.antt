@@ -10,6 +10,8 @@ use Rattle.history.specs.declared.catalogue.Table.{Table}
 use Rattle.history.specs.declared.catalogue.TableShape.{TableShape}
 use Rattle.history.specs.declared.catalogue.TableShape.TheVariants.{Leaf, Level}
 use Rattle.history.specs.Places.{table_at}
+use Rattle.history.specs.Catalogue.{tables_made}
+use Rattle.history.specs.History.{History, catalogue_events}
 use Rattle.row_router.specs.declared.path_part.Place.{Place}
 use Rattle.row_router.specs.declared.path_part.PathPart.{PathPart}
 use Rattle.row_router.specs.declared.tree.NoPartition.{NoPartition}
@@ -75,3 +77,9 @@ IsPartNumbered n p = p.table.number < n
 -- the tables of a tree are among the first n
 abbrev pub IsNumbered : ℕ → TableTree → Type 0
 IsNumbered n tree = AllTables (λ t. t.number < n) tree
+
+-- ---- by a history
+
+-- the tables that were made
+abbrev pub tables_of : History → List Table
+tables_of h = tables_made (catalogue_events h)

@@ -126,3 +126,8 @@ abbrev pub IsRefusal : Refusal → PutCause → Type 0
 IsRefusal NoMemory cause = Unit {0}
 IsRefusal (Sql f) (Full which) = f ≡ too_many which
 IsRefusal (Sql f) NoRoom = ⊥
+
+-- why a table does not take a row: NOT NULL of its columns, then the CHECKs kept along its path, then the bounds there where
+-- the statement names the table itself
+abbrev pub table_faults : List Table → TableNo → List PathPart → (is_named : Bool) → List Value → List Fault
+table_faults tables t path is_named row = own_null_faults tables t row ++ (check_faults tables path row ++ (if is_named then bounds_faults tables path row else []))

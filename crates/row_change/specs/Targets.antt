@@ -1,9 +1,10 @@
 -- The leaves of rows, and what a statement that names a table of the tree above them knows of each.
-use Rattle.std.specs.Prelude.{◌≡◌, ℕ, true, false, is_some, List, [], ◌∷◌, Option, Some, Ok, option_map, All, length}
+use Rattle.std.specs.Prelude.{◌≡◌, ℕ, true, false, is_some, List, [], ◌∷◌, Option, Some, Ok, option_map, All, length, unwrap_or}
 use Rattle.std.specs.List.{list_any}
 use Rattle.pg_values.specs.declared.value.Value.{Value}
 use Rattle.pg_values.specs.declared.ids.LeafId.{LeafId}
 use Rattle.pg_values.specs.declared.ids.TableNo.{TableNo}
+use Rattle.pg_values.specs.declared.fault.Fault.{Fault}
 use Rattle.history.specs.Snapshots.{TakenSnapshot}
 use Rattle.history.specs.Catalogue.{tables_made}
 use Rattle.history.specs.History.{History, catalogue_events}
@@ -17,8 +18,8 @@ use Rattle.row_router.specs.declared.path.PathTest.TheVariants.{Checks}
 use Rattle.row_router.specs.Paths.{refused, PartFits}
 use Rattle.row_change.specs.declared.target.Target.{Target}
 use Rattle.row_change.specs.Laws.{IsRowIn}
-use Rattle.row_change.specs.Placing.{IsPartNumbered}
-use Rattle.row_change.specs.Storing.{is_into, IsTargetNumbered}
+use Rattle.row_change.specs.Placing.{IsPartNumbered, tables_of}
+use Rattle.row_change.specs.Storing.{is_into, IsTargetNumbered, table_faults}
 use Rattle.row_change.specs.Ways.{root, way_to}
 
 -- the last table of a way, and the tree's own where it has none
@@ -63,3 +64,12 @@ RoutedHaveWays = (row : List Value) (tree : TableTree) (leaf : LeafId) → route
 abbrev pub TargetsFit : Type 0
 TargetsFit = (h : History) (session : ℕ) (t : TableNo) (snap : TakenSnapshot) (row : List Value) (target : Target) → AreCatalogueSound h → AreSiblings (entries_present h session) → IsRowIn h row t → IsTargetOf h session (tree_of h session t.number snap) target
     → All (PartFits row) target.path.items × IsTargetNumbered (length (tables_made (catalogue_events h))) target
+
+-- ---- the table that has a leaf, and what it says of a row
+
+-- the table of the tree whose leaf it is
+abbrev pub holder : TableTree → LeafId → TableNo
+holder tree leaf = last_table (root tree) (unwrap_or (way_to leaf tree) [])
+
+abbrev pub holder_faults : History → (session : ℕ) → TableTree → LeafId → List Value → List Fault
+holder_faults h s tree leaf row = table_faults (tables_of h) (holder tree leaf) (path_of h s (holder tree leaf).number) false row

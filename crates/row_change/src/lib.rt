@@ -23,6 +23,7 @@ mod holders;
 mod keys;
 mod laws;
 mod leaf_list;
+mod leaves;
 mod leaves_below;
 mod placing;
 mod storing;
@@ -36,6 +37,7 @@ pub use laws::{
     rows_are_of_ways, rows_fit_paths, tables_are_made, targets_fit, ways_lead_to_leaves,
 };
 pub use leaf_list::LeafList;
+pub use leaves::{leaves_and_ways, leaves_of};
 pub use leaves_below::leaf_targets;
 pub use placing::{check_bounds, place_rows};
 pub use storing::{check_leaf, store_rows};

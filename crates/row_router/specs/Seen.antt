@@ -13,8 +13,8 @@ seen_step (Shape-F.Leaf leaf) node = LeafTable node leaf
 seen_step (Shape-F.Level level bounds kids) node = LevelTable node level bounds (trees_of kids)
 
 abbrev pub seen : Tree → TableTree
-seen = fold-Tree (Node → TableTree) TableTree (List TableTree) seen_step (λ t. t.shape t.node) (λ l. l.trees.items)
+seen = fold-Tree (Node → TableTree) TableTree (List TableTree) seen_step (λ t. t.shape t.node) (λ l. l.trees.value.items)
 
 -- the trees of a list
 abbrev pub items_of : TreeList → List Tree
-items_of l = (out-TreeList l).trees.items
+items_of l = (out-TreeList l).trees.value.items

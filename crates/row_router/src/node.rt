@@ -11,3 +11,15 @@ pub struct Node {
     pub name: PgText,
     pub columns: Columns,
 }
+
+impl Node {
+    pub fn copy(&self, alloc: Global) -> Result<Self, NoMemory>
+        ensures { IfOk result (λ copy. copy ≡ self.now) }
+    {
+        Ok(Node {
+            table: self.table,
+            name: self.name.copy(alloc)?,
+            columns: self.columns.copy(alloc)?,
+        })
+    }
+}

@@ -1,11 +1,13 @@
-ghost use Rattle.std.specs.Prelude.{◌≡◌, ◌<◌, List, map, get_or, length};
+ghost use Rattle.std.specs.Prelude.{◌≡◌, ◌<◌, List, map, get_or, length, IfOk};
 ghost use Rattle.row_router.specs.Trees.{LeafTable, LevelTable, trees_of};
 ghost use Rattle.row_router.specs.Seen.{seen, items_of};
 
-use crate::Node;
+use crate::{Node, copy_level};
 use bound_forms::Level;
-use part_bounds::BoundSet;
-use pg_values::{LeafId, TableNo, ValueKey};
+use part_bounds::{BoundSet, copy_set};
+use pg_values::{LeafId, NoMemory, TableNo, ValueKey};
+use std::alloc::Global;
+use std::rc::Rc;
 
 /// A table with what stands below it.
 #[cycle(tree)]
@@ -24,11 +26,11 @@ pub enum Shape {
     Level(Level, BoundSet<ValueKey>, TreeList),
 }
 
-/// Trees in order.
+/// Trees in order, which all who have the list share.
 #[cycle(tree)]
 #[derive(Drop)]
 pub struct TreeList {
-    trees: Vec<Tree>,
+    trees: Rc<Vec<Tree>>,
 }
 
 /// No leaf below the table accepts the row, and the row came down to this table.
@@ -38,10 +40,21 @@ pub struct NoPartition {
 }
 
 impl TreeList {
-    pub fn new(trees: Vec<Tree>) -> Self
-        ensures { items_of result ≡ trees.items }
+    pub fn new(alloc: Global, trees: Vec<Tree>) -> Result<Self, NoMemory>
+        ensures { IfOk result (λ l. items_of l ≡ trees.items) }
     {
-        TreeList { trees }
+        Ok(TreeList {
+            trees: Rc::new(alloc, trees)?,
+        })
+    }
+
+    /// The same list.
+    pub fn share(&self) -> Result<Self, NoMemory>
+        ensures { IfOk result (λ l. items_of l ≡ items_of self.now) }
+    {
+        Ok(TreeList {
+            trees: self.trees.clone()?,
+        })
     }
 
     pub fn len(&self) -> usize
@@ -65,6 +78,22 @@ impl TreeList {
 }
 
 impl Tree {
+    /// The same tree. What stands below its table is shared.
+    pub fn share(&self, alloc: Global) -> Result<Self, NoMemory>
+        ensures { IfOk result (λ t. seen t ≡ seen self.now) }
+    {
+        let node = self.node.copy(alloc)?;
+        match &self.shape {
+            Shape::Leaf(leaf) => Ok(Tree::leaf(node, *leaf)),
+            Shape::Level(level, bounds, trees) => {
+                let level = copy_level(alloc, level)?;
+                let bounds = copy_set(alloc, bounds)?;
+                let trees = trees.share()?;
+                Ok(Tree::level(node, level, bounds, trees))
+            }
+        }
+    }
+
     /// A table with rows of its own.
     pub fn leaf(node: Node, leaf: LeafId) -> Self
         ensures { seen result ≡ LeafTable node leaf }
@@ -76,12 +105,12 @@ impl Tree {
     }
 
     /// A table with partitions, each under its bound.
-    pub fn level(node: Node, level: Level, bounds: BoundSet<ValueKey>, trees: Vec<Tree>) -> Self
-        ensures { seen result ≡ LevelTable node level bounds (trees_of (map seen trees.items)) }
+    pub fn level(node: Node, level: Level, bounds: BoundSet<ValueKey>, trees: TreeList) -> Self
+        ensures { seen result ≡ LevelTable node level bounds (trees_of (map seen (items_of trees))) }
     {
         Tree {
             node,
-            shape: Shape::Level(level, bounds, TreeList::new(trees)),
+            shape: Shape::Level(level, bounds, trees),
         }
     }
 }

@@ -17,8 +17,9 @@ use Rattle.expression_binder.specs.Scopes.{Item, is_called, hit_at, hit_in, with
 use Rattle.plan_text.specs.declared.named_item.NamedItem.{NamedItem}
 use Rattle.plan_text.specs.Names.{name_in, columns_in, bare_name, item_name}
 use Rattle.select_statement.specs.Explained.{column_name, named_item, named_items}
-use Rattle.select_statement.specs.Items.{column_named, node_of, item_of, items_of}
+use Rattle.select_statement.specs.Items.{node_of, item_of, items_of}
 use Rattle.select_statement.specs.Named.{ColumnsAreNamedAsAsked, ItemsAreNamedAsAsked}
+use Rattle.statement_steps.specs.Scopes.{scope_column}
 
 -- ---- a column
 
@@ -56,7 +57,7 @@ pub record IsNamed (start place : ℕ) (item : Item) (named : Option NamedItem) 
   pub name : name_in named ≡ item.name
   pub columns : columns_in named ≡ map (λ c. c.name) item.columns
 
-column_names : (cs : List Column) → map column_name cs ≡ map (λ c. c.name) (map column_named cs)
+column_names : (cs : List Column) → map column_name cs ≡ map (λ c. c.name) (map scope_column cs)
 column_names [] = refl
 column_names (c ∷ cs) = ap (λ l. c.name ∷ l) (column_names cs)
 

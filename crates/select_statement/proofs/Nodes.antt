@@ -14,6 +14,6 @@ node_step (Shape-F.Level level bounds kids) n = refl
 
 pub node_seen : (t : Tree) → node_of (seen t) ≡ t.node
 node_seen t =
-    let a = fold_out-Tree (Node → TableTree) TableTree (List TableTree) seen_step (λ u. u.shape u.node) (λ l. l.trees.items) t in
-    let b = ap (λ (f : Node → TableTree). f t.node) (fold_out-Shape (Node → TableTree) TableTree (List TableTree) seen_step (λ u. u.shape u.node) (λ l. l.trees.items) t.shape) in
+    let a = fold_out-Tree (Node → TableTree) TableTree (List TableTree) seen_step (λ u. u.shape u.node) (λ l. l.trees.value.items) t in
+    let b = ap (λ (f : Node → TableTree). f t.node) (fold_out-Shape (Node → TableTree) TableTree (List TableTree) seen_step (λ u. u.shape u.node) (λ l. l.trees.value.items) t.shape) in
     ap node_of (a ∙ b) ∙ node_step _ t.node

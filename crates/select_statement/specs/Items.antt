@@ -1,15 +1,11 @@
 -- What the names of a statement stand for (the manual, 7.2.1 The FROM Clause).
 use Rattle.std.specs.Prelude.{ℕ, ◌+◌, List, [], ◌∷◌, map}
-use Rattle.history.specs.declared.catalogue.Column.{Column}
 use Rattle.row_router.specs.declared.node.Node.{Node}
 use Rattle.row_router.specs.Trees.{TableTree, LeafTable, LevelTable}
-use Rattle.expression_binder.specs.declared.scope.ScopeColumn.{ScopeColumn}
 use Rattle.expression_binder.specs.Scopes.{Item}
 use Rattle.sql_ast.specs.Queries.{Joined}
 use Rattle.sql_binder.specs.From.{item_name}
-
-abbrev pub column_named : Column → ScopeColumn
-column_named c = record { name = c.name; kind = c.kind }
+use Rattle.statement_steps.specs.Scopes.{scope_column}
 
 -- what a tree says of its table
 abbrev pub node_of : TableTree → Node
@@ -18,7 +14,7 @@ node_of (LevelTable node level bounds kids) = node
 
 -- the item of that number, under the name that it goes by
 abbrev pub item_of : (number : ℕ) → (name : List ℕ) → TableTree → Item
-item_of n name tree = record { name = name; number = n; columns = map column_named (node_of tree).columns }
+item_of n name tree = record { name = name; number = n; columns = map scope_column (node_of tree).columns }
 
 -- the items of FROM over the trees of their tables, in text order
 abbrev pub items_of : (number : ℕ) → List Joined → List TableTree → List Item

@@ -3,13 +3,12 @@ ghost use Rattle.sql_ast.specs.Queries.{joined_tree};
 ghost use Rattle.sql_binder.specs.From as from;
 ghost use Rattle.row_router.specs.Seen.{seen};
 ghost use Rattle.select_statement.specs.Items as items;
-ghost use Rattle.select_statement.specs.Items.{column_named};
 
-use expression_binder::{ScopeColumn, ScopeItem};
-use history::Column;
+use expression_binder::ScopeItem;
 use pg_values::{NoMemory, PgText};
 use row_router::{Node, Tree};
 use sql_ast::FromItem;
+use statement_steps::scope_columns;
 use std::alloc::Global;
 
 /// The name that an item of FROM goes by: an alias hides the table's name.
@@ -20,19 +19,6 @@ pub(crate) fn item_name(item: &FromItem) -> &[u8]
         None => item.table.name.as_bytes(),
         Some(alias) => alias.as_bytes(),
     }
-}
-
-fn columns_of(alloc: Global, columns: &[Column]) -> Result<Vec<ScopeColumn>, NoMemory>
-    ensures { IfOk result (λ named. named.items ≡ map column_named columns.now) }
-{
-    let mut named = Vec::new(alloc);
-    for column in columns {
-        named.push(ScopeColumn {
-            name: column.name.copy(alloc)?,
-            kind: column.kind,
-        })?;
-    }
-    Ok(named)
 }
 
 /// What the tree says of its table.
@@ -47,7 +33,7 @@ fn item_of(alloc: Global, number: u32, item: &FromItem, tree: &Tree) -> Result<S
     ensures { IfOk result (λ i. i ≡ items.item_of number (from.item_name (joined_tree item.now)) (seen tree.now)) }
 {
     let name = PgText::from_bytes(alloc, item_name(item))?;
-    let columns = columns_of(alloc, node_of(tree).columns.as_slice())?;
+    let columns = scope_columns(alloc, node_of(tree).columns.as_slice())?;
     Ok(ScopeItem::new(name, number, columns))
 }
 

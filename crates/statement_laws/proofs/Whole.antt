@@ -32,7 +32,7 @@ use Rattle.stores.proofs.Meanwhile.{locks_keep_numbers, looks_keep_numbers}
 use Rattle.statement_steps.specs.Asks.{found, held_at, kept_number, locked, meant_or_none, named, number_or}
 use Rattle.statement_steps.specs.Ended.{giving}
 use Rattle.statement_steps.specs.Gathered.{Found, RowsLeft}
-use Rattle.statement_steps.specs.Made.{Halt, Made, and_then, behind, made, then_told}
+use Rattle.statement_steps.specs.Made.{Halt, Made, and_then, behind, made, then_told, answered as answered_by}
 use Rattle.statement_steps.specs.Steps.{follow}
 use Rattle.statement_steps.specs.declared.caller.Caller.{Caller}
 use Rattle.statement_steps.specs.declared.rest.Rest.{Rest}
@@ -48,7 +48,6 @@ use Rattle.select_statement.specs.Plain.{answer_in, locked_plainly, selected_pla
 use Rattle.select_statement.proofs.Giving.{giving_then}
 use Rattle.select_statement.proofs.Moments.{good_selects}
 use Rattle.select_statement.proofs.Plain.{AreLocks, all_locks, both_locks, by_plan_plain, locked_locks, locks_show}
-use Rattle.insert_statement.specs.Inserted.{answered as answered_by}
 use Rattle.change_statement.specs.Changed.{Changing, Told as ChangeTold, begun_or_left, changed, changed_by, changed_from, changed_on, told_of as change_told}
 use Rattle.change_statement.specs.Deleted.{deleting}
 use Rattle.sql_binder.specs.Changes.{bound_change}

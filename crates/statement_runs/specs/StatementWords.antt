@@ -26,8 +26,8 @@ use Rattle.statement_runs.specs.Given.{statement_given}
 
 -- of the statements that are run over the stores LOCK and a concurrent DETACH cannot stand everywhere
 abbrev pub command_misplaced : Place → CommandTree → Option Fault
-command_misplaced place (locks tables mode) = lock_misplaced place
-command_misplaced place (detaches parent name Concurrently) = detach_misplaced place
+command_misplaced place (locks tables mode) = lock_misplaced place.alone place.explicit
+command_misplaced place (detaches parent name Concurrently) = detach_misplaced place.alone place.explicit
 command_misplaced place t = None
 
 abbrev pub misplaced : Place → StatementTree → Option Fault

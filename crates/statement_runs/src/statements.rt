@@ -86,9 +86,13 @@ impl Kinds for Statements {
         statement: &Statement,
     ) -> Result<Option<Fault>, NoMemory> {
         match statement {
-            Statement::Command(Command::Lock(_, _)) => Ok(lock_misplaced(alloc, place)),
+            Statement::Command(Command::Lock(_, _)) => Ok(lock_misplaced(
+                alloc,
+                place.alone,
+                place.explicit,
+            )),
             Statement::Command(Command::Detach(_, _, Detachment::Concurrently)) => {
-                detach_misplaced(alloc, place)
+                detach_misplaced(alloc, place.alone, place.explicit)
             }
             _ => Ok(None),
         }

@@ -6,3 +6,7 @@ pub mod Steps
 pub mod Lasting
 pub mod Since
 pub mod Waiting
+pub mod Owned
+pub mod Held
+pub mod Rights
+pub mod Open

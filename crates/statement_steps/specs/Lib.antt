@@ -9,3 +9,6 @@ pub mod Codes
 pub mod Gathered
 pub mod Below
 pub mod Waiting
+pub mod Owned
+pub mod Rights
+pub mod Scopes

@@ -1,5 +1,5 @@
 -- What a part of a statement makes of a history, and how it ends.
-use Rattle.std.specs.Prelude.{ℕ, ◌+◌, [], ◌++◌, Option, Some, None, Result, Ok, Err}
+use Rattle.std.specs.Prelude.{ℕ, ◌+◌, [], ◌++◌, Option, Some, None, Result, Ok, Err, List, ◌∷◌}
 use Rattle.pg_values.specs.declared.fault.Fault.{Fault}
 use Rattle.history.specs.History.{History}
 use Rattle.statement_steps.specs.declared.rest.Rest.{Rest}
@@ -42,3 +42,8 @@ then_told (Err stop) events next = halted events stop
 
 abbrev pub and_then : {T U : Type 0} → Made T → (T → Made U) → Made U
 and_then m next = then_told m.told m.events next
+
+-- the first fault, if there is one, or else the events
+abbrev pub unless_refused : List Fault → History → Made (Unit {0})
+unless_refused [] events = made events tt
+unless_refused (f ∷ fs) events = halted [] (Refused f)

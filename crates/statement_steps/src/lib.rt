@@ -20,7 +20,9 @@ mod holding;
 mod laws;
 mod locking;
 mod names;
+mod reading;
 mod rest;
+mod scopes;
 mod stop;
 
 pub use below::tables_below;
@@ -32,5 +34,7 @@ pub use holding::{hold, hold_if_repeatable};
 pub use laws::{nothing_is_added_above, waiting_statements_accept};
 pub use locking::{lock_table, lock_tables, wait_for, wait_for_row};
 pub use names::{SessionNames, find_table, lock_named, lock_named_still};
+pub use reading::tree_and_path;
 pub use rest::{Rest, RestOfDetach, RestOfRows, TargetRow};
+pub use scopes::scope_columns;
 pub use stop::Stop;

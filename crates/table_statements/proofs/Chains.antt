@@ -13,7 +13,7 @@ use Rattle.bound_forms.specs.declared.partition_bound.Bound.{Bound as MeantBound
 use Rattle.history.specs.declared.catalogue.Column.{Column}
 use Rattle.history.specs.History.{History}
 use Rattle.part_catalog.specs.Found.{made_at}
-use Rattle.part_ddl.specs.Placing.{IsFault, level_at, place_faults}
+use Rattle.part_ddl.specs.Placing.{level_at, place_faults}
 use Rattle.part_ddl.specs.Tables.{count_faults}
 use Rattle.expression_binder.specs.Firsts.{IsAnswerBy}
 use Rattle.sql_ast.specs.Commands.{Bound}
@@ -22,11 +22,11 @@ use Rattle.sql_ast.specs.declared.table_definition.Partitioning.{Partitioning}
 use Rattle.table_binder.specs.Bounds.{bound_for}
 use Rattle.table_binder.specs.Partitionings.{Key, key_of, bound_key}
 use Rattle.table_statements.specs.Partitions.{Place, place_with, placed_bound, partition_place}
-use Rattle.table_statements.specs.Refused.{next_answer, unless_faults}
+use Rattle.ddl_steps.specs.Refused.{next_answer, unless_faults}
 use Rattle.table_statements.specs.Seen.{seen_place}
 use Rattle.table_statements.specs.declared.partitions.Place.{Place as HeldPlace}
 use Rattle.table_statements.specs.Tables.{Plan, level_of, level_with, some_level, level_by, plan_with, columns_and_key, table_plan}
-use Rattle.table_statements.proofs.Firsts.{past_ok, past_none, none_told}
+use Rattle.ddl_steps.proofs.Firsts.{past_ok, past_none, none_told}
 
 -- ---- the level of a table
 
@@ -62,10 +62,6 @@ pub plan_few : (h : History) (definitions : List ColumnDefinition) (by : Option 
 plan_few h definitions by p e = (none_told (count_faults h) (columns_and_key definitions by) p e).0
 
 -- ---- the place of a partition
-
-pub fault_answer : {T : Type 0} (r : Refusal) (w : Result T Fault) → IsFault r w → IsAnswer {T = T} (Err r) w
-fault_answer (Sql f) w is = is
-fault_answer NoMemory w is = tt
 
 -- what is left to be told behind each answer
 abbrev pub after_bound : History → (s p : ℕ) → Option Partitioning → MeantBound → Result Place Fault

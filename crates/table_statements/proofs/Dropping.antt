@@ -42,13 +42,14 @@ use Rattle.stores.specs.declared.stores.Stores.{Stores}
 use Rattle.stores.proofs.Commands.{commands_are_in_order}
 use Rattle.stores.proofs.Goodness.{legal_of, permitted_of}
 use Rattle.statement_steps.specs.declared.caller.Caller.{Caller}
+use Rattle.statement_steps.specs.Owned.{stamp}
+use Rattle.statement_steps.proofs.Owned.{own_number}
 use Rattle.table_statements.specs.Asked.{MayDropTable, IsGoing, MayGo}
-use Rattle.table_statements.specs.Drops.{stamp, is_meant_still, is_left, dropped_one}
-use Rattle.table_statements.proofs.Below.{found_in, mapped_in, from_numbers}
-use Rattle.table_statements.proofs.Deeds.{Each, IsDone, AreHoused, IsDeed, quiet, in_order_after, deed_stands}
-use Rattle.table_statements.proofs.Ends.{each_gone, drop_same, same_number}
-use Rattle.table_statements.proofs.Fresh.{own_number}
-use Rattle.table_statements.proofs.Held.{held_at_history}
+use Rattle.table_statements.specs.Drops.{is_meant_still, is_left, dropped_one}
+use Rattle.ddl_steps.proofs.Below.{found_in, mapped_in, from_numbers, same_number}
+use Rattle.ddl_steps.proofs.Deeds.{Each, IsDone, AreHoused, IsDeed, quiet, in_order_after, deed_stands}
+use Rattle.table_statements.proofs.Ends.{each_gone, drop_same}
+use Rattle.ddl_steps.proofs.Locks.{held_at_history}
 
 -- ---- events by which something goes
 

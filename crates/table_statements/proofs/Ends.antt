@@ -20,8 +20,8 @@ use Rattle.part_ddl.specs.Dropped.{ended, place_ended, places_ended, tables_drop
 use Rattle.part_ddl.proofs.Standing.{numbered}
 use Rattle.legal_statements.specs.Below.{numbers_from}
 use Rattle.legal_statements.specs.Drops.{entries_end, tables_go, place_over, places_over, table_drop}
-use Rattle.table_statements.proofs.Below.{number, found_in, mapped_in, from_numbers}
-use Rattle.table_statements.proofs.Deeds.{Each, each_append}
+use Rattle.ddl_steps.proofs.Below.{number, found_in, mapped_in, from_numbers, same_number}
+use Rattle.ddl_steps.proofs.Deeds.{Each, each_append}
 
 -- ---- what holds of each event
 
@@ -95,12 +95,6 @@ counted_other txs ds k n s other = rw other refl
 
 differs : (k n : ℕ) → (k ≡ n → ⊥) → (k == n) ≡ false
 differs k n other = grind (arith, nat_tests, other)
-
-pub is_same : (k n : ℕ) → k ≡ n → (k == n) ≡ true
-is_same k n e = grind (arith, nat_tests, e)
-
-pub same_number : (k n : ℕ) → (k == n) ≡ true → k ≡ n
-same_number k n e = grind (arith, nat_tests, e)
 
 present_other : (g : History) (s k : ℕ) (st : Stamp) (y : Entry) → (k ≡ y.id.number → ⊥) → is_present (CatalogueChange (EntryEnded k st) ∷ g) s y ≡ is_present g s y
 present_other g s k st y other =

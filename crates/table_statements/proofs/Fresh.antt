@@ -1,5 +1,5 @@
 -- A table that is made.
-use Rattle.std.proofs.Common.{◌≡◌, ℕ, ◌+◌, List, [], ◌++◌, refl, sym, ap, ◌∙◌, subst, arith, Option, Some, None, Result, Ok, Err, option_map, unwrap_or}
+use Rattle.std.proofs.Common.{◌≡◌, ℕ, ◌+◌, List, [], ◌++◌, refl, sym, ap, ◌∙◌, subst, arith, Option, Some, None, Result, Ok, Err}
 use Rattle.pg_values.specs.declared.fault.Refusal.{Refusal}
 use Rattle.pg_values.specs.declared.ids.TableNo.{TableNo}
 use Rattle.bound_forms.specs.declared.level.Level.{Level as OneLevel}
@@ -18,7 +18,6 @@ use Rattle.part_ddl.specs.Tables.{KeysFit, count_faults, next_table, next_leaf, 
 use Rattle.legal_statements.specs.Follows.{MayFollow}
 use Rattle.legal_statements.specs.Laws.{NewLeafMayFollow, NewLevelMayFollow}
 use Rattle.legal_statements.specs.Tables.{LeavesAreThere, IsNewTable}
-use Rattle.stores.specs.Events.{tx_in}
 use Rattle.stores.specs.Good.{IsGood}
 use Rattle.stores.specs.Laws.{LeavesAreHoused}
 use Rattle.stores.specs.Numbers.{IsAt}
@@ -29,10 +28,12 @@ use Rattle.statement_steps.specs.Attempts.{MayAttempt}
 use Rattle.statement_steps.specs.declared.caller.Caller.{Caller}
 use Rattle.statement_steps.specs.Faults.{stop_of}
 use Rattle.statement_steps.specs.Steps.{IsStep}
+use Rattle.statement_steps.specs.Owned.{own}
+use Rattle.statement_steps.proofs.Owned.{own_number, IsOwn, own_is}
 use Rattle.table_statements.specs.Asked.{MayBeMade}
-use Rattle.table_statements.specs.Tables.{own, table_made}
-use Rattle.table_statements.proofs.Deeds.{Each, IsDone, AreHoused, IsDeed, deed_step, made_stands, not_made}
-use Rattle.table_statements.proofs.Firsts.{few_tables}
+use Rattle.table_statements.specs.Tables.{table_made}
+use Rattle.ddl_steps.proofs.Deeds.{Each, IsDone, AreHoused, IsDeed, deed_step, made_stands, not_made}
+use Rattle.ddl_steps.proofs.Firsts.{few_tables}
 
 pub record TableLaws : Type 0 where
   pub leaf : NewLeafMayFollow
@@ -72,14 +73,6 @@ pub table_housed : (h : History) (name : List ℕ) (columns : List Column) (leve
 table_housed h name columns None by cmd few = (record { leaf = omega arith; few = few_tables h few }, (tt, tt))
 table_housed h name columns (Some level) by cmd few = (record { leaf = tt; few = few_tables h few }, tt)
 
--- ---- whose it is
-
-pub own_number : (h : History) (s t : ℕ) → open_of (tx_events h) s ≡ Some t → tx_in h s ≡ t
-own_number h s t mine = ap (λ (o : Option ℕ). unwrap_or o 0) mine
-
-pub own_is : (h : History) (s : ℕ) (by : TxId) → option_map (λ (tx : TxId). tx.number) (Some by) ≡ open_of (tx_events h) s → by ≡ own h s
-own_is h s by mine = let is : by.number ≡ tx_in h s = ap (λ (o : Option ℕ). unwrap_or o 0) mine in ap (λ n. record { number = n }) is
-
 -- ---- the part
 
 table_deed : TableLaws → (rows : KeptRows) (catalog : KeptCatalogue) (h : History) (s t : ℕ) (name : List ℕ) (columns : List Column) (level : Option OneLevel) (cmd : ℕ) → IsGood h → IsAt h s cmd → open_of (tx_events h) s ≡ Some t → KeysFit columns level → MayBeMade h s name
@@ -99,9 +92,6 @@ table_deed laws rows catalog h s t name columns level cmd good at mine fit may s
 -- what the call says that makes the table
 abbrev pub TellsTable : Result TableNo Refusal → Stores → KeptRows → KeptCatalogue → (name : List ℕ) → List Column → Option OneLevel → TxId → (cmd : ℕ) → Type 0
 TellsTable r old rows catalog name columns level by cmd = (h : History) → CatalogueStands old.catalog h → StoreStands old.rows h → IsMade r catalog rows h (made_table h name columns level by cmd)
-
-abbrev pub IsOwn : Stores → (session : ℕ) → TxId → Type 0
-IsOwn old s by = (h : History) → TableStands old.txs h → option_map (λ (tx : TxId). tx.number) (Some by) ≡ open_of (tx_events h) s
 
 pub table_step : TableLaws → (old : Stores) (rows : KeptRows) (catalog : KeptCatalogue) (caller : Caller) (name : List ℕ) (columns : List Column) (level : Option OneLevel) (by : TxId) (u : TableNo) → MayAttempt old caller → KeysFit columns level
     → ((h : History) → TableStands old.txs h → CatalogueStands old.catalog h → MayBeMade h caller.session name) → IsOwn old caller.session by → TellsTable (Ok u) old rows catalog name columns level by caller.cmd

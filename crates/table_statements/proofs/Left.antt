@@ -22,7 +22,7 @@ use Rattle.soundness.proofs.Worlds.{view_world}
 use Rattle.part_catalog.specs.Answers.{parent_told}
 use Rattle.part_catalog.specs.Found.{resolved}
 use Rattle.part_catalog.specs.Stands.{CatalogueStands}
-use Rattle.part_ddl.specs.Below.{tables_from, default_of}
+use Rattle.part_ddl.specs.Below.{tables_from}
 use Rattle.part_ddl.proofs.Standing.{same_entries}
 use Rattle.legal_statements.specs.Laws.{TreeIsWhole}
 use Rattle.stores.specs.Numbers.{IsAt}
@@ -37,14 +37,14 @@ use Rattle.statement_steps.specs.Asks.{all_locked, found, meant_or_none}
 use Rattle.statement_steps.specs.Steps.{IsTold, IsStep, follow}
 use Rattle.statement_steps.proofs.Parts.{stays, nothing_done, locks_same, no_memory}
 use Rattle.statement_steps.proofs.Steps.{goes_on, then_step, stop_step, may_go_on, halted_same, same_step}
-use Rattle.table_statements.specs.Asked.{IsLocked, MayDropTable, IsGoing, MayGo, to_lock, family_of, one_or_none, numbers}
-use Rattle.table_statements.specs.Partitions.{numbers_under, default_locked}
-use Rattle.table_statements.specs.Drops.{one_number, parent_in, default_beside, tables_to_lock, drop_locked, locked_one, found_one, found_all, dropped_all}
-use Rattle.table_statements.proofs.Below.{number, here_of, TreeLaws, from_numbers, unmapped_in, found_some}
-use Rattle.table_statements.proofs.Deeds.{Each, IsDone, each_append, went}
+use Rattle.statement_steps.proofs.Owned.{IsOwn}
+use Rattle.table_statements.specs.Asked.{MayDropTable, IsGoing, MayGo, to_lock, one_or_none, numbers}
+use Rattle.table_statements.specs.Drops.{one_number, default_beside, tables_to_lock, drop_locked, locked_one, found_one, found_all, dropped_all}
+use Rattle.ddl_steps.proofs.Below.{number, here_of, TreeLaws, from_numbers, unmapped_in, found_some, is_same, same_number}
+use Rattle.ddl_steps.proofs.Deeds.{Each, IsDone, each_append, went}
 use Rattle.table_statements.proofs.Dropping.{IsEnding, going_events, going_ends, going_done, going_on, going_first}
-use Rattle.table_statements.proofs.Ends.{is_same, same_number}
-use Rattle.table_statements.proofs.Fresh.{IsOwn}
+use Rattle.ddl_steps.specs.Families.{parent_in}
+use Rattle.ddl_steps.specs.Locks.{IsLocked}
 
 -- ---- what a drop locks
 
@@ -68,19 +68,6 @@ drop_step names r old new caller t tables are step =
     let s = caller.session in
     same_step (λ (u : Unit {0}). u) r old new caller caller.cmd (drop_locked names s t) (all_locked names s AccessExclusive (map number tables))
     (λ h stands. ap (λ (ns : List ℕ). all_locked names s AccessExclusive ns h) (to_lock_numbers h s t ∙ ap (map number) (sym (are h stands.all.txs stands.all.catalog)))) step
-
--- ---- what a partition locks
-
-numbers_family : (h : History) (s : ℕ) (o : Option TableNo) → numbers_under h s o ≡ map number (family_of h s o)
-numbers_family h s None = refl
-numbers_family h s (Some t) = refl
-
-pub default_step : (names : List (List ℕ)) (r : Result (Unit {0}) Stop) (old new : Stores) (caller : Caller) (p : ℕ) (tables : List TableNo) → ((h : History) → TableStands old.txs h → CatalogueStands old.catalog h → tables ≡ family_of h caller.session (default_of h caller.session p))
-    → IsStep (λ (u : Unit {0}). u) r old new caller caller.cmd (all_locked names caller.session AccessExclusive (map (λ t. t.number) tables)) → IsStep (λ (u : Unit {0}). u) r old new caller caller.cmd (default_locked names caller.session p)
-default_step names r old new caller p tables are step =
-    let s = caller.session in
-    same_step (λ (u : Unit {0}). u) r old new caller caller.cmd (default_locked names s p) (all_locked names s AccessExclusive (map number tables))
-    (λ h stands. ap (λ (ns : List ℕ). all_locked names s AccessExclusive ns h) (numbers_family h s (default_of h s p) ∙ ap (map number) (sym (are h stands.all.txs stands.all.catalog)))) step
 
 -- ---- what is locked then
 

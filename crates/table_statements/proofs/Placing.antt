@@ -12,7 +12,6 @@ use Rattle.bound_forms.specs.declared.level.Level.{Level as OneLevel}
 use Rattle.bound_forms.specs.declared.partition_bound.Bound.{Bound}
 use Rattle.pg_values.specs.declared.value.Value.{Value}
 use Rattle.bound_forms.specs.Accepts.{accepts}
-use Rattle.bound_forms.specs.Levels.{IsOfLevel}
 use Rattle.history.specs.declared.transaction.TxId.{TxId}
 use Rattle.history.specs.declared.version.Version.{Version}
 use Rattle.history.specs.declared.catalogue.Column.{Column}
@@ -32,7 +31,7 @@ use Rattle.history.proofs.Open.{open_own}
 use Rattle.row_router.specs.declared.node.Node.{Node}
 use Rattle.row_router.specs.Siblings.{AreSiblings, CanStandTogether}
 use Rattle.row_router.specs.Trees.{TableTree, height, leaves}
-use Rattle.row_router.specs.Histories.{table_of, is_under, children, all_placed, bound_of, child_of_entry, node_at, grown, tree_within, ddl_tree, above}
+use Rattle.row_router.specs.Histories.{is_under, children, all_placed, bound_of, child_of_entry, node_at, grown, tree_within, ddl_tree, above}
 use Rattle.tx_table.specs.Stands.{TableStands}
 use Rattle.row_store.specs.Kept.{KeptRows}
 use Rattle.row_store.specs.Stands.{StoreStands}
@@ -48,7 +47,7 @@ use Rattle.part_catalog.specs.Stands.{CatalogueStands}
 use Rattle.part_ddl.specs.Laws.{PassedHavePlaces, IsNoDefaultBeside}
 use Rattle.part_ddl.specs.Made.{IsMade as IsMadeBy}
 use Rattle.part_ddl.specs.Partitions.{new_entry, partition_events, made_partition, MayMake}
-use Rattle.part_ddl.specs.Placing.{level_told, place_faults}
+use Rattle.part_ddl.specs.Placing.{place_faults}
 use Rattle.part_ddl.specs.Tables.{count_faults, next_table, new_table, table_events}
 use Rattle.part_ddl.proofs.Making.{table_count}
 use Rattle.legal_statements.specs.Below.{numbers_from, tables_in}
@@ -66,20 +65,16 @@ use Rattle.statement_steps.specs.Attempts.{MayAttempt}
 use Rattle.statement_steps.specs.declared.caller.Caller.{Caller}
 use Rattle.statement_steps.specs.Faults.{stop_of}
 use Rattle.statement_steps.specs.Steps.{IsStep}
-use Rattle.table_statements.specs.Asked.{IsLockedNamed, HasDefaultLocked, HasDefaultClean, MayBeMade, MayBePlaced}
+use Rattle.statement_steps.specs.Owned.{own}
+use Rattle.statement_steps.proofs.Owned.{own_number, own_is, IsOwn}
+use Rattle.table_statements.specs.Asked.{HasDefaultClean, MayBeMade, MayBePlaced}
 use Rattle.table_statements.specs.Partitions.{partition_made}
-use Rattle.table_statements.specs.Tables.{own}
-use Rattle.table_statements.proofs.Below.{entry_suits}
-use Rattle.table_statements.proofs.Beside.{IsApart, tree_same, tree_with, stands_apart}
-use Rattle.table_statements.proofs.Deeds.{Each, IsDone, IsDeed, deed_step, made_stands, not_made}
-use Rattle.table_statements.proofs.Fresh.{TableLaws, IsOwn, is_new, own_number, own_is, table_may, table_done, table_housed}
-use Rattle.table_statements.proofs.Held.{held_at_history}
-
--- ---- the level of the parent
-
-pub takes_bound : (name : List ℕ) (shape : TableShape) (level : OneLevel) (b : Bound) → level_told name shape ≡ Ok level → IsOfLevel level b → TakesBound shape b
-takes_bound name (Leaf leaf) level b is fits = absurd (let c = is in cc)
-takes_bound name (Level own) level b is fits = let same : own ≡ level = (let c = is in cc) in subst (λ (l : OneLevel). IsOfLevel l b) (sym same) fits
+use Rattle.ddl_steps.proofs.Below.{entry_suits}
+use Rattle.ddl_steps.proofs.Beside.{IsApart, tree_same, tree_with, stands_apart}
+use Rattle.ddl_steps.proofs.Deeds.{Each, IsDone, IsDeed, deed_step, made_stands, not_made}
+use Rattle.table_statements.proofs.Fresh.{TableLaws, is_new, table_may, table_done, table_housed}
+use Rattle.ddl_steps.proofs.Locks.{held_at_history}
+use Rattle.ddl_steps.specs.Locks.{IsLockedNamed, HasDefaultLocked}
 
 -- ---- lists with one table more
 

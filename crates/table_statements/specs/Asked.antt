@@ -1,5 +1,5 @@
 -- What is asked of tables that are made and dropped.
-use Rattle.std.specs.Prelude.{◌≡◌, ℕ, ◌<◌, true, List, [], ◌∷◌, ◌++◌, Option, Some, None, Vec, All, map, length}
+use Rattle.std.specs.Prelude.{◌≡◌, ℕ, ◌<◌, true, List, [], ◌∷◌, ◌++◌, Option, Some, None, Vec, map, length}
 use Rattle.std.specs.List.{Contains}
 use Rattle.std.specs.Option.{option_to_list}
 use Rattle.pg_values.specs.Sets.{has}
@@ -16,7 +16,6 @@ use Rattle.history.specs.Places.{TakesBound}
 use Rattle.history.specs.Presence.{entries_present}
 use Rattle.history.specs.Transactions.{open_of}
 use Rattle.tx_table.specs.Stands.{TableStands}
-use Rattle.lock_table.specs.Kept.{held_at}
 use Rattle.part_catalog.specs.Found.{made_at, resolved, taken_by, table_number}
 use Rattle.part_catalog.specs.Stands.{CatalogueStands}
 use Rattle.part_ddl.specs.Below.{default_of, tables_from}
@@ -24,12 +23,14 @@ use Rattle.part_ddl.specs.Placing.{place_faults}
 use Rattle.part_ddl.specs.Tables.{KeysFit, count_faults}
 use Rattle.legal_statements.specs.Below.{numbers_from}
 use Rattle.stores.specs.Stand.{Stands}
-use Rattle.partition_scans.specs.Data.{DataStand}
-use Rattle.partition_scans.specs.Places.{default_scan}
-use Rattle.partition_scans.specs.Scans.{IsClean}
+use Rattle.ddl_steps.specs.Data.{DataStand}
+use Rattle.ddl_steps.specs.Places.{default_scan}
+use Rattle.ddl_steps.specs.Scans.{IsClean}
+use Rattle.ddl_steps.specs.Families.{parent_in}
+use Rattle.ddl_steps.specs.Locks.{IsLocked}
 use Rattle.stores.specs.declared.stores.Stores.{Stores}
 use Rattle.statement_steps.specs.declared.caller.Caller.{Caller}
-use Rattle.table_statements.specs.Drops.{parent_in, default_beside}
+use Rattle.table_statements.specs.Drops.{default_beside}
 
 -- ---- tables that are made
 
@@ -50,29 +51,6 @@ pub record MayBePlaced (h : History) (session parent : ℕ) (b : Bound) (level :
   pub keys : KeysFit (made_at h parent).columns level
 
 -- ---- tables that are locked
-
--- the session holds ACCESS EXCLUSIVE on the table
-abbrev pub IsLocked : Stores → (session table : ℕ) → Type 0
-IsLocked stores s x = has (held_at stores.locks.held x AccessExclusive) s ≡ true
-
--- a name means the table to the session, which has locked it
-pub record IsLockedNamed (stores : Stores) (session table : ℕ) : Type 0 where
-  pub name : List ℕ
-  pub named : (h : History) → TableStands stores.txs h → CatalogueStands stores.catalog h → resolved h session name ≡ Some table
-  pub made : table < length stores.catalog.tables
-  pub locked : IsLocked stores session table
-
--- the session holds ACCESS EXCLUSIVE on all of these
-abbrev pub AreLocked : Stores → (session : ℕ) → List TableNo → Type 0
-AreLocked stores s tables = All (λ t. IsLocked stores s t.number) tables
-
--- the default partition of a table, if there is one, and the tables under it
-abbrev pub family_of : History → (session : ℕ) → Option TableNo → List TableNo
-family_of h s None = []
-family_of h s (Some t) = tables_from h s t.number
-
-abbrev pub HasDefaultLocked : Stores → (session table : ℕ) → Type 0
-HasDefaultLocked stores s t = (h : History) → TableStands stores.txs h → CatalogueStands stores.catalog h → AreLocked stores s (family_of h s (default_of h s t))
 
 -- no row of it belongs to a new partition, and no other session's open snapshot sees one that does
 abbrev pub HasDefaultClean : Stores → (session table : ℕ) → Bound → (name : List ℕ) → Type 0

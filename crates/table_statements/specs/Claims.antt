@@ -8,7 +8,7 @@ use Rattle.part_ddl.specs.Tables.{name_faults}
 use Rattle.statement_steps.specs.Made.{Made, made, answered}
 use Rattle.statement_steps.specs.Asks.{waited}
 use Rattle.statement_steps.specs.Steps.{follow}
-use Rattle.table_statements.specs.Refused.{unless_faults}
+use Rattle.ddl_steps.specs.Refused.{unless_faults}
 
 -- the session alone
 abbrev pub only : ℕ → SessionSet

@@ -3,11 +3,8 @@ use Rattle.std.specs.Prelude.{ℕ, ◌==◌, Bool, true, false, if◌then◌else
 use Rattle.pg_values.specs.declared.ids.TableNo.{TableNo}
 use Rattle.pg_values.specs.declared.lock_mode.LockMode.TheVariants.{AccessExclusive}
 use Rattle.refusals.specs.Refusals.{no_table}
-use Rattle.history.specs.declared.catalogue.Stamp.{Stamp}
 use Rattle.history.specs.History.{History}
-use Rattle.history.specs.Presence.{entries_present}
 use Rattle.row_router.specs.Histories.{above}
-use Rattle.part_catalog.specs.Answers.{parent_told}
 use Rattle.part_catalog.specs.Found.{made_at, resolved}
 use Rattle.part_ddl.specs.Below.{default_of, tables_from}
 use Rattle.part_ddl.specs.Dropped.{drop_events}
@@ -15,16 +12,14 @@ use Rattle.statement_steps.specs.Made.{Made, Refused, made, halted}
 use Rattle.statement_steps.specs.declared.caller.Caller.{Caller}
 use Rattle.statement_steps.specs.Asks.{held_at, all_locked}
 use Rattle.statement_steps.specs.Steps.{follow}
-use Rattle.table_statements.specs.Tables.{own}
+use Rattle.statement_steps.specs.Owned.{stamp}
+use Rattle.ddl_steps.specs.Families.{parent_in}
 
 -- ---- the locks: the table above, the table and those under it, and the default partition beside it
 
 abbrev pub one_number : Option TableNo → List ℕ
 one_number None = []
 one_number (Some t) = t.number ∷ []
-
-abbrev pub parent_in : History → (session table : ℕ) → Option TableNo
-parent_in h s t = parent_told (above (entries_present h s) t)
 
 abbrev pub default_beside : History → (session : ℕ) → Option TableNo → Option TableNo
 default_beside h s None = None
@@ -54,9 +49,6 @@ found_all names s if_there [] h = made [] []
 found_all names s if_there (t ∷ ts) h = follow (found_one names s if_there t) (λ first. follow (found_all names s if_there ts) (λ others h. made [] (first ++ others))) h
 
 -- ---- the drops
-
-abbrev pub stamp : Caller → History → Stamp
-stamp caller h = record { by = own h caller.session; cmd = caller.cmd }
 
 abbrev pub is_meant_still : Option ℕ → (table : ℕ) → Bool
 is_meant_still None t = false

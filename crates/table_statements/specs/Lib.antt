@@ -5,7 +5,6 @@ pub mod Laws
 pub mod Locked
 pub mod Partitions
 pub mod Places
-pub mod Refused
 pub mod Seen
 pub mod SeenLocks
 pub mod Tables

@@ -1,7 +1,6 @@
 -- CREATE TABLE, PARTITION OF, of a session (the manual, CREATE TABLE; 13.3.1 Table-Level Locks).
-use Rattle.std.specs.Prelude.{ℕ, List, [], Option, Some, None, Result, Ok, map}
+use Rattle.std.specs.Prelude.{ℕ, List, Option, Result, Ok}
 use Rattle.pg_values.specs.declared.fault.Fault.{Fault}
-use Rattle.pg_values.specs.declared.ids.TableNo.{TableNo}
 use Rattle.pg_values.specs.declared.lock_mode.LockMode.TheVariants.{AccessExclusive}
 use Rattle.bound_forms.specs.declared.level.Level.{Level}
 use Rattle.bound_forms.specs.declared.partition_bound.Bound.{Bound as MeantBound}
@@ -10,29 +9,23 @@ use Rattle.sql_ast.specs.Commands.{Bound}
 use Rattle.sql_ast.specs.declared.table_definition.Partitioning.{Partitioning}
 use Rattle.table_binder.specs.Bounds.{bound_for}
 use Rattle.part_catalog.specs.Found.{made_at}
-use Rattle.part_ddl.specs.Below.{default_of, tables_from}
+use Rattle.part_ddl.specs.Below.{default_of}
 use Rattle.part_ddl.specs.Partitions.{partition_events}
 use Rattle.part_ddl.specs.Placing.{level_at, place_faults}
 use Rattle.part_ddl.specs.Tables.{count_faults}
-use Rattle.partition_scans.specs.Places.{default_scan}
-use Rattle.partition_scans.specs.Waited.{scanned}
+use Rattle.ddl_steps.specs.Places.{default_scan}
+use Rattle.ddl_steps.specs.Waited.{scanned}
 use Rattle.statement_steps.specs.Made.{Made, made, answered}
 use Rattle.statement_steps.specs.declared.caller.Caller.{Caller}
-use Rattle.statement_steps.specs.Asks.{named, held_at, all_locked}
+use Rattle.statement_steps.specs.Asks.{named, held_at}
 use Rattle.statement_steps.specs.Steps.{follow}
+use Rattle.statement_steps.specs.Owned.{own}
 use Rattle.table_statements.specs.Claims.{name_claimed}
-use Rattle.table_statements.specs.Refused.{next_answer, unless_faults}
-use Rattle.table_statements.specs.Tables.{level_by, own}
+use Rattle.ddl_steps.specs.Refused.{next_answer, unless_faults}
+use Rattle.ddl_steps.specs.Locks.{default_locked}
+use Rattle.table_statements.specs.Tables.{level_by}
 
 -- ---- the default partition beside it
-
-abbrev pub numbers_under : History → (session : ℕ) → Option TableNo → List ℕ
-numbers_under h s None = []
-numbers_under h s (Some t) = map (λ x. x.number) (tables_from h s t.number)
-
--- the default partition of a table and the tables under it are locked
-abbrev pub default_locked : List (List ℕ) → (session table : ℕ) → History → Made (Unit {0})
-default_locked names s t h = all_locked names s AccessExclusive (numbers_under h s (default_of h s t)) h
 
 -- its rows are judged beside a new partition of that name and bound
 abbrev pub default_scanned : List (List ℕ) → (session table : ℕ) → MeantBound → (name : List ℕ) → History → Made (Unit {0})

@@ -8,20 +8,19 @@ use Rattle.bound_forms.specs.declared.level.Level.{Level}
 use Rattle.pg_values.specs.declared.strategy.Strategy.{Strategy}
 use Rattle.pg_values.specs.declared.strategy.Strategy.TheVariants.{Range as ByRange, List as ByList, Hash as ByHash}
 use Rattle.history.specs.declared.catalogue.Column.{Column}
-use Rattle.history.specs.declared.transaction.TxId.{TxId}
 use Rattle.history.specs.History.{History}
 use Rattle.sql_ast.specs.declared.table_definition.ColumnDefinition.{ColumnDefinition}
 use Rattle.sql_ast.specs.declared.table_definition.Partitioning.{Partitioning}
 use Rattle.table_binder.specs.Columns.{bound_columns}
 use Rattle.table_binder.specs.Partitionings.{Key, bound_key}
 use Rattle.part_ddl.specs.Tables.{count_faults, table_events}
-use Rattle.stores.specs.Events.{tx_in}
 use Rattle.statement_steps.specs.Made.{Made, made, answered}
 use Rattle.statement_steps.specs.declared.caller.Caller.{Caller}
 use Rattle.statement_steps.specs.Asks.{held_at}
 use Rattle.statement_steps.specs.Steps.{follow}
+use Rattle.statement_steps.specs.Owned.{own}
 use Rattle.table_statements.specs.Claims.{name_claimed}
-use Rattle.table_statements.specs.Refused.{next_answer, unless_faults}
+use Rattle.ddl_steps.specs.Refused.{next_answer, unless_faults}
 
 -- ---- how a table is partitioned
 
@@ -49,9 +48,6 @@ level_by columns None = Ok None
 level_by columns (Some by) = next_answer (next_answer (bound_key columns by) level_with) some_level
 
 -- ---- the table
-
-abbrev pub own : History → (session : ℕ) → TxId
-own h s = record { number = tx_in h s }
 
 -- what a new table has, or the first refusal: the count of tables, its columns, its key
 pub record Plan : Type 0 where

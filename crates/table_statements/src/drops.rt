@@ -14,7 +14,7 @@ ghost use Rattle.table_statements.specs.Drops as drops;
 ghost use Rattle.table_statements.specs.Drops.{dropped};
 
 use crate::laws::locked_tables_may_go;
-use crate::partitions::tables_from;
+use ddl_steps::tables_from;
 use history::TxId;
 use legal_statements::{
     listed_is_there, named_is_there, table_drop_may_follow, there_is_known, tree_is_whole,

@@ -27,7 +27,7 @@ mod under;
 
 pub use drops::drop_tables;
 pub use laws::locked_tables_may_go;
-pub use partitions::{create_partition, lock_default, tables_from};
+pub use partitions::create_partition;
 pub use places::lock_misplaced;
 pub use statement::lock;
 pub use tables::create_table;

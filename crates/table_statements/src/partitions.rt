@@ -9,14 +9,16 @@ ghost use Rattle.expression_binder.specs.Firsts.{IsAnswerBy};
 ghost use Rattle.part_ddl.specs.Below as below;
 ghost use Rattle.part_ddl.specs.Tables.{count_faults};
 ghost use Rattle.sql_ast.specs.Commands.{bound_tree};
-ghost use Rattle.partition_scans.specs.Data.{DataStand};
-ghost use Rattle.partition_scans.specs.Places.{default_scan};
-ghost use Rattle.partition_scans.specs.Scans.{judged, watches};
+ghost use Rattle.ddl_steps.specs.Data.{DataStand};
+ghost use Rattle.ddl_steps.specs.Places.{default_scan};
+ghost use Rattle.ddl_steps.specs.Scans.{judged, watches};
 ghost use Rattle.statement_steps.specs.Attempts.{MayAttempt};
 ghost use Rattle.statement_steps.specs.Steps.{IsStep};
 ghost use Rattle.table_statements.specs.Partitions as partitions;
 ghost use Rattle.table_statements.specs.Partitions.{partitioned, partition_place};
-ghost use Rattle.table_statements.specs.Asked.{IsLockedNamed, HasDefaultLocked, HasDefaultClean, MayBeMade, MayBePlaced, family_of};
+ghost use Rattle.table_statements.specs.Asked.{HasDefaultClean, MayBeMade, MayBePlaced};
+ghost use Rattle.ddl_steps.specs.Locks.{IsLockedNamed, HasDefaultLocked};
+ghost use Rattle.ddl_steps.specs.Families.{family_of};
 ghost use Rattle.history.specs.Places.{TakesBound};
 ghost use Rattle.part_catalog.specs.Found.{made_at};
 ghost use Rattle.table_statements.specs.Seen.{seen_place};
@@ -24,20 +26,19 @@ ghost use Rattle.table_statements.specs.Seen.{seen_place};
 use crate::claims::claim_name;
 use crate::tables::level_by;
 use bound_forms::{Bound, Level};
+use ddl_steps::{judge_default, lock_default, wait_for_snapshots};
 use legal_statements::{
-    listed_is_there, named_is_there, new_leaf_may_follow, new_level_may_follow,
-    new_partition_may_follow, none_breaks, there_is_known, tree_is_whole,
+    named_is_there, new_leaf_may_follow, new_level_may_follow, new_partition_may_follow,
+    none_breaks,
 };
 use part_catalog::Catalog;
 use part_ddl::{
     check_count, check_place, default_of, make_partition, parent_level, passed_have_places,
-    tables_below,
 };
-use partition_scans::{judge_default, wait_for_snapshots};
-use pg_values::{LockMode, NoMemory, PgText, Refusal, SessionSet, TableNo};
-use soundness::{legal_keeps_all, sessions_have_siblings};
+use pg_values::{LockMode, PgText, Refusal, SessionSet, TableNo};
+use soundness::sessions_have_siblings;
 use sql_ast::{BoundText, Partitioning};
-use statement_steps::{Caller, SessionNames, Stop, hold_if_repeatable, lock_named, lock_tables};
+use statement_steps::{Caller, SessionNames, Stop, hold_if_repeatable, lock_named};
 use std::alloc::Global;
 use stores::{Stores, leaves_are_housed, trees_are_together};
 use table_binder::bind_bound;
@@ -48,75 +49,6 @@ use tx_table::TxTable;
 struct Place {
     bound: Bound,
     level: Option<Level>,
-}
-
-/// A table and those under it.
-pub fn tables_from(
-    alloc: Global,
-    catalog: &Catalog,
-    txs: &TxTable,
-    table: TableNo,
-    session: u32,
-) -> Result<Vec<TableNo>, NoMemory>
-    requires known { table.number < length catalog.now.tables }
-    requires siblings { AreTogether txs.now catalog.now session }
-    ensures { IfOk result (λ tables. (h : History) → TableStands txs.now h → CatalogueStands catalog.now h → tables.items ≡ below.tables_from h session table.number) }
-{
-    let under = tables_below(alloc, catalog, txs, table, session)?;
-    let mut tables = Vec::new(alloc);
-    tables.push(table)?;
-    tables.extend_from_slice(&under)?;
-    Ok(tables)
-}
-
-// The default partition of the parent, and the tables under it.
-fn default_tables(
-    alloc: Global,
-    catalog: &Catalog,
-    txs: &TxTable,
-    parent: TableNo,
-    session: u32,
-) -> Result<Vec<TableNo>, NoMemory>
-    requires known { parent.number < length catalog.now.tables }
-    requires siblings { AreTogether txs.now catalog.now session }
-    ensures { IfOk result (λ tables. (h : History) → TableStands txs.now h → CatalogueStands catalog.now h →
-        tables.items ≡ family_of h session (below.default_of h session parent.number)) }
-{
-    match default_of(alloc, catalog, txs, parent, session)? {
-        None => Ok(Vec::new(alloc)),
-        Some(table) => tables_from(alloc, catalog, txs, table, session),
-    }
-}
-
-/// A part: the default partition of the parent and the tables under it are locked.
-pub fn lock_default(
-    alloc: Global,
-    stores: &mut Stores,
-    names: &SessionNames,
-    caller: Caller,
-    parent: TableNo,
-) -> Result<(), Stop>
-    requires may { MayAttempt stores.old caller }
-    requires few { length stores.old.catalog.tables ≤ 4096 }
-    requires known { parent.number < length stores.old.catalog.tables }
-    ensures step { IsStep (λ u. u) result stores.old stores.new caller caller.cmd (partitions.default_locked names.now caller.session parent.number) }
-    ensures locked { IfOk result (λ u. HasDefaultLocked stores.new caller.session parent.number) }
-    ensures rest { stores.new ≡ record stores.old { locks = stores.new.locks } }
-{
-    trees_are_together();
-    listed_is_there();
-    there_is_known();
-    tree_is_whole();
-    legal_keeps_all();
-    let tables = default_tables(alloc, &stores.catalog, &stores.txs, parent, caller.session)?;
-    lock_tables(
-        alloc,
-        stores,
-        names,
-        caller,
-        &tables,
-        LockMode::AccessExclusive,
-    )
 }
 
 // The place of the partition, or the first refusal.

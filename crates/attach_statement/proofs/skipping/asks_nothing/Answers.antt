@@ -1,9 +1,9 @@
 use Rattle.std.proofs.Common.{◌==◌, ap, sym, ◌∙◌, length}
 use Rattle.std.specs.Prelude.{is_some}
-use Rattle.table_statements.specs.Drops.{parent_in}
 use Rattle.attach_statement.specs.Skipped.{kept_for}
 use Rattle.attach_statement.proofs.LeftOut.{partly, wholly}
 use Rattle.attach_statement.proofs.skipping.asks_nothing.Goals as goal
+use Rattle.ddl_steps.specs.Families.{parent_in}
 
 pub returns-then-is_there : goal.returns-then-is_there
 returns-then-is_there c = λ h txs catalog.

@@ -3,11 +3,11 @@ use Rattle.history.specs.declared.catalogue.TableShape.{TableShape}
 use Rattle.history.specs.Places.{TakesBound}
 use Rattle.part_catalog.specs.Found.{made_at}
 use Rattle.part_ddl.specs.Placing.{level_at}
-use Rattle.detach_statement.proofs.Checks.{shape_at}
-use Rattle.detach_statement.proofs.KeptChecks.{if_ok_more}
 use Rattle.attach_statement.specs.Skipped.{kept_for}
 use Rattle.attach_statement.proofs.LeftOut.{said_at, none_said}
 use Rattle.attach_statement.proofs.skipping.is_said.Goals as goal
+use Rattle.ddl_steps.proofs.Levels.{shape_at}
+use Rattle.ddl_steps.proofs.Checks.{if_ok_more}
 
 pub is_implied-requires-clause-own : goal.is_implied-requires-clause-own
 is_implied-requires-clause-own c =

@@ -1,8 +1,8 @@
 use Rattle.part_ddl.specs.Placing.{level_at}
-use Rattle.detach_statement.proofs.KeptChecks.{if_ok_more}
 use Rattle.attach_statement.specs.Skipped.{asks_nothing, is_implied, kept_for}
 use Rattle.attach_statement.proofs.LeftOut.{skipped_told, not_skipped}
 use Rattle.attach_statement.proofs.skipping.is_skipped.Goals as goal
+use Rattle.ddl_steps.proofs.Checks.{if_ok_more}
 
 pub returns-then-asks_nothing : goal.returns-then-asks_nothing
 returns-then-asks_nothing c =

@@ -1,7 +1,7 @@
 use Rattle.std.proofs.Common.{ap, sym, ◌∙◌, ◌==◌, length, List}
 use Rattle.history.specs.declared.catalogue.KeptCheck.{KeptCheck}
-use Rattle.detach_statement.proofs.KeptChecks.{first_part, never_empty}
 use Rattle.attach_statement.proofs.skipping.is_unchecked.Goals as goal
+use Rattle.ddl_steps.proofs.Checks.{first_part, never_empty}
 
 pub returns-in-None : goal.returns-in-None
 returns-in-None c = λ h s t is. absurd (never_empty h s t c.args.path.now is (sym c.in-None.ensures.value))

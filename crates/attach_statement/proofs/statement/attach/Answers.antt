@@ -6,7 +6,7 @@ use Rattle.statement_steps.specs.Asks.{held_at, named}
 use Rattle.statement_steps.specs.Attempts.{MayAttempt}
 use Rattle.statement_steps.specs.Steps.{follow}
 use Rattle.statement_steps.proofs.Steps.{goes, handed_on, may_go_on, out_behind, stops}
-use Rattle.table_statements.proofs.Held.{named_locked, still_named}
+use Rattle.ddl_steps.proofs.Locks.{named_locked, still_named}
 use Rattle.attach_statement.specs.Attached.{attached_beside, family_locked, locked_and_attached, table_attached}
 use Rattle.attach_statement.proofs.Locked.{named_guarded, still_from, still_guarded}
 use Rattle.attach_statement.proofs.statement.attach.Goals as goal

@@ -1,12 +1,12 @@
 use Rattle.std.proofs.Common.{◌∙◌}
 use Rattle.row_router.specs.Seen.{seen}
 use Rattle.sql_ast.specs.Commands.{bound_tree}
-use Rattle.partition_scans.specs.Waited.{scanned}
+use Rattle.ddl_steps.specs.Waited.{scanned}
+use Rattle.ddl_steps.specs.Locks.{default_locked}
 use Rattle.statement_steps.proofs.Parts.{out_here}
 use Rattle.statement_steps.proofs.Steps.{goes, handed_on, may_go_on, stops}
-use Rattle.table_statements.specs.Partitions.{default_locked}
-use Rattle.table_statements.proofs.Beside.{still_default}
-use Rattle.table_statements.proofs.Held.{still_named}
+use Rattle.ddl_steps.proofs.Beside.{still_default}
+use Rattle.ddl_steps.proofs.Locks.{still_named}
 use Rattle.attach_statement.specs.Attached as attached
 use Rattle.attach_statement.specs.Attached.{scans}
 use Rattle.attach_statement.proofs.LeftOut.{found_clean, judged_now, own_never}

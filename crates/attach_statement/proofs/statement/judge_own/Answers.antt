@@ -1,7 +1,7 @@
 use Rattle.std.proofs.Common.{[], ◌∷◌, sym, ◌∙◌}
 use Rattle.row_router.specs.Histories.{ddl_tree}
 use Rattle.row_router.specs.Trees.{height}
-use Rattle.partition_scans.specs.Places.{place_scan}
+use Rattle.ddl_steps.specs.Places.{place_scan}
 use Rattle.attach_statement.proofs.Scanned.{columns_always, takes_always}
 use Rattle.attach_statement.proofs.LeftOut.{clean_in, each_data, nobody_judged, nobody_watches}
 use Rattle.attach_statement.proofs.statement.judge_own.Goals as goal

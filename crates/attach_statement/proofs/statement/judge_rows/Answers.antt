@@ -4,8 +4,8 @@ use Rattle.pg_values.specs.Sets.{has}
 use Rattle.pg_values.specs.declared.session_set.SessionSet.{SessionSet}
 use Rattle.pg_values.specs.Refusals.{IsAnswer}
 use Rattle.part_ddl.specs.Below.{default_of}
-use Rattle.partition_scans.specs.Places.{place_scan, default_scan}
-use Rattle.partition_scans.specs.Scans.{judged, watches}
+use Rattle.ddl_steps.specs.Places.{place_scan, default_scan}
+use Rattle.ddl_steps.specs.Scans.{judged, watches}
 use Rattle.attach_statement.specs.Places.{name_at}
 use Rattle.attach_statement.proofs.Scanned.{first_refuses, others_refuse, nobody_refuses, both_watch, takes_always}
 use Rattle.attach_statement.proofs.statement.judge_rows.Goals as goal

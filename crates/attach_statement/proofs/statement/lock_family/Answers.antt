@@ -1,4 +1,4 @@
-use Rattle.table_statements.proofs.Below.{TreeLaws, all_low}
+use Rattle.ddl_steps.proofs.Below.{TreeLaws, all_low}
 use Rattle.attach_statement.proofs.Locked.{family_there, family_step, family_is_locked}
 use Rattle.attach_statement.proofs.statement.lock_family.Goals as goal
 

@@ -7,9 +7,9 @@ use Rattle.statement_steps.specs.Asks.{named}
 use Rattle.statement_steps.specs.Steps.{IsStep}
 use Rattle.statement_steps.proofs.Steps.{then_step, stop_step, may_go_on}
 use Rattle.change_statement.proofs.Found.{rest_same}
-use Rattle.insert_statement.proofs.Locked.{may_write_named, named_step}
 use Rattle.change_statement.specs.Gathered.{of_table, table_named, settings_of, condition_of}
 use Rattle.statement_steps.specs.Gathered.{found_of}
+use Rattle.statement_steps.proofs.Rights.{may_write_named, named_step}
 use Rattle.change_statement.proofs.gathering.gather.Goals as goal
 use Rattle.change_statement.proofs.gathering.gather.Goals.{In-Ok, In-Err}
 

@@ -1,6 +1,6 @@
 use Rattle.row_router.specs.Seen.{seen}
 use Rattle.statement_steps.proofs.Parts.{stays, no_memory}
-use Rattle.insert_statement.proofs.Tables.{tree_locks}
+use Rattle.change_statement.proofs.TreeLocks.{tree_locks}
 use Rattle.change_statement.specs.Gathered.{of_table, table_named, settings_of, condition_of}
 use Rattle.statement_steps.specs.Gathered.{found_of}
 use Rattle.change_statement.proofs.Found.{read_prunable, read_step}

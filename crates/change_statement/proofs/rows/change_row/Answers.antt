@@ -2,7 +2,7 @@ use Rattle.std.proofs.Common.{rules, ◌≡◌, ◌≢◌, ◌+◌, refl, sym, �
 use Rattle.row_change.proofs.Successors.{keeps_all}
 use Rattle.statement_steps.specs.Gathered.{found_of}
 use Rattle.statement_steps.specs.declared.stop.Stop.{Stop}
-use Rattle.insert_statement.specs.Asked.{stopped}
+use Rattle.statement_steps.specs.Faults.{stop_of as stopped}
 use Rattle.change_statement.specs.Verdicts.{updater_meant, Changes, PassesBy, WaitsFor, Refuses}
 use Rattle.change_statement.specs.Changing.{changing}
 use Rattle.change_statement.specs.Running.{IsRun}

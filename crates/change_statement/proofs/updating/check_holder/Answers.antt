@@ -3,7 +3,7 @@ use Rattle.std.proofs.lemmas.List.Elements.{All-head}
 use Rattle.pg_values.specs.Refusals.{IsAnswer, or_first}
 use Rattle.row_change.specs.Storing.{FitsTargets, IsTargetNumbered, is_into, leaf_faults}
 use Rattle.row_change.specs.Targets.{HasTarget, HasWay}
-use Rattle.insert_statement.specs.Inserted.{tables_of}
+use Rattle.row_change.specs.Placing.{tables_of}
 use Rattle.statement_steps.specs.Gathered.{found_of}
 use Rattle.change_statement.proofs.Renewed.{takes, targets_numbered, targets_take, told_of}
 use Rattle.change_statement.proofs.updating.check_holder.Goals as goal

@@ -2,12 +2,11 @@ use Rattle.std.proofs.Common.{◌≡◌, [], ◌∷◌, List, ◌∙◌, Ok, Err
 use Rattle.std.proofs.lemmas.List.Elements.{All-cons, All-nil, All-head}
 use Rattle.pg_values.specs.declared.ids.LeafId.{LeafId}
 use Rattle.pg_values.specs.Refusals.{IsAnswer}
-use Rattle.row_change.specs.Placing.{bounds_faults, placed, all_placed, CanBePlaced, IsPartNumbered}
+use Rattle.row_change.specs.Placing.{bounds_faults, placed, all_placed, CanBePlaced, IsPartNumbered, tables_of}
 use Rattle.row_change.specs.Targets.{HasWay}
 use Rattle.row_router.specs.Paths.{PartFits}
 use Rattle.history.specs.History.{History}
 use Rattle.part_catalog.specs.Stands.{CatalogueStands}
-use Rattle.insert_statement.specs.Inserted.{tables_of}
 use Rattle.statement_steps.specs.Gathered.{found_of}
 use Rattle.change_statement.proofs.Renewed.{is_one, is_none, is_somewhere, stays_told}
 use Rattle.change_statement.proofs.updating.house.Goals as goal

@@ -2,7 +2,6 @@ use Rattle.std.proofs.Common.{Ok, Err, sym, subst, IfOk}
 use Rattle.std.specs.List.{Contains}
 use Rattle.pg_values.specs.declared.ids.LeafId.{LeafId}
 use Rattle.row_router.specs.Trees.{leaves}
-use Rattle.insert_statement.specs.Inserted.{tables_of}
 use Rattle.statement_steps.specs.Gathered.{found_of}
 use Rattle.statement_steps.specs.declared.stop.Stop.{Stop}
 use Rattle.change_statement.specs.Running.{IsRun}
@@ -10,6 +9,7 @@ use Rattle.change_statement.specs.Updated.{housed, rehoused}
 use Rattle.change_statement.proofs.Kept.{one_of}
 use Rattle.change_statement.proofs.Renewed.{takes, has_way, answer_run, refusal_run}
 use Rattle.change_statement.proofs.updating.rehouse.Goals as goal
+use Rattle.row_change.specs.Placing.{tables_of}
 
 pub house-requires-clause-takes : goal.house-requires-clause-takes
 house-requires-clause-takes c = takes c.args.stores.now c.args.caller (found_of c.args.gathered.now) c.args.row.now c.requires.may c.requires.of

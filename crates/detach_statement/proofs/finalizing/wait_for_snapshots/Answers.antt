@@ -3,12 +3,12 @@ use Rattle.pg_values.specs.declared.session_set.SessionSet.{SessionSet}
 use Rattle.history.specs.History.{History}
 use Rattle.history.specs.declared.wait.WaitOn.TheVariants.{Snapshots}
 use Rattle.history.specs.declared.transaction.TxId.{TxId}
-use Rattle.partition_scans.specs.Sessions.{those}
+use Rattle.ddl_steps.specs.Sessions.{those}
+use Rattle.ddl_steps.proofs.Sets.{are_those}
 use Rattle.statement_steps.specs.Asks.{waited}
 use Rattle.statement_steps.proofs.Steps.{same_step}
 use Rattle.detach_statement.specs.Finalized.{unseeing, mark_seen}
 use Rattle.detach_statement.proofs.Waits.{sees_itself}
-use Rattle.detach_statement.proofs.SessionSets.{are_those}
 use Rattle.detach_statement.proofs.finalizing.wait_for_snapshots.Goals as goal
 
 pub wait_for-requires-clause-others : goal.wait_for-requires-clause-others

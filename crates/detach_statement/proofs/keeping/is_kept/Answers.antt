@@ -1,9 +1,9 @@
 use Rattle.std.proofs.Common.{◌≡◌, ap, sym, ◌∙◌, subst, All, Some, None, slice_get}
 use Rattle.history.specs.declared.catalogue.KeptCheck.{KeptCheck}
 use Rattle.std.specs.List.{list_any}
-use Rattle.detach_statement.specs.Kept.{same_check}
-use Rattle.detach_statement.proofs.KeptChecks.{IsKeptOfLevel, kept_have_levels, first_part, never_empty}
 use Rattle.detach_statement.proofs.keeping.is_kept.Goals as goal
+use Rattle.ddl_steps.specs.Checks.{same_check}
+use Rattle.ddl_steps.proofs.Checks.{IsKeptOfLevel, kept_have_levels, first_part, never_empty}
 
 pub has_equal-requires-clause-all : goal.has_equal-requires-clause-all
 has_equal-requires-clause-all c =

@@ -1,7 +1,8 @@
 use Rattle.part_ddl.specs.Placing.{level_at}
 use Rattle.detach_statement.specs.Kept.{place_below}
-use Rattle.detach_statement.proofs.KeptChecks.{told_of_level, told_no_level, if_ok_more}
+use Rattle.detach_statement.proofs.KeptChecks.{told_of_level, told_no_level}
 use Rattle.detach_statement.proofs.keeping.told_check.Goals as goal
+use Rattle.ddl_steps.proofs.Checks.{if_ok_more}
 
 pub returns-in-Ok : goal.returns-in-Ok
 returns-in-Ok c =

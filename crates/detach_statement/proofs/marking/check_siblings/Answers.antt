@@ -1,5 +1,5 @@
 use Rattle.std.proofs.Common.{sym, ◌∙◌}
-use Rattle.table_statements.proofs.Below.{default_made}
+use Rattle.ddl_steps.proofs.Below.{default_made}
 use Rattle.detach_statement.proofs.Pending.{pending_made}
 use Rattle.detach_statement.proofs.marking.check_siblings.Goals as goal
 

@@ -4,7 +4,7 @@ use Rattle.stores.specs.declared.stores.Stores.{Stores}
 use Rattle.statement_steps.specs.Asks.{held_at, named}
 use Rattle.statement_steps.specs.Steps.{follow}
 use Rattle.statement_steps.proofs.Steps.{goes, handed_on, may_go_on, stops}
-use Rattle.table_statements.proofs.Held.{named_locked, still_named}
+use Rattle.ddl_steps.proofs.Locks.{named_locked, still_named}
 use Rattle.detach_statement.specs.Detached.{checked, default_locked, locked_and_detached, place_left, table_detached}
 use Rattle.detach_statement.proofs.statement.detach.Goals as goal
 

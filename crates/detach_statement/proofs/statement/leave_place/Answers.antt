@@ -1,5 +1,5 @@
 use Rattle.std.proofs.Common.{inl, inr}
-use Rattle.table_statements.proofs.Held.{held_at_history}
+use Rattle.ddl_steps.proofs.Locks.{held_at_history}
 use Rattle.detach_statement.proofs.LeftPlaces.{LeaveLaws, standing, left_step}
 use Rattle.detach_statement.proofs.statement.leave_place.Goals as goal
 

@@ -3,16 +3,17 @@ use Rattle.pg_values.specs.declared.ids.LeafId.{LeafId}
 use Rattle.pg_values.specs.declared.ids.TableNo.{TableNo}
 use Rattle.pg_values.specs.declared.lock_mode.LockMode.TheVariants.{RowExclusive}
 use Rattle.row_router.specs.Seen.{seen}
-use Rattle.row_change.specs.Placing.{all_placed}
+use Rattle.row_change.specs.Placing.{all_placed, tables_of}
 use Rattle.row_change.specs.Ways.{ways_below}
 use Rattle.stores.specs.declared.stores.Stores.{Stores}
 use Rattle.statement_steps.specs.Asks.{all_locked}
 use Rattle.statement_steps.specs.Faults.{stop_of}
 use Rattle.statement_steps.proofs.Parts.{answered_refused, out_here}
 use Rattle.statement_steps.proofs.Steps.{goes, handed_on, may_go_on, moved, stops}
-use Rattle.insert_statement.specs.Inserted.{tables_of, placed_rows, locked_into, into_leaves}
-use Rattle.insert_statement.specs.Asked.{ArePlaced, IsReadOf, IsTreeFor}
-use Rattle.insert_statement.proofs.Locked.{may_write}
+use Rattle.statement_steps.specs.Rights.{IsReadOf}
+use Rattle.statement_steps.proofs.Rights.{may_write}
+use Rattle.insert_statement.specs.Inserted.{placed_rows, locked_into, into_leaves}
+use Rattle.insert_statement.specs.Asked.{ArePlaced, IsTreeFor}
 use Rattle.insert_statement.proofs.Placed.{takes}
 use Rattle.insert_statement.proofs.Tables.{tree_locks}
 use Rattle.insert_statement.proofs.Told.{placed_step, read_step}

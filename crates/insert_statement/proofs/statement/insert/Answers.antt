@@ -5,10 +5,10 @@ use Rattle.stores.specs.declared.stores.Stores.{Stores}
 use Rattle.statement_steps.specs.Asks.{held_at, named}
 use Rattle.statement_steps.specs.Steps.{follow}
 use Rattle.statement_steps.proofs.Steps.{goes, handed_on, may_go_on, moved, stops}
+use Rattle.statement_steps.proofs.Rights.{may_write_named}
 use Rattle.insert_statement.specs.Inserted.{gathered, into, rows_meant}
-use Rattle.insert_statement.specs.Asked.{AreRowsOf}
-use Rattle.insert_statement.proofs.Locked.{may_write_named}
 use Rattle.insert_statement.proofs.statement.insert.Goals as goal
+use Rattle.row_change.specs.Laws.{AreRowsOf}
 
 pub lock_named-requires-clause-may : goal.lock_named-requires-clause-may
 lock_named-requires-clause-may c = may_go_on _ _ _ _ _ _ c.requires.may c.in_ok-hold_if_repeatable.ensures.step

@@ -8,7 +8,7 @@ use Rattle.row_router.specs.declared.tree.Tree.{Tree}
 use Rattle.part_catalog.specs.declared.stored.StoredTable.{StoredTable}
 use Rattle.part_catalog.specs.declared.stored.StoredEntry.{StoredEntry}
 use Rattle.history.specs.declared.catalogue.TableShape.TheVariants.{Leaf as LeafShape, Level as LevelShape}
-use Rattle.row_router.specs.Seen.{seen}
+use Rattle.row_router.specs.Seen.{seen, items_of}
 use Rattle.row_router.specs.Trees.{TableTree, LeafTable}
 use Rattle.row_router.specs.Histories.{children, tree_within, child_of_entry}
 use Rattle.part_catalog.specs.Kept.{table_in, entry_in, number_of, no_entry}
@@ -78,7 +78,7 @@ returns-then-depth-eq0 t c =
     let here = table_is c.args.tables.now c.args.table.number c.index-tables-table.result c.requires.known c.index-tables-table.is in
     let is : c.index-tables-table.result.table.shape ≡ LevelShape c.in-Level.level = cc in
     let none : c.in_ok-none-in-Level.none ≡ [] = c.in_ok-none-in-Level.ensures ∙ c.new.ensures.items in
-    let bare : map seen c.new-trees.result.items ≡ [] = ap (map seen) c.new-trees.ensures.items in
+    let bare : map seen (items_of c.in_ok-bare-in-Level.bare) ≡ [] = ap (map seen) (c.in_ok-bare-in-Level.ensures ∙ c.new-trees.ensures.items) in
     c.level.ensures
     ∙ level_made _ _ _ _ _ _ _ _ c.in_ok-node.ensures c.in_ok-level-in-Level.ensures none bare
     ∙ grown_bare c.args.depth T part c.args.named.number c.args.table.number c.in-Level.level c.if-depth-eq0.true (ap (λ x. x.shape) here ∙ is)
@@ -94,8 +94,8 @@ returns-in-Leaf t c =
     let shape : (table_at T c.args.table.number).shape ≡ LeafShape c.in-Leaf.leaf = ap (λ (x : Table). x.shape) here ∙ ap (λ (y : StoredTable). y.table.shape) c.index-tables-table.is ∙ c.in-Leaf.is in
     c.leaf.ensures ∙ ap (λ n. LeafTable n c.in-Leaf.leaf) c.in_ok-node.ensures ∙ grown_leaf c.args.depth T part c.args.named.number c.args.table.number c.in-Leaf.leaf shape
 
-pub returns-in_ok-bounds-in-Level : goal.returns-in_ok-bounds-in-Level
-returns-in_ok-bounds-in-Level t c =
+pub returns-in_ok-shared-in-Level : goal.returns-in_ok-shared-in-Level
+returns-in_ok-shared-in-Level t c =
     let b = c.requires.grove.listed.below c.args.table.number c.requires.known in
     let same : get_or c.args.below.now c.args.table.number [] ≡ c.index-below-table.result = grind (arith, common_steps, elements, c.index-below-table.is, c.requires.grove.listed.count, c.requires.known) in
     let are : c.numbers-number-items.result.now ≡ map number_of (children (map entry_in c.args.entries.now) c.args.table.number) = cc in
@@ -111,5 +111,5 @@ returns-in_ok-bounds-in-Level t c =
     let shape : (table_at T c.args.table.number).shape ≡ LevelShape c.in-Level.level = ap (λ (x : Table). x.shape) here ∙ ap (λ (y : StoredTable). y.table.shape) c.index-tables-table.is ∙ c.in-Level.is in
     let some : 0 < c.args.depth = omega (arith, c.if-depth-eq0.false) in
     c.level-in-Level.ensures
-    ∙ level_made _ _ _ _ _ _ _ _ c.in_ok-node.ensures c.in_ok-level-in-Level.ensures refl refl
+    ∙ level_made _ _ _ _ _ _ _ _ c.in_ok-node.ensures c.in_ok-level-in-Level.ensures refl (ap (map seen) c.in_ok-shared-in-Level.ensures)
     ∙ grown_level c.args.depth T A (is_flagged F) c.args.named.number c.args.table.number c.in-Level.level c.in_ok-bounds-in-Level.bounds (map seen c.loop-number.trees.items) some shape c.in_ok-bounds-in-Level.ensures trees

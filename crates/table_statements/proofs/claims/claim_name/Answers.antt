@@ -11,9 +11,9 @@ use Rattle.statement_steps.proofs.Parts.{answered_done}
 use Rattle.statement_steps.proofs.Steps.{goes, handed_on, stops}
 use Rattle.table_statements.specs.Asked.{IsFree}
 use Rattle.table_statements.specs.Claims.{name_tested, name_waited}
-use Rattle.table_statements.specs.Refused.{unless_faults}
+use Rattle.ddl_steps.specs.Refused.{unless_faults}
 use Rattle.table_statements.proofs.Taken.{if_done}
-use Rattle.table_statements.proofs.Firsts.{stops_first, none_first, none_there, answered_refused}
+use Rattle.ddl_steps.proofs.Firsts.{stops_first, none_first, none_there, answered_refused}
 use Rattle.table_statements.proofs.claims.claim_name.Goals as goal
 use Rattle.table_statements.proofs.claims.claim_name.Goals.{In_ok-check_name}
 

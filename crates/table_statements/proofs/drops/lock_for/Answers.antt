@@ -8,11 +8,12 @@ use Rattle.statement_steps.specs.Steps.{IsStep}
 use Rattle.statement_steps.specs.Known.{IsKnownTo}
 use Rattle.table_statements.specs.Asked.{MayDropTable}
 use Rattle.statement_steps.proofs.Parts.{out_here}
-use Rattle.table_statements.proofs.Below.{here_of, TreeLaws, to_lock_known, all_low}
-use Rattle.table_statements.proofs.Held.{tables_locked}
+use Rattle.ddl_steps.proofs.Below.{here_of, TreeLaws, all_low}
+use Rattle.ddl_steps.proofs.Locks.{tables_locked}
 use Rattle.table_statements.proofs.Left.{drop_step, locked_to_drop}
 use Rattle.table_statements.proofs.drops.lock_for.Goals as goal
 use Rattle.table_statements.proofs.drops.lock_for.Goals.{In_ok-tables}
+use Rattle.table_statements.proofs.ToDrop.{to_lock_known}
 
 pub tables_to_lock-requires-clause-siblings : goal.tables_to_lock-requires-clause-siblings
 tables_to_lock-requires-clause-siblings c = c.trees_are_together.ensures c.args.stores.now c.requires.may.sound.0 c.args.caller.session c.requires.may.sound.1

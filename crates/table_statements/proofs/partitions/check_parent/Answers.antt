@@ -2,10 +2,9 @@ use Rattle.std.proofs.Common.{ap}
 use Rattle.part_ddl.specs.Placing.{level_at}
 use Rattle.statement_steps.proofs.Parts.{answered_done}
 use Rattle.statement_steps.proofs.Steps.{handed_on}
-use Rattle.table_statements.specs.Refused.{next_answer}
+use Rattle.ddl_steps.specs.Refused.{next_answer}
 use Rattle.table_statements.specs.Partitions.{level_there}
-use Rattle.table_statements.proofs.Chains.{fault_answer}
-use Rattle.table_statements.proofs.Firsts.{stops_at, answered_refused}
+use Rattle.ddl_steps.proofs.Firsts.{stops_at, answered_refused, fault_answer}
 use Rattle.table_statements.proofs.partitions.check_parent.Goals as goal
 
 pub returns : goal.returns

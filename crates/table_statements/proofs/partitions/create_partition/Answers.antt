@@ -14,8 +14,9 @@ use Rattle.table_statements.specs.Asked.{HasDefaultClean, IsFree, MayBeMade, May
 use Rattle.table_statements.specs.Claims.{name_claimed}
 use Rattle.table_statements.specs.Partitions as partitions
 use Rattle.table_statements.specs.Seen.{seen_place}
-use Rattle.table_statements.proofs.Beside.{still_default}
-use Rattle.table_statements.proofs.Held.{named_locked, still_named}
+use Rattle.ddl_steps.proofs.Beside.{still_default}
+use Rattle.ddl_steps.proofs.Locks.{named_locked, still_named}
+use Rattle.ddl_steps.specs.Locks.{default_locked}
 use Rattle.table_statements.proofs.partitions.create_partition.Goals as goal
 
 -- ---- what each part requires
@@ -130,7 +131,7 @@ returns-in_err-lock_default c =
     handed_on c.from_residual-in_err-lock_default.ensures.1
     (goes (held_at caller.level caller.session caller.cmd) (λ u. partitions.made_below names caller name c.args.parent.now b by) c.in_ok-hold_if_repeatable.ensures.step
     (goes (named names caller.session AccessExclusive c.args.parent.now) (λ t. partitions.made_beside names caller name t b by) (moved (named names caller.session AccessExclusive) _ _ c.as_bytes.ensures c.in_ok-parent.ensures.step)
-    (stops (partitions.default_locked names caller.session p) (λ u. partitions.claimed_and_made names caller name p b by) c.in_err-lock_default.ensures.step)))
+    (stops (default_locked names caller.session p) (λ u. partitions.claimed_and_made names caller name p b by) c.in_err-lock_default.ensures.step)))
 
 pub returns-in_err-check_parent : goal.returns-in_err-check_parent
 returns-in_err-check_parent c =
@@ -143,7 +144,7 @@ returns-in_err-check_parent c =
     handed_on c.from_residual-in_err-check_parent.ensures.1
     (goes (held_at caller.level caller.session caller.cmd) (λ u. partitions.made_below names caller name c.args.parent.now b by) c.in_ok-hold_if_repeatable.ensures.step
     (goes (named names caller.session AccessExclusive c.args.parent.now) (λ t. partitions.made_beside names caller name t b by) (moved (named names caller.session AccessExclusive) _ _ c.as_bytes.ensures c.in_ok-parent.ensures.step)
-    (goes (partitions.default_locked names caller.session p) (λ u. partitions.claimed_and_made names caller name p b by) c.in_ok-lock_default.ensures.step
+    (goes (default_locked names caller.session p) (λ u. partitions.claimed_and_made names caller name p b by) c.in_ok-lock_default.ensures.step
     (stops (partitions.parent_tested p) (λ u. partitions.claimed_and_placed names caller name p b by) c.in_err-check_parent.ensures))))
 
 pub returns-in_err-claim_name : goal.returns-in_err-claim_name
@@ -157,7 +158,7 @@ returns-in_err-claim_name c =
     handed_on c.from_residual-in_err-claim_name.ensures.1
     (goes (held_at caller.level caller.session caller.cmd) (λ u. partitions.made_below names caller name c.args.parent.now b by) c.in_ok-hold_if_repeatable.ensures.step
     (goes (named names caller.session AccessExclusive c.args.parent.now) (λ t. partitions.made_beside names caller name t b by) (moved (named names caller.session AccessExclusive) _ _ c.as_bytes.ensures c.in_ok-parent.ensures.step)
-    (goes (partitions.default_locked names caller.session p) (λ u. partitions.claimed_and_made names caller name p b by) c.in_ok-lock_default.ensures.step
+    (goes (default_locked names caller.session p) (λ u. partitions.claimed_and_made names caller name p b by) c.in_ok-lock_default.ensures.step
     (goes (partitions.parent_tested p) (λ u. partitions.claimed_and_placed names caller name p b by) c.in_ok-check_parent.ensures
     (stops (name_claimed names caller.session name) (λ u. partitions.placed_and_made names caller name p b by) (moved (name_claimed names caller.session) _ _ c.as_bytes-text.ensures c.in_err-claim_name.ensures.step))))))
 
@@ -172,7 +173,7 @@ returns-in_err-place c =
     handed_on c.from_residual-in_err-place.ensures.1
     (goes (held_at caller.level caller.session caller.cmd) (λ u. partitions.made_below names caller name c.args.parent.now b by) c.in_ok-hold_if_repeatable.ensures.step
     (goes (named names caller.session AccessExclusive c.args.parent.now) (λ t. partitions.made_beside names caller name t b by) (moved (named names caller.session AccessExclusive) _ _ c.as_bytes.ensures c.in_ok-parent.ensures.step)
-    (goes (partitions.default_locked names caller.session p) (λ u. partitions.claimed_and_made names caller name p b by) c.in_ok-lock_default.ensures.step
+    (goes (default_locked names caller.session p) (λ u. partitions.claimed_and_made names caller name p b by) c.in_ok-lock_default.ensures.step
     (goes (partitions.parent_tested p) (λ u. partitions.claimed_and_placed names caller name p b by) c.in_ok-check_parent.ensures
     (goes (name_claimed names caller.session name) (λ u. partitions.placed_and_made names caller name p b by) (moved (name_claimed names caller.session) _ _ c.as_bytes-text.ensures c.in_ok-claim_name.ensures.step)
     (stops (partitions.place_found caller.session p b by) (λ x. partitions.scanned_and_made names caller name p x) c.in_err-place.ensures.step))))))
@@ -189,7 +190,7 @@ returns-in_err-scan_default c =
     handed_on c.from_residual-in_err-scan_default.ensures.1
     (goes (held_at caller.level caller.session caller.cmd) (λ u. partitions.made_below names caller name c.args.parent.now b by) c.in_ok-hold_if_repeatable.ensures.step
     (goes (named names caller.session AccessExclusive c.args.parent.now) (λ t. partitions.made_beside names caller name t b by) (moved (named names caller.session AccessExclusive) _ _ c.as_bytes.ensures c.in_ok-parent.ensures.step)
-    (goes (partitions.default_locked names caller.session p) (λ u. partitions.claimed_and_made names caller name p b by) c.in_ok-lock_default.ensures.step
+    (goes (default_locked names caller.session p) (λ u. partitions.claimed_and_made names caller name p b by) c.in_ok-lock_default.ensures.step
     (goes (partitions.parent_tested p) (λ u. partitions.claimed_and_placed names caller name p b by) c.in_ok-check_parent.ensures
     (goes (name_claimed names caller.session name) (λ u. partitions.placed_and_made names caller name p b by) (moved (name_claimed names caller.session) _ _ c.as_bytes-text.ensures c.in_ok-claim_name.ensures.step)
     (goes (partitions.place_found caller.session p b by) (λ x. partitions.scanned_and_made names caller name p x) c.in_ok-place.ensures.step
@@ -205,7 +206,7 @@ returns-in_err-copy c =
     let p = c.in_ok-parent.parent.number in
     goes (held_at caller.level caller.session caller.cmd) (λ u. partitions.made_below names caller name c.args.parent.now b by) c.in_ok-hold_if_repeatable.ensures.step
     (goes (named names caller.session AccessExclusive c.args.parent.now) (λ t. partitions.made_beside names caller name t b by) (moved (named names caller.session AccessExclusive) _ _ c.as_bytes.ensures c.in_ok-parent.ensures.step)
-    (goes (partitions.default_locked names caller.session p) (λ u. partitions.claimed_and_made names caller name p b by) c.in_ok-lock_default.ensures.step
+    (goes (default_locked names caller.session p) (λ u. partitions.claimed_and_made names caller name p b by) c.in_ok-lock_default.ensures.step
     (goes (partitions.parent_tested p) (λ u. partitions.claimed_and_placed names caller name p b by) c.in_ok-check_parent.ensures
     (goes (name_claimed names caller.session name) (λ u. partitions.placed_and_made names caller name p b by) (moved (name_claimed names caller.session) _ _ c.as_bytes-text.ensures c.in_ok-claim_name.ensures.step)
     (goes (partitions.place_found caller.session p b by) (λ x. partitions.scanned_and_made names caller name p x) c.in_ok-place.ensures.step
@@ -222,7 +223,7 @@ returns c =
     let place = seen_place c.in_ok-place.place in
     goes (held_at caller.level caller.session caller.cmd) (λ u. partitions.made_below names caller name c.args.parent.now b by) c.in_ok-hold_if_repeatable.ensures.step
     (goes (named names caller.session AccessExclusive c.args.parent.now) (λ t. partitions.made_beside names caller name t b by) (moved (named names caller.session AccessExclusive) _ _ c.as_bytes.ensures c.in_ok-parent.ensures.step)
-    (goes (partitions.default_locked names caller.session p) (λ u. partitions.claimed_and_made names caller name p b by) c.in_ok-lock_default.ensures.step
+    (goes (default_locked names caller.session p) (λ u. partitions.claimed_and_made names caller name p b by) c.in_ok-lock_default.ensures.step
     (goes (partitions.parent_tested p) (λ u. partitions.claimed_and_placed names caller name p b by) c.in_ok-check_parent.ensures
     (goes (name_claimed names caller.session name) (λ u. partitions.placed_and_made names caller name p b by) (moved (name_claimed names caller.session) _ _ c.as_bytes-text.ensures c.in_ok-claim_name.ensures.step)
     (goes (partitions.place_found caller.session p b by) (λ x. partitions.scanned_and_made names caller name p x) c.in_ok-place.ensures.step

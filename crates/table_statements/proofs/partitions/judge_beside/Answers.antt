@@ -2,9 +2,9 @@ use Rattle.std.proofs.Common.{◌≡◌, ◌∙◌, ℕ, zero, suc, Bool, false,
 use Rattle.pg_values.specs.Sets.{empty}
 use Rattle.pg_values.specs.declared.ids.TableNo.{TableNo}
 use Rattle.history.specs.History.{History}
-use Rattle.partition_scans.specs.Places.{default_scan}
-use Rattle.partition_scans.specs.Scans.{judged, watches}
-use Rattle.partition_scans.specs.Sessions.{those, those_below}
+use Rattle.ddl_steps.specs.Places.{default_scan}
+use Rattle.ddl_steps.specs.Scans.{judged, watches}
+use Rattle.ddl_steps.specs.Sessions.{those, those_below}
 use Rattle.table_statements.proofs.partitions.judge_beside.Goals as goal
 
 none_pass : (n : ℕ) (p : ℕ → Bool) → ((k : ℕ) → p k ≡ false) → those_below n p ≡ empty

@@ -3,7 +3,7 @@ use Rattle.table_statements.specs.Seen.{seen_place}
 use Rattle.table_statements.specs.Partitions as partitions
 use Rattle.statement_steps.proofs.Parts.{answered_done}
 use Rattle.statement_steps.proofs.Steps.{handed_on}
-use Rattle.table_statements.proofs.Firsts.{answered_refused}
+use Rattle.ddl_steps.proofs.Firsts.{answered_refused}
 use Rattle.table_statements.proofs.partitions.place_found.Goals as goal
 
 pub place_of-requires-clause-siblings : goal.place_of-requires-clause-siblings

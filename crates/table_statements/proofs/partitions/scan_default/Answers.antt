@@ -1,6 +1,6 @@
 use Rattle.part_ddl.specs.Below.{default_of}
-use Rattle.partition_scans.specs.Places.{default_scan}
-use Rattle.partition_scans.proofs.Cleaning.{found_clean, own_never}
+use Rattle.ddl_steps.specs.Places.{default_scan}
+use Rattle.ddl_steps.proofs.Cleaning.{found_clean, own_never}
 use Rattle.table_statements.proofs.partitions.scan_default.Goals as goal
 
 pub wait_for_snapshots-requires-clause-others : goal.wait_for_snapshots-requires-clause-others

@@ -5,10 +5,10 @@ use Rattle.bound_forms.specs.declared.level.Level.{Level}
 use Rattle.history.specs.declared.catalogue.Column.{Column}
 use Rattle.table_binder.specs.Columns.{bound_columns}
 use Rattle.table_statements.specs.Seen.{seen_plan}
-use Rattle.table_statements.specs.Refused.{next_answer}
+use Rattle.ddl_steps.specs.Refused.{next_answer}
 use Rattle.table_statements.specs.Tables.{level_by, plan_with}
 use Rattle.table_statements.proofs.Chains.{plan_told}
-use Rattle.table_statements.proofs.Firsts.{past_ok, stops_at}
+use Rattle.ddl_steps.proofs.Firsts.{past_ok, stops_at}
 use Rattle.table_statements.proofs.tables.columns_and_key.Goals as goal
 
 pub returns-in_err-columns-clause-answer : goal.returns-in_err-columns-clause-answer

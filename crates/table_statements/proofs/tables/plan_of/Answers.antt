@@ -2,7 +2,7 @@ use Rattle.std.proofs.lemmas.Result.{err_from_is_err_and}
 use Rattle.part_ddl.specs.Tables.{count_faults}
 use Rattle.table_statements.specs.Seen.{seen_plan}
 use Rattle.table_statements.specs.Tables.{columns_and_key}
-use Rattle.table_statements.proofs.Firsts.{past_none, none_first, stops_first}
+use Rattle.ddl_steps.proofs.Firsts.{past_none, none_first, stops_first}
 use Rattle.table_statements.proofs.tables.plan_of.Goals as goal
 
 pub returns-in_err-check_count-clause-answer : goal.returns-in_err-check_count-clause-answer

@@ -3,7 +3,7 @@ use Rattle.table_statements.specs.Tables as tables
 use Rattle.table_statements.proofs.Chains.{plan_few}
 use Rattle.statement_steps.proofs.Parts.{answered_done}
 use Rattle.statement_steps.proofs.Steps.{handed_on}
-use Rattle.table_statements.proofs.Firsts.{answered_refused}
+use Rattle.ddl_steps.proofs.Firsts.{answered_refused}
 use Rattle.table_statements.proofs.tables.planned.Goals as goal
 
 pub returns-clause-step : goal.returns-clause-step

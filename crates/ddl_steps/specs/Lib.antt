@@ -1,0 +1,10 @@
+pub mod Fitting
+pub mod Sessions
+pub mod Data
+pub mod Scans
+pub mod Places
+pub mod Waited
+pub mod Refused
+pub mod Families
+pub mod Locks
+pub mod Checks
