@@ -18,8 +18,9 @@ use Rattle.sql_ast.specs.Commands.{Bound}
 use Rattle.part_catalog.specs.Answers.{entry_between, marker_told, pending_entry}
 use Rattle.part_ddl.specs.Below.{default_of}
 use Rattle.part_ddl.specs.Dropped.{place_ended}
-use Rattle.partition_scans.specs.Sessions.{those}
-use Rattle.partition_scans.specs.Waited.{scanned}
+use Rattle.ddl_steps.specs.Locks.{default_locked as family_of_default_locked}
+use Rattle.ddl_steps.specs.Sessions.{those}
+use Rattle.ddl_steps.specs.Waited.{scanned}
 use Rattle.statement_steps.specs.Asks.{named, named_still, held_at}
 use Rattle.statement_steps.specs.Steps.{follow, going_on}
 use Rattle.statement_steps.specs.declared.ending.Ending.{Ending}
@@ -27,9 +28,7 @@ use Rattle.statement_steps.specs.declared.ending.Ending.TheVariants as endings
 use Rattle.statement_steps.specs.declared.rest.Rest.{Rest}
 use Rattle.statement_steps.specs.declared.rest.Rest.TheVariants.{Rows, Detach}
 use Rattle.statement_steps.specs.declared.rest.RestOfDetach.{RestOfDetach}
-use Rattle.table_statements.specs.Drops.{stamp}
-use Rattle.table_statements.specs.Partitions.{default_locked as family_of_default_locked}
-use Rattle.table_statements.specs.Tables.{own}
+use Rattle.statement_steps.specs.Owned.{own, stamp}
 use Rattle.detach_statement.specs.Concurrent.{judged, marked, rest_of, place_marked, table_marked, first_stage, others_ended, behind_nobody, judged_still, endable, markable, partition_left, third_stage, later_stages, by_rest, detached_concurrently}
 use Rattle.detach_statement.specs.Detached.{locked_or_none, default_locked, checked, detachable, place_left, table_detached, locked_and_detached, detached}
 use Rattle.detach_statement.specs.Finalized.{judged as judged_pending, finalizable, unseeing, mark_seen, table_finalized, locked_and_finalized, finalized}

@@ -17,10 +17,11 @@ use Rattle.row_router.specs.declared.path_part.PathPart.{PathPart}
 use Rattle.row_router.specs.Trees.{TableTree}
 use Rattle.row_router.specs.Histories.{tree_of, path_of, table_of}
 use Rattle.row_store.specs.Stands.{newborn}
-use Rattle.row_change.specs.Placing.{all_placed}
-use Rattle.row_change.specs.Storing.{full_faults}
+use Rattle.row_change.specs.Placing.{all_placed, tables_of}
+use Rattle.row_change.specs.Storing.{full_faults, table_faults}
 use Rattle.row_change.specs.Succession.{follows}
 use Rattle.row_change.specs.Ways.{AllTables, ways_below}
+use Rattle.row_change.specs.Targets.{holder_faults}
 use Rattle.part_catalog.specs.Found.{made_at}
 use Rattle.plan_tree.specs.Kept.{Keeps, kept_tables}
 use Rattle.cond_logic.specs.Asked.{ChangeMeant}
@@ -33,14 +34,15 @@ use Rattle.stores.specs.Events.{look_of}
 use Rattle.statement_steps.specs.Asks.{named, all_locked, held_at}
 use Rattle.statement_steps.specs.Ended.{giving}
 use Rattle.statement_steps.specs.Gathered.{Found, RowsLeft}
-use Rattle.statement_steps.specs.Made.{Made, made}
+use Rattle.statement_steps.specs.Made.{Made, made, unless_refused}
 use Rattle.statement_steps.specs.Steps.{follow}
 use Rattle.statement_steps.specs.declared.rest.Rest.{Rest}
 use Rattle.statement_steps.specs.declared.rest.Rest.TheVariants.{Rows}
 use Rattle.statement_steps.specs.declared.rest.TargetRow.{TargetRow}
 use Rattle.statement_steps.specs.Below.{below as below_of, number_of}
-use Rattle.insert_statement.specs.Born.{unless_refused, born, all_born, table_faults}
-use Rattle.insert_statement.specs.Inserted.{own, tables_of, rows_meant, whole_rows, holder_faults, into_leaves, placed_rows, locked_into, below, into_shape, into, gathered as gathered_rows, inserted}
+use Rattle.statement_steps.specs.Owned.{own}
+use Rattle.insert_statement.specs.Born.{born, all_born}
+use Rattle.insert_statement.specs.Inserted.{rows_meant, whole_rows, into_leaves, placed_rows, locked_into, below, into_shape, into, gathered as gathered_rows, inserted}
 use Rattle.change_statement.specs.Changed.{Changing, updater, waits_for_end, held_now, paused, conflict_fault, by_decision, one_changed, all_changed, changed_from, changed_on, Told, told_of, changed, begun_or_left, changed_by}
 use Rattle.change_statement.specs.Deleted.{deleting, deleted}
 use Rattle.change_statement.specs.Gathered.{found_by, item_of, meant, locked_all, locked_by, locked, of_table, gathered}

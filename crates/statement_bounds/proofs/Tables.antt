@@ -27,19 +27,22 @@ use Rattle.part_ddl.specs.Dropped.{ended, place_ended, places_ended, tables_drop
 use Rattle.part_ddl.specs.Partitions.{partition_events}
 use Rattle.part_ddl.specs.Placing.{level_at}
 use Rattle.part_ddl.specs.Tables.{name_faults, table_events}
-use Rattle.partition_scans.specs.Places.{default_scan}
-use Rattle.partition_scans.specs.Scans.{Scan, refusals, watches}
-use Rattle.partition_scans.specs.Sessions.{those}
-use Rattle.partition_scans.specs.Waited.{waits_for, scanned}
+use Rattle.ddl_steps.specs.Places.{default_scan}
+use Rattle.ddl_steps.specs.Scans.{Scan, refusals, watches}
+use Rattle.ddl_steps.specs.Sessions.{those}
+use Rattle.ddl_steps.specs.Waited.{waits_for, scanned}
 use Rattle.statement_steps.specs.Asks.{named, all_locked, held_at}
 use Rattle.statement_steps.specs.Made.{made}
 use Rattle.statement_steps.specs.Steps.{follow}
 use Rattle.table_statements.specs.Claims.{name_claimed, name_tested, name_waited, waits_if_taken}
-use Rattle.table_statements.specs.Drops.{one_number, parent_in, default_beside, tables_to_lock, drop_locked, absent, locked_one, found_one, found_all, stamp, is_left, dropped_one, dropped_all, locked_and_dropped, dropped}
+use Rattle.table_statements.specs.Drops.{one_number, default_beside, tables_to_lock, drop_locked, absent, locked_one, found_one, found_all, is_left, dropped_one, dropped_all, locked_and_dropped, dropped}
 use Rattle.table_statements.specs.Locked.{whole, one_named, all_named, one_under, all_under, locked}
-use Rattle.table_statements.specs.Partitions.{Place, numbers_under, default_locked, default_scanned, partition_place, place_found, partition_made, scanned_and_made, placed_and_made, level_there, parent_tested, claimed_and_placed, claimed_and_made as claimed_and_made_below, made_beside, made_below, partitioned}
-use Rattle.table_statements.specs.Refused.{next_answer, unless_faults}
-use Rattle.table_statements.specs.Tables.{own, table_plan, planned, table_made, planned_and_made, claimed_and_made, created}
+use Rattle.table_statements.specs.Partitions.{Place, default_scanned, partition_place, place_found, partition_made, scanned_and_made, placed_and_made, level_there, parent_tested, claimed_and_placed, claimed_and_made as claimed_and_made_below, made_beside, made_below, partitioned}
+use Rattle.ddl_steps.specs.Families.{numbers_under, parent_in}
+use Rattle.ddl_steps.specs.Locks.{default_locked}
+use Rattle.ddl_steps.specs.Refused.{next_answer, unless_faults}
+use Rattle.statement_steps.specs.Owned.{own, stamp}
+use Rattle.table_statements.specs.Tables.{table_plan, planned, table_made, planned_and_made, claimed_and_made, created}
 use Rattle.statement_ends.specs.Asking.{MayAsk}
 use Rattle.statement_bounds.proofs.Parts.{Attempt, Now, Part, Parts, Gives, Any, Ends, AreSilent, both_silent, events_part, made_part, refused_part, answered_part, follow_part, then_parts}
 use Rattle.statement_bounds.proofs.Locks.{Low, all_locked_parts, waited_parts, waited_one_parts, named_parts, held_at_parts, made_low, last_low}

@@ -9,7 +9,7 @@ use Rattle.std.specs.Prelude.{◌-◌, ◌*◌, ◌^◌, ◌%◌}
 use Rattle.pg_values.specs.Sets.{has, empty, without}
 use Rattle.pg_values.specs.declared.session_set.SessionSet.{SessionSet}
 use Rattle.pg_values.proofs.Bits.{set_has, and_has}
-use Rattle.partition_scans.specs.Sessions.{joined_by, those_below, those}
+use Rattle.ddl_steps.specs.Sessions.{joined_by, those_below, those}
 use Rattle.table_statements.specs.Claims.{only}
 use Rattle.statement_ends.specs.Asking.{HasSessions}
 
