@@ -142,6 +142,24 @@ fn bind_front(
     Ok((outputs, conditions))
 }
 
+fn ask_for(
+    outputs: Vec<Output>,
+    conditions: Vec<Cond>,
+    order: Vec<SortKey>,
+    limit: Option<u64>,
+    offset: Option<u64>,
+) -> SelectAsk
+    ensures { select_meant result ≡ record { outputs = map output_tree outputs.items; conditions = map cond_tree conditions.items; order = order.items; limit = limit; offset = offset } }
+{
+    SelectAsk {
+        outputs: ListOf::from_vec(outputs),
+        conditions: ListOf::from_vec(conditions),
+        order: ListOf::from_vec(order),
+        limit,
+        offset,
+    }
+}
+
 fn bind_parts(
     alloc: Global,
     select: &Select,
@@ -158,13 +176,7 @@ fn bind_parts(
     let names = list_scope(items, params, session);
     let (outputs, conditions) = bind_front(alloc, &names, select, items, params, session)?;
     let (order, (limit, offset)) = bind_tail(alloc, &names, counting, headings, select)?;
-    Ok(SelectAsk {
-        outputs: ListOf::from_vec(outputs),
-        conditions: ListOf::from_vec(conditions),
-        order: ListOf::from_vec(order),
-        limit,
-        offset,
-    })
+    Ok(ask_for(outputs, conditions, order, limit, offset))
 }
 
 fn bind_checked(

@@ -1,4 +1,4 @@
-use Rattle.std.proofs.Common.{map}
+use Rattle.std.proofs.Common.{map, ap, sym, Ok, ◌∙◌}
 use Rattle.cond_logic.specs.Trees.{cond_tree}
 use Rattle.sql_ast.specs.Queries.{item_tree, joined_tree, key_tree, maybe_tree}
 use Rattle.cond_logic.specs.Asked.{output_tree}
@@ -13,3 +13,4 @@ returns c =
     c.list_scope-names.result c.args.counting.now (map heading c.args.headings.now)
     (map output_tree c.in_ok-outputs.outputs.items, map cond_tree c.in_ok-outputs.conditions.items) (c.in_ok-order.order.items, (c.in_ok-order.limit, c.in_ok-order.offset))
     c.list_scope-names.ensures c.requires.counting c.requires.outputs c.in_ok-outputs.ensures c.in_ok-order.ensures
+    ∙ ap Ok (sym c.ask_for.ensures)
