@@ -17,7 +17,7 @@ ghost use Rattle.row_change.specs.Laws.{AreRowsOf};
 ghost use Rattle.statement_steps.specs.Rights.{MayWrite};
 
 use crate::storing::put_rows;
-use pg_values::{LeafId, LockMode, Row, TableNo};
+use pg_values::{LeafId, LockMode, NoMemory, Row, TableNo};
 use row_change::{leaf_targets, leaves_and_ways};
 use row_router::Tree;
 use statement_steps::{Caller, SessionNames, Stop, lock_tables, tree_and_path};

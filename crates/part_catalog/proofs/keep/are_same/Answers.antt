@@ -1,4 +1,4 @@
-use Rattle.core.specs.Cmp.{booleans_Decides}
+use Rattle.std.specs.Cmp.{booleans_Decides}
 use Rattle.std.proofs.lemmas.Slice.Eq.{slice_eq-Decides}
 use Rattle.part_catalog.proofs.keep.are_same.Goals as goal
 
