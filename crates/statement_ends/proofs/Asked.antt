@@ -27,20 +27,20 @@ or_true : (b : Bool) → (b || true) ≡ true
 or_true true = refl
 or_true false = refl
 
-got_stays : (l : LockEvents) (s t : ℕ) (m : LockMode) (x i : ℕ) (k : LockMode) → holds l x i k ≡ true → holds (LockGot s t m ∷ l) x i k ≡ true
+pub got_stays : (l : LockEvents) (s t : ℕ) (m : LockMode) (x i : ℕ) (k : LockMode) → holds l x i k ≡ true → holds (LockGot s t m ∷ l) x i k ≡ true
 got_stays l s t m x i k e = rw e (or_true _)
 
-began_own : (l : LockEvents) (s : ℕ) (w : Wanted) → wanted (WaitBegan s w ∷ l) s ≡ Some w
+pub began_own : (l : LockEvents) (s : ℕ) (w : Wanted) → wanted (WaitBegan s w ∷ l) s ≡ Some w
 began_own l s w = grind (arith, common_steps, nat_tests)
 
-began_other : (l : LockEvents) (s x : ℕ) (w : Wanted) → x ≢ s → wanted (WaitBegan s w ∷ l) x ≡ wanted l x
+pub began_other : (l : LockEvents) (s x : ℕ) (w : Wanted) → x ≢ s → wanted (WaitBegan s w ∷ l) x ≡ wanted l x
 began_other l s x w other = grind (arith, common_steps, nat_tests, other)
 
 named_cause : (l : LockEvents) (s y : ℕ) (v : WaitOn) → is_cause l s (Others v) y ≡ named_in v y
 named_cause l s y (Ends of) = refl
 named_cause l s y (Snapshots of) = refl
 
-cause_of : (l : LockEvents) (s : ℕ) (w : Wanted) → (y : ℕ) × (is_cause l s w y ≡ true) → HasCause w
+pub cause_of : (l : LockEvents) (s : ℕ) (w : Wanted) → (y : ℕ) × (is_cause l s w y ≡ true) → HasCause w
 cause_of l s (Lock t m) c = tt
 cause_of l s (Others v) c = (c.0, sym (named_cause l s c.0 v) ∙ c.1)
 

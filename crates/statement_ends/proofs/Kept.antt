@@ -17,11 +17,13 @@ use Rattle.lock_table.specs.Stands.{names}
 use Rattle.schedule.specs.Lists.{head_of, without}
 use Rattle.stores.specs.Events.{ended, resumed}
 use Rattle.statement_steps.specs.Attempts.{HasCause}
+use Rattle.statement_steps.specs.declared.rest.Rest.{Rest}
 use Rattle.statement_runs.specs.Database.{Database, anew, empty, is_cancelled, waits, cancels, cuts, all_cut, interrupted, is_ready, resumes, happened}
 use Rattle.statement_runs.specs.Weight.{of_flag, of_mark}
 use Rattle.statement_ends.proofs.Cutting.{is_itself, ready_some, first_passes, first_in, cut_added, cut_gone}
 use Rattle.statement_ends.proofs.Waiting.{lacks_wanted, ready_names, ready_waits, first_waits, got_it, still_holds}
 use Rattle.run_ends.specs.Executors.{HasRank, HasLower}
+use Rattle.statement_ends.specs.Asking.{IsKnown}
 use Rattle.statement_ends.specs.Rank.{unheld, slack, Stands, IsKept, IsRanked}
 use Rattle.statement_ends.proofs.Shrinking.{Shrinks, bounded_below, over_left, given_up_shrinks, idle_after}
 use Rattle.statement_ends.proofs.Sums.{flag_set_less, mark_cleared, unheld_mono, unheld_less, flag_lower, cut_no_higher, lock_lower, mark_lower, cut_lower}
@@ -44,6 +46,19 @@ there xs s on =
 -- where all are marked none has to have a cause
 pub all_marked : (n s : ℕ) (A : Type 0) → s < n → slice_index_or (replicate n true) s false ≡ false → A
 all_marked n s A lt off = absurd (let c : true ≡ false = sym (get_or-replicate n s true false lt) ∙ off in cc)
+
+-- ---- where statements stand
+
+-- nowhere, at the beginning
+abbrev nowhere : ℕ → List (Option Rest)
+nowhere m = replicate m None
+
+no_rest : (m s : ℕ) → slice_index_or (nowhere m) s None ≡ None
+no_rest m s =
+    elim (cases_lt s m) [
+      | inl lt ↦ get_or-replicate m s None None lt
+      | inr past ↦ let size : length (nowhere m) ≡ m = length-replicate m None in get_or_past (nowhere m) s None (subst (λ l. l ≤ s) (sym size) past)
+    ]
 
 -- ---- options
 
@@ -99,6 +114,7 @@ module _ {O : Type 0} (tables : CatalogueEvents → ℕ) (n : ℕ) where
     cancelled = length-replicate m false ∙ same;
     rests = length-replicate m None ∙ same;
     marks = length-replicate n false;
+    known = λ s. subst IsKnown (sym (no_rest m s)) tt;
     sound = tt;
     waits = λ s w is. absurd (cc);
     room = omega arith;
@@ -108,7 +124,7 @@ module _ {O : Type 0} (tables : CatalogueEvents → ℕ) (n : ℕ) where
   pub anew_kept : (v : Database O) → v.sessions ≡ n → n ≤ 128 → IsKept tables n (tables []) (replicate n false) (anew v) None
   anew_kept v same few =
       let k = empty_kept v.options v.sessions same few in
-      record { few = k.few; sessions = k.sessions; cancelled = k.cancelled; rests = k.rests; marks = k.marks; sound = k.sound; waits = k.waits; room = k.room; goes_on = tt }
+      record { few = k.few; sessions = k.sessions; cancelled = k.cancelled; rests = k.rests; marks = k.marks; known = k.known; sound = k.sound; waits = k.waits; room = k.room; goes_on = tt }
 
   -- ---- the turn
 
@@ -119,6 +135,7 @@ module _ {O : Type 0} (tables : CatalogueEvents → ℕ) (n : ℕ) where
     cancelled = h.cancelled;
     rests = h.rests;
     marks = h.marks;
+    known = h.known;
     sound = h.sound;
     waits = h.waits;
     room = h.room;
@@ -135,6 +152,7 @@ module _ {O : Type 0} (tables : CatalogueEvents → ℕ) (n : ℕ) where
     cancelled = h.cancelled;
     rests = h.rests;
     marks = length-replicate n true;
+    known = h.known;
     sound = (tt, (tt, (tt, h.sound)));
     waits = given_up_waits n (lock_events v.history) (lock_events (ended e s ++ v.history)) bound bound v.cancelled v.cancelled moved (omega arith) (given_up_shrinks s (lock_events v.history)) (λ r w is off. off) h.waits;
     room = h.room;
@@ -151,6 +169,7 @@ module _ {O : Type 0} (tables : CatalogueEvents → ℕ) (n : ℕ) where
     cancelled = length-set v.cancelled s true ∙ h.cancelled;
     rests = h.rests;
     marks = h.marks;
+    known = h.known;
     sound = (tt, h.sound);
     waits = λ r w is.
         let l = over_left s r (wanted (lock_events v.history) r) w is in
@@ -187,7 +206,7 @@ module _ {O : Type 0} (tables : CatalogueEvents → ℕ) (n : ℕ) where
   one_cut v s x bound moved true is h =
       let u = is_there (wanted (lock_events v.history) x) is in
       let k = cancels_kept v (Some s) (Some s) bound moved x h (h.goes_on.0, idle_after (lock_events v.history) (WaitWithdrawn x ∷ lock_events v.history) s (λ r w e. (w, (over_left x r (wanted (lock_events v.history) r) w e).1, λ m b. b)) h.goes_on.1) in (
-        record { few = k.few; sessions = k.sessions; cancelled = k.cancelled; rests = k.rests; marks = k.marks; sound = k.sound; waits = k.waits; room = k.room; goes_on = k.goes_on },
+        record { few = k.few; sessions = k.sessions; cancelled = k.cancelled; rests = k.rests; marks = k.marks; known = k.known; sound = k.sound; waits = k.waits; room = k.room; goes_on = k.goes_on },
         cut_no_higher (unheld n bound (lock_events v.history)) (unheld n bound (lock_events v.history)) (sum_by of_flag v.cancelled) (sum_by of_flag (slice_set v.cancelled x true)) _ _ _ (omega arith) (flag_falls v (Some s) bound moved x u.0 h u.1) (cut_added n x v.cut),
       )
 
@@ -211,6 +230,7 @@ module _ {O : Type 0} (tables : CatalogueEvents → ℕ) (n : ℕ) where
     cancelled = h.cancelled;
     rests = h.rests;
     marks = length-set moved s false ∙ h.marks;
+    known = h.known;
     sound = (is, h.sound);
     waits = λ r u e.
         let l = over_left s r (wanted (lock_events v.history) r) u e in
@@ -249,7 +269,7 @@ module _ {O : Type 0} (tables : CatalogueEvents → ℕ) (n : ℕ) where
       let lt : s < n = subst (λ m. s < m) h.kept.cancelled (there v.cancelled s flag) in
       let w = record v { cut = without s v.cut } in
       lower w (Some s) os h.bound h.moved k
-      (record { few = h.kept.few; sessions = h.kept.sessions; cancelled = h.kept.cancelled; rests = h.kept.rests; marks = h.kept.marks; sound = h.kept.sound; waits = h.kept.waits; room = h.kept.room; goes_on = (lt, idle (wanted (lock_events v.history) s) refl flag) })
+      (record { few = h.kept.few; sessions = h.kept.sessions; cancelled = h.kept.cancelled; rests = h.kept.rests; marks = h.kept.marks; known = h.kept.known; sound = h.kept.sound; waits = h.kept.waits; room = h.kept.room; goes_on = (lt, idle (wanted (lock_events v.history) s) refl flag) })
       (subst (λ m. slack n h.bound h.moved w < m) h.rank (cut_lower (unheld n h.bound (lock_events v.history)) _ _ _ _ (cut_gone n s v.cut lt (first_in (is_cancelled v) v.cut s e))))
     where
       idle : (o : Option Wanted) → wanted (lock_events v.history) s ≡ o → is_cancelled v s ≡ true → wanted (lock_events v.history) s ≡ None

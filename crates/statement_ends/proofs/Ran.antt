@@ -1,5 +1,5 @@
 -- What a statement leaves of a rank.
-use Rattle.std.proofs.Common.{◌≡◌, ◌<◌, ◌≤◌, ℕ, ◌+◌, ◌⊎◌, Bool, true, false, List, [], ◌∷◌, ◌++◌, Option, Some, None, Result, Ok, Err, refl, sym, subst, ◌∙◌, inl, inr, length, replicate, slice_set, arith, length-set}
+use Rattle.std.proofs.Common.{◌≡◌, ◌<◌, ◌≤◌, ℕ, ◌+◌, ◌⊎◌, Bool, true, false, List, [], ◌∷◌, ◌++◌, Option, Some, None, Result, Ok, Err, refl, ap, sym, subst, ◌∙◌, inl, inr, length, replicate, slice_index_or, slice_set, arith, length-set, get_or-set_other, get_or-set_same}
 use Rattle.std.specs.List.{sum_by}
 use Rattle.std.proofs.lemmas.Bool.{cases_eq}
 use Rattle.std.proofs.lemmas.List.{length-replicate}
@@ -21,7 +21,7 @@ use Rattle.statement_steps.specs.declared.rest.Rest.{Rest}
 use Rattle.statement_runs.specs.Database.{Database, is_cancelled, rest_of, command_of, goes_on, given_up, let_go_at, next_command, rest_told, outcome_told, unless_cancelled}
 use Rattle.statement_runs.specs.Tallies.{added}
 use Rattle.statement_runs.specs.Weight.{of_flag}
-use Rattle.statement_ends.specs.Asking.{IsWaiting, WaitsAsTold, Asks}
+use Rattle.statement_ends.specs.Asking.{IsWaiting, WaitsAsTold, IsKnown, Asks}
 use Rattle.statement_ends.specs.Rank.{unheld, slack, Stands, IsKept}
 use Rattle.statement_ends.proofs.Shrinking.{Shrinks, bounded_below, snapshot_shrinks, shrinks_twice, idle_after}
 use Rattle.statement_ends.proofs.Kept.{set_apart, cleared, given_up_waits}
@@ -92,6 +92,18 @@ module _ {O : Type 0} (tables : CatalogueEvents → ℕ) (n : ℕ) (v : Database
   own : s < length v.cancelled
   own = subst (λ m. s < m) (sym h.cancelled) h.goes_on.0
 
+  own_rest : s < length v.rests
+  own_rest = subst (λ m. s < m) (sym h.rests) h.goes_on.0
+
+  -- what is known of where statements stand
+
+  rests_known : (m : Made Ended) → IsKnown (rest_told m.told) → (r : ℕ) → IsKnown (slice_index_or (slice_set v.rests s (rest_told m.told)) r None)
+  rests_known m known r =
+      elim (cases_eq r s) [
+        | inl same ↦ subst IsKnown (sym (ap (λ x. slice_index_or (slice_set v.rests s (rest_told m.told)) x None) same ∙ get_or-set_same v.rests s (rest_told m.told) None own_rest)) known
+        | inr other ↦ subst IsKnown (sym (get_or-set_other v.rests s r (rest_told m.told) None other)) (h.known r)
+      ]
+
   -- ---- it waits
 
   waits_stand : (m : Made Ended) → Asks tables s v.history m → IsWaiting tables s v.history (m.events ++ v.history)
@@ -108,13 +120,14 @@ module _ {O : Type 0} (tables : CatalogueEvents → ℕ) (n : ℕ) (v : Database
             record { known = k.known; standing = set_apart v.cancelled s r false (λ same. other (sym same)) k.standing; bounded = k.bounded; caused = k.caused }
       ]
 
-  waiting_kept : (m : Made Ended) → Asks tables s v.history m → IsWaiting tables s v.history (m.events ++ v.history) → IsKept tables n bound moved (left_at (m.events ++ v.history) m) None
-  waiting_kept m asks waits = record {
+  waiting_kept : (m : Made Ended) → Asks tables s v.history m → IsKnown (rest_told m.told) → IsWaiting tables s v.history (m.events ++ v.history) → IsKept tables n bound moved (left_at (m.events ++ v.history) m) None
+  waiting_kept m asks known waits = record {
     few = h.few;
     sessions = h.sessions;
     cancelled = length-set v.cancelled s false ∙ h.cancelled;
     rests = length-set v.rests s (rest_told m.told) ∙ h.rests;
     marks = h.marks;
+    known = rests_known m known;
     sound = asks.sound;
     waits = waits_stand m asks waits;
     room = (let le = waits.no_more in let room = h.room in omega (arith, le, room));
@@ -126,20 +139,20 @@ module _ {O : Type 0} (tables : CatalogueEvents → ℕ) (n : ℕ) (v : Database
       lock_no_higher (unheld n bound (lock_events v.history)) (unheld n bound (lock_events (m.events ++ v.history))) (sum_by of_flag v.cancelled) (sum_by of_flag (slice_set v.cancelled s false)) _ _
       (unheld_mono n bound (lock_events v.history) (lock_events (m.events ++ v.history)) asks.stay) (flags_same v.cancelled s false off)
 
-  pub run_waits : (b : Bool) (m : Made Ended) → is_cancelled v s ≡ b → Asks tables s v.history m → outcome_told (unless_cancelled b m).told ≡ outcomes.Waits → Waited tables n bound moved s (slack n bound moved v) (goes_on v a (unless_cancelled b m) more)
-  run_waits true m is asks e = absurd (cc)
-  run_waits false m is asks e =
+  pub run_waits : (b : Bool) (m : Made Ended) → is_cancelled v s ≡ b → Asks tables s v.history m → IsKnown (rest_told m.told) → outcome_told (unless_cancelled b m).told ≡ outcomes.Waits → Waited tables n bound moved s (slack n bound moved v) (goes_on v a (unless_cancelled b m) more)
+  run_waits true m is asks known e = absurd (cc)
+  run_waits false m is asks known e =
       let waits = waits_told s tables v.history (m.events ++ v.history) m.told e asks.told in
       let none = given_waits a.level s (rest_of v s) m.told e in
       subst (λ g. Waited tables n bound moved s (slack n bound moved v) (left_at (g ++ (m.events ++ v.history)) m)) (sym none)
-      (record { kept = waiting_kept m asks waits; what = waits.what; waits = waits.waits; no_higher = waiting_no_higher m asks is })
+      (record { kept = waiting_kept m asks known waits; what = waits.what; waits = waits.waits; no_higher = waiting_no_higher m asks is })
 
   -- ---- it does not
 
   -- where its session waits for nothing, and the others for no more than before
-  idle_kept : (g : History) (m : Made Ended) → AreLocksSound (lock_events g) → Shrinks (lock_events v.history) (lock_events g)
+  idle_kept : (g : History) (m : Made Ended) → IsKnown (rest_told m.told) → AreLocksSound (lock_events g) → Shrinks (lock_events v.history) (lock_events g)
       → IsKept tables n (bound + tables (catalogue_events g)) (replicate n true) (left_at g m) (Some s)
-  idle_kept g m sound shrinks =
+  idle_kept g m known sound shrinks =
       let idle = idle_after (lock_events v.history) (lock_events g) s shrinks h.goes_on.1 in
       record {
         few = h.few;
@@ -147,6 +160,7 @@ module _ {O : Type 0} (tables : CatalogueEvents → ℕ) (n : ℕ) (v : Database
         cancelled = length-set v.cancelled s false ∙ h.cancelled;
         rests = length-set v.rests s (rest_told m.told) ∙ h.rests;
         marks = length-replicate n true;
+        known = rests_known m known;
         sound = sound;
         waits = given_up_waits n (lock_events v.history) (lock_events g) bound (bound + tables (catalogue_events g)) v.cancelled (slice_set v.cancelled s false) moved (omega arith) shrinks
             (λ r w is off. elim (cases_eq r s) [
@@ -157,13 +171,13 @@ module _ {O : Type 0} (tables : CatalogueEvents → ℕ) (n : ℕ) (v : Database
         goes_on = (h.goes_on.0, idle);
       }
 
-  given_kept : (given g : History) (m : Made Ended) → (given ≡ []) ⊎ (given ≡ let_go s) → AreLocksSound (lock_events g) → Shrinks (lock_events v.history) (lock_events g)
+  given_kept : (given g : History) (m : Made Ended) → (given ≡ []) ⊎ (given ≡ let_go s) → IsKnown (rest_told m.told) → AreLocksSound (lock_events g) → Shrinks (lock_events v.history) (lock_events g)
       → (b : ℕ) × IsKept tables n b (replicate n true) (left_at (given ++ g) m) (Some s)
-  given_kept given g m (inl e) sound shrinks = (bound + tables (catalogue_events g), subst (λ x. IsKept tables n (bound + tables (catalogue_events g)) (replicate n true) (left_at (x ++ g) m) (Some s)) (sym e) (idle_kept g m sound shrinks))
-  given_kept given g m (inr e) sound shrinks = (
+  given_kept given g m (inl e) known sound shrinks = (bound + tables (catalogue_events g), subst (λ x. IsKept tables n (bound + tables (catalogue_events g)) (replicate n true) (left_at (x ++ g) m) (Some s)) (sym e) (idle_kept g m known sound shrinks))
+  given_kept given g m (inr e) known sound shrinks = (
     bound + tables (catalogue_events g),
     subst (λ x. IsKept tables n (bound + tables (catalogue_events g)) (replicate n true) (left_at (x ++ g) m) (Some s)) (sym e)
-        (idle_kept (let_go s ++ g) m (tt, sound) (shrinks_twice (lock_events v.history) (lock_events g) (SnapshotGone s ∷ lock_events g) shrinks (snapshot_shrinks s (lock_events g)))),
+        (idle_kept (let_go s ++ g) m known (tt, sound) (shrinks_twice (lock_events v.history) (lock_events g) (SnapshotGone s ∷ lock_events g) shrinks (snapshot_shrinks s (lock_events g)))),
   )
 
   -- who waits behind the statement waited before
@@ -174,11 +188,11 @@ module _ {O : Type 0} (tables : CatalogueEvents → ℕ) (n : ℕ) (v : Database
         | inr other ↦ (w, sym (asks.others r other) ∙ is, λ k b. b)
       ]
 
-  pub run_goes : (b : Bool) (m : Made Ended) → is_cancelled v s ≡ b → Asks tables s v.history m → (outcome_told (unless_cancelled b m).told ≡ outcomes.Waits → ⊥)
+  pub run_goes : (b : Bool) (m : Made Ended) → is_cancelled v s ≡ b → Asks tables s v.history m → IsKnown (rest_told m.told) → (outcome_told (unless_cancelled b m).told ≡ outcomes.Waits → ⊥)
       → (k : ℕ) × IsKept tables n k (replicate n true) (goes_on v a (unless_cancelled b m) more) (Some s)
-  run_goes true m is asks e =
+  run_goes true m is asks known e =
       let x : Made Ended = halted [] (Refused statement_cancelled) in
-      given_kept (given_up a.level s (rest_of v s) x.told) v.history x (given_is a.level s (rest_of v s) x.told) h.sound (λ r w waits. (w, waits, λ k b. b))
-  run_goes false m is asks e =
-      given_kept (given_up a.level s (rest_of v s) m.told) (m.events ++ v.history) m (given_is a.level s (rest_of v s) m.told) asks.sound
+      given_kept (given_up a.level s (rest_of v s) x.told) v.history x (given_is a.level s (rest_of v s) x.told) tt h.sound (λ r w waits. (w, waits, λ k b. b))
+  run_goes false m is asks known e =
+      given_kept (given_up a.level s (rest_of v s) m.told) (m.events ++ v.history) m (given_is a.level s (rest_of v s) m.told) known asks.sound
       (stay_waits m asks (idle_told s tables v.history (m.events ++ v.history) m.told e asks.told))

@@ -8,10 +8,10 @@ use Rattle.sessions.specs.declared.asker.Asker.{Asker}
 use Rattle.sessions.specs.declared.outcome.Outcome.TheVariants as outcomes
 use Rattle.sessions.specs.declared.settings.Settings.{Settings}
 use Rattle.stores.specs.Events.{tx_in}
-use Rattle.statement_runs.specs.Database.{Database, course, cut_by, caller_of, command_of, is_cancelled, rest_of, outcome_told, anew, attempt_of, given_by, goes_on}
+use Rattle.statement_runs.specs.Database.{Database, course, cut_by, caller_of, command_of, is_cancelled, rest_of, rest_told, outcome_told, anew, attempt_of, given_by, goes_on, empty}
 use Rattle.statement_runs.specs.Words.{Words}
 use Rattle.run_ends.specs.Executors.{HasRank, LowersIn}
-use Rattle.statement_ends.specs.Asking.{Asks, AllAsk}
+use Rattle.statement_ends.specs.Asking.{IsKnown, MayAsk, Asks, AllAsk}
 use Rattle.statement_ends.specs.Rank.{slack, IsKept, IsRanked}
 use Rattle.statement_ends.proofs.Kept.{ranked, anew_kept, turned, ended_kept, own_cancelled, all_cut_kept, resumes_lower, cancelled_lower, is_none}
 use Rattle.statement_ends.proofs.Ran.{Waited, run_waits, run_goes, never_goes}
@@ -20,19 +20,26 @@ module _ {O T : Type 0} (W : Words O T) (tables : CatalogueEvents → ℕ) (asks
   abbrev Q : Database O → Option ℕ → List Bool → ℕ → Type 0
   Q = IsRanked tables n
 
+  may : (w : Database O) (a : Asker) (bound : ℕ) (moved : List Bool) → IsKept tables n bound moved w (Some a.session) → MayAsk a.session w.history
+  may w a bound moved h = record { known = (let few = h.few in let lt = h.goes_on.0 in omega (arith, few, lt)); sound = h.sound; idle = h.goes_on.1 }
+
   -- a statement of a session that has the turn, behind the waits that it cancels
   asked : (w : Database O) (a : Asker) (g : Settings) (t : T) (bound : ℕ) (moved : List Bool) → IsKept tables n bound moved w (Some a.session)
       → Asks tables a.session w.history (W.attempted w.options (caller_of w.sessions (command_of w a.session) a) (rest_of w a.session) w.history g t)
   asked w a g t bound moved h =
-      asks.each w.options (caller_of w.sessions (command_of w a.session) a) (rest_of w a.session) w.history g t
-      (record { known = (let few = h.few in let lt = h.goes_on.0 in omega (arith, few, lt)); sound = h.sound; idle = h.goes_on.1 })
+      asks.each w.options (caller_of w.sessions (command_of w a.session) a) (rest_of w a.session) w.history g t (may w a bound moved h) (h.known a.session)
+
+  stands : (w : Database O) (a : Asker) (g : Settings) (t : T) (bound : ℕ) (moved : List Bool) → IsKept tables n bound moved w (Some a.session)
+      → IsKnown (rest_told (W.attempted w.options (caller_of w.sessions (command_of w a.session) a) (rest_of w a.session) w.history g t).told)
+  stands w a g t bound moved h =
+      asks.rests w.options (caller_of w.sessions (command_of w a.session) a) (rest_of w a.session) w.history g t (may w a bound moved h) (h.known a.session)
 
   waited : (v : Database O) (os : List Bool) (k : ℕ) (a : Asker) (g : Settings) (t : T) (h : Q v (Some a.session) os k) → outcome_told (attempt_of W (cut_by W v a t) a g t).told ≡ outcomes.Waits
       → Waited tables n h.bound h.moved a.session k (goes_on (cut_by W v a t) a (attempt_of W (cut_by W v a t) a g t) (given_by W (cut_by W v a t) a g t))
   waited v os k a g t h e =
       let w = cut_by W v a t in
       let cut = all_cut_kept tables n (W.cancels a.session v.sessions t) v a.session h.bound h.moved h.kept in
-      let r = run_waits tables n w a (given_by W w a g t) h.bound h.moved cut.0 (is_cancelled w a.session) (W.attempted w.options (caller_of w.sessions (command_of w a.session) a) (rest_of w a.session) w.history g t) refl (asked w a g t h.bound h.moved cut.0) e in
+      let r = run_waits tables n w a (given_by W w a g t) h.bound h.moved cut.0 (is_cancelled w a.session) (W.attempted w.options (caller_of w.sessions (command_of w a.session) a) (rest_of w a.session) w.history g t) refl (asked w a g t h.bound h.moved cut.0) (stands w a g t h.bound h.moved cut.0) e in
       record { kept = r.kept; what = r.what; waits = r.waits; no_higher = thrice r.no_higher cut.1 h.rank }
     where
       thrice : {x y z u : ℕ} → x ≤ y → y ≤ z → z ≡ u → x ≤ u
@@ -43,7 +50,7 @@ module _ {O T : Type 0} (W : Words O T) (tables : CatalogueEvents → ℕ) (asks
   goes v os k a g t h e =
       let w = cut_by W v a t in
       let cut = all_cut_kept tables n (W.cancels a.session v.sessions t) v a.session h.bound h.moved h.kept in
-      let r = run_goes tables n w a (given_by W w a g t) h.bound h.moved cut.0 (is_cancelled w a.session) (W.attempted w.options (caller_of w.sessions (command_of w a.session) a) (rest_of w a.session) w.history g t) refl (asked w a g t h.bound h.moved cut.0) e in
+      let r = run_goes tables n w a (given_by W w a g t) h.bound h.moved cut.0 (is_cancelled w a.session) (W.attempted w.options (caller_of w.sessions (command_of w a.session) a) (rest_of w a.session) w.history g t) refl (asked w a g t h.bound h.moved cut.0) (stands w a g t h.bound h.moved cut.0) e in
       ranked tables n (goes_on w a (attempt_of W w a g t) (given_by W w a g t)) (Some a.session) os r.0 (replicate n true) r.1
 
   pub course_lowers : LowersIn (course W) n Q
@@ -53,7 +60,7 @@ module _ {O T : Type 0} (W : Words O T) (tables : CatalogueEvents → ℕ) (asks
     gives_up = λ v os k s h. record { bound = h.bound; moved = h.moved; kept = turned tables n v (Some s) None h.bound h.moved h.kept tt; rank = h.rank };
     began = λ v os k s h closed.
         ranked tables n ((course W).began v s) (Some s) _ h.bound h.moved
-        (record { few = h.kept.few; sessions = h.kept.sessions; cancelled = h.kept.cancelled; rests = h.kept.rests; marks = h.kept.marks; sound = h.kept.sound; waits = h.kept.waits; room = h.kept.room; goes_on = h.kept.goes_on });
+        (record { few = h.kept.few; sessions = h.kept.sessions; cancelled = h.kept.cancelled; rests = h.kept.rests; marks = h.kept.marks; known = h.kept.known; sound = h.kept.sound; waits = h.kept.waits; room = h.kept.room; goes_on = h.kept.goes_on });
     committed = λ v os k s h held. ranked tables n ((course W).committed v s) (Some s) _ h.bound (replicate n true) (ended_kept tables n v (Some s) (Some s) h.bound h.moved (TxCommitted s (tx_in v.history s)) s h.kept h.kept.goes_on);
     aborted = λ v os k s h held. ranked tables n ((course W).aborted v s) (Some s) _ h.bound (replicate n true) (ended_kept tables n v (Some s) (Some s) h.bound h.moved (TxAborted s (tx_in v.history s)) s h.kept h.kept.goes_on);
     rolled_back = λ v os k s h lt held. ranked tables n ((course W).aborted v s) None _ h.bound (replicate n true) (ended_kept tables n v None None h.bound h.moved (TxAborted s (tx_in v.history s)) s h.kept tt);

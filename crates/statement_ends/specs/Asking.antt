@@ -1,6 +1,8 @@
 -- What statements do to locks and waits (the manual, 13.3.1 Table-Level Locks).
-use Rattle.std.specs.Prelude.{◌≡◌, ◌≢◌, ◌<◌, ◌≤◌, ℕ, true, ◌++◌, Option, Some, None, Result, Ok, Err}
+use Rattle.std.specs.Prelude.{◌≡◌, ◌≢◌, ◌<◌, ◌≤◌, ℕ, true, ◌++◌, Option, Some, None, IfSome, Result, Ok, Err}
+use Rattle.pg_values.specs.Sets.{has}
 use Rattle.pg_values.specs.declared.lock_mode.LockMode.{LockMode}
+use Rattle.pg_values.specs.declared.session_set.SessionSet.{SessionSet}
 use Rattle.history.specs.declared.wait.Wanted.{Wanted}
 use Rattle.history.specs.declared.wait.Wanted.TheVariants.{Lock, Others}
 use Rattle.history.specs.Catalogue.{CatalogueEvents}
@@ -13,6 +15,8 @@ use Rattle.statement_steps.specs.Attempts.{HasCause}
 use Rattle.statement_steps.specs.Made.{Made, Halt, Waits, Refused}
 use Rattle.statement_steps.specs.declared.caller.Caller.{Caller}
 use Rattle.statement_steps.specs.declared.rest.Rest.{Rest}
+use Rattle.statement_steps.specs.declared.rest.Rest.TheVariants.{Rows, Detach}
+use Rattle.statement_runs.specs.Database.{rest_told}
 use Rattle.statement_runs.specs.Words.{Words}
 
 -- a wait for a lock on one of so many tables, or for others that are sessions
@@ -34,6 +38,18 @@ WaitsAsTold tables s earlier later (Ok x) = wanted (lock_events later) s ≡ Non
 WaitsAsTold tables s earlier later (Err (Waits rest)) = IsWaiting tables s earlier later
 WaitsAsTold tables s earlier later (Err (Refused f)) = wanted (lock_events later) s ≡ None
 
+-- a set of sessions
+abbrev pub HasSessions : SessionSet → Type 0
+HasSessions set = (y : ℕ) → has set y ≡ true → y < 128
+
+-- where a statement stands, others whose ends it has still to wait for are sessions
+abbrev pub IsKnownRest : Rest → Type 0
+IsKnownRest (Rows r) = Unit {0}
+IsKnownRest (Detach d) = HasSessions d.behind
+
+abbrev pub IsKnown : Option Rest → Type 0
+IsKnown rest = IfSome rest IsKnownRest
+
 -- a session that waits for nothing may ask, where the locks are sound
 pub record MayAsk (session : ℕ) (h : History) : Type 0 where
   pub known : session < 128
@@ -49,4 +65,5 @@ pub record Asks {T : Type 0} (tables : CatalogueEvents → ℕ) (session : ℕ) 
 
 -- so it is of each statement, from its beginning and from where it stood
 pub record AllAsk {O T : Type 0} (W : Words O T) (tables : CatalogueEvents → ℕ) : Type 0 where
-  pub each : (o : O) (c : Caller) (rest : Option Rest) (h : History) (g : Settings) (t : T) → MayAsk c.session h → Asks tables c.session h (W.attempted o c rest h g t)
+  pub each : (o : O) (c : Caller) (rest : Option Rest) (h : History) (g : Settings) (t : T) → MayAsk c.session h → IsKnown rest → Asks tables c.session h (W.attempted o c rest h g t)
+  pub rests : (o : O) (c : Caller) (rest : Option Rest) (h : History) (g : Settings) (t : T) → MayAsk c.session h → IsKnown rest → IsKnown (rest_told (W.attempted o c rest h g t).told)

@@ -11,7 +11,7 @@ use Rattle.statement_steps.specs.Attempts.{HasCause}
 use Rattle.statement_runs.specs.Database.{Database, rest_of}
 use Rattle.statement_runs.specs.Weight.{of_mark, of_flag, sum_below, cut_of}
 use Rattle.statement_runs.specs.Words.{Words}
-use Rattle.statement_ends.specs.Asking.{IsBounded}
+use Rattle.statement_ends.specs.Asking.{IsBounded, IsKnown}
 
 -- the locks that n sessions could still get on so many tables
 abbrev pub unheld : (n tables : ℕ) → LockEvents → ℕ
@@ -36,6 +36,7 @@ pub record IsKept {O : Type 0} (tables : CatalogueEvents → ℕ) (n bound : ℕ
   pub cancelled : length v.cancelled ≡ n
   pub rests : length v.rests ≡ n
   pub marks : length moved ≡ n
+  pub known : (s : ℕ) → IsKnown (rest_of v s)
   pub sound : AreLocksSound (lock_events v.history)
   pub waits : (s : ℕ) (w : Wanted) → wanted (lock_events v.history) s ≡ Some w → Stands n bound v.cancelled moved s w
   pub room : tables (catalogue_events v.history) ≤ bound

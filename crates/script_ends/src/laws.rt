@@ -1,0 +1,43 @@
+ghost use Rattle.std.specs.Prelude.{◌≡◌, ℕ, Bool, List, Some};
+ghost use Rattle.load_script.specs.LoadScript.{load};
+ghost use Rattle.run_ends.specs.Ending.{ComesToEnd};
+ghost use Rattle.spec_reader.specs.Specs.{IsScript};
+ghost use Rattle.spec_reader.specs.declared.spec.Spec.{Spec};
+ghost use Rattle.script_program.specs.Program.{Begins, WorkBegins};
+ghost use Rattle.script_program.specs.Reading.{Unread, Whole};
+ghost use Rattle.script_program.specs.Texts.{beginning};
+ghost use Rattle.script_program.specs.Work.{work_by};
+ghost use Rattle.script_program.specs.declared.work.Work.TheVariants as works;
+ghost use Rattle.script_ends.specs.Outcomes.{HasOutcome, HasOutcomeBehind};
+ghost use Rattle.step_engine.specs.Run as run;
+
+use statement_bounds::runs_of_statements_come_to_an_end;
+
+/// The run of every script comes to its end, with trails and without.
+pub fn scripts_come_to_an_end()
+    ensures { (trail : Bool) (text : List ℕ) (script : Spec) → IsScript text script → ComesToEnd run.rules (beginning run.rules (run.opened trail script) script) }
+{
+    runs_of_statements_come_to_an_end();
+}
+
+/// So a call that is to run a script has an outcome.
+pub fn scripts_have_an_outcome()
+    ensures { (words : List (List ℕ)) (trail : Bool) (text : List ℕ) (script : Spec) → work_by words ≡ Some (works.Run trail) → IsScript text script → HasOutcome words (Whole text) }
+{
+    scripts_come_to_an_end();
+}
+
+/// And so has a call that is to run the script of a seed.
+pub fn seeds_have_an_outcome()
+    ensures { (words : List (List ℕ)) (seed : ℕ) (script : Spec) → work_by words ≡ Some (works.Load seed) → IsScript (load seed) script → HasOutcome words Unread }
+{
+    scripts_come_to_an_end();
+}
+
+/// What a call that is to run a script has come to write at some point is the beginning of what its outcome has.
+pub fn what_was_written_begins_it()
+    ensures { (words : List (List ℕ)) (trail : Bool) (text : List ℕ) (script : Spec) (bytes : List ℕ) → work_by words ≡ Some (works.Run trail) → IsScript text script →
+        Begins (WorkBegins run.rules run.HoldsThroughout run.opened run.refused) words (Whole text) bytes → HasOutcomeBehind words (Whole text) bytes }
+{
+    scripts_have_an_outcome();
+}

@@ -1,0 +1,10 @@
+pub mod Parts
+pub mod Waits
+pub mod Locks
+pub mod Numbers
+pub mod Trees
+pub mod Selecting
+pub mod Rows
+pub mod Tables
+pub mod Partitions
+pub mod Whole

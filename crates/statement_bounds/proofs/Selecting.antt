@@ -1,0 +1,156 @@
+-- SELECT and EXPLAIN.
+use Rattle.std.proofs.Common.{◌<◌, ℕ, ◌+◌, ◌-◌, Bool, true, false, if◌then◌else◌, List, [], ◌∷◌, ◌++◌, Result, Ok, Err, All, map, flat_map}
+use Rattle.std.proofs.lemmas.List.Elements.{All-nil, All-cons, All-head, All-tail, All-append, All-map, All-push}
+use Rattle.pg_values.specs.declared.fault.Fault.{Fault}
+use Rattle.pg_values.specs.declared.ids.TableNo.{TableNo}
+use Rattle.pg_values.specs.declared.lock_mode.LockMode.TheVariants.{AccessShare}
+use Rattle.refusals.specs.Refusals.{statement_cancelled}
+use Rattle.history.specs.History.{History}
+use Rattle.row_router.specs.Trees.{TableTree}
+use Rattle.row_router.specs.Histories.{tree_of}
+use Rattle.row_change.specs.Ways.{AllTables}
+use Rattle.plan_tree.specs.Conjuncts.{pool, asked_at, asked_later}
+use Rattle.plan_tree.specs.Kept.{kept_tables}
+use Rattle.plan_tree.specs.Laws.{shown}
+use Rattle.plan_tree.specs.Plans.{Planned, plan_for, plan_tables, items_from, is_empty, keeps_first}
+use Rattle.sql_ast.specs.Queries.{Joined, SelectTree}
+use Rattle.sql_binder.specs.Selects.{from_of, bound_select}
+use Rattle.expression_binder.specs.Scopes.{Item}
+use Rattle.cond_logic.specs.Asked.{SelectMeant}
+use Rattle.cond_logic.specs.Trees.{CondTree}
+use Rattle.select_answer.specs.Answer.{select_course}
+use Rattle.stores.specs.Events.{look_of}
+use Rattle.statement_steps.specs.Asks.{named}
+use Rattle.statement_steps.specs.Made.{Made, made}
+use Rattle.statement_steps.specs.Steps.{follow}
+use Rattle.statement_steps.specs.Below.{number_of}
+use Rattle.select_statement.specs.Cancels.{cancels_itself}
+use Rattle.select_statement.specs.Explained.{explained, printed, told}
+use Rattle.select_statement.specs.Gathered.{Found, found_over, found_in, gathered, plan_of, planned_under}
+use Rattle.select_statement.specs.Items.{items_of}
+use Rattle.select_statement.specs.Selected.{Told, told_of, outcome, meant, answered, uncancelled, bare, bare_plan, locked_below, by_plan, over, of_tables, trees_for, named_from, begins, of_named, of_items, selected}
+use Rattle.statement_bounds.proofs.Parts.{Attempt, Now, Part, Parts, Gives, Any, made_part, refused_part, then_parts}
+use Rattle.statement_bounds.proofs.Locks.{Low, all_locked_parts, named_parts, held_at_parts}
+use Rattle.statement_bounds.proofs.Numbers.{IsLow, tree_low}
+use Rattle.statement_bounds.proofs.Trees.{all_kept}
+
+-- ---- what nothing happens by
+
+outcome_part : {T : Type 0} (k : Attempt) (h : History) → Now k h → (r : Result T Fault) → Part k (Gives k Any) h (outcome r)
+outcome_part k h now (Ok x) = made_part k (Gives k Any) h x now.may (now.still, tt)
+outcome_part k h now (Err f) = refused_part k (Gives k Any) h f now.may
+
+module _ (k : Attempt) (names : List (List ℕ)) where
+  meant_parts : (t : SelectTree) (items : List Item) → Parts k (Gives k Any) (meant k.caller t items)
+  meant_parts t items h now = outcome_part k h now (bound_select items [] k.caller.session t)
+
+  answered_parts : (m : SelectMeant) (plan : Planned) → Parts k (Gives k Any) (answered k.caller m plan)
+  answered_parts m plan h now = outcome_part k h now (told_of m (select_course (k.caller.sessions - 1) [] m (shown h (look_of h k.caller.session k.caller.cmd)) plan []))
+
+  uncancelled_parts : (b : Bool) (f : History → Made Told) → Parts k (Gives k Any) f → Parts k (Gives k Any) (uncancelled b f)
+  uncancelled_parts true f parts h now = refused_part k (Gives k Any) h statement_cancelled now.may
+  uncancelled_parts false f parts h now = parts h now
+
+  -- ---- the tables of the items
+
+  -- these numbers are those of tables
+  abbrev AreLow : List ℕ → Type 0
+  AreLow ns = All (λ n. n < k.bound) ns
+
+  named_from_parts : (js : List Joined) (done : List ℕ) → AreLow done → Parts k (Gives k AreLow) (named_from names k.caller done js)
+  named_from_parts [] done low h now = made_part k (Gives k AreLow) h done now.may (now.still, low)
+  named_from_parts (j ∷ js) done low h now =
+      then_parts k (Low k) (Gives k AreLow) (named names k.caller.session AccessShare j.0.name) (λ n. named_from names k.caller (done ++ n ∷ []) js) (named_parts k names AccessShare j.0.name)
+      (λ n lt. named_from_parts js (done ++ n ∷ []) (All-push (λ x. x < k.bound) done n low lt)) h now
+
+  -- ---- their trees
+
+  abbrev AreTrees : List TableTree → Type 0
+  AreTrees trees = All (AllTables (IsLow k)) trees
+
+  trees_low : (ns : List ℕ) → AreLow ns → (h : History) → Now k h → AreTrees (trees_for k.caller ns h)
+  trees_low [] low h now = All-nil (AllTables (IsLow k))
+  trees_low (n ∷ ns) low h now =
+      All-cons (AllTables (IsLow k)) (tree_of h k.caller.session n (look_of h k.caller.session k.caller.cmd)) (trees_for k.caller ns h)
+      (tree_low k h now k.caller.session n (look_of h k.caller.session k.caller.cmd) (All-head (λ x. x < k.bound) n ns low)) (trees_low ns (All-tail (λ x. x < k.bound) n ns low) h now)
+
+  -- ---- what a plan locks
+
+  items_low : (prunes : Bool) (n : ℕ) (cs : List CondTree) (trees : List TableTree) → AreTrees trees → All (IsLow k) (flat_map (λ i. i.tables) (items_from prunes n cs trees))
+  items_low prunes n cs [] low = All-nil (IsLow k)
+  items_low prunes n cs (t ∷ ts) low =
+      All-append (IsLow k) (kept_tables (keeps_first prunes n (asked_at n cs)) t) (flat_map (λ i. i.tables) (items_from prunes (n + 1) (asked_later n cs) ts))
+      (all_kept (IsLow k) (keeps_first prunes n (asked_at n cs)) t (All-head (AllTables (IsLow k)) t ts low)) (items_low prunes (n + 1) (asked_later n cs) ts (All-tail (AllTables (IsLow k)) t ts low))
+
+  none_or : (b : Bool) (tables : List TableNo) → All (IsLow k) tables → All (IsLow k) (if b then [] else tables)
+  none_or true tables all = All-nil (IsLow k)
+  none_or false tables all = all
+
+  plan_low : (prunes : Bool) (conditions : List CondTree) (trees : List TableTree) → AreTrees trees → All (IsLow k) (plan_tables (plan_for prunes conditions trees))
+  plan_low prunes conditions trees low =
+      none_or (is_empty (plan_for prunes conditions trees)) (flat_map (λ i. i.tables) (items_from prunes 0 (pool conditions) trees)) (items_low prunes 0 (pool conditions) trees low)
+
+  locked_below_parts : (tables : List TableNo) → All (IsLow k) tables → Parts k (Gives k Any) (locked_below names k.caller tables)
+  locked_below_parts tables low = all_locked_parts k names AccessShare (map number_of tables) (All-map (λ n. n < k.bound) number_of tables low)
+
+  -- ---- SELECT
+
+  by_plan_parts : (m : SelectMeant) (plan : Planned) → All (IsLow k) (plan_tables plan) → Parts k (Gives k Any) (by_plan names k.caller m plan)
+  by_plan_parts m plan low =
+      then_parts k Any (Gives k Any) (locked_below names k.caller (plan_tables plan)) (λ u. answered k.caller m plan) (locked_below_parts (plan_tables plan) low) (λ u any. answered_parts m plan)
+
+  over_parts : (prunes : Bool) (t : SelectTree) (items : List Item) (trees : List TableTree) → AreTrees trees → Parts k (Gives k Any) (over prunes names k.caller t items trees)
+  over_parts prunes t items trees low =
+      then_parts k Any (Gives k Any) (meant k.caller t items) (λ m. by_plan names k.caller m (plan_for prunes m.conditions trees)) (meant_parts t items)
+      (λ m any. by_plan_parts m (plan_for prunes m.conditions trees) (plan_low prunes m.conditions trees low))
+
+  of_tables_parts : (prunes : Bool) (t : SelectTree) (ns : List ℕ) → AreLow ns → Parts k (Gives k Any) (of_tables prunes names k.caller t ns)
+  of_tables_parts prunes t ns low h now = over_parts prunes t (items_of 0 (from_of t) (trees_for k.caller ns h)) (trees_for k.caller ns h) (trees_low ns low h now) h now
+
+  of_named_parts : (prunes : Bool) (t : SelectTree) → Parts k (Gives k Any) (of_named prunes names k.caller t)
+  of_named_parts prunes t =
+      then_parts k AreLow (Gives k Any) (named_from names k.caller [] (from_of t)) (of_tables prunes names k.caller t) (named_from_parts (from_of t) [] (All-nil (λ n. n < k.bound))) (of_tables_parts prunes t)
+
+  bare_parts : (t : SelectTree) → Parts k (Gives k Any) (bare k.caller t)
+  bare_parts t =
+      then_parts k Any (Gives k Any) (meant k.caller t []) (λ m. uncancelled (cancels_itself k.caller.session (k.caller.sessions - 1) m) (answered k.caller m (bare_plan m))) (meant_parts t [])
+      (λ m any. uncancelled_parts (cancels_itself k.caller.session (k.caller.sessions - 1) m) (answered k.caller m (bare_plan m)) (answered_parts m (bare_plan m)))
+
+  begins_parts : Parts k (Gives k Any) (begins k.caller)
+  begins_parts = held_at_parts k k.caller.level k.caller.cmd
+
+  of_items_parts : (prunes : Bool) (t : SelectTree) (js : List Joined) → Parts k (Gives k Any) (of_items prunes names k.caller t js)
+  of_items_parts prunes t [] = then_parts k Any (Gives k Any) (begins k.caller) (λ u. bare k.caller t) begins_parts (λ u any. bare_parts t)
+  of_items_parts prunes t (j ∷ js) = then_parts k Any (Gives k Any) (begins k.caller) (λ u. of_named prunes names k.caller t) begins_parts (λ u any. of_named_parts prunes t)
+
+  pub selected_parts : (prunes : Bool) (t : SelectTree) → Parts k (Gives k Any) (selected prunes names k.caller t)
+  selected_parts prunes t = of_items_parts prunes t (from_of t)
+
+  -- ---- EXPLAIN
+
+  abbrev HasTrees : Found → Type 0
+  HasTrees g = AreTrees g.trees
+
+  found_over_parts : (t : SelectTree) (trees : List TableTree) → AreTrees trees → Parts k (Gives k HasTrees) (found_over k.caller t trees)
+  found_over_parts t trees low =
+      then_parts k Any (Gives k HasTrees) (meant k.caller t (items_of 0 (from_of t) trees)) (λ m h. made [] (record { meant = m; trees = trees })) (meant_parts t (items_of 0 (from_of t) trees))
+      (λ m any h now. made_part k (Gives k HasTrees) h (record { meant = m; trees = trees }) now.may (now.still, low))
+
+  found_in_parts : (t : SelectTree) (ns : List ℕ) → AreLow ns → Parts k (Gives k HasTrees) (found_in k.caller t ns)
+  found_in_parts t ns low h now = found_over_parts t (trees_for k.caller ns h) (trees_low ns low h now) h now
+
+  gathered_parts : (t : SelectTree) → Parts k (Gives k HasTrees) (gathered names k.caller t)
+  gathered_parts t =
+      then_parts k AreLow (Gives k HasTrees) (named_from names k.caller [] (from_of t)) (found_in k.caller t) (named_from_parts (from_of t) [] (All-nil (λ n. n < k.bound))) (found_in_parts t)
+
+  planned_parts : (prunes : Bool) (g : Found) → HasTrees g → Parts k (Gives k Any) (planned_under prunes names k.caller g)
+  planned_parts prunes g low =
+      then_parts k Any (Gives k Any) (locked_below names k.caller (plan_tables (plan_of prunes g))) (λ u h. made [] (plan_of prunes g))
+      (locked_below_parts (plan_tables (plan_of prunes g)) (plan_low prunes g.meant.conditions g.trees low)) (λ u any h now. made_part k (Gives k Any) h (plan_of prunes g) now.may (now.still, tt))
+
+  pub explained_parts : (prunes : Bool) (t : SelectTree) → Parts k (Gives k Any) (explained prunes names k.caller t)
+  explained_parts prunes t =
+      then_parts k Any (Gives k Any) (begins k.caller) (λ u. follow (gathered names k.caller t) (λ g. follow (planned_under prunes names k.caller g) (printed t g))) begins_parts
+      (λ u any. then_parts k HasTrees (Gives k Any) (gathered names k.caller t) (λ g. follow (planned_under prunes names k.caller g) (printed t g)) (gathered_parts t)
+      (λ g low. then_parts k Any (Gives k Any) (planned_under prunes names k.caller g) (printed t g) (planned_parts prunes g low)
+      (λ p any h now. made_part k (Gives k Any) h (told t g p) now.may (now.still, tt))))

@@ -1,0 +1,143 @@
+-- Each statement asks as a session may.
+use Rattle.std.proofs.Common.{◌≤◌, ℕ, Bool, true, false, List, [], ◌++◌, Option, Result, Ok, Err, refl, sym, subst, length, codes, arith}
+use Rattle.pg_values.specs.declared.answer.Answer.{Answer}
+use Rattle.refusals.specs.Refusals.{left_out}
+use Rattle.history.specs.History.{History, catalogue_events}
+use Rattle.lock_table.specs.AnswerLaws.{WhatIsAskedMayCome}
+use Rattle.sessions.specs.declared.settings.Settings.{Settings}
+use Rattle.sql_ast.specs.Commands.{CommandTree, begins, commits, rolls_back, sets, resets, makes_table, makes_partition, drops, attaches, detaches, locks, deallocates, deallocates_all}
+use Rattle.sql_ast.specs.declared.detachment.Detachment.TheVariants.{AtOnce, Concurrently, Finalize}
+use Rattle.sql_ast.specs.Queries.{RowTree, QueryTree, selects, inserts, updates, deletes, rows, prepares, executes, explains_select, explains_execute}
+use Rattle.sql_ast.specs.Statements.{StatementTree, commands, queries}
+use Rattle.statement_steps.specs.Ended.{Ended, Done, Commits, silent_end}
+use Rattle.statement_steps.specs.Made.{Made, Halt, Waits, Refused}
+use Rattle.statement_steps.specs.declared.caller.Caller.{Caller}
+use Rattle.statement_steps.specs.declared.ending.Ending.{Ending}
+use Rattle.statement_steps.specs.declared.ending.Ending.TheVariants as endings
+use Rattle.statement_steps.specs.declared.rest.Rest.{Rest}
+use Rattle.select_statement.specs.Explained.{explained}
+use Rattle.select_statement.specs.Selected.{selected}
+use Rattle.insert_statement.specs.Inserted.{inserted}
+use Rattle.change_statement.specs.Deleted.{deleted}
+use Rattle.change_statement.specs.Updated.{updated}
+use Rattle.table_statements.specs.Tables.{created}
+use Rattle.table_statements.specs.Partitions.{partitioned}
+use Rattle.table_statements.specs.Drops.{dropped}
+use Rattle.table_statements.specs.Locked.{locked}
+use Rattle.detach_statement.specs.Concurrent.{detached_concurrently}
+use Rattle.detach_statement.specs.Detached.{detached}
+use Rattle.detach_statement.specs.Finalized.{finalized}
+use Rattle.attach_statement.specs.Attached.{attached}
+use Rattle.statement_runs.specs.Attempted.{Options, answer_text, attempted, changed_text, command_attempted, inserted_text, is_trailed, row_attempted, query_attempted, silent, tabled, printed, omitted, nothing, as_table}
+use Rattle.statement_runs.specs.Database.{rest_told}
+use Rattle.statement_runs.specs.LeftOut.{command_word, query_word}
+use Rattle.statement_runs.specs.StatementWords.{statement_attempted, statement_words}
+use Rattle.statement_ends.specs.Asking.{HasSessions, IsKnown, WaitsAsTold, MayAsk, Asks, AllAsk}
+use Rattle.statement_bounds.specs.Tables.{tables_named}
+use Rattle.statement_bounds.proofs.Parts.{Attempt, Told, Part, Parts, Gives, Any, Ends, refused_part, giving_part}
+use Rattle.statement_bounds.proofs.Numbers.{tables_below, entries_below}
+use Rattle.statement_bounds.proofs.Partitions.{EndsKnown, detached_parts, concurrently_parts, finalized_parts, attached_parts}
+use Rattle.statement_bounds.proofs.Rows.{inserted_parts, updated_parts, deleted_parts}
+use Rattle.statement_bounds.proofs.Selecting.{selected_parts, explained_parts}
+use Rattle.statement_bounds.proofs.Tables.{created_parts, partitioned_parts, dropped_parts, locked_parts}
+
+-- where it has committed what it did first, the others whose ends it waits for are sessions
+abbrev EndKnown : Ended → History → Type 0
+EndKnown (Done text) g = Unit {0}
+EndKnown (Commits d) g = HasSessions d.behind
+
+end_known : (e : Ending) (g : History) → EndsKnown e g → EndKnown (silent_end e) g
+end_known endings.Done g is = tt
+end_known (endings.Commits d) g is = is
+
+module _ (k : Attempt) (names : List (List ℕ)) where
+  silent_parts : (P : Unit {0} → History → Type 0) (f : History → Made (Unit {0})) → Parts k P f → Parts k EndKnown (silent f)
+  silent_parts P f parts h now = giving_part k P EndKnown nothing h (f h) (λ u g is. tt) (parts h now)
+
+  tabled_parts : (f : History → Made Answer) → Parts k (Gives k Any) f → Parts k EndKnown (tabled f)
+  tabled_parts f parts h now = giving_part k (Gives k Any) EndKnown as_table h (f h) (λ a g is. tt) (parts h now)
+
+  printed_parts : {T : Type 0} (text : History → T → List ℕ) (f : History → Made T) → Parts k (Gives k Any) f → Parts k EndKnown (printed text f)
+  printed_parts text f parts h now = giving_part k (Gives k Any) EndKnown (λ x. Done (text ((f h).events ++ h) x)) h (f h) (λ x g is. tt) (parts h now)
+
+  omitted_parts : (word : List ℕ) → Parts k EndKnown (omitted word)
+  omitted_parts word h now = refused_part k EndKnown h (left_out word) now.may
+
+  command_parts : (rest : Option Rest) → IsKnown rest → (t : CommandTree) → Parts k EndKnown (command_attempted names k.caller rest t)
+  command_parts rest known (makes_table name columns by) = silent_parts Ends (created names k.caller name columns by) (created_parts k names name columns by)
+  command_parts rest known (makes_partition name parent bound by) = silent_parts Ends (partitioned names k.caller name parent bound by) (partitioned_parts k names name parent bound by)
+  command_parts rest known (drops if_there tables) = silent_parts Ends (dropped names k.caller if_there tables) (dropped_parts k names if_there tables)
+  command_parts rest known (attaches parent name bound) = silent_parts Ends (attached names k.caller parent name bound) (attached_parts k names parent name bound)
+  command_parts rest known (detaches parent name AtOnce) = silent_parts Ends (detached names k.caller parent name) (detached_parts k names parent name)
+  command_parts rest known (detaches parent name Concurrently) = λ h now.
+      giving_part k EndsKnown EndKnown silent_end h (detached_concurrently names k.caller rest parent name h) end_known (concurrently_parts k names rest parent name known h now)
+  command_parts rest known (detaches parent name Finalize) = silent_parts Ends (finalized names k.caller parent name) (finalized_parts k names parent name)
+  command_parts rest known (locks tables mode) = silent_parts (Gives k Any) (locked names k.caller.session tables mode) (locked_parts k names tables mode)
+  command_parts rest known (begins level) = omitted_parts (command_word (begins level))
+  command_parts rest known commits = omitted_parts (command_word commits)
+  command_parts rest known rolls_back = omitted_parts (command_word rolls_back)
+  command_parts rest known (sets name value) = omitted_parts (command_word (sets name value))
+  command_parts rest known (resets name) = omitted_parts (command_word (resets name))
+  command_parts rest known (deallocates name) = omitted_parts (command_word (deallocates name))
+  command_parts rest known deallocates_all = omitted_parts (command_word deallocates_all)
+
+  row_parts : (trailed prunes : Bool) (rest : Option Rest) (t : RowTree) → Parts k EndKnown (row_attempted trailed prunes names k.caller rest t)
+  row_parts trailed prunes rest (selects s) = printed_parts (answer_text trailed) (selected prunes names k.caller s) (selected_parts k names prunes s)
+  row_parts trailed prunes rest (inserts table columns values) = printed_parts (inserted_text trailed (length values)) (inserted names [] k.caller table columns values) (inserted_parts k names [] table columns values)
+  row_parts trailed prunes rest (updates table settings condition) =
+      printed_parts (changed_text trailed (codes "UPDATE")) (updated prunes names [] k.caller rest table settings condition) (updated_parts k names prunes [] rest table settings condition)
+  row_parts trailed prunes rest (deletes table condition) = printed_parts (changed_text trailed (codes "DELETE")) (deleted prunes names [] k.caller rest table condition) (deleted_parts k names prunes [] rest table condition)
+
+  query_parts : (trailed prunes : Bool) (rest : Option Rest) (t : QueryTree) → Parts k EndKnown (query_attempted trailed prunes names k.caller rest t)
+  query_parts trailed prunes rest (rows r) = row_parts trailed prunes rest r
+  query_parts trailed prunes rest (prepares name kinds r) = omitted_parts (query_word (prepares name kinds r))
+  query_parts trailed prunes rest (executes name values) = omitted_parts (query_word (executes name values))
+  query_parts trailed prunes rest (explains_select true s) = omitted_parts (codes "ANALYZE")
+  query_parts trailed prunes rest (explains_select false s) = tabled_parts (explained prunes names k.caller s) (explained_parts k names prunes s)
+  query_parts trailed prunes rest (explains_execute costs name values) = omitted_parts (query_word (explains_execute costs name values))
+
+attempted_parts : (k : Attempt) (o : Options) (rest : Option Rest) (g : Settings) → IsKnown rest → (t : StatementTree) → Parts k EndKnown (attempted o k.caller rest g t)
+attempted_parts k o rest g known (commands t) = command_parts k o.names rest known t
+attempted_parts k o rest g known (queries t) = query_parts k o.names (is_trailed o k.caller) g.enable_partition_pruning rest t
+
+-- ---- a statement that may ask, with the tables of its catalogue
+
+module _ (come : WhatIsAskedMayCome) (o : Options) (c : Caller) (rest : Option Rest) (h : History) (g : Settings) (t : StatementTree) (may : MayAsk c.session h) (known : IsKnown rest) where
+  abbrev here : Attempt
+  here = record { come = come; caller = c; catalogue = catalogue_events h; bound = tables_named (catalogue_events h); tables = tables_below (catalogue_events h); entries = entries_below (catalogue_events h) }
+
+  part : Part here EndKnown h (statement_attempted o c rest h g t)
+  unfolding statement_attempted
+  part = attempted_parts here o rest g known t h (record { may = may; still = refl })
+
+  abbrev later : History
+  later = (statement_attempted o c rest h g t).events ++ h
+
+  told : (r : Result Ended Halt) → Told here EndKnown later r → WaitsAsTold tables_named c.session h later r
+  told (Ok x) is = is.0
+  told (Err (Waits rest)) is = record {
+    what = is.what;
+    waits = is.waits;
+    bounded = is.bounded;
+    caused = is.caused;
+    no_more = subst (λ events. tables_named events ≤ tables_named (catalogue_events h)) (sym is.still) (omega arith);
+  }
+  told (Err (Refused f)) is = is
+
+  stands : (r : Result Ended Halt) → Told here EndKnown later r → IsKnown (rest_told r)
+  stands (Ok (Done text)) is = tt
+  stands (Ok (Commits d)) is = is.1
+  stands (Err (Waits rest)) is = is.known
+  stands (Err (Refused f)) is = tt
+
+  statement_asks : Asks tables_named c.session h (statement_attempted o c rest h g t)
+  statement_asks = record { sound = part.sound; stay = part.stay; others = part.others; told = told (statement_attempted o c rest h g t).told part.told }
+
+  statement_stands : IsKnown (rest_told (statement_attempted o c rest h g t).told)
+  statement_stands = stands (statement_attempted o c rest h g t).told part.told
+
+pub all_ask : WhatIsAskedMayCome → AllAsk statement_words tables_named
+all_ask come = record {
+  each = λ o c rest h g t may known. statement_asks come o c rest h g t may known;
+  rests = λ o c rest h g t may known. statement_stands come o c rest h g t may known;
+}
