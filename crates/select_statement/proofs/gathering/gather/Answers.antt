@@ -29,7 +29,7 @@ pub returns-in_err-keep_trees-clause-step : goal.returns-in_err-keep_trees-claus
 returns-in_err-keep_trees-clause-step c =
     let found = subst (λ items. IsStep numbers (Ok c.in_ok-tables.tables) c.args.stores.now c.lock_items.new.stores c.args.caller c.args.caller.cmd (named_from c.args.names.now c.args.caller [] (map joined_tree items))) c.as_slice.ensures c.in_ok-tables.ensures.step in
     goes (named_from c.args.names.now c.args.caller [] (from_of (select_tree c.args.select.now))) (found_in c.args.caller (select_tree c.args.select.now)) found
-    (subst (λ (s : Stores). IsStep found_by _ c.lock_items.new.stores s c.args.caller c.args.caller.cmd (found_in c.args.caller (select_tree c.args.select.now) (map number_of c.in_ok-tables.tables.items))) (sym c.keep_trees.ensures) (out_here c.from_residual-in_err-keep_trees.ensures.1))
+    (subst (λ (s : Stores). IsStep found_by c.from_residual-in_err-keep_trees.result c.lock_items.new.stores s c.args.caller c.args.caller.cmd (found_in c.args.caller (select_tree c.args.select.now) (map number_of c.in_ok-tables.tables.items))) (sym c.keep_trees.ensures) (out_here c.from_residual-in_err-keep_trees.ensures.1))
 
 pub find-requires-clause-may : goal.find-requires-clause-may
 find-requires-clause-may c = subst (λ (s : Stores). MayAttempt s c.args.caller) (sym c.keep_trees.ensures) (may_go_on numbers _ _ _ _ _ c.requires.may c.in_ok-tables.ensures.step)

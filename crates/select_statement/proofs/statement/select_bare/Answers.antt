@@ -34,7 +34,7 @@ answer-requires-clause-may c = may_go_on _ _ _ _ _ _ c.requires c.in_ok-hold_if_
 
 pub answer-requires-clause-reads : goal.answer-requires-clause-reads
 answer-requires-clause-reads c =
-    subst (λ (p : Planned). All (CanRead c.hold_if_repeatable.new.stores.rows.leaves) p.items) (sym (c.in_ok-plan.ensures ∙ ap (λ cs. plan_for false (map cond_tree cs) []) c.deref.ensures.value)) (All-nil (CanRead c.hold_if_repeatable.new.stores.rows.leaves))
+    subst (λ (p : Planned). All (CanRead c.hold_if_repeatable.new.stores.rows.leaves) p.items) (sym (c.in_ok-plan.ensures ∙ ap (λ cs. plan_for false (map cond_tree cs) []) c.as_slice.ensures)) (All-nil (CanRead c.hold_if_repeatable.new.stores.rows.leaves))
 
 pub returns : goal.returns
 returns c =
@@ -42,7 +42,7 @@ returns c =
     goes (begins c.args.caller) (λ u. bare c.args.caller (select_tree c.args.select.now)) c.in_ok-hold_if_repeatable.ensures.step
     (goes (meant c.args.caller (select_tree c.args.select.now) []) (λ m. uncancelled (cancels_itself c.args.caller.session (c.args.caller.sessions - 1) m) (answered c.args.caller m (bare_plan m))) c.in_ok-ask.ensures
     (not_cancelled (cancels_itself c.args.caller.session (c.args.caller.sessions - 1) m) (answered c.args.caller m (bare_plan m)) (sym c.in_ok-is_cancelled.ensures ∙ c.if-is_cancelled.false)
-    (moved (answered c.args.caller m) _ _ (c.in_ok-plan.ensures ∙ ap (λ cs. plan_for false (map cond_tree cs) []) c.deref.ensures.value) c.answer.ensures)))
+    (moved (answered c.args.caller m) _ _ (c.in_ok-plan.ensures ∙ ap (λ cs. plan_for false (map cond_tree cs) []) c.as_slice.ensures) c.answer.ensures)))
 
 pub returns-in_err-snap : goal.returns-in_err-snap
 returns-in_err-snap c = out_behind c.from_residual-in_err-snap.ensures.1 c.in_ok-hold_if_repeatable.ensures.step
