@@ -9,6 +9,7 @@ pub mod Pieces
 pub mod RunEndings
 pub mod Runs
 pub mod SeedLaws
+pub mod StepNumbers
 pub mod Texts
 pub mod WorkLaws
 pub mod Works

@@ -1,5 +1,7 @@
 -- The steps of a script, over all sessions in order. The control session has the number 0, the others 1, 2, ..
-use Rattle.std.specs.Prelude.{ℕ, suc, if◌then◌else◌, List, [], ◌∷◌, ◌++◌, Option, Some, None, map, slice_index_or}
+use Rattle.std.specs.Prelude.{◌≡◌, ℕ, suc, if◌then◌else◌, List, [], ◌∷◌, ◌++◌, Option, Some, None, map, slice_index_or}
+use Rattle.std.specs.Borrow.{Bor}
+use Rattle.std.specs.Map.{lookup}
 use Rattle.std.specs.Str.{bytes_eq}
 use Rattle.spec_reader.specs.declared.spec.SessionSpec.{SessionSpec}
 use Rattle.spec_reader.specs.declared.spec.StepSpec.{StepSpec}
@@ -30,6 +32,10 @@ number_from n name (x ∷ xs) = if bytes_eq x.name name then Some n else number_
 
 abbrev pub number_of : List ℕ → List StepView → Option ℕ
 number_of name steps = number_from 0 name steps
+
+-- each name with the number of the first step that is called so
+abbrev pub AreNumbers : List (Bor (List ℕ) × ℕ) → List StepView → Type 0
+AreNumbers numbers steps = (name : Bor (List ℕ)) → lookup (λ k. bytes_eq name.now k.now) numbers ≡ number_of name.now steps
 
 abbrev pub no_step : StepView
 no_step = record { session = 0; name = []; text = [] }

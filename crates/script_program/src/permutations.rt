@@ -3,7 +3,7 @@ ghost use Rattle.schedule.specs.Tasks.{AreKnown};
 ghost use Rattle.script_program.specs.Steps as known_steps;
 ghost use Rattle.script_program.specs.Tasks as spec;
 
-use crate::step::{Step, steps_of};
+use crate::step::Steps;
 use crate::tasks::{
     push_control_setups, push_plain_if, push_rollbacks, push_setups, push_teardowns, push_uses,
 };
@@ -47,7 +47,7 @@ fn push_behind<'s>(
 fn permutation_of<'s>(
     alloc: Global,
     script: &'s Spec,
-    steps: &[Step<'s>],
+    steps: &Steps<'s>,
     uses: &'s [StepUse],
 ) -> Result<Permutation<'s>, NoMemory>
     requires { steps.now ≡ known_steps.steps_of script.now.sessions }
@@ -63,7 +63,7 @@ fn permutation_of<'s>(
 fn all_permutations<'s>(alloc: Global, script: &'s Spec) -> Result<Vec<Permutation<'s>>, NoMemory>
     ensures { IfOk result (λ all. all.items ≡ spec.permutations_of script.now) }
 {
-    let steps = steps_of(alloc, script.sessions.as_slice())?;
+    let steps = Steps::new(alloc, script.sessions.as_slice())?;
     let mut all = Vec::new(alloc);
     for uses in script.permutations.as_slice() {
         all.push(permutation_of(alloc, script, &steps, uses.as_slice())?)?;

@@ -1,6 +1,7 @@
 ghost use Rattle.std.specs.Prelude.{◌≡◌, ◌<◌, ◌++◌, [], ◌∷◌, length, OnOk, IfOk, IfSome};
 ghost use Rattle.script_program.specs.Steps as spec;
 
+use indexmap::IndexMap;
 use pg_values::NoMemory;
 use spec_reader::{SessionSpec, StepSpec};
 use std::alloc::Global;
@@ -65,8 +66,8 @@ fn push_steps<'s>(
     Ok(())
 }
 
-/// The steps of all sessions.
-pub fn steps_of<'s>(alloc: Global, sessions: &'s [SessionSpec]) -> Result<Vec<Step<'s>>, NoMemory>
+// The steps of all sessions.
+fn steps_of<'s>(alloc: Global, sessions: &'s [SessionSpec]) -> Result<Vec<Step<'s>>, NoMemory>
     ensures { IfOk result (λ all. all.items ≡ spec.steps_of sessions.now) }
 {
     let mut all = Vec::new(alloc);
@@ -76,15 +77,58 @@ pub fn steps_of<'s>(alloc: Global, sessions: &'s [SessionSpec]) -> Result<Vec<St
     Ok(all)
 }
 
-/// The number of the step that is called so.
-pub fn number_of(name: &[u8], steps: &[Step<'_>]) -> Option<usize>
-    ensures is { result ≡ spec.number_of name.now steps.now }
-    ensures known { IfSome result (λ k. k < length steps.now) }
+// The number of the first step of each name.
+fn numbers_of<'s>(alloc: Global, steps: &[Step<'s>]) -> Result<IndexMap<&'s [u8], usize>, NoMemory>
+    ensures { IfOk result (λ numbers. spec.AreNumbers numbers.entries steps.now) }
 {
-    for i in 0..steps.len() {
-        if steps[i].name() == name {
-            return Some(i);
-        }
+    let mut numbers = IndexMap::new(alloc);
+    for i in (0..steps.len()).rev() {
+        numbers.insert(steps[i].name(), i)?;
     }
-    None
+    Ok(numbers)
+}
+
+/// The steps of a script, seen as their list. A step is found by its name in the time of one look-up.
+#[derive(Drop)]
+pub struct Steps<'s> {
+    steps: Vec<Step<'s>>,
+    numbers: IndexMap<&'s [u8], usize>,
+}
+
+impl<'s> Model for Steps<'s> {
+    ghost use Rattle.std.specs.Prelude.{List};
+    ghost use Rattle.script_program.specs.Steps.{StepView, AreNumbers};
+
+    ghost Value = { List StepView };
+
+    ghost view = { λ s. s.steps.items };
+
+    ghost invariant = { λ s. AreNumbers s.numbers.entries s.steps.items };
+}
+
+impl<'s> Steps<'s> {
+    /// The steps of all sessions.
+    pub fn new(alloc: Global, sessions: &'s [SessionSpec]) -> Result<Self, NoMemory>
+        ensures { IfOk result (λ all. all ≡ spec.steps_of sessions.now) }
+    {
+        let steps = steps_of(alloc, sessions)?;
+        let numbers = numbers_of(alloc, &steps)?;
+        Ok(Steps { steps, numbers })
+    }
+
+    /// The step of the number.
+    pub fn step(&self, number: usize) -> &Step<'s>
+        requires { number < length self.now }
+        ensures { result.now ≡ spec.step_at self.now number }
+    {
+        &self.steps[number]
+    }
+
+    /// The number of the step that is called so.
+    pub fn number_of(&self, name: &[u8]) -> Option<usize>
+        ensures is { result ≡ spec.number_of name.now self.now }
+        ensures known { IfSome result (λ k. k < length self.now) }
+    {
+        self.numbers.get(name).copied()
+    }
 }

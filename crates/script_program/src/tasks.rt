@@ -5,7 +5,7 @@ ghost use Rattle.schedule.specs.declared.block.BlockKind.{BlockKind};
 ghost use Rattle.script_program.specs.Steps.{numbered};
 ghost use Rattle.script_program.specs.Tasks as spec;
 
-use crate::step::{Step, number_of};
+use crate::step::Steps;
 use pg_values::{NoMemory, PgText};
 use schedule::{Block, BlockKind, Permutation, Task};
 use spec_reader::{Marker, SessionSpec, StepUse};
@@ -131,18 +131,18 @@ fn is_starred(markers: &[Marker]) -> bool
     false
 }
 
-fn push_behind(steps: &[Step<'_>], marker: &Marker, out: &mut Vec<usize>) -> Result<(), NoMemory>
+fn push_behind(steps: &Steps<'_>, marker: &Marker, out: &mut Vec<usize>) -> Result<(), NoMemory>
     ensures { OnOk result (out.new.items ≡ out.old.items ++ spec.behind_marker steps.now marker.now) }
 {
     if let Marker::After(name) = marker {
-        if let Some(number) = number_of(name.as_bytes(), steps) {
+        if let Some(number) = steps.number_of(name.as_bytes()) {
             out.push(number)?;
         }
     }
     Ok(())
 }
 
-fn behind_of(alloc: Global, steps: &[Step<'_>], markers: &[Marker]) -> Result<Vec<usize>, NoMemory>
+fn behind_of(alloc: Global, steps: &Steps<'_>, markers: &[Marker]) -> Result<Vec<usize>, NoMemory>
     ensures { IfOk result (λ behind. behind.items ≡ flat_map (spec.behind_marker steps.now) markers.now) }
 {
     let mut behind = Vec::new(alloc);
@@ -154,16 +154,16 @@ fn behind_of(alloc: Global, steps: &[Step<'_>], markers: &[Marker]) -> Result<Ve
 
 fn push_use<'s>(
     alloc: Global,
-    steps: &[Step<'s>],
+    steps: &Steps<'s>,
     one: &'s StepUse,
     out: &mut Permutation<'s>,
 ) -> Result<(), NoMemory>
     ensures { OnOk result (out.new ≡ out.old ++ spec.use_in steps.now one.now) }
 {
-    match number_of(one.step.as_bytes(), steps) {
+    match steps.number_of(one.step.as_bytes()) {
         None => Ok(()),
         Some(number) => {
-            let step = &steps[number];
+            let step = steps.step(number);
             let markers = one.markers.as_slice();
             let behind = behind_of(alloc, steps, markers)?;
             out.push(Task::Launch {
@@ -183,7 +183,7 @@ fn push_use<'s>(
 /// The uses of steps.
 pub(crate) fn push_uses<'s>(
     alloc: Global,
-    steps: &[Step<'s>],
+    steps: &Steps<'s>,
     uses: &'s [StepUse],
     out: &mut Permutation<'s>,
 ) -> Result<(), NoMemory>
