@@ -1,4 +1,5 @@
-// The routing of program.rattle in stock Rust: the same rows, each searched for in a sorted vector.
+// The routing of program.rattle in stock Rust: the same rows, each searched for in a sorted vector; and its pruning, which
+// finds the same partition and counts it.
 use std::env;
 
 const M: u64 = 0xFFFF_FFFF;
@@ -52,13 +53,14 @@ fn rows_of(count: u32) -> Vec<i64> {
         .collect()
 }
 
-// Routes each of the rows so many times, and sums up the numbers of the leaves, which stand from the last to the first.
-fn routes(rows: &[i64], count: u32, rounds: u32, find: impl Fn(i64) -> Option<usize>) -> u64 {
+// Routes each of the rows so many times, and sums up the numbers of the leaves, which stand from the last to the first, or
+// counts them.
+fn routes(prunes: bool, rows: &[i64], count: u32, rounds: u32, find: impl Fn(i64) -> Option<usize>) -> u64 {
     let mut sum = 0u64;
     for _ in 0..rounds {
         for row in rows {
             if let Some(at) = find(*row) {
-                sum = sum.wrapping_add(u64::from(count - 1) - at as u64);
+                sum = sum.wrapping_add(if prunes { 1 } else { u64::from(count - 1) - at as u64 });
             }
         }
     }
@@ -67,21 +69,22 @@ fn routes(rows: &[i64], count: u32, rounds: u32, find: impl Fn(i64) -> Option<us
 
 fn main() {
     let words: Vec<String> = env::args().skip(1).collect();
+    let prunes = words[0] == "prune";
     let count: u32 = words[2].parse().unwrap();
     let rounds: u32 = words[3].parse().unwrap();
     let numbers: Vec<i64> = (0..i64::from(count)).collect();
     let sum = match words[1].as_str() {
         "range" => {
             let bounds: Vec<(i64, i64)> = numbers.iter().map(|k| (k * 10, k * 10 + 10)).collect();
-            routes(&rows_of(count * 10), count, rounds, |v| {
+            routes(prunes, &rows_of(count * 10), count, rounds, |v| {
                 let at = bounds.partition_point(|b| b.0 <= v).checked_sub(1)?;
                 (v < bounds[at].1).then_some(at)
             })
         }
-        "list" => routes(&rows_of(count), count, rounds, |v| numbers.binary_search(&v).ok()),
+        "list" => routes(prunes, &rows_of(count), count, rounds, |v| numbers.binary_search(&v).ok()),
         _ => {
             let remainders: Vec<u64> = (0..u64::from(count)).collect();
-            routes(&rows_of(count), count, rounds, |v| {
+            routes(prunes, &rows_of(count), count, rounds, |v| {
                 remainders.binary_search(&(key_hash(v) % u64::from(count))).ok()
             })
         }

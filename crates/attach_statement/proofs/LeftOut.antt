@@ -73,8 +73,9 @@ use Rattle.statement_steps.specs.declared.caller.Caller.{Caller}
 use Rattle.statement_steps.proofs.Owned.{own_number}
 use Rattle.ddl_steps.proofs.Below.{from_numbers, unmapped_in, same_number}
 use Rattle.ddl_steps.proofs.Locks.{held_at_history}
-use Rattle.ddl_steps.proofs.Levels.{columns_are, shape_at}
+use Rattle.ddl_steps.proofs.Levels.{columns_are}
 use Rattle.ddl_steps.proofs.Sets.{are_those}
+use Rattle.ddl_steps.proofs.Shapes.{shape_at}
 use Rattle.attach_statement.specs.Asked.{HasFamilyLocked, IsJudgedIn}
 use Rattle.attach_statement.specs.Skipped.{SkippedIsClean, asks_nothing, is_implied, is_skipped, kept_for}
 

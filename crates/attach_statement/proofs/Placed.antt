@@ -33,7 +33,7 @@ use Rattle.legal_statements.specs.Below.{numbers_from}
 use Rattle.ddl_steps.specs.Refused.{next_answer, unless_faults}
 use Rattle.ddl_steps.proofs.Below.{from_numbers, unmapped_in}
 use Rattle.ddl_steps.proofs.Firsts.{to_answer, past_ok, past_none}
-use Rattle.ddl_steps.proofs.Levels.{takes_bound}
+use Rattle.ddl_steps.proofs.Shapes.{takes_bound}
 use Rattle.attach_statement.specs.Asked.{MayBeAttached}
 use Rattle.attach_statement.specs.Columns.{column_faults}
 use Rattle.attach_statement.specs.Places.{name_at, stands_above, table_faults, attach_place}

@@ -1,7 +1,7 @@
 -- Values of which each is kept once.
 use Rattle.std.proofs.Common.{◌≡◌, Bool, true, false, not, ◌||◌, ◌&&◌, List, [], ◌∷◌, ◌++◌, refl, sym, ap, ◌∙◌, append_assoc, if◌then◌else◌}
-use Rattle.std.specs.List.{All, filter}
-use Rattle.std.proofs.lemmas.List.Elements.{filter_agree, All-nil, All-push}
+use Rattle.std.specs.List.{filter}
+use Rattle.std.proofs.lemmas.List.Elements.{filter_agree}
 use Rattle.pg_values.specs.declared.value.Value.{Value}
 use Rattle.bound_forms.specs.Listed.{is_same, lists}
 use Rattle.bound_checks.specs.RawBounds.{each_once}
@@ -33,9 +33,6 @@ or_behind false t k = k
 
 pub once_start : (done values : List Value) → done ≡ [] → done ++ further done values ≡ each_once values
 once_start done values none = rw none (further_start values)
-
-pub none_kept : (P : Value → Type 0) (done : List Value) → done ≡ [] → All P done
-none_kept P done none = rw none (All-nil P)
 
 -- a value that is the same as a listed one is listed
 lists_same : (done : List Value) (v w : Value) → lists done v ≡ true → is_same v w ≡ true → lists done w ≡ true
@@ -89,11 +86,3 @@ added done v rest more all is told = by (lists done v) refl is
     by : (t : Bool) → lists done v ≡ t → more ≡ (if t then done else done ++ v ∷ []) → more ++ further more rest ≡ all
     by true e is = rw (is, ← (further_known done v rest e)) told
     by false e is = rw is (append_assoc done (v ∷ []) (further (done ++ v ∷ []) rest) ∙ ap (λ xs. done ++ xs) (sym (further_new done v rest e)) ∙ told)
-
--- what holds of those that are kept and of the value holds of all
-pub added_keeps : (P : Value → Type 0) (done : List Value) (v : Value) (more : List Value) → more ≡ (if lists done v then done else done ++ v ∷ []) → All P done → P v → All P more
-added_keeps P done v more is all here = by (lists done v) is
-  where
-    by : (t : Bool) → more ≡ (if t then done else done ++ v ∷ []) → All P more
-    by true e = rw e all
-    by false e = rw e (All-push P done v all here)

@@ -1,3 +1,4 @@
 pub mod Checks
 pub mod Laws
+pub mod ListedValues
 pub mod RawBounds

@@ -7,6 +7,7 @@
 
 mod check;
 mod laws;
+mod listed_value;
 mod raw_bound;
 mod raw_value;
 

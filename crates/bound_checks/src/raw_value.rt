@@ -1,18 +1,19 @@
 //! What the expressions of a bound give their key columns.
 
-ghost use Rattle.std.specs.Prelude.{◌≡◌, ◌<◌, ◌∷◌, ◌++◌, [], All, IfOk, OnOk, length, if◌then◌else◌};
+ghost use Rattle.std.specs.Prelude.{◌≡◌, ◌∷◌, ◌++◌, [], IfOk, OnOk, length, if◌then◌else◌};
 ghost use Rattle.value_rules.specs.Assignment.{assigned};
 ghost use Rattle.pg_values.specs.Kinds as kinds;
 ghost use Rattle.pg_values.specs.Refusals.{IsAnswer, faults_in, read_in, or_first};
-ghost use Rattle.pg_values.specs.KeyKinds.{IsNotNull};
 ghost use Rattle.bound_forms.specs.declared.point.Edge.TheVariants.{Min};
-ghost use Rattle.bound_forms.specs.Listed as listed;
-ghost use Rattle.bound_forms.specs.Listed.{ValuesFit, ValueOfKind};
+ghost use Rattle.bound_forms.specs.Listed.{lists};
 ghost use Rattle.bound_checks.specs.RawBounds.{given_to, value_for, edge_for, edges_for, values_for, each_once};
+ghost use Rattle.bound_checks.specs.ListedValues.{values_in};
 
+use crate::listed_value::ListedValue;
 use crate::{RawEdge, RawValue};
-use bound_forms::{Edge, KeyColumn, Point, lists};
-use pg_values::{Args, Fault, Kind, NoMemory, Refusal, Row, Value, ValueKey, copy_value, kind_of};
+use bound_forms::{Edge, KeyColumn, Point};
+use indexmap::IndexSet;
+use pg_values::{Args, Fault, Kind, NoMemory, Refusal, Row, Value, copy_value, kind_of};
 use refusals::{out_of_range, wrong_kind};
 use std::alloc::Global;
 use value_rules::{CoerceFault, coerce, read_value};
@@ -90,26 +91,31 @@ pub(crate) fn read_point(
     Ok(Point::new(alloc, point)?)
 }
 
-// Adds the value, unless it is listed already.
-fn add_once(values: &mut Row, value: Value) -> Result<(), NoMemory>
-    requires fit { All (λ w. ValuesFit w value) values.old }
-    requires of_kind { All (ValueOfKind IsNotNull) values.old }
-    ensures { OnOk result (values.new ≡ (if listed.lists values.old value then values.old else values.old ++ value ∷ [])) }
+// Adds the value, unless it is there already.
+fn add_once(once: &mut IndexSet<ListedValue>, value: Value) -> Result<(), NoMemory>
+    ensures { OnOk result (values_in once.new.keys ≡ (if lists (values_in once.old.keys) value then values_in once.old.keys else values_in once.old.keys ++ value ∷ [])) }
 {
-    if lists(&ValueKey, values, &value) {
-        Ok(())
-    } else {
-        values.push(value)
+    let _is_new = once.insert(ListedValue { value })?;
+    Ok(())
+}
+
+fn values_of(alloc: Global, keys: &[ListedValue]) -> Result<Row, NoMemory>
+    ensures { IfOk result (λ values. values ≡ values_in keys.now) }
+{
+    let mut values = Row::new(alloc);
+    for key in keys {
+        values.push(copy_value(alloc, &key.value)?)?;
     }
+    Ok(values)
 }
 
 /// The values of a list, each once at its first place, for a column of the kind.
 pub(crate) fn read_list(alloc: Global, kind: Kind, raw: &[RawValue]) -> Result<Row, Refusal>
     ensures { IsAnswer result (or_first (faults_in (values_for kind raw.now)) (each_once (read_in (values_for kind raw.now)))) }
 {
-    let mut values = Row::new(alloc);
+    let mut once = IndexSet::new(alloc);
     for value in raw {
-        add_once(&mut values, read_raw(alloc, kind, value)?)?;
+        add_once(&mut once, read_raw(alloc, kind, value)?)?;
     }
-    Ok(values)
+    Ok(values_of(alloc, once.as_slice())?)
 }

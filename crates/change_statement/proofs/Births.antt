@@ -43,6 +43,7 @@ use Rattle.stores.proofs.Housed.{leaves_are_housed}
 use Rattle.statement_steps.specs.Made.{Refused, unless_refused, answered}
 use Rattle.statement_steps.specs.Attempts.{WentOn}
 use Rattle.statement_steps.specs.declared.caller.Caller.{Caller}
+use Rattle.statement_steps.specs.Faults.{stop_of}
 use Rattle.statement_steps.specs.declared.stop.Stop.{Stop}
 use Rattle.statement_steps.specs.declared.stop.Stop.TheVariants as stop
 use Rattle.change_statement.proofs.Ended.{Came, came_on, came_one, end_writes, got_at, own_is, rows_keep}
@@ -50,10 +51,9 @@ use Rattle.change_statement.proofs.Kept.{one_of}
 use Rattle.change_statement.proofs.Stays.{ended_fits}
 use Rattle.change_statement.proofs.Still.{kept_accepts, leaf_columns, leaf_is_there, open_leaf, routed_accepts, taken_above}
 use Rattle.change_statement.specs.Running.{Agree, IsInRun, IsPlacedIn, IsRun, IsRunTold, IsTakenIn, MayEndIn, MayRun}
-use Rattle.change_statement.specs.Updated.{against, housed, succeeded, succeeded_by, tested}
+use Rattle.change_statement.specs.Updated.{against, housed, succeeded, succeeded_by}
 use Rattle.statement_steps.proofs.Since.{since_now, since_on}
 use Rattle.statement_steps.specs.Gathered.{Found, IsStill, MayWriteAt}
-use Rattle.statement_steps.specs.Faults.{stop_of as stopped}
 use Rattle.change_statement.proofs.Runs.{no_memory_run}
 
 -- ---- the leaf where a row goes
@@ -120,13 +120,13 @@ placed_among stores caller g id old leaf row may version own at =
 
 -- ---- nothing stands against the row
 
-none_of : (fs : List Fault) → (answered (or_first {T = Unit {0}} fs tt)).told ≡ Ok tt → fs ≡ []
+none_of : (fs : List Fault) → or_first {T = Unit {0}} fs tt ≡ Ok tt → fs ≡ []
 none_of [] told = refl
 none_of (f ∷ fs) told = absurd (let c = told in cc)
 
 -- where it was tested
-pub none_stands : (stores : Stores) (caller : Caller) (g : Found) (leaf : LeafId) (row : List Value) → IsRun g (λ (u : Unit {0}). u) (Ok tt) stores stores caller (tested caller g leaf row) → IsTakenIn stores caller g leaf row
-none_stands stores caller g leaf row ran h stands run = none_of (against h caller.session g leaf row) (ran.is h stands run).0
+pub none_stands : (stores : Stores) (caller : Caller) (g : Found) (leaf : LeafId) (row : List Value) → ((h : History) → Stands stores h → or_first {T = Unit {0}} (against h caller.session g leaf row) tt ≡ Ok tt) → IsTakenIn stores caller g leaf row
+none_stands stores caller g leaf row told h stands run = none_of (against h caller.session g leaf row) (told h stands)
 
 -- ---- the row that is born
 
@@ -223,7 +223,7 @@ refused_made g (x ∷ xs) f events h rows new caller is went = let same : x ≡ 
 
 abbrev pub ends : Result (Unit {0}) Refusal → Result (Unit {0}) Stop
 ends (Ok u) = Ok tt
-ends (Err r) = Err (stopped r)
+ends (Err r) = Err (stop_of r)
 
 pub succeeded_run : (r : Result (Unit {0}) Refusal) (old : Stores) (rows : KeptRows) (caller : Caller) (g : Found) (from : LeafId) (id : RowId) (leaf : LeafId) (row : List Value) (by : TxId) → MayRun g old caller → MayEndIn g old caller id → (stored_at old.rows.stored id).version.leaf ≡ from → Agree g.asked.settings (stored_at old.rows.stored id).version.row row → AreRowsOf old.catalog g.table (row ∷ []) → IsPlacedIn old g from leaf row → IsTakenIn old caller g leaf row
     → slice_index_or old.txs.current caller.session None ≡ Some by.number → ((h : History) → TableStands old.txs h → StoreStands old.rows h → IsMade r rows h (rows_spec.succeeded h from id leaf row by caller.cmd))

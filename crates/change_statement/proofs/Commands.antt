@@ -1,7 +1,8 @@
 -- A statement as a whole: its gathering, and its run.
-use Rattle.std.proofs.Common.{◌≡◌, ℕ, zero, suc, ◌+◌, ◌<◌, ◌==◌, Bool, true, false, if◌then◌else◌, List, [], ◌∷◌, ◌++◌, refl, ap, sym, ◌∙◌, subst, arith, append_assoc, Option, Some, None, Result, Ok, Err, All, length, slice_get, unwrap_or}
+use Rattle.std.proofs.Common.{◌≡◌, ℕ, zero, suc, ◌+◌, ◌<◌, ◌==◌, Bool, true, false, if◌then◌else◌, List, [], ◌∷◌, ◌++◌, refl, ap, sym, ◌∙◌, subst, arith, append_assoc, Option, Some, None, Result, Ok, Err, IsErrAnd, All, length, slice_get, unwrap_or}
 use Rattle.std.proofs.lemmas.Bool.Decides.{nat_tests}
 use Rattle.std.proofs.lemmas.List.{length-map}
+use Rattle.std.proofs.lemmas.Result.{err_from_is_err_and}
 use Rattle.history.specs.declared.version.Version.{Version}
 use Rattle.row_router.specs.Trees.{leaves}
 use Rattle.row_store.specs.Kept.{KeptRows, stored_at, version_of}
@@ -145,9 +146,9 @@ command_behind view (Err (stop.Refused f)) mid new caller h events m first told 
     (told.0, subst (WentOn h caller.session (caller.cmd + 1) [] new) (sym (append_assoc m.events events h)) (went_on h (events ++ h) (m.events ++ (events ++ h)) caller.session caller.cmd (caller.cmd + 1) [] mid new first told.1))
 command_behind view (Err stop.NoMemory) mid new caller h events m first told = tt
 
-pub then_command : {X T Y U : Type 0} (see : X → T) (view : Y → U) (x : X) (r : Result Y Stop) (old mid new : Stores) (caller : Caller) (f : History → Made T) (next : T → History → Made U)
+pub then_command : {X T Y U : Type 0} {see : X → T} {view : Y → U} {x : X} {r : Result Y Stop} {old mid new : Stores} {caller : Caller} (f : History → Made T) (next : T → History → Made U)
     → IsStep see (Ok x) old mid caller caller.cmd f → IsCommand None view r mid new caller (next (see x)) → IsCommand None view r old new caller (follow f next)
-then_command {T} {U} see view x r old mid new caller f next first second = record {
+then_command {see = see} {view = view} {x = x} {r = r} {old = old} {mid = mid} {new = new} {caller = caller} f next first second = record {
   is = λ h stands at go.
       let a = first.is h stands at in
       let told = second.is ((f h).events ++ h) a.1.stands a.1.at tt in
@@ -178,15 +179,21 @@ stop_paused X Y (stop.Waits rest) stores s halted = halted.0
 stop_paused X Y (stop.Refused f) stores s halted = halted
 stop_paused X Y stop.NoMemory stores s halted = tt
 
-pub stop_command : {X T Y U : Type 0} (see : X → T) (view : Y → U) (e : Stop) (old new : Stores) (caller : Caller) (f : History → Made T) (next : T → History → Made U) → IsStep see (Err e) old new caller caller.cmd f → IsCommand None view (Err e) old new caller (follow f next)
-stop_command {X} {T} {Y} {U} see view e old new caller f next first = record {
+pub stop_command : {X T Y U : Type 0} {see : X → T} {view : Y → U} {e : Stop} {old new : Stores} {caller : Caller} (f : History → Made T) (next : T → History → Made U)
+    → IsStep see (Err e) old new caller caller.cmd f → IsCommand None view (Err e) old new caller (follow f next)
+stop_command {X = X} {Y = Y} {see = see} {view = view} {e = e} {old = old} {new = new} {caller = caller} f next first = record {
   is = λ h stands at go. stop_told see view e new caller h (f h) (λ y. next y ((f h).events ++ h)) first.waits (first.is h stands at);
   keeps = first.keeps;
   waits = stop_paused X Y e new caller.session first.waits;
 }
 
-pub no_memory_command : {X T : Type 0} (view : X → T) (old new : Stores) (caller : Caller) (f : History → Made T) → GoesOn old new caller.session → IsCommand None view (Err stop.NoMemory) old new caller f
-no_memory_command view old new caller f keeps = record { is = λ h stands at go. tt; keeps = keeps; waits = tt }
+-- so a `?` hands it on
+pub handed_command : {X T : Type 0} {view : X → T} {r : Result X Stop} {e : Stop} {old new : Stores} {caller : Caller} {f : History → Made T} → IsErrAnd r (λ s. s ≡ e) → IsCommand None view (Err e) old new caller f → IsCommand None view r old new caller f
+handed_command {view = view} {r = r} {old = old} {new = new} {caller = caller} {f = f} is command = let p = err_from_is_err_and r is in subst (λ x. IsCommand None view x old new caller f) (sym (p.1 ∙ ap Err p.2)) command
+
+-- memory runs out behind a part that is done
+pub out_command : {X T Y U : Type 0} {see : X → T} {view : Y → U} {x : X} {r : Result Y Stop} {old new : Stores} {caller : Caller} {k : ℕ} {f : History → Made T} {g : History → Made U} → IsErrAnd r (λ s. s ≡ stop.NoMemory) → IsStep see (Ok x) old new caller k f → IsCommand None view r old new caller g
+out_command is first = handed_command is (record { is = λ h stands at go. tt; keeps = first.keeps; waits = tt })
 
 -- ---- from the beginning, or from where it stood
 

@@ -1,9 +1,9 @@
 -- One row after the other.
-use Rattle.std.proofs.Common.{◌≡◌, ℕ, ◌+◌, ◌<◌, true, List, [], ◌∷◌, refl, ap, sym, ◌∙◌, subst, arith, Option, Some, None, Result, Ok, Err, IfOk, All, length, slice_index_or}
+use Rattle.std.proofs.Common.{◌≡◌, ℕ, ◌+◌, ◌<◌, true, List, [], ◌∷◌, refl, ap, sym, ◌∙◌, subst, arith, Option, Some, None, Result, Ok, Err, IsErrAnd, All, length, slice_index_or}
 use Rattle.std.proofs.lemmas.List.Elements.{All-tail}
+use Rattle.std.proofs.lemmas.Result.{err_from_is_err_and}
 use Rattle.pg_values.specs.declared.value.Value.{Value}
 use Rattle.pg_values.specs.declared.fault.Fault.{Fault}
-use Rattle.pg_values.specs.declared.text.NoMemory.{NoMemory}
 use Rattle.pg_values.specs.declared.ids.RowId.{RowId}
 use Rattle.pg_values.specs.declared.ids.TableNo.{TableNo}
 use Rattle.std.specs.List.{Contains}
@@ -28,13 +28,13 @@ use Rattle.statement_steps.specs.declared.caller.Caller.{Caller}
 use Rattle.statement_steps.specs.declared.rest.TargetRow.{TargetRow}
 use Rattle.statement_steps.specs.declared.stop.Stop.{Stop}
 use Rattle.statement_steps.specs.declared.stop.Stop.TheVariants as stop
-use Rattle.statement_steps.specs.Faults.{stop_by}
 use Rattle.statement_steps.proofs.Parts.{stays}
 use Rattle.soundness.specs.Worlds.{IsMade}
 use Rattle.statement_steps.specs.Gathered.{Found}
 use Rattle.statement_steps.proofs.Rights.{tables_kept}
 use Rattle.change_statement.specs.Standing.{standing}
 use Rattle.change_statement.specs.Turns.{IsDecided, IsTurn}
+use Rattle.change_statement.specs.declared.turn.Turn.{Turn}
 use Rattle.change_statement.specs.declared.turn.Turn.TheVariants.{Counted, Waits}
 use Rattle.change_statement.specs.Changed.{Changing, updater, by_decision, one_changed, all_changed, changed, paused, conflict_fault, told_by, told_of}
 use Rattle.change_statement.specs.declared.changed_rows.ChangedRows.{ChangedRows}
@@ -59,14 +59,14 @@ pub is_changed : (change : Changing) (names : List (List ℕ)) (old new : Stores
     → IsRun g (λ (u : Unit {0}). u) (Ok tt) old new caller (change t.leaf id row) → (ts : List TargetRow) → IsRun g (λ (m : ℕ). m) (Ok n) old new caller (one_changed change names caller g ts t k)
 is_changed change names old new caller g t k n id row count may is run ts =
     by_is change names (Ok n) old new caller g ts t k (Changes id row) is
-    (then_run g (λ (u : Unit {0}). u) (λ (m : ℕ). m) tt (Ok n) old new new caller (change t.leaf id row) (λ u h. made [] (k + 1)) run
+    (then_run (change t.leaf id row) (λ u h. made [] (k + 1)) run
     (nothing_run g (λ (m : ℕ). m) n new caller (λ h. made [] (k + 1)) (may_run_on g (λ (u : Unit {0}). u) tt old new caller (change t.leaf id row) may run) (λ h stands. ap (λ m. made [] m) (sym count))))
 
 -- it is not changed, and the statement stops
 pub is_stopped : (change : Changing) (names : List (List ℕ)) (e : Stop) (old new : Stores) (caller : Caller) (g : Found) (t : TargetRow) (k : ℕ) (id : RowId) (row : List Value) → IsDecided old caller g t (Changes id row) → IsRun g (λ (u : Unit {0}). u) (Err e) old new caller (change t.leaf id row)
     → (ts : List TargetRow) → IsRun g (λ (m : ℕ). m) (Err e) old new caller (one_changed change names caller g ts t k)
 is_stopped change names e old new caller g t k id row is run ts =
-    by_is change names (Err e) old new caller g ts t k (Changes id row) is (stop_run g (λ (u : Unit {0}). u) (λ (m : ℕ). m) e old new caller (change t.leaf id row) (λ u h. made [] (k + 1)) run)
+    by_is change names (Err e) old new caller g ts t k (Changes id row) is (stop_run (change t.leaf id row) (λ u h. made [] (k + 1)) run)
 
 -- a row is passed over
 pub is_passed : (change : Changing) (names : List (List ℕ)) (old : Stores) (caller : Caller) (g : Found) (t : TargetRow) (k : ℕ) → MayRun g old caller → IsDecided old caller g t PassesBy → (ts : List TargetRow) → IsRun g (λ (m : ℕ). m) (Ok k) old old caller (one_changed change names caller g ts t k)
@@ -77,22 +77,22 @@ is_passed change names old caller g t k may is ts =
 pub is_waited : (change : Changing) (names : List (List ℕ)) (e : Stop) (old new : Stores) (caller : Caller) (g : Found) (ts : List TargetRow) (t : TargetRow) (k other : ℕ) → IsDecided old caller g t (WaitsFor other) → IsRun g (λ (u : Unit {0}). u) (Err e) old new caller (λ h. paused names caller other (standing h caller g ts k) h)
     → IsRun g (λ (m : ℕ). m) (Err e) old new caller (one_changed change names caller g ts t k)
 is_waited change names e old new caller g ts t k other is run =
-    by_is change names (Err e) old new caller g ts t k (WaitsFor other) is (stop_run g (λ (u : Unit {0}). u) (λ (m : ℕ). m) e old new caller (λ h. paused names caller other (standing h caller g ts k) h) (λ u h. made [] k) run)
+    by_is change names (Err e) old new caller g ts t k (WaitsFor other) is (stop_run (λ h. paused names caller other (standing h caller g ts k) h) (λ u h. made [] k) run)
 
 -- it is refused
-refused_by : (names : List (List ℕ)) (old : Stores) (caller : Caller) (g : Found) (t : TargetRow) (conflict : Conflict) (r : Result Fault NoMemory) → IfOk r (λ f. (h : History) → CatalogueStands old.catalog h → f ≡ conflict_fault names g.tree t.leaf conflict h) → MayRun g old caller
-    → IsRun g (λ (m : ℕ). m) (Err (stop_by r)) old old caller (λ h. halted [] (Refused (conflict_fault names g.tree t.leaf conflict h)))
-refused_by names old caller g t conflict (Ok f) is may =
-    refused_run g (λ (m : ℕ). m) f old caller (λ h. halted [] (Refused (conflict_fault names g.tree t.leaf conflict h))) may (λ h stands. ap (λ x. halted [] (Refused x)) (sym (is h stands.all.catalog)))
-refused_by names old caller g t conflict (Err e) is may = no_memory_run g (λ (m : ℕ). m) old old caller (λ h. halted [] (Refused (conflict_fault names g.tree t.leaf conflict h))) (stays old caller.session)
-
-pub is_refused : (change : Changing) (names : List (List ℕ)) (old : Stores) (caller : Caller) (g : Found) (t : TargetRow) (k : ℕ) (conflict : Conflict) (r : Result Fault NoMemory) → IfOk r (λ f. (h : History) → CatalogueStands old.catalog h → f ≡ conflict_fault names g.tree t.leaf conflict h) → MayRun g old caller
-    → IsDecided old caller g t (Refuses conflict) → (ts : List TargetRow) → IsRun g (λ (m : ℕ). m) (Err (stop_by r)) old old caller (one_changed change names caller g ts t k)
-is_refused change names old caller g t k conflict r fault may is ts = by_is change names (Err (stop_by r)) old old caller g ts t k (Refuses conflict) is (refused_by names old caller g t conflict r fault may)
+pub is_refused : (change : Changing) (names : List (List ℕ)) (old : Stores) (caller : Caller) (g : Found) (t : TargetRow) (k : ℕ) (conflict : Conflict) (f : Fault) → ((h : History) → CatalogueStands old.catalog h → f ≡ conflict_fault names g.tree t.leaf conflict h) → MayRun g old caller
+    → IsDecided old caller g t (Refuses conflict) → (ts : List TargetRow) → IsRun g (λ (m : ℕ). m) (Err (stop.Refused f)) old old caller (one_changed change names caller g ts t k)
+is_refused change names old caller g t k conflict f fault may is ts =
+    by_is change names (Err (stop.Refused f)) old old caller g ts t k (Refuses conflict) is
+    (refused_run g (λ (m : ℕ). m) f old caller (λ h. halted [] (Refused (conflict_fault names g.tree t.leaf conflict h))) may (λ h stands. ap (λ x. halted [] (Refused x)) (sym (fault h stands.all.catalog))))
 
 -- memory ran out
-pub is_out : (change : Changing) (names : List (List ℕ)) (old : Stores) (caller : Caller) (g : Found) (t : TargetRow) (k : ℕ) (ts : List TargetRow) → IsRun g (λ (m : ℕ). m) (Err stop.NoMemory) old old caller (one_changed change names caller g ts t k)
+pub is_out : (change : Changing) (names : List (List ℕ)) (old : Stores) (caller : Caller) (g : Found) (t : TargetRow) (k : ℕ) → IsTurn change names (Err stop.NoMemory) old old caller g t k
 is_out change names old caller g t k ts = no_memory_run g (λ (m : ℕ). m) old old caller (one_changed change names caller g ts t k) (stays old caller.session)
+
+-- a `?` hands on why the statement stops
+pub handed_turn : (change : Changing) (names : List (List ℕ)) (r : Result Turn Stop) (e : Stop) (old new : Stores) (caller : Caller) (g : Found) (t : TargetRow) (k : ℕ) → IsErrAnd r (λ s. s ≡ e) → IsTurn change names (Err e) old new caller g t k → IsTurn change names r old new caller g t k
+handed_turn change names r e old new caller g t k is turn = let p = err_from_is_err_and r is in subst (λ x. IsTurn change names x old new caller g t k) (sym (p.1 ∙ ap Err p.2)) turn
 
 -- ---- the version may be ended
 
@@ -137,38 +137,38 @@ pub record IsLeft (start mid : Stores) (caller : Caller) (g : Found) (change : C
   pub may : MayRun g mid caller
   pub all : All (IsTargetIn mid.rows g) left
 
-pub all_left : (start : Stores) (caller : Caller) (g : Found) (change : Changing) (names : List (List ℕ)) (targets : List TargetRow) (n : ℕ) → MayRun g start caller → All (IsTargetIn start.rows g) targets → IsLeft start start caller g change names targets targets n n
-all_left start caller g change names targets n may all = record { on = λ r new run. run; may = may; all = all }
+pub all_left : {start : Stores} {caller : Caller} {g : Found} {change : Changing} {names : List (List ℕ)} {targets : List TargetRow} {n : ℕ} → MayRun g start caller → All (IsTargetIn start.rows g) targets → IsLeft start start caller g change names targets targets n n
+all_left may all = record { on = λ r new run. run; may = may; all = all }
 
-pub one_less : (start mid new : Stores) (caller : Caller) (g : Found) (change : Changing) (names : List (List ℕ)) (targets : List TargetRow) (t : TargetRow) (ts : List TargetRow) (n changed next : ℕ) → IsLeft start mid caller g change names targets (t ∷ ts) n changed
+pub one_less : {start mid new : Stores} {caller : Caller} {g : Found} {change : Changing} {names : List (List ℕ)} {targets : List TargetRow} {t : TargetRow} {ts : List TargetRow} {n changed next : ℕ} → IsLeft start mid caller g change names targets (t ∷ ts) n changed
     → IsTurn change names (Ok (Counted next)) mid new caller g t changed → IsLeft start new caller g change names targets ts n next
-one_less start mid new caller g change names targets t ts n changed next left turn =
+one_less {mid = mid} {new = new} {caller = caller} {g = g} {change = change} {names = names} {t = t} {ts = ts} {changed = changed} {next = next} left turn =
+    let one = one_changed change names caller g (t ∷ ts) t changed in
     let run = turn.0 (t ∷ ts) in
     record {
-      on = λ r k more. left.on r k (then_run g (λ (m : ℕ). m) (λ (m : ℕ). m) next r mid new k caller (one_changed change names caller g (t ∷ ts) t changed) (all_changed change names caller g ts) run more);
-      may = may_run_on g (λ (m : ℕ). m) next mid new caller (one_changed change names caller g (t ∷ ts) t changed) left.may run;
+      on = λ r k more. left.on r k (then_run one (all_changed change names caller g ts) run more);
+      may = may_run_on g (λ (m : ℕ). m) next mid new caller one left.may run;
       all = targets_stay mid.rows new.rows g ts turn.2 (All-tail (IsTargetIn mid.rows g) t ts left.all);
     }
 
-stopped : (start mid new : Stores) (caller : Caller) (g : Found) (change : Changing) (names : List (List ℕ)) (targets : List TargetRow) (t : TargetRow) (ts : List TargetRow) (n changed : ℕ) (e : Stop) → IsLeft start mid caller g change names targets (t ∷ ts) n changed
+stopped : {start mid new : Stores} {caller : Caller} {g : Found} {change : Changing} {names : List (List ℕ)} {targets : List TargetRow} {t : TargetRow} {ts : List TargetRow} {n changed : ℕ} {e : Stop} → IsLeft start mid caller g change names targets (t ∷ ts) n changed
     → IsRun g (λ (m : ℕ). m) (Err e) mid new caller (one_changed change names caller g (t ∷ ts) t changed) → IsRun g (λ (m : ℕ). m) (Err e) start new caller (all_changed change names caller g targets n)
-stopped start mid new caller g change names targets t ts n changed e left run =
-    left.on (Err e) new (stop_run g (λ (m : ℕ). m) (λ (m : ℕ). m) e mid new caller (one_changed change names caller g (t ∷ ts) t changed) (all_changed change names caller g ts) run)
+stopped {new = new} {caller = caller} {g = g} {change = change} {names = names} {t = t} {ts = ts} {changed = changed} {e = e} left run =
+    left.on (Err e) new (stop_run (one_changed change names caller g (t ∷ ts) t changed) (all_changed change names caller g ts) run)
 
-pub stops_there : (start mid new : Stores) (caller : Caller) (g : Found) (change : Changing) (names : List (List ℕ)) (targets : List TargetRow) (t : TargetRow) (ts : List TargetRow) (n changed : ℕ) (e : Stop) → IsLeft start mid caller g change names targets (t ∷ ts) n changed
+pub stops_there : {start mid new : Stores} {caller : Caller} {g : Found} {change : Changing} {names : List (List ℕ)} {targets : List TargetRow} {t : TargetRow} {ts : List TargetRow} {n changed : ℕ} {e : Stop} → IsLeft start mid caller g change names targets (t ∷ ts) n changed
     → IsTurn change names (Err e) mid new caller g t changed → IsRun g (λ (m : ℕ). m) (Err e) start new caller (all_changed change names caller g targets n)
-stops_there start mid new caller g change names targets t ts n changed e left turn = stopped start mid new caller g change names targets t ts n changed e left (turn (t ∷ ts))
+stops_there {t = t} {ts = ts} left turn = stopped left (turn (t ∷ ts))
 
 -- the statement waits for the first of those that are left
-pub waits_there : (start mid same new : Stores) (caller : Caller) (g : Found) (change : Changing) (names : List (List ℕ)) (targets : List TargetRow) (t : TargetRow) (ts : List TargetRow) (n changed other : ℕ) (e : Stop) → IsLeft start mid caller g change names targets (t ∷ ts) n changed
+pub waits_there : {start mid same new : Stores} {caller : Caller} {g : Found} {change : Changing} {names : List (List ℕ)} {targets : List TargetRow} {t : TargetRow} {ts : List TargetRow} {n changed other : ℕ} {e : Stop} → IsLeft start mid caller g change names targets (t ∷ ts) n changed
     → IsTurn change names (Ok (Waits other)) mid same caller g t changed → IsRun g (λ (u : Unit {0}). u) (Err e) same new caller (λ h. paused names caller other (standing h caller g (t ∷ ts) changed) h)
     → IsRun g (λ (m : ℕ). m) (Err e) start new caller (all_changed change names caller g targets n)
-waits_there start mid same new caller g change names targets t ts n changed other e left turn run =
-    stopped start mid new caller g change names targets t ts n changed e left
-    (is_waited change names e mid new caller g (t ∷ ts) t changed other turn.1 (subst (λ s. IsRun g (λ (u : Unit {0}). u) (Err e) s new caller (λ h. paused names caller other (standing h caller g (t ∷ ts) changed) h)) turn.0 run))
+waits_there {mid = mid} {new = new} {caller = caller} {g = g} {change = change} {names = names} {t = t} {ts = ts} {changed = changed} {other = other} {e = e} left turn run =
+    stopped left (is_waited change names e mid new caller g (t ∷ ts) t changed other turn.1 (subst (λ s. IsRun g (λ (u : Unit {0}). u) (Err e) s new caller (λ h. paused names caller other (standing h caller g (t ∷ ts) changed) h)) turn.0 run))
 
-pub none_left : (start mid : Stores) (caller : Caller) (g : Found) (change : Changing) (names : List (List ℕ)) (targets : List TargetRow) (n changed : ℕ) → IsLeft start mid caller g change names targets [] n changed → IsRun g (λ (m : ℕ). m) (Ok changed) start mid caller (all_changed change names caller g targets n)
-none_left start mid caller g change names targets n changed left = left.on (Ok changed) mid (nothing_run g (λ (m : ℕ). m) changed mid caller (λ h. made [] changed) left.may (λ h stands. refl))
+pub none_left : {start mid : Stores} {caller : Caller} {g : Found} {change : Changing} {names : List (List ℕ)} {targets : List TargetRow} {n changed : ℕ} → IsLeft start mid caller g change names targets [] n changed → IsRun g (λ (m : ℕ). m) (Ok changed) start mid caller (all_changed change names caller g targets n)
+none_left {mid = mid} {caller = caller} {g = g} {changed = changed} left = left.on (Ok changed) mid (nothing_run g (λ (m : ℕ). m) changed mid caller (λ h. made [] changed) left.may (λ h stands. refl))
 
 pub no_length : (xs : List TargetRow) → length xs ≡ 0 → xs ≡ []
 no_length [] e = refl

@@ -1,5 +1,5 @@
 -- What is gathered: names that are bound, locks, and the tree of the named table.
-use Rattle.std.proofs.Common.{◌≡◌, ℕ, ◌<◌, Bool, true, false, if◌then◌else◌, List, [], ◌∷◌, ap, sym, ◌∙◌, subst, Option, Result, Ok, Err, All, arith, map}
+use Rattle.std.proofs.Common.{◌≡◌, ℕ, ◌<◌, Bool, true, false, if◌then◌else◌, List, [], ◌∷◌, ap, sym, ◌∙◌, subst, Option, Result, Ok, Err, All, arith, length, map, ◌≤◌}
 use Rattle.std.specs.List.{Contains}
 use Rattle.std.proofs.lemmas.List.Elements.{All-cons, All-head}
 use Rattle.pg_values.specs.declared.fault.Fault.{Fault}
@@ -7,6 +7,7 @@ use Rattle.pg_values.specs.declared.fault.Refusal.{Refusal}
 use Rattle.pg_values.specs.declared.fault.Refusal.TheVariants.{Sql, NoMemory}
 use Rattle.pg_values.specs.declared.ids.LeafId.{LeafId}
 use Rattle.pg_values.specs.declared.ids.TableNo.{TableNo}
+use Rattle.pg_values.specs.declared.lock_mode.LockMode.TheVariants.{RowExclusive}
 use Rattle.history.specs.declared.catalogue.Column.{Column}
 use Rattle.history.specs.Catalogue.{tables_made}
 use Rattle.history.specs.History.{History, catalogue_events}
@@ -40,24 +41,27 @@ use Rattle.stores.proofs.Goodness.{legal_of, permitted_of}
 use Rattle.statement_steps.specs.Attempts.{MayAttempt}
 use Rattle.statement_steps.specs.declared.caller.Caller.{Caller}
 use Rattle.statement_steps.specs.declared.stop.Stop.{Stop}
+use Rattle.statement_steps.specs.Asks.{named}
+use Rattle.statement_steps.specs.Faults.{stop_of}
 use Rattle.statement_steps.specs.Known.{IsKnownTo}
 use Rattle.statement_steps.specs.Steps.{IsStep}
 use Rattle.statement_steps.proofs.Parts.{nothing_done, refused_here, no_memory, stays}
 use Rattle.statement_steps.specs.Below.{below}
-use Rattle.statement_steps.proofs.Steps.{same_step}
+use Rattle.statement_steps.proofs.Steps.{goes, moved, same_step}
 use Rattle.row_change.proofs.Trees.{Are, IsHome, tree_root}
 use Rattle.row_change.specs.Laws.{IsMade}
-use Rattle.change_statement.specs.Gathered.{found_by, item_of, meant, locked_all, over, of_table}
+use Rattle.change_statement.specs.Gathered.{condition_of, found_by, gathered_for, item_of, meant, locked_all, over, of_table, settings_of, table_named}
+use Rattle.change_statement.specs.declared.asking.Change.{Change}
 use Rattle.statement_steps.specs.Gathered.{Found, found_of, sets_key}
-use Rattle.change_statement.specs.Kept.{if_some, leaves_read, moves, tables_locked}
+use Rattle.change_statement.specs.Kept.{if_some, keeps_for, leaves_read, moves, tables_locked}
 use Rattle.change_statement.specs.Running.{IsGathered, MayWriteIn}
 use Rattle.statement_steps.specs.declared.gathered.Gathered.{Gathered}
 use Rattle.statement_steps.specs.Rights.{MayWrite, MayLock, IsReadOf}
 use Rattle.statement_steps.proofs.Rights.{may_write, tables_kept}
 use Rattle.statement_steps.specs.Made.{answered}
-use Rattle.statement_steps.specs.Faults.{stop_of as stopped}
 use Rattle.change_statement.proofs.Homes.{all_kept, all_under, home_of, kept_home, kept_in, root_and_below}
 use Rattle.change_statement.proofs.Kept.{Stay, each_of, home_written, homes_of, writable_moves}
+use Rattle.change_statement.proofs.TreeLocks.{tree_locks}
 
 -- ---- names and kinds
 
@@ -74,7 +78,7 @@ bound_done ask stores c t columns params table settings condition may are is =
     nothing_done change_meant ask stores c (meant params c table settings condition t.number) may (λ h stands. ap answered (ap (λ cs. Bound cs params c table settings condition) (sym (are h stands.all.catalog)) ∙ is))
 
 pub bound_refused : (r : Refusal) (stores : Stores) (c : Caller) (t : TableNo) (columns : List Column) (params : List Param) (table : NamedTable) (settings : List Setting) (condition : Option Tree) → MayAttempt stores c → AreColumns stores t columns
-    → IsAnswerBy change_meant (Err r) (Bound columns params c table settings condition) → IsStep change_meant (Err (stopped r)) stores stores c c.cmd (meant params c table settings condition t.number)
+    → IsAnswerBy change_meant (Err r) (Bound columns params c table settings condition) → IsStep change_meant (Err (stop_of r)) stores stores c c.cmd (meant params c table settings condition t.number)
 bound_refused (Sql f) stores c t columns params table settings condition may are is =
     refused_here change_meant f stores c c.cmd (meant params c table settings condition t.number) may (λ h stands. ap answered (ap (λ cs. Bound cs params c table settings condition) (sym (are h stands.all.catalog)) ∙ is))
 bound_refused NoMemory stores c t columns params table settings condition may are is = no_memory change_meant stores stores c c.cmd (meant params c table settings condition t.number) (stays stores c.session)
@@ -86,18 +90,18 @@ either_may P keeps tree true all = all_under P tree all
 either_may P keeps tree false all = all_kept P keeps tree all
 
 -- each that is needed may be locked
-pub may_lock : (stores : Stores) (s : ℕ) (keeps : Keeps) (settings : List SettingMeant) (tree : TableTree) (tables : List TableNo) → tables ≡ tables_locked keeps settings tree → AllTables (MayLock stores s) tree → All (MayLock stores s) tables
-may_lock stores s keeps settings tree tables are all = subst (All (MayLock stores s)) (sym are) (either_may (MayLock stores s) keeps tree (moves keeps settings tree) all)
+pub needed : (stores : Stores) (c : Caller) (prunes : Bool) (t : TableNo) (tree : TableTree) (path : List PathPart) (m : ChangeMeant) (tables : List TableNo) → tables ≡ tables_locked (keeps_for prunes m.condition) m.settings tree
+    → MayAttempt stores c → length stores.catalog.tables ≤ 4096 → IsKnownTo stores c.session t.number → IsReadOf stores.txs stores.catalog c t tree path → All (MayLock stores c.session) tables
+needed stores c prunes t tree path m tables are may few known read =
+    let P = MayLock stores c.session in
+    let keeps = keeps_for prunes m.condition in
+    subst (All P) (sym are) (either_may P keeps tree (moves keeps m.settings tree) (tree_locks stores c t tree path may few known read))
 
 pub all_low : (stores : Stores) (s : ℕ) (tables : List TableNo) → All (MayLock stores s) tables → All (λ t. t.number < 4096) tables
 all_low stores s tables all = all_more (MayLock stores s) (λ (t : TableNo). t.number < 4096) tables (λ t may. may.0) all
 
 pub all_known : (stores : Stores) (s : ℕ) (tables : List TableNo) → All (MayLock stores s) tables → All (λ t. IsKnownTo stores s t.number) tables
 all_known stores s tables all = all_more (MayLock stores s) (λ (t : TableNo). IsKnownTo stores s t.number) tables (λ t may. may.1) all
-
-pub locked_step : (names : List (List ℕ)) (c : Caller) (r : Result (Unit {0}) Stop) (old new : Stores) (tables others : List TableNo) → tables ≡ others
-    → IsStep (λ (u : Unit {0}). u) r old new c c.cmd (locked_all names c tables) → IsStep (λ (u : Unit {0}). u) r old new c c.cmd (locked_all names c others)
-locked_step names c r old new tables others are step = subst (λ ts. IsStep (λ (u : Unit {0}). u) r old new c c.cmd (locked_all names c ts)) are step
 
 -- ---- what the session may write then
 
@@ -175,12 +179,21 @@ read_prunable can stores c t tree path may there read =
     let known = there.made in
     subst CanPrune (sym (read.is_tree h stands.all.txs stands.all.catalog)) (can h c.session t.number (look_of h c.session c.cmd) (legal_of h stands.good) (permitted_of h stands.good) (omega (arith, kept, known)))
 
-pub read_step : (prunes : Bool) (names : List (List ℕ)) (params : List Param) (c : Caller) (table : NamedTable) (settings : List Setting) (condition : Option Tree) (r : Result Gathered Stop) (old new : Stores) (t : TableNo) (tree : TableTree) (path : List PathPart) → IsReadOf old.txs old.catalog c t tree path
+read_step : (prunes : Bool) (names : List (List ℕ)) (params : List Param) (c : Caller) (table : NamedTable) (settings : List Setting) (condition : Option Tree) (r : Result Gathered Stop) (old new : Stores) (t : TableNo) (tree : TableTree) (path : List PathPart) → IsReadOf old.txs old.catalog c t tree path
     → IsStep found_of r old new c c.cmd (over prunes names params c table settings condition t.number tree path) → IsStep found_of r old new c c.cmd (of_table prunes names params c table settings condition t.number)
 read_step prunes names params c table settings condition r old new t tree path read step =
     same_step found_of r old new c c.cmd (of_table prunes names params c table settings condition t.number) (over prunes names params c table settings condition t.number tree path)
     (λ h stands. ap (λ x. over prunes names params c table settings condition t.number x (path_of h c.session t.number) h) (sym (read.is_tree h stands.all.txs stands.all.catalog))
     ∙ ap (λ p. over prunes names params c table settings condition t.number tree p h) (sym (read.is_path h stands.all.txs stands.all.catalog))) step
+
+-- the named table is found and locked, its tree and its path are read: so far it has come
+pub gathers : {r : Result Gathered Stop} {old mid new : Stores} {t : TableNo} {tree : TableTree} {path : List PathPart} {name : List ℕ} (prunes : Bool) (names : List (List ℕ)) (params : List Param) (c : Caller) (change : Change) → name ≡ (table_named change).name
+    → IsStep (λ (t : TableNo). t.number) (Ok t) old mid c c.cmd (named names c.session RowExclusive name) → IsReadOf mid.txs mid.catalog c t tree path
+    → IsStep found_of r mid new c c.cmd (over prunes names params c (table_named change) (settings_of change) (condition_of change) t.number tree path) → IsStep found_of r old new c c.cmd (gathered_for prunes names params c change)
+gathers {r = r} {mid = mid} {new = new} {t = t} {tree = tree} {path = path} prunes names params c change is finds read rest =
+    let table = table_named change in
+    goes (named names c.session RowExclusive table.name) (of_table prunes names params c table (settings_of change) (condition_of change)) (moved (named names c.session RowExclusive) _ _ is finds)
+    (read_step prunes names params c table (settings_of change) (condition_of change) r mid new t tree path read rest)
 
 pub rest_same : (start mid new : Stores) → mid ≡ record start { locks = mid.locks } → new ≡ record mid { locks = new.locks } → new ≡ record start { locks = new.locks }
 rest_same start mid new first second = let f : Stores → Stores = λ s. record s { locks = new.locks } in second ∙ ap f first

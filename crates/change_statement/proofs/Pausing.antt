@@ -1,9 +1,10 @@
 -- A statement that waits in the middle of its run.
-use Rattle.std.proofs.Common.{◌≡◌, ◌≢◌, ℕ, ◌+◌, ◌<◌, ◌^◌, ◌==◌, ◌||◌, Bool, true, false, if◌then◌else◌, List, [], ◌∷◌, ◌++◌, refl, ap, sym, ◌∙◌, subst, arith, inl, inr, Option, Some, None, Ok, Err, All, map, append_assoc, slice_get, slice_index_or, unwrap_or}
+use Rattle.std.proofs.Common.{◌≡◌, ◌≢◌, ℕ, ◌+◌, ◌<◌, ◌^◌, ◌==◌, ◌||◌, Bool, true, false, if◌then◌else◌, List, [], ◌∷◌, ◌++◌, refl, ap, sym, ◌∙◌, subst, arith, inl, inr, Option, Some, None, Result, Ok, Err, IsErrAnd, All, map, append_assoc, slice_get, slice_index_or, unwrap_or}
 use Rattle.std.specs.Int.{bit_at}
 use Rattle.std.proofs.lemmas.Bool.{cases_eq, cases_Bool}
 use Rattle.std.proofs.lemmas.Bool.Decides.{nat_tests}
 use Rattle.std.proofs.lemmas.Grind.{common_steps}
+use Rattle.std.proofs.lemmas.Result.{err_from_is_err_and}
 use Rattle.std.proofs.lemmas.Nat.Bits.{bit_at-pow_same, bit_at-pow_other, bit_at-lt, same_from_bits}
 use Rattle.pg_values.specs.declared.fault.Fault.{Fault}
 use Rattle.statement_steps.specs.declared.rest.TargetRow.{TargetRow}
@@ -30,7 +31,7 @@ use Rattle.stores.proofs.Goodness.{legal_of}
 use Rattle.stores.specs.Numbers.{IsAt}
 use Rattle.stores.specs.declared.stores.Stores.{Stores}
 use Rattle.stores.proofs.Meanwhile.{looks_keep_numbers}
-use Rattle.statement_steps.specs.Made.{Waits, Refused, behind}
+use Rattle.statement_steps.specs.Made.{Made, Waits, Refused, behind}
 use Rattle.statement_steps.specs.Attempts.{IsLeft, WentOn}
 use Rattle.statement_steps.specs.declared.caller.Caller.{Caller}
 use Rattle.statement_steps.specs.declared.rest.Rest.{Rest}
@@ -89,11 +90,18 @@ someone h s other lt = elim (cases_Bool (nobody (is_cause h s (Others (Ends (onl
   | inr some ↦ some
 ]
 
-pub has_to_wait : (names : List (List ℕ)) (rest : Rest) (h : History) (s other : ℕ) → other < 128 → (waited names s (Ends (only other)) (Some rest) h).told ≡ Ok tt → ⊥
+has_to_wait : (names : List (List ℕ)) (rest : Rest) (h : History) (s other : ℕ) → other < 128 → (waited names s (Ends (only other)) (Some rest) h).told ≡ Ok tt → ⊥
 has_to_wait names rest h s other lt told =
     let w : Wanted = Others (Ends (only other)) in
     let k = lock_events h in
     by_test names rest s w (nobody (is_cause k s w)) (cycle_or_wait (least_cycle (waits_with k s w) s) (those (is_cause k s w))) (someone k s other lt) told (least_cycle (waits_with k s w) s) (those (is_cause k s w)) refl
+
+pub has_to_pause : (names : List (List ℕ)) (caller : Caller) (other : ℕ) (rest : RowsLeft) (h : History) → other < 128 → (held_up names caller other rest h).told ≡ Ok tt → ⊥
+has_to_pause names caller other rest h lt told = has_to_wait names (Rows rest) (held h caller.session caller.cmd ++ h) caller.session other lt told
+
+-- a `?` hands on why a part stops
+pub handed_part : {X T : Type 0} {view : X → T} {r : Result X Stop} {e : Stop} {old new : Stores} {caller : Caller} {n : ℕ} {f : History → Made T} → IsErrAnd r (λ s. s ≡ e) → IsPart view (Err e) old new caller n f → IsPart view r old new caller n f
+handed_part {view = view} {r = r} {old = old} {new = new} {caller = caller} {n = n} {f = f} is part = let p = err_from_is_err_and r is in subst (λ x. IsPart view x old new caller n f) (sym (p.1 ∙ ap Err p.2)) part
 
 -- ---- under the next command
 

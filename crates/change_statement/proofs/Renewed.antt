@@ -41,6 +41,7 @@ use Rattle.stores.specs.declared.stores.Stores.{Stores}
 use Rattle.stores.proofs.Goodness.{legal_of, permitted_of}
 use Rattle.statement_steps.specs.declared.caller.Caller.{Caller}
 use Rattle.statement_steps.specs.declared.stop.Stop.{Stop}
+use Rattle.statement_steps.specs.Faults.{stop_of}
 use Rattle.statement_steps.proofs.Parts.{stays}
 use Rattle.statement_steps.specs.Gathered.{Found}
 use Rattle.change_statement.specs.Running.{IsRun, MayEndIn, MayRun, Takes}
@@ -48,7 +49,6 @@ use Rattle.change_statement.specs.Updated.{renewed, stored, updating}
 use Rattle.statement_steps.specs.Waiting.{Since}
 use Rattle.statement_steps.proofs.Rights.{tables_kept}
 use Rattle.statement_steps.specs.Made.{answered}
-use Rattle.statement_steps.specs.Faults.{stop_of as stopped}
 use Rattle.soundness.specs.Versions.{IsVersion}
 use Rattle.soundness.specs.Worlds.{IsMade}
 use Rattle.soundness.proofs.Columns.{legal_keeps_columns, row_up}
@@ -66,7 +66,7 @@ use Rattle.change_statement.proofs.Runs.{then_run, stop_run, nothing_run, refuse
 pub answer_run : {T : Type 0} (g : Found) (x : T) (stores : Stores) (caller : Caller) (f : History → Result T Fault) → MayRun g stores caller → ((h : History) → Stands stores h → f h ≡ Ok x) → IsRun g (λ (y : T). y) (Ok x) stores stores caller (λ h. answered (f h))
 answer_run {T} g x stores caller f may is = nothing_run g (λ (y : T). y) x stores caller (λ h. answered (f h)) may (λ h stands. ap answered (is h stands))
 
-pub refusal_run : {T : Type 0} (g : Found) (r : Refusal) (stores : Stores) (caller : Caller) (f : History → Result T Fault) → MayRun g stores caller → ((h : History) → Stands stores h → IsAnswer (Err r) (f h)) → IsRun g (λ (y : T). y) (Err (stopped r)) stores stores caller (λ h. answered (f h))
+pub refusal_run : {T : Type 0} (g : Found) (r : Refusal) (stores : Stores) (caller : Caller) (f : History → Result T Fault) → MayRun g stores caller → ((h : History) → Stands stores h → IsAnswer (Err r) (f h)) → IsRun g (λ (y : T). y) (Err (stop_of r)) stores stores caller (λ h. answered (f h))
 refusal_run {T} g (Sql fault) stores caller f may is = refused_run g (λ (y : T). y) fault stores caller (λ h. answered (f h)) may (λ h stands. ap answered (is h stands))
 refusal_run {T} g NoMemory stores caller f may is = no_memory_run g (λ (y : T). y) stores stores caller (λ h. answered (f h)) (stays stores caller.session)
 
@@ -108,12 +108,12 @@ read_of stores caller g id row may version is = λ k catalog.
 pub updated_run : (new : List Value) (r : Result (Unit {0}) Stop) (old mid : Stores) (caller : Caller) (g : Found) (leaf : LeafId) (id : RowId) (row : List Value) → MayRun g old caller → IsNew (Ok new) old g row → IsRun g (λ (u : Unit {0}). u) r old mid caller (stored caller g leaf id new)
     → IsRun g (λ (u : Unit {0}). u) r old mid caller (updating caller g leaf id row)
 updated_run new r old mid caller g leaf id row may is run =
-    then_run g (λ (x : List Value). x) (λ (u : Unit {0}). u) new r old old mid caller (renewed g row) (stored caller g leaf id)
+    then_run (renewed g row) (stored caller g leaf id)
     (answer_run g new old caller (λ h. new_row (made_at h g.table.number).columns g.asked.settings row) may (λ h stands. is h stands.all.catalog)) run
 
-pub faulty_run : (r : Refusal) (stores : Stores) (caller : Caller) (g : Found) (leaf : LeafId) (id : RowId) (row : List Value) → MayRun g stores caller → IsNew (Err r) stores g row → IsRun g (λ (u : Unit {0}). u) (Err (stopped r)) stores stores caller (updating caller g leaf id row)
+pub faulty_run : (r : Refusal) (stores : Stores) (caller : Caller) (g : Found) (leaf : LeafId) (id : RowId) (row : List Value) → MayRun g stores caller → IsNew (Err r) stores g row → IsRun g (λ (u : Unit {0}). u) (Err (stop_of r)) stores stores caller (updating caller g leaf id row)
 faulty_run r stores caller g leaf id row may is =
-    stop_run g (λ (x : List Value). x) (λ (u : Unit {0}). u) (stopped r) stores stores caller (renewed g row) (stored caller g leaf id)
+    stop_run (renewed g row) (stored caller g leaf id)
     (refusal_run g r stores caller (λ h. new_row (made_at h g.table.number).columns g.asked.settings row) may (λ h stands. is h stands.all.catalog))
 
 -- ---- the leaf

@@ -1,5 +1,6 @@
 -- Parts of a run, one after another.
-use Rattle.std.proofs.Common.{Err, IsSome, None, Ok, Result, Some, ℕ, [], ap, append_assoc, length, refl, slice_index_or, subst, sym, ◌++◌, ◌+◌, ◌∙◌, ◌∷◌, ◌≡◌}
+use Rattle.std.proofs.Common.{Err, IsErrAnd, IsSome, None, Ok, Result, Some, ℕ, [], ap, append_assoc, length, refl, slice_index_or, subst, sym, ◌++◌, ◌+◌, ◌∙◌, ◌∷◌, ◌≡◌}
+use Rattle.std.proofs.lemmas.Result.{err_from_is_err_and}
 use Rattle.pg_values.specs.declared.fault.Fault.{Fault}
 use Rattle.history.specs.History.{History}
 use Rattle.stores.specs.Stand.{Stands}
@@ -36,9 +37,9 @@ run_behind g view (Err (stop.Refused f)) mid new caller h events m first told =
 run_behind g view (Err stop.NoMemory) mid new caller h events m first told = tt
 
 -- what comes first is done, and the next part goes on from what it gave
-pub then_run : {X T Y U : Type 0} (g : Found) (see : X → T) (view : Y → U) (x : X) (r : Result Y Stop) (old mid new : Stores) (caller : Caller) (f : History → Made T) (next : T → History → Made U)
+pub then_run : {X T Y U : Type 0} {g : Found} {see : X → T} {view : Y → U} {x : X} {r : Result Y Stop} {old mid new : Stores} {caller : Caller} (f : History → Made T) (next : T → History → Made U)
     → IsRun g see (Ok x) old mid caller f → IsRun g view r mid new caller (next (see x)) → IsRun g view r old new caller (follow f next)
-then_run {T} {U} g see view x r old mid new caller f next first second = record {
+then_run {g = g} {see = see} {view = view} {x = x} {r = r} {old = old} {mid = mid} {new = new} {caller = caller} f next first second = record {
   is = λ h stands run.
       let a = first.is h stands run in
       let told = second.is ((f h).events ++ h) a.1.stands a.2 in
@@ -56,13 +57,17 @@ stop_run_told g see view (stop.Waits (Some rest)) new caller h m next told = sub
 stop_run_told g see view (stop.Refused f) new caller h m next told = subst (λ t. IsRunTold g view (Err (stop.Refused f)) new caller h (then_told t m.events next)) (sym told.0) (refl, told.1)
 stop_run_told g see view stop.NoMemory new caller h m next told = tt
 
-pub stop_run : {X T Y U : Type 0} (g : Found) (see : X → T) (view : Y → U) (e : Stop) (old new : Stores) (caller : Caller) (f : History → Made T) (next : T → History → Made U)
+pub stop_run : {X T Y U : Type 0} {g : Found} {see : X → T} {view : Y → U} {e : Stop} {old new : Stores} {caller : Caller} (f : History → Made T) (next : T → History → Made U)
     → IsRun g see (Err e) old new caller f → IsRun g view (Err e) old new caller (follow f next)
-stop_run {X} {T} {Y} {U} g see view e old new caller f next first = record {
+stop_run {X = X} {Y = Y} {g = g} {see = see} {view = view} {e = e} {old = old} {new = new} {caller = caller} f next first = record {
   is = λ h stands run. stop_run_told g see view e new caller h (f h) (λ y. next y ((f h).events ++ h)) (first.is h stands run);
   keeps = first.keeps;
   waits = paused_same X Y e new caller.session first.waits;
 }
+
+-- so a `?` hands it on
+pub handed_run : {X T : Type 0} {g : Found} {view : X → T} {r : Result X Stop} {e : Stop} {old new : Stores} {caller : Caller} {f : History → Made T} → IsErrAnd r (λ s. s ≡ e) → IsRun g view (Err e) old new caller f → IsRun g view r old new caller f
+handed_run {g = g} {view = view} {r = r} {old = old} {new = new} {caller = caller} {f = f} is run = let p = err_from_is_err_and r is in subst (λ x. IsRun g view x old new caller f) (sym (p.1 ∙ ap Err p.2)) run
 
 -- ---- single parts
 
@@ -117,8 +122,8 @@ may_run_on g see x old mid caller f may first =
 -- ---- what is told
 
 -- how many rows are changed is told of the statement, with what it has read
-pub counted_run : {X U : Type 0} (g : Found) (see : X → U) (t : ℕ → U) (n : ℕ) (x : X) (old new : Stores) (caller : Caller) (f : History → Made ℕ) → t n ≡ see x → IsRun g (λ (m : ℕ). m) (Ok n) old new caller f → IsRun g see (Ok x) old new caller (λ h. giving t (f h))
-counted_run g see t n x old new caller f same run = record {
+pub counted_run : {X U : Type 0} {g : Found} {see : X → U} {n : ℕ} {x : X} {old new : Stores} {caller : Caller} {f : History → Made ℕ} (t : ℕ → U) → t n ≡ see x → IsRun g (λ (m : ℕ). m) (Ok n) old new caller f → IsRun g see (Ok x) old new caller (λ h. giving t (f h))
+counted_run t same run = record {
   is = λ h stands in_run. let told = run.is h stands in_run in (ap (told_as t) told.0 ∙ ap Ok same, told.1, told.2);
   keeps = run.keeps;
   waits = run.waits;
@@ -130,8 +135,8 @@ run_stops g see t (stop.Waits (Some rest)) new caller h m told = (ap (told_as t)
 run_stops g see t (stop.Refused f) new caller h m told = (ap (told_as t) told.0, told.1)
 run_stops g see t stop.NoMemory new caller h m told = tt
 
-pub stopped_run : (X : Type 0) {U : Type 0} (g : Found) (see : X → U) (t : ℕ → U) (e : Stop) (old new : Stores) (caller : Caller) (f : History → Made ℕ) → IsRun g (λ (m : ℕ). m) (Err e) old new caller f → IsRun g see (Err e) old new caller (λ h. giving t (f h))
-stopped_run X g see t e old new caller f run = record {
+pub stopped_run : {X U : Type 0} {g : Found} {see : X → U} {e : Stop} {old new : Stores} {caller : Caller} {f : History → Made ℕ} (t : ℕ → U) → IsRun g (λ (m : ℕ). m) (Err e) old new caller f → IsRun g see (Err e) old new caller (λ h. giving t (f h))
+stopped_run {X = X} {g = g} {see = see} {e = e} {new = new} {caller = caller} {f = f} t run = record {
   is = λ h stands in_run. run_stops g see t e new caller h (f h) (run.is h stands in_run);
   keeps = run.keeps;
   waits = paused_same ℕ X e new caller.session run.waits;

@@ -1,8 +1,15 @@
--- What an UPDATE or a DELETE makes of a version that it changes.
+-- What an UPDATE or a DELETE makes of a version that it changes, and what it does from its beginning.
+use Rattle.std.specs.Prelude.{ℕ, Bool, List}
+use Rattle.history.specs.History.{History}
+use Rattle.expression_binder.specs.declared.scope.Param.{Param}
+use Rattle.statement_steps.specs.Asks.{held_at}
+use Rattle.statement_steps.specs.Made.{Made}
+use Rattle.statement_steps.specs.Steps.{follow}
 use Rattle.statement_steps.specs.declared.caller.Caller.{Caller}
 use Rattle.statement_steps.specs.Gathered.{Found}
-use Rattle.change_statement.specs.Changed.{Changing}
+use Rattle.change_statement.specs.Changed.{Changing, Told, changed}
 use Rattle.change_statement.specs.Deleted.{deleting}
+use Rattle.change_statement.specs.Gathered.{gathered_for}
 use Rattle.change_statement.specs.Updated.{updating}
 use Rattle.change_statement.specs.declared.asking.Change.{Change}
 use Rattle.change_statement.specs.declared.asking.Change.TheVariants.{Update, Delete}
@@ -10,3 +17,11 @@ use Rattle.change_statement.specs.declared.asking.Change.TheVariants.{Update, De
 abbrev pub changing : Change → Caller → Found → Changing
 changing (Update u) c g = updating c g
 changing (Delete d) c g = deleting c
+
+-- what is gathered is changed
+abbrev pub gathered_and_changed : (prunes : Bool) → List (List ℕ) → List Param → Caller → Change → History → Made Told
+gathered_and_changed prunes names params c change = follow (gathered_for prunes names params c change) (λ g. changed (changing change c g) names c g)
+
+-- a transaction at REPEATABLE READ takes its snapshot before anything waits
+abbrev pub begun : (prunes : Bool) → List (List ℕ) → List Param → Caller → Change → History → Made Told
+begun prunes names params c change = follow (held_at c.level c.session c.cmd) (λ u. gathered_and_changed prunes names params c change)

@@ -81,3 +81,7 @@ of_table prunes names params c table settings condition t h =
 -- the named table is found and locked first
 abbrev pub gathered : (prunes : Bool) → List (List ℕ) → List Param → Caller → NamedTable → List Setting → Option Tree → History → Made Found
 gathered prunes names params c table settings condition = follow (named names c.session RowExclusive table.name) (of_table prunes names params c table settings condition)
+
+-- what the statement asks for
+abbrev pub gathered_for : (prunes : Bool) → List (List ℕ) → List Param → Caller → Change → History → Made Found
+gathered_for prunes names params c change = gathered prunes names params c (table_named change) (settings_of change) (condition_of change)

@@ -83,16 +83,6 @@ fn bind_columns(
     bind_for(alloc, change, &item, params, session)
 }
 
-// A refusal ends the statement.
-pub(crate) fn stop_by(refusal: Refusal) -> Stop
-    ensures { result ≡ stopped refusal }
-{
-    match refusal {
-        Refusal::Sql(fault) => Stop::Refused(fault),
-        Refusal::NoMemory => Stop::NoMemory,
-    }
-}
-
 /// Names and kinds are bound over the columns of the table, and constants evaluated.
 pub(crate) fn bind(
     alloc: Global,
@@ -107,8 +97,6 @@ pub(crate) fn bind(
     ensures { IsStep change_meant result stores.now stores.now caller caller.cmd (gathered.meant params.now caller (gathered.table_named change.entry) (gathered.settings_of change.entry) (gathered.condition_of change.entry) table.number) }
 {
     let columns = stores.catalog.table(table).columns.as_slice();
-    match bind_columns(alloc, change, columns, params, caller.session) {
-        Ok(ask) => Ok(ask),
-        Err(refusal) => Err(stop_by(refusal)),
-    }
+    let ask = bind_columns(alloc, change, columns, params, caller.session)?;
+    Ok(ask)
 }

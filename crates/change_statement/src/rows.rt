@@ -10,21 +10,20 @@ ghost use Rattle.stores.specs.Events.{look_of};
 ghost use Rattle.stores.specs.Stand.{Stands};
 ghost use Rattle.statement_steps.specs.Attempts.{MayAttempt};
 ghost use Rattle.statement_steps.specs.Ended.{giving};
-ghost use Rattle.statement_steps.specs.Faults as faults;
 ghost use Rattle.change_statement.specs.Changed as changed_spec;
 ghost use Rattle.change_statement.specs.Changing.{changing};
 ghost use Rattle.statement_steps.specs.Gathered.{found_of};
-ghost use Rattle.change_statement.specs.Running.{IsCommand, IsGathered, IsRun, IsTargetIn, MayRun};
+ghost use Rattle.change_statement.specs.Running.{IsGathered, IsRun, IsTargetIn, MayRun};
 ghost use Rattle.change_statement.specs.Turns.{IsTurn};
 
-use crate::asking::{self, Change};
+use crate::asking::Change;
 use crate::conflicts::conflict_fault;
 use crate::deleting::end_row;
 use crate::turn::Turn;
 use crate::updating::{renew, store};
 use crate::waiting::pause;
 use crate::{ChangedRows, Updater, Verdict, decide, find_targets};
-use pg_values::{Fault, Isolation, NoMemory};
+use pg_values::{Isolation, NoMemory};
 use statement_steps::{Caller, Gathered, SessionNames, Stop, TargetRow};
 use std::alloc::Global;
 use stores::Stores;
@@ -56,15 +55,6 @@ fn updater<'c>(stores: &Stores, caller: Caller, gathered: &'c Gathered) -> Updat
     }
 }
 
-fn stop_by(fault: Result<Fault, NoMemory>) -> Stop
-    ensures { result ≡ faults.stop_by fault }
-{
-    match fault {
-        Ok(fault) => Stop::Refused(fault),
-        Err(NoMemory) => Stop::NoMemory,
-    }
-}
-
 // The first of the rows that are left: it is changed or passed over, or it has to be waited for, or the statement
 // stops there.
 fn change_row(
@@ -89,15 +79,11 @@ fn change_row(
         Verdict::Change(seen) => {
             let id = seen.id;
             match change {
-                Change::Update(_) => match renew(alloc, &stores.catalog, gathered, seen.row) {
-                    Ok(row) => {
-                        match store(alloc, stores, caller, gathered, target.leaf, id, row) {
-                            Ok(()) => Ok(Turn::Counted(next)),
-                            Err(stop) => Err(stop),
-                        }
-                    }
-                    Err(refusal) => Err(asking::stop_by(refusal)),
-                },
+                Change::Update(_) => {
+                    let row = renew(alloc, &stores.catalog, gathered, seen.row)?;
+                    store(alloc, stores, caller, gathered, target.leaf, id, row)?;
+                    Ok(Turn::Counted(next))
+                }
                 Change::Delete(_) => {
                     end_row(stores, caller, gathered, id);
                     Ok(Turn::Counted(next))
@@ -108,7 +94,9 @@ fn change_row(
         Verdict::Wait(other) => Ok(Turn::Waits(other)),
         Verdict::Refuse(conflict) => {
             let tree = &gathered.tree;
-            Err(stop_by(conflict_fault(alloc, &stores.catalog, names, tree, target.leaf, conflict)))
+            let catalog = &stores.catalog;
+            let fault = conflict_fault(alloc, catalog, names, tree, target.leaf, conflict)?;
+            Err(Stop::Refused(fault))
         }
     }
 }
@@ -132,17 +120,17 @@ pub(crate) fn change_rows(
     let mut left = targets;
     let mut changed = changed;
     while let Some((target, others)) = left.split_first() {
-        match change_row(
+        let turn = change_row(
             alloc, stores, names, caller, &gathered, change, *target, changed,
-        ) {
-            Ok(Turn::Counted(next)) => {
+        )?;
+        match turn {
+            Turn::Counted(next) => {
                 changed = next;
                 left = others;
             }
-            Ok(Turn::Waits(other)) => {
+            Turn::Waits(other) => {
                 return Err(pause(alloc, stores, names, caller, other, gathered, left, changed));
             }
-            Err(stop) => return Err(stop),
         }
     }
     Ok(ChangedRows {
@@ -151,8 +139,8 @@ pub(crate) fn change_rows(
     })
 }
 
-// The rows of the leaves that are read which the command sees and which pass.
-fn find(
+/// The rows of the leaves that are read which the command sees and which pass.
+pub(crate) fn find(
     alloc: Global,
     stores: &Stores,
     caller: Caller,
@@ -172,23 +160,4 @@ fn find(
         &snap,
         &gathered.ask.condition,
     )
-}
-
-/// The rows that the statement finds are changed.
-pub(crate) fn change_found(
-    alloc: Global,
-    stores: &mut Stores,
-    names: &SessionNames,
-    caller: Caller,
-    gathered: Gathered,
-    change: Change<'_>,
-) -> Result<ChangedRows, Stop>
-    requires may { MayAttempt stores.old caller }
-    requires gathered { IsGathered stores.old caller (found_of gathered) }
-    ensures { IsCommand None changed_spec.told_by result stores.old stores.new caller (changed_spec.changed (changing change.entry caller (found_of gathered)) names.now caller (found_of gathered)) }
-{
-    match find(alloc, stores, caller, &gathered) {
-        Ok(targets) => change_rows(alloc, stores, names, caller, gathered, change, &targets, 0),
-        Err(NoMemory) => Err(Stop::NoMemory),
-    }
 }

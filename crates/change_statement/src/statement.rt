@@ -1,21 +1,18 @@
 ghost use Rattle.std.specs.Prelude.{◌≡◌, ◌≤◌, None, Some, length, map};
 ghost use Rattle.sql_ast.specs.Queries.{maybe_tree, setting};
-ghost use Rattle.statement_steps.specs.Asks.{held_at};
 ghost use Rattle.statement_steps.specs.Attempts.{MayAttempt, MayGoOn};
 ghost use Rattle.statement_steps.specs.Ended.{giving};
-ghost use Rattle.statement_steps.specs.Steps.{follow};
 ghost use Rattle.statement_steps.specs.declared.rest.Rest.TheVariants.{Rows};
-ghost use Rattle.change_statement.specs.Changed.{changed, changed_by, changed_on, told_by, told_of};
-ghost use Rattle.change_statement.specs.Changing.{changing};
+ghost use Rattle.change_statement.specs.Changed.{changed_by, changed_on, told_by, told_of};
+ghost use Rattle.change_statement.specs.Changing.{begun, changing};
 ghost use Rattle.change_statement.specs.Deleted.{deleted};
-ghost use Rattle.change_statement.specs.Gathered as gathered_spec;
 ghost use Rattle.change_statement.specs.Running.{IsCommand, IsOwnRun};
 ghost use Rattle.change_statement.specs.Updated.{updated};
 
 use crate::ChangedRows;
 use crate::asking::Change;
 use crate::gathering::gather;
-use crate::rows::{change_found, change_rows};
+use crate::rows::{change_rows, find};
 use crate::standing::left_of;
 use expression_binder::Param;
 use sql_ast::{Delete, Update};
@@ -23,28 +20,8 @@ use statement_steps::{Caller, Rest, RestOfRows, SessionNames, Stop, hold_if_repe
 use std::alloc::Global;
 use stores::Stores;
 
-// What is asked is gathered, and the rows are changed.
-fn change_gathered(
-    alloc: Global,
-    stores: &mut Stores,
-    names: &SessionNames,
-    params: &[Param],
-    caller: Caller,
-    prunes: bool,
-    change: Change<'_>,
-) -> Result<ChangedRows, Stop>
-    requires may { MayAttempt stores.old caller }
-    requires few { length stores.old.catalog.tables ≤ 4096 }
-    ensures { IsCommand None told_by result stores.old stores.new caller
-        (follow (gathered_spec.gathered prunes names.now params.now caller (gathered_spec.table_named change.entry) (gathered_spec.settings_of change.entry) (gathered_spec.condition_of change.entry)) (λ g. changed (changing change.entry caller g) names.now caller g)) }
-{
-    match gather(alloc, stores, names, params, caller, prunes, change) {
-        Ok(gathered) => change_found(alloc, stores, names, caller, gathered, change),
-        Err(stop) => Err(stop),
-    }
-}
-
-// A transaction at REPEATABLE READ takes its snapshot before.
+// From its beginning. A transaction at REPEATABLE READ takes its snapshot first; what is asked is gathered, and the
+// rows that it finds are changed.
 fn begin(
     alloc: Global,
     stores: &mut Stores,
@@ -56,16 +33,15 @@ fn begin(
 ) -> Result<ChangedRows, Stop>
     requires may { MayAttempt stores.old caller }
     requires few { length stores.old.catalog.tables ≤ 4096 }
-    ensures { IsCommand None told_by result stores.old stores.new caller
-        (follow (held_at caller.level caller.session caller.cmd) (λ u. follow (gathered_spec.gathered prunes names.now params.now caller (gathered_spec.table_named change.entry) (gathered_spec.settings_of change.entry) (gathered_spec.condition_of change.entry)) (λ g. changed (changing change.entry caller g) names.now caller g))) }
+    ensures { IsCommand None told_by result stores.old stores.new caller (begun prunes names.now params.now caller change.entry) }
 {
-    match hold_if_repeatable(alloc, stores, caller) {
-        Ok(()) => change_gathered(alloc, stores, names, params, caller, prunes, change),
-        Err(stop) => Err(stop),
-    }
+    hold_if_repeatable(alloc, stores, caller)?;
+    let gathered = gather(alloc, stores, names, params, caller, prunes, change)?;
+    let targets = find(alloc, stores, caller, &gathered)?;
+    change_rows(alloc, stores, names, caller, gathered, change, &targets, 0)
 }
 
-// The rows that are left are changed, by what was gathered before the wait.
+// From where it stood. The rows that are left are changed, by what was gathered before the wait.
 fn go_on(
     alloc: Global,
     stores: &mut Stores,
@@ -97,8 +73,7 @@ fn change_from(
     requires may { MayAttempt stores.old caller }
     requires rest { MayGoOn stores.old caller rest }
     requires few { length stores.old.catalog.tables ≤ 4096 }
-    ensures { IsCommand rest told_by result stores.old stores.new caller
-        (changed_by (λ g. changing change.entry caller g) names.now caller rest (follow (held_at caller.level caller.session caller.cmd) (λ u. follow (gathered_spec.gathered prunes names.now params.now caller (gathered_spec.table_named change.entry) (gathered_spec.settings_of change.entry) (gathered_spec.condition_of change.entry)) (λ g. changed (changing change.entry caller g) names.now caller g)))) }
+    ensures { IsCommand rest told_by result stores.old stores.new caller (changed_by (λ g. changing change.entry caller g) names.now caller rest (begun prunes names.now params.now caller change.entry)) }
 {
     match left_of(stores, caller, rest) {
         Some(rest) => go_on(alloc, stores, names, caller, change, rest),

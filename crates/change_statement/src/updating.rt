@@ -5,7 +5,6 @@ ghost use Rattle.pg_values.specs.Refusals.{IsAnswer, or_first};
 ghost use Rattle.history.specs.History.{History};
 ghost use Rattle.row_router.specs.Seen.{seen};
 ghost use Rattle.row_store.specs.Kept.{stored_at};
-ghost use Rattle.std.specs.List.{Contains};
 ghost use Rattle.row_change.specs.Succession.{KeepsVersions};
 ghost use Rattle.row_change.specs.Targets.{HasWay, holder_faults};
 ghost use Rattle.part_catalog.specs.Found.{made_at};
@@ -19,7 +18,6 @@ ghost use Rattle.change_statement.specs.Running.{Agree, IsPlacedIn, IsRun, IsTak
 ghost use Rattle.statement_steps.specs.Gathered.{found_of};
 ghost use Rattle.change_statement.specs.Updated as updated;
 
-use crate::asking::stop_by;
 use crate::new_row;
 use part_catalog::Catalog;
 use pg_values::{LeafId, Refusal, Row, RowId};
@@ -81,26 +79,6 @@ fn house(
     }
 }
 
-fn rehouse(
-    alloc: Global,
-    stores: &Stores,
-    caller: Caller,
-    gathered: &Gathered,
-    from: LeafId,
-    row: &Row,
-) -> Result<LeafId, Stop>
-    requires may { MayRun (found_of gathered.now) stores.now caller }
-    requires own { Contains gathered.now.leaves.items from }
-    requires of { AreRowsOf stores.now.catalog (found_of gathered.now).table (row.now ∷ []) }
-    ensures run { IsRun (found_of gathered.now) (λ leaf. leaf) result stores.now stores.now caller (updated.rehoused (found_of gathered.now) from row.now) }
-    ensures placed { IfOk result (λ leaf. IsPlacedIn stores.now (found_of gathered.now) from leaf row.now) }
-{
-    match house(alloc, stores, gathered, from, row) {
-        Ok(leaf) => Ok(leaf),
-        Err(refusal) => Err(stop_by(refusal)),
-    }
-}
-
 // NOT NULL and the kept CHECKs of the table that has the leaf.
 fn check_holder(
     alloc: Global,
@@ -141,26 +119,6 @@ fn check(
     check_kept(alloc, &stores.catalog, &gathered.path, row)
 }
 
-// Nothing stands against the row.
-fn test(
-    alloc: Global,
-    stores: &Stores,
-    caller: Caller,
-    gathered: &Gathered,
-    leaf: LeafId,
-    row: &Row,
-) -> Result<(), Stop>
-    requires may { MayRun (found_of gathered.now) stores.now caller }
-    requires of { AreRowsOf stores.now.catalog (found_of gathered.now).table (row.now ∷ []) }
-    requires way { HasWay (found_of gathered.now).tree leaf }
-    ensures { IsRun (found_of gathered.now) (λ u. u) result stores.now stores.now caller (updated.tested caller (found_of gathered.now) leaf row.now) }
-{
-    match check(alloc, stores, caller, gathered, leaf, row) {
-        Ok(()) => Ok(()),
-        Err(refusal) => Err(stop_by(refusal)),
-    }
-}
-
 // ---- its version
 
 // The row takes the place of the version.
@@ -189,36 +147,8 @@ fn succeed(
         unreachable!()
     };
     let Stores { txs, rows, .. } = stores;
-    match succeed_row(alloc, txs, rows, from, id, leaf, row, by, caller.cmd) {
-        Ok(()) => Ok(()),
-        Err(refusal) => Err(stop_by(refusal)),
-    }
-}
-
-fn store_in(
-    alloc: Global,
-    stores: &mut Stores,
-    caller: Caller,
-    gathered: &Gathered,
-    from: LeafId,
-    id: RowId,
-    leaf: LeafId,
-    row: Row,
-) -> Result<(), Stop>
-    requires may { MayRun (found_of gathered.now) stores.old caller }
-    requires version { MayEndIn (found_of gathered.now) stores.old caller id }
-    requires own { (stored_at stores.old.rows.stored id).version.leaf ≡ from }
-    requires keys { Agree (change_meant gathered.now.ask).settings (stored_at stores.old.rows.stored id).version.row row }
-    requires of { AreRowsOf stores.old.catalog (found_of gathered.now).table (row ∷ []) }
-    requires placed { IsPlacedIn stores.old (found_of gathered.now) from leaf row }
-    ensures run { IsRun (found_of gathered.now) (λ u. u) result stores.old stores.new caller (updated.stored_in caller (found_of gathered.now) from id row leaf) }
-    ensures rest { stores.new ≡ record stores.old { rows = stores.new.rows } }
-    ensures keeps { KeepsVersions stores.old.rows stores.new.rows }
-{
-    match test(alloc, stores, caller, gathered, leaf, &row) {
-        Ok(()) => succeed(alloc, stores, caller, gathered, from, id, leaf, row),
-        Err(stop) => Err(stop),
-    }
+    succeed_row(alloc, txs, rows, from, id, leaf, row, by, caller.cmd)?;
+    Ok(())
 }
 
 /// The row takes the place of the version, in the leaf where it belongs: where no row may move, in that of the
@@ -241,8 +171,7 @@ pub(crate) fn store(
     ensures rest { stores.new ≡ record stores.old { rows = stores.new.rows } }
     ensures keeps { KeepsVersions stores.old.rows stores.new.rows }
 {
-    match rehouse(alloc, stores, caller, gathered, from, &row) {
-        Ok(leaf) => store_in(alloc, stores, caller, gathered, from, id, leaf, row),
-        Err(stop) => Err(stop),
-    }
+    let leaf = house(alloc, stores, gathered, from, &row)?;
+    check(alloc, stores, caller, gathered, leaf, &row)?;
+    succeed(alloc, stores, caller, gathered, from, id, leaf, row)
 }

@@ -10,7 +10,7 @@ ghost use Rattle.change_statement.specs.Standing as standing_spec;
 
 use crate::standing::copied;
 use history::WaitOn;
-use pg_values::{NoMemory, SessionSet};
+use pg_values::SessionSet;
 use statement_steps::{
     Caller, Gathered, RestOfRows, SessionNames, Stop, TargetRow, hold, wait_for_row,
 };
@@ -24,7 +24,8 @@ fn only(session: u32) -> SessionSet
     SessionSet::empty().with(session)
 }
 
-// The session waits for the end of the other's transaction, and goes on where the rest says.
+// The session holds the snapshot that it reads under, and waits for the end of the other's transaction; it goes on
+// where the rest says.
 fn wait_for_end(
     alloc: Global,
     stores: &mut Stores,
@@ -32,37 +33,15 @@ fn wait_for_end(
     caller: Caller,
     other: u32,
     rest: RestOfRows,
-) -> Stop
+) -> Result<(), Stop>
     requires may { MayAttempt stores.old caller }
     requires another { other ≢ caller.session }
     requires known { other < 128 }
-    ensures { IsPart (λ u. u) (Err result) stores.old stores.new caller caller.cmd (changed_spec.waits_for_end names.now caller other rest) }
+    ensures { IsPart (λ u. u) result stores.old stores.new caller caller.cmd (changed_spec.held_up names.now caller other rest) }
 {
+    hold(alloc, stores, caller)?;
     let what = WaitOn::Ends(only(other));
-    match wait_for_row(alloc, stores, names, caller, what, rest) {
-        Ok(()) => unreachable!(),
-        Err(stop) => stop,
-    }
-}
-
-// It holds the snapshot that it reads under before.
-fn hold_and_wait(
-    alloc: Global,
-    stores: &mut Stores,
-    names: &SessionNames,
-    caller: Caller,
-    other: u32,
-    rest: RestOfRows,
-) -> Stop
-    requires may { MayAttempt stores.old caller }
-    requires another { other ≢ caller.session }
-    requires known { other < 128 }
-    ensures { IsPart (λ u. u) (Err result) stores.old stores.new caller caller.cmd (changed_spec.held_up names.now caller other rest) }
-{
-    match hold(alloc, stores, caller) {
-        Ok(()) => wait_for_end(alloc, stores, names, caller, other, rest),
-        Err(stop) => stop,
-    }
+    wait_for_row(alloc, stores, names, caller, what, rest)
 }
 
 /// The statement waits for the end of the other session's transaction before it goes on with these rows, by what
@@ -89,11 +68,12 @@ pub(crate) fn pause(
     let Some(by) = stores.txs.open_of(caller.session) else {
         unreachable!()
     };
-    match copied(alloc, left) {
-        Ok(rows) => {
-            let rest = RestOfRows::new(by, gathered, rows, changed);
-            hold_and_wait(alloc, stores, names, Caller { cmd, ..caller }, other, rest)
-        }
-        Err(NoMemory) => Stop::NoMemory,
+    let Ok(rows) = copied(alloc, left) else {
+        return Stop::NoMemory;
+    };
+    let rest = RestOfRows::new(by, gathered, rows, changed);
+    match wait_for_end(alloc, stores, names, Caller { cmd, ..caller }, other, rest) {
+        Ok(()) => unreachable!(),
+        Err(stop) => stop,
     }
 }

@@ -1,21 +1,16 @@
 -- Levels that are told to be the same are.
-use Rattle.std.proofs.Common.{◌≡◌, ℕ, ◌<◌, ◌==◌, true, false, arith, List, [], ◌∷◌, drop, drop-cons, length, refl, sym, ap, ◌∙◌, subst, Ok}
+use Rattle.std.proofs.Common.{◌≡◌, ℕ, ◌<◌, ◌==◌, true, false, arith, List, [], ◌∷◌, drop, drop-cons, length, refl, sym, ap, ◌∙◌, subst}
 use Rattle.std.proofs.lemmas.Bool.{and_parts}
 use Rattle.pg_values.specs.declared.value.Kind.{Kind}
 use Rattle.pg_values.specs.declared.value.Kind.TheVariants as kinds
 use Rattle.bound_forms.specs.declared.level.KeyColumn.{KeyColumn}
-use Rattle.bound_forms.specs.declared.level.Level.{Level, Level as OneLevel}
+use Rattle.bound_forms.specs.declared.level.Level.{Level}
 use Rattle.pg_values.specs.declared.strategy.Strategy.{Strategy}
 use Rattle.pg_values.specs.declared.strategy.Strategy.TheVariants as strategies
 use Rattle.bound_forms.specs.declared.partition_bound.Bound.{Bound}
 use Rattle.bound_forms.specs.Levels.{IsBoundAt, IsOfLevel}
 use Rattle.ddl_steps.specs.Checks.{same_strategy, same_kind, same_column, same_columns, same_level}
 use Rattle.ddl_steps.proofs.Below.{same_number}
-use Rattle.history.specs.declared.catalogue.TableShape.{TableShape}
-use Rattle.history.specs.declared.catalogue.TableShape.TheVariants.{Leaf, Level}
-use Rattle.history.specs.Places.{TakesBound}
-use Rattle.part_ddl.specs.Placing.{level_told}
-use Rattle.statement_steps.specs.Owned.{own}
 
 strategy_is : (a b : Strategy) → same_strategy a b ≡ true → a ≡ b
 strategy_is strategies.Range strategies.Range e = refl
@@ -87,13 +82,3 @@ no_columns (x ∷ xs) e = absurd (omega (arith, e))
 pub none_beside : (a : List KeyColumn) (k : ℕ) → k < length a → same_columns (drop k a) [] ≡ false
 none_beside [] k lt = absurd (omega (arith, lt))
 none_beside (x ∷ a) k lt = ap (λ (xs : List KeyColumn). same_columns xs []) (drop-cons (x ∷ a) k x lt)
-
--- ---- the level of a parent
-
-pub shape_at : (name : List ℕ) (shape : TableShape) (level : OneLevel) → level_told name shape ≡ Ok level → shape ≡ Level level
-shape_at name (Leaf leaf) level e = absurd (let d = e in cc)
-shape_at name (Level l) level e = let d = e in cc
-
-pub takes_bound : (name : List ℕ) (shape : TableShape) (level : OneLevel) (b : Bound) → level_told name shape ≡ Ok level → IsOfLevel level b → TakesBound shape b
-takes_bound name (Leaf leaf) level b is fits = absurd (let c = is in cc)
-takes_bound name (Level own) level b is fits = let same : own ≡ level = (let c = is in cc) in subst (λ (l : OneLevel). IsOfLevel l b) (sym same) fits

@@ -14,3 +14,4 @@ pub mod Locks
 pub mod Beside
 pub mod Levels
 pub mod Checks
+pub mod Shapes

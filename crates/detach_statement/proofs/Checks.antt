@@ -21,7 +21,7 @@ use Rattle.part_ddl.specs.Placing.{level_at, partitions_of}
 use Rattle.ddl_steps.proofs.Below.{found_in, below_listed, entry_suits, same_number}
 use Rattle.detach_statement.specs.Kept.{place_below, check_told, unless_equal, new_check}
 use Rattle.ddl_steps.specs.Checks.{same_check}
-use Rattle.ddl_steps.proofs.Levels.{shape_at}
+use Rattle.ddl_steps.proofs.Shapes.{shape_at}
 
 -- ---- what a new CHECK is made of
 

@@ -46,7 +46,7 @@ use Rattle.statement_steps.specs.Owned.{stamp}
 use Rattle.statement_steps.proofs.Owned.{own_number, own_is, IsOwn}
 use Rattle.ddl_steps.proofs.Below.{below_listed, found_in, same_number}
 use Rattle.ddl_steps.proofs.Deeds.{IsDeed, deed_step}
-use Rattle.ddl_steps.proofs.Levels.{shape_at}
+use Rattle.ddl_steps.proofs.Shapes.{shape_at}
 use Rattle.detach_statement.specs.Asked.{IsPartition, IsPendingPart}
 use Rattle.detach_statement.specs.Concurrent.{partition_left}
 use Rattle.detach_statement.specs.Kept.{place_below, check_by, check_kept, check_told, new_check}

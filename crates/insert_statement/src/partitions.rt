@@ -17,7 +17,7 @@ ghost use Rattle.row_change.specs.Laws.{AreRowsOf};
 ghost use Rattle.statement_steps.specs.Rights.{MayWrite};
 
 use crate::storing::put_rows;
-use pg_values::{LeafId, LockMode, Row, TableNo};
+use pg_values::{LeafId, LockMode, NoMemory, Row, TableNo};
 use row_change::{leaf_targets, leaves_and_ways};
 use row_router::Tree;
 use statement_steps::{Caller, SessionNames, Stop, lock_tables, tree_and_path};
@@ -44,9 +44,9 @@ fn store_in_leaves(
     put_rows(alloc, stores, caller, &targets, leaves, rows)
 }
 
-/// The rows are placed below a partitioned table, by the tree that the session's command reads; the tables on
-/// their ways are locked, and the rows are stored.
-pub(crate) fn store_below(
+// The rows are placed below a partitioned table, by the tree that the session's command reads; the tables on
+// their ways are locked, and the rows are stored.
+fn store_by_tree(
     alloc: Global,
     stores: &mut Stores,
     names: &SessionNames,
@@ -66,4 +66,39 @@ pub(crate) fn store_below(
     let leaves = leaves_and_ways(alloc, &stores.catalog, &tree, &path, rows, &mut ways)?;
     lock_tables(alloc, stores, names, caller, &ways, LockMode::RowExclusive)?;
     store_in_leaves(alloc, stores, caller, &tree, leaves.as_slice(), rows)
+}
+
+// The tree that the session's command reads of a table is kept for the statements that come.
+fn keep_tree(
+    alloc: Global,
+    stores: &mut Stores,
+    caller: Caller,
+    table: TableNo,
+) -> Result<(), NoMemory>
+    requires may { MayAttempt stores.old caller }
+    requires known { table.number < length stores.old.catalog.tables }
+    ensures { stores.new ≡ stores.old }
+{
+    let snap = stores.look(alloc, caller.session, caller.cmd)?;
+    stores.keep(table, caller.session, &snap)
+}
+
+/// The rows are placed below a partitioned table and stored, by a tree that is kept.
+pub(crate) fn store_below(
+    alloc: Global,
+    stores: &mut Stores,
+    names: &SessionNames,
+    caller: Caller,
+    table: TableNo,
+    rows: &[Row],
+) -> Result<(), Stop>
+    requires may { MayAttempt stores.old caller }
+    requires there { IsKnownTo stores.old caller.session table.number }
+    requires few { length stores.old.catalog.tables ≤ 4096 }
+    requires level { (h : History) → CatalogueStands stores.old.catalog h → (level : OneLevel) × ((made_at h table.number).shape ≡ Level level) }
+    requires rows { AreRowsOf stores.old.catalog table rows.now }
+    ensures { IsStep (λ u. u) result stores.old stores.new caller (caller.cmd + 1) (inserted.into_partitions names.now caller table.number rows.now) }
+{
+    keep_tree(alloc, stores, caller, table)?;
+    store_by_tree(alloc, stores, names, caller, table, rows)
 }

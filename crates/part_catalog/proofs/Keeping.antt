@@ -40,7 +40,7 @@ kept_stands kept h c sound st = record {
 
 -- ---- after a table was dropped, an entry ended or marked
 
-same_tables : (xs : List StoredTable) (k : ℕ) (s : Option Stamp) → k < length xs → map table_in (slice_set xs k (record { table = (get_or xs k no_stored).table; dropped = s })) ≡ map table_in xs
+pub same_tables : (xs : List StoredTable) (k : ℕ) (s : Option Stamp) → k < length xs → map table_in (slice_set xs k (record { table = (get_or xs k no_stored).table; dropped = s })) ≡ map table_in xs
 same_tables [] k s lt = refl
 same_tables (x ∷ xs) zero s lt = refl
 same_tables (x ∷ xs) (suc k) s lt = ap (λ ts. x.table ∷ ts) (same_tables xs k s (omega (arith, lt)))

@@ -3,6 +3,7 @@ pub mod Between
 pub mod Found
 pub mod Grown
 pub mod Keeping
+pub mod KeptTrees
 pub mod Keys
 pub mod Listed
 pub mod Partitions

@@ -2,10 +2,15 @@
 use Rattle.std.specs.Prelude.{◌≡◌, ℕ, ◌<◌, Bool, List, map, filter, length, slice_index_or}
 use Rattle.pg_values.specs.KeyKinds.{IsNotNull}
 use Rattle.bound_forms.specs.Bounds.{BoundOfKind}
+use Rattle.history.specs.declared.catalogue.Table.{Table}
+use Rattle.history.specs.declared.catalogue.Entry.{Entry}
+use Rattle.row_router.specs.Trees.{TableTree}
+use Rattle.row_router.specs.Seen.{seen}
 use Rattle.row_router.specs.Siblings.{AreSiblings}
-use Rattle.row_router.specs.Histories.{children}
+use Rattle.row_router.specs.Histories.{children, tree_within}
 use Rattle.part_catalog.specs.declared.stored.StoredTable.{StoredTable}
 use Rattle.part_catalog.specs.declared.stored.StoredEntry.{StoredEntry}
+use Rattle.part_catalog.specs.declared.keep.KeptTree.{KeptTree}
 use Rattle.part_catalog.specs.Kept.{AreListed, entry_in, number_of, no_entry}
 use Rattle.part_catalog.specs.Stands.{is_flagged}
 
@@ -24,3 +29,11 @@ pub record IsGrove (tables : List StoredTable) (entries : List StoredEntry) (num
   pub flagged : length flags ≡ length entries
   pub siblings : AreSiblings (filter (is_flagged flags) (map entry_in entries))
   pub kinds : (k : ℕ) → k < length entries → BoundOfKind IsNotNull (slice_index_or entries k no_entry).entry.bound
+
+-- the tree of a table, grown from these tables and entries for these flags
+unfoldable pub grown_for : List Table → List Entry → List Bool → (table : ℕ) → TableTree
+grown_for tables entries flags t = tree_within 7 tables (filter (is_flagged flags) entries) t t
+
+-- a tree that is kept is such a one
+abbrev pub IsGrownFrom : List Table → List Entry → KeptTree → Type 0
+IsGrownFrom tables entries k = seen k.tree ≡ grown_for tables entries k.flags.items k.table.number

@@ -12,6 +12,7 @@ ghost use Rattle.part_catalog.specs.Full.{TableRefused, EntryRefused, HasPlace, 
 ghost use Rattle.part_catalog.specs.Ordered.{HaveAnOrder};
 
 use crate::below::Below;
+use crate::keep::forget;
 use crate::room::{count_shown, levels_up, place_in};
 use crate::stored::{StoredEntry, StoredTable};
 use crate::{Catalog, CatalogRefused, LEVEL_LIMIT, NewTable, PARTITION_LIMIT, TABLE_LIMIT, see};
@@ -74,6 +75,7 @@ impl Catalog {
         else {
             unreachable!()
         };
+        forget(&mut self.trees);
         Ok(())
     }
 
@@ -155,6 +157,7 @@ impl Catalog {
         else {
             unreachable!()
         };
+        forget(&mut self.trees);
         Ok(())
     }
 

@@ -13,7 +13,7 @@ ghost use Rattle.part_catalog.specs.Stands.{CatalogueStands};
 ghost use Rattle.part_catalog.specs.Answers.{parent_told, child_told, marker_told, pending_entry, AreTogether};
 
 use crate::below::Below;
-use crate::grow::grow;
+use crate::keep::{KeptTree, grow_or_share};
 use crate::names::Names;
 use crate::see;
 use crate::stored::{StoredEntry, StoredTable};
@@ -32,17 +32,20 @@ pub struct Catalog {
     pub(crate) checks: Vec<Check>,
     pub(crate) below: Vec<Below>,
     pub(crate) names: Names,
+    pub(crate) trees: Vec<KeptTree>,
     pub(crate) alloc: Global,
 }
 
 impl Model for Catalog {
-    ghost use Rattle.part_catalog.specs.Kept.{KeptCatalogue, IsKept};
+    ghost use Rattle.std.specs.Prelude.{All, map};
+    ghost use Rattle.part_catalog.specs.Kept.{KeptCatalogue, IsKept, table_in, entry_in};
+    ghost use Rattle.part_catalog.specs.Groves.{IsGrownFrom};
 
     ghost Value = { KeptCatalogue };
 
     ghost view = { λ c. record { tables = c.tables.items; entries = c.entries.items; checks = c.checks.items } };
 
-    ghost invariant = { λ c. IsKept c.tables.items c.entries.items c.below.items c.names };
+    ghost invariant = { λ c. IsKept c.tables.items c.entries.items c.below.items c.names × All (IsGrownFrom (map table_in c.tables.items) (map entry_in c.entries.items)) c.trees.items };
 }
 
 impl Catalog {
@@ -56,6 +59,7 @@ impl Catalog {
             checks: Vec::new(alloc),
             below: Vec::new(alloc),
             names: Names::new(alloc),
+            trees: Vec::new(alloc),
             alloc,
         })
     }
@@ -109,15 +113,14 @@ impl Catalog {
             IsPast s.past (tx_events h) → SnapshotStands snap.now s → seen t ≡ tree_of h session table.number s) }
     {
         let flags = see::shown_flags(alloc, &self.entries, txs, session, snap)?;
-        let tree = grow(
+        let tree = grow_or_share(
             alloc,
             &self.tables,
             &self.entries,
             &self.below,
             &flags,
             table,
-            table,
-            7,
+            &self.trees,
         )?;
         Ok(tree)
     }
@@ -136,15 +139,14 @@ impl Catalog {
             seen t ≡ ddl_tree h session table.number) }
     {
         let flags = see::present_flags(alloc, &self.entries, txs, session)?;
-        let tree = grow(
+        let tree = grow_or_share(
             alloc,
             &self.tables,
             &self.entries,
             &self.below,
             &flags,
             table,
-            table,
-            7,
+            &self.trees,
         )?;
         Ok(tree)
     }

@@ -10,8 +10,10 @@
 //! `Catalog` keeps all tables and all entries ever made, each with its newest end and mark; what an
 //! aborted transaction did stays, and does not count. So no abort has anything to undo. The entries
 //! below a table stand in plain order from the moment they are added, so that a tree is built in
-//! one pass. The contracts say that the catalogue stands for a history of events, before a call and
-//! after it, and what a call answers is a definition over that history.
+//! one pass. Trees that statements asked for are kept until a table is made or an entry added: a tree of
+//! the same table with the same entries shares what stands below. The contracts say that the catalogue
+//! stands for a history of events, before a call and after it, and what a call answers is a definition
+//! over that history.
 #![tactic(auto)]
 
 mod add;
@@ -20,6 +22,7 @@ mod catalog;
 mod change;
 mod find;
 mod grow;
+mod keep;
 mod laws;
 mod names;
 mod new_table;

@@ -86,6 +86,24 @@ fn find(
     Ok(Gathered { ask, trees, snap })
 }
 
+// The trees of the tables are kept for the statements that come.
+fn keep_trees(
+    alloc: Global,
+    stores: &mut Stores,
+    caller: Caller,
+    tables: &[TableNo],
+) -> Result<(), NoMemory>
+    requires may { MayAttempt stores.old caller }
+    requires known { All (λ t. IsKnownTo stores.old caller.session t.number) tables.now }
+    ensures { stores.new ≡ stores.old }
+{
+    let snap = look(alloc, stores, caller)?;
+    for table in tables {
+        stores.keep(*table, caller.session, &snap)?;
+    }
+    Ok(())
+}
+
 /// The tables of FROM are found and locked, their trees read under the snapshot of the command, names and kinds
 /// bound, and constants evaluated.
 pub(crate) fn gather(
@@ -104,6 +122,7 @@ pub(crate) fn gather(
     ensures look { IfOk result (λ g. IsLookFor stores.new caller g.snap) }
 {
     let tables = lock_items(alloc, stores, names, caller, select.from.as_slice())?;
+    keep_trees(alloc, stores, caller, &tables)?;
     find(alloc, stores, caller, select, &tables)
 }
 

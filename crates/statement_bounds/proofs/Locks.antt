@@ -49,7 +49,7 @@ module _ (k : Attempt) (names : List (List ℕ)) (rest : Option Rest) (h : Histo
     sound = sound;
     stay = λ x i mode e. got_stays l s t m x i mode e;
     others = λ x other. refl;
-    told = (now.may.idle, now.still, tt);
+    told = (now.may.idle, (now.still, tt));
   }
 
   wait_part : (w : Wanted) (others : List ℕ) → IsBounded k.bound w → AreLocksSound (WaitBegan s w ∷ l) → Part k (Gives k Any) h (told_by names rest (map LockChange (WaitBegan s w ∷ [])) (WaitsBehind others))
@@ -114,9 +114,9 @@ module _ (k : Attempt) (names : List (List ℕ)) where
 
   pub all_locked_parts : (m : LockMode) (ts : List ℕ) → All (λ t. t < k.bound) ts → Parts k (Gives k Any) (all_locked names k.caller.session m ts)
   all_locked_parts m [] low h now = made_part k (Gives k Any) h tt now.may (now.still, tt)
-  all_locked_parts m (t ∷ ts) low =
+  all_locked_parts m (t ∷ ts) low h now =
       then_parts k Any (Gives k Any) (locked names k.caller.session t m) (λ u. all_locked names k.caller.session m ts) (locked_parts t m (All-head (λ x. x < k.bound) t ts low))
-      (λ u any. all_locked_parts m ts (All-tail (λ x. x < k.bound) t ts low))
+      (λ u any. all_locked_parts m ts (All-tail (λ x. x < k.bound) t ts low)) h now
 
 -- ---- a table by its name
 
@@ -146,7 +146,7 @@ module _ (k : Attempt) where
   number_part t low h m part = record { sound = part.sound; stay = part.stay; others = part.others; told = by m.told part.told }
     where
       by : (r : Result (Unit {0}) Halt) → Told k (Gives k Any) (m.events ++ h) r → Told k (Gives k Low) (m.events ++ h) (number_or t r)
-      by (Ok u) told = (told.0, told.1.0, low)
+      by (Ok u) told = (told.0, (told.1.0, low))
       by (Err (Waits rest)) told = told
       by (Err (Refused f)) told = told
 
@@ -159,7 +159,7 @@ module _ (k : Attempt) where
   same_parts : (name : List ℕ) (t n : ℕ) → n < k.bound → Parts k (Gives k (λ u. t < k.bound)) (λ h. same_or_gone name t n)
   same_parts name t n low h now = by (n == t) refl
     where
-      by : (b : Bool) → (n == t) ≡ b → Part k (Gives k (λ u. t < k.bound)) h (if b then made [] tt else halted [] (Refused (no_table name)))
+      by : (b : Bool) → (n == t) ≡ b → Part k (Gives k (λ u. t < k.bound)) h (if b then made [] (tt {0}) else halted [] (Refused (no_table name)))
       by true e = let same : n ≡ t = grind (arith, common_steps, nat_tests, e) in made_part k (Gives k (λ u. t < k.bound)) h tt now.may (now.still, subst (λ x. x < k.bound) same low)
       by false e = refused_part k (Gives k (λ u. t < k.bound)) h (no_table name) now.may
 
@@ -170,11 +170,11 @@ module _ (k : Attempt) where
 
   -- ---- the snapshot
 
-  held_part : (cmd : ℕ) (h : History) → Now k h → (o : Option TakenSnapshot) → Part k (Gives k Any) h (made (held_first o k.caller.session (look_of h k.caller.session cmd)) tt)
+  held_part : (cmd : ℕ) (h : History) → Now k h → (o : Option TakenSnapshot) → Part k (Gives k Any) h (made (held_first o k.caller.session (look_of h k.caller.session cmd)) (tt {0}))
   held_part cmd h now None = events_part k (Gives k Any) h (held_first None k.caller.session (look_of h k.caller.session cmd)) tt now.may tt (now.still, tt)
   held_part cmd h now (Some old) = made_part k (Gives k Any) h tt now.may (now.still, tt)
 
-  pub held_parts : (cmd : ℕ) → Parts k (Gives k Any) (λ h. made (held h k.caller.session cmd) tt)
+  pub held_parts : (cmd : ℕ) → Parts k (Gives k Any) (λ h. made (held h k.caller.session cmd) (tt {0}))
   held_parts cmd h now = held_part cmd h now (held_by (snapshot_events h) k.caller.session)
 
   pub held_at_parts : (level : Isolation) (cmd : ℕ) → Parts k (Gives k Any) (held_at level k.caller.session cmd)

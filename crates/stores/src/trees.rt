@@ -41,6 +41,17 @@ impl Stores {
         self.catalog.ddl_tree(alloc, &self.txs, table, session)
     }
 
+    /// Keeps the tree of a partitioned table that a statement of the session reads under its snapshot,
+    /// for the statements that come. Nothing else changes.
+    pub fn keep(&mut self, table: TableNo, session: u32, snap: &Snapshot) -> Result<(), NoMemory>
+        requires known { table.number < length self.old.catalog.tables }
+        requires sound { IsSound self.old }
+        ensures { self.new ≡ self.old }
+    {
+        trees_are_together();
+        self.catalog.keep(&self.txs, table, session, snap)
+    }
+
     /// A table and those above it, upwards, with the CHECKs kept for each and its place where it is a
     /// partition.
     pub fn path(

@@ -15,7 +15,7 @@ use Rattle.table_binder.specs.Bounds.{bound_for}
 use Rattle.part_catalog.specs.Found.{made_at}
 use Rattle.part_ddl.specs.Placing.{level_at, place_faults}
 use Rattle.ddl_steps.proofs.Firsts.{past_none, stops_at, stops_first, none_first, fault_answer}
-use Rattle.ddl_steps.proofs.Levels.{takes_bound}
+use Rattle.ddl_steps.proofs.Shapes.{takes_bound}
 use Rattle.attach_statement.specs.Places.{table_faults}
 use Rattle.attach_statement.proofs.Placed.{path_long, path_short, table_high, wider_refused, wider_answer, after_bound, after_table, after_level, at_level, past_level, past_table, past_bound, may_be_attached}
 use Rattle.attach_statement.proofs.checking.place_of.Goals as goal

@@ -6,8 +6,8 @@ use Rattle.part_ddl.specs.Placing.{level_at}
 use Rattle.attach_statement.specs.Skipped.{kept_for}
 use Rattle.attach_statement.proofs.LeftOut.{said_at, none_said}
 use Rattle.attach_statement.proofs.skipping.is_said.Goals as goal
-use Rattle.ddl_steps.proofs.Levels.{shape_at}
 use Rattle.ddl_steps.proofs.Checks.{if_ok_more}
+use Rattle.ddl_steps.proofs.Shapes.{shape_at}
 
 pub is_implied-requires-clause-own : goal.is_implied-requires-clause-own
 is_implied-requires-clause-own c =

@@ -1,6 +1,5 @@
 use Rattle.std.proofs.Common.{◌≡◌, ◌++◌, drop}
-use Rattle.std.specs.List.{All}
-use Rattle.bound_forms.specs.Levels.{IsOf}
+use Rattle.bound_checks.specs.ListedValues.{values_in}
 use Rattle.bound_checks.specs.RawBounds.{values_for, each_once}
 use Rattle.pg_values.specs.Refusals.{faults_in, read_in}
 use Rattle.bound_checks.proofs.OnceLaws.{further}
@@ -10,6 +9,5 @@ use Rattle.bound_checks.proofs.raw_value.read_list.Given as goal
 abbrev pub invariant-loop-value : goal.invariant-loop-value
 invariant-loop-value l = record {
   faults : faults_in (values_for l.kind (drop l.value-index l.raw)) ≡ faults_in (values_for l.kind l.raw);
-  once : l.values ++ further l.values (read_in (values_for l.kind (drop l.value-index l.raw))) ≡ each_once (read_in (values_for l.kind l.raw));
-  of_kind : All (IsOf l.kind) l.values;
+  once : values_in l.once.keys ++ further (values_in l.once.keys) (read_in (values_for l.kind (drop l.value-index l.raw))) ≡ each_once (read_in (values_for l.kind l.raw));
 }

@@ -1,14 +1,12 @@
 use Rattle.std.proofs.Common.{rules, ◌≡◌, ◌≢◌, ◌+◌, refl, sym, ◌∙◌, subst, Ok, Err}
 use Rattle.row_change.proofs.Successors.{keeps_all}
 use Rattle.statement_steps.specs.Gathered.{found_of}
-use Rattle.statement_steps.specs.declared.stop.Stop.{Stop}
-use Rattle.statement_steps.specs.Faults.{stop_of as stopped}
+use Rattle.statement_steps.specs.Faults.{stop_of}
 use Rattle.change_statement.specs.Verdicts.{updater_meant, Changes, PassesBy, WaitsFor, Refuses}
 use Rattle.change_statement.specs.Changing.{changing}
 use Rattle.change_statement.specs.Running.{IsRun}
-use Rattle.change_statement.specs.Turns.{IsTurn}
 use Rattle.change_statement.specs.declared.asking.Change.{Change}
-use Rattle.change_statement.proofs.EachRow.{decided_is, is_changed, is_seat, is_stopped, is_passed, is_refused, is_out, may_end_in, tables_low}
+use Rattle.change_statement.proofs.EachRow.{decided_is, handed_turn, is_changed, is_seat, is_stopped, is_passed, is_refused, is_out, may_end_in, tables_low}
 use Rattle.change_statement.proofs.Renewed.{updated_run, faulty_run, known_table, read_of}
 use Rattle.change_statement.proofs.Stays.{agrees}
 use Rattle.change_statement.proofs.rows.change_row.Goals as goal
@@ -31,15 +29,15 @@ store-requires-clause-version c =
     may_end_in c.args.stores.now c.args.caller (found_of c.args.gathered.now) c.args.target c.updater-updater.result.tx.number c.in-Change.seen c.requires.target c.updater-updater.ensures.own c.in-Change.ensures.change
 
 pub store-requires-clause-of : goal.store-requires-clause-of
-store-requires-clause-of c = c.in-Ok.ensures.of
+store-requires-clause-of c = c.in_ok-row-in-Update.ensures.of
 
 pub store-requires-clause-own : goal.store-requires-clause-own
 store-requires-clause-own c = c.in-Change.ensures.change.leaf ∙ c.requires.target.leaf
 
 pub store-requires-clause-keys : goal.store-requires-clause-keys
 store-requires-clause-keys c =
-    agrees c.args.stores.now c.args.caller (found_of c.args.gathered.now) c.args.target.id c.updater-updater.result.tx.number c.in-Change.seen c.in-Ok.row c.requires.may c.in-Change.ensures.change
-    (λ h stands. c.in-Ok.ensures.is h stands.all.catalog)
+    agrees c.args.stores.now c.args.caller (found_of c.args.gathered.now) c.args.target.id c.updater-updater.result.tx.number c.in-Change.seen c.in_ok-row-in-Update.row c.requires.may c.in-Change.ensures.change
+    (λ h stands. c.in_ok-row-in-Update.ensures.is h stands.all.catalog)
 
 pub conflict_fault-requires : goal.conflict_fault-requires
 conflict_fault-requires c = tables_low c.args.stores.now c.args.caller (found_of c.args.gathered.now) c.requires.may
@@ -55,37 +53,39 @@ returns-in-Delete c =
       c.end_row.ensures.keeps,
     )
 
-pub returns-in-Ok-store : goal.returns-in-Ok-store
-returns-in-Ok-store c =
+pub returns-in_ok-store-in-Update : goal.returns-in_ok-store-in-Update
+returns-in_ok-store-in-Update c =
     let g = found_of c.args.gathered.now in
     let seen = c.in-Change.seen in
     let next : c.in-Some.next ≡ c.args.changed + 1 = search rules in (
       is_changed (changing c.args.change c.args.caller g) c.args.names.now c.args.stores.now c.store.new.stores c.args.caller g c.args.target c.args.changed c.in-Some.next seen.id seen.row.now next c.requires.may
           (decided_is c.args.stores.now c.args.caller g c.args.target (updater_meant c.updater-updater.result) (Changes seen.id seen.row.now) c.updater-updater.ensures.is c.in-Change.ensures.is)
           (subst (λ (ch : Change). IsRun g (λ (u : Unit {0}). u) (Ok tt) c.args.stores.now c.store.new.stores c.args.caller (changing ch c.args.caller g c.args.target.leaf seen.id seen.row.now)) (sym c.in-Update.is)
-          (updated_run c.in-Ok.row (Ok tt) c.args.stores.now c.store.new.stores c.args.caller g c.args.target.leaf seen.id seen.row.now c.requires.may c.in-Ok.ensures.is c.in-Ok-store.ensures.run)),
-      c.in-Ok-store.ensures.rest,
-      c.in-Ok-store.ensures.keeps,
+          (updated_run c.in_ok-row-in-Update.row (Ok tt) c.args.stores.now c.store.new.stores c.args.caller g c.args.target.leaf seen.id seen.row.now c.requires.may c.in_ok-row-in-Update.ensures.is c.in_ok-store-in-Update.ensures.run)),
+      c.store.ensures.rest,
+      c.store.ensures.keeps,
     )
 
-pub returns-in-Err-store : goal.returns-in-Err-store
-returns-in-Err-store c =
+pub returns-in_err-store-in-Update : goal.returns-in_err-store-in-Update
+returns-in_err-store-in-Update c =
     let g = found_of c.args.gathered.now in
     let seen = c.in-Change.seen in
-    is_stopped (changing c.args.change c.args.caller g) c.args.names.now c.in-Err-store.stop c.args.stores.now c.store.new.stores c.args.caller g c.args.target c.args.changed seen.id seen.row.now
+    handed_turn (changing c.args.change c.args.caller g) c.args.names.now _ _ c.args.stores.now c.store.new.stores c.args.caller g c.args.target c.args.changed c.from_residual-in_err-store-in-Update.ensures.1
+    (is_stopped (changing c.args.change c.args.caller g) c.args.names.now c.in_err-store-in-Update.field-0.0 c.args.stores.now c.store.new.stores c.args.caller g c.args.target c.args.changed seen.id seen.row.now
     (decided_is c.args.stores.now c.args.caller g c.args.target (updater_meant c.updater-updater.result) (Changes seen.id seen.row.now) c.updater-updater.ensures.is c.in-Change.ensures.is)
-    (subst (λ (ch : Change). IsRun g (λ (u : Unit {0}). u) (Err c.in-Err-store.stop) c.args.stores.now c.store.new.stores c.args.caller (changing ch c.args.caller g c.args.target.leaf seen.id seen.row.now)) (sym c.in-Update.is)
-    (updated_run c.in-Ok.row (Err c.in-Err-store.stop) c.args.stores.now c.store.new.stores c.args.caller g c.args.target.leaf seen.id seen.row.now c.requires.may c.in-Ok.ensures.is c.in-Err-store.ensures.run))
+    (subst (λ (ch : Change). IsRun g (λ (u : Unit {0}). u) (Err c.in_err-store-in-Update.field-0.0) c.args.stores.now c.store.new.stores c.args.caller (changing ch c.args.caller g c.args.target.leaf seen.id seen.row.now)) (sym c.in-Update.is)
+    (updated_run c.in_ok-row-in-Update.row (Err c.in_err-store-in-Update.field-0.0) c.args.stores.now c.store.new.stores c.args.caller g c.args.target.leaf seen.id seen.row.now c.requires.may c.in_ok-row-in-Update.ensures.is c.in_err-store-in-Update.ensures.run)))
 
-pub returns-in-Err : goal.returns-in-Err
-returns-in-Err c =
+pub returns-in_err-row-in-Update : goal.returns-in_err-row-in-Update
+returns-in_err-row-in-Update c =
     let g = found_of c.args.gathered.now in
     let seen = c.in-Change.seen in
-    let f = faulty_run c.in-Err.refusal c.args.stores.now c.args.caller g c.args.target.leaf seen.id seen.row.now c.requires.may c.in-Err.ensures.is in
-    subst (λ (e : Stop). IsTurn (changing c.args.change c.args.caller g) c.args.names.now (Err e) c.args.stores.now c.args.stores.now c.args.caller g c.args.target c.args.changed) (sym c.stop_by.ensures)
-    (is_stopped (changing c.args.change c.args.caller g) c.args.names.now (stopped c.in-Err.refusal) c.args.stores.now c.args.stores.now c.args.caller g c.args.target c.args.changed seen.id seen.row.now
+    let e = stop_of c.in_err-row-in-Update.field-0.0 in
+    handed_turn (changing c.args.change c.args.caller g) c.args.names.now _ _ c.args.stores.now c.args.stores.now c.args.caller g c.args.target c.args.changed c.from_residual.ensures.1
+    (is_stopped (changing c.args.change c.args.caller g) c.args.names.now e c.args.stores.now c.args.stores.now c.args.caller g c.args.target c.args.changed seen.id seen.row.now
     (decided_is c.args.stores.now c.args.caller g c.args.target (updater_meant c.updater-updater.result) (Changes seen.id seen.row.now) c.updater-updater.ensures.is c.in-Change.ensures.is)
-    (subst (λ (ch : Change). IsRun g (λ (u : Unit {0}). u) (Err (stopped c.in-Err.refusal)) c.args.stores.now c.args.stores.now c.args.caller (changing ch c.args.caller g c.args.target.leaf seen.id seen.row.now)) (sym c.in-Update.is) f))
+    (subst (λ (ch : Change). IsRun g (λ (u : Unit {0}). u) (Err e) c.args.stores.now c.args.stores.now c.args.caller (changing ch c.args.caller g c.args.target.leaf seen.id seen.row.now)) (sym c.in-Update.is)
+    (faulty_run c.in_err-row-in-Update.field-0.0 c.args.stores.now c.args.caller g c.args.target.leaf seen.id seen.row.now c.requires.may c.in_err-row-in-Update.ensures.is)))
 
 pub returns-in-Pass : goal.returns-in-Pass
 returns-in-Pass c =
@@ -105,12 +105,17 @@ returns-in-Wait c =
       is_seat c.args.stores.now c.args.caller (found_of c.args.gathered.now) c.in-Wait.other c.requires.may c.in-Wait.ensures.wait.known,
     )
 
-pub returns-in-Refuse : goal.returns-in-Refuse
-returns-in-Refuse c =
+pub returns-in_ok-fault-in-Refuse : goal.returns-in_ok-fault-in-Refuse
+returns-in_ok-fault-in-Refuse c =
     let g = found_of c.args.gathered.now in
-    subst (λ e. IsTurn (changing c.args.change c.args.caller g) c.args.names.now (Err e) c.args.stores.now c.args.stores.now c.args.caller g c.args.target c.args.changed) (sym c.stop_by-in-Refuse.ensures)
-    (is_refused (changing c.args.change c.args.caller g) c.args.names.now c.args.stores.now c.args.caller g c.args.target c.args.changed c.in-Refuse.conflict c.conflict_fault.result c.conflict_fault.ensures c.requires.may
-    (decided_is c.args.stores.now c.args.caller g c.args.target (updater_meant c.updater-updater.result) (Refuses c.in-Refuse.conflict) c.updater-updater.ensures.is c.in-Refuse.ensures.is))
+    is_refused (changing c.args.change c.args.caller g) c.args.names.now c.args.stores.now c.args.caller g c.args.target c.args.changed c.in-Refuse.conflict c.in_ok-fault-in-Refuse.fault c.in_ok-fault-in-Refuse.ensures c.requires.may
+    (decided_is c.args.stores.now c.args.caller g c.args.target (updater_meant c.updater-updater.result) (Refuses c.in-Refuse.conflict) c.updater-updater.ensures.is c.in-Refuse.ensures.is)
+
+pub returns-in_err-fault-in-Refuse : goal.returns-in_err-fault-in-Refuse
+returns-in_err-fault-in-Refuse c =
+    let g = found_of c.args.gathered.now in
+    handed_turn (changing c.args.change c.args.caller g) c.args.names.now _ _ c.args.stores.now c.args.stores.now c.args.caller g c.args.target c.args.changed c.from_residual-in_err-fault-in-Refuse.ensures.1
+    (is_out (changing c.args.change c.args.caller g) c.args.names.now c.args.stores.now c.args.caller g c.args.target c.args.changed)
 
 pub returns-in_default : goal.returns-in_default
 returns-in_default c = is_out (changing c.args.change c.args.caller (found_of c.args.gathered.now)) c.args.names.now c.args.stores.now c.args.caller (found_of c.args.gathered.now) c.args.target c.args.changed

@@ -12,7 +12,7 @@ returns-clause-is c h stands =
     let row = c.args.row.now in
     let columns = c.as_slice-columns.ensures ∙ ap (λ (t : Table). t.columns) (c.table.ensures h stands) in
     subst (λ cs. IsAnswer c.new_row.result (new_row cs (change_meant g.ask).settings row)) columns
-    (subst (λ ss. IsAnswer c.new_row.result (new_row c.as_slice-columns.result.now (map setting_meant ss) row)) c.deref.ensures.value c.new_row.ensures.is)
+    (subst (λ ss. IsAnswer c.new_row.result (new_row c.as_slice-columns.result.now (map setting_meant ss) row)) c.as_slice.ensures c.new_row.ensures.is)
 
 pub returns-clause-of : goal.returns-clause-of
 returns-clause-of c =

@@ -6,15 +6,15 @@ use Rattle.script_program.specs.Seeded.{told_of}
 use Rattle.script_program.proofs.Endings.{always, nothing, nothing_of, refused, told_on_out}
 use Rattle.script_program.proofs.seeded.tell.Goals as goal
 
-pub returns-in-All-Ok : goal.returns-in-All-Ok
-returns-in-All-Ok g c =
+pub returns-in-Ok : goal.returns-in-Ok
+returns-in-Ok g c =
     let o = told_of g.D.Database.rules c.args.script.now c.args.seed c.args.counts c.args.tally ends.All in
     rw c.in-All.is
     (told_on_out g.K.Sink g.E.Sink (λ x. x ≡ o) (AtOnce (λ x. x ≡ o)) _ _ _ _ _ o refl (inr (o, refl, refl)) refl refl
-    (rw c.in-All-Ok.ensures at (rw c.deref.ensures.value at c.answer.ensures)) (nothing g.E.Sink _))
+    (rw c.in-Ok.ensures at (rw c.deref.ensures.value at c.answer.ensures)) (nothing g.E.Sink _))
 
-pub returns-in-All-Err : goal.returns-in-All-Err
-returns-in-All-Err g c = Stopped [] (inl refl) refl (nothing_of g.K.Sink _ []) (nothing g.E.Sink _)
+pub returns-in-Err : goal.returns-in-Err
+returns-in-Err g c = Stopped [] (inl refl) refl (nothing_of g.K.Sink _ []) (nothing g.E.Sink _)
 
 pub returns-in-SetupFailed : goal.returns-in-SetupFailed
 returns-in-SetupFailed g c =

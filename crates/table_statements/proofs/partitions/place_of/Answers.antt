@@ -13,7 +13,7 @@ use Rattle.table_statements.specs.Seen.{seen_place}
 use Rattle.table_statements.specs.Tables.{level_by}
 use Rattle.table_statements.proofs.Chains.{after_bound, after_count, after_level, past_level, past_count, past_bound, bound_refused, place_refused}
 use Rattle.ddl_steps.proofs.Firsts.{past_ok, stops_at, stops_first, none_first, fault_answer}
-use Rattle.ddl_steps.proofs.Levels.{takes_bound}
+use Rattle.ddl_steps.proofs.Shapes.{takes_bound}
 use Rattle.table_statements.proofs.partitions.place_of.Goals as goal
 
 pub returns-in_err-above-clause-answer : goal.returns-in_err-above-clause-answer

@@ -26,14 +26,14 @@ returns-then-count_shown-ge-PARTITION_LIMIT-clause-cause c h txs st =
     let p = c.args.parent.number in
     let tables = ap (λ (k : KeptCatalogue). k.tables) c.self.view_is in
     let entries = ap (λ (k : KeptCatalogue). k.entries) c.self.view_is in
-    let num : AreNumbered kept.entries = subst AreNumbered entries c.self.invariant.listed.numbered in
+    let num : AreNumbered kept.entries = subst AreNumbered entries c.self.invariant.0.listed.numbered in
     let flags : c.deref-2.result.now ≡ map (present_by (tx_events h) s) kept.entries =
     c.deref-2.ensures.value ∙ c.in-Ok-present_flags.ensures.is h txs ∙ ap (λ n. map (present_by (tx_events h) n) c.deref.result.now) (c.session_of-session.ensures h txs) ∙ ap (map (present_by (tx_events h) s)) (c.deref.ensures.value ∙ entries) in
     let made : p < length kept.tables = omega (arith, c.requires.suits.parent, ap (length {A = Table}) c.requires.catalogue.tables, length-map kept.tables table_in) in
     let known : p < length c.self.inside.tables.items = omega (arith, made, ap (length {A = StoredTable}) tables) in
-    let within : p < length c.self.inside.below.items = omega (arith, known, c.self.invariant.listed.count) in
+    let within : p < length c.self.inside.below.items = omega (arith, known, c.self.invariant.0.listed.count) in
     let list : c.index.result.now ≡ get_or c.self.inside.below.items p [] = grind (arith, common_steps, elements, c.index.ensures) in
-    let numbers : c.numbers.result.now ≡ map number_of (children (map entry_in kept.entries) p) = c.numbers.ensures ∙ list ∙ c.self.invariant.listed.below p known ∙ ap (λ (es : List StoredEntry). map number_of (children (map entry_in es) p)) entries in
+    let numbers : c.numbers.result.now ≡ map number_of (children (map entry_in kept.entries) p) = c.numbers.ensures ∙ list ∙ c.self.invariant.0.listed.below p known ∙ ap (λ (es : List StoredEntry). map number_of (children (map entry_in es) p)) entries in
     let count : c.count_shown.result ≡ partitions h s p = c.count_shown.ensures ∙ partitions_told kept h s p c.deref-2.result.now c.numbers.result.now st num flags numbers in
     inl (refl, omega (arith, count, c.if-count_shown-ge-PARTITION_LIMIT.true))
 
@@ -44,14 +44,14 @@ returns-then-levels_up-height_up_to-gt-LEVEL_LIMIT-clause-cause c h txs st =
     let p = c.args.parent.number in
     let tables = ap (λ (k : KeptCatalogue). k.tables) c.self.view_is in
     let entries = ap (λ (k : KeptCatalogue). k.entries) c.self.view_is in
-    let num : AreNumbered kept.entries = subst AreNumbered entries c.self.invariant.listed.numbered in
+    let num : AreNumbered kept.entries = subst AreNumbered entries c.self.invariant.0.listed.numbered in
     let present : c.in-Ok-present_flags.flags.items ≡ map (present_by (tx_events h) s) kept.entries =
     c.in-Ok-present_flags.ensures.is h txs ∙ ap (λ n. map (present_by (tx_events h) n) c.deref.result.now) (c.session_of-session.ensures h txs) ∙ ap (map (present_by (tx_events h) s)) (c.deref.ensures.value ∙ entries) in
     let made : p < length kept.tables = omega (arith, c.requires.suits.parent, ap (length {A = Table}) c.requires.catalogue.tables, length-map kept.tables table_in) in
     let known : p < length c.self.inside.tables.items = omega (arith, made, ap (length {A = StoredTable}) tables) in
-    let within : p < length c.self.inside.below.items = omega (arith, known, c.self.invariant.listed.count) in
+    let within : p < length c.self.inside.below.items = omega (arith, known, c.self.invariant.0.listed.count) in
     let list : c.index.result.now ≡ get_or c.self.inside.below.items p [] = grind (arith, common_steps, elements, c.index.ensures) in
-    let numbers : c.numbers.result.now ≡ map number_of (children (map entry_in kept.entries) p) = c.numbers.ensures ∙ list ∙ c.self.invariant.listed.below p known ∙ ap (λ (es : List StoredEntry). map number_of (children (map entry_in es) p)) entries in
+    let numbers : c.numbers.result.now ≡ map number_of (children (map entry_in kept.entries) p) = c.numbers.ensures ∙ list ∙ c.self.invariant.0.listed.below p known ∙ ap (λ (es : List StoredEntry). map number_of (children (map entry_in es) p)) entries in
     let count : c.count_shown.result ≡ partitions h s p = c.count_shown.ensures ∙ partitions_told kept h s p c.deref-2.result.now c.numbers.result.now st num (c.deref-2.ensures.value ∙ present) numbers in
     let up : c.levels_up.result ≡ tables_above (above (entries_present h s)) p =
     c.levels_up.ensures.is
@@ -84,14 +84,14 @@ returns-in-Ok-push_entry-clause-cause c h txs st =
     let p = c.args.parent.number in
     let tables = ap (λ (k : KeptCatalogue). k.tables) c.self.view_is in
     let entries = ap (λ (k : KeptCatalogue). k.entries) c.self.view_is in
-    let num : AreNumbered kept.entries = subst AreNumbered entries c.self.invariant.listed.numbered in
+    let num : AreNumbered kept.entries = subst AreNumbered entries c.self.invariant.0.listed.numbered in
     let present : c.in-Ok-present_flags.flags.items ≡ map (present_by (tx_events h) s) kept.entries =
     c.in-Ok-present_flags.ensures.is h txs ∙ ap (λ n. map (present_by (tx_events h) n) c.deref.result.now) (c.session_of-session.ensures h txs) ∙ ap (map (present_by (tx_events h) s)) (c.deref.ensures.value ∙ entries) in
     let made : p < length kept.tables = omega (arith, c.requires.suits.parent, ap (length {A = Table}) c.requires.catalogue.tables, length-map kept.tables table_in) in
     let known : p < length c.self.inside.tables.items = omega (arith, made, ap (length {A = StoredTable}) tables) in
-    let within : p < length c.self.inside.below.items = omega (arith, known, c.self.invariant.listed.count) in
+    let within : p < length c.self.inside.below.items = omega (arith, known, c.self.invariant.0.listed.count) in
     let list : c.index.result.now ≡ get_or c.self.inside.below.items p [] = grind (arith, common_steps, elements, c.index.ensures) in
-    let numbers : c.numbers.result.now ≡ map number_of (children (map entry_in kept.entries) p) = c.numbers.ensures ∙ list ∙ c.self.invariant.listed.below p known ∙ ap (λ (es : List StoredEntry). map number_of (children (map entry_in es) p)) entries in
+    let numbers : c.numbers.result.now ≡ map number_of (children (map entry_in kept.entries) p) = c.numbers.ensures ∙ list ∙ c.self.invariant.0.listed.below p known ∙ ap (λ (es : List StoredEntry). map number_of (children (map entry_in es) p)) entries in
     let count : c.count_shown.result ≡ partitions h s p = c.count_shown.ensures ∙ partitions_told kept h s p c.deref-2.result.now c.numbers.result.now st num (c.deref-2.ensures.value ∙ present) numbers in
     let up : c.levels_up.result ≡ tables_above (above (entries_present h s)) p =
     c.levels_up.ensures.is

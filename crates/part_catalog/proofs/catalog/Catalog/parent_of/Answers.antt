@@ -11,7 +11,7 @@ use Rattle.part_catalog.proofs.catalog.Catalog.parent_of.Goals as goal
 
 pub returns-in-Some : goal.returns-in-Some
 returns-in-Some c h txs st =
-    let num : AreNumbered c.args.self.now.entries = subst (λ (k : KeptCatalogue). AreNumbered k.entries) c.self.view_is c.self.invariant.listed.numbered in
+    let num : AreNumbered c.args.self.now.entries = subst (λ (k : KeptCatalogue). AreNumbered k.entries) c.self.view_is c.self.invariant.0.listed.numbered in
     let rows = c.deref.ensures.value ∙ ap (λ (k : KeptCatalogue). k.entries) c.self.view_is in
     ap (λ (o : Option StoredEntry). parent_told (option_map entry_in o)) (c.in-Some.ensures h txs)
     ∙ ap (λ (l : List StoredEntry). parent_told (option_map entry_in (find (above_by (tx_events h) c.args.session c.args.child.number) l))) rows
@@ -19,7 +19,7 @@ returns-in-Some c h txs st =
 
 pub returns-in-None : goal.returns-in-None
 returns-in-None c h txs st =
-    let num : AreNumbered c.args.self.now.entries = subst (λ (k : KeptCatalogue). AreNumbered k.entries) c.self.view_is c.self.invariant.listed.numbered in
+    let num : AreNumbered c.args.self.now.entries = subst (λ (k : KeptCatalogue). AreNumbered k.entries) c.self.view_is c.self.invariant.0.listed.numbered in
     let rows = c.deref.ensures.value ∙ ap (λ (k : KeptCatalogue). k.entries) c.self.view_is in
     ap (λ (o : Option StoredEntry). parent_told (option_map entry_in o)) (c.in-None.ensures h txs)
     ∙ ap (λ (l : List StoredEntry). parent_told (option_map entry_in (find (above_by (tx_events h) c.args.session c.args.child.number) l))) rows

@@ -17,10 +17,10 @@ present_among-requires c =
     let t = c.args.table.number in
     let tables = ap (λ (k : KeptCatalogue). k.tables) c.self.view_is in
     let known : t < length c.self.inside.tables.items = omega (arith, c.requires, ap (length {A = StoredTable}) tables) in
-    let within : t < length c.self.inside.below.items = omega (arith, known, c.self.invariant.listed.count) in
+    let within : t < length c.self.inside.below.items = omega (arith, known, c.self.invariant.0.listed.count) in
     let list : c.index.result.now ≡ get_or c.self.inside.below.items t [] = grind (arith, common_steps, elements, c.index.ensures) in
-    let numbers : c.numbers-numbers.result.now ≡ map number_of (children (map entry_in E) t) = c.numbers-numbers.ensures ∙ list ∙ c.self.invariant.listed.below t known in
-    subst (λ (es : List StoredEntry). All (λ k. k < length es) c.numbers-numbers.result.now) (sym c.deref.ensures.value) (known_numbers E c.numbers-numbers.result.now t c.self.invariant.listed.numbered numbers)
+    let numbers : c.numbers-numbers.result.now ≡ map number_of (children (map entry_in E) t) = c.numbers-numbers.ensures ∙ list ∙ c.self.invariant.0.listed.below t known in
+    subst (λ (es : List StoredEntry). All (λ k. k < length es) c.numbers-numbers.result.now) (sym c.deref.ensures.value) (known_numbers E c.numbers-numbers.result.now t c.self.invariant.0.listed.numbered numbers)
 
 pub returns : goal.returns
 returns c h txs st =
@@ -29,11 +29,11 @@ returns c h txs st =
     let N = c.numbers-numbers.result.now in
     let tables = ap (λ (k : KeptCatalogue). k.tables) c.self.view_is in
     let entries = ap (λ (k : KeptCatalogue). k.entries) c.self.view_is in
-    let num : AreNumbered kept.entries = subst AreNumbered entries c.self.invariant.listed.numbered in
+    let num : AreNumbered kept.entries = subst AreNumbered entries c.self.invariant.0.listed.numbered in
     let known : t < length c.self.inside.tables.items = omega (arith, c.requires, ap (length {A = StoredTable}) tables) in
-    let within : t < length c.self.inside.below.items = omega (arith, known, c.self.invariant.listed.count) in
+    let within : t < length c.self.inside.below.items = omega (arith, known, c.self.invariant.0.listed.count) in
     let list : c.index.result.now ≡ get_or c.self.inside.below.items t [] = grind (arith, common_steps, elements, c.index.ensures) in
-    let numbers : N ≡ map number_of (children (map entry_in kept.entries) t) = c.numbers-numbers.ensures ∙ list ∙ c.self.invariant.listed.below t known ∙ ap (λ (es : List StoredEntry). map number_of (children (map entry_in es) t)) entries in
+    let numbers : N ≡ map number_of (children (map entry_in kept.entries) t) = c.numbers-numbers.ensures ∙ list ∙ c.self.invariant.0.listed.below t known ∙ ap (λ (es : List StoredEntry). map number_of (children (map entry_in es) t)) entries in
     c.in_ok-found.ensures h txs
     ∙ ap (λ (es : List StoredEntry). passed (present_by (tx_events h) c.args.session) es N) (c.deref.ensures.value ∙ entries)
     ∙ passed_are kept h c.args.session t N st num numbers

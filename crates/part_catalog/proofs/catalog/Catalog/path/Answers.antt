@@ -18,7 +18,7 @@ use Rattle.part_catalog.proofs.catalog.Catalog.path.Goals as goal
 
 pub place_of-requires : goal.place_of-requires
 place_of-requires c =
-    let l = lent c.args.self.now c.self.inside.tables.items c.deref-in-loop-step-2.result.now c.self.inside.entries.items c.deref-in-loop-step-3.result.now c.self.inside.below.items c.deref-in-loop-step-4.result.now c.self.inside.names c.self.invariant (ap (λ (k : KeptCatalogue). k.tables) c.self.view_is) (ap (λ (k : KeptCatalogue). k.entries) c.self.view_is) c.deref-in-loop-step-2.ensures.value c.deref-in-loop-step-3.ensures.value c.deref-in-loop-step-4.ensures.value in
+    let l = lent c.args.self.now c.self.inside.tables.items c.deref-in-loop-step-2.result.now c.self.inside.entries.items c.deref-in-loop-step-3.result.now c.self.inside.below.items c.deref-in-loop-step-4.result.now c.self.inside.names c.self.invariant.0 (ap (λ (k : KeptCatalogue). k.tables) c.self.view_is) (ap (λ (k : KeptCatalogue). k.entries) c.self.view_is) c.deref-in-loop-step-2.ensures.value c.deref-in-loop-step-3.ensures.value c.deref-in-loop-step-4.ensures.value in
     let rows : c.deref.result.now ≡ c.deref-in-loop-step-3.result.now = c.deref.ensures.value ∙ sym c.deref-in-loop-step-3.ensures.value in
     let count : length c.deref-in-loop-step-5.result.now ≡ length c.deref-in-loop-step-3.result.now = ap (length {A = Bool}) c.deref-in-loop-step-5.ensures.value ∙ c.in_ok-flags.ensures.count ∙ ap (length {A = StoredEntry}) rows in
     present_grove c.args.txs.now c.args.self.now c.args.session c.deref-in-loop-step-2.result.now c.deref-in-loop-step-3.result.now c.deref-in-loop-step-4.result.now c.deref-in-loop-step-5.result.now l c.requires.siblings count
@@ -38,9 +38,9 @@ loop-step-preserved c =
     ∙ ap (λ (fs : List Bool). parent_told (above (filter (is_flagged fs) (map entry_in c.deref-in-loop-step-6.result.now)) t.number)) c.deref-in-loop-step-7.ensures.value
     ∙ ap (λ (es : List StoredEntry). parent_told (above (filter (is_flagged F) (map entry_in es)) t.number)) c.deref-in-loop-step-6.ensures.value in
     record {
-      known = subst (λ (ts : List StoredTable). IfSome o (λ (p : TableNo). p.number < length ts)) tables (parent_known c.self.inside.tables.items c.self.inside.entries.items F t.number o c.self.invariant.listed.between next);
+      known = subst (λ (ts : List StoredTable). IfSome o (λ (p : TableNo). p.number < length ts)) tables (parent_known c.self.inside.tables.items c.self.inside.entries.items F t.number o c.self.invariant.0.listed.between next);
       told = λ h txs st.
-          let num : AreNumbered kept.entries = subst AreNumbered entries c.self.invariant.listed.numbered in
+          let num : AreNumbered kept.entries = subst AreNumbered entries c.self.invariant.0.listed.numbered in
           let flags : F ≡ map (present_by (tx_events h) s) kept.entries = c.in_ok-flags.ensures.is h txs ∙ ap (map (present_by (tx_events h) s)) (c.deref.ensures.value ∙ entries) in
           let part = part_of (tables_made (catalogue_events h)) (entries_present h s) (checks_of h s) in
           let up = above (entries_present h s) in

@@ -13,7 +13,7 @@ pub loop-next-init : goal.loop-next-init
 loop-next-init c =
     let K = c.args.self.now.tables in
     let tables = ap (λ (k : KeptCatalogue). k.tables) c.self.view_is in
-    let names = subst (λ (ts : List StoredTable). NamesStand c.self.inside.names (map name_in ts)) tables c.self.invariant.named in
+    let names = subst (λ (ts : List StoredTable). NamesStand c.self.inside.names (map name_in ts)) tables c.self.invariant.0.named in
     let is = c.newest-next.ensures (map name_in K) names in
     record {
       known = newest_named K c.args.name.now c.newest-next.result is;
@@ -40,7 +40,7 @@ loop-next-smaller c =
     let K = c.args.self.now.tables in
     let j = c.in-Some.number in
     let tables = ap (λ (k : KeptCatalogue). k.tables) c.self.view_is in
-    let names = subst (λ (ts : List StoredTable). NamesStand c.self.inside.names (map name_in ts)) tables c.self.invariant.named in
+    let names = subst (λ (ts : List StoredTable). NamesStand c.self.inside.names (map name_in ts)) tables c.self.invariant.0.named in
     let at : IsNamed K c.args.name.now j = subst (λ (o : Option _). IfSome o (IsNamed K c.args.name.now)) c.in-Some.is c.loop-next.invariant.known in
     let more = c.earlier-next.ensures (map name_in K) names (omega (arith, at.0, length-map K name_in)) in
     walk_shrinks K c.args.name.now j c.loop-next.next c.earlier-next.result c.in-Some.is at more
@@ -50,7 +50,7 @@ loop-next-preserved c =
     let K = c.args.self.now.tables in
     let j = c.in-Some.number in
     let tables = ap (λ (k : KeptCatalogue). k.tables) c.self.view_is in
-    let names = subst (λ (ts : List StoredTable). NamesStand c.self.inside.names (map name_in ts)) tables c.self.invariant.named in
+    let names = subst (λ (ts : List StoredTable). NamesStand c.self.inside.names (map name_in ts)) tables c.self.invariant.0.named in
     let at : IsNamed K c.args.name.now j = subst (λ (o : Option _). IfSome o (IsNamed K c.args.name.now)) c.in-Some.is c.loop-next.invariant.known in
     let more = c.earlier-next.ensures (map name_in K) names (omega (arith, at.0, length-map K name_in)) in
     let known : j < length c.self.inside.tables.items = omega (arith, at.0, ap (length {A = StoredTable}) tables) in

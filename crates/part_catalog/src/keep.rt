@@ -1,0 +1,142 @@
+//! Trees that are kept for the statements that come.
+
+ghost use Rattle.std.specs.Prelude.{◌≡◌, ◌<◌, true, List, [], All, IfOk, IfSome, length, map, filter};
+ghost use Rattle.history.specs.declared.catalogue.Table.{Table as OneTable};
+ghost use Rattle.history.specs.declared.catalogue.Entry.{Entry as OneEntry};
+ghost use Rattle.row_router.specs.Seen.{seen};
+ghost use Rattle.row_router.specs.Histories.{tree_within};
+ghost use Rattle.part_catalog.specs.Answers.{AreTogether};
+ghost use Rattle.part_catalog.specs.Kept.{table_in, entry_in};
+ghost use Rattle.part_catalog.specs.Stands.{is_flagged};
+ghost use Rattle.part_catalog.specs.Groves.{IsGrove, IsGrownFrom, grown_for};
+
+use crate::below::Below;
+use crate::grow::grow;
+use crate::stored::{StoredEntry, StoredTable};
+use crate::{Catalog, see};
+use history::TableShape;
+use pg_values::{NoMemory, TableNo};
+use row_router::Tree;
+use std::alloc::Global;
+use tx_table::{Snapshot, TxTable};
+
+// How many trees are kept at most.
+const KEPT_LIMIT: usize = 16;
+
+/// The tree of a table, as it was grown for the entries of these flags.
+#[derive(Drop)]
+pub struct KeptTree {
+    pub table: TableNo,
+    pub flags: Vec<bool>,
+    pub tree: Tree,
+}
+
+fn are_same(a: &[bool], b: &[bool]) -> bool
+    ensures { result ≡ true → a.now ≡ b.now }
+{
+    a == b
+}
+
+fn is_for(kept: &KeptTree, table: TableNo, flags: &[bool]) -> bool
+    ensures { result ≡ true → (kept.now.table.number ≡ table.number) × (kept.now.flags.items ≡ flags.now) }
+{
+    kept.table.number == table.number && are_same(&kept.flags, flags)
+}
+
+// The tree of the table that was grown for these flags.
+fn find_kept<'k>(kept: &'k [KeptTree], table: TableNo, flags: &[bool]) -> Option<&'k Tree>
+    ensures { IfSome result (λ tree. (tables : List OneTable) (entries : List OneEntry) → All (IsGrownFrom tables entries) kept.now →
+        seen tree.now ≡ grown_for tables entries flags.now table.number) }
+{
+    for k in kept {
+        if is_for(k, table, flags) {
+            return Some(&k.tree);
+        }
+    }
+    None
+}
+
+/// The tree of a table with the entries of these flags: one that is kept is shared, else it is grown.
+pub fn grow_or_share(
+    alloc: Global,
+    tables: &[StoredTable],
+    entries: &[StoredEntry],
+    below: &[Below],
+    flags: &[bool],
+    table: TableNo,
+    kept: &[KeptTree],
+) -> Result<Tree, NoMemory>
+    requires grove { IsGrove tables.now entries.now below.now flags.now }
+    requires known { table.number < length tables.now }
+    requires kept { All (IsGrownFrom (map table_in tables.now) (map entry_in entries.now)) kept.now }
+    ensures { IfOk result (λ t. seen t ≡ tree_within 7 (map table_in tables.now)
+        (filter (is_flagged flags.now) (map entry_in entries.now)) table.number table.number) }
+{
+    match find_kept(kept, table, flags) {
+        Some(tree) => {
+            let shared = tree.share(alloc)?;
+            Ok(shared)
+        }
+        None => {
+            let grown = grow(alloc, tables, entries, below, flags, table, table, 7)?;
+            Ok(grown)
+        }
+    }
+}
+
+/// No tree is kept any more.
+pub fn forget(kept: &mut Vec<KeptTree>)
+    ensures { kept.new.items ≡ [] }
+{
+    kept.clear();
+}
+
+// Where there are too many, the others are dropped.
+fn put(kept: &mut Vec<KeptTree>, new: KeptTree) -> Result<(), NoMemory>
+    ensures { (tables : List OneTable) (entries : List OneEntry) → All (IsGrownFrom tables entries) kept.old.items → IsGrownFrom tables entries new →
+        All (IsGrownFrom tables entries) kept.new.items }
+{
+    if kept.len() >= KEPT_LIMIT {
+        forget(kept);
+        kept.push(new)?;
+        return Ok(());
+    }
+    kept.push(new)?;
+    Ok(())
+}
+
+impl Catalog {
+    /// Keeps the tree of a partitioned table that a statement of the session reads under its snapshot.
+    /// Nothing else changes.
+    pub fn keep(
+        &mut self,
+        txs: &TxTable,
+        table: TableNo,
+        session: u32,
+        snap: &Snapshot,
+    ) -> Result<(), NoMemory>
+        requires known { table.number < length self.old.tables }
+        requires siblings { AreTogether txs.now self.old session }
+        ensures { self.new ≡ self.old }
+    {
+        if let TableShape::Leaf(_) = self.tables[table.number as usize].table.shape {
+            return Ok(());
+        }
+        let flags = see::shown_flags(self.alloc, &self.entries, txs, session, snap)?;
+        if find_kept(&self.trees, table, &flags).is_some() {
+            return Ok(());
+        }
+        let tree = grow(
+            self.alloc,
+            &self.tables,
+            &self.entries,
+            &self.below,
+            &flags,
+            table,
+            table,
+            7,
+        )?;
+        put(&mut self.trees, KeptTree { table, flags, tree })?;
+        Ok(())
+    }
+}
