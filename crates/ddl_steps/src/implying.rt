@@ -9,7 +9,7 @@ ghost use Rattle.tx_table.specs.Stands.{TableStands};
 ghost use Rattle.row_router.specs.Histories.{kept_of};
 ghost use Rattle.part_catalog.specs.Answers.{AreTogether};
 ghost use Rattle.part_catalog.specs.Stands.{CatalogueStands};
-ghost use Rattle.ddl_steps.specs.Checks as checks;
+ghost use Rattle.ddl_steps.specs.Checks as checks_spec;
 
 use crate::equal_checks::same_level;
 use bound_forms::{Bound, Level, level_bounds_compare, level_bounds_have_a_kind, within};
@@ -22,7 +22,7 @@ use tx_table::TxTable;
 fn implies(level: &Level, bound: &Bound, check: &KeptCheck) -> bool
     requires own { IsOfLevel level.now bound.now }
     requires other { IsOfLevel check.now.level check.now.bound }
-    ensures { result ≡ checks.implies level.now bound.now check.now }
+    ensures { result ≡ checks_spec.implies level.now bound.now check.now }
 {
     level_bounds_compare();
     level_bounds_have_a_kind();
@@ -32,7 +32,7 @@ fn implies(level: &Level, bound: &Bound, check: &KeptCheck) -> bool
 fn has_implying(checks: &[KeptCheck], level: &Level, bound: &Bound) -> bool
     requires own { IsOfLevel level.now bound.now }
     requires all { All (λ k. IsOfLevel k.level k.bound) checks.now }
-    ensures { result ≡ list_any (checks.implies level.now bound.now) checks.now }
+    ensures { result ≡ list_any (checks_spec.implies level.now bound.now) checks.now }
 {
     for other in checks {
         if implies(level, bound, other) {
@@ -56,7 +56,7 @@ pub fn is_implied(
     requires siblings { AreTogether txs.now catalog.now session }
     requires own { IsOfLevel level.now bound.now }
     ensures { IfOk result (λ is. (h : History) → TableStands txs.now h → CatalogueStands catalog.now h →
-        is ≡ list_any (checks.implies level.now bound.now) (map kept_of (checks_of h session table.number))) }
+        is ≡ list_any (checks_spec.implies level.now bound.now) (map kept_of (checks_of h session table.number))) }
 {
     let path = catalog.path(alloc, txs, table, session)?;
     match path.first() {

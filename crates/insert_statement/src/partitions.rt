@@ -1,6 +1,6 @@
 //! Rows into a partitioned table.
 
-ghost use Rattle.std.specs.Prelude.{◌≡◌, ◌+◌, ◌≤◌, length};
+ghost use Rattle.std.specs.Prelude.{◌≡◌, ◌+◌, ◌<◌, ◌≤◌, length};
 ghost use Rattle.bound_forms.specs.declared.level.Level.{Level as OneLevel};
 ghost use Rattle.history.specs.declared.catalogue.TableShape.TheVariants.{Level};
 ghost use Rattle.history.specs.History.{History};

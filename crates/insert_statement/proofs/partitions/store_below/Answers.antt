@@ -1,4 +1,9 @@
-use Rattle.std.proofs.Common.{◌≤◌, length, subst, sym}
+use Rattle.std.proofs.Common.{◌≡◌, ◌≤◌, ◌+◌, length, subst, sym}
+use Rattle.bound_forms.specs.declared.level.Level.{Level as OneLevel}
+use Rattle.history.specs.declared.catalogue.TableShape.TheVariants.{Level}
+use Rattle.history.specs.History.{History}
+use Rattle.part_catalog.specs.Found.{made_at}
+use Rattle.part_catalog.specs.Stands.{CatalogueStands}
 use Rattle.stores.specs.declared.stores.Stores.{Stores}
 use Rattle.statement_steps.specs.Attempts.{MayAttempt}
 use Rattle.statement_steps.specs.Known.{IsKnownTo}
@@ -20,12 +25,15 @@ store_by_tree-requires-clause-there c = subst (λ (s : Stores). IsKnownTo s c.ar
 pub store_by_tree-requires-clause-few : goal.store_by_tree-requires-clause-few
 store_by_tree-requires-clause-few c = subst (λ (s : Stores). length s.catalog.tables ≤ 4096) (sym c.keep_tree.ensures) c.requires.few
 
+pub store_by_tree-requires-clause-level : goal.store_by_tree-requires-clause-level
+store_by_tree-requires-clause-level c = subst (λ (s : Stores). (h : History) → CatalogueStands s.catalog h → (level : OneLevel) × ((made_at h c.args.table.number).shape ≡ Level level)) (sym c.keep_tree.ensures) c.requires.level
+
 pub store_by_tree-requires-clause-rows : goal.store_by_tree-requires-clause-rows
 store_by_tree-requires-clause-rows c = subst (λ (s : Stores). AreRowsOf s.catalog c.args.table c.args.rows.now) (sym c.keep_tree.ensures) c.requires.rows
 
 pub returns-in_err-keep_tree : goal.returns-in_err-keep_tree
 returns-in_err-keep_tree c =
-    subst (λ (s : Stores). IsStep (λ u. u) _ c.args.stores.now s c.args.caller (c.args.caller.cmd + 1) (into_partitions c.args.names.now c.args.caller c.args.table.number c.args.rows.now)) (sym c.keep_tree.ensures) (out_here c.from_residual.ensures.1)
+    subst (λ (s : Stores). IsStep (λ u. u) c.from_residual.result c.args.stores.now s c.args.caller (c.args.caller.cmd + 1) (into_partitions c.args.names.now c.args.caller c.args.table.number c.args.rows.now)) (sym c.keep_tree.ensures) (out_here c.from_residual.ensures.1)
 
 pub returns : goal.returns
 returns c =
