@@ -1,3 +1,4 @@
 pub mod Bound
+pub mod Conjuncts
 pub mod Lists
 pub mod Pushed

@@ -1,5 +1,6 @@
 pub mod Asked
 pub mod Columns
+pub mod Conjuncts
 pub mod Faults
 pub mod Laws
 pub mod Lent

@@ -1,4 +1,4 @@
-ghost use Rattle.cond_logic.specs.Laws.{PushingKeepsTruth, NotStandsOverNullTests, BindingKeepsTruth, BindingLeavesNoGivenParameter};
+ghost use Rattle.cond_logic.specs.Laws.{PushingKeepsTruth, NotStandsOverNullTests, BindingKeepsTruth, BindingLeavesNoGivenParameter, ConjunctsKeepTruth};
 
 /// Pushing NOT inwards keeps the truth of every tuple.
 pub fn pushing_keeps_truth()
@@ -18,4 +18,9 @@ pub fn binding_keeps_truth()
 /// After it no parameter is left for which an argument was given.
 pub fn binding_leaves_no_given_parameter()
     ensures { BindingLeavesNoGivenParameter }
+{}
+
+/// The conjuncts of a condition have together its truth for every tuple.
+pub fn conjuncts_keep_truth()
+    ensures { ConjunctsKeepTruth }
 {}

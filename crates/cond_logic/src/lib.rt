@@ -6,7 +6,8 @@
 //! Before plans are made of a condition it is rewritten: NOT is pushed inwards until it stands over IS
 //! NULL alone (`push_not`), and the arguments that are known take the places of their parameters
 //! (`bind_params`). Both keep the truth of every tuple (`pushing_keeps_truth`,
-//! `binding_keeps_truth`). `columns_used` tells what has to be there before a condition can be asked.
+//! `binding_keeps_truth`). `columns_used` tells what has to be there before a condition can be asked, and
+//! `conjuncts` the parts that all have to hold (`conjuncts_keep_truth`).
 //!
 //! Contracts speak of the tree of a condition (`cond_tree`), without where it lies in memory.
 //! Functions call themselves once for each level of nesting, and never along a list.
@@ -54,8 +55,8 @@ pub use cond::{ColumnId, CompareOp, Cond, CondList, Operand};
 pub use evaluate::eval;
 pub use insert::InsertAsk;
 pub use laws::{
-    binding_keeps_truth, binding_leaves_no_given_parameter, not_stands_over_null_tests,
-    pushing_keeps_truth,
+    binding_keeps_truth, binding_leaves_no_given_parameter, conjuncts_keep_truth,
+    not_stands_over_null_tests, pushing_keeps_truth,
 };
 pub use named_leaf::NamedLeaf;
 pub use parameters::bind_params;

@@ -3,15 +3,16 @@ use Rattle.std.proofs.Common.{◌≡◌, ℕ, ◌+◌, ◌==◌, ◌<◌, false,
 use Rattle.std.specs.Prelude.{OnOk}
 use Rattle.std.specs.List.{flat_map}
 use Rattle.std.proofs.Math.Seq.{take-suc}
-use Rattle.std.proofs.lemmas.List.{flat_map_more}
+use Rattle.std.proofs.lemmas.List.{flat_map_more, map-append}
 use Rattle.cond_logic.specs.declared.cond.Cond.{Cond}
 use Rattle.cond_logic.specs.declared.select.SortKey.{SortKey}
 use Rattle.cond_logic.specs.Asked.{OutputTree}
-use Rattle.cond_logic.specs.Trees.{listed, cond_tree}
+use Rattle.cond_logic.specs.Conjuncts as conditions
+use Rattle.cond_logic.specs.Trees.{CondTree, CondTrees, no_more, and_more, all_of, any_of, inverted, compares, null_test, known, listed, cond_tree}
 use Rattle.prune_steps.proofs.CondTrees.{parts_step}
 use Rattle.plan_tree.specs.Plans.{PlannedItem}
 use Rattle.plan_text.specs.declared.named_item.NamedItem.{NamedItem}
-use Rattle.plan_text.specs.Conditions.{conjuncts, all_conjuncts}
+use Rattle.plan_text.specs.Conditions.{conjuncts, all_conjuncts, condition}
 use Rattle.plan_text.specs.Nodes.{Node, alone}
 use Rattle.plan_text.specs.Plans.{joined, joins, join_filters, nested_loop, item, sort_detail, sorted}
 
@@ -23,6 +24,20 @@ pub conjuncts_step : (ns : List NamedItem) (before now : List (List ℕ)) (parts
 conjuncts_step ns before now parts i x all less is more told =
     let rest = all_conjuncts ns (listed (map cond_tree (drop (i + 1) parts))) in
     ap (λ l. l ++ rest) more ∙ append_assoc before (conjuncts ns (cond_tree x)) rest ∙ ap (λ ts. before ++ all_conjuncts ns ts) (sym (parts_step parts i x less is)) ∙ told
+
+-- they are those of the condition, each told by itself
+mutual
+  pub told_parts : (ns : List NamedItem) (t : CondTree) → conjuncts ns t ≡ map (condition ns) (conditions.conjuncts t)
+  told_parts ns (all_of ts) = all_told_parts ns ts
+  told_parts ns (any_of ts) = refl
+  told_parts ns (inverted t) = refl
+  told_parts ns (compares op x y) = refl
+  told_parts ns (null_test x) = refl
+  told_parts ns (known t) = refl
+
+  all_told_parts : (ns : List NamedItem) (ts : CondTrees) → all_conjuncts ns ts ≡ map (condition ns) (conditions.all_conjuncts ts)
+  all_told_parts ns no_more = refl
+  all_told_parts ns (and_more t ts) = rw (told_parts ns t, all_told_parts ns ts) (sym (map-append (condition ns) (conditions.conjuncts t) (conditions.all_conjuncts ts)))
 
 -- ---- joins
 

@@ -1,6 +1,6 @@
 -- The text of a condition in a plan (14.1.1 EXPLAIN Basics). It is that of the condition with NOT pushed inwards: each
 -- comparison, IS NULL, AND and OR has its own parentheses, and an AND inside of an AND is flattened.
-use Rattle.std.specs.Prelude.{ℕ, ◌+◌, ◌==◌, Bool, true, false, not, ◌&&◌, if◌then◌else◌, List, [], ◌∷◌, ◌++◌, codes, decimal}
+use Rattle.std.specs.Prelude.{◌≡◌, ℕ, ◌+◌, ◌==◌, Bool, true, false, not, ◌&&◌, if◌then◌else◌, List, [], ◌∷◌, ◌++◌, codes, decimal, map}
 use Rattle.std.specs.List.{flat_map}
 use Rattle.pg_values.specs.declared.value.Value.{Value}
 use Rattle.pg_values.specs.declared.value.Value.TheVariants.{Null, Int4, Int8, Text, Day, Truth}
@@ -11,6 +11,7 @@ use Rattle.cond_logic.specs.declared.cond.Operand.{Operand}
 use Rattle.cond_logic.specs.declared.cond.Operand.TheVariants.{Column, Lit, Param}
 use Rattle.cond_logic.specs.declared.truth.Truth3.{Truth3}
 use Rattle.cond_logic.specs.declared.truth.Truth3.TheVariants.{Yes, No, Unknown}
+use Rattle.cond_logic.specs.Conjuncts as conditions
 use Rattle.cond_logic.specs.Trees.{CondTree, CondTrees, no_more, and_more, all_of, any_of, inverted, compares, null_test, known}
 use Rattle.prune_steps.specs.Atoms.{turned}
 use Rattle.plan_text.specs.declared.named_item.NamedItem.{NamedItem}
@@ -135,3 +136,7 @@ condition ns t = all_text (conjuncts ns t)
 -- the texts of the conjuncts of several conditions
 abbrev pub several : List NamedItem → List CondTree → List (List ℕ)
 several ns = flat_map (conjuncts ns)
+
+-- they are those of cond_logic, each told by itself
+abbrev pub ConjunctsAreTold : Type 0
+ConjunctsAreTold = (ns : List NamedItem) (t : CondTree) → conjuncts ns t ≡ map (condition ns) (conditions.conjuncts t)

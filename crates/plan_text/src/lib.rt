@@ -26,6 +26,6 @@ mod plan;
 mod rows;
 mod scans;
 
-pub use laws::scans_are_of_the_leaves;
+pub use laws::{conjuncts_are_told, scans_are_of_the_leaves};
 pub use named_item::NamedItem;
 pub use plan::write_plan;

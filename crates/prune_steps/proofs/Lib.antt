@@ -10,6 +10,7 @@ pub mod MakeLaws
 pub mod MakeParts
 pub mod Marking
 pub mod Orders
+pub mod Parted
 pub mod RunOfLaws
 pub mod Runs
 pub mod Sound

@@ -83,7 +83,7 @@ reading a op x y =
     if known_null (literal x) || known_null (literal y) then Never
     else or_else (on_key a.level.columns op (key_of a x) (literal y)) (on_key a.level.columns (turned op) (key_of a y) (literal x))
 
--- ---- the flattened AND
+-- ---- the flattened AND, part by part
 
 -- an OR of one part is that part
 abbrev pub is_one : CondTrees → Bool

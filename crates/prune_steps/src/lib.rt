@@ -26,7 +26,7 @@ mod running;
 mod step;
 
 pub use kept_set::KeptSet;
-pub use laws::pruning_is_sound;
+pub use laws::{parts_are_conjuncts, pruning_is_sound};
 pub use making::make_steps;
 pub use running::run_steps;
 pub use step::PruneSteps;
