@@ -6,6 +6,7 @@ pub mod LevelStored
 pub mod ListFind
 pub mod ListingLaws
 pub mod SearchLaws
+pub mod Shared
 pub mod Stable
 pub mod StoredLaws
 pub mod StoredOrder

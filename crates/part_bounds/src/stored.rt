@@ -22,7 +22,7 @@ fn range_count<K: KeyKind>(set: &BoundSet<K>) -> usize
     ensures count { length (stored set.now) ≡ 2 * result }
     ensures within { result ≤ length set.now }
 {
-    let bounds = &set.bounds;
+    let bounds: &Vec<Bound> = &set.bounds;
     let n = bounds.len();
     if n == 0 {
         return 0;

@@ -87,7 +87,7 @@ impl Tree {
             Shape::Leaf(leaf) => Ok(Tree::leaf(node, *leaf)),
             Shape::Level(level, bounds, trees) => {
                 let level = copy_level(alloc, level)?;
-                let bounds = copy_set(alloc, bounds)?;
+                let bounds = copy_set(bounds)?;
                 let trees = trees.share()?;
                 Ok(Tree::level(node, level, bounds, trees))
             }

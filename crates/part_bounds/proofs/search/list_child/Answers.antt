@@ -6,6 +6,7 @@ use Rattle.part_bounds.proofs.Strategies.{lists_have_points}
 use Rattle.part_bounds.proofs.FindLaws.{fits_key, splits_key, equal_key}
 use Rattle.part_bounds.proofs.ListingLaws.{listed_long}
 use Rattle.part_bounds.proofs.ListFind.{list_found, list_none, list_null}
+use Rattle.part_bounds.proofs.Shared.{as_long}
 use Rattle.part_bounds.proofs.search.list_child.Goals as goal
 
 pub returns-then-has_null-clause-child : goal.returns-then-has_null-clause-child
@@ -22,7 +23,7 @@ index-requires g c =
     let some = (c.search_points-found.ensures.equal.told c.if-found.true).0 in
     let long = listed_long c.args.set.now _ c.requires.lists (rw c.set.view_is at c.set.invariant.2) in
     let within = c.search_points-found.ensures.points.within in
-    omega (arith, some, long, within)
+    omega (arith, as_long _ _ c.deref.ensures, some, long, within)
 
 pub returns-then-found-clause-child : goal.returns-then-found-clause-child
 returns-then-found-clause-child g c =
@@ -32,7 +33,7 @@ returns-then-found-clause-child g c =
     let within = c.search_points-found.ensures.points.within in
     let tells = equal_key c.args.set.now (g.Q.Key.values c.args.key.now) c.search_points-found.result.below c.search_points-found.result.equal c.requires.fits null within (rw c.len.ensures at c.search_points-found.ensures.equal) in
     list_found c.args.set.now _ (g.Q.Key.values c.args.key.now) c.search_points-found.result.below c.index.result.now (rw c.set.view_is at c.set.invariant.1) c.requires.lists stands c.requires.one null (omega (arith, long, within))
-    (subst (λ t. TellsEqual (stored c.args.set.now) (point_of (g.Q.Key.values c.args.key.now)) c.search_points-found.result.below t) c.if-found.true tells) c.index.ensures
+    (subst (λ t. TellsEqual (stored c.args.set.now) (point_of (g.Q.Key.values c.args.key.now)) c.search_points-found.result.below t) c.if-found.true tells) (rw c.deref.ensures at c.index.ensures)
 
 pub returns-clause-child : goal.returns-clause-child
 returns-clause-child g c =

@@ -1,10 +1,12 @@
-use Rattle.std.proofs.Common.{◌≡◌, sym, ap, subst, ◌∙◌, [], length, get_or, arith, refl}
+use Rattle.std.proofs.Common.{◌≡◌, sym, ap, subst, ◌∙◌, [], length, get_or, arith, refl, Vec, Global}
 use Rattle.std.specs.List.{All}
 use Rattle.bound_forms.specs.Points.{EdgeOfKind, point_order, end_of}
 use Rattle.part_bounds.specs.Stored.{stored, width}
 use Rattle.part_bounds.specs.Listings.{mark_at}
 use Rattle.part_bounds.proofs.StoredLaws.{in_row, kinds_row}
 use Rattle.part_bounds.proofs.ListingLaws.{listed_long, listed_point}
+use Rattle.part_bounds.proofs.Shared.{as_long}
+use Rattle.bound_forms.specs.declared.partition_bound.Bound.{Bound}
 use Rattle.part_bounds.proofs.stored.count_point.Goals as goal
 
 pub count_end-requires-clause-of_kind : goal.count_end-requires-clause-of_kind
@@ -25,16 +27,16 @@ pub index-requires : goal.index-requires
 index-requires g c =
     let level = c.is_range_level.ensures.no c.if-is_range_level.false c.requires.level in
     let long = listed_long c.args.set.now _ level (rw c.set.view_is at c.set.invariant.2) in
-    omega (arith, long, c.requires.is_point)
+    omega (arith, as_long _ _ c.deref-3.ensures, long, c.requires.is_point)
 
 pub returns-else-is_range_level-clause-order : goal.returns-else-is_range_level-clause-order
 returns-else-is_range_level-clause-order g c =
     let level = c.is_range_level.ensures.no c.if-is_range_level.false c.requires.level in
     let stands = rw c.set.view_is at c.set.invariant.2 in
     let long = listed_long c.args.set.now _ level stands in
-    let point = listed_point c.args.set.now _ c.args.i c.index.result.now [] level stands (omega (arith, long, c.requires.is_point)) c.index.ensures in
+    let point = listed_point c.args.set.now _ c.args.i c.index.result.now [] level stands (omega (arith, long, c.requires.is_point)) (rw c.deref-3.ensures at c.index.ensures) in
     let two : 2 ≡ width c.args.set.now = sym (ap length point) ∙ (c.requires.fits c.args.i [] c.requires.is_point).0 in
     let last : point_order (mark_at c.args.set.now c.index.result.now).point (end_of 2 c.args.n c.args.fill (g.Q.Key.values c.args.key.now)) ≡ point_order (get_or (stored c.args.set.now) c.args.i []) (end_of (width c.args.set.now) c.args.n c.args.fill (g.Q.Key.values c.args.key.now)) =
     rw (point, ← two) refl in
     c.counted.ensures.order ∙ c.cmp_listed_end.ensures
-    ∙ ap (λ bs. point_order (mark_at bs c.index.result.now).point (end_of 2 c.args.n c.args.fill (g.Q.Key.values c.args.key.now))) (c.deref.ensures.value ∙ c.set.view_is) ∙ last
+    ∙ ap (λ bs. point_order (mark_at bs c.index.result.now).point (end_of 2 c.args.n c.args.fill (g.Q.Key.values c.args.key.now))) (c.deref-2.ensures.value ∙ ap (λ (v : Vec Bound Global). v.items) c.deref.ensures ∙ c.set.view_is) ∙ last

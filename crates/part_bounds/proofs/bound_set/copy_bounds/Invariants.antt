@@ -1,6 +1,6 @@
 use Rattle.std.proofs.Common.{◌≡◌, take}
-use Rattle.part_bounds.proofs.bound_set.copy_set.Given as goal
+use Rattle.part_bounds.proofs.bound_set.copy_bounds.Given as goal
 
 -- the bounds so far are copied
 abbrev pub invariant-loop-b : goal.invariant-loop-b
-invariant-loop-b l = l.bounds.items ≡ take l.b-index l.b-items
+invariant-loop-b l = l.copies.items ≡ take l.b-index l.bounds
