@@ -168,3 +168,30 @@ abbrev mutual
   pub operands_faults : Scope → Trees → List Fault
   operands_faults s no_more = []
   operands_faults s (and_more t ts) = operand_faults s t ++ operands_faults s ts
+
+-- the faults of its parts, and those of the whole where the parts have none
+abbrev pub inner_faults : Scope → Tree → List Fault
+inner_faults s (leaf l) = []
+inner_faults s (call f ts) = operands_faults s ts
+inner_faults s (call_of_all f) = []
+inner_faults s (negated e) = operand_faults s e
+inner_faults s (binary o x y) = operand_faults s x ++ operand_faults s y
+inner_faults s (in_list b x ts) = operand_faults s x ++ operands_faults s ts
+inner_faults s (between b x y z) = operand_faults s x ++ (operand_faults s y ++ operand_faults s z)
+inner_faults s (is_null b x) = operand_faults s x
+inner_faults s (inverted e) = operand_faults s e
+inner_faults s (all_of ts) = operands_faults s ts
+inner_faults s (any_of ts) = operands_faults s ts
+
+abbrev pub own_faults : Scope → Tree → List Fault
+own_faults s (leaf l) = leaf_faults s l
+own_faults s (call f ts) = call_faults s.allowed f (all_typed s ts)
+own_faults s (call_of_all f) = star_faults f
+own_faults s (negated e) = join_faults s.allowed op.Subtract zero_typed (typed s e)
+own_faults s (binary o x y) = join_faults s.allowed o (typed s x) (typed s y)
+own_faults s (in_list b x ts) = left_out (codes "IN") ∷ []
+own_faults s (between b x y z) = left_out (codes "BETWEEN") ∷ []
+own_faults s (is_null b x) = left_out (codes "IS") ∷ []
+own_faults s (inverted e) = left_out (codes "NOT") ∷ []
+own_faults s (all_of ts) = left_out (codes "AND") ∷ []
+own_faults s (any_of ts) = left_out (codes "OR") ∷ []

@@ -27,7 +27,7 @@ pub use constants::as_literal;
 pub use kinds::{check_assigned, check_count, check_counting, is_arithmetic, kind_alone};
 pub use meanings::bind_condition;
 pub use naming::{Hit, Lookup, item_called, look_up, look_up_in};
-pub use operands::{check_item, check_look_up, check_operand, typed_of};
+pub use operands::{check_item, check_look_up, check_operand, check_own, typed_of};
 pub use scalars::{bind_constant, bind_scalar, store};
 pub use scope::{Allowed, Names, Param, ScopeColumn, ScopeItem, condition_names, nothing_more};
 pub use typed::{Given, Typed};

@@ -1,4 +1,4 @@
-ghost use Rattle.std.specs.Prelude.{◌≡◌, ◌++◌, ◌∷◌, [], map, IfOk, OnOk};
+ghost use Rattle.std.specs.Prelude.{◌≡◌, ◌++◌, ◌∷◌, [], map, Ok, IfOk, IfSome, OnOk};
 ghost use Rattle.pg_values.specs.Refusals.{IsAnswer};
 ghost use Rattle.pg_values.specs.declared.value.Kind.TheVariants.{Truth as KTruth};
 ghost use Rattle.sql_ast.specs.Expressions as trees;
@@ -8,17 +8,18 @@ ghost use Rattle.cond_logic.specs.Trees as conds;
 ghost use Rattle.cond_logic.specs.Trees.{cond_tree};
 ghost use Rattle.expression_binder.specs.Firsts.{or_first, fault_in, IsAnswerBy};
 ghost use Rattle.expression_binder.specs.Meanings as meanings;
+ghost use Rattle.expression_binder.specs.Operands as operands;
 ghost use Rattle.expression_binder.specs.Scopes as scopes;
 ghost use Rattle.expression_binder.specs.Meanings.{constant_faults, constants_faults, meaning};
 
-use crate::Names;
 use crate::conditions::{from_op, in_op, to_op};
 use crate::kinds::{kind_alone, side_kind};
 use crate::naming::param;
 use crate::operands::typed_of;
 use crate::scalars::bind_scalar;
+use crate::{Given, Names};
 use cond_logic::{CompareOp, Cond, CondList, Operand, Scalar, Truth3};
-use pg_values::{Kind, NoMemory, Refusal, Value};
+use pg_values::{Kind, NoMemory, Refusal, Value, copy_value};
 use sql_ast::{Expr, Leaf, Operator};
 use std::alloc::Global;
 
@@ -94,6 +95,68 @@ fn add(conds: &mut Vec<Cond>, cond: Cond) -> Result<(), NoMemory>
     Ok(())
 }
 
+// A copy of an operand, which shares its text.
+fn copy_operand(alloc: Global, x: &Operand) -> Result<Operand, NoMemory>
+    ensures { IfOk result (λ copy. copy ≡ x.now) }
+{
+    match x {
+        Operand::Column(column) => Ok(Operand::Column(*column)),
+        Operand::Param(n) => Ok(Operand::Param(*n)),
+        Operand::Lit(value) => Ok(Operand::Lit(copy_value(alloc, value)?)),
+    }
+}
+
+// The left side of IN as a value of the list gave it its kind.
+#[derive(Drop)]
+struct LeftSide {
+    kind: Kind,
+    operand: Operand,
+}
+
+// The left side for a value that gives it the kind. It is bound anew only where the last value gave it another.
+fn bind_left(
+    alloc: Global,
+    names: &Names<'_>,
+    kind: Kind,
+    x: &Expr,
+    last: Option<LeftSide>,
+) -> Result<LeftSide, Refusal>
+    requires { IfSome last (λ l. meanings.operand names.now l.kind (tree x.now) ≡ Ok l.operand) }
+    ensures kind { IfOk result (λ l. l.kind ≡ kind) }
+    ensures bound { IsAnswerBy (λ l. l.operand) result (meanings.operand names.now kind (tree x.now)) }
+{
+    if let Some(left) = last {
+        if left.kind == kind {
+            return Ok(left);
+        }
+    }
+    let operand = bind_operand(alloc, names, kind, x)?;
+    Ok(LeftSide { kind, operand })
+}
+
+// The comparison of the left side, for which `given` stands, with one value of the list.
+#[tactic(auto, unfolding(crate::specs::Meanings::side_faults))]
+fn bind_beside(
+    alloc: Global,
+    names: &Names<'_>,
+    operator: Operator,
+    x: &Expr,
+    given: Given,
+    last: Option<LeftSide>,
+    e: &Expr,
+) -> Result<(Cond, LeftSide), Refusal>
+    requires given { given ≡ (operands.typed names.now (tree x.now)).given }
+    requires last { IfSome last (λ l. meanings.operand names.now l.kind (tree x.now) ≡ Ok l.operand) }
+    ensures answer { IsAnswerBy (λ p. cond_tree p.0) result (or_first (meanings.side_faults names.now (tree x.now) (tree e.now)) (meanings.comparison names.now operator (tree x.now) (tree e.now))) }
+    ensures left { IfOk result (λ p. meanings.operand names.now p.1.kind (tree x.now) ≡ Ok p.1.operand) }
+{
+    let own = typed_of(names, e).given;
+    let left = bind_left(alloc, names, side_kind(own, given), x, last)?;
+    let right = bind_operand(alloc, names, side_kind(given, own), e)?;
+    let copy = copy_operand(alloc, &left.operand)?;
+    Ok((Cond::Compare(compare_op(operator), copy, right), left))
+}
+
 fn bind_each(
     alloc: Global,
     names: &Names<'_>,
@@ -103,10 +166,13 @@ fn bind_each(
 ) -> Result<Vec<Cond>, Refusal>
     ensures { IsAnswerBy (λ v. map cond_tree v.items) result (or_first (meanings.each_side_faults names.now (tree x.now) (listed (map tree list.now))) (meanings.comparisons names.now operator (tree x.now) (listed (map tree list.now)))) }
 {
+    let given = typed_of(names, x).given;
     let mut conds = Vec::new(alloc);
+    let mut last = None;
     for e in list {
-        let cond = bind_comparison(alloc, names, operator, x, e)?;
+        let (cond, left) = bind_beside(alloc, names, operator, x, given, last, e)?;
         add(&mut conds, cond)?;
+        last = Some(left);
     }
     Ok(conds)
 }

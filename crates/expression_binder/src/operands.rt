@@ -295,6 +295,42 @@ fn out_of_place(alloc: Global, word: &[u8]) -> Result<(), Refusal>
     Err(Refusal::Sql(left_out(alloc, word)?))
 }
 
+/// The first fault of an operand whose parts have none.
+pub fn check_own(alloc: Global, names: &Names<'_>, e: &Expr) -> Result<(), Refusal>
+    ensures { IsAnswer result (or_first (operands.own_faults names.now (tree e.now)) tt) }
+{
+    match e {
+        Expr::Leaf(leaf) => check_leaf(alloc, names, leaf),
+        Expr::Call(function, arguments) => check_call(
+            alloc,
+            names,
+            function.as_bytes(),
+            arguments.as_slice(),
+        ),
+        Expr::CallOfAll(function) => check_star(alloc, function.as_bytes()),
+        Expr::Negated(x) => check_join(
+            alloc,
+            names.allowed(),
+            Operator::Subtract,
+            zero_typed(),
+            typed_of(names, x),
+        ),
+        Expr::Binary(operator, x, y) => check_join(
+            alloc,
+            names.allowed(),
+            *operator,
+            typed_of(names, x),
+            typed_of(names, y),
+        ),
+        Expr::In(_, _, _) => out_of_place(alloc, b"IN"),
+        Expr::Between(_, _, _, _) => out_of_place(alloc, b"BETWEEN"),
+        Expr::IsNull(_, _) => out_of_place(alloc, b"IS"),
+        Expr::Not(_) => out_of_place(alloc, b"NOT"),
+        Expr::And(_) => out_of_place(alloc, b"AND"),
+        Expr::Or(_) => out_of_place(alloc, b"OR"),
+    }
+}
+
 #[cycle(check)]
 pub(crate) fn check_operands(
     alloc: Global,
@@ -309,62 +345,41 @@ pub(crate) fn check_operands(
     Ok(())
 }
 
+// The first fault of the parts of an operand.
+#[cycle(check)]
+fn check_inner(alloc: Global, names: &Names<'_>, e: &Expr) -> Result<(), Refusal>
+    ensures { IsAnswer result (or_first (operands.inner_faults names.now (tree e.now)) tt) }
+{
+    match e {
+        Expr::Leaf(_) => Ok(()),
+        Expr::Call(_, arguments) => check_operands(alloc, names, arguments.as_slice()),
+        Expr::CallOfAll(_) => Ok(()),
+        Expr::Negated(x) => check_operand(alloc, names, x),
+        Expr::Binary(_, x, y) => {
+            check_operand(alloc, names, x)?;
+            check_operand(alloc, names, y)
+        }
+        Expr::In(_, x, list) => {
+            check_operand(alloc, names, x)?;
+            check_operands(alloc, names, list.as_slice())
+        }
+        Expr::Between(_, x, from, to) => {
+            check_operand(alloc, names, x)?;
+            check_operand(alloc, names, from)?;
+            check_operand(alloc, names, to)
+        }
+        Expr::IsNull(_, x) => check_operand(alloc, names, x),
+        Expr::Not(x) => check_operand(alloc, names, x),
+        Expr::And(list) => check_operands(alloc, names, list.as_slice()),
+        Expr::Or(list) => check_operands(alloc, names, list.as_slice()),
+    }
+}
+
 /// The first fault of names and kinds in an operand: 42P01, 42702, 42703, 42883, 42P02 or 0A000.
 #[cycle(check)]
 pub fn check_operand(alloc: Global, names: &Names<'_>, e: &Expr) -> Result<(), Refusal>
     ensures { IsAnswer result (or_first (operands.operand_faults names.now (tree e.now)) tt) }
 {
-    match e {
-        Expr::Leaf(leaf) => check_leaf(alloc, names, leaf),
-        Expr::Call(function, arguments) => {
-            check_operands(alloc, names, arguments.as_slice())?;
-            check_call(alloc, names, function.as_bytes(), arguments.as_slice())
-        }
-        Expr::CallOfAll(function) => check_star(alloc, function.as_bytes()),
-        Expr::Negated(x) => {
-            check_operand(alloc, names, x)?;
-            let right = typed_of(names, x);
-            check_join(
-                alloc,
-                names.allowed(),
-                Operator::Subtract,
-                zero_typed(),
-                right,
-            )
-        }
-        Expr::Binary(operator, x, y) => {
-            check_operand(alloc, names, x)?;
-            check_operand(alloc, names, y)?;
-            let left = typed_of(names, x);
-            let right = typed_of(names, y);
-            check_join(alloc, names.allowed(), *operator, left, right)
-        }
-        Expr::In(_, x, list) => {
-            check_operand(alloc, names, x)?;
-            check_operands(alloc, names, list.as_slice())?;
-            out_of_place(alloc, b"IN")
-        }
-        Expr::Between(_, x, from, to) => {
-            check_operand(alloc, names, x)?;
-            check_operand(alloc, names, from)?;
-            check_operand(alloc, names, to)?;
-            out_of_place(alloc, b"BETWEEN")
-        }
-        Expr::IsNull(_, x) => {
-            check_operand(alloc, names, x)?;
-            out_of_place(alloc, b"IS")
-        }
-        Expr::Not(x) => {
-            check_operand(alloc, names, x)?;
-            out_of_place(alloc, b"NOT")
-        }
-        Expr::And(list) => {
-            check_operands(alloc, names, list.as_slice())?;
-            out_of_place(alloc, b"AND")
-        }
-        Expr::Or(list) => {
-            check_operands(alloc, names, list.as_slice())?;
-            out_of_place(alloc, b"OR")
-        }
-    }
+    check_inner(alloc, names, e)?;
+    check_own(alloc, names, e)
 }

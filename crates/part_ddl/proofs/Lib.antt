@@ -8,5 +8,6 @@ pub mod Going
 pub mod Kids
 pub mod Making
 pub mod Numbers
+pub mod Sharing
 pub mod Standing
 pub mod Suiting

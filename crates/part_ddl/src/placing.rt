@@ -3,8 +3,9 @@
 ghost use Rattle.std.specs.Prelude.{◌≡◌, ◌<◌, ◌≤◌, ◌++◌, [], ◌∷◌, MatchResult, IfOk, OnOk, Ok, None, All, true, find, length, map, option_map};
 ghost use Rattle.pg_values.specs.KeyKinds.{IsNotNull};
 ghost use Rattle.pg_values.specs.Refusals.{IsAnswer, or_first};
-ghost use Rattle.bound_forms.specs.declared.partition_bound.Bound.TheVariants.{Default};
+ghost use Rattle.bound_forms.specs.declared.partition_bound.Bound.TheVariants.{Default, List as Listed};
 ghost use Rattle.bound_forms.specs.Bounds.{is_filled, overlaps, BoundOfKind, BoundsFit};
+ghost use Rattle.bound_forms.specs.Listed.{share_value, ListsFit};
 ghost use Rattle.bound_forms.specs.Moduli as moduli;
 ghost use Rattle.bound_forms.specs.Moduli.{bad_modulus};
 ghost use Rattle.history.specs.History.{History};
@@ -20,11 +21,11 @@ ghost use Rattle.part_ddl.specs.Placing as placing;
 ghost use Rattle.part_ddl.specs.Placing.{AreOfOneLevel, IsFault};
 
 use crate::below::default_among;
-use bound_forms::{Bound, Level, copy_bound};
+use bound_forms::{Bound, Level, RowKey, copy_bound};
 use history::{Entry, TableShape};
-use part_bounds::{BoundSet, modulus_fault, overlap_uncounted, set_in_order};
+use part_bounds::{BoundSet, find_child_uncounted, modulus_fault, overlap_uncounted, set_in_order};
 use part_catalog::{Catalog, LEVEL_LIMIT, PARTITION_LIMIT};
-use pg_values::{NoMemory, Refusal, TableNo, ValueKey, Which};
+use pg_values::{NoMemory, Refusal, Row, TableNo, ValueKey, Which};
 use refusals::{
     bound_overlaps, modulus_does_not_suit, not_partitioned, partition_is_pending, second_default,
     too_many,
@@ -85,15 +86,46 @@ fn unsuited(one: &BoundSet<ValueKey>, _bound: &Bound, partitions: &[&Entry]) -> 
     None
 }
 
+// Whether one of the values is among those of the set's only list, which is searched by halves.
+fn is_shared(one: &BoundSet<ValueKey>, _listed: &Row, values: &Row) -> bool
+    requires one { one.now ≡ Listed _listed.now ∷ [] }
+    requires fit { ListsFit _listed.now values.now }
+    ensures { result ≡ share_value values.now _listed.now }
+{
+    for i in 0..values.len() {
+        let key = RowKey {
+            row: values,
+            columns: &[i],
+        };
+        if find_child_uncounted(one, &key).is_some() {
+            return true;
+        }
+    }
+    false
+}
+
+// Whether the only bound of the set overlaps the other one.
+fn overlaps_other(one: &BoundSet<ValueKey>, bound: &Bound, other: &Bound) -> bool
+    requires one { one.now ≡ bound.now ∷ [] }
+    requires filled { is_filled other.now ≡ true }
+    requires fit { BoundsFit bound.now other.now }
+    ensures { result ≡ overlaps bound.now other.now }
+{
+    match (bound, other) {
+        (Bound::List { values: listed }, Bound::List { values }) => is_shared(one, listed, values),
+        _ => overlap_uncounted(one, other).is_some(),
+    }
+}
+
 // The first partition whose bound overlaps the only bound of the set.
-fn overlapping(one: &BoundSet<ValueKey>, _bound: &Bound, partitions: &[&Entry]) -> Option<TableNo>
-    requires one { one.now ≡ _bound.now ∷ [] }
+fn overlapping(one: &BoundSet<ValueKey>, bound: &Bound, partitions: &[&Entry]) -> Option<TableNo>
+    requires one { one.now ≡ bound.now ∷ [] }
     requires filled { All (λ e. is_filled e.bound ≡ true) (map (λ e. e.now) partitions.now) }
-    requires fit { All (λ e. BoundsFit _bound.now e.bound) (map (λ e. e.now) partitions.now) }
-    ensures { result ≡ option_map (λ e. e.child) (find (λ e. overlaps _bound.now e.bound) (map (λ e. e.now) partitions.now)) }
+    requires fit { All (λ e. BoundsFit bound.now e.bound) (map (λ e. e.now) partitions.now) }
+    ensures { result ≡ option_map (λ e. e.child) (find (λ e. overlaps bound.now e.bound) (map (λ e. e.now) partitions.now)) }
 {
     for entry in partitions {
-        if overlap_uncounted(one, &entry.bound).is_some() {
+        if overlaps_other(one, bound, &entry.bound) {
             return Some(entry.child);
         }
     }

@@ -48,6 +48,20 @@ abbrev mutual
   values_faults no_more = []
   values_faults (and_more t ts) = value_faults t ++ values_faults ts
 
+-- the faults of the parts alone, and the name that a leaf is
+abbrev pub inner_faults : Tree → List Fault
+inner_faults (leaf l) = name_faults l
+inner_faults (call f ts) = values_faults ts
+inner_faults (call_of_all f) = []
+inner_faults (negated e) = value_faults e
+inner_faults (binary o x y) = value_faults x ++ value_faults y
+inner_faults (in_list b x ts) = value_faults x ++ values_faults ts
+inner_faults (between b x y z) = value_faults x ++ (value_faults y ++ value_faults z)
+inner_faults (is_null b x) = value_faults x
+inner_faults (inverted e) = value_faults e
+inner_faults (all_of ts) = values_faults ts
+inner_faults (any_of ts) = values_faults ts
+
 -- the first of the faults, else the answer
 abbrev pub first_or : {T : Type 0} → List Fault → Result T Fault → Result T Fault
 first_or [] answer = answer

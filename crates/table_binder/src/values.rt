@@ -2,13 +2,10 @@ ghost use Rattle.std.specs.Prelude.{◌≡◌, ◌++◌, map, IfOk};
 ghost use Rattle.pg_values.specs.Refusals.{IsAnswer};
 ghost use Rattle.sql_ast.specs.Expressions.{tree, listed};
 ghost use Rattle.expression_binder.specs.Firsts.{or_first};
-ghost use Rattle.expression_binder.specs.Operands.{operand_faults};
 ghost use Rattle.table_binder.specs.Values as spec;
 
 use bound_checks::RawValue;
-use expression_binder::{
-    Names, bind_constant, check_operand, condition_names, kind_alone, typed_of,
-};
+use expression_binder::{Names, bind_constant, check_own, condition_names, kind_alone, typed_of};
 use pg_values::{Fault, NoMemory, Refusal, Value};
 use refusals::left_out;
 use sql_ast::{Expr, Leaf};
@@ -46,13 +43,6 @@ fn check_name(alloc: Global, leaf: &Leaf) -> Result<(), Refusal>
     }
 }
 
-// The expression as a whole is an operand.
-fn check_whole(alloc: Global, e: &Expr) -> Result<(), Refusal>
-    ensures { IsAnswer result (or_first (operand_faults spec.no_names (tree e.now)) tt) }
-{
-    check_operand(alloc, &no_names(), e)
-}
-
 #[cycle(check)]
 fn check_values(alloc: Global, parts: &[Expr]) -> Result<(), Refusal>
     ensures { IsAnswer result (or_first (spec.values_faults (listed (map tree parts.now))) tt) }
@@ -71,56 +61,40 @@ fn check_both(alloc: Global, x: &Expr, y: &Expr) -> Result<(), Refusal>
     check_value(alloc, y)
 }
 
-// The first fault of names and kinds: 0A000 for what has no place in a bound, 42883.
+// The first fault of the parts of an expression, a name that stands there among them.
+#[cycle(check)]
+fn check_inner(alloc: Global, e: &Expr) -> Result<(), Refusal>
+    ensures { IsAnswer result (or_first (spec.inner_faults (tree e.now)) tt) }
+{
+    match e {
+        Expr::Leaf(leaf) => check_name(alloc, leaf),
+        Expr::Call(_, arguments) => check_values(alloc, arguments.as_slice()),
+        Expr::CallOfAll(_) => Ok(()),
+        Expr::Negated(x) => check_value(alloc, x),
+        Expr::Binary(_, x, y) => check_both(alloc, x, y),
+        Expr::In(_, x, list) => {
+            check_value(alloc, x)?;
+            check_values(alloc, list.as_slice())
+        }
+        Expr::Between(_, x, from, to) => {
+            check_value(alloc, x)?;
+            check_both(alloc, from, to)
+        }
+        Expr::IsNull(_, x) => check_value(alloc, x),
+        Expr::Not(x) => check_value(alloc, x),
+        Expr::And(list) => check_values(alloc, list.as_slice()),
+        Expr::Or(list) => check_values(alloc, list.as_slice()),
+    }
+}
+
+// The first fault of names and kinds: 0A000 for what has no place in a bound, 42883. The parts are judged once, and
+// behind them the whole by itself.
 #[cycle(check)]
 fn check_value(alloc: Global, e: &Expr) -> Result<(), Refusal>
     ensures { IsAnswer result (or_first (spec.value_faults (tree e.now)) tt) }
 {
-    match e {
-        Expr::Leaf(leaf) => {
-            check_name(alloc, leaf)?;
-            check_whole(alloc, e)
-        }
-        Expr::Call(_, arguments) => {
-            check_values(alloc, arguments.as_slice())?;
-            check_whole(alloc, e)
-        }
-        Expr::CallOfAll(_) => check_whole(alloc, e),
-        Expr::Negated(x) => {
-            check_value(alloc, x)?;
-            check_whole(alloc, e)
-        }
-        Expr::Binary(_, x, y) => {
-            check_both(alloc, x, y)?;
-            check_whole(alloc, e)
-        }
-        Expr::In(_, x, list) => {
-            check_value(alloc, x)?;
-            check_values(alloc, list.as_slice())?;
-            check_whole(alloc, e)
-        }
-        Expr::Between(_, x, from, to) => {
-            check_value(alloc, x)?;
-            check_both(alloc, from, to)?;
-            check_whole(alloc, e)
-        }
-        Expr::IsNull(_, x) => {
-            check_value(alloc, x)?;
-            check_whole(alloc, e)
-        }
-        Expr::Not(x) => {
-            check_value(alloc, x)?;
-            check_whole(alloc, e)
-        }
-        Expr::And(list) => {
-            check_values(alloc, list.as_slice())?;
-            check_whole(alloc, e)
-        }
-        Expr::Or(list) => {
-            check_values(alloc, list.as_slice())?;
-            check_whole(alloc, e)
-        }
-    }
+    check_inner(alloc, e)?;
+    check_own(alloc, &no_names(), e)
 }
 
 // The value of the expression, or its first fault.

@@ -4,11 +4,14 @@ use Rattle.expression_binder.specs.Operands.{operands_faults}
 use Rattle.expression_binder.proofs.Trees.{weight, weights}
 use Rattle.expression_binder.proofs.operands.+check.Given as goal
 
+abbrev pub decreases-check_inner : goal.decreases-check_inner
+decreases-check_inner l = 3 * weight (tree l.e.now)
+
 abbrev pub decreases-check_operand : goal.decreases-check_operand
-decreases-check_operand l = 2 * weight (tree l.e.now)
+decreases-check_operand l = 3 * weight (tree l.e.now) + 1
 
 abbrev pub decreases-check_operands : goal.decreases-check_operands
-decreases-check_operands l = 2 * weights (listed (map tree l.parts.now)) + 1
+decreases-check_operands l = 3 * weights (listed (map tree l.parts.now)) + 2
 
 -- no part so far has a fault
 abbrev pub invariant-check_operands-loop-part : goal.invariant-check_operands-loop-part

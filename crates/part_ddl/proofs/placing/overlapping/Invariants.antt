@@ -4,4 +4,4 @@ use Rattle.bound_forms.specs.Bounds.{overlaps}
 use Rattle.part_ddl.proofs.placing.overlapping.Given as goal
 
 abbrev pub invariant-loop-entry : goal.invariant-loop-entry
-invariant-loop-entry l = find (λ e. overlaps l._bound e.bound) (map (λ e. e.now) (drop l.entry-index l.partitions)) ≡ find (λ e. overlaps l._bound e.bound) (map (λ e. e.now) l.partitions)
+invariant-loop-entry l = find (λ e. overlaps l.bound e.bound) (map (λ e. e.now) (drop l.entry-index l.partitions)) ≡ find (λ e. overlaps l.bound e.bound) (map (λ e. e.now) l.partitions)
