@@ -1,18 +1,9 @@
 -- Whether a table has the columns of another one (the manual, ALTER TABLE, ATTACH PARTITION).
-use Rattle.std.specs.Prelude.{ℕ, Bool, true, false, ◌&&◌, ◌||◌, not, if◌then◌else◌, List, [], ◌∷◌, bytes_eq}
-use Rattle.pg_values.specs.declared.value.Kind.{Kind}
-use Rattle.pg_values.specs.declared.value.Kind.TheVariants as kinds
+use Rattle.std.specs.Prelude.{ℕ, Bool, ◌&&◌, ◌||◌, not, if◌then◌else◌, List, [], ◌∷◌, bytes_eq}
 use Rattle.pg_values.specs.declared.fault.Fault.{Fault}
 use Rattle.refusals.specs.Refusals.{column_does_not_match}
 use Rattle.history.specs.declared.catalogue.Column.{Column}
-
-abbrev pub same_kind : Kind → Kind → Bool
-same_kind kinds.Int4 kinds.Int4 = true
-same_kind kinds.Int8 kinds.Int8 = true
-same_kind kinds.Text kinds.Text = true
-same_kind kinds.Day kinds.Day = true
-same_kind kinds.Truth kinds.Truth = true
-same_kind k l = false
+use Rattle.ddl_steps.specs.Checks.{same_kind}
 
 -- a column for the parent's: of its name and its kind, and NOT NULL where it is
 abbrev pub matches : (parent own : Column) → Bool

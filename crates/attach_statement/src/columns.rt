@@ -3,22 +3,11 @@ ghost use Rattle.pg_values.specs.Refusals.{IsAnswer, or_first};
 ghost use Rattle.refusals.specs.Refusals as refusals;
 ghost use Rattle.attach_statement.specs.Columns as spec;
 
+use ddl_steps::same_kind;
 use history::Column;
-use pg_values::{Kind, NoMemory, Refusal};
+use pg_values::{NoMemory, Refusal};
 use refusals::column_does_not_match;
 use std::alloc::Global;
-
-fn same_kind(kind: Kind, other: Kind) -> bool
-    ensures { result ≡ spec.same_kind kind other }
-{
-    match kind {
-        Kind::Int4 => matches!(other, Kind::Int4),
-        Kind::Int8 => matches!(other, Kind::Int8),
-        Kind::Text => matches!(other, Kind::Text),
-        Kind::Day => matches!(other, Kind::Day),
-        Kind::Truth => matches!(other, Kind::Truth),
-    }
-}
 
 // Whether the column is one for the parent's.
 fn matches(parent: &Column, own: &Column) -> bool

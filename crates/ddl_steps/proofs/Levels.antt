@@ -23,7 +23,7 @@ strategy_is strategies.Hash strategies.Range e = absurd (let c = e in cc)
 strategy_is strategies.Hash strategies.List e = absurd (let c = e in cc)
 strategy_is strategies.Hash strategies.Hash e = refl
 
-kind_is : (a b : Kind) → same_kind a b ≡ true → a ≡ b
+pub kind_is : (a b : Kind) → same_kind a b ≡ true → a ≡ b
 kind_is kinds.Int4 kinds.Int4 e = refl
 kind_is kinds.Int4 kinds.Int8 e = absurd (let c = e in cc)
 kind_is kinds.Int4 kinds.Text e = absurd (let c = e in cc)

@@ -25,7 +25,7 @@ mod new_rows;
 mod scans;
 
 pub use default_locks::{lock_default, tables_from};
-pub use equal_checks::same_check;
+pub use equal_checks::{same_check, same_kind};
 pub use implying::is_implied;
 pub use judging::{judge_default, judge_table};
 pub use low::sessions_are_low;
