@@ -85,7 +85,7 @@ row_tree (statements.Delete s) = deletes s.table (maybe_tree s.condition)
 
 abbrev pub query_tree : Query → QueryTree
 query_tree (queries.Rows s) = rows (row_tree s)
-query_tree (queries.Prepare name kinds s) = prepares name kinds (row_tree s)
+query_tree (queries.Prepare name kinds s) = prepares name kinds (row_tree s.value)
 query_tree (queries.Execute name arguments) = executes name (trees arguments)
 query_tree (queries.ExplainSelect analyze s) = explains_select analyze (select_tree s)
 query_tree (queries.ExplainExecute analyze name arguments) = explains_execute analyze name (trees arguments)

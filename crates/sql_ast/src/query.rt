@@ -1,5 +1,6 @@
 use crate::{Delete, ExprList, Insert, NameList, Select, Update};
 use pg_values::PgText;
+use std::rc::Rc;
 
 /// A statement that reads or changes rows.
 #[derive(Debug, Drop)]
@@ -14,8 +15,8 @@ pub enum RowStatement {
 #[derive(Debug, Drop)]
 pub enum Query {
     Rows(RowStatement),
-    /// A name, the kinds of the parameters where they are declared, and the statement.
-    Prepare(PgText, NameList, RowStatement),
+    /// A name, the kinds of the parameters where they are declared, and the statement, which a session keeps.
+    Prepare(PgText, NameList, Rc<RowStatement>),
     /// A name and the arguments.
     Execute(PgText, ExprList),
     /// Whether the statement is run too, and the statement.

@@ -13,6 +13,7 @@ use sql_ast::{ExprList, NameList, Query, RowStatement};
 use sql_expressions::{ExprPart, names, other_name, plain_name};
 use sql_tokens::{Token, TokenKind, same_kind};
 use std::alloc::Global;
+use std::rc::Rc;
 
 /// SELECT, INSERT, UPDATE or DELETE.
 pub(crate) fn row_statement<'a>(
@@ -64,6 +65,7 @@ pub(crate) fn prepare<'a>(
     let (kinds, rest) = kinds(alloc, text, rest)?;
     let (_, rest) = word(rest, TokenKind::As)?;
     let (statement, rest) = row_statement(alloc, text, rest)?;
+    let statement = Rc::new(alloc, statement)?;
     Ok((Query::Prepare(name, kinds, statement), rest))
 }
 
