@@ -1,7 +1,15 @@
-use Rattle.std.proofs.Common.{subst}
+use Rattle.std.proofs.Common.{◌≡◌, Vec, Global, sym, subst}
+use Rattle.std.specs.List.{All}
+use Rattle.bound_forms.specs.declared.partition_bound.Bound.{Bound}
+use Rattle.bound_forms.specs.Bounds.{BoundOfKind, IsInPlainOrder}
 use Rattle.part_bounds.specs.Listings.{StandsFor}
 use Rattle.part_bounds.proofs.bound_set.set_in_order.Goals as goal
 
 pub invariant_of-result : goal.invariant_of-result
 invariant_of-result g c =
-    (λ k d lt. c.requires.of_kind k d lt c.args.kind, c.requires.ordered, subst (λ l. StandsFor l c.in_ok-listings.listings.items) c.deref.ensures.value c.in_ok-listings.ensures)
+    let same : c.in_ok-bounds.bounds.value ≡ c.args.bounds = c.in_ok-bounds.ensures.ok in
+    let stands : StandsFor c.args.bounds.items c.in_ok-listed.listed.items = subst (λ l. StandsFor l c.in_ok-listed.listed.items) c.deref.ensures.value c.in_ok-listed.ensures in (
+      subst (λ (v : Vec Bound Global). All (BoundOfKind (g.K.KeyKind.admits c.args.kind)) v.items) (sym same) (λ k d lt. c.requires.of_kind k d lt c.args.kind),
+      subst (λ (v : Vec Bound Global). IsInPlainOrder v.items) (sym same) c.requires.ordered,
+      rw (same, c.in_ok-listings.ensures.ok) stands,
+    )

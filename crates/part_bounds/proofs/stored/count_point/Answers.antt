@@ -27,16 +27,16 @@ pub index-requires : goal.index-requires
 index-requires g c =
     let level = c.is_range_level.ensures.no c.if-is_range_level.false c.requires.level in
     let long = listed_long c.args.set.now _ level (rw c.set.view_is at c.set.invariant.2) in
-    omega (arith, as_long _ _ c.deref-3.ensures, long, c.requires.is_point)
+    omega (arith, as_long _ _ c.deref-else-is_range_level-2.ensures, long, c.requires.is_point)
 
 pub returns-else-is_range_level-clause-order : goal.returns-else-is_range_level-clause-order
 returns-else-is_range_level-clause-order g c =
     let level = c.is_range_level.ensures.no c.if-is_range_level.false c.requires.level in
     let stands = rw c.set.view_is at c.set.invariant.2 in
     let long = listed_long c.args.set.now _ level stands in
-    let point = listed_point c.args.set.now _ c.args.i c.index.result.now [] level stands (omega (arith, long, c.requires.is_point)) (rw c.deref-3.ensures at c.index.ensures) in
+    let point = listed_point c.args.set.now _ c.args.i c.index.result.now [] level stands (omega (arith, long, c.requires.is_point)) (rw c.deref-else-is_range_level-2.ensures at c.index.ensures) in
     let two : 2 ≡ width c.args.set.now = sym (ap length point) ∙ (c.requires.fits c.args.i [] c.requires.is_point).0 in
     let last : point_order (mark_at c.args.set.now c.index.result.now).point (end_of 2 c.args.n c.args.fill (g.Q.Key.values c.args.key.now)) ≡ point_order (get_or (stored c.args.set.now) c.args.i []) (end_of (width c.args.set.now) c.args.n c.args.fill (g.Q.Key.values c.args.key.now)) =
     rw (point, ← two) refl in
     c.counted.ensures.order ∙ c.cmp_listed_end.ensures
-    ∙ ap (λ bs. point_order (mark_at bs c.index.result.now).point (end_of 2 c.args.n c.args.fill (g.Q.Key.values c.args.key.now))) (c.deref-2.ensures.value ∙ ap (λ (v : Vec Bound Global). v.items) c.deref.ensures ∙ c.set.view_is) ∙ last
+    ∙ ap (λ bs. point_order (mark_at bs c.index.result.now).point (end_of 2 c.args.n c.args.fill (g.Q.Key.values c.args.key.now))) (c.deref-else-is_range_level.ensures.value ∙ ap (λ (v : Vec Bound Global). v.items) c.deref.ensures ∙ c.set.view_is) ∙ last
