@@ -99,6 +99,12 @@ lock_outside_a_transaction = fault_of (codes "25P01") []
 abbrev pub the_transaction_has_failed : Fault
 the_transaction_has_failed = fault_of (codes "25P02") []
 
+-- ---- Class 26: invalid SQL statement name
+
+-- `no prepared statement <n>`
+abbrev pub no_prepared_statement : List ℕ → Fault
+no_prepared_statement n = fault_of (codes "26000") (n ∷ [])
+
 -- ---- Class 40: transaction rollback
 
 -- `row of <leaf> was changed by session <s>`
@@ -186,6 +192,10 @@ not_a_partition p t = fault_of (codes "42P01") (codes "<p> is not a partition of
 -- `no parameter <n>`
 abbrev pub no_parameter : ℕ → Fault
 no_parameter n = fault_of (codes "42P02") (decimal n ∷ [])
+
+-- `prepared statement <n> is there`
+abbrev pub prepared_statement_is_there : List ℕ → Fault
+prepared_statement_is_there n = fault_of (codes "42P05") (n ∷ [])
 
 -- `table <t> is there`
 abbrev pub table_is_there : List ℕ → Fault

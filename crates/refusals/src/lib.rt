@@ -31,7 +31,8 @@ pub use kinds::kind_word;
 pub use limits::{left_out, too_many};
 pub use names::{
     ambiguous, column_twice, name_twice, no_column, no_function, no_operator, no_output,
-    no_parameter, no_setting, no_type, set_twice, syntax_error, wrong_count, wrong_kind,
+    no_parameter, no_prepared_statement, no_setting, no_type, prepared_statement_is_there,
+    set_twice, syntax_error, wrong_count, wrong_kind,
 };
 pub use rows::{
     default_has_row, does_not_accept, kept_check, no_partition, null_column, outside_new_bounds,

@@ -1,4 +1,4 @@
-//! The forms of statements, and the names and kinds in them (class 42).
+//! The forms of statements, and the names and kinds in them (class 26 and 42).
 
 ghost use Rattle.std.specs.Prelude.{◌≡◌, IfOk};
 ghost use Rattle.refusals.specs.Refusals as refusals;
@@ -7,6 +7,13 @@ use crate::kinds::kind_word;
 use crate::told::{digits, of_four, of_one, of_three, of_two};
 use pg_values::{Fault, Kind, NoMemory};
 use std::alloc::Global;
+
+/// `no prepared statement <n>`
+pub fn no_prepared_statement(alloc: Global, name: &[u8]) -> Result<Fault, NoMemory>
+    ensures { IfOk result (λ f. f ≡ refusals.no_prepared_statement name.now) }
+{
+    of_one(alloc, *b"26000", name)
+}
 
 /// `syntax error at byte <n>`
 pub fn syntax_error(alloc: Global, at: u64) -> Result<Fault, NoMemory>
@@ -125,6 +132,13 @@ pub fn no_parameter(alloc: Global, number: u64) -> Result<Fault, NoMemory>
 {
     let number = digits(alloc, number)?;
     of_one(alloc, *b"42P02", number.as_bytes())
+}
+
+/// `prepared statement <n> is there`
+pub fn prepared_statement_is_there(alloc: Global, name: &[u8]) -> Result<Fault, NoMemory>
+    ensures { IfOk result (λ f. f ≡ refusals.prepared_statement_is_there name.now) }
+{
+    of_one(alloc, *b"42P05", name)
 }
 
 /// `no output column <n>`
