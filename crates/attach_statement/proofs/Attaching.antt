@@ -236,6 +236,7 @@ module _ (laws : AttachLaws) (stores : Stores) (caller : Caller) (p t : TableNo)
         done = (ap (λ (m : ℕ). Some (m, caller.cmd)) (own_number h s n its), tt);
         may = entry_may_follow laws stores caller p.number t.number b h stands at n its (own_number h s n its) all (place h stands.all.txs stands.all.catalog) told;
         housed = (tt, tt);
+        leaves = omega arith;
         catalogue = subst (λ (e : Entry). CatalogueStands catalog (CatalogueChange (EntryAdded e) ∷ h)) (is_next stores.catalog caller p t b by h stands.all.catalog (own_is h s by (mine h stands.all.txs))) (adds h stands.all.txs stands.all.catalog);
         store = record { sound = rows.sound; births = rows.births; ends = rows.ends; leaves = rows.leaves; room = rows.room };
       }

@@ -182,7 +182,7 @@ both_came f b e h caller first second = record {
   run = second.run;
   others = λ r n other at. second.others r n other (first.others r n other at);
   since = λ r. since_on r h (RowChange b ∷ h) (RowChange e ∷ RowChange b ∷ h) (first.since r) (second.since r);
-  quiet = record { txs = refl; snapshots = refl; locks = refl; catalogue = refl; sound = λ s. s };
+  quiet = record { txs = refl; snapshots = refl; locks = refl; catalogue = refl; leaves = second.quiet.leaves ∙ first.quiet.leaves; sound = λ s. s };
 }
 
 nothing_came : (f : Found) (h : History) (caller : Caller) → IsGood h → IsInRun f h caller → Came f h caller h
@@ -191,7 +191,7 @@ nothing_came f h caller good run = record {
   run = run;
   others = λ r n other at. at;
   since = λ r. since_now r h;
-  quiet = record { txs = refl; snapshots = refl; locks = refl; catalogue = refl; sound = λ s. s };
+  quiet = record { txs = refl; snapshots = refl; locks = refl; catalogue = refl; leaves = refl; sound = λ s. s };
 }
 
 follows_came : (stores : Stores) (rows : KeptRows) (caller : Caller) (g : Found) (from : LeafId) (id : RowId) (leaf : LeafId) (row : List Value) (by : TxId) (h : History) → Stands stores h → IsInRun g h caller → MayEndIn g stores caller id → (stored_at stores.rows.stored id).version.leaf ≡ from

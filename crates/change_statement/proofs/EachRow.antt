@@ -30,7 +30,7 @@ use Rattle.statement_steps.specs.declared.stop.Stop.{Stop}
 use Rattle.statement_steps.specs.declared.stop.Stop.TheVariants as stop
 use Rattle.statement_steps.proofs.Parts.{stays}
 use Rattle.soundness.specs.Worlds.{IsMade}
-use Rattle.statement_steps.specs.Gathered.{Found}
+use Rattle.statement_steps.specs.Gathered.{CanBeCounted, Found}
 use Rattle.statement_steps.proofs.Rights.{tables_kept}
 use Rattle.change_statement.specs.Standing.{standing}
 use Rattle.change_statement.specs.Turns.{IsDecided, IsTurn}
@@ -136,9 +136,10 @@ pub record IsLeft (start mid : Stores) (caller : Caller) (g : Found) (change : C
   pub on : (r : Result ℕ Stop) (new : Stores) → IsRun g (λ (m : ℕ). m) r mid new caller (all_changed change names caller g left changed) → IsRun g (λ (m : ℕ). m) r start new caller (all_changed change names caller g targets n)
   pub may : MayRun g mid caller
   pub all : All (IsTargetIn mid.rows g) left
+  pub few : CanBeCounted changed (length left)
 
-pub all_left : {start : Stores} {caller : Caller} {g : Found} {change : Changing} {names : List (List ℕ)} {targets : List TargetRow} {n : ℕ} → MayRun g start caller → All (IsTargetIn start.rows g) targets → IsLeft start start caller g change names targets targets n n
-all_left may all = record { on = λ r new run. run; may = may; all = all }
+pub all_left : {start : Stores} {caller : Caller} {g : Found} {change : Changing} {names : List (List ℕ)} {targets : List TargetRow} {n : ℕ} → MayRun g start caller → All (IsTargetIn start.rows g) targets → CanBeCounted n (length targets) → IsLeft start start caller g change names targets targets n n
+all_left may all few = record { on = λ r new run. run; may = may; all = all; few = few }
 
 pub one_less : {start mid new : Stores} {caller : Caller} {g : Found} {change : Changing} {names : List (List ℕ)} {targets : List TargetRow} {t : TargetRow} {ts : List TargetRow} {n changed next : ℕ} → IsLeft start mid caller g change names targets (t ∷ ts) n changed
     → IsTurn change names (Ok (Counted next)) mid new caller g t changed → IsLeft start new caller g change names targets ts n next
@@ -149,6 +150,7 @@ one_less {mid = mid} {new = new} {caller = caller} {g = g} {change = change} {na
       on = λ r k more. left.on r k (then_run one (all_changed change names caller g ts) run more);
       may = may_run_on g (λ (m : ℕ). m) next mid new caller one left.may run;
       all = targets_stay mid.rows new.rows g ts turn.2 (All-tail (IsTargetIn mid.rows g) t ts left.all);
+      few = (let few = left.few in let one = turn.3 in omega (arith, few, one));
     }
 
 stopped : {start mid new : Stores} {caller : Caller} {g : Found} {change : Changing} {names : List (List ℕ)} {targets : List TargetRow} {t : TargetRow} {ts : List TargetRow} {n changed : ℕ} {e : Stop} → IsLeft start mid caller g change names targets (t ∷ ts) n changed

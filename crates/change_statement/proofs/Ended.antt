@@ -8,9 +8,9 @@ use Rattle.history.specs.declared.version.End.{End}
 use Rattle.history.specs.declared.version.Ending.{Ending}
 use Rattle.history.specs.declared.version.Ending.TheVariants.{Deleted}
 use Rattle.history.specs.Transactions.{open_of}
-use Rattle.history.specs.Rows.{RowEvent, RowEnded}
+use Rattle.history.specs.Rows.{RowEvent, LeafAdded, RowBorn, RowEnded, leaf_count}
 use Rattle.history.specs.Locks.{queue}
-use Rattle.history.specs.History.{History, RowChange, tx_events, snapshot_events, lock_events, catalogue_events, versions}
+use Rattle.history.specs.History.{History, RowChange, tx_events, snapshot_events, lock_events, row_events, catalogue_events, versions}
 use Rattle.history.specs.RowsSound.{IsEndingKnown}
 use Rattle.history.specs.Legal.{command_of, IsNotAfter}
 use Rattle.history.proofs.Open.{open_runs}
@@ -62,6 +62,12 @@ pub record Came (f : Found) (h : History) (caller : Caller) (g : History) : Type
 still_on : (f : Found) (h g : History) (s : ℕ) → Since s h g → IsStill h s f → IsStill g s f
 still_on f h g s since still = record { earlier = still.earlier; gathered = still.gathered; since = since_on s still.earlier h g still.since since }
 
+-- a command adds no leaf
+no_leaf : (e : RowEvent) (h : History) (t cmd : ℕ) → command_of (RowChange e) ≡ Some (t, cmd) → leaf_count (row_events (RowChange e ∷ h)) ≡ leaf_count (row_events h)
+no_leaf (LeafAdded l) h t cmd is = absurd (let c = is in cc)
+no_leaf (RowBorn v) h t cmd is = refl
+no_leaf (RowEnded k e) h t cmd is = refl
+
 -- an event of the transaction's command
 pub came_one : (f : Found) (e : RowEvent) (h : History) (caller : Caller) (tx : ℕ) → open_of (tx_events h) caller.session ≡ Some tx → command_of (RowChange e) ≡ Some (tx, caller.cmd) → MayFollow (RowChange e ∷ []) h → IsGood h → IsInRun f h caller
     → Came f h caller (RowChange e ∷ h)
@@ -77,7 +83,7 @@ came_one f e h caller tx mine command follow good run =
       };
       others = λ r n other at t is. All-cons (IsBefore t n) (RowChange e) h (subst (IsEarlier t n) (sym command) (λ same. absurd (other (one_session (tx_events h) r caller.session t tx sound is mine (sym same))))) (at t is);
       since = λ r. since_row r e h;
-      quiet = record { txs = refl; snapshots = refl; locks = refl; catalogue = refl; sound = λ s. s };
+      quiet = record { txs = refl; snapshots = refl; locks = refl; catalogue = refl; leaves = no_leaf e h tx caller.cmd command; sound = λ s. s };
     }
 
 -- ---- the stores after it
@@ -92,7 +98,11 @@ rows_after old rows g h q new st = record {
 
 pub came_on : (f : Found) (old : Stores) (rows : KeptRows) (caller : Caller) (h g : History) → Stands old h → Came f h caller g → StoreStands rows g → WentOn h caller.session (caller.cmd + 1) [] (record old { rows = rows }) g
 came_on f old rows caller h g stands came store = record {
-  stands = record { all = rows_after old rows g h came.quiet store stands.all; good = came.good };
+  stands = record {
+    all = rows_after old rows g h came.quiet store stands.all;
+    good = came.good;
+    leaves = (let few = stands.leaves in let now = store.leaves in let was = stands.all.rows.leaves in let same = came.quiet.leaves in omega (arith, few, now, was, same));
+  };
   at = came.run.at;
   others = came.others;
   since = λ r other. came.since r;

@@ -1,5 +1,5 @@
 -- What becomes of the first of the rows that are left.
-use Rattle.std.specs.Prelude.{◌≡◌, ◌≢◌, ◌<◌, ℕ, List, Result, Ok, Err}
+use Rattle.std.specs.Prelude.{◌≡◌, ◌≢◌, ◌<◌, ◌≤◌, ◌+◌, ℕ, List, Result, Ok, Err}
 use Rattle.history.specs.History.{History}
 use Rattle.row_change.specs.Succession.{KeepsVersions}
 use Rattle.stores.specs.Stand.{Stands}
@@ -22,6 +22,6 @@ IsDecided stores caller g t d = (h : History) → Stands stores h → decided h 
 -- statement stops
 abbrev pub IsTurn : Changing → List (List ℕ) → Result Turn Stop → (old new : Stores) → Caller → Found → TargetRow → (changed : ℕ) → Type 0
 IsTurn change names (Ok (Counted n)) old new c g t k =
-    ((ts : List TargetRow) → IsRun g (λ (m : ℕ). m) (Ok n) old new c (one_changed change names c g ts t k)) × (new ≡ record old { rows = new.rows }) × KeepsVersions old.rows new.rows
+    ((ts : List TargetRow) → IsRun g (λ (m : ℕ). m) (Ok n) old new c (one_changed change names c g ts t k)) × (new ≡ record old { rows = new.rows }) × KeepsVersions old.rows new.rows × (n ≤ k + 1)
 IsTurn change names (Ok (Waits other)) old new c g t k = (new ≡ old) × IsDecided old c g t (WaitsFor other) × (other ≢ c.session) × (other < 128)
 IsTurn change names (Err e) old new c g t k = (ts : List TargetRow) → IsRun g (λ (m : ℕ). m) (Err e) old new c (one_changed change names c g ts t k)

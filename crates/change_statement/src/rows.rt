@@ -1,6 +1,6 @@
 //! The rows of an UPDATE or a DELETE, one after the other.
 
-ghost use Rattle.std.specs.Prelude.{◌≡◌, All, IfOk, Some, None, slice_index_or};
+ghost use Rattle.std.specs.Prelude.{◌≡◌, All, IfOk, Some, None, length, slice_index_or};
 ghost use Rattle.history.specs.History.{History};
 ghost use Rattle.tx_table.specs.Stands.{TableStands};
 ghost use Rattle.change_statement.specs.Verdicts.{updater_meant};
@@ -12,7 +12,7 @@ ghost use Rattle.statement_steps.specs.Attempts.{MayAttempt};
 ghost use Rattle.statement_steps.specs.Ended.{giving};
 ghost use Rattle.change_statement.specs.Changed as changed_spec;
 ghost use Rattle.change_statement.specs.Changing.{changing};
-ghost use Rattle.statement_steps.specs.Gathered.{found_of};
+ghost use Rattle.statement_steps.specs.Gathered.{CanBeCounted, found_of};
 ghost use Rattle.change_statement.specs.Running.{IsGathered, IsRun, IsTargetIn, MayRun};
 ghost use Rattle.change_statement.specs.Turns.{IsTurn};
 
@@ -69,11 +69,9 @@ fn change_row(
 ) -> Result<Turn, Stop>
     requires may { MayRun (found_of gathered.now) stores.old caller }
     requires target { IsTargetIn stores.old.rows (found_of gathered.now) target }
+    requires few { CanBeCounted changed 1 }
     ensures { IsTurn (changing change.entry caller (found_of gathered.now)) names.now result stores.old stores.new caller (found_of gathered.now) target changed }
 {
-    let Some(next) = changed.checked_add(1) else {
-        return Err(Stop::NoMemory);
-    };
     let updater = updater(stores, caller, gathered);
     match decide(&stores.rows, &stores.txs, &updater, target.id) {
         Verdict::Change(seen) => {
@@ -82,11 +80,11 @@ fn change_row(
                 Change::Update(_) => {
                     let row = renew(alloc, &stores.catalog, gathered, seen.row)?;
                     store(alloc, stores, caller, gathered, target.leaf, id, row)?;
-                    Ok(Turn::Counted(next))
+                    Ok(Turn::Counted(changed + 1))
                 }
                 Change::Delete(_) => {
                     end_row(stores, caller, gathered, id);
-                    Ok(Turn::Counted(next))
+                    Ok(Turn::Counted(changed + 1))
                 }
             }
         }
@@ -115,6 +113,7 @@ pub(crate) fn change_rows(
 ) -> Result<ChangedRows, Stop>
     requires may { MayRun (found_of gathered) stores.old caller }
     requires targets { All (IsTargetIn stores.old.rows (found_of gathered)) targets.now }
+    requires few { CanBeCounted changed (length targets.now) }
     ensures { IsRun (found_of gathered) changed_spec.told_by result stores.old stores.new caller (λ h. giving (changed_spec.told_of (found_of gathered)) (changed_spec.all_changed (changing change.entry caller (found_of gathered)) names.now caller (found_of gathered) targets.now changed h)) }
 {
     let mut left = targets;

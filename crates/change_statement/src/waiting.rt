@@ -1,8 +1,8 @@
 //! A row that another transaction is changing.
 
-ghost use Rattle.std.specs.Prelude.{◌≡◌, ◌≢◌, ◌<◌, All, Err};
+ghost use Rattle.std.specs.Prelude.{◌≡◌, ◌≢◌, ◌<◌, All, Err, length};
 ghost use Rattle.statement_steps.specs.Attempts.{MayAttempt};
-ghost use Rattle.statement_steps.specs.Gathered.{found_of};
+ghost use Rattle.statement_steps.specs.Gathered.{CanBeCounted, found_of};
 ghost use Rattle.statement_steps.specs.Steps.{IsPart};
 ghost use Rattle.change_statement.specs.Changed as changed_spec;
 ghost use Rattle.change_statement.specs.Running.{IsRun, IsTargetIn, MayRun};
@@ -60,6 +60,7 @@ pub(crate) fn pause(
     requires another { other ≢ caller.session }
     requires known { other < 128 }
     requires left { All (IsTargetIn stores.old.rows (found_of gathered)) left.now }
+    requires few { CanBeCounted changed (length left.now) }
     ensures { IsRun (found_of gathered) (λ u. u) (Err result) stores.old stores.new caller (λ h. changed_spec.paused names.now caller other (standing_spec.standing h caller (found_of gathered) left.now changed) h) }
 {
     let Some(cmd) = caller.cmd.checked_add(1) else {

@@ -1,5 +1,6 @@
 -- What a command of the session's transaction does to the catalogue and to the leaves.
-use Rattle.std.proofs.Common.{◌≡◌, ◌≢◌, ℕ, ◌+◌, ◌<◌, List, [], ◌∷◌, ◌++◌, refl, sym, ap, ◌∙◌, subst, arith, append-nil, Option, Some, Ok, Err, All, unwrap_or}
+use Rattle.std.proofs.Common.{◌≡◌, ◌≢◌, ℕ, ◌+◌, ◌<◌, ◌≤◌, List, [], ◌∷◌, ◌++◌, refl, sym, ap, ◌∙◌, subst, arith, append-nil, Option, Some, Ok, Err, All, length, unwrap_or}
+use Rattle.std.proofs.lemmas.List.{length-append}
 use Rattle.std.proofs.lemmas.List.Elements.{All-nil, All-cons}
 use Rattle.pg_values.specs.declared.fault.Fault.{Fault}
 use Rattle.pg_values.specs.declared.fault.Refusal.{Refusal}
@@ -7,9 +8,9 @@ use Rattle.pg_values.specs.declared.fault.Refusal.TheVariants.{Sql, NoMemory}
 use Rattle.pg_values.specs.declared.ids.TableNo.{TableNo}
 use Rattle.history.specs.Transactions.{TxEvents, IsRunning, IsSound, open_of}
 use Rattle.history.specs.Locks.{queue}
-use Rattle.history.specs.Rows.{LeafAdded, RowBorn, RowEnded}
-use Rattle.history.specs.Catalogue.{CatalogueEvent, TableMade, TableDropped, EntryAdded, EntryEnded, EntryMarked, CheckKept, catalogue_command}
-use Rattle.history.specs.History.{Event, History, TxChange, SnapshotChange, RowChange, LockChange, CatalogueChange, tx_events, snapshot_events, lock_events}
+use Rattle.history.specs.Rows.{LeafAdded, RowBorn, RowEnded, leaf_count}
+use Rattle.history.specs.Catalogue.{CatalogueEvent, TableMade, TableDropped, EntryAdded, EntryEnded, EntryMarked, CheckKept, catalogue_command, tables_made}
+use Rattle.history.specs.History.{Event, History, TxChange, SnapshotChange, RowChange, LockChange, CatalogueChange, tx_events, snapshot_events, row_events, catalogue_events, lock_events}
 use Rattle.history.specs.Legal.{IsNotAfter, IsInOrder}
 use Rattle.history.proofs.Open.{open_runs}
 use Rattle.tx_table.specs.Stands.{StandsFor}
@@ -19,6 +20,7 @@ use Rattle.row_store.specs.Stands.{StoreStands}
 use Rattle.part_catalog.specs.Kept.{KeptCatalogue}
 use Rattle.part_catalog.specs.Stands.{CatalogueStands}
 use Rattle.part_ddl.specs.Made.{made_by, IsMade}
+use Rattle.part_ddl.proofs.Making.{table_count}
 use Rattle.legal_statements.specs.Follows.{MayFollow}
 use Rattle.stores.specs.Good.{IsActing, IsHoused, IsGood}
 use Rattle.stores.specs.Numbers.{IsEarlier, IsBefore, IsAt}
@@ -132,6 +134,39 @@ in_order_after t cmd (RowChange (RowBorn v) ∷ es) h done order = absurd done.0
 in_order_after t cmd (RowChange (RowEnded k e) ∷ es) h done order = absurd done.0
 in_order_after t cmd (CatalogueChange e ∷ es) h done order = (catalogue_after t cmd e done.0, in_order_after t cmd es h done.1 order)
 
+-- ---- how many leaves and tables there are then
+
+leaves_on : (es h : History) → leaf_count (row_events (es ++ h)) ≡ leaf_count (row_events es) + leaf_count (row_events h)
+leaves_on [] h = refl
+leaves_on (TxChange e ∷ es) h = leaves_on es h
+leaves_on (SnapshotChange e ∷ es) h = leaves_on es h
+leaves_on (LockChange e ∷ es) h = leaves_on es h
+leaves_on (RowChange (LeafAdded l) ∷ es) h = let on = leaves_on es h in omega (arith, on)
+leaves_on (RowChange (RowBorn v) ∷ es) h = leaves_on es h
+leaves_on (RowChange (RowEnded k e) ∷ es) h = leaves_on es h
+leaves_on (CatalogueChange e ∷ es) h = leaves_on es h
+
+tables_on : (es h : History) → length (tables_made (catalogue_events (es ++ h))) ≡ length (tables_made (catalogue_events es)) + length (tables_made (catalogue_events h))
+tables_on [] h = refl
+tables_on (TxChange e ∷ es) h = tables_on es h
+tables_on (SnapshotChange e ∷ es) h = tables_on es h
+tables_on (LockChange e ∷ es) h = tables_on es h
+tables_on (RowChange e ∷ es) h = tables_on es h
+tables_on (CatalogueChange (TableMade t) ∷ es) h =
+    let on = tables_on es h in
+    let more = length-append (tables_made (catalogue_events (es ++ h))) (t ∷ []) in
+    let own = length-append (tables_made (catalogue_events es)) (t ∷ []) in
+    omega (arith, on, more, own)
+tables_on (CatalogueChange (TableDropped k s) ∷ es) h = tables_on es h
+tables_on (CatalogueChange (EntryAdded e) ∷ es) h = tables_on es h
+tables_on (CatalogueChange (EntryEnded k s) ∷ es) h = tables_on es h
+tables_on (CatalogueChange (EntryMarked k s) ∷ es) h = tables_on es h
+tables_on (CatalogueChange (CheckKept c) ∷ es) h = tables_on es h
+
+-- each leaf that they add is that of a table
+abbrev pub HaveTables : List Event → Type 0
+HaveTables es = leaf_count (row_events es) ≤ length (tables_made (catalogue_events es))
+
 -- ---- they are good
 
 acting : (txs : TxEvents) (t cmd : ℕ) (c : Option (ℕ × ℕ)) → c ≡ Some (t, cmd) → IsRunning txs t → IsActing txs c
@@ -168,8 +203,20 @@ pub record IsDeed (rows : KeptRows) (catalog : KeptCatalogue) (t cmd : ℕ) (es 
   pub done : Each (IsDone t cmd) es
   pub may : MayFollow es h
   pub housed : AreHoused es h
+  pub leaves : HaveTables es
   pub catalogue : CatalogueStands catalog (es ++ h)
   pub store : StoreStands rows (es ++ h)
+
+leaves_few : (old : Stores) (rows : KeptRows) (catalog : KeptCatalogue) (es : List Event) (h : History) → Stands old h → HaveTables es → CatalogueStands catalog (es ++ h) → StoreStands rows (es ++ h) → rows.leaves ≤ length catalog.tables
+leaves_few old rows catalog es h stands have cats store =
+    let few = stands.leaves in
+    let rows_were = stands.all.rows.leaves in
+    let rows_are = store.leaves in
+    let tables_were = table_count old.catalog h stands.all.catalog in
+    let tables_are = table_count catalog (es ++ h) cats in
+    let leaves = leaves_on es h in
+    let tables = tables_on es h in
+    omega (arith, few, have, rows_were, rows_are, tables_were, tables_are, leaves, tables)
 
 pub deed_stands : (old : Stores) (rows : KeptRows) (catalog : KeptCatalogue) (s t cmd : ℕ) (es : List Event) (h : History) → Stands old h → open_of (tx_events h) s ≡ Some t → IsDeed rows catalog t cmd es h → Stands (record old { rows = rows; catalog = catalog }) (es ++ h)
 deed_stands old rows catalog s t cmd es h stands own deed =
@@ -183,6 +230,7 @@ deed_stands old rows catalog s t cmd es h stands own deed =
         locks = subst (LocksFor old.locks) (sym q.locks) stands.all.locks;
       };
       good = done_good t cmd es h deed.done deed.may deed.housed (open_runs (tx_events h) s t stands.all.txs.sound own) stands.good;
+      leaves = leaves_few old rows catalog es h stands deed.leaves deed.catalogue deed.store;
     }
 
 -- the history went on by what was done so far

@@ -115,6 +115,7 @@ deed_of rows catalog t by n cmd k None st h mine own number first second stands 
   done = (ap (λ (m : ℕ). Some (m, st.cmd)) own ∙ ap (λ (m : ℕ). Some (n, m)) number, tt);
   may = (second.0, tt);
   housed = (tt, tt);
+  leaves = omega arith;
   catalogue = stands;
   store = record { sound = store.sound; births = store.births; ends = store.ends; leaves = store.leaves; room = store.room };
 }
@@ -122,6 +123,7 @@ deed_of rows catalog t by n cmd k (Some c) st h mine own number first second sta
   done = (ap (λ (m : ℕ). Some (m, st.cmd)) own ∙ ap (λ (m : ℕ). Some (n, m)) number, (ap (λ (m : ℕ). Some (m, cmd)) mine, tt));
   may = (second.0, first);
   housed = (tt, (tt, tt));
+  leaves = omega arith;
   catalogue = stands;
   store = record { sound = store.sound; births = store.births; ends = store.ends; leaves = store.leaves; room = store.room };
 }

@@ -1,5 +1,5 @@
 -- The entry by which a table is a partition ends.
-use Rattle.std.proofs.Common.{◌≡◌, ◌≢◌, ℕ, ◌+◌, List, [], ◌∷◌, inl, inr, sym, ap, ◌∙◌, subst, Option, Some, None, Ok}
+use Rattle.std.proofs.Common.{◌≡◌, ◌≢◌, ℕ, ◌+◌, List, [], ◌∷◌, inl, inr, sym, ap, ◌∙◌, subst, arith, Option, Some, None, Ok}
 use Rattle.std.specs.List.{Contains}
 use Rattle.pg_values.specs.declared.ids.TableNo.{TableNo}
 use Rattle.history.specs.declared.transaction.TxId.{TxId}
@@ -132,6 +132,7 @@ module _ (laws : LeaveLaws) (stores : Stores) (caller : Caller) (by : TxId) (p :
         done = (ap (λ (m : ℕ). Some (m, caller.cmd)) (own_number h s n its), tt);
         may = laws.follow h s st (e.id.number ∷ []) [] (legal_of h stands.good) (permitted_of h stands.good) (may_end h stands at n its e (over_present h s t p a) a.parent);
         housed = (tt, tt);
+        leaves = omega arith;
         catalogue = subst (λ (x : TxId). CatalogueStands catalog (CatalogueChange (EntryEnded e.id.number (record { by = x; cmd = caller.cmd })) ∷ h)) (own_is h s by (mine h stands.all.txs)) (ends h e stands.all.txs stands.all.catalog between);
         store = record { sound = rows.sound; births = rows.births; ends = rows.ends; leaves = rows.leaves; room = rows.room };
       })

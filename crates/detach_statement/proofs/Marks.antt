@@ -200,6 +200,7 @@ module _ (laws : MarkLaws) (stores : Stores) (caller : Caller) (by : TxId) (p : 
         done = (ap (λ (m : ℕ). Some (m, caller.cmd)) (own_number h s n its), tt);
         may = laws.follow h s e st (legal_of h stands.good) (permitted_of h stands.good) (is_new h stands at n its e (over_present h s t p a) a.parent);
         housed = (tt, tt);
+        leaves = omega arith;
         catalogue = subst (λ (x : TxId). CatalogueStands catalog (CatalogueChange (EntryMarked e.id.number (record { by = x; cmd = caller.cmd })) ∷ h)) (own_is h s by (mine h stands.all.txs)) (tells h e stands.all.txs stands.all.catalog owned);
         store = record { sound = rows.sound; births = rows.births; ends = rows.ends; leaves = rows.leaves; room = rows.room };
       })

@@ -72,11 +72,11 @@ all_births by cmd faults P (l ∷ ls) (r ∷ rs) h each =
 -- ---- what they leave as it was
 
 pub quiet : (vs : List Version) (h : History) → Quiet (rows_born vs ++ h) h
-quiet [] h = record { txs = refl; snapshots = refl; locks = refl; catalogue = refl; sound = λ s. s }
+quiet [] h = record { txs = refl; snapshots = refl; locks = refl; catalogue = refl; leaves = refl; sound = λ s. s }
 quiet (v ∷ vs) h =
     let q = quiet vs (RowChange (RowBorn v) ∷ h) in
     subst (λ g. Quiet g h) (sym (append_assoc (rows_born vs) (RowChange (RowBorn v) ∷ []) h))
-    (record { txs = q.txs; snapshots = q.snapshots; locks = q.locks; catalogue = q.catalogue; sound = q.sound })
+    (record { txs = q.txs; snapshots = q.snapshots; locks = q.locks; catalogue = q.catalogue; leaves = q.leaves; sound = q.sound })
 
 -- ---- they are good, and of one command
 

@@ -99,7 +99,11 @@ born_on old rows h s tx cmd by targets ls rs events may b is stands at mine runn
     let follow = new_rows_may_follow h s may.table may.look tx cmd b.rows (legal_of h stands.good) (permitted_of h stands.good) (new_rows h s tx cmd by targets ls rs events may b is mine at) in
     let by_it : (v : Version) → Contains b.rows v → v.by.number ≡ tx = λ v in_rows. (b.each v in_rows).0 ∙ is in
     record {
-      stands = record { all = stored_stand old rows (rows_born b.rows ++ h) h q store stands.all; good = good_rows b.rows h tx follow by_it running stands.good };
+      stands = record {
+        all = stored_stand old rows (rows_born b.rows ++ h) h q store stands.all;
+        good = good_rows b.rows h tx follow by_it running stands.good;
+        leaves = (let few = stands.leaves in let now = store.leaves in let was = stands.all.rows.leaves in let same = q.leaves in omega (arith, few, now, was, same));
+      };
       at = at_later b.rows h s tx cmd mine (λ v in_rows. (b.each v in_rows).1) at;
       others = λ r n other at_it. others_stay b.rows h s r tx n stands.all.txs.sound mine by_it other at_it;
       since = λ r other. since_born b.rows h r;

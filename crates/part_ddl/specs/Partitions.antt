@@ -1,5 +1,5 @@
 -- A table that is made as a partition (the manual, CREATE TABLE, PARTITION OF).
-use Rattle.std.specs.Prelude.{◌≡◌, ◌<◌, ℕ, List, [], ◌∷◌, Option, length}
+use Rattle.std.specs.Prelude.{◌≡◌, ◌<◌, ◌≤◌, ℕ, List, [], ◌∷◌, Option, length}
 use Rattle.bound_forms.specs.declared.level.Level.{Level}
 use Rattle.bound_forms.specs.declared.partition_bound.Bound.{Bound}
 use Rattle.history.specs.declared.transaction.TxId.{TxId}
@@ -35,7 +35,7 @@ made_partition h name parent b level by cmd = made_by (count_faults h) (next_tab
 
 -- the stores stand for a history in which the parent takes the bound, nothing stands against a further partition of one
 -- table with this bound, key columns lie among the parent's columns, and the entries that are present for the session of
--- the transaction are siblings
+-- the transaction are siblings; and there are no more leaves than tables
 pub record MayMake (table : KeptTable) (kept : KeptCatalogue) (store : KeptRows) (parent : ℕ) (b : Bound) (level : Option Level) (by : TxId) : Type 0 where
   pub h : History
   pub txs : TableStands table h
@@ -46,3 +46,4 @@ pub record MayMake (table : KeptTable) (kept : KeptCatalogue) (store : KeptRows)
   pub keys : KeysFit (made_at h parent).columns level
   pub siblings : AreSiblings (entries_present h (session_of (tx_events h) by.number))
   pub place : place_faults h (session_of (tx_events h) by.number) parent b 1 ≡ []
+  pub leaves : store.leaves ≤ length kept.tables

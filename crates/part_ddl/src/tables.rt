@@ -1,4 +1,4 @@
-ghost use Rattle.std.specs.Prelude.{◌≡◌, ◌++◌, List, IfOk};
+ghost use Rattle.std.specs.Prelude.{◌≡◌, ◌<◌, ◌≤◌, ◌++◌, List, IfOk, length};
 ghost use Rattle.pg_values.specs.Refusals.{IsAnswer, or_first};
 ghost use Rattle.history.specs.declared.catalogue.Column.{Column as OneColumn};
 ghost use Rattle.history.specs.History.{History};
@@ -18,6 +18,7 @@ use std::alloc::Global;
 
 // The level of a partitioned table, or a leaf for the rows of one that is not.
 fn shape_for(rows: &mut RowStore, level: Option<Level>) -> Result<TableShape, NoMemory>
+    requires { rows.old.leaves < 4294967296 }
     ensures made { IfOk result (λ shape. (h : History) → StoreStands rows.old h →
         (shape ≡ shape_of h level) × StoreStands rows.new (leaf_events h level ++ h)) }
     ensures keys { IfOk result (λ shape. (columns : List OneColumn) → KeysFit columns level → KeysLieIn columns shape) }
@@ -54,7 +55,8 @@ pub fn make_table(
     by: TxId,
     cmd: u32,
 ) -> Result<TableNo, Refusal>
-    requires { KeysFit columns level }
+    requires keys { KeysFit columns level }
+    requires leaves { rows.old.leaves ≤ length catalog.old.tables }
     ensures { (h : History) → CatalogueStands catalog.old h → StoreStands rows.old h →
         IsMade result catalog.new rows.new h (made_table h name columns level by cmd) }
 {

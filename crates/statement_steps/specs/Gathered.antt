@@ -1,6 +1,6 @@
 -- What an UPDATE or a DELETE has before it looks at rows, and where it stands when it waits for one (the manual, UPDATE;
 -- DELETE; 13.2.1 Read Committed Isolation Level).
-use Rattle.std.specs.Prelude.{◌≡◌, ℕ, ◌<◌, ◌==◌, ◌||◌, Bool, true, false, List, Some, All, slice_get}
+use Rattle.std.specs.Prelude.{◌≡◌, ℕ, ◌+◌, ◌<◌, ◌==◌, ◌||◌, Bool, true, false, List, Some, All, slice_get}
 use Rattle.std.specs.List.{Contains, list_any}
 use Rattle.pg_values.specs.declared.ids.LeafId.{LeafId}
 use Rattle.pg_values.specs.declared.ids.TableNo.{TableNo}
@@ -82,6 +82,10 @@ pub record RowsLeft : Type 0 where
   pub found : Found
   pub left : List TargetRow
   pub changed : ℕ
+
+-- a number of 64 bits tells how many rows are changed, whatever becomes of those that are left
+abbrev pub CanBeCounted : (changed left : ℕ) → Type 0
+CanBeCounted changed left = changed + left < 18446744073709551616
 
 -- the version is there, and has the leaf, which is one of those that are read
 pub record IsTargetAt (h : History) (g : Found) (t : TargetRow) : Type 0 where

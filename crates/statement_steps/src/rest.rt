@@ -1,5 +1,5 @@
-ghost use Rattle.std.specs.Prelude.{◌≡◌};
-ghost use Rattle.statement_steps.specs.Gathered.{found_of};
+ghost use Rattle.std.specs.Prelude.{◌≡◌, length};
+ghost use Rattle.statement_steps.specs.Gathered.{CanBeCounted, found_of};
 
 use crate::Gathered;
 use history::TxId;
@@ -25,8 +25,9 @@ pub struct RestOfRows {
 
 impl Model for RestOfRows {
     ghost use Rattle.std.specs.Coded.{codes};
+    ghost use Rattle.std.specs.Prelude.{length};
     ghost use Rattle.statement_steps.specs.Codes.{asked_code, cond_code, found_code, left_code, scalar_code, table_code};
-    ghost use Rattle.statement_steps.specs.Gathered.{RowsLeft, found_of};
+    ghost use Rattle.statement_steps.specs.Gathered.{CanBeCounted, RowsLeft, found_of};
 
     ghost Value = { RowsLeft };
 
@@ -36,10 +37,13 @@ impl Model for RestOfRows {
         (Prim.hlevel codes) };
 
     ghost view = { λ r. record { by = r.by; found = found_of r.gathered; left = r.left.items; changed = r.changed } };
+
+    ghost invariant = { λ r. CanBeCounted r.changed (length r.left.items) };
 }
 
 impl RestOfRows {
     pub fn new(by: TxId, gathered: Gathered, left: Vec<TargetRow>, changed: u64) -> Self
+        requires { CanBeCounted changed (length left.items) }
         ensures { result ≡ record { by = by; found = found_of gathered; left = left.items; changed = changed } }
     {
         RestOfRows {
@@ -62,6 +66,7 @@ impl RestOfRows {
         ensures found { found_of result.0 ≡ self.found }
         ensures left { result.1.items ≡ self.left }
         ensures changed { result.2 ≡ self.changed }
+        ensures few { CanBeCounted result.2 (length result.1.items) }
     {
         (self.gathered, self.left, self.changed)
     }

@@ -28,7 +28,9 @@ fn a_full_store_hands_the_row_back(rt: HostRuntime) -> Result<(), NoMemory> {
     let alloc = rt.alloc();
     let mut txs = TxTable::new(alloc, 1)?;
     let mut store = RowStore::new(alloc)?;
-    store.add_leaf()?;
+    if store.leaf_count() == 0 {
+        store.add_leaf()?;
+    }
     if txs.sessions() > 0 && txs.open_of(0).is_none() {
         txs.begin(0)?;
     }

@@ -248,7 +248,7 @@ fn run(
             txs.drop_held(step.session);
             b'+'
         }
-        b'l' => {
+        b'l' if store.leaf_count() < u32::MAX as usize => {
             write_number(u64::from(store.add_leaf()?.number), out)?;
             b'l'
         }

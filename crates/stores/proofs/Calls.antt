@@ -1,5 +1,5 @@
 -- After a call all four stores stand for the history with the call's events, and it stays a good one.
-use Rattle.std.proofs.Common.{◌≡◌, ℕ, false, true, List, [], ◌∷◌, ◌++◌, refl, sym, ap, subst, ◌∙◌, Option, Some, None, unwrap_or, Result, Ok, Err, IfOk, OnOk, IsSome, slice_index_or, slice_set}
+use Rattle.std.proofs.Common.{◌≡◌, ◌≤◌, ℕ, false, true, List, [], ◌∷◌, ◌++◌, refl, sym, ap, subst, ◌∙◌, Option, Some, None, unwrap_or, Result, Ok, Err, IfOk, OnOk, IsSome, length, slice_index_or, slice_set}
 use Rattle.history.specs.declared.wait.Wanted.{Wanted}
 use Rattle.history.specs.declared.wait.Wanted.TheVariants.{Lock, Others}
 use Rattle.history.specs.declared.transaction.Fate.{Fate}
@@ -57,8 +57,8 @@ pub begun_stand : (old : Stores) (txs : KeptTable) (s n : ℕ) → ((h : History
 begun_stand old txs s n added number h st =
     after_tx old txs (TxBegan s (next_tx (tx_events h))) h (subst (λ (m : ℕ). TableStands txs (TxChange (TxBegan s m) ∷ h)) (number h st.txs) (added h st.txs)) st
 
-begun_good : (new : Stores) (s : ℕ) (h : History) → AllStand new (begun h s ++ h) → IsGood h → Stands new (begun h s ++ h)
-begun_good new s h st good = record { all = st; good = tx_good (TxBegan s (next_tx (tx_events h))) h st.txs.sound tt good }
+begun_good : (new : Stores) (s : ℕ) (h : History) → AllStand new (begun h s ++ h) → IsGood h → new.rows.leaves ≤ length new.catalog.tables → Stands new (begun h s ++ h)
+begun_good new s h st good leaves = record { all = st; good = tx_good (TxBegan s (next_tx (tx_events h))) h st.txs.sound tt good; leaves = leaves }
 
 pub begun_adds : {E : Type 0} (old : Stores) (txs : KeptTable) (s : ℕ) (r : Result TxId E) → IfOk r (λ tx. (h : History) → TableStands old.txs h → TableStands txs (TxChange (TxBegan s tx.number) ∷ h)) → IfOk r (λ tx. (h : History) → TableStands old.txs h → tx.number ≡ next_tx (tx_events h))
     → OnOk r (Adds old (record old { txs = txs }) (λ h. begun h s))
@@ -67,7 +67,7 @@ begun_adds old txs s (Err e) added number = tt
 
 pub begun_adds_good : {E : Type 0} (old : Stores) (txs : KeptTable) (s : ℕ) (r : Result TxId E) → IfOk r (λ tx. (h : History) → TableStands old.txs h → TableStands txs (TxChange (TxBegan s tx.number) ∷ h)) → IfOk r (λ tx. (h : History) → TableStands old.txs h → tx.number ≡ next_tx (tx_events h))
     → OnOk r (AddsGood old (record old { txs = txs }) (λ h. begun h s))
-begun_adds_good old txs s (Ok tx) added number = λ (h : History) (st : Stands old h). begun_good (record old { txs = txs }) s h (begun_stand old txs s tx.number added number h st.all) st.good
+begun_adds_good old txs s (Ok tx) added number = λ (h : History) (st : Stands old h). begun_good (record old { txs = txs }) s h (begun_stand old txs s tx.number added number h st.all) st.good st.leaves
 begun_adds_good old txs s (Err e) added number = tt
 
 -- ---- snapshots
@@ -157,8 +157,3 @@ ended_current old mid new s t f is dropped ended h st =
     let own : slice_index_or old.owners t 0 ≡ s = st.owners t ∙ owner_told old s t h is st in
     ap (λ (k : KeptTable). k.current) ended
     ∙ (ap (λ (k : KeptTable). slice_set k.current (slice_index_or k.owners t 0) None) dropped ∙ ap (λ (i : ℕ). slice_set old.current i None) own)
-
--- ---- the history stays good
-
-pub stays_good : (old new : Stores) (events : History → List Event) → ((h : History) → AllStand old h → AllStand new (events h ++ h)) → ((h : History) → AllStand new (events h ++ h) → IsGood h → IsGood (events h ++ h)) → (h : History) → Stands old h → Stands new (events h ++ h)
-stays_good old new events stand good h st = record { all = stand h st.all; good = good h (stand h st.all) st.good }

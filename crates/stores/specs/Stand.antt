@@ -1,5 +1,5 @@
 -- When the stores of a run stand for its history.
-use Rattle.std.specs.Prelude.{◌≡◌, ℕ, ◌<◌, List, ◌++◌, None, IsSome, length, slice_index_or}
+use Rattle.std.specs.Prelude.{◌≡◌, ℕ, ◌<◌, ◌≤◌, List, ◌++◌, None, IsSome, length, slice_index_or}
 use Rattle.history.specs.History.{Event, History}
 use Rattle.tx_table.specs.Stands.{TableStands}
 use Rattle.row_store.specs.Stands.{StoreStands}
@@ -15,10 +15,11 @@ pub record AllStand (stores : Stores) (h : History) : Type 0 where
   pub catalog : CatalogueStands stores.catalog h
   pub locks : LocksStand stores.locks h
 
--- and each event of it might come
+-- and each event of it might come, and there are no more leaves than tables
 pub record Stands (stores : Stores) (h : History) : Type 0 where
   pub all : AllStand stores h
   pub good : IsGood h
+  pub leaves : stores.rows.leaves ≤ length stores.catalog.tables
 
 -- there is such a history
 pub record IsSound (stores : Stores) : Type 0 where

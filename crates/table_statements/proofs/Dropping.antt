@@ -47,7 +47,7 @@ use Rattle.statement_steps.proofs.Owned.{own_number}
 use Rattle.table_statements.specs.Asked.{MayDropTable, IsGoing, MayGo}
 use Rattle.table_statements.specs.Drops.{is_meant_still, is_left, dropped_one}
 use Rattle.ddl_steps.proofs.Below.{found_in, mapped_in, from_numbers, same_number}
-use Rattle.ddl_steps.proofs.Deeds.{Each, IsDone, AreHoused, IsDeed, quiet, in_order_after, deed_stands}
+use Rattle.ddl_steps.proofs.Deeds.{Each, IsDone, AreHoused, HaveTables, IsDeed, quiet, in_order_after, deed_stands}
 use Rattle.table_statements.proofs.Ends.{each_gone, drop_same}
 use Rattle.ddl_steps.proofs.Locks.{held_at_history}
 
@@ -73,6 +73,19 @@ ending_housed (CatalogueChange (CheckKept c)) h is = absurd is
 endings_housed : (es : List Event) (h : History) → Each IsEnding es → AreHoused es h
 endings_housed [] h each = tt
 endings_housed (e ∷ es) h each = (ending_housed e (es ++ h) each.0, endings_housed es h each.1)
+
+endings_leave : (es : List Event) → Each IsEnding es → HaveTables es
+endings_leave [] each = omega arith
+endings_leave (TxChange e ∷ es) each = absurd each.0
+endings_leave (SnapshotChange e ∷ es) each = absurd each.0
+endings_leave (RowChange e ∷ es) each = absurd each.0
+endings_leave (LockChange e ∷ es) each = absurd each.0
+endings_leave (CatalogueChange (TableMade t) ∷ es) each = absurd each.0
+endings_leave (CatalogueChange (TableDropped k s) ∷ es) each = endings_leave es each.1
+endings_leave (CatalogueChange (EntryAdded e) ∷ es) each = absurd each.0
+endings_leave (CatalogueChange (EntryEnded k s) ∷ es) each = endings_leave es each.1
+endings_leave (CatalogueChange (EntryMarked k s) ∷ es) each = absurd each.0
+endings_leave (CatalogueChange (CheckKept c) ∷ es) each = absurd each.0
 
 -- the rows stay
 rows_stay : (rows : KeptRows) (es : List Event) (h : History) → Each IsEnding es → StoreStands rows h → StoreStands rows (es ++ h)
@@ -225,6 +238,7 @@ goes laws old catalog caller t by b test passes drops h stands going =
       done = drop_done caller t h by going.own;
       may = may_follow laws h caller t by stands.good going left;
       housed = endings_housed (drop_events h s t st) h ends;
+      leaves = endings_leave (drop_events h s t st) ends;
       catalogue = cats;
       store = rows_stay old.rows (drop_events h s t st) h ends stands.all.rows;
     } in

@@ -32,7 +32,7 @@ use Rattle.statement_steps.specs.Owned.{own}
 use Rattle.statement_steps.proofs.Owned.{own_number, IsOwn, own_is}
 use Rattle.table_statements.specs.Asked.{MayBeMade}
 use Rattle.table_statements.specs.Tables.{table_made}
-use Rattle.ddl_steps.proofs.Deeds.{Each, IsDone, AreHoused, IsDeed, deed_step, made_stands, not_made}
+use Rattle.ddl_steps.proofs.Deeds.{Each, IsDone, AreHoused, HaveTables, IsDeed, deed_step, made_stands, not_made}
 use Rattle.ddl_steps.proofs.Firsts.{few_tables}
 
 pub record TableLaws : Type 0 where
@@ -73,6 +73,10 @@ pub table_housed : (h : History) (name : List ℕ) (columns : List Column) (leve
 table_housed h name columns None by cmd few = (record { leaf = omega arith; few = few_tables h few }, (tt, tt))
 table_housed h name columns (Some level) by cmd few = (record { leaf = tt; few = few_tables h few }, tt)
 
+pub table_leaves : (h : History) (name : List ℕ) (columns : List Column) (level : Option OneLevel) (by : TxId) (cmd : ℕ) → HaveTables (table_events h name columns level by cmd)
+table_leaves h name columns None by cmd = omega arith
+table_leaves h name columns (Some level) by cmd = omega arith
+
 -- ---- the part
 
 table_deed : TableLaws → (rows : KeptRows) (catalog : KeptCatalogue) (h : History) (s t : ℕ) (name : List ℕ) (columns : List Column) (level : Option OneLevel) (cmd : ℕ) → IsGood h → IsAt h s cmd → open_of (tx_events h) s ≡ Some t → KeysFit columns level → MayBeMade h s name
@@ -85,6 +89,7 @@ table_deed laws rows catalog h s t name columns level cmd good at mine fit may s
       done = subst (λ (n : ℕ). Each (IsDone n cmd) (table_events h name columns level by cmd)) is (table_done h name columns level by cmd);
       may = table_may laws h s name columns level by cmd good (is_new h s name columns level by cmd at ours fit may);
       housed = table_housed h name columns level by cmd may.few;
+      leaves = table_leaves h name columns level by cmd;
       catalogue = stand.0;
       store = stand.1;
     }

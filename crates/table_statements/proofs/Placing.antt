@@ -72,7 +72,7 @@ use Rattle.table_statements.specs.Partitions.{partition_made}
 use Rattle.ddl_steps.proofs.Below.{entry_suits}
 use Rattle.ddl_steps.proofs.Beside.{IsApart, tree_same, tree_with, stands_apart}
 use Rattle.ddl_steps.proofs.Deeds.{Each, IsDone, IsDeed, deed_step, made_stands, not_made}
-use Rattle.table_statements.proofs.Fresh.{TableLaws, is_new, table_may, table_done, table_housed}
+use Rattle.table_statements.proofs.Fresh.{TableLaws, is_new, table_may, table_done, table_housed, table_leaves}
 use Rattle.ddl_steps.proofs.Locks.{held_at_history}
 use Rattle.ddl_steps.specs.Locks.{IsLockedNamed, HasDefaultLocked}
 
@@ -310,6 +310,7 @@ may_make siblings stores caller parent b level by may mine above placed =
       keys = can.keys;
       siblings = subst (λ (n : ℕ). AreSiblings (entries_present h n)) (sym owner) (siblings h s (legal_of h stands.good) (permitted_of h stands.good));
       place = subst (λ (n : ℕ). place_faults h n parent b 1 ≡ []) (sym owner) can.place;
+      leaves = stands.leaves;
     }
 
 -- ---- the part
@@ -343,6 +344,7 @@ partition_deed laws stores rows catalog h s t cmd parent name b level stands at 
       done = subst (λ (n : ℕ). Each (IsDone n cmd) (partition_events h name parent b level by cmd)) is (refl, table_done h name cols level by cmd);
       may = partition_may laws h s cmd parent name b level by ready tables;
       housed = (tt, table_housed h name cols level by cmd free.few);
+      leaves = table_leaves h name cols level by cmd;
       catalogue = stand.0;
       store = stand.1;
     }

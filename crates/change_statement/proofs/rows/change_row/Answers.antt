@@ -44,26 +44,26 @@ conflict_fault-requires c = tables_low c.args.stores.now c.args.caller (found_of
 
 pub returns-in-Delete : goal.returns-in-Delete
 returns-in-Delete c =
-    let g = found_of c.args.gathered.now in
-    let next : c.in-Some.next ≡ c.args.changed + 1 = search rules in (
-      is_changed (changing c.args.change c.args.caller g) c.args.names.now c.args.stores.now c.end_row.new.stores c.args.caller g c.args.target c.args.changed c.in-Some.next c.in-Change.seen.id c.in-Change.seen.row.now next c.requires.may
+    let g = found_of c.args.gathered.now in (
+      is_changed (changing c.args.change c.args.caller g) c.args.names.now c.args.stores.now c.end_row.new.stores c.args.caller g c.args.target c.args.changed (c.args.changed + 1) c.in-Change.seen.id c.in-Change.seen.row.now refl c.requires.may
           (decided_is c.args.stores.now c.args.caller g c.args.target (updater_meant c.updater-updater.result) (Changes c.in-Change.seen.id c.in-Change.seen.row.now) c.updater-updater.ensures.is c.in-Change.ensures.is)
           (subst (λ (ch : Change). IsRun g (λ (u : Unit {0}). u) (Ok tt) c.args.stores.now c.end_row.new.stores c.args.caller (changing ch c.args.caller g c.args.target.leaf c.in-Change.seen.id c.in-Change.seen.row.now)) (sym c.in-Delete.is) c.end_row.ensures.run),
       c.end_row.ensures.rest,
       c.end_row.ensures.keeps,
+      omega arith,
     )
 
 pub returns-in_ok-store-in-Update : goal.returns-in_ok-store-in-Update
 returns-in_ok-store-in-Update c =
     let g = found_of c.args.gathered.now in
-    let seen = c.in-Change.seen in
-    let next : c.in-Some.next ≡ c.args.changed + 1 = search rules in (
-      is_changed (changing c.args.change c.args.caller g) c.args.names.now c.args.stores.now c.store.new.stores c.args.caller g c.args.target c.args.changed c.in-Some.next seen.id seen.row.now next c.requires.may
+    let seen = c.in-Change.seen in (
+      is_changed (changing c.args.change c.args.caller g) c.args.names.now c.args.stores.now c.store.new.stores c.args.caller g c.args.target c.args.changed (c.args.changed + 1) seen.id seen.row.now refl c.requires.may
           (decided_is c.args.stores.now c.args.caller g c.args.target (updater_meant c.updater-updater.result) (Changes seen.id seen.row.now) c.updater-updater.ensures.is c.in-Change.ensures.is)
           (subst (λ (ch : Change). IsRun g (λ (u : Unit {0}). u) (Ok tt) c.args.stores.now c.store.new.stores c.args.caller (changing ch c.args.caller g c.args.target.leaf seen.id seen.row.now)) (sym c.in-Update.is)
           (updated_run c.in_ok-row-in-Update.row (Ok tt) c.args.stores.now c.store.new.stores c.args.caller g c.args.target.leaf seen.id seen.row.now c.requires.may c.in_ok-row-in-Update.ensures.is c.in_ok-store-in-Update.ensures.run)),
       c.store.ensures.rest,
       c.store.ensures.keeps,
+      omega arith,
     )
 
 pub returns-in_err-store-in-Update : goal.returns-in_err-store-in-Update
@@ -94,6 +94,7 @@ returns-in-Pass c =
           (decided_is c.args.stores.now c.args.caller g c.args.target (updater_meant c.updater-updater.result) PassesBy c.updater-updater.ensures.is c.in-Pass.ensures.is),
       refl,
       keeps_all c.args.stores.now.rows c.args.stores.now.rows refl,
+      omega arith,
     )
 
 pub returns-in-Wait : goal.returns-in-Wait
@@ -116,6 +117,3 @@ returns-in_err-fault-in-Refuse c =
     let g = found_of c.args.gathered.now in
     handed_turn (changing c.args.change c.args.caller g) c.args.names.now _ _ c.args.stores.now c.args.stores.now c.args.caller g c.args.target c.args.changed c.from_residual-in_err-fault-in-Refuse.ensures.1
     (is_out (changing c.args.change c.args.caller g) c.args.names.now c.args.stores.now c.args.caller g c.args.target c.args.changed)
-
-pub returns-in_default : goal.returns-in_default
-returns-in_default c = is_out (changing c.args.change c.args.caller (found_of c.args.gathered.now)) c.args.names.now c.args.stores.now c.args.caller (found_of c.args.gathered.now) c.args.target c.args.changed

@@ -1,4 +1,4 @@
-use Rattle.std.proofs.Common.{rules, ◌≡◌, ◌∷◌, [], Err, All, refl, sym, subst}
+use Rattle.std.proofs.Common.{rules, ◌≡◌, ◌∷◌, [], Err, All, ap, refl, sym, subst, arith, length}
 use Rattle.std.proofs.lemmas.List.Elements.{All-head}
 use Rattle.stores.specs.declared.stores.Stores.{Stores}
 use Rattle.statement_steps.specs.Gathered.{found_of}
@@ -11,7 +11,7 @@ use Rattle.change_statement.proofs.Runs.{counted_run, handed_run, stopped_run}
 use Rattle.change_statement.proofs.rows.change_rows.Goals as goal
 
 pub loop-target-init : goal.loop-target-init
-loop-target-init c = all_left c.requires.may c.requires.targets
+loop-target-init c = all_left c.requires.may c.requires.targets c.requires.few
 
 pub change_row-requires-clause-may : goal.change_row-requires-clause-may
 change_row-requires-clause-may c = c.loop-target.invariant.may
@@ -20,6 +20,13 @@ pub change_row-requires-clause-target : goal.change_row-requires-clause-target
 change_row-requires-clause-target c =
     let whole : c.loop-target.left.now ≡ c.in-Some.target.now ∷ c.in-Some.others.now = search rules in
     All-head (IsTargetIn c.loop-target.stores.rows (found_of c.args.gathered)) c.in-Some.target.now c.in-Some.others.now (subst (All (IsTargetIn c.loop-target.stores.rows (found_of c.args.gathered))) whole c.loop-target.invariant.all)
+
+pub change_row-requires-clause-few : goal.change_row-requires-clause-few
+change_row-requires-clause-few c =
+    let whole : c.loop-target.left.now ≡ c.in-Some.target.now ∷ c.in-Some.others.now = search rules in
+    let long = ap length whole in
+    let few = c.loop-target.invariant.few in
+    omega (arith, few, long)
 
 pub pause-requires-clause-may : goal.pause-requires-clause-may
 pause-requires-clause-may c = subst (λ (s : Stores). MayRun (found_of c.args.gathered) s c.args.caller) (sym (rw c.in-Waits.is at c.in_ok-turn.ensures).0) c.loop-target.invariant.may
@@ -32,6 +39,9 @@ pause-requires-clause-known c = (rw c.in-Waits.is at c.in_ok-turn.ensures).3
 
 pub pause-requires-clause-left : goal.pause-requires-clause-left
 pause-requires-clause-left c = subst (λ (s : Stores). All (IsTargetIn s.rows (found_of c.args.gathered)) c.loop-target.left.now) (sym (rw c.in-Waits.is at c.in_ok-turn.ensures).0) c.loop-target.invariant.all
+
+pub pause-requires-clause-few : goal.pause-requires-clause-few
+pause-requires-clause-few c = c.loop-target.invariant.few
 
 pub returns-in-Waits : goal.returns-in-Waits
 returns-in-Waits c =

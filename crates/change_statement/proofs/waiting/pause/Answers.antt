@@ -1,6 +1,6 @@
-use Rattle.std.proofs.Common.{rules, ◌≡◌, ◌+◌, Err, List, ap, sym, ◌∙◌, subst}
+use Rattle.std.proofs.Common.{rules, ◌≡◌, ◌+◌, Err, List, ap, sym, ◌∙◌, subst, length}
 use Rattle.statement_steps.specs.Attempts.{MayAttempt}
-use Rattle.statement_steps.specs.Gathered.{RowsLeft, found_of}
+use Rattle.statement_steps.specs.Gathered.{CanBeCounted, RowsLeft, found_of}
 use Rattle.statement_steps.specs.Steps.{IsPart}
 use Rattle.statement_steps.specs.declared.rest.TargetRow.{TargetRow}
 use Rattle.statement_steps.proofs.Parts.{stays}
@@ -20,6 +20,9 @@ unreachable-requires-in-Ok-wait_for_end c =
     let next : c.in-Some.cmd ≡ c.args.caller.cmd + 1 = search rules in
     let may = subst (λ n. MayAttempt c.args.stores.now (record c.args.caller { cmd = n })) (sym next) c.requires.may.may in
     has_to_pause c.args.names.now (record c.args.caller { cmd = c.in-Some.cmd }) c.args.other c.new-rest.result may.sound.0 c.requires.known (c.in-Ok-wait_for_end.ensures.is may.sound.0 may.sound.1 may.sound.2).0
+
+pub new-requires : goal.new-requires
+new-requires c = subst (λ (ts : List TargetRow). CanBeCounted c.args.changed (length ts)) (sym c.in-Ok.ensures) c.requires.few
 
 pub returns : goal.returns
 returns c =

@@ -2,6 +2,9 @@ use Rattle.statement_steps.proofs.Steps.{handed_on}
 use Rattle.table_statements.proofs.Fresh.{table_step, table_not_made}
 use Rattle.table_statements.proofs.tables.make_planned.Goals as goal
 
+pub make_table-requires-clause-leaves : goal.make_table-requires-clause-leaves
+make_table-requires-clause-leaves c = c.requires.may.sound.1.leaves
+
 pub returns : goal.returns
 returns c =
     table_step (record { leaf = c.new_leaf_may_follow.ensures; level = c.new_level_may_follow.ensures; housed = c.leaves_are_housed.ensures })

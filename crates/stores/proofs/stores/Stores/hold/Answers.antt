@@ -9,4 +9,5 @@ returns-in_ok-snap-clause-good c h st at =
     record {
       all = held_stand c.args.self.now c.hold.new.self c.args.session c.args.cmd c.in_ok-snap.snap none c.in_ok-snap.ensures.stands c.hold.ensures.added h st.all;
       good = held_stays_good c.args.self.now.txs c.args.session c.args.cmd h c.requires.open st.all.txs at st.good;
+      leaves = st.leaves;
     }

@@ -10,4 +10,5 @@ pub returns-clause-good : goal.returns-clause-good
 returns-clause-good c h st = record {
   all = lock_stand c.args.self.now c.resume.new.self (WaitResumed c.args.session) c.resume.ensures.added h st.all;
   good = resumed_good c.args.session h (c.requires.ready h st.all.locks) st.good;
+  leaves = st.leaves;
 }

@@ -10,4 +10,5 @@ pub returns-clause-good : goal.returns-clause-good
 returns-clause-good c h st = record {
   all = ask_stand c.args.self.now c.wait_on.new.self c.args.session (Others c.args.what) c.wait_on.result c.wait_on.ensures.added h st.all;
   good = wait_good c.wait_on.new.self c.args.session c.args.what c.wait_on.result h (c.wait_on.ensures.added h st.all.locks) st.good;
+  leaves = st.leaves;
 }

@@ -10,4 +10,5 @@ pub returns-clause-good : goal.returns-clause-good
 returns-clause-good c h st = record {
   all = lock_stand c.args.self.now c.withdraw.new.self (WaitWithdrawn c.args.session) c.withdraw.ensures.added h st.all;
   good = withdrawn_good c.args.session h st.good;
+  leaves = st.leaves;
 }
