@@ -28,10 +28,10 @@ use Rattle.detach_statement.specs.Concurrent.{detached_concurrently}
 use Rattle.detach_statement.specs.Detached.{detached}
 use Rattle.detach_statement.specs.Finalized.{finalized}
 use Rattle.attach_statement.specs.Attached.{attached}
-use Rattle.statement_runs.specs.Attempted.{Options, answer_text, attempted, changed_text, command_attempted, inserted_text, is_trailed, row_attempted, query_attempted, silent, tabled, printed, omitted, nothing, as_table}
+use Rattle.statement_runs.specs.Attempted.{answer_text, attempted, changed_text, command_attempted, inserted_text, is_trailed, row_attempted, query_attempted, silent, tabled, printed, omitted, nothing, as_table}
 use Rattle.statement_runs.specs.Database.{rest_told}
 use Rattle.statement_runs.specs.LeftOut.{command_word, query_word}
-use Rattle.statement_runs.specs.StatementWords.{statement_attempted, statement_words}
+use Rattle.statement_runs.specs.declared.options.Options.{Options}
 use Rattle.statement_ends.specs.Asking.{HasSessions, IsKnown, WaitsAsTold, MayAsk, Asks, AllAsk}
 use Rattle.statement_bounds.specs.Tables.{tables_named}
 use Rattle.statement_bounds.proofs.Parts.{Attempt, Told, Part, Parts, Gives, Any, Ends, refused_part, giving_part}
@@ -97,6 +97,7 @@ module _ (k : Attempt) (names : List (List ℕ)) where
   query_parts trailed prunes rest (explains_execute costs name values) = omitted_parts (query_word (explains_execute costs name values))
 
 attempted_parts : (k : Attempt) (o : Options) (rest : Option Rest) (g : Settings) → IsKnown rest → (t : StatementTree) → Parts k EndKnown (attempted o k.caller rest g t)
+unfolding attempted
 attempted_parts k o rest g known (commands t) = command_parts k o.names rest known t
 attempted_parts k o rest g known (queries t) = query_parts k o.names (is_trailed o k.caller) g.enable_partition_pruning rest t
 
@@ -106,12 +107,11 @@ module _ (come : WhatIsAskedMayCome) (o : Options) (c : Caller) (rest : Option R
   abbrev here : Attempt
   here = record { come = come; caller = c; catalogue = catalogue_events h; bound = tables_named (catalogue_events h); tables = tables_below (catalogue_events h); entries = entries_below (catalogue_events h) }
 
-  part : Part here EndKnown h (statement_attempted o c rest h g t)
-  unfolding statement_attempted
+  part : Part here EndKnown h (attempted o c rest g t h)
   part = attempted_parts here o rest g known t h (record { may = may; still = refl })
 
   abbrev later : History
-  later = (statement_attempted o c rest h g t).events ++ h
+  later = (attempted o c rest g t h).events ++ h
 
   told : (r : Result Ended Halt) → Told here EndKnown later r → WaitsAsTold tables_named c.session h later r
   told (Ok x) is = is.0
@@ -130,13 +130,13 @@ module _ (come : WhatIsAskedMayCome) (o : Options) (c : Caller) (rest : Option R
   stands (Err (Waits rest)) is = is.known
   stands (Err (Refused f)) is = tt
 
-  statement_asks : Asks tables_named c.session h (statement_attempted o c rest h g t)
-  statement_asks = record { sound = part.sound; stay = part.stay; others = part.others; told = told (statement_attempted o c rest h g t).told part.told }
+  statement_asks : Asks tables_named c.session h (attempted o c rest g t h)
+  statement_asks = record { sound = part.sound; stay = part.stay; others = part.others; told = told (attempted o c rest g t h).told part.told }
 
-  statement_stands : IsKnown (rest_told (statement_attempted o c rest h g t).told)
-  statement_stands = stands (statement_attempted o c rest h g t).told part.told
+  statement_stands : IsKnown (rest_told (attempted o c rest g t h).told)
+  statement_stands = stands (attempted o c rest g t h).told part.told
 
-pub all_ask : WhatIsAskedMayCome → AllAsk statement_words tables_named
+pub all_ask : WhatIsAskedMayCome → AllAsk tables_named
 all_ask come = record {
   each = λ o c rest h g t may known. statement_asks come o c rest h g t may known;
   rests = λ o c rest h g t may known. statement_stands come o c rest h g t may known;

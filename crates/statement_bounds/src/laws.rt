@@ -3,9 +3,8 @@ ghost use Rattle.schedule.specs.Run.{start};
 ghost use Rattle.schedule.specs.Tasks.{AreKnown};
 ghost use Rattle.schedule.specs.declared.task.Task.{Task};
 ghost use Rattle.sessions.specs.Sessions.{new_session, rules_of};
-ghost use Rattle.statement_runs.specs.Attempted.{Options};
 ghost use Rattle.statement_runs.specs.Database.{empty, course};
-ghost use Rattle.statement_runs.specs.StatementWords.{statement_words};
+ghost use Rattle.statement_runs.specs.declared.options.Options.{Options};
 ghost use Rattle.run_ends.specs.Ending.{ComesToEnd};
 ghost use Rattle.statement_ends.specs.Asking.{AllAsk};
 ghost use Rattle.statement_bounds.specs.Tables.{tables_named};
@@ -15,7 +14,7 @@ use statement_ends::{AskingStatements, statements_come_to_an_end};
 
 /// Each statement asks for locks on tables that the catalogue speaks of, and waits for sessions.
 pub fn statements_ask()
-    ensures { AllAsk statement_words tables_named }
+    ensures { AllAsk tables_named }
 {
     what_is_asked_may_come();
 }
@@ -24,30 +23,19 @@ pub fn statements_ask()
 pub struct RunStatements;
 
 impl AskingStatements for RunStatements {
-    ghost use Rattle.sql_ast.specs.Statements.{StatementTree};
-    ghost use Rattle.statement_runs.specs.Attempted.{Options as RunOptions};
-    ghost use Rattle.statement_runs.specs.StatementWords.{statement_words};
     ghost use Rattle.statement_bounds.specs.Tables.{tables_named};
-
-    ghost Options = { RunOptions };
-
-    ghost Tree = { StatementTree };
-
-    ghost words = { statement_words };
 
     ghost tables = { tables_named };
 
     fn ask() {
         statements_ask();
     }
-
-    fn commit_once() {}
 }
 
 /// Where nothing has happened, and with every list of permutations of at most 128 sessions, whatever the run is told beside
 /// its script, it comes to its end.
 pub fn runs_of_statements_come_to_an_end()
-    ensures { (o : Options) (n : ℕ) (ps : List (List Task)) → n ≤ 128 → All (AreKnown n) ps → ComesToEnd (rules_of (course statement_words)) (start (rules_of (course statement_words)) (record { executor = empty o n; sessions = replicate n new_session }) n ps) }
+    ensures { (o : Options) (n : ℕ) (ps : List (List Task)) → n ≤ 128 → All (AreKnown n) ps → ComesToEnd (rules_of course) (start (rules_of course) (record { executor = empty o n; sessions = replicate n new_session }) n ps) }
 {
     statements_come_to_an_end::<RunStatements>();
 }

@@ -18,6 +18,7 @@ use Rattle.schedule.specs.Lists.{head_of, without}
 use Rattle.stores.specs.Events.{ended, resumed}
 use Rattle.statement_steps.specs.Attempts.{HasCause}
 use Rattle.statement_steps.specs.declared.rest.Rest.{Rest}
+use Rattle.statement_runs.specs.declared.options.Options.{Options}
 use Rattle.statement_runs.specs.Database.{Database, anew, empty, is_cancelled, waits, cancels, cuts, all_cut, interrupted, is_ready, resumes, happened}
 use Rattle.statement_runs.specs.Weight.{of_flag, of_mark}
 use Rattle.statement_ends.proofs.Cutting.{is_itself, ready_some, first_passes, first_in, cut_added, cut_gone}
@@ -98,16 +99,16 @@ marks_fall moved s lt on = let a = mark_cleared moved s lt in let one : of_mark 
 marks_no_more : (moved : List Bool) (s : ℕ) → s < length moved → sum_by of_mark (slice_set moved s false) ≤ sum_by of_mark moved
 marks_no_more moved s lt = let a = mark_cleared moved s lt in omega (arith, a)
 
-module _ {O : Type 0} (tables : CatalogueEvents → ℕ) (n : ℕ) where
-  pub ranked : (v : Database O) (turn : Option ℕ) (os : List Bool) (bound : ℕ) (moved : List Bool) → IsKept tables n bound moved v turn → HasRank (IsRanked {O = O} tables n) v turn os
+module _ (tables : CatalogueEvents → ℕ) (n : ℕ) where
+  pub ranked : (v : Database) (turn : Option ℕ) (os : List Bool) (bound : ℕ) (moved : List Bool) → IsKept tables n bound moved v turn → HasRank (IsRanked tables n) v turn os
   ranked v turn os bound moved h = record { rank = slack n bound moved v; ranked = record { bound = bound; moved = moved; kept = h; rank = refl } }
 
-  pub lower : (v : Database O) (turn : Option ℕ) (os : List Bool) (bound : ℕ) (moved : List Bool) (k : ℕ) → IsKept tables n bound moved v turn → slack n bound moved v < k → HasLower (IsRanked {O = O} tables n) v turn os k
+  pub lower : (v : Database) (turn : Option ℕ) (os : List Bool) (bound : ℕ) (moved : List Bool) (k : ℕ) → IsKept tables n bound moved v turn → slack n bound moved v < k → HasLower (IsRanked tables n) v turn os k
   lower v turn os bound moved k h less = record { rank = slack n bound moved v; ranked = record { bound = bound; moved = moved; kept = h; rank = refl }; below = less }
 
   -- ---- the beginning
 
-  pub empty_kept : (o : O) (m : ℕ) → m ≡ n → n ≤ 128 → IsKept tables n (tables []) (replicate n false) (empty o m) None
+  pub empty_kept : (o : Options) (m : ℕ) → m ≡ n → n ≤ 128 → IsKept tables n (tables []) (replicate n false) (empty o m) None
   empty_kept o m same few = record {
     few = few;
     sessions = same;
@@ -121,14 +122,14 @@ module _ {O : Type 0} (tables : CatalogueEvents → ℕ) (n : ℕ) where
     goes_on = tt;
   }
 
-  pub anew_kept : (v : Database O) → v.sessions ≡ n → n ≤ 128 → IsKept tables n (tables []) (replicate n false) (anew v) None
+  pub anew_kept : (v : Database) → v.sessions ≡ n → n ≤ 128 → IsKept tables n (tables []) (replicate n false) (anew v) None
   anew_kept v same few =
       let k = empty_kept v.options v.sessions same few in
       record { few = k.few; sessions = k.sessions; cancelled = k.cancelled; rests = k.rests; marks = k.marks; known = k.known; sound = k.sound; waits = k.waits; room = k.room; goes_on = tt }
 
   -- ---- the turn
 
-  pub turned : (v : Database O) (old new : Option ℕ) (bound : ℕ) (moved : List Bool) → IsKept tables n bound moved v old → IfSome new (λ s. (s < n) × (wanted (lock_events v.history) s ≡ None)) → IsKept tables n bound moved v new
+  pub turned : (v : Database) (old new : Option ℕ) (bound : ℕ) (moved : List Bool) → IsKept tables n bound moved v old → IfSome new (λ s. (s < n) × (wanted (lock_events v.history) s ≡ None)) → IsKept tables n bound moved v new
   turned v old new bound moved h turn = record {
     few = h.few;
     sessions = h.sessions;
@@ -144,7 +145,7 @@ module _ {O : Type 0} (tables : CatalogueEvents → ℕ) (n : ℕ) where
 
   -- ---- transactions
 
-  pub ended_kept : (v : Database O) (old new : Option ℕ) (bound : ℕ) (moved : List Bool) (e : TxEvent) (s : ℕ) → IsKept tables n bound moved v old → IfSome new (λ r. (r < n) × (wanted (lock_events v.history) r ≡ None))
+  pub ended_kept : (v : Database) (old new : Option ℕ) (bound : ℕ) (moved : List Bool) (e : TxEvent) (s : ℕ) → IsKept tables n bound moved v old → IfSome new (λ r. (r < n) × (wanted (lock_events v.history) r ≡ None))
       → IsKept tables n bound (replicate n true) (happened v (ended e s)) new
   ended_kept v old new bound moved e s h turn = record {
     few = h.few;
@@ -161,7 +162,7 @@ module _ {O : Type 0} (tables : CatalogueEvents → ℕ) (n : ℕ) where
 
   -- ---- a wait is withdrawn
 
-  pub cancels_kept : (v : Database O) (old new : Option ℕ) (bound : ℕ) (moved : List Bool) (s : ℕ) → IsKept tables n bound moved v old → IfSome new (λ r. (r < n) × (wanted (WaitWithdrawn s ∷ lock_events v.history) r ≡ None))
+  pub cancels_kept : (v : Database) (old new : Option ℕ) (bound : ℕ) (moved : List Bool) (s : ℕ) → IsKept tables n bound moved v old → IfSome new (λ r. (r < n) × (wanted (WaitWithdrawn s ∷ lock_events v.history) r ≡ None))
       → IsKept tables n bound moved (cancels v s) new
   cancels_kept v old new bound moved s h turn = record {
     few = h.few;
@@ -179,16 +180,16 @@ module _ {O : Type 0} (tables : CatalogueEvents → ℕ) (n : ℕ) where
     goes_on = turn;
   }
 
-  flag_falls : (v : Database O) (turn : Option ℕ) (bound : ℕ) (moved : List Bool) (s : ℕ) (w : Wanted) → IsKept tables n bound moved v turn → wanted (lock_events v.history) s ≡ Some w → sum_by of_flag (slice_set v.cancelled s true) < sum_by of_flag v.cancelled
+  flag_falls : (v : Database) (turn : Option ℕ) (bound : ℕ) (moved : List Bool) (s : ℕ) (w : Wanted) → IsKept tables n bound moved v turn → wanted (lock_events v.history) s ≡ Some w → sum_by of_flag (slice_set v.cancelled s true) < sum_by of_flag v.cancelled
   flag_falls v turn bound moved s w h is = let k = h.waits s w is in flag_set_less v.cancelled s (subst (λ m. s < m) (sym h.cancelled) k.known) k.standing
 
-  pub cancels_less : (v : Database O) (turn : Option ℕ) (bound : ℕ) (moved : List Bool) (s : ℕ) (w : Wanted) → IsKept tables n bound moved v turn → wanted (lock_events v.history) s ≡ Some w → slack n bound moved (cancels v s) < slack n bound moved v
+  pub cancels_less : (v : Database) (turn : Option ℕ) (bound : ℕ) (moved : List Bool) (s : ℕ) (w : Wanted) → IsKept tables n bound moved v turn → wanted (lock_events v.history) s ≡ Some w → slack n bound moved (cancels v s) < slack n bound moved v
   cancels_less v turn bound moved s w h is =
       flag_lower (unheld n bound (lock_events v.history)) (unheld n bound (lock_events v.history)) (sum_by of_flag v.cancelled) (sum_by of_flag (slice_set v.cancelled s true)) _ _ (omega arith) (flag_falls v turn bound moved s w h is)
 
   -- the session of the wait goes on, and its statement is to be refused
-  pub own_cancelled : (v : Database O) (old : Option ℕ) (os : List Bool) (bound : ℕ) (moved : List Bool) (s k : ℕ) (w : Wanted) → IsKept tables n bound moved v old → wanted (lock_events v.history) s ≡ Some w → slack n bound moved v ≤ k
-      → HasLower (IsRanked {O = O} tables n) (cancels v s) (Some s) os k
+  pub own_cancelled : (v : Database) (old : Option ℕ) (os : List Bool) (bound : ℕ) (moved : List Bool) (s k : ℕ) (w : Wanted) → IsKept tables n bound moved v old → wanted (lock_events v.history) s ≡ Some w → slack n bound moved v ≤ k
+      → HasLower (IsRanked tables n) (cancels v s) (Some s) os k
   own_cancelled v old os bound moved s k w h is le =
       let less = cancels_less v old bound moved s w h is in
       lower (cancels v s) (Some s) os bound moved k (cancels_kept v old (Some s) bound moved s h ((h.waits s w is).known, withdrawn_own (lock_events v.history) s)) (below le less)
@@ -198,10 +199,10 @@ module _ {O : Type 0} (tables : CatalogueEvents → ℕ) (n : ℕ) where
 
   -- ---- waits that a statement of another session cancels
 
-  abbrev Cut : (s bound : ℕ) → (moved : List Bool) → (v w : Database O) → Type 0
+  abbrev Cut : (s bound : ℕ) → (moved : List Bool) → (v w : Database) → Type 0
   Cut s bound moved v w = IsKept tables n bound moved w (Some s) × (slack n bound moved w ≤ slack n bound moved v)
 
-  one_cut : (v : Database O) (s x bound : ℕ) (moved : List Bool) (b : Bool) → waits v x ≡ b → IsKept tables n bound moved v (Some s) → Cut s bound moved v (if b then record (cancels v x) { cut = v.cut ++ x ∷ [] } else v)
+  one_cut : (v : Database) (s x bound : ℕ) (moved : List Bool) (b : Bool) → waits v x ≡ b → IsKept tables n bound moved v (Some s) → Cut s bound moved v (if b then record (cancels v x) { cut = v.cut ++ x ∷ [] } else v)
   one_cut v s x bound moved false is h = (h, omega arith)
   one_cut v s x bound moved true is h =
       let u = is_there (wanted (lock_events v.history) x) is in
@@ -210,7 +211,7 @@ module _ {O : Type 0} (tables : CatalogueEvents → ℕ) (n : ℕ) where
         cut_no_higher (unheld n bound (lock_events v.history)) (unheld n bound (lock_events v.history)) (sum_by of_flag v.cancelled) (sum_by of_flag (slice_set v.cancelled x true)) _ _ _ (omega arith) (flag_falls v (Some s) bound moved x u.0 h u.1) (cut_added n x v.cut),
       )
 
-  pub all_cut_kept : (ss : List ℕ) (v : Database O) (s bound : ℕ) (moved : List Bool) → IsKept tables n bound moved v (Some s) → Cut s bound moved v (all_cut v ss)
+  pub all_cut_kept : (ss : List ℕ) (v : Database) (s bound : ℕ) (moved : List Bool) → IsKept tables n bound moved v (Some s) → Cut s bound moved v (all_cut v ss)
   all_cut_kept [] v s bound moved h = (h, omega arith)
   all_cut_kept (x ∷ ss) v s bound moved h =
       let one = one_cut v s x bound moved (waits v x) refl h in
@@ -222,7 +223,7 @@ module _ {O : Type 0} (tables : CatalogueEvents → ℕ) (n : ℕ) where
 
   -- ---- a session goes on whose wait is over
 
-  resumed_kept : (v : Database O) (turn : Option ℕ) (bound : ℕ) (moved : List Bool) (s : ℕ) (w : Wanted) → IsKept tables n bound moved v turn → ready (lock_events v.history) ≡ Some s → wanted (lock_events v.history) s ≡ Some w
+  resumed_kept : (v : Database) (turn : Option ℕ) (bound : ℕ) (moved : List Bool) (s : ℕ) (w : Wanted) → IsKept tables n bound moved v turn → ready (lock_events v.history) ≡ Some s → wanted (lock_events v.history) s ≡ Some w
       → IsKept tables n bound (slice_set moved s false) (happened v (resumed s)) (Some s)
   resumed_kept v turn bound moved s w h is waits = record {
     few = h.few;
@@ -240,7 +241,7 @@ module _ {O : Type 0} (tables : CatalogueEvents → ℕ) (n : ℕ) where
     goes_on = ((h.waits s w waits).known, resumed_own (lock_events v.history) s);
   }
 
-  resumed_less : (v : Database O) (turn : Option ℕ) (bound : ℕ) (moved : List Bool) (s : ℕ) (w : Wanted) → IsKept tables n bound moved v turn → ready (lock_events v.history) ≡ Some s → wanted (lock_events v.history) s ≡ Some w
+  resumed_less : (v : Database) (turn : Option ℕ) (bound : ℕ) (moved : List Bool) (s : ℕ) (w : Wanted) → IsKept tables n bound moved v turn → ready (lock_events v.history) ≡ Some s → wanted (lock_events v.history) s ≡ Some w
       → slack n bound (slice_set moved s false) (happened v (resumed s)) < slack n bound moved v
   resumed_less v turn bound moved s (Lock t m) h is waits =
       let k = h.waits s (Lock t m) waits in
@@ -261,8 +262,8 @@ module _ {O : Type 0} (tables : CatalogueEvents → ℕ) (n : ℕ) where
           let cause : HasCause (Others what) = k.caused e in
           absurd (let c : true ≡ false = sym cause.1 ∙ ready_names (lock_events v.history) s cause.0 what is waits (k.bounded cause.0 cause.1) in cc)
 
-  by_ready : (b : Bool) (v : Database O) (os : List Bool) (k s : ℕ) → is_ready (interrupted v) s ≡ b → IsRanked tables n v None os k → (interrupted v ≡ Some s) ⊎ (ready (lock_events v.history) ≡ Some s)
-      → HasLower (IsRanked {O = O} tables n) (if b then record v { cut = without s v.cut } else happened v (resumed s)) (Some s) os k
+  by_ready : (b : Bool) (v : Database) (os : List Bool) (k s : ℕ) → is_ready (interrupted v) s ≡ b → IsRanked tables n v None os k → (interrupted v ≡ Some s) ⊎ (ready (lock_events v.history) ≡ Some s)
+      → HasLower (IsRanked tables n) (if b then record v { cut = without s v.cut } else happened v (resumed s)) (Some s) os k
   by_ready true v os k s is h on =
       let e = ready_some (interrupted v) s is in
       let flag = first_passes (is_cancelled v) v.cut s e in
@@ -281,16 +282,16 @@ module _ {O : Type 0} (tables : CatalogueEvents → ℕ) (n : ℕ) where
       lower (happened v (resumed s)) (Some s) os h.bound (slice_set h.moved s false) k (resumed_kept v None h.bound h.moved s w.0 h.kept e w.1)
       (subst (λ m. slack n h.bound (slice_set h.moved s false) (happened v (resumed s)) < m) h.rank (resumed_less v None h.bound h.moved s w.0 h.kept e w.1))
 
-  pub resumes_lower : (v : Database O) (os : List Bool) (k s : ℕ) → IsRanked tables n v None os k → (interrupted v ≡ Some s) ⊎ (ready (lock_events v.history) ≡ Some s) → HasLower (IsRanked {O = O} tables n) (resumes v s) (Some s) os k
+  pub resumes_lower : (v : Database) (os : List Bool) (k s : ℕ) → IsRanked tables n v None os k → (interrupted v ≡ Some s) ⊎ (ready (lock_events v.history) ≡ Some s) → HasLower (IsRanked tables n) (resumes v s) (Some s) os k
   resumes_lower v os k s h on = by_ready (is_ready (interrupted v) s) v os k s refl h on
 
   -- ---- a wait that the run cancels
 
-  cancelled_waits : (v : Database O) (s : ℕ) → (waits v s ≡ true) ⊎ (head_of (queue (lock_events v.history)) ≡ Some s) → is_some (wanted (lock_events v.history) s) ≡ true
+  cancelled_waits : (v : Database) (s : ℕ) → (waits v s ≡ true) ⊎ (head_of (queue (lock_events v.history)) ≡ Some s) → is_some (wanted (lock_events v.history) s) ≡ true
   cancelled_waits v s (inl e) = e
   cancelled_waits v s (inr e) = first_waits (lock_events v.history) s e
 
-  pub cancelled_lower : (v : Database O) (os : List Bool) (k s : ℕ) → IsRanked tables n v None os k → (waits v s ≡ true) ⊎ (head_of (queue (lock_events v.history)) ≡ Some s) → HasLower (IsRanked {O = O} tables n) (cancels v s) (Some s) os k
+  pub cancelled_lower : (v : Database) (os : List Bool) (k s : ℕ) → IsRanked tables n v None os k → (waits v s ≡ true) ⊎ (head_of (queue (lock_events v.history)) ≡ Some s) → HasLower (IsRanked tables n) (cancels v s) (Some s) os k
   cancelled_lower v os k s h on = let w = is_there (wanted (lock_events v.history) s) (cancelled_waits v s on) in own_cancelled v None os h.bound h.moved s k w.0 h.kept w.1 (same h.rank)
     where
       same : {a b : ℕ} → a ≡ b → a ≤ b

@@ -5,56 +5,59 @@ use Rattle.schedule.specs.Lists.{without}
 use Rattle.sessions.specs.Commits.{CommitsOnce}
 use Rattle.sessions.specs.declared.asker.Asker.{Asker}
 use Rattle.sessions.specs.declared.settings.Settings.{Settings}
+use Rattle.sql_ast.specs.Statements.{StatementTree}
 use Rattle.stores.specs.Events.{resumed}
 use Rattle.statement_steps.specs.declared.rest.Rest.{Rest}
 use Rattle.statement_runs.specs.Database.{Database, course, waits, cancels, cuts, all_cut, cut_by, interrupted, is_ready, happened, caller_of, command_of, is_cancelled, rest_of, rest_told, outcome_told, attempt_of, unless_cancelled}
-use Rattle.statement_runs.specs.Once.{AllCommitOnce}
-use Rattle.statement_runs.specs.Words.{Words}
+use Rattle.statement_runs.specs.Attempted.{attempted}
+use Rattle.statement_runs.specs.Roles as roles
+use Rattle.statement_runs.specs.Roles.{cancelled_by}
+use Rattle.statement_runs.proofs.StatementsOnce.{all_once}
 use Rattle.run_ends.specs.Executors.{CommitOnceIn}
 use Rattle.statement_ends.specs.Rank.{IsRanked, has_committed}
 
-module _ {O T : Type 0} (W : Words O T) (tables : CatalogueEvents → ℕ) (n : ℕ) (once : AllCommitOnce W) where
-  one_cut : (v : Database O) (x : ℕ) (b : Bool) → (if b then record (cancels v x) { cut = v.cut ++ x ∷ [] } else v).rests ≡ v.rests
+module _ (tables : CatalogueEvents → ℕ) (n : ℕ) where
+  one_cut : (v : Database) (x : ℕ) (b : Bool) → (if b then record (cancels v x) { cut = v.cut ++ x ∷ [] } else v).rests ≡ v.rests
   one_cut v x true = refl
   one_cut v x false = refl
 
-  pub all_cut_rests : (ss : List ℕ) (v : Database O) → (all_cut v ss).rests ≡ v.rests
+  pub all_cut_rests : (ss : List ℕ) (v : Database) → (all_cut v ss).rests ≡ v.rests
   all_cut_rests [] v = refl
   all_cut_rests (x ∷ ss) v = all_cut_rests ss (cuts v x) ∙ one_cut v x (waits v x)
 
-  resumed_rests : (v : Database O) (s : ℕ) (b : Bool) → (if b then record v { cut = without s v.cut } else happened v (resumed s)).rests ≡ v.rests
+  resumed_rests : (v : Database) (s : ℕ) (b : Bool) → (if b then record v { cut = without s v.cut } else happened v (resumed s)).rests ≡ v.rests
   resumed_rests v s true = refl
   resumed_rests v s false = refl
 
-  same_rest : (x : Option Rest) (rests : List (Option Rest)) (s : ℕ) (t : T) → slice_index_or rests s None ≡ x → W.has_committed (slice_index_or rests s None) t ≡ W.has_committed x t
-  same_rest x rests s t e = ap (λ r. W.has_committed r t) e
+  same_rest : (x : Option Rest) (rests : List (Option Rest)) (s : ℕ) (t : StatementTree) → slice_index_or rests s None ≡ x → roles.has_committed (slice_index_or rests s None) t ≡ roles.has_committed x t
+  same_rest x rests s t e = ap (λ r. roles.has_committed r t) e
 
-  attempt_once : (b : Bool) (v : Database O) (a : Asker) (g : Settings) (t : T)
-      → CommitsOnce (W.has_committed (rest_of v a.session) t)
-      (W.has_committed (rest_told (unless_cancelled b (W.attempted v.options (caller_of v.sessions (command_of v a.session) a) (rest_of v a.session) v.history g t)).told) t)
-      (outcome_told (unless_cancelled b (W.attempted v.options (caller_of v.sessions (command_of v a.session) a) (rest_of v a.session) v.history g t)).told)
+  attempt_once : (b : Bool) (v : Database) (a : Asker) (g : Settings) (t : StatementTree)
+      → CommitsOnce (roles.has_committed (rest_of v a.session) t)
+      (roles.has_committed (rest_told (unless_cancelled b (attempted v.options (caller_of v.sessions (command_of v a.session) a) (rest_of v a.session) g t v.history)).told) t)
+      (outcome_told (unless_cancelled b (attempted v.options (caller_of v.sessions (command_of v a.session) a) (rest_of v a.session) g t v.history)).told)
   attempt_once true v a g t = tt
-  attempt_once false v a g t = once.each v.options (caller_of v.sessions (command_of v a.session) a) (rest_of v a.session) v.history g t
+  attempt_once false v a g t = all_once v.options (caller_of v.sessions (command_of v a.session) a) (rest_of v a.session) v.history g t
 
-  pub course_once : CommitOnceIn (course W) (has_committed W) (IsRanked tables n)
+  pub course_once : CommitOnceIn course has_committed (IsRanked tables n)
   course_once = record {
     began = λ v s r t. refl;
     committed = λ v s r t. refl;
     aborted = λ v s r t. refl;
-    resumed = λ v s r t. ap (λ rests. W.has_committed (slice_index_or rests r None) t) (resumed_rests v s (is_ready (interrupted v) s));
+    resumed = λ v s r t. ap (λ rests. roles.has_committed (slice_index_or rests r None) t) (resumed_rests v s (is_ready (interrupted v) s));
     cancelled = λ v s r t. refl;
     once = λ v os k a g t h.
-        let w = cut_by W v a t in
-        let rests = all_cut_rests (W.cancels a.session v.sessions t) v in
-        let m = attempt_of W w a g t in
+        let w = cut_by v a t in
+        let rests = all_cut_rests (cancelled_by a.session v.sessions t) v in
+        let m = attempt_of w a g t in
         let lt : a.session < length w.rests = subst (λ l. a.session < l) (sym (ap length rests ∙ h.kept.rests)) h.kept.goes_on.0 in
         let after : slice_index_or (slice_set w.rests a.session (rest_told m.told)) a.session None ≡ rest_told m.told = get_or-set_same w.rests a.session (rest_told m.told) None lt in
         let before : rest_of w a.session ≡ rest_of v a.session = ap (λ l. slice_index_or l a.session None) rests in
-        subst (λ r. CommitsOnce (W.has_committed r t) (W.has_committed (slice_index_or (slice_set w.rests a.session (rest_told m.told)) a.session None) t) (outcome_told m.told)) before
-        (subst (λ r. CommitsOnce (W.has_committed (rest_of w a.session) t) (W.has_committed r t) (outcome_told m.told)) (sym after) (attempt_once (is_cancelled w a.session) w a g t));
+        subst (λ r. CommitsOnce (roles.has_committed r t) (roles.has_committed (slice_index_or (slice_set w.rests a.session (rest_told m.told)) a.session None) t) (outcome_told m.told)) before
+        (subst (λ r. CommitsOnce (roles.has_committed (rest_of w a.session) t) (roles.has_committed r t) (outcome_told m.told)) (sym after) (attempt_once (is_cancelled w a.session) w a g t));
     others = λ v a g t r u other.
-        let w = cut_by W v a t in
-        let rests = all_cut_rests (W.cancels a.session v.sessions t) v in
-        let m = attempt_of W w a g t in
-        ap (λ x. W.has_committed x u) (get_or-set_other w.rests a.session r (rest_told m.told) None other ∙ ap (λ l. slice_index_or l r None) rests);
+        let w = cut_by v a t in
+        let rests = all_cut_rests (cancelled_by a.session v.sessions t) v in
+        let m = attempt_of w a g t in
+        ap (λ x. roles.has_committed x u) (get_or-set_other w.rests a.session r (rest_told m.told) None other ∙ ap (λ l. slice_index_or l r None) rests);
   }

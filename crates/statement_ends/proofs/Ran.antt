@@ -69,18 +69,18 @@ some_is : (a b : Wanted) → Some a ≡ Some b → a ≡ b
 some_is a b e = cc
 
 -- its session waits, and no more is left than that
-pub record Waited {O : Type 0} (tables : CatalogueEvents → ℕ) (n bound : ℕ) (moved : List Bool) (session limit : ℕ) (w : Database O) : Type 0 where
+pub record Waited (tables : CatalogueEvents → ℕ) (n bound : ℕ) (moved : List Bool) (session limit : ℕ) (w : Database) : Type 0 where
   pub kept : IsKept tables n bound moved w None
   pub what : Wanted
   pub waits : wanted (lock_events w.history) session ≡ Some what
   pub no_higher : slack n bound moved w ≤ limit
 
-module _ {O : Type 0} (tables : CatalogueEvents → ℕ) (n : ℕ) (v : Database O) (a : Asker) (more : Tally) (bound : ℕ) (moved : List Bool) (h : IsKept tables n bound moved v (Some a.session)) where
+module _ (tables : CatalogueEvents → ℕ) (n : ℕ) (v : Database) (a : Asker) (more : Tally) (bound : ℕ) (moved : List Bool) (h : IsKept tables n bound moved v (Some a.session)) where
   abbrev s : ℕ
   s = a.session
 
   -- the database with that history
-  abbrev left_at : History → Made Ended → Database O
+  abbrev left_at : History → Made Ended → Database
   left_at g m = record v {
     history = g;
     commands = slice_set v.commands a.session (next_command m.told (command_of v a.session));

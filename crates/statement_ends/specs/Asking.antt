@@ -16,8 +16,10 @@ use Rattle.statement_steps.specs.Made.{Made, Halt, Waits, Refused}
 use Rattle.statement_steps.specs.declared.caller.Caller.{Caller}
 use Rattle.statement_steps.specs.declared.rest.Rest.{Rest}
 use Rattle.statement_steps.specs.declared.rest.Rest.TheVariants.{Rows, Detach}
+use Rattle.sql_ast.specs.Statements.{StatementTree}
+use Rattle.statement_runs.specs.Attempted.{attempted}
 use Rattle.statement_runs.specs.Database.{rest_told}
-use Rattle.statement_runs.specs.Words.{Words}
+use Rattle.statement_runs.specs.declared.options.Options.{Options}
 
 -- a wait for a lock on one of so many tables, or for others that are sessions
 abbrev pub IsBounded : (tables : ℕ) → Wanted → Type 0
@@ -64,6 +66,6 @@ pub record Asks {T : Type 0} (tables : CatalogueEvents → ℕ) (session : ℕ) 
   pub told : WaitsAsTold tables session h (m.events ++ h) m.told
 
 -- so it is of each statement, from its beginning and from where it stood
-pub record AllAsk {O T : Type 0} (W : Words O T) (tables : CatalogueEvents → ℕ) : Type 0 where
-  pub each : (o : O) (c : Caller) (rest : Option Rest) (h : History) (g : Settings) (t : T) → MayAsk c.session h → IsKnown rest → Asks tables c.session h (W.attempted o c rest h g t)
-  pub rests : (o : O) (c : Caller) (rest : Option Rest) (h : History) (g : Settings) (t : T) → MayAsk c.session h → IsKnown rest → IsKnown (rest_told (W.attempted o c rest h g t).told)
+pub record AllAsk (tables : CatalogueEvents → ℕ) : Type 0 where
+  pub each : (o : Options) (c : Caller) (rest : Option Rest) (h : History) (g : Settings) (t : StatementTree) → MayAsk c.session h → IsKnown rest → Asks tables c.session h (attempted o c rest g t h)
+  pub rests : (o : Options) (c : Caller) (rest : Option Rest) (h : History) (g : Settings) (t : StatementTree) → MayAsk c.session h → IsKnown rest → IsKnown (rest_told (attempted o c rest g t h).told)

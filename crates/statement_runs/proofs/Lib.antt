@@ -5,6 +5,7 @@ mod Growing
 mod Lower
 mod Once
 mod Runs
+pub mod StatementsOnce
 mod Steps
 pub mod TextReadings
 mod Waiting

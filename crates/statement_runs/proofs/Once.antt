@@ -8,8 +8,11 @@ use Rattle.sessions.specs.declared.outcome.Outcome.{Outcome}
 use Rattle.sessions.specs.declared.settings.Settings.{Settings}
 use Rattle.statement_steps.specs.Ended.{Ended}
 use Rattle.statement_steps.specs.Made.{Made}
-use Rattle.statement_runs.specs.Words.{Words}
-use Rattle.statement_runs.specs.Once.{AllCommitOnce}
+use Rattle.statement_runs.specs.Attempted.{attempted}
+use Rattle.statement_runs.specs.Roles.{has_committed}
+use Rattle.statement_runs.specs.declared.options.Options.{Options}
+use Rattle.sql_ast.specs.Statements.{StatementTree}
+use Rattle.statement_runs.proofs.StatementsOnce.{all_once}
 use Rattle.statement_runs.specs.Database.{caller_of, unless_cancelled, rest_told, outcome_told}
 use Rattle.statement_runs.specs.Kept.{KeptSeats, AreSeated, TellOf}
 use Rattle.statement_runs.specs.Ran.{attempt_at, HasRun}
@@ -30,43 +33,43 @@ set_other (y ∷ ys) (suc s) zero x d other = refl
 set_other (y ∷ ys) (suc s) (suc r) x d other = set_other ys s r x d (λ e. other (ap suc e))
 
 -- whether the statement of a session has committed what it did first
-abbrev pub committed_in : {O T : Type 0} → Words O T → List (Option Rest) → ℕ → T → Bool
-committed_in W rests s t = W.has_committed (slice_index_or rests s None) t
+abbrev pub committed_in : List (Option Rest) → ℕ → StatementTree → Bool
+committed_in rests s t = has_committed (slice_index_or rests s None) t
 
-pub same_rests : {O T : Type 0} (W : Words O T) (old new : List (Option Rest)) → new ≡ old → AreAsBefore (committed_in W old) (committed_in W new)
-same_rests W old new same = λ s t. ap (λ rests. committed_in W rests s t) same
+pub same_rests : (old new : List (Option Rest)) → new ≡ old → AreAsBefore (committed_in old) (committed_in new)
+same_rests old new same = λ s t. ap (λ rests. committed_in rests s t) same
 
 -- ---- a statement was run
 
-once_made : {O T : Type 0} (W : Words O T) (b : Bool) (m : Made Ended) (t : T) (before : Bool) (x : Outcome) (rest : Option Rest)
-    → CommitsOnce before (W.has_committed (rest_told m.told) t) (outcome_told m.told) → x ≡ outcome_told (unless_cancelled b m).told → rest ≡ rest_told (unless_cancelled b m).told → CommitsOnce before (W.has_committed rest t) x
-once_made W true m t before x rest once is at = subst (CommitsOnce before (W.has_committed rest t)) (sym is) tt
-once_made W false m t before x rest once is at =
-    subst (CommitsOnce before (W.has_committed rest t)) (sym is) (subst (λ r. CommitsOnce before (W.has_committed r t) (outcome_told m.told)) (sym at) once)
+once_made : (b : Bool) (m : Made Ended) (t : StatementTree) (before : Bool) (x : Outcome) (rest : Option Rest)
+    → CommitsOnce before (has_committed (rest_told m.told) t) (outcome_told m.told) → x ≡ outcome_told (unless_cancelled b m).told → rest ≡ rest_told (unless_cancelled b m).told → CommitsOnce before (has_committed rest t) x
+once_made true m t before x rest once is at = subst (CommitsOnce before (has_committed rest t)) (sym is) tt
+once_made false m t before x rest once is at =
+    subst (CommitsOnce before (has_committed rest t)) (sym is) (subst (λ r. CommitsOnce before (has_committed r t) (outcome_told m.told)) (sym at) once)
 
-once_ran : {O T : Type 0} (W : Words O T) (o : O) (old new : KeptSeats) (a : Asker) (h : History) (g : Settings) (t : T) (before after : List ℕ) (x : Outcome) → AllCommitOnce W → AreSeated old → a.session < length old.opened
-    → HasRun (attempt_at W o old a h g t) a old new before after x h → CommitsOnce (committed_in W old.rests a.session t) (committed_in W new.rests a.session t) x
-once_ran W o old new a h g t before after x law seated known ran =
+once_ran : (o : Options) (old new : KeptSeats) (a : Asker) (h : History) (g : Settings) (t : StatementTree) (before after : List ℕ) (x : Outcome) → AreSeated old → a.session < length old.opened
+    → HasRun (attempt_at o old a h g t) a old new before after x h → CommitsOnce (committed_in old.rests a.session t) (committed_in new.rests a.session t) x
+once_ran o old new a h g t before after x seated known ran =
     let c = caller_of (length old.opened) (slice_index_or old.commands a.session 0) a in
     let rest = slice_index_or old.rests a.session None in
-    once_made W (slice_index_or old.cancelled a.session false) (W.attempted o c rest h g t) t (W.has_committed rest t) x (slice_index_or new.rests a.session None) (law.each o c rest h g t) ran.outcome
-    (ap (λ rests. slice_index_or rests a.session None) ran.rests ∙ set_own old.rests a.session (rest_told (attempt_at W o old a h g t).told) None (rw seated.rests known))
+    once_made (slice_index_or old.cancelled a.session false) (attempted o c rest g t h) t (has_committed rest t) x (slice_index_or new.rests a.session None) (all_once o c rest h g t) ran.outcome
+    (ap (λ rests. slice_index_or rests a.session None) ran.rests ∙ set_own old.rests a.session (rest_told (attempt_at o old a h g t).told) None (rw seated.rests known))
 
-others_ran : {O T : Type 0} (W : Words O T) (m : Made Ended) (old new : KeptSeats) (a : Asker) (h : History) (before after : List ℕ) (x : Outcome) → HasRun m a old new before after x h → OthersAreAsBefore a.session (committed_in W old.rests) (committed_in W new.rests)
-others_ran W m old new a h before after x ran = λ s t other.
-    ap (λ rest. W.has_committed rest t) (ap (λ rests. slice_index_or rests s None) ran.rests ∙ set_other old.rests a.session s (rest_told m.told) None other)
+others_ran : (m : Made Ended) (old new : KeptSeats) (a : Asker) (h : History) (before after : List ℕ) (x : Outcome) → HasRun m a old new before after x h → OthersAreAsBefore a.session (committed_in old.rests) (committed_in new.rests)
+others_ran m old new a h before after x ran = λ s t other.
+    ap (λ rest. has_committed rest t) (ap (λ rests. slice_index_or rests s None) ran.rests ∙ set_other old.rests a.session s (rest_told m.told) None other)
 
 -- behind the waits that it has cancelled, which left all statements where they stood
-pub once_on : {O T : Type 0} (W : Words O T) (o : O) (first old new : KeptSeats) (a : Asker) (g : Settings) (t : T) (before after : List ℕ) (r : Result Outcome NoMemory) → AllCommitOnce W → old.rests ≡ first.rests → a.session < length old.opened
-    → IfOk r (λ x. (h : History) → TellOf old h → HasRun (attempt_at W o old a h g t) a old new before after x h) → OnOk r ((h : History) × TellOf old h × AreSeated old)
-    → IfOk r (λ x. CommitsOnce (committed_in W first.rests a.session t) (committed_in W new.rests a.session t) x)
-once_on W o first old new a g t before after (Ok x) law same known ran (h, tells, seated) =
-    subst (λ rests. CommitsOnce (committed_in W rests a.session t) (committed_in W new.rests a.session t) x) same (once_ran W o old new a h g t before after x law seated known (ran h tells))
-once_on W o first old new a g t before after (Err e) law same known ran heard = tt
+pub once_on : (o : Options) (first old new : KeptSeats) (a : Asker) (g : Settings) (t : StatementTree) (before after : List ℕ) (r : Result Outcome NoMemory) → old.rests ≡ first.rests → a.session < length old.opened
+    → IfOk r (λ x. (h : History) → TellOf old h → HasRun (attempt_at o old a h g t) a old new before after x h) → OnOk r ((h : History) × TellOf old h × AreSeated old)
+    → IfOk r (λ x. CommitsOnce (committed_in first.rests a.session t) (committed_in new.rests a.session t) x)
+once_on o first old new a g t before after (Ok x) same known ran (h, tells, seated) =
+    subst (λ rests. CommitsOnce (committed_in rests a.session t) (committed_in new.rests a.session t) x) same (once_ran o old new a h g t before after x seated known (ran h tells))
+once_on o first old new a g t before after (Err e) same known ran heard = tt
 
-pub others_on : {O T : Type 0} (W : Words O T) (o : O) (first old new : KeptSeats) (a : Asker) (g : Settings) (t : T) (before after : List ℕ) (r : Result Outcome NoMemory) → old.rests ≡ first.rests
-    → IfOk r (λ x. (h : History) → TellOf old h → HasRun (attempt_at W o old a h g t) a old new before after x h) → OnOk r ((h : History) × TellOf old h × AreSeated old)
-    → OnOk r (OthersAreAsBefore a.session (committed_in W first.rests) (committed_in W new.rests))
-others_on W o first old new a g t before after (Ok x) same ran (h, tells, seated) =
-    subst (λ rests. OthersAreAsBefore a.session (committed_in W rests) (committed_in W new.rests)) same (others_ran W (attempt_at W o old a h g t) old new a h before after x (ran h tells))
-others_on W o first old new a g t before after (Err e) same ran heard = tt
+pub others_on : (o : Options) (first old new : KeptSeats) (a : Asker) (g : Settings) (t : StatementTree) (before after : List ℕ) (r : Result Outcome NoMemory) → old.rests ≡ first.rests
+    → IfOk r (λ x. (h : History) → TellOf old h → HasRun (attempt_at o old a h g t) a old new before after x h) → OnOk r ((h : History) × TellOf old h × AreSeated old)
+    → OnOk r (OthersAreAsBefore a.session (committed_in first.rests) (committed_in new.rests))
+others_on o first old new a g t before after (Ok x) same ran (h, tells, seated) =
+    subst (λ rests. OthersAreAsBefore a.session (committed_in rests) (committed_in new.rests)) same (others_ran (attempt_at o old a h g t) old new a h before after x (ran h tells))
+others_on o first old new a g t before after (Err e) same ran heard = tt

@@ -36,7 +36,11 @@ use Rattle.statement_steps.specs.declared.rest.Rest.TheVariants.{Detach}
 use Rattle.statement_steps.specs.declared.rest.RestOfDetach.{RestOfDetach}
 use Rattle.statement_steps.specs.declared.stop.Stop.{Stop}
 use Rattle.statement_steps.specs.declared.stop.Stop.TheVariants as stop
-use Rattle.statement_runs.specs.Words.{Words}
+use Rattle.sql_ast.specs.Statements.{StatementTree}
+use Rattle.statement_runs.specs.Attempted.{attempted}
+use Rattle.statement_runs.specs.Given.{statement_given}
+use Rattle.statement_runs.specs.Roles.{cancelled_by}
+use Rattle.statement_runs.specs.declared.options.Options.{Options}
 use Rattle.statement_runs.specs.Database.{Database, unless_cancelled, caller_of, attempt_of, given_by, next_command, rest_told, let_go_at, given_up, outcome_told, text_told, all_cut, cut_by, goes_on as goes_on_to}
 use Rattle.statement_runs.specs.Kept.{KeptSeats, AreSeated, TellOf, AreKept, Adds, StandsFor}
 use Rattle.statement_runs.specs.Tallies.{added, unless_cut}
@@ -216,31 +220,31 @@ abbrev pub caller_in : KeptSeats → Asker → Caller
 caller_in e a = caller_of (length e.opened) (slice_index_or e.commands a.session 0) a
 
 -- what the statement means at that history, unless its wait was cancelled
-abbrev pub meant_at : {O T : Type 0} → Words O T → O → KeptSeats → Asker → History → Settings → T → Made Ended
-meant_at W o e a h g t = W.attempted o (caller_in e a) (slice_index_or e.rests a.session None) h g t
+abbrev pub meant_at : Options → KeptSeats → Asker → History → Settings → StatementTree → Made Ended
+meant_at o e a h g t = attempted o (caller_in e a) (slice_index_or e.rests a.session None) g t h
 
-pub as_meant : {O T : Type 0} (W : Words O T) (o : O) (e : KeptSeats) (a : Asker) (h : History) (g : Settings) (t : T) (n cmd : ℕ) (rest : Option Rest) (r : Result Ending Stop) (stores : Stores) (before after : List ℕ)
+pub as_meant : (o : Options) (e : KeptSeats) (a : Asker) (h : History) (g : Settings) (t : StatementTree) (n cmd : ℕ) (rest : Option Rest) (r : Result Ending Stop) (stores : Stores) (before after : List ℕ)
     → n ≡ length e.opened → cmd ≡ slice_index_or e.commands a.session 0 → rest ≡ slice_index_or e.rests a.session None
-    → IsAttempt r stores before after (caller_of n cmd a) h (W.attempted o (caller_of n cmd a) rest h g t) → IsAttempt r stores before after (caller_in e a) h (meant_at W o e a h g t)
-as_meant W o e a h g t n cmd rest r stores before after count number taken is =
-    let came : ℕ → ℕ → Option Rest → Type 0 = λ n cmd rest. IsAttempt r stores before after (caller_of n cmd a) h (W.attempted o (caller_of n cmd a) rest h g t) in
+    → IsAttempt r stores before after (caller_of n cmd a) h (attempted o (caller_of n cmd a) rest g t h) → IsAttempt r stores before after (caller_in e a) h (meant_at o e a h g t)
+as_meant o e a h g t n cmd rest r stores before after count number taken is =
+    let came : ℕ → ℕ → Option Rest → Type 0 = λ n cmd rest. IsAttempt r stores before after (caller_of n cmd a) h (attempted o (caller_of n cmd a) rest g t h) in
     subst (λ x. came x (slice_index_or e.commands a.session 0) (slice_index_or e.rests a.session None)) count
     (subst (λ x. came n x (slice_index_or e.rests a.session None)) number (subst (λ x. came n cmd x) taken is))
 
 -- so much is given and read, unless its wait was cancelled
-pub given_in : {O T : Type 0} (W : Words O T) (o : O) (e : KeptSeats) (a : Asker) (h : History) (g : Settings) (t : T) (n cmd : ℕ) (rest : Option Rest) (before after : Tally)
+pub given_in : (o : Options) (e : KeptSeats) (a : Asker) (h : History) (g : Settings) (t : StatementTree) (n cmd : ℕ) (rest : Option Rest) (before after : Tally)
     → slice_index_or e.cancelled a.session false ≡ false → n ≡ length e.opened → cmd ≡ slice_index_or e.commands a.session 0 → rest ≡ slice_index_or e.rests a.session None
-    → after ≡ added before (W.given o (caller_of n cmd a) rest h g t) → after ≡ added before (given_at W o e a h g t)
-given_in W o e a h g t n cmd rest before after flag count number taken is =
+    → after ≡ added before (statement_given o (caller_of n cmd a) rest g t h) → after ≡ added before (given_at o e a h g t)
+given_in o e a h g t n cmd rest before after flag count number taken is =
     is ∙ ap (added before)
-    (ap (λ x. W.given o (caller_of x cmd a) rest h g t) count
-    ∙ (ap (λ x. W.given o (caller_of (length e.opened) x a) rest h g t) number
-    ∙ (ap (λ x. W.given o (caller_in e a) x h g t) taken
-    ∙ sym (ap (λ b. unless_cut b (W.given o (caller_in e a) (slice_index_or e.rests a.session None) h g t)) flag))))
+    (ap (λ x. statement_given o (caller_of x cmd a) rest g t h) count
+    ∙ (ap (λ x. statement_given o (caller_of (length e.opened) x a) rest g t h) number
+    ∙ (ap (λ x. statement_given o (caller_in e a) x g t h) taken
+    ∙ sym (ap (λ b. unless_cut b (statement_given o (caller_in e a) (slice_index_or e.rests a.session None) g t h)) flag))))
 
-pub cut_gives : {O T : Type 0} (W : Words O T) (o : O) (e : KeptSeats) (a : Asker) (h : History) (g : Settings) (t : T) (n : Tally) → slice_index_or e.cancelled a.session false ≡ true → n ≡ added n (given_at W o e a h g t)
-cut_gives W o e a h g t n flag =
-    sym (nothing_more n) ∙ ap (added n) (sym (ap (λ b. unless_cut b (W.given o (caller_in e a) (slice_index_or e.rests a.session None) h g t)) flag))
+pub cut_gives : (o : Options) (e : KeptSeats) (a : Asker) (h : History) (g : Settings) (t : StatementTree) (n : Tally) → slice_index_or e.cancelled a.session false ≡ true → n ≡ added n (given_at o e a h g t)
+cut_gives o e a h g t n flag =
+    sym (nothing_more n) ∙ ap (added n) (sym (ap (λ b. unless_cut b (statement_given o (caller_in e a) (slice_index_or e.rests a.session None) g t h)) flag))
 
 -- what has come of it, where it was not cancelled
 abbrev pub Tried : (e new : KeptSeats) → Asker → (before after : List ℕ) (o : Outcome) (h : History) → Made Ended → Type 0
@@ -381,63 +385,63 @@ one_more q xs s n is all lt = subst (All (λ r. r < n)) (sym is) (All-append (λ
 
 -- ---- the database that it stands for
 
-abbrev attempt_by : {O T : Type 0} → Words O T → Asker → History → Settings → T → O → ℕ → List ℕ → List Bool → List (Option Rest) → Made Ended
-attempt_by W a h g t o n commands cancelled rests = unless_cancelled (slice_index_or cancelled a.session false) (W.attempted o (caller_of n (slice_index_or commands a.session 0) a) (slice_index_or rests a.session None) h g t)
+abbrev attempt_by : Asker → History → Settings → StatementTree → Options → ℕ → List ℕ → List Bool → List (Option Rest) → Made Ended
+attempt_by a h g t o n commands cancelled rests = unless_cancelled (slice_index_or cancelled a.session false) (attempted o (caller_of n (slice_index_or commands a.session 0) a) (slice_index_or rests a.session None) g t h)
 
-same_attempt : {O T : Type 0} (W : Words O T) (o : O) (e : KeptSeats) (a : Asker) (g : Settings) (t : T) (cut : List ℕ) (n : Tally) (v : Database O) → StandsFor o e cut n v → attempt_at W o e a v.history g t ≡ attempt_of W v a g t
-same_attempt W o e a g t cut n v stands =
-    ap (λ x. attempt_by W a v.history g t x (length e.opened) e.commands e.cancelled e.rests) stands.options
-    ∙ (ap (λ x. attempt_by W a v.history g t v.options x e.commands e.cancelled e.rests) stands.sessions
-    ∙ (ap (λ x. attempt_by W a v.history g t v.options v.sessions x e.cancelled e.rests) stands.commands
-    ∙ (ap (λ x. attempt_by W a v.history g t v.options v.sessions v.commands x e.rests) stands.cancelled
-    ∙ ap (λ x. attempt_by W a v.history g t v.options v.sessions v.commands v.cancelled x) stands.rests)))
+same_attempt : (o : Options) (e : KeptSeats) (a : Asker) (g : Settings) (t : StatementTree) (cut : List ℕ) (n : Tally) (v : Database) → StandsFor o e cut n v → attempt_at o e a v.history g t ≡ attempt_of v a g t
+same_attempt o e a g t cut n v stands =
+    ap (λ x. attempt_by a v.history g t x (length e.opened) e.commands e.cancelled e.rests) stands.options
+    ∙ (ap (λ x. attempt_by a v.history g t v.options x e.commands e.cancelled e.rests) stands.sessions
+    ∙ (ap (λ x. attempt_by a v.history g t v.options v.sessions x e.cancelled e.rests) stands.commands
+    ∙ (ap (λ x. attempt_by a v.history g t v.options v.sessions v.commands x e.rests) stands.cancelled
+    ∙ ap (λ x. attempt_by a v.history g t v.options v.sessions v.commands v.cancelled x) stands.rests)))
 
-abbrev given_with : {O T : Type 0} → Words O T → Asker → History → Settings → T → O → ℕ → List ℕ → List Bool → List (Option Rest) → Tally
-given_with W a h g t o n commands cancelled rests = unless_cut (slice_index_or cancelled a.session false) (W.given o (caller_of n (slice_index_or commands a.session 0) a) (slice_index_or rests a.session None) h g t)
+abbrev given_with : Asker → History → Settings → StatementTree → Options → ℕ → List ℕ → List Bool → List (Option Rest) → Tally
+given_with a h g t o n commands cancelled rests = unless_cut (slice_index_or cancelled a.session false) (statement_given o (caller_of n (slice_index_or commands a.session 0) a) (slice_index_or rests a.session None) g t h)
 
-same_given : {O T : Type 0} (W : Words O T) (o : O) (e : KeptSeats) (a : Asker) (g : Settings) (t : T) (cut : List ℕ) (n : Tally) (v : Database O) → StandsFor o e cut n v → given_at W o e a v.history g t ≡ given_by W v a g t
-same_given W o e a g t cut n v stands =
-    ap (λ x. given_with W a v.history g t x (length e.opened) e.commands e.cancelled e.rests) stands.options
-    ∙ (ap (λ x. given_with W a v.history g t v.options x e.commands e.cancelled e.rests) stands.sessions
-    ∙ (ap (λ x. given_with W a v.history g t v.options v.sessions x e.cancelled e.rests) stands.commands
-    ∙ (ap (λ x. given_with W a v.history g t v.options v.sessions v.commands x e.rests) stands.cancelled
-    ∙ ap (λ x. given_with W a v.history g t v.options v.sessions v.commands v.cancelled x) stands.rests)))
+same_given : (o : Options) (e : KeptSeats) (a : Asker) (g : Settings) (t : StatementTree) (cut : List ℕ) (n : Tally) (v : Database) → StandsFor o e cut n v → given_at o e a v.history g t ≡ given_by v a g t
+same_given o e a g t cut n v stands =
+    ap (λ x. given_with a v.history g t x (length e.opened) e.commands e.cancelled e.rests) stands.options
+    ∙ (ap (λ x. given_with a v.history g t v.options x e.commands e.cancelled e.rests) stands.sessions
+    ∙ (ap (λ x. given_with a v.history g t v.options v.sessions x e.cancelled e.rests) stands.commands
+    ∙ (ap (λ x. given_with a v.history g t v.options v.sessions v.commands x e.rests) stands.cancelled
+    ∙ ap (λ x. given_with a v.history g t v.options v.sessions v.commands v.cancelled x) stands.rests)))
 
 -- what has happened after it
 abbrev history_by : Asker → History → List (Option Rest) → Made Ended → History
 history_by a h rests m = given_up a.level a.session (slice_index_or rests a.session None) m.told ++ (m.events ++ h)
 
-pub stands_ran : {O T : Type 0} (W : Words O T) (o : O) (old new : KeptSeats) (a : Asker) (g : Settings) (t : T) (before after : List ℕ) (x : Outcome) (cut : List ℕ) (n m : Tally) (v : Database O)
-    → StandsFor o old cut n v → HasRun (attempt_at W o old a v.history g t) a old new before after x v.history → m ≡ added n (given_at W o old a v.history g t) → new.opened ≡ old.opened
-    → StandsFor o new cut m (goes_on_to v a (attempt_of W v a g t) (given_by W v a g t))
-stands_ran W o old new a g t before after x cut n m v stands ran grown same =
-    let meant = same_attempt W o old a g t cut n v stands in
+pub stands_ran : (o : Options) (old new : KeptSeats) (a : Asker) (g : Settings) (t : StatementTree) (before after : List ℕ) (x : Outcome) (cut : List ℕ) (n m : Tally) (v : Database)
+    → StandsFor o old cut n v → HasRun (attempt_at o old a v.history g t) a old new before after x v.history → m ≡ added n (given_at o old a v.history g t) → new.opened ≡ old.opened
+    → StandsFor o new cut m (goes_on_to v a (attempt_of v a g t) (given_by v a g t))
+stands_ran o old new a g t before after x cut n m v stands ran grown same =
+    let meant = same_attempt o old a g t cut n v stands in
     record {
       whole = ran.whole;
       options = stands.options;
       sessions = ap length same ∙ stands.sessions;
-      tells = subst (λ rests. TellOf new (history_by a v.history rests (attempt_of W v a g t))) stands.rests (subst (λ m. TellOf new (history_by a v.history old.rests m)) meant ran.tells);
+      tells = subst (λ rests. TellOf new (history_by a v.history rests (attempt_of v a g t))) stands.rests (subst (λ m. TellOf new (history_by a v.history old.rests m)) meant ran.tells);
       commands = ran.commands ∙ (ap (λ m. slice_set old.commands a.session (next_command m.told (slice_index_or old.commands a.session 0))) meant
-          ∙ ap (λ cs. slice_set cs a.session (next_command (attempt_of W v a g t).told (slice_index_or cs a.session 0))) stands.commands);
+          ∙ ap (λ cs. slice_set cs a.session (next_command (attempt_of v a g t).told (slice_index_or cs a.session 0))) stands.commands);
       cancelled = ran.cancelled ∙ ap (λ cs. slice_set cs a.session false) stands.cancelled;
-      rests = ran.rests ∙ (ap (λ m. slice_set old.rests a.session (rest_told m.told)) meant ∙ ap (λ rs. slice_set rs a.session (rest_told (attempt_of W v a g t).told)) stands.rests);
+      rests = ran.rests ∙ (ap (λ m. slice_set old.rests a.session (rest_told m.told)) meant ∙ ap (λ rs. slice_set rs a.session (rest_told (attempt_of v a g t).told)) stands.rests);
       cut = stands.cut;
-      given = grown ∙ (ap (λ x. added x (given_at W o old a v.history g t)) stands.given ∙ ap (added v.tally) (same_given W o old a g t cut n v stands));
+      given = grown ∙ (ap (λ x. added x (given_at o old a v.history g t)) stands.given ∙ ap (added v.tally) (same_given o old a g t cut n v stands));
     }
 
-pub outcome_ran : {O T : Type 0} (W : Words O T) (o : O) (old new : KeptSeats) (a : Asker) (g : Settings) (t : T) (before after : List ℕ) (x : Outcome) (cut : List ℕ) (n : Tally) (v : Database O)
-    → StandsFor o old cut n v → HasRun (attempt_at W o old a v.history g t) a old new before after x v.history → x ≡ outcome_told (attempt_of W v a g t).told
-outcome_ran W o old new a g t before after x cut n v stands ran = ran.outcome ∙ ap (λ m. outcome_told m.told) (same_attempt W o old a g t cut n v stands)
+pub outcome_ran : (o : Options) (old new : KeptSeats) (a : Asker) (g : Settings) (t : StatementTree) (before after : List ℕ) (x : Outcome) (cut : List ℕ) (n : Tally) (v : Database)
+    → StandsFor o old cut n v → HasRun (attempt_at o old a v.history g t) a old new before after x v.history → x ≡ outcome_told (attempt_of v a g t).told
+outcome_ran o old new a g t before after x cut n v stands ran = ran.outcome ∙ ap (λ m. outcome_told m.told) (same_attempt o old a g t cut n v stands)
 
-pub text_ran : {O T : Type 0} (W : Words O T) (o : O) (old new : KeptSeats) (a : Asker) (g : Settings) (t : T) (before after : List ℕ) (x : Outcome) (cut : List ℕ) (n : Tally) (v : Database O)
-    → StandsFor o old cut n v → HasRun (attempt_at W o old a v.history g t) a old new before after x v.history → after ≡ before ++ text_told (attempt_of W v a g t).told
-text_ran W o old new a g t before after x cut n v stands ran = ran.text ∙ ap (λ m. before ++ text_told m.told) (same_attempt W o old a g t cut n v stands)
+pub text_ran : (o : Options) (old new : KeptSeats) (a : Asker) (g : Settings) (t : StatementTree) (before after : List ℕ) (x : Outcome) (cut : List ℕ) (n : Tally) (v : Database)
+    → StandsFor o old cut n v → HasRun (attempt_at o old a v.history g t) a old new before after x v.history → after ≡ before ++ text_told (attempt_of v a g t).told
+text_ran o old new a g t before after x cut n v stands ran = ran.text ∙ ap (λ m. before ++ text_told m.told) (same_attempt o old a g t cut n v stands)
 
 -- the waits that it cancels have ended before
-pub after_cuts : {O T : Type 0} (W : Words O T) (o p : O) (old mid : KeptSeats) (before cut : List ℕ) (others : List ℕ) (n : ℕ) (a : Asker) (t : T) (first then' : Tally) (v : Database O)
-    → others ≡ W.cancels a.session n t → n ≡ length old.opened → StandsFor o old before first v → StandsFor p mid cut then' (all_cut v others) → StandsFor p mid cut then' (cut_by W v a t)
-after_cuts W o p old mid before cut others n a t first then' v are count stands ended =
-    subst (λ ss. StandsFor p mid cut then' (all_cut v ss)) (are ∙ ap (λ k. W.cancels a.session k t) (count ∙ stands.sessions)) ended
+pub after_cuts : (o p : Options) (old mid : KeptSeats) (before cut : List ℕ) (others : List ℕ) (n : ℕ) (a : Asker) (t : StatementTree) (first then' : Tally) (v : Database)
+    → others ≡ cancelled_by a.session n t → n ≡ length old.opened → StandsFor o old before first v → StandsFor p mid cut then' (all_cut v others) → StandsFor p mid cut then' (cut_by v a t)
+after_cuts o p old mid before cut others n a t first then' v are count stands ended =
+    subst (λ ss. StandsFor p mid cut then' (all_cut v ss)) (are ∙ ap (λ k. cancelled_by a.session k t) (count ∙ stands.sessions)) ended
 
 pub if_on : {X E : Type 0} (r : Result X E) (P : X → Type 0) (Q : Type 0) → IfOk r P → ((x : X) → P x → Q) → OnOk r Q
 if_on (Ok x) P Q p f = f x p

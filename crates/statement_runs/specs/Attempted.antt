@@ -31,20 +31,14 @@ use Rattle.detach_statement.specs.Concurrent.{detached_concurrently}
 use Rattle.detach_statement.specs.Finalized.{finalized}
 use Rattle.attach_statement.specs.Attached.{attached}
 use Rattle.statement_runs.specs.LeftOut.{command_word, query_word}
+use Rattle.statement_runs.specs.declared.options.Options.{Options}
 use Rattle.statement_runs.specs.Trails.{trail_text}
-
--- ---- what a run is told beside its script
-
--- the names of its sessions, the control session's first, and whether it prints the trails of statements
-pub record Options : Type 0 where
-  pub names : List (List ℕ)
-  pub trail : Bool
 
 abbrev pub is_step : BlockKind → Bool
 is_step Step = true
 is_step _ = false
 
--- those of steps alone
+-- the trails of steps alone are printed
 abbrev pub is_trailed : Options → Caller → Bool
 is_trailed o c = o.trail && is_step c.kind
 
@@ -119,7 +113,7 @@ query_attempted trailed prunes names c rest (rows r) = row_attempted trailed pru
 query_attempted trailed prunes names c rest (explains_select analyze s) = explain_attempted prunes names c analyze s
 query_attempted trailed prunes names c rest t = omitted (query_word t)
 
--- from its beginning, or from where it stood, in a session with these settings
-abbrev pub attempted : Options → Caller → Option Rest → Settings → StatementTree → History → Made Ended
+-- from its beginning, or from where it stood, in a session with these settings; it is opened where that matters alone
+unfoldable pub attempted : Options → Caller → Option Rest → Settings → StatementTree → History → Made Ended
 attempted o c rest g (commands t) = command_attempted o.names c rest t
 attempted o c rest g (queries t) = query_attempted (is_trailed o c) g.enable_partition_pruning o.names c rest t

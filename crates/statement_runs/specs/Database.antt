@@ -13,11 +13,17 @@ use Rattle.sessions.specs.declared.outcome.Outcome.TheVariants as outcomes
 use Rattle.pg_values.specs.declared.isolation.Isolation.{Isolation}
 use Rattle.pg_values.specs.declared.isolation.Isolation.TheVariants.{ReadCommitted, ReadUncommitted, RepeatableRead}
 use Rattle.sessions.specs.declared.settings.Settings.{Settings}
+use Rattle.sql_ast.specs.Statements.{StatementTree}
+use Rattle.out_text.specs.FaultText.{fault_text}
 use Rattle.stores.specs.Events.{begun, committed, aborted, let_go, withdrawn, resumed}
 use Rattle.statement_steps.specs.Ended.{Ended, Done, Commits}
 use Rattle.statement_steps.specs.Made.{Made, Halt, Waits, Refused, number_after, halted}
 use Rattle.statement_runs.specs.Tallies.{none, added, unless_cut}
-use Rattle.statement_runs.specs.Words.{Words}
+use Rattle.statement_runs.specs.Attempted.{attempted}
+use Rattle.statement_runs.specs.Given.{statement_given}
+use Rattle.statement_runs.specs.Reading.{read_block}
+use Rattle.statement_runs.specs.Roles.{role_of, looks, misplaced, changed, cancelled_by}
+use Rattle.statement_runs.specs.declared.options.Options.{Options}
 use Rattle.statement_steps.specs.declared.caller.Caller.{Caller}
 use Rattle.statement_steps.specs.declared.rest.Rest.{Rest}
 use Rattle.statement_steps.specs.declared.rest.Rest.TheVariants.{Detach}
@@ -26,8 +32,8 @@ use Rattle.statement_steps.specs.declared.rest.Rest.TheVariants.{Detach}
 -- wait of its statement was cancelled, and where a statement stands that waits in the middle of its run; whose waits
 -- statements of others have cancelled, in this order, as long as these have not gone on; and what completed statements
 -- have given and read
-pub record Database (O : Type 0) : Type 0 where
-  pub options : O
+pub record Database : Type 0 where
+  pub options : Options
   pub sessions : ℕ
   pub history : History
   pub commands : List ℕ
@@ -36,20 +42,20 @@ pub record Database (O : Type 0) : Type 0 where
   pub cut : List ℕ
   pub tally : Tally
 
-abbrev pub empty : {O : Type 0} → O → ℕ → Database O
+abbrev pub empty : Options → ℕ → Database
 empty o n = record { options = o; sessions = n; history = []; commands = replicate n 0; cancelled = replicate n false; rests = replicate n None; cut = []; tally = none }
 
 -- nothing has happened again; what statements have given and read is kept
-abbrev pub anew : {O : Type 0} → Database O → Database O
+abbrev pub anew : Database → Database
 anew v = record (empty v.options v.sessions) { tally = v.tally }
 
-abbrev pub command_of : {O : Type 0} → Database O → ℕ → ℕ
+abbrev pub command_of : Database → ℕ → ℕ
 command_of v s = slice_index_or v.commands s 0
 
-abbrev pub is_cancelled : {O : Type 0} → Database O → ℕ → Bool
+abbrev pub is_cancelled : Database → ℕ → Bool
 is_cancelled v s = slice_index_or v.cancelled s false
 
-abbrev pub rest_of : {O : Type 0} → Database O → ℕ → Option Rest
+abbrev pub rest_of : Database → ℕ → Option Rest
 rest_of v s = slice_index_or v.rests s None
 
 -- ---- a statement
@@ -62,11 +68,11 @@ abbrev pub unless_cancelled : Bool → Made Ended → Made Ended
 unless_cancelled true m = halted [] (Refused statement_cancelled)
 unless_cancelled false m = m
 
-abbrev pub attempt_of : {O T : Type 0} → Words O T → Database O → Asker → Settings → T → Made Ended
-attempt_of W v a g t = unless_cancelled (is_cancelled v a.session) (W.attempted v.options (caller_of v.sessions (command_of v a.session) a) (rest_of v a.session) v.history g t)
+abbrev pub attempt_of : Database → Asker → Settings → StatementTree → Made Ended
+attempt_of v a g t = unless_cancelled (is_cancelled v a.session) (attempted v.options (caller_of v.sessions (command_of v a.session) a) (rest_of v a.session) g t v.history)
 
-abbrev pub given_by : {O T : Type 0} → Words O T → Database O → Asker → Settings → T → Tally
-given_by W v a g t = unless_cut (is_cancelled v a.session) (W.given v.options (caller_of v.sessions (command_of v a.session) a) (rest_of v a.session) v.history g t)
+abbrev pub given_by : Database → Asker → Settings → StatementTree → Tally
+given_by v a g t = unless_cut (is_cancelled v a.session) (statement_given v.options (caller_of v.sessions (command_of v a.session) a) (rest_of v a.session) g t v.history)
 
 -- a command that is to begin anew keeps its number
 abbrev pub next_command : Result Ended Halt → ℕ → ℕ
@@ -91,7 +97,7 @@ abbrev pub given_up : Isolation → (session : ℕ) → Option Rest → Result E
 given_up level s (Some rest) (Ok (Done text)) = let_go_at level s
 given_up level s rest told = []
 
-abbrev pub goes_on : {O : Type 0} → Database O → Asker → Made Ended → Tally → Database O
+abbrev pub goes_on : Database → Asker → Made Ended → Tally → Database
 goes_on v a m given = record v {
   history = given_up a.level a.session (rest_of v a.session) m.told ++ (m.events ++ v.history);
   commands = slice_set v.commands a.session (next_command m.told (command_of v a.session));
@@ -113,30 +119,30 @@ text_told (Err stop) = []
 
 -- ---- what happens
 
-abbrev pub happened : {O : Type 0} → Database O → History → Database O
+abbrev pub happened : Database → History → Database
 happened v events = record v { history = events ++ v.history }
 
-abbrev pub waits : {O : Type 0} → Database O → ℕ → Bool
+abbrev pub waits : Database → ℕ → Bool
 waits v s = is_some (wanted (lock_events v.history) s)
 
 -- the session's wait ends, and its statement is to be refused
-abbrev pub cancels : {O : Type 0} → Database O → ℕ → Database O
+abbrev pub cancels : Database → ℕ → Database
 cancels v s = record (happened v (withdrawn s)) { cancelled = slice_set v.cancelled s true }
 
 -- ---- a statement cancels the waits of others: before it is attempted, these end at once, one after the other
 
-abbrev pub cuts : {O : Type 0} → Database O → ℕ → Database O
+abbrev pub cuts : Database → ℕ → Database
 cuts v s = if waits v s then record (cancels v s) { cut = v.cut ++ s ∷ [] } else v
 
-abbrev pub all_cut : {O : Type 0} → Database O → List ℕ → Database O
+abbrev pub all_cut : Database → List ℕ → Database
 all_cut v [] = v
 all_cut v (s ∷ ss) = all_cut (cuts v s) ss
 
-abbrev pub cut_by : {O T : Type 0} → Words O T → Database O → Asker → T → Database O
-cut_by W v a t = all_cut v (W.cancels a.session v.sessions t)
+abbrev pub cut_by : Database → Asker → StatementTree → Database
+cut_by v a t = all_cut v (cancelled_by a.session v.sessions t)
 
 -- the first of these whose statement is still to be refused
-abbrev pub interrupted : {O : Type 0} → Database O → Option ℕ
+abbrev pub interrupted : Database → Option ℕ
 interrupted v = first (is_cancelled v) v.cut
 
 -- ---- a session goes on: the first of these, or one whose wait is over
@@ -145,26 +151,26 @@ abbrev pub is_ready : Option ℕ → ℕ → Bool
 is_ready None s = false
 is_ready (Some r) s = r == s
 
-abbrev pub resumes : {O : Type 0} → Database O → ℕ → Database O
+abbrev pub resumes : Database → ℕ → Database
 resumes v s = if is_ready (interrupted v) s then record v { cut = without s v.cut } else happened v (resumed s)
 
 -- ---- the calls
 
 -- sessions over a history
-abbrev pub course : {O T : Type 0} → Words O T → Course (Database O) T
-course W = record {
+abbrev pub course : Course Database StatementTree
+course = record {
   fresh = anew;
-  parsed = W.parsed;
-  role = W.role;
-  looks = W.looks;
-  misplaced = W.misplaced;
-  set = W.set;
+  parsed = read_block;
+  role = role_of;
+  looks = looks;
+  misplaced = misplaced;
+  set = changed;
   began = λ v s. record (happened v (begun v.history s)) { commands = slice_set v.commands s 0 };
   committed = λ v s. happened v (committed v.history s);
   aborted = λ v s. happened v (aborted v.history s);
-  ran = λ v a g t. goes_on (cut_by W v a t) a (attempt_of W (cut_by W v a t) a g t) (given_by W (cut_by W v a t) a g t);
-  outcome = λ v a g t. outcome_told (attempt_of W (cut_by W v a t) a g t).told;
-  text = λ v a g t. text_told (attempt_of W (cut_by W v a t) a g t).told;
+  ran = λ v a g t. goes_on (cut_by v a t) a (attempt_of (cut_by v a t) a g t) (given_by (cut_by v a t) a g t);
+  outcome = λ v a g t. outcome_told (attempt_of (cut_by v a t) a g t).told;
+  text = λ v a g t. text_told (attempt_of (cut_by v a t) a g t).told;
   interrupted = interrupted;
   ready = λ v. ready (lock_events v.history);
   resumed = resumes;
@@ -172,5 +178,5 @@ course W = record {
   oldest = λ v. head_of (queue (lock_events v.history));
   cancelled = cancels;
   tally = λ v. v.tally;
-  fault_text = W.fault_text;
+  fault_text = fault_text;
 }

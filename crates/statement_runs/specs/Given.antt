@@ -13,8 +13,8 @@ use Rattle.select_statement.specs.Selected.{Told as SelectTold, selected}
 use Rattle.change_statement.specs.Changed.{Told as ChangeTold}
 use Rattle.change_statement.specs.Deleted.{deleted}
 use Rattle.change_statement.specs.Updated.{updated}
-use Rattle.statement_runs.specs.Attempted.{Options}
 use Rattle.statement_runs.specs.Tallies.{none}
+use Rattle.statement_runs.specs.declared.options.Options.{Options}
 
 -- by what is told of it: nothing, where it waits or is refused
 abbrev pub given : {T : Type 0} → (T → Tally) → Result T Halt → Tally
@@ -42,6 +42,7 @@ abbrev pub query_given : (prunes : Bool) → (names : List (List ℕ)) → Calle
 query_given prunes names c rest (row_query r) h = row_given prunes names c rest r h
 query_given prunes names c rest t h = none
 
-abbrev pub statement_given : Options → Caller → Option Rest → Settings → StatementTree → History → Tally
+-- if it comes to its end there
+unfoldable pub statement_given : Options → Caller → Option Rest → Settings → StatementTree → History → Tally
 statement_given o c rest g (commands t) h = none
 statement_given o c rest g (queries t) h = query_given g.enable_partition_pruning o.names c rest t h

@@ -14,6 +14,7 @@ use Rattle.stores.specs.Numbers.{IsAt}
 use Rattle.stores.specs.declared.stores.Stores.{Stores}
 use Rattle.statement_steps.specs.Attempts.{CanGoOn}
 use Rattle.statement_runs.specs.Database.{Database, is_ready}
+use Rattle.statement_runs.specs.declared.options.Options.{Options}
 use Rattle.statement_steps.specs.declared.rest.Rest.{Rest}
 
 -- who has a transaction, how many commands of it were tried, whose wait was cancelled, and where a statement stands that
@@ -71,7 +72,7 @@ pub record Adds (old new : KeptSeats) (events : History → List Event) : Type 0
 
 -- it stands for a database, with those whose waits statements of others have cancelled, and with what statements have given
 -- and read
-pub record StandsFor {O : Type 0} (o : O) (kept : KeptSeats) (ended : List ℕ) (tally : Tally) (v : Database O) : Type 0 where
+pub record StandsFor (o : Options) (kept : KeptSeats) (ended : List ℕ) (tally : Tally) (v : Database) : Type 0 where
   pub whole : kept.whole ≡ true
   pub options : o ≡ v.options
   pub sessions : length kept.opened ≡ v.sessions

@@ -8,16 +8,12 @@ pub mod Kept
 pub mod LeftOut
 pub mod Moments
 pub mod Names
-pub mod Once
 pub mod Printed
 pub mod Ran
 pub mod ReadMoments
 pub mod ReadBlocks
 pub mod Reading
 pub mod Roles
-pub mod StatementWords
-pub mod StatementsOnce
 pub mod Tallies
 pub mod Trails
 pub mod Weight
-pub mod Words

@@ -6,22 +6,25 @@ use Rattle.sessions.specs.declared.asker.Asker.{Asker}
 use Rattle.sessions.specs.declared.outcome.Outcome.{Outcome}
 use Rattle.sessions.specs.declared.outcome.Outcome.TheVariants.{Goes, Waits, Commits, Done, Refused}
 use Rattle.sessions.specs.declared.settings.Settings.{Settings}
+use Rattle.sql_ast.specs.Statements.{StatementTree}
 use Rattle.statement_steps.specs.Ended.{Ended}
 use Rattle.statement_steps.specs.Made.{Made}
 use Rattle.statement_runs.specs.Tallies.{unless_cut}
-use Rattle.statement_runs.specs.Words.{Words}
+use Rattle.statement_runs.specs.Attempted.{attempted}
+use Rattle.statement_runs.specs.Given.{statement_given}
 use Rattle.statement_runs.specs.Database.{caller_of, unless_cancelled, next_command, rest_told, given_up, outcome_told, text_told}
 use Rattle.statement_runs.specs.Kept.{KeptSeats, TellOf}
+use Rattle.statement_runs.specs.declared.options.Options.{Options}
 
 -- what the statement means at that history
-abbrev pub attempt_at : {O T : Type 0} → Words O T → O → KeptSeats → Asker → History → Settings → T → Made Ended
-attempt_at W o kept a h g t =
-    unless_cancelled (slice_index_or kept.cancelled a.session false) (W.attempted o (caller_of (length kept.opened) (slice_index_or kept.commands a.session 0) a) (slice_index_or kept.rests a.session None) h g t)
+abbrev pub attempt_at : Options → KeptSeats → Asker → History → Settings → StatementTree → Made Ended
+attempt_at o kept a h g t =
+    unless_cancelled (slice_index_or kept.cancelled a.session false) (attempted o (caller_of (length kept.opened) (slice_index_or kept.commands a.session 0) a) (slice_index_or kept.rests a.session None) g t h)
 
 -- and gives and reads there
-abbrev pub given_at : {O T : Type 0} → Words O T → O → KeptSeats → Asker → History → Settings → T → Tally
-given_at W o kept a h g t =
-    unless_cut (slice_index_or kept.cancelled a.session false) (W.given o (caller_of (length kept.opened) (slice_index_or kept.commands a.session 0) a) (slice_index_or kept.rests a.session None) h g t)
+abbrev pub given_at : Options → KeptSeats → Asker → History → Settings → StatementTree → Tally
+given_at o kept a h g t =
+    unless_cut (slice_index_or kept.cancelled a.session false) (statement_given o (caller_of (length kept.opened) (slice_index_or kept.commands a.session 0) a) (slice_index_or kept.rests a.session None) g t h)
 
 -- that has come of it: its events, what it comes to and prints, and whether it counts as a command
 pub record HasRun (m : Made Ended) (a : Asker) (old new : KeptSeats) (before after : List ℕ) (o : Outcome) (h : History) : Type 0 where

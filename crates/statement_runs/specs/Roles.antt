@@ -1,11 +1,19 @@
 -- What a statement is in the course of a session (VI. SQL Commands).
-use Rattle.std.specs.Prelude.{Bool, true, false, Result, Ok}
+use Rattle.std.specs.Prelude.{ℕ, ◌-◌, Bool, true, false, List, [], Option, None, Result, Ok, is_some}
 use Rattle.pg_values.specs.declared.fault.Fault.{Fault}
+use Rattle.sessions.specs.declared.asker.Place.{Place}
 use Rattle.sessions.specs.declared.role.Role.{Role}
 use Rattle.sessions.specs.declared.role.Role.TheVariants.{Begin, Commit, Rollback, Set, Query}
 use Rattle.sessions.specs.declared.settings.Settings.{Settings}
-use Rattle.sql_ast.specs.Commands.{CommandTree, begins, commits, rolls_back, sets, resets, locks}
+use Rattle.sql_ast.specs.Commands.{CommandTree, begins, commits, rolls_back, sets, resets, detaches, locks}
+use Rattle.sql_ast.specs.Queries.{RowTree, QueryTree, selects, rows}
 use Rattle.sql_ast.specs.Statements.{StatementTree, commands, queries}
+use Rattle.sql_ast.specs.declared.detachment.Detachment.TheVariants.{Concurrently}
+use Rattle.statement_steps.specs.declared.rest.Rest.{Rest}
+use Rattle.select_statement.specs.Cancels.{cancelled}
+use Rattle.table_statements.specs.Places.{lock_misplaced}
+use Rattle.detach_statement.specs.Concurrent.{detach_of}
+use Rattle.detach_statement.specs.Places.{detach_misplaced}
 use Rattle.statement_runs.specs.Changes as settings
 
 abbrev pub command_role : CommandTree → Role
@@ -43,3 +51,36 @@ command_settings g _ = Ok g
 abbrev pub changed : Settings → StatementTree → Result Settings Fault
 changed g (commands c) = command_settings g c
 changed g (queries q) = Ok g
+
+-- of the statements that are run over the stores LOCK and a concurrent DETACH cannot stand everywhere
+abbrev pub command_misplaced : Place → CommandTree → Option Fault
+command_misplaced place (locks tables mode) = lock_misplaced place.alone place.explicit
+command_misplaced place (detaches parent name Concurrently) = detach_misplaced place.alone place.explicit
+command_misplaced place t = None
+
+abbrev pub misplaced : Place → StatementTree → Option Fault
+misplaced place (commands t) = command_misplaced place t
+misplaced place (queries t) = None
+
+-- a concurrent DETACH alone commits what it did first
+abbrev pub command_committed : Option Rest → CommandTree → Bool
+command_committed rest (detaches parent name Concurrently) = is_some (detach_of rest)
+command_committed rest t = false
+
+abbrev pub has_committed : Option Rest → StatementTree → Bool
+has_committed rest (commands t) = command_committed rest t
+has_committed rest (queries t) = false
+
+-- a SELECT alone cancels waits
+abbrev pub row_cancelled : (session sessions : ℕ) → RowTree → List ℕ
+row_cancelled s sessions (selects t) = cancelled s sessions t
+row_cancelled s sessions t = []
+
+abbrev pub query_cancelled : (session sessions : ℕ) → QueryTree → List ℕ
+query_cancelled s sessions (rows r) = row_cancelled s sessions r
+query_cancelled s sessions t = []
+
+-- the control session is one of the sessions, and no number names it
+abbrev pub cancelled_by : (session sessions : ℕ) → StatementTree → List ℕ
+cancelled_by s sessions (commands t) = []
+cancelled_by s sessions (queries t) = query_cancelled s (sessions - 1) t

@@ -18,6 +18,7 @@ ghost use Rattle.statement_runs.specs.Given as given;
 ghost use Rattle.statement_runs.specs.Printed.{IsStatement, IsTallied};
 ghost use Rattle.statement_runs.specs.Tallies.{added};
 
+use crate::Options;
 use crate::left_out::{command_word, query_word};
 use crate::tallies::count;
 use crate::trails::write_trail;
@@ -416,8 +417,7 @@ fn attempt_query(
 pub(crate) fn attempt(
     alloc: Global,
     stores: &mut Stores,
-    names: &SessionNames,
-    trail: bool,
+    options: &Options,
     caller: Caller,
     rest: Option<Rest>,
     settings: Settings,
@@ -427,16 +427,17 @@ pub(crate) fn attempt(
 ) -> Result<Ending, Stop>
     requires may { MayAttempt stores.old caller }
     requires rest { MayGoOn stores.old caller rest }
-    ensures tally { IsTallied rest result stores.old tally.old tally.new caller (given.statement_given (record { names = names.now; trail = trail }) caller rest settings (statement_tree statement.now)) }
-    ensures is { IsStatement rest result stores.old stores.new out.old.items out.new.items caller (attempted.attempted (record { names = names.now; trail = trail }) caller rest settings (statement_tree statement.now)) }
+    ensures tally { IsTallied rest result stores.old tally.old tally.new caller (given.statement_given options.now caller rest settings (statement_tree statement.now)) }
+    ensures is { IsStatement rest result stores.old stores.new out.old.items out.new.items caller (attempted.attempted options.now caller rest settings (statement_tree statement.now)) }
 {
+    let names = &options.names;
     match statement {
         Statement::Command(command) => {
             attempt_command(alloc, stores, names, caller, rest, command, out)
         }
         Statement::Query(query) => {
             let prunes = settings.enable_partition_pruning;
-            let trailed = is_trailed(trail, caller);
+            let trailed = is_trailed(options.trail, caller);
             let done = attempt_query(
                 alloc, stores, names, caller, prunes, trailed, rest, query, tally, out,
             );

@@ -4,17 +4,20 @@ ghost use Rattle.statement_runs.specs.Database.{Database, empty, cuts, all_cut};
 ghost use Rattle.statement_runs.specs.Kept.{StandsFor, waits_in, interrupted_in};
 ghost use Rattle.statement_runs.specs.Weight.{left, most_left};
 
-use crate::Kinds;
+use crate::roles::{cancelled_by, misplaced};
 use crate::seats::Seats;
+use crate::{Options, changed_settings, looks, read_block, role_of};
+use out_text::write_fault_text;
 use pg_values::{Fault, NoMemory, Refusal};
 use schedule::{Tally, leave};
 use sessions::{Asker, Executor, Outcome, Place, Role, Settings};
+use sql_ast::Statement;
 use std::alloc::Global;
 
-/// The sessions of a run over the stores, with the statements that there are.
+/// The sessions of a run over the stores.
 #[derive(Drop)]
-pub struct StoreExecutor<K: Kinds> {
-    pub kinds: K,
+pub struct StoreExecutor {
+    pub options: Options,
     pub seats: Seats,
     /// Whose waits statements of others have cancelled, in this order, as long as these have not gone on.
     pub cut: Vec<usize>,
@@ -22,17 +25,17 @@ pub struct StoreExecutor<K: Kinds> {
     pub tally: Tally,
 }
 
-impl<K: Kinds> StoreExecutor<K> {
+impl StoreExecutor {
     /// So many sessions in which nothing has happened.
-    pub fn new(alloc: Global, kinds: K, sessions: usize) -> Result<Self, NoMemory>
+    pub fn new(alloc: Global, options: Options, sessions: usize) -> Result<Self, NoMemory>
         requires { sessions ≤ 65 }
-        ensures stands { IfOk result (λ e. StandsFor (K.options e.kinds) e.seats e.cut.items e.tally (empty (K.options kinds) sessions)) }
+        ensures stands { IfOk result (λ e. StandsFor e.options e.seats e.cut.items e.tally (empty options sessions)) }
         ensures opened { IfOk result (λ e. e.seats.opened ≡ replicate sessions false) }
         ensures left { IfOk result (λ e. left e.seats e.cut.items ≤ most_left) }
     {
         let seats = Seats::new(alloc, sessions)?;
         let executor = StoreExecutor {
-            kinds,
+            options,
             seats,
             cut: Vec::new(alloc),
             tally: Tally { rows: 0, reads: 0 },
@@ -50,11 +53,11 @@ impl<K: Kinds> StoreExecutor<K> {
 
     // The wait of the session ends, if it waits, and its statement is to be refused.
     fn interrupt(&mut self, session: usize) -> Result<(), NoMemory>
-        ensures kinds { self.new.kinds ≡ self.old.kinds }
+        ensures options { self.new.options ≡ self.old.options }
         ensures opened { self.new.seats.opened ≡ self.old.seats.opened }
         ensures rests { self.new.seats.rests ≡ self.old.seats.rests }
-        ensures stands { OnOk result ((v : Database K.Options) → StandsFor (K.options self.old.kinds) self.old.seats self.old.cut.items self.old.tally v →
-            StandsFor (K.options self.new.kinds) self.new.seats self.new.cut.items self.new.tally (cuts v session)) }
+        ensures stands { OnOk result ((v : Database) → StandsFor self.old.options self.old.seats self.old.cut.items self.old.tally v →
+            StandsFor self.new.options self.new.seats self.new.cut.items self.new.tally (cuts v session)) }
         ensures others { (s : ℕ) → waits_in self.old.seats s ≡ false → waits_in self.new.seats s ≡ false }
         ensures lower { left self.new.seats self.new.cut.items ≤ left self.old.seats self.old.cut.items }
     {
@@ -68,11 +71,11 @@ impl<K: Kinds> StoreExecutor<K> {
 
     // Those of these sessions, one after the other.
     fn interrupt_all(&mut self, sessions: &[usize]) -> Result<(), NoMemory>
-        ensures kinds { self.new.kinds ≡ self.old.kinds }
+        ensures options { self.new.options ≡ self.old.options }
         ensures opened { self.new.seats.opened ≡ self.old.seats.opened }
         ensures rests { self.new.seats.rests ≡ self.old.seats.rests }
-        ensures stands { OnOk result ((v : Database K.Options) → StandsFor (K.options self.old.kinds) self.old.seats self.old.cut.items self.old.tally v →
-            StandsFor (K.options self.new.kinds) self.new.seats self.new.cut.items self.new.tally (all_cut v sessions.now)) }
+        ensures stands { OnOk result ((v : Database) → StandsFor self.old.options self.old.seats self.old.cut.items self.old.tally v →
+            StandsFor self.new.options self.new.seats self.new.cut.items self.new.tally (all_cut v sessions.now)) }
         ensures others { (s : ℕ) → waits_in self.old.seats s ≡ false → waits_in self.new.seats s ≡ false }
         ensures lower { left self.new.seats self.new.cut.items ≤ left self.old.seats self.old.cut.items }
     {
@@ -106,28 +109,32 @@ fn first_cancelled(seats: &Seats, cut: &[usize]) -> Option<usize>
     None
 }
 
-impl<K: Kinds> Executor for StoreExecutor<K> {
+impl Executor for StoreExecutor {
     ghost use Rattle.std.specs.Prelude.{None, slice_index_or};
+    ghost use Rattle.sql_ast.specs.Statements.{StatementTree, statement_tree};
+    ghost use Rattle.sql_syntax.specs.declared.parse.TheConstants.{MOST_STATEMENTS};
     ghost use Rattle.statement_runs.specs.Database.{Database, course};
     ghost use Rattle.statement_runs.specs.Kept.{StandsFor, waits_in, may_go_on};
     ghost use Rattle.statement_runs.specs.Moments.{Always, AlwaysInOneLeaf, good_always, good_rows};
+    ghost use Rattle.statement_runs.specs.ReadMoments.{StatementsAreSound, good_statements};
+    ghost use Rattle.statement_runs.specs.Roles.{has_committed};
     ghost use Rattle.statement_runs.specs.Weight as weights;
 
-    type Statement = K::Statement;
+    type Statement = Statement;
 
-    ghost Tree = { K.Tree };
+    ghost Tree = { StatementTree };
 
-    ghost tree = { K.tree };
+    ghost tree = { statement_tree };
 
-    ghost State = { Database K.Options };
+    ghost State = { Database };
 
-    ghost course = { course K.words };
+    ghost course = { course };
 
-    ghost stands = { λ e v. StandsFor (K.options e.kinds) e.seats e.cut.items e.tally v };
+    ghost stands = { λ e v. StandsFor e.options e.seats e.cut.items e.tally v };
 
-    ghost good = { λ v. AlwaysInOneLeaf v.history × Always K.Holds v.history };
+    ghost good = { λ v. AlwaysInOneLeaf v.history × Always StatementsAreSound v.history };
 
-    ghost stands_are_good = { λ e v st. (good_rows v.history st.tells.stands.good, good_always K.Holds K.holds v.history st.tells.stands.good) };
+    ghost stands_are_good = { λ e v st. (good_rows v.history st.tells.stands.good, good_always StatementsAreSound good_statements v.history st.tells.stands.good) };
 
     ghost in_transaction = { λ e. e.seats.opened };
 
@@ -135,51 +142,47 @@ impl<K: Kinds> Executor for StoreExecutor<K> {
 
     ghost due = { λ e s. may_go_on e.seats e.cut.items s };
 
-    ghost has_committed = { λ e s t. K.words.has_committed (slice_index_or e.seats.rests s None) t };
+    ghost has_committed = { λ e s t. has_committed (slice_index_or e.seats.rests s None) t };
 
     ghost slack = { λ e. weights.left e.seats e.cut.items };
 
     ghost most = { weights.most_left };
 
-    ghost most_statements = { K.most_statements };
+    ghost most_statements = { MOST_STATEMENTS };
 
     fn sessions(&self) -> usize {
         self.seats.count()
     }
 
     fn fresh(&self, alloc: Global) -> Result<Self, NoMemory> {
-        let kinds = self.kinds.copy(alloc)?;
-        let mut executor = StoreExecutor::new(alloc, kinds, self.seats.count())?;
+        let options = self.options.copy(alloc)?;
+        let mut executor = StoreExecutor::new(alloc, options, self.seats.count())?;
         executor.tally = self.tally;
         Ok(executor)
     }
 
-    fn parse(alloc: Global, text: &[u8]) -> Result<Vec<K::Statement>, Refusal> {
-        K::parse(alloc, text)
+    fn parse(alloc: Global, text: &[u8]) -> Result<Vec<Statement>, Refusal> {
+        read_block(alloc, text)
     }
 
-    fn role(statement: &K::Statement) -> Role {
-        K::role(statement)
+    fn role(statement: &Statement) -> Role {
+        role_of(statement)
     }
 
-    fn looks(statement: &K::Statement) -> bool {
-        K::looks(statement)
+    fn looks(statement: &Statement) -> bool {
+        looks(statement)
     }
 
     fn misplaced(
         alloc: Global,
         place: Place,
-        statement: &K::Statement,
+        statement: &Statement,
     ) -> Result<Option<Fault>, NoMemory> {
-        K::misplaced(alloc, place, statement)
+        misplaced(alloc, place, statement)
     }
 
-    fn set(
-        alloc: Global,
-        settings: Settings,
-        statement: &K::Statement,
-    ) -> Result<Settings, Refusal> {
-        K::set(alloc, settings, statement)
+    fn set(alloc: Global, settings: Settings, statement: &Statement) -> Result<Settings, Refusal> {
+        changed_settings(alloc, settings, statement)
     }
 
     fn begin(&mut self, session: usize) -> Result<(), NoMemory> {
@@ -203,16 +206,14 @@ impl<K: Kinds> Executor for StoreExecutor<K> {
         alloc: Global,
         asker: Asker,
         settings: Settings,
-        statement: &K::Statement,
+        statement: &Statement,
         out: &mut Vec<u8>,
     ) -> Result<Outcome, NoMemory> {
         let sessions = self.seats.count() as u32;
-        let others = K::cancels(alloc, asker.session as u32, sessions, statement)?;
+        let others = cancelled_by(alloc, asker.session as u32, sessions, statement)?;
         self.interrupt_all(&others)?;
         let tally = &mut self.tally;
-        let ran = self
-            .seats
-            .run(alloc, &self.kinds, asker, settings, statement, tally, out);
+        let ran = self.seats.run(alloc, &self.options, asker, settings, statement, tally, out);
         self.weigh();
         ran
     }
@@ -251,6 +252,6 @@ impl<K: Kinds> Executor for StoreExecutor<K> {
     }
 
     fn write_fault(alloc: Global, fault: &Fault, out: &mut Vec<u8>) -> Result<(), NoMemory> {
-        K::write_fault(alloc, fault, out)
+        write_fault_text(alloc, fault, out)
     }
 }

@@ -1,4 +1,4 @@
-//! Statements of sessions over the stores: an executor that is the same for every kind of statement.
+//! Statements of sessions over the stores: an executor as `sessions` asks for.
 //!
 //! What has happened is one history: transactions, row versions, tables and locks. A statement is run
 //! from its beginning up to its end or to a wait, in one go; what it does on the way is put before the
@@ -8,12 +8,9 @@
 //! A statement can cancel the waits of other sessions: these end before it is attempted, and
 //! those sessions go on before any other whose wait is over.
 //!
-//! Which statements there are is not said here: `Kinds` says how they are read and what each makes of
-//! the stores, and `Words` what that means, as pure functions of the history. `specs/Database.antt`
+//! What each statement is for its session, what it makes of the stores, what it prints and what it gives are
+//! pure functions of the history (`specs/Roles.antt`, `Attempted.antt`, `Given.antt`). `specs/Database.antt`
 //! makes of these what `sessions` asks of an executor.
-//!
-//! The statements of sessions over the stores: how a block is read, what each statement is for its
-//! session, what it makes of the stores, and what it prints.
 //!
 //! Where a run is asked for it, each SELECT, INSERT, UPDATE and DELETE of a step prints its trail behind its
 //! answer: how many rows it gave or changed, and the leaves that it read (`specs/Trails.antt`).
@@ -41,20 +38,18 @@ mod attempts;
 mod changes;
 mod executor;
 mod faults;
-mod kinds;
 mod left_out;
 mod names;
+mod options;
 mod reading;
 mod roles;
 mod seats;
-mod statements;
 mod tallies;
 mod trails;
 
 pub use changes::{reset, set};
 pub use executor::StoreExecutor;
-pub use kinds::Kinds;
 pub use names::SettingName;
+pub use options::Options;
 pub use reading::{blocks_are_read_by_the_grammar, read_block};
 pub use roles::{changed_settings, looks, role_of};
-pub use statements::Statements;

@@ -1,13 +1,16 @@
-ghost use Rattle.std.specs.Prelude.{◌≡◌};
+ghost use Rattle.std.specs.Prelude.{◌≡◌, IfOk};
 ghost use Rattle.sessions.specs.Answers.{IsAnswerBy};
 ghost use Rattle.sql_ast.specs.Statements.{statement_tree};
 ghost use Rattle.statement_runs.specs.Roles as roles;
 
 use crate::{reset, set};
-use pg_values::Refusal;
-use sessions::{Role, Settings};
-use sql_ast::{Command, Statement};
+use detach_statement::detach_misplaced;
+use pg_values::{Fault, NoMemory, Refusal};
+use select_statement::cancelled;
+use sessions::{Place, Role, Settings};
+use sql_ast::{Command, Detachment, Query, RowStatement, Statement};
 use std::alloc::Global;
+use table_statements::lock_misplaced;
 
 /// What the statement is in the course of its session.
 pub fn role_of(statement: &Statement) -> Role
@@ -53,5 +56,41 @@ pub fn changed_settings(
         }
         Statement::Command(Command::Reset(name)) => reset(alloc, settings, name.as_bytes()),
         _ => Ok(settings),
+    }
+}
+
+/// Why the statement may not stand there.
+pub(crate) fn misplaced(
+    alloc: Global,
+    place: Place,
+    statement: &Statement,
+) -> Result<Option<Fault>, NoMemory>
+    ensures { IfOk result (λ f. f ≡ roles.misplaced place (statement_tree statement.now)) }
+{
+    match statement {
+        Statement::Command(Command::Lock(_, _)) => {
+            Ok(lock_misplaced(alloc, place.alone, place.explicit))
+        }
+        Statement::Command(Command::Detach(_, _, Detachment::Concurrently)) => {
+            detach_misplaced(alloc, place.alone, place.explicit)
+        }
+        _ => Ok(None),
+    }
+}
+
+/// The sessions whose waits the statement of that session cancels, one after the other.
+pub(crate) fn cancelled_by(
+    alloc: Global,
+    session: u32,
+    sessions: u32,
+    statement: &Statement,
+) -> Result<Vec<usize>, NoMemory>
+    ensures { IfOk result (λ cut. cut.items ≡ roles.cancelled_by session sessions (statement_tree statement.now)) }
+{
+    match statement {
+        Statement::Query(Query::Rows(RowStatement::Select(select))) => {
+            cancelled(alloc, select, session, sessions.saturating_sub(1))
+        }
+        _ => Ok(Vec::new(alloc)),
     }
 }

@@ -3,6 +3,7 @@ ghost use Rattle.history.specs.History.{History};
 ghost use Rattle.pg_values.specs.Sets.{has};
 ghost use Rattle.schedule.specs.Lists.{head_of};
 ghost use Rattle.sessions.specs.declared.outcome.Outcome.TheVariants as outcomes;
+ghost use Rattle.sql_ast.specs.Statements.{statement_tree};
 ghost use Rattle.stores.specs.Events.{begun, committed, aborted, let_go, withdrawn, resumed};
 ghost use Rattle.statement_runs.specs.Database as database;
 ghost use Rattle.statement_steps.specs.Made as made;
@@ -11,12 +12,14 @@ ghost use Rattle.statement_runs.specs.Ran.{attempt_at, given_at, waits_by, HasRu
 ghost use Rattle.statement_runs.specs.Tallies.{added};
 ghost use Rattle.statement_runs.specs.Weight.{slack, most};
 
-use crate::Kinds;
+use crate::Options;
+use crate::attempts::attempt;
 use history::{WaitOn, Wanted};
 use pg_values::{Isolation, NoMemory, SessionSet};
 use refusals::statement_cancelled;
 use schedule::{Tally, leave};
 use sessions::{Asker, Outcome, Settings};
+use sql_ast::Statement;
 use statement_steps::{Caller, Ending, Rest, Stop};
 use std::alloc::Global;
 use std::marker::Model;
@@ -378,13 +381,13 @@ impl Seats {
 
     /// A statement of the session is run from its beginning, or from where it stood, up to its end or to a
     /// wait, and what it gives and reads is counted. One whose wait was cancelled is refused.
-    pub(crate) fn run<K: Kinds>(
+    pub(crate) fn run(
         &mut self,
         alloc: Global,
-        kinds: &K,
+        options: &Options,
         asker: Asker,
         settings: Settings,
-        statement: &K::Statement,
+        statement: &Statement,
         tally: &mut Tally,
         out: &mut Vec<u8>,
     ) -> Result<Outcome, NoMemory>
@@ -392,8 +395,8 @@ impl Seats {
         requires open { slice_index_or self.old.opened asker.session false ≡ true }
         requires free { waits_in self.old asker.session ≡ false }
         ensures ran { IfOk result (λ o. (h : History) → TellOf self.old h →
-            HasRun (attempt_at K.words (K.options kinds.now) self.old asker h settings (K.tree statement.now)) asker self.old self.new out.old.items out.new.items o h) }
-        ensures tally { IfOk result (λ o. (h : History) → TellOf self.old h → tally.new ≡ added tally.old (given_at K.words (K.options kinds.now) self.old asker h settings (K.tree statement.now))) }
+            HasRun (attempt_at options.now self.old asker h settings (statement_tree statement.now)) asker self.old self.new out.old.items out.new.items o h) }
+        ensures tally { IfOk result (λ o. (h : History) → TellOf self.old h → tally.new ≡ added tally.old (given_at options.now self.old asker h settings (statement_tree statement.now))) }
         ensures opened { self.new.opened ≡ self.old.opened }
         ensures waits { IfOk result (λ o. waits_in self.new asker.session ≡ waits_by o) }
         ensures lower { result ≡ Ok outcomes.Waits → slack self.new ≤ slack self.old }
@@ -424,9 +427,10 @@ impl Seats {
         };
         let rest = take_rest(&mut self.rests, session);
         let has_stood = rest.is_some();
-        let answer = kinds.attempt(
+        let answer = attempt(
             alloc,
             &mut self.stores,
+            options,
             caller,
             rest,
             settings,

@@ -5,19 +5,18 @@ use Rattle.schedule.specs.Rules.{Rules}
 use Rattle.spec_reader.specs.declared.spec.Spec.{Spec}
 use Rattle.spec_reader.specs.declared.spec.SessionSpec.{SessionSpec}
 use Rattle.sessions.specs.Sessions.{State, new_session, rules_of}
-use Rattle.statement_runs.specs.Attempted.{Options}
 use Rattle.statement_runs.specs.Database.{Database, course, empty}
 use Rattle.statement_runs.specs.Moments.{Always, AlwaysInOneLeaf}
 use Rattle.sql_ast.specs.Statements.{StatementTree}
 use Rattle.statement_runs.specs.ReadMoments.{StatementsAreSound}
 use Rattle.statement_runs.specs.Reading.{read_block}
-use Rattle.statement_runs.specs.StatementWords.{statement_words}
+use Rattle.statement_runs.specs.declared.options.Options.{Options}
 
 abbrev pub RunState : Type 0
-RunState = State (Database Options) StatementTree
+RunState = State Database StatementTree
 
 abbrev pub rules : Rules RunState
-rules = rules_of (course statement_words)
+rules = rules_of course
 
 -- at each moment up to now, each row that a tree shows to a session lies in the one leaf of the tree that accepts it
 abbrev pub RowsInOneLeaf : RunState → Type 0

@@ -7,7 +7,7 @@ use schedule::Database;
 use script_program::{Ended, Opener, run_program};
 use sessions::Sessions;
 use spec_reader::Spec;
-use statement_runs::{Statements, StoreExecutor, read_block};
+use statement_runs::{Options, StoreExecutor, read_block};
 use statement_steps::SessionNames;
 use std::alloc::Global;
 
@@ -28,9 +28,9 @@ struct OpensStores;
 impl Opener for OpensStores {
     ghost use Rattle.step_engine.specs.Run.{opened, refused};
 
-    type Db = Sessions<StoreExecutor<Statements>>;
+    type Db = Sessions<StoreExecutor>;
 
-    ghost opens = { λ trail script d. ⟦<Sessions<StoreExecutor<Statements>> as Database>⟧.stands d (opened trail script) };
+    ghost opens = { λ trail script d. ⟦<Sessions<StoreExecutor> as Database>⟧.stands d (opened trail script) };
 
     ghost refused = { refused };
 
@@ -38,10 +38,10 @@ impl Opener for OpensStores {
         alloc: Global,
         script: &Spec,
         trail: bool,
-    ) -> Result<Sessions<StoreExecutor<Statements>>, NoMemory> {
+    ) -> Result<Sessions<StoreExecutor>, NoMemory> {
         let names = session_names(alloc, script)?;
-        let statements = Statements { names, trail };
-        let executor = StoreExecutor::new(alloc, statements, script.sessions.len() + 1)?;
+        let options = Options { names, trail };
+        let executor = StoreExecutor::new(alloc, options, script.sessions.len() + 1)?;
         Sessions::new(alloc, executor)
     }
 

@@ -2,4 +2,4 @@ use Rattle.statement_ends.proofs.Once.{course_once}
 use Rattle.statement_ends.proofs.laws.RunningRankedCourse.commits_once.Goals as goal
 
 pub returns : goal.returns
-returns g c n = course_once g.A.AskingStatements.words g.A.AskingStatements.tables n c.commit_once.ensures
+returns g c n = course_once g.A.AskingStatements.tables n

@@ -5,12 +5,12 @@ use Rattle.statement_runs.specs.Weight.{left}
 use Rattle.statement_runs.proofs.executor.StoreExecutor.interrupt_all.Given as goal
 
 abbrev pub invariant-loop-session : goal.invariant-loop-session
-invariant-loop-session g l = record {
-  kinds : l.self.kinds ≡ l.fn.self.kinds;
+invariant-loop-session l = record {
+  options : l.self.options ≡ l.fn.self.options;
   opened : l.self.seats.opened ≡ l.fn.self.seats.opened;
   rests : l.self.seats.rests ≡ l.fn.self.seats.rests;
-  stands : (v : Database g.K.Kinds.Options) → StandsFor (g.K.Kinds.options l.fn.self.kinds) l.fn.self.seats l.fn.self.cut.items l.fn.self.tally v
-      → (w : Database g.K.Kinds.Options) × StandsFor (g.K.Kinds.options l.self.kinds) l.self.seats l.self.cut.items l.self.tally w × (all_cut w (drop l.session-index l.sessions) ≡ all_cut v l.sessions);
+  stands : (v : Database) → StandsFor l.fn.self.options l.fn.self.seats l.fn.self.cut.items l.fn.self.tally v
+      → (w : Database) × StandsFor l.self.options l.self.seats l.self.cut.items l.self.tally w × (all_cut w (drop l.session-index l.sessions) ≡ all_cut v l.sessions);
   others : (s : ℕ) → waits_in l.fn.self.seats s ≡ false → waits_in l.self.seats s ≡ false;
   lower : left l.self.seats l.self.cut.items ≤ left l.fn.self.seats l.fn.self.cut.items;
 }

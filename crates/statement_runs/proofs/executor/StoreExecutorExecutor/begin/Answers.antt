@@ -2,4 +2,4 @@ use Rattle.statement_runs.proofs.Once.{same_rests}
 use Rattle.statement_runs.proofs.executor.StoreExecutorExecutor.begin.Goals as goal
 
 pub returns-clause-committed : goal.returns-clause-committed
-returns-clause-committed g c = same_rests g.K.Kinds.words c.args.self.now.seats.rests c.begin-begun.new.self.rests c.begin-begun.ensures.rests
+returns-clause-committed c = same_rests c.args.self.now.seats.rests c.begin-begun.new.self.rests c.begin-begun.ensures.rests

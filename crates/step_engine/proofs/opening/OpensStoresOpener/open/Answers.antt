@@ -1,7 +1,7 @@
 use Rattle.std.proofs.Common.{◌≡◌, ◌+◌, ◌∙◌, ℕ, List, ap, length}
 use Rattle.std.proofs.lemmas.List.{length-replicate}
 use Rattle.statement_runs.specs.Database.{empty}
-use Rattle.statement_runs.specs.Attempted.{Options}
+use Rattle.statement_runs.specs.declared.options.Options.{Options}
 use Rattle.step_engine.specs.Run.{options}
 use Rattle.step_engine.proofs.Opened.{opened_so}
 use Rattle.step_engine.proofs.opening.OpensStoresOpener.open.Goals as goal

@@ -11,7 +11,6 @@ use Rattle.sql_ast.specs.Statements.{StatementTree, commands, queries}
 use Rattle.statement_runs.specs.Database.{outcome_told, rest_told}
 use Rattle.statement_steps.specs.Ended.{Done, silent_end, told_as}
 use Rattle.statement_steps.specs.Made.{Halt, Waits, Refused}
-use Rattle.statement_runs.specs.Once.{AllCommitOnce}
 use Rattle.statement_steps.specs.declared.caller.Caller.{Caller}
 use Rattle.statement_steps.specs.declared.ending.Ending.TheVariants as endings
 use Rattle.statement_steps.specs.declared.rest.Rest.{Rest}
@@ -31,8 +30,9 @@ use Rattle.detach_statement.specs.Concurrent.{behind_nobody, by_rest, detach_of,
 use Rattle.detach_statement.specs.Detached.{detached}
 use Rattle.detach_statement.specs.Finalized.{finalized}
 use Rattle.attach_statement.specs.Attached.{attached}
-use Rattle.statement_runs.specs.Attempted.{Options, answer_text, changed_text, command_attempted, inserted_text, is_trailed, query_attempted, row_attempted, table}
-use Rattle.statement_runs.specs.StatementWords.{statement_attempted, command_committed, statement_words}
+use Rattle.statement_runs.specs.Attempted.{answer_text, attempted, changed_text, command_attempted, inserted_text, is_trailed, query_attempted, row_attempted, table}
+use Rattle.statement_runs.specs.Roles.{command_committed, has_committed}
+use Rattle.statement_runs.specs.declared.options.Options.{Options}
 
 -- one that is done, or stops
 plain_once : {T : Type 0} (committed : Option Rest → Bool) (text : T → List ℕ) (t : Result T Halt) → CommitsOnce false (committed (rest_told (told_as (λ x. Done (text x)) t))) (outcome_told (told_as (λ x. Done (text x)) t))
@@ -93,11 +93,8 @@ query_once trailed prunes names c rest h (explains_select true s) = tt
 query_once trailed prunes names c rest h (explains_select false s) = plain_once (λ r. false) table (explained prunes names c s h).told
 query_once trailed prunes names c rest h (explains_execute costs name values) = tt
 
-each_once : (o : Options) (c : Caller) (rest : Option Rest) (h : History) (g : Settings) (t : StatementTree)
-    → CommitsOnce (statement_words.has_committed rest t) (statement_words.has_committed (rest_told (statement_words.attempted o c rest h g t).told) t) (outcome_told (statement_words.attempted o c rest h g t).told)
-unfolding statement_attempted
-each_once o c rest h g (commands t) = command_once o.names c rest h t
-each_once o c rest h g (queries t) = query_once (is_trailed o c) g.enable_partition_pruning o.names c rest h t
-
-pub all_once : AllCommitOnce statement_words
-all_once = record { each = each_once }
+pub all_once : (o : Options) (c : Caller) (rest : Option Rest) (h : History) (g : Settings) (t : StatementTree)
+    → CommitsOnce (has_committed rest t) (has_committed (rest_told (attempted o c rest g t h).told) t) (outcome_told (attempted o c rest g t h).told)
+unfolding attempted
+all_once o c rest h g (commands t) = command_once o.names c rest h t
+all_once o c rest h g (queries t) = query_once (is_trailed o c) g.enable_partition_pruning o.names c rest h t
