@@ -68,12 +68,13 @@ gathered_in stores caller g h may stands its =
 still_now : (stores : Stores) (caller : Caller) (g : Found) (h : History) → MayAttempt stores caller → Stands stores h → IsGathered stores caller g → IsStill h caller.session g
 still_now stores caller g h may stands its = record { earlier = h; gathered = gathered_in stores caller g h may stands its; since = since_now caller.session h }
 
-pub may_begin : (stores : Stores) (caller : Caller) (g : Found) → MayAttempt stores caller → IsGathered stores caller g → MayRun g stores caller
-may_begin stores caller g may its =
+pub may_begin : (stores : Stores) (caller : Caller) (g : Found) → MayAttempt stores caller → caller.cmd < 4294967294 → IsGathered stores caller g → MayRun g stores caller
+may_begin stores caller g may next its =
     let s = may.sound in
     let run = begins_run g s.0 caller s.2 (still_now stores caller g s.0 may s.1 its) in
     record {
       may = record { sound = (s.0, s.1, run.at); transaction = may.transaction; idle = may.idle; known = may.known; few = may.few; sessions = may.sessions; seats = may.seats; tables = may.tables };
+      next = next;
       sound = (s.0, s.1, run);
     }
 
@@ -95,12 +96,13 @@ run_is_command see r old new caller g f may its run = record {
 
 -- ---- or of a statement that goes on
 
-pub may_go : (stores : Stores) (caller : Caller) (r : RowsLeft) → MayAttempt stores caller → IsOwnRun stores caller r → MayRun r.found stores caller
-may_go stores caller r may its =
+pub may_go : (stores : Stores) (caller : Caller) (r : RowsLeft) → MayAttempt stores caller → caller.cmd < 4294967294 → IsOwnRun stores caller r → MayRun r.found stores caller
+may_go stores caller r may next its =
     let s = its.sound in
     let run = begins_run r.found s.0 caller s.2 (s.3.still (its.own s.0 s.1)) in
     record {
       may = record { sound = (s.0, s.1, run.at); transaction = may.transaction; idle = may.idle; known = may.known; few = may.few; sessions = may.sessions; seats = may.seats; tables = may.tables };
+      next = next;
       sound = (s.0, s.1, run);
     }
 
@@ -232,7 +234,7 @@ own_run stores caller rest left may go is = record {
       let own = own_tx stores caller h may stands in
       let number = own_number h caller rest left (is h stands) in
       own.1 ∙ ap Some (sym (number ∙ ap (λ o. unwrap_or o 0) own.1));
-  sound = (go.0, go.1, go.2, own_rest go.0 caller rest left (is go.0 go.1) go.3);
+  sound = (let s = go.sound in (s.0, s.1, s.2, own_rest s.0 caller rest left (is s.0 s.1) s.3));
 }
 
 pub gone_on : (change : Found → Changing) (names : List (List ℕ)) (rest : Option Rest) (left : RowsLeft) (r : Result ChangedRows Stop) (old new : Stores) (caller : Caller) (begin : History → Made Told) → ((h : History) → Stands old h → Some left ≡ left_of h caller rest)

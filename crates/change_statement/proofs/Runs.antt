@@ -116,6 +116,7 @@ may_run_on g see x old mid caller f may first =
         seats = ap length first.keeps.transactions ∙ may.may.seats;
         tables = first.keeps.size.tables ∙ may.may.tables;
       };
+      next = may.next;
       sound = (k, a.1.stands, a.2);
     }
 

@@ -57,9 +57,10 @@ pub record IsRun {X T : Type 0} (g : Found) (view : X → T) (result : Result X 
   pub keeps : GoesOn old new caller.session
   pub waits : IsPaused result new caller.session
 
--- the statement may go on with its run
+-- the statement may go on with its run, and under another command where it waits
 pub record MayRun (g : Found) (stores : Stores) (caller : Caller) : Type 0 where
   pub may : MayAttempt stores (following caller)
+  pub next : caller.cmd < 4294967294
   pub sound : (h : History) × Stands stores h × IsInRun g h caller
 
 -- ---- a statement as a whole

@@ -1,4 +1,4 @@
-ghost use Rattle.std.specs.Prelude.{◌≡◌, ◌≤◌, None, Some, length, map};
+ghost use Rattle.std.specs.Prelude.{◌≡◌, ◌<◌, ◌≤◌, None, Some, length, map};
 ghost use Rattle.sql_ast.specs.Queries.{maybe_tree, setting};
 ghost use Rattle.statement_steps.specs.Attempts.{MayAttempt, MayGoOn};
 ghost use Rattle.statement_steps.specs.Ended.{giving};
@@ -32,6 +32,7 @@ fn begin(
     change: Change<'_>,
 ) -> Result<ChangedRows, Stop>
     requires may { MayAttempt stores.old caller }
+    requires next { caller.cmd < 4294967294 }
     requires few { length stores.old.catalog.tables ≤ 4096 }
     ensures { IsCommand None told_by result stores.old stores.new caller (begun prunes names.now params.now caller change.entry) }
 {
@@ -51,6 +52,7 @@ fn go_on(
     rest: RestOfRows,
 ) -> Result<ChangedRows, Stop>
     requires may { MayAttempt stores.old caller }
+    requires next { caller.cmd < 4294967294 }
     requires own { IsOwnRun stores.old caller rest }
     ensures { IsCommand (Some (Rows rest)) told_by result stores.old stores.new caller (λ h. giving (told_of rest.found) (changed_on (λ g. changing change.entry caller g) names.now caller rest h)) }
 {

@@ -63,9 +63,7 @@ pub(crate) fn pause(
     requires few { CanBeCounted changed (length left.now) }
     ensures { IsRun (found_of gathered) (λ u. u) (Err result) stores.old stores.new caller (λ h. changed_spec.paused names.now caller other (standing_spec.standing h caller (found_of gathered) left.now changed) h) }
 {
-    let Some(cmd) = caller.cmd.checked_add(1) else {
-        return Stop::NoMemory;
-    };
+    let cmd = caller.cmd + 1;
     let Some(by) = stores.txs.open_of(caller.session) else {
         unreachable!()
     };

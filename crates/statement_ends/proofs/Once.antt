@@ -1,5 +1,6 @@
 -- A statement of the course commits what it did first once at most.
 use Rattle.std.proofs.Common.{◌≡◌, ◌<◌, ℕ, Bool, true, false, List, [], ◌∷◌, ◌++◌, Option, None, refl, ap, sym, subst, ◌∙◌, if◌then◌else◌, length, slice_index_or, slice_set, get_or-set_other, get_or-set_same}
+use Rattle.pg_values.specs.declared.fault.Fault.{Fault}
 use Rattle.history.specs.Catalogue.{CatalogueEvents}
 use Rattle.schedule.specs.Lists.{without}
 use Rattle.sessions.specs.Commits.{CommitsOnce}
@@ -8,7 +9,7 @@ use Rattle.sessions.specs.declared.settings.Settings.{Settings}
 use Rattle.sql_ast.specs.Statements.{StatementTree}
 use Rattle.stores.specs.Events.{resumed}
 use Rattle.statement_steps.specs.declared.rest.Rest.{Rest}
-use Rattle.statement_runs.specs.Database.{Database, course, waits, cancels, cuts, all_cut, cut_by, interrupted, is_ready, happened, caller_of, command_of, is_cancelled, rest_of, rest_told, outcome_told, attempt_of, unless_cancelled}
+use Rattle.statement_runs.specs.Database.{Database, course, waits, cancels, cuts, all_cut, cut_by, interrupted, is_ready, happened, caller_of, command_of, refusal_of, rest_of, rest_told, outcome_told, attempt_of, refused_or}
 use Rattle.statement_runs.specs.Attempted.{attempted}
 use Rattle.statement_runs.specs.Roles as roles
 use Rattle.statement_runs.specs.Roles.{cancelled_by}
@@ -32,12 +33,12 @@ module _ (tables : CatalogueEvents → ℕ) (n : ℕ) where
   same_rest : (x : Option Rest) (rests : List (Option Rest)) (s : ℕ) (t : StatementTree) → slice_index_or rests s None ≡ x → roles.has_committed (slice_index_or rests s None) t ≡ roles.has_committed x t
   same_rest x rests s t e = ap (λ r. roles.has_committed r t) e
 
-  attempt_once : (b : Bool) (v : Database) (a : Asker) (g : Settings) (t : StatementTree)
+  attempt_once : (o : Option Fault) (v : Database) (a : Asker) (g : Settings) (t : StatementTree)
       → CommitsOnce (roles.has_committed (rest_of v a.session) t)
-      (roles.has_committed (rest_told (unless_cancelled b (attempted v.options (caller_of v.sessions (command_of v a.session) a) (rest_of v a.session) g t v.history)).told) t)
-      (outcome_told (unless_cancelled b (attempted v.options (caller_of v.sessions (command_of v a.session) a) (rest_of v a.session) g t v.history)).told)
-  attempt_once true v a g t = tt
-  attempt_once false v a g t = all_once v.options (caller_of v.sessions (command_of v a.session) a) (rest_of v a.session) v.history g t
+      (roles.has_committed (rest_told (refused_or o (attempted v.options (caller_of v.sessions (command_of v a.session) a) (rest_of v a.session) g t v.history)).told) t)
+      (outcome_told (refused_or o (attempted v.options (caller_of v.sessions (command_of v a.session) a) (rest_of v a.session) g t v.history)).told)
+  attempt_once (Some f) v a g t = tt
+  attempt_once None v a g t = all_once v.options (caller_of v.sessions (command_of v a.session) a) (rest_of v a.session) v.history g t
 
   pub course_once : CommitOnceIn course has_committed (IsRanked tables n)
   course_once = record {
@@ -54,7 +55,7 @@ module _ (tables : CatalogueEvents → ℕ) (n : ℕ) where
         let after : slice_index_or (slice_set w.rests a.session (rest_told m.told)) a.session None ≡ rest_told m.told = get_or-set_same w.rests a.session (rest_told m.told) None lt in
         let before : rest_of w a.session ≡ rest_of v a.session = ap (λ l. slice_index_or l a.session None) rests in
         subst (λ r. CommitsOnce (roles.has_committed r t) (roles.has_committed (slice_index_or (slice_set w.rests a.session (rest_told m.told)) a.session None) t) (outcome_told m.told)) before
-        (subst (λ r. CommitsOnce (roles.has_committed (rest_of w a.session) t) (roles.has_committed r t) (outcome_told m.told)) (sym after) (attempt_once (is_cancelled w a.session) w a g t));
+        (subst (λ r. CommitsOnce (roles.has_committed (rest_of w a.session) t) (roles.has_committed r t) (outcome_told m.told)) (sym after) (attempt_once (refusal_of w a.session) w a g t));
     others = λ v a g t r u other.
         let w = cut_by v a t in
         let rests = all_cut_rests (cancelled_by a.session v.sessions t) v in

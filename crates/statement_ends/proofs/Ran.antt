@@ -3,7 +3,7 @@ use Rattle.std.proofs.Common.{◌≡◌, ◌<◌, ◌≤◌, ℕ, ◌+◌, ◌�
 use Rattle.std.specs.List.{sum_by}
 use Rattle.std.proofs.lemmas.Bool.{cases_eq}
 use Rattle.std.proofs.lemmas.List.{length-replicate}
-use Rattle.refusals.specs.Refusals.{statement_cancelled}
+use Rattle.pg_values.specs.declared.fault.Fault.{Fault}
 use Rattle.history.specs.declared.wait.Wanted.{Wanted}
 use Rattle.history.specs.Catalogue.{CatalogueEvents}
 use Rattle.history.specs.History.{History, lock_events, catalogue_events}
@@ -18,7 +18,7 @@ use Rattle.stores.specs.Events.{let_go}
 use Rattle.statement_steps.specs.Ended.{Ended, Done, Commits}
 use Rattle.statement_steps.specs.Made.{Made, Halt, Waits, Refused, halted}
 use Rattle.statement_steps.specs.declared.rest.Rest.{Rest}
-use Rattle.statement_runs.specs.Database.{Database, is_cancelled, rest_of, command_of, goes_on, given_up, let_go_at, next_command, rest_told, outcome_told, unless_cancelled}
+use Rattle.statement_runs.specs.Database.{Database, is_cancelled, rest_of, command_of, goes_on, given_up, let_go_at, number_then, refusal_of, refused_first, refused_or, rest_told, outcome_told}
 use Rattle.statement_runs.specs.Tallies.{added}
 use Rattle.statement_runs.specs.Weight.{of_flag}
 use Rattle.statement_ends.specs.Asking.{IsWaiting, WaitsAsTold, IsKnown, Asks}
@@ -75,6 +75,11 @@ pub record Waited (tables : CatalogueEvents → ℕ) (n bound : ℕ) (moved : Li
   pub waits : wanted (lock_events w.history) session ≡ Some what
   pub no_higher : slack n bound moved w ≤ limit
 
+-- a statement that is not refused first was not cancelled
+not_cancelled : (b : Bool) (n : ℕ) → refused_first b n ≡ None → b ≡ false
+not_cancelled true n none = absurd (let c = none in cc)
+not_cancelled false n none = refl
+
 module _ (tables : CatalogueEvents → ℕ) (n : ℕ) (v : Database) (a : Asker) (more : Tally) (bound : ℕ) (moved : List Bool) (h : IsKept tables n bound moved v (Some a.session)) where
   abbrev s : ℕ
   s = a.session
@@ -83,7 +88,7 @@ module _ (tables : CatalogueEvents → ℕ) (n : ℕ) (v : Database) (a : Asker)
   abbrev left_at : History → Made Ended → Database
   left_at g m = record v {
     history = g;
-    commands = slice_set v.commands a.session (next_command m.told (command_of v a.session));
+    commands = slice_set v.commands a.session (number_then (refusal_of v a.session) m.told (command_of v a.session));
     cancelled = slice_set v.cancelled a.session false;
     rests = slice_set v.rests a.session (rest_told m.told);
     tally = added v.tally more;
@@ -139,13 +144,13 @@ module _ (tables : CatalogueEvents → ℕ) (n : ℕ) (v : Database) (a : Asker)
       lock_no_higher (unheld n bound (lock_events v.history)) (unheld n bound (lock_events (m.events ++ v.history))) (sum_by of_flag v.cancelled) (sum_by of_flag (slice_set v.cancelled s false)) _ _
       (unheld_mono n bound (lock_events v.history) (lock_events (m.events ++ v.history)) asks.stay) (flags_same v.cancelled s false off)
 
-  pub run_waits : (b : Bool) (m : Made Ended) → is_cancelled v s ≡ b → Asks tables s v.history m → IsKnown (rest_told m.told) → outcome_told (unless_cancelled b m).told ≡ outcomes.Waits → Waited tables n bound moved s (slack n bound moved v) (goes_on v a (unless_cancelled b m) more)
-  run_waits true m is asks known e = absurd (cc)
-  run_waits false m is asks known e =
+  pub run_waits : (o : Option Fault) (m : Made Ended) → refusal_of v s ≡ o → Asks tables s v.history m → IsKnown (rest_told m.told) → outcome_told (refused_or o m).told ≡ outcomes.Waits → Waited tables n bound moved s (slack n bound moved v) (goes_on v a (refused_or o m) more)
+  run_waits (Some f) m is asks known e = absurd (cc)
+  run_waits None m is asks known e =
       let waits = waits_told s tables v.history (m.events ++ v.history) m.told e asks.told in
       let none = given_waits a.level s (rest_of v s) m.told e in
       subst (λ g. Waited tables n bound moved s (slack n bound moved v) (left_at (g ++ (m.events ++ v.history)) m)) (sym none)
-      (record { kept = waiting_kept m asks known waits; what = waits.what; waits = waits.waits; no_higher = waiting_no_higher m asks is })
+      (record { kept = waiting_kept m asks known waits; what = waits.what; waits = waits.waits; no_higher = waiting_no_higher m asks (not_cancelled (is_cancelled v s) (command_of v s) is) })
 
   -- ---- it does not
 
@@ -188,11 +193,11 @@ module _ (tables : CatalogueEvents → ℕ) (n : ℕ) (v : Database) (a : Asker)
         | inr other ↦ (w, sym (asks.others r other) ∙ is, λ k b. b)
       ]
 
-  pub run_goes : (b : Bool) (m : Made Ended) → is_cancelled v s ≡ b → Asks tables s v.history m → IsKnown (rest_told m.told) → (outcome_told (unless_cancelled b m).told ≡ outcomes.Waits → ⊥)
-      → (k : ℕ) × IsKept tables n k (replicate n true) (goes_on v a (unless_cancelled b m) more) (Some s)
-  run_goes true m is asks known e =
-      let x : Made Ended = halted [] (Refused statement_cancelled) in
+  pub run_goes : (o : Option Fault) (m : Made Ended) → refusal_of v s ≡ o → Asks tables s v.history m → IsKnown (rest_told m.told) → (outcome_told (refused_or o m).told ≡ outcomes.Waits → ⊥)
+      → (k : ℕ) × IsKept tables n k (replicate n true) (goes_on v a (refused_or o m) more) (Some s)
+  run_goes (Some f) m is asks known e =
+      let x : Made Ended = halted [] (Refused f) in
       given_kept (given_up a.level s (rest_of v s) x.told) v.history x (given_is a.level s (rest_of v s) x.told) tt h.sound (λ r w waits. (w, waits, λ k b. b))
-  run_goes false m is asks known e =
+  run_goes None m is asks known e =
       given_kept (given_up a.level s (rest_of v s) m.told) (m.events ++ v.history) m (given_is a.level s (rest_of v s) m.told) known asks.sound
       (stay_waits m asks (idle_told s tables v.history (m.events ++ v.history) m.told e asks.told))

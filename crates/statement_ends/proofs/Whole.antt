@@ -11,7 +11,7 @@ use Rattle.sql_ast.specs.Statements.{StatementTree}
 use Rattle.stores.specs.Events.{tx_in}
 use Rattle.statement_runs.specs.Attempted.{attempted}
 use Rattle.statement_runs.specs.Roles.{cancelled_by}
-use Rattle.statement_runs.specs.Database.{Database, course, cut_by, caller_of, command_of, is_cancelled, rest_of, rest_told, outcome_told, anew, attempt_of, given_by, goes_on, empty}
+use Rattle.statement_runs.specs.Database.{Database, course, cut_by, caller_of, command_of, refusal_of, rest_of, rest_told, outcome_told, anew, attempt_of, given_by, goes_on, empty}
 use Rattle.run_ends.specs.Executors.{HasRank, LowersIn}
 use Rattle.statement_ends.specs.Asking.{IsKnown, MayAsk, Asks, AllAsk}
 use Rattle.statement_ends.specs.Rank.{slack, IsKept, IsRanked}
@@ -41,7 +41,7 @@ module _ (tables : CatalogueEvents → ℕ) (asks : AllAsk tables) (n : ℕ) whe
   waited v os k a g t h e =
       let w = cut_by v a t in
       let cut = all_cut_kept tables n (cancelled_by a.session v.sessions t) v a.session h.bound h.moved h.kept in
-      let r = run_waits tables n w a (given_by w a g t) h.bound h.moved cut.0 (is_cancelled w a.session) (attempted w.options (caller_of w.sessions (command_of w a.session) a) (rest_of w a.session) g t w.history) refl (asked w a g t h.bound h.moved cut.0) (stands w a g t h.bound h.moved cut.0) e in
+      let r = run_waits tables n w a (given_by w a g t) h.bound h.moved cut.0 (refusal_of w a.session) (attempted w.options (caller_of w.sessions (command_of w a.session) a) (rest_of w a.session) g t w.history) refl (asked w a g t h.bound h.moved cut.0) (stands w a g t h.bound h.moved cut.0) e in
       record { kept = r.kept; what = r.what; waits = r.waits; no_higher = thrice r.no_higher cut.1 h.rank }
     where
       thrice : {x y z u : ℕ} → x ≤ y → y ≤ z → z ≡ u → x ≤ u
@@ -52,7 +52,7 @@ module _ (tables : CatalogueEvents → ℕ) (asks : AllAsk tables) (n : ℕ) whe
   goes v os k a g t h e =
       let w = cut_by v a t in
       let cut = all_cut_kept tables n (cancelled_by a.session v.sessions t) v a.session h.bound h.moved h.kept in
-      let r = run_goes tables n w a (given_by w a g t) h.bound h.moved cut.0 (is_cancelled w a.session) (attempted w.options (caller_of w.sessions (command_of w a.session) a) (rest_of w a.session) g t w.history) refl (asked w a g t h.bound h.moved cut.0) (stands w a g t h.bound h.moved cut.0) e in
+      let r = run_goes tables n w a (given_by w a g t) h.bound h.moved cut.0 (refusal_of w a.session) (attempted w.options (caller_of w.sessions (command_of w a.session) a) (rest_of w a.session) g t w.history) refl (asked w a g t h.bound h.moved cut.0) (stands w a g t h.bound h.moved cut.0) e in
       ranked tables n (goes_on w a (attempt_of w a g t) (given_by w a g t)) (Some a.session) os r.0 (replicate n true) r.1
 
   pub course_lowers : LowersIn course n Q

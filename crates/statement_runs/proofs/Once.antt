@@ -1,5 +1,6 @@
 -- What has come of a statement that commits what it did first.
-use Rattle.std.proofs.Common.{◌≡◌, ◌≢◌, ◌∙◌, ℕ, zero, suc, ◌<◌, Bool, true, false, List, [], ◌∷◌, refl, ap, sym, subst, arith, Option, Some, None, Result, Ok, Err, IfOk, OnOk, length, slice_index_or, slice_set}
+use Rattle.std.proofs.Common.{◌≡◌, ◌≢◌, ◌∙◌, ℕ, zero, suc, ◌<◌, Bool, List, [], ◌∷◌, refl, ap, sym, subst, arith, Option, Some, None, Result, Ok, Err, IfOk, OnOk, length, slice_index_or, slice_set}
+use Rattle.pg_values.specs.declared.fault.Fault.{Fault}
 use Rattle.pg_values.specs.declared.text.NoMemory.{NoMemory}
 use Rattle.history.specs.History.{History}
 use Rattle.sessions.specs.Commits.{CommitsOnce, AreAsBefore, OthersAreAsBefore}
@@ -13,9 +14,9 @@ use Rattle.statement_runs.specs.Roles.{has_committed}
 use Rattle.statement_runs.specs.declared.options.Options.{Options}
 use Rattle.sql_ast.specs.Statements.{StatementTree}
 use Rattle.statement_runs.proofs.StatementsOnce.{all_once}
-use Rattle.statement_runs.specs.Database.{caller_of, unless_cancelled, rest_told, outcome_told}
+use Rattle.statement_runs.specs.Database.{caller_of, refused_or, rest_told, outcome_told}
 use Rattle.statement_runs.specs.Kept.{KeptSeats, AreSeated, TellOf}
-use Rattle.statement_runs.specs.Ran.{attempt_at, HasRun}
+use Rattle.statement_runs.specs.Ran.{attempt_at, refusal_in, HasRun}
 use Rattle.statement_steps.specs.declared.rest.Rest.{Rest}
 
 -- ---- where statements stand
@@ -41,10 +42,10 @@ same_rests old new same = λ s t. ap (λ rests. committed_in rests s t) same
 
 -- ---- a statement was run
 
-once_made : (b : Bool) (m : Made Ended) (t : StatementTree) (before : Bool) (x : Outcome) (rest : Option Rest)
-    → CommitsOnce before (has_committed (rest_told m.told) t) (outcome_told m.told) → x ≡ outcome_told (unless_cancelled b m).told → rest ≡ rest_told (unless_cancelled b m).told → CommitsOnce before (has_committed rest t) x
-once_made true m t before x rest once is at = subst (CommitsOnce before (has_committed rest t)) (sym is) tt
-once_made false m t before x rest once is at =
+once_made : (o : Option Fault) (m : Made Ended) (t : StatementTree) (before : Bool) (x : Outcome) (rest : Option Rest)
+    → CommitsOnce before (has_committed (rest_told m.told) t) (outcome_told m.told) → x ≡ outcome_told (refused_or o m).told → rest ≡ rest_told (refused_or o m).told → CommitsOnce before (has_committed rest t) x
+once_made (Some f) m t before x rest once is at = subst (CommitsOnce before (has_committed rest t)) (sym is) tt
+once_made None m t before x rest once is at =
     subst (CommitsOnce before (has_committed rest t)) (sym is) (subst (λ r. CommitsOnce before (has_committed r t) (outcome_told m.told)) (sym at) once)
 
 once_ran : (o : Options) (old new : KeptSeats) (a : Asker) (h : History) (g : Settings) (t : StatementTree) (before after : List ℕ) (x : Outcome) → AreSeated old → a.session < length old.opened
@@ -52,7 +53,7 @@ once_ran : (o : Options) (old new : KeptSeats) (a : Asker) (h : History) (g : Se
 once_ran o old new a h g t before after x seated known ran =
     let c = caller_of (length old.opened) (slice_index_or old.commands a.session 0) a in
     let rest = slice_index_or old.rests a.session None in
-    once_made (slice_index_or old.cancelled a.session false) (attempted o c rest g t h) t (has_committed rest t) x (slice_index_or new.rests a.session None) (all_once o c rest h g t) ran.outcome
+    once_made (refusal_in old a.session) (attempted o c rest g t h) t (has_committed rest t) x (slice_index_or new.rests a.session None) (all_once o c rest h g t) ran.outcome
     (ap (λ rests. slice_index_or rests a.session None) ran.rests ∙ set_own old.rests a.session (rest_told (attempt_at o old a h g t).told) None (rw seated.rests known))
 
 others_ran : (m : Made Ended) (old new : KeptSeats) (a : Asker) (h : History) (before after : List ℕ) (x : Outcome) → HasRun m a old new before after x h → OthersAreAsBefore a.session (committed_in old.rests) (committed_in new.rests)

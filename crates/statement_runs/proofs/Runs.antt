@@ -1,12 +1,13 @@
 -- What is kept tells of the history after a statement was run.
-use Rattle.std.proofs.Common.{◌≡◌, ◌≢◌, ℕ, zero, suc, ◌+◌, ◌<◌, ◌≤◌, Bool, true, false, if◌then◌else◌, List, [], ◌∷◌, ◌++◌, refl, ap, sym, ◌∙◌, subst, arith, inl, inr, append-nil, Option, Some, None, Result, Ok, Err, All, IfOk, OnOk, is_some, length, slice_index_or, slice_set}
+use Rattle.std.proofs.Common.{◌≡◌, ◌≢◌, ℕ, zero, suc, ◌+◌, ◌<◌, ◌≤◌, Bool, true, false, if◌then◌else◌, List, [], ◌∷◌, ◌++◌, refl, ap, sym, ◌∙◌, subst, arith, inl, inr, append-nil, Option, Some, None, Result, Ok, Err, All, IfOk, OnOk, is_some, length, nat_lt, slice_index_or, slice_set}
 use Rattle.std.proofs.lemmas.Grind.{common_steps, elements}
 use Rattle.std.proofs.lemmas.Bool.{cases_eq}
 use Rattle.std.proofs.lemmas.Bool.Decides.{nat_tests}
 use Rattle.std.proofs.lemmas.List.{length-append, length-map}
 use Rattle.std.proofs.lemmas.List.Elements.{All-nil, All-cons, All-append}
 use Rattle.pg_values.specs.declared.fault.Fault.{Fault}
-use Rattle.refusals.specs.Refusals.{statement_cancelled}
+use Rattle.pg_values.specs.declared.which.Which.TheVariants.{Commands}
+use Rattle.refusals.specs.Refusals.{too_many}
 use Rattle.history.specs.declared.wait.WaitOn.{WaitOn}
 use Rattle.history.specs.declared.wait.Wanted.{Wanted}
 use Rattle.history.specs.declared.wait.Wanted.TheVariants.{Lock, Others}
@@ -41,12 +42,11 @@ use Rattle.statement_runs.specs.Attempted.{attempted}
 use Rattle.statement_runs.specs.Given.{statement_given}
 use Rattle.statement_runs.specs.Roles.{cancelled_by}
 use Rattle.statement_runs.specs.declared.options.Options.{Options}
-use Rattle.statement_runs.specs.Database.{Database, unless_cancelled, caller_of, attempt_of, given_by, next_command, rest_told, let_go_at, given_up, outcome_told, text_told, all_cut, cut_by, goes_on as goes_on_to}
+use Rattle.statement_runs.specs.Database.{Database, refused_first, refused_or, number_then, caller_of, attempt_of, given_by, next_command, rest_told, let_go_at, given_up, outcome_told, text_told, all_cut, cut_by, goes_on as goes_on_to}
 use Rattle.statement_runs.specs.Kept.{KeptSeats, AreSeated, TellOf, AreKept, Adds, StandsFor}
 use Rattle.statement_runs.specs.Tallies.{added, unless_cut}
 use Rattle.statement_runs.proofs.Growing.{nothing_more}
-use Rattle.statement_runs.specs.Ran.{given_at, attempt_at, HasRun}
-use Rattle.statement_steps.proofs.Numbers.{one_later}
+use Rattle.statement_runs.specs.Ran.{given_at, attempt_at, refusal_in, HasRun}
 use Rattle.statement_steps.proofs.Lasting.{goes_on_still}
 use Rattle.statement_runs.proofs.Steps.{seats}
 
@@ -119,15 +119,18 @@ done_gives level s o t text stood e is = ap (λ b. if_stood b (let_go_at level s
     gives None = refl
     gives (Some r) = refl
 
--- ---- a statement whose wait was cancelled
+-- ---- a statement that is refused first
 
-pub cancelled_tells : (e : KeptSeats) (s next : ℕ) (h : History) → AreSeated e → s < length e.opened → next ≡ slice_index_or e.commands s 0 + 1 → TellOf e h
-    → TellOf (seats e.stores e.opened (slice_set e.commands s next) (slice_set e.cancelled s false) (slice_set e.rests s None) e.moved e.queue e.ready e.whole) h
-cancelled_tells e s next h seated lt more tells = record {
+set_same : {X : Type 0} (xs : List X) (s : ℕ) (x d : X) → s < length xs → slice_index_or xs s d ≡ x → slice_set xs s x ≡ xs
+set_same [] s x d lt is = absurd (omega (arith, lt))
+set_same (y ∷ xs) zero x d lt is = ap (λ z. z ∷ xs) (sym is)
+set_same (y ∷ xs) (suc s) x d lt is = ap (λ zs. y ∷ zs) (set_same xs s x d (omega (arith, lt)) is)
+
+pub first_tells : (e : KeptSeats) (s : ℕ) (h : History) → AreSeated e → s < length e.opened → TellOf e h → TellOf (seats e.stores e.opened e.commands (slice_set e.cancelled s false) (slice_set e.rests s None) e.moved e.queue e.ready e.whole) h
+first_tells e s h seated lt tells = record {
   stands = tells.stands;
   opened = tells.opened;
-  numbered = numbered e.commands (slice_set e.commands s next) h s next (rw seated.commands lt) refl
-      (subst (IsAt h s) (sym more) (one_later h s (slice_index_or e.commands s 0) (tells.numbered s))) (λ r other. tells.numbered r);
+  numbered = tells.numbered;
   queue = tells.queue;
   ready = tells.ready;
   waits = record {
@@ -140,34 +143,50 @@ cancelled_tells e s next h seated lt more tells = record {
   };
 }
 
-pub cancelled_ran : (e : KeptSeats) (a : Asker) (next : ℕ) (h : History) (before : List ℕ) (f : Fault) (m : Made Ended) → AreSeated e → a.session < length e.opened → e.whole ≡ true
-    → slice_index_or e.cancelled a.session false ≡ true → next ≡ slice_index_or e.commands a.session 0 + 1 → f ≡ statement_cancelled → TellOf e h
-    → HasRun (unless_cancelled (slice_index_or e.cancelled a.session false) m) a e
-    (seats e.stores e.opened (slice_set e.commands a.session next) (slice_set e.cancelled a.session false) (slice_set e.rests a.session None) e.moved e.queue e.ready e.whole) before before (outcomes.Refused f) h
-cancelled_ran e a next h before f m seated lt whole flag more fault tells =
-    let new = seats e.stores e.opened (slice_set e.commands a.session next) (slice_set e.cancelled a.session false) (slice_set e.rests a.session None) e.moved e.queue e.ready e.whole in
-    let none = not_done a.level a.session (slice_index_or e.rests a.session None) (Err (Refused statement_cancelled)) (Refused statement_cancelled) refl in
-    subst (λ b. HasRun (unless_cancelled b m) a e new before before (outcomes.Refused f) h) (sym flag)
+pub first_ran : (e : KeptSeats) (a : Asker) (h : History) (before : List ℕ) (f : Fault) (m : Made Ended) → AreSeated e → a.session < length e.opened → e.whole ≡ true → refusal_in e a.session ≡ Some f → TellOf e h
+    → HasRun (refused_or (refusal_in e a.session) m) a e (seats e.stores e.opened e.commands (slice_set e.cancelled a.session false) (slice_set e.rests a.session None) e.moved e.queue e.ready e.whole) before before (outcomes.Refused f) h
+first_ran e a h before f m seated lt whole refused tells =
+    let new = seats e.stores e.opened e.commands (slice_set e.cancelled a.session false) (slice_set e.rests a.session None) e.moved e.queue e.ready e.whole in
+    let none = not_done a.level a.session (slice_index_or e.rests a.session None) (Err (Refused f)) (Refused f) refl in
+    let n = slice_index_or e.commands a.session 0 in
+    subst (λ (x : Made Ended). HasRun x a e new before before (outcomes.Refused f) h) (sym (ap (λ o. refused_or o m) refused))
     (record {
       whole = whole;
-      tells = subst (λ events. TellOf new (events ++ h)) (sym none) (cancelled_tells e a.session next h seated lt more tells);
-      outcome = ap outcomes.Refused fault;
+      tells = subst (λ events. TellOf new (events ++ h)) (sym none) (first_tells e a.session h seated lt tells);
+      outcome = refl;
       text = sym (append-nil before);
-      commands = ap (slice_set e.commands a.session) more;
+      commands = sym (set_same e.commands a.session n 0 (rw seated.commands lt) refl) ∙ ap (λ o. slice_set e.commands a.session (number_then o (Err (Refused f)) n)) (sym refused);
       cancelled = refl;
       rests = refl;
     })
 
+-- where it is not
+pub none_first : (b : Bool) (n : ℕ) → b ≡ false → n < 4294967294 → refused_first b n ≡ None
+none_first true n off lt = absurd (cc)
+none_first false n off lt = let on : nat_lt n 4294967294 ≡ true = grind (arith, common_steps, nat_tests, lt) in ap (λ b. if b then None else Some (too_many Commands)) on
+
+pub full_first : (b : Bool) (n : ℕ) → b ≡ false → 4294967294 ≤ n → refused_first b n ≡ Some (too_many Commands)
+full_first true n off le = absurd (cc)
+full_first false n off le = let over : nat_lt n 4294967294 ≡ false = grind (arith, common_steps, nat_tests, le) in ap (λ b. if b then None else Some (too_many Commands)) over
+
 -- ---- a statement that was tried
 
--- it was not cancelled, and the stores are as the statement left them
+-- it was not refused first, and the stores are as the statement left them
 pub record IsTried (e : KeptSeats) (s : ℕ) (stores : Stores) (next : Option ℕ) : Type 0 where
   pub seated : AreSeated e
   pub known : s < length e.opened
   pub whole : e.whole ≡ true
   pub flag : slice_index_or e.cancelled s false ≡ false
+  pub low : slice_index_or e.commands s 0 < 4294967294
   pub goes : GoesOn e.stores stores s
   pub readies : (k : History) → LocksStand stores.locks k → next ≡ ready (lock_events k)
+
+not_refused : (e : KeptSeats) (s : ℕ) (stores : Stores) (next : Option ℕ) → IsTried e s stores next → refusal_in e s ≡ None
+not_refused e s stores next it = none_first (slice_index_or e.cancelled s false) (slice_index_or e.commands s 0) it.flag it.low
+
+-- so it counts
+counts : (e : KeptSeats) (s : ℕ) (stores : Stores) (next : Option ℕ) (t : Result Ended Halt) → IsTried e s stores next → slice_set e.commands s (next_command t (slice_index_or e.commands s 0)) ≡ slice_set e.commands s (number_then (refusal_in e s) t (slice_index_or e.commands s 0))
+counts e s stores next t it = ap (λ o. slice_set e.commands s (number_then o t (slice_index_or e.commands s 0))) (sym (not_refused e s stores next it))
 
 -- what is kept then
 abbrev pub tried : (e : KeptSeats) (stores : Stores) (commands : List ℕ) (rests : List (Option Rest)) (queue : List ℕ) (next : Option ℕ) → KeptSeats
@@ -219,7 +238,7 @@ went_tells e stores s n rest commands rests waiting q next events h it tells wen
 abbrev pub caller_in : KeptSeats → Asker → Caller
 caller_in e a = caller_of (length e.opened) (slice_index_or e.commands a.session 0) a
 
--- what the statement means at that history, unless its wait was cancelled
+-- what the statement means at that history, unless it is refused first
 abbrev pub meant_at : Options → KeptSeats → Asker → History → Settings → StatementTree → Made Ended
 meant_at o e a h g t = attempted o (caller_in e a) (slice_index_or e.rests a.session None) g t h
 
@@ -231,9 +250,9 @@ as_meant o e a h g t n cmd rest r stores before after count number taken is =
     subst (λ x. came x (slice_index_or e.commands a.session 0) (slice_index_or e.rests a.session None)) count
     (subst (λ x. came n x (slice_index_or e.rests a.session None)) number (subst (λ x. came n cmd x) taken is))
 
--- so much is given and read, unless its wait was cancelled
+-- so much is given and read, unless it is refused first
 pub given_in : (o : Options) (e : KeptSeats) (a : Asker) (h : History) (g : Settings) (t : StatementTree) (n cmd : ℕ) (rest : Option Rest) (before after : Tally)
-    → slice_index_or e.cancelled a.session false ≡ false → n ≡ length e.opened → cmd ≡ slice_index_or e.commands a.session 0 → rest ≡ slice_index_or e.rests a.session None
+    → refusal_in e a.session ≡ None → n ≡ length e.opened → cmd ≡ slice_index_or e.commands a.session 0 → rest ≡ slice_index_or e.rests a.session None
     → after ≡ added before (statement_given o (caller_of n cmd a) rest g t h) → after ≡ added before (given_at o e a h g t)
 given_in o e a h g t n cmd rest before after flag count number taken is =
     is ∙ ap (added before)
@@ -242,21 +261,16 @@ given_in o e a h g t n cmd rest before after flag count number taken is =
     ∙ (ap (λ x. statement_given o (caller_in e a) x g t h) taken
     ∙ sym (ap (λ b. unless_cut b (statement_given o (caller_in e a) (slice_index_or e.rests a.session None) g t h)) flag))))
 
-pub cut_gives : (o : Options) (e : KeptSeats) (a : Asker) (h : History) (g : Settings) (t : StatementTree) (n : Tally) → slice_index_or e.cancelled a.session false ≡ true → n ≡ added n (given_at o e a h g t)
-cut_gives o e a h g t n flag =
-    sym (nothing_more n) ∙ ap (added n) (sym (ap (λ b. unless_cut b (statement_given o (caller_in e a) (slice_index_or e.rests a.session None) g t h)) flag))
+pub cut_gives : (o : Options) (e : KeptSeats) (a : Asker) (h : History) (g : Settings) (t : StatementTree) (n : Tally) → (f : Fault) → refusal_in e a.session ≡ Some f → n ≡ added n (given_at o e a h g t)
+cut_gives o e a h g t n f refused =
+    sym (nothing_more n) ∙ ap (added n) (sym (ap (λ b. unless_cut b (statement_given o (caller_in e a) (slice_index_or e.rests a.session None) g t h)) refused))
 
--- what has come of it, where it was not cancelled
+-- what has come of it, where it was not refused first
 abbrev pub Tried : (e new : KeptSeats) → Asker → (before after : List ℕ) (o : Outcome) (h : History) → Made Ended → Type 0
-Tried e new a before after o h m = HasRun (unless_cancelled (slice_index_or e.cancelled a.session false) m) a e new before after o h
+Tried e new a before after o h m = HasRun (refused_or (refusal_in e a.session) m) a e new before after o h
 
-as_tried : (e new : KeptSeats) (a : Asker) (before after : List ℕ) (o : Outcome) (h : History) (m : Made Ended) → slice_index_or e.cancelled a.session false ≡ false → HasRun m a e new before after o h → Tried e new a before after o h m
-as_tried e new a before after o h m flag ran = subst (λ b. HasRun (unless_cancelled b m) a e new before after o h) (sym flag) ran
-
-set_same : {X : Type 0} (xs : List X) (s : ℕ) (x d : X) → s < length xs → slice_index_or xs s d ≡ x → slice_set xs s x ≡ xs
-set_same [] s x d lt is = absurd (omega (arith, lt))
-set_same (y ∷ xs) zero x d lt is = ap (λ z. z ∷ xs) (sym is)
-set_same (y ∷ xs) (suc s) x d lt is = ap (λ zs. y ∷ zs) (set_same xs s x d (omega (arith, lt)) is)
+as_tried : (e new : KeptSeats) (a : Asker) (before after : List ℕ) (o : Outcome) (h : History) (m : Made Ended) → refusal_in e a.session ≡ None → HasRun m a e new before after o h → Tried e new a before after o h m
+as_tried e new a before after o h m none ran = subst (λ r. HasRun (refused_or r m) a e new before after o h) (sym none) ran
 
 flag_stays : (e : KeptSeats) (s : ℕ) (stores : Stores) (next : Option ℕ) → IsTried e s stores next → e.cancelled ≡ slice_set e.cancelled s false
 flag_stays e s stores next it = sym (set_same e.cancelled s false false (rw it.seated.cancelled it.known) it.flag)
@@ -280,13 +294,13 @@ pub done_ran : (e new : KeptSeats) (a : Asker) (stores : Stores) (next : ℕ) (r
     → new.commands ≡ slice_set e.commands a.session next → new.cancelled ≡ e.cancelled → new.rests ≡ rests
     → IsAttempt (Ok endings.Done) stores before after (caller_in e a) h m → Tried e new a before after outcomes.Done h m
 done_ran e new a stores next rests ready' stood h before after m it tells more set idle is adds commands cancelled left (text, told, printed, went) =
-    as_tried e new a before after outcomes.Done h m it.flag (record {
+    as_tried e new a before after outcomes.Done h m (not_refused e a.session stores ready' it) (record {
       whole = adds.whole ∙ it.whole;
       tells = subst (λ events. TellOf new (events ++ (m.events ++ h))) (done_gives a.level a.session (slice_index_or e.rests a.session None) m.told text stood told is)
           (adds.tells it.whole (m.events ++ h) (done_tells e a stores next rests ready' h before after m it tells more set idle (text, told, printed, went)));
       outcome = ap outcome_told (sym told);
       text = printed ∙ ap (λ t. before ++ text_told t) (sym told);
-      commands = commands ∙ (ap (slice_set e.commands a.session) more ∙ ap (λ t. slice_set e.commands a.session (next_command t (slice_index_or e.commands a.session 0))) (sym told));
+      commands = commands ∙ (ap (slice_set e.commands a.session) more ∙ ap (λ t. slice_set e.commands a.session (next_command t (slice_index_or e.commands a.session 0))) (sym told) ∙ counts e a.session stores ready' m.told it);
       cancelled = cancelled ∙ flag_stays e a.session stores ready' it;
       rests = left ∙ (set ∙ ap (λ t. slice_set e.rests a.session (rest_told t)) (sym told));
     })
@@ -305,13 +319,13 @@ pub refused_ran : (e : KeptSeats) (a : Asker) (stores : Stores) (next : ℕ) (re
     → Tried e (tried e stores (slice_set e.commands a.session next) rests e.queue ready') a before after (outcomes.Refused f) h m
 refused_ran e a stores next rests ready' h before after m f it tells more set idle (told, printed, went) =
     let new = tried e stores (slice_set e.commands a.session next) rests e.queue ready' in
-    as_tried e new a before after (outcomes.Refused f) h m it.flag (record {
+    as_tried e new a before after (outcomes.Refused f) h m (not_refused e a.session stores ready' it) (record {
       whole = it.whole;
       tells = subst (λ events. TellOf new (events ++ (m.events ++ h))) (sym (not_done a.level a.session (slice_index_or e.rests a.session None) m.told (Refused f) told))
           (refused_tells e a stores next rests ready' h before after m f it tells more set idle (told, printed, went));
       outcome = ap outcome_told (sym told);
       text = printed ∙ (sym (append-nil before) ∙ ap (λ t. before ++ text_told t) (sym told));
-      commands = ap (slice_set e.commands a.session) more ∙ ap (λ t. slice_set e.commands a.session (next_command t (slice_index_or e.commands a.session 0))) (sym told);
+      commands = ap (slice_set e.commands a.session) more ∙ ap (λ t. slice_set e.commands a.session (next_command t (slice_index_or e.commands a.session 0))) (sym told) ∙ counts e a.session stores ready' m.told it;
       cancelled = flag_stays e a.session stores ready' it;
       rests = set ∙ ap (λ t. slice_set e.rests a.session (rest_told t)) (sym told);
     })
@@ -337,13 +351,13 @@ pub commits_ran : (e : KeptSeats) (a : Asker) (stores : Stores) (next : ℕ) (re
     → Tried e (tried e stores (slice_set e.commands a.session next) rests e.queue ready') a before after outcomes.Commits h m
 commits_ran e a stores next rests ready' h before after m d it tells more set idle (told, printed, went) =
     let new = tried e stores (slice_set e.commands a.session next) rests e.queue ready' in
-    as_tried e new a before after outcomes.Commits h m it.flag (record {
+    as_tried e new a before after outcomes.Commits h m (not_refused e a.session stores ready' it) (record {
       whole = it.whole;
       tells = subst (λ events. TellOf new (events ++ (m.events ++ h))) (sym (commits_nothing a.level a.session (slice_index_or e.rests a.session None) m.told d told))
           (commits_tells e a stores next rests ready' h before after m d it tells more set idle (told, printed, went));
       outcome = ap outcome_told (sym told);
       text = printed ∙ (sym (append-nil before) ∙ ap (λ t. before ++ text_told t) (sym told));
-      commands = ap (slice_set e.commands a.session) more ∙ ap (λ t. slice_set e.commands a.session (next_command t (slice_index_or e.commands a.session 0))) (sym told);
+      commands = ap (slice_set e.commands a.session) more ∙ ap (λ t. slice_set e.commands a.session (next_command t (slice_index_or e.commands a.session 0))) (sym told) ∙ counts e a.session stores ready' m.told it;
       cancelled = flag_stays e a.session stores ready' it;
       rests = set ∙ ap (λ t. slice_set e.rests a.session (rest_told t)) (sym told);
     })
@@ -362,13 +376,13 @@ pub waits_ran : (e : KeptSeats) (a : Asker) (stores : Stores) (n : ℕ) (rest : 
     → Tried e (tried e stores (slice_set e.commands a.session n) rests q ready') a before after outcomes.Waits h m
 waits_ran e a stores n rest rests q ready' h before after m it tells number set halt left (told, printed, went, go) =
     let new = tried e stores (slice_set e.commands a.session n) rests q ready' in
-    as_tried e new a before after outcomes.Waits h m it.flag (record {
+    as_tried e new a before after outcomes.Waits h m (not_refused e a.session stores ready' it) (record {
       whole = it.whole;
       tells = subst (λ events. TellOf new (events ++ (m.events ++ h))) (sym (not_done a.level a.session (slice_index_or e.rests a.session None) m.told (Waits rest) told))
           (waits_tells e a stores n rest rests q ready' h before after m it tells number set halt left (told, printed, went, go));
       outcome = ap outcome_told (sym told);
       text = printed ∙ (sym (append-nil before) ∙ ap (λ t. before ++ text_told t) (sym told));
-      commands = ap (slice_set e.commands a.session) number ∙ ap (λ t. slice_set e.commands a.session (next_command t (slice_index_or e.commands a.session 0))) (sym told);
+      commands = ap (slice_set e.commands a.session) number ∙ ap (λ t. slice_set e.commands a.session (next_command t (slice_index_or e.commands a.session 0))) (sym told) ∙ counts e a.session stores ready' m.told it;
       cancelled = flag_stays e a.session stores ready' it;
       rests = set ∙ ap (λ t. slice_set e.rests a.session (rest_told t)) (sym told);
     })
@@ -386,7 +400,7 @@ one_more q xs s n is all lt = subst (All (λ r. r < n)) (sym is) (All-append (λ
 -- ---- the database that it stands for
 
 abbrev attempt_by : Asker → History → Settings → StatementTree → Options → ℕ → List ℕ → List Bool → List (Option Rest) → Made Ended
-attempt_by a h g t o n commands cancelled rests = unless_cancelled (slice_index_or cancelled a.session false) (attempted o (caller_of n (slice_index_or commands a.session 0) a) (slice_index_or rests a.session None) g t h)
+attempt_by a h g t o n commands cancelled rests = refused_or (refused_first (slice_index_or cancelled a.session false) (slice_index_or commands a.session 0)) (attempted o (caller_of n (slice_index_or commands a.session 0) a) (slice_index_or rests a.session None) g t h)
 
 same_attempt : (o : Options) (e : KeptSeats) (a : Asker) (g : Settings) (t : StatementTree) (cut : List ℕ) (n : Tally) (v : Database) → StandsFor o e cut n v → attempt_at o e a v.history g t ≡ attempt_of v a g t
 same_attempt o e a g t cut n v stands =
@@ -397,7 +411,7 @@ same_attempt o e a g t cut n v stands =
     ∙ ap (λ x. attempt_by a v.history g t v.options v.sessions v.commands v.cancelled x) stands.rests)))
 
 abbrev given_with : Asker → History → Settings → StatementTree → Options → ℕ → List ℕ → List Bool → List (Option Rest) → Tally
-given_with a h g t o n commands cancelled rests = unless_cut (slice_index_or cancelled a.session false) (statement_given o (caller_of n (slice_index_or commands a.session 0) a) (slice_index_or rests a.session None) g t h)
+given_with a h g t o n commands cancelled rests = unless_cut (refused_first (slice_index_or cancelled a.session false) (slice_index_or commands a.session 0)) (statement_given o (caller_of n (slice_index_or commands a.session 0) a) (slice_index_or rests a.session None) g t h)
 
 same_given : (o : Options) (e : KeptSeats) (a : Asker) (g : Settings) (t : StatementTree) (cut : List ℕ) (n : Tally) (v : Database) → StandsFor o e cut n v → given_at o e a v.history g t ≡ given_by v a g t
 same_given o e a g t cut n v stands =
@@ -406,6 +420,10 @@ same_given o e a g t cut n v stands =
     ∙ (ap (λ x. given_with a v.history g t v.options v.sessions x e.cancelled e.rests) stands.commands
     ∙ (ap (λ x. given_with a v.history g t v.options v.sessions v.commands x e.rests) stands.cancelled
     ∙ ap (λ x. given_with a v.history g t v.options v.sessions v.commands v.cancelled x) stands.rests)))
+
+-- the numbers of commands after it
+abbrev numbers_by : ℕ → Result Ended Halt → List ℕ → List Bool → List ℕ
+numbers_by s t commands cancelled = slice_set commands s (number_then (refused_first (slice_index_or cancelled s false) (slice_index_or commands s 0)) t (slice_index_or commands s 0))
 
 -- what has happened after it
 abbrev history_by : Asker → History → List (Option Rest) → Made Ended → History
@@ -421,8 +439,8 @@ stands_ran o old new a g t before after x cut n m v stands ran grown same =
       options = stands.options;
       sessions = ap length same ∙ stands.sessions;
       tells = subst (λ rests. TellOf new (history_by a v.history rests (attempt_of v a g t))) stands.rests (subst (λ m. TellOf new (history_by a v.history old.rests m)) meant ran.tells);
-      commands = ran.commands ∙ (ap (λ m. slice_set old.commands a.session (next_command m.told (slice_index_or old.commands a.session 0))) meant
-          ∙ ap (λ cs. slice_set cs a.session (next_command (attempt_of v a g t).told (slice_index_or cs a.session 0))) stands.commands);
+      commands = ran.commands ∙ (ap (λ m. numbers_by a.session m.told old.commands old.cancelled) meant
+          ∙ (ap (λ cs. numbers_by a.session (attempt_of v a g t).told cs old.cancelled) stands.commands ∙ ap (λ bs. numbers_by a.session (attempt_of v a g t).told v.commands bs) stands.cancelled));
       cancelled = ran.cancelled ∙ ap (λ cs. slice_set cs a.session false) stands.cancelled;
       rests = ran.rests ∙ (ap (λ m. slice_set old.rests a.session (rest_told m.told)) meant ∙ ap (λ rs. slice_set rs a.session (rest_told (attempt_of v a g t).told)) stands.rests);
       cut = stands.cut;

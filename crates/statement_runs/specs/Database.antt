@@ -1,6 +1,8 @@
 -- The run of statements over a history: what each call of a session makes of it (the manual, 13.2 and 13.3).
-use Rattle.std.specs.Prelude.{ℕ, ◌+◌, ◌==◌, Bool, true, false, if◌then◌else◌, List, [], ◌∷◌, ◌++◌, Option, Some, None, Result, Ok, Err, is_some, replicate, slice_index_or, slice_set}
-use Rattle.refusals.specs.Refusals.{statement_cancelled}
+use Rattle.std.specs.Prelude.{ℕ, ◌+◌, ◌==◌, Bool, true, false, if◌then◌else◌, List, [], ◌∷◌, ◌++◌, Option, Some, None, Result, Ok, Err, is_some, nat_lt, replicate, slice_index_or, slice_set}
+use Rattle.pg_values.specs.declared.fault.Fault.{Fault}
+use Rattle.pg_values.specs.declared.which.Which.TheVariants.{Commands}
+use Rattle.refusals.specs.Refusals.{statement_cancelled, too_many}
 use Rattle.history.specs.History.{History, lock_events}
 use Rattle.history.specs.Locks.{wanted, queue}
 use Rattle.history.specs.Waits.{ready}
@@ -63,22 +65,35 @@ rest_of v s = slice_index_or v.rests s None
 abbrev pub caller_of : (sessions cmd : ℕ) → Asker → Caller
 caller_of n cmd a = record { session = a.session; sessions = n; level = a.level; cmd = cmd; kind = a.kind }
 
--- a statement whose wait was cancelled is refused
-abbrev pub unless_cancelled : Bool → Made Ended → Made Ended
-unless_cancelled true m = halted [] (Refused statement_cancelled)
-unless_cancelled false m = m
+-- why a statement is refused first, and not attempted: its wait was cancelled; or its transaction has had as many commands
+-- as there can be, 2^32 - 2
+abbrev pub refused_first : Bool → (cmd : ℕ) → Option Fault
+refused_first true n = Some statement_cancelled
+refused_first false n = if nat_lt n 4294967294 then None else Some (too_many Commands)
+
+abbrev pub refused_or : Option Fault → Made Ended → Made Ended
+refused_or None m = m
+refused_or (Some f) m = halted [] (Refused f)
+
+abbrev pub refusal_of : Database → ℕ → Option Fault
+refusal_of v s = refused_first (is_cancelled v s) (command_of v s)
 
 abbrev pub attempt_of : Database → Asker → Settings → StatementTree → Made Ended
-attempt_of v a g t = unless_cancelled (is_cancelled v a.session) (attempted v.options (caller_of v.sessions (command_of v a.session) a) (rest_of v a.session) g t v.history)
+attempt_of v a g t = refused_or (refusal_of v a.session) (attempted v.options (caller_of v.sessions (command_of v a.session) a) (rest_of v a.session) g t v.history)
 
 abbrev pub given_by : Database → Asker → Settings → StatementTree → Tally
-given_by v a g t = unless_cut (is_cancelled v a.session) (statement_given v.options (caller_of v.sessions (command_of v a.session) a) (rest_of v a.session) g t v.history)
+given_by v a g t = unless_cut (refusal_of v a.session) (statement_given v.options (caller_of v.sessions (command_of v a.session) a) (rest_of v a.session) g t v.history)
 
 -- a command that is to begin anew keeps its number
 abbrev pub next_command : Result Ended Halt → ℕ → ℕ
 next_command (Ok e) n = n + 1
 next_command (Err (Waits rest)) n = number_after rest n
 next_command (Err (Refused f)) n = n + 1
+
+-- and one that is refused first is no command
+abbrev pub number_then : Option Fault → Result Ended Halt → ℕ → ℕ
+number_then None told n = next_command told n
+number_then (Some f) told n = n
 
 abbrev pub rest_told : Result Ended Halt → Option Rest
 rest_told (Ok (Done text)) = None
@@ -100,7 +115,7 @@ given_up level s rest told = []
 abbrev pub goes_on : Database → Asker → Made Ended → Tally → Database
 goes_on v a m given = record v {
   history = given_up a.level a.session (rest_of v a.session) m.told ++ (m.events ++ v.history);
-  commands = slice_set v.commands a.session (next_command m.told (command_of v a.session));
+  commands = slice_set v.commands a.session (number_then (refusal_of v a.session) m.told (command_of v a.session));
   cancelled = slice_set v.cancelled a.session false;
   rests = slice_set v.rests a.session (rest_told m.told);
   tally = added v.tally given;

@@ -1,5 +1,6 @@
 -- What statements have given and read (partscript's own).
-use Rattle.std.specs.Prelude.{◌≡◌, ℕ, ◌+◌, Bool, true, false, Result, Ok, Err}
+use Rattle.std.specs.Prelude.{◌≡◌, ℕ, ◌+◌, Option, Some, None, Result, Ok, Err}
+use Rattle.pg_values.specs.declared.fault.Fault.{Fault}
 use Rattle.schedule.specs.declared.tally.Tally.{Tally}
 use Rattle.statement_steps.specs.declared.stop.Stop.{Stop}
 use Rattle.statement_steps.specs.declared.stop.Stop.TheVariants as stop
@@ -10,10 +11,10 @@ none = record { rows = 0; reads = 0 }
 abbrev pub added : Tally → Tally → Tally
 added n m = record { rows = n.rows + m.rows; reads = n.reads + m.reads }
 
--- one whose wait was cancelled is refused, and gives and reads nothing
-abbrev pub unless_cut : Bool → Tally → Tally
-unless_cut true n = none
-unless_cut false n = n
+-- one that is refused first gives and reads nothing
+abbrev pub unless_cut : Option Fault → Tally → Tally
+unless_cut None n = n
+unless_cut (Some f) n = none
 
 -- want of memory apart, so much has come to a tally
 abbrev pub Grows : {X : Type 0} → Result X Stop → (before after more : Tally) → Type 0

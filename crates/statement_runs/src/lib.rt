@@ -4,7 +4,8 @@
 //! from its beginning up to its end or to a wait, in one go; what it does on the way is put before the
 //! history. Where it had to wait for a lock, it begins anew when its wait is over, with the locks that
 //! it has got; where it had to wait for a row, it goes on where it stood. It may also ask that what it did so
-//! far is committed, and go on from there in another transaction. Where its wait was cancelled, it is refused.
+//! far is committed, and go on from there in another transaction. Where its wait was cancelled, it is refused, and
+//! so is one whose transaction has had as many commands as there can be.
 //! A statement can cancel the waits of other sessions: these end before it is attempted, and
 //! those sessions go on before any other whose wait is over.
 //!
@@ -53,3 +54,7 @@ pub use names::SettingName;
 pub use options::Options;
 pub use reading::{blocks_are_read_by_the_grammar, read_block};
 pub use roles::{changed_settings, looks, role_of};
+
+/// How many commands a transaction has at most. A statement that waits in the middle of its run goes on as
+/// another one.
+pub const COMMAND_LIMIT: u32 = 4_294_967_294;

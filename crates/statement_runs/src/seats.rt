@@ -12,11 +12,11 @@ ghost use Rattle.statement_runs.specs.Ran.{attempt_at, given_at, waits_by, HasRu
 ghost use Rattle.statement_runs.specs.Tallies.{added};
 ghost use Rattle.statement_runs.specs.Weight.{slack, most};
 
-use crate::Options;
 use crate::attempts::attempt;
+use crate::{COMMAND_LIMIT, Options};
 use history::{WaitOn, Wanted};
-use pg_values::{Isolation, NoMemory, SessionSet};
-use refusals::statement_cancelled;
+use pg_values::{Fault, Isolation, NoMemory, SessionSet, Which};
+use refusals::{statement_cancelled, too_many};
 use schedule::{Tally, leave};
 use sessions::{Asker, Outcome, Settings};
 use sql_ast::Statement;
@@ -136,6 +136,21 @@ fn number_after(rest: &Option<Rest>, next: u32, own: u32) -> u32
         Some(_) => next,
         None => own,
     }
+}
+
+// Why a statement is refused first, and not attempted.
+fn refused_first(alloc: Global, cancelled: bool, cmd: u32) -> Result<Option<Fault>, NoMemory>
+    ensures is { IfOk result (λ f. f ≡ database.refused_first cancelled cmd) }
+    ensures free { IfOk result (λ f. f ≡ None → (cancelled ≡ false) × (cmd < 4294967294)) }
+{
+    if cancelled {
+        return Ok(Some(statement_cancelled(alloc)));
+    }
+    if cmd < COMMAND_LIMIT {
+        return Ok(None);
+    }
+    let fault = too_many(alloc, Which::Commands)?;
+    Ok(Some(fault))
 }
 
 impl Seats {
@@ -380,7 +395,8 @@ impl Seats {
     }
 
     /// A statement of the session is run from its beginning, or from where it stood, up to its end or to a
-    /// wait, and what it gives and reads is counted. One whose wait was cancelled is refused.
+    /// wait, and what it gives and reads is counted. One whose wait was cancelled is refused, and one whose
+    /// transaction has had `COMMAND_LIMIT` commands.
     pub(crate) fn run(
         &mut self,
         alloc: Global,
@@ -409,15 +425,14 @@ impl Seats {
         let session = asker.session;
         let sessions = self.count() as u32;
         let cmd = number_at(&self.commands, session);
-        let Some(next) = cmd.checked_add(1) else {
-            return Err(NoMemory);
-        };
-        if flag_at(&self.cancelled, session) {
+        let cancelled = flag_at(&self.cancelled, session);
+        let refusal = refused_first(alloc, cancelled, cmd)?;
+        if let Some(fault) = refusal {
             self.cancelled[session] = false;
-            self.commands[session] = next;
             self.rests[session] = None;
-            return Ok(Outcome::Refused(statement_cancelled(alloc)));
+            return Ok(Outcome::Refused(fault));
         }
+        let next = cmd + 1;
         let caller = Caller {
             session: session as u32,
             sessions,

@@ -46,9 +46,11 @@ IsLeft h s (Detach d) = Unit {0}
 abbrev pub CanGoOn : History → (session : ℕ) → Option Rest → Type 0
 CanGoOn h s rest = IfSome rest (IsLeft h s)
 
--- at a history for which the stores stand
-abbrev pub MayGoOn : Stores → Caller → Option Rest → Type 0
-MayGoOn stores caller rest = (h : History) × Stands stores h × IsAt h caller.session caller.cmd × CanGoOn h caller.session rest
+-- at a history for which the stores stand; and its transaction may have another command, under which it goes on where it
+-- waits in the middle of its run
+pub record MayGoOn (stores : Stores) (caller : Caller) (rest : Option Rest) : Type 0 where
+  pub sound : (h : History) × Stands stores h × IsAt h caller.session caller.cmd × CanGoOn h caller.session rest
+  pub next : caller.cmd < 4294967294
 
 -- it stands before no row
 abbrev pub HasNoRows : Rest → Type 0

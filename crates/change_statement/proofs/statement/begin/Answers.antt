@@ -25,7 +25,7 @@ find-requires-clause-gathered c = c.in_ok-gathered.ensures.found
 
 pub change_rows-requires-clause-may : goal.change_rows-requires-clause-may
 change_rows-requires-clause-may c =
-    may_begin c.gather.new.stores c.args.caller (found_of c.in_ok-gathered.gathered) (may_go_on _ _ _ _ _ _ (may_go_on _ _ _ _ _ _ c.requires.may c.in_ok-hold_if_repeatable.ensures.step) c.in_ok-gathered.ensures.step) c.in_ok-gathered.ensures.found
+    may_begin c.gather.new.stores c.args.caller (found_of c.in_ok-gathered.gathered) (may_go_on _ _ _ _ _ _ (may_go_on _ _ _ _ _ _ c.requires.may c.in_ok-hold_if_repeatable.ensures.step) c.in_ok-gathered.ensures.step) c.requires.next c.in_ok-gathered.ensures.found
 
 pub change_rows-requires-clause-targets : goal.change_rows-requires-clause-targets
 change_rows-requires-clause-targets c = subst (All (IsTargetIn c.gather.new.stores.rows (found_of c.in_ok-gathered.gathered))) (sym c.deref.ensures.value) c.in_ok-targets.ensures.there

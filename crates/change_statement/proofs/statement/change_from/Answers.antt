@@ -2,6 +2,12 @@ use Rattle.change_statement.specs.Changing.{begun, changing}
 use Rattle.change_statement.proofs.Commands.{begun_by, gone_on, own_run}
 use Rattle.change_statement.proofs.statement.change_from.Goals as goal
 
+pub go_on-requires-clause-next : goal.go_on-requires-clause-next
+go_on-requires-clause-next c = c.requires.rest.next
+
+pub begin-requires-clause-next : goal.begin-requires-clause-next
+begin-requires-clause-next c = c.requires.rest.next
+
 pub go_on-requires-clause-own : goal.go_on-requires-clause-own
 go_on-requires-clause-own c = own_run c.args.stores.now c.args.caller c.args.rest c.in-Some.rest c.requires.may c.requires.rest (λ h stands. c.in-Some.ensures h stands)
 

@@ -9,7 +9,7 @@ use Rattle.change_statement.proofs.Commands.{may_go, left_in, left_is_command}
 use Rattle.change_statement.proofs.statement.go_on.Goals as goal
 
 pub change_rows-requires-clause-may : goal.change_rows-requires-clause-may
-change_rows-requires-clause-may c = subst (λ (g : Found). MayRun g c.args.stores.now c.args.caller) (sym c.into_parts-gathered.ensures.found) (may_go c.args.stores.now c.args.caller c.args.rest c.requires.may c.requires.own)
+change_rows-requires-clause-may c = subst (λ (g : Found). MayRun g c.args.stores.now c.args.caller) (sym c.into_parts-gathered.ensures.found) (may_go c.args.stores.now c.args.caller c.args.rest c.requires.may c.requires.next c.requires.own)
 
 pub change_rows-requires-clause-targets : goal.change_rows-requires-clause-targets
 change_rows-requires-clause-targets c =
