@@ -110,7 +110,7 @@ impl Kinds for Statements {
     ) -> Result<Vec<usize>, NoMemory> {
         match statement {
             Statement::Query(Query::Rows(RowStatement::Select(select))) => {
-                cancelled(alloc, select, session, sessions.saturating_sub(1))
+                cancelled(alloc, select, &[], session, sessions.saturating_sub(1))
             }
             _ => Ok(Vec::new(alloc)),
         }
