@@ -1,5 +1,5 @@
 -- With parameters a SELECT does what it does with their values written out.
-use Rattle.std.proofs.Common.{◌≡◌, ℕ, ◌+◌, ◌-◌, Bool, ◌||◌, List, [], ◌∷◌, ◌++◌, refl, ap, sym, subst, ◌∙◌, append_assoc, map, Option, None, is_some, Result, Ok, Err}
+use Rattle.std.proofs.Common.{◌≡◌, ℕ, ◌+◌, ◌-◌, Bool, ◌||◌, List, [], ◌∷◌, ◌++◌, refl, ap, sym, subst, ◌∙◌, append_assoc, map, None, is_some, Result, Ok, Err}
 use Rattle.pg_values.specs.declared.fault.Fault.{Fault}
 use Rattle.pg_values.specs.declared.lock_mode.LockMode.TheVariants.{AccessShare}
 use Rattle.history.specs.History.{History}
@@ -23,7 +23,7 @@ use Rattle.select_statement.specs.Custom.{table_in, tables_in, BindsAs, BindAlik
 use Rattle.select_statement.specs.Explained.{named_item, named_items, offset_of, told, printed}
 use Rattle.select_statement.specs.Gathered.{Found, found_in, gathered, planned_under}
 use Rattle.select_statement.specs.Items.{item_of, items_of}
-use Rattle.select_statement.specs.Selected.{Told, outcome, meant, answered, uncancelled, bare, bare_plan, by_plan, over, of_tables, trees_for, named_from, begins, of_named, of_items}
+use Rattle.select_statement.specs.Selected.{outcome, meant, answered, uncancelled, bare, bare_plan, by_plan, over, of_tables, trees_for, named_from, begins, of_named, of_items}
 use Rattle.select_statement.proofs.Straight.{follow_same}
 
 -- ---- a part behind another one
