@@ -27,7 +27,7 @@ use Rattle.plan_tree.specs.Laws.{TreesCanBePruned}
 use Rattle.plan_tree.specs.Prunable.{CanPrune}
 use Rattle.cond_logic.specs.Asked.{ChangeMeant, SettingMeant, change_meant}
 use Rattle.cond_logic.specs.declared.change.ChangeAsk.{ChangeAsk}
-use Rattle.sql_binder.specs.Changes.{bound_change}
+use Rattle.sql_binder.specs.Values.{custom_change}
 use Rattle.row_change.specs.Ways.{AllTables, root}
 use Rattle.soundness.specs.Worlds.{HasLeaf}
 use Rattle.soundness.proofs.Listed.{none_in}
@@ -70,7 +70,7 @@ abbrev pub AreColumns : Stores → TableNo → List Column → Type 0
 AreColumns stores t columns = (h : History) → CatalogueStands stores.catalog h → columns ≡ (made_at h t.number).columns
 
 abbrev Bound : List Column → List Param → Caller → NamedTable → List Setting → Option Tree → Result ChangeMeant Fault
-Bound columns params c table settings condition = bound_change (item_of table columns) params c.session settings condition
+Bound columns params c table settings condition = custom_change (item_of table columns) params c.session settings condition
 
 pub bound_done : (ask : ChangeAsk) (stores : Stores) (c : Caller) (t : TableNo) (columns : List Column) (params : List Param) (table : NamedTable) (settings : List Setting) (condition : Option Tree) → MayAttempt stores c → AreColumns stores t columns
     → Bound columns params c table settings condition ≡ Ok (change_meant ask) → IsStep change_meant (Ok ask) stores stores c c.cmd (meant params c table settings condition t.number)

@@ -16,7 +16,7 @@ use Rattle.sql_binder.specs.From.{item_name}
 use Rattle.expression_binder.specs.Scopes.{Item}
 use Rattle.expression_binder.specs.declared.scope.Param.{Param}
 use Rattle.cond_logic.specs.Asked.{ChangeMeant}
-use Rattle.sql_binder.specs.Changes.{bound_change}
+use Rattle.sql_binder.specs.Values.{custom_change}
 use Rattle.stores.specs.Events.{look_of}
 use Rattle.statement_steps.specs.Made.{Made, made, answered}
 use Rattle.statement_steps.specs.declared.caller.Caller.{Caller}
@@ -54,9 +54,9 @@ found_by keeps table tree path m =
 abbrev pub item_of : NamedTable → List Column → Item
 item_of table columns = record { name = item_name (table, None); number = 0; columns = map scope_column columns }
 
--- names and kinds are bound, constants evaluated
+-- names and kinds are bound, constants evaluated, and the values of parameters put in their places
 abbrev pub meant : List Param → Caller → NamedTable → (settings : List Setting) → (condition : Option Tree) → (table : ℕ) → History → Made ChangeMeant
-meant params c table settings condition t h = answered (bound_change (item_of table (made_at h t).columns) params c.session settings condition)
+meant params c table settings condition t h = answered (custom_change (item_of table (made_at h t).columns) params c.session settings condition)
 
 -- these tables are locked, one after the other
 abbrev pub locked_all : List (List ℕ) → Caller → List TableNo → History → Made (Unit {0})

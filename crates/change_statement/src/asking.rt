@@ -6,6 +6,7 @@ ghost use Rattle.expression_binder.specs.Firsts.{IsAnswerBy};
 ghost use Rattle.cond_logic.specs.Asked.{change_meant};
 ghost use Rattle.sql_binder.specs.Changes.{bound_change};
 ghost use Rattle.sql_binder.specs.From.{item_name};
+ghost use Rattle.sql_binder.specs.Values.{custom_change};
 ghost use Rattle.statement_steps.specs.Attempts.{MayAttempt};
 ghost use Rattle.statement_steps.specs.Steps.{IsStep};
 ghost use Rattle.change_statement.specs.Gathered as gathered;
@@ -16,7 +17,7 @@ use expression_binder::{Param, ScopeItem};
 use history::Column;
 use pg_values::{NoMemory, PgText, Refusal, TableNo};
 use sql_ast::{Delete, NamedTable, Update};
-use sql_binder::{bind_delete, bind_update};
+use sql_binder::{bind_delete, bind_update, put_change_values};
 use statement_steps::{Caller, Stop, scope_columns};
 use std::alloc::Global;
 use stores::Stores;
@@ -77,13 +78,15 @@ fn bind_columns(
     params: &[Param],
     session: u32,
 ) -> Result<ChangeAsk, Refusal>
-    ensures { IsAnswerBy change_meant result (bound_change (gathered.item_of (gathered.table_named change.entry) columns.now) params.now session (gathered.settings_of change.entry) (gathered.condition_of change.entry)) }
+    ensures { IsAnswerBy change_meant result (custom_change (gathered.item_of (gathered.table_named change.entry) columns.now) params.now session (gathered.settings_of change.entry) (gathered.condition_of change.entry)) }
 {
     let item = item_of(alloc, table_named(change), columns)?;
-    bind_for(alloc, change, &item, params, session)
+    let ask = bind_for(alloc, change, &item, params, session)?;
+    Ok(put_change_values(alloc, ask, params)?)
 }
 
-/// Names and kinds are bound over the columns of the table, and constants evaluated.
+/// Names and kinds are bound over the columns of the table, constants evaluated, and the values of parameters put in
+/// their places.
 pub(crate) fn bind(
     alloc: Global,
     stores: &Stores,

@@ -1,3 +1,4 @@
+pub mod Custom
 pub mod Few
 pub mod Giving
 mod Joins

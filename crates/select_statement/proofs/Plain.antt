@@ -20,7 +20,8 @@ use Rattle.cond_logic.specs.Trees.{CondTree}
 use Rattle.plan_tree.specs.Kept.{Keeps, id_of, leaf_of, keeps_plain, leaves_below, leaves_among, kept_leaves}
 use Rattle.plan_tree.specs.Laws.{Rows, shown}
 use Rattle.lock_table.specs.Asked.{AskedView, AtOnce, WaitsBehind, ClosesCycle, asked, asked_events}
-use Rattle.sql_binder.specs.Selects.{from_of, bound_select}
+use Rattle.sql_binder.specs.Selects.{from_of}
+use Rattle.sql_binder.specs.Values.{custom_select}
 use Rattle.cond_logic.specs.Asked.{SelectMeant}
 use Rattle.plan_tree.specs.Conjuncts.{pool, lies_within, asked_at, asked_later}
 use Rattle.plan_tree.specs.Plans.{Planned, PlannedItem, keeps_first, is_joined, is_none, item_for, plan_for, plan_tables}
@@ -202,7 +203,7 @@ by_plan_plain prunes names c m trees h same =
     ∙ sym (ap (λ (r : Rows). outcome (plainly (c.sessions - 1) m r trees)) rows))
 
 pub one_table_plain : GoodIsLegal → LeavesAreFew → OneItemIsReadOnce → PrunedIsPlain → OneTableIsPlain
-one_table_plain lawful small once pruned h good prunes names c t table looks made = by (bound_select (items_of 0 (from_of t) trees) [] c.session t)
+one_table_plain lawful small once pruned h good prunes names params c t table looks made = by (custom_select (items_of 0 (from_of t) trees) params c.session t)
   where
     trees : List TableTree
     trees = trees_for c (table ∷ []) h

@@ -23,10 +23,12 @@ use Rattle.cond_logic.specs.Asked.{SelectMeant}
 use Rattle.plan_tree.specs.Prunable.{CanPrune}
 use Rattle.soundness.proofs.Presence.{all_more}
 use Rattle.sql_ast.specs.Queries.{SelectTree, selected as selects}
+use Rattle.expression_binder.specs.declared.scope.Param.{Param}
 use Rattle.expression_binder.specs.Firsts.{or_first, unless}
 use Rattle.expression_binder.specs.Scopes.{Item}
 use Rattle.sql_binder.specs.From.{item_name, twice_faults}
 use Rattle.sql_binder.specs.Selects.{from_of, name_faults, constant_faults, meaning}
+use Rattle.sql_binder.specs.Values.{if_bound, values_of, with_values}
 use Rattle.plan_tree.specs.Conjuncts.{pool, asked_at, asked_later}
 use Rattle.plan_tree.specs.Plans.{PlannedItem, Planned, keeps_first, items_from, plan_for, is_empty, plan_tables, CanRead}
 use Rattle.select_answer.proofs.Kept.{plan_read as read_by}
@@ -153,40 +155,40 @@ as_many stores caller f xs tables may are =
 -- ---- by how many items stand in FROM
 
 -- the binder refuses too many, whatever they stand for
-pub too_many_meant : (caller : Caller) (t : SelectTree) (items : List Item) → 4 < length (from_of t) → meant caller t items ≡ meant caller t []
-too_many_meant caller (selects ls from cond keys limit offset) items many = by (nat_le (length from) 4) (grind (arith, nat_tests, many))
+pub too_many_meant : (params : List Param) (caller : Caller) (t : SelectTree) (items : List Item) → 4 < length (from_of t) → meant params caller t items ≡ meant params caller t []
+too_many_meant params caller (selects ls from cond keys limit offset) items many = by (nat_le (length from) 4) (grind (arith, nat_tests, many))
   where
     -- what is told, by whether there are few enough
     told : Bool → List Item → History → Made SelectMeant
     told b items h =
-        outcome (or_first ((unless b (too_many TablesInFrom) ++ twice_faults [] (map item_name from))
-        ++ (name_faults items [] caller.session (selects ls from cond keys limit offset) ++ constant_faults items [] caller.session (selects ls from cond keys limit offset)))
-        (meaning items [] caller.session (selects ls from cond keys limit offset)))
+        outcome (if_bound (with_values (values_of params)) (or_first ((unless b (too_many TablesInFrom) ++ twice_faults [] (map item_name from))
+        ++ (name_faults items params caller.session (selects ls from cond keys limit offset) ++ constant_faults items params caller.session (selects ls from cond keys limit offset)))
+        (meaning items params caller.session (selects ls from cond keys limit offset))))
 
     by : (b : Bool) → b ≡ false → told b items ≡ told b []
     by true e = absurd (cc)
     by false e = refl
 
-pub too_many_told : (caller : Caller) (t : SelectTree) (items : List Item) (h : History) → 4 < length (from_of t) → (meant caller t items h).told ≡ Err (Refused (too_many TablesInFrom))
-too_many_told caller (selects ls from cond keys limit offset) items h many = by (nat_le (length from) 4) (grind (arith, nat_tests, many))
+pub too_many_told : (params : List Param) (caller : Caller) (t : SelectTree) (items : List Item) (h : History) → 4 < length (from_of t) → (meant params caller t items h).told ≡ Err (Refused (too_many TablesInFrom))
+too_many_told params caller (selects ls from cond keys limit offset) items h many = by (nat_le (length from) 4) (grind (arith, nat_tests, many))
   where
     by : (b : Bool) → b ≡ false
-        → (outcome (or_first ((unless b (too_many TablesInFrom) ++ twice_faults [] (map item_name from))
-        ++ (name_faults items [] caller.session (selects ls from cond keys limit offset) ++ constant_faults items [] caller.session (selects ls from cond keys limit offset)))
-        (meaning items [] caller.session (selects ls from cond keys limit offset)))).told ≡ Err (Refused (too_many TablesInFrom))
+        → (outcome (if_bound (with_values (values_of params)) (or_first ((unless b (too_many TablesInFrom) ++ twice_faults [] (map item_name from))
+        ++ (name_faults items params caller.session (selects ls from cond keys limit offset) ++ constant_faults items params caller.session (selects ls from cond keys limit offset)))
+        (meaning items params caller.session (selects ls from cond keys limit offset))))).told ≡ Err (Refused (too_many TablesInFrom))
     by true e = absurd (cc)
     by false e = refl
 
 -- so of too many nothing is meant
-pub none_meant : {X : Type 0} (view : X → SelectMeant) (r : Result X Stop) (stores : Stores) (caller : Caller) (t : SelectTree) (items : List Item) (P : X → Type 0) → 4 < length (from_of t) → MayAttempt stores caller
-    → IsStep view r stores stores caller caller.cmd (meant caller t items) → IfOk r P
-none_meant view (Ok x) stores caller t items P many may step =
+pub none_meant : {X : Type 0} (view : X → SelectMeant) (r : Result X Stop) (stores : Stores) (params : List Param) (caller : Caller) (t : SelectTree) (items : List Item) (P : X → Type 0) → 4 < length (from_of t) → MayAttempt stores caller
+    → IsStep view r stores stores caller caller.cmd (meant params caller t items) → IfOk r P
+none_meant view (Ok x) stores params caller t items P many may step =
     let h = may.sound.0 in
     let told = (step.is h may.sound.1 may.sound.2).0 in
-    let refused = too_many_told caller t items h many in
+    let refused = too_many_told params caller t items h many in
     let both : Err (Refused (too_many TablesInFrom)) ≡ Ok (view x) = sym refused ∙ told in
     absurd (cc)
-none_meant view (Err e) stores caller t items P many may step = tt
+none_meant view (Err e) stores params caller t items P many may step = tt
 
 -- ---- a SELECT that cancels itself
 

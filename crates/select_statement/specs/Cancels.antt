@@ -9,8 +9,10 @@ use Rattle.cond_logic.specs.Scalars.{ScalarTree, column, literal, table_name, co
 use Rattle.cond_logic.specs.Tuples.{no_rows}
 use Rattle.cond_logic.specs.Tables.{no_tables}
 use Rattle.cond_logic.specs.Values.{is_session, value_for}
+use Rattle.expression_binder.specs.declared.scope.Param.{Param}
 use Rattle.sql_ast.specs.Queries.{Joined, SelectTree}
-use Rattle.sql_binder.specs.Selects.{from_of, bound_select}
+use Rattle.sql_binder.specs.Selects.{from_of}
+use Rattle.sql_binder.specs.Values.{custom_select}
 use Rattle.select_answer.specs.Tuples.{no_tuple, passes}
 use Rattle.cond_logic.specs.Asked.{OutputTree, SelectMeant}
 
@@ -73,10 +75,10 @@ abbrev pub cancelled_by : (session sessions : ℕ) → Result SelectMeant Fault 
 cancelled_by s sessions (Ok m) = before s (asked sessions m)
 cancelled_by s sessions (Err f) = []
 
-abbrev pub cancelled_over : (session sessions : ℕ) → SelectTree → List Joined → List ℕ
-cancelled_over s sessions t [] = cancelled_by s sessions (bound_select [] [] s t)
-cancelled_over s sessions t (j ∷ js) = []
+abbrev pub cancelled_over : List Param → (session sessions : ℕ) → SelectTree → List Joined → List ℕ
+cancelled_over params s sessions t [] = cancelled_by s sessions (custom_select [] params s t)
+cancelled_over params s sessions t (j ∷ js) = []
 
 -- of so many sessions beside the control session, which no number names
-abbrev pub cancelled : (session sessions : ℕ) → SelectTree → List ℕ
-cancelled s sessions t = cancelled_over s sessions t (from_of t)
+abbrev pub cancelled : List Param → (session sessions : ℕ) → SelectTree → List ℕ
+cancelled params s sessions t = cancelled_over params s sessions t (from_of t)

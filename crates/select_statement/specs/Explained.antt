@@ -5,6 +5,7 @@ use Rattle.pg_values.specs.declared.answer.Answer.{Answer}
 use Rattle.history.specs.declared.catalogue.Column.{Column}
 use Rattle.history.specs.History.{History}
 use Rattle.row_router.specs.Trees.{TableTree}
+use Rattle.expression_binder.specs.declared.scope.Param.{Param}
 use Rattle.sql_ast.specs.Expressions.{Tree}
 use Rattle.sql_ast.specs.Queries.{Joined, SelectTree, selected as selects}
 use Rattle.sql_binder.specs.From.{item_name}
@@ -54,17 +55,17 @@ abbrev pub printed : SelectTree → Found → Planned → History → Made Answe
 printed t g p h = made [] (told t g p)
 
 -- of a session that prunes or does not
-abbrev pub explained : (prunes : Bool) → List (List ℕ) → Caller → SelectTree → History → Made Answer
-explained prunes names c t = follow (begins c) (λ u. follow (gathered names c t) (λ g. follow (planned_under prunes names c g) (printed t g)))
+abbrev pub explained : (prunes : Bool) → List (List ℕ) → List Param → Caller → SelectTree → History → Made Answer
+explained prunes names params c t = follow (begins c) (λ u. follow (gathered names params c t) (λ g. follow (planned_under prunes names c g) (printed t g)))
 
 -- ---- the plan that is printed is the one that runs
 
 -- a SELECT of tables gathers and plans as its EXPLAIN does, and then reads by that plan
-abbrev pub run : (prunes : Bool) → List (List ℕ) → Caller → SelectTree → History → Made Told
-run prunes names c t = follow (begins c) (λ u. follow (gathered names c t) (λ g. follow (planned_under prunes names c g) (λ p. answered c g.meant p)))
+abbrev pub run : (prunes : Bool) → List (List ℕ) → List Param → Caller → SelectTree → History → Made Told
+run prunes names params c t = follow (begins c) (λ u. follow (gathered names params c t) (λ g. follow (planned_under prunes names c g) (λ p. answered c g.meant p)))
 
 abbrev pub SelectsRunTheirPlan : Type 0
-SelectsRunTheirPlan = (prunes : Bool) (names : List (List ℕ)) (c : Caller) (t : SelectTree) (j : Joined) (js : List Joined) (h : History) → from_of t ≡ j ∷ js → selected prunes names c t h ≡ run prunes names c t h
+SelectsRunTheirPlan = (prunes : Bool) (names : List (List ℕ)) (params : List Param) (c : Caller) (t : SelectTree) (j : Joined) (js : List Joined) (h : History) → from_of t ≡ j ∷ js → selected prunes names params c t h ≡ run prunes names params c t h
 
 -- of one table the leaves under the scans of the plan are those that are read, each once, in order
 abbrev pub OneTableReadsItsScans : Type 0

@@ -4,6 +4,7 @@ use Rattle.std.specs.Prelude.{ℕ, Bool, List, [], map}
 use Rattle.history.specs.History.{History}
 use Rattle.row_router.specs.Seen.{seen}
 use Rattle.row_router.specs.Trees.{TableTree}
+use Rattle.expression_binder.specs.declared.scope.Param.{Param}
 use Rattle.sql_ast.specs.Queries.{SelectTree}
 use Rattle.sql_binder.specs.Selects.{from_of}
 use Rattle.cond_logic.specs.Asked.{SelectMeant, select_meant}
@@ -23,16 +24,16 @@ pub record Found : Type 0 where
 abbrev pub found_by : Gathered → Found
 found_by g = record { meant = select_meant g.ask; trees = map seen g.trees.items }
 
-abbrev pub found_over : Caller → SelectTree → List TableTree → History → Made Found
-found_over c t trees = follow (meant c t (items_of 0 (from_of t) trees)) (λ m h. made [] (record { meant = m; trees = trees }))
+abbrev pub found_over : List Param → Caller → SelectTree → List TableTree → History → Made Found
+found_over params c t trees = follow (meant params c t (items_of 0 (from_of t) trees)) (λ m h. made [] (record { meant = m; trees = trees }))
 
 -- over the trees of these tables, which the command's snapshot shows
-abbrev pub found_in : Caller → SelectTree → List ℕ → History → Made Found
-found_in c t ns h = found_over c t (trees_for c ns h) h
+abbrev pub found_in : List Param → Caller → SelectTree → List ℕ → History → Made Found
+found_in params c t ns h = found_over params c t (trees_for c ns h) h
 
 -- once the tables of its items are found and locked
-abbrev pub gathered : List (List ℕ) → Caller → SelectTree → History → Made Found
-gathered names c t = follow (named_from names c [] (from_of t)) (found_in c t)
+abbrev pub gathered : List (List ℕ) → List Param → Caller → SelectTree → History → Made Found
+gathered names params c t = follow (named_from names c [] (from_of t)) (found_in params c t)
 
 -- the plan of what was found
 abbrev pub plan_of : (prunes : Bool) → Found → Planned

@@ -13,6 +13,7 @@ use Rattle.soundness.specs.Worlds.{IsMade}
 use Rattle.soundness.specs.Legal.{ArePermitted}
 use Rattle.soundness.specs.Laws.{IsLooking}
 use Rattle.plan_tree.specs.Laws.{shown}
+use Rattle.expression_binder.specs.declared.scope.Param.{Param}
 use Rattle.sql_ast.specs.Queries.{SelectTree}
 use Rattle.cond_logic.specs.Asked.{SelectMeant}
 use Rattle.plan_tree.specs.Plans.{plan_for}
@@ -36,8 +37,8 @@ Looks c h = IsLooking h c.session (look_of h c.session c.cmd)
 
 -- a SELECT of one table makes of the history, and answers, what a SELECT does that scans all leaves
 abbrev pub OneTableIsPlainIn : History → Type 0
-OneTableIsPlainIn h = (prunes : Bool) (names : List (List ℕ)) (c : Caller) (t : SelectTree) (table : ℕ) → Looks c h → IsMade (catalogue_events h) table
-    → giving answer_in (of_tables prunes names c t (table ∷ []) h) ≡ selected_plainly prunes names c t (table ∷ []) h
+OneTableIsPlainIn h = (prunes : Bool) (names : List (List ℕ)) (params : List Param) (c : Caller) (t : SelectTree) (table : ℕ) → Looks c h → IsMade (catalogue_events h) table
+    → giving answer_in (of_tables prunes names params c t (table ∷ []) h) ≡ selected_plainly prunes names params c t (table ∷ []) h
 
 -- in each history of a run
 abbrev pub OneTableIsPlain : Type 0

@@ -1,4 +1,5 @@
 pub mod Cancels
+pub mod Custom
 pub mod Explained
 pub mod Gathered
 pub mod Items

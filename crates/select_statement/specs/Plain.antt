@@ -5,6 +5,7 @@ use Rattle.pg_values.specs.declared.answer.Answer.{Answer}
 use Rattle.history.specs.History.{History}
 use Rattle.row_router.specs.Trees.{TableTree}
 use Rattle.plan_tree.specs.Laws.{shown}
+use Rattle.expression_binder.specs.declared.scope.Param.{Param}
 use Rattle.sql_ast.specs.Queries.{SelectTree}
 use Rattle.sql_binder.specs.Selects.{from_of}
 use Rattle.cond_logic.specs.Asked.{SelectMeant}
@@ -30,5 +31,5 @@ abbrev pub locked_plainly : (prunes : Bool) → List (List ℕ) → Caller → L
 locked_plainly prunes names c trees m = follow (locked_below names c (plan_tables (plan_for prunes m.conditions trees))) (λ u. answered_plainly c m trees)
 
 -- of these tables, which are found and locked
-abbrev pub selected_plainly : (prunes : Bool) → List (List ℕ) → Caller → SelectTree → List ℕ → History → Made Answer
-selected_plainly prunes names c t ns h = follow (meant c t (items_of 0 (from_of t) (trees_for c ns h))) (locked_plainly prunes names c (trees_for c ns h)) h
+abbrev pub selected_plainly : (prunes : Bool) → List (List ℕ) → List Param → Caller → SelectTree → List ℕ → History → Made Answer
+selected_plainly prunes names params c t ns h = follow (meant params c t (items_of 0 (from_of t) (trees_for c ns h))) (locked_plainly prunes names c (trees_for c ns h)) h

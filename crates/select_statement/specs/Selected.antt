@@ -12,8 +12,10 @@ use Rattle.row_router.specs.Histories.{tree_of}
 use Rattle.plan_tree.specs.Laws.{shown}
 use Rattle.sql_ast.specs.Queries.{Joined, SelectTree}
 use Rattle.expression_binder.specs.Scopes.{Item}
+use Rattle.expression_binder.specs.declared.scope.Param.{Param}
 use Rattle.cond_logic.specs.Asked.{SelectMeant}
-use Rattle.sql_binder.specs.Selects.{from_of, bound_select}
+use Rattle.sql_binder.specs.Selects.{from_of}
+use Rattle.sql_binder.specs.Values.{custom_select}
 use Rattle.plan_tree.specs.Plans.{Planned, plan_for, plan_tables}
 use Rattle.select_answer.specs.Answer.{answer_of, select_course}
 use Rattle.select_answer.specs.Course.{Course, reads_of}
@@ -52,9 +54,9 @@ abbrev pub outcome : {T : Type 0} → Result T Fault → Made T
 outcome (Ok x) = made [] x
 outcome (Err f) = halted [] (Refused f)
 
--- names and kinds are bound, constants evaluated
-abbrev pub meant : Caller → SelectTree → List Item → History → Made SelectMeant
-meant c t items h = outcome (bound_select items [] c.session t)
+-- names and kinds are bound, constants evaluated, and the values of parameters put in their places
+abbrev pub meant : List Param → Caller → SelectTree → List Item → History → Made SelectMeant
+meant params c t items h = outcome (custom_select items params c.session t)
 
 -- of the rows that the command's snapshot shows, by this plan; session 0 is the control session, which no process id names
 abbrev pub answered : Caller → SelectMeant → Planned → History → Made Told
@@ -69,8 +71,8 @@ uncancelled false f = f
 abbrev pub bare_plan : SelectMeant → Planned
 bare_plan m = plan_for false m.conditions []
 
-abbrev pub bare : Caller → SelectTree → History → Made Told
-bare c t = follow (meant c t []) (λ m. uncancelled (cancels_itself c.session (c.sessions - 1) m) (answered c m (bare_plan m)))
+abbrev pub bare : List Param → Caller → SelectTree → History → Made Told
+bare params c t = follow (meant params c t []) (λ m. uncancelled (cancels_itself c.session (c.sessions - 1) m) (answered c m (bare_plan m)))
 
 -- these tables are locked, one after the other
 abbrev pub locked_below : List (List ℕ) → Caller → List TableNo → History → Made (Unit {0})
@@ -81,18 +83,18 @@ abbrev pub by_plan : List (List ℕ) → Caller → SelectMeant → Planned → 
 by_plan names c m plan = follow (locked_below names c (plan_tables plan)) (λ u. answered c m plan)
 
 -- what the names stand for and the trees are known
-abbrev pub over : (prunes : Bool) → List (List ℕ) → Caller → SelectTree → List Item → List TableTree → History → Made Told
-over prunes names c t items trees = follow (meant c t items) (λ m. by_plan names c m (plan_for prunes m.conditions trees))
+abbrev pub over : (prunes : Bool) → List (List ℕ) → List Param → Caller → SelectTree → List Item → List TableTree → History → Made Told
+over prunes names params c t items trees = follow (meant params c t items) (λ m. by_plan names c m (plan_for prunes m.conditions trees))
 
-abbrev pub of_trees : (prunes : Bool) → List (List ℕ) → Caller → SelectTree → List TableTree → History → Made Told
-of_trees prunes names c t trees = over prunes names c t (items_of 0 (from_of t) trees) trees
+abbrev pub of_trees : (prunes : Bool) → List (List ℕ) → List Param → Caller → SelectTree → List TableTree → History → Made Told
+of_trees prunes names params c t trees = over prunes names params c t (items_of 0 (from_of t) trees) trees
 
 -- the trees of the tables of these numbers are those of the command's snapshot
 abbrev pub trees_for : Caller → List ℕ → History → List TableTree
 trees_for c ns h = map (λ n. tree_of h c.session n (look_of h c.session c.cmd)) ns
 
-abbrev pub of_tables : (prunes : Bool) → List (List ℕ) → Caller → SelectTree → List ℕ → History → Made Told
-of_tables prunes names c t ns h = of_trees prunes names c t (trees_for c ns h) h
+abbrev pub of_tables : (prunes : Bool) → List (List ℕ) → List Param → Caller → SelectTree → List ℕ → History → Made Told
+of_tables prunes names params c t ns h = of_trees prunes names params c t (trees_for c ns h) h
 
 -- the tables of the items are found and locked in text order, behind those that are
 abbrev pub named_from : List (List ℕ) → Caller → (done : List ℕ) → List Joined → History → Made (List ℕ)
@@ -103,13 +105,13 @@ named_from names c done (j ∷ js) h = follow (named names c.session AccessShare
 abbrev pub begins : Caller → History → Made (Unit {0})
 begins c = held_at c.level c.session c.cmd
 
-abbrev pub of_named : (prunes : Bool) → List (List ℕ) → Caller → SelectTree → History → Made Told
-of_named prunes names c t = follow (named_from names c [] (from_of t)) (of_tables prunes names c t)
+abbrev pub of_named : (prunes : Bool) → List (List ℕ) → List Param → Caller → SelectTree → History → Made Told
+of_named prunes names params c t = follow (named_from names c [] (from_of t)) (of_tables prunes names params c t)
 
-abbrev pub of_items : (prunes : Bool) → List (List ℕ) → Caller → SelectTree → List Joined → History → Made Told
-of_items prunes names c t [] = follow (begins c) (λ u. bare c t)
-of_items prunes names c t (j ∷ js) = follow (begins c) (λ u. of_named prunes names c t)
+abbrev pub of_items : (prunes : Bool) → List (List ℕ) → List Param → Caller → SelectTree → List Joined → History → Made Told
+of_items prunes names params c t [] = follow (begins c) (λ u. bare params c t)
+of_items prunes names params c t (j ∷ js) = follow (begins c) (λ u. of_named prunes names params c t)
 
 -- of a session that prunes or does not (`enable_partition_pruning`)
-abbrev pub selected : (prunes : Bool) → List (List ℕ) → Caller → SelectTree → History → Made Told
-selected prunes names c t = of_items prunes names c t (from_of t)
+abbrev pub selected : (prunes : Bool) → List (List ℕ) → List Param → Caller → SelectTree → History → Made Told
+selected prunes names params c t = of_items prunes names params c t (from_of t)

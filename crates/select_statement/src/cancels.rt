@@ -8,10 +8,11 @@ ghost use Rattle.sql_ast.specs.Queries.{select_tree};
 ghost use Rattle.cond_logic.specs.Asked.{output_tree, select_meant};
 ghost use Rattle.select_statement.specs.Cancels as cancels;
 
+use crate::parts::bind_custom;
 use cond_logic::{Binding, Cond, Output, RowTables, Scalar, SelectAsk, Truth3, eval, scalar_value};
+use expression_binder::Param;
 use pg_values::{NoMemory, Refusal, Value};
 use sql_ast::Select;
-use sql_binder::bind_select;
 use std::alloc::Global;
 
 fn session_of(sessions: u32, n: i32) -> Option<usize>
@@ -125,20 +126,21 @@ fn before(alloc: Global, session: usize, asked: &[usize]) -> Result<Vec<usize>, 
     Ok(list)
 }
 
-/// The sessions whose waits a SELECT of that session cancels, one after the other, where there are so many
-/// beside the control session.
+/// The sessions whose waits a SELECT of that session cancels with these arguments of its parameters, one after the
+/// other, where there are so many beside the control session.
 pub fn cancelled(
     alloc: Global,
     select: &Select,
+    params: &[Param],
     session: u32,
     sessions: u32,
 ) -> Result<Vec<usize>, NoMemory>
-    ensures { IfOk result (λ list. list.items ≡ cancels.cancelled session sessions (select_tree select.now)) }
+    ensures { IfOk result (λ list. list.items ≡ cancels.cancelled params.now session sessions (select_tree select.now)) }
 {
     if !select.from.as_slice().is_empty() {
         return Ok(Vec::new(alloc));
     }
-    match bind_select(alloc, select, &[], &[], session) {
+    match bind_custom(alloc, select, &[], params, session) {
         Ok(ask) => before(alloc, session as usize, &asked(alloc, &ask, sessions)?),
         Err(Refusal::Sql(_)) => Ok(Vec::new(alloc)),
         Err(Refusal::NoMemory) => Err(NoMemory),

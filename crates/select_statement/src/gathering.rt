@@ -23,6 +23,7 @@ use crate::items::items_of;
 use crate::parts::{bind, lock_below};
 use crate::tables::{lock_items, read_trees};
 use cond_logic::SelectAsk;
+use expression_binder::Param;
 use pg_values::{NoMemory, TableNo};
 use plan_tree::{Plan, make_plan};
 use row_router::Tree;
@@ -46,26 +47,28 @@ pub(crate) fn look(alloc: Global, stores: &Stores, caller: Caller) -> Result<Sna
 fn bind_over(
     alloc: Global,
     stores: &Stores,
+    params: &[Param],
     caller: Caller,
     select: &Select,
     trees: &[Tree],
 ) -> Result<SelectAsk, Stop>
     requires may { MayAttempt stores.now caller }
     requires each { length trees.now ≡ length (from_of (select_tree select.now)) }
-    ensures step { IsStep select_meant result stores.now stores.now caller caller.cmd (selected.meant caller (select_tree select.now) (scope_of 0 (from_of (select_tree select.now)) (map seen trees.now))) }
+    ensures step { IsStep select_meant result stores.now stores.now caller caller.cmd (selected.meant params.now caller (select_tree select.now) (scope_of 0 (from_of (select_tree select.now)) (map seen trees.now))) }
     ensures few { IfOk result (λ ask. length trees.now ≤ 4) }
 {
     if trees.len() > 4 {
-        return bind(alloc, stores, caller, select, &[]);
+        return bind(alloc, stores, params, caller, select, &[]);
     }
     let items = items_of(alloc, select.from.as_slice(), trees)?;
-    bind(alloc, stores, caller, select, &items)
+    bind(alloc, stores, params, caller, select, &items)
 }
 
 // The trees of the tables are read, and names and kinds bound over them.
 fn find(
     alloc: Global,
     stores: &Stores,
+    params: &[Param],
     caller: Caller,
     select: &Select,
     tables: &[TableNo],
@@ -74,7 +77,7 @@ fn find(
     requires few { length stores.now.catalog.tables ≤ 4096 }
     requires each { length tables.now ≡ length (from_of (select_tree select.now)) }
     requires known { All (λ t. IsKnownTo stores.now caller.session t.number) tables.now }
-    ensures step { IsStep found_by result stores.now stores.now caller caller.cmd (gathered.found_in caller (select_tree select.now) (map number_of tables.now)) }
+    ensures step { IsStep found_by result stores.now stores.now caller caller.cmd (gathered.found_in params.now caller (select_tree select.now) (map number_of tables.now)) }
     ensures few { IfOk result (λ g. length g.trees.items ≤ 4) }
     ensures each { IfOk result (λ g. length g.trees.items ≡ length (from_of (select_tree select.now))) }
     ensures trees { IfOk result (λ g. All (λ t. IsTreeFor stores.now caller (seen t)) g.trees.items) }
@@ -82,7 +85,7 @@ fn find(
 {
     let snap = look(alloc, stores, caller)?;
     let trees = read_trees(alloc, stores, caller, tables, &snap)?;
-    let ask = bind_over(alloc, stores, caller, select, &trees)?;
+    let ask = bind_over(alloc, stores, params, caller, select, &trees)?;
     Ok(Gathered { ask, trees, snap })
 }
 
@@ -105,17 +108,18 @@ fn keep_trees(
 }
 
 /// The tables of FROM are found and locked, their trees read under the snapshot of the command, names and kinds
-/// bound, and constants evaluated.
+/// bound, constants evaluated, and the values of parameters put in their places.
 pub(crate) fn gather(
     alloc: Global,
     stores: &mut Stores,
     names: &SessionNames,
+    params: &[Param],
     caller: Caller,
     select: &Select,
 ) -> Result<Gathered, Stop>
     requires may { MayAttempt stores.old caller }
     requires few { length stores.old.catalog.tables ≤ 4096 }
-    ensures step { IsStep found_by result stores.old stores.new caller caller.cmd (gathered.gathered names.now caller (select_tree select.now)) }
+    ensures step { IsStep found_by result stores.old stores.new caller caller.cmd (gathered.gathered names.now params.now caller (select_tree select.now)) }
     ensures few { IfOk result (λ g. length g.trees.items ≤ 4) }
     ensures each { IfOk result (λ g. length g.trees.items ≡ length (from_of (select_tree select.now))) }
     ensures trees { IfOk result (λ g. All (λ t. IsTreeFor stores.new caller (seen t)) g.trees.items) }
@@ -123,7 +127,7 @@ pub(crate) fn gather(
 {
     let tables = lock_items(alloc, stores, names, caller, select.from.as_slice())?;
     keep_trees(alloc, stores, caller, &tables)?;
-    find(alloc, stores, caller, select, &tables)
+    find(alloc, stores, params, caller, select, &tables)
 }
 
 // ---- the plan

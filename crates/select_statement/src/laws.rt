@@ -1,3 +1,4 @@
+ghost use Rattle.select_statement.specs.Custom.{CustomCancels, CustomExplains, CustomSelects};
 ghost use Rattle.select_statement.specs.Laws.{LeavesAreFew, OneTableIsPlain, TablesArePlain};
 
 use select_answer::{one_item_is_read_once, pruned_is_plain};
@@ -26,3 +27,11 @@ pub fn tables_are_plain()
     good_is_legal();
     pruned_is_plain();
 }
+
+/// With parameters a SELECT makes of each history what it makes with their values written out, wherever the two bind
+/// alike. So does its EXPLAIN, and the same waits are cancelled by it.
+pub fn custom_selects_are_as_written_out()
+    ensures selects { CustomSelects }
+    ensures explains { CustomExplains }
+    ensures cancels { CustomCancels }
+{}

@@ -12,6 +12,9 @@
 //! That a SELECT reads by the plan that its EXPLAIN prints is a law (`selects_run_their_plan`), and so is that a
 //! SELECT of one table reads just the leaves that stand there (`one_table_reads_its_scans`).
 //!
+//! A prepared SELECT is bound with the arguments of its parameters, and its plan made with their values in place. So it
+//! does what it does with these written out (`custom_selects_are_as_written_out`).
+//!
 //! What a SELECT of a run answers: what a plain scan of all leaves gives.
 //!
 //! `select_answer` has that of a plan, which is refused where it makes too many scans. A plan over one table reads
@@ -38,5 +41,7 @@ pub use explaining::{
     selects_run_their_plan,
 };
 pub use gathered::Gathered;
-pub use laws::{leaves_are_few, one_table_is_plain, tables_are_plain};
+pub use laws::{
+    custom_selects_are_as_written_out, leaves_are_few, one_table_is_plain, tables_are_plain,
+};
 pub use statement::select;

@@ -1,7 +1,9 @@
 ghost use Rattle.std.specs.Prelude.{◌≡◌, ◌+◌, All};
 ghost use Rattle.sql_ast.specs.Queries.{select_tree};
 ghost use Rattle.cond_logic.specs.Asked.{select_meant};
+ghost use Rattle.expression_binder.specs.Firsts.{IsAnswerBy};
 ghost use Rattle.plan_tree.specs.Plans.{CanRead, planned};
+ghost use Rattle.sql_binder.specs.Values.{custom_select};
 ghost use Rattle.statement_steps.specs.Attempts.{MayAttempt};
 ghost use Rattle.statement_steps.specs.Steps.{IsStep};
 ghost use Rattle.select_statement.specs.Lent.{IsLookFor, MayLock};
@@ -9,30 +11,45 @@ ghost use Rattle.select_statement.specs.Selected as selected;
 
 use crate::Answered;
 use cond_logic::SelectAsk;
-use expression_binder::ScopeItem;
-use pg_values::{LockMode, TableNo};
+use expression_binder::{Param, ScopeItem};
+use pg_values::{LockMode, Refusal, TableNo};
 use plan_tree::Plan;
 use row_store::Trail;
 use select_answer::run_select;
 use sql_ast::Select;
-use sql_binder::bind_select;
+use sql_binder::{bind_select, put_values};
 use statement_steps::{Caller, SessionNames, Stop, lock_tables};
 use std::alloc::Global;
 use stores::Stores;
 use tx_table::Snapshot;
 
-/// Names and kinds are bound, and constants evaluated.
+/// The SELECT by places and values, with the values of its parameters in their places; or its first fault.
+pub(crate) fn bind_custom(
+    alloc: Global,
+    select: &Select,
+    items: &[ScopeItem],
+    params: &[Param],
+    session: u32,
+) -> Result<SelectAsk, Refusal>
+    ensures { IsAnswerBy select_meant result (custom_select items.now params.now session (select_tree select.now)) }
+{
+    let ask = bind_select(alloc, select, items, params, session)?;
+    Ok(put_values(alloc, ask, params)?)
+}
+
+/// Names and kinds are bound, constants evaluated, and the values of parameters put in their places.
 pub(crate) fn bind(
     alloc: Global,
     stores: &Stores,
+    params: &[Param],
     caller: Caller,
     select: &Select,
     items: &[ScopeItem],
 ) -> Result<SelectAsk, Stop>
     requires { MayAttempt stores.now caller }
-    ensures { IsStep select_meant result stores.now stores.now caller caller.cmd (selected.meant caller (select_tree select.now) items.now) }
+    ensures { IsStep select_meant result stores.now stores.now caller caller.cmd (selected.meant params.now caller (select_tree select.now) items.now) }
 {
-    let ask = bind_select(alloc, select, items, &[], caller.session)?;
+    let ask = bind_custom(alloc, select, items, params, caller.session)?;
     Ok(ask)
 }
 

@@ -8,6 +8,7 @@ use crate::Answered;
 use crate::cancels::cancels_itself;
 use crate::gathering::{gather, look, plan_under};
 use crate::parts::{answer, bind};
+use expression_binder::Param;
 use plan_tree::make_plan;
 use refusals::statement_cancelled;
 use sql_ast::Select;
@@ -20,16 +21,17 @@ use stores::Stores;
 fn select_bare(
     alloc: Global,
     stores: &mut Stores,
+    params: &[Param],
     caller: Caller,
     select: &Select,
 ) -> Result<Answered, Stop>
     requires { MayAttempt stores.old caller }
     ensures { IsStep selected.told_by result stores.old stores.new caller (caller.cmd + 1)
-        (follow (selected.begins caller) (λ u. selected.bare caller (select_tree select.now))) }
+        (follow (selected.begins caller) (λ u. selected.bare params.now caller (select_tree select.now))) }
 {
     hold_if_repeatable(alloc, stores, caller)?;
     let snap = look(alloc, stores, caller)?;
-    let ask = bind(alloc, stores, caller, select, &[])?;
+    let ask = bind(alloc, stores, params, caller, select, &[])?;
     let plan = make_plan(alloc, false, ask.conditions.as_slice(), &[])?;
     let is_cancelled = cancels_itself(alloc, &ask, caller.session, caller.sessions - 1)?;
     if is_cancelled {
@@ -44,6 +46,7 @@ fn select_tables(
     alloc: Global,
     stores: &mut Stores,
     names: &SessionNames,
+    params: &[Param],
     caller: Caller,
     prunes: bool,
     select: &Select,
@@ -51,31 +54,32 @@ fn select_tables(
     requires may { MayAttempt stores.old caller }
     requires few { length stores.old.catalog.tables ≤ 4096 }
     ensures { IsStep selected.told_by result stores.old stores.new caller (caller.cmd + 1)
-        (follow (selected.begins caller) (λ u. selected.of_named prunes names.now caller (select_tree select.now))) }
+        (follow (selected.begins caller) (λ u. selected.of_named prunes names.now params.now caller (select_tree select.now))) }
 {
     hold_if_repeatable(alloc, stores, caller)?;
-    let found = gather(alloc, stores, names, caller, select)?;
+    let found = gather(alloc, stores, names, params, caller, select)?;
     let plan = plan_under(alloc, stores, names, caller, prunes, &found)?;
     answer(alloc, stores, caller, &found.ask, &plan, &found.snap)
 }
 
-/// A SELECT of a session: its answer with the leaves that it has read, or why it stops. It locks and reads what
-/// its conditions keep, or all where the session prunes nothing.
+/// A SELECT of a session, with the arguments of its parameters: its answer with the leaves that it has read, or why
+/// it stops. It locks and reads what its conditions keep, or all where the session prunes nothing.
 pub fn select(
     alloc: Global,
     stores: &mut Stores,
     names: &SessionNames,
+    params: &[Param],
     caller: Caller,
     prunes: bool,
     select: &Select,
 ) -> Result<Answered, Stop>
     requires may { MayAttempt stores.old caller }
     requires few { length stores.old.catalog.tables ≤ 4096 }
-    ensures { IsStep selected.told_by result stores.old stores.new caller (caller.cmd + 1) (selected.selected prunes names.now caller (select_tree select.now)) }
+    ensures { IsStep selected.told_by result stores.old stores.new caller (caller.cmd + 1) (selected.selected prunes names.now params.now caller (select_tree select.now)) }
 {
     if select.from.as_slice().is_empty() {
-        select_bare(alloc, stores, caller, select)
+        select_bare(alloc, stores, params, caller, select)
     } else {
-        select_tables(alloc, stores, names, caller, prunes, select)
+        select_tables(alloc, stores, names, params, caller, prunes, select)
     }
 }

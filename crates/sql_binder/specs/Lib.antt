@@ -8,3 +8,4 @@ pub mod Keys
 pub mod Lent
 pub mod Same
 pub mod Selects
+pub mod Values

@@ -7,6 +7,9 @@
 //! too many FROM items and a name that two of them have, then names and kinds in text order, then constants in
 //! text order. `bind_arguments` answers the parameters themselves in the same way.
 //!
+//! A condition names a parameter by its place, so that a plan can be made without its value. For a custom plan
+//! the values are put there (`put_values`, `put_change_values`).
+//!
 //! Each answer is a list of faults and a meaning that is total: the first fault, else the meaning. The
 //! lists are put together of those of expressions (`expression_binder`).
 #![tactic(auto)]
@@ -21,8 +24,10 @@ mod items;
 mod keys;
 mod same;
 mod selects;
+mod values;
 
 pub use arguments::{Wanted, bind_arguments};
 pub use changes::{bind_delete, bind_update};
 pub use inserts::bind_insert;
 pub use selects::bind_select;
+pub use values::{put_change_values, put_values};

@@ -1,4 +1,5 @@
 use crate::bound::write_params;
+use crate::custom::write_custom;
 use crate::tables::{columns_of, item_of, items_of};
 use expression_binder::{Given, ScopeItem};
 use parameter_kinds::{bind_parameters, kind_in_statement};
@@ -77,7 +78,7 @@ fn declared_of(
     Ok(declared)
 }
 
-/// Writes the parameters of a statement that is prepared and executed.
+/// Writes the parameters of a statement that is prepared and executed, and what it means with their values in place.
 pub(crate) fn write_bound(
     alloc: Global,
     names: &[PgText],
@@ -88,5 +89,7 @@ pub(crate) fn write_bound(
     let declared = declared_of(alloc, names, arguments)?;
     let tables = tables_of(alloc, statement)?;
     let params = bind_parameters(alloc, statement, &tables, &declared, arguments)?;
-    Ok(write_params(alloc, &params, out)?)
+    write_params(alloc, &params, out)?;
+    out.extend_from_slice(b": ")?;
+    write_custom(alloc, statement, &params, out)
 }

@@ -9,6 +9,7 @@
 mod blocks;
 mod bound;
 mod bound_trees;
+mod custom;
 mod definitions;
 mod expressions;
 mod kinds;

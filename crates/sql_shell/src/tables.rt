@@ -3,6 +3,9 @@ use pg_values::{Kind, NoMemory, PgText, Value};
 use sql_ast::{FromItem, NamedTable};
 use std::alloc::Global;
 
+/// The session whose statements they are.
+pub(crate) const SESSION: u32 = 1;
+
 const T: &[(&[u8], Kind)] = &[
     (b"a", Kind::Int4),
     (b"c", Kind::Text),

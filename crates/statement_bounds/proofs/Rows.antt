@@ -29,7 +29,7 @@ use Rattle.sql_ast.specs.Expressions.{Tree, Trees}
 use Rattle.sql_ast.specs.Queries.{Setting}
 use Rattle.sql_ast.specs.declared.named_table.NamedTable.{NamedTable}
 use Rattle.expression_binder.specs.declared.scope.Param.{Param}
-use Rattle.sql_binder.specs.Changes.{bound_change}
+use Rattle.sql_binder.specs.Values.{custom_change}
 use Rattle.stores.specs.Events.{look_of}
 use Rattle.statement_steps.specs.Asks.{named, all_locked, held_at}
 use Rattle.statement_steps.specs.Ended.{giving}
@@ -162,7 +162,7 @@ module _ (k : Attempt) (names : List (List ℕ)) where
       let tree = tree_of h k.caller.session t (look_of h k.caller.session k.caller.cmd) in
       let path = path_of h k.caller.session t in
       then_parts k Any (Gives k Any) (meant params k.caller table settings condition t) (locked prunes names k.caller t tree path)
-      (λ h now. answered_part k h now (bound_change (item_of table (made_at h t).columns) params k.caller.session settings condition))
+      (λ h now. answered_part k h now (custom_change (item_of table (made_at h t).columns) params k.caller.session settings condition))
       (λ m any. locked_by_parts (keeps_for prunes m.condition) t tree path m (tree_low k h now k.caller.session t (look_of h k.caller.session k.caller.cmd) low)) h now)
 
   begun_parts : (prunes : Bool) (params : List Param) (table : NamedTable) (settings : List Setting) (condition : Option Tree) (change : Found → Changing) → ((g : Found) → EachChanges k (change g))

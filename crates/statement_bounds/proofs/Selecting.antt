@@ -14,8 +14,10 @@ use Rattle.plan_tree.specs.Kept.{kept_tables}
 use Rattle.plan_tree.specs.Laws.{shown}
 use Rattle.plan_tree.specs.Plans.{Planned, plan_for, plan_tables, items_from, is_empty, keeps_first}
 use Rattle.sql_ast.specs.Queries.{Joined, SelectTree}
-use Rattle.sql_binder.specs.Selects.{from_of, bound_select}
+use Rattle.sql_binder.specs.Selects.{from_of}
+use Rattle.sql_binder.specs.Values.{custom_select}
 use Rattle.expression_binder.specs.Scopes.{Item}
+use Rattle.expression_binder.specs.declared.scope.Param.{Param}
 use Rattle.cond_logic.specs.Asked.{SelectMeant}
 use Rattle.cond_logic.specs.Trees.{CondTree}
 use Rattle.select_answer.specs.Answer.{select_course}
@@ -40,9 +42,9 @@ outcome_part : {T : Type 0} (k : Attempt) (h : History) → Now k h → (r : Res
 outcome_part k h now (Ok x) = made_part k (Gives k Any) h x now.may (now.still, tt)
 outcome_part k h now (Err f) = refused_part k (Gives k Any) h f now.may
 
-module _ (k : Attempt) (names : List (List ℕ)) where
-  meant_parts : (t : SelectTree) (items : List Item) → Parts k (Gives k Any) (meant k.caller t items)
-  meant_parts t items h now = outcome_part k h now (bound_select items [] k.caller.session t)
+module _ (k : Attempt) (names : List (List ℕ)) (params : List Param) where
+  meant_parts : (t : SelectTree) (items : List Item) → Parts k (Gives k Any) (meant params k.caller t items)
+  meant_parts t items h now = outcome_part k h now (custom_select items params k.caller.session t)
 
   answered_parts : (m : SelectMeant) (plan : Planned) → Parts k (Gives k Any) (answered k.caller m plan)
   answered_parts m plan h now = outcome_part k h now (told_of m (select_course (k.caller.sessions - 1) [] m (shown h (look_of h k.caller.session k.caller.cmd)) plan []))
@@ -99,31 +101,31 @@ module _ (k : Attempt) (names : List (List ℕ)) where
   by_plan_parts m plan low =
       then_parts k Any (Gives k Any) (locked_below names k.caller (plan_tables plan)) (λ u. answered k.caller m plan) (locked_below_parts (plan_tables plan) low) (λ u any. answered_parts m plan)
 
-  over_parts : (prunes : Bool) (t : SelectTree) (items : List Item) (trees : List TableTree) → AreTrees trees → Parts k (Gives k Any) (over prunes names k.caller t items trees)
+  over_parts : (prunes : Bool) (t : SelectTree) (items : List Item) (trees : List TableTree) → AreTrees trees → Parts k (Gives k Any) (over prunes names params k.caller t items trees)
   over_parts prunes t items trees low =
-      then_parts k Any (Gives k Any) (meant k.caller t items) (λ m. by_plan names k.caller m (plan_for prunes m.conditions trees)) (meant_parts t items)
+      then_parts k Any (Gives k Any) (meant params k.caller t items) (λ m. by_plan names k.caller m (plan_for prunes m.conditions trees)) (meant_parts t items)
       (λ m any. by_plan_parts m (plan_for prunes m.conditions trees) (plan_low prunes m.conditions trees low))
 
-  of_tables_parts : (prunes : Bool) (t : SelectTree) (ns : List ℕ) → AreLow ns → Parts k (Gives k Any) (of_tables prunes names k.caller t ns)
+  of_tables_parts : (prunes : Bool) (t : SelectTree) (ns : List ℕ) → AreLow ns → Parts k (Gives k Any) (of_tables prunes names params k.caller t ns)
   of_tables_parts prunes t ns low h now = over_parts prunes t (items_of 0 (from_of t) (trees_for k.caller ns h)) (trees_for k.caller ns h) (trees_low ns low h now) h now
 
-  of_named_parts : (prunes : Bool) (t : SelectTree) → Parts k (Gives k Any) (of_named prunes names k.caller t)
+  of_named_parts : (prunes : Bool) (t : SelectTree) → Parts k (Gives k Any) (of_named prunes names params k.caller t)
   of_named_parts prunes t =
-      then_parts k AreLow (Gives k Any) (named_from names k.caller [] (from_of t)) (of_tables prunes names k.caller t) (named_from_parts (from_of t) [] (All-nil (λ n. n < k.bound))) (of_tables_parts prunes t)
+      then_parts k AreLow (Gives k Any) (named_from names k.caller [] (from_of t)) (of_tables prunes names params k.caller t) (named_from_parts (from_of t) [] (All-nil (λ n. n < k.bound))) (of_tables_parts prunes t)
 
-  bare_parts : (t : SelectTree) → Parts k (Gives k Any) (bare k.caller t)
+  bare_parts : (t : SelectTree) → Parts k (Gives k Any) (bare params k.caller t)
   bare_parts t =
-      then_parts k Any (Gives k Any) (meant k.caller t []) (λ m. uncancelled (cancels_itself k.caller.session (k.caller.sessions - 1) m) (answered k.caller m (bare_plan m))) (meant_parts t [])
+      then_parts k Any (Gives k Any) (meant params k.caller t []) (λ m. uncancelled (cancels_itself k.caller.session (k.caller.sessions - 1) m) (answered k.caller m (bare_plan m))) (meant_parts t [])
       (λ m any. uncancelled_parts (cancels_itself k.caller.session (k.caller.sessions - 1) m) (answered k.caller m (bare_plan m)) (answered_parts m (bare_plan m)))
 
   begins_parts : Parts k (Gives k Any) (begins k.caller)
   begins_parts = held_at_parts k k.caller.level k.caller.cmd
 
-  of_items_parts : (prunes : Bool) (t : SelectTree) (js : List Joined) → Parts k (Gives k Any) (of_items prunes names k.caller t js)
-  of_items_parts prunes t [] = then_parts k Any (Gives k Any) (begins k.caller) (λ u. bare k.caller t) begins_parts (λ u any. bare_parts t)
-  of_items_parts prunes t (j ∷ js) = then_parts k Any (Gives k Any) (begins k.caller) (λ u. of_named prunes names k.caller t) begins_parts (λ u any. of_named_parts prunes t)
+  of_items_parts : (prunes : Bool) (t : SelectTree) (js : List Joined) → Parts k (Gives k Any) (of_items prunes names params k.caller t js)
+  of_items_parts prunes t [] = then_parts k Any (Gives k Any) (begins k.caller) (λ u. bare params k.caller t) begins_parts (λ u any. bare_parts t)
+  of_items_parts prunes t (j ∷ js) = then_parts k Any (Gives k Any) (begins k.caller) (λ u. of_named prunes names params k.caller t) begins_parts (λ u any. of_named_parts prunes t)
 
-  pub selected_parts : (prunes : Bool) (t : SelectTree) → Parts k (Gives k Any) (selected prunes names k.caller t)
+  pub selected_parts : (prunes : Bool) (t : SelectTree) → Parts k (Gives k Any) (selected prunes names params k.caller t)
   selected_parts prunes t = of_items_parts prunes t (from_of t)
 
   -- ---- EXPLAIN
@@ -131,26 +133,26 @@ module _ (k : Attempt) (names : List (List ℕ)) where
   abbrev HasTrees : Found → Type 0
   HasTrees g = AreTrees g.trees
 
-  found_over_parts : (t : SelectTree) (trees : List TableTree) → AreTrees trees → Parts k (Gives k HasTrees) (found_over k.caller t trees)
+  found_over_parts : (t : SelectTree) (trees : List TableTree) → AreTrees trees → Parts k (Gives k HasTrees) (found_over params k.caller t trees)
   found_over_parts t trees low =
-      then_parts k Any (Gives k HasTrees) (meant k.caller t (items_of 0 (from_of t) trees)) (λ m h. made [] (record { meant = m; trees = trees })) (meant_parts t (items_of 0 (from_of t) trees))
+      then_parts k Any (Gives k HasTrees) (meant params k.caller t (items_of 0 (from_of t) trees)) (λ m h. made [] (record { meant = m; trees = trees })) (meant_parts t (items_of 0 (from_of t) trees))
       (λ m any h now. made_part k (Gives k HasTrees) h (record { meant = m; trees = trees }) now.may (now.still, low))
 
-  found_in_parts : (t : SelectTree) (ns : List ℕ) → AreLow ns → Parts k (Gives k HasTrees) (found_in k.caller t ns)
+  found_in_parts : (t : SelectTree) (ns : List ℕ) → AreLow ns → Parts k (Gives k HasTrees) (found_in params k.caller t ns)
   found_in_parts t ns low h now = found_over_parts t (trees_for k.caller ns h) (trees_low ns low h now) h now
 
-  gathered_parts : (t : SelectTree) → Parts k (Gives k HasTrees) (gathered names k.caller t)
+  gathered_parts : (t : SelectTree) → Parts k (Gives k HasTrees) (gathered names params k.caller t)
   gathered_parts t =
-      then_parts k AreLow (Gives k HasTrees) (named_from names k.caller [] (from_of t)) (found_in k.caller t) (named_from_parts (from_of t) [] (All-nil (λ n. n < k.bound))) (found_in_parts t)
+      then_parts k AreLow (Gives k HasTrees) (named_from names k.caller [] (from_of t)) (found_in params k.caller t) (named_from_parts (from_of t) [] (All-nil (λ n. n < k.bound))) (found_in_parts t)
 
   planned_parts : (prunes : Bool) (g : Found) → HasTrees g → Parts k (Gives k Any) (planned_under prunes names k.caller g)
   planned_parts prunes g low =
       then_parts k Any (Gives k Any) (locked_below names k.caller (plan_tables (plan_of prunes g))) (λ u h. made [] (plan_of prunes g))
       (locked_below_parts (plan_tables (plan_of prunes g)) (plan_low prunes g.meant.conditions g.trees low)) (λ u any h now. made_part k (Gives k Any) h (plan_of prunes g) now.may (now.still, tt))
 
-  pub explained_parts : (prunes : Bool) (t : SelectTree) → Parts k (Gives k Any) (explained prunes names k.caller t)
+  pub explained_parts : (prunes : Bool) (t : SelectTree) → Parts k (Gives k Any) (explained prunes names params k.caller t)
   explained_parts prunes t =
-      then_parts k Any (Gives k Any) (begins k.caller) (λ u. follow (gathered names k.caller t) (λ g. follow (planned_under prunes names k.caller g) (printed t g))) begins_parts
-      (λ u any. then_parts k HasTrees (Gives k Any) (gathered names k.caller t) (λ g. follow (planned_under prunes names k.caller g) (printed t g)) (gathered_parts t)
+      then_parts k Any (Gives k Any) (begins k.caller) (λ u. follow (gathered names params k.caller t) (λ g. follow (planned_under prunes names k.caller g) (printed t g))) begins_parts
+      (λ u any. then_parts k HasTrees (Gives k Any) (gathered names params k.caller t) (λ g. follow (planned_under prunes names k.caller g) (printed t g)) (gathered_parts t)
       (λ g low. then_parts k Any (Gives k Any) (planned_under prunes names k.caller g) (printed t g) (planned_parts prunes g low)
       (λ p any h now. made_part k (Gives k Any) h (told t g p) now.may (now.still, tt))))

@@ -82,7 +82,7 @@ module _ (k : Attempt) (names : List (List ℕ)) where
   command_parts rest known deallocates_all = omitted_parts (command_word deallocates_all)
 
   row_parts : (trailed prunes : Bool) (rest : Option Rest) (t : RowTree) → Parts k EndKnown (row_attempted trailed prunes names k.caller rest t)
-  row_parts trailed prunes rest (selects s) = printed_parts (answer_text trailed) (selected prunes names k.caller s) (selected_parts k names prunes s)
+  row_parts trailed prunes rest (selects s) = printed_parts (answer_text trailed) (selected prunes names [] k.caller s) (selected_parts k names [] prunes s)
   row_parts trailed prunes rest (inserts table columns values) = printed_parts (inserted_text trailed (length values)) (inserted names [] k.caller table columns values) (inserted_parts k names [] table columns values)
   row_parts trailed prunes rest (updates table settings condition) =
       printed_parts (changed_text trailed (codes "UPDATE")) (updated prunes names [] k.caller rest table settings condition) (updated_parts k names prunes [] rest table settings condition)
@@ -93,7 +93,7 @@ module _ (k : Attempt) (names : List (List ℕ)) where
   query_parts trailed prunes rest (prepares name kinds r) = omitted_parts (query_word (prepares name kinds r))
   query_parts trailed prunes rest (executes name values) = omitted_parts (query_word (executes name values))
   query_parts trailed prunes rest (explains_select true s) = omitted_parts (codes "ANALYZE")
-  query_parts trailed prunes rest (explains_select false s) = tabled_parts (explained prunes names k.caller s) (explained_parts k names prunes s)
+  query_parts trailed prunes rest (explains_select false s) = tabled_parts (explained prunes names [] k.caller s) (explained_parts k names [] prunes s)
   query_parts trailed prunes rest (explains_execute costs name values) = omitted_parts (query_word (explains_execute costs name values))
 
 attempted_parts : (k : Attempt) (o : Options) (rest : Option Rest) (g : Settings) → IsKnown rest → (t : StatementTree) → Parts k EndKnown (attempted o k.caller rest g t)

@@ -24,7 +24,7 @@ use Rattle.soundness.specs.Worlds.{IsMade}
 use Rattle.sql_ast.specs.Expressions.{Tree}
 use Rattle.sql_ast.specs.Queries.{Joined, SelectTree, Setting}
 use Rattle.sql_ast.specs.declared.named_table.NamedTable.{NamedTable}
-use Rattle.sql_binder.specs.Selects.{from_of, bound_select}
+use Rattle.sql_binder.specs.Selects.{from_of}
 use Rattle.stores.specs.Events.{held, held_first, look_of}
 use Rattle.stores.specs.Good.{IsGood}
 use Rattle.stores.proofs.Commands.{looks_are_open}
@@ -50,7 +50,7 @@ use Rattle.select_statement.proofs.Moments.{good_selects}
 use Rattle.select_statement.proofs.Plain.{AreLocks, all_locks, both_locks, by_plan_plain, locked_locks, locks_show}
 use Rattle.change_statement.specs.Changed.{Changing, Told as ChangeTold, begun_or_left, changed, changed_by, changed_from, changed_on, told_of as change_told}
 use Rattle.change_statement.specs.Deleted.{deleting}
-use Rattle.sql_binder.specs.Changes.{bound_change}
+use Rattle.sql_binder.specs.Values.{custom_change, custom_select}
 use Rattle.change_statement.specs.Gathered.{found_by, gathered, item_of, locked_all, meant, of_table}
 use Rattle.change_statement.specs.Gathered as changes
 use Rattle.change_statement.specs.Kept.{keeps_for, tables_locked}
@@ -190,7 +190,7 @@ alone_after v m f g same = giving_then v m f ∙ same_after m (λ x. giving v (f
 
 -- ---- SELECT
 
-module _ (h : History) (good : IsGood h) (prunes : Bool) (names : List (List ℕ)) (c : Caller) (t : SelectTree) (a : Told) (few : length (from_of t) ≤ 4) where
+module _ (h : History) (good : IsGood h) (prunes : Bool) (names : List (List ℕ)) (params : List Param) (c : Caller) (t : SelectTree) (a : Told) (few : length (from_of t) ≤ 4) where
   plan_plain : (g : History) (m : SelectMeant) (ns : List ℕ) → SelectsArePlain g → Looks c g → length ns ≤ 4 → All (IsMade (catalogue_events g)) ns → (by_plan names c m (plan_for prunes m.conditions (trees_for c ns g)) g).told ≡ Ok a
       → giving answer_in (by_plan names c m (plan_for prunes m.conditions (trees_for c ns g)) g) ≡ locked_plainly prunes names c (trees_for c ns g) m g
   plan_plain g m ns plain looking low made done =
@@ -209,40 +209,40 @@ module _ (h : History) (good : IsGood h) (prunes : Bool) (names : List (List ℕ
             absurd (let d = told in cc)
       ]
 
-  tables_plain : (g : History) (ns : List ℕ) → SelectsArePlain g → Looks c g → length ns ≤ 4 → All (IsMade (catalogue_events g)) ns → (of_tables prunes names c t ns g).told ≡ Ok a → giving answer_in (of_tables prunes names c t ns g) ≡ selected_plainly prunes names c t ns g
-  tables_plain g ns plain looking low made = by (bound_select (items_of 0 (from_of t) (trees_for c ns g)) [] c.session t)
+  tables_plain : (g : History) (ns : List ℕ) → SelectsArePlain g → Looks c g → length ns ≤ 4 → All (IsMade (catalogue_events g)) ns → (of_tables prunes names params c t ns g).told ≡ Ok a → giving answer_in (of_tables prunes names params c t ns g) ≡ selected_plainly prunes names params c t ns g
+  tables_plain g ns plain looking low made = by (custom_select (items_of 0 (from_of t) (trees_for c ns g)) params c.session t)
     where
       by : (r : Result SelectMeant Fault) → (and_then (outcome r) (λ m. by_plan names c m (plan_for prunes m.conditions (trees_for c ns g)) ((outcome r).events ++ g))).told ≡ Ok a
           → giving answer_in (and_then (outcome r) (λ m. by_plan names c m (plan_for prunes m.conditions (trees_for c ns g)) ((outcome r).events ++ g))) ≡ and_then (outcome r) (λ m. locked_plainly prunes names c (trees_for c ns g) m ((outcome r).events ++ g))
       by (Ok m) done = ap (behind []) (plan_plain g m ns plain looking low made done)
       by (Err f) done = refl
 
-  named_plain : (g : History) → IsCaller c g → h ≡ (of_named prunes names c t g).events ++ g → (of_named prunes names c t g).told ≡ Ok a → giving answer_in (of_named prunes names c t g) ≡ named_plainly prunes names c t g
+  named_plain : (g : History) → IsCaller c g → h ≡ (of_named prunes names params c t g).events ++ g → (of_named prunes names params c t g).told ≡ Ok a → giving answer_in (of_named prunes names params c t g) ≡ named_plainly prunes names params c t g
   named_plain g call is done =
       let m = named_from names c [] (from_of t) g in
-      alone_after answer_in m (λ ns. of_tables prunes names c t ns (m.events ++ g)) (λ ns. selected_plainly prunes names c t ns (m.events ++ g)) (λ ns told.
+      alone_after answer_in m (λ ns. of_tables prunes names params c t ns (m.events ++ g)) (λ ns. selected_plainly prunes names params c t ns (m.events ++ g)) (λ ns told.
       let there = names_there names c [] (from_of t) g ns (All-nil (IsMade (catalogue_events g))) told in
       let later = m.events ++ g in
-      let goes = went_on h g m (λ xs. of_tables prunes names c t xs later) ns told is in
-      let good_then : IsGood later = good_after (of_tables prunes names c t ns later).events later (subst IsGood goes good) in
+      let goes = went_on h g m (λ xs. of_tables prunes names params c t xs later) ns told is in
+      let good_then : IsGood later = good_after (of_tables prunes names params c t ns later).events later (subst IsGood goes good) in
       let call_then : IsCaller c later = subst (λ (es : History). IsCaller c (es ++ g)) (sym there.events) (locks_call c there.locks g call) in
       let same : catalogue_events later ≡ catalogue_events g = ap (λ (es : History). catalogue_events (es ++ g)) there.events ∙ locks_catalogue there.locks g in
       let count = there.all in
-      let ends : (of_tables prunes names c t ns later).told ≡ Ok a = sym (ap (λ (r : Result (List ℕ) Halt). (then_told {U = Told} r m.events (λ xs. of_tables prunes names c t xs later)).told) told) ∙ done in
+      let ends : (of_tables prunes names params c t ns later).told ≡ Ok a = sym (ap (λ (r : Result (List ℕ) Halt). (then_told {U = Told} r m.events (λ xs. of_tables prunes names params c t xs later)).told) told) ∙ done in
       tables_plain later ns (good_selects later good_then) (looks c later good_then call_then) (omega (arith, few, count)) (subst (λ (cats : CatalogueEvents). All (IsMade cats) ns) (sym same) there.made) ends)
 
-  items_plain : (js : List Joined) (before : History) → IsCaller c before → h ≡ (of_items prunes names c t js before).events ++ before → (of_items prunes names c t js before).told ≡ Ok a → giving answer_in (of_items prunes names c t js before) ≡ items_plainly prunes names c t js before
+  items_plain : (js : List Joined) (before : History) → IsCaller c before → h ≡ (of_items prunes names params c t js before).events ++ before → (of_items prunes names params c t js before).told ≡ Ok a → giving answer_in (of_items prunes names params c t js before) ≡ items_plainly prunes names params c t js before
   items_plain [] before call is done = refl
   items_plain (j ∷ js) before call is done =
       let m = begins c before in
-      alone_after answer_in m (λ u. of_named prunes names c t (m.events ++ before)) (λ u. named_plainly prunes names c t (m.events ++ before)) (λ u told.
-      let goes = went_on h before m (λ v. of_named prunes names c t (m.events ++ before)) u told is in
-      let good_before : IsGood before = good_after (of_items prunes names c t (j ∷ js) before).events before (subst IsGood is good) in
-      let ends : (of_named prunes names c t (m.events ++ before)).told ≡ Ok a = sym (ap (λ (r : Result (Unit {0}) Halt). (then_told {U = Told} r m.events (λ v. of_named prunes names c t (m.events ++ before))).told) told) ∙ done in
+      alone_after answer_in m (λ u. of_named prunes names params c t (m.events ++ before)) (λ u. named_plainly prunes names params c t (m.events ++ before)) (λ u told.
+      let goes = went_on h before m (λ v. of_named prunes names params c t (m.events ++ before)) u told is in
+      let good_before : IsGood before = good_after (of_items prunes names params c t (j ∷ js) before).events before (subst IsGood is good) in
+      let ends : (of_named prunes names params c t (m.events ++ before)).told ≡ Ok a = sym (ap (λ (r : Result (Unit {0}) Halt). (then_told {U = Told} r m.events (λ v. of_named prunes names params c t (m.events ++ before))).told) told) ∙ done in
       named_plain (m.events ++ before) (held_call c c.level before good_before call) goes ends)
 
 selects_plain : (h : History) → IsGood h → CompletedSelectsArePlain h
-selects_plain h good prunes names c t a before is call few done = items_plain h good prunes names c t a few (from_of t) before call is done
+selects_plain h good prunes names params c t a before is call few done = items_plain h good prunes names params c t a few (from_of t) before call is done
 
 -- ---- UPDATE and DELETE
 
@@ -261,7 +261,7 @@ module _ (prunes : Bool) (names : List (List ℕ)) (params : List Param) (c : Ca
   over_locks : (h : History) (t : ℕ) (tree : TableTree) (path : List PathPart) → AreLocks (changes.over prunes names params c table settings condition t tree path h)
   over_locks h t tree path =
       let first = meant params c table settings condition t h in
-      both_locks first (λ m. changes.locked prunes names c t tree path m (first.events ++ h)) (answered_locks (bound_change (item_of table (made_at h t).columns) params c.session settings condition)) (λ m.
+      both_locks first (λ m. changes.locked prunes names c t tree path m (first.events ++ h)) (answered_locks (custom_change (item_of table (made_at h t).columns) params c.session settings condition)) (λ m.
       let all = locked_all names c (tables_locked (keeps_for prunes m.condition) m.settings tree) (first.events ++ h) in
       both_locks all (λ u. made [] (found_by (keeps_for prunes m.condition) (table_of t) tree path m)) (all_locks names c.session RowExclusive (map number_of (tables_locked (keeps_for prunes m.condition) m.settings tree)) (first.events ++ h)) (λ u. ([], refl)))
 

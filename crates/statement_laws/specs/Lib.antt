@@ -1,2 +1,3 @@
+pub mod Custom
 pub mod Fresh
 pub mod Whole

@@ -29,15 +29,15 @@ use Rattle.change_statement.specs.Updated.{updated, updating}
 
 -- ---- SELECT
 
-abbrev pub named_plainly : (prunes : Bool) → List (List ℕ) → Caller → SelectTree → History → Made Answer
-named_plainly prunes names c t = follow (named_from names c [] (from_of t)) (selected_plainly prunes names c t)
+abbrev pub named_plainly : (prunes : Bool) → List (List ℕ) → List Param → Caller → SelectTree → History → Made Answer
+named_plainly prunes names params c t = follow (named_from names c [] (from_of t)) (selected_plainly prunes names params c t)
 
-abbrev pub items_plainly : (prunes : Bool) → List (List ℕ) → Caller → SelectTree → List Joined → History → Made Answer
-items_plainly prunes names c t [] = λ h. giving answer_in (follow (begins c) (λ u. bare c t) h)
-items_plainly prunes names c t (j ∷ js) = follow (begins c) (λ u. named_plainly prunes names c t)
+abbrev pub items_plainly : (prunes : Bool) → List (List ℕ) → List Param → Caller → SelectTree → List Joined → History → Made Answer
+items_plainly prunes names params c t [] = λ h. giving answer_in (follow (begins c) (λ u. bare params c t) h)
+items_plainly prunes names params c t (j ∷ js) = follow (begins c) (λ u. named_plainly prunes names params c t)
 
-abbrev pub all_selected : (prunes : Bool) → List (List ℕ) → Caller → SelectTree → History → Made Answer
-all_selected prunes names c t = items_plainly prunes names c t (from_of t)
+abbrev pub all_selected : (prunes : Bool) → List (List ℕ) → List Param → Caller → SelectTree → History → Made Answer
+all_selected prunes names params c t = items_plainly prunes names params c t (from_of t)
 
 -- ---- UPDATE and DELETE, with how many rows they change
 
@@ -70,8 +70,8 @@ pub record IsCaller (c : Caller) (h : History) : Type 0 where
 -- a SELECT of up to four tables that has come to its end there made of the history before, and answered, what one does that
 -- scans all leaves of the trees of its snapshot
 abbrev pub CompletedSelectsArePlain : History → Type 0
-CompletedSelectsArePlain h = (prunes : Bool) (names : List (List ℕ)) (c : Caller) (t : SelectTree) (a : Told) (before : History)
-    → h ≡ (selected prunes names c t before).events ++ before → IsCaller c before → length (from_of t) ≤ 4 → (selected prunes names c t before).told ≡ Ok a → giving answer_in (selected prunes names c t before) ≡ all_selected prunes names c t before
+CompletedSelectsArePlain h = (prunes : Bool) (names : List (List ℕ)) (params : List Param) (c : Caller) (t : SelectTree) (a : Told) (before : History)
+    → h ≡ (selected prunes names params c t before).events ++ before → IsCaller c before → length (from_of t) ≤ 4 → (selected prunes names params c t before).told ≡ Ok a → giving answer_in (selected prunes names params c t before) ≡ all_selected prunes names params c t before
 
 -- an UPDATE or a DELETE, from its beginning or from where it stood, made what one does over all leaves of its table's tree,
 -- and changed as many rows

@@ -1,3 +1,4 @@
+ghost use Rattle.statement_laws.specs.Custom.{CustomDeletes, CustomInserts, CustomUpdates};
 ghost use Rattle.statement_laws.specs.Fresh.{EachScanIsFresh};
 ghost use Rattle.statement_laws.specs.Whole.{EachWholeIsPlain};
 
@@ -10,4 +11,12 @@ pub fn whole_statements_are_plain()
 /// that was detached, or whose mark the snapshot sees.
 pub fn scans_are_fresh()
     ensures { EachScanIsFresh }
+{}
+
+/// With parameters an UPDATE, a DELETE or an INSERT makes of each history what it makes with their values written out,
+/// wherever the two bind alike.
+pub fn custom_changes_are_as_written_out()
+    ensures updates { CustomUpdates }
+    ensures deletes { CustomDeletes }
+    ensures inserts { CustomInserts }
 {}

@@ -6,8 +6,10 @@
 //!
 //! And a plan scans no partition that was detached, or whose mark its snapshot sees, whether a SELECT runs it or an EXPLAIN
 //! prints it.
+//!
+//! A prepared statement that changes rows does, with the arguments of its parameters, what it does with these written out.
 #![tactic(auto)]
 
 mod laws;
 
-pub use laws::{scans_are_fresh, whole_statements_are_plain};
+pub use laws::{custom_changes_are_as_written_out, scans_are_fresh, whole_statements_are_plain};

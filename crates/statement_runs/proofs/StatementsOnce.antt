@@ -79,7 +79,7 @@ command_once names c rest h deallocates_all = tt
 
 row_once : (trailed prunes : Bool) (names : List (List ℕ)) (c : Caller) (rest : Option Rest) (h : History) (t : RowTree)
     → CommitsOnce false false (outcome_told (row_attempted trailed prunes names c rest t h).told)
-row_once trailed prunes names c rest h (selects s) = let m = selected prunes names c s h in plain_once (λ r. false) (answer_text trailed (m.events ++ h)) m.told
+row_once trailed prunes names c rest h (selects s) = let m = selected prunes names [] c s h in plain_once (λ r. false) (answer_text trailed (m.events ++ h)) m.told
 row_once trailed prunes names c rest h (inserts name columns values) = let m = inserted names [] c name columns values h in plain_once (λ r. false) (inserted_text trailed (length values) (m.events ++ h)) m.told
 row_once trailed prunes names c rest h (updates name settings condition) = let m = updated prunes names [] c rest name settings condition h in plain_once (λ r. false) (changed_text trailed (codes "UPDATE") (m.events ++ h)) m.told
 row_once trailed prunes names c rest h (deletes name condition) = let m = deleted prunes names [] c rest name condition h in plain_once (λ r. false) (changed_text trailed (codes "DELETE") (m.events ++ h)) m.told
@@ -90,7 +90,7 @@ query_once trailed prunes names c rest h (rows r) = row_once trailed prunes name
 query_once trailed prunes names c rest h (prepares name kinds r) = tt
 query_once trailed prunes names c rest h (executes name values) = tt
 query_once trailed prunes names c rest h (explains_select true s) = tt
-query_once trailed prunes names c rest h (explains_select false s) = plain_once (λ r. false) table (explained prunes names c s h).told
+query_once trailed prunes names c rest h (explains_select false s) = plain_once (λ r. false) table (explained prunes names [] c s h).told
 query_once trailed prunes names c rest h (explains_execute costs name values) = tt
 
 pub all_once : (o : Options) (c : Caller) (rest : Option Rest) (h : History) (g : Settings) (t : StatementTree)

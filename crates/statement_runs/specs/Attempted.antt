@@ -95,7 +95,7 @@ command_attempted names c rest (locks tables mode) = silent (locked names c.sess
 command_attempted names c rest t = omitted (command_word t)
 
 abbrev pub select_attempted : (trailed prunes : Bool) → (names : List (List ℕ)) → Caller → SelectTree → History → Made Ended
-select_attempted trailed prunes names c s = printed (answer_text trailed) (selected prunes names c s)
+select_attempted trailed prunes names c s = printed (answer_text trailed) (selected prunes names [] c s)
 
 abbrev pub row_attempted : (trailed prunes : Bool) → (names : List (List ℕ)) → Caller → Option Rest → RowTree → History → Made Ended
 row_attempted trailed prunes names c rest (selects s) = select_attempted trailed prunes names c s
@@ -105,7 +105,7 @@ row_attempted trailed prunes names c rest (deletes table condition) = printed (c
 
 -- one that runs the SELECT too is left out
 abbrev pub explain_attempted : (prunes : Bool) → (names : List (List ℕ)) → Caller → (analyze : Bool) → SelectTree → History → Made Ended
-explain_attempted prunes names c false s = tabled (explained prunes names c s)
+explain_attempted prunes names c false s = tabled (explained prunes names [] c s)
 explain_attempted prunes names c true s = omitted (codes "ANALYZE")
 
 abbrev pub query_attempted : (trailed prunes : Bool) → (names : List (List ℕ)) → Caller → Option Rest → QueryTree → History → Made Ended

@@ -28,7 +28,7 @@ abbrev pub of_change : ChangeTold → Tally
 of_change t = record { rows = 0; reads = length t.reads }
 
 abbrev pub select_given : (prunes : Bool) → (names : List (List ℕ)) → Caller → SelectTree → History → Tally
-select_given prunes names c s h = given of_select (selected prunes names c s h).told
+select_given prunes names c s h = given of_select (selected prunes names [] c s h).told
 
 -- INSERT reads no leaf
 abbrev pub row_given : (prunes : Bool) → (names : List (List ℕ)) → Caller → Option Rest → RowTree → History → Tally

@@ -73,7 +73,7 @@ has_committed rest (queries t) = false
 
 -- a SELECT alone cancels waits
 abbrev pub row_cancelled : (session sessions : ℕ) → RowTree → List ℕ
-row_cancelled s sessions (selects t) = cancelled s sessions t
+row_cancelled s sessions (selects t) = cancelled [] s sessions t
 row_cancelled s sessions t = []
 
 abbrev pub query_cancelled : (session sessions : ℕ) → QueryTree → List ℕ

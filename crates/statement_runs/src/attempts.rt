@@ -170,7 +170,7 @@ fn attempt_select(
     ensures is { (left : Option Left) → IsStatement left (ended result) stores.old stores.new out.old.items out.new.items caller (attempted.select_attempted trailed prunes names.now caller (select_tree statement.now)) }
 {
     check_room(stores, caller);
-    match select(alloc, stores, names, caller, prunes, statement) {
+    match select(alloc, stores, names, &[], caller, prunes, statement) {
         Ok(answered) => {
             match print_answer(alloc, &stores.catalog, trailed, &answered, tally, out) {
                 Ok(()) => Ok(()),
@@ -353,7 +353,7 @@ fn attempt_plan(
     ensures { (left : Option Left) → IsStatement left (ended result) stores.old stores.new out.old.items out.new.items caller (attempted.explain_attempted prunes names.now caller false (select_tree statement.now)) }
 {
     check_room(stores, caller);
-    match explain(alloc, stores, names, caller, prunes, statement) {
+    match explain(alloc, stores, names, &[], caller, prunes, statement) {
         Ok(answer) => match write_table(alloc, &answer, out) {
             Ok(()) => Ok(()),
             Err(NoMemory) => Err(Stop::NoMemory),

@@ -89,7 +89,7 @@ pub(crate) fn cancelled_by(
 {
     match statement {
         Statement::Query(Query::Rows(RowStatement::Select(select))) => {
-            cancelled(alloc, select, session, sessions.saturating_sub(1))
+            cancelled(alloc, select, &[], session, sessions.saturating_sub(1))
         }
         _ => Ok(Vec::new(alloc)),
     }

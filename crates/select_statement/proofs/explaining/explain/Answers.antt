@@ -20,8 +20,8 @@ pub returns-in_err-found : goal.returns-in_err-found
 returns-in_err-found c =
     let names = c.args.names.now in
     let t = select_tree c.args.select.now in
-    handed_on c.from_residual-in_err-found.ensures.1 (goes (begins c.args.caller) (λ u. follow (gathered names c.args.caller t) (λ (g : Found). follow (planned_under c.args.prunes names c.args.caller g) (printed t g))) c.in_ok-hold_if_repeatable.ensures.step
-    (stops (gathered names c.args.caller t) (λ (g : Found). follow (planned_under c.args.prunes names c.args.caller g) (printed t g)) c.in_err-found.ensures.step))
+    handed_on c.from_residual-in_err-found.ensures.1 (goes (begins c.args.caller) (λ u. follow (gathered names c.args.params.now c.args.caller t) (λ (g : Found). follow (planned_under c.args.prunes names c.args.caller g) (printed t g))) c.in_ok-hold_if_repeatable.ensures.step
+    (stops (gathered names c.args.params.now c.args.caller t) (λ (g : Found). follow (planned_under c.args.prunes names c.args.caller g) (printed t g)) c.in_err-found.ensures.step))
 
 pub plan_under-requires-clause-may : goal.plan_under-requires-clause-may
 plan_under-requires-clause-may c = may_go_on _ _ _ _ _ _ (may_go_on _ _ _ _ _ _ c.requires.may c.in_ok-hold_if_repeatable.ensures.step) c.in_ok-found.ensures.step
@@ -31,8 +31,8 @@ returns-in_err-plan c =
     let names = c.args.names.now in
     let t = select_tree c.args.select.now in
     let g = found_by c.in_ok-found.found in
-    handed_on c.from_residual-in_err-plan.ensures.1 (goes (begins c.args.caller) (λ u. follow (gathered names c.args.caller t) (λ (x : Found). follow (planned_under c.args.prunes names c.args.caller x) (printed t x))) c.in_ok-hold_if_repeatable.ensures.step
-    (goes (gathered names c.args.caller t) (λ (x : Found). follow (planned_under c.args.prunes names c.args.caller x) (printed t x)) c.in_ok-found.ensures.step
+    handed_on c.from_residual-in_err-plan.ensures.1 (goes (begins c.args.caller) (λ u. follow (gathered names c.args.params.now c.args.caller t) (λ (x : Found). follow (planned_under c.args.prunes names c.args.caller x) (printed t x))) c.in_ok-hold_if_repeatable.ensures.step
+    (goes (gathered names c.args.params.now c.args.caller t) (λ (x : Found). follow (planned_under c.args.prunes names c.args.caller x) (printed t x)) c.in_ok-found.ensures.step
     (stops (planned_under c.args.prunes names c.args.caller g) (printed t g) c.in_err-plan.ensures.step)))
 
 pub returns : goal.returns
@@ -40,8 +40,8 @@ returns c =
     let names = c.args.names.now in
     let t = select_tree c.args.select.now in
     let g = found_by c.in_ok-found.found in
-    goes (begins c.args.caller) (λ u. follow (gathered names c.args.caller t) (λ (x : Found). follow (planned_under c.args.prunes names c.args.caller x) (printed t x))) c.in_ok-hold_if_repeatable.ensures.step
-    (goes (gathered names c.args.caller t) (λ (x : Found). follow (planned_under c.args.prunes names c.args.caller x) (printed t x)) c.in_ok-found.ensures.step
+    goes (begins c.args.caller) (λ u. follow (gathered names c.args.params.now c.args.caller t) (λ (x : Found). follow (planned_under c.args.prunes names c.args.caller x) (printed t x))) c.in_ok-hold_if_repeatable.ensures.step
+    (goes (gathered names c.args.params.now c.args.caller t) (λ (x : Found). follow (planned_under c.args.prunes names c.args.caller x) (printed t x)) c.in_ok-found.ensures.step
     (goes (planned_under c.args.prunes names c.args.caller g) (printed t g) c.in_ok-plan.ensures.step
     (printed_done c.in_ok-table.table c.plan_under.new.stores c.args.caller t g (planned c.in_ok-plan.plan)
     (may_go_on _ _ _ _ _ _ (may_go_on _ _ _ _ _ _ (may_go_on _ _ _ _ _ _ c.requires.may c.in_ok-hold_if_repeatable.ensures.step) c.in_ok-found.ensures.step) c.in_ok-plan.ensures.step) c.in_ok-table.ensures)))
@@ -50,6 +50,6 @@ pub returns-in_err-table : goal.returns-in_err-table
 returns-in_err-table c =
     let names = c.args.names.now in
     let t = select_tree c.args.select.now in
-    goes (begins c.args.caller) (λ u. follow (gathered names c.args.caller t) (λ (x : Found). follow (planned_under c.args.prunes names c.args.caller x) (printed t x))) c.in_ok-hold_if_repeatable.ensures.step
-    (goes (gathered names c.args.caller t) (λ (x : Found). follow (planned_under c.args.prunes names c.args.caller x) (printed t x)) c.in_ok-found.ensures.step
+    goes (begins c.args.caller) (λ u. follow (gathered names c.args.params.now c.args.caller t) (λ (x : Found). follow (planned_under c.args.prunes names c.args.caller x) (printed t x))) c.in_ok-hold_if_repeatable.ensures.step
+    (goes (gathered names c.args.params.now c.args.caller t) (λ (x : Found). follow (planned_under c.args.prunes names c.args.caller x) (printed t x)) c.in_ok-found.ensures.step
     (out_behind c.from_residual-in_err-table.ensures.1 c.in_ok-plan.ensures.step))

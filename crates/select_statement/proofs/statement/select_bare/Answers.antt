@@ -18,14 +18,14 @@ bind-requires c = may_go_on _ _ _ _ _ _ c.requires c.in_ok-hold_if_repeatable.en
 
 pub returns-in_err-ask : goal.returns-in_err-ask
 returns-in_err-ask c =
-    handed_on c.from_residual-in_err-ask.ensures.1 (goes (begins c.args.caller) (λ u. bare c.args.caller (select_tree c.args.select.now)) c.in_ok-hold_if_repeatable.ensures.step
-    (stops (meant c.args.caller (select_tree c.args.select.now) []) (λ m. uncancelled (cancels_itself c.args.caller.session (c.args.caller.sessions - 1) m) (answered c.args.caller m (bare_plan m))) c.in_err-ask.ensures))
+    handed_on c.from_residual-in_err-ask.ensures.1 (goes (begins c.args.caller) (λ u. bare c.args.params.now c.args.caller (select_tree c.args.select.now)) c.in_ok-hold_if_repeatable.ensures.step
+    (stops (meant c.args.params.now c.args.caller (select_tree c.args.select.now) []) (λ m. uncancelled (cancels_itself c.args.caller.session (c.args.caller.sessions - 1) m) (answered c.args.caller m (bare_plan m))) c.in_err-ask.ensures))
 
 pub returns-then-is_cancelled : goal.returns-then-is_cancelled
 returns-then-is_cancelled c =
     let m = select_meant c.in_ok-ask.ask in
-    goes (begins c.args.caller) (λ u. bare c.args.caller (select_tree c.args.select.now)) c.in_ok-hold_if_repeatable.ensures.step
-    (goes (meant c.args.caller (select_tree c.args.select.now) []) (λ m. uncancelled (cancels_itself c.args.caller.session (c.args.caller.sessions - 1) m) (answered c.args.caller m (bare_plan m))) c.in_ok-ask.ensures
+    goes (begins c.args.caller) (λ u. bare c.args.params.now c.args.caller (select_tree c.args.select.now)) c.in_ok-hold_if_repeatable.ensures.step
+    (goes (meant c.args.params.now c.args.caller (select_tree c.args.select.now) []) (λ m. uncancelled (cancels_itself c.args.caller.session (c.args.caller.sessions - 1) m) (answered c.args.caller m (bare_plan m))) c.in_ok-ask.ensures
     (cancelled_here (cancels_itself c.args.caller.session (c.args.caller.sessions - 1) m) _ (answered c.args.caller m (bare_plan m)) _ c.args.caller
     (may_go_on _ _ _ _ _ _ c.requires c.in_ok-hold_if_repeatable.ensures.step) (sym c.in_ok-is_cancelled.ensures ∙ c.if-is_cancelled.true) c.statement_cancelled.ensures))
 
@@ -39,8 +39,8 @@ answer-requires-clause-reads c =
 pub returns : goal.returns
 returns c =
     let m = select_meant c.in_ok-ask.ask in
-    goes (begins c.args.caller) (λ u. bare c.args.caller (select_tree c.args.select.now)) c.in_ok-hold_if_repeatable.ensures.step
-    (goes (meant c.args.caller (select_tree c.args.select.now) []) (λ m. uncancelled (cancels_itself c.args.caller.session (c.args.caller.sessions - 1) m) (answered c.args.caller m (bare_plan m))) c.in_ok-ask.ensures
+    goes (begins c.args.caller) (λ u. bare c.args.params.now c.args.caller (select_tree c.args.select.now)) c.in_ok-hold_if_repeatable.ensures.step
+    (goes (meant c.args.params.now c.args.caller (select_tree c.args.select.now) []) (λ m. uncancelled (cancels_itself c.args.caller.session (c.args.caller.sessions - 1) m) (answered c.args.caller m (bare_plan m))) c.in_ok-ask.ensures
     (not_cancelled (cancels_itself c.args.caller.session (c.args.caller.sessions - 1) m) (answered c.args.caller m (bare_plan m)) (sym c.in_ok-is_cancelled.ensures ∙ c.if-is_cancelled.false)
     (moved (answered c.args.caller m) _ _ (c.in_ok-plan.ensures ∙ ap (λ cs. plan_for false (map cond_tree cs) []) c.as_slice.ensures) c.answer.ensures)))
 

@@ -19,9 +19,9 @@ pub returns-in_err-found : goal.returns-in_err-found
 returns-in_err-found c =
     let names = c.args.names.now in
     let t = select_tree c.args.select.now in
-    handed_on c.from_residual-in_err-found.ensures.1 (goes (begins c.args.caller) (λ u. of_named c.args.prunes names c.args.caller t) c.in_ok-hold_if_repeatable.ensures.step
-    (runs_step c.args.prunes names c.args.caller t
-    (stops (gathered names c.args.caller t) (λ (g : Found). follow (planned_under c.args.prunes names c.args.caller g) (λ p. answered c.args.caller g.meant p)) c.in_err-found.ensures.step)))
+    handed_on c.from_residual-in_err-found.ensures.1 (goes (begins c.args.caller) (λ u. of_named c.args.prunes names c.args.params.now c.args.caller t) c.in_ok-hold_if_repeatable.ensures.step
+    (runs_step c.args.prunes names c.args.params.now c.args.caller t
+    (stops (gathered names c.args.params.now c.args.caller t) (λ (g : Found). follow (planned_under c.args.prunes names c.args.caller g) (λ p. answered c.args.caller g.meant p)) c.in_err-found.ensures.step)))
 
 pub plan_under-requires-clause-may : goal.plan_under-requires-clause-may
 plan_under-requires-clause-may c = may_go_on _ _ _ _ _ _ (may_go_on _ _ _ _ _ _ c.requires.may c.in_ok-hold_if_repeatable.ensures.step) c.in_ok-found.ensures.step
@@ -31,9 +31,9 @@ returns-in_err-plan c =
     let names = c.args.names.now in
     let t = select_tree c.args.select.now in
     let g = found_by c.in_ok-found.found in
-    handed_on c.from_residual-in_err-plan.ensures.1 (goes (begins c.args.caller) (λ u. of_named c.args.prunes names c.args.caller t) c.in_ok-hold_if_repeatable.ensures.step
-    (runs_step c.args.prunes names c.args.caller t
-    (goes (gathered names c.args.caller t) (λ (x : Found). follow (planned_under c.args.prunes names c.args.caller x) (λ p. answered c.args.caller x.meant p)) c.in_ok-found.ensures.step
+    handed_on c.from_residual-in_err-plan.ensures.1 (goes (begins c.args.caller) (λ u. of_named c.args.prunes names c.args.params.now c.args.caller t) c.in_ok-hold_if_repeatable.ensures.step
+    (runs_step c.args.prunes names c.args.params.now c.args.caller t
+    (goes (gathered names c.args.params.now c.args.caller t) (λ (x : Found). follow (planned_under c.args.prunes names c.args.caller x) (λ p. answered c.args.caller x.meant p)) c.in_ok-found.ensures.step
     (stops (planned_under c.args.prunes names c.args.caller g) (λ p. answered c.args.caller g.meant p) c.in_err-plan.ensures.step))))
 
 pub answer-requires-clause-may : goal.answer-requires-clause-may
@@ -48,7 +48,7 @@ returns c =
     let names = c.args.names.now in
     let t = select_tree c.args.select.now in
     let g = found_by c.in_ok-found.found in
-    goes (begins c.args.caller) (λ u. of_named c.args.prunes names c.args.caller t) c.in_ok-hold_if_repeatable.ensures.step
-    (runs_step c.args.prunes names c.args.caller t
-    (goes (gathered names c.args.caller t) (λ (x : Found). follow (planned_under c.args.prunes names c.args.caller x) (λ p. answered c.args.caller x.meant p)) c.in_ok-found.ensures.step
+    goes (begins c.args.caller) (λ u. of_named c.args.prunes names c.args.params.now c.args.caller t) c.in_ok-hold_if_repeatable.ensures.step
+    (runs_step c.args.prunes names c.args.params.now c.args.caller t
+    (goes (gathered names c.args.params.now c.args.caller t) (λ (x : Found). follow (planned_under c.args.prunes names c.args.caller x) (λ p. answered c.args.caller x.meant p)) c.in_ok-found.ensures.step
     (goes (planned_under c.args.prunes names c.args.caller g) (λ p. answered c.args.caller g.meant p) c.in_ok-plan.ensures.step c.answer.ensures)))
