@@ -3,10 +3,11 @@ from pruning import TURNED, items_of
 
 
 class Naming:
-    """How a plan names columns: the items of FROM with their names, whether these are aliases, and their columns."""
+    """How a plan names columns: the items of FROM with their names, whether these are aliases, and their columns; and whether it
+    names parameters, or tells their values."""
 
-    def __init__(self, items):
-        self.items = items
+    def __init__(self, items, has_params=False):
+        self.items, self.has_params = items, has_params
 
     def column(self, item, place):
         name, _, columns = self.items[item]
@@ -29,6 +30,8 @@ def constant(value):
 
 
 def operand(naming, side):
+    if naming.has_params and side.param is not None:
+        return f"${side.param}"
     return constant(side.of(None)) if side.item is None else naming.column(side.item, side.place)
 
 
@@ -67,9 +70,11 @@ def item_lines(plan, naming, item, depth):
     def scans(depth):
         for leaf in leaves:
             yield from node(depth, f"Seq Scan on {leaf.name}{naming.alias(item)}", details(naming, "Filter", own))
-    if len(leaves) == 1 and not (plan.prunes and plan.joins(item)):
+    planned = len(plan.planned[item])
+    if planned == 1 and not (plan.prunes and (plan.joins(item) or plan.has_params(item))):
         return list(scans(depth))
-    return node(depth, "Append") + list(scans(depth + 1))
+    removed = [f"Subplans Removed: {planned - len(leaves)}"] if planned > len(leaves) else []
+    return node(depth, "Append", removed) + list(scans(depth + 1))
 
 
 def joined(plan, naming, count, depth):
