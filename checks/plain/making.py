@@ -66,6 +66,7 @@ KINDS = {
         "select": 4, "insert": 4, "delete": 3, "update": 6, "attach": 3, "detach": 2, "finalize": 1, "concurrently": 1, "partition": 1,
         "drop": 1, "lock": 5, "cancel": 1, "join": 4, "plan": 3, "setting": 1, "mode": 2,
     },
+    "analyzed": {"plan": 12, "insert": 3, "update": 3, "delete": 1, "lock": 3, "attach": 1, "setting": 1, "mode": 1},
 }
 # What is prepared beside statements of the kind, on tables with all columns, and the kinds that the arguments mostly have: a number,
 # a date, a text, a truth value.
@@ -101,7 +102,7 @@ class Maker:
         self.tables, self.parents, self.plain, self.keys = [], {}, [], []
         self.free = self.numbers.of((0, 1, 2, 2)) if self.default_chance() else self.numbers.of((2, 2, None))
         self.free_bound, self.own_bounds, self.cut_off = "", {}, ""
-        self.prepares, self.has_all = kind in ("prepared", "generic"), False
+        self.prepares, self.has_all = kind in ("prepared", "generic", "analyzed"), False
         self.prepared = {}       # by their names: the first words and the kinds of the parameters
 
     # ---- tables
@@ -334,8 +335,13 @@ class Maker:
 
     def plan(self):
         numbers = self.numbers
-        options = numbers.of(("", "", "(COSTS OFF) ", "(TIMING OFF, SUMMARY OFF) "))
-        return f"EXPLAIN {options}{self.join() if numbers.chance(50) else self.select()}"
+        return f"{self.explain()}{self.join() if numbers.chance(50) else self.select()}"
+
+    def explain(self):
+        numbers = self.numbers
+        if self.kind == "analyzed" and numbers.chance(70):
+            return f"EXPLAIN {numbers.of(('ANALYZE ', '(ANALYZE) ', '(COSTS OFF, ANALYZE, TIMING OFF) '))}"
+        return f"EXPLAIN {numbers.of(('', '', '(COSTS OFF) ', '(TIMING OFF, SUMMARY OFF) '))}"
 
     def insert(self):
         numbers = self.numbers
@@ -467,7 +473,7 @@ class Maker:
             return text.format(self.changed_table()), kinds
         text = ""
         while not re.match("SELECT|INSERT|UPDATE|DELETE", text):
-            text = self.written()
+            text = re.sub(r"^EXPLAIN (?:\(.*?\) |ANALYZE )?", "", self.written())
         text = text[:-1]
 
         def put(value):
@@ -523,8 +529,7 @@ class Maker:
         arguments = [self.argument(kind) for kind in kinds]
         if numbers.chance(3):
             arguments = arguments + ["1"] if numbers.chance(50) else arguments[1:]
-        explains = numbers.chance(20 if word == "SELECT" else 2)
-        explain = numbers.of(("EXPLAIN ", "EXPLAIN (COSTS OFF) ")) if explains else ""
+        explain = self.explain() if numbers.chance((70 if self.kind == "analyzed" else 20) if word == "SELECT" else 2) else ""
         return f"{text} {explain}EXECUTE {name}{'(' + ', '.join(arguments) + ')' if arguments else ''};".strip()
 
     def chain(self):
@@ -544,7 +549,7 @@ class Maker:
         """The blocks of a session, in the order in which it runs them."""
         numbers, found, is_open = self.numbers, [], False
         self.prepared = {}
-        if self.kind == "generic" and numbers.chance(80):
+        if self.kind in ("generic", "analyzed") and numbers.chance(80):
             found.append("SET plan_cache_mode = force_generic_plan;")
         while len(found) < wanted or is_open:
             begin = numbers.of(("BEGIN;", "BEGIN;", "BEGIN ISOLATION LEVEL REPEATABLE READ;"))

@@ -19,9 +19,9 @@ LEVELS = ("READ COMMITTED", "READ UNCOMMITTED", "REPEATABLE READ")
 
 
 class Statement:
-    """A statement: its first word and what it is made of; and the parameters that it is executed with, each with its kind and
-    its value."""
-    params = ()
+    """A statement: its first word and what it is made of; the parameters that it is executed with, each with its kind and its
+    value; and whether it is run to be explained."""
+    params, analyzes = (), False
 
     def __init__(self, word, **parts):
         self.word = word
@@ -378,13 +378,12 @@ class Reader:
                 mode = " ".join(words).upper()
             return Statement("LOCK", names=names, mode=mode)
         if self.took("explain"):
-            if self.took("analyze") or self.took("("):
-                self.at -= 1
-                self.options()
+            analyzes = self.took("analyze") or self.took("(") and self.options()
             explained = self.statement()
             if explained.word not in ("SELECT", "EXECUTE"):
                 raise NotRead("an EXPLAIN of another statement")
             explained.word = "EXPLAIN" if explained.word == "SELECT" else "EXPLAIN EXECUTE"
+            explained.analyzes = analyzes
             return explained
         if self.took("prepare"):
             if self.peek() == ("word", "transaction"):
@@ -434,15 +433,16 @@ class Reader:
         raise NotRead(f"a statement before {self.peek()[1]}")
 
     def options(self):
-        """The options of EXPLAIN that change nothing."""
-        if self.took("analyze"):
-            raise NotRead("EXPLAIN ANALYZE")
-        self.take("(")
+        """The options of EXPLAIN: whether ANALYZE is among them, for the others change nothing."""
+        analyzes = False
         while True:
-            if not any(self.took(word, "off") for word in ("costs", "timing", "summary")):
+            if self.took("analyze"):
+                analyzes = True
+            elif not any(self.took(word, "off") for word in ("costs", "timing", "summary")):
                 raise NotRead("an option of EXPLAIN")
             if not self.took(","):
-                return self.take(")")
+                self.take(")")
+                return analyzes
 
     def change(self):
         name = self.name()
