@@ -13,6 +13,7 @@ mod definitions;
 mod expressions;
 mod kinds;
 mod meanings;
+mod prepared;
 mod refused;
 mod repeats;
 mod tables;
