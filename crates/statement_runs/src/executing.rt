@@ -148,6 +148,12 @@ fn tables_meant(
 
 // ---- what is executed
 
+fn share(statement: &Rc<RowStatement>) -> Result<Rc<RowStatement>, NoMemory>
+    ensures { IfOk result (λ s. s.value ≡ statement.now.value) }
+{
+    Ok(statement.clone()?)
+}
+
 fn is_under_way(rest: &Option<Rest>) -> bool
     ensures { result ≡ executions.is_under_way rest.now }
 {
@@ -193,7 +199,7 @@ pub(crate) fn executed(
         bind(alloc, stores, caller, found, arguments)?
     };
     Ok(Execution {
-        statement: found.statement().clone()?,
+        statement: share(found.statement())?,
         params,
     })
 }
@@ -216,7 +222,7 @@ pub(crate) fn explained_by(
     found.check_count(alloc, arguments)?;
     let params = bind(alloc, stores, caller, found, arguments)?;
     Ok(Execution {
-        statement: found.statement().clone()?,
+        statement: share(found.statement())?,
         params,
     })
 }
@@ -233,7 +239,7 @@ pub(crate) fn executed_bare(
     let found = prepared.find(alloc, name)?;
     found.check_count(alloc, arguments)?;
     Ok(Execution {
-        statement: found.statement().clone()?,
+        statement: share(found.statement())?,
         params: found.bind_arguments(alloc, &[], arguments)?,
     })
 }
