@@ -1,6 +1,9 @@
 """Makes scripts of levels of partitions: keys of all kinds, bounds, rows, and conditions that are nested up to the limit. Each
 permutation has a table of its own: its partitions are made and its rows inserted one by one, and for each condition its plan
-is told and its rows are selected."""
+is told and its rows are selected; where it is asked for, also as a prepared statement with parameters in the places of its values,
+whose plan is a custom one or a generic one."""
+import re
+
 from making import Numbers
 
 KINDS = ("integer", "bigint", "text", "date", "boolean")
@@ -19,8 +22,8 @@ VALUES = {
 class Level:
     """A table by the name t with its partitions, its rows, and conditions over them."""
 
-    def __init__(self, seed):
-        self.numbers = Numbers(seed)
+    def __init__(self, seed, modes=()):
+        self.numbers, self.modes = Numbers(seed), modes
         numbers = self.numbers
         self.strategy = numbers.of(("RANGE", "RANGE", "RANGE", "LIST", "LIST", "HASH"))
         count = 1 if self.strategy == "LIST" else numbers.of((1, 1, 2, 2, 3))
@@ -184,8 +187,26 @@ class Level:
         for place, condition in enumerate(self.conditions):
             select = f"SELECT tableoid::regclass, * FROM t WHERE {condition};"
             yield f"EXPLAIN {select} {select}"
+            if self.modes:
+                written, values = with_parameters(select)
+                yield f"PREPARE e{place} AS {written}"
+                for mode in self.modes:
+                    execute = f"EXECUTE e{place}{'(' + ', '.join(values) + ')' if values else ''};"
+                    yield f"SET plan_cache_mode = {mode}; EXPLAIN {execute} {execute}"
             if place == 0:
                 yield f"SET enable_partition_pruning = off; {select} RESET enable_partition_pruning;"
+
+
+def with_parameters(text):
+    """A statement with parameters in the places of its values, and these."""
+    values = []
+
+    def put(value):
+        values.append(value[0])
+        return f"${len(values)}"
+    # (a number behind a minus, too; not the NULL of IS NULL)
+    sign = r"DATE '[^']*'|'(?:[^']|'')*'|(?<![\w$])\d+(?!\w)|(?<!IS )(?<!IS NOT )\b(?:NULL|TRUE|FALSE)\b"
+    return re.sub(sign, put, text), values
 
 
 def script_of(levels):

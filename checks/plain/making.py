@@ -58,7 +58,36 @@ KINDS = {
         "select": 3, "insert": 5, "delete": 3, "update": 5, "attach": 4, "detach": 4, "partition": 3, "create": 1,
         "drop": 2, "lock": 2, "cancel": 2,
     },
+    "prepared": {
+        "select": 4, "insert": 5, "delete": 3, "update": 6, "attach": 4, "detach": 2, "finalize": 1, "concurrently": 1, "partition": 1,
+        "drop": 1, "lock": 4, "cancel": 1, "join": 1, "plan": 1,
+    },
+    "generic": {
+        "select": 4, "insert": 4, "delete": 3, "update": 6, "attach": 3, "detach": 2, "finalize": 1, "concurrently": 1, "partition": 1,
+        "drop": 1, "lock": 5, "cancel": 1, "join": 4, "plan": 3, "setting": 1, "mode": 2,
+    },
+    "analyzed": {"plan": 12, "insert": 3, "update": 3, "delete": 1, "lock": 3, "attach": 1, "setting": 1, "mode": 1},
 }
+# What is prepared beside statements of the kind, on tables with all columns, and the kinds that the arguments mostly have: a number,
+# a date, a text, a truth value.
+TYPED = (
+    ("SELECT a, d, c FROM {} WHERE d >= $1 OR c = $2", "dc"), ("SELECT tableoid::regclass, a, $1 AS x FROM {} WHERE a = $2 AND v <> $3", "cii"),
+    ("SELECT a + $1 AS s, d - $2 AS n FROM {} WHERE f OR $3 IS NULL", "idi"), ("SELECT d + $1 AS e FROM {} WHERE d BETWEEN $2 AND $2 + $1", "id"),
+    ("SELECT * FROM {} WHERE $1 OR v = $2 ORDER BY a LIMIT $3", "fii"), ("SELECT a FROM {} WHERE a IN ($1, $2, 3) AND v NOT IN ($3, $1)", "iii"),
+    ("SELECT a, c FROM {} WHERE $1 <= c AND NOT (f = $2)", "cf"), ("SELECT a FROM {} WHERE $1 = a AND $1 < c", "c"),
+    ("SELECT $1 AS x, $2 + 1 AS y", "ci"), ("SELECT a FROM {} WHERE a = $1 OFFSET $2", "ii"), ("SELECT a, v FROM {} WHERE $1 = $2 AND a = $1", "ii"),
+    ("SELECT q0.a, q1.d FROM t AS q0 JOIN {} AS q1 ON q0.a = q1.a AND q1.d <= $1 WHERE q0.a = $2 OR q1.c = $3", "dic"),
+    ("INSERT INTO {} (a, d, c) VALUES ($1, $2, $3)", "idc"), ("INSERT INTO {} (c, a, v, f) VALUES ($1, $2, $3, $4), ($1, $2 + 1, $3, $4)", "ciif"),
+    ("INSERT INTO {} VALUES ($1, $2, $3), ($1, $1, $3 + 1)", "iid"), ("INSERT INTO {} VALUES ($2, $1, $3)", "iid"),
+    ("UPDATE {} SET d = $1, c = $2 WHERE a = $3", "dci"), ("UPDATE {} SET f = $1, v = v + $2 WHERE d IS NULL OR d < $3", "fid"),
+    ("UPDATE {} SET a = $1 WHERE a = $2", "ii"), ("UPDATE {} SET v = $1 + $2 WHERE a = $1", "ii"), ("UPDATE {} SET a = a + $1", "i"),
+    ("DELETE FROM {} WHERE c = $1 AND a >= $2", "ci"), ("DELETE FROM {} WHERE a = $1 OR d > $2", "id"),
+)
+VALUES = {
+    "d": ("DATE '2024-01-31'", "'2024-01-31'", "DATE '2024-02-29' + 1", "'2024-03-01'", "NULL"), "c": ("'one'", "'two'", "'5'", "NULL"),
+    "f": ("TRUE", "FALSE", "'t'", "NULL"),
+}
+ODD = ("3000000000", "'x'", "DATE '2024-01-01'", "'2024-02-30'", "a", "t.a", "$1", "1 / 0", "TRUE", "1 = 1", "pg_backend_pid()", "now()", "-5")
 MODES = (
     "ACCESS SHARE", "ROW SHARE", "ROW EXCLUSIVE", "SHARE UPDATE EXCLUSIVE", "SHARE", "SHARE ROW EXCLUSIVE", "EXCLUSIVE",
     "ACCESS EXCLUSIVE",
@@ -73,6 +102,8 @@ class Maker:
         self.tables, self.parents, self.plain, self.keys = [], {}, [], []
         self.free = self.numbers.of((0, 1, 2, 2)) if self.default_chance() else self.numbers.of((2, 2, None))
         self.free_bound, self.own_bounds, self.cut_off = "", {}, ""
+        self.prepares, self.has_all = kind in ("prepared", "generic", "analyzed"), False
+        self.prepared = {}       # by their names: the first words and the kinds of the parameters
 
     # ---- tables
 
@@ -178,6 +209,8 @@ class Maker:
     def make_tables(self):
         numbers = self.numbers
         kinds = "a int, v int" if numbers.chance(85) else "a int, v int NOT NULL"
+        if self.prepares and numbers.chance(70):
+            self.has_all, kinds = True, kinds + ", d date, c text, f boolean"
         self.tables.append("t")
         self.setup.append(f"CREATE TABLE t ({kinds})" + self.by("t", numbers.of(("RANGE", "RANGE", "LIST", "HASH")), False) + ";")
         self.make_children("t")
@@ -197,6 +230,9 @@ class Maker:
             taken = [key for key in taken if f"p{self.place_of(key)}" == self.cut_off or numbers.chance(4)]
         self.keys = [numbers.of(taken) for _ in range(3 + numbers.below(4) if self.kind != "above" else 2)]
         self.setup.append("INSERT INTO t VALUES " + ", ".join(f"({key}, {numbers.below(4)})" for key in self.keys) + ";")
+        if self.has_all:
+            rows = [f"({numbers.of(taken)}, {numbers.below(4)}, {', '.join(numbers.of(VALUES[kind]) for kind in 'dcf')})" for _ in range(3)]
+            self.setup.append(f"INSERT INTO t VALUES {', '.join(rows)};")
         fitting = [key for key in range(30) if self.place_of(key) == (2 if self.free is None else self.free)]
         for name in ("x", "y"):
             if numbers.chance(60):
@@ -299,8 +335,13 @@ class Maker:
 
     def plan(self):
         numbers = self.numbers
-        options = numbers.of(("", "", "(COSTS OFF) ", "(TIMING OFF, SUMMARY OFF) "))
-        return f"EXPLAIN {options}{self.join() if numbers.chance(50) else self.select()}"
+        return f"{self.explain()}{self.join() if numbers.chance(50) else self.select()}"
+
+    def explain(self):
+        numbers = self.numbers
+        if self.kind == "analyzed" and numbers.chance(70):
+            return f"EXPLAIN {numbers.of(('ANALYZE ', '(ANALYZE) ', '(COSTS OFF, ANALYZE, TIMING OFF) '))}"
+        return f"EXPLAIN {numbers.of(('', '', '(COSTS OFF) ', '(TIMING OFF, SUMMARY OFF) '))}"
 
     def insert(self):
         numbers = self.numbers
@@ -362,7 +403,7 @@ class Maker:
 
     def attach(self):
         numbers = self.numbers
-        if numbers.chance(70 if self.kind == "concurrent" else 25):
+        if numbers.chance(70 if self.prepares or self.kind == "concurrent" else 25):
             name = numbers.of(sorted(self.own_bounds))
             return f"ALTER TABLE t ATTACH PARTITION {name} {self.own_bounds[name]};"
         name = numbers.of(["x", "y"]) if numbers.chance(85) else numbers.of(self.plain + ["n1", "n2"] + self.tables)
@@ -412,7 +453,84 @@ class Maker:
         return f"SELECT {', '.join(calls)}{rest};"
 
     def statement(self):
+        if self.prepares and self.numbers.chance(47):
+            return self.execute()
+        return self.written()
+
+    def written(self):
         return getattr(self, self.numbers.weighted(list(self.weights.items())))()
+
+    # ---- prepared statements
+
+    def mode(self):
+        return "SET plan_cache_mode = " + self.numbers.of(("force_generic_plan",) * 4 + ("auto", "force_custom_plan")) + ";"
+
+    def with_parameters(self):
+        """A statement with parameters in the places of some of its values, and their kinds."""
+        numbers, count = self.numbers, 0
+        if numbers.chance(55 if self.has_all else 15):
+            text, kinds = numbers.of(TYPED)
+            return text.format(self.changed_table()), kinds
+        text = ""
+        while not re.match("SELECT|INSERT|UPDATE|DELETE", text):
+            text = re.sub(r"^EXPLAIN (?:\(.*?\) |ANALYZE )?", "", self.written())
+        text = text[:-1]
+
+        def put(value):
+            nonlocal count
+            if numbers.chance(15):
+                return value[0]
+            if count and numbers.chance(12):
+                return f"${1 + numbers.below(count)}"
+            count += 1
+            return f"${count}"
+        text = re.sub(r"(?<![\w.$])(?<!IS )(?<!NOT )(?<!BY )(?:\d+|NULL)(?!\w)", put, text)
+        return text, "i" * count
+
+    def prepare(self, name):
+        numbers = self.numbers
+        text, kinds = self.with_parameters()
+        if numbers.chance(3) and kinds:
+            # (a number is passed over)
+            text, kinds = text.replace(f"${len(kinds)}", f"${len(kinds) + 1}"), kinds[:-1] + "i" + kinds[-1]
+        names = {"i": ("int", "int", "integer", "bigint"), "d": ("date",), "c": ("text",), "f": ("boolean", "bool")}
+        declared = [numbers.of(names[kind]) for kind in kinds if numbers.chance(85)] if numbers.chance(35) else []
+        if declared and numbers.chance(8):
+            declared[numbers.below(len(declared))] = numbers.of(("text", "date", "bigint", "boolean", "nosuch"))
+        if declared and numbers.chance(6):
+            declared, kinds = declared + ["int"] * (len(kinds) + 1 - len(declared)), kinds + "i"
+        if name not in self.prepared:
+            self.prepared[name] = (text.split()[0], kinds)
+        return f"PREPARE {name}{' (' + ', '.join(declared) + ')' if declared else ''} AS {text};"
+
+    def argument(self, kind):
+        numbers = self.numbers
+        if numbers.chance(3):
+            return numbers.of(ODD)
+        if kind != "i":
+            return numbers.of(VALUES[kind])
+        value = str(numbers.of(self.keys) if numbers.chance(70) else numbers.below(24))
+        return numbers.weighted((
+            (value, 60), (f"'{value}'", 24), ("NULL", 6), (f"{numbers.below(10)} + {numbers.below(12)}", 5), (f"'0{value}'", 3),
+        ))
+
+    def execute(self):
+        """Executes what the session has prepared, mostly; what it prepares is mostly executed at once."""
+        numbers, name = self.numbers, self.numbers.of(("e1", "e2", "e3"))
+        if numbers.chance(3):
+            self.prepared.pop(name, None)
+            return numbers.of((f"DEALLOCATE {name};", f"DEALLOCATE {name};", f"DEALLOCATE PREPARE {name};", "DEALLOCATE ALL;"))
+        text = ""
+        if name not in self.prepared and numbers.chance(96) or numbers.chance(3):
+            text = self.prepare(name)
+            if numbers.chance(25):
+                return text
+        word, kinds = self.prepared.get(name, ("SELECT", "i"))
+        arguments = [self.argument(kind) for kind in kinds]
+        if numbers.chance(3):
+            arguments = arguments + ["1"] if numbers.chance(50) else arguments[1:]
+        explain = self.explain() if numbers.chance((70 if self.kind == "analyzed" else 20) if word == "SELECT" else 2) else ""
+        return f"{text} {explain}EXECUTE {name}{'(' + ', '.join(arguments) + ')' if arguments else ''};".strip()
 
     def chain(self):
         """Rows that stand against a new partition go, and then it is made: whoever sees them still is waited for."""
@@ -430,6 +548,9 @@ class Maker:
     def steps(self, wanted):
         """The blocks of a session, in the order in which it runs them."""
         numbers, found, is_open = self.numbers, [], False
+        self.prepared = {}
+        if self.kind in ("generic", "analyzed") and numbers.chance(80):
+            found.append("SET plan_cache_mode = force_generic_plan;")
         while len(found) < wanted or is_open:
             begin = numbers.of(("BEGIN;", "BEGIN;", "BEGIN ISOLATION LEVEL REPEATABLE READ;"))
             if self.default_chance() and numbers.chance(50):

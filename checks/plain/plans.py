@@ -3,10 +3,11 @@ from pruning import TURNED, items_of
 
 
 class Naming:
-    """How a plan names columns: the items of FROM with their names, whether these are aliases, and their columns."""
+    """How a plan names columns: the items of FROM with their names, whether these are aliases, and their columns; and whether it
+    names parameters, or tells their values."""
 
-    def __init__(self, items):
-        self.items = items
+    def __init__(self, items, has_params=False):
+        self.items, self.has_params = items, has_params
 
     def column(self, item, place):
         name, _, columns = self.items[item]
@@ -29,6 +30,8 @@ def constant(value):
 
 
 def operand(naming, side):
+    if naming.has_params and side.param is not None:
+        return f"${side.param}"
     return constant(side.of(None)) if side.item is None else naming.column(side.item, side.place)
 
 
@@ -51,46 +54,57 @@ def atom_text(naming, atom):
     return f"({operand(naming, left)} {sign} {operand(naming, right)})"
 
 
-def node(depth, text, details=()):
+def node(depth, text, details=(), counted=""):
     arrow = " " * (6 * depth - 4) + "->  " if depth else ""
-    return [arrow + text] + [" " * (6 * depth + 2) + detail for detail in details]
+    return [arrow + text + counted] + [" " * (6 * depth + 2) + detail for detail in details]
 
 
 def details(naming, word, atoms):
     return [f"{word}: " + in_a_row("AND", [atom_text(naming, atom) for atom in atoms])] if atoms else []
 
 
-def item_lines(plan, naming, item, depth):
+def counted(rows, loops=1):
+    """What ANALYZE tells of a node."""
+    return f" (rows={rows} loops={loops})" if loops else " (never executed)"
+
+
+def item_lines(plan, naming, item, depth, analyzes):
+    def told(*of):
+        return counted(plan.counts["rows", item, *of], plan.counts["loops", item, *of]) if analyzes else ""
     own = [atom for atom in plan.placed[item] if not items_of(atom) - {item}]
     leaves = plan.leaves[item]
 
     def scans(depth):
         for leaf in leaves:
-            yield from node(depth, f"Seq Scan on {leaf.name}{naming.alias(item)}", details(naming, "Filter", own))
-    if len(leaves) == 1 and not (plan.prunes and plan.joins(item)):
+            yield from node(depth, f"Seq Scan on {leaf.name}{naming.alias(item)}", details(naming, "Filter", own), told(leaf))
+    planned = len(plan.planned[item])
+    if planned == 1 and not (plan.prunes and (plan.joins(item) or plan.has_params(item))):
         return list(scans(depth))
-    return node(depth, "Append") + list(scans(depth + 1))
+    removed = [f"Subplans Removed: {planned - len(leaves)}"] if planned > len(leaves) else []
+    return node(depth, "Append", removed, told()) + list(scans(depth + 1))
 
 
-def joined(plan, naming, count, depth):
+def joined(plan, naming, count, depth, analyzes):
     """The first items, joined from the left."""
     last = count - 1
     if last == 0:
-        return item_lines(plan, naming, 0, depth)
-    lines = node(depth, "Nested Loop", details(naming, "Join Filter", plan.joins(last)))
-    return lines + joined(plan, naming, last, depth + 1) + item_lines(plan, naming, last, depth + 1)
+        return item_lines(plan, naming, 0, depth, analyzes)
+    told = counted(plan.counts["joined", last]) if analyzes else ""
+    lines = node(depth, "Nested Loop", details(naming, "Join Filter", plan.joins(last)), told)
+    return lines + joined(plan, naming, last, depth + 1, analyzes) + item_lines(plan, naming, last, depth + 1, analyzes)
 
 
-def plan_lines(plan, naming, keys, is_cut):
-    """The lines of a plan; keys are the texts of the keys of ORDER BY."""
+def plan_lines(plan, naming, keys, is_cut, analyzes=False):
+    """The lines of a plan; keys are the texts of the keys of ORDER BY. Where it was run, each node tells its rows and loops."""
     lines, depth = [], 0
+    rows, cut = (counted(plan.counts[name]) if analyzes else "" for name in ("rows", "cut"))
     if is_cut:
-        lines, depth = node(0, "Limit"), 1
+        lines, depth = node(0, "Limit", (), cut), 1
     if keys:
-        lines += node(depth, "Sort", ["Sort Key: " + ", ".join(keys)])
+        lines += node(depth, "Sort", ["Sort Key: " + ", ".join(keys)], rows)
         depth += 1
     if plan.is_empty():
-        return lines + node(depth, "Result", ["One-Time Filter: false"])
+        return lines + node(depth, "Result", ["One-Time Filter: false"], rows)
     if not plan.trees:
-        return lines + node(depth, "Result")
-    return lines + joined(plan, naming, len(plan.trees), depth)
+        return lines + node(depth, "Result", (), rows)
+    return lines + joined(plan, naming, len(plan.trees), depth, analyzes)

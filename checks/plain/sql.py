@@ -19,7 +19,9 @@ LEVELS = ("READ COMMITTED", "READ UNCOMMITTED", "REPEATABLE READ")
 
 
 class Statement:
-    """A statement: its first word and what it is made of."""
+    """A statement: its first word and what it is made of; the parameters that it is executed with, each with its kind and its
+    value; and whether it is run to be explained."""
+    params, analyzes = (), False
 
     def __init__(self, word, **parts):
         self.word = word
@@ -104,8 +106,8 @@ class Reader:
             return said
         raise NotRead(f"a name before {said}")
 
-    def is_name(self):
-        kind, said = self.peek()
+    def is_name(self, ahead=0):
+        kind, said = self.peek(ahead)
         return kind == "quoted" or kind == "word" and said not in RESERVED
 
     def list_of(self, part):
@@ -376,14 +378,33 @@ class Reader:
                 mode = " ".join(words).upper()
             return Statement("LOCK", names=names, mode=mode)
         if self.took("explain"):
-            if self.took("analyze") or self.took("("):
-                self.at -= 1
-                self.options()
+            analyzes = self.took("analyze") or self.took("(") and self.options()
             explained = self.statement()
-            if explained.word != "SELECT":
+            if explained.word not in ("SELECT", "EXECUTE"):
                 raise NotRead("an EXPLAIN of another statement")
-            explained.word = "EXPLAIN"
+            explained.word = "EXPLAIN" if explained.word == "SELECT" else "EXPLAIN EXECUTE"
+            explained.analyzes = analyzes
             return explained
+        if self.took("prepare"):
+            if self.peek() == ("word", "transaction"):
+                raise NotRead("PREPARE TRANSACTION")
+            name = self.name()
+            kinds = self.in_parentheses(self.name) if self.peek() == ("sign", "(") else []
+            self.take("as")
+            prepared = self.statement()
+            if prepared.word not in ("SELECT", "INSERT", "UPDATE", "DELETE"):
+                raise NotRead("a PREPARE of another statement")
+            return Statement("PREPARE", name=name, kinds=kinds, prepared=prepared)
+        if self.took("execute"):
+            name = self.name()
+            arguments = self.in_parentheses(self.expression) if self.peek() == ("sign", "(") else []
+            return Statement("EXECUTE", name=name, arguments=arguments)
+        if self.took("deallocate"):
+            if self.peek() == ("word", "prepare") and (self.is_name(1) or self.peek(1) == ("word", "all")):
+                self.at += 1
+                if self.peek() == ("word", "transaction"):
+                    raise NotRead("DEALLOCATE PREPARE TRANSACTION")
+            return Statement("DEALLOCATE", name=None if self.took("all") else self.name())
         if self.took("select"):
             items = self.list_of(self.item)
             tables = self.tables() if self.took("from") else []
@@ -412,15 +433,16 @@ class Reader:
         raise NotRead(f"a statement before {self.peek()[1]}")
 
     def options(self):
-        """The options of EXPLAIN that change nothing."""
-        if self.took("analyze"):
-            raise NotRead("EXPLAIN ANALYZE")
-        self.take("(")
+        """The options of EXPLAIN: whether ANALYZE is among them, for the others change nothing."""
+        analyzes = False
         while True:
-            if not any(self.took(word, "off") for word in ("costs", "timing", "summary")):
+            if self.took("analyze"):
+                analyzes = True
+            elif not any(self.took(word, "off") for word in ("costs", "timing", "summary")):
                 raise NotRead("an option of EXPLAIN")
             if not self.took(","):
-                return self.take(")")
+                self.take(")")
+                return analyzes
 
     def change(self):
         name = self.name()

@@ -79,11 +79,11 @@ class Bound:
     """An expression whose names and kinds were judged. `kind` is None for null, "literal" for a string
     whose place has given it no kind yet; `of` computes the value of a tuple: for each item of FROM a row, a list
     of values, and the leaf that it lies in (`lying`). A column is known by its item's number and its place, a table by
-    its item's number."""
+    its item's number, and a parameter by its own."""
 
-    def __init__(self, kind, of, is_constant, text=None, item=None, place=None, table=None):
+    def __init__(self, kind, of, is_constant, text=None, item=None, place=None, table=None, param=None):
         self.kind, self.of, self.is_constant, self.text = kind, of, is_constant, text
-        self.item, self.place, self.table = item, place, table
+        self.item, self.place, self.table, self.param = item, place, table, param
 
 
 def lying(values, table):
@@ -103,15 +103,16 @@ class Test:
 
 class Scope:
     """The items of FROM that may be named: the number, the name and the columns of each, these as (name, kind) in
-    the order of the row; and what expressions over no column have to be computed when the statement starts."""
+    the order of the row; the parameters, as (kind, value); and what expressions over no column have to be computed when the
+    statement starts."""
 
-    def __init__(self, items, user=None, calls=None):
-        self.items, self.user, self.calls = items, user, calls
+    def __init__(self, items, user=None, calls=None, params=()):
+        self.items, self.user, self.calls, self.params = items, user, calls, params
         self.constants = []
 
     def of_items(self, items):
         """The same, where these items alone may be named."""
-        scope = Scope(items, self.user, self.calls)
+        scope = Scope(items, self.user, self.calls, self.params)
         scope.constants = self.constants
         return scope
 
@@ -164,7 +165,11 @@ class Scope:
         if sort in ("true", "false"):
             return Bound("boolean", lambda row: sort == "true", True)
         if sort == "parameter":
-            raise Refusal("42P02", f"no parameter {written[1][1:].lstrip('0') or '0'}")
+            number = int(written[1][1:])
+            if not 1 <= number <= len(self.params):
+                raise Refusal("42P02", f"no parameter {number}")
+            kind, value = self.params[number - 1]
+            return Bound(kind, lambda row: value, True, param=number)
         if sort == "column":
             found = [
                 (number, [column for column, _ in columns].index(written[2]), dict(columns)[written[2]])
@@ -231,7 +236,7 @@ class Scope:
 
     def kind_of_arithmetic(self, sign, left, right):
         known = [kind for kind in (left, right) if kind is not None]
-        if all(kind in NUMBERS for kind in known):
+        if known and all(kind in NUMBERS for kind in known):
             return "bigint" if "bigint" in known else "integer"
         pairs = {("+", "date", "integer"), ("+", "integer", "date"), ("-", "date", "integer"), ("+", "date", None),
                  ("+", None, "date"), ("-", "date", None)}
@@ -277,7 +282,7 @@ class Scope:
         if bound.kind != "boolean":
             kind = "text" if bound.kind in ("literal", None) else bound.kind
             raise Refusal("42804", f"{kind} where boolean is wanted")
-        if bound.is_constant:
+        if bound.is_constant and bound.param is None:
             return Test("known", [bound], bound.of)
         return self.comparison("=", bound, Bound("boolean", lambda row: True, True))
 

@@ -137,7 +137,7 @@ in_order_after t cmd (CatalogueChange e ∷ es) h done order = (catalogue_after 
 -- ---- how many leaves and tables there are then
 
 leaves_on : (es h : History) → leaf_count (row_events (es ++ h)) ≡ leaf_count (row_events es) + leaf_count (row_events h)
-leaves_on [] h = refl
+leaves_on [] h = omega arith
 leaves_on (TxChange e ∷ es) h = leaves_on es h
 leaves_on (SnapshotChange e ∷ es) h = leaves_on es h
 leaves_on (LockChange e ∷ es) h = leaves_on es h
@@ -147,7 +147,7 @@ leaves_on (RowChange (RowEnded k e) ∷ es) h = leaves_on es h
 leaves_on (CatalogueChange e ∷ es) h = leaves_on es h
 
 tables_on : (es h : History) → length (tables_made (catalogue_events (es ++ h))) ≡ length (tables_made (catalogue_events es)) + length (tables_made (catalogue_events h))
-tables_on [] h = refl
+tables_on [] h = omega arith
 tables_on (TxChange e ∷ es) h = tables_on es h
 tables_on (SnapshotChange e ∷ es) h = tables_on es h
 tables_on (LockChange e ∷ es) h = tables_on es h

@@ -114,7 +114,7 @@ bad_nowhere b f xs i le = ap (λ l. bad_modulus b (map bound_of (map f l))) (pas
 
 -- ---- the only bound of a set
 
-place_one : (q : Bound → Bool) (b : Bound) (t : Bool) → q b ≡ t → position q (b ∷ []) ≡ (if t then Some 0 else None)
+pub place_one : (q : Bound → Bool) (b : Bound) (t : Bool) → q b ≡ t → position q (b ∷ []) ≡ (if t then Some 0 else None)
 place_one q b true is = rw is refl
 place_one q b false is = rw is refl
 

@@ -7,3 +7,4 @@ pub mod Parts
 pub mod Places
 pub mod Settings
 pub mod Steps
+mod WithoutParams

@@ -1,5 +1,5 @@
 -- After a call all four stores stand for the history with the call's events, and it stays a good one.
-use Rattle.std.proofs.Common.{◌≡◌, ◌≤◌, ℕ, false, true, List, [], ◌∷◌, ◌++◌, refl, sym, ap, subst, ◌∙◌, Option, Some, None, unwrap_or, Result, Ok, Err, IfOk, OnOk, IsSome, length, slice_index_or, slice_set}
+use Rattle.std.proofs.Common.{◌≡◌, ◌≤◌, ℕ, false, true, [], ◌∷◌, ◌++◌, refl, sym, ap, subst, ◌∙◌, Option, Some, None, unwrap_or, Result, Ok, Err, IfOk, OnOk, IsSome, length, slice_index_or, slice_set}
 use Rattle.history.specs.declared.wait.Wanted.{Wanted}
 use Rattle.history.specs.declared.wait.Wanted.TheVariants.{Lock, Others}
 use Rattle.history.specs.declared.transaction.Fate.{Fate}
@@ -7,7 +7,7 @@ use Rattle.history.specs.declared.transaction.TxId.{TxId}
 use Rattle.history.specs.Transactions.{TxEvents, TxEvent, TxBegan, next_tx, open_of, session_of, IsPast}
 use Rattle.history.specs.Snapshots.{SnapshotEvent, TakenSnapshot, SnapshotHeld, SnapshotDropped, held_by}
 use Rattle.history.specs.Locks.{LockEvent, LockGot, LocksGivenUp, SnapshotGone, WaitBegan}
-use Rattle.history.specs.History.{Event, History, TxChange, SnapshotChange, LockChange, tx_events, snapshot_events, held_or_fresh}
+use Rattle.history.specs.History.{History, TxChange, SnapshotChange, LockChange, tx_events, snapshot_events, held_or_fresh}
 use Rattle.history.proofs.Open.{open_own}
 use Rattle.tx_table.specs.Kept.{KeptTable, KeptSnapshot, after_hold}
 use Rattle.tx_table.specs.Stands.{TableStands, SnapshotStands, HeldStands, after_end}

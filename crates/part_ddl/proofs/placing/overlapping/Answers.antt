@@ -1,4 +1,4 @@
-use Rattle.std.proofs.Common.{◌≡◌, ◌∙◌, ap, true, false, sym}
+use Rattle.std.proofs.Common.{◌≡◌, ◌∙◌, ap, true, sym}
 use Rattle.std.specs.Option.{option_map}
 use Rattle.bound_forms.specs.Bounds.{is_filled, overlaps, BoundsFit}
 use Rattle.part_ddl.proofs.First.{all_at, found_here, found_later, found_nowhere}
