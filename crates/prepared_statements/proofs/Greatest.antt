@@ -15,5 +15,5 @@ module _ {A B : Type 0} (f : A → B) (P : List B → List ℕ) (part : B → Li
       ap (λ l. greatest_of (P l)) (later_step f xs i x within is)
       ∙ (ap greatest_of (step (f x) (map f (drop (i + 1) xs))) ∙ greatest_both (part (f x)) (P (map f (drop (i + 1) xs))))
 
-  pub part_passed : (m a r total : ℕ) → max m (greatest_of (P (map f (drop i xs)))) ≡ total → a ≡ greatest_of (part (f x)) → r ≡ max a m → max r (greatest_of (P (map f (drop (i + 1) xs)))) ≡ total
+  pub part_passed : (m a r total : ℕ) → max m (greatest_of (P (map f (drop i xs)))) ≡ total → a ≡ greatest_of (part (f x)) → r ≡ max m a → max r (greatest_of (P (map f (drop (i + 1) xs)))) ≡ total
   part_passed m a r total so_far first more = let w = whole in omega (arith, w, so_far, first, more)

@@ -45,7 +45,7 @@ fn in_exprs(list: &[Expr]) -> u64
 {
     let mut most = 0;
     for e in list {
-        most = in_expr(e).max(most);
+        most = most.max(in_expr(e));
     }
     most
 }
@@ -74,7 +74,7 @@ fn in_items(items: &[SelectItem]) -> u64
 {
     let mut most = 0;
     for item in items {
-        most = in_item(item).max(most);
+        most = most.max(in_item(item));
     }
     most
 }
@@ -84,7 +84,7 @@ fn in_from(tables: &[FromItem]) -> u64
 {
     let mut most = 0;
     for table in tables {
-        most = in_maybe(&table.on).max(most);
+        most = most.max(in_maybe(&table.on));
     }
     most
 }
@@ -94,7 +94,7 @@ fn in_keys(keys: &[SortKey]) -> u64
 {
     let mut most = 0;
     for key in keys {
-        most = in_expr(&key.value).max(most);
+        most = most.max(in_expr(&key.value));
     }
     most
 }
@@ -104,7 +104,7 @@ fn in_rows(rows: &[ExprList]) -> u64
 {
     let mut most = 0;
     for row in rows {
-        most = in_exprs(row.as_slice()).max(most);
+        most = most.max(in_exprs(row.as_slice()));
     }
     most
 }
@@ -114,7 +114,7 @@ fn in_settings(settings: &[Assignment]) -> u64
 {
     let mut most = 0;
     for assignment in settings {
-        most = in_expr(&assignment.value).max(most);
+        most = most.max(in_expr(&assignment.value));
     }
     most
 }

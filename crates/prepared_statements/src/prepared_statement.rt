@@ -1,5 +1,6 @@
-ghost use Rattle.std.specs.Prelude.{◌≡◌, IfOk};
+ghost use Rattle.std.specs.Prelude.{◌≡◌, ◌∷◌, [], IfOk};
 ghost use Rattle.pg_values.specs.Refusals.{IsAnswer};
+ghost use Rattle.refusals.specs.Refusals.{left_out as left_out_of};
 ghost use Rattle.sql_ast.specs.Expressions.{trees};
 ghost use Rattle.sql_ast.specs.Queries.{row_tree};
 ghost use Rattle.sql_binder.specs.Inserts as inserts;
@@ -33,14 +34,20 @@ fn count_of(arguments: &ExprList) -> usize
     arguments.as_slice().len()
 }
 
-fn first_word(statement: &RowStatement) -> &'static [u8]
-    ensures { result.now ≡ spec.first_word (row_tree statement.now) }
+fn refuse(alloc: Global, word: &[u8]) -> Result<(), Refusal>
+    ensures { IsAnswer result (or_first (left_out_of word.now ∷ []) tt) }
+{
+    Err(Refusal::Sql(left_out(alloc, word)?))
+}
+
+fn check_select(alloc: Global, statement: &RowStatement) -> Result<(), Refusal>
+    ensures { IsAnswer result (or_first (spec.not_explained (row_tree statement.now)) tt) }
 {
     match statement {
-        RowStatement::Select(_) => b"SELECT",
-        RowStatement::Insert(_) => b"INSERT",
-        RowStatement::Update(_) => b"UPDATE",
-        RowStatement::Delete(_) => b"DELETE",
+        RowStatement::Select(_) => Ok(()),
+        RowStatement::Insert(_) => refuse(alloc, b"INSERT"),
+        RowStatement::Update(_) => refuse(alloc, b"UPDATE"),
+        RowStatement::Delete(_) => refuse(alloc, b"DELETE"),
     }
 }
 
@@ -93,10 +100,7 @@ impl PreparedStatement {
     pub fn check_explained(&self, alloc: Global) -> Result<(), Refusal>
         ensures { IsAnswer result (or_first (spec.not_explained (seen self.now).statement) tt) }
     {
-        match &*self.statement {
-            RowStatement::Select(_) => Ok(()),
-            _ => Err(Refusal::Sql(left_out(alloc, first_word(&self.statement))?)),
-        }
+        check_select(alloc, &self.statement)
     }
 
     /// The parameters with the kinds and values that the arguments of an EXECUTE give them, over the tables of the
