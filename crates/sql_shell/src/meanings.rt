@@ -11,7 +11,8 @@
 //! Of PREPARE the kinds are written that the places of `$2`, `$3` and `$4` give them, a dash where none does: their
 //! arguments are string literals, and `$1` is an integer. Where several statements are in one line, what those before
 //! the last one prepare and deallocate is there for it: of EXECUTE, and of EXPLAIN of an EXECUTE, the parameters are
-//! written that the statement of that name has.
+//! written that the statement of that name has, and behind those of EXECUTE stands what the statement means with their
+//! values in its conditions.
 //!
 //! Of CREATE TABLE the columns are written with their kinds, and the places of those of its key. Behind it, in one
 //! line, CREATE TABLE with PARTITION OF is read as that of its partition, and the bound is written.
@@ -27,14 +28,12 @@ use crate::bound::{write_change, write_insert, write_params, write_select};
 use crate::definitions::{write_partition, write_table};
 use crate::kinds::write_kinds;
 use crate::prepared::{prepared_by, write_executed, write_explained};
-use crate::tables::{columns_of, item_of, items_of, params};
+use crate::tables::{SESSION, columns_of, item_of, items_of, params};
 use pg_values::{Fault, Kind, NoMemory, Refusal};
 use sql_ast::{Command, Delete, ExprList, Insert, Query, RowStatement, Select, Statement, Update};
 use sql_binder::{Wanted, bind_arguments, bind_delete, bind_insert, bind_select, bind_update};
 use sql_syntax::parse_block;
 use std::alloc::Global;
-
-const SESSION: u32 = 1;
 
 fn select_line(alloc: Global, select: &Select, out: &mut Vec<u8>) -> Result<(), Refusal> {
     let items = items_of(alloc, select.from.as_slice())?;

@@ -1,6 +1,8 @@
 use crate::bound::write_params;
+use crate::custom::write_custom;
 use crate::kinds::tables_of;
-use pg_values::Refusal;
+use expression_binder::Param;
+use pg_values::{NoMemory, Refusal};
 use prepared_statements::{PreparedList, PreparedStatement};
 use sql_ast::{Command, ExprList, Query, Statement};
 use std::alloc::Global;
@@ -34,19 +36,23 @@ pub(crate) fn prepared_by(
     Ok(prepared)
 }
 
-fn write_arguments(
+fn params_of(
     alloc: Global,
     prepared: &PreparedStatement,
     arguments: &ExprList,
-    out: &mut Vec<u8>,
-) -> Result<(), Refusal> {
+) -> Result<Vec<Param>, Refusal> {
     prepared.check_count(alloc, arguments)?;
     let tables = tables_of(alloc, prepared.statement())?;
-    let params = prepared.bind_arguments(alloc, &tables, arguments)?;
-    Ok(write_params(alloc, &params, out)?)
+    prepared.bind_arguments(alloc, &tables, arguments)
 }
 
-/// Writes the parameters of the prepared statement that is executed.
+fn write_before(alloc: Global, params: &[Param], out: &mut Vec<u8>) -> Result<(), NoMemory> {
+    write_params(alloc, params, out)?;
+    out.extend_from_slice(b": ")?;
+    Ok(())
+}
+
+/// Writes the parameters of the prepared statement that is executed, and what it means with their values in place.
 pub(crate) fn write_executed(
     alloc: Global,
     prepared: &PreparedList,
@@ -54,7 +60,10 @@ pub(crate) fn write_executed(
     arguments: &ExprList,
     out: &mut Vec<u8>,
 ) -> Result<(), Refusal> {
-    write_arguments(alloc, prepared.find(alloc, name)?, arguments, out)
+    let statement = prepared.find(alloc, name)?;
+    let params = params_of(alloc, statement, arguments)?;
+    write_before(alloc, &params, out)?;
+    write_custom(alloc, statement.statement(), &params, out)
 }
 
 /// Writes the parameters of the prepared SELECT whose execution is explained.
@@ -67,5 +76,6 @@ pub(crate) fn write_explained(
 ) -> Result<(), Refusal> {
     let statement = prepared.find(alloc, name)?;
     statement.check_explained(alloc)?;
-    write_arguments(alloc, statement, arguments, out)
+    let params = params_of(alloc, statement, arguments)?;
+    Ok(write_params(alloc, &params, out)?)
 }
