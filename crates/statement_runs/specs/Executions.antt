@@ -77,8 +77,8 @@ executing p (Err f) = Err f
 
 -- the first fault, if there is one, in place of what comes then
 abbrev pub unless_faulty : {T : Type 0} → List Fault → Result T Fault → Result T Fault
-unless_faulty [] then = then
-unless_faulty (f ∷ fs) then = Err f
+unless_faulty [] next = next
+unless_faulty (f ∷ fs) next = Err f
 
 abbrev pub executed_of : (Prepared → List Item) → Option Rest → Trees → Result Prepared Fault → Result Execution Fault
 executed_of tables rest ts (Ok p) = unless_faulty (counted p ts) (executing p (params_over (tables p) rest p ts))

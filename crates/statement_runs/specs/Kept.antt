@@ -71,9 +71,9 @@ pub record Adds (old new : KeptSeats) (events : History → List Event) : Type 0
   pub whole : new.whole ≡ old.whole
   pub tells : old.whole ≡ true → (h : History) → TellOf old h → TellOf new (events h ++ h)
 
--- it stands for a database, with what the sessions have prepared, those whose waits statements of others have cancelled, and with what statements have given
--- and read
-pub record StandsFor (o : Options) (kept : KeptSeats) (prepared : List (List Prepared)) (ended : List ℕ) (tally : Tally) (v : Database) : Type 0 where
+-- it stands for a database, with what the sessions have prepared, with those whose waits statements of others have cancelled,
+-- and with what statements have given and read
+pub record StandsFor (o : Options) (kept : KeptSeats) (lists : List (List Prepared)) (ended : List ℕ) (tally : Tally) (v : Database) : Type 0 where
   pub whole : kept.whole ≡ true
   pub options : o ≡ v.options
   pub sessions : length kept.opened ≡ v.sessions
@@ -81,7 +81,7 @@ pub record StandsFor (o : Options) (kept : KeptSeats) (prepared : List (List Pre
   pub commands : kept.commands ≡ v.commands
   pub cancelled : kept.cancelled ≡ v.cancelled
   pub rests : kept.rests ≡ v.rests
-  pub prepared : prepared ≡ v.prepared
+  pub prepared : lists ≡ v.prepared
   pub cut : ended ≡ v.cut
   pub given : tally ≡ v.tally
 
