@@ -491,9 +491,9 @@ pub if_on : {X E : Type 0} (r : Result X E) (P : X → Type 0) (Q : Type 0) → 
 if_on (Ok x) P Q p f = f x p
 if_on (Err e) P Q p f = tt
 
-pub if_both_on : {X E : Type 0} (r : Result X E) (P R : X → Type 0) (Q : Type 0) → IfOk r P → IfOk r R → ((x : X) → P x → R x → Q) → OnOk r Q
-if_both_on (Ok x) P R Q p s f = f x p s
-if_both_on (Err e) P R Q p s f = tt
+pub if_three_on : {X E : Type 0} (r : Result X E) (P R S : X → Type 0) (Q : Type 0) → IfOk r P → IfOk r R → IfOk r S → ((x : X) → P x → R x → S x → Q) → OnOk r Q
+if_three_on (Ok x) P R S Q p r s f = f x p r s
+if_three_on (Err e) P R S Q p r s f = tt
 
 pub if_ok : {X E : Type 0} (r : Result X E) (P Q : X → Type 0) → IfOk r P → ((x : X) → P x → Q x) → IfOk r Q
 if_ok (Ok x) P Q p f = f x p

@@ -2,7 +2,9 @@ ghost use Rattle.std.specs.Prelude.{◌≡◌, ◌≤◌, ◌<◌, ℕ, [], IfOk
 ghost use Rattle.prepared_statements.specs.Kept.{listed};
 ghost use Rattle.statement_runs.specs.Database as database;
 ghost use Rattle.statement_runs.specs.Database.{Database, empty, cuts, all_cut};
+ghost use Rattle.sql_ast.specs.Statements.{statement_tree};
 ghost use Rattle.statement_runs.specs.Kept.{StandsFor, waits_in, interrupted_in};
+ghost use Rattle.statement_runs.specs.Roles as roles;
 ghost use Rattle.statement_runs.specs.Weight.{left, most_left};
 
 use crate::roles::{cancelled_by, misplaced};
@@ -49,6 +51,25 @@ fn take_list(alloc: Global, lists: &mut Vec<PreparedList>, session: usize) -> Pr
     match lists.get_mut(session) {
         Some(list) => replace(list, PreparedList::new(alloc)),
         None => PreparedList::new(alloc),
+    }
+}
+
+// The sessions whose waits the statement cancels, by what its session has prepared.
+fn cancelled_for(
+    alloc: Global,
+    lists: &[PreparedList],
+    session: u32,
+    sessions: u32,
+    statement: &Statement,
+) -> Result<Vec<usize>, NoMemory>
+    ensures { IfOk result (λ cut. cut.items ≡ roles.cancelled_by session sessions (slice_index_or (map listed lists.now) session []) (statement_tree statement.now)) }
+{
+    match lists.get(session as usize) {
+        Some(list) => cancelled_by(alloc, session, sessions, list, statement),
+        None => {
+            let list = PreparedList::new(alloc);
+            cancelled_by(alloc, session, sessions, &list, statement)
+        }
     }
 }
 
@@ -250,9 +271,10 @@ impl Executor for StoreExecutor {
         out: &mut Vec<u8>,
     ) -> Result<Outcome, NoMemory> {
         let sessions = self.seats.count() as u32;
-        let mut prepared = take_list(alloc, &mut self.prepared, asker.session);
-        let others = cancelled_by(alloc, asker.session as u32, sessions, &prepared, statement)?;
+        let session = asker.session as u32;
+        let others = cancelled_for(alloc, &self.prepared, session, sessions, statement)?;
         self.interrupt_all(&others)?;
+        let mut prepared = take_list(alloc, &mut self.prepared, asker.session);
         let ran = self.seats.run(
             alloc,
             &self.options,
