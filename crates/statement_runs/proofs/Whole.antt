@@ -33,7 +33,8 @@ use Rattle.change_statement.specs.Running.{IsCommand}
 use Rattle.change_statement.proofs.Commands.{goes_anywhere, waits_later}
 use Rattle.statement_runs.specs.Attempted.{as_table, command_attempted, listed, nothing, omitted, printed, silent, staged, table, tabled}
 use Rattle.statement_runs.specs.LeftOut.{command_word}
-use Rattle.statement_runs.specs.Printed.{IsStatement}
+use Rattle.statement_runs.specs.Executions.{command_kept}
+use Rattle.statement_runs.specs.Printed.{IsKept, IsStatement}
 
 -- ---- it prints nothing
 
@@ -211,7 +212,29 @@ refused_is left fault stores caller f before may same = record {
 pub no_memory_is : (left : Option Rest) (stores : Stores) (caller : Caller) (f : History → Made Ended) (before : List ℕ) → IsStatement left (Err stop.NoMemory) stores stores before before caller f
 no_memory_is left stores caller f before = record { is = λ h stands at go. tt; keeps = stays stores caller.session; waits = tt }
 
--- ---- what is prepared changes
+-- ---- what is prepared stays
+
+pub kept_still : (r : Result Ending Stop) (ps : List Prepared) → IsKept r ps ps ps
+kept_still (Ok endings.Done) ps = refl
+kept_still (Ok (endings.Commits d)) ps = refl
+kept_still (Err stop) ps = refl
+
+pub others_keep : (ps : List Prepared) (t : Command) → ((name : List ℕ) → t ≡ commands.Deallocate name → ⊥) → (t ≡ commands.DeallocateAll → ⊥) → command_kept ps (command_tree t) ≡ ps
+others_keep ps (commands.Begin level) g k = refl
+others_keep ps commands.Commit g k = refl
+others_keep ps commands.Rollback g k = refl
+others_keep ps (commands.Set name value) g k = refl
+others_keep ps (commands.Reset name) g k = refl
+others_keep ps (commands.CreateTable name columns by) g k = refl
+others_keep ps (commands.CreatePartition name parent bound by) g k = refl
+others_keep ps (commands.DropTables if_there tables) g k = refl
+others_keep ps (commands.Attach parent name bound) g k = refl
+others_keep ps (commands.Detach parent name how) g k = refl
+others_keep ps (commands.Lock tables mode) g k = refl
+others_keep ps (commands.Deallocate name) g k = absurd (g name refl)
+others_keep ps commands.DeallocateAll g k = absurd (k refl)
+
+-- ---- it changes
 
 pub listed_is : (left : Option Rest) (told : Result (List Prepared) Fault) (ps : List Prepared) (stores : Stores) (caller : Caller) (before : List ℕ) → MayAttempt stores caller → told ≡ Ok ps
     → IsStatement left (Ok endings.Done) stores stores before before caller (listed told)

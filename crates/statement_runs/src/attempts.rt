@@ -1,4 +1,4 @@
-ghost use Rattle.std.specs.Prelude.{◌≡◌, ◌≤◌, ◌&&◌, ◌++◌, [], IfOk, List, OnOk, Option, Result, Ok, codes, false, length, map};
+ghost use Rattle.std.specs.Prelude.{◌≡◌, ◌≤◌, ◌&&◌, ◌++◌, [], List, OnErr, OnOk, Option, Result, codes, length, map};
 ghost use Rattle.pg_values.specs.declared.fault.Fault.{Fault as OneFault};
 ghost use Rattle.history.specs.History.{History};
 ghost use Rattle.part_catalog.specs.Stands.{CatalogueStands};
@@ -74,7 +74,7 @@ fn omit(alloc: Global, stores: &Stores, caller: Caller, word: &[u8], out: &[u8])
 fn list(stores: &Stores, caller: Caller, done: Result<(), Refusal>, out: &[u8]) -> Result<(), Stop>
     requires { MayAttempt stores.now caller }
     ensures is { (left : Option Left) (ps : List Prepared) (told : Result (List Prepared) OneFault) → IsAnswerBy (λ u. ps) done told → IsStatement left (ended result) stores.now stores.now out.now out.now caller (attempted.listed told) }
-    ensures done { IfOk result (λ u. done ≡ Ok tt) }
+    ensures kept { (old new : List Prepared) (told : Result (List Prepared) OneFault) → IsAnswerBy (λ u. new) done told → OnErr done (new ≡ old) → IsKept (ended result) old new (executions.listed_after old told) }
 {
     match done {
         Ok(()) => Ok(()),
