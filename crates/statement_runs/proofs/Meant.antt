@@ -1,5 +1,5 @@
 -- The tables that a statement names, one after the other, and what the sessions have prepared.
-use Rattle.std.proofs.Common.{◌≡◌, ℕ, zero, suc, ◌+◌, ◌<◌, ◌≤◌, true, false, if◌then◌else◌, List, [], ◌∷◌, ◌++◌, Option, Some, None, refl, ap, sym, ◌∙◌, arith, append_assoc, append-nil, drop, get_or, length, map, nat_lt, replicate}
+use Rattle.std.proofs.Common.{◌≡◌, ℕ, zero, suc, ◌+◌, ◌<◌, ◌≤◌, true, false, if◌then◌else◌, List, [], ◌∷◌, ◌++◌, Option, Some, None, refl, ap, sym, ◌∙◌, arith, append_assoc, append-nil, drop, get_or, length, map, nat_lt, replicate, slice_index_or, slice_set}
 use Rattle.std.proofs.lemmas.Grind.{common_steps}
 use Rattle.std.proofs.lemmas.Bool.Decides.{nat_tests}
 use Rattle.std.proofs.lemmas.List.{length-map, map-append}
@@ -49,3 +49,25 @@ replicate_more x (suc n) = ap (λ xs. x ∷ xs) (replicate_more x n)
 pub one_more_list : (lists more : List PreparedList) (l : PreparedList) (n : ℕ) (none : List Prepared) → more ≡ lists ++ l ∷ [] → listed l ≡ none → map listed lists ≡ replicate n none → map listed more ≡ replicate (suc n) none
 one_more_list lists more l n none added empty so_far =
     ap (map listed) added ∙ (map-append listed lists (l ∷ []) ∙ (ap (λ ys. ys ++ listed l ∷ []) so_far ∙ (ap (λ p. replicate n none ++ p ∷ []) empty ∙ replicate_more none n)))
+
+-- one of them, as it is seen
+
+pub map_set : {A B : Type 0} (f : A → B) (xs : List A) (s : ℕ) (x : A) → map f (slice_set xs s x) ≡ slice_set (map f xs) s (f x)
+map_set f [] s x = refl
+map_set f (y ∷ ys) zero x = refl
+map_set f (y ∷ ys) (suc s) x = ap (λ zs. f y ∷ zs) (map_set f ys s x)
+
+pub map_at : {A B : Type 0} (f : A → B) (xs : List A) (s : ℕ) (x : A) (d : B) → s < length xs → slice_index_or xs s x ≡ x → slice_index_or (map f xs) s d ≡ f x
+map_at f [] s x d lt is = absurd (omega (arith, lt))
+map_at f (y ∷ ys) zero x d lt is = ap f is
+map_at f (y ∷ ys) (suc s) x d lt is = map_at f ys s x d (omega (arith, lt)) is
+
+pub map_past : {A B : Type 0} (f : A → B) (xs : List A) (s : ℕ) (d : B) → length xs ≤ s → slice_index_or (map f xs) s d ≡ d
+map_past f [] s d le = refl
+map_past f (y ∷ ys) zero d le = absurd (omega (arith, le))
+map_past f (y ∷ ys) (suc s) d le = map_past f ys s d (omega (arith, le))
+
+pub set_past : {B : Type 0} (xs : List B) (s : ℕ) (x : B) → length xs ≤ s → slice_set xs s x ≡ xs
+set_past [] s x le = refl
+set_past (y ∷ ys) zero x le = absurd (omega (arith, le))
+set_past (y ∷ ys) (suc s) x le = ap (λ zs. y ∷ zs) (set_past ys s x (omega (arith, le)))

@@ -1,17 +1,15 @@
 //! What an EXECUTE executes, and what PREPARE and DEALLOCATE leave prepared.
 
-ghost use Rattle.std.specs.Prelude.{◌≡◌, ◌+◌, [], map, length, nat_lt, None, IfOk};
+ghost use Rattle.std.specs.Prelude.{◌≡◌, ◌∷◌, [], map, None, IfOk};
 ghost use Rattle.history.specs.History.{History};
 ghost use Rattle.part_catalog.specs.Found.{resolved};
 ghost use Rattle.sql_ast.specs.Expressions.{trees};
 ghost use Rattle.sql_ast.specs.Queries.{joined_tree, row_tree};
-ghost use Rattle.sql_ast.specs.Statements.{statement_tree};
 ghost use Rattle.sql_binder.specs.From.{item_name as name_of};
 ghost use Rattle.expression_binder.specs.Firsts.{IsAnswerBy};
 ghost use Rattle.prepared_statements.specs.Kept.{listed, seen};
 ghost use Rattle.stores.specs.Stand.{Stands};
 ghost use Rattle.statement_steps.specs.Attempts.{MayAttempt};
-ghost use Rattle.statement_steps.specs.declared.rest.Rest.{Rest as Left};
 ghost use Rattle.statement_runs.specs.Executions as executions;
 
 use expression_binder::{Param, ScopeColumn, ScopeItem};

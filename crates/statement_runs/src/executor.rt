@@ -48,9 +48,11 @@ fn take_list(alloc: Global, lists: &mut Vec<PreparedList>, session: usize) -> Pr
     ensures is { listed result ≡ slice_index_or (map listed lists.old.items) session [] }
     ensures taken { map listed lists.new.items ≡ slice_set (map listed lists.old.items) session [] }
 {
-    match lists.get_mut(session) {
-        Some(list) => replace(list, PreparedList::new(alloc)),
-        None => PreparedList::new(alloc),
+    let none = PreparedList::new(alloc);
+    if session < lists.len() {
+        replace(&mut lists[session], none)
+    } else {
+        none
     }
 }
 
@@ -77,8 +79,8 @@ fn cancelled_for(
 fn set_list(lists: &mut Vec<PreparedList>, session: usize, list: PreparedList)
     ensures { map listed lists.new.items ≡ slice_set (map listed lists.old.items) session (listed list) }
 {
-    if let Some(place) = lists.get_mut(session) {
-        *place = list;
+    if session < lists.len() {
+        lists[session] = list;
     }
 }
 

@@ -28,9 +28,9 @@ returns-in-Ok-clause-is c =
     (λ h. execute_attempted c.args.trailed c.args.prunes names k c.args.rest (told h) h) c.args.out.now.items c.attempt_rows.new.out.items
     (λ h stands. ap (λ (r : Result Execution Fault). execute_attempted c.args.trailed c.args.prunes names k c.args.rest r h) (c.in-Ok.ensures h stands))
     (subst (λ (ps : List Param). IsStatement c.args.rest (ended c.attempt_rows.result) c.args.stores.now c.attempt_rows.new.stores c.args.out.now.items c.attempt_rows.new.out.items k
-        (row_attempted c.args.trailed c.args.prunes names ps k c.args.rest (row_tree e.statement.value))) c.deref.ensures.value
+    (row_attempted c.args.trailed c.args.prunes names ps k c.args.rest (row_tree e.statement.value))) c.deref.ensures.value
     (subst (λ (s : RowStatement). IsStatement c.args.rest (ended c.attempt_rows.result) c.args.stores.now c.attempt_rows.new.stores c.args.out.now.items c.attempt_rows.new.out.items k
-        (row_attempted c.args.trailed c.args.prunes names c.deref.result.now k c.args.rest (row_tree s))) c.deref-2.ensures.value c.attempt_rows.ensures.is))
+    (row_attempted c.args.trailed c.args.prunes names c.deref.result.now k c.args.rest (row_tree s))) c.deref-2.ensures.value c.attempt_rows.ensures.is))
 
 pub returns-in-Ok-clause-tally : goal.returns-in-Ok-clause-tally
 returns-in-Ok-clause-tally c h stands at go =

@@ -24,6 +24,6 @@ returns-in-Ok c left =
     (λ h. execution_explained c.args.prunes names k (told h) h) c.args.out.now.items c.plan_execution.new.out.items
     (λ h stands. ap (λ (r : Result Execution Fault). execution_explained c.args.prunes names k r h) (c.in-Ok.ensures h stands))
     (subst (λ (ps : List Param). IsStatement left (ended c.plan_execution.result) c.args.stores.now c.plan_execution.new.stores c.args.out.now.items c.plan_execution.new.out.items k
-        (plan_of_execution c.args.prunes names ps k (row_tree e.statement.value))) c.deref.ensures.value
+    (plan_of_execution c.args.prunes names ps k (row_tree e.statement.value))) c.deref.ensures.value
     (subst (λ (s : RowStatement). IsStatement left (ended c.plan_execution.result) c.args.stores.now c.plan_execution.new.stores c.args.out.now.items c.plan_execution.new.out.items k
-        (plan_of_execution c.args.prunes names c.deref.result.now k (row_tree s))) c.deref-2.ensures.value (c.plan_execution.ensures left)))
+    (plan_of_execution c.args.prunes names c.deref.result.now k (row_tree s))) c.deref-2.ensures.value (c.plan_execution.ensures left)))

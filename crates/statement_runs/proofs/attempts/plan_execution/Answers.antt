@@ -9,7 +9,7 @@ use Rattle.statement_runs.proofs.attempts.plan_execution.Goals as goal
 pub returns-in-Select : goal.returns-in-Select
 returns-in-Select c left =
     subst (λ (x : RowStatement). IsStatement left (ended c.attempt_plan.result) c.args.stores.now c.attempt_plan.new.stores c.args.out.now.items c.attempt_plan.new.out.items c.args.caller
-        (plan_of_execution c.args.prunes c.args.names.now c.args.params.now c.args.caller (row_tree x))) (sym c.in-Select.is) (c.attempt_plan.ensures left)
+    (plan_of_execution c.args.prunes c.args.names.now c.args.params.now c.args.caller (row_tree x))) (sym c.in-Select.is) (c.attempt_plan.ensures left)
 
 pub returns-in-Insert : goal.returns-in-Insert
 returns-in-Insert c left =
