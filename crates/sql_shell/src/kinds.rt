@@ -1,11 +1,9 @@
-use crate::bound::write_params;
-use crate::custom::write_custom;
 use crate::tables::{columns_of, item_of, items_of};
 use expression_binder::{Given, ScopeItem};
-use parameter_kinds::{bind_parameters, kind_in_statement};
-use pg_values::{Kind, NoMemory, PgText, Refusal};
+use parameter_kinds::kind_in_statement;
+use pg_values::{Kind, NoMemory, PgText};
 use refusals::kind_word;
-use sql_ast::{ExprList, RowStatement};
+use sql_ast::RowStatement;
 use std::alloc::Global;
 
 // What the arguments are: the first is an integer, the others are string literals.
@@ -16,9 +14,11 @@ const GIVENS: [Given; 4] = [
     Given::Quoted,
 ];
 
-const KINDS: [Kind; 5] = [Kind::Int4, Kind::Int8, Kind::Text, Kind::Day, Kind::Truth];
-
-fn tables_of(alloc: Global, statement: &RowStatement) -> Result<Vec<ScopeItem>, NoMemory> {
+/// The tables of a statement, with their columns.
+pub(crate) fn tables_of(
+    alloc: Global,
+    statement: &RowStatement,
+) -> Result<Vec<ScopeItem>, NoMemory> {
     let mut tables = Vec::new(alloc);
     match statement {
         RowStatement::Select(select) => return items_of(alloc, select.from.as_slice()),
@@ -49,47 +49,4 @@ pub(crate) fn write_kinds(
         }
     }
     Ok(())
-}
-
-/// The kind of that name; any other name declares none.
-fn kind_called(name: &[u8]) -> Option<Kind> {
-    for kind in KINDS {
-        if kind_word(kind) == name {
-            return Some(kind);
-        }
-    }
-    None
-}
-
-/// What is declared of as many parameters as there are arguments.
-fn declared_of(
-    alloc: Global,
-    names: &[PgText],
-    arguments: &ExprList,
-) -> Result<Vec<Option<Kind>>, NoMemory> {
-    let mut declared = Vec::new(alloc);
-    for (place, _) in arguments.as_slice().iter().enumerate() {
-        let kind = match names.get(place) {
-            None => None,
-            Some(name) => kind_called(name.as_bytes()),
-        };
-        declared.push(kind)?;
-    }
-    Ok(declared)
-}
-
-/// Writes the parameters of a statement that is prepared and executed, and what it means with their values in place.
-pub(crate) fn write_bound(
-    alloc: Global,
-    names: &[PgText],
-    statement: &RowStatement,
-    arguments: &ExprList,
-    out: &mut Vec<u8>,
-) -> Result<(), Refusal> {
-    let declared = declared_of(alloc, names, arguments)?;
-    let tables = tables_of(alloc, statement)?;
-    let params = bind_parameters(alloc, statement, &tables, &declared, arguments)?;
-    write_params(alloc, &params, out)?;
-    out.extend_from_slice(b": ")?;
-    write_custom(alloc, statement, &params, out)
 }

@@ -14,6 +14,7 @@ mod definitions;
 mod expressions;
 mod kinds;
 mod meanings;
+mod prepared;
 mod refused;
 mod repeats;
 mod tables;

@@ -9,8 +9,10 @@
 //! and of the third nothing is known.
 //!
 //! Of PREPARE the kinds are written that the places of `$2`, `$3` and `$4` give them, a dash where none does: their
-//! arguments are string literals, and `$1` is an integer. Behind PREPARE, in one line, EXECUTE is read with the
-//! parameters of that statement, and behind these stands what the statement means with their values in its conditions.
+//! arguments are string literals, and `$1` is an integer. Where several statements are in one line, what those before
+//! the last one prepare and deallocate is there for it: of EXECUTE, and of EXPLAIN of an EXECUTE, the parameters are
+//! written that the statement of that name has, and behind those of EXECUTE stands what the statement means with their
+//! values in its conditions.
 //!
 //! Of CREATE TABLE the columns are written with their kinds, and the places of those of its key. Behind it, in one
 //! line, CREATE TABLE with PARTITION OF is read as that of its partition, and the bound is written.
@@ -24,7 +26,8 @@
 
 use crate::bound::{write_change, write_insert, write_params, write_select};
 use crate::definitions::{write_partition, write_table};
-use crate::kinds::{write_bound, write_kinds};
+use crate::kinds::write_kinds;
+use crate::prepared::{prepared_by, write_executed, write_explained};
 use crate::tables::{SESSION, columns_of, item_of, items_of, params};
 use pg_values::{Fault, Kind, NoMemory, Refusal};
 use sql_ast::{Command, Delete, ExprList, Insert, Query, RowStatement, Select, Statement, Update};
@@ -92,18 +95,17 @@ fn write_fault(fault: &Fault, out: &mut Vec<u8>) -> Result<(), NoMemory> {
     Ok(())
 }
 
-/// The last two statements of the block that the line is, the last one first.
-fn statements_of(alloc: Global, line: &[u8]) -> (Option<Statement>, Option<Statement>) {
-    let Ok(mut statements) = parse_block(alloc, line) else {
-        return (None, None);
-    };
-    let last = statements.pop();
-    (last, statements.pop())
+/// The statements of the block that the line is.
+fn statements_of(alloc: Global, line: &[u8]) -> Vec<Statement> {
+    match parse_block(alloc, line) {
+        Ok(statements) => statements,
+        Err(_) => Vec::new(alloc),
+    }
 }
 
 fn command_line(
     alloc: Global,
-    before: &Option<Statement>,
+    before: Option<&Statement>,
     command: &Command,
     out: &mut Vec<u8>,
 ) -> Result<(), Refusal> {
@@ -117,31 +119,35 @@ fn command_line(
     }
 }
 
+/// What a statement means behind others of its line.
 fn written(
     alloc: Global,
-    before: &Option<Statement>,
+    earlier: &[Statement],
     statement: &Statement,
     out: &mut Vec<u8>,
 ) -> Result<(), Refusal> {
-    match (before, statement) {
-        (
-            Some(Statement::Query(Query::Prepare(_, kinds, prepared))),
-            Statement::Query(Query::Execute(_, arguments)),
-        ) => write_bound(alloc, kinds.as_slice(), prepared, arguments, out),
+    let prepared = prepared_by(alloc, earlier)?;
+    match (earlier.last(), statement) {
+        (Some(_), Statement::Query(Query::Execute(name, arguments))) => {
+            write_executed(alloc, &prepared, name.as_bytes(), arguments, out)
+        }
+        (Some(_), Statement::Query(Query::ExplainExecute(_, name, arguments))) => {
+            write_explained(alloc, &prepared, name.as_bytes(), arguments, out)
+        }
         (_, Statement::Query(query)) => bound_line(alloc, query, out),
-        (_, Statement::Command(command)) => command_line(alloc, before, command, out),
+        (before, Statement::Command(command)) => command_line(alloc, before, command, out),
     }
 }
 
-/// What the last statement of a line means.
+/// What the last statement of a line means, or the first fault of those that the line prepares and deallocates.
 pub(crate) fn meaning(alloc: Global, line: &[u8]) -> Result<Vec<u8>, NoMemory> {
     let mut out = Vec::new(alloc);
-    let (last, before) = statements_of(alloc, line);
-    let Some(statement) = last else {
+    let statements = statements_of(alloc, line);
+    let Some((last, earlier)) = statements.split_last() else {
         out.extend_from_slice(b"no statement")?;
         return Ok(out);
     };
-    match written(alloc, &before, &statement, &mut out) {
+    match written(alloc, earlier, last, &mut out) {
         Ok(()) => {}
         Err(Refusal::Sql(fault)) => write_fault(&fault, &mut out)?,
         Err(Refusal::NoMemory) => return Err(NoMemory),

@@ -1,14 +1,17 @@
 -- Each statement asks as a session may.
 use Rattle.std.proofs.Common.{◌≤◌, ℕ, Bool, true, false, List, [], ◌++◌, Option, Result, Ok, Err, refl, sym, subst, length, codes, arith}
 use Rattle.pg_values.specs.declared.answer.Answer.{Answer}
+use Rattle.pg_values.specs.declared.fault.Fault.{Fault}
 use Rattle.refusals.specs.Refusals.{left_out}
 use Rattle.history.specs.History.{History, catalogue_events}
 use Rattle.lock_table.specs.AnswerLaws.{WhatIsAskedMayCome}
 use Rattle.sessions.specs.declared.settings.Settings.{Settings}
 use Rattle.sql_ast.specs.Commands.{CommandTree, begins, commits, rolls_back, sets, resets, makes_table, makes_partition, drops, attaches, detaches, locks, deallocates, deallocates_all}
 use Rattle.sql_ast.specs.declared.detachment.Detachment.TheVariants.{AtOnce, Concurrently, Finalize}
-use Rattle.sql_ast.specs.Queries.{RowTree, QueryTree, selects, inserts, updates, deletes, rows, prepares, executes, explains_select, explains_execute}
+use Rattle.sql_ast.specs.Queries.{SelectTree, RowTree, QueryTree, selects, inserts, updates, deletes, rows, prepares, executes, explains_select, explains_execute}
 use Rattle.sql_ast.specs.Statements.{StatementTree, commands, queries}
+use Rattle.expression_binder.specs.declared.scope.Param.{Param}
+use Rattle.prepared_statements.specs.Prepared.{Prepared, prepared, deallocated}
 use Rattle.statement_steps.specs.Ended.{Ended, Done, Commits, silent_end}
 use Rattle.statement_steps.specs.Made.{Made, Halt, Waits, Refused}
 use Rattle.statement_steps.specs.declared.caller.Caller.{Caller}
@@ -28,13 +31,14 @@ use Rattle.detach_statement.specs.Concurrent.{detached_concurrently}
 use Rattle.detach_statement.specs.Detached.{detached}
 use Rattle.detach_statement.specs.Finalized.{finalized}
 use Rattle.attach_statement.specs.Attached.{attached}
-use Rattle.statement_runs.specs.Attempted.{answer_text, attempted, changed_text, command_attempted, inserted_text, is_trailed, row_attempted, query_attempted, silent, tabled, printed, omitted, nothing, as_table}
+use Rattle.statement_runs.specs.Attempted.{answer_text, attempted, changed_text, command_attempted, execute_attempted, execution_explained, inserted_text, is_trailed, listed, plan_attempted, plan_of_execution, row_attempted, query_attempted, silent, tabled, printed, omitted, nothing, as_table}
 use Rattle.statement_runs.specs.Database.{rest_told}
-use Rattle.statement_runs.specs.LeftOut.{command_word, query_word}
+use Rattle.statement_runs.specs.Executions.{Execution, executed, explained_by}
+use Rattle.statement_runs.specs.LeftOut.{command_word}
 use Rattle.statement_runs.specs.declared.options.Options.{Options}
 use Rattle.statement_ends.specs.Asking.{HasSessions, IsKnown, WaitsAsTold, MayAsk, Asks, AllAsk}
 use Rattle.statement_bounds.specs.Tables.{tables_named}
-use Rattle.statement_bounds.proofs.Parts.{Attempt, Told, Part, Parts, Gives, Any, Ends, refused_part, giving_part}
+use Rattle.statement_bounds.proofs.Parts.{Attempt, Told, Part, Parts, Gives, Any, Ends, made_part, refused_part, giving_part}
 use Rattle.statement_bounds.proofs.Numbers.{tables_below, entries_below}
 use Rattle.statement_bounds.proofs.Partitions.{EndsKnown, detached_parts, concurrently_parts, finalized_parts, attached_parts}
 use Rattle.statement_bounds.proofs.Rows.{inserted_parts, updated_parts, deleted_parts}
@@ -63,55 +67,79 @@ module _ (k : Attempt) (names : List (List ℕ)) where
   omitted_parts : (word : List ℕ) → Parts k EndKnown (omitted word)
   omitted_parts word h now = refused_part k EndKnown h (left_out word) now.may
 
-  command_parts : (rest : Option Rest) → IsKnown rest → (t : CommandTree) → Parts k EndKnown (command_attempted names k.caller rest t)
-  command_parts rest known (makes_table name columns by) = silent_parts Ends (created names k.caller name columns by) (created_parts k names name columns by)
-  command_parts rest known (makes_partition name parent bound by) = silent_parts Ends (partitioned names k.caller name parent bound by) (partitioned_parts k names name parent bound by)
-  command_parts rest known (drops if_there tables) = silent_parts Ends (dropped names k.caller if_there tables) (dropped_parts k names if_there tables)
-  command_parts rest known (attaches parent name bound) = silent_parts Ends (attached names k.caller parent name bound) (attached_parts k names parent name bound)
-  command_parts rest known (detaches parent name AtOnce) = silent_parts Ends (detached names k.caller parent name) (detached_parts k names parent name)
-  command_parts rest known (detaches parent name Concurrently) = λ h now.
+  listed_parts : (r : Result (List Prepared) Fault) → Parts k EndKnown (listed r)
+  listed_parts (Ok ps) h now = made_part k EndKnown h (Done []) now.may tt
+  listed_parts (Err f) h now = refused_part k EndKnown h f now.may
+
+  command_parts : (rest : Option Rest) → IsKnown rest → (ps : List Prepared) (t : CommandTree) → Parts k EndKnown (command_attempted names k.caller rest ps t)
+  command_parts rest known ps (makes_table name columns by) = silent_parts Ends (created names k.caller name columns by) (created_parts k names name columns by)
+  command_parts rest known ps (makes_partition name parent bound by) = silent_parts Ends (partitioned names k.caller name parent bound by) (partitioned_parts k names name parent bound by)
+  command_parts rest known ps (drops if_there tables) = silent_parts Ends (dropped names k.caller if_there tables) (dropped_parts k names if_there tables)
+  command_parts rest known ps (attaches parent name bound) = silent_parts Ends (attached names k.caller parent name bound) (attached_parts k names parent name bound)
+  command_parts rest known ps (detaches parent name AtOnce) = silent_parts Ends (detached names k.caller parent name) (detached_parts k names parent name)
+  command_parts rest known ps (detaches parent name Concurrently) = λ h now.
       giving_part k EndsKnown EndKnown silent_end h (detached_concurrently names k.caller rest parent name h) end_known (concurrently_parts k names rest parent name known h now)
-  command_parts rest known (detaches parent name Finalize) = silent_parts Ends (finalized names k.caller parent name) (finalized_parts k names parent name)
-  command_parts rest known (locks tables mode) = silent_parts (Gives k Any) (locked names k.caller.session tables mode) (locked_parts k names tables mode)
-  command_parts rest known (begins level) = omitted_parts (command_word (begins level))
-  command_parts rest known commits = omitted_parts (command_word commits)
-  command_parts rest known rolls_back = omitted_parts (command_word rolls_back)
-  command_parts rest known (sets name value) = omitted_parts (command_word (sets name value))
-  command_parts rest known (resets name) = omitted_parts (command_word (resets name))
-  command_parts rest known (deallocates name) = omitted_parts (command_word (deallocates name))
-  command_parts rest known deallocates_all = omitted_parts (command_word deallocates_all)
+  command_parts rest known ps (detaches parent name Finalize) = silent_parts Ends (finalized names k.caller parent name) (finalized_parts k names parent name)
+  command_parts rest known ps (locks tables mode) = silent_parts (Gives k Any) (locked names k.caller.session tables mode) (locked_parts k names tables mode)
+  command_parts rest known ps (begins level) = omitted_parts (command_word (begins level))
+  command_parts rest known ps commits = omitted_parts (command_word commits)
+  command_parts rest known ps rolls_back = omitted_parts (command_word rolls_back)
+  command_parts rest known ps (sets name value) = omitted_parts (command_word (sets name value))
+  command_parts rest known ps (resets name) = omitted_parts (command_word (resets name))
+  command_parts rest known ps (deallocates name) = listed_parts (deallocated ps name)
+  command_parts rest known ps deallocates_all = listed_parts (Ok [])
 
-  row_parts : (trailed prunes : Bool) (rest : Option Rest) (t : RowTree) → Parts k EndKnown (row_attempted trailed prunes names k.caller rest t)
-  row_parts trailed prunes rest (selects s) = printed_parts (answer_text trailed) (selected prunes names [] k.caller s) (selected_parts k names [] prunes s)
-  row_parts trailed prunes rest (inserts table columns values) = printed_parts (inserted_text trailed (length values)) (inserted names [] k.caller table columns values) (inserted_parts k names [] table columns values)
-  row_parts trailed prunes rest (updates table settings condition) =
-      printed_parts (changed_text trailed (codes "UPDATE")) (updated prunes names [] k.caller rest table settings condition) (updated_parts k names prunes [] rest table settings condition)
-  row_parts trailed prunes rest (deletes table condition) = printed_parts (changed_text trailed (codes "DELETE")) (deleted prunes names [] k.caller rest table condition) (deleted_parts k names prunes [] rest table condition)
+  row_parts : (trailed prunes : Bool) (params : List Param) (rest : Option Rest) (t : RowTree) → Parts k EndKnown (row_attempted trailed prunes names params k.caller rest t)
+  row_parts trailed prunes params rest (selects s) = printed_parts (answer_text trailed) (selected prunes names params k.caller s) (selected_parts k names params prunes s)
+  row_parts trailed prunes params rest (inserts table columns values) = printed_parts (inserted_text trailed (length values)) (inserted names params k.caller table columns values) (inserted_parts k names params table columns values)
+  row_parts trailed prunes params rest (updates table settings condition) =
+      printed_parts (changed_text trailed (codes "UPDATE")) (updated prunes names params k.caller rest table settings condition) (updated_parts k names prunes params rest table settings condition)
+  row_parts trailed prunes params rest (deletes table condition) = printed_parts (changed_text trailed (codes "DELETE")) (deleted prunes names params k.caller rest table condition) (deleted_parts k names prunes params rest table condition)
 
-  query_parts : (trailed prunes : Bool) (rest : Option Rest) (t : QueryTree) → Parts k EndKnown (query_attempted trailed prunes names k.caller rest t)
-  query_parts trailed prunes rest (rows r) = row_parts trailed prunes rest r
-  query_parts trailed prunes rest (prepares name kinds r) = omitted_parts (query_word (prepares name kinds r))
-  query_parts trailed prunes rest (executes name values) = omitted_parts (query_word (executes name values))
-  query_parts trailed prunes rest (explains_select true s) = omitted_parts (codes "ANALYZE")
-  query_parts trailed prunes rest (explains_select false s) = tabled_parts (explained prunes names [] k.caller s) (explained_parts k names [] prunes s)
-  query_parts trailed prunes rest (explains_execute costs name values) = omitted_parts (query_word (explains_execute costs name values))
+  plan_parts : (prunes : Bool) (params : List Param) (s : SelectTree) → Parts k EndKnown (plan_attempted prunes names params k.caller s)
+  plan_parts prunes params s = tabled_parts (explained prunes names params k.caller s) (explained_parts k names params prunes s)
 
-attempted_parts : (k : Attempt) (o : Options) (rest : Option Rest) (g : Settings) → IsKnown rest → (t : StatementTree) → Parts k EndKnown (attempted o k.caller rest g t)
+  -- what is executed asks what its statement asks
+
+  execute_parts : (trailed prunes : Bool) (rest : Option Rest) (r : Result Execution Fault) → Parts k EndKnown (execute_attempted trailed prunes names k.caller rest r)
+  execute_parts trailed prunes rest (Ok e) = row_parts trailed prunes e.params rest e.statement
+  execute_parts trailed prunes rest (Err f) = λ h now. refused_part k EndKnown h f now.may
+
+  plan_execution_parts : (prunes : Bool) (params : List Param) (t : RowTree) → Parts k EndKnown (plan_of_execution prunes names params k.caller t)
+  plan_execution_parts prunes params (selects s) = plan_parts prunes params s
+  plan_execution_parts prunes params (inserts table columns values) = omitted_parts (codes "INSERT")
+  plan_execution_parts prunes params (updates table settings condition) = omitted_parts (codes "UPDATE")
+  plan_execution_parts prunes params (deletes table condition) = omitted_parts (codes "DELETE")
+
+  execution_explained_parts : (prunes : Bool) (r : Result Execution Fault) → Parts k EndKnown (execution_explained prunes names k.caller r)
+  execution_explained_parts prunes (Ok e) = plan_execution_parts prunes e.params e.statement
+  execution_explained_parts prunes (Err f) = λ h now. refused_part k EndKnown h f now.may
+
+  query_parts : (trailed prunes : Bool) (rest : Option Rest) (ps : List Prepared) (t : QueryTree) → Parts k EndKnown (query_attempted trailed prunes names k.caller rest ps t)
+  query_parts trailed prunes rest ps (rows r) = row_parts trailed prunes [] rest r
+  query_parts trailed prunes rest ps (prepares name types r) = listed_parts (prepared ps name types r)
+  query_parts trailed prunes rest ps (executes name ts) = λ h now. execute_parts trailed prunes rest (executed h k.caller.session rest ps name ts) h now
+  query_parts trailed prunes rest ps (explains_select true s) = omitted_parts (codes "ANALYZE")
+  query_parts trailed prunes rest ps (explains_select false s) = plan_parts prunes [] s
+  query_parts trailed prunes rest ps (explains_execute true name ts) = omitted_parts (codes "ANALYZE")
+  query_parts trailed prunes rest ps (explains_execute false name ts) = λ h now. execution_explained_parts prunes (explained_by h k.caller.session ps name ts) h now
+
+attempted_parts : (k : Attempt) (o : Options) (rest : Option Rest) (g : Settings) → IsKnown rest → (ps : List Prepared) (t : StatementTree) → Parts k EndKnown (attempted o k.caller rest g ps t)
 unfolding attempted
-attempted_parts k o rest g known (commands t) = command_parts k o.names rest known t
-attempted_parts k o rest g known (queries t) = query_parts k o.names (is_trailed o k.caller) g.enable_partition_pruning rest t
+attempted_parts k o rest g known ps (commands t) = command_parts k o.names rest known ps t
+attempted_parts k o rest g known ps (queries t) = query_parts k o.names (is_trailed o k.caller) g.enable_partition_pruning rest ps t
 
 -- ---- a statement that may ask, with the tables of its catalogue
 
-module _ (come : WhatIsAskedMayCome) (o : Options) (c : Caller) (rest : Option Rest) (h : History) (g : Settings) (t : StatementTree) (may : MayAsk c.session h) (known : IsKnown rest) where
+module _ (come : WhatIsAskedMayCome) (o : Options) (c : Caller) (rest : Option Rest) (h : History) (g : Settings) (ps : List Prepared) (t : StatementTree) (may : MayAsk c.session h) (known : IsKnown rest) where
   abbrev here : Attempt
   here = record { come = come; caller = c; catalogue = catalogue_events h; bound = tables_named (catalogue_events h); tables = tables_below (catalogue_events h); entries = entries_below (catalogue_events h) }
 
-  part : Part here EndKnown h (attempted o c rest g t h)
-  part = attempted_parts here o rest g known t h (record { may = may; still = refl })
+  part : Part here EndKnown h (attempted o c rest g ps t h)
+  part = attempted_parts here o rest g known ps t h (record { may = may; still = refl })
 
   abbrev later : History
-  later = (attempted o c rest g t h).events ++ h
+  later = (attempted o c rest g ps t h).events ++ h
 
   told : (r : Result Ended Halt) → Told here EndKnown later r → WaitsAsTold tables_named c.session h later r
   told (Ok x) is = is.0
@@ -130,14 +158,14 @@ module _ (come : WhatIsAskedMayCome) (o : Options) (c : Caller) (rest : Option R
   stands (Err (Waits rest)) is = is.known
   stands (Err (Refused f)) is = tt
 
-  statement_asks : Asks tables_named c.session h (attempted o c rest g t h)
-  statement_asks = record { sound = part.sound; stay = part.stay; others = part.others; told = told (attempted o c rest g t h).told part.told }
+  statement_asks : Asks tables_named c.session h (attempted o c rest g ps t h)
+  statement_asks = record { sound = part.sound; stay = part.stay; others = part.others; told = told (attempted o c rest g ps t h).told part.told }
 
-  statement_stands : IsKnown (rest_told (attempted o c rest g t h).told)
-  statement_stands = stands (attempted o c rest g t h).told part.told
+  statement_stands : IsKnown (rest_told (attempted o c rest g ps t h).told)
+  statement_stands = stands (attempted o c rest g ps t h).told part.told
 
 pub all_ask : WhatIsAskedMayCome → AllAsk tables_named
 all_ask come = record {
-  each = λ o c rest h g t may known. statement_asks come o c rest h g t may known;
-  rests = λ o c rest h g t may known. statement_stands come o c rest h g t may known;
+  each = λ o c rest h g ps t may known. statement_asks come o c rest h g ps t may known;
+  rests = λ o c rest h g ps t may known. statement_stands come o c rest h g ps t may known;
 }

@@ -1,5 +1,5 @@
 -- A statement of the course commits what it did first once at most.
-use Rattle.std.proofs.Common.{◌≡◌, ◌<◌, ℕ, Bool, true, false, List, [], ◌∷◌, ◌++◌, Option, None, refl, ap, sym, subst, ◌∙◌, if◌then◌else◌, length, slice_index_or, slice_set, get_or-set_other, get_or-set_same}
+use Rattle.std.proofs.Common.{◌≡◌, ◌<◌, ℕ, Bool, true, false, List, [], ◌∷◌, ◌++◌, Option, Some, None, refl, ap, sym, subst, ◌∙◌, if◌then◌else◌, length, slice_index_or, slice_set, get_or-set_other, get_or-set_same}
 use Rattle.pg_values.specs.declared.fault.Fault.{Fault}
 use Rattle.history.specs.Catalogue.{CatalogueEvents}
 use Rattle.schedule.specs.Lists.{without}
@@ -9,7 +9,7 @@ use Rattle.sessions.specs.declared.settings.Settings.{Settings}
 use Rattle.sql_ast.specs.Statements.{StatementTree}
 use Rattle.stores.specs.Events.{resumed}
 use Rattle.statement_steps.specs.declared.rest.Rest.{Rest}
-use Rattle.statement_runs.specs.Database.{Database, course, waits, cancels, cuts, all_cut, cut_by, interrupted, is_ready, happened, caller_of, command_of, refusal_of, rest_of, rest_told, outcome_told, attempt_of, refused_or}
+use Rattle.statement_runs.specs.Database.{Database, course, waits, cancels, cuts, all_cut, cut_by, interrupted, is_ready, happened, caller_of, command_of, refusal_of, rest_of, prepared_of, rest_told, outcome_told, attempt_of, refused_or}
 use Rattle.statement_runs.specs.Attempted.{attempted}
 use Rattle.statement_runs.specs.Roles as roles
 use Rattle.statement_runs.specs.Roles.{cancelled_by}
@@ -35,10 +35,10 @@ module _ (tables : CatalogueEvents → ℕ) (n : ℕ) where
 
   attempt_once : (o : Option Fault) (v : Database) (a : Asker) (g : Settings) (t : StatementTree)
       → CommitsOnce (roles.has_committed (rest_of v a.session) t)
-      (roles.has_committed (rest_told (refused_or o (attempted v.options (caller_of v.sessions (command_of v a.session) a) (rest_of v a.session) g t v.history)).told) t)
-      (outcome_told (refused_or o (attempted v.options (caller_of v.sessions (command_of v a.session) a) (rest_of v a.session) g t v.history)).told)
+      (roles.has_committed (rest_told (refused_or o (attempted v.options (caller_of v.sessions (command_of v a.session) a) (rest_of v a.session) g (prepared_of v a.session) t v.history)).told) t)
+      (outcome_told (refused_or o (attempted v.options (caller_of v.sessions (command_of v a.session) a) (rest_of v a.session) g (prepared_of v a.session) t v.history)).told)
   attempt_once (Some f) v a g t = tt
-  attempt_once None v a g t = all_once v.options (caller_of v.sessions (command_of v a.session) a) (rest_of v a.session) v.history g t
+  attempt_once None v a g t = all_once v.options (caller_of v.sessions (command_of v a.session) a) (rest_of v a.session) v.history g (prepared_of v a.session) t
 
   pub course_once : CommitOnceIn course has_committed (IsRanked tables n)
   course_once = record {
@@ -49,7 +49,7 @@ module _ (tables : CatalogueEvents → ℕ) (n : ℕ) where
     cancelled = λ v s r t. refl;
     once = λ v os k a g t h.
         let w = cut_by v a t in
-        let rests = all_cut_rests (cancelled_by a.session v.sessions t) v in
+        let rests = all_cut_rests (cancelled_by a.session v.sessions (prepared_of v a.session) t) v in
         let m = attempt_of w a g t in
         let lt : a.session < length w.rests = subst (λ l. a.session < l) (sym (ap length rests ∙ h.kept.rests)) h.kept.goes_on.0 in
         let after : slice_index_or (slice_set w.rests a.session (rest_told m.told)) a.session None ≡ rest_told m.told = get_or-set_same w.rests a.session (rest_told m.told) None lt in
@@ -58,7 +58,7 @@ module _ (tables : CatalogueEvents → ℕ) (n : ℕ) where
         (subst (λ r. CommitsOnce (roles.has_committed (rest_of w a.session) t) (roles.has_committed r t) (outcome_told m.told)) (sym after) (attempt_once (refusal_of w a.session) w a g t));
     others = λ v a g t r u other.
         let w = cut_by v a t in
-        let rests = all_cut_rests (cancelled_by a.session v.sessions t) v in
+        let rests = all_cut_rests (cancelled_by a.session v.sessions (prepared_of v a.session) t) v in
         let m = attempt_of w a g t in
         ap (λ x. roles.has_committed x u) (get_or-set_other w.rests a.session r (rest_told m.told) None other ∙ ap (λ l. slice_index_or l r None) rests);
   }

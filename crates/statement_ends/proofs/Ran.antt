@@ -14,11 +14,12 @@ use Rattle.sessions.specs.declared.asker.Asker.{Asker}
 use Rattle.sessions.specs.declared.outcome.Outcome.TheVariants as outcomes
 use Rattle.pg_values.specs.declared.isolation.Isolation.{Isolation}
 use Rattle.pg_values.specs.declared.isolation.Isolation.TheVariants.{ReadCommitted, ReadUncommitted, RepeatableRead}
+use Rattle.sql_ast.specs.Statements.{StatementTree}
 use Rattle.stores.specs.Events.{let_go}
 use Rattle.statement_steps.specs.Ended.{Ended, Done, Commits}
 use Rattle.statement_steps.specs.Made.{Made, Halt, Waits, Refused, halted}
 use Rattle.statement_steps.specs.declared.rest.Rest.{Rest}
-use Rattle.statement_runs.specs.Database.{Database, is_cancelled, rest_of, command_of, goes_on, given_up, let_go_at, number_then, refusal_of, refused_first, refused_or, rest_told, outcome_told}
+use Rattle.statement_runs.specs.Database.{Database, is_cancelled, rest_of, command_of, goes_on, given_up, let_go_at, number_then, refusal_of, refused_first, refused_or, rest_told, prepared_of, prepared_then, outcome_told}
 use Rattle.statement_runs.specs.Tallies.{added}
 use Rattle.statement_runs.specs.Weight.{of_flag}
 use Rattle.statement_ends.specs.Asking.{IsWaiting, WaitsAsTold, IsKnown, Asks}
@@ -80,7 +81,7 @@ not_cancelled : (b : Bool) (n : ℕ) → refused_first b n ≡ None → b ≡ fa
 not_cancelled true n none = absurd (let c = none in cc)
 not_cancelled false n none = refl
 
-module _ (tables : CatalogueEvents → ℕ) (n : ℕ) (v : Database) (a : Asker) (more : Tally) (bound : ℕ) (moved : List Bool) (h : IsKept tables n bound moved v (Some a.session)) where
+module _ (tables : CatalogueEvents → ℕ) (n : ℕ) (v : Database) (a : Asker) (t : StatementTree) (more : Tally) (bound : ℕ) (moved : List Bool) (h : IsKept tables n bound moved v (Some a.session)) where
   abbrev s : ℕ
   s = a.session
 
@@ -91,6 +92,7 @@ module _ (tables : CatalogueEvents → ℕ) (n : ℕ) (v : Database) (a : Asker)
     commands = slice_set v.commands a.session (number_then (refusal_of v a.session) m.told (command_of v a.session));
     cancelled = slice_set v.cancelled a.session false;
     rests = slice_set v.rests a.session (rest_told m.told);
+    prepared = slice_set v.prepared a.session (prepared_then m.told (prepared_of v a.session) t);
     tally = added v.tally more;
   }
 
@@ -144,7 +146,7 @@ module _ (tables : CatalogueEvents → ℕ) (n : ℕ) (v : Database) (a : Asker)
       lock_no_higher (unheld n bound (lock_events v.history)) (unheld n bound (lock_events (m.events ++ v.history))) (sum_by of_flag v.cancelled) (sum_by of_flag (slice_set v.cancelled s false)) _ _
       (unheld_mono n bound (lock_events v.history) (lock_events (m.events ++ v.history)) asks.stay) (flags_same v.cancelled s false off)
 
-  pub run_waits : (o : Option Fault) (m : Made Ended) → refusal_of v s ≡ o → Asks tables s v.history m → IsKnown (rest_told m.told) → outcome_told (refused_or o m).told ≡ outcomes.Waits → Waited tables n bound moved s (slack n bound moved v) (goes_on v a (refused_or o m) more)
+  pub run_waits : (o : Option Fault) (m : Made Ended) → refusal_of v s ≡ o → Asks tables s v.history m → IsKnown (rest_told m.told) → outcome_told (refused_or o m).told ≡ outcomes.Waits → Waited tables n bound moved s (slack n bound moved v) (goes_on v a t (refused_or o m) more)
   run_waits (Some f) m is asks known e = absurd (cc)
   run_waits None m is asks known e =
       let waits = waits_told s tables v.history (m.events ++ v.history) m.told e asks.told in
@@ -194,7 +196,7 @@ module _ (tables : CatalogueEvents → ℕ) (n : ℕ) (v : Database) (a : Asker)
       ]
 
   pub run_goes : (o : Option Fault) (m : Made Ended) → refusal_of v s ≡ o → Asks tables s v.history m → IsKnown (rest_told m.told) → (outcome_told (refused_or o m).told ≡ outcomes.Waits → ⊥)
-      → (k : ℕ) × IsKept tables n k (replicate n true) (goes_on v a (refused_or o m) more) (Some s)
+      → (k : ℕ) × IsKept tables n k (replicate n true) (goes_on v a t (refused_or o m) more) (Some s)
   run_goes (Some f) m is asks known e =
       let x : Made Ended = halted [] (Refused f) in
       given_kept (given_up a.level s (rest_of v s) x.told) v.history x (given_is a.level s (rest_of v s) x.told) tt h.sound (λ r w waits. (w, waits, λ k b. b))

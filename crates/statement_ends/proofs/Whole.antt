@@ -11,7 +11,7 @@ use Rattle.sql_ast.specs.Statements.{StatementTree}
 use Rattle.stores.specs.Events.{tx_in}
 use Rattle.statement_runs.specs.Attempted.{attempted}
 use Rattle.statement_runs.specs.Roles.{cancelled_by}
-use Rattle.statement_runs.specs.Database.{Database, course, cut_by, caller_of, command_of, refusal_of, rest_of, rest_told, outcome_told, anew, attempt_of, given_by, goes_on, empty}
+use Rattle.statement_runs.specs.Database.{Database, course, cut_by, caller_of, command_of, refusal_of, rest_of, rest_told, outcome_told, prepared_of, anew, attempt_of, given_by, goes_on, empty}
 use Rattle.run_ends.specs.Executors.{HasRank, LowersIn}
 use Rattle.statement_ends.specs.Asking.{IsKnown, MayAsk, Asks, AllAsk}
 use Rattle.statement_ends.specs.Rank.{slack, IsKept, IsRanked}
@@ -27,33 +27,33 @@ module _ (tables : CatalogueEvents → ℕ) (asks : AllAsk tables) (n : ℕ) whe
 
   -- a statement of a session that has the turn, behind the waits that it cancels
   asked : (w : Database) (a : Asker) (g : Settings) (t : StatementTree) (bound : ℕ) (moved : List Bool) → IsKept tables n bound moved w (Some a.session)
-      → Asks tables a.session w.history (attempted w.options (caller_of w.sessions (command_of w a.session) a) (rest_of w a.session) g t w.history)
+      → Asks tables a.session w.history (attempted w.options (caller_of w.sessions (command_of w a.session) a) (rest_of w a.session) g (prepared_of w a.session) t w.history)
   asked w a g t bound moved h =
-      asks.each w.options (caller_of w.sessions (command_of w a.session) a) (rest_of w a.session) w.history g t (may w a bound moved h) (h.known a.session)
+      asks.each w.options (caller_of w.sessions (command_of w a.session) a) (rest_of w a.session) w.history g (prepared_of w a.session) t (may w a bound moved h) (h.known a.session)
 
   stands : (w : Database) (a : Asker) (g : Settings) (t : StatementTree) (bound : ℕ) (moved : List Bool) → IsKept tables n bound moved w (Some a.session)
-      → IsKnown (rest_told (attempted w.options (caller_of w.sessions (command_of w a.session) a) (rest_of w a.session) g t w.history).told)
+      → IsKnown (rest_told (attempted w.options (caller_of w.sessions (command_of w a.session) a) (rest_of w a.session) g (prepared_of w a.session) t w.history).told)
   stands w a g t bound moved h =
-      asks.rests w.options (caller_of w.sessions (command_of w a.session) a) (rest_of w a.session) w.history g t (may w a bound moved h) (h.known a.session)
+      asks.rests w.options (caller_of w.sessions (command_of w a.session) a) (rest_of w a.session) w.history g (prepared_of w a.session) t (may w a bound moved h) (h.known a.session)
 
   waited : (v : Database) (os : List Bool) (k : ℕ) (a : Asker) (g : Settings) (t : StatementTree) (h : Q v (Some a.session) os k) → outcome_told (attempt_of (cut_by v a t) a g t).told ≡ outcomes.Waits
-      → Waited tables n h.bound h.moved a.session k (goes_on (cut_by v a t) a (attempt_of (cut_by v a t) a g t) (given_by (cut_by v a t) a g t))
+      → Waited tables n h.bound h.moved a.session k (goes_on (cut_by v a t) a t (attempt_of (cut_by v a t) a g t) (given_by (cut_by v a t) a g t))
   waited v os k a g t h e =
       let w = cut_by v a t in
-      let cut = all_cut_kept tables n (cancelled_by a.session v.sessions t) v a.session h.bound h.moved h.kept in
-      let r = run_waits tables n w a (given_by w a g t) h.bound h.moved cut.0 (refusal_of w a.session) (attempted w.options (caller_of w.sessions (command_of w a.session) a) (rest_of w a.session) g t w.history) refl (asked w a g t h.bound h.moved cut.0) (stands w a g t h.bound h.moved cut.0) e in
+      let cut = all_cut_kept tables n (cancelled_by a.session v.sessions (prepared_of v a.session) t) v a.session h.bound h.moved h.kept in
+      let r = run_waits tables n w a t (given_by w a g t) h.bound h.moved cut.0 (refusal_of w a.session) (attempted w.options (caller_of w.sessions (command_of w a.session) a) (rest_of w a.session) g (prepared_of w a.session) t w.history) refl (asked w a g t h.bound h.moved cut.0) (stands w a g t h.bound h.moved cut.0) e in
       record { kept = r.kept; what = r.what; waits = r.waits; no_higher = thrice r.no_higher cut.1 h.rank }
     where
       thrice : {x y z u : ℕ} → x ≤ y → y ≤ z → z ≡ u → x ≤ u
       thrice p q r = omega (arith, p, q, r)
 
   goes : (v : Database) (os : List Bool) (k : ℕ) (a : Asker) (g : Settings) (t : StatementTree) → Q v (Some a.session) os k → (outcome_told (attempt_of (cut_by v a t) a g t).told ≡ outcomes.Waits → ⊥)
-      → HasRank Q (goes_on (cut_by v a t) a (attempt_of (cut_by v a t) a g t) (given_by (cut_by v a t) a g t)) (Some a.session) os
+      → HasRank Q (goes_on (cut_by v a t) a t (attempt_of (cut_by v a t) a g t) (given_by (cut_by v a t) a g t)) (Some a.session) os
   goes v os k a g t h e =
       let w = cut_by v a t in
-      let cut = all_cut_kept tables n (cancelled_by a.session v.sessions t) v a.session h.bound h.moved h.kept in
-      let r = run_goes tables n w a (given_by w a g t) h.bound h.moved cut.0 (refusal_of w a.session) (attempted w.options (caller_of w.sessions (command_of w a.session) a) (rest_of w a.session) g t w.history) refl (asked w a g t h.bound h.moved cut.0) (stands w a g t h.bound h.moved cut.0) e in
-      ranked tables n (goes_on w a (attempt_of w a g t) (given_by w a g t)) (Some a.session) os r.0 (replicate n true) r.1
+      let cut = all_cut_kept tables n (cancelled_by a.session v.sessions (prepared_of v a.session) t) v a.session h.bound h.moved h.kept in
+      let r = run_goes tables n w a t (given_by w a g t) h.bound h.moved cut.0 (refusal_of w a.session) (attempted w.options (caller_of w.sessions (command_of w a.session) a) (rest_of w a.session) g (prepared_of w a.session) t w.history) refl (asked w a g t h.bound h.moved cut.0) (stands w a g t h.bound h.moved cut.0) e in
+      ranked tables n (goes_on w a t (attempt_of w a g t) (given_by w a g t)) (Some a.session) os r.0 (replicate n true) r.1
 
   pub course_lowers : LowersIn course n Q
   course_lowers = record {

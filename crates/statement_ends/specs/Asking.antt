@@ -1,5 +1,5 @@
 -- What statements do to locks and waits (the manual, 13.3.1 Table-Level Locks).
-use Rattle.std.specs.Prelude.{◌≡◌, ◌≢◌, ◌<◌, ◌≤◌, ℕ, true, ◌++◌, Option, Some, None, IfSome, Result, Ok, Err}
+use Rattle.std.specs.Prelude.{◌≡◌, ◌≢◌, ◌<◌, ◌≤◌, ℕ, true, List, ◌++◌, Option, Some, None, IfSome, Result, Ok, Err}
 use Rattle.pg_values.specs.Sets.{has}
 use Rattle.pg_values.specs.declared.lock_mode.LockMode.{LockMode}
 use Rattle.pg_values.specs.declared.session_set.SessionSet.{SessionSet}
@@ -17,6 +17,7 @@ use Rattle.statement_steps.specs.declared.caller.Caller.{Caller}
 use Rattle.statement_steps.specs.declared.rest.Rest.{Rest}
 use Rattle.statement_steps.specs.declared.rest.Rest.TheVariants.{Rows, Detach}
 use Rattle.sql_ast.specs.Statements.{StatementTree}
+use Rattle.prepared_statements.specs.Prepared.{Prepared}
 use Rattle.statement_runs.specs.Attempted.{attempted}
 use Rattle.statement_runs.specs.Database.{rest_told}
 use Rattle.statement_runs.specs.declared.options.Options.{Options}
@@ -65,7 +66,7 @@ pub record Asks {T : Type 0} (tables : CatalogueEvents → ℕ) (session : ℕ) 
   pub others : (x : ℕ) → x ≢ session → wanted (lock_events (m.events ++ h)) x ≡ wanted (lock_events h) x
   pub told : WaitsAsTold tables session h (m.events ++ h) m.told
 
--- so it is of each statement, from its beginning and from where it stood
+-- so it is of each statement, from its beginning and from where it stood, whatever its session has prepared
 pub record AllAsk (tables : CatalogueEvents → ℕ) : Type 0 where
-  pub each : (o : Options) (c : Caller) (rest : Option Rest) (h : History) (g : Settings) (t : StatementTree) → MayAsk c.session h → IsKnown rest → Asks tables c.session h (attempted o c rest g t h)
-  pub rests : (o : Options) (c : Caller) (rest : Option Rest) (h : History) (g : Settings) (t : StatementTree) → MayAsk c.session h → IsKnown rest → IsKnown (rest_told (attempted o c rest g t h).told)
+  pub each : (o : Options) (c : Caller) (rest : Option Rest) (h : History) (g : Settings) (ps : List Prepared) (t : StatementTree) → MayAsk c.session h → IsKnown rest → Asks tables c.session h (attempted o c rest g ps t h)
+  pub rests : (o : Options) (c : Caller) (rest : Option Rest) (h : History) (g : Settings) (ps : List Prepared) (t : StatementTree) → MayAsk c.session h → IsKnown rest → IsKnown (rest_told (attempted o c rest g ps t h).told)

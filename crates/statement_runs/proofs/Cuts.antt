@@ -8,6 +8,7 @@ use Rattle.history.specs.declared.wait.Wanted.{Wanted}
 use Rattle.schedule.specs.declared.tally.Tally.{Tally}
 use Rattle.schedule.specs.Lists.{first, is_in, without}
 use Rattle.stores.specs.Events.{resumed, withdrawn}
+use Rattle.prepared_statements.specs.Prepared.{Prepared}
 use Rattle.statement_runs.specs.Database.{Database, anew, empty, is_cancelled, waits, cancels, cuts, all_cut, interrupted, is_ready, resumes, happened}
 use Rattle.statement_runs.specs.declared.options.Options.{Options}
 use Rattle.statement_runs.specs.Kept.{KeptSeats, AreSeated, AreKept, Adds, StandsFor, waits_in, due_in, interrupted_in, may_go_on}
@@ -170,14 +171,14 @@ run_lower old mid new before cut le less opened = let at : cut_of (length new.op
 -- ---- the database that they stand for
 
 -- who waits
-pub same_waits : (o : Options) (e : KeptSeats) (cut : List ℕ) (n : Tally) (v : Database) (s : ℕ) → StandsFor o e cut n v → waits_in e s ≡ waits v s
-same_waits o e cut n v s stands = ap (λ b. b && is_some (slice_index_or e.stores.locks.wants s None)) stands.whole ∙ ap is_some (stands.tells.stands.all.locks.tells.wants s)
+pub same_waits : (o : Options) (e : KeptSeats) (lists : List (List Prepared)) (cut : List ℕ) (n : Tally) (v : Database) (s : ℕ) → StandsFor o e lists cut n v → waits_in e s ≡ waits v s
+same_waits o e lists cut n v s stands = ap (λ b. b && is_some (slice_index_or e.stores.locks.wants s None)) stands.whole ∙ ap is_some (stands.tells.stands.all.locks.tells.wants s)
 
-pub cut_stands : (o : Options) (e new : KeptSeats) (cut xs : List ℕ) (n : Tally) (v : Database) (s : ℕ) → waits_in e s ≡ true → Adds e new (λ h. withdrawn s) → new.opened ≡ e.opened → new.commands ≡ e.commands
-    → new.cancelled ≡ slice_set e.cancelled s true → new.rests ≡ e.rests → xs ≡ cut ++ s ∷ [] → StandsFor o e cut n v → StandsFor o new xs n (cuts v s)
-cut_stands o e new cut xs n v s waiting adds opened commands cancelled rests added stands =
-    let is : waits v s ≡ true = sym (same_waits o e cut n v s stands) ∙ waiting in
-    subst (λ b. StandsFor o new xs n (if b then record (cancels v s) { cut = v.cut ++ s ∷ [] } else v)) (sym is) (record {
+pub cut_stands : (o : Options) (e new : KeptSeats) (lists : List (List Prepared)) (cut xs : List ℕ) (n : Tally) (v : Database) (s : ℕ) → waits_in e s ≡ true → Adds e new (λ h. withdrawn s) → new.opened ≡ e.opened → new.commands ≡ e.commands
+    → new.cancelled ≡ slice_set e.cancelled s true → new.rests ≡ e.rests → xs ≡ cut ++ s ∷ [] → StandsFor o e lists cut n v → StandsFor o new lists xs n (cuts v s)
+cut_stands o e new lists cut xs n v s waiting adds opened commands cancelled rests added stands =
+    let is : waits v s ≡ true = sym (same_waits o e lists cut n v s stands) ∙ waiting in
+    subst (λ b. StandsFor o new lists xs n (if b then record (cancels v s) { cut = v.cut ++ s ∷ [] } else v)) (sym is) (record {
       whole = adds.whole ∙ stands.whole;
       options = stands.options;
       sessions = ap length opened ∙ stands.sessions;
@@ -185,14 +186,15 @@ cut_stands o e new cut xs n v s waiting adds opened commands cancelled rests add
       commands = commands ∙ stands.commands;
       cancelled = cancelled ∙ ap (λ cs. slice_set cs s true) stands.cancelled;
       rests = rests ∙ stands.rests;
+      prepared = stands.prepared;
       cut = added ∙ ap (λ c. c ++ s ∷ []) stands.cut;
       given = stands.given;
     })
 
-pub uncut_stands : (o : Options) (e : KeptSeats) (cut : List ℕ) (n : Tally) (v : Database) (s : ℕ) → waits_in e s ≡ false → StandsFor o e cut n v → StandsFor o e cut n (cuts v s)
-uncut_stands o e cut n v s waiting stands =
-    let is : waits v s ≡ false = sym (same_waits o e cut n v s stands) ∙ waiting in
-    subst (λ b. StandsFor o e cut n (if b then record (cancels v s) { cut = v.cut ++ s ∷ [] } else v)) (sym is) stands
+pub uncut_stands : (o : Options) (e : KeptSeats) (lists : List (List Prepared)) (cut : List ℕ) (n : Tally) (v : Database) (s : ℕ) → waits_in e s ≡ false → StandsFor o e lists cut n v → StandsFor o e lists cut n (cuts v s)
+uncut_stands o e lists cut n v s waiting stands =
+    let is : waits v s ≡ false = sym (same_waits o e lists cut n v s stands) ∙ waiting in
+    subst (λ b. StandsFor o e lists cut n (if b then record (cancels v s) { cut = v.cut ++ s ∷ [] } else v)) (sym is) stands
 
 -- one after the other
 pub next_cut : (P : Database → Type 0) (v w : Database) (ss : List ℕ) (i s : ℕ) → i < length ss → s ≡ get_or ss i 0 → all_cut w (drop i ss) ≡ all_cut v ss → P (cuts w s)
@@ -201,13 +203,13 @@ next_cut P v w ss i s lt is e p =
     (cuts w s, p, ap (λ n. all_cut (cuts w s) (drop n ss)) (add-one i) ∙ (ap (λ x. all_cut (cuts w x) (drop (suc i) ss)) is ∙ (sym (ap (all_cut w) (drop-cons ss i 0 lt)) ∙ e)))
 
 -- who goes on
-pub same_interrupted : (o : Options) (e : KeptSeats) (cut : List ℕ) (n : Tally) (v : Database) → StandsFor o e cut n v → interrupted_in e cut ≡ interrupted v
-same_interrupted o e cut n v stands = ap (λ cs. first (λ s. slice_index_or cs s false) cut) stands.cancelled ∙ ap (first (is_cancelled v)) stands.cut
+pub same_interrupted : (o : Options) (e : KeptSeats) (lists : List (List Prepared)) (cut : List ℕ) (n : Tally) (v : Database) → StandsFor o e lists cut n v → interrupted_in e cut ≡ interrupted v
+same_interrupted o e lists cut n v stands = ap (λ cs. first (λ s. slice_index_or cs s false) cut) stands.cancelled ∙ ap (first (is_cancelled v)) stands.cut
 
-pub cut_resumes : (o : Options) (e : KeptSeats) (cut xs : List ℕ) (n : Tally) (v : Database) (s : ℕ) → is_ready (interrupted_in e cut) s ≡ true → xs ≡ without s cut → StandsFor o e cut n v → StandsFor o e xs n (resumes v s)
-cut_resumes o e cut xs n v s ready left stands =
-    let is : is_ready (interrupted v) s ≡ true = sym (ap (λ r. is_ready r s) (same_interrupted o e cut n v stands)) ∙ ready in
-    subst (λ b. StandsFor o e xs n (if b then record v { cut = without s v.cut } else happened v (resumed s))) (sym is) (record {
+pub cut_resumes : (o : Options) (e : KeptSeats) (lists : List (List Prepared)) (cut xs : List ℕ) (n : Tally) (v : Database) (s : ℕ) → is_ready (interrupted_in e cut) s ≡ true → xs ≡ without s cut → StandsFor o e lists cut n v → StandsFor o e lists xs n (resumes v s)
+cut_resumes o e lists cut xs n v s ready left stands =
+    let is : is_ready (interrupted v) s ≡ true = sym (ap (λ r. is_ready r s) (same_interrupted o e lists cut n v stands)) ∙ ready in
+    subst (λ b. StandsFor o e lists xs n (if b then record v { cut = without s v.cut } else happened v (resumed s))) (sym is) (record {
       whole = stands.whole;
       options = stands.options;
       sessions = stands.sessions;
@@ -215,15 +217,16 @@ cut_resumes o e cut xs n v s ready left stands =
       commands = stands.commands;
       cancelled = stands.cancelled;
       rests = stands.rests;
+      prepared = stands.prepared;
       cut = left ∙ ap (without s) stands.cut;
       given = stands.given;
     })
 
-pub wait_resumes : (o : Options) (e new : KeptSeats) (cut : List ℕ) (n : Tally) (v : Database) (s : ℕ) → is_ready (interrupted_in e cut) s ≡ false → Adds e new (λ h. resumed s) → new.opened ≡ e.opened → new.commands ≡ e.commands
-    → new.cancelled ≡ e.cancelled → new.rests ≡ e.rests → StandsFor o e cut n v → StandsFor o new cut n (resumes v s)
-wait_resumes o e new cut n v s ready adds opened commands cancelled rests stands =
-    let is : is_ready (interrupted v) s ≡ false = sym (ap (λ r. is_ready r s) (same_interrupted o e cut n v stands)) ∙ ready in
-    subst (λ b. StandsFor o new cut n (if b then record v { cut = without s v.cut } else happened v (resumed s))) (sym is) (record {
+pub wait_resumes : (o : Options) (e new : KeptSeats) (lists : List (List Prepared)) (cut : List ℕ) (n : Tally) (v : Database) (s : ℕ) → is_ready (interrupted_in e cut) s ≡ false → Adds e new (λ h. resumed s) → new.opened ≡ e.opened → new.commands ≡ e.commands
+    → new.cancelled ≡ e.cancelled → new.rests ≡ e.rests → StandsFor o e lists cut n v → StandsFor o new lists cut n (resumes v s)
+wait_resumes o e new lists cut n v s ready adds opened commands cancelled rests stands =
+    let is : is_ready (interrupted v) s ≡ false = sym (ap (λ r. is_ready r s) (same_interrupted o e lists cut n v stands)) ∙ ready in
+    subst (λ b. StandsFor o new lists cut n (if b then record v { cut = without s v.cut } else happened v (resumed s))) (sym is) (record {
       whole = adds.whole ∙ stands.whole;
       options = stands.options;
       sessions = ap length opened ∙ stands.sessions;
@@ -231,6 +234,7 @@ wait_resumes o e new cut n v s ready adds opened commands cancelled rests stands
       commands = commands ∙ stands.commands;
       cancelled = cancelled ∙ stands.cancelled;
       rests = rests ∙ stands.rests;
+      prepared = stands.prepared;
       cut = stands.cut;
       given = stands.given;
     })
@@ -269,7 +273,7 @@ past_idle e s seated past = ap (λ o. e.whole && is_some o) (get_or_past e.store
 
 -- ---- a fresh one
 
-pub fresh_stands : (o p : Options) (e : KeptSeats) (cut : List ℕ) (n m : Tally) (k : ℕ) (v : Database) → StandsFor o e cut n (empty p k) → p ≡ v.options → k ≡ v.sessions → m ≡ v.tally → StandsFor o e cut m (anew v)
-fresh_stands o p e cut n m k v stands same count given =
-    let x = subst (λ j. StandsFor o e cut n (empty v.options j)) count (subst (λ q. StandsFor o e cut n (empty q k)) same stands) in
-    record { whole = x.whole; options = x.options; sessions = x.sessions; tells = x.tells; commands = x.commands; cancelled = x.cancelled; rests = x.rests; cut = x.cut; given = given }
+pub fresh_stands : (o p : Options) (e : KeptSeats) (lists : List (List Prepared)) (cut : List ℕ) (n m : Tally) (k : ℕ) (v : Database) → StandsFor o e lists cut n (empty p k) → p ≡ v.options → k ≡ v.sessions → m ≡ v.tally → StandsFor o e lists cut m (anew v)
+fresh_stands o p e lists cut n m k v stands same count given =
+    let x = subst (λ j. StandsFor o e lists cut n (empty v.options j)) count (subst (λ q. StandsFor o e lists cut n (empty q k)) same stands) in
+    record { whole = x.whole; options = x.options; sessions = x.sessions; tells = x.tells; commands = x.commands; cancelled = x.cancelled; rests = x.rests; prepared = x.prepared; cut = x.cut; given = given }

@@ -1,12 +1,9 @@
 -- What statements give and read.
 use Rattle.std.proofs.Common.{◌≡◌, ℕ, ◌+◌, Bool, List, Option, Result, Ok, Err, refl, ap, sym, ◌∙◌, arith}
 use Rattle.history.specs.History.{History}
+use Rattle.pg_values.specs.declared.fault.Fault.{Fault}
 use Rattle.schedule.specs.declared.tally.Tally.{Tally}
 use Rattle.stores.specs.declared.stores.Stores.{Stores}
-use Rattle.sql_ast.specs.Queries.{query_tree}
-use Rattle.sql_ast.specs.declared.query.Query.{Query}
-use Rattle.sql_ast.specs.declared.query.Query.TheVariants as queries
-use Rattle.sql_ast.specs.declared.query.RowStatement.{RowStatement}
 use Rattle.statement_steps.specs.Ended.{ended}
 use Rattle.statement_steps.specs.Made.{Made, Halt}
 use Rattle.statement_steps.specs.Steps.{IsTold}
@@ -15,7 +12,8 @@ use Rattle.statement_steps.specs.declared.rest.Rest.{Rest}
 use Rattle.statement_steps.specs.declared.stop.Stop.{Stop}
 use Rattle.statement_steps.specs.declared.stop.Stop.TheVariants as stop
 use Rattle.change_statement.specs.Running.{IsCommandTold}
-use Rattle.statement_runs.specs.Given.{given, query_given}
+use Rattle.statement_runs.specs.Executions.{Execution}
+use Rattle.statement_runs.specs.Given.{given, execution_given}
 use Rattle.statement_runs.specs.Tallies.{none, added, Grows}
 
 abbrev so_much : ℕ → ℕ → Tally
@@ -52,11 +50,8 @@ stopped_gives Y see f (stop.Waits rest) new caller h m n told = sym (nothing_mor
 stopped_gives Y see f (stop.Refused fault) new caller h m n told = sym (nothing_more n) ∙ ap (λ r. added n (given f r)) (sym told.0)
 stopped_gives Y see f stop.NoMemory new caller h m n told = tt
 
--- ---- nor does one that is no SELECT, INSERT, UPDATE or DELETE
+-- ---- nor does an EXECUTE that is refused
 
-pub others_give : (prunes : Bool) (names : List (List ℕ)) (caller : Caller) (rest : Option Rest) (q : Query) (h : History) → ((s : RowStatement) → q ≡ queries.Rows s → ⊥) → query_given prunes names caller rest (query_tree q) h ≡ none
-others_give prunes names caller rest (queries.Rows s) h rows = absurd (rows s refl)
-others_give prunes names caller rest (queries.Prepare name kinds s) h rows = refl
-others_give prunes names caller rest (queries.Execute name arguments) h rows = refl
-others_give prunes names caller rest (queries.ExplainSelect analyze s) h rows = refl
-others_give prunes names caller rest (queries.ExplainExecute analyze name arguments) h rows = refl
+pub refused_gives : (prunes : Bool) (names : List (List ℕ)) (caller : Caller) (rest : Option Rest) (told : Result Execution Fault) (fault : Fault) (h : History) (n : Tally) → told ≡ Err fault
+    → n ≡ added n (execution_given prunes names caller rest told h)
+refused_gives prunes names caller rest told fault h n is = sym (nothing_more n) ∙ ap (λ (r : Result Execution Fault). added n (execution_given prunes names caller rest r h)) (sym is)

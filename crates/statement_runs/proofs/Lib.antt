@@ -12,3 +12,4 @@ mod Waiting
 mod Weights
 pub mod Whole
 mod Lasting
+mod Meant

@@ -38,15 +38,16 @@ use Rattle.statement_steps.specs.declared.rest.RestOfDetach.{RestOfDetach}
 use Rattle.statement_steps.specs.declared.stop.Stop.{Stop}
 use Rattle.statement_steps.specs.declared.stop.Stop.TheVariants as stop
 use Rattle.sql_ast.specs.Statements.{StatementTree}
+use Rattle.prepared_statements.specs.Prepared.{Prepared}
 use Rattle.statement_runs.specs.Attempted.{attempted}
 use Rattle.statement_runs.specs.Given.{statement_given}
 use Rattle.statement_runs.specs.Roles.{cancelled_by}
 use Rattle.statement_runs.specs.declared.options.Options.{Options}
-use Rattle.statement_runs.specs.Database.{Database, refused_first, refused_or, number_then, caller_of, attempt_of, given_by, next_command, rest_told, let_go_at, given_up, outcome_told, text_told, all_cut, cut_by, goes_on as goes_on_to}
+use Rattle.statement_runs.specs.Database.{Database, refused_first, refused_or, number_then, caller_of, attempt_of, given_by, next_command, rest_told, let_go_at, given_up, outcome_told, text_told, prepared_of, prepared_then, all_cut, cut_by, goes_on as goes_on_to}
 use Rattle.statement_runs.specs.Kept.{KeptSeats, AreSeated, TellOf, AreKept, Adds, StandsFor}
 use Rattle.statement_runs.specs.Tallies.{added, unless_cut}
 use Rattle.statement_runs.proofs.Growing.{nothing_more}
-use Rattle.statement_runs.specs.Ran.{given_at, attempt_at, refusal_in, HasRun}
+use Rattle.statement_runs.specs.Ran.{given_at, attempt_at, refusal_in, prepared_by, HasRun}
 use Rattle.statement_steps.proofs.Lasting.{goes_on_still}
 use Rattle.statement_runs.proofs.Steps.{seats}
 
@@ -239,31 +240,31 @@ abbrev pub caller_in : KeptSeats → Asker → Caller
 caller_in e a = caller_of (length e.opened) (slice_index_or e.commands a.session 0) a
 
 -- what the statement means at that history, unless it is refused first
-abbrev pub meant_at : Options → KeptSeats → Asker → History → Settings → StatementTree → Made Ended
-meant_at o e a h g t = attempted o (caller_in e a) (slice_index_or e.rests a.session None) g t h
+abbrev pub meant_at : Options → KeptSeats → Asker → History → Settings → List Prepared → StatementTree → Made Ended
+meant_at o e a h g ps t = attempted o (caller_in e a) (slice_index_or e.rests a.session None) g ps t h
 
-pub as_meant : (o : Options) (e : KeptSeats) (a : Asker) (h : History) (g : Settings) (t : StatementTree) (n cmd : ℕ) (rest : Option Rest) (r : Result Ending Stop) (stores : Stores) (before after : List ℕ)
+pub as_meant : (o : Options) (e : KeptSeats) (a : Asker) (h : History) (g : Settings) (ps : List Prepared) (t : StatementTree) (n cmd : ℕ) (rest : Option Rest) (r : Result Ending Stop) (stores : Stores) (before after : List ℕ)
     → n ≡ length e.opened → cmd ≡ slice_index_or e.commands a.session 0 → rest ≡ slice_index_or e.rests a.session None
-    → IsAttempt r stores before after (caller_of n cmd a) h (attempted o (caller_of n cmd a) rest g t h) → IsAttempt r stores before after (caller_in e a) h (meant_at o e a h g t)
-as_meant o e a h g t n cmd rest r stores before after count number taken is =
-    let came : ℕ → ℕ → Option Rest → Type 0 = λ n cmd rest. IsAttempt r stores before after (caller_of n cmd a) h (attempted o (caller_of n cmd a) rest g t h) in
+    → IsAttempt r stores before after (caller_of n cmd a) h (attempted o (caller_of n cmd a) rest g ps t h) → IsAttempt r stores before after (caller_in e a) h (meant_at o e a h g ps t)
+as_meant o e a h g ps t n cmd rest r stores before after count number taken is =
+    let came : ℕ → ℕ → Option Rest → Type 0 = λ n cmd rest. IsAttempt r stores before after (caller_of n cmd a) h (attempted o (caller_of n cmd a) rest g ps t h) in
     subst (λ x. came x (slice_index_or e.commands a.session 0) (slice_index_or e.rests a.session None)) count
     (subst (λ x. came n x (slice_index_or e.rests a.session None)) number (subst (λ x. came n cmd x) taken is))
 
 -- so much is given and read, unless it is refused first
-pub given_in : (o : Options) (e : KeptSeats) (a : Asker) (h : History) (g : Settings) (t : StatementTree) (n cmd : ℕ) (rest : Option Rest) (before after : Tally)
+pub given_in : (o : Options) (e : KeptSeats) (a : Asker) (h : History) (g : Settings) (ps : List Prepared) (t : StatementTree) (n cmd : ℕ) (rest : Option Rest) (before after : Tally)
     → refusal_in e a.session ≡ None → n ≡ length e.opened → cmd ≡ slice_index_or e.commands a.session 0 → rest ≡ slice_index_or e.rests a.session None
-    → after ≡ added before (statement_given o (caller_of n cmd a) rest g t h) → after ≡ added before (given_at o e a h g t)
-given_in o e a h g t n cmd rest before after flag count number taken is =
+    → after ≡ added before (statement_given o (caller_of n cmd a) rest g ps t h) → after ≡ added before (given_at o e a h g ps t)
+given_in o e a h g ps t n cmd rest before after flag count number taken is =
     is ∙ ap (added before)
-    (ap (λ x. statement_given o (caller_of x cmd a) rest g t h) count
-    ∙ (ap (λ x. statement_given o (caller_of (length e.opened) x a) rest g t h) number
-    ∙ (ap (λ x. statement_given o (caller_in e a) x g t h) taken
-    ∙ sym (ap (λ b. unless_cut b (statement_given o (caller_in e a) (slice_index_or e.rests a.session None) g t h)) flag))))
+    (ap (λ x. statement_given o (caller_of x cmd a) rest g ps t h) count
+    ∙ (ap (λ x. statement_given o (caller_of (length e.opened) x a) rest g ps t h) number
+    ∙ (ap (λ x. statement_given o (caller_in e a) x g ps t h) taken
+    ∙ sym (ap (λ b. unless_cut b (statement_given o (caller_in e a) (slice_index_or e.rests a.session None) g ps t h)) flag))))
 
-pub cut_gives : (o : Options) (e : KeptSeats) (a : Asker) (h : History) (g : Settings) (t : StatementTree) (n : Tally) → (f : Fault) → refusal_in e a.session ≡ Some f → n ≡ added n (given_at o e a h g t)
-cut_gives o e a h g t n f refused =
-    sym (nothing_more n) ∙ ap (added n) (sym (ap (λ b. unless_cut b (statement_given o (caller_in e a) (slice_index_or e.rests a.session None) g t h)) refused))
+pub cut_gives : (o : Options) (e : KeptSeats) (a : Asker) (h : History) (g : Settings) (ps : List Prepared) (t : StatementTree) (n : Tally) → (f : Fault) → refusal_in e a.session ≡ Some f → n ≡ added n (given_at o e a h g ps t)
+cut_gives o e a h g ps t n f refused =
+    sym (nothing_more n) ∙ ap (added n) (sym (ap (λ b. unless_cut b (statement_given o (caller_in e a) (slice_index_or e.rests a.session None) g ps t h)) refused))
 
 -- what has come of it, where it was not refused first
 abbrev pub Tried : (e new : KeptSeats) → Asker → (before after : List ℕ) (o : Outcome) (h : History) → Made Ended → Type 0
@@ -399,27 +400,31 @@ one_more q xs s n is all lt = subst (All (λ r. r < n)) (sym is) (All-append (λ
 
 -- ---- the database that it stands for
 
-abbrev attempt_by : Asker → History → Settings → StatementTree → Options → ℕ → List ℕ → List Bool → List (Option Rest) → Made Ended
-attempt_by a h g t o n commands cancelled rests = refused_or (refused_first (slice_index_or cancelled a.session false) (slice_index_or commands a.session 0)) (attempted o (caller_of n (slice_index_or commands a.session 0) a) (slice_index_or rests a.session None) g t h)
+abbrev attempt_by : Asker → History → Settings → StatementTree → Options → ℕ → List ℕ → List Bool → List (Option Rest) → List Prepared → Made Ended
+attempt_by a h g t o n commands cancelled rests ps = refused_or (refused_first (slice_index_or cancelled a.session false) (slice_index_or commands a.session 0)) (attempted o (caller_of n (slice_index_or commands a.session 0) a) (slice_index_or rests a.session None) g ps t h)
 
-same_attempt : (o : Options) (e : KeptSeats) (a : Asker) (g : Settings) (t : StatementTree) (cut : List ℕ) (n : Tally) (v : Database) → StandsFor o e cut n v → attempt_at o e a v.history g t ≡ attempt_of v a g t
-same_attempt o e a g t cut n v stands =
-    ap (λ x. attempt_by a v.history g t x (length e.opened) e.commands e.cancelled e.rests) stands.options
-    ∙ (ap (λ x. attempt_by a v.history g t v.options x e.commands e.cancelled e.rests) stands.sessions
-    ∙ (ap (λ x. attempt_by a v.history g t v.options v.sessions x e.cancelled e.rests) stands.commands
-    ∙ (ap (λ x. attempt_by a v.history g t v.options v.sessions v.commands x e.rests) stands.cancelled
-    ∙ ap (λ x. attempt_by a v.history g t v.options v.sessions v.commands v.cancelled x) stands.rests)))
+same_attempt : (o : Options) (e : KeptSeats) (lists : List (List Prepared)) (a : Asker) (g : Settings) (ps : List Prepared) (t : StatementTree) (cut : List ℕ) (n : Tally) (v : Database) → StandsFor o e lists cut n v → ps ≡ prepared_of v a.session
+    → attempt_at o e a v.history g ps t ≡ attempt_of v a g t
+same_attempt o e lists a g ps t cut n v stands known =
+    ap (λ x. attempt_by a v.history g t x (length e.opened) e.commands e.cancelled e.rests ps) stands.options
+    ∙ (ap (λ x. attempt_by a v.history g t v.options x e.commands e.cancelled e.rests ps) stands.sessions
+    ∙ (ap (λ x. attempt_by a v.history g t v.options v.sessions x e.cancelled e.rests ps) stands.commands
+    ∙ (ap (λ x. attempt_by a v.history g t v.options v.sessions v.commands x e.rests ps) stands.cancelled
+    ∙ (ap (λ x. attempt_by a v.history g t v.options v.sessions v.commands v.cancelled x ps) stands.rests
+    ∙ ap (λ x. attempt_by a v.history g t v.options v.sessions v.commands v.cancelled v.rests x) known))))
 
-abbrev given_with : Asker → History → Settings → StatementTree → Options → ℕ → List ℕ → List Bool → List (Option Rest) → Tally
-given_with a h g t o n commands cancelled rests = unless_cut (refused_first (slice_index_or cancelled a.session false) (slice_index_or commands a.session 0)) (statement_given o (caller_of n (slice_index_or commands a.session 0) a) (slice_index_or rests a.session None) g t h)
+abbrev given_with : Asker → History → Settings → StatementTree → Options → ℕ → List ℕ → List Bool → List (Option Rest) → List Prepared → Tally
+given_with a h g t o n commands cancelled rests ps = unless_cut (refused_first (slice_index_or cancelled a.session false) (slice_index_or commands a.session 0)) (statement_given o (caller_of n (slice_index_or commands a.session 0) a) (slice_index_or rests a.session None) g ps t h)
 
-same_given : (o : Options) (e : KeptSeats) (a : Asker) (g : Settings) (t : StatementTree) (cut : List ℕ) (n : Tally) (v : Database) → StandsFor o e cut n v → given_at o e a v.history g t ≡ given_by v a g t
-same_given o e a g t cut n v stands =
-    ap (λ x. given_with a v.history g t x (length e.opened) e.commands e.cancelled e.rests) stands.options
-    ∙ (ap (λ x. given_with a v.history g t v.options x e.commands e.cancelled e.rests) stands.sessions
-    ∙ (ap (λ x. given_with a v.history g t v.options v.sessions x e.cancelled e.rests) stands.commands
-    ∙ (ap (λ x. given_with a v.history g t v.options v.sessions v.commands x e.rests) stands.cancelled
-    ∙ ap (λ x. given_with a v.history g t v.options v.sessions v.commands v.cancelled x) stands.rests)))
+same_given : (o : Options) (e : KeptSeats) (lists : List (List Prepared)) (a : Asker) (g : Settings) (ps : List Prepared) (t : StatementTree) (cut : List ℕ) (n : Tally) (v : Database) → StandsFor o e lists cut n v → ps ≡ prepared_of v a.session
+    → given_at o e a v.history g ps t ≡ given_by v a g t
+same_given o e lists a g ps t cut n v stands known =
+    ap (λ x. given_with a v.history g t x (length e.opened) e.commands e.cancelled e.rests ps) stands.options
+    ∙ (ap (λ x. given_with a v.history g t v.options x e.commands e.cancelled e.rests ps) stands.sessions
+    ∙ (ap (λ x. given_with a v.history g t v.options v.sessions x e.cancelled e.rests ps) stands.commands
+    ∙ (ap (λ x. given_with a v.history g t v.options v.sessions v.commands x e.rests ps) stands.cancelled
+    ∙ (ap (λ x. given_with a v.history g t v.options v.sessions v.commands v.cancelled x ps) stands.rests
+    ∙ ap (λ x. given_with a v.history g t v.options v.sessions v.commands v.cancelled v.rests x) known))))
 
 -- the numbers of commands after it
 abbrev numbers_by : ℕ → Result Ended Halt → List ℕ → List Bool → List ℕ
@@ -429,11 +434,25 @@ numbers_by s t commands cancelled = slice_set commands s (number_then (refused_f
 abbrev history_by : Asker → History → List (Option Rest) → Made Ended → History
 history_by a h rests m = given_up a.level a.session (slice_index_or rests a.session None) m.told ++ (m.events ++ h)
 
-pub stands_ran : (o : Options) (old new : KeptSeats) (a : Asker) (g : Settings) (t : StatementTree) (before after : List ℕ) (x : Outcome) (cut : List ℕ) (n m : Tally) (v : Database)
-    → StandsFor o old cut n v → HasRun (attempt_at o old a v.history g t) a old new before after x v.history → m ≡ added n (given_at o old a v.history g t) → new.opened ≡ old.opened
-    → StandsFor o new cut m (goes_on_to v a (attempt_of v a g t) (given_by v a g t))
-stands_ran o old new a g t before after x cut n m v stands ran grown same =
-    let meant = same_attempt o old a g t cut n v stands in
+-- what is prepared after it
+told_prepared : (r : Result Ended Halt) (ps : List Prepared) (t : StatementTree) → prepared_by (outcome_told r) ps t ≡ prepared_then r ps t
+told_prepared (Ok (Done text)) ps t = refl
+told_prepared (Ok (Commits d)) ps t = refl
+told_prepared (Err (Waits rest)) ps t = refl
+told_prepared (Err (Refused f)) ps t = refl
+
+-- what it took, and what it has put back
+pub lists_ran : (old taken new : List (List Prepared)) (s : ℕ) (ps qs : List Prepared) → taken ≡ slice_set old s [] → new ≡ slice_set taken s qs → qs ≡ ps → new ≡ slice_set old s ps
+lists_ran old taken new s ps qs out back is = back ∙ (ap (λ xs. slice_set xs s qs) out ∙ (set_twice old s [] qs ∙ ap (slice_set old s) is))
+
+pub stands_ran : (o : Options) (old new : KeptSeats) (lists put : List (List Prepared)) (a : Asker) (g : Settings) (ps : List Prepared) (t : StatementTree) (before after : List ℕ) (x : Outcome) (cut : List ℕ) (n m : Tally) (v : Database)
+    → StandsFor o old lists cut n v → ps ≡ slice_index_or lists a.session [] → put ≡ slice_set lists a.session (prepared_by x ps t)
+    → HasRun (attempt_at o old a v.history g ps t) a old new before after x v.history → m ≡ added n (given_at o old a v.history g ps t) → new.opened ≡ old.opened
+    → StandsFor o new put cut m (goes_on_to v a t (attempt_of v a g t) (given_by v a g t))
+stands_ran o old new lists put a g ps t before after x cut n m v stands own is ran grown same =
+    let known : ps ≡ prepared_of v a.session = own ∙ ap (λ ls. slice_index_or ls a.session []) stands.prepared in
+    let meant = same_attempt o old lists a g ps t cut n v stands known in
+    let told = (attempt_of v a g t).told in
     record {
       whole = ran.whole;
       options = stands.options;
@@ -443,31 +462,38 @@ stands_ran o old new a g t before after x cut n m v stands ran grown same =
           ∙ (ap (λ cs. numbers_by a.session (attempt_of v a g t).told cs old.cancelled) stands.commands ∙ ap (λ bs. numbers_by a.session (attempt_of v a g t).told v.commands bs) stands.cancelled));
       cancelled = ran.cancelled ∙ ap (λ cs. slice_set cs a.session false) stands.cancelled;
       rests = ran.rests ∙ (ap (λ m. slice_set old.rests a.session (rest_told m.told)) meant ∙ ap (λ rs. slice_set rs a.session (rest_told (attempt_of v a g t).told)) stands.rests);
+      prepared = is ∙ (ap (λ y. slice_set lists a.session (prepared_by y ps t)) (ran.outcome ∙ ap (λ m. outcome_told m.told) meant)
+          ∙ (ap (slice_set lists a.session) (told_prepared told ps t)
+          ∙ (ap (λ qs. slice_set lists a.session (prepared_then told qs t)) known
+          ∙ ap (λ ls. slice_set ls a.session (prepared_then told (prepared_of v a.session) t)) stands.prepared)));
       cut = stands.cut;
-      given = grown ∙ (ap (λ x. added x (given_at o old a v.history g t)) stands.given ∙ ap (added v.tally) (same_given o old a g t cut n v stands));
+      given = grown ∙ (ap (λ x. added x (given_at o old a v.history g ps t)) stands.given ∙ ap (added v.tally) (same_given o old lists a g ps t cut n v stands known));
     }
 
-pub outcome_ran : (o : Options) (old new : KeptSeats) (a : Asker) (g : Settings) (t : StatementTree) (before after : List ℕ) (x : Outcome) (cut : List ℕ) (n : Tally) (v : Database)
-    → StandsFor o old cut n v → HasRun (attempt_at o old a v.history g t) a old new before after x v.history → x ≡ outcome_told (attempt_of v a g t).told
-outcome_ran o old new a g t before after x cut n v stands ran = ran.outcome ∙ ap (λ m. outcome_told m.told) (same_attempt o old a g t cut n v stands)
+pub outcome_ran : (o : Options) (old new : KeptSeats) (lists : List (List Prepared)) (a : Asker) (g : Settings) (ps : List Prepared) (t : StatementTree) (before after : List ℕ) (x : Outcome) (cut : List ℕ) (n : Tally) (v : Database)
+    → StandsFor o old lists cut n v → ps ≡ slice_index_or lists a.session [] → HasRun (attempt_at o old a v.history g ps t) a old new before after x v.history → x ≡ outcome_told (attempt_of v a g t).told
+outcome_ran o old new lists a g ps t before after x cut n v stands own ran =
+    ran.outcome ∙ ap (λ m. outcome_told m.told) (same_attempt o old lists a g ps t cut n v stands (own ∙ ap (λ ls. slice_index_or ls a.session []) stands.prepared))
 
-pub text_ran : (o : Options) (old new : KeptSeats) (a : Asker) (g : Settings) (t : StatementTree) (before after : List ℕ) (x : Outcome) (cut : List ℕ) (n : Tally) (v : Database)
-    → StandsFor o old cut n v → HasRun (attempt_at o old a v.history g t) a old new before after x v.history → after ≡ before ++ text_told (attempt_of v a g t).told
-text_ran o old new a g t before after x cut n v stands ran = ran.text ∙ ap (λ m. before ++ text_told m.told) (same_attempt o old a g t cut n v stands)
+pub text_ran : (o : Options) (old new : KeptSeats) (lists : List (List Prepared)) (a : Asker) (g : Settings) (ps : List Prepared) (t : StatementTree) (before after : List ℕ) (x : Outcome) (cut : List ℕ) (n : Tally) (v : Database)
+    → StandsFor o old lists cut n v → ps ≡ slice_index_or lists a.session [] → HasRun (attempt_at o old a v.history g ps t) a old new before after x v.history → after ≡ before ++ text_told (attempt_of v a g t).told
+text_ran o old new lists a g ps t before after x cut n v stands own ran =
+    ran.text ∙ ap (λ m. before ++ text_told m.told) (same_attempt o old lists a g ps t cut n v stands (own ∙ ap (λ ls. slice_index_or ls a.session []) stands.prepared))
 
 -- the waits that it cancels have ended before
-pub after_cuts : (o p : Options) (old mid : KeptSeats) (before cut : List ℕ) (others : List ℕ) (n : ℕ) (a : Asker) (t : StatementTree) (first then' : Tally) (v : Database)
-    → others ≡ cancelled_by a.session n t → n ≡ length old.opened → StandsFor o old before first v → StandsFor p mid cut then' (all_cut v others) → StandsFor p mid cut then' (cut_by v a t)
-after_cuts o p old mid before cut others n a t first then' v are count stands ended =
-    subst (λ ss. StandsFor p mid cut then' (all_cut v ss)) (are ∙ ap (λ k. cancelled_by a.session k t) (count ∙ stands.sessions)) ended
+pub after_cuts : (o p : Options) (old mid : KeptSeats) (lists later : List (List Prepared)) (before cut : List ℕ) (others : List ℕ) (n : ℕ) (a : Asker) (t : StatementTree) (first then' : Tally) (v : Database)
+    → others ≡ cancelled_by a.session n (slice_index_or lists a.session []) t → n ≡ length old.opened → StandsFor o old lists before first v → StandsFor p mid later cut then' (all_cut v others) → StandsFor p mid later cut then' (cut_by v a t)
+after_cuts o p old mid lists later before cut others n a t first then' v are count stands ended =
+    subst (λ ss. StandsFor p mid later cut then' (all_cut v ss))
+    (are ∙ (ap (λ k. cancelled_by a.session k (slice_index_or lists a.session []) t) (count ∙ stands.sessions) ∙ ap (λ ls. cancelled_by a.session v.sessions (slice_index_or ls a.session []) t) stands.prepared)) ended
 
 pub if_on : {X E : Type 0} (r : Result X E) (P : X → Type 0) (Q : Type 0) → IfOk r P → ((x : X) → P x → Q) → OnOk r Q
 if_on (Ok x) P Q p f = f x p
 if_on (Err e) P Q p f = tt
 
-pub if_both_on : {X E : Type 0} (r : Result X E) (P R : X → Type 0) (Q : Type 0) → IfOk r P → IfOk r R → ((x : X) → P x → R x → Q) → OnOk r Q
-if_both_on (Ok x) P R Q p s f = f x p s
-if_both_on (Err e) P R Q p s f = tt
+pub if_three_on : {X E : Type 0} (r : Result X E) (P R S : X → Type 0) (Q : Type 0) → IfOk r P → IfOk r R → IfOk r S → ((x : X) → P x → R x → S x → Q) → OnOk r Q
+if_three_on (Ok x) P R S Q p r s f = f x p r s
+if_three_on (Err e) P R S Q p r s f = tt
 
 pub if_ok : {X E : Type 0} (r : Result X E) (P Q : X → Type 0) → IfOk r P → ((x : X) → P x → Q x) → IfOk r Q
 if_ok (Ok x) P Q p f = f x p

@@ -8,6 +8,10 @@ use Rattle.sql_ast.specs.Commands.{CommandTree, begins, commits, rolls_back, set
 use Rattle.sql_ast.specs.declared.detachment.Detachment.TheVariants.{AtOnce, Concurrently, Finalize}
 use Rattle.sql_ast.specs.Queries.{RowTree, QueryTree, selects, inserts, updates, deletes, rows, prepares, executes, explains_select, explains_execute}
 use Rattle.sql_ast.specs.Statements.{StatementTree, commands, queries}
+use Rattle.pg_values.specs.declared.fault.Fault.{Fault}
+use Rattle.expression_binder.specs.declared.scope.Param.{Param}
+use Rattle.prepared_statements.specs.Prepared.{Prepared, prepared, deallocated}
+use Rattle.statement_runs.specs.Executions.{Execution, executed, explained_by}
 use Rattle.statement_runs.specs.Database.{outcome_told, rest_told}
 use Rattle.statement_steps.specs.Ended.{Done, silent_end, told_as}
 use Rattle.statement_steps.specs.Made.{Halt, Waits, Refused}
@@ -30,7 +34,7 @@ use Rattle.detach_statement.specs.Concurrent.{behind_nobody, by_rest, detach_of,
 use Rattle.detach_statement.specs.Detached.{detached}
 use Rattle.detach_statement.specs.Finalized.{finalized}
 use Rattle.attach_statement.specs.Attached.{attached}
-use Rattle.statement_runs.specs.Attempted.{answer_text, attempted, changed_text, command_attempted, inserted_text, is_trailed, query_attempted, row_attempted, table}
+use Rattle.statement_runs.specs.Attempted.{answer_text, attempted, changed_text, command_attempted, execute_attempted, execution_explained, inserted_text, is_trailed, listed, plan_of_execution, query_attempted, row_attempted, table}
 use Rattle.statement_runs.specs.Roles.{command_committed, has_committed}
 use Rattle.statement_runs.specs.declared.options.Options.{Options}
 
@@ -55,46 +59,66 @@ later_once d (Err (Refused f)) = tt
 
 -- ---- each statement
 
-command_once : (names : List (List ℕ)) (c : Caller) (rest : Option Rest) (h : History) (t : CommandTree)
-    → CommitsOnce (command_committed rest t) (command_committed (rest_told (command_attempted names c rest t h).told) t) (outcome_told (command_attempted names c rest t h).told)
-command_once names c rest h (makes_table name columns by) = plain_once (λ r. false) (λ (u : Unit {0}). []) (created names c name columns by h).told
-command_once names c rest h (makes_partition name parent bound by) = plain_once (λ r. false) (λ (u : Unit {0}). []) (partitioned names c name parent bound by h).told
-command_once names c rest h (drops if_there tables) = plain_once (λ r. false) (λ (u : Unit {0}). []) (dropped names c if_there tables h).told
-command_once names c rest h (attaches parent name bound) = plain_once (λ r. false) (λ (u : Unit {0}). []) (attached names c parent name bound h).told
-command_once names c rest h (detaches parent name AtOnce) = plain_once (λ r. false) (λ (u : Unit {0}). []) (detached names c parent name h).told
-command_once names c rest h (detaches parent name Concurrently) = by (detach_of rest)
+listed_once : (h : History) (r : Result (List Prepared) Fault) → CommitsOnce false false (outcome_told (listed r h).told)
+listed_once h (Ok ps) = tt
+listed_once h (Err f) = tt
+
+command_once : (names : List (List ℕ)) (c : Caller) (rest : Option Rest) (h : History) (ps : List Prepared) (t : CommandTree)
+    → CommitsOnce (command_committed rest t) (command_committed (rest_told (command_attempted names c rest ps t h).told) t) (outcome_told (command_attempted names c rest ps t h).told)
+command_once names c rest h ps (makes_table name columns by) = plain_once (λ r. false) (λ (u : Unit {0}). []) (created names c name columns by h).told
+command_once names c rest h ps (makes_partition name parent bound by) = plain_once (λ r. false) (λ (u : Unit {0}). []) (partitioned names c name parent bound by h).told
+command_once names c rest h ps (drops if_there tables) = plain_once (λ r. false) (λ (u : Unit {0}). []) (dropped names c if_there tables h).told
+command_once names c rest h ps (attaches parent name bound) = plain_once (λ r. false) (λ (u : Unit {0}). []) (attached names c parent name bound h).told
+command_once names c rest h ps (detaches parent name AtOnce) = plain_once (λ r. false) (λ (u : Unit {0}). []) (detached names c parent name h).told
+command_once names c rest h ps (detaches parent name Concurrently) = by (detach_of rest)
   where
     by : (o : Option RestOfDetach) → CommitsOnce (is_some o) (is_some (detach_of (rest_told (told_as silent_end (by_rest names c o parent name h).told)))) (outcome_told (told_as silent_end (by_rest names c o parent name h).told))
     by None = first_once (first_stage names c parent name h).told
     by (Some d) = later_once (behind_nobody d) (later_stages names c d parent name h).told
-command_once names c rest h (detaches parent name Finalize) = plain_once (λ r. false) (λ (u : Unit {0}). []) (finalized names c parent name h).told
-command_once names c rest h (locks tables mode) = plain_once (λ r. false) (λ (u : Unit {0}). []) (locked names c.session tables mode h).told
-command_once names c rest h (begins level) = tt
-command_once names c rest h commits = tt
-command_once names c rest h rolls_back = tt
-command_once names c rest h (sets name value) = tt
-command_once names c rest h (resets name) = tt
-command_once names c rest h (deallocates name) = tt
-command_once names c rest h deallocates_all = tt
+command_once names c rest h ps (detaches parent name Finalize) = plain_once (λ r. false) (λ (u : Unit {0}). []) (finalized names c parent name h).told
+command_once names c rest h ps (locks tables mode) = plain_once (λ r. false) (λ (u : Unit {0}). []) (locked names c.session tables mode h).told
+command_once names c rest h ps (begins level) = tt
+command_once names c rest h ps commits = tt
+command_once names c rest h ps rolls_back = tt
+command_once names c rest h ps (sets name value) = tt
+command_once names c rest h ps (resets name) = tt
+command_once names c rest h ps (deallocates name) = listed_once h (deallocated ps name)
+command_once names c rest h ps deallocates_all = tt
 
-row_once : (trailed prunes : Bool) (names : List (List ℕ)) (c : Caller) (rest : Option Rest) (h : History) (t : RowTree)
-    → CommitsOnce false false (outcome_told (row_attempted trailed prunes names c rest t h).told)
-row_once trailed prunes names c rest h (selects s) = let m = selected prunes names [] c s h in plain_once (λ r. false) (answer_text trailed (m.events ++ h)) m.told
-row_once trailed prunes names c rest h (inserts name columns values) = let m = inserted names [] c name columns values h in plain_once (λ r. false) (inserted_text trailed (length values) (m.events ++ h)) m.told
-row_once trailed prunes names c rest h (updates name settings condition) = let m = updated prunes names [] c rest name settings condition h in plain_once (λ r. false) (changed_text trailed (codes "UPDATE") (m.events ++ h)) m.told
-row_once trailed prunes names c rest h (deletes name condition) = let m = deleted prunes names [] c rest name condition h in plain_once (λ r. false) (changed_text trailed (codes "DELETE") (m.events ++ h)) m.told
+row_once : (trailed prunes : Bool) (names : List (List ℕ)) (params : List Param) (c : Caller) (rest : Option Rest) (h : History) (t : RowTree)
+    → CommitsOnce false false (outcome_told (row_attempted trailed prunes names params c rest t h).told)
+row_once trailed prunes names params c rest h (selects s) = let m = selected prunes names params c s h in plain_once (λ r. false) (answer_text trailed (m.events ++ h)) m.told
+row_once trailed prunes names params c rest h (inserts name columns values) = let m = inserted names params c name columns values h in plain_once (λ r. false) (inserted_text trailed (length values) (m.events ++ h)) m.told
+row_once trailed prunes names params c rest h (updates name settings condition) = let m = updated prunes names params c rest name settings condition h in plain_once (λ r. false) (changed_text trailed (codes "UPDATE") (m.events ++ h)) m.told
+row_once trailed prunes names params c rest h (deletes name condition) = let m = deleted prunes names params c rest name condition h in plain_once (λ r. false) (changed_text trailed (codes "DELETE") (m.events ++ h)) m.told
 
-query_once : (trailed prunes : Bool) (names : List (List ℕ)) (c : Caller) (rest : Option Rest) (h : History) (t : QueryTree)
-    → CommitsOnce false false (outcome_told (query_attempted trailed prunes names c rest t h).told)
-query_once trailed prunes names c rest h (rows r) = row_once trailed prunes names c rest h r
-query_once trailed prunes names c rest h (prepares name kinds r) = tt
-query_once trailed prunes names c rest h (executes name values) = tt
-query_once trailed prunes names c rest h (explains_select true s) = tt
-query_once trailed prunes names c rest h (explains_select false s) = plain_once (λ r. false) table (explained prunes names [] c s h).told
-query_once trailed prunes names c rest h (explains_execute costs name values) = tt
+execute_once : (trailed prunes : Bool) (names : List (List ℕ)) (c : Caller) (rest : Option Rest) (h : History) (r : Result Execution Fault)
+    → CommitsOnce false false (outcome_told (execute_attempted trailed prunes names c rest r h).told)
+execute_once trailed prunes names c rest h (Ok e) = row_once trailed prunes names e.params c rest h e.statement
+execute_once trailed prunes names c rest h (Err f) = tt
 
-pub all_once : (o : Options) (c : Caller) (rest : Option Rest) (h : History) (g : Settings) (t : StatementTree)
-    → CommitsOnce (has_committed rest t) (has_committed (rest_told (attempted o c rest g t h).told) t) (outcome_told (attempted o c rest g t h).told)
+plan_once : (prunes : Bool) (names : List (List ℕ)) (params : List Param) (c : Caller) (h : History) (t : RowTree) → CommitsOnce false false (outcome_told (plan_of_execution prunes names params c t h).told)
+plan_once prunes names params c h (selects s) = plain_once (λ r. false) table (explained prunes names params c s h).told
+plan_once prunes names params c h (inserts name columns values) = tt
+plan_once prunes names params c h (updates name settings condition) = tt
+plan_once prunes names params c h (deletes name condition) = tt
+
+explained_once : (prunes : Bool) (names : List (List ℕ)) (c : Caller) (h : History) (r : Result Execution Fault) → CommitsOnce false false (outcome_told (execution_explained prunes names c r h).told)
+explained_once prunes names c h (Ok e) = plan_once prunes names e.params c h e.statement
+explained_once prunes names c h (Err f) = tt
+
+query_once : (trailed prunes : Bool) (names : List (List ℕ)) (c : Caller) (rest : Option Rest) (h : History) (ps : List Prepared) (t : QueryTree)
+    → CommitsOnce false false (outcome_told (query_attempted trailed prunes names c rest ps t h).told)
+query_once trailed prunes names c rest h ps (rows r) = row_once trailed prunes names [] c rest h r
+query_once trailed prunes names c rest h ps (prepares name types r) = listed_once h (prepared ps name types r)
+query_once trailed prunes names c rest h ps (executes name ts) = execute_once trailed prunes names c rest h (executed h c.session rest ps name ts)
+query_once trailed prunes names c rest h ps (explains_select true s) = tt
+query_once trailed prunes names c rest h ps (explains_select false s) = plain_once (λ r. false) table (explained prunes names [] c s h).told
+query_once trailed prunes names c rest h ps (explains_execute true name ts) = tt
+query_once trailed prunes names c rest h ps (explains_execute false name ts) = explained_once prunes names c h (explained_by h c.session ps name ts)
+
+pub all_once : (o : Options) (c : Caller) (rest : Option Rest) (h : History) (g : Settings) (ps : List Prepared) (t : StatementTree)
+    → CommitsOnce (has_committed rest t) (has_committed (rest_told (attempted o c rest g ps t h).told) t) (outcome_told (attempted o c rest g ps t h).told)
 unfolding attempted
-all_once o c rest h g (commands t) = command_once o.names c rest h t
-all_once o c rest h g (queries t) = query_once (is_trailed o c) g.enable_partition_pruning o.names c rest h t
+all_once o c rest h g ps (commands t) = command_once o.names c rest h ps t
+all_once o c rest h g ps (queries t) = query_once (is_trailed o c) g.enable_partition_pruning o.names c rest h ps t

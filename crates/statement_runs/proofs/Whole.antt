@@ -5,24 +5,21 @@ use Rattle.pg_values.specs.declared.fault.Fault.{Fault}
 use Rattle.pg_values.specs.declared.lock_mode.LockMode.{LockMode}
 use Rattle.refusals.specs.Refusals.{left_out}
 use Rattle.sql_ast.specs.Commands.{command_tree}
-use Rattle.sql_ast.specs.Queries.{query_tree}
 use Rattle.sql_ast.specs.declared.bound.BoundText.{BoundText}
 use Rattle.sql_ast.specs.declared.command.Command.{Command}
 use Rattle.sql_ast.specs.declared.command.Command.TheVariants as commands
 use Rattle.sql_ast.specs.declared.detachment.Detachment.{Detachment}
 use Rattle.sql_ast.specs.declared.locked_table.LockedTable.{LockedTable}
-use Rattle.sql_ast.specs.declared.query.Query.{Query}
-use Rattle.sql_ast.specs.declared.query.Query.TheVariants as queries
-use Rattle.sql_ast.specs.declared.query.RowStatement.{RowStatement}
-use Rattle.sql_ast.specs.declared.select.Select.{Select}
 use Rattle.sql_ast.specs.declared.table_definition.ColumnDefinition.{ColumnDefinition}
 use Rattle.sql_ast.specs.declared.table_definition.Partitioning.{Partitioning}
 use Rattle.history.specs.History.{History}
 use Rattle.part_catalog.specs.Stands.{CatalogueStands}
+use Rattle.stores.specs.Stand.{Stands}
 use Rattle.stores.specs.declared.stores.Stores.{Stores}
-use Rattle.statement_steps.specs.Attempts.{MayAttempt}
+use Rattle.prepared_statements.specs.Prepared.{Prepared}
+use Rattle.statement_steps.specs.Attempts.{IsAttempt, MayAttempt}
 use Rattle.statement_steps.specs.Ended.{Done, Ended, ended, silent_end, told_as}
-use Rattle.statement_steps.specs.Made.{Halt, Made, Refused}
+use Rattle.statement_steps.specs.Made.{Halt, Made, Refused, halted}
 use Rattle.statement_steps.specs.declared.caller.Caller.{Caller}
 use Rattle.statement_steps.specs.declared.ending.Ending.{Ending}
 use Rattle.statement_steps.specs.declared.ending.Ending.TheVariants as endings
@@ -34,9 +31,10 @@ use Rattle.statement_steps.proofs.Numbers.{one_later}
 use Rattle.statement_steps.proofs.Parts.{stays, still_on}
 use Rattle.change_statement.specs.Running.{IsCommand}
 use Rattle.change_statement.proofs.Commands.{goes_anywhere, waits_later}
-use Rattle.statement_runs.specs.Attempted.{as_table, command_attempted, nothing, omitted, printed, query_attempted, silent, staged, table, tabled}
-use Rattle.statement_runs.specs.LeftOut.{command_word, query_word}
-use Rattle.statement_runs.specs.Printed.{IsStatement}
+use Rattle.statement_runs.specs.Attempted.{as_table, command_attempted, listed, nothing, omitted, printed, silent, staged, table, tabled}
+use Rattle.statement_runs.specs.LeftOut.{command_word}
+use Rattle.statement_runs.specs.Executions.{command_kept}
+use Rattle.statement_runs.specs.Printed.{IsKept, IsStatement}
 
 -- ---- it prints nothing
 
@@ -171,30 +169,82 @@ omitted_is left word fault stores caller before may is = record {
 }
 
 -- as what has no case of its own
-pub query_omitted : (trailed prunes : Bool) (names : List (List ℕ)) (caller : Caller) (rest : Option Rest) (q : Query) → ((s : RowStatement) → q ≡ queries.Rows s → ⊥) → ((analyze : Bool) (s : Select) → q ≡ queries.ExplainSelect analyze s → ⊥)
-    → query_attempted trailed prunes names caller rest (query_tree q) ≡ omitted (query_word (query_tree q))
-query_omitted trailed prunes names caller rest (queries.Rows s) rows explains = absurd (rows s refl)
-query_omitted trailed prunes names caller rest (queries.Prepare name kinds s) rows explains = refl
-query_omitted trailed prunes names caller rest (queries.Execute name arguments) rows explains = refl
-query_omitted trailed prunes names caller rest (queries.ExplainSelect analyze s) rows explains = absurd (explains analyze s refl)
-query_omitted trailed prunes names caller rest (queries.ExplainExecute analyze name arguments) rows explains = refl
-
-pub command_omitted : (names : List (List ℕ)) (caller : Caller) (rest : Option Rest) (t : Command)
+pub command_omitted : (names : List (List ℕ)) (caller : Caller) (rest : Option Rest) (ps : List Prepared) (t : Command)
     → ((name : List ℕ) (columns : List ColumnDefinition) (by : Option Partitioning) → t ≡ commands.CreateTable name columns by → ⊥)
     → ((name parent : List ℕ) (bound : BoundText) (by : Option Partitioning) → t ≡ commands.CreatePartition name parent bound by → ⊥)
     → ((if_there : Bool) (tables : List (List ℕ)) → t ≡ commands.DropTables if_there tables → ⊥) → ((parent name : List ℕ) (bound : BoundText) → t ≡ commands.Attach parent name bound → ⊥)
     → ((parent name : List ℕ) (how : Detachment) → t ≡ commands.Detach parent name how → ⊥) → ((tables : List LockedTable) (mode : LockMode) → t ≡ commands.Lock tables mode → ⊥)
-    → command_attempted names caller rest (command_tree t) ≡ omitted (command_word (command_tree t))
-command_omitted names caller rest (commands.Begin level) a b c d e f = refl
-command_omitted names caller rest commands.Commit a b c d e f = refl
-command_omitted names caller rest commands.Rollback a b c d e f = refl
-command_omitted names caller rest (commands.Set name value) a b c d e f = refl
-command_omitted names caller rest (commands.Reset name) a b c d e f = refl
-command_omitted names caller rest (commands.CreateTable name columns by) a b c d e f = absurd (a name columns by refl)
-command_omitted names caller rest (commands.CreatePartition name parent bound by) a b c d e f = absurd (b name parent bound by refl)
-command_omitted names caller rest (commands.DropTables if_there tables) a b c d e f = absurd (c if_there tables refl)
-command_omitted names caller rest (commands.Attach parent name bound) a b c d e f = absurd (d parent name bound refl)
-command_omitted names caller rest (commands.Detach parent name how) a b c d e f = absurd (e parent name how refl)
-command_omitted names caller rest (commands.Lock tables mode) a b c d e f = absurd (f tables mode refl)
-command_omitted names caller rest (commands.Deallocate name) a b c d e f = refl
-command_omitted names caller rest commands.DeallocateAll a b c d e f = refl
+    → ((name : List ℕ) → t ≡ commands.Deallocate name → ⊥) → (t ≡ commands.DeallocateAll → ⊥)
+    → command_attempted names caller rest ps (command_tree t) ≡ omitted (command_word (command_tree t))
+command_omitted names caller rest ps (commands.Begin level) a b c d e f g k = refl
+command_omitted names caller rest ps commands.Commit a b c d e f g k = refl
+command_omitted names caller rest ps commands.Rollback a b c d e f g k = refl
+command_omitted names caller rest ps (commands.Set name value) a b c d e f g k = refl
+command_omitted names caller rest ps (commands.Reset name) a b c d e f g k = refl
+command_omitted names caller rest ps (commands.CreateTable name columns by) a b c d e f g k = absurd (a name columns by refl)
+command_omitted names caller rest ps (commands.CreatePartition name parent bound by) a b c d e f g k = absurd (b name parent bound by refl)
+command_omitted names caller rest ps (commands.DropTables if_there tables) a b c d e f g k = absurd (c if_there tables refl)
+command_omitted names caller rest ps (commands.Attach parent name bound) a b c d e f g k = absurd (d parent name bound refl)
+command_omitted names caller rest ps (commands.Detach parent name how) a b c d e f g k = absurd (e parent name how refl)
+command_omitted names caller rest ps (commands.Lock tables mode) a b c d e f g k = absurd (f tables mode refl)
+command_omitted names caller rest ps (commands.Deallocate name) a b c d e f g k = absurd (g name refl)
+command_omitted names caller rest ps commands.DeallocateAll a b c d e f g k = absurd (k refl)
+
+-- ---- what it means may be told by what stands at its beginning
+
+pub same_statement : (left : Option Rest) (r : Result Ending Stop) (old new : Stores) (caller : Caller) (f g : History → Made Ended) (before after : List ℕ) → ((h : History) → Stands old h → g h ≡ f h)
+    → IsStatement left r old new before after caller f → IsStatement left r old new before after caller g
+same_statement left r old new caller f g before after same step = record {
+  is = λ h stands at go. subst (IsAttempt r new before after caller h) (sym (same h stands)) (step.is h stands at go);
+  keeps = step.keeps;
+  waits = step.waits;
+}
+
+-- refused there
+pub refused_is : (left : Option Rest) (fault : Fault) (stores : Stores) (caller : Caller) (f : History → Made Ended) (before : List ℕ) → MayAttempt stores caller → ((h : History) → Stands stores h → f h ≡ halted [] (Refused fault))
+    → IsStatement left (Err (stop.Refused fault)) stores stores before before caller f
+refused_is left fault stores caller f before may same = record {
+  is = λ h stands at go. subst (IsAttempt (Err (stop.Refused fault)) stores before before caller h) (sym (same h stands)) (refl, refl, still_on stores h caller.session (caller.cmd + 1) stands (one_later h caller.session caller.cmd at));
+  keeps = stays stores caller.session;
+  waits = may.idle;
+}
+
+pub no_memory_is : (left : Option Rest) (stores : Stores) (caller : Caller) (f : History → Made Ended) (before : List ℕ) → IsStatement left (Err stop.NoMemory) stores stores before before caller f
+no_memory_is left stores caller f before = record { is = λ h stands at go. tt; keeps = stays stores caller.session; waits = tt }
+
+-- ---- what is prepared stays
+
+pub kept_still : (r : Result Ending Stop) (ps : List Prepared) → IsKept r ps ps ps
+kept_still (Ok endings.Done) ps = refl
+kept_still (Ok (endings.Commits d)) ps = refl
+kept_still (Err stop) ps = refl
+
+pub others_keep : (ps : List Prepared) (t : Command) → ((name : List ℕ) → t ≡ commands.Deallocate name → ⊥) → (t ≡ commands.DeallocateAll → ⊥) → command_kept ps (command_tree t) ≡ ps
+others_keep ps (commands.Begin level) g k = refl
+others_keep ps commands.Commit g k = refl
+others_keep ps commands.Rollback g k = refl
+others_keep ps (commands.Set name value) g k = refl
+others_keep ps (commands.Reset name) g k = refl
+others_keep ps (commands.CreateTable name columns by) g k = refl
+others_keep ps (commands.CreatePartition name parent bound by) g k = refl
+others_keep ps (commands.DropTables if_there tables) g k = refl
+others_keep ps (commands.Attach parent name bound) g k = refl
+others_keep ps (commands.Detach parent name how) g k = refl
+others_keep ps (commands.Lock tables mode) g k = refl
+others_keep ps (commands.Deallocate name) g k = absurd (g name refl)
+others_keep ps commands.DeallocateAll g k = absurd (k refl)
+
+-- ---- it changes
+
+pub listed_is : (left : Option Rest) (told : Result (List Prepared) Fault) (ps : List Prepared) (stores : Stores) (caller : Caller) (before : List ℕ) → MayAttempt stores caller → told ≡ Ok ps
+    → IsStatement left (Ok endings.Done) stores stores before before caller (listed told)
+listed_is left told ps stores caller before may is = record {
+  is = λ h stands at go. subst (λ (r : Result (List Prepared) Fault). IsAttempt (Ok endings.Done) stores before before caller h (listed r h)) (sym is)
+      ([], refl, sym (append-nil before), still_on stores h caller.session (caller.cmd + 1) stands (one_later h caller.session caller.cmd at));
+  keeps = stays stores caller.session;
+  waits = may.idle;
+}
+
+pub listed_stops : (left : Option Rest) (told : Result (List Prepared) Fault) (fault : Fault) (stores : Stores) (caller : Caller) (before : List ℕ) → MayAttempt stores caller → told ≡ Err fault
+    → IsStatement left (Err (stop.Refused fault)) stores stores before before caller (listed told)
+listed_stops left told fault stores caller before may is = refused_is left fault stores caller (listed told) before may (λ h stands. ap (λ (r : Result (List Prepared) Fault). listed r h) is)

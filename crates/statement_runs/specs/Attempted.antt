@@ -1,18 +1,20 @@
 -- What a statement of a session makes of a history, and what it prints (VI. SQL Commands).
-use Rattle.std.specs.Prelude.{ℕ, ◌&&◌, Bool, true, false, List, [], ◌++◌, Option, codes, length}
+use Rattle.std.specs.Prelude.{ℕ, ◌&&◌, Bool, true, false, List, [], ◌++◌, Option, Result, Ok, Err, codes, length}
 use Rattle.pg_values.specs.declared.answer.Answer.{Answer}
+use Rattle.pg_values.specs.declared.fault.Fault.{Fault}
 use Rattle.refusals.specs.Refusals.{left_out}
 use Rattle.history.specs.History.{History}
 use Rattle.schedule.specs.declared.block.BlockKind.{BlockKind}
 use Rattle.schedule.specs.declared.block.BlockKind.TheVariants.{Step}
 use Rattle.sessions.specs.declared.settings.Settings.{Settings}
-use Rattle.sql_ast.specs.Commands.{CommandTree, makes_table, makes_partition, drops, attaches, detaches, locks}
+use Rattle.sql_ast.specs.Commands.{CommandTree, makes_table, makes_partition, drops, attaches, detaches, locks, deallocates, deallocates_all}
 use Rattle.sql_ast.specs.declared.detachment.Detachment.TheVariants.{AtOnce, Concurrently, Finalize}
-use Rattle.sql_ast.specs.Queries.{SelectTree, RowTree, QueryTree, selects, inserts, updates, deletes, rows, explains_select}
+use Rattle.sql_ast.specs.Expressions.{Trees}
+use Rattle.sql_ast.specs.Queries.{SelectTree, RowTree, QueryTree, selects, inserts, updates, deletes, rows, prepares, executes, explains_select, explains_execute}
 use Rattle.sql_ast.specs.Statements.{StatementTree, commands, queries}
 use Rattle.out_text.specs.Table.{printed_table}
 use Rattle.statement_steps.specs.Ended.{Ended, Done, silent_end, giving}
-use Rattle.statement_steps.specs.Made.{Made, Refused, halted}
+use Rattle.statement_steps.specs.Made.{Made, Refused, made, halted}
 use Rattle.statement_steps.specs.declared.caller.Caller.{Caller}
 use Rattle.statement_steps.specs.declared.ending.Ending.{Ending}
 use Rattle.statement_steps.specs.declared.rest.Rest.{Rest}
@@ -30,7 +32,10 @@ use Rattle.detach_statement.specs.Detached.{detached}
 use Rattle.detach_statement.specs.Concurrent.{detached_concurrently}
 use Rattle.detach_statement.specs.Finalized.{finalized}
 use Rattle.attach_statement.specs.Attached.{attached}
-use Rattle.statement_runs.specs.LeftOut.{command_word, query_word}
+use Rattle.expression_binder.specs.declared.scope.Param.{Param}
+use Rattle.prepared_statements.specs.Prepared.{Prepared, prepared, deallocated, first_word}
+use Rattle.statement_runs.specs.Executions.{Execution, executed, explained_by}
+use Rattle.statement_runs.specs.LeftOut.{command_word}
 use Rattle.statement_runs.specs.declared.options.Options.{Options}
 use Rattle.statement_runs.specs.Trails.{trail_text}
 
@@ -83,37 +88,71 @@ staged f h = giving silent_end (f h)
 abbrev pub omitted : (word : List ℕ) → History → Made Ended
 omitted word h = halted [] (Refused (left_out word))
 
-abbrev pub command_attempted : (names : List (List ℕ)) → Caller → Option Rest → CommandTree → History → Made Ended
-command_attempted names c rest (makes_table name columns by) = silent (created names c name columns by)
-command_attempted names c rest (makes_partition name parent bound by) = silent (partitioned names c name parent bound by)
-command_attempted names c rest (drops if_there tables) = silent (dropped names c if_there tables)
-command_attempted names c rest (attaches parent name bound) = silent (attached names c parent name bound)
-command_attempted names c rest (detaches parent name AtOnce) = silent (detached names c parent name)
-command_attempted names c rest (detaches parent name Concurrently) = staged (detached_concurrently names c rest parent name)
-command_attempted names c rest (detaches parent name Finalize) = silent (finalized names c parent name)
-command_attempted names c rest (locks tables mode) = silent (locked names c.session tables mode)
-command_attempted names c rest t = omitted (command_word t)
+-- what is prepared changes, or the first fault is told
+abbrev pub listed : Result (List Prepared) Fault → History → Made Ended
+listed (Ok ps) h = made [] (Done [])
+listed (Err f) h = halted [] (Refused f)
 
-abbrev pub select_attempted : (trailed prunes : Bool) → (names : List (List ℕ)) → Caller → SelectTree → History → Made Ended
-select_attempted trailed prunes names c s = printed (answer_text trailed) (selected prunes names [] c s)
+abbrev pub command_attempted : (names : List (List ℕ)) → Caller → Option Rest → List Prepared → CommandTree → History → Made Ended
+command_attempted names c rest ps (makes_table name columns by) = silent (created names c name columns by)
+command_attempted names c rest ps (makes_partition name parent bound by) = silent (partitioned names c name parent bound by)
+command_attempted names c rest ps (drops if_there tables) = silent (dropped names c if_there tables)
+command_attempted names c rest ps (attaches parent name bound) = silent (attached names c parent name bound)
+command_attempted names c rest ps (detaches parent name AtOnce) = silent (detached names c parent name)
+command_attempted names c rest ps (detaches parent name Concurrently) = staged (detached_concurrently names c rest parent name)
+command_attempted names c rest ps (detaches parent name Finalize) = silent (finalized names c parent name)
+command_attempted names c rest ps (locks tables mode) = silent (locked names c.session tables mode)
+command_attempted names c rest ps (deallocates name) = listed (deallocated ps name)
+command_attempted names c rest ps deallocates_all = listed (Ok [])
+command_attempted names c rest ps t = omitted (command_word t)
 
-abbrev pub row_attempted : (trailed prunes : Bool) → (names : List (List ℕ)) → Caller → Option Rest → RowTree → History → Made Ended
-row_attempted trailed prunes names c rest (selects s) = select_attempted trailed prunes names c s
-row_attempted trailed prunes names c rest (inserts table columns values) = printed (inserted_text trailed (length values)) (inserted names [] c table columns values)
-row_attempted trailed prunes names c rest (updates table settings condition) = printed (changed_text trailed (codes "UPDATE")) (updated prunes names [] c rest table settings condition)
-row_attempted trailed prunes names c rest (deletes table condition) = printed (changed_text trailed (codes "DELETE")) (deleted prunes names [] c rest table condition)
+abbrev pub select_attempted : (trailed prunes : Bool) → (names : List (List ℕ)) → List Param → Caller → SelectTree → History → Made Ended
+select_attempted trailed prunes names params c s = printed (answer_text trailed) (selected prunes names params c s)
+
+-- with the values of its parameters
+abbrev pub row_attempted : (trailed prunes : Bool) → (names : List (List ℕ)) → List Param → Caller → Option Rest → RowTree → History → Made Ended
+row_attempted trailed prunes names params c rest (selects s) = select_attempted trailed prunes names params c s
+row_attempted trailed prunes names params c rest (inserts table columns values) = printed (inserted_text trailed (length values)) (inserted names params c table columns values)
+row_attempted trailed prunes names params c rest (updates table settings condition) = printed (changed_text trailed (codes "UPDATE")) (updated prunes names params c rest table settings condition)
+row_attempted trailed prunes names params c rest (deletes table condition) = printed (changed_text trailed (codes "DELETE")) (deleted prunes names params c rest table condition)
+
+abbrev pub plan_attempted : (prunes : Bool) → (names : List (List ℕ)) → List Param → Caller → SelectTree → History → Made Ended
+plan_attempted prunes names params c s = tabled (explained prunes names params c s)
 
 -- one that runs the SELECT too is left out
 abbrev pub explain_attempted : (prunes : Bool) → (names : List (List ℕ)) → Caller → (analyze : Bool) → SelectTree → History → Made Ended
-explain_attempted prunes names c false s = tabled (explained prunes names [] c s)
+explain_attempted prunes names c false s = plan_attempted prunes names [] c s
 explain_attempted prunes names c true s = omitted (codes "ANALYZE")
 
-abbrev pub query_attempted : (trailed prunes : Bool) → (names : List (List ℕ)) → Caller → Option Rest → QueryTree → History → Made Ended
-query_attempted trailed prunes names c rest (rows r) = row_attempted trailed prunes names c rest r
-query_attempted trailed prunes names c rest (explains_select analyze s) = explain_attempted prunes names c analyze s
-query_attempted trailed prunes names c rest t = omitted (query_word t)
+-- ---- what was prepared
+
+abbrev pub execute_attempted : (trailed prunes : Bool) → (names : List (List ℕ)) → Caller → Option Rest → Result Execution Fault → History → Made Ended
+execute_attempted trailed prunes names c rest (Ok e) = row_attempted trailed prunes names e.params c rest e.statement
+execute_attempted trailed prunes names c rest (Err f) = λ h. halted [] (Refused f)
+
+-- the plan of a SELECT; that of another statement is refused before
+abbrev pub plan_of_execution : (prunes : Bool) → (names : List (List ℕ)) → List Param → Caller → RowTree → History → Made Ended
+plan_of_execution prunes names params c (selects s) = plan_attempted prunes names params c s
+plan_of_execution prunes names params c s = omitted (first_word s)
+
+abbrev pub execution_explained : (prunes : Bool) → (names : List (List ℕ)) → Caller → Result Execution Fault → History → Made Ended
+execution_explained prunes names c (Ok e) = plan_of_execution prunes names e.params c e.statement
+execution_explained prunes names c (Err f) = λ h. halted [] (Refused f)
+
+abbrev pub explain_execute_attempted : (prunes : Bool) → (names : List (List ℕ)) → Caller → List Prepared → (analyze : Bool) → (name : List ℕ) → Trees → History → Made Ended
+explain_execute_attempted prunes names c ps false name ts = λ h. execution_explained prunes names c (explained_by h c.session ps name ts) h
+explain_execute_attempted prunes names c ps true name ts = omitted (codes "ANALYZE")
+
+-- ---- each statement, in a session that has prepared these
+
+abbrev pub query_attempted : (trailed prunes : Bool) → (names : List (List ℕ)) → Caller → Option Rest → List Prepared → QueryTree → History → Made Ended
+query_attempted trailed prunes names c rest ps (rows r) = row_attempted trailed prunes names [] c rest r
+query_attempted trailed prunes names c rest ps (prepares name types s) = listed (prepared ps name types s)
+query_attempted trailed prunes names c rest ps (executes name ts) = λ h. execute_attempted trailed prunes names c rest (executed h c.session rest ps name ts) h
+query_attempted trailed prunes names c rest ps (explains_select analyze s) = explain_attempted prunes names c analyze s
+query_attempted trailed prunes names c rest ps (explains_execute analyze name ts) = explain_execute_attempted prunes names c ps analyze name ts
 
 -- from its beginning, or from where it stood, in a session with these settings; it is opened where that matters alone
-unfoldable pub attempted : Options → Caller → Option Rest → Settings → StatementTree → History → Made Ended
-attempted o c rest g (commands t) = command_attempted o.names c rest t
-attempted o c rest g (queries t) = query_attempted (is_trailed o c) g.enable_partition_pruning o.names c rest t
+unfoldable pub attempted : Options → Caller → Option Rest → Settings → List Prepared → StatementTree → History → Made Ended
+attempted o c rest g ps (commands t) = command_attempted o.names c rest ps t
+attempted o c rest g ps (queries t) = query_attempted (is_trailed o c) g.enable_partition_pruning o.names c rest ps t

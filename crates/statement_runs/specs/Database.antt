@@ -16,12 +16,14 @@ use Rattle.pg_values.specs.declared.isolation.Isolation.{Isolation}
 use Rattle.pg_values.specs.declared.isolation.Isolation.TheVariants.{ReadCommitted, ReadUncommitted, RepeatableRead}
 use Rattle.sessions.specs.declared.settings.Settings.{Settings}
 use Rattle.sql_ast.specs.Statements.{StatementTree}
+use Rattle.prepared_statements.specs.Prepared.{Prepared}
 use Rattle.out_text.specs.FaultText.{fault_text}
 use Rattle.stores.specs.Events.{begun, committed, aborted, let_go, withdrawn, resumed}
 use Rattle.statement_steps.specs.Ended.{Ended, Done, Commits}
 use Rattle.statement_steps.specs.Made.{Made, Halt, Waits, Refused, number_after, halted}
 use Rattle.statement_runs.specs.Tallies.{none, added, unless_cut}
 use Rattle.statement_runs.specs.Attempted.{attempted}
+use Rattle.statement_runs.specs.Executions.{kept}
 use Rattle.statement_runs.specs.Given.{statement_given}
 use Rattle.statement_runs.specs.Reading.{read_block}
 use Rattle.statement_runs.specs.Roles.{role_of, looks, misplaced, changed, cancelled_by}
@@ -31,7 +33,7 @@ use Rattle.statement_steps.specs.declared.rest.Rest.{Rest}
 use Rattle.statement_steps.specs.declared.rest.Rest.TheVariants.{Detach}
 
 -- all that has happened; of each session how many commands of its transaction have begun and ended, whether the
--- wait of its statement was cancelled, and where a statement stands that waits in the middle of its run; whose waits
+-- wait of its statement was cancelled, where a statement stands that waits in the middle of its run, and what is prepared; whose waits
 -- statements of others have cancelled, in this order, as long as these have not gone on; and what completed statements
 -- have given and read
 pub record Database : Type 0 where
@@ -41,11 +43,12 @@ pub record Database : Type 0 where
   pub commands : List ℕ
   pub cancelled : List Bool
   pub rests : List (Option Rest)
+  pub prepared : List (List Prepared)
   pub cut : List ℕ
   pub tally : Tally
 
 abbrev pub empty : Options → ℕ → Database
-empty o n = record { options = o; sessions = n; history = []; commands = replicate n 0; cancelled = replicate n false; rests = replicate n None; cut = []; tally = none }
+empty o n = record { options = o; sessions = n; history = []; commands = replicate n 0; cancelled = replicate n false; rests = replicate n None; prepared = replicate n []; cut = []; tally = none }
 
 -- nothing has happened again; what statements have given and read is kept
 abbrev pub anew : Database → Database
@@ -59,6 +62,9 @@ is_cancelled v s = slice_index_or v.cancelled s false
 
 abbrev pub rest_of : Database → ℕ → Option Rest
 rest_of v s = slice_index_or v.rests s None
+
+abbrev pub prepared_of : Database → ℕ → List Prepared
+prepared_of v s = slice_index_or v.prepared s []
 
 -- ---- a statement
 
@@ -79,10 +85,10 @@ abbrev pub refusal_of : Database → ℕ → Option Fault
 refusal_of v s = refused_first (is_cancelled v s) (command_of v s)
 
 abbrev pub attempt_of : Database → Asker → Settings → StatementTree → Made Ended
-attempt_of v a g t = refused_or (refusal_of v a.session) (attempted v.options (caller_of v.sessions (command_of v a.session) a) (rest_of v a.session) g t v.history)
+attempt_of v a g t = refused_or (refusal_of v a.session) (attempted v.options (caller_of v.sessions (command_of v a.session) a) (rest_of v a.session) g (prepared_of v a.session) t v.history)
 
 abbrev pub given_by : Database → Asker → Settings → StatementTree → Tally
-given_by v a g t = unless_cut (refusal_of v a.session) (statement_given v.options (caller_of v.sessions (command_of v a.session) a) (rest_of v a.session) g t v.history)
+given_by v a g t = unless_cut (refusal_of v a.session) (statement_given v.options (caller_of v.sessions (command_of v a.session) a) (rest_of v a.session) g (prepared_of v a.session) t v.history)
 
 -- a command that is to begin anew keeps its number
 abbrev pub next_command : Result Ended Halt → ℕ → ℕ
@@ -112,12 +118,19 @@ abbrev pub given_up : Isolation → (session : ℕ) → Option Rest → Result E
 given_up level s (Some rest) (Ok (Done text)) = let_go_at level s
 given_up level s rest told = []
 
-abbrev pub goes_on : Database → Asker → Made Ended → Tally → Database
-goes_on v a m given = record v {
+-- PREPARE and DEALLOCATE change what is prepared where they are done, and no transaction gives it back
+abbrev pub prepared_then : Result Ended Halt → List Prepared → StatementTree → List Prepared
+prepared_then (Ok (Done text)) ps t = kept ps t
+prepared_then (Ok (Commits d)) ps t = ps
+prepared_then (Err halt) ps t = ps
+
+abbrev pub goes_on : Database → Asker → StatementTree → Made Ended → Tally → Database
+goes_on v a t m given = record v {
   history = given_up a.level a.session (rest_of v a.session) m.told ++ (m.events ++ v.history);
   commands = slice_set v.commands a.session (number_then (refusal_of v a.session) m.told (command_of v a.session));
   cancelled = slice_set v.cancelled a.session false;
   rests = slice_set v.rests a.session (rest_told m.told);
+  prepared = slice_set v.prepared a.session (prepared_then m.told (prepared_of v a.session) t);
   tally = added v.tally given;
 }
 
@@ -154,7 +167,7 @@ all_cut v [] = v
 all_cut v (s ∷ ss) = all_cut (cuts v s) ss
 
 abbrev pub cut_by : Database → Asker → StatementTree → Database
-cut_by v a t = all_cut v (cancelled_by a.session v.sessions t)
+cut_by v a t = all_cut v (cancelled_by a.session v.sessions (prepared_of v a.session) t)
 
 -- the first of these whose statement is still to be refused
 abbrev pub interrupted : Database → Option ℕ
@@ -183,7 +196,7 @@ course = record {
   began = λ v s. record (happened v (begun v.history s)) { commands = slice_set v.commands s 0 };
   committed = λ v s. happened v (committed v.history s);
   aborted = λ v s. happened v (aborted v.history s);
-  ran = λ v a g t. goes_on (cut_by v a t) a (attempt_of (cut_by v a t) a g t) (given_by (cut_by v a t) a g t);
+  ran = λ v a g t. goes_on (cut_by v a t) a t (attempt_of (cut_by v a t) a g t) (given_by (cut_by v a t) a g t);
   outcome = λ v a g t. outcome_told (attempt_of (cut_by v a t) a g t).told;
   text = λ v a g t. text_told (attempt_of (cut_by v a t) a g t).told;
   interrupted = interrupted;

@@ -13,6 +13,7 @@ use Rattle.stores.specs.Stand.{Stands}
 use Rattle.stores.specs.Numbers.{IsAt}
 use Rattle.stores.specs.declared.stores.Stores.{Stores}
 use Rattle.statement_steps.specs.Attempts.{CanGoOn}
+use Rattle.prepared_statements.specs.Prepared.{Prepared}
 use Rattle.statement_runs.specs.Database.{Database, is_ready}
 use Rattle.statement_runs.specs.declared.options.Options.{Options}
 use Rattle.statement_steps.specs.declared.rest.Rest.{Rest}
@@ -70,9 +71,9 @@ pub record Adds (old new : KeptSeats) (events : History → List Event) : Type 0
   pub whole : new.whole ≡ old.whole
   pub tells : old.whole ≡ true → (h : History) → TellOf old h → TellOf new (events h ++ h)
 
--- it stands for a database, with those whose waits statements of others have cancelled, and with what statements have given
--- and read
-pub record StandsFor (o : Options) (kept : KeptSeats) (ended : List ℕ) (tally : Tally) (v : Database) : Type 0 where
+-- it stands for a database, with what the sessions have prepared, with those whose waits statements of others have cancelled,
+-- and with what statements have given and read
+pub record StandsFor (o : Options) (kept : KeptSeats) (lists : List (List Prepared)) (ended : List ℕ) (tally : Tally) (v : Database) : Type 0 where
   pub whole : kept.whole ≡ true
   pub options : o ≡ v.options
   pub sessions : length kept.opened ≡ v.sessions
@@ -80,6 +81,7 @@ pub record StandsFor (o : Options) (kept : KeptSeats) (ended : List ℕ) (tally 
   pub commands : kept.commands ≡ v.commands
   pub cancelled : kept.cancelled ≡ v.cancelled
   pub rests : kept.rests ≡ v.rests
+  pub prepared : lists ≡ v.prepared
   pub cut : ended ≡ v.cut
   pub given : tally ≡ v.tally
 

@@ -2,6 +2,7 @@ pub mod Attempted
 pub mod Changes
 pub mod Codes
 pub mod Database
+pub mod Executions
 pub mod Faults
 pub mod Given
 pub mod Kept

@@ -1,20 +1,23 @@
 -- What a statement is in the course of a session (VI. SQL Commands).
-use Rattle.std.specs.Prelude.{ℕ, ◌-◌, Bool, true, false, List, [], Option, None, Result, Ok, is_some}
+use Rattle.std.specs.Prelude.{ℕ, ◌-◌, Bool, true, false, List, [], Option, None, Result, Ok, Err, is_some}
 use Rattle.pg_values.specs.declared.fault.Fault.{Fault}
 use Rattle.sessions.specs.declared.asker.Place.{Place}
 use Rattle.sessions.specs.declared.role.Role.{Role}
 use Rattle.sessions.specs.declared.role.Role.TheVariants.{Begin, Commit, Rollback, Set, Query}
 use Rattle.sessions.specs.declared.settings.Settings.{Settings}
 use Rattle.sql_ast.specs.Commands.{CommandTree, begins, commits, rolls_back, sets, resets, detaches, locks}
-use Rattle.sql_ast.specs.Queries.{RowTree, QueryTree, selects, rows}
+use Rattle.sql_ast.specs.Queries.{RowTree, QueryTree, selects, rows, executes}
 use Rattle.sql_ast.specs.Statements.{StatementTree, commands, queries}
 use Rattle.sql_ast.specs.declared.detachment.Detachment.TheVariants.{Concurrently}
 use Rattle.statement_steps.specs.declared.rest.Rest.{Rest}
+use Rattle.expression_binder.specs.declared.scope.Param.{Param}
+use Rattle.prepared_statements.specs.Prepared.{Prepared}
 use Rattle.select_statement.specs.Cancels.{cancelled}
 use Rattle.table_statements.specs.Places.{lock_misplaced}
 use Rattle.detach_statement.specs.Concurrent.{detach_of}
 use Rattle.detach_statement.specs.Places.{detach_misplaced}
 use Rattle.statement_runs.specs.Changes as settings
+use Rattle.statement_runs.specs.Executions.{Execution, executed_over}
 
 abbrev pub command_role : CommandTree → Role
 command_role (begins level) = Begin level
@@ -71,16 +74,21 @@ abbrev pub has_committed : Option Rest → StatementTree → Bool
 has_committed rest (commands t) = command_committed rest t
 has_committed rest (queries t) = false
 
--- a SELECT alone cancels waits
-abbrev pub row_cancelled : (session sessions : ℕ) → RowTree → List ℕ
-row_cancelled s sessions (selects t) = cancelled [] s sessions t
-row_cancelled s sessions t = []
+-- a SELECT alone cancels waits; where it has a FROM it has no such call, so its parameters are those of no table
+abbrev pub row_cancelled : List Param → (session sessions : ℕ) → RowTree → List ℕ
+row_cancelled params s sessions (selects t) = cancelled params s sessions t
+row_cancelled params s sessions t = []
 
-abbrev pub query_cancelled : (session sessions : ℕ) → QueryTree → List ℕ
-query_cancelled s sessions (rows r) = row_cancelled s sessions r
-query_cancelled s sessions t = []
+abbrev pub execution_cancelled : (session sessions : ℕ) → Result Execution Fault → List ℕ
+execution_cancelled s sessions (Ok e) = row_cancelled e.params s sessions e.statement
+execution_cancelled s sessions (Err f) = []
+
+abbrev pub query_cancelled : (session sessions : ℕ) → List Prepared → QueryTree → List ℕ
+query_cancelled s sessions ps (rows r) = row_cancelled [] s sessions r
+query_cancelled s sessions ps (executes name ts) = execution_cancelled s sessions (executed_over [] ps name ts)
+query_cancelled s sessions ps t = []
 
 -- the control session is one of the sessions, and no number names it
-abbrev pub cancelled_by : (session sessions : ℕ) → StatementTree → List ℕ
-cancelled_by s sessions (commands t) = []
-cancelled_by s sessions (queries t) = query_cancelled s (sessions - 1) t
+abbrev pub cancelled_by : (session sessions : ℕ) → List Prepared → StatementTree → List ℕ
+cancelled_by s sessions ps (commands t) = []
+cancelled_by s sessions ps (queries t) = query_cancelled s (sessions - 1) ps t

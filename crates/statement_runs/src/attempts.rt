@@ -1,10 +1,14 @@
-ghost use Rattle.std.specs.Prelude.{◌≡◌, ◌≤◌, ◌&&◌, ◌++◌, [], OnOk, Option, codes, false, length, map};
+ghost use Rattle.std.specs.Prelude.{◌≡◌, ◌≤◌, ◌&&◌, ◌++◌, [], List, OnErr, OnOk, Option, Result, codes, length, map};
+ghost use Rattle.pg_values.specs.declared.fault.Fault.{Fault as OneFault};
 ghost use Rattle.history.specs.History.{History};
 ghost use Rattle.part_catalog.specs.Stands.{CatalogueStands};
 ghost use Rattle.sql_ast.specs.Commands.{command_tree};
 ghost use Rattle.sql_ast.specs.Expressions.{trees};
 ghost use Rattle.sql_ast.specs.Queries.{maybe_tree, query_tree, row_tree, select_tree, setting};
 ghost use Rattle.sql_ast.specs.Statements.{statement_tree};
+ghost use Rattle.expression_binder.specs.Firsts.{IsAnswerBy};
+ghost use Rattle.prepared_statements.specs.Kept.{listed};
+ghost use Rattle.prepared_statements.specs.Prepared.{Prepared, prepared as prepared_with};
 ghost use Rattle.statement_steps.specs.Attempts.{MayAttempt, MayGoOn};
 ghost use Rattle.statement_steps.specs.Ended.{ended};
 ghost use Rattle.statement_steps.specs.declared.rest.Rest.{Rest as Left};
@@ -14,30 +18,36 @@ ghost use Rattle.change_statement.specs.Changed as changed;
 ghost use Rattle.change_statement.specs.Deleted.{deleted};
 ghost use Rattle.change_statement.specs.Updated.{updated};
 ghost use Rattle.statement_runs.specs.Attempted as attempted;
+ghost use Rattle.statement_runs.specs.Executions as executions;
 ghost use Rattle.statement_runs.specs.Given as given;
-ghost use Rattle.statement_runs.specs.Printed.{IsStatement, IsTallied};
+ghost use Rattle.statement_runs.specs.Printed.{IsKept, IsStatement, IsTallied};
 ghost use Rattle.statement_runs.specs.Tallies.{added};
 
 use crate::Options;
-use crate::left_out::{command_word, query_word};
+use crate::executing::{executed, explained_by};
+use crate::left_out::command_word;
 use crate::tallies::count;
 use crate::trails::write_trail;
 use attach_statement::attach;
 use change_statement::{ChangedRows, delete, update};
 use detach_statement::{detach, detach_concurrently, finalize};
+use expression_binder::Param;
 use insert_statement::insert;
 use out_text::write_table;
 use part_catalog::Catalog;
-use pg_values::NoMemory;
+use pg_values::{NoMemory, PgText, Refusal};
+use prepared_statements::PreparedList;
 use refusals::left_out;
 use schedule::{BlockKind, Tally};
 use select_statement::{Answered, explain, select};
 use sessions::Settings;
 use sql_ast::{
-    Command, Delete, Detachment, Insert, Query, RowStatement, Select, Statement, Update,
+    Command, Delete, Detachment, ExprList, Insert, NameList, Query, RowStatement, Select,
+    Statement, Update,
 };
 use statement_steps::{Caller, Ending, Rest, SessionNames, Stop, ended};
 use std::alloc::Global;
+use std::rc::Rc;
 use stores::{Stores, tables_are_few};
 use table_statements::{create_partition, create_table, drop_tables, lock};
 
@@ -60,17 +70,32 @@ fn omit(alloc: Global, stores: &Stores, caller: Caller, word: &[u8], out: &[u8])
     }
 }
 
+// What is prepared has changed, or is refused to.
+fn list(stores: &Stores, caller: Caller, done: Result<(), Refusal>, out: &[u8]) -> Result<(), Stop>
+    requires { MayAttempt stores.now caller }
+    ensures is { (left : Option Left) (ps : List Prepared) (told : Result (List Prepared) OneFault) → IsAnswerBy (λ u. ps) done told → IsStatement left (ended result) stores.now stores.now out.now out.now caller (attempted.listed told) }
+    ensures kept { (old new : List Prepared) (told : Result (List Prepared) OneFault) → IsAnswerBy (λ u. new) done told → OnErr done (new ≡ old) → IsKept (ended result) old new (executions.listed_after old told) }
+{
+    match done {
+        Ok(()) => Ok(()),
+        Err(Refusal::Sql(fault)) => Err(Stop::Refused(fault)),
+        Err(Refusal::NoMemory) => Err(Stop::NoMemory),
+    }
+}
+
 fn attempt_command(
     alloc: Global,
     stores: &mut Stores,
     names: &SessionNames,
     caller: Caller,
     rest: Option<Rest>,
+    prepared: &mut PreparedList,
     command: &Command,
     out: &[u8],
 ) -> Result<Ending, Stop>
     requires { MayAttempt stores.old caller }
-    ensures { IsStatement rest result stores.old stores.new out.now out.now caller (attempted.command_attempted names.now caller rest (command_tree command.now)) }
+    ensures is { IsStatement rest result stores.old stores.new out.now out.now caller (attempted.command_attempted names.now caller rest (listed prepared.old) (command_tree command.now)) }
+    ensures kept { IsKept result (listed prepared.old) (listed prepared.new) (executions.command_kept (listed prepared.old) (command_tree command.now)) }
 {
     check_room(stores, caller);
     match command {
@@ -105,6 +130,14 @@ fn attempt_command(
         Command::Lock(tables, mode) => {
             let tables = tables.as_slice();
             ended(lock(alloc, stores, names, caller, tables, *mode))
+        }
+        Command::Deallocate(name) => {
+            let done = prepared.deallocate(alloc, name.as_bytes());
+            ended(list(stores, caller, done, out))
+        }
+        Command::DeallocateAll => {
+            prepared.deallocate_all();
+            ended(list(stores, caller, Ok(()), out))
         }
         _ => ended(omit(alloc, stores, caller, command_word(command), out)),
     }
@@ -158,6 +191,7 @@ fn attempt_select(
     alloc: Global,
     stores: &mut Stores,
     names: &SessionNames,
+    params: &[Param],
     caller: Caller,
     prunes: bool,
     trailed: bool,
@@ -166,11 +200,11 @@ fn attempt_select(
     out: &mut Vec<u8>,
 ) -> Result<(), Stop>
     requires { MayAttempt stores.old caller }
-    ensures tally { (left : Option Left) → IsTallied left result stores.old tally.old tally.new caller (given.select_given prunes names.now caller (select_tree statement.now)) }
-    ensures is { (left : Option Left) → IsStatement left (ended result) stores.old stores.new out.old.items out.new.items caller (attempted.select_attempted trailed prunes names.now caller (select_tree statement.now)) }
+    ensures tally { (left : Option Left) → IsTallied left result stores.old tally.old tally.new caller (given.select_given prunes names.now params.now caller (select_tree statement.now)) }
+    ensures is { (left : Option Left) → IsStatement left (ended result) stores.old stores.new out.old.items out.new.items caller (attempted.select_attempted trailed prunes names.now params.now caller (select_tree statement.now)) }
 {
     check_room(stores, caller);
-    match select(alloc, stores, names, &[], caller, prunes, statement) {
+    match select(alloc, stores, names, params, caller, prunes, statement) {
         Ok(answered) => {
             match print_answer(alloc, &stores.catalog, trailed, &answered, tally, out) {
                 Ok(()) => Ok(()),
@@ -185,6 +219,7 @@ fn attempt_insert(
     alloc: Global,
     stores: &mut Stores,
     names: &SessionNames,
+    params: &[Param],
     caller: Caller,
     trailed: bool,
     statement: &Insert,
@@ -192,11 +227,11 @@ fn attempt_insert(
 ) -> Result<(), Stop>
     requires { MayAttempt stores.old caller }
     ensures { (left : Option Left) → IsStatement left (ended result) stores.old stores.new out.old.items out.new.items caller
-        (attempted.printed (attempted.inserted_text trailed (length (map trees statement.now.rows))) (inserted names.now [] caller statement.now.table statement.now.columns (map trees statement.now.rows))) }
+        (attempted.printed (attempted.inserted_text trailed (length (map trees statement.now.rows))) (inserted names.now params.now caller statement.now.table statement.now.columns (map trees statement.now.rows))) }
 {
     check_room(stores, caller);
     let rows = statement.rows.as_slice().len() as u64;
-    match insert(alloc, stores, names, &[], caller, statement) {
+    match insert(alloc, stores, names, params, caller, statement) {
         Ok(()) => match write_trail(alloc, &stores.catalog, trailed, b"INSERT", rows, &[], out) {
             Ok(()) => Ok(()),
             Err(NoMemory) => Err(Stop::NoMemory),
@@ -234,6 +269,7 @@ fn attempt_update(
     alloc: Global,
     stores: &mut Stores,
     names: &SessionNames,
+    params: &[Param],
     caller: Caller,
     prunes: bool,
     trailed: bool,
@@ -244,12 +280,14 @@ fn attempt_update(
 ) -> Result<(), Stop>
     requires may { MayAttempt stores.old caller }
     requires rest { MayGoOn stores.old caller rest }
-    ensures tally { IsTallied rest result stores.old tally.old tally.new caller (λ h. given.given given.of_change (updated prunes names.now [] caller rest statement.now.table (map setting statement.now.assignments) (maybe_tree statement.now.condition) h).told) }
+    ensures tally { IsTallied rest result stores.old tally.old tally.new caller (λ h. given.given given.of_change (updated prunes names.now params.now caller rest statement.now.table (map setting statement.now.assignments) (maybe_tree statement.now.condition) h).told) }
     ensures is { IsStatement rest (ended result) stores.old stores.new out.old.items out.new.items caller
-        (attempted.printed (attempted.changed_text trailed (codes "UPDATE")) (updated prunes names.now [] caller rest statement.now.table (map setting statement.now.assignments) (maybe_tree statement.now.condition))) }
+        (attempted.printed (attempted.changed_text trailed (codes "UPDATE")) (updated prunes names.now params.now caller rest statement.now.table (map setting statement.now.assignments) (maybe_tree statement.now.condition))) }
 {
     check_room(stores, caller);
-    match update(alloc, stores, names, &[], caller, prunes, rest, statement) {
+    match update(
+        alloc, stores, names, params, caller, prunes, rest, statement,
+    ) {
         Ok(changes) => {
             match print_changes(
                 alloc,
@@ -272,6 +310,7 @@ fn attempt_delete(
     alloc: Global,
     stores: &mut Stores,
     names: &SessionNames,
+    params: &[Param],
     caller: Caller,
     prunes: bool,
     trailed: bool,
@@ -282,12 +321,14 @@ fn attempt_delete(
 ) -> Result<(), Stop>
     requires may { MayAttempt stores.old caller }
     requires rest { MayGoOn stores.old caller rest }
-    ensures tally { IsTallied rest result stores.old tally.old tally.new caller (λ h. given.given given.of_change (deleted prunes names.now [] caller rest statement.now.table (maybe_tree statement.now.condition) h).told) }
+    ensures tally { IsTallied rest result stores.old tally.old tally.new caller (λ h. given.given given.of_change (deleted prunes names.now params.now caller rest statement.now.table (maybe_tree statement.now.condition) h).told) }
     ensures is { IsStatement rest (ended result) stores.old stores.new out.old.items out.new.items caller
-        (attempted.printed (attempted.changed_text trailed (codes "DELETE")) (deleted prunes names.now [] caller rest statement.now.table (maybe_tree statement.now.condition))) }
+        (attempted.printed (attempted.changed_text trailed (codes "DELETE")) (deleted prunes names.now params.now caller rest statement.now.table (maybe_tree statement.now.condition))) }
 {
     check_room(stores, caller);
-    match delete(alloc, stores, names, &[], caller, prunes, rest, statement) {
+    match delete(
+        alloc, stores, names, params, caller, prunes, rest, statement,
+    ) {
         Ok(changes) => {
             match print_changes(
                 alloc,
@@ -310,6 +351,7 @@ fn attempt_rows(
     alloc: Global,
     stores: &mut Stores,
     names: &SessionNames,
+    params: &[Param],
     caller: Caller,
     prunes: bool,
     trailed: bool,
@@ -320,19 +362,23 @@ fn attempt_rows(
 ) -> Result<(), Stop>
     requires may { MayAttempt stores.old caller }
     requires rest { MayGoOn stores.old caller rest }
-    ensures tally { IsTallied rest result stores.old tally.old tally.new caller (given.row_given prunes names.now caller rest (row_tree statement.now)) }
-    ensures is { IsStatement rest (ended result) stores.old stores.new out.old.items out.new.items caller (attempted.row_attempted trailed prunes names.now caller rest (row_tree statement.now)) }
+    ensures tally { IsTallied rest result stores.old tally.old tally.new caller (given.row_given prunes names.now params.now caller rest (row_tree statement.now)) }
+    ensures is { IsStatement rest (ended result) stores.old stores.new out.old.items out.new.items caller (attempted.row_attempted trailed prunes names.now params.now caller rest (row_tree statement.now)) }
 {
     match statement {
         RowStatement::Select(s) => {
-            attempt_select(alloc, stores, names, caller, prunes, trailed, s, tally, out)
+            attempt_select(
+                alloc, stores, names, params, caller, prunes, trailed, s, tally, out,
+            )
         }
-        RowStatement::Insert(s) => attempt_insert(alloc, stores, names, caller, trailed, s, out),
+        RowStatement::Insert(s) => {
+            attempt_insert(alloc, stores, names, params, caller, trailed, s, out)
+        }
         RowStatement::Update(s) => attempt_update(
-            alloc, stores, names, caller, prunes, trailed, rest, s, tally, out,
+            alloc, stores, names, params, caller, prunes, trailed, rest, s, tally, out,
         ),
         RowStatement::Delete(s) => attempt_delete(
-            alloc, stores, names, caller, prunes, trailed, rest, s, tally, out,
+            alloc, stores, names, params, caller, prunes, trailed, rest, s, tally, out,
         ),
     }
 }
@@ -344,16 +390,17 @@ fn attempt_plan(
     alloc: Global,
     stores: &mut Stores,
     names: &SessionNames,
+    params: &[Param],
     caller: Caller,
     prunes: bool,
     statement: &Select,
     out: &mut Vec<u8>,
 ) -> Result<(), Stop>
     requires { MayAttempt stores.old caller }
-    ensures { (left : Option Left) → IsStatement left (ended result) stores.old stores.new out.old.items out.new.items caller (attempted.explain_attempted prunes names.now caller false (select_tree statement.now)) }
+    ensures { (left : Option Left) → IsStatement left (ended result) stores.old stores.new out.old.items out.new.items caller (attempted.plan_attempted prunes names.now params.now caller (select_tree statement.now)) }
 {
     check_room(stores, caller);
-    match explain(alloc, stores, names, &[], caller, prunes, statement) {
+    match explain(alloc, stores, names, params, caller, prunes, statement) {
         Ok(answer) => match write_table(alloc, &answer, out) {
             Ok(()) => Ok(()),
             Err(NoMemory) => Err(Stop::NoMemory),
@@ -378,7 +425,144 @@ fn attempt_explain(
     if analyze {
         omit(alloc, stores, caller, b"ANALYZE", out)
     } else {
-        attempt_plan(alloc, stores, names, caller, prunes, statement, out)
+        attempt_plan(alloc, stores, names, &[], caller, prunes, statement, out)
+    }
+}
+
+// ---- what was prepared
+
+// The statement is prepared, or refused.
+fn attempt_prepare(
+    alloc: Global,
+    stores: &Stores,
+    caller: Caller,
+    prepared: &mut PreparedList,
+    name: &PgText,
+    types: &NameList,
+    statement: &Rc<RowStatement>,
+    out: &[u8],
+) -> Result<(), Stop>
+    requires { MayAttempt stores.now caller }
+    ensures is { (left : Option Left) → IsStatement left (ended result) stores.now stores.now out.now out.now caller (attempted.listed (prepared_with (listed prepared.old) name.now types.now (row_tree statement.now.value))) }
+    ensures kept { IsKept (ended result) (listed prepared.old) (listed prepared.new) (executions.listed_after (listed prepared.old) (prepared_with (listed prepared.old) name.now types.now (row_tree statement.now.value))) }
+{
+    let done = prepared.prepare(alloc, name, types, statement);
+    list(stores, caller, done, out)
+}
+
+fn attempt_execute(
+    alloc: Global,
+    stores: &mut Stores,
+    names: &SessionNames,
+    caller: Caller,
+    prunes: bool,
+    trailed: bool,
+    rest: Option<Rest>,
+    prepared: &PreparedList,
+    name: &[u8],
+    arguments: &ExprList,
+    tally: &mut Tally,
+    out: &mut Vec<u8>,
+) -> Result<(), Stop>
+    requires may { MayAttempt stores.old caller }
+    requires rest { MayGoOn stores.old caller rest }
+    ensures tally { IsTallied rest result stores.old tally.old tally.new caller (λ h. given.execution_given prunes names.now caller rest (executions.executed h caller.session rest (listed prepared.now) name.now (trees arguments.now)) h) }
+    ensures is { IsStatement rest (ended result) stores.old stores.new out.old.items out.new.items caller (λ h. attempted.execute_attempted trailed prunes names.now caller rest (executions.executed h caller.session rest (listed prepared.now) name.now (trees arguments.now)) h) }
+{
+    match executed(alloc, stores, caller, &rest, prepared, name, arguments) {
+        Ok(execution) => attempt_rows(
+            alloc,
+            stores,
+            names,
+            &execution.params,
+            caller,
+            prunes,
+            trailed,
+            rest,
+            &execution.statement,
+            tally,
+            out,
+        ),
+        Err(Refusal::Sql(fault)) => Err(Stop::Refused(fault)),
+        Err(Refusal::NoMemory) => Err(Stop::NoMemory),
+    }
+}
+
+// The plan of a SELECT that was prepared. No other statement comes here.
+fn plan_execution(
+    alloc: Global,
+    stores: &mut Stores,
+    names: &SessionNames,
+    params: &[Param],
+    caller: Caller,
+    prunes: bool,
+    statement: &RowStatement,
+    out: &mut Vec<u8>,
+) -> Result<(), Stop>
+    requires { MayAttempt stores.old caller }
+    ensures { (left : Option Left) → IsStatement left (ended result) stores.old stores.new out.old.items out.new.items caller (attempted.plan_of_execution prunes names.now params.now caller (row_tree statement.now)) }
+{
+    match statement {
+        RowStatement::Select(s) => attempt_plan(
+            alloc, stores, names, params, caller, prunes, s, out,
+        ),
+        RowStatement::Insert(_) => omit(alloc, stores, caller, b"INSERT", out),
+        RowStatement::Update(_) => omit(alloc, stores, caller, b"UPDATE", out),
+        RowStatement::Delete(_) => omit(alloc, stores, caller, b"DELETE", out),
+    }
+}
+
+fn explain_execution(
+    alloc: Global,
+    stores: &mut Stores,
+    names: &SessionNames,
+    caller: Caller,
+    prunes: bool,
+    prepared: &PreparedList,
+    name: &[u8],
+    arguments: &ExprList,
+    out: &mut Vec<u8>,
+) -> Result<(), Stop>
+    requires { MayAttempt stores.old caller }
+    ensures { (left : Option Left) → IsStatement left (ended result) stores.old stores.new out.old.items out.new.items caller (λ h. attempted.execution_explained prunes names.now caller (executions.explained_by h caller.session (listed prepared.now) name.now (trees arguments.now)) h) }
+{
+    match explained_by(alloc, stores, caller, prepared, name, arguments) {
+        Ok(execution) => plan_execution(
+            alloc,
+            stores,
+            names,
+            &execution.params,
+            caller,
+            prunes,
+            &execution.statement,
+            out,
+        ),
+        Err(Refusal::Sql(fault)) => Err(Stop::Refused(fault)),
+        Err(Refusal::NoMemory) => Err(Stop::NoMemory),
+    }
+}
+
+fn attempt_explain_execute(
+    alloc: Global,
+    stores: &mut Stores,
+    names: &SessionNames,
+    caller: Caller,
+    prunes: bool,
+    prepared: &PreparedList,
+    analyze: bool,
+    name: &[u8],
+    arguments: &ExprList,
+    out: &mut Vec<u8>,
+) -> Result<(), Stop>
+    requires { MayAttempt stores.old caller }
+    ensures { (left : Option Left) → IsStatement left (ended result) stores.old stores.new out.old.items out.new.items caller (attempted.explain_execute_attempted prunes names.now caller (listed prepared.now) analyze name.now (trees arguments.now)) }
+{
+    if analyze {
+        omit(alloc, stores, caller, b"ANALYZE", out)
+    } else {
+        explain_execution(
+            alloc, stores, names, caller, prunes, prepared, name, arguments, out,
+        )
     }
 }
 
@@ -390,30 +574,56 @@ fn attempt_query(
     prunes: bool,
     trailed: bool,
     rest: Option<Rest>,
+    prepared: &mut PreparedList,
     query: &Query,
     tally: &mut Tally,
     out: &mut Vec<u8>,
 ) -> Result<(), Stop>
     requires may { MayAttempt stores.old caller }
     requires rest { MayGoOn stores.old caller rest }
-    ensures tally { IsTallied rest result stores.old tally.old tally.new caller (given.query_given prunes names.now caller rest (query_tree query.now)) }
-    ensures is { IsStatement rest (ended result) stores.old stores.new out.old.items out.new.items caller (attempted.query_attempted trailed prunes names.now caller rest (query_tree query.now)) }
+    ensures tally { IsTallied rest result stores.old tally.old tally.new caller (given.query_given prunes names.now caller rest (listed prepared.old) (query_tree query.now)) }
+    ensures is { IsStatement rest (ended result) stores.old stores.new out.old.items out.new.items caller (attempted.query_attempted trailed prunes names.now caller rest (listed prepared.old) (query_tree query.now)) }
+    ensures kept { IsKept (ended result) (listed prepared.old) (listed prepared.new) (executions.query_kept (listed prepared.old) (query_tree query.now)) }
 {
     match query {
-        Query::Rows(s) => {
-            attempt_rows(
-                alloc, stores, names, caller, prunes, trailed, rest, s, tally, out,
+        Query::Rows(s) => attempt_rows(
+            alloc,
+            stores,
+            names,
+            &[],
+            caller,
+            prunes,
+            trailed,
+            rest,
+            s,
+            tally,
+            out,
+        ),
+        Query::Prepare(name, types, s) => {
+            attempt_prepare(alloc, stores, caller, prepared, name, types, s, out)
+        }
+        Query::Execute(name, arguments) => {
+            let name = name.as_bytes();
+            attempt_execute(
+                alloc, stores, names, caller, prunes, trailed, rest, prepared, name, arguments,
+                tally, out,
             )
         }
         Query::ExplainSelect(analyze, s) => {
             attempt_explain(alloc, stores, names, caller, prunes, *analyze, s, out)
         }
-        _ => omit(alloc, stores, caller, query_word(query), out),
+        Query::ExplainExecute(analyze, name, arguments) => {
+            let name = name.as_bytes();
+            attempt_explain_execute(
+                alloc, stores, names, caller, prunes, prepared, *analyze, name, arguments, out,
+            )
+        }
     }
 }
 
 /// A statement from its beginning, or from where it stood, up to its end or to a wait. Where it is done it
 /// prints its answer, if it has one, and its trail, where that is asked for; what it gives and reads is counted.
+/// PREPARE and DEALLOCATE change what its session has prepared.
 pub(crate) fn attempt(
     alloc: Global,
     stores: &mut Stores,
@@ -421,25 +631,27 @@ pub(crate) fn attempt(
     caller: Caller,
     rest: Option<Rest>,
     settings: Settings,
+    prepared: &mut PreparedList,
     statement: &Statement,
     tally: &mut Tally,
     out: &mut Vec<u8>,
 ) -> Result<Ending, Stop>
     requires may { MayAttempt stores.old caller }
     requires rest { MayGoOn stores.old caller rest }
-    ensures tally { IsTallied rest result stores.old tally.old tally.new caller (given.statement_given options.now caller rest settings (statement_tree statement.now)) }
-    ensures is { IsStatement rest result stores.old stores.new out.old.items out.new.items caller (attempted.attempted options.now caller rest settings (statement_tree statement.now)) }
+    ensures tally { IsTallied rest result stores.old tally.old tally.new caller (given.statement_given options.now caller rest settings (listed prepared.old) (statement_tree statement.now)) }
+    ensures is { IsStatement rest result stores.old stores.new out.old.items out.new.items caller (attempted.attempted options.now caller rest settings (listed prepared.old) (statement_tree statement.now)) }
+    ensures kept { IsKept result (listed prepared.old) (listed prepared.new) (executions.kept (listed prepared.old) (statement_tree statement.now)) }
 {
     let names = &options.names;
     match statement {
         Statement::Command(command) => {
-            attempt_command(alloc, stores, names, caller, rest, command, out)
+            attempt_command(alloc, stores, names, caller, rest, prepared, command, out)
         }
         Statement::Query(query) => {
             let prunes = settings.enable_partition_pruning;
             let trailed = is_trailed(options.trail, caller);
             let done = attempt_query(
-                alloc, stores, names, caller, prunes, trailed, rest, query, tally, out,
+                alloc, stores, names, caller, prunes, trailed, rest, prepared, query, tally, out,
             );
             ended(done)
         }

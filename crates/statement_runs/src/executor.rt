@@ -1,7 +1,10 @@
-ghost use Rattle.std.specs.Prelude.{◌≡◌, ◌≤◌, ◌<◌, ℕ, IfOk, IfSome, OnOk, length, replicate, true, false};
+ghost use Rattle.std.specs.Prelude.{◌≡◌, ◌≤◌, ◌<◌, ℕ, [], IfOk, IfSome, OnOk, length, map, replicate, slice_index_or, slice_set, true, false};
+ghost use Rattle.prepared_statements.specs.Kept.{listed};
 ghost use Rattle.statement_runs.specs.Database as database;
 ghost use Rattle.statement_runs.specs.Database.{Database, empty, cuts, all_cut};
+ghost use Rattle.sql_ast.specs.Statements.{statement_tree};
 ghost use Rattle.statement_runs.specs.Kept.{StandsFor, waits_in, interrupted_in};
+ghost use Rattle.statement_runs.specs.Roles as roles;
 ghost use Rattle.statement_runs.specs.Weight.{left, most_left};
 
 use crate::roles::{cancelled_by, misplaced};
@@ -9,27 +12,83 @@ use crate::seats::Seats;
 use crate::{Options, changed_settings, looks, read_block, role_of};
 use out_text::write_fault_text;
 use pg_values::{Fault, NoMemory, Refusal};
+use prepared_statements::PreparedList;
 use schedule::{Tally, leave};
 use sessions::{Asker, Executor, Outcome, Place, Role, Settings};
 use sql_ast::Statement;
 use std::alloc::Global;
+use std::mem::replace;
 
 /// The sessions of a run over the stores.
 #[derive(Drop)]
 pub struct StoreExecutor {
     pub options: Options,
     pub seats: Seats,
+    /// What each session has prepared.
+    pub prepared: Vec<PreparedList>,
     /// Whose waits statements of others have cancelled, in this order, as long as these have not gone on.
     pub cut: Vec<usize>,
     /// What completed statements have given and read.
     pub tally: Tally,
 }
 
+// No session has prepared anything.
+fn nothing_prepared(alloc: Global, sessions: usize) -> Result<Vec<PreparedList>, NoMemory>
+    ensures { IfOk result (λ lists. map listed lists.items ≡ replicate sessions []) }
+{
+    let mut lists = Vec::new(alloc);
+    for _ in 0..sessions {
+        lists.push(PreparedList::new(alloc))?;
+    }
+    Ok(lists)
+}
+
+// What the session has prepared, which is taken.
+fn take_list(alloc: Global, lists: &mut Vec<PreparedList>, session: usize) -> PreparedList
+    ensures is { listed result ≡ slice_index_or (map listed lists.old.items) session [] }
+    ensures taken { map listed lists.new.items ≡ slice_set (map listed lists.old.items) session [] }
+{
+    let none = PreparedList::new(alloc);
+    if session < lists.len() {
+        replace(&mut lists[session], none)
+    } else {
+        none
+    }
+}
+
+// The sessions whose waits the statement cancels, by what its session has prepared.
+fn cancelled_for(
+    alloc: Global,
+    lists: &[PreparedList],
+    session: u32,
+    sessions: u32,
+    statement: &Statement,
+) -> Result<Vec<usize>, NoMemory>
+    ensures { IfOk result (λ cut. cut.items ≡ roles.cancelled_by session sessions (slice_index_or (map listed lists.now) session []) (statement_tree statement.now)) }
+{
+    match lists.get(session as usize) {
+        Some(list) => cancelled_by(alloc, session, sessions, list, statement),
+        None => {
+            let list = PreparedList::new(alloc);
+            cancelled_by(alloc, session, sessions, &list, statement)
+        }
+    }
+}
+
+// What it has prepared now.
+fn set_list(lists: &mut Vec<PreparedList>, session: usize, list: PreparedList)
+    ensures { map listed lists.new.items ≡ slice_set (map listed lists.old.items) session (listed list) }
+{
+    if session < lists.len() {
+        lists[session] = list;
+    }
+}
+
 impl StoreExecutor {
     /// So many sessions in which nothing has happened.
     pub fn new(alloc: Global, options: Options, sessions: usize) -> Result<Self, NoMemory>
         requires { sessions ≤ 65 }
-        ensures stands { IfOk result (λ e. StandsFor e.options e.seats e.cut.items e.tally (empty options sessions)) }
+        ensures stands { IfOk result (λ e. StandsFor e.options e.seats (map listed e.prepared.items) e.cut.items e.tally (empty options sessions)) }
         ensures opened { IfOk result (λ e. e.seats.opened ≡ replicate sessions false) }
         ensures left { IfOk result (λ e. left e.seats e.cut.items ≤ most_left) }
     {
@@ -37,6 +96,7 @@ impl StoreExecutor {
         let executor = StoreExecutor {
             options,
             seats,
+            prepared: nothing_prepared(alloc, sessions)?,
             cut: Vec::new(alloc),
             tally: Tally { rows: 0, reads: 0 },
         };
@@ -54,10 +114,11 @@ impl StoreExecutor {
     // The wait of the session ends, if it waits, and its statement is to be refused.
     fn interrupt(&mut self, session: usize) -> Result<(), NoMemory>
         ensures options { self.new.options ≡ self.old.options }
+        ensures prepared { self.new.prepared ≡ self.old.prepared }
         ensures opened { self.new.seats.opened ≡ self.old.seats.opened }
         ensures rests { self.new.seats.rests ≡ self.old.seats.rests }
-        ensures stands { OnOk result ((v : Database) → StandsFor self.old.options self.old.seats self.old.cut.items self.old.tally v →
-            StandsFor self.new.options self.new.seats self.new.cut.items self.new.tally (cuts v session)) }
+        ensures stands { OnOk result ((v : Database) → StandsFor self.old.options self.old.seats (map listed self.old.prepared.items) self.old.cut.items self.old.tally v →
+            StandsFor self.new.options self.new.seats (map listed self.new.prepared.items) self.new.cut.items self.new.tally (cuts v session)) }
         ensures others { (s : ℕ) → waits_in self.old.seats s ≡ false → waits_in self.new.seats s ≡ false }
         ensures lower { left self.new.seats self.new.cut.items ≤ left self.old.seats self.old.cut.items }
     {
@@ -72,10 +133,11 @@ impl StoreExecutor {
     // Those of these sessions, one after the other.
     fn interrupt_all(&mut self, sessions: &[usize]) -> Result<(), NoMemory>
         ensures options { self.new.options ≡ self.old.options }
+        ensures prepared { self.new.prepared ≡ self.old.prepared }
         ensures opened { self.new.seats.opened ≡ self.old.seats.opened }
         ensures rests { self.new.seats.rests ≡ self.old.seats.rests }
-        ensures stands { OnOk result ((v : Database) → StandsFor self.old.options self.old.seats self.old.cut.items self.old.tally v →
-            StandsFor self.new.options self.new.seats self.new.cut.items self.new.tally (all_cut v sessions.now)) }
+        ensures stands { OnOk result ((v : Database) → StandsFor self.old.options self.old.seats (map listed self.old.prepared.items) self.old.cut.items self.old.tally v →
+            StandsFor self.new.options self.new.seats (map listed self.new.prepared.items) self.new.cut.items self.new.tally (all_cut v sessions.now)) }
         ensures others { (s : ℕ) → waits_in self.old.seats s ≡ false → waits_in self.new.seats s ≡ false }
         ensures lower { left self.new.seats self.new.cut.items ≤ left self.old.seats self.old.cut.items }
     {
@@ -110,7 +172,8 @@ fn first_cancelled(seats: &Seats, cut: &[usize]) -> Option<usize>
 }
 
 impl Executor for StoreExecutor {
-    ghost use Rattle.std.specs.Prelude.{None, slice_index_or};
+    ghost use Rattle.std.specs.Prelude.{None, map, slice_index_or};
+    ghost use Rattle.prepared_statements.specs.Kept.{listed};
     ghost use Rattle.sql_ast.specs.Statements.{StatementTree, statement_tree};
     ghost use Rattle.sql_syntax.specs.declared.parse.TheConstants.{MOST_STATEMENTS};
     ghost use Rattle.statement_runs.specs.Database.{Database, course};
@@ -130,7 +193,7 @@ impl Executor for StoreExecutor {
 
     ghost course = { course };
 
-    ghost stands = { λ e v. StandsFor e.options e.seats e.cut.items e.tally v };
+    ghost stands = { λ e v. StandsFor e.options e.seats (map listed e.prepared.items) e.cut.items e.tally v };
 
     ghost good = { λ v. AlwaysInOneLeaf v.history × Always StatementsAreSound v.history };
 
@@ -210,10 +273,21 @@ impl Executor for StoreExecutor {
         out: &mut Vec<u8>,
     ) -> Result<Outcome, NoMemory> {
         let sessions = self.seats.count() as u32;
-        let others = cancelled_by(alloc, asker.session as u32, sessions, statement)?;
+        let session = asker.session as u32;
+        let others = cancelled_for(alloc, &self.prepared, session, sessions, statement)?;
         self.interrupt_all(&others)?;
-        let tally = &mut self.tally;
-        let ran = self.seats.run(alloc, &self.options, asker, settings, statement, tally, out);
+        let mut prepared = take_list(alloc, &mut self.prepared, asker.session);
+        let ran = self.seats.run(
+            alloc,
+            &self.options,
+            asker,
+            settings,
+            &mut prepared,
+            statement,
+            &mut self.tally,
+            out,
+        );
+        set_list(&mut self.prepared, asker.session, prepared);
         self.weigh();
         ran
     }

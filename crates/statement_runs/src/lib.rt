@@ -16,8 +16,10 @@
 //! Where a run is asked for it, each SELECT, INSERT, UPDATE and DELETE of a step prints its trail behind its
 //! answer: how many rows it gave or changed, and the leaves that it read (`specs/Trails.antt`).
 //!
-//! A kind of statement is one case here, which leads to a crate of its own. What has no case yet is
-//! refused with 0A000 by its first word.
+//! A kind of statement is one case here, which leads to a crate of its own.
+//!
+//! What a session has prepared stands beside the stores and belongs to no transaction. An EXECUTE is the statement of
+//! that name, with the values of its arguments, which are bound where its attempt begins (`specs/Executions.antt`).
 //!
 //! What a statement is in the course of a session: transaction control, a setting, or a statement that is
 //! run over the stores.
@@ -37,6 +39,7 @@
 
 mod attempts;
 mod changes;
+mod executing;
 mod executor;
 mod faults;
 mod left_out;

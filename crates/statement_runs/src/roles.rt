@@ -1,11 +1,16 @@
 ghost use Rattle.std.specs.Prelude.{◌≡◌, IfOk};
 ghost use Rattle.sessions.specs.Answers.{IsAnswerBy};
+ghost use Rattle.sql_ast.specs.Queries.{row_tree};
 ghost use Rattle.sql_ast.specs.Statements.{statement_tree};
+ghost use Rattle.prepared_statements.specs.Kept.{listed};
 ghost use Rattle.statement_runs.specs.Roles as roles;
 
+use crate::executing::executed_bare;
 use crate::{reset, set};
 use detach_statement::detach_misplaced;
+use expression_binder::Param;
 use pg_values::{Fault, NoMemory, Refusal};
+use prepared_statements::PreparedList;
 use select_statement::cancelled;
 use sessions::{Place, Role, Settings};
 use sql_ast::{Command, Detachment, Query, RowStatement, Statement};
@@ -78,18 +83,45 @@ pub(crate) fn misplaced(
     }
 }
 
+fn cancelled_by_rows(
+    alloc: Global,
+    session: u32,
+    sessions: u32,
+    params: &[Param],
+    statement: &RowStatement,
+) -> Result<Vec<usize>, NoMemory>
+    ensures { IfOk result (λ cut. cut.items ≡ roles.row_cancelled params.now session sessions (row_tree statement.now)) }
+{
+    match statement {
+        RowStatement::Select(select) => cancelled(alloc, select, params, session, sessions),
+        _ => Ok(Vec::new(alloc)),
+    }
+}
+
 /// The sessions whose waits the statement of that session cancels, one after the other.
 pub(crate) fn cancelled_by(
     alloc: Global,
     session: u32,
     sessions: u32,
+    prepared: &PreparedList,
     statement: &Statement,
 ) -> Result<Vec<usize>, NoMemory>
-    ensures { IfOk result (λ cut. cut.items ≡ roles.cancelled_by session sessions (statement_tree statement.now)) }
+    ensures { IfOk result (λ cut. cut.items ≡ roles.cancelled_by session sessions (listed prepared.now) (statement_tree statement.now)) }
 {
+    let others = sessions.saturating_sub(1);
     match statement {
-        Statement::Query(Query::Rows(RowStatement::Select(select))) => {
-            cancelled(alloc, select, &[], session, sessions.saturating_sub(1))
+        Statement::Query(Query::Rows(statement)) => {
+            cancelled_by_rows(alloc, session, others, &[], statement)
+        }
+        Statement::Query(Query::Execute(name, arguments)) => {
+            match executed_bare(alloc, prepared, name.as_bytes(), arguments) {
+                Ok(execution) => {
+                    let params = &execution.params;
+                    cancelled_by_rows(alloc, session, others, params, &execution.statement)
+                }
+                Err(Refusal::Sql(_)) => Ok(Vec::new(alloc)),
+                Err(Refusal::NoMemory) => Err(NoMemory),
+            }
         }
         _ => Ok(Vec::new(alloc)),
     }

@@ -4,11 +4,12 @@ ghost use Rattle.pg_values.specs.Sets.{has};
 ghost use Rattle.schedule.specs.Lists.{head_of};
 ghost use Rattle.sessions.specs.declared.outcome.Outcome.TheVariants as outcomes;
 ghost use Rattle.sql_ast.specs.Statements.{statement_tree};
+ghost use Rattle.prepared_statements.specs.Kept.{listed};
 ghost use Rattle.stores.specs.Events.{begun, committed, aborted, let_go, withdrawn, resumed};
 ghost use Rattle.statement_runs.specs.Database as database;
 ghost use Rattle.statement_steps.specs.Made as made;
 ghost use Rattle.statement_runs.specs.Kept.{Adds, AreSeated, AreSessions, TellOf, due_in, waits_in};
-ghost use Rattle.statement_runs.specs.Ran.{attempt_at, given_at, waits_by, HasRun};
+ghost use Rattle.statement_runs.specs.Ran.{attempt_at, given_at, prepared_by, waits_by, HasRun};
 ghost use Rattle.statement_runs.specs.Tallies.{added};
 ghost use Rattle.statement_runs.specs.Weight.{slack, most};
 
@@ -16,6 +17,7 @@ use crate::attempts::attempt;
 use crate::{COMMAND_LIMIT, Options};
 use history::{WaitOn, Wanted};
 use pg_values::{Fault, Isolation, NoMemory, SessionSet, Which};
+use prepared_statements::PreparedList;
 use refusals::{statement_cancelled, too_many};
 use schedule::{Tally, leave};
 use sessions::{Asker, Outcome, Settings};
@@ -403,6 +405,7 @@ impl Seats {
         options: &Options,
         asker: Asker,
         settings: Settings,
+        prepared: &mut PreparedList,
         statement: &Statement,
         tally: &mut Tally,
         out: &mut Vec<u8>,
@@ -411,8 +414,9 @@ impl Seats {
         requires open { slice_index_or self.old.opened asker.session false ≡ true }
         requires free { waits_in self.old asker.session ≡ false }
         ensures ran { IfOk result (λ o. (h : History) → TellOf self.old h →
-            HasRun (attempt_at options.now self.old asker h settings (statement_tree statement.now)) asker self.old self.new out.old.items out.new.items o h) }
-        ensures tally { IfOk result (λ o. (h : History) → TellOf self.old h → tally.new ≡ added tally.old (given_at options.now self.old asker h settings (statement_tree statement.now))) }
+            HasRun (attempt_at options.now self.old asker h settings (listed prepared.old) (statement_tree statement.now)) asker self.old self.new out.old.items out.new.items o h) }
+        ensures tally { IfOk result (λ o. (h : History) → TellOf self.old h → tally.new ≡ added tally.old (given_at options.now self.old asker h settings (listed prepared.old) (statement_tree statement.now))) }
+        ensures prepared { IfOk result (λ o. listed prepared.new ≡ prepared_by o (listed prepared.old) (statement_tree statement.now)) }
         ensures opened { self.new.opened ≡ self.old.opened }
         ensures waits { IfOk result (λ o. waits_in self.new asker.session ≡ waits_by o) }
         ensures lower { result ≡ Ok outcomes.Waits → slack self.new ≤ slack self.old }
@@ -449,6 +453,7 @@ impl Seats {
             caller,
             rest,
             settings,
+            prepared,
             statement,
             tally,
             out,

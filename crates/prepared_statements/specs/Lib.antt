@@ -1,0 +1,4 @@
+pub mod Kept
+pub mod Names
+pub mod Numbers
+pub mod Prepared

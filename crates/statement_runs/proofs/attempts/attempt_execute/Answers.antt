@@ -1,0 +1,44 @@
+use Rattle.std.proofs.Common.{List, Result, Ok, Err, ap, sym, subst}
+use Rattle.pg_values.specs.declared.fault.Fault.{Fault}
+use Rattle.history.specs.History.{History}
+use Rattle.sql_ast.specs.Expressions.{trees}
+use Rattle.sql_ast.specs.Queries.{row_tree}
+use Rattle.sql_ast.specs.declared.query.RowStatement.{RowStatement}
+use Rattle.expression_binder.specs.declared.scope.Param.{Param}
+use Rattle.schedule.specs.declared.tally.Tally.{Tally}
+use Rattle.prepared_statements.specs.Kept.{listed}
+use Rattle.statement_steps.specs.Ended.{ended}
+use Rattle.statement_runs.specs.Attempted.{execute_attempted, row_attempted}
+use Rattle.statement_runs.specs.Executions.{Execution, executed}
+use Rattle.statement_runs.specs.Given.{execution_given, row_given}
+use Rattle.statement_runs.specs.Printed.{IsStatement}
+use Rattle.statement_runs.specs.Tallies.{Grows}
+use Rattle.statement_runs.proofs.Growing.{refused_gives}
+use Rattle.statement_runs.proofs.Whole.{refused_is, same_statement}
+use Rattle.statement_runs.proofs.attempts.attempt_execute.Goals as goal
+
+pub returns-in-Ok-clause-is : goal.returns-in-Ok-clause-is
+returns-in-Ok-clause-is c =
+    let k = c.args.caller in
+    let names = c.args.names.now in
+    let e = c.in-Ok.execution in
+    let told = λ (h : History). executed h k.session c.args.rest (listed c.args.prepared.now) c.args.name.now (trees c.args.arguments.now) in
+    same_statement c.args.rest (ended c.attempt_rows.result) c.args.stores.now c.attempt_rows.new.stores k
+    (row_attempted c.args.trailed c.args.prunes names e.params.items k c.args.rest (row_tree e.statement.value))
+    (λ h. execute_attempted c.args.trailed c.args.prunes names k c.args.rest (told h) h) c.args.out.now.items c.attempt_rows.new.out.items
+    (λ h stands. ap (λ (r : Result Execution Fault). execute_attempted c.args.trailed c.args.prunes names k c.args.rest r h) (c.in-Ok.ensures h stands))
+    (subst (λ (ps : List Param). IsStatement c.args.rest (ended c.attempt_rows.result) c.args.stores.now c.attempt_rows.new.stores c.args.out.now.items c.attempt_rows.new.out.items k
+    (row_attempted c.args.trailed c.args.prunes names ps k c.args.rest (row_tree e.statement.value))) c.deref.ensures.value
+    (subst (λ (s : RowStatement). IsStatement c.args.rest (ended c.attempt_rows.result) c.args.stores.now c.attempt_rows.new.stores c.args.out.now.items c.attempt_rows.new.out.items k
+    (row_attempted c.args.trailed c.args.prunes names c.deref.result.now k c.args.rest (row_tree s))) c.deref-2.ensures.value c.attempt_rows.ensures.is))
+
+pub returns-in-Ok-clause-tally : goal.returns-in-Ok-clause-tally
+returns-in-Ok-clause-tally c h stands at go =
+    let k = c.args.caller in
+    let names = c.args.names.now in
+    let e = c.in-Ok.execution in
+    subst (λ (n : Tally). Grows c.attempt_rows.result c.args.tally.now c.attempt_rows.new.tally n)
+    (sym (ap (λ (r : Result Execution Fault). execution_given c.args.prunes names k c.args.rest r h) (c.in-Ok.ensures h stands)))
+    (subst (λ (ps : List Param). Grows c.attempt_rows.result c.args.tally.now c.attempt_rows.new.tally (row_given c.args.prunes names ps k c.args.rest (row_tree e.statement.value) h)) c.deref.ensures.value
+    (subst (λ (s : RowStatement). Grows c.attempt_rows.result c.args.tally.now c.attempt_rows.new.tally (row_given c.args.prunes names c.deref.result.now k c.args.rest (row_tree s) h)) c.deref-2.ensures.value
+    (c.attempt_rows.ensures.tally h stands at go)))
