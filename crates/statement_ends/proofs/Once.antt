@@ -1,5 +1,5 @@
 -- A statement of the course commits what it did first once at most.
-use Rattle.std.proofs.Common.{◌≡◌, ◌<◌, ℕ, Bool, true, false, List, [], ◌∷◌, ◌++◌, Option, None, refl, ap, sym, subst, ◌∙◌, if◌then◌else◌, length, slice_index_or, slice_set, get_or-set_other, get_or-set_same}
+use Rattle.std.proofs.Common.{◌≡◌, ◌<◌, ℕ, Bool, true, false, List, [], ◌∷◌, ◌++◌, Option, Some, None, refl, ap, sym, subst, ◌∙◌, if◌then◌else◌, length, slice_index_or, slice_set, get_or-set_other, get_or-set_same}
 use Rattle.pg_values.specs.declared.fault.Fault.{Fault}
 use Rattle.history.specs.Catalogue.{CatalogueEvents}
 use Rattle.schedule.specs.Lists.{without}
