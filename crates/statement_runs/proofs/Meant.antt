@@ -1,5 +1,5 @@
 -- The tables that a statement names, one after the other, and what the sessions have prepared.
-use Rattle.std.proofs.Common.{◌≡◌, ℕ, zero, suc, ◌+◌, ◌<◌, ◌≤◌, true, false, if◌then◌else◌, List, [], ◌∷◌, ◌++◌, Option, Some, None, refl, ap, sym, ◌∙◌, arith, append_assoc, append-nil, drop, get_or, length, map, nat_lt, replicate, slice_index_or, slice_set}
+use Rattle.std.proofs.Common.{◌≡◌, ℕ, zero, suc, ◌+◌, add-one, ◌<◌, ◌≤◌, true, false, if◌then◌else◌, List, [], ◌∷◌, ◌++◌, Option, Some, None, refl, ap, sym, ◌∙◌, arith, append_assoc, append-nil, drop, get_or, length, map, nat_lt, replicate, slice_index_or, slice_set}
 use Rattle.std.proofs.lemmas.Grind.{common_steps}
 use Rattle.std.proofs.lemmas.Bool.Decides.{nat_tests}
 use Rattle.std.proofs.lemmas.List.{length-map, map-append}
@@ -46,9 +46,10 @@ replicate_more : {X : Type 0} (x : X) (n : ℕ) → replicate n x ++ x ∷ [] �
 replicate_more x zero = refl
 replicate_more x (suc n) = ap (λ xs. x ∷ xs) (replicate_more x n)
 
-pub one_more_list : (lists more : List PreparedList) (l : PreparedList) (n : ℕ) (none : List Prepared) → more ≡ lists ++ l ∷ [] → listed l ≡ none → map listed lists ≡ replicate n none → map listed more ≡ replicate (suc n) none
-one_more_list lists more l n none added empty so_far =
-    ap (map listed) added ∙ (map-append listed lists (l ∷ []) ∙ (ap (λ ys. ys ++ listed l ∷ []) so_far ∙ (ap (λ p. replicate n none ++ p ∷ []) empty ∙ replicate_more none n)))
+pub one_more_list : (lists more : List PreparedList) (l : PreparedList) (n : ℕ) → more ≡ lists ++ l ∷ [] → listed l ≡ [] → map listed lists ≡ replicate n [] → map listed more ≡ replicate (n + 1) []
+one_more_list lists more l n added empty so_far =
+    ap (map listed) added
+    ∙ (map-append listed lists (l ∷ []) ∙ (ap (λ ys. ys ++ listed l ∷ []) so_far ∙ (ap (λ p. replicate n [] ++ p ∷ []) empty ∙ (replicate_more [] n ∙ ap (λ m. replicate m []) (sym (add-one n))))))
 
 -- one of them, as it is seen
 
