@@ -46,7 +46,7 @@ both_done {T = T} m next x y first second =
 
 -- ---- FROM, of which only the tables matter
 
-plain_join : NamedTable → Joined
+abbrev plain_join : NamedTable → Joined
 plain_join table = (table, None)
 
 abbrev plain_joins : List Joined → List Joined

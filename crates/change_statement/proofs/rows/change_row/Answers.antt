@@ -1,4 +1,4 @@
-use Rattle.std.proofs.Common.{◌≢◌, ◌+◌, refl, sym, ◌∙◌, subst, Ok, Err}
+use Rattle.std.proofs.Common.{◌≢◌, ◌+◌, arith, refl, sym, ◌∙◌, subst, Ok, Err}
 use Rattle.row_change.proofs.Successors.{keeps_all}
 use Rattle.statement_steps.specs.Gathered.{found_of}
 use Rattle.statement_steps.specs.Faults.{stop_of}

@@ -20,8 +20,8 @@ unreachable-requires-in-Ok-wait_for_end c =
     let s = c.requires.may.may.sound in
     has_to_pause c.args.names.now (following c.args.caller) c.args.other c.new-rest.result s.0 c.requires.known (c.in-Ok-wait_for_end.ensures.is s.0 s.1 s.2).0
 
-pub new-requires : goal.new-requires
-new-requires c = subst (λ (ts : List TargetRow). CanBeCounted c.args.changed (length ts)) (sym c.in-Ok.ensures) c.requires.few
+pub new-rest-requires : goal.new-rest-requires
+new-rest-requires c = subst (λ (ts : List TargetRow). CanBeCounted c.args.changed (length ts)) (sym c.in-Ok.ensures) c.requires.few
 
 pub returns : goal.returns
 returns c =
