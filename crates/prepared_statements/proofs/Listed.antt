@@ -1,5 +1,5 @@
 -- Statements by their names, as they are kept and as they are seen.
-use Rattle.std.proofs.Common.{◌≡◌, ℕ, Bool, true, false, not, ◌||◌, List, [], ◌∷◌, ◌++◌, Option, Some, None, Result, Ok, Err, map, option_map, find, ok_or, refl, sym, ap, ◌∙◌, if◌then◌else◌}
+use Rattle.std.proofs.Common.{◌≡◌, ℕ, Bool, true, false, not, ◌||◌, List, [], ◌∷◌, ◌++◌, Option, Some, None, Ok, Err, map, option_map, find, ok_or, refl, sym, ap, ◌∙◌, if◌then◌else◌}
 use Rattle.std.proofs.lemmas.List.{map-append}
 use Rattle.std.specs.List.{list_any}
 use Rattle.std.specs.Str.{bytes_eq}
@@ -25,19 +25,19 @@ any_seen n (k ∷ ks) = ap (λ b. has_name n k || b) (any_seen n ks)
 
 pub find_seen : (n : List ℕ) (ks : List PreparedStatement) → find (is_called n) (map seen ks) ≡ option_map seen (find (has_name n) ks)
 find_seen n [] = refl
-find_seen n (k ∷ ks) = by (has_name n k) refl
+find_seen n (k ∷ ks) = by (has_name n k) refl (find_seen n ks)
   where
-    by : (b : Bool) → has_name n k ≡ b → find (is_called n) (map seen (k ∷ ks)) ≡ option_map seen (find (has_name n) (k ∷ ks))
-    by true e = rw e refl
-    by false e = rw e (find_seen n ks)
+    by : (b : Bool) → has_name n k ≡ b → find (is_called n) (map seen ks) ≡ option_map seen (find (has_name n) ks) → find (is_called n) (map seen (k ∷ ks)) ≡ option_map seen (find (has_name n) (k ∷ ks))
+    by true e rest = rw e refl
+    by false e rest = rw e rest
 
 pub without_seen : (n : List ℕ) (ks : List PreparedStatement) → without n (map seen ks) ≡ map seen (remove_key (has_name n) ks)
 without_seen n [] = refl
-without_seen n (k ∷ ks) = by (has_name n k) refl
+without_seen n (k ∷ ks) = by (has_name n k) refl (without_seen n ks)
   where
-    by : (b : Bool) → has_name n k ≡ b → without n (map seen (k ∷ ks)) ≡ map seen (remove_key (has_name n) (k ∷ ks))
-    by true e = rw e refl
-    by false e = rw e (ap (λ ps. seen k ∷ ps) (without_seen n ks))
+    by : (b : Bool) → has_name n k ≡ b → without n (map seen ks) ≡ map seen (remove_key (has_name n) ks) → without n (map seen (k ∷ ks)) ≡ map seen (remove_key (has_name n) (k ∷ ks))
+    by true e rest = rw e refl
+    by false e rest = rw e (ap (λ (ps : List Prepared). seen k ∷ ps) rest)
 
 -- one more, unless its name is there
 abbrev same_name : PreparedStatement → PreparedStatement → Bool

@@ -1,4 +1,4 @@
-ghost use Rattle.std.specs.Prelude.{◌≡◌, map};
+ghost use Rattle.std.specs.Prelude.{◌≡◌, map, max};
 ghost use Rattle.std.specs.List.{flat_map};
 ghost use Rattle.sql_ast.specs.Expressions.{tree, trees, listed};
 ghost use Rattle.sql_ast.specs.Queries.{item_tree, joined_tree, key_tree, maybe_tree, row_tree, select_tree, setting};
@@ -8,6 +8,12 @@ ghost use Rattle.prepared_statements.specs.Numbers.{greatest_of};
 use sql_ast::{
     Assignment, Expr, ExprList, FromItem, Leaf, RowStatement, Select, SelectItem, SortKey,
 };
+
+fn greater(a: u64, b: u64) -> u64
+    ensures { result ≡ max a b }
+{
+    a.max(b)
+}
 
 fn in_leaf(leaf: &Leaf) -> u64
     ensures { result ≡ greatest_of (numbers.leaf_numbers leaf.now) }
@@ -20,7 +26,6 @@ fn in_leaf(leaf: &Leaf) -> u64
 
 // The greatest number of a parameter in an expression.
 #[cycle(number)]
-#[tactic(auto, using(crate::proofs::Greatest::greatest_both))]
 fn in_expr(e: &Expr) -> u64
     ensures { result ≡ greatest_of (numbers.numbers (tree e.now)) }
 {
@@ -29,9 +34,9 @@ fn in_expr(e: &Expr) -> u64
         Expr::Call(_, arguments) => in_exprs(arguments.as_slice()),
         Expr::CallOfAll(_) => 0,
         Expr::Negated(x) => in_expr(x),
-        Expr::Binary(_, x, y) => in_expr(x).max(in_expr(y)),
-        Expr::In(_, x, list) => in_expr(x).max(in_exprs(list.as_slice())),
-        Expr::Between(_, x, from, to) => in_expr(x).max(in_expr(from).max(in_expr(to))),
+        Expr::Binary(_, x, y) => greater(in_expr(x), in_expr(y)),
+        Expr::In(_, x, list) => greater(in_expr(x), in_exprs(list.as_slice())),
+        Expr::Between(_, x, from, to) => greater(in_expr(x), greater(in_expr(from), in_expr(to))),
         Expr::IsNull(_, x) => in_expr(x),
         Expr::Not(x) => in_expr(x),
         Expr::And(list) => in_exprs(list.as_slice()),
@@ -45,7 +50,7 @@ fn in_exprs(list: &[Expr]) -> u64
 {
     let mut most = 0;
     for e in list {
-        most = most.max(in_expr(e));
+        most = greater(most, in_expr(e));
     }
     most
 }
@@ -74,7 +79,7 @@ fn in_items(items: &[SelectItem]) -> u64
 {
     let mut most = 0;
     for item in items {
-        most = most.max(in_item(item));
+        most = greater(most, in_item(item));
     }
     most
 }
@@ -84,7 +89,7 @@ fn in_from(tables: &[FromItem]) -> u64
 {
     let mut most = 0;
     for table in tables {
-        most = most.max(in_maybe(&table.on));
+        most = greater(most, in_maybe(&table.on));
     }
     most
 }
@@ -94,7 +99,7 @@ fn in_keys(keys: &[SortKey]) -> u64
 {
     let mut most = 0;
     for key in keys {
-        most = most.max(in_expr(&key.value));
+        most = greater(most, in_expr(&key.value));
     }
     most
 }
@@ -104,7 +109,7 @@ fn in_rows(rows: &[ExprList]) -> u64
 {
     let mut most = 0;
     for row in rows {
-        most = most.max(in_exprs(row.as_slice()));
+        most = greater(most, in_exprs(row.as_slice()));
     }
     most
 }
@@ -114,7 +119,7 @@ fn in_settings(settings: &[Assignment]) -> u64
 {
     let mut most = 0;
     for assignment in settings {
-        most = most.max(in_expr(&assignment.value));
+        most = greater(most, in_expr(&assignment.value));
     }
     most
 }
@@ -123,11 +128,11 @@ fn in_settings(settings: &[Assignment]) -> u64
 fn in_select(select: &Select) -> u64
     ensures { result ≡ greatest_of (numbers.select_numbers (select_tree select.now)) }
 {
-    let counts = in_maybe(&select.limit).max(in_maybe(&select.offset));
-    let keys = in_keys(select.order.as_slice()).max(counts);
-    let condition = in_maybe(&select.condition).max(keys);
-    let from = in_from(select.from.as_slice()).max(condition);
-    in_items(select.items.as_slice()).max(from)
+    let counts = greater(in_maybe(&select.limit), in_maybe(&select.offset));
+    let keys = greater(in_keys(select.order.as_slice()), counts);
+    let condition = greater(in_maybe(&select.condition), keys);
+    let from = greater(in_from(select.from.as_slice()), condition);
+    greater(in_items(select.items.as_slice()), from)
 }
 
 /// The greatest number of a parameter in the statement, 0 where there is none.
@@ -139,7 +144,10 @@ pub(crate) fn greatest_number(statement: &RowStatement) -> u64
         RowStatement::Select(select) => in_select(select),
         RowStatement::Insert(insert) => in_rows(insert.rows.as_slice()),
         RowStatement::Update(update) => {
-            in_settings(update.assignments.as_slice()).max(in_maybe(&update.condition))
+            greater(
+                in_settings(update.assignments.as_slice()),
+                in_maybe(&update.condition),
+            )
         }
         RowStatement::Delete(delete) => in_maybe(&delete.condition),
     }

@@ -6,4 +6,4 @@ pub returns-in-Some : goal.returns-in-Some
 returns-in-Some c = is_found c.args.name.now c.args.self.now.statements.keys c.in-Some.statement.now c.in-Some.ensures.key
 
 pub returns-in_ok-no_prepared_statement-in-None : goal.returns-in_ok-no_prepared_statement-in-None
-returns-in_ok-no_prepared_statement-in-None c = not_found c.args.name.now c.args.self.now.statements.keys c.in-None.ensures.key ∙ ap Err (sym c.in_ok-no_prepared_statement.ensures)
+returns-in_ok-no_prepared_statement-in-None c = not_found c.args.name.now c.args.self.now.statements.keys c.in-None.ensures.key ∙ ap Err (sym c.in_ok-no_prepared_statement-in-None.ensures)
