@@ -1,5 +1,5 @@
 use Rattle.prepared_statements.specs.Kept.{listed}
-use Rattle.statement_runs.proofs.Meant.{map_set}
+use Rattle.statement_runs.proofs.Prepared.{map_set}
 use Rattle.statement_runs.proofs.executor.set_list.Goals as goal
 
 pub returns-then-session-len : goal.returns-then-session-len
