@@ -12,4 +12,4 @@ mod Waiting
 mod Weights
 pub mod Whole
 mod Lasting
-mod Meant
+mod Prepared

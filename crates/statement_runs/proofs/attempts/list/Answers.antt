@@ -1,12 +1,10 @@
-use Rattle.std.proofs.Common.{List, Result, Ok, Err, ap, sym, subst}
-use Rattle.pg_values.specs.declared.fault.Fault.{Fault}
+use Rattle.std.proofs.Common.{List, Result, ap, subst, sym}
 use Rattle.pg_values.specs.declared.fault.Refusal.{Refusal}
 use Rattle.expression_binder.specs.Firsts.{IsAnswerBy}
-use Rattle.prepared_statements.specs.Prepared.{Prepared}
 use Rattle.statement_runs.specs.Executions.{listed_after}
-use Rattle.statement_runs.proofs.Whole.{listed_is, listed_stops, no_memory_is}
+use Rattle.statement_runs.proofs.Whole.{listed_is}
 use Rattle.statement_runs.proofs.attempts.list.Goals as goal
 
 pub returns-in-Ok-clause-is : goal.returns-in-Ok-clause-is
 returns-in-Ok-clause-is c left ps told answer =
-    listed_is left told ps c.args.stores.now c.args.caller c.args.out.now c.requires answer
+    listed_is left told ps c.args.stores.now c.args.caller c.args.out.now c.requires (subst (λ (d : Result (Unit {0}) Refusal). IsAnswerBy (λ (u : Unit {0}). ps) d told) c.in-Ok.is answer)
