@@ -3,7 +3,10 @@ use Rattle.std.proofs.Common.{◌≡◌, ℕ, ◌+◌, Bool, List, [], ◌++◌,
 use Rattle.pg_values.specs.declared.answer.Answer.{Answer}
 use Rattle.pg_values.specs.declared.fault.Fault.{Fault}
 use Rattle.pg_values.specs.declared.lock_mode.LockMode.{LockMode}
+use Rattle.pg_values.specs.declared.fault.Refusal.{Refusal}
+use Rattle.pg_values.specs.declared.fault.Refusal.TheVariants.{Sql}
 use Rattle.refusals.specs.Refusals.{left_out}
+use Rattle.expression_binder.specs.Firsts.{IsAnswerBy}
 use Rattle.sql_ast.specs.Commands.{command_tree}
 use Rattle.sql_ast.specs.declared.bound.BoundText.{BoundText}
 use Rattle.sql_ast.specs.declared.command.Command.{Command}
@@ -33,7 +36,7 @@ use Rattle.change_statement.specs.Running.{IsCommand}
 use Rattle.change_statement.proofs.Commands.{goes_anywhere, waits_later}
 use Rattle.statement_runs.specs.Attempted.{as_table, command_attempted, listed, nothing, omitted, printed, silent, staged, table, tabled}
 use Rattle.statement_runs.specs.LeftOut.{command_word}
-use Rattle.statement_runs.specs.Executions.{command_kept}
+use Rattle.statement_runs.specs.Executions.{Execution, command_kept, execution}
 use Rattle.statement_runs.specs.Printed.{IsKept, IsStatement}
 
 -- ---- it prints nothing
@@ -199,6 +202,10 @@ same_statement left r old new caller f g before after same step = record {
   keeps = step.keeps;
   waits = step.waits;
 }
+
+-- what an EXECUTE is refused with is its fault
+pub told_fault : (r : Refusal) (f : Fault) (told : Result Execution Fault) → r ≡ Sql f → IsAnswerBy execution (Err r) told → told ≡ Err f
+told_fault r f told is answer = subst (λ (x : Refusal). IsAnswerBy execution (Err x) told) is answer
 
 -- refused there
 pub refused_is : (left : Option Rest) (fault : Fault) (stores : Stores) (caller : Caller) (f : History → Made Ended) (before : List ℕ) → MayAttempt stores caller → ((h : History) → Stands stores h → f h ≡ halted [] (Refused fault))

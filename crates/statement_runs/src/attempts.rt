@@ -1,5 +1,6 @@
-ghost use Rattle.std.specs.Prelude.{◌≡◌, ◌≤◌, ◌&&◌, ◌++◌, [], List, OnErr, OnOk, Option, Result, codes, length, map};
+ghost use Rattle.std.specs.Prelude.{◌≡◌, ◌≤◌, ◌&&◌, ◌++◌, ℕ, [], Err, List, OnErr, OnOk, Option, Result, codes, length, map};
 ghost use Rattle.pg_values.specs.declared.fault.Fault.{Fault as OneFault};
+ghost use Rattle.pg_values.specs.declared.fault.Refusal.TheVariants.{Sql};
 ghost use Rattle.history.specs.History.{History};
 ghost use Rattle.part_catalog.specs.Stands.{CatalogueStands};
 ghost use Rattle.sql_ast.specs.Commands.{command_tree};
@@ -10,7 +11,9 @@ ghost use Rattle.expression_binder.specs.Firsts.{IsAnswerBy};
 ghost use Rattle.prepared_statements.specs.Kept.{listed};
 ghost use Rattle.prepared_statements.specs.Prepared.{Prepared, prepared as prepared_with};
 ghost use Rattle.statement_steps.specs.Attempts.{MayAttempt, MayGoOn};
-ghost use Rattle.statement_steps.specs.Ended.{ended};
+ghost use Rattle.statement_steps.specs.Ended.{Ended, ended};
+ghost use Rattle.statement_steps.specs.Made.{Made, Refused, halted};
+ghost use Rattle.stores.specs.Stand.{Stands};
 ghost use Rattle.statement_steps.specs.declared.rest.Rest.{Rest as Left};
 ghost use Rattle.select_statement.specs.Selected as selected;
 ghost use Rattle.insert_statement.specs.Inserted.{inserted};
@@ -21,7 +24,8 @@ ghost use Rattle.statement_runs.specs.Attempted as attempted;
 ghost use Rattle.statement_runs.specs.Executions as executions;
 ghost use Rattle.statement_runs.specs.Given as given;
 ghost use Rattle.statement_runs.specs.Printed.{IsKept, IsStatement, IsTallied};
-ghost use Rattle.statement_runs.specs.Tallies.{added};
+ghost use Rattle.schedule.specs.declared.tally.Tally.{Tally as OneTally};
+ghost use Rattle.statement_runs.specs.Tallies.{Grows, added};
 
 use crate::Options;
 use crate::executing::{executed, explained_by};
@@ -450,6 +454,20 @@ fn attempt_prepare(
     list(stores, caller, done, out)
 }
 
+// It is refused before it does anything.
+fn stop_for(stores: &Stores, caller: Caller, refusal: Refusal) -> Stop
+    requires { MayAttempt stores.now caller }
+    ensures is { (left : Option Left) (before : List ℕ) (f : History → Made Ended) →
+        ((h : History) → Stands stores.now h → (fault : OneFault) → refusal ≡ Sql fault → f h ≡ halted [] (Refused fault)) →
+        IsStatement left (Err result) stores.now stores.now before before caller f }
+    ensures tally { (before more : OneTally) → ((fault : OneFault) → refusal ≡ Sql fault → before ≡ added before more) → Grows {X = Unit {0}} (Err result) before before more }
+{
+    match refusal {
+        Refusal::Sql(fault) => Stop::Refused(fault),
+        Refusal::NoMemory => Stop::NoMemory,
+    }
+}
+
 fn attempt_execute(
     alloc: Global,
     stores: &mut Stores,
@@ -483,8 +501,7 @@ fn attempt_execute(
             tally,
             out,
         ),
-        Err(Refusal::Sql(fault)) => Err(Stop::Refused(fault)),
-        Err(Refusal::NoMemory) => Err(Stop::NoMemory),
+        Err(refusal) => Err(stop_for(stores, caller, refusal)),
     }
 }
 
@@ -537,8 +554,7 @@ fn explain_execution(
             &execution.statement,
             out,
         ),
-        Err(Refusal::Sql(fault)) => Err(Stop::Refused(fault)),
-        Err(Refusal::NoMemory) => Err(Stop::NoMemory),
+        Err(refusal) => Err(stop_for(stores, caller, refusal)),
     }
 }
 

@@ -10,7 +10,7 @@ use Rattle.statement_steps.specs.Ended.{ended}
 use Rattle.statement_runs.specs.Attempted.{execution_explained, plan_of_execution}
 use Rattle.statement_runs.specs.Executions.{Execution, explained_by}
 use Rattle.statement_runs.specs.Printed.{IsStatement}
-use Rattle.statement_runs.proofs.Whole.{refused_is, same_statement}
+use Rattle.statement_runs.proofs.Whole.{same_statement, told_fault}
 use Rattle.statement_runs.proofs.attempts.explain_execution.Goals as goal
 
 pub returns-in-Ok : goal.returns-in-Ok
@@ -26,4 +26,11 @@ returns-in-Ok c left =
     (subst (λ (ps : List Param). IsStatement left (ended c.plan_execution.result) c.args.stores.now c.plan_execution.new.stores c.args.out.now.items c.plan_execution.new.out.items k
     (plan_of_execution c.args.prunes names ps k (row_tree e.statement.value))) c.deref.ensures.value
     (subst (λ (s : RowStatement). IsStatement left (ended c.plan_execution.result) c.args.stores.now c.plan_execution.new.stores c.args.out.now.items c.plan_execution.new.out.items k
-    (plan_of_execution c.args.prunes names c.deref.result.now k (row_tree s))) c.deref-2.ensures.value (c.plan_execution.ensures left)))
+    (plan_of_execution c.args.prunes names c.deref.result.now k (row_tree s))) c.deref-in-Ok.ensures (c.plan_execution.ensures left)))
+
+pub returns-in-Err : goal.returns-in-Err
+returns-in-Err c left =
+    let k = c.args.caller in
+    let told = λ (h : History). explained_by h k.session (listed c.args.prepared.now) c.args.name.now (trees c.args.arguments.now) in
+    c.stop_for.ensures.is left c.args.out.now.items (λ h. execution_explained c.args.prunes c.args.names.now k (told h) h)
+    (λ h stands fault is. ap (λ (r : Result Execution Fault). execution_explained c.args.prunes c.args.names.now k r h) (told_fault c.in-Err.refusal fault (told h) is (c.in-Err.ensures h stands)))
