@@ -3,9 +3,8 @@ ghost use Rattle.script_program.specs.Program.{Calls, WorkBegins, WorkEnds};
 ghost use Rattle.step_engine.specs.Run as run;
 
 use pg_values::{Fault, NoMemory, PgText, Refusal, Sink, Source};
-use schedule::Database;
 use script_program::{Ended, Opener, run_program};
-use sessions::Sessions;
+use sessions::{Executor, Sessions};
 use spec_reader::Spec;
 use statement_runs::{Options, StoreExecutor, read_block};
 use statement_steps::SessionNames;
@@ -26,11 +25,12 @@ fn session_names(alloc: Global, script: &Spec) -> Result<SessionNames, NoMemory>
 struct OpensStores;
 
 impl Opener for OpensStores {
+    ghost use Rattle.sessions.specs.Whole.{StandsFor};
     ghost use Rattle.step_engine.specs.Run.{opened, refused};
 
     type Db = Sessions<StoreExecutor>;
 
-    ghost opens = { λ trail script d. ⟦<Sessions<StoreExecutor> as Database>⟧.stands d (opened trail script) };
+    ghost opens = { λ trail script d. StandsFor ⟦<StoreExecutor as Executor>⟧ d (opened trail script) };
 
     ghost refused = { refused };
 
