@@ -9,6 +9,7 @@ use spec_reader::Spec;
 use statement_runs::{Options, StoreExecutor, read_block};
 use statement_steps::SessionNames;
 use std::alloc::Global;
+use std::marker::PhantomData;
 
 fn session_names(alloc: Global, script: &Spec) -> Result<SessionNames, NoMemory>
     ensures { IfOk result (λ names. names ≡ run.session_names script.now) }
@@ -22,9 +23,11 @@ fn session_names(alloc: Global, script: &Spec) -> Result<SessionNames, NoMemory>
 }
 
 /// Opens the stores of a run with the sessions of a script, whose blocks are SQL.
-struct OpensStores;
+struct OpensStores<T> {
+    of: PhantomData<T>,
+}
 
-impl Opener for OpensStores {
+impl<T> Opener for OpensStores<T> {
     ghost use Rattle.sessions.specs.Whole.{StandsFor};
     ghost use Rattle.step_engine.specs.Run.{opened, refused};
 
@@ -67,5 +70,5 @@ pub fn partscript_run<S: Source, K: Sink, E: Sink>(
 ) -> Ended
     ensures { Calls S.Source K.Sink E.Sink (WorkEnds run.rules run.HoldsThroughout run.opened run.refused) (WorkBegins run.rules run.HoldsThroughout run.opened run.refused) (map string_bytes words.now) input.old input.new out.old out.new err.old err.new result }
 {
-    run_program::<OpensStores, S, K, E>(alloc, words, input, out, err)
+    run_program::<OpensStores<()>, S, K, E>(alloc, words, input, out, err)
 }

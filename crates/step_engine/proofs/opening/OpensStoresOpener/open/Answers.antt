@@ -7,7 +7,7 @@ use Rattle.step_engine.proofs.Opened.{opened_so}
 use Rattle.step_engine.proofs.opening.OpensStoresOpener.open.Goals as goal
 
 pub returns-clause-opens : goal.returns-clause-opens
-returns-clause-opens c =
+returns-clause-opens g c =
     let trail = c.args.trail in
     let told : List (List ℕ) → Options = λ names. record { names = names; trail = trail } in
     let count = c.len.result + 1 in
