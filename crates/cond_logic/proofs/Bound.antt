@@ -67,3 +67,23 @@ mutual
   all_without : (args : List Value) (ts : CondTrees) → are_without (length args) (all_with_args args ts) ≡ true
   all_without args no_more = refl
   all_without args (and_more t ts) = rw (bound_without args t, all_without args ts) refl
+
+-- ---- without arguments it stays as it is
+
+operand_same : (x : Operand) → operand_with [] x ≡ x
+operand_same (Column c) = refl
+operand_same (Lit v) = refl
+operand_same (Param i) = refl
+
+mutual
+  pub without_args : (t : CondTree) → with_args [] t ≡ t
+  without_args (all_of ts) = ap all_of (all_without_args ts)
+  without_args (any_of ts) = ap any_of (all_without_args ts)
+  without_args (inverted t) = ap inverted (without_args t)
+  without_args (compares op x y) = rw (operand_same x, operand_same y) refl
+  without_args (null_test x) = ap null_test (operand_same x)
+  without_args (known t) = refl
+
+  all_without_args : (ts : CondTrees) → all_with_args [] ts ≡ ts
+  all_without_args no_more = refl
+  all_without_args (and_more t ts) = rw (without_args t, all_without_args ts) refl

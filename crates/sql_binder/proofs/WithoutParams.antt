@@ -2,30 +2,11 @@
 use Rattle.std.proofs.Common.{◌≡◌, ◌==◌, ◌∙◌, arith, Bool, true, List, [], ◌∷◌, Option, Some, None, length, map, refl, sym, ap}
 use Rattle.std.proofs.lemmas.Bool.Decides.{nat_tests}
 use Rattle.cond_logic.specs.Asked.{ChangeMeant, SelectMeant}
-use Rattle.cond_logic.specs.Rewriting.{operand_with, with_args, all_with_args}
-use Rattle.cond_logic.specs.Trees.{CondTree, CondTrees, no_more, and_more, all_of, any_of, inverted, compares, null_test, known}
-use Rattle.cond_logic.specs.declared.cond.Operand.{Operand}
-use Rattle.cond_logic.specs.declared.cond.Operand.TheVariants.{Column, Lit, Param as Parameter}
+use Rattle.cond_logic.specs.Rewriting.{with_args}
+use Rattle.cond_logic.specs.Trees.{CondTree}
+use Rattle.cond_logic.proofs.Bound.{without_args}
 use Rattle.expression_binder.specs.declared.scope.Param.{Param}
 use Rattle.sql_binder.specs.Values.{values_of, with_values, condition_with, change_with_values}
-
-operand_same : (x : Operand) → operand_with [] x ≡ x
-operand_same (Column c) = refl
-operand_same (Lit v) = refl
-operand_same (Parameter i) = refl
-
-mutual
-  without_args : (t : CondTree) → with_args [] t ≡ t
-  without_args (all_of ts) = ap all_of (all_without_args ts)
-  without_args (any_of ts) = ap any_of (all_without_args ts)
-  without_args (inverted t) = ap inverted (without_args t)
-  without_args (compares op x y) = rw (operand_same x, operand_same y) refl
-  without_args (null_test x) = ap null_test (operand_same x)
-  without_args (known t) = refl
-
-  all_without_args : (ts : CondTrees) → all_with_args [] ts ≡ ts
-  all_without_args no_more = refl
-  all_without_args (and_more t ts) = rw (without_args t, all_without_args ts) refl
 
 each_same : (ts : List CondTree) → map (with_args []) ts ≡ ts
 each_same [] = refl
