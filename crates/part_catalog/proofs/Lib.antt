@@ -1,5 +1,6 @@
 pub mod Adding
 pub mod Between
+pub mod Forgotten
 pub mod Found
 pub mod Grown
 pub mod Keeping

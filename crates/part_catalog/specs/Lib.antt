@@ -1,4 +1,5 @@
 pub mod Answers
+pub mod Forgotten
 pub mod Found
 pub mod Full
 pub mod Groves

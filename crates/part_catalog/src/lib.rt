@@ -32,7 +32,7 @@ mod see;
 mod stored;
 
 pub use catalog::Catalog;
-pub use laws::siblings_are_kept;
+pub use laws::{forgotten_are_not_missed, siblings_are_kept};
 pub use new_table::{CatalogRefused, NewTable};
 
 /// How many tables a catalogue takes, dropped ones too.
