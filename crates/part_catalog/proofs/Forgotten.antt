@@ -8,7 +8,7 @@ use Rattle.history.specs.declared.catalogue.Entry.{Entry}
 use Rattle.history.specs.declared.catalogue.Stamp.{Stamp}
 use Rattle.history.specs.Transactions.{TxEvents, TxEvent, fate, open_of, was_aborted, is_committed, IsSound}
 use Rattle.history.specs.Catalogue.{EntryEnded, entries_added, entry_ends, newest_of, counted_of, standing}
-use Rattle.history.specs.History.{Event, History, TxChange, CatalogueChange, tx_events, catalogue_events}
+use Rattle.history.specs.History.{History, TxChange, CatalogueChange, tx_events, catalogue_events}
 use Rattle.history.specs.Places.{AreCatalogueSound}
 use Rattle.history.specs.Presence.{is_own, counts, stamp_counts, is_present, is_shown}
 use Rattle.history.proofs.Open.{open_runs}
