@@ -2,7 +2,6 @@
 use Rattle.std.proofs.Common.{◌≡◌, ℕ, ◌+◌, ◌<◌, ◌&&◌, ◌||◌, not, Bool, true, false, List, [], ◌∷◌, ◌++◌, ◌⊎◌, inl, inr, refl, sym, ap, ◌∙◌, subst, arith, Option, Some, None, Ok, Err, map, length}
 use Rattle.std.specs.Prelude.{is_some, ◌≤◌}
 use Rattle.std.specs.List.{Contains, list_any}
-use Rattle.std.proofs.lemmas.List.{length-map}
 use Rattle.std.proofs.lemmas.List.Elements.{All-contains}
 use Rattle.pg_values.specs.declared.value.Value.{Value}
 use Rattle.pg_values.specs.declared.ids.TableNo.{TableNo}
@@ -25,7 +24,7 @@ use Rattle.row_router.specs.Paths.{refused}
 use Rattle.tx_table.specs.Stands.{TableStands}
 use Rattle.part_catalog.specs.Found.{made_at}
 use Rattle.part_catalog.specs.Full.{EntryRefused, MayAdd, partitions, levels}
-use Rattle.part_catalog.specs.Kept.{KeptCatalogue, entry_in, next_entry}
+use Rattle.part_catalog.specs.Kept.{KeptCatalogue, next_entry}
 use Rattle.part_catalog.specs.Stands.{CatalogueStands}
 use Rattle.part_ddl.specs.Below.{default_of, tables_from}
 use Rattle.part_ddl.specs.Laws.{PassedHavePlaces, IsNoDefaultBeside}
@@ -182,14 +181,11 @@ module _ (laws : AttachLaws) (stores : Stores) (caller : Caller) (p t : ℕ) (b 
 
 -- ---- the catalogue takes it
 
-entry_count : (kept : KeptCatalogue) (h : History) → CatalogueStands kept h → length kept.entries ≡ length (entries_added (catalogue_events h))
-entry_count kept h stands = sym (length-map kept.entries entry_in) ∙ ap length stands.entries
-
 -- it is the next one
 is_next : (kept : KeptCatalogue) (caller : Caller) (p t : TableNo) (b : Bound) (by : TxId) (h : History) → CatalogueStands kept h → by ≡ own h caller.session → next_entry kept p t b by caller.cmd ≡ new_entry caller p.number t.number b h
 is_next kept caller p t b by h stands is =
     let at : ℕ → TxId → Entry = λ n x. record { id = record { number = n }; parent = p; child = t; bound = b; by = x; cmd = caller.cmd } in
-    ap (λ (n : ℕ). at n by) (entry_count kept h stands) ∙ ap (λ (x : TxId). at (length (entries_added (catalogue_events h))) x) is
+    ap (λ (n : ℕ). at n by) stands.added ∙ ap (λ (x : TxId). at (length (entries_added (catalogue_events h))) x) is
 
 module _ (laws : AttachLaws) (stores : Stores) (caller : Caller) (p t : TableNo) (b : Bound) (by : TxId) (may : MayAttempt stores caller) (mine : IsOwn stores caller.session by) (all : HasLockedAll stores caller.session p.number t.number) (place : HasPlace stores caller.session p.number t.number b) where
   owner : (h : History) → TableStands stores.txs h → session_of (tx_events h) by.number ≡ caller.session

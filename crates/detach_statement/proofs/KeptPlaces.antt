@@ -1,5 +1,6 @@
 -- A table keeps a CHECK, and then the entry ends by which it is a partition.
 use Rattle.std.proofs.Common.{◌≡◌, ℕ, ◌+◌, ◌<◌, arith, List, [], ◌∷◌, ◌++◌, false, refl, sym, ap, ◌∙◌, subst, Option, Some, None, IfSome, Ok, All, length, map}
+use Rattle.std.proofs.lemmas.List.Elements.{All-filter}
 use Rattle.pg_values.specs.declared.ids.TableNo.{TableNo}
 use Rattle.bound_forms.specs.Accepts.{is_default}
 use Rattle.bound_forms.specs.Levels.{IsOfLevel}
@@ -23,8 +24,8 @@ use Rattle.part_catalog.specs.Kept.{KeptCatalogue}
 use Rattle.part_catalog.specs.Stands.{CatalogueStands}
 use Rattle.part_ddl.specs.Dropped.{ended, place_ended}
 use Rattle.part_ddl.specs.Placing.{level_at, partitions_of}
-use Rattle.part_ddl.proofs.Ends.{between_of}
-use Rattle.part_ddl.proofs.Standing.{same_entries, same_ended}
+use Rattle.part_ddl.proofs.Ends.{between_of, found_all}
+use Rattle.part_ddl.proofs.Standing.{EndsAlike, same_entries, same_ended}
 use Rattle.legal_statements.specs.Drops.{IsDrop}
 use Rattle.legal_statements.specs.Follows.{MayFollow}
 use Rattle.legal_statements.specs.Laws.{CheckMayFollow}
@@ -206,7 +207,8 @@ module _ (laws : KeepLaws) (stores : Stores) (caller : Caller) (by : TxId) (p : 
       let entries : entries_present g s ≡ entries_present h s = sym (entries_behind (table_of t) by caller.cmd check g s) ∙ same_entries stores.txs mid f h txs_then txs there catalog s in
       let found : above (entries_present h s) t ≡ Some e = subst (λ (es : List Entry). above es t ≡ Some e) entries a.found in
       let ends : counted_of (tx_events h) (entry_ends (catalogue_events h)) e.id.number ≡ None =
-      sym (same_ended stores.txs mid f h txs_then txs there catalog e.id.number) ∙ (ended_behind (table_of t) by caller.cmd check g e.id.number ∙ none) in
+      let same : EndsAlike f h e = found_all (EndsAlike f h) (is_over t) (entries_present h s) e found (All-filter (is_over t) (EndsAlike f h) (entries_present h s) (same_ended stores.txs mid f h txs_then txs there catalog s)) in
+      sym same ∙ (ended_behind (table_of t) by caller.cmd check g e.id.number ∙ none) in
       subst (λ (n : ℕ). IsStanding h n p.number t) (sym (owner laws.leave stores caller by p t may mine locked partition h txs)) (e, between_behind h s e found a.parent, ends)
 
   keep_deed : (mid last : KeptCatalogue) → Keeps mid → Ends mid last → (h : History) (stands : Stands stores h) → IsAt h caller.session caller.cmd → (n : ℕ) → open_of (tx_events h) caller.session ≡ Some n

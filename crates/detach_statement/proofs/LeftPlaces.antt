@@ -16,7 +16,7 @@ use Rattle.part_catalog.specs.Kept.{KeptCatalogue}
 use Rattle.part_catalog.specs.Stands.{CatalogueStands}
 use Rattle.part_ddl.specs.Dropped.{ended, place_ended}
 use Rattle.part_ddl.proofs.Ends.{IsAbove, above_is, between_of}
-use Rattle.part_ddl.proofs.Standing.{same_entries, same_ended}
+use Rattle.part_ddl.proofs.Standing.{EndsAlike, same_entries, same_ended}
 use Rattle.legal_statements.specs.Drops.{IsOf, IsDrop}
 use Rattle.legal_statements.specs.Laws.{ListedIsThere, NobodyElseEnds, DropMayFollow}
 use Rattle.legal_statements.specs.Locked.{IsGuarded}
@@ -83,7 +83,8 @@ module _ (laws : LeaveLaws) (stores : Stores) (caller : Caller) (by : TxId) (p :
       let at : Contains (entries_present g s) a.entry =
       subst (λ (es : List Entry). Contains es a.entry) (sym (same_entries stores.txs stores.catalog g h stands.all.txs txs stands.all.catalog catalog s)) (over_present h s t p a) in
       let has = (laws.listed g s here.0 a.entry here.1.legal here.1.permitted here.1.own at).0 in
-      sym (same_ended stores.txs stores.catalog g h stands.all.txs txs stands.all.catalog catalog a.entry.id.number)
+      let there = over_present h s t p a in
+      sym (subst (EndsAlike g h) there.2 (same_ended stores.txs stores.catalog g h stands.all.txs txs stands.all.catalog catalog s there.0 a.entry there.1))
       ∙ laws.ends g s here.0 a.entry here.1.legal here.1.permitted here.1.own has (over_guarded stores g s p a.entry stands locked a.parent)
 
   pub owner : (h : History) → TableStands stores.txs h → session_of (tx_events h) by.number ≡ caller.session

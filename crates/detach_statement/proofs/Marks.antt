@@ -1,5 +1,5 @@
 -- The entry by which the table is a partition is marked pending.
-use Rattle.std.proofs.Common.{◌≡◌, ℕ, ◌==◌, ◌+◌, ◌≤◌, true, false, List, ◌∷◌, inl, inr, refl, sym, ap, ◌∙◌, subst, arith, Option, Some, None, Result, Ok, Err}
+use Rattle.std.proofs.Common.{◌≡◌, ℕ, ◌==◌, ◌+◌, ◌≤◌, true, false, List, ◌∷◌, inl, inr, refl, sym, ap, ◌∙◌, subst, arith, Option, Some, None, Result, Ok, Err, get_or, length, ◌<◌}
 use Rattle.std.specs.List.{Contains, All}
 use Rattle.std.proofs.lemmas.Bool.{cases_Bool}
 use Rattle.std.proofs.lemmas.Bool.Decides.{nat_tests}
@@ -24,11 +24,11 @@ use Rattle.row_router.specs.Histories.{table_of}
 use Rattle.tx_table.specs.Kept.{KeptTable}
 use Rattle.tx_table.specs.Stands.{TableStands}
 use Rattle.part_catalog.specs.Answers.{child_told, entry_between, is_pending_below, pending_entry, IsUnmarked}
-use Rattle.part_catalog.specs.Kept.{KeptCatalogue}
+use Rattle.part_catalog.specs.Kept.{KeptCatalogue, no_entry}
 use Rattle.part_catalog.specs.Stands.{CatalogueStands}
 use Rattle.part_ddl.specs.Below.{default_of, has_default_bound}
 use Rattle.part_ddl.specs.Placing.{level_at, partitions_of}
-use Rattle.part_ddl.proofs.Standing.{same_entries, same_standing}
+use Rattle.part_ddl.proofs.Standing.{kept_present, same_entries, same_standing}
 use Rattle.history.specs.Catalogue.{standing}
 use Rattle.legal_statements.specs.Entries.{IsNewMark}
 use Rattle.legal_statements.specs.Laws.{ListedIsThere, NobodyElseMarks, MarkMayFollow}
@@ -118,13 +118,15 @@ none_is_default h s p g none at of = elim (cases_Bool (is_default g.bound)) [
 ]
 
 -- two histories for which the stores stand tell the same marks
-same_marked : (table : KeptTable) (kept : KeptCatalogue) (g h : History) → TableStands table g → TableStands table h → CatalogueStands kept g → CatalogueStands kept h → (k : ℕ)
-    → counted_of (tx_events g) (marks (catalogue_events g)) k ≡ counted_of (tx_events h) (marks (catalogue_events h)) k
-same_marked table kept g h a b c d k =
-    newest_mark_counts g k c.sound
-    ∙ ap (standing (tx_events g)) (sym (c.marks k) ∙ d.marks k)
-    ∙ same_standing table g h a b _
-    ∙ sym (newest_mark_counts h k d.sound)
+abbrev MarksAlike : History → History → Entry → Type 0
+MarksAlike g h e = counted_of (tx_events g) (marks (catalogue_events g)) e.id.number ≡ counted_of (tx_events h) (marks (catalogue_events h)) e.id.number
+
+same_marked : (table : KeptTable) (kept : KeptCatalogue) (g h : History) → TableStands table g → TableStands table h → CatalogueStands kept g → CatalogueStands kept h → (s : ℕ) → All (MarksAlike g h) (entries_present h s)
+same_marked table kept g h a b c d s =
+    let each : (k : ℕ) → k < length kept.entries → MarksAlike g h (get_or kept.entries k no_entry).entry = λ k lt.
+    let n = (get_or kept.entries k no_entry).entry.id.number in
+    newest_mark_counts g n c.sound ∙ ap (standing (tx_events g)) (sym (c.marks k lt) ∙ d.marks k lt) ∙ same_standing table g h a b _ ∙ sym (newest_mark_counts h n d.sound) in
+    kept_present kept h s (MarksAlike g h) b.sound d each
 
 -- ---- what is asked of the call
 
@@ -147,7 +149,8 @@ module _ (laws : MarkLaws) (stores : Stores) (caller : Caller) (by : TxId) (p : 
       let has_it = (laws.listed g s here.0 a.entry here.1.legal here.1.permitted here.1.own at).0 in
       let of : a.entry.parent.number ≡ p.number = ap (λ (x : TableNo). x.number) a.parent in
       let off = none_is_pending g s p.number a.entry (facts g stands.all.txs stands.all.catalog).no_pending at of in
-      sym (same_marked stores.txs stores.catalog g h stands.all.txs txs stands.all.catalog catalog a.entry.id.number)
+      let there = over_present h s t p a in
+      sym (subst (MarksAlike g h) there.2 (same_marked stores.txs stores.catalog g h stands.all.txs txs stands.all.catalog catalog s there.0 a.entry there.1))
       ∙ laws.marks g s here.0 a.entry here.1.legal here.1.permitted here.1.own has_it off (over_guarded stores g s p a.entry stands guarded a.parent)
 
   owner : (h : History) → TableStands stores.txs h → session_of (tx_events h) by.number ≡ caller.session

@@ -52,7 +52,7 @@ stored_stand : (old : Stores) (rows : KeptRows) (g h : History) → Quiet g h �
 stored_stand old rows g h q new st = record {
   txs = subst (λ t. StandsFor old.txs t (snapshot_events g)) (sym q.txs) (subst (StandsFor old.txs (tx_events h)) (sym q.snapshots) st.txs);
   rows = new;
-  catalog = catalogue_stands old.catalog h g q.catalogue (q.sound st.catalog.sound) st.catalog;
+  catalog = catalogue_stands old.catalog h g q.txs q.catalogue (q.sound st.catalog.sound) st.catalog;
   locks = subst (LocksFor old.locks) (sym q.locks) st.locks;
 }
 

@@ -1,8 +1,10 @@
 -- What is gone is seen by nobody, and stays gone.
-use Rattle.std.proofs.Common.{◌≡◌, ◌≢◌, ℕ, arith, ap, refl, sym, ◌∙◌, Bool, true, false, ◌==◌, ◌||◌, List, [], ◌∷◌, Option, Some, None, filter, inl, inr}
+use Rattle.std.proofs.Common.{◌≡◌, ◌≢◌, ℕ, arith, ap, refl, sym, subst, ◌∙◌, Bool, true, false, ◌==◌, ◌||◌, ◌++◌, List, [], ◌∷◌, Option, Some, None, filter, inl, inr}
+use Rattle.std.specs.List.{All, find}
 use Rattle.std.proofs.lemmas.Bool.{cases_Bool}
 use Rattle.std.proofs.lemmas.Bool.Decides.{nat_tests}
 use Rattle.std.proofs.lemmas.Grind.{common_steps}
+use Rattle.std.proofs.lemmas.List.Elements.{All-cons, All-head, All-tail}
 use Rattle.history.specs.declared.transaction.Fate.TheVariants.{Running, Aborted}
 use Rattle.history.specs.declared.catalogue.Entry.{Entry}
 use Rattle.history.specs.declared.catalogue.Stamp.{Stamp}
@@ -80,7 +82,7 @@ over_stands txs (Some s) over none = elim (cases_Bool (was_aborted txs s.by.numb
 ]
 
 -- an end of an entry that is gone: its birth was aborted, since no end of it counts
-ended_gone : (h : History) (n : ℕ) (s : Stamp) (e : Entry) → AreCatalogueSound h → counted_of (tx_events h) (entry_ends (catalogue_events h)) n ≡ None → is_gone h e ≡ true → is_gone (CatalogueChange (EntryEnded n s) ∷ h) e ≡ true
+pub ended_gone : (h : History) (n : ℕ) (s : Stamp) (e : Entry) → AreCatalogueSound h → counted_of (tx_events h) (entry_ends (catalogue_events h)) n ≡ None → is_gone h e ≡ true → is_gone (CatalogueChange (EntryEnded n s) ∷ h) e ≡ true
 ended_gone h n s e cat none gone = elim (cases_Bool (n == e.id.number)) [
   | inl y ↦
       let txs = tx_events h in
@@ -106,7 +108,7 @@ gone_stay_gone event h e sound cat gone = gone
 
 -- ---- lists without some that are gone
 
-thin_filter : (P : Entry → Type 0) (p : Entry → Bool) → ((e : Entry) → P e → p e ≡ false) → (xs ys : List Entry) → Thins P xs ys → filter p ys ≡ filter p xs
+pub thin_filter : (P : Entry → Type 0) (p : Entry → Bool) → ((e : Entry) → P e → p e ≡ false) → (xs ys : List Entry) → Thins P xs ys → filter p ys ≡ filter p xs
 thin_filter P p hides [] [] t = refl
 thin_filter P p hides [] (y ∷ ys) t = absurd t
 thin_filter P p hides (x ∷ xs) ys t = elim t [
@@ -125,6 +127,35 @@ thin_weaker P Q weaker [] (y ∷ ys) t = t
 thin_weaker P Q weaker (x ∷ xs) ys t = elim t [
   | inl gone ↦ inl (weaker x gone.0, thin_weaker P Q weaker xs ys gone.1)
   | inr kept ↦ inr (kept.0, kept.1, thin_weaker P Q weaker xs kept.0 kept.2)
+]
+
+-- one more stands at the end of both
+pub thin_more : (P : Entry → Type 0) (xs ys : List Entry) (e : Entry) → Thins P xs ys → Thins P (xs ++ e ∷ []) (ys ++ e ∷ [])
+thin_more P [] [] e t = inr ([], refl, tt)
+thin_more P [] (y ∷ ys) e t = absurd t
+thin_more P (x ∷ xs) ys e t = elim t [
+  | inl gone ↦ inl (gone.0, thin_more P xs ys e gone.1)
+  | inr kept ↦ inr (kept.0 ++ e ∷ [], ap (λ es. es ++ e ∷ []) kept.1, thin_more P xs kept.0 e kept.2)
+]
+
+-- the first that passes
+pub thin_find : (P : Entry → Type 0) (p : Entry → Bool) → ((e : Entry) → P e → p e ≡ false) → (xs ys : List Entry) → Thins P xs ys → find p ys ≡ find p xs
+thin_find P p hides [] [] t = refl
+thin_find P p hides [] (y ∷ ys) t = absurd t
+thin_find P p hides (x ∷ xs) ys t = elim t [
+  | inl gone ↦ let off : p x ≡ false = hides x gone.0 in rw off (thin_find P p hides xs ys gone.1)
+  | inr kept ↦
+      let rest = thin_find P p hides xs kept.0 kept.2 in
+      elim (cases_Bool (p x)) [ inl y ↦ rw (kept.1, y) refl | inr n ↦ rw (kept.1, n) rest ]
+]
+
+-- what holds of all holds of those that are left
+pub thin_all : (P Q : Entry → Type 0) (xs ys : List Entry) → Thins P xs ys → All Q xs → All Q ys
+thin_all P Q [] [] t all = all
+thin_all P Q [] (y ∷ ys) t all = absurd t
+thin_all P Q (x ∷ xs) ys t all = elim t [
+  | inl gone ↦ thin_all P Q xs ys gone.1 (All-tail Q x xs all)
+  | inr kept ↦ subst (All Q) (sym kept.1) (All-cons Q x kept.0 (All-head Q x xs all) (thin_all P Q xs kept.0 kept.2 (All-tail Q x xs all)))
 ]
 
 pub forgotten_are_not_missed : ForgottenAreNotMissed

@@ -19,46 +19,40 @@ use Rattle.row_router.specs.Siblings.{AreSiblings}
 use Rattle.row_router.proofs.Order.{children_of_part, siblings_in_order, all_children, all_kept}
 use Rattle.part_catalog.specs.declared.stored.StoredTable.{StoredTable}
 use Rattle.part_catalog.specs.declared.stored.StoredEntry.{StoredEntry}
-use Rattle.part_catalog.specs.Kept.{entry_in, table_in, number_of, no_entry}
-use Rattle.part_catalog.specs.Stands.{is_flagged}
+use Rattle.part_catalog.specs.Kept.{table_in, number_of, no_entry, with_place, by_place}
 use Rattle.part_catalog.specs.Groves.{IsGrove, IsLevel}
+use Rattle.part_catalog.proofs.Places.{all_by_place}
 
 -- ---- the entry that stands at a place below a table
 
--- an entry of the list stands under its number
+-- an entry stands at its place
 abbrev pub IsOwn : List StoredEntry → Entry → Type 0
-IsOwn entries e = (e.id.number < length entries) × ((get_or entries e.id.number no_entry).entry ≡ e)
+IsOwn entries e = (e.id.number < length entries) × (with_place e.id.number (get_or entries e.id.number no_entry).entry ≡ e)
 
-pub all_own : (entries : List StoredEntry) → ((k : ℕ) → k < length entries → (get_or entries k no_entry).entry.id.number ≡ k) → All (IsOwn entries) (map entry_in entries)
-all_own entries num k d lt =
-    let within : k < length entries = omega (arith, lt, length-map entries entry_in) in
-    let at : get_or (map entry_in entries) k d ≡ (get_or entries k no_entry).entry = get_or-map entry_in entries k no_entry d within in
-    let n = num k within in
-    subst (IsOwn entries) (sym at) (omega (arith, n, within), ap (λ i. (get_or entries i no_entry).entry) n)
+pub all_own : (entries : List StoredEntry) → All (IsOwn entries) (by_place entries)
+all_own entries = all_by_place (IsOwn entries) entries (λ k lt. (lt, refl))
 
-pub record Kid (entries : List StoredEntry) (flags : List Bool) (kids : List Entry) (i n : ℕ) (x : StoredEntry) : Type 0 where
+pub record Kid (entries : List StoredEntry) (kids : List Entry) (i n : ℕ) (x : StoredEntry) : Type 0 where
   pub known : n < length entries
-  pub there : drop i kids ≡ x.entry ∷ drop (i + 1) kids
-  pub flag : is_flagged flags x.entry ≡ get_or flags n false
+  pub there : drop i kids ≡ with_place n x.entry ∷ drop (i + 1) kids
 
 drop_at : {X : Type 0} (xs : List X) (i : ℕ) (d : X) → i < length xs → drop i xs ≡ get_or xs i d ∷ drop (i + 1) xs
 drop_at xs i d lt = let next : i + 1 ≡ suc i = add-one i in rw next (drop-cons xs i d lt)
 
-pub kid_at : (entries : List StoredEntry) (flags : List Bool) (numbers : List ℕ) (t i : ℕ) → ((k : ℕ) → k < length entries → (get_or entries k no_entry).entry.id.number ≡ k) → numbers ≡ map number_of (children (map entry_in entries) t) → i < length numbers
-    → Kid entries flags (children (map entry_in entries) t) i (get_or numbers i 0) (get_or entries (get_or numbers i 0) no_entry)
-kid_at entries flags numbers t i num are lt =
-    let kids = children (map entry_in entries) t in
+pub kid_at : (entries : List StoredEntry) (numbers : List ℕ) (t i : ℕ) → numbers ≡ map number_of (children (by_place entries) t) → i < length numbers
+    → Kid entries (children (by_place entries) t) i (get_or numbers i 0) (get_or entries (get_or numbers i 0) no_entry)
+kid_at entries numbers t i are lt =
+    let kids = children (by_place entries) t in
     let n = get_or numbers i 0 in
     let within : i < length kids = omega (arith, lt, ap length are, length-map kids number_of) in
     let kid : Entry = get_or kids i no_entry.entry in
     let is : n ≡ kid.id.number = ap (λ ns. get_or ns i 0) are ∙ get_or-map number_of kids i no_entry.entry 0 within in
-    let own : IsOwn entries kid = all_children (IsOwn entries) (map entry_in entries) t (all_own entries num) i no_entry.entry within in
+    let own : IsOwn entries kid = all_children (IsOwn entries) (by_place entries) t (all_own entries) i no_entry.entry within in
     let known : n < length entries = omega (arith, own.0, is) in
-    let same : (get_or entries n no_entry).entry ≡ kid = ap (λ k. (get_or entries k no_entry).entry) is ∙ own.1 in
+    let same : with_place n (get_or entries n no_entry).entry ≡ kid = ap (λ k. with_place k (get_or entries k no_entry).entry) is ∙ own.1 in
     record {
       known = known;
       there = drop_at kids i no_entry.entry within ∙ ap (λ e. e ∷ drop (i + 1) kids) (sym same);
-      flag = ap (λ k. get_or flags k false) (num n known);
     }
 
 -- ---- what a loop over the numbers keeps
@@ -73,7 +67,7 @@ take_step p f done more kids i e all there flag put h =
     let here : filter p (drop i kids) ≡ e ∷ filter p (drop (i + 1) kids) = ap (filter p) there ∙ rw flag refl in
     ap (λ l. l ++ map f (filter p (drop (i + 1) kids))) put ∙ grind (arith, common_steps) ∙ ap (λ es. done ++ map f es) (sym here) ∙ h
 
-past_end : {A : Type 0} (i : ℕ) (xs : List A) → length xs ≤ i → drop i xs ≡ []
+pub past_end : {A : Type 0} (i : ℕ) (xs : List A) → length xs ≤ i → drop i xs ≡ []
 past_end i [] h = grind (arith, common_steps)
 past_end zero (x ∷ xs) h = absurd (omega arith)
 past_end (suc i) (x ∷ xs) h = past_end i xs (omega arith)
@@ -112,19 +106,17 @@ shown_in_order entries p t bounds siblings are =
 abbrev HasKind : Entry → Type 0
 HasKind e = BoundOfKind IsNotNull e.bound
 
-all_kinds : (entries : List StoredEntry) → ((k : ℕ) → k < length entries → BoundOfKind IsNotNull (get_or entries k no_entry).entry.bound) → All HasKind (map entry_in entries)
-all_kinds entries kinds k d lt =
-    let within : k < length entries = omega (arith, lt, length-map entries entry_in) in
-    subst HasKind (sym (get_or-map entry_in entries k no_entry d within)) (kinds k within)
+all_kinds : (entries : List StoredEntry) → ((k : ℕ) → k < length entries → BoundOfKind IsNotNull (get_or entries k no_entry).entry.bound) → All HasKind (by_place entries)
+all_kinds entries kinds = all_by_place HasKind entries kinds
 
 mapped_all : (P : Bound → Type 0) (es : List Entry) → All (λ e. P e.bound) es → All P (map bound_of es)
 mapped_all P es h k d lt =
     let within : k < length es = omega (arith, lt, length-map es bound_of) in
     subst P (sym (get_or-map bound_of es k no_entry.entry d within)) (h k no_entry.entry within)
 
-pub shown_kinds : (entries : List StoredEntry) (p : Entry → Bool) (t : ℕ) (bounds : List Bound) → ((k : ℕ) → k < length entries → BoundOfKind IsNotNull (get_or entries k no_entry).entry.bound) → bounds ≡ map bound_of (filter p (children (map entry_in entries) t)) → All (BoundOfKind IsNotNull) bounds
+pub shown_kinds : (entries : List StoredEntry) (p : Entry → Bool) (t : ℕ) (bounds : List Bound) → ((k : ℕ) → k < length entries → BoundOfKind IsNotNull (get_or entries k no_entry).entry.bound) → bounds ≡ map bound_of (filter p (children (by_place entries) t)) → All (BoundOfKind IsNotNull) bounds
 shown_kinds entries p t bounds kinds are =
-    subst (All (BoundOfKind IsNotNull)) (sym are) (mapped_all (BoundOfKind IsNotNull) (filter p (children (map entry_in entries) t)) (all_kept HasKind p (children (map entry_in entries) t) (all_children HasKind (map entry_in entries) t (all_kinds entries kinds))))
+    subst (All (BoundOfKind IsNotNull)) (sym are) (mapped_all (BoundOfKind IsNotNull) (filter p (children (by_place entries) t)) (all_kept HasKind p (children (by_place entries) t) (all_children HasKind (by_place entries) t (all_kinds entries kinds))))
 
 pub none_in_order : (bounds : List Bound) → bounds ≡ [] → IsInPlainOrder bounds
 none_in_order bounds none = subst IsInPlainOrder (sym none) (siblings_in_order [] 0 (λ i j d lt le. absurd (omega arith)))
@@ -135,7 +127,7 @@ pub level_of : (tables : List StoredTable) (entries : List StoredEntry) (numbers
 level_of tables entries numbers flags t l d g lt is =
     let within : t < length numbers = omega (arith, lt, g.listed.count) in
     let same : get_or numbers t d ≡ get_or numbers t [] = grind (arith, common_steps, elements, within) in
-    record { numbered = g.listed.numbered; below = is ∙ same ∙ g.listed.below t lt; flagged = g.flagged; siblings = g.siblings; kinds = g.kinds }
+    record { below = is ∙ same ∙ g.listed.below t lt; flagged = g.flagged; siblings = g.siblings; kinds = g.kinds }
 
 pub table_is : (tables : List StoredTable) (t : ℕ) (x : StoredTable) → t < length tables → x ≡ get_or tables t x → table_at (map table_in tables) t ≡ x.table
 table_is tables t x lt is =

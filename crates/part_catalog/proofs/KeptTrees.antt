@@ -9,7 +9,7 @@ use Rattle.row_router.specs.Histories.{tree_within}
 use Rattle.part_catalog.specs.declared.stored.StoredTable.{StoredTable}
 use Rattle.part_catalog.specs.declared.stored.StoredEntry.{StoredEntry}
 use Rattle.part_catalog.specs.declared.keep.KeptTree.{KeptTree}
-use Rattle.part_catalog.specs.Kept.{table_in, entry_in}
+use Rattle.part_catalog.specs.Kept.{table_in, by_place}
 use Rattle.part_catalog.specs.Stands.{is_flagged}
 use Rattle.part_catalog.specs.Groves.{IsGrownFrom, grown_for}
 
@@ -18,20 +18,20 @@ unfolding Rattle.part_catalog.specs.Groves.grown_for
 grown_is tables entries flags t = refl
 
 -- as it was grown in a call
-pub grown_whole : (T tables : List StoredTable) (E entries : List StoredEntry) (F flags : List Bool) (t : ℕ) (tree : TableTree) → tables ≡ T → entries ≡ E → flags ≡ F → tree ≡ tree_within 7 (map table_in tables) (filter (is_flagged flags) (map entry_in entries)) t t → tree ≡ grown_for (map table_in T) (map entry_in E) F t
+pub grown_whole : (T tables : List StoredTable) (E entries : List StoredEntry) (F flags : List Bool) (t : ℕ) (tree : TableTree) → tables ≡ T → entries ≡ E → flags ≡ F → tree ≡ tree_within 7 (map table_in tables) (filter (is_flagged flags) (by_place entries)) t t → tree ≡ grown_for (map table_in T) (by_place E) F t
 grown_whole T tables E entries F flags t tree ts es fs is =
     is
-    ∙ sym (grown_is (map table_in tables) (map entry_in entries) flags t)
-    ∙ ap (λ l. grown_for (map table_in l) (map entry_in entries) flags t) ts
-    ∙ ap (λ l. grown_for (map table_in T) (map entry_in l) flags t) es
-    ∙ ap (λ l. grown_for (map table_in T) (map entry_in E) l t) fs
+    ∙ sym (grown_is (map table_in tables) (by_place entries) flags t)
+    ∙ ap (λ l. grown_for (map table_in l) (by_place entries) flags t) ts
+    ∙ ap (λ l. grown_for (map table_in T) (by_place l) flags t) es
+    ∙ ap (λ l. grown_for (map table_in T) (by_place E) l t) fs
 
 -- as a call is lent them
-pub kept_lent : (T tables : List StoredTable) (E entries : List StoredEntry) (K kept : List KeptTree) → tables ≡ T → entries ≡ E → kept ≡ K → All (IsGrownFrom (map table_in T) (map entry_in E)) K → All (IsGrownFrom (map table_in tables) (map entry_in entries)) kept
+pub kept_lent : (T tables : List StoredTable) (E entries : List StoredEntry) (K kept : List KeptTree) → tables ≡ T → entries ≡ E → kept ≡ K → All (IsGrownFrom (map table_in T) (by_place E)) K → All (IsGrownFrom (map table_in tables) (by_place entries)) kept
 kept_lent T tables E entries K kept ts es ks all =
-    subst (All (IsGrownFrom (map table_in tables) (map entry_in entries))) (sym ks)
-    (subst (λ l. All (IsGrownFrom (map table_in tables) (map entry_in l)) K) (sym es)
-    (subst (λ l. All (IsGrownFrom (map table_in l) (map entry_in E)) K) (sym ts) all))
+    subst (All (IsGrownFrom (map table_in tables) (by_place entries))) (sym ks)
+    (subst (λ l. All (IsGrownFrom (map table_in tables) (by_place l)) K) (sym es)
+    (subst (λ l. All (IsGrownFrom (map table_in l) (by_place E)) K) (sym ts) all))
 
 -- where none is kept
 pub none_kept : (tables : List Table) (entries : List Entry) (kept : List KeptTree) → kept ≡ [] → All (IsGrownFrom tables entries) kept

@@ -6,9 +6,13 @@ pub mod Grown
 pub mod Keeping
 pub mod KeptTrees
 pub mod Keys
+pub mod Leaving
 pub mod Listed
 pub mod Partitions
+pub mod Places
 pub mod Paths
+pub mod Renumbered
+pub mod Rising
 pub mod Suited
 pub mod Told
 pub mod Trees

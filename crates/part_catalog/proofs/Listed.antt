@@ -14,22 +14,25 @@ use Rattle.part_catalog.specs.declared.stored.StoredTable.{StoredTable}
 use Rattle.part_catalog.specs.declared.stored.StoredEntry.{StoredEntry}
 use Rattle.part_catalog.specs.declared.names.Names.{Names}
 use Rattle.part_catalog.specs.Names.{NamesStand}
-use Rattle.part_catalog.specs.Kept.{AreListed, IsBetween, IsKept, entry_in, name_in, number_of, no_entry, fresh}
+use Rattle.part_catalog.specs.Kept.{AreListed, IsBetween, IsKept, entry_in, name_in, number_of, no_entry, fresh, with_place, placed_from, by_place}
 use Rattle.part_catalog.specs.Ordered.{stands_behind}
 use Rattle.part_catalog.proofs.Grown.{IsOwn, all_own}
+use Rattle.part_catalog.proofs.Places.{more_by_place, same_by_place}
 
-none_under : (xs : List StoredEntry) (t : ℕ) → ((k : ℕ) → k < length xs → (get_or xs k no_entry).entry.parent.number < t) → filter (is_under t) (map entry_in xs) ≡ []
-none_under [] t below = refl
-none_under (x ∷ xs) t below =
+none_from : (n : ℕ) (xs : List StoredEntry) (t : ℕ) → ((k : ℕ) → k < length xs → (get_or xs k no_entry).entry.parent.number < t) → filter (is_under t) (placed_from n xs) ≡ []
+none_from n [] t below = refl
+none_from n (x ∷ xs) t below =
     let first : x.entry.parent.number < t = below 0 (omega arith) in
-    let other : is_under t x.entry ≡ false = grind (arith, nat_tests) in
-    rw other (none_under xs t (λ k lt. below (suc k) (omega (arith, lt))))
+    let other : is_under t (with_place n x.entry) ≡ false = grind (arith, nat_tests) in
+    rw other (none_from (suc n) xs t (λ k lt. below (suc k) (omega (arith, lt))))
+
+none_under : (xs : List StoredEntry) (t : ℕ) → ((k : ℕ) → k < length xs → (get_or xs k no_entry).entry.parent.number < t) → filter (is_under t) (by_place xs) ≡ []
+none_under xs t below = none_from 0 xs t below
 
 pub listed_with_table : (tables : List StoredTable) (entries : List StoredEntry) (below : List (List ℕ)) (t : StoredTable) → AreListed tables entries below → AreListed (tables ++ t ∷ []) entries (below ++ [] ∷ [])
 listed_with_table tables entries below t l =
     let more : length (tables ++ t ∷ []) ≡ length tables + 1 = omega (arith, length-append tables (t ∷ [])) in
     record {
-      numbered = l.numbered;
       between = λ k lt. record { parent = omega (arith, more, (l.between k lt).parent); child = omega (arith, more, (l.between k lt).child) };
       count = omega (arith, more, l.count, length-append below ([] ∷ []));
       below = λ n lt. elim (cases_lt n (length tables)) [
@@ -72,26 +75,19 @@ placed_numbers entries e (x ∷ kids) own =
           rw (n, s, next) (ap (λ l. x.id.number ∷ l) (placed_numbers entries e kids (All-tail (IsOwn entries) x kids own)))
     ]
 
-pub new_list : (entries : List StoredEntry) (e : Entry) (t at : ℕ) (list : List ℕ) → ((k : ℕ) → k < length entries → (get_or entries k no_entry).entry.id.number ≡ k) → list ≡ map number_of (children (map entry_in entries) t) → at ≡ position_or_len (stands_behind entries e.bound) list
-    → insert list at e.id.number ≡ map number_of (placed e (children (map entry_in entries) t))
-new_list entries e t at list num is here =
-    ap (λ i. insert list i e.id.number) here
-    ∙ ap (λ l. insert l (position_or_len (stands_behind entries e.bound) l) e.id.number) is
-    ∙ sym (placed_numbers entries e (children (map entry_in entries) t) (all_children (IsOwn entries) (map entry_in entries) t (all_own entries num)))
+pub new_list : (entries : List StoredEntry) (e : Entry) (t at : ℕ) (list : List ℕ) → list ≡ map number_of (children (by_place entries) t) → at ≡ position_or_len (stands_behind entries e.bound) list
+    → insert list at (length entries) ≡ map number_of (placed (with_place (length entries) e) (children (by_place entries) t))
+new_list entries e t at list is here =
+    ap (λ i. insert list i (length entries)) here
+    ∙ ap (λ l. insert l (position_or_len (stands_behind entries e.bound) l) (length entries)) is
+    ∙ sym (placed_numbers entries (with_place (length entries) e) (children (by_place entries) t) (all_children (IsOwn entries) (by_place entries) t (all_own entries)))
 
-map_more : (entries : List StoredEntry) (x : StoredEntry) → map entry_in (entries ++ x ∷ []) ≡ map entry_in entries ++ x.entry ∷ []
-map_more entries x = map-append entry_in entries (x ∷ [])
-
-pub listed_with_entry : (tables : List StoredTable) (entries : List StoredEntry) (below : List (List ℕ)) (e : Entry) (list : List ℕ) → AreListed tables entries below → e.id.number ≡ length entries → IsBetween tables (fresh e) → list ≡ map number_of (placed e (children (map entry_in entries) e.parent.number))
+pub listed_with_entry : (tables : List StoredTable) (entries : List StoredEntry) (below : List (List ℕ)) (e : Entry) (list : List ℕ) → AreListed tables entries below → IsBetween tables (fresh e) → list ≡ map number_of (placed (with_place (length entries) e) (children (by_place entries) e.parent.number))
     → AreListed tables (entries ++ fresh e ∷ []) (slice_set below e.parent.number list)
-listed_with_entry tables entries below e list l number between is =
+listed_with_entry tables entries below e list l between is =
     let more : length (entries ++ fresh e ∷ []) ≡ length entries + 1 = omega (arith, length-append entries (fresh e ∷ [])) in
     let known : e.parent.number < length below = omega (arith, between.parent, l.count) in
     record {
-      numbered = λ k lt. elim (cases_lt k (length entries)) [
-        | inl old ↦ grind (arith, common_steps, elements, l.numbered k old)
-        | inr new ↦ let at : k ≡ length entries = omega (arith, more, lt) in grind (arith, common_steps, elements, number, at)
-      ];
       between = λ k lt. elim (cases_lt k (length entries)) [
         | inl old ↦
             let here : get_or (entries ++ fresh e ∷ []) k no_entry ≡ get_or entries k no_entry = grind (arith, common_steps, elements) in
@@ -103,13 +99,14 @@ listed_with_entry tables entries below e list l number between is =
       ];
       count = length-set below e.parent.number list ∙ l.count;
       below = λ t lt.
-          let kids = children (map entry_in entries) t in
-          let after : children (map entry_in (entries ++ fresh e ∷ [])) t ≡ (if is_under t e then placed e kids else kids) = ap (λ es. children es t) (map_more entries (fresh e)) ∙ children_more (map entry_in entries) e t in
-          elim (cases_Bool (is_under t e)) [
+          let new : Entry = with_place (length entries) e in
+          let kids = children (by_place entries) t in
+          let after : children (by_place (entries ++ fresh e ∷ [])) t ≡ (if is_under t new then placed new kids else kids) = ap (λ es. children es t) (more_by_place entries (fresh e)) ∙ children_more (by_place entries) new t in
+          elim (cases_Bool (is_under t new)) [
             | inl y ↦
                 let same : e.parent.number ≡ t = grind (arith, nat_tests, y) in
                 let here : get_or (slice_set below e.parent.number list) t [] ≡ list = grind (arith, common_steps, elements, same, known) in
-                here ∙ is ∙ ap (λ n. map number_of (placed e (children (map entry_in entries) n))) same ∙ ap (map number_of) (sym (after ∙ rw y refl))
+                here ∙ is ∙ ap (λ n. map number_of (placed new (children (by_place entries) n))) same ∙ ap (map number_of) (sym (after ∙ rw y refl))
             | inr n ↦
                 let other : e.parent.number ≢ t = grind (arith, nat_tests, n) in
                 let here : get_or (slice_set below e.parent.number list) t [] ≡ get_or below t [] = grind (arith, common_steps, elements, other) in
@@ -126,10 +123,10 @@ kept_with_table tables entries numbers old new t k room names = record {
   named = subst (NamesStand new) (sym (map-append name_in tables (t ∷ []))) names;
 }
 
-pub kept_with_entry : (tables : List StoredTable) (entries : List StoredEntry) (numbers : List (List ℕ)) (names : Names) (e : Entry) (list : List ℕ) → IsKept tables entries numbers names → e.id.number ≡ length entries → IsBetween tables (fresh e) → list ≡ map number_of (placed e (children (map entry_in entries) e.parent.number))
+pub kept_with_entry : (tables : List StoredTable) (entries : List StoredEntry) (numbers : List (List ℕ)) (names : Names) (e : Entry) (list : List ℕ) → IsKept tables entries numbers names → IsBetween tables (fresh e) → list ≡ map number_of (placed (with_place (length entries) e) (children (by_place entries) e.parent.number))
     → IsKept tables (entries ++ fresh e ∷ []) (slice_set numbers e.parent.number list) names
-kept_with_entry tables entries numbers names e list k number between is = record {
-  listed = listed_with_entry tables entries numbers e list k.listed number between is;
+kept_with_entry tables entries numbers names e list k between is = record {
+  listed = listed_with_entry tables entries numbers e list k.listed between is;
   few = k.few;
   named = k.named;
 }
@@ -138,7 +135,6 @@ kept_with_entry tables entries numbers names e list k number between is = record
 pub kept_same_tables : (tables new : List StoredTable) (entries : List StoredEntry) (numbers : List (List ℕ)) (names : Names) → length new ≡ length tables → map name_in new ≡ map name_in tables → IsKept tables entries numbers names → IsKept new entries numbers names
 kept_same_tables tables new entries numbers names count same k = record {
   listed = record {
-    numbered = k.listed.numbered;
     between = λ n lt. record { parent = omega (arith, count, (k.listed.between n lt).parent); child = omega (arith, count, (k.listed.between n lt).child) };
     count = omega (arith, count, k.listed.count);
     below = λ t lt. k.listed.below t (omega (arith, count, lt));
@@ -156,16 +152,13 @@ kept_same_entries tables entries new numbers names same k =
     let count : length new ≡ length entries = sym (length-map new entry_in) ∙ ap length same ∙ length-map entries entry_in in
     record {
       listed = record {
-        numbered = λ n lt.
-            let old : n < length entries = omega (arith, count, lt) in
-            ap (λ (e : Entry). e.id.number) (same_at entries new n same lt old) ∙ k.listed.numbered n old;
         between = λ n lt.
             let old : n < length entries = omega (arith, count, lt) in
             let e = same_at entries new n same lt old in
             let b = k.listed.between n old in
             record { parent = subst (λ (x : Entry). x.parent.number < length tables) (sym e) b.parent; child = subst (λ (x : Entry). x.child.number < length tables) (sym e) b.child };
         count = k.listed.count;
-        below = λ t lt. k.listed.below t lt ∙ ap (λ es. map number_of (children es t)) (sym same);
+        below = λ t lt. k.listed.below t lt ∙ ap (λ es. map number_of (children es t)) (sym (same_by_place new entries same));
       };
       few = k.few;
       named = k.named;

@@ -1,21 +1,23 @@
 -- The entries below a table that are present for a session.
-use Rattle.std.proofs.Common.{◌≡◌, ℕ, suc, ◌+◌, ◌<◌, arith, ap, refl, sym, subst, ◌∙◌, Bool, true, false, List, [], ◌∷◌, ◌++◌, length, drop, drop-cons, add-one, append-nil, map, filter, get_or, inl, inr}
+use Rattle.std.proofs.Common.{◌≡◌, ℕ, suc, ◌+◌, ◌<◌, arith, ap, refl, sym, ◌∙◌, Bool, true, false, List, [], ◌∷◌, ◌++◌, length, drop, drop-cons, add-one, append-nil, map, filter, get_or, inl, inr}
 use Rattle.std.specs.List.{All}
 use Rattle.std.proofs.lemmas.Bool.{cases_Bool}
 use Rattle.std.proofs.lemmas.Grind.{common_steps}
 use Rattle.std.proofs.lemmas.List.{get_or-map, length-map}
 use Rattle.std.proofs.lemmas.List.Elements.{All-head, All-tail}
 use Rattle.history.specs.declared.catalogue.Entry.{Entry}
-use Rattle.history.specs.Catalogue.{entries_added}
-use Rattle.history.specs.History.{History, tx_events, catalogue_events}
+use Rattle.history.specs.Transactions.{IsSound}
+use Rattle.history.specs.History.{History, tx_events}
 use Rattle.history.specs.Presence.{is_present, entries_present}
 use Rattle.row_router.specs.Histories.{children}
 use Rattle.row_router.proofs.Order.{children_of_part, all_children}
 use Rattle.part_catalog.specs.declared.stored.StoredEntry.{StoredEntry}
-use Rattle.part_catalog.specs.Kept.{KeptCatalogue, entry_in, number_of, no_entry, stored_at}
+use Rattle.part_catalog.specs.Kept.{KeptCatalogue, entry_in, number_of, no_entry, stored_at, by_place}
 use Rattle.part_catalog.specs.Stands.{CatalogueStands, present_by}
 use Rattle.part_catalog.proofs.Grown.{IsOwn, all_own}
-use Rattle.part_catalog.proofs.Told.{AreNumbered, present_told}
+use Rattle.part_catalog.proofs.Places.{own_number, own_entries}
+use Rattle.part_catalog.proofs.Renumbered.{renumbered, children_anew}
+use Rattle.part_catalog.proofs.Told.{present_told, present_kept}
 
 -- ---- what a loop over numbers keeps
 
@@ -46,33 +48,41 @@ skip_passed q entries done more numbers i x all lt is test put h =
 
 -- ---- below a table
 
-pub known_numbers : (entries : List StoredEntry) (numbers : List ℕ) (t : ℕ) → AreNumbered entries → numbers ≡ map number_of (children (map entry_in entries) t) → All (λ k. k < length entries) numbers
-known_numbers entries numbers t num are i d lt =
-    let kids = children (map entry_in entries) t in
+pub known_numbers : (entries : List StoredEntry) (numbers : List ℕ) (t : ℕ) → numbers ≡ map number_of (children (by_place entries) t) → All (λ k. k < length entries) numbers
+known_numbers entries numbers t are i d lt =
+    let kids = children (by_place entries) t in
     let within : i < length kids = omega (arith, lt, ap length are, length-map kids number_of) in
-    let own = all_children (IsOwn entries) (map entry_in entries) t (all_own entries num) i no_entry.entry within in
+    let own = all_children (IsOwn entries) (by_place entries) t (all_own entries) i no_entry.entry within in
     let is : get_or numbers i d ≡ (get_or kids i no_entry.entry).id.number = ap (λ ns. get_or ns i d) are ∙ get_or-map number_of kids i no_entry.entry d within in
     omega (arith, own.0, is)
 
-passed_own : (q : StoredEntry → Bool) (p : Entry → Bool) (entries : List StoredEntry) (kids : List Entry) → ((k : ℕ) → k < length entries → q (get_or entries k no_entry) ≡ p (get_or entries k no_entry).entry) → All (IsOwn entries) kids → passed q entries (map number_of kids) ≡ filter p kids
+-- an entry at its place is, under its own number, the one that stands there
+own_is : (entries : List StoredEntry) (e : Entry) → IsOwn entries e → renumbered (own_number entries) e ≡ (stored_at entries e.id.number).entry
+own_is entries e own = ap (renumbered (own_number entries)) (sym own.1)
+
+passed_own : (q : StoredEntry → Bool) (p : Entry → Bool) (entries : List StoredEntry) (kids : List Entry) → ((k : ℕ) → k < length entries → q (get_or entries k no_entry) ≡ p (get_or entries k no_entry).entry) → All (IsOwn entries) kids → passed q entries (map number_of kids) ≡ filter p (map (renumbered (own_number entries)) kids)
 passed_own q p entries [] same own = refl
 passed_own q p entries (e ∷ es) same own =
     let rest = passed_own q p entries es same (All-tail (IsOwn entries) e es own) in
     let first : IsOwn entries e = All-head (IsOwn entries) e es own in
-    let agree : q (get_or entries e.id.number no_entry) ≡ p e = same e.id.number first.0 ∙ ap p first.1 in
-    elim (cases_Bool (p e)) [
+    let is : renumbered (own_number entries) e ≡ (stored_at entries e.id.number).entry = own_is entries e first in
+    let agree : q (stored_at entries e.id.number) ≡ p (renumbered (own_number entries) e) = same e.id.number first.0 ∙ ap p (sym is) in
+    elim (cases_Bool (p (renumbered (own_number entries) e))) [
       | inl y ↦
-          let yes : q (get_or entries e.id.number no_entry) ≡ true = agree ∙ y in
-          rw (yes, y) (ap (λ x. x ∷ passed q entries (map number_of es)) first.1 ∙ ap (λ xs. e ∷ xs) rest)
-      | inr n ↦
-          let no : q (get_or entries e.id.number no_entry) ≡ false = agree ∙ n in
-          rw (no, n) rest
+          let t : q (stored_at entries e.id.number) ≡ true = agree ∙ y in
+          rw (y, t) (ap (λ x. x ∷ passed q entries (map number_of es)) (sym is) ∙ ap (λ xs. renumbered (own_number entries) e ∷ xs) rest)
+      | inr o ↦
+          let t : q (stored_at entries e.id.number) ≡ false = agree ∙ o in
+          rw (o, t) rest
     ]
 
-pub passed_are : (kept : KeptCatalogue) (h : History) (s t : ℕ) (numbers : List ℕ) → CatalogueStands kept h → AreNumbered kept.entries → numbers ≡ map number_of (children (map entry_in kept.entries) t) → passed (present_by (tx_events h) s) kept.entries numbers ≡ children (entries_present h s) t
-passed_are kept h s t numbers st num are =
-    let kids = children (map entry_in kept.entries) t in
+pub passed_are : (kept : KeptCatalogue) (h : History) (s t : ℕ) (numbers : List ℕ) → IsSound (tx_events h) → CatalogueStands kept h → numbers ≡ map number_of (children (by_place kept.entries) t) → passed (present_by (tx_events h) s) kept.entries numbers ≡ children (entries_present h s) t
+passed_are kept h s t numbers sound st are =
+    let all = by_place kept.entries in
+    let g = own_number kept.entries in
     ap (passed (present_by (tx_events h) s) kept.entries) are
-    ∙ passed_own (present_by (tx_events h) s) (is_present h s) kept.entries kids (λ k lt. present_told kept h s k st num lt) (all_children (IsOwn kept.entries) (map entry_in kept.entries) t (all_own kept.entries num))
-    ∙ children_of_part (is_present h s) (map entry_in kept.entries) t
-    ∙ ap (λ es. children (filter (is_present h s) es) t) st.entries
+    ∙ passed_own (present_by (tx_events h) s) (is_present h s) kept.entries (children all t) (λ k lt. present_told kept h s k st lt) (all_children (IsOwn kept.entries) all t (all_own kept.entries))
+    ∙ ap (filter (is_present h s)) (sym (children_anew g all t))
+    ∙ children_of_part (is_present h s) (map (renumbered g) all) t
+    ∙ ap (λ es. children (filter (is_present h s) es) t) (own_entries kept.entries)
+    ∙ ap (λ es. children es t) (present_kept kept h s sound st)

@@ -1,7 +1,6 @@
 -- The way upwards, over the entries that are flagged.
-use Rattle.std.proofs.Common.{◌≡◌, ℕ, zero, suc, ◌+◌, ◌&&◌, arith, ap, refl, ◌∙◌, Bool, List, [], ◌∷◌, Option, Some, None, filter, map, length, inl, inr}
+use Rattle.std.proofs.Common.{◌≡◌, ℕ, zero, suc, ◌+◌, arith, ap, refl, ◌∙◌, Bool, List, [], ◌∷◌, Option, Some, None, filter, map, length, inl, inr}
 use Rattle.std.specs.List.{find, position_or_len}
-use Rattle.std.specs.Option.{option_map}
 use Rattle.std.proofs.lemmas.Bool.{cases_Bool}
 use Rattle.std.proofs.lemmas.List.{length-map}
 use Rattle.history.specs.declared.catalogue.Entry.{Entry}
@@ -9,16 +8,15 @@ use Rattle.row_router.specs.declared.path_part.PathPart.{PathPart}
 use Rattle.row_router.specs.Histories.{above, is_over, is_entry, parent_in, upwards, children}
 use Rattle.row_router.proofs.Order.{children_of_part}
 use Rattle.part_catalog.specs.declared.stored.StoredEntry.{StoredEntry}
-use Rattle.part_catalog.specs.Kept.{entry_in, number_of}
-use Rattle.part_catalog.specs.Stands.{is_flagged, flagged_number, is_number, shown_above}
+use Rattle.part_catalog.specs.Kept.{number_of, by_place}
+use Rattle.part_catalog.specs.Stands.{is_flagged, flagged_number, is_number, flagged_above}
 use Rattle.part_catalog.specs.Answers.{parent_told, number_told}
 use Rattle.part_catalog.specs.Full.{tables_up}
-use Rattle.part_catalog.proofs.Told.{found_agree, find_filter}
+use Rattle.part_catalog.proofs.Told.{find_filter}
 
-pub above_flagged : (entries : List StoredEntry) (flags : List Bool) (t : ℕ) → option_map entry_in (find (shown_above flags t) entries) ≡ above (filter (is_flagged flags) (map entry_in entries)) t
-above_flagged entries flags t =
-    found_agree (shown_above flags t) (λ e. is_over t e && is_flagged flags e) entries (λ k lt. refl)
-    ∙ find_filter (is_over t) (is_flagged flags) (map entry_in entries)
+-- the first that passes both tests
+pub above_flagged : (flags : List Bool) (es : List Entry) (t : ℕ) → find (flagged_above flags t) es ≡ above (filter (is_flagged flags) es) t
+above_flagged flags es t = find_filter (is_over t) (is_flagged flags) es
 
 pub parent_number : (o : Option Entry) → number_told (parent_told o) ≡ parent_in o
 parent_number None = refl
@@ -41,19 +39,19 @@ position_numbers e (x ∷ kids) = elim (cases_Bool (is_entry e x)) [
 ]
 
 -- the place of an entry among those that are flagged below its table
-pub place_is : (entries : List StoredEntry) (flags : List Bool) (numbers : List ℕ) (t : ℕ) (e : Entry) → numbers ≡ map number_of (children (map entry_in entries) t) → position_or_len (is_number e.id.number) (filter (flagged_number flags) numbers) ≡ position_or_len (is_entry e) (children (filter (is_flagged flags) (map entry_in entries)) t)
+pub place_is : (entries : List StoredEntry) (flags : List Bool) (numbers : List ℕ) (t : ℕ) (e : Entry) → numbers ≡ map number_of (children (by_place entries) t) → position_or_len (is_number e.id.number) (filter (flagged_number flags) numbers) ≡ position_or_len (is_entry e) (children (filter (is_flagged flags) (by_place entries)) t)
 place_is entries flags numbers t e are =
     ap (λ ns. position_or_len (is_number e.id.number) (filter (flagged_number flags) ns)) are
-    ∙ ap (position_or_len (is_number e.id.number)) (filter_numbers flags (children (map entry_in entries) t))
-    ∙ position_numbers e (filter (is_flagged flags) (children (map entry_in entries) t))
-    ∙ ap (position_or_len (is_entry e)) (children_of_part (is_flagged flags) (map entry_in entries) t)
+    ∙ ap (position_or_len (is_number e.id.number)) (filter_numbers flags (children (by_place entries) t))
+    ∙ position_numbers e (filter (is_flagged flags) (children (by_place entries) t))
+    ∙ ap (position_or_len (is_entry e)) (children_of_part (is_flagged flags) (by_place entries) t)
 
-pub count_is : (entries : List StoredEntry) (flags : List Bool) (numbers : List ℕ) (t : ℕ) → numbers ≡ map number_of (children (map entry_in entries) t) → length (filter (flagged_number flags) numbers) ≡ length (children (filter (is_flagged flags) (map entry_in entries)) t)
+pub count_is : (entries : List StoredEntry) (flags : List Bool) (numbers : List ℕ) (t : ℕ) → numbers ≡ map number_of (children (by_place entries) t) → length (filter (flagged_number flags) numbers) ≡ length (children (filter (is_flagged flags) (by_place entries)) t)
 count_is entries flags numbers t are =
     ap (λ ns. length (filter (flagged_number flags) ns)) are
-    ∙ ap length (filter_numbers flags (children (map entry_in entries) t))
-    ∙ length-map (filter (is_flagged flags) (children (map entry_in entries) t)) number_of
-    ∙ ap length (children_of_part (is_flagged flags) (map entry_in entries) t)
+    ∙ ap length (filter_numbers flags (children (by_place entries) t))
+    ∙ length-map (filter (is_flagged flags) (children (by_place entries) t)) number_of
+    ∙ ap length (children_of_part (is_flagged flags) (by_place entries) t)
 
 -- ---- one step
 

@@ -1,8 +1,8 @@
 -- A path as it is made, one table after the other, and the place of a table on it.
-use Rattle.std.proofs.Common.{◌≡◌, ℕ, suc, ◌+◌, ◌-◌, ◌<◌, ◌++◌, append_assoc, arith, ap, refl, sym, subst, ◌∙◌, Bool, List, [], ◌∷◌, Option, Some, None, IfSome, filter, map, length, get_or, inl, inr}
+use Rattle.std.proofs.Common.{◌≡◌, ℕ, suc, ◌+◌, ◌-◌, ◌<◌, ◌≤◌, ◌++◌, append_assoc, arith, ap, refl, sym, subst, ◌∙◌, Bool, true, false, List, [], ◌∷◌, Option, Some, None, IfSome, filter, map, length, drop, drop-cons, add-one, get_or, inl, inr}
 use Rattle.std.specs.List.{All, find, position_or_len}
 use Rattle.std.proofs.lemmas.Bool.{cases_Bool}
-use Rattle.std.proofs.lemmas.List.{get_or-map, length-map}
+use Rattle.std.proofs.lemmas.Grind.{common_steps, elements}
 use Rattle.std.proofs.lemmas.List.Elements.{All-head, All-tail}
 use Rattle.pg_values.specs.declared.ids.TableNo.{TableNo}
 use Rattle.pg_values.specs.declared.ids.LeafId.{LeafId}
@@ -12,21 +12,26 @@ use Rattle.history.specs.declared.catalogue.Table.{Table}
 use Rattle.history.specs.declared.catalogue.TableShape.TheVariants.{Leaf as LeafShape, Level as LevelShape}
 use Rattle.history.specs.declared.catalogue.Entry.{Entry}
 use Rattle.history.specs.declared.catalogue.KeptCheck.{KeptCheck}
-use Rattle.history.specs.Catalogue.{tables_made}
+use Rattle.history.specs.Transactions.{IsSound}
+use Rattle.history.specs.Catalogue.{tables_made, entries_added}
 use Rattle.history.specs.History.{History, tx_events, catalogue_events}
 use Rattle.history.specs.Places.{table_at}
 use Rattle.history.specs.Presence.{entries_present, checks_of, is_check_of}
 use Rattle.row_router.specs.declared.path_part.Place.{Place}
 use Rattle.row_router.specs.declared.path_part.PathPart.{PathPart}
 use Rattle.row_router.specs.Histories.{above, bound_of, children, is_entry, is_over, kept_of, parent_in, part_of, place_among, place_of, upwards}
-use Rattle.row_router.proofs.Order.{all_kept}
+use Rattle.row_router.proofs.Order.{all_kept, all_children}
 use Rattle.part_catalog.specs.declared.stored.StoredTable.{StoredTable}
 use Rattle.part_catalog.specs.declared.stored.StoredEntry.{StoredEntry}
-use Rattle.part_catalog.specs.Kept.{KeptCatalogue, IsBetween, entry_in, table_in, no_entry}
-use Rattle.part_catalog.specs.Stands.{CatalogueStands, present_by, is_flagged, shown_above}
+use Rattle.part_catalog.specs.Kept.{KeptCatalogue, IsBetween, table_in, no_entry, with_place, by_place}
+use Rattle.part_catalog.specs.Stands.{CatalogueStands, present_by, is_flagged}
 use Rattle.part_catalog.specs.Answers.{parent_told, number_told}
-use Rattle.part_catalog.proofs.Told.{AreNumbered, find_at, present_flagged}
+use Rattle.part_catalog.proofs.Grown.{past_end}
+use Rattle.part_catalog.proofs.Told.{present_flagged}
 use Rattle.part_catalog.proofs.Paths.{parent_number, upwards_step}
+use Rattle.part_catalog.proofs.Places.{own_number, length_by_place, at_by_place, all_by_place}
+use Rattle.part_catalog.proofs.Renumbered.{renumbered, IsToldApart, place_anew, above_anew, parent_anew}
+use Rattle.part_catalog.proofs.Rising.{kept_rise, numbers_tell}
 
 -- ---- the parent of a table is known
 
@@ -44,19 +49,35 @@ known_of n (Some x) o all is = subst (λ q. IfSome q (λ (p : TableNo). p.number
 abbrev HasParent : ℕ → Entry → Type 0
 HasParent n e = e.parent.number < n
 
-pub parent_known : (tables : List StoredTable) (entries : List StoredEntry) (flags : List Bool) (t : ℕ) (o : Option TableNo) → ((k : ℕ) → k < length entries → IsBetween tables (get_or entries k no_entry)) → o ≡ parent_told (above (filter (is_flagged flags) (map entry_in entries)) t) → IfSome o (λ p. p.number < length tables)
+pub parent_known : (tables : List StoredTable) (entries : List StoredEntry) (flags : List Bool) (t : ℕ) (o : Option TableNo) → ((k : ℕ) → k < length entries → IsBetween tables (get_or entries k no_entry)) → o ≡ parent_told (above (filter (is_flagged flags) (by_place entries)) t) → IfSome o (λ p. p.number < length tables)
 parent_known tables entries flags t o between is =
-    let all : All (HasParent (length tables)) (map entry_in entries) = λ k d lt.
-    let within : k < length entries = omega (arith, lt, length-map entries entry_in) in
-    subst (HasParent (length tables)) (sym (get_or-map entry_in entries k no_entry d within)) (between k within).parent in
-    known_of (length tables) (above (filter (is_flagged flags) (map entry_in entries)) t) o
-    (λ x found. find_all (HasParent (length tables)) (is_over t) (filter (is_flagged flags) (map entry_in entries)) x found (all_kept (HasParent (length tables)) (is_flagged flags) (map entry_in entries) all)) is
+    let all : All (HasParent (length tables)) (by_place entries) = all_by_place (HasParent (length tables)) entries (λ k lt. (between k lt).parent) in
+    known_of (length tables) (above (filter (is_flagged flags) (by_place entries)) t) o
+    (λ x found. find_all (HasParent (length tables)) (is_over t) (filter (is_flagged flags) (by_place entries)) x found (all_kept (HasParent (length tables)) (is_flagged flags) (by_place entries) all)) is
 
--- the entry that was found above a table
-pub found_between : (tables : List StoredTable) (entries : List StoredEntry) (flags : List Bool) (t : ℕ) (x : StoredEntry) → ((k : ℕ) → k < length entries → IsBetween tables (get_or entries k no_entry)) → Some x ≡ find (shown_above flags t) entries → IsBetween tables x
-found_between tables entries flags t x between is =
-    let at = find_at (shown_above flags t) entries x (sym is) in
-    subst (IsBetween tables) at.2 (between at.0 at.1)
+-- ---- a walk over the entries
+
+at_walk : (xs : List StoredEntry) (i : ℕ) (x : StoredEntry) → i < length xs → x ≡ get_or xs i x → drop i (by_place xs) ≡ with_place i x.entry ∷ drop (i + 1) (by_place xs)
+at_walk xs i x lt is =
+    let within : i < length (by_place xs) = omega (arith, lt, length_by_place xs) in
+    let same : get_or xs i no_entry ≡ x = grind (arith, common_steps, elements, is) in
+    let next : i + 1 ≡ suc i = add-one i in
+    let there : drop i (by_place xs) ≡ get_or (by_place xs) i no_entry.entry ∷ drop (i + 1) (by_place xs) = rw next (drop-cons (by_place xs) i no_entry.entry within) in
+    there ∙ ap (λ (e : Entry). e ∷ drop (i + 1) (by_place xs)) (at_by_place xs i no_entry.entry lt ∙ ap (λ (y : StoredEntry). with_place i y.entry) same)
+
+pub walk_on : (p : Entry → Bool) (xs : List StoredEntry) (i : ℕ) (x : StoredEntry) → i < length xs → x ≡ get_or xs i x → p (with_place i x.entry) ≡ false → find p (drop (i + 1) (by_place xs)) ≡ find p (drop i (by_place xs))
+walk_on p xs i x lt is fails =
+    let here : find p (with_place i x.entry ∷ drop (i + 1) (by_place xs)) ≡ find p (drop (i + 1) (by_place xs)) = rw fails refl in
+    sym here ∙ ap (find p) (sym (at_walk xs i x lt is))
+
+pub walk_found : (p : Entry → Bool) (xs : List StoredEntry) (i : ℕ) (x : StoredEntry) → i < length xs → x ≡ get_or xs i x → p (with_place i x.entry) ≡ true → Some (with_place i (get_or xs i no_entry).entry) ≡ find p (drop i (by_place xs))
+walk_found p xs i x lt is holds =
+    let same : get_or xs i no_entry ≡ x = grind (arith, common_steps, elements, is) in
+    let here : find p (with_place i x.entry ∷ drop (i + 1) (by_place xs)) ≡ Some (with_place i x.entry) = rw holds refl in
+    ap (λ (y : StoredEntry). Some (with_place i y.entry)) same ∙ sym here ∙ ap (find p) (sym (at_walk xs i x lt is))
+
+pub walk_over : (p : Entry → Bool) (xs : List StoredEntry) (i : ℕ) → length xs ≤ i → None ≡ find p (drop i (by_place xs))
+walk_over p xs i le = ap (find p) (sym (past_end i (by_place xs) (omega (arith, le, length_by_place xs))))
 
 -- ---- its place
 
@@ -82,17 +103,39 @@ place_level tables entries o e level copy bounds child is shape same set at =
 abbrev pub path_part : TableNo → List KeptCheck → Option Place → PathPart
 path_part table checks place = record { table = table; checks = checks; place = place }
 
-pub part_made : (kept : KeptCatalogue) (h : History) (s : ℕ) (flags : List Bool) (t : TableNo) (checks : List KeptCheck) (at : Option Place) → CatalogueStands kept h → AreNumbered kept.entries → flags ≡ map (present_by (tx_events h) s) kept.entries → checks ≡ map kept_of (filter (is_check_of (tx_events h) s t.number) kept.checks)
-    → at ≡ place_of (map table_in kept.tables) (filter (is_flagged flags) (map entry_in kept.entries)) (above (filter (is_flagged flags) (map entry_in kept.entries)) t.number)
-    → path_part t checks at ≡ part_of (tables_made (catalogue_events h)) (entries_present h s) (checks_of h s) t.number
-part_made kept h s flags t checks at st num are of_table place_is =
-    let present = present_flagged kept h s flags st num are in
-    ap (λ ks. path_part t ks at) (of_table ∙ ap (λ cs. map kept_of (filter (is_check_of (tx_events h) s t.number) cs)) st.checks)
-    ∙ ap (path_part t (map kept_of (checks_of h s t.number))) (place_is ∙ ap (λ ts. place_of ts (filter (is_flagged flags) (map entry_in kept.entries)) (above (filter (is_flagged flags) (map entry_in kept.entries)) t.number)) st.tables ∙ ap (λ es. place_of (tables_made (catalogue_events h)) es (above es t.number)) present)
+-- entries at their places are told apart by their own numbers
+told_apart : (kept : KeptCatalogue) (h : History) (flags : List Bool) (t : ℕ) (e : Entry) → CatalogueStands kept h → above (filter (is_flagged flags) (by_place kept.entries)) t ≡ Some e → All (IsToldApart (own_number kept.entries) e) (children (filter (is_flagged flags) (by_place kept.entries)) e.parent.number)
+told_apart kept h flags t e st found =
+    let E = kept.entries in
+    let part = filter (is_flagged flags) (by_place E) in
+    let Apart : Entry → Type 0 = λ x. All (IsToldApart (own_number E) x) (by_place E) in
+    let each : All Apart (by_place E) = all_by_place Apart E (λ i lt. all_by_place (IsToldApart (own_number E) (with_place i (get_or E i no_entry).entry)) E (λ j le. numbers_tell E 0 (length (entries_added (catalogue_events h))) i j (kept_rise kept h st) lt le)) in
+    let one : Apart e = find_all Apart (is_over t) part e found (all_kept Apart (is_flagged flags) (by_place E) each) in
+    all_children (IsToldApart (own_number E) e) part e.parent.number (all_kept (IsToldApart (own_number E) e) (is_flagged flags) (by_place E) one)
 
-pub next_told : (kept : KeptCatalogue) (h : History) (s : ℕ) (flags : List Bool) (t : ℕ) (o : Option TableNo) → CatalogueStands kept h → AreNumbered kept.entries → flags ≡ map (present_by (tx_events h) s) kept.entries → o ≡ parent_told (above (filter (is_flagged flags) (map entry_in kept.entries)) t) → number_told o ≡ parent_in (above (entries_present h s) t)
-next_told kept h s flags t o st num are is =
-    ap number_told is ∙ parent_number (above (filter (is_flagged flags) (map entry_in kept.entries)) t) ∙ ap (λ es. parent_in (above es t)) (present_flagged kept h s flags st num are)
+place_told : (kept : KeptCatalogue) (h : History) (s : ℕ) (flags : List Bool) (t : ℕ) → IsSound (tx_events h) → CatalogueStands kept h → flags ≡ map (present_by (tx_events h) s) kept.entries
+    → place_of (tables_made (catalogue_events h)) (filter (is_flagged flags) (by_place kept.entries)) (above (filter (is_flagged flags) (by_place kept.entries)) t) ≡ place_of (tables_made (catalogue_events h)) (entries_present h s) (above (entries_present h s) t)
+place_told kept h s flags t sound st are =
+    let g = own_number kept.entries in
+    let made = tables_made (catalogue_events h) in
+    let part = filter (is_flagged flags) (by_place kept.entries) in
+    sym (place_anew g made part (above part t) (λ e found. told_apart kept h flags t e st found))
+    ∙ ap (place_of made (map (renumbered g) part)) (sym (above_anew g part t))
+    ∙ ap (λ es. place_of made es (above es t)) (present_flagged kept h s flags sound st are)
+
+pub part_made : (kept : KeptCatalogue) (h : History) (s : ℕ) (flags : List Bool) (t : TableNo) (checks : List KeptCheck) (at : Option Place) → IsSound (tx_events h) → CatalogueStands kept h → flags ≡ map (present_by (tx_events h) s) kept.entries → checks ≡ map kept_of (filter (is_check_of (tx_events h) s t.number) kept.checks)
+    → at ≡ place_of (map table_in kept.tables) (filter (is_flagged flags) (by_place kept.entries)) (above (filter (is_flagged flags) (by_place kept.entries)) t.number)
+    → path_part t checks at ≡ part_of (tables_made (catalogue_events h)) (entries_present h s) (checks_of h s) t.number
+part_made kept h s flags t checks at sound st are of_table place_is =
+    ap (λ ks. path_part t ks at) (of_table ∙ ap (λ cs. map kept_of (filter (is_check_of (tx_events h) s t.number) cs)) st.checks)
+    ∙ ap (path_part t (map kept_of (checks_of h s t.number))) (place_is ∙ ap (λ ts. place_of ts (filter (is_flagged flags) (by_place kept.entries)) (above (filter (is_flagged flags) (by_place kept.entries)) t.number)) st.tables ∙ place_told kept h s flags t.number sound st are)
+
+pub next_told : (kept : KeptCatalogue) (h : History) (s : ℕ) (flags : List Bool) (t : ℕ) (o : Option TableNo) → IsSound (tx_events h) → CatalogueStands kept h → flags ≡ map (present_by (tx_events h) s) kept.entries → o ≡ parent_told (above (filter (is_flagged flags) (by_place kept.entries)) t) → number_told o ≡ parent_in (above (entries_present h s) t)
+next_told kept h s flags t o sound st are is =
+    ap number_told is
+    ∙ parent_number (above (filter (is_flagged flags) (by_place kept.entries)) t)
+    ∙ sym (parent_anew (own_number kept.entries) (filter (is_flagged flags) (by_place kept.entries)) t)
+    ∙ ap (λ es. parent_in (above es t)) (present_flagged kept h s flags sound st are)
 
 pub path_step : (n : ℕ) (part : ℕ → PathPart) (up : ℕ → Option Entry) (done : List PathPart) (x : PathPart) (t : ℕ) (o : Option ℕ) (whole : List PathPart) → n < 8 → x ≡ part t → o ≡ parent_in (up t) → done ++ upwards (8 - n) part up (Some t) ≡ whole → (done ++ x ∷ []) ++ upwards (8 - (n + 1)) part up o ≡ whole
 path_step n part up done x t o whole lt here next h =

@@ -11,23 +11,22 @@ use Rattle.row_router.specs.Histories.{children, tree_within}
 use Rattle.part_catalog.specs.declared.stored.StoredTable.{StoredTable}
 use Rattle.part_catalog.specs.declared.stored.StoredEntry.{StoredEntry}
 use Rattle.part_catalog.specs.declared.keep.KeptTree.{KeptTree}
-use Rattle.part_catalog.specs.Kept.{AreListed, entry_in, number_of, no_entry}
+use Rattle.part_catalog.specs.Kept.{AreListed, by_place, number_of, no_entry}
 use Rattle.part_catalog.specs.Stands.{is_flagged}
 
--- a level of it: a flag for each entry; the entries below the table stand in plain order; those whose flag is set are
+-- a level of it: a flag for each entry, at its place; the entries below the table stand in plain order; those whose flag is set are
 -- siblings, and no bound has a null where it may have none
 pub record IsLevel (entries : List StoredEntry) (numbers : List ℕ) (flags : List Bool) (t : ℕ) : Type 0 where
-  pub numbered : (k : ℕ) → k < length entries → (slice_index_or entries k no_entry).entry.id.number ≡ k
-  pub below : numbers ≡ map number_of (children (map entry_in entries) t)
+  pub below : numbers ≡ map number_of (children (by_place entries) t)
   pub flagged : length flags ≡ length entries
-  pub siblings : AreSiblings (filter (is_flagged flags) (map entry_in entries))
+  pub siblings : AreSiblings (filter (is_flagged flags) (by_place entries))
   pub kinds : (k : ℕ) → k < length entries → BoundOfKind IsNotNull (slice_index_or entries k no_entry).entry.bound
 
--- the whole: a flag for each entry; those whose flag is set are siblings, and no bound has a null where it may have none
+-- the whole: a flag for each entry, at its place; those whose flag is set are siblings, and no bound has a null where it may have none
 pub record IsGrove (tables : List StoredTable) (entries : List StoredEntry) (numbers : List (List ℕ)) (flags : List Bool) : Type 0 where
   pub listed : AreListed tables entries numbers
   pub flagged : length flags ≡ length entries
-  pub siblings : AreSiblings (filter (is_flagged flags) (map entry_in entries))
+  pub siblings : AreSiblings (filter (is_flagged flags) (by_place entries))
   pub kinds : (k : ℕ) → k < length entries → BoundOfKind IsNotNull (slice_index_or entries k no_entry).entry.bound
 
 -- the tree of a table, grown from these tables and entries for these flags

@@ -5,6 +5,7 @@ pub mod Full
 pub mod Groves
 pub mod Kept
 pub mod Laws
+pub mod Moved
 pub mod Names
 pub mod Ordered
 pub mod Stands

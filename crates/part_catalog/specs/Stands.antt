@@ -1,26 +1,31 @@
 -- When the catalogue stands for what happened, and what is there, told from what is kept.
-use Rattle.std.specs.Prelude.{◌≡◌, ℕ, ◌==◌, ◌&&◌, not, Bool, true, false, List, map, slice_index_or}
+use Rattle.std.specs.Prelude.{◌≡◌, ℕ, ◌<◌, ◌==◌, ◌&&◌, ◌||◌, not, Bool, true, false, List, Option, Some, None, length, map, slice_index_or}
 use Rattle.history.specs.declared.catalogue.Entry.{Entry}
+use Rattle.history.specs.declared.catalogue.Stamp.{Stamp}
 use Rattle.history.specs.declared.transaction.Fate.{Fate}
-use Rattle.history.specs.declared.transaction.Fate.TheVariants.{Running}
-use Rattle.history.specs.Transactions.{TxEvents, fate, open_of}
+use Rattle.history.specs.declared.transaction.Fate.TheVariants.{Running, Committed, Aborted}
+use Rattle.history.specs.Transactions.{TxEvents, fate, open_of, is_committed}
 use Rattle.history.specs.Snapshots.{TakenSnapshot}
 use Rattle.history.specs.Catalogue.{tables_made, entries_added, checks_kept, drops, entry_ends, marks, newest_of, standing}
 use Rattle.history.specs.History.{History, catalogue_events}
 use Rattle.history.specs.Places.{AreCatalogueSound}
 use Rattle.history.specs.Presence.{is_own, counts, stamp_counts, sees_stamp}
+use Rattle.tx_table.specs.Kept.{KeptTable}
 use Rattle.part_catalog.specs.declared.stored.StoredTable.{StoredTable}
 use Rattle.part_catalog.specs.declared.stored.StoredEntry.{StoredEntry}
-use Rattle.part_catalog.specs.Kept.{KeptCatalogue, table_in, entry_in, no_entry, no_stored}
+use Rattle.part_catalog.specs.Forgotten.{IsGone, Thins}
+use Rattle.part_catalog.specs.Kept.{KeptCatalogue, table_in, entry_in, stored_at, no_stored}
 
--- the catalogue stands for the history
+-- the catalogue stands for the history: some entries that are gone may be forgotten, and each that is kept has its newest
+-- end and mark
 pub record CatalogueStands (kept : KeptCatalogue) (h : History) : Type 0 where
   pub sound : AreCatalogueSound h
   pub tables : map table_in kept.tables ≡ tables_made (catalogue_events h)
   pub drops : (k : ℕ) → (slice_index_or kept.tables k no_stored).dropped ≡ newest_of (drops (catalogue_events h)) k
-  pub entries : map entry_in kept.entries ≡ entries_added (catalogue_events h)
-  pub ends : (k : ℕ) → (slice_index_or kept.entries k no_entry).ended ≡ newest_of (entry_ends (catalogue_events h)) k
-  pub marks : (k : ℕ) → (slice_index_or kept.entries k no_entry).marked ≡ newest_of (marks (catalogue_events h)) k
+  pub added : kept.added ≡ length (entries_added (catalogue_events h))
+  pub entries : Thins (IsGone h) (entries_added (catalogue_events h)) (map entry_in kept.entries)
+  pub ends : (k : ℕ) → k < length kept.entries → (stored_at kept.entries k).ended ≡ newest_of (entry_ends (catalogue_events h)) (stored_at kept.entries k).entry.id.number
+  pub marks : (k : ℕ) → k < length kept.entries → (stored_at kept.entries k).marked ≡ newest_of (marks (catalogue_events h)) (stored_at kept.entries k).entry.id.number
   pub checks : kept.checks ≡ checks_kept (catalogue_events h)
 
 -- whether a table is there for a session, and an entry present, pending and shown
@@ -36,7 +41,7 @@ pending_by txs session x = present_by txs session x && stamp_counts txs session 
 abbrev pub shown_by : TxEvents → ℕ → TakenSnapshot → StoredEntry → Bool
 shown_by txs session snap x = present_by txs session x && not (sees_stamp txs snap (standing txs x.marked))
 
--- an entry whose flag is set
+-- an entry whose flag is set, where its number is its place
 abbrev pub is_flagged : List Bool → Entry → Bool
 is_flagged flags e = slice_index_or flags e.id.number false
 
@@ -55,16 +60,33 @@ is_running _ = false
 abbrev pub made_elsewhere_by : TxEvents → ℕ → StoredTable → Bool
 made_elsewhere_by txs session x = is_running (fate txs x.table.by.number) && not (is_own (open_of txs session) x.table.by.number)
 
--- an entry by its number
+-- an entry by its place
 abbrev pub flagged_number : List Bool → ℕ → Bool
 flagged_number flags k = slice_index_or flags k false
 
 abbrev pub is_number : ℕ → ℕ → Bool
 is_number n k = k == n
 
-abbrev pub shown_above : List Bool → ℕ → StoredEntry → Bool
-shown_above flags t x = (x.entry.child.number == t) && is_flagged flags x.entry
+-- an entry by which the table is a partition, and whose flag is set
+abbrev pub flagged_above : List Bool → (table : ℕ) → Entry → Bool
+flagged_above flags t e = (e.child.number == t) && is_flagged flags e
 
 -- the present entry by which the one table is a partition of the other
 abbrev pub between_by : TxEvents → (session parent child : ℕ) → StoredEntry → Bool
 between_by txs session parent child x = ((x.entry.parent.number == parent) && (x.entry.child.number == child)) && present_by txs session x
+
+-- whether an entry is gone, told from what is kept of transactions
+abbrev pub is_aborted : Fate → Bool
+is_aborted Running = false
+is_aborted Committed = false
+is_aborted Aborted = true
+
+abbrev pub over_by : KeptTable → Option Stamp → Bool
+over_by txs None = false
+over_by txs (Some s) = is_committed (slice_index_or txs.fates s.by.number Running)
+
+abbrev pub gone_by : KeptTable → StoredEntry → Bool
+gone_by txs x = is_aborted (slice_index_or txs.fates x.entry.by.number Running) || over_by txs x.ended
+
+abbrev pub stays_by : KeptTable → StoredEntry → Bool
+stays_by txs x = not (gone_by txs x)

@@ -119,9 +119,7 @@ impl Catalog {
                 which: Which::Levels,
             });
         }
-        let id = EntryId {
-            number: self.entries.len() as u64,
-        };
+        let id = EntryId { number: self.added };
         let entry = Entry {
             id,
             parent,
@@ -131,24 +129,30 @@ impl Catalog {
             cmd,
         };
         match self.push_entry(entry) {
-            Ok(()) => Ok(()),
+            Ok(()) => {
+                self.forget_gone(txs);
+                Ok(())
+            }
             Err(NoMemory) => Err(CatalogRefused::NoMemory),
         }
     }
 
     fn push_entry(&mut self, entry: Entry) -> Result<(), NoMemory>
-        requires numbered { entry.id.number ≡ length self.old.entries }
         requires between { IsBetween self.old.tables (fresh entry) }
         requires beside { (k : ℕ) → k < length self.old.entries → (slice_index_or self.old.entries k no_entry).entry.parent ≡ entry.parent →
             HaveAnOrder (slice_index_or self.old.entries k no_entry).entry.bound entry.bound }
         ensures ok { OnOk result (self.new ≡ with_entry self.old entry) }
         ensures err { OnErr result (self.new ≡ self.old) }
     {
+        let Some(added) = self.added.checked_add(1) else {
+            return Err(NoMemory);
+        };
+        let place = self.entries.len() as u64;
         let parent = entry.parent.number as usize;
         let at = place_in(&self.entries, self.below[parent].numbers(), &entry);
         self.entries.reserve(1)?;
         let list = &mut self.below[parent];
-        list.insert(at, entry.id.number)?;
+        list.insert(at, place)?;
         let Ok(()) = self.entries.push(StoredEntry {
             entry,
             ended: None,
@@ -157,6 +161,7 @@ impl Catalog {
         else {
             unreachable!()
         };
+        self.added = added;
         forget(&mut self.trees);
         Ok(())
     }

@@ -24,7 +24,7 @@ use std::alloc::Global;
 use std::marker::Model;
 use tx_table::{Snapshot, TxTable};
 
-/// All tables, entries and kept CHECKs of a run.
+/// All tables and kept CHECKs of a run, and the entries that somebody may still see.
 #[derive(Drop)]
 pub struct Catalog {
     pub(crate) tables: Vec<StoredTable>,
@@ -33,19 +33,21 @@ pub struct Catalog {
     pub(crate) below: Vec<Below>,
     pub(crate) names: Names,
     pub(crate) trees: Vec<KeptTree>,
+    pub(crate) added: u64,
+    pub(crate) left: usize,
     pub(crate) alloc: Global,
 }
 
 impl Model for Catalog {
     ghost use Rattle.std.specs.Prelude.{All, map};
-    ghost use Rattle.part_catalog.specs.Kept.{KeptCatalogue, IsKept, table_in, entry_in};
+    ghost use Rattle.part_catalog.specs.Kept.{KeptCatalogue, IsKept, table_in, by_place};
     ghost use Rattle.part_catalog.specs.Groves.{IsGrownFrom};
 
     ghost Value = { KeptCatalogue };
 
-    ghost view = { λ c. record { tables = c.tables.items; entries = c.entries.items; checks = c.checks.items } };
+    ghost view = { λ c. record { tables = c.tables.items; entries = c.entries.items; added = c.added; checks = c.checks.items } };
 
-    ghost invariant = { λ c. IsKept c.tables.items c.entries.items c.below.items c.names × All (IsGrownFrom (map table_in c.tables.items) (map entry_in c.entries.items)) c.trees.items };
+    ghost invariant = { λ c. IsKept c.tables.items c.entries.items c.below.items c.names × All (IsGrownFrom (map table_in c.tables.items) (by_place c.entries.items)) c.trees.items };
 }
 
 impl Catalog {
@@ -60,6 +62,8 @@ impl Catalog {
             below: Vec::new(alloc),
             names: Names::new(alloc),
             trees: Vec::new(alloc),
+            added: 0,
+            left: 0,
             alloc,
         })
     }

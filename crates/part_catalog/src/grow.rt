@@ -4,7 +4,7 @@ ghost use Rattle.std.specs.Prelude.{◌≡◌, ◌<◌, ℕ, map, filter, get_or
 ghost use Rattle.row_router.specs.Seen.{seen};
 ghost use Rattle.row_router.specs.Histories.{tree_within, node_at, children, bound_of};
 ghost use Rattle.history.specs.Places.{table_at};
-ghost use Rattle.part_catalog.specs.Kept.{table_in, entry_in};
+ghost use Rattle.part_catalog.specs.Kept.{table_in, by_place};
 ghost use Rattle.part_catalog.specs.Stands.{is_flagged};
 ghost use Rattle.part_catalog.specs.Groves.{IsGrove, IsLevel};
 
@@ -46,7 +46,7 @@ pub fn set_below(
     _table: TableNo,
 ) -> Result<BoundSet<ValueKey>, NoMemory>
     requires { IsLevel entries.now below.now flags.now _table.number }
-    ensures { IfOk result (λ set. set ≡ map bound_of (filter (is_flagged flags.now) (children (map entry_in entries.now) _table.number))) }
+    ensures { IfOk result (λ set. set ≡ map bound_of (filter (is_flagged flags.now) (children (by_place entries.now) _table.number))) }
 {
     let mut bounds = Vec::with_capacity(alloc, below.numbers().len())?;
     for number in below.numbers() {
@@ -72,7 +72,7 @@ pub fn grow(
     requires grove { IsGrove tables.now entries.now below.now flags.now }
     requires known { table.number < length tables.now }
     ensures { IfOk result (λ t. seen t ≡ tree_within depth (map table_in tables.now)
-        (filter (is_flagged flags.now) (map entry_in entries.now)) named.number table.number) }
+        (filter (is_flagged flags.now) (by_place entries.now)) named.number table.number) }
 {
     let node = node(alloc, tables, named, table)?;
     match &tables[table.number as usize].table.shape {

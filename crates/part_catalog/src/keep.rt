@@ -6,7 +6,7 @@ ghost use Rattle.history.specs.declared.catalogue.Entry.{Entry as OneEntry};
 ghost use Rattle.row_router.specs.Seen.{seen};
 ghost use Rattle.row_router.specs.Histories.{tree_within};
 ghost use Rattle.part_catalog.specs.Answers.{AreTogether};
-ghost use Rattle.part_catalog.specs.Kept.{table_in, entry_in};
+ghost use Rattle.part_catalog.specs.Kept.{table_in, by_place};
 ghost use Rattle.part_catalog.specs.Stands.{is_flagged};
 ghost use Rattle.part_catalog.specs.Groves.{IsGrove, IsGrownFrom, grown_for};
 
@@ -68,9 +68,9 @@ pub fn grow_or_share(
 ) -> Result<Tree, NoMemory>
     requires grove { IsGrove tables.now entries.now below.now flags.now }
     requires known { table.number < length tables.now }
-    requires kept { All (IsGrownFrom (map table_in tables.now) (map entry_in entries.now)) kept.now }
+    requires kept { All (IsGrownFrom (map table_in tables.now) (by_place entries.now)) kept.now }
     ensures { IfOk result (λ t. seen t ≡ tree_within 7 (map table_in tables.now)
-        (filter (is_flagged flags.now) (map entry_in entries.now)) table.number table.number) }
+        (filter (is_flagged flags.now) (by_place entries.now)) table.number table.number) }
 {
     match find_kept(kept, table, flags) {
         Some(tree) => {

@@ -7,10 +7,11 @@
 //! snapshot that sees the mark leaves the partition out, while an older one keeps it until the
 //! entry's end is committed.
 //!
-//! `Catalog` keeps all tables and all entries ever made, each with its newest end and mark; what an
-//! aborted transaction did stays, and does not count. So no abort has anything to undo. The entries
-//! below a table stand in plain order from the moment they are added, so that a tree is built in
-//! one pass. Trees that statements asked for are kept until a table is made or an entry added: a tree of
+//! `Catalog` keeps all tables and entries, each with its newest end and mark; what an aborted
+//! transaction did stays, and does not count. So no abort has anything to undo. An entry whose birth was
+//! aborted or whose end is committed is there for nobody, and stays so: such entries are forgotten, all at
+//! once when there are twice as many entries as were left the last time. The entries below a table stand in
+//! plain order from the moment they are added, so that a tree is built in one pass. Trees that statements asked for are kept until a table is made or an entry added: a tree of
 //! the same table with the same entries shares what stands below. The contracts say that the catalogue
 //! stands for a history of events, before a call and after it, and what a call answers is a definition
 //! over that history.
@@ -21,6 +22,7 @@ mod below;
 mod catalog;
 mod change;
 mod find;
+mod forgetting;
 mod grow;
 mod keep;
 mod laws;

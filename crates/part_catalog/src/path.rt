@@ -1,6 +1,6 @@
 //! The way from a table upwards.
 
-ghost use Rattle.std.specs.Prelude.{◌≡◌, ◌<◌, map, filter, find, length, IfOk, option_copied};
+ghost use Rattle.std.specs.Prelude.{◌≡◌, ◌<◌, map, filter, length, IfOk, IfSome, option_map};
 ghost use Rattle.std.specs.List.{position_or_len};
 ghost use Rattle.history.specs.History.{History, tx_events};
 ghost use Rattle.history.specs.Presence.{is_check_of};
@@ -9,8 +9,8 @@ ghost use Rattle.row_router.specs.Histories as spec;
 ghost use Rattle.row_router.specs.Histories.{above, kept_of, path_of};
 ghost use Rattle.part_catalog.specs.Answers.{parent_told, AreTogether};
 ghost use Rattle.part_catalog.specs.Groves.{IsGrove};
-ghost use Rattle.part_catalog.specs.Kept.{table_in, entry_in};
-ghost use Rattle.part_catalog.specs.Stands.{CatalogueStands, is_flagged, shown_above, is_number, flagged_number};
+ghost use Rattle.part_catalog.specs.Kept.{table_in, by_place, stored_at, with_place};
+ghost use Rattle.part_catalog.specs.Stands.{CatalogueStands, is_flagged, flagged_above, is_number, flagged_number};
 
 use crate::below::Below;
 use crate::grow::set_below;
@@ -94,38 +94,30 @@ fn checks_of(
     Ok(found)
 }
 
-// The first shown entry by which the table is a partition.
-fn above_shown<'c>(
-    entries: &'c [StoredEntry],
-    flags: &[bool],
-    table: TableNo,
-) -> Option<&'c StoredEntry>
-    requires { length flags.now ≡ length entries.now }
-    ensures { option_copied result ≡ find (shown_above flags.now table.number) entries.now }
+// Where the first shown entry stands by which the table is a partition.
+fn above_shown(entries: &[StoredEntry], flags: &[bool], table: TableNo) -> Option<usize>
+    ensures is { option_map (λ k. with_place k (stored_at entries.now k).entry) result ≡ above (filter (is_flagged flags.now) (by_place entries.now)) table.number }
+    ensures within { IfSome result (λ k. k < length entries.now) }
 {
-    for x in entries {
-        if x.entry.child.number == table.number && is_shown(flags, x) {
-            return Some(x);
+    for (at, x) in entries.iter().enumerate() {
+        if is_above(flags, at, table, x) {
+            return Some(at);
         }
     }
     None
 }
 
-fn is_shown(flags: &[bool], x: &StoredEntry) -> bool
-    ensures { result ≡ is_flagged flags.now x.now.entry }
+fn is_above(flags: &[bool], at: usize, table: TableNo, x: &StoredEntry) -> bool
+    ensures { result ≡ flagged_above flags.now table.number (with_place at x.now.entry) }
 {
-    match flags.get(x.entry.id.number as usize) {
-        Some(flag) => *flag,
-        None => false,
-    }
+    x.entry.child.number == table.number && is_set(flags, at as u64)
 }
 
 pub fn parent_in(entries: &[StoredEntry], flags: &[bool], table: TableNo) -> Option<TableNo>
-    requires { length flags.now ≡ length entries.now }
-    ensures { result ≡ parent_told (above (filter (is_flagged flags.now) (map entry_in entries.now)) table.number) }
+    ensures { result ≡ parent_told (above (filter (is_flagged flags.now) (by_place entries.now)) table.number) }
 {
     match above_shown(entries, flags, table) {
-        Some(x) => Some(x.entry.parent),
+        Some(at) => Some(entries[at].entry.parent),
         None => None,
     }
 }
@@ -165,20 +157,20 @@ fn place_of(
     table: TableNo,
 ) -> Result<Option<Place>, NoMemory>
     requires { IsGrove tables.now entries.now below.now flags.now }
-    ensures { IfOk result (λ place. place ≡ spec.place_of (map table_in tables.now) (filter (is_flagged flags.now) (map entry_in entries.now))
-        (above (filter (is_flagged flags.now) (map entry_in entries.now)) table.number)) }
+    ensures { IfOk result (λ place. place ≡ spec.place_of (map table_in tables.now) (filter (is_flagged flags.now) (by_place entries.now))
+        (above (filter (is_flagged flags.now) (by_place entries.now)) table.number)) }
 {
-    let Some(x) = above_shown(entries, flags, table) else {
+    let Some(at) = above_shown(entries, flags, table) else {
         return Ok(None);
     };
-    let parent = x.entry.parent;
+    let parent = entries[at].entry.parent;
     match &tables[parent.number as usize].table.shape {
         TableShape::Leaf(_) => Ok(None),
         TableShape::Level(level) => {
             let level = copy_level(alloc, level)?;
             let list = &below[parent.number as usize];
             let bounds = set_below(alloc, entries, list, flags, parent)?;
-            let child = place_among(list.numbers(), flags, x.entry.id.number);
+            let child = place_among(list.numbers(), flags, at as u64);
             Ok(Some(Place {
                 level,
                 bounds,

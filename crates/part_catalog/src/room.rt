@@ -1,9 +1,9 @@
 //! Counts for the limits, and the place of a further entry, over plain lists.
 
-ghost use Rattle.std.specs.Prelude.{◌≡◌, ◌≤◌, map, filter, length};
+ghost use Rattle.std.specs.Prelude.{◌≡◌, ◌≤◌, filter, length};
 ghost use Rattle.std.specs.List.{All, position_or_len};
 ghost use Rattle.row_router.specs.Histories.{above};
-ghost use Rattle.part_catalog.specs.Kept.{entry_in};
+ghost use Rattle.part_catalog.specs.Kept.{by_place};
 ghost use Rattle.part_catalog.specs.Stands.{is_flagged, flagged_number};
 ghost use Rattle.part_catalog.specs.Full.{tables_above};
 ghost use Rattle.part_catalog.specs.Ordered.{CanPlace, stands_behind};
@@ -30,8 +30,7 @@ pub fn count_shown(numbers: &[u64], flags: &[bool]) -> usize
 /// How many tables stand on the path from a table upwards, up to eight.
 #[tactic(auto, unfolding(crate::specs::Full::tables_above))]
 pub fn levels_up(entries: &[StoredEntry], flags: &[bool], table: TableNo) -> usize
-    requires { length flags.now ≡ length entries.now }
-    ensures is { result ≡ tables_above (above (filter (is_flagged flags.now) (map entry_in entries.now))) table.number }
+    ensures is { result ≡ tables_above (above (filter (is_flagged flags.now) (by_place entries.now))) table.number }
     ensures few { result ≤ 8 }
 {
     let mut count = 0;

@@ -3,7 +3,7 @@ use Rattle.std.proofs.Common.{◌≡◌, ℕ, ◌==◌, ◌&&◌, ◌++◌, not,
 use Rattle.std.specs.List.{All, find}
 use Rattle.std.proofs.lemmas.Bool.{cases_Bool}
 use Rattle.std.proofs.lemmas.Bool.Decides.{nat_tests}
-use Rattle.std.proofs.lemmas.List.Elements.{All-cons, All-head, All-tail, All-nil}
+use Rattle.std.proofs.lemmas.List.Elements.{All-cons, All-filter, All-head, All-tail, All-nil}
 use Rattle.pg_values.specs.declared.ids.TableNo.{TableNo}
 use Rattle.history.specs.declared.transaction.TxId.{TxId}
 use Rattle.history.specs.declared.transaction.Fate.TheVariants.{Running}
@@ -21,7 +21,7 @@ use Rattle.part_catalog.specs.Answers.{entry_between, parent_told, IsStanding}
 use Rattle.part_catalog.specs.Kept.{KeptCatalogue}
 use Rattle.part_catalog.specs.Stands.{CatalogueStands}
 use Rattle.part_ddl.specs.Dropped.{IsNotEnded, KeepsPlaces, MayEnd, ended, place_ended}
-use Rattle.part_ddl.proofs.Standing.{same_entries, same_ended, same_owner}
+use Rattle.part_ddl.proofs.Standing.{EndsAlike, same_entries, same_ended, same_owner}
 
 -- ---- what is found
 
@@ -90,7 +90,8 @@ not_ended h s t e keeps is = found_all (IsNotEnded h) (is_over t.number) (entrie
 pub keeps_at : (table : KeptTable) (kept : KeptCatalogue) (g h : History) → TableStands table g → TableStands table h → CatalogueStands kept g → CatalogueStands kept h → (s : ℕ) (t : TableNo) → KeepsPlaces g s t → KeepsPlaces h s t
 keeps_at table kept g h a b c d s t keeps =
     let here : All (IsNotEnded g) (filter (is_over t.number) (entries_present h s)) = subst (λ (es : List Entry). All (IsNotEnded g) (filter (is_over t.number) es)) (same_entries table kept g h a b c d s) keeps in
-    λ k x lt. sym (same_ended table kept g h a b c d _) ∙ here k x lt
+    let same : All (EndsAlike g h) (filter (is_over t.number) (entries_present h s)) = All-filter (is_over t.number) (EndsAlike g h) (entries_present h s) (same_ended table kept g h a b c d s) in
+    λ k x lt. sym (same k x lt) ∙ here k x lt
 
 -- ---- what a call that ends the entry above a table asks and says
 

@@ -1,24 +1,28 @@
 -- Two histories for which the stores stand tell the same of what is there.
 use Rattle.std.proofs.Common.{◌≡◌, ℕ, ◌<◌, ◌&&◌, ◌||◌, ◌++◌, not, arith, ap, refl, sym, subst, ◌∙◌, Bool, true, false, if◌then◌else◌, List, [], ◌∷◌, Option, Some, None, filter, map, length, get_or, inl, inr}
+use Rattle.std.specs.List.{All}
 use Rattle.std.proofs.lemmas.Grind.{common_steps, elements}
 use Rattle.std.proofs.lemmas.Bool.{cases_Bool, cases_lt}
 use Rattle.std.proofs.lemmas.List.{get_or-map, length-map}
+use Rattle.std.proofs.lemmas.List.Elements.{All-filter}
 use Rattle.history.specs.declared.transaction.Fate.{Fate}
 use Rattle.history.specs.declared.transaction.Fate.TheVariants.{Running, Committed, Aborted}
 use Rattle.history.specs.declared.catalogue.Entry.{Entry}
 use Rattle.history.specs.declared.catalogue.Stamp.{Stamp}
-use Rattle.history.specs.Transactions.{TxEvents, fate, is_committed, open_of, session_of, was_aborted, was_committed}
+use Rattle.history.specs.Transactions.{TxEvents, IsSound, fate, is_committed, open_of, session_of, was_aborted, was_committed}
 use Rattle.history.specs.Catalogue.{EntryAdded, entries_added, drops, entry_ends, counted_of, standing}
 use Rattle.history.specs.History.{History, CatalogueChange, tx_events, catalogue_events}
 use Rattle.history.specs.Places.{AreCatalogueSound}
-use Rattle.history.specs.Presence.{counts, is_own, stamp_counts, entries_present}
+use Rattle.history.specs.Presence.{counts, is_own, is_present, stamp_counts, entries_present}
 use Rattle.history.proofs.Stamps.{newest_drop_counts, newest_end_counts}
 use Rattle.tx_table.specs.Kept.{KeptTable}
 use Rattle.tx_table.specs.Stands.{TableStands}
 use Rattle.part_catalog.specs.declared.stored.StoredEntry.{StoredEntry}
-use Rattle.part_catalog.specs.Kept.{KeptCatalogue, entry_in, no_entry}
+use Rattle.part_catalog.specs.Kept.{KeptCatalogue, entry_in, no_entry, by_place}
 use Rattle.part_catalog.specs.Stands.{CatalogueStands, present_by, is_flagged}
-use Rattle.part_catalog.proofs.Told.{AreNumbered, present_flagged}
+use Rattle.part_catalog.proofs.Places.{own_number}
+use Rattle.part_catalog.proofs.Renumbered.{renumbered}
+use Rattle.part_catalog.proofs.Told.{present_flagged, present_kept}
 
 -- ---- transactions
 
@@ -83,15 +87,6 @@ numbered (CatalogueChange (EntryAdded e) ∷ h) sound d k lt = numbered_more (en
 numbered (CatalogueChange e ∷ h) sound d k lt = numbered h sound.1 d k lt
 numbered (_ ∷ h) sound d k lt = numbered h sound d k lt
 
-pub are_numbered : (kept : KeptCatalogue) (h : History) → CatalogueStands kept h → AreNumbered kept.entries
-are_numbered kept h st k lt =
-    let count : length (map entry_in kept.entries) ≡ length kept.entries = length-map kept.entries entry_in in
-    let within : k < length (map entry_in kept.entries) = omega (arith, lt, count) in
-    let at : get_or (map entry_in kept.entries) k no_entry.entry ≡ (get_or kept.entries k no_entry).entry = get_or-map entry_in kept.entries k no_entry no_entry.entry lt in
-    let all : (es : List Entry) → entries_added (catalogue_events h) ≡ es → k < length es → (get_or es k no_entry.entry).id.number ≡ k =
-    λ es is l. subst (λ (xs : List Entry). k < length xs → (get_or xs k no_entry.entry).id.number ≡ k) is (λ m. numbered h st.sound no_entry.entry k m) l in
-    ap (λ (x : Entry). x.id.number) (sym at) ∙ all (map entry_in kept.entries) (sym st.entries) within
-
 -- ---- entries and tables
 
 maps_agree : (f g : StoredEntry → Bool) → ((x : StoredEntry) → f x ≡ g x) → (xs : List StoredEntry) → map f xs ≡ map g xs
@@ -100,17 +95,29 @@ maps_agree f g same (x ∷ xs) = ap (λ (b : Bool). b ∷ map f xs) (same x) ∙
 
 pub same_entries : (table : KeptTable) (kept : KeptCatalogue) (g h : History) → TableStands table g → TableStands table h → CatalogueStands kept g → CatalogueStands kept h → (s : ℕ) → entries_present g s ≡ entries_present h s
 same_entries table kept g h a b c d s =
-    let F : List Bool → List Entry = λ flags. filter (is_flagged flags) (map entry_in kept.entries) in
-    sym (present_flagged kept g s (map (present_by (tx_events g) s) kept.entries) c (are_numbered kept g c) refl)
+    let F : List Bool → List Entry = λ flags. map (renumbered (own_number kept.entries)) (filter (is_flagged flags) (by_place kept.entries)) in
+    sym (present_flagged kept g s (map (present_by (tx_events g) s) kept.entries) a.sound c refl)
     ∙ ap F (maps_agree (present_by (tx_events g) s) (present_by (tx_events h) s) (same_present_by table g h a b s) kept.entries)
-    ∙ present_flagged kept h s (map (present_by (tx_events h) s) kept.entries) d (are_numbered kept h d) refl
+    ∙ present_flagged kept h s (map (present_by (tx_events h) s) kept.entries) b.sound d refl
 
-pub same_ended : (table : KeptTable) (kept : KeptCatalogue) (g h : History) → TableStands table g → TableStands table h → CatalogueStands kept g → CatalogueStands kept h → (k : ℕ) → counted_of (tx_events g) (entry_ends (catalogue_events g)) k ≡ counted_of (tx_events h) (entry_ends (catalogue_events h)) k
-same_ended table kept g h a b c d k =
-    newest_end_counts g k c.sound
-    ∙ ap (standing (tx_events g)) (sym (c.ends k) ∙ d.ends k)
-    ∙ same_standing table g h a b _
-    ∙ sym (newest_end_counts h k d.sound)
+-- what holds of each entry that is kept holds of each that is present
+pub kept_present : (kept : KeptCatalogue) (h : History) (s : ℕ) (P : Entry → Type 0) → IsSound (tx_events h) → CatalogueStands kept h → ((k : ℕ) → k < length kept.entries → P (get_or kept.entries k no_entry).entry) → All P (entries_present h s)
+kept_present kept h s P sound st each =
+    let all : All P (map entry_in kept.entries) = λ k x lt.
+    let within : k < length kept.entries = omega (arith, lt, length-map kept.entries entry_in) in
+    subst P (sym (get_or-map entry_in kept.entries k no_entry x within)) (each k within) in
+    subst (All P) (present_kept kept h s sound st) (All-filter (is_present h s) P (map entry_in kept.entries) all)
+
+-- the two tell the same ends of an entry
+abbrev pub EndsAlike : History → History → Entry → Type 0
+EndsAlike g h e = counted_of (tx_events g) (entry_ends (catalogue_events g)) e.id.number ≡ counted_of (tx_events h) (entry_ends (catalogue_events h)) e.id.number
+
+pub same_ended : (table : KeptTable) (kept : KeptCatalogue) (g h : History) → TableStands table g → TableStands table h → CatalogueStands kept g → CatalogueStands kept h → (s : ℕ) → All (EndsAlike g h) (entries_present h s)
+same_ended table kept g h a b c d s =
+    let each : (k : ℕ) → k < length kept.entries → EndsAlike g h (get_or kept.entries k no_entry).entry = λ k lt.
+    let n = (get_or kept.entries k no_entry).entry.id.number in
+    newest_end_counts g n c.sound ∙ ap (standing (tx_events g)) (sym (c.ends k lt) ∙ d.ends k lt) ∙ same_standing table g h a b _ ∙ sym (newest_end_counts h n d.sound) in
+    kept_present kept h s (EndsAlike g h) b.sound d each
 
 pub same_dropped : (table : KeptTable) (kept : KeptCatalogue) (g h : History) → TableStands table g → TableStands table h → CatalogueStands kept g → CatalogueStands kept h → (k : ℕ) → counted_of (tx_events g) (drops (catalogue_events g)) k ≡ counted_of (tx_events h) (drops (catalogue_events h)) k
 same_dropped table kept g h a b c d k =

@@ -20,7 +20,7 @@ use Rattle.row_change.specs.Storing.{Made, made_by, made_after, behind, is_into,
 
 -- an event of rows changes nothing of tables
 catalogue_stays : (kept : KeptCatalogue) (h : History) (e : RowEvent) → CatalogueStands kept h → CatalogueStands kept (RowChange e ∷ h)
-catalogue_stays kept h e st = record { sound = st.sound; tables = st.tables; drops = st.drops; entries = st.entries; ends = st.ends; marks = st.marks; checks = st.checks }
+catalogue_stays kept h e st = record { sound = st.sound; tables = st.tables; drops = st.drops; added = st.added; entries = st.entries; ends = st.ends; marks = st.marks; checks = st.checks }
 
 -- so far these events were added, and the rest is to come
 pub record Reached (t : KeptTable) (c : KeptCatalogue) (s : KeptRows) (h : History) (made : Made) (rest : History → Made) : Type 0 where

@@ -22,7 +22,7 @@ use Rattle.stores.specs.Good.{IsGood}
 use Rattle.stores.specs.Numbers.{IsAt}
 use Rattle.stores.specs.Stand.{AllStand, Stands, Adds, AddsGood}
 use Rattle.stores.proofs.Events.{tx_good, held_good}
-use Rattle.stores.proofs.Standing.{rows_stand, catalogue_stands}
+use Rattle.stores.proofs.Standing.{rows_stand, catalogue_stands, catalogue_stays}
 
 -- ---- an event of one store leaves the others as they are
 
@@ -30,7 +30,7 @@ after_tx : (old : Stores) (txs : KeptTable) (e : TxEvent) (h : History) → Tabl
 after_tx old txs e h new st = record {
   txs = new;
   rows = rows_stand old.rows h (TxChange e ∷ h) refl st.rows.sound st.rows;
-  catalog = catalogue_stands old.catalog h (TxChange e ∷ h) refl st.catalog.sound st.catalog;
+  catalog = catalogue_stays old.catalog e h new.sound st.catalog;
   locks = st.locks;
 }
 
@@ -38,7 +38,7 @@ after_snapshots : (old : Stores) (txs : KeptTable) (e : SnapshotEvent) (h : Hist
 after_snapshots old txs e h new st = record {
   txs = new;
   rows = rows_stand old.rows h (SnapshotChange e ∷ h) refl st.rows.sound st.rows;
-  catalog = catalogue_stands old.catalog h (SnapshotChange e ∷ h) refl st.catalog.sound st.catalog;
+  catalog = catalogue_stands old.catalog h (SnapshotChange e ∷ h) refl refl st.catalog.sound st.catalog;
   locks = st.locks;
 }
 
@@ -46,7 +46,7 @@ after_locks : (old : Stores) (locks : KeptLocks) (e : LockEvent) (h : History) �
 after_locks old locks e h new st = record {
   txs = st.txs;
   rows = rows_stand old.rows h (LockChange e ∷ h) refl st.rows.sound st.rows;
-  catalog = catalogue_stands old.catalog h (LockChange e ∷ h) refl st.catalog.sound st.catalog;
+  catalog = catalogue_stands old.catalog h (LockChange e ∷ h) refl refl st.catalog.sound st.catalog;
   locks = new;
 }
 

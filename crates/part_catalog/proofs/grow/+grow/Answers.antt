@@ -11,7 +11,7 @@ use Rattle.history.specs.declared.catalogue.TableShape.TheVariants.{Leaf as Leaf
 use Rattle.row_router.specs.Seen.{seen, items_of}
 use Rattle.row_router.specs.Trees.{TableTree, LeafTable}
 use Rattle.row_router.specs.Histories.{children, tree_within, child_of_entry}
-use Rattle.part_catalog.specs.Kept.{table_in, entry_in, number_of, no_entry}
+use Rattle.part_catalog.specs.Kept.{table_in, number_of, no_entry, with_place, by_place}
 use Rattle.part_catalog.specs.Stands.{is_flagged}
 use Rattle.part_catalog.proofs.Grown.{kid_at, take_step, skip_step, all_done, level_of, table_is, none_in_order, grown_bare, grown_leaf, grown_level, level_made}
 use Rattle.part_catalog.proofs.grow.+grow.Goals as goal
@@ -24,8 +24,8 @@ pub bounds-flags-number : goal.bounds-flags-number
 bounds-flags-number t c =
     let b = c.requires.grove.listed.below c.args.table.number c.requires.known in
     let same : get_or c.args.below.now c.args.table.number [] ≡ c.index-below-table.result = grind (arith, common_steps, elements, c.index-below-table.is, c.requires.grove.listed.count, c.requires.known) in
-    let are : c.numbers-number-items.result.now ≡ map number_of (children (map entry_in c.args.entries.now) c.args.table.number) = cc in
-    let kid = kid_at c.args.entries.now c.args.flags.now c.numbers-number-items.result.now c.args.table.number c.loop-number.number-index c.requires.grove.listed.numbered are c.loop-number-test.true in
+    let are : c.numbers-number-items.result.now ≡ map number_of (children (by_place c.args.entries.now) c.args.table.number) = cc in
+    let kid = kid_at c.args.entries.now c.numbers-number-items.result.now c.args.table.number c.loop-number.number-index are c.loop-number-test.true in
     omega (arith, kid.known, c.requires.grove.flagged)
 
 pub grow-requires : goal.grow-requires
@@ -33,8 +33,8 @@ grow-requires t c =
     let n = get_or c.numbers-number-items.result.now c.loop-number.number-index 0 in
     let b = c.requires.grove.listed.below c.args.table.number c.requires.known in
     let same : get_or c.args.below.now c.args.table.number [] ≡ c.index-below-table.result = grind (arith, common_steps, elements, c.index-below-table.is, c.requires.grove.listed.count, c.requires.known) in
-    let are : c.numbers-number-items.result.now ≡ map number_of (children (map entry_in c.args.entries.now) c.args.table.number) = cc in
-    let kid = kid_at c.args.entries.now c.args.flags.now c.numbers-number-items.result.now c.args.table.number c.loop-number.number-index c.requires.grove.listed.numbered are c.loop-number-test.true in
+    let are : c.numbers-number-items.result.now ≡ map number_of (children (by_place c.args.entries.now) c.args.table.number) = cc in
+    let kid = kid_at c.args.entries.now c.numbers-number-items.result.now c.args.table.number c.loop-number.number-index are c.loop-number-test.true in
     let entry : get_or c.args.entries.now n c.index-entries-number.result ≡ get_or c.args.entries.now n no_entry = grind (arith, common_steps, elements, kid.known) in
     let between = c.requires.grove.listed.between n kid.known in
     (omega (arith, c.decreases, c.if-depth-eq0.false), (c.requires.grove, rw entry between.child))
@@ -43,27 +43,27 @@ pub loop-number-preserved : goal.loop-number-preserved
 loop-number-preserved t c =
     let b = c.requires.grove.listed.below c.args.table.number c.requires.known in
     let same : get_or c.args.below.now c.args.table.number [] ≡ c.index-below-table.result = grind (arith, common_steps, elements, c.index-below-table.is, c.requires.grove.listed.count, c.requires.known) in
-    let are : c.numbers-number-items.result.now ≡ map number_of (children (map entry_in c.args.entries.now) c.args.table.number) = cc in
+    let are : c.numbers-number-items.result.now ≡ map number_of (children (by_place c.args.entries.now) c.args.table.number) = cc in
     let E = c.args.entries.now in
     let F = c.args.flags.now in
-    let A = map entry_in E in
+    let A = by_place E in
     let kids = children A c.args.table.number in
     let i = c.loop-number.number-index in
     let n = get_or c.numbers-number-items.result.now i 0 in
-    let kid = kid_at E F c.numbers-number-items.result.now c.args.table.number i c.requires.grove.listed.numbered are c.loop-number-test.true in
-    let e : Entry = (get_or E n no_entry).entry in
+    let kid = kid_at E c.numbers-number-items.result.now c.args.table.number i are c.loop-number-test.true in
+    let e : Entry = with_place n (get_or E n no_entry).entry in
     let f : Entry → TableTree = λ x. tree_within (c.args.depth - 1) (map table_in c.args.tables.now) (filter (is_flagged F) A) c.args.named.number (child_of_entry x) in
     let all = map f (filter (is_flagged F) kids) in
     elim c.if-flags-number.branch [
       | then-flags-number+in_ok-tree-in-Level+in_ok-push-in-Level w ↦
           let entry : get_or E n w.index-entries-number.result ≡ get_or E n no_entry = grind (arith, common_steps, elements, kid.known) in
-          let here : is_flagged F e ≡ true = kid.flag ∙ w.if-flags-number.true in
-          let tree : seen w.in_ok-tree-in-Level.tree ≡ f e = w.in_ok-tree-in-Level.ensures ∙ ap (λ (y : StoredEntry). f y.entry) entry in
+          let here : is_flagged F e ≡ true = w.if-flags-number.true in
+          let tree : seen w.in_ok-tree-in-Level.tree ≡ f e = w.in_ok-tree-in-Level.ensures ∙ ap (λ (y : StoredEntry). f (with_place n y.entry)) entry in
           let put : map seen c.if-flags-number.trees.items ≡ map seen c.loop-number.trees.items ++ f e ∷ [] =
           ap (λ (v : Vec Tree Global). map seen v.items) w.trees-is ∙ ap (map seen) w.in_ok-push-in-Level.ensures.items ∙ map-append seen c.loop-number.trees.items (w.in_ok-tree-in-Level.tree ∷ []) ∙ ap (λ (x : TableTree). map seen c.loop-number.trees.items ++ x ∷ []) tree in
           take_step (is_flagged F) f (map seen c.loop-number.trees.items) (map seen c.if-flags-number.trees.items) kids i e all kid.there here put c.loop-number.invariant
       | else-flags-number w ↦
-          let off : is_flagged F e ≡ false = kid.flag ∙ w.if-flags-number.false in
+          let off : is_flagged F e ≡ false = w.if-flags-number.false in
           let kept : map seen c.if-flags-number.trees.items ≡ map seen c.loop-number.trees.items = ap (λ (v : Vec Tree Global). map seen v.items) w.trees-is in
           ap (λ (l : List TableTree). l ++ map f (filter (is_flagged F) (drop (i + 1) kids))) kept ∙ skip_step (is_flagged F) f (map seen c.loop-number.trees.items) kids i e all kid.there off c.loop-number.invariant
     ]
@@ -74,7 +74,7 @@ set_in_order-requires-clause-ordered t c = none_in_order c.new.result.items c.ne
 pub returns-then-depth-eq0 : goal.returns-then-depth-eq0
 returns-then-depth-eq0 t c =
     let T = map table_in c.args.tables.now in
-    let part = filter (is_flagged c.args.flags.now) (map entry_in c.args.entries.now) in
+    let part = filter (is_flagged c.args.flags.now) (by_place c.args.entries.now) in
     let here = table_is c.args.tables.now c.args.table.number c.index-tables-table.result c.requires.known c.index-tables-table.is in
     let is : c.index-tables-table.result.table.shape ≡ LevelShape c.in-Level.level = cc in
     let none : c.in_ok-none-in-Level.none ≡ [] = c.in_ok-none-in-Level.ensures ∙ c.new.ensures.items in
@@ -89,7 +89,7 @@ set_below-requires t c = level_of c.args.tables.now c.args.entries.now c.args.be
 pub returns-in-Leaf : goal.returns-in-Leaf
 returns-in-Leaf t c =
     let T = map table_in c.args.tables.now in
-    let part = filter (is_flagged c.args.flags.now) (map entry_in c.args.entries.now) in
+    let part = filter (is_flagged c.args.flags.now) (by_place c.args.entries.now) in
     let here = table_is c.args.tables.now c.args.table.number c.index-tables-table.result c.requires.known c.index-tables-table.is in
     let shape : (table_at T c.args.table.number).shape ≡ LeafShape c.in-Leaf.leaf = ap (λ (x : Table). x.shape) here ∙ ap (λ (y : StoredTable). y.table.shape) c.index-tables-table.is ∙ c.in-Leaf.is in
     c.leaf.ensures ∙ ap (λ n. LeafTable n c.in-Leaf.leaf) c.in_ok-node.ensures ∙ grown_leaf c.args.depth T part c.args.named.number c.args.table.number c.in-Leaf.leaf shape
@@ -98,9 +98,9 @@ pub returns-in_ok-shared-in-Level : goal.returns-in_ok-shared-in-Level
 returns-in_ok-shared-in-Level t c =
     let b = c.requires.grove.listed.below c.args.table.number c.requires.known in
     let same : get_or c.args.below.now c.args.table.number [] ≡ c.index-below-table.result = grind (arith, common_steps, elements, c.index-below-table.is, c.requires.grove.listed.count, c.requires.known) in
-    let are : c.numbers-number-items.result.now ≡ map number_of (children (map entry_in c.args.entries.now) c.args.table.number) = cc in
+    let are : c.numbers-number-items.result.now ≡ map number_of (children (by_place c.args.entries.now) c.args.table.number) = cc in
     let T = map table_in c.args.tables.now in
-    let A = map entry_in c.args.entries.now in
+    let A = by_place c.args.entries.now in
     let F = c.args.flags.now in
     let kids = children A c.args.table.number in
     let f : Entry → TableTree = λ x. tree_within (c.args.depth - 1) T (filter (is_flagged F) A) c.args.named.number (child_of_entry x) in

@@ -1,6 +1,6 @@
-use Rattle.std.proofs.Common.{◌≡◌, ◌+◌, ◌-◌, ◌≤◌, filter, map}
+use Rattle.std.proofs.Common.{◌≡◌, ◌+◌, ◌-◌, ◌≤◌, filter}
 use Rattle.row_router.specs.Histories.{above}
-use Rattle.part_catalog.specs.Kept.{entry_in}
+use Rattle.part_catalog.specs.Kept.{by_place}
 use Rattle.part_catalog.specs.Stands.{is_flagged}
 use Rattle.part_catalog.specs.Answers.{number_told}
 use Rattle.part_catalog.specs.Full.{tables_up, tables_above}
@@ -9,5 +9,5 @@ use Rattle.part_catalog.proofs.room.levels_up.Given as goal
 abbrev pub invariant-loop-step : goal.invariant-loop-step
 invariant-loop-step l = record {
   few : l.count ≤ l.step;
-  told : l.count + tables_up (8 - l.step) (above (filter (is_flagged l.flags) (map entry_in l.entries))) (number_told l.next) ≡ tables_above (above (filter (is_flagged l.flags) (map entry_in l.entries))) l.fn.table.number;
+  told : l.count + tables_up (8 - l.step) (above (filter (is_flagged l.flags) (by_place l.entries))) (number_told l.next) ≡ tables_above (above (filter (is_flagged l.flags) (by_place l.entries))) l.fn.table.number;
 }

@@ -22,4 +22,4 @@ grow_or_share-requires-clause-kept c =
 pub returns : goal.returns
 returns c h txs st =
     let l = lent c.args.self.now c.self.inside.tables.items c.deref-2.result.now c.self.inside.entries.items c.deref-3.result.now c.self.inside.below.items c.deref-4.result.now c.self.inside.names c.self.invariant.0 (ap (λ (k : KeptCatalogue). k.tables) c.self.view_is) (ap (λ (k : KeptCatalogue). k.entries) c.self.view_is) c.deref-2.ensures.value c.deref-3.ensures.value c.deref-4.ensures.value in
-    c.in_ok-tree.ensures ∙ ddl_tree_told c.args.self.now h c.args.session c.args.table.number c.deref-2.result.now c.deref-3.result.now c.deref-4.result.now c.deref-5.result.now l st (c.deref-5.ensures.value ∙ c.in_ok-flags.ensures.is h txs ∙ ap (map (present_by (tx_events h) c.args.session)) (c.deref.ensures.value ∙ sym c.deref-3.ensures.value))
+    c.in_ok-tree.ensures ∙ ddl_tree_told c.args.self.now h c.args.session c.args.table.number c.deref-2.result.now c.deref-3.result.now c.deref-4.result.now c.deref-5.result.now l txs.sound st (c.deref-5.ensures.value ∙ c.in_ok-flags.ensures.is h txs ∙ ap (map (present_by (tx_events h) c.args.session)) (c.deref.ensures.value ∙ sym c.deref-3.ensures.value))

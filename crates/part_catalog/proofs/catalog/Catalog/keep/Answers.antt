@@ -2,7 +2,7 @@ use Rattle.std.proofs.Common.{◌≡◌, ◌∙◌, ap, sym, Bool, false, List, 
 use Rattle.history.specs.History.{tx_events}
 use Rattle.row_router.specs.Seen.{seen}
 use Rattle.part_catalog.specs.declared.stored.StoredEntry.{StoredEntry}
-use Rattle.part_catalog.specs.Kept.{KeptCatalogue, table_in, entry_in, no_entry}
+use Rattle.part_catalog.specs.Kept.{KeptCatalogue, table_in, no_entry, by_place}
 use Rattle.part_catalog.specs.Stands.{present_by}
 use Rattle.part_catalog.proofs.Trees.{lent, shown_grove}
 use Rattle.part_catalog.proofs.KeptTrees.{grown_whole}
@@ -21,11 +21,11 @@ invariant_of-self c =
     let T = c.self.inside.tables.items in
     let E = c.self.inside.entries.items in
     let one = grown_whole T c.deref-4.result.now E c.deref-5.result.now c.in_ok-flags.flags.items c.deref-7.result.now c.args.table.number (seen c.in_ok-tree.tree) c.deref-4.ensures.value c.deref-5.ensures.value c.deref-7.ensures.value c.in_ok-tree.ensures in
-    (c.self.invariant.0, c.put.ensures (map table_in T) (map entry_in E) c.self.invariant.1 one)
+    (c.self.invariant.0, c.put.ensures (map table_in T) (by_place E) c.self.invariant.1 one)
 
 pub invariant_of-self-2 : goal.invariant_of-self-2
 invariant_of-self-2 c =
     let T = c.self.inside.tables.items in
     let E = c.self.inside.entries.items in
     let one = grown_whole T c.deref-4.result.now E c.deref-5.result.now c.in_ok-flags.flags.items c.deref-7.result.now c.args.table.number (seen c.in_ok-tree.tree) c.deref-4.ensures.value c.deref-5.ensures.value c.deref-7.ensures.value c.in_ok-tree.ensures in
-    (c.self.invariant.0, c.put.ensures (map table_in T) (map entry_in E) c.self.invariant.1 one)
+    (c.self.invariant.0, c.put.ensures (map table_in T) (by_place E) c.self.invariant.1 one)

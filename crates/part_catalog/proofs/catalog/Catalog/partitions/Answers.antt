@@ -5,10 +5,9 @@ use Rattle.history.specs.History.{tx_events}
 use Rattle.row_router.specs.Histories.{children}
 use Rattle.part_catalog.specs.declared.stored.StoredTable.{StoredTable}
 use Rattle.part_catalog.specs.declared.stored.StoredEntry.{StoredEntry}
-use Rattle.part_catalog.specs.Kept.{KeptCatalogue, entry_in, number_of}
+use Rattle.part_catalog.specs.Kept.{KeptCatalogue, number_of, by_place}
 use Rattle.part_catalog.specs.Stands.{present_by}
 use Rattle.part_catalog.proofs.Partitions.{passed, known_numbers, passed_are}
-use Rattle.part_catalog.proofs.Told.{AreNumbered}
 use Rattle.part_catalog.proofs.catalog.Catalog.partitions.Goals as goal
 
 pub present_among-requires : goal.present_among-requires
@@ -19,8 +18,8 @@ present_among-requires c =
     let known : t < length c.self.inside.tables.items = omega (arith, c.requires, ap (length {A = StoredTable}) tables) in
     let within : t < length c.self.inside.below.items = omega (arith, known, c.self.invariant.0.listed.count) in
     let list : c.index.result.now ≡ get_or c.self.inside.below.items t [] = grind (arith, common_steps, elements, c.index.ensures) in
-    let numbers : c.numbers-numbers.result.now ≡ map number_of (children (map entry_in E) t) = c.numbers-numbers.ensures ∙ list ∙ c.self.invariant.0.listed.below t known in
-    subst (λ (es : List StoredEntry). All (λ k. k < length es) c.numbers-numbers.result.now) (sym c.deref.ensures.value) (known_numbers E c.numbers-numbers.result.now t c.self.invariant.0.listed.numbered numbers)
+    let numbers : c.numbers-numbers.result.now ≡ map number_of (children (by_place E) t) = c.numbers-numbers.ensures ∙ list ∙ c.self.invariant.0.listed.below t known in
+    subst (λ (es : List StoredEntry). All (λ k. k < length es) c.numbers-numbers.result.now) (sym c.deref.ensures.value) (known_numbers E c.numbers-numbers.result.now t numbers)
 
 pub returns : goal.returns
 returns c h txs st =
@@ -29,11 +28,10 @@ returns c h txs st =
     let N = c.numbers-numbers.result.now in
     let tables = ap (λ (k : KeptCatalogue). k.tables) c.self.view_is in
     let entries = ap (λ (k : KeptCatalogue). k.entries) c.self.view_is in
-    let num : AreNumbered kept.entries = subst AreNumbered entries c.self.invariant.0.listed.numbered in
     let known : t < length c.self.inside.tables.items = omega (arith, c.requires, ap (length {A = StoredTable}) tables) in
     let within : t < length c.self.inside.below.items = omega (arith, known, c.self.invariant.0.listed.count) in
     let list : c.index.result.now ≡ get_or c.self.inside.below.items t [] = grind (arith, common_steps, elements, c.index.ensures) in
-    let numbers : N ≡ map number_of (children (map entry_in kept.entries) t) = c.numbers-numbers.ensures ∙ list ∙ c.self.invariant.0.listed.below t known ∙ ap (λ (es : List StoredEntry). map number_of (children (map entry_in es) t)) entries in
+    let numbers : N ≡ map number_of (children (by_place kept.entries) t) = c.numbers-numbers.ensures ∙ list ∙ c.self.invariant.0.listed.below t known ∙ ap (λ (es : List StoredEntry). map number_of (children (by_place es) t)) entries in
     c.in_ok-found.ensures h txs
     ∙ ap (λ (es : List StoredEntry). passed (present_by (tx_events h) c.args.session) es N) (c.deref.ensures.value ∙ entries)
-    ∙ passed_are kept h c.args.session t N st num numbers
+    ∙ passed_are kept h c.args.session t N txs.sound st numbers

@@ -9,9 +9,8 @@ use Rattle.row_router.specs.Histories.{above, kept_of, part_of, path_of, place_o
 use Rattle.part_catalog.specs.declared.stored.StoredTable.{StoredTable}
 use Rattle.part_catalog.specs.declared.stored.StoredEntry.{StoredEntry}
 use Rattle.part_catalog.specs.Answers.{number_told, parent_told}
-use Rattle.part_catalog.specs.Kept.{KeptCatalogue, table_in, entry_in}
+use Rattle.part_catalog.specs.Kept.{KeptCatalogue, table_in, by_place}
 use Rattle.part_catalog.specs.Stands.{present_by, is_flagged}
-use Rattle.part_catalog.proofs.Told.{AreNumbered}
 use Rattle.part_catalog.proofs.Trees.{lent, present_grove}
 use Rattle.part_catalog.proofs.Upwards.{parent_known, part_made, next_told, path_part, path_step}
 use Rattle.part_catalog.proofs.catalog.Catalog.path.Goals as goal
@@ -33,26 +32,25 @@ loop-step-preserved c =
     let o = c.parent_in-next.result in
     let tables = ap (λ (k : KeptCatalogue). k.tables) c.self.view_is in
     let entries = ap (λ (k : KeptCatalogue). k.entries) c.self.view_is in
-    let next : o ≡ parent_told (above (filter (is_flagged F) (map entry_in c.self.inside.entries.items)) t.number) =
+    let next : o ≡ parent_told (above (filter (is_flagged F) (by_place c.self.inside.entries.items)) t.number) =
     c.parent_in-next.ensures
-    ∙ ap (λ (fs : List Bool). parent_told (above (filter (is_flagged fs) (map entry_in c.deref-in-loop-step-6.result.now)) t.number)) c.deref-in-loop-step-7.ensures.value
-    ∙ ap (λ (es : List StoredEntry). parent_told (above (filter (is_flagged F) (map entry_in es)) t.number)) c.deref-in-loop-step-6.ensures.value in
+    ∙ ap (λ (fs : List Bool). parent_told (above (filter (is_flagged fs) (by_place c.deref-in-loop-step-6.result.now)) t.number)) c.deref-in-loop-step-7.ensures.value
+    ∙ ap (λ (es : List StoredEntry). parent_told (above (filter (is_flagged F) (by_place es)) t.number)) c.deref-in-loop-step-6.ensures.value in
     record {
       known = subst (λ (ts : List StoredTable). IfSome o (λ (p : TableNo). p.number < length ts)) tables (parent_known c.self.inside.tables.items c.self.inside.entries.items F t.number o c.self.invariant.0.listed.between next);
       told = λ h txs st.
-          let num : AreNumbered kept.entries = subst AreNumbered entries c.self.invariant.0.listed.numbered in
           let flags : F ≡ map (present_by (tx_events h) s) kept.entries = c.in_ok-flags.ensures.is h txs ∙ ap (map (present_by (tx_events h) s)) (c.deref.ensures.value ∙ entries) in
           let part = part_of (tables_made (catalogue_events h)) (entries_present h s) (checks_of h s) in
           let up = above (entries_present h s) in
           let of_table = c.in_ok-checks.ensures h txs ∙ ap (λ (cs : List Check). map kept_of (filter (is_check_of (tx_events h) s t.number) cs)) (c.deref-in-loop-step.ensures.value ∙ ap (λ (k : KeptCatalogue). k.checks) c.self.view_is) in
           let place =
           c.in_ok-place.ensures
-          ∙ ap (λ (ts : List StoredTable). place_of (map table_in ts) (filter (is_flagged c.deref-in-loop-step-5.result.now) (map entry_in c.deref-in-loop-step-3.result.now)) (above (filter (is_flagged c.deref-in-loop-step-5.result.now) (map entry_in c.deref-in-loop-step-3.result.now)) t.number)) (c.deref-in-loop-step-2.ensures.value ∙ tables)
-          ∙ ap (λ (fs : List Bool). place_of (map table_in kept.tables) (filter (is_flagged fs) (map entry_in c.deref-in-loop-step-3.result.now)) (above (filter (is_flagged fs) (map entry_in c.deref-in-loop-step-3.result.now)) t.number)) c.deref-in-loop-step-5.ensures.value
-          ∙ ap (λ (es : List StoredEntry). place_of (map table_in kept.tables) (filter (is_flagged F) (map entry_in es)) (above (filter (is_flagged F) (map entry_in es)) t.number)) (c.deref-in-loop-step-3.ensures.value ∙ entries) in
+          ∙ ap (λ (ts : List StoredTable). place_of (map table_in ts) (filter (is_flagged c.deref-in-loop-step-5.result.now) (by_place c.deref-in-loop-step-3.result.now)) (above (filter (is_flagged c.deref-in-loop-step-5.result.now) (by_place c.deref-in-loop-step-3.result.now)) t.number)) (c.deref-in-loop-step-2.ensures.value ∙ tables)
+          ∙ ap (λ (fs : List Bool). place_of (map table_in kept.tables) (filter (is_flagged fs) (by_place c.deref-in-loop-step-3.result.now)) (above (filter (is_flagged fs) (by_place c.deref-in-loop-step-3.result.now)) t.number)) c.deref-in-loop-step-5.ensures.value
+          ∙ ap (λ (es : List StoredEntry). place_of (map table_in kept.tables) (filter (is_flagged F) (by_place es)) (above (filter (is_flagged F) (by_place es)) t.number)) (c.deref-in-loop-step-3.ensures.value ∙ entries) in
           let x : PathPart = path_part t c.in_ok-checks.checks c.in_ok-place.place in
-          let here : x ≡ part t.number = part_made kept h s F t c.in_ok-checks.checks c.in_ok-place.place st num flags of_table place in
-          let goes = next_told kept h s F t.number o st num flags (next ∙ ap (λ (es : List StoredEntry). parent_told (above (filter (is_flagged F) (map entry_in es)) t.number)) entries) in
+          let here : x ≡ part t.number = part_made kept h s F t c.in_ok-checks.checks c.in_ok-place.place txs.sound st flags of_table place in
+          let goes = next_told kept h s F t.number o txs.sound st flags (next ∙ ap (λ (es : List StoredEntry). parent_told (above (filter (is_flagged F) (by_place es)) t.number)) entries) in
           let before : c.loop-step.parts.items ++ upwards (8 - c.loop-step.step) part up (number_told c.loop-step.next) ≡ path_of h s c.args.table.number = c.loop-step.invariant.told h txs st in
           let now = subst (λ (q : Option TableNo). c.loop-step.parts.items ++ upwards (8 - c.loop-step.step) part up (number_told q) ≡ path_of h s c.args.table.number) c.in-Some.is before in
           ap (λ (l : List PathPart). l ++ upwards (8 - (c.loop-step.step + 1)) part up (number_told o)) c.in_ok-push.ensures.items
