@@ -11,6 +11,7 @@ pub mod Searches
 pub mod Sessions
 pub mod Straight
 pub mod Tables
+pub mod Taken
 pub mod Told
 pub mod Walks
 pub mod Ways

@@ -31,7 +31,7 @@ any_at [] k d lt = absurd (omega arith)
 any_at (x ∷ q) zero d lt = grind (arith, common_steps, nat_tests)
 any_at (x ∷ q) (suc k) d lt = grind (arith, common_steps, nat_tests, any_at q k d (omega (arith, lt)))
 
-apart : (q : List ℕ) (s : ℕ) → list_any (nat_eq s) q ≡ false → (k d : ℕ) → k < length q → get_or q k d ≢ s
+pub apart : (q : List ℕ) (s : ℕ) → list_any (nat_eq s) q ≡ false → (k d : ℕ) → k < length q → get_or q k d ≢ s
 apart q s none k d lt e = absurd (grind (arith, common_steps, any_at q k d lt))
 
 -- one more wait

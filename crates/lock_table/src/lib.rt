@@ -11,8 +11,9 @@
 //! shortest cycle is told, which is found from the asking session backwards, level by level.
 //!
 //! All places are reserved when the table is made, so nothing after that takes memory. The sets reach
-//! only as far as a lock was ever held, and past their end nobody holds one: so the end of a transaction
-//! goes over the tables that were locked, and not over all that there may be.
+//! only as far as a lock was ever held, and past their end nobody holds one. The places at which somebody
+//! holds a lock are listed: so the end of a transaction goes over the locks that are held, and not over
+//! all tables.
 //!
 //! The answers of a lock table as functions of what happened.
 //!

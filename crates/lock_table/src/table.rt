@@ -25,20 +25,21 @@ use std::marker::Model;
 pub struct LockTable {
     tables: u32,
     held: Vec<SessionSet>,
+    taken: Vec<usize>,
     wants: Vec<Option<Wanted>>,
     queue: Vec<u32>,
 }
 
 impl Model for LockTable {
     ghost use Rattle.std.specs.Prelude.{length, ◌*◌, ◌≤◌, vec_capacity};
-    ghost use Rattle.lock_table.specs.Kept.{KeptLocks};
+    ghost use Rattle.lock_table.specs.Kept.{KeptLocks, AreTaken};
     ghost use Rattle.lock_table.specs.Stands.{IsKept, kept_of};
 
     ghost Value = { KeptLocks };
 
     ghost view = { λ t. kept_of t.tables t.held.items t.wants.items t.queue.items };
 
-    ghost invariant = { λ t. (IsKept (kept_of t.tables t.held.items t.wants.items t.queue.items)) × ((length t.wants.items ≤ vec_capacity t.queue) × (8 * t.tables ≤ vec_capacity t.held)) };
+    ghost invariant = { λ t. (IsKept (kept_of t.tables t.held.items t.wants.items t.queue.items)) × ((length t.wants.items ≤ vec_capacity t.queue) × (8 * t.tables ≤ vec_capacity t.held) × (8 * t.tables ≤ vec_capacity t.taken) × AreTaken t.held.items t.taken.items (vec_capacity t.taken)) };
 }
 
 impl LockTable {
@@ -52,6 +53,7 @@ impl LockTable {
         Ok(LockTable {
             tables,
             held: Vec::with_capacity(alloc, 8 * tables as usize)?,
+            taken: Vec::with_capacity(alloc, 8 * tables as usize)?,
             wants: vec![in alloc; None; sessions as usize]?,
             queue: Vec::with_capacity(alloc, sessions as usize)?,
         })
@@ -187,7 +189,7 @@ impl LockTable {
         ensures same { self.new ≡ kept_of self.old.tables self.new.held self.old.wants self.old.queue }
         ensures low { session < 65 }
     {
-        grant(&mut self.held, session, want);
+        grant(&mut self.held, &mut self.taken, session, want);
     }
 
     fn begin_wait(&mut self, session: u32, want: Wanted)
@@ -242,7 +244,7 @@ impl LockTable {
         ensures waits { (s : ℕ) → slice_index_or self.new.wants s None ≡ after_end session (slice_index_or self.old.wants s None) }
         ensures size { SameSize self.old self.new }
     {
-        clear_held(&mut self.held, session);
+        clear_held(&mut self.held, &mut self.taken, session);
         clear_ends(&mut self.wants, session);
     }
 
