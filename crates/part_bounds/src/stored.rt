@@ -113,6 +113,7 @@ pub(crate) fn search_points<K: KeyKind, Q: Key, L: Ledger>(
     ensures points { Splits (passes or_equal (end_of (width set.now) n fill (Q.values key.now))) (stored set.now) result.below }
     ensures equal { TellsEqual (stored set.now) (end_of (width set.now) n fill (Q.values key.now)) result.below result.equal }
     ensures later { steps.old ≤ steps.new }
+    ensures counted { length (stored set.now) + 2 ≤ 2 * 2 ^ (steps.new - steps.old) }
     ensures cost { 2 ^ (steps.new - steps.old) ≤ 2 * length (stored set.now) + 2 }
 {
     let mut low = 0;
@@ -147,6 +148,7 @@ pub fn points_below<K: KeyKind, Q: Key, L: Ledger>(
     ensures points { Splits (passes or_equal (end_of (width set.now) n fill (Q.values key.now))) (stored set.now) result }
     ensures count { result ≡ count_by (passes or_equal (end_of (width set.now) n fill (Q.values key.now))) (stored set.now) }
     ensures later { steps.old ≤ steps.new }
+    ensures counted { length (stored set.now) + 2 ≤ 2 * 2 ^ (steps.new - steps.old) }
     ensures cost { 2 ^ (steps.new - steps.old) ≤ 2 * length (stored set.now) + 2 }
 {
     search_points(set, key, n, fill, or_equal, steps).below

@@ -49,3 +49,10 @@ asked_key bounds s key is h = All-head (CanAskAtom bounds) (of_key key) [] (rw (
 -- one comparison is counted by one atom
 pub cost_one : (s : Step) (x : Atom) (start now d : ℕ) → atoms s ≡ x ∷ [] → comparisons (x ∷ []) ≡ 1 → now ≤ start + 2 * d → now ≤ start + 2 * d * comparisons (atoms s)
 cost_one s x start now d is one le = let e : comparisons (atoms s) ≡ 1 = ap comparisons is ∙ one in subst (λ n. now ≤ start + 2 * d * n) (sym e) (omega (arith, le))
+
+pub count_one : (s : Step) (x : Atom) (start now d : ℕ) → atoms s ≡ x ∷ [] → comparisons (x ∷ []) ≡ 1 → start + d ≤ now → start + d * comparisons (atoms s) ≤ now
+count_one s x start now d is one le = let e : comparisons (atoms s) ≡ 1 = ap comparisons is ∙ one in subst (λ n. start + d * n ≤ now) (sym e) (omega (arith, le))
+
+-- no comparison is counted
+pub count_none : (s : Step) (start now d : ℕ) → comparisons (atoms s) ≡ 0 → start ≤ now → start + d * comparisons (atoms s) ≤ now
+count_none s start now d none le = subst (λ n. start + d * n ≤ now) (sym none) (omega (arith, le))

@@ -1,10 +1,11 @@
 -- The run of a chain: child by child, what the chain keeps.
-use Rattle.std.proofs.Common.{◌≡◌, inl, inr, ℕ, ◌+◌, ◌-◌, ◌*◌, ◌/◌, ◌%◌, ◌^◌, ◌<◌, ◌≤◌, Bool, true, false, true≢false, not, ◌&&◌, ◌||◌, List, length, get_or, refl, subst, sym, ap, ◌∙◌, arith, nat_lt}
+use Rattle.std.proofs.Common.{◌≡◌, inl, inr, ℕ, ◌+◌, ◌-◌, ◌*◌, ◌/◌, ◌%◌, ◌^◌, ◌<◌, ◌≤◌, Bool, true, false, true≢false, not, ◌&&◌, ◌||◌, List, length, get_or, refl, subst, sym, ap, ◌∙◌, arith, add-one, nat_lt}
 use Rattle.std.specs.Prelude.{◌==◌}
 use Rattle.std.specs.List.{list_any, All}
 use Rattle.std.specs.Ordering.{is_gt, is_lt, is_le}
 use Rattle.std.specs.declared.cmp.Ordering.{Ordering}
 use Rattle.std.specs.declared.cmp.Ordering.TheVariants.{Less, Equal, Greater}
+use Rattle.std.proofs.Math.Nat.{two-pow-succ}
 use Rattle.std.proofs.Math.Pow.{pow-lt}
 use Rattle.std.proofs.lemmas.Bool.{cases_lt}
 use Rattle.std.proofs.lemmas.Bool.Decides.{nat_tests}
@@ -225,6 +226,18 @@ at_most start now m d later cost most = elim (cases_lt (d + 1) (now - start)) [
   ]
 ]
 
+pub at_least : (start now m d : ℕ) → start ≤ now → m + 2 ≤ 2 * 2 ^ (now - start) → 2 ^ d ≤ m + 1 → start + d ≤ now
+at_least start now m d later many few = elim (cases_lt (now - start) d) [
+  | inl short ↦ elim (cases_lt (now - start + 1) d) [
+    | inl lt ↦ let p : 2 ^ (now - start + 1) < 2 ^ d = pow-lt lt in absurd (omega (arith, p, twice (now - start), many, few))
+    | inr ge ↦ let e : now - start + 1 ≡ d = omega (arith, short, ge) in absurd (omega (arith, ap (λ t. 2 ^ t) e, twice (now - start), many, few))
+  ]
+  | inr ge ↦ omega (arith, ge, later)
+]
+  where
+    twice : (t : ℕ) → 2 ^ (t + 1) ≡ 2 ^ t + 2 ^ t
+    twice t = rw (add-one, two-pow-succ t) refl
+
 -- a child of the run is a range
 pub run_child : (bounds : List Bound) (to i : ℕ) → InRow bounds → 2 * to ≤ length (range_points bounds) → i < to → (i < length bounds) × (is_default (get_or bounds i Default) ≡ false)
 run_child bounds to i h run lt = (within, by (child_at bounds h i within))
@@ -267,6 +280,9 @@ all_kept bounds short c a b keeps old new h e small is run added k lt =
 
 pub twice_at_most : (start middle now m d : ℕ) → start ≤ middle → middle ≤ now → 2 ^ (middle - start) ≤ 2 * m + 2 → 2 ^ (now - middle) ≤ 2 * m + 2 → 2 * m + 2 < 2 ^ (d + 1) → now ≤ start + 2 * d
 twice_at_most start middle now m d h k p q most = let a = at_most start middle m d h p most in let b = at_most middle now m d k q most in omega (arith, a, b)
+
+pub twice_at_least : (start middle now m d : ℕ) → start ≤ middle → middle ≤ now → m + 2 ≤ 2 * 2 ^ (middle - start) → m + 2 ≤ 2 * 2 ^ (now - middle) → 2 ^ d ≤ m + 1 → start + 2 * d ≤ now
+twice_at_least start middle now m d h k p q few = let a = at_least start middle m d h p few in let b = at_least middle now m d k q few in omega (arith, a, b)
 
 -- where there is no stored point, points of any length split them
 pub ends_width : (e : Bool) (points : List (List Edge)) (wide w n : ℕ) (fill : Fill) (values : List Value) (m : ℕ) → (0 < length points → wide ≡ w) → Splits (passes e (end_of wide n fill values)) points m → Splits (passes e (end_of w n fill values)) points m

@@ -23,6 +23,9 @@ Asked bounds xs i = All (CanAskAtom bounds) (joined (map atoms (drop i xs)))
 abbrev pub Costs : List Bound → List Step → ℕ → ℕ → ℕ → List Atom → Type 0
 Costs bounds xs i start now all = (d : ℕ) → 2 * length (stored bounds) + 2 < 2 ^ (d + 1) → now + 2 * d * comparisons (joined (map atoms (drop i xs))) ≤ start + 2 * d * comparisons all
 
+abbrev pub Counts : List Bound → List Step → ℕ → ℕ → ℕ → List Atom → Type 0
+Counts bounds xs i start now all = (d : ℕ) → 2 ^ d ≤ length (stored bounds) + 1 → start + d * comparisons all ≤ now + d * comparisons (joined (map atoms (drop i xs)))
+
 all_left : {X : Type 0} (P : X → Type 0) (xs ys : List X) → All P (xs ++ ys) → All P xs
 all_left P [] ys h = All-nil P
 all_left P (x ∷ xs) ys h = All-cons P x xs (All-head P x (xs ++ ys) h) (all_left P xs ys (All-tail P x (xs ++ ys) h))
@@ -65,4 +68,11 @@ pub costs : (bounds : List Bound) (xs : List Step) (i : ℕ) (x : Step) (start n
 costs bounds xs i x start now then all lt at here before d most =
     let a = here d most in
     let b = rw (next xs i x lt at, comparisons_append (atoms x) (joined (map atoms (drop (i + 1) xs))), mul-add (2 * d) (comparisons (atoms x)) (comparisons (joined (map atoms (drop (i + 1) xs))))) at (before d most) in
+    omega (arith, a, b)
+
+pub counts : (bounds : List Bound) (xs : List Step) (i : ℕ) (x : Step) (start now then : ℕ) (all : List Atom) → i < length xs → x ≡ get_or xs i x
+    → ((d : ℕ) → 2 ^ d ≤ length (stored bounds) + 1 → now + d * comparisons (atoms x) ≤ then) → Counts bounds xs i start now all → Counts bounds xs (i + 1) start then all
+counts bounds xs i x start now then all lt at here before d few =
+    let a = here d few in
+    let b = rw (next xs i x lt at, comparisons_append (atoms x) (joined (map atoms (drop (i + 1) xs))), mul-add d (comparisons (atoms x)) (comparisons (joined (map atoms (drop (i + 1) xs))))) at (before d few) in
     omega (arith, a, b)

@@ -92,6 +92,7 @@ pub(crate) fn keep_chain<K: KeyKind, Q: Key, L: Ledger>(
     requires chain { CanAsk set.now op (Q.values key.now) }
     ensures kept { (w : ℕ) → (0 < length (stored set.now) → width set.now ≡ w) → AreBits (length set.now) kept.new (λ k. chain_keeps set.now short (ends_of w op (Q.values key.now)) (slice_index_or set.now k ByDefault)) }
     ensures later { steps.old ≤ steps.new }
+    ensures counted { (d : ℕ) → 2 ^ d ≤ length (stored set.now) + 1 → steps.old + 2 * d ≤ steps.new }
     ensures cost { (d : ℕ) → 2 * length (stored set.now) + 2 < 2 ^ (d + 1) → steps.new ≤ steps.old + 2 * d }
 {
     ranges_stand_in_row(set);

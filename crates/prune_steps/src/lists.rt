@@ -29,6 +29,7 @@ fn equal_run<K: KeyKind, Q: Key, L: Ledger>(
     requires level { IsListLevel set.now }
     requires fits { CanAskList set.now (Q.values key.now) }
     ensures run { (op : Comparison) → spec.looked_for op ≡ Eq → spec.RunOf set.now op (only (Q.values key.now)) result.0 result.1 }
+    ensures counted { (d : ℕ) → 2 ^ d ≤ length (stored set.now) + 1 → steps.old + 2 * d ≤ steps.new }
     ensures cost { (d : ℕ) → 2 * length (stored set.now) + 2 < 2 ^ (d + 1) → steps.new ≤ steps.old + 2 * d }
 {
     let from = points_below(set, key, 1, Fill::Min, false, steps);
@@ -41,6 +42,7 @@ fn below<K: KeyKind, Q: Key, L: Ledger>(set: &BoundSet<K>, key: &Q, steps: &mut 
     requires level { IsListLevel set.now }
     requires fits { CanAskList set.now (Q.values key.now) }
     ensures run { (op : Comparison) → spec.looked_for op ≡ Lt → spec.RunOf set.now op (only (Q.values key.now)) 0 result }
+    ensures counted { (d : ℕ) → 2 ^ d ≤ length (stored set.now) + 1 → steps.old + d ≤ steps.new }
     ensures cost { (d : ℕ) → 2 * length (stored set.now) + 2 < 2 ^ (d + 1) → steps.new ≤ steps.old + 2 * d }
 {
     points_below(set, key, 1, Fill::Min, false, steps)
@@ -51,6 +53,7 @@ fn up_to<K: KeyKind, Q: Key, L: Ledger>(set: &BoundSet<K>, key: &Q, steps: &mut 
     requires level { IsListLevel set.now }
     requires fits { CanAskList set.now (Q.values key.now) }
     ensures run { (op : Comparison) → spec.looked_for op ≡ Le → spec.RunOf set.now op (only (Q.values key.now)) 0 result }
+    ensures counted { (d : ℕ) → 2 ^ d ≤ length (stored set.now) + 1 → steps.old + d ≤ steps.new }
     ensures cost { (d : ℕ) → 2 * length (stored set.now) + 2 < 2 ^ (d + 1) → steps.new ≤ steps.old + 2 * d }
 {
     points_below(set, key, 1, Fill::Min, true, steps)
@@ -66,6 +69,7 @@ fn run_of<K: KeyKind, Q: Key, L: Ledger>(
     requires level { IsListLevel set.now }
     requires fits { CanAskList set.now (Q.values key.now) }
     ensures run { spec.RunOf set.now op (only (Q.values key.now)) result.0 result.1 }
+    ensures counted { (d : ℕ) → 2 ^ d ≤ length (stored set.now) + 1 → steps.old + d ≤ steps.new }
     ensures cost { (d : ℕ) → 2 * length (stored set.now) + 2 < 2 ^ (d + 1) → steps.new ≤ steps.old + 2 * d }
 {
     match op {
@@ -114,6 +118,7 @@ pub(crate) fn keep_listed<K: KeyKind, Q: Key, L: Ledger>(
     requires small { length set.now ≤ 1024 }
     requires fits { CanAskList set.now (Q.values key.now) }
     ensures kept { AreBits (length set.now) kept.new (λ k. list_keeps set.now op (only (Q.values key.now)) (slice_index_or set.now k ByDefault)) }
+    ensures counted { (d : ℕ) → 2 ^ d ≤ length (stored set.now) + 1 → steps.old + d ≤ steps.new }
     ensures cost { (d : ℕ) → 2 * length (stored set.now) + 2 < 2 ^ (d + 1) → steps.new ≤ steps.old + 2 * d }
 {
     let (from, to) = run_of(set, op, key, steps);

@@ -73,6 +73,7 @@ fn run_chain<K: KeyKind, L: Ledger>(
     requires small { length set.now ≤ 1024 }
     requires asked { AskedByRange set.now chain.now }
     ensures kept { AreBits (length set.now) kept.new (λ k. chain_keeps set.now (nat_lt (length chain.now.values + 1) chain.now.edges) (ends_of chain.now.edges chain.now.op chain.now.values) (slice_index_or set.now k ByDefault)) }
+    ensures counted { (d : ℕ) → 2 ^ d ≤ length (stored set.now) + 1 → steps.old + 2 * d ≤ steps.new }
     ensures cost { (d : ℕ) → 2 * length (stored set.now) + 2 < 2 ^ (d + 1) → steps.new ≤ steps.old + 2 * d }
 {
     let key = ValuesKey {
@@ -92,6 +93,7 @@ fn run_listed<K: KeyKind, L: Ledger>(
     requires small { length set.now ≤ 1024 }
     requires asked { AskedByList set.now listed.now }
     ensures kept { AreBits (length set.now) kept.new (λ k. list_keeps set.now listed.now.op (only listed.now.value) (slice_index_or set.now k ByDefault)) }
+    ensures counted { (d : ℕ) → 2 ^ d ≤ length (stored set.now) + 1 → steps.old + d ≤ steps.new }
     ensures cost { (d : ℕ) → 2 * length (stored set.now) + 2 < 2 ^ (d + 1) → steps.new ≤ steps.old + 2 * d }
 {
     let key = ValuesKey {
@@ -126,6 +128,7 @@ fn run_step<K: KeyKind, L: Ledger>(
     requires small { length set.now ≤ 1024 }
     requires asked { All (CanAskAtom set.now) (atoms step.now) }
     ensures kept { AreBits (length set.now) kept.new (λ k. step_keeps set.now step.now (slice_index_or set.now k ByDefault)) }
+    ensures counted { (d : ℕ) → 2 ^ d ≤ length (stored set.now) + 1 → steps.old + d * comparisons (atoms step.now) ≤ steps.new }
     ensures cost { (d : ℕ) → 2 * length (stored set.now) + 2 < 2 ^ (d + 1) → steps.new ≤ steps.old + 2 * d * comparisons (atoms step.now) }
 {
     match step {
@@ -160,7 +163,7 @@ fn run_step<K: KeyKind, L: Ledger>(
 }
 
 /// The children of a level that the steps keep: of steps made of a condition for the level exactly those of
-/// Kept, with at most 2 d comparisons for each comparison of a key column. Takes no memory.
+/// Kept, with at most 2 d comparisons for each comparison of a key column, all of them counted. Takes no memory.
 pub fn run_steps<K: KeyKind, L: Ledger>(
     p: &PruneSteps,
     set: &BoundSet<K>,
@@ -169,6 +172,7 @@ pub fn run_steps<K: KeyKind, L: Ledger>(
     requires small { length set.now ≤ 1024 }
     requires asked { CanAskSteps set.now p.now }
     ensures kept { (a : Asked) (args : List OneValue) (t : CondTree) → AreStepsOf p.now a args t → AreBits (length set.now) result (λ k. kept_spec.kept a set.now args t (slice_index_or set.now k ByDefault)) }
+    ensures counted { (d : ℕ) → 2 ^ d ≤ length (stored set.now) + 1 → steps.old + d * step_count p.now ≤ steps.new }
     ensures cost { (d : ℕ) → 2 * length (stored set.now) + 2 < 2 ^ (d + 1) → steps.new ≤ steps.old + 2 * d * step_count p.now }
 {
     let mut kept = KeptSet::none();

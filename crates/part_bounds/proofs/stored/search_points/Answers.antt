@@ -2,7 +2,7 @@ use Rattle.std.proofs.Common.{◌∙◌, ◌+◌, ◌-◌, ◌/◌, sym, [], len
 use Rattle.std.proofs.lemmas.List.{get_or_default}
 use Rattle.part_bounds.specs.Stored.{stored, width, passes}
 use Rattle.bound_forms.specs.Points.{end_of}
-use Rattle.part_bounds.proofs.Halves.{begins, goes_up, goes_down, ends, cost_is}
+use Rattle.part_bounds.proofs.Halves.{begins, goes_up, goes_down, ends, asked_is, cost_is}
 use Rattle.part_bounds.proofs.SearchLaws.{falls_stored, tells_none, tells_more, passes_is}
 use Rattle.part_bounds.proofs.stored.search_points.Goals as goal
 
@@ -50,5 +50,6 @@ returns g c =
       points = ends (passes c.args.or_equal q) (stored c.args.set.now) _ _ _ _ s c.loop-low-test.false;
       equal = c.loop-low.invariant.tells;
       later = s.counted;
+      counted = asked_is (c.loop-low.steps - c.args.steps.now) _ c.loop-low.low c.loop-low.high c.loop-low-test.false s.asked;
       cost = cost_is (c.loop-low.steps - c.args.steps.now) _ s.cost;
     }

@@ -4,7 +4,7 @@ use Rattle.part_bounds.proofs.Strategies.{ranges_have_points}
 use Rattle.part_bounds.proofs.StoredLaws.{short}
 use Rattle.prune_steps.specs.Chains.{Chain}
 use Rattle.prune_steps.specs.Runs.{ends_of, Ends}
-use Rattle.prune_steps.proofs.Runs.{all_kept, twice_at_most, ends_width}
+use Rattle.prune_steps.proofs.Runs.{all_kept, twice_at_least, twice_at_most, ends_width}
 use Rattle.prune_steps.proofs.Filled.{chain_filled}
 use Rattle.prune_steps.proofs.chain.keep_chain.Goals as goal
 
@@ -41,6 +41,9 @@ returns-clause-kept g c = λ w is.
     } in
     all_kept bounds c.args.short chain c.points_below-start.result c.points_below-end.result c.keeps_default-keeps.result _ _ c.ranges_stand_in_row.ensures.row ends c.requires.small
     (c.keeps_default-keeps.ensures chain ends) c.set_run.ensures c.add_default.ensures
+
+pub returns-clause-counted : goal.returns-clause-counted
+returns-clause-counted g c = λ d few. twice_at_least _ _ _ _ d c.points_below-start.ensures.later c.points_below-end.ensures.later c.points_below-start.ensures.counted c.points_below-end.ensures.counted few
 
 pub returns-clause-cost : goal.returns-clause-cost
 returns-clause-cost g c = λ d most.

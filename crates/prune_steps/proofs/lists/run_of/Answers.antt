@@ -1,4 +1,4 @@
-use Rattle.std.proofs.Common.{ap}
+use Rattle.std.proofs.Common.{ap, arith}
 use Rattle.prune_steps.specs.Lists.{looked_for}
 use Rattle.prune_steps.proofs.lists.run_of.Goals as goal
 
@@ -19,3 +19,9 @@ returns-in-Le-clause-run g c = c.up_to.ensures.run c.args.op (ap looked_for c.in
 
 pub returns-in-Gt-clause-run : goal.returns-in-Gt-clause-run
 returns-in-Gt-clause-run g c = c.up_to-in-Gt.ensures.run c.args.op (ap looked_for c.in-Gt.is)
+
+pub returns-in-Eq-clause-counted : goal.returns-in-Eq-clause-counted
+returns-in-Eq-clause-counted g c = λ d few. let two = c.equal_run.ensures.counted d few in omega (arith, two)
+
+pub returns-in-Ne-clause-counted : goal.returns-in-Ne-clause-counted
+returns-in-Ne-clause-counted g c = λ d few. let two = c.equal_run-in-Ne.ensures.counted d few in omega (arith, two)

@@ -1,6 +1,6 @@
 use Rattle.std.proofs.Common.{arith}
 use Rattle.prune_steps.proofs.Arms.{asked_chain, asked_listed, asked_key}
-use Rattle.prune_steps.proofs.Stepping.{all_told, any_told, asked_here, asked_later, costs}
+use Rattle.prune_steps.proofs.Stepping.{all_told, any_told, asked_here, asked_later, counts, costs}
 use Rattle.prune_steps.proofs.Weights.{part_less, choice_less}
 use Rattle.prune_steps.specs.Steps.{step_keeps, atoms}
 use Rattle.prune_steps.proofs.running.+run_step.Goals as goal
@@ -25,6 +25,7 @@ loop-part-preserved g t c =
     record {
       told = all_told c.args.set.now xs c.loop-part.part-index c.part-item.result c.loop-part.kept c.run_step.new.kept c.meet.new.self (step_keeps c.args.set.now c.args.step.now) c.loop-part-test.true c.part-item.is c.requires.small c.run_step.ensures.kept c.meet.ensures c.loop-part.invariant.told;
       asked = asked_later c.args.set.now xs c.loop-part.part-index c.part-item.result c.loop-part-test.true c.part-item.is c.loop-part.invariant.asked;
+      counted = counts c.args.set.now xs c.loop-part.part-index c.part-item.result _ _ _ (atoms c.args.step.now) c.loop-part-test.true c.part-item.is c.run_step.ensures.counted c.loop-part.invariant.counted;
       cost = costs c.args.set.now xs c.loop-part.part-index c.part-item.result _ _ _ (atoms c.args.step.now) c.loop-part-test.true c.part-item.is c.run_step.ensures.cost c.loop-part.invariant.cost;
     }
 
@@ -34,6 +35,7 @@ loop-choice-preserved g t c =
     record {
       told = any_told c.args.set.now xs c.loop-choice.choice-index c.choice-item.result c.loop-choice.kept c.run_step-in-loop-choice.new.kept c.join.new.self (step_keeps c.args.set.now c.args.step.now) c.loop-choice-test.true c.choice-item.is c.requires.small c.run_step-in-loop-choice.ensures.kept c.join.ensures c.loop-choice.invariant.told;
       asked = asked_later c.args.set.now xs c.loop-choice.choice-index c.choice-item.result c.loop-choice-test.true c.choice-item.is c.loop-choice.invariant.asked;
+      counted = counts c.args.set.now xs c.loop-choice.choice-index c.choice-item.result _ _ _ (atoms c.args.step.now) c.loop-choice-test.true c.choice-item.is c.run_step-in-loop-choice.ensures.counted c.loop-choice.invariant.counted;
       cost = costs c.args.set.now xs c.loop-choice.choice-index c.choice-item.result _ _ _ (atoms c.args.step.now) c.loop-choice-test.true c.choice-item.is c.run_step-in-loop-choice.ensures.cost c.loop-choice.invariant.cost;
     }
 
