@@ -1,3 +1,4 @@
+pub mod Firsts
 pub mod Parameters
 pub mod Places
 pub mod Statements

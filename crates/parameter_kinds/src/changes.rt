@@ -2,11 +2,12 @@ ghost use Rattle.std.specs.Prelude.{◌≡◌, ◌∷◌, [], map, take, drop};
 ghost use Rattle.sql_ast.specs.Expressions.{tree, trees, listed};
 ghost use Rattle.sql_ast.specs.Queries.{maybe_tree, setting};
 ghost use Rattle.sql_binder.specs.Inserts as inserts;
-ghost use Rattle.parameter_kinds.specs.Places.{kind_of};
+ghost use Rattle.parameter_kinds.specs.Firsts.{noted};
 ghost use Rattle.parameter_kinds.specs.Statements as statements;
 
-use crate::places::{either, kind_at, kind_in};
-use crate::selects::{bare, kind_in_where};
+use crate::first_kinds::FirstKinds;
+use crate::places::{note_at, note_in};
+use crate::selects::{bare, note_where};
 use expression_binder::{Given, ScopeColumn, ScopeItem};
 use pg_values::{Kind, PgText};
 use sql_ast::{Assignment, Delete, Expr, ExprList, Insert, Update};
@@ -38,11 +39,12 @@ fn kind_named(columns: &[ScopeColumn], name: &[u8]) -> Option<Kind>
 
 // ---- INSERT
 
-#[tactic(auto, using(crate::proofs::Firsts::kind_in_both))]
-fn kind_in_value(givens: &[Given], n: u64, kind: Option<Kind>, e: &Expr) -> Option<Kind>
-    ensures { result ≡ kind_of n (statements.value_place givens.now kind (tree e.now)) }
+#[tactic(auto, using(crate::proofs::Firsts::noted_both))]
+fn note_value(firsts: &mut FirstKinds, givens: &[Given], kind: Option<Kind>, e: &Expr)
+    ensures { firsts.new ≡ noted firsts.old (statements.value_place givens.now kind (tree e.now)) }
 {
-    either(kind_at(n, kind, e), kind_in(&bare(&[]), givens, n, e))
+    note_at(firsts, kind, e);
+    note_in(firsts, &bare(&[]), givens, e);
 }
 
 fn first_kind(columns: &[ScopeColumn]) -> Option<Kind>
@@ -67,17 +69,14 @@ fn later_names(names: &[PgText]) -> &[PgText]
 }
 
 // A row whose values are for the columns in their order.
-fn kind_in_row(columns: &[ScopeColumn], givens: &[Given], n: u64, row: &[Expr]) -> Option<Kind>
-    ensures { result ≡ kind_of n (statements.value_places givens.now (map statements.column_kind columns.now) (listed (map tree row.now))) }
+fn note_row(firsts: &mut FirstKinds, columns: &[ScopeColumn], givens: &[Given], row: &[Expr])
+    ensures { firsts.new ≡ noted firsts.old (statements.value_places givens.now (map statements.column_kind columns.now) (listed (map tree row.now))) }
 {
     let mut wanted = columns;
     for e in row {
-        if let Some(kind) = kind_in_value(givens, n, first_kind(wanted), e) {
-            return Some(kind);
-        }
+        note_value(firsts, givens, first_kind(wanted), e);
         wanted = later_columns(wanted);
     }
-    None
 }
 
 fn first_named(columns: &[ScopeColumn], names: &[PgText]) -> Option<Kind>
@@ -90,56 +89,42 @@ fn first_named(columns: &[ScopeColumn], names: &[PgText]) -> Option<Kind>
 }
 
 // A row whose values are for the named columns.
-fn kind_in_named_row(
+fn note_named_row(
+    firsts: &mut FirstKinds,
     columns: &[ScopeColumn],
     names: &[PgText],
     givens: &[Given],
-    n: u64,
     row: &[Expr],
-) -> Option<Kind>
-    ensures { result ≡ kind_of n (statements.value_places givens.now (map (statements.kind_named columns.now) names.now) (listed (map tree row.now))) }
+)
+    ensures { firsts.new ≡ noted firsts.old (statements.value_places givens.now (map (statements.kind_named columns.now) names.now) (listed (map tree row.now))) }
 {
     let mut wanted = names;
     for e in row {
-        if let Some(kind) = kind_in_value(givens, n, first_named(columns, wanted), e) {
-            return Some(kind);
-        }
+        note_value(firsts, givens, first_named(columns, wanted), e);
         wanted = later_names(wanted);
     }
-    None
 }
 
-fn kind_in_rows(
-    columns: &[ScopeColumn],
-    givens: &[Given],
-    n: u64,
-    rows: &[ExprList],
-) -> Option<Kind>
-    ensures { result ≡ kind_of n (statements.row_places givens.now (map statements.column_kind columns.now) (map trees rows.now)) }
+fn note_rows(firsts: &mut FirstKinds, columns: &[ScopeColumn], givens: &[Given], rows: &[ExprList])
+    ensures { firsts.new ≡ noted firsts.old (statements.row_places givens.now (map statements.column_kind columns.now) (map trees rows.now)) }
 {
     for row in rows {
-        if let Some(kind) = kind_in_row(columns, givens, n, row.as_slice()) {
-            return Some(kind);
-        }
+        note_row(firsts, columns, givens, row.as_slice());
     }
-    None
 }
 
-fn kind_in_named_rows(
+fn note_named_rows(
+    firsts: &mut FirstKinds,
     columns: &[ScopeColumn],
     names: &[PgText],
     givens: &[Given],
-    n: u64,
     rows: &[ExprList],
-) -> Option<Kind>
-    ensures { result ≡ kind_of n (statements.row_places givens.now (map (statements.kind_named columns.now) names.now) (map trees rows.now)) }
+)
+    ensures { firsts.new ≡ noted firsts.old (statements.row_places givens.now (map (statements.kind_named columns.now) names.now) (map trees rows.now)) }
 {
     for row in rows {
-        if let Some(kind) = kind_in_named_row(columns, names, givens, n, row.as_slice()) {
-            return Some(kind);
-        }
+        note_named_row(firsts, columns, names, givens, row.as_slice());
     }
-    None
 }
 
 fn first_count(rows: &[ExprList]) -> usize
@@ -163,70 +148,78 @@ fn first_columns(columns: &[ScopeColumn], n: usize) -> &[ScopeColumn]
     &columns[..n.min(columns.len())]
 }
 
-/// The kind that the first of the parameter's places in an INSERT into a table with the columns gives it.
-pub fn kind_in_insert(
+/// Notes what the places in an INSERT into a table with the columns give.
+pub(crate) fn note_insert(
+    firsts: &mut FirstKinds,
     insert: &Insert,
     columns: &[ScopeColumn],
     givens: &[Given],
-    n: u64,
-) -> Option<Kind>
-    ensures { result ≡ kind_of n (statements.insert_places columns.now givens.now insert.now.columns (map trees insert.now.rows)) }
+)
+    ensures { firsts.new ≡ noted firsts.old (statements.insert_places columns.now givens.now insert.now.columns (map trees insert.now.rows)) }
 {
     let rows = insert.rows.as_slice();
     match &insert.columns {
-        None => kind_in_rows(first_columns(columns, first_count(rows)), givens, n, rows),
-        Some(names) => kind_in_named_rows(columns, names.as_slice(), givens, n, rows),
+        None => note_rows(
+            firsts,
+            first_columns(columns, first_count(rows)),
+            givens,
+            rows,
+        ),
+        Some(names) => note_named_rows(firsts, columns, names.as_slice(), givens, rows),
     }
 }
 
 // ---- UPDATE and DELETE
 
-#[tactic(auto, using(crate::proofs::Firsts::kind_in_both))]
-fn kind_in_setting(
+#[tactic(auto, using(crate::proofs::Firsts::noted_both))]
+fn note_setting(
+    firsts: &mut FirstKinds,
     item: &ScopeItem,
     givens: &[Given],
-    n: u64,
     assignment: &Assignment,
-) -> Option<Kind>
-    ensures { result ≡ kind_of n (statements.setting_places item.now givens.now (setting assignment.now)) }
+)
+    ensures { firsts.new ≡ noted firsts.old (statements.setting_places item.now givens.now (setting assignment.now)) }
 {
     let kind = kind_named(item.columns(), assignment.column.as_bytes());
-    either(
-        kind_at(n, kind, &assignment.value),
-        kind_in(&bare(from_ref(item)), givens, n, &assignment.value),
-    )
+    note_at(firsts, kind, &assignment.value);
+    note_in(firsts, &bare(from_ref(item)), givens, &assignment.value);
 }
 
-fn kind_in_settings(
+fn note_settings(
+    firsts: &mut FirstKinds,
     item: &ScopeItem,
     givens: &[Given],
-    n: u64,
     settings: &[Assignment],
-) -> Option<Kind>
-    ensures { result ≡ kind_of n (statements.settings_places item.now givens.now (map setting settings.now)) }
+)
+    ensures { firsts.new ≡ noted firsts.old (statements.settings_places item.now givens.now (map setting settings.now)) }
 {
     for assignment in settings {
-        if let Some(kind) = kind_in_setting(item, givens, n, assignment) {
-            return Some(kind);
-        }
+        note_setting(firsts, item, givens, assignment);
     }
-    None
 }
 
-/// The kind that the first of the parameter's places in an UPDATE of the item gives it.
-#[tactic(auto, using(crate::proofs::Firsts::kind_in_both))]
-pub fn kind_in_update(update: &Update, item: &ScopeItem, givens: &[Given], n: u64) -> Option<Kind>
-    ensures { result ≡ kind_of n (statements.change_places item.now givens.now (map setting update.now.assignments) (maybe_tree update.now.condition)) }
+/// Notes what the places in an UPDATE of the item give.
+#[tactic(auto, using(crate::proofs::Firsts::noted_both))]
+pub(crate) fn note_update(
+    firsts: &mut FirstKinds,
+    update: &Update,
+    item: &ScopeItem,
+    givens: &[Given],
+)
+    ensures { firsts.new ≡ noted firsts.old (statements.change_places item.now givens.now (map setting update.now.assignments) (maybe_tree update.now.condition)) }
 {
-    either(
-        kind_in_settings(item, givens, n, update.assignments.as_slice()),
-        kind_in_where(&bare(from_ref(item)), givens, n, &update.condition),
-    )
+    note_settings(firsts, item, givens, update.assignments.as_slice());
+    note_where(firsts, &bare(from_ref(item)), givens, &update.condition);
 }
 
-/// The kind that the first of the parameter's places in a DELETE from the item gives it.
-pub fn kind_in_delete(delete: &Delete, item: &ScopeItem, givens: &[Given], n: u64) -> Option<Kind>
-    ensures { result ≡ kind_of n (statements.change_places item.now givens.now [] (maybe_tree delete.now.condition)) }
+/// Notes what the places in a DELETE from the item give.
+pub(crate) fn note_delete(
+    firsts: &mut FirstKinds,
+    delete: &Delete,
+    item: &ScopeItem,
+    givens: &[Given],
+)
+    ensures { firsts.new ≡ noted firsts.old (statements.change_places item.now givens.now [] (maybe_tree delete.now.condition)) }
 {
-    kind_in_where(&bare(from_ref(item)), givens, n, &delete.condition)
+    note_where(firsts, &bare(from_ref(item)), givens, &delete.condition);
 }

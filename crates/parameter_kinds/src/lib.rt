@@ -6,17 +6,16 @@
 //! row of VALUES and in SET that of the column, behind LIMIT and OFFSET `bigint`. Beside an operand that
 //! has no kind itself it gives none, and where no place gives one, the parameter is a `text`.
 //!
-//! The definition is a list, all places that give a kind, in the order of the text; the functions answer
-//! the first entry of that list for a parameter, and take no memory.
+//! The definition is a list, all places that give a kind, in the order of the text. One walk goes over
+//! them and notes for each parameter the kind of its first place.
 #![tactic(auto)]
 
 mod arithmetic;
 mod changes;
+mod first_kinds;
 mod givens;
 mod parameters;
 mod places;
 mod selects;
 
-pub use changes::{kind_in_delete, kind_in_insert, kind_in_update};
-pub use parameters::{bind_parameters, kind_in_statement};
-pub use selects::kind_in_select;
+pub use parameters::{bind_parameters, kinds_in_statement};

@@ -3,42 +3,61 @@ ghost use Rattle.sql_ast.specs.Expressions.{tree, trees, listed};
 ghost use Rattle.sql_ast.specs.Queries.{row_tree};
 ghost use Rattle.expression_binder.specs.Firsts.{IsAnswerBy};
 ghost use Rattle.parameter_kinds.specs.Parameters as parameters;
-ghost use Rattle.parameter_kinds.specs.Places.{kind_of};
+ghost use Rattle.parameter_kinds.specs.Firsts.{noted, none_known};
 ghost use Rattle.parameter_kinds.specs.Statements.{statement_places};
 
-use crate::changes::{kind_in_delete, kind_in_insert, kind_in_update};
-use crate::selects::kind_in_select;
+use crate::changes::{note_delete, note_insert, note_update};
+use crate::first_kinds::FirstKinds;
+use crate::selects::note_select;
 use expression_binder::{Given, Param, ScopeItem, condition_names, typed_of};
 use pg_values::{Kind, NoMemory, Refusal};
 use sql_ast::{Expr, ExprList, RowStatement};
 use sql_binder::{Wanted, bind_arguments};
 use std::alloc::Global;
 
-/// The kind that the first of the parameter's places in a statement gives it. The tables of a SELECT are
-/// its FROM items; any other statement has one.
-pub fn kind_in_statement(
+#[tactic(auto, using(crate::proofs::Firsts::noted_none))]
+fn note_statement(
+    firsts: &mut FirstKinds,
     statement: &RowStatement,
     tables: &[ScopeItem],
     givens: &[Given],
-    n: u64,
-) -> Option<Kind>
-    ensures { result ≡ kind_of n (statement_places tables.now givens.now (row_tree statement.now)) }
+)
+    ensures { firsts.new ≡ noted firsts.old (statement_places tables.now givens.now (row_tree statement.now)) }
 {
     match statement {
-        RowStatement::Select(select) => kind_in_select(select, tables, givens, n),
-        RowStatement::Insert(insert) => match tables.first() {
-            None => None,
-            Some(item) => kind_in_insert(insert, item.columns(), givens, n),
-        },
-        RowStatement::Update(update) => match tables.first() {
-            None => None,
-            Some(item) => kind_in_update(update, item, givens, n),
-        },
-        RowStatement::Delete(delete) => match tables.first() {
-            None => None,
-            Some(item) => kind_in_delete(delete, item, givens, n),
-        },
+        RowStatement::Select(select) => note_select(firsts, select, tables, givens),
+        RowStatement::Insert(insert) => {
+            if let Some(item) = tables.first() {
+                note_insert(firsts, insert, item.columns(), givens);
+            }
+        }
+        RowStatement::Update(update) => {
+            if let Some(item) = tables.first() {
+                note_update(firsts, update, item, givens);
+            }
+        }
+        RowStatement::Delete(delete) => {
+            if let Some(item) = tables.first() {
+                note_delete(firsts, delete, item, givens);
+            }
+        }
     }
+}
+
+/// The kinds that their first places in a statement give so many parameters. The tables of a SELECT are its
+/// FROM items; any other statement has one.
+pub fn kinds_in_statement(
+    alloc: Global,
+    statement: &RowStatement,
+    tables: &[ScopeItem],
+    givens: &[Given],
+    count: usize,
+) -> Result<Vec<Option<Kind>>, NoMemory>
+    ensures { IfOk result (λ v. v.items ≡ noted (none_known count) (statement_places tables.now givens.now (row_tree statement.now))) }
+{
+    let mut firsts = FirstKinds::new(alloc, count)?;
+    note_statement(&mut firsts, statement, tables, givens);
+    Ok(firsts.kinds())
 }
 
 fn given_for(declared: Option<Kind>, e: &Expr) -> Given
@@ -83,6 +102,7 @@ fn wanted_for(declared: Option<Kind>, placed: Option<Kind>) -> Wanted
     }
 }
 
+#[tactic(auto, using(crate::proofs::Firsts::count_told, crate::proofs::Firsts::place_told))]
 fn wanted_in(
     alloc: Global,
     statement: &RowStatement,
@@ -92,10 +112,10 @@ fn wanted_in(
 ) -> Result<Vec<Wanted>, NoMemory>
     ensures { IfOk result (λ v. v.items ≡ parameters.wanted_from (statement_places tables.now givens.now (row_tree statement.now)) 1 declared.now) }
 {
+    let placed = kinds_in_statement(alloc, statement, tables, givens, declared.len())?;
     let mut wanted = Vec::new(alloc);
     for (place, kind) in declared.iter().enumerate() {
-        let n = place as u64 + 1;
-        wanted.push(wanted_for(*kind, kind_in_statement(statement, tables, givens, n)))?;
+        wanted.push(wanted_for(*kind, placed[place]))?;
     }
     Ok(wanted)
 }

@@ -1,9 +1,11 @@
 ghost use Rattle.std.specs.Prelude.{◌≡◌, map};
 ghost use Rattle.std.specs.Str.{bytes_eq};
 ghost use Rattle.sql_ast.specs.Expressions.{tree, listed};
+ghost use Rattle.parameter_kinds.specs.Firsts.{noted};
 ghost use Rattle.parameter_kinds.specs.Places as places;
 
 use crate::arithmetic::{beside, own_kind};
+use crate::first_kinds::FirstKinds;
 use crate::givens::{given_of, kind_of_any};
 use expression_binder::{Given, Names};
 use pg_values::Kind;
@@ -19,39 +21,35 @@ pub(crate) fn either(first: Option<Kind>, second: Option<Kind>) -> Option<Kind>
     }
 }
 
-fn same_number(n: u64, m: u64, kind: Kind) -> Option<Kind>
-    ensures { result ≡ places.kind_of n (places.leaf_places kind (places.parameter m)) }
-{
-    if m == n { Some(kind) } else { None }
-}
-
-fn leaf_kind(n: u64, kind: Kind, leaf: &Leaf) -> Option<Kind>
-    ensures { result ≡ places.kind_of n (places.leaf_places kind leaf.now) }
+#[tactic(auto, using(crate::proofs::Firsts::noted_none))]
+fn note_leaf(firsts: &mut FirstKinds, kind: Kind, leaf: &Leaf)
+    ensures { firsts.new ≡ noted firsts.old (places.leaf_places kind leaf.now) }
 {
     match leaf {
-        Leaf::Parameter(m) => same_number(n, *m, kind),
-        _ => None,
+        Leaf::Parameter(n) => firsts.note(*n, kind),
+        _ => (),
     }
 }
 
-/// The kind, where the parameter itself stands there.
-pub(crate) fn kind_at(n: u64, kind: Option<Kind>, e: &Expr) -> Option<Kind>
-    ensures { result ≡ places.kind_of n (places.at kind (tree e.now)) }
+/// Notes the kind, where a parameter itself stands there.
+#[tactic(auto, using(crate::proofs::Firsts::noted_none))]
+pub(crate) fn note_at(firsts: &mut FirstKinds, kind: Option<Kind>, e: &Expr)
+    ensures { firsts.new ≡ noted firsts.old (places.at kind (tree e.now)) }
 {
     match kind {
-        None => None,
+        None => (),
         Some(kind) => match e {
-            Expr::Leaf(leaf) => leaf_kind(n, kind, leaf),
-            Expr::Call(_, _) => None,
-            Expr::CallOfAll(_) => None,
-            Expr::Negated(_) => None,
-            Expr::Binary(_, _, _) => None,
-            Expr::In(_, _, _) => None,
-            Expr::Between(_, _, _, _) => None,
-            Expr::IsNull(_, _) => None,
-            Expr::Not(_) => None,
-            Expr::And(_) => None,
-            Expr::Or(_) => None,
+            Expr::Leaf(leaf) => note_leaf(firsts, kind, leaf),
+            Expr::Call(_, _) => (),
+            Expr::CallOfAll(_) => (),
+            Expr::Negated(_) => (),
+            Expr::Binary(_, _, _) => (),
+            Expr::In(_, _, _) => (),
+            Expr::Between(_, _, _, _) => (),
+            Expr::IsNull(_, _) => (),
+            Expr::Not(_) => (),
+            Expr::And(_) => (),
+            Expr::Or(_) => (),
         },
     }
 }
@@ -72,74 +70,66 @@ fn argument_kind(function: &[u8]) -> Option<Kind>
     }
 }
 
-/// The kind that the first of the parameter's places in an operand gives it, which stands at a place of the
-/// kind.
+/// Notes what the places in an operand give, which stands at a place of the kind.
 #[cycle(place)]
-#[tactic(auto, using(crate::proofs::Firsts::kind_in_both))]
-pub(crate) fn kind_in_part(
+#[tactic(auto, using(crate::proofs::Firsts::noted_both))]
+pub(crate) fn note_part(
+    firsts: &mut FirstKinds,
     names: &Names<'_>,
     givens: &[Given],
-    n: u64,
     kind: Option<Kind>,
     e: &Expr,
-) -> Option<Kind>
-    ensures { result ≡ places.kind_of n (places.part names.now givens.now kind (tree e.now)) }
+)
+    ensures { firsts.new ≡ noted firsts.old (places.part names.now givens.now kind (tree e.now)) }
 {
-    either(kind_at(n, kind, e), kind_in(names, givens, n, e))
+    note_at(firsts, kind, e);
+    note_in(firsts, names, givens, e);
 }
 
-/// The same in a list of operands, each of which stands at a place of the kind.
+/// The same of a list of operands, each of which stands at a place of the kind.
 #[cycle(place)]
-#[tactic(auto, using(crate::proofs::Firsts::kind_in_both))]
-pub(crate) fn kind_in_parts(
+pub(crate) fn note_parts(
+    firsts: &mut FirstKinds,
     names: &Names<'_>,
     givens: &[Given],
-    n: u64,
     kind: Option<Kind>,
     parts: &[Expr],
-) -> Option<Kind>
-    ensures { result ≡ places.kind_of n (places.part_places names.now givens.now kind (listed (map tree parts.now))) }
+)
+    ensures { firsts.new ≡ noted firsts.old (places.part_places names.now givens.now kind (listed (map tree parts.now))) }
 {
     for part in parts {
-        if let Some(kind) = kind_in_part(names, givens, n, kind, part) {
-            return Some(kind);
-        }
+        note_part(firsts, names, givens, kind, part);
     }
-    None
 }
 
-/// The kind that the first of the parameter's places in an expression gives it.
+/// Notes what the places in an expression give.
 #[cycle(place)]
-#[tactic(auto, using(crate::proofs::Firsts::kind_in_both))]
-pub fn kind_in(names: &Names<'_>, givens: &[Given], n: u64, e: &Expr) -> Option<Kind>
-    ensures { result ≡ places.kind_of n (places.places names.now givens.now (tree e.now)) }
+#[tactic(auto, using(crate::proofs::Firsts::noted_none))]
+pub(crate) fn note_in(firsts: &mut FirstKinds, names: &Names<'_>, givens: &[Given], e: &Expr)
+    ensures { firsts.new ≡ noted firsts.old (places.places names.now givens.now (tree e.now)) }
 {
     match e {
-        Expr::Leaf(_) => None,
+        Expr::Leaf(_) => (),
         Expr::Call(function, arguments) => {
             let kind = argument_kind(function.as_bytes());
-            kind_in_parts(names, givens, n, kind, arguments.as_slice())
+            note_parts(firsts, names, givens, kind, arguments.as_slice());
         }
-        Expr::CallOfAll(_) => None,
+        Expr::CallOfAll(_) => (),
         Expr::Negated(x) => {
             let kind = beside(Operator::Subtract, Given::Of(Kind::Int4));
-            kind_in_part(names, givens, n, kind, x)
+            note_part(firsts, names, givens, kind, x);
         }
         Expr::Binary(operator, x, y) => {
             let left = beside(*operator, given_of(names, givens, y));
             let right = beside(*operator, given_of(names, givens, x));
-            either(
-                kind_in_part(names, givens, n, left, x),
-                kind_in_part(names, givens, n, right, y),
-            )
+            note_part(firsts, names, givens, left, x);
+            note_part(firsts, names, givens, right, y);
         }
         Expr::In(_, x, list) => {
             let left = kind_of_any(names, givens, list.as_slice());
             let right = own_kind(given_of(names, givens, x));
-            either(
-                kind_in_part(names, givens, n, left, x),
-                kind_in_parts(names, givens, n, right, list.as_slice()),
-            )
+            note_part(firsts, names, givens, left, x);
+            note_parts(firsts, names, givens, right, list.as_slice());
         }
         Expr::Between(_, x, from, to) => {
             let ends = either(
@@ -147,17 +137,13 @@ pub fn kind_in(names: &Names<'_>, givens: &[Given], n: u64, e: &Expr) -> Option<
                 own_kind(given_of(names, givens, to)),
             );
             let own = own_kind(given_of(names, givens, x));
-            either(
-                kind_in_part(names, givens, n, ends, x),
-                either(
-                    kind_in_part(names, givens, n, own, from),
-                    kind_in_part(names, givens, n, own, to),
-                ),
-            )
+            note_part(firsts, names, givens, ends, x);
+            note_part(firsts, names, givens, own, from);
+            note_part(firsts, names, givens, own, to);
         }
-        Expr::IsNull(_, x) => kind_in(names, givens, n, x),
-        Expr::Not(x) => kind_in(names, givens, n, x),
-        Expr::And(list) => kind_in_parts(names, givens, n, None, list.as_slice()),
-        Expr::Or(list) => kind_in_parts(names, givens, n, None, list.as_slice()),
+        Expr::IsNull(_, x) => note_in(firsts, names, givens, x),
+        Expr::Not(x) => note_in(firsts, names, givens, x),
+        Expr::And(list) => note_parts(firsts, names, givens, None, list.as_slice()),
+        Expr::Or(list) => note_parts(firsts, names, givens, None, list.as_slice()),
     }
 }

@@ -2,11 +2,12 @@ ghost use Rattle.std.specs.Prelude.{◌≡◌, map, take, drop};
 ghost use Rattle.sql_ast.specs.Expressions.{tree};
 ghost use Rattle.sql_ast.specs.Queries.{item_tree, joined_tree, key_tree, maybe_tree, select_tree};
 ghost use Rattle.sql_binder.specs.From as from;
+ghost use Rattle.parameter_kinds.specs.Firsts.{noted};
 ghost use Rattle.parameter_kinds.specs.Places as places;
-ghost use Rattle.parameter_kinds.specs.Places.{kind_of};
 ghost use Rattle.parameter_kinds.specs.Statements as statements;
 
-use crate::places::{either, kind_at, kind_in};
+use crate::first_kinds::FirstKinds;
+use crate::places::{note_at, note_in};
 use expression_binder::{Given, Names, ScopeItem, condition_names};
 use pg_values::Kind;
 use sql_ast::{Expr, FromItem, Select, SelectItem, SortKey};
@@ -18,25 +19,23 @@ pub(crate) fn bare<'a>(items: &'a [ScopeItem]) -> Names<'a>
     condition_names(items, &[], 0)
 }
 
-fn kind_in_listed(names: &Names<'_>, givens: &[Given], n: u64, listed: &SelectItem) -> Option<Kind>
-    ensures { result ≡ kind_of n (statements.listed_places names.now givens.now (item_tree listed.now)) }
+#[tactic(auto, using(crate::proofs::Firsts::noted_none))]
+fn note_listed(firsts: &mut FirstKinds, names: &Names<'_>, givens: &[Given], listed: &SelectItem)
+    ensures { firsts.new ≡ noted firsts.old (statements.listed_places names.now givens.now (item_tree listed.now)) }
 {
     match listed {
-        SelectItem::All => None,
-        SelectItem::AllOf(_) => None,
-        SelectItem::Output(e, _) => kind_in(names, givens, n, e),
+        SelectItem::All => (),
+        SelectItem::AllOf(_) => (),
+        SelectItem::Output(e, _) => note_in(firsts, names, givens, e),
     }
 }
 
-fn kind_in_list(names: &Names<'_>, givens: &[Given], n: u64, list: &[SelectItem]) -> Option<Kind>
-    ensures { result ≡ kind_of n (statements.list_places names.now givens.now (map item_tree list.now)) }
+fn note_list(firsts: &mut FirstKinds, names: &Names<'_>, givens: &[Given], list: &[SelectItem])
+    ensures { firsts.new ≡ noted firsts.old (statements.list_places names.now givens.now (map item_tree list.now)) }
 {
     for listed in list {
-        if let Some(kind) = kind_in_listed(names, givens, n, listed) {
-            return Some(kind);
-        }
+        note_listed(firsts, names, givens, listed);
     }
-    None
 }
 
 fn first_items(items: &[ScopeItem], n: usize) -> &[ScopeItem]
@@ -62,19 +61,19 @@ fn joined_items(items: &[ScopeItem], start: usize, last: usize) -> &[ScopeItem]
     }
 }
 
-fn kind_in_on(
+#[tactic(auto, using(crate::proofs::Firsts::noted_none))]
+fn note_on(
+    firsts: &mut FirstKinds,
     items: &[ScopeItem],
     givens: &[Given],
-    n: u64,
     start: usize,
     place: usize,
     on: &Option<Expr>,
-) -> Option<Kind>
-    ensures { result ≡ kind_of n (statements.on_place items.now givens.now start place (maybe_tree on.now)) }
+)
+    ensures { firsts.new ≡ noted firsts.old (statements.on_place items.now givens.now start place (maybe_tree on.now)) }
 {
-    match on {
-        None => None,
-        Some(e) => kind_in(&bare(joined_items(items, start, place)), givens, n, e),
+    if let Some(e) = on {
+        note_in(firsts, &bare(joined_items(items, start, place)), givens, e);
     }
 }
 
@@ -88,83 +87,64 @@ fn next_start(start: usize, place: usize, on: &Option<Expr>) -> usize
     }
 }
 
-fn kind_in_joins(items: &[ScopeItem], givens: &[Given], n: u64, tables: &[FromItem]) -> Option<Kind>
-    ensures { result ≡ kind_of n (statements.on_places items.now givens.now 0 0 (map joined_tree tables.now)) }
+fn note_joins(firsts: &mut FirstKinds, items: &[ScopeItem], givens: &[Given], tables: &[FromItem])
+    ensures { firsts.new ≡ noted firsts.old (statements.on_places items.now givens.now 0 0 (map joined_tree tables.now)) }
 {
     let mut start = 0;
     for (place, table) in tables.iter().enumerate() {
-        if let Some(kind) = kind_in_on(items, givens, n, start, place, &table.on) {
-            return Some(kind);
-        }
+        note_on(firsts, items, givens, start, place, &table.on);
         start = next_start(start, place, &table.on);
     }
-    None
 }
 
-/// The kind in the condition of WHERE.
-pub(crate) fn kind_in_where(
+/// Notes what the places in the condition of WHERE give.
+#[tactic(auto, using(crate::proofs::Firsts::noted_none))]
+pub(crate) fn note_where(
+    firsts: &mut FirstKinds,
     names: &Names<'_>,
     givens: &[Given],
-    n: u64,
     condition: &Option<Expr>,
-) -> Option<Kind>
-    ensures { result ≡ kind_of n (statements.where_places names.now givens.now (maybe_tree condition.now)) }
+)
+    ensures { firsts.new ≡ noted firsts.old (statements.where_places names.now givens.now (maybe_tree condition.now)) }
 {
-    match condition {
-        None => None,
-        Some(e) => kind_in(names, givens, n, e),
+    if let Some(e) = condition {
+        note_in(firsts, names, givens, e);
     }
 }
 
-fn kind_in_keys(names: &Names<'_>, givens: &[Given], n: u64, keys: &[SortKey]) -> Option<Kind>
-    ensures { result ≡ kind_of n (statements.keys_places names.now givens.now (map key_tree keys.now)) }
+fn note_keys(firsts: &mut FirstKinds, names: &Names<'_>, givens: &[Given], keys: &[SortKey])
+    ensures { firsts.new ≡ noted firsts.old (statements.keys_places names.now givens.now (map key_tree keys.now)) }
 {
     for key in keys {
-        if let Some(kind) = kind_in(names, givens, n, &key.value) {
-            return Some(kind);
-        }
+        note_in(firsts, names, givens, &key.value);
     }
-    None
 }
 
-#[tactic(auto, using(crate::proofs::Firsts::kind_in_both))]
-fn kind_in_count(givens: &[Given], n: u64, count: &Option<Expr>) -> Option<Kind>
-    ensures { result ≡ kind_of n (statements.count_places givens.now (maybe_tree count.now)) }
+#[tactic(auto, using(crate::proofs::Firsts::noted_both, crate::proofs::Firsts::noted_none))]
+fn note_count(firsts: &mut FirstKinds, givens: &[Given], count: &Option<Expr>)
+    ensures { firsts.new ≡ noted firsts.old (statements.count_places givens.now (maybe_tree count.now)) }
 {
-    match count {
-        None => None,
-        Some(e) => either(
-            kind_at(n, Some(Kind::Int8), e),
-            kind_in(&bare(&[]), givens, n, e),
-        ),
+    if let Some(e) = count {
+        note_at(firsts, Some(Kind::Int8), e);
+        note_in(firsts, &bare(&[]), givens, e);
     }
 }
 
-/// The kind that the first of the parameter's places in a SELECT from the items gives it.
-#[tactic(auto, using(crate::proofs::Firsts::kind_in_both))]
-pub fn kind_in_select(
+/// Notes what the places in a SELECT from the items give.
+#[tactic(auto, using(crate::proofs::Firsts::noted_both))]
+pub(crate) fn note_select(
+    firsts: &mut FirstKinds,
     select: &Select,
     items: &[ScopeItem],
     givens: &[Given],
-    n: u64,
-) -> Option<Kind>
-    ensures { result ≡ kind_of n (statements.select_places items.now givens.now (select_tree select.now)) }
+)
+    ensures { firsts.new ≡ noted firsts.old (statements.select_places items.now givens.now (select_tree select.now)) }
 {
     let names = bare(items);
-    either(
-        kind_in_list(&names, givens, n, select.items.as_slice()),
-        either(
-            kind_in_joins(items, givens, n, select.from.as_slice()),
-            either(
-                kind_in_where(&names, givens, n, &select.condition),
-                either(
-                    kind_in_keys(&names, givens, n, select.order.as_slice()),
-                    either(
-                        kind_in_count(givens, n, &select.limit),
-                        kind_in_count(givens, n, &select.offset),
-                    ),
-                ),
-            ),
-        ),
-    )
+    note_list(firsts, &names, givens, select.items.as_slice());
+    note_joins(firsts, items, givens, select.from.as_slice());
+    note_where(firsts, &names, givens, &select.condition);
+    note_keys(firsts, &names, givens, select.order.as_slice());
+    note_count(firsts, givens, &select.limit);
+    note_count(firsts, givens, &select.offset);
 }

@@ -1,6 +1,6 @@
 use crate::tables::{columns_of, item_of, items_of};
 use expression_binder::{Given, ScopeItem};
-use parameter_kinds::kind_in_statement;
+use parameter_kinds::kinds_in_statement;
 use pg_values::{Kind, NoMemory, PgText};
 use refusals::kind_word;
 use sql_ast::RowStatement;
@@ -40,11 +40,12 @@ pub(crate) fn write_kinds(
     out: &mut Vec<u8>,
 ) -> Result<(), NoMemory> {
     let tables = tables_of(alloc, statement)?;
+    let kinds = kinds_in_statement(alloc, statement, &tables, &GIVENS, GIVENS.len())?;
     out.extend_from_slice(b"kinds")?;
-    for n in 2..5 {
+    for kind in &kinds[1..] {
         out.push(b' ')?;
-        match kind_in_statement(statement, &tables, &GIVENS, n) {
-            Some(kind) => out.extend_from_slice(kind_word(kind))?,
+        match kind {
+            Some(kind) => out.extend_from_slice(kind_word(*kind))?,
             None => out.push(b'-')?,
         }
     }

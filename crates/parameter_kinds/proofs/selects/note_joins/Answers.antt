@@ -1,0 +1,20 @@
+use Rattle.std.proofs.Common.{◌+◌, map, drop, ap, ◌∙◌}
+use Rattle.sql_ast.specs.Queries.{joined_tree, maybe_tree}
+use Rattle.sql_binder.specs.From.{start_of}
+use Rattle.expression_binder.proofs.Lists.{later_step}
+use Rattle.parameter_kinds.specs.Firsts.{noted}
+use Rattle.parameter_kinds.specs.Statements.{on_place, on_places}
+use Rattle.parameter_kinds.proofs.Loops.{is_noted}
+use Rattle.parameter_kinds.proofs.selects.note_joins.Goals as goal
+
+pub loop-place-preserved : goal.loop-place-preserved
+loop-place-preserved c =
+    let items = c.args.items.now in
+    let gs = c.args.givens.now in
+    let start = c.loop-place.start in
+    let i = c.loop-place.place in
+    let on = maybe_tree c.index-tables-place.result.on in
+    let rest = map joined_tree (drop (i + 1) c.args.tables.now) in
+    ap (λ s. noted _ (on_places items gs s (i + 1) rest)) c.next_start-start.ensures
+    ∙ is_noted _ _ (on_place items gs start i on) (on_places items gs (start_of start i on) (i + 1) rest) (on_places items gs start i (map joined_tree (drop i c.args.tables.now))) _
+    (ap (on_places items gs start i) (later_step joined_tree c.args.tables.now i c.index-tables-place.result c.loop-place-test.true c.index-tables-place.is)) c.loop-place.invariant c.note_on.ensures
