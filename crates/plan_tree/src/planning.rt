@@ -1,0 +1,8 @@
+/// How a session plans: whether leaves are pruned, and whether the plans of prepared statements are generic.
+/// A custom plan is made of a statement with the values of its parameters in their places. A generic plan is made
+/// without the values of parameters that are operands by themselves; these prune its leaves when it starts.
+#[derive(Debug, Clone, Copy)]
+pub struct Planning {
+    pub prunes: bool,
+    pub is_generic: bool,
+}
