@@ -17,7 +17,7 @@ use Rattle.expression_binder.specs.declared.scope.Param.{Param}
 use Rattle.cond_logic.specs.Asked.{SelectMeant}
 use Rattle.sql_binder.specs.Selects.{bound_select, from_of}
 use Rattle.sql_binder.specs.Values.{custom_select, values_of}
-use Rattle.plan_tree.specs.Plans.{Planned, custom, plan_for, plan_tables, started_by}
+use Rattle.plan_tree.specs.Plans.{Planned, apart, custom, plan_for, plan_tables, started_by}
 use Rattle.plan_tree.specs.declared.planning.Planning.{Planning}
 use Rattle.select_answer.specs.Answer.{answer_of, select_course}
 use Rattle.select_answer.specs.Course.{Course, reads_of}
@@ -61,7 +61,7 @@ abbrev pub asked_by : Planning → List Item → List Param → (session : ℕ) 
 asked_by how items params s t = if how.is_generic then bound_select items params s t else custom_select items params s t
 
 abbrev pub values_by : Planning → List Param → List Value
-values_by how params = if how.is_generic then values_of params else []
+values_by how params = values_of (apart how params)
 
 -- names and kinds are bound, and constants evaluated
 abbrev pub meant : Planning → List Param → Caller → SelectTree → List Item → History → Made SelectMeant

@@ -81,11 +81,7 @@ pub(crate) fn values_by(
 ) -> Result<Vec<Value>, NoMemory>
     ensures { IfOk result (λ vs. vs.items ≡ selected.values_by how params.now) }
 {
-    if how.is_generic {
-        values_of(alloc, params)
-    } else {
-        Ok(Vec::new(alloc))
-    }
+    values_of(alloc, how.apart(params))
 }
 
 /// The tables are locked, one after the other.
