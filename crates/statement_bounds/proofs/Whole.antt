@@ -31,14 +31,16 @@ use Rattle.detach_statement.specs.Concurrent.{detached_concurrently}
 use Rattle.detach_statement.specs.Detached.{detached}
 use Rattle.detach_statement.specs.Finalized.{finalized}
 use Rattle.attach_statement.specs.Attached.{attached}
-use Rattle.statement_runs.specs.Attempted.{answer_text, attempted, changed_text, command_attempted, execute_attempted, execution_explained, inserted_text, is_trailed, listed, plan_attempted, plan_of_execution, row_attempted, query_attempted, silent, tabled, printed, omitted, nothing, as_table}
+use Rattle.statement_steps.specs.Asks.{held_at}
+use Rattle.statement_runs.specs.Attempted.{answer_text, attempted, changed_text, command_attempted, execute_attempted, execution_explained, inserted_text, is_trailed, listing, plan_attempted, plan_of_execution, row_attempted, query_attempted, silent, tabled, taken, printed, omitted, nothing, as_table}
 use Rattle.statement_runs.specs.Database.{rest_told}
 use Rattle.statement_runs.specs.Executions.{Execution, executed, explained_by}
 use Rattle.statement_runs.specs.LeftOut.{command_word}
 use Rattle.statement_runs.specs.declared.options.Options.{Options}
 use Rattle.statement_ends.specs.Asking.{HasSessions, IsKnown, WaitsAsTold, MayAsk, Asks, AllAsk}
 use Rattle.statement_bounds.specs.Tables.{tables_named}
-use Rattle.statement_bounds.proofs.Parts.{Attempt, Told, Part, Parts, Gives, Any, Ends, made_part, refused_part, giving_part}
+use Rattle.statement_bounds.proofs.Parts.{Attempt, Told, Part, Parts, Gives, Any, Ends, made_part, refused_part, then_parts, giving_part}
+use Rattle.statement_bounds.proofs.Locks.{held_at_parts}
 use Rattle.statement_bounds.proofs.Numbers.{tables_below, entries_below}
 use Rattle.statement_bounds.proofs.Partitions.{EndsKnown, detached_parts, concurrently_parts, finalized_parts, attached_parts}
 use Rattle.statement_bounds.proofs.Rows.{inserted_parts, updated_parts, deleted_parts}
@@ -67,9 +69,14 @@ module _ (k : Attempt) (names : List (List ℕ)) where
   omitted_parts : (word : List ℕ) → Parts k EndKnown (omitted word)
   omitted_parts word h now = refused_part k EndKnown h (left_out word) now.may
 
-  listed_parts : (r : Result (List Prepared) Fault) → Parts k EndKnown (listed r)
-  listed_parts (Ok ps) h now = made_part k EndKnown h (Done []) now.may tt
-  listed_parts (Err f) h now = refused_part k EndKnown h f now.may
+  taken_parts : (r : Result (List Prepared) Fault) → Parts k (Gives k Any) (taken r)
+  taken_parts (Ok ps) h now = made_part k (Gives k Any) h tt now.may (now.still, tt)
+  taken_parts (Err f) h now = refused_part k (Gives k Any) h f now.may
+
+  listed_parts : (r : Result (List Prepared) Fault) → Parts k EndKnown (silent (listing k.caller r))
+  listed_parts r =
+      silent_parts (Gives k Any) (listing k.caller r)
+      (then_parts k Any (Gives k Any) (held_at k.caller.level k.caller.session k.caller.cmd) (λ u. taken r) (held_at_parts k k.caller.level k.caller.cmd) (λ u any. taken_parts r))
 
   command_parts : (rest : Option Rest) → IsKnown rest → (ps : List Prepared) (t : CommandTree) → Parts k EndKnown (command_attempted names k.caller rest ps t)
   command_parts rest known ps (makes_table name columns by) = silent_parts Ends (created names k.caller name columns by) (created_parts k names name columns by)

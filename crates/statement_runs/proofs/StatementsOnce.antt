@@ -34,7 +34,7 @@ use Rattle.detach_statement.specs.Concurrent.{behind_nobody, by_rest, detach_of,
 use Rattle.detach_statement.specs.Detached.{detached}
 use Rattle.detach_statement.specs.Finalized.{finalized}
 use Rattle.attach_statement.specs.Attached.{attached}
-use Rattle.statement_runs.specs.Attempted.{answer_text, attempted, changed_text, command_attempted, execute_attempted, execution_explained, inserted_text, is_trailed, listed, plan_of_execution, query_attempted, row_attempted, table}
+use Rattle.statement_runs.specs.Attempted.{answer_text, attempted, changed_text, command_attempted, execute_attempted, execution_explained, inserted_text, is_trailed, listing, plan_of_execution, query_attempted, row_attempted, table}
 use Rattle.statement_runs.specs.Roles.{command_committed, has_committed}
 use Rattle.statement_runs.specs.declared.options.Options.{Options}
 
@@ -59,10 +59,6 @@ later_once d (Err (Refused f)) = tt
 
 -- ---- each statement
 
-listed_once : (h : History) (r : Result (List Prepared) Fault) → CommitsOnce false false (outcome_told (listed r h).told)
-listed_once h (Ok ps) = tt
-listed_once h (Err f) = tt
-
 command_once : (names : List (List ℕ)) (c : Caller) (rest : Option Rest) (h : History) (ps : List Prepared) (t : CommandTree)
     → CommitsOnce (command_committed rest t) (command_committed (rest_told (command_attempted names c rest ps t h).told) t) (outcome_told (command_attempted names c rest ps t h).told)
 command_once names c rest h ps (makes_table name columns by) = plain_once (λ r. false) (λ (u : Unit {0}). []) (created names c name columns by h).told
@@ -82,8 +78,8 @@ command_once names c rest h ps commits = tt
 command_once names c rest h ps rolls_back = tt
 command_once names c rest h ps (sets name value) = tt
 command_once names c rest h ps (resets name) = tt
-command_once names c rest h ps (deallocates name) = listed_once h (deallocated ps name)
-command_once names c rest h ps deallocates_all = tt
+command_once names c rest h ps (deallocates name) = plain_once (λ r. false) (λ (u : Unit {0}). []) (listing c (deallocated ps name) h).told
+command_once names c rest h ps deallocates_all = plain_once (λ r. false) (λ (u : Unit {0}). []) (listing c (Ok []) h).told
 
 row_once : (trailed prunes : Bool) (names : List (List ℕ)) (params : List Param) (c : Caller) (rest : Option Rest) (h : History) (t : RowTree)
     → CommitsOnce false false (outcome_told (row_attempted trailed prunes names params c rest t h).told)
@@ -110,7 +106,7 @@ explained_once prunes names c h (Err f) = tt
 query_once : (trailed prunes : Bool) (names : List (List ℕ)) (c : Caller) (rest : Option Rest) (h : History) (ps : List Prepared) (t : QueryTree)
     → CommitsOnce false false (outcome_told (query_attempted trailed prunes names c rest ps t h).told)
 query_once trailed prunes names c rest h ps (rows r) = row_once trailed prunes names [] c rest h r
-query_once trailed prunes names c rest h ps (prepares name types r) = listed_once h (prepared ps name types r)
+query_once trailed prunes names c rest h ps (prepares name types r) = plain_once (λ r. false) (λ (u : Unit {0}). []) (listing c (prepared ps name types r) h).told
 query_once trailed prunes names c rest h ps (executes name ts) = execute_once trailed prunes names c rest h (executed h c.session rest ps name ts)
 query_once trailed prunes names c rest h ps (explains_select true s) = tt
 query_once trailed prunes names c rest h ps (explains_select false s) = plain_once (λ r. false) table (explained prunes names [] c s h).told

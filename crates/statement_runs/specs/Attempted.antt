@@ -15,6 +15,8 @@ use Rattle.sql_ast.specs.Statements.{StatementTree, commands, queries}
 use Rattle.out_text.specs.Table.{printed_table}
 use Rattle.statement_steps.specs.Ended.{Ended, Done, silent_end, giving}
 use Rattle.statement_steps.specs.Made.{Made, Refused, made, halted}
+use Rattle.statement_steps.specs.Asks.{held_at}
+use Rattle.statement_steps.specs.Steps.{follow}
 use Rattle.statement_steps.specs.declared.caller.Caller.{Caller}
 use Rattle.statement_steps.specs.declared.ending.Ending.{Ending}
 use Rattle.statement_steps.specs.declared.rest.Rest.{Rest}
@@ -89,9 +91,13 @@ abbrev pub omitted : (word : List ℕ) → History → Made Ended
 omitted word h = halted [] (Refused (left_out word))
 
 -- what is prepared changes, or the first fault is told
-abbrev pub listed : Result (List Prepared) Fault → History → Made Ended
-listed (Ok ps) h = made [] (Done [])
-listed (Err f) h = halted [] (Refused f)
+abbrev pub taken : Result (List Prepared) Fault → History → Made (Unit {0})
+taken (Ok ps) h = made [] tt
+taken (Err f) h = halted [] (Refused f)
+
+-- a transaction at REPEATABLE READ takes its snapshot then, too
+abbrev pub listing : Caller → Result (List Prepared) Fault → History → Made (Unit {0})
+listing c told = follow (held_at c.level c.session c.cmd) (λ u. taken told)
 
 abbrev pub command_attempted : (names : List (List ℕ)) → Caller → Option Rest → List Prepared → CommandTree → History → Made Ended
 command_attempted names c rest ps (makes_table name columns by) = silent (created names c name columns by)
@@ -102,8 +108,8 @@ command_attempted names c rest ps (detaches parent name AtOnce) = silent (detach
 command_attempted names c rest ps (detaches parent name Concurrently) = staged (detached_concurrently names c rest parent name)
 command_attempted names c rest ps (detaches parent name Finalize) = silent (finalized names c parent name)
 command_attempted names c rest ps (locks tables mode) = silent (locked names c.session tables mode)
-command_attempted names c rest ps (deallocates name) = listed (deallocated ps name)
-command_attempted names c rest ps deallocates_all = listed (Ok [])
+command_attempted names c rest ps (deallocates name) = silent (listing c (deallocated ps name))
+command_attempted names c rest ps deallocates_all = silent (listing c (Ok []))
 command_attempted names c rest ps t = omitted (command_word t)
 
 abbrev pub select_attempted : (trailed prunes : Bool) → (names : List (List ℕ)) → List Param → Caller → SelectTree → History → Made Ended
@@ -147,7 +153,7 @@ explain_execute_attempted prunes names c ps true name ts = omitted (codes "ANALY
 
 abbrev pub query_attempted : (trailed prunes : Bool) → (names : List (List ℕ)) → Caller → Option Rest → List Prepared → QueryTree → History → Made Ended
 query_attempted trailed prunes names c rest ps (rows r) = row_attempted trailed prunes names [] c rest r
-query_attempted trailed prunes names c rest ps (prepares name types s) = listed (prepared ps name types s)
+query_attempted trailed prunes names c rest ps (prepares name types s) = silent (listing c (prepared ps name types s))
 query_attempted trailed prunes names c rest ps (executes name ts) = λ h. execute_attempted trailed prunes names c rest (executed h c.session rest ps name ts) h
 query_attempted trailed prunes names c rest ps (explains_select analyze s) = explain_attempted prunes names c analyze s
 query_attempted trailed prunes names c rest ps (explains_execute analyze name ts) = explain_execute_attempted prunes names c ps analyze name ts

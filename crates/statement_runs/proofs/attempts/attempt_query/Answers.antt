@@ -4,14 +4,15 @@ use Rattle.sql_ast.specs.Expressions.{trees}
 use Rattle.sql_ast.specs.Queries.{prepares, query_tree, row_tree}
 use Rattle.sql_ast.specs.declared.query.Query.{Query}
 use Rattle.prepared_statements.specs.Kept.{listed}
+use Rattle.prepared_statements.specs.Prepared.{prepared}
 use Rattle.statement_steps.specs.Ended.{ended}
-use Rattle.statement_runs.specs.Attempted.{execute_attempted, explain_execute_attempted, query_attempted}
+use Rattle.statement_runs.specs.Attempted.{execute_attempted, explain_execute_attempted, listing, query_attempted}
 use Rattle.statement_runs.specs.Executions.{executed, query_kept}
 use Rattle.statement_runs.specs.Given.{execution_given, query_given}
 use Rattle.statement_runs.specs.Printed.{IsKept, IsStatement}
 use Rattle.statement_runs.specs.Tallies.{Grows}
 use Rattle.statement_runs.proofs.Growing.{stays_same}
-use Rattle.statement_runs.proofs.Whole.{kept_still}
+use Rattle.statement_runs.proofs.Whole.{kept_still, silent_is}
 use Rattle.statement_runs.proofs.attempts.attempt_query.Goals as goal
 
 pub returns-in-Rows-clause-is : goal.returns-in-Rows-clause-is
@@ -31,10 +32,10 @@ returns-in-Rows-clause-kept c =
 
 pub returns-in-Prepare-clause-is : goal.returns-in-Prepare-clause-is
 returns-in-Prepare-clause-is c =
-    subst (λ (x : Query). IsStatement c.args.rest (ended c.attempt_prepare.result) c.args.stores.now c.args.stores.now c.args.out.now.items c.args.out.now.items c.args.caller
-    (query_attempted c.args.trailed c.args.prunes c.args.names.now c.args.caller c.args.rest (listed c.args.prepared.now) (query_tree x))) (sym c.in-Prepare.is)
-    (subst (λ (o : List ℕ). IsStatement c.args.rest (ended c.attempt_prepare.result) c.args.stores.now c.args.stores.now o o c.args.caller
-    (query_attempted c.args.trailed c.args.prunes c.args.names.now c.args.caller c.args.rest (listed c.args.prepared.now) (prepares c.in-Prepare.name c.in-Prepare.types (row_tree c.in-Prepare.s.value)))) c.deref.ensures.value (c.attempt_prepare.ensures.is c.args.rest))
+    let p = c.in-Prepare in
+    let is = silent_is c.args.rest c.attempt_prepare.result c.args.stores.now c.attempt_prepare.new.stores c.args.caller (listing c.args.caller (prepared (listed c.args.prepared.now) p.name p.types (row_tree p.s.value))) c.args.out.now.items c.attempt_prepare.ensures.is in
+    subst (λ (x : Query). IsStatement c.args.rest (ended c.attempt_prepare.result) c.args.stores.now c.attempt_prepare.new.stores c.args.out.now.items c.args.out.now.items c.args.caller
+    (query_attempted c.args.trailed c.args.prunes c.args.names.now c.args.caller c.args.rest (listed c.args.prepared.now) (query_tree x))) (sym p.is) is
 
 pub returns-in-Prepare-clause-tally : goal.returns-in-Prepare-clause-tally
 returns-in-Prepare-clause-tally c h stands at go =
