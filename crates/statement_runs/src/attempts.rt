@@ -1,4 +1,4 @@
-ghost use Rattle.std.specs.Prelude.{Option, Result};
+ghost use Rattle.std.specs.Prelude.{◌≡◌, Option, Result};
 ghost use Rattle.sql_ast.specs.Commands.{command_tree};
 ghost use Rattle.sql_ast.specs.Queries.{query_tree};
 ghost use Rattle.sql_ast.specs.Statements.{statement_tree};
@@ -20,9 +20,10 @@ use crate::room::check_room;
 use crate::row_attempts::{attempt_explain, attempt_rows, is_trailed};
 use attach_statement::attach;
 use detach_statement::{detach, detach_concurrently, finalize};
+use plan_tree::Planning;
 use prepared_statements::PreparedList;
 use schedule::Tally;
-use sessions::Settings;
+use sessions::{PlanCacheMode, Settings};
 use sql_ast::{Command, Detachment, Query, Statement};
 use statement_steps::{Caller, Ending, Rest, SessionNames, Stop, ended};
 use std::alloc::Global;
@@ -91,7 +92,7 @@ fn attempt_query(
     stores: &mut Stores,
     names: &SessionNames,
     caller: Caller,
-    prunes: bool,
+    how: Planning,
     trailed: bool,
     rest: Option<Rest>,
     prepared: &mut PreparedList,
@@ -101,8 +102,8 @@ fn attempt_query(
 ) -> Result<(), Stop>
     requires may { MayAttempt stores.old caller }
     requires rest { MayGoOn stores.old caller rest }
-    ensures tally { IsTallied rest result stores.old tally.old tally.new caller (given.query_given prunes names.now caller rest (listed prepared.old) (query_tree query.now)) }
-    ensures is { IsStatement rest (ended result) stores.old stores.new out.old.items out.new.items caller (attempted.query_attempted trailed prunes names.now caller rest (listed prepared.old) (query_tree query.now)) }
+    ensures tally { IsTallied rest result stores.old tally.old tally.new caller (given.query_given how names.now caller rest (listed prepared.old) (query_tree query.now)) }
+    ensures is { IsStatement rest (ended result) stores.old stores.new out.old.items out.new.items caller (attempted.query_attempted trailed how names.now caller rest (listed prepared.old) (query_tree query.now)) }
     ensures kept { IsKept (ended result) (listed prepared.old) (listed prepared.new) (executions.query_kept (listed prepared.old) (query_tree query.now)) }
 {
     match query {
@@ -112,7 +113,7 @@ fn attempt_query(
             names,
             &[],
             caller,
-            prunes,
+            how,
             trailed,
             rest,
             s,
@@ -125,19 +126,29 @@ fn attempt_query(
         Query::Execute(name, arguments) => {
             let name = name.as_bytes();
             attempt_execute(
-                alloc, stores, names, caller, prunes, trailed, rest, prepared, name, arguments,
-                tally, out,
+                alloc, stores, names, caller, how, trailed, rest, prepared, name, arguments, tally,
+                out,
             )
         }
         Query::ExplainSelect(analyze, s) => {
-            attempt_explain(alloc, stores, names, caller, prunes, *analyze, s, out)
+            attempt_explain(alloc, stores, names, caller, how, *analyze, s, out)
         }
         Query::ExplainExecute(analyze, name, arguments) => {
             let name = name.as_bytes();
             attempt_explain_execute(
-                alloc, stores, names, caller, prunes, prepared, *analyze, name, arguments, out,
+                alloc, stores, names, caller, how, prepared, *analyze, name, arguments, out,
             )
         }
+    }
+}
+
+// How the session plans.
+fn planning_of(settings: Settings) -> Planning
+    ensures { result ≡ attempted.planning_of settings }
+{
+    Planning {
+        prunes: settings.enable_partition_pruning,
+        is_generic: matches!(settings.plan_cache_mode, PlanCacheMode::ForceGenericPlan),
     }
 }
 
@@ -168,10 +179,10 @@ pub(crate) fn attempt(
             attempt_command(alloc, stores, names, caller, rest, prepared, command, out)
         }
         Statement::Query(query) => {
-            let prunes = settings.enable_partition_pruning;
+            let how = planning_of(settings);
             let trailed = is_trailed(options.trail, caller);
             let done = attempt_query(
-                alloc, stores, names, caller, prunes, trailed, rest, prepared, query, tally, out,
+                alloc, stores, names, caller, how, trailed, rest, prepared, query, tally, out,
             );
             ended(done)
         }

@@ -25,6 +25,7 @@ use crate::left_out::omit;
 use crate::row_attempts::{attempt_plan, attempt_rows};
 use expression_binder::Param;
 use pg_values::{PgText, Refusal};
+use plan_tree::Planning;
 use prepared_statements::PreparedList;
 use schedule::Tally;
 use sql_ast::{ExprList, NameList, RowStatement};
@@ -117,7 +118,7 @@ pub(crate) fn attempt_execute(
     stores: &mut Stores,
     names: &SessionNames,
     caller: Caller,
-    prunes: bool,
+    how: Planning,
     trailed: bool,
     rest: Option<Rest>,
     prepared: &PreparedList,
@@ -128,8 +129,8 @@ pub(crate) fn attempt_execute(
 ) -> Result<(), Stop>
     requires may { MayAttempt stores.old caller }
     requires rest { MayGoOn stores.old caller rest }
-    ensures tally { IsTallied rest result stores.old tally.old tally.new caller (λ h. given.execution_given prunes names.now caller rest (executions.executed h caller.session rest (listed prepared.now) name.now (trees arguments.now)) h) }
-    ensures is { IsStatement rest (ended result) stores.old stores.new out.old.items out.new.items caller (λ h. attempted.execute_attempted trailed prunes names.now caller rest (executions.executed h caller.session rest (listed prepared.now) name.now (trees arguments.now)) h) }
+    ensures tally { IsTallied rest result stores.old tally.old tally.new caller (λ h. given.execution_given how names.now caller rest (executions.executed h caller.session rest (listed prepared.now) name.now (trees arguments.now)) h) }
+    ensures is { IsStatement rest (ended result) stores.old stores.new out.old.items out.new.items caller (λ h. attempted.execute_attempted trailed how names.now caller rest (executions.executed h caller.session rest (listed prepared.now) name.now (trees arguments.now)) h) }
 {
     match executed(alloc, stores, caller, &rest, prepared, name, arguments) {
         Ok(execution) => attempt_rows(
@@ -138,7 +139,7 @@ pub(crate) fn attempt_execute(
             names,
             &execution.params,
             caller,
-            prunes,
+            how,
             trailed,
             rest,
             &execution.statement,
@@ -156,17 +157,15 @@ fn plan_execution(
     names: &SessionNames,
     params: &[Param],
     caller: Caller,
-    prunes: bool,
+    how: Planning,
     statement: &RowStatement,
     out: &mut Vec<u8>,
 ) -> Result<(), Stop>
     requires { MayAttempt stores.old caller }
-    ensures { (left : Option Left) → IsStatement left (ended result) stores.old stores.new out.old.items out.new.items caller (attempted.plan_of_execution prunes names.now params.now caller (row_tree statement.now)) }
+    ensures { (left : Option Left) → IsStatement left (ended result) stores.old stores.new out.old.items out.new.items caller (attempted.plan_of_execution how names.now params.now caller (row_tree statement.now)) }
 {
     match statement {
-        RowStatement::Select(s) => attempt_plan(
-            alloc, stores, names, params, caller, prunes, s, out,
-        ),
+        RowStatement::Select(s) => attempt_plan(alloc, stores, names, params, caller, how, s, out),
         RowStatement::Insert(_) => omit(alloc, stores, caller, b"INSERT", out),
         RowStatement::Update(_) => omit(alloc, stores, caller, b"UPDATE", out),
         RowStatement::Delete(_) => omit(alloc, stores, caller, b"DELETE", out),
@@ -178,14 +177,14 @@ fn explain_execution(
     stores: &mut Stores,
     names: &SessionNames,
     caller: Caller,
-    prunes: bool,
+    how: Planning,
     prepared: &PreparedList,
     name: &[u8],
     arguments: &ExprList,
     out: &mut Vec<u8>,
 ) -> Result<(), Stop>
     requires { MayAttempt stores.old caller }
-    ensures { (left : Option Left) → IsStatement left (ended result) stores.old stores.new out.old.items out.new.items caller (λ h. attempted.execution_explained prunes names.now caller (executions.explained_by h caller.session (listed prepared.now) name.now (trees arguments.now)) h) }
+    ensures { (left : Option Left) → IsStatement left (ended result) stores.old stores.new out.old.items out.new.items caller (λ h. attempted.execution_explained how names.now caller (executions.explained_by h caller.session (listed prepared.now) name.now (trees arguments.now)) h) }
 {
     match explained_by(alloc, stores, caller, prepared, name, arguments) {
         Ok(execution) => plan_execution(
@@ -194,7 +193,7 @@ fn explain_execution(
             names,
             &execution.params,
             caller,
-            prunes,
+            how,
             &execution.statement,
             out,
         ),
@@ -207,7 +206,7 @@ pub(crate) fn attempt_explain_execute(
     stores: &mut Stores,
     names: &SessionNames,
     caller: Caller,
-    prunes: bool,
+    how: Planning,
     prepared: &PreparedList,
     analyze: bool,
     name: &[u8],
@@ -215,13 +214,13 @@ pub(crate) fn attempt_explain_execute(
     out: &mut Vec<u8>,
 ) -> Result<(), Stop>
     requires { MayAttempt stores.old caller }
-    ensures { (left : Option Left) → IsStatement left (ended result) stores.old stores.new out.old.items out.new.items caller (attempted.explain_execute_attempted prunes names.now caller (listed prepared.now) analyze name.now (trees arguments.now)) }
+    ensures { (left : Option Left) → IsStatement left (ended result) stores.old stores.new out.old.items out.new.items caller (attempted.explain_execute_attempted how names.now caller (listed prepared.now) analyze name.now (trees arguments.now)) }
 {
     if analyze {
         omit(alloc, stores, caller, b"ANALYZE", out)
     } else {
         explain_execution(
-            alloc, stores, names, caller, prunes, prepared, name, arguments, out,
+            alloc, stores, names, caller, how, prepared, name, arguments, out,
         )
     }
 }

@@ -26,6 +26,7 @@ use insert_statement::insert;
 use out_text::write_table;
 use part_catalog::Catalog;
 use pg_values::NoMemory;
+use plan_tree::Planning;
 use schedule::{BlockKind, Tally};
 use select_statement::{Answered, explain, select};
 use sql_ast::{Delete, Insert, RowStatement, Select, Update};
@@ -81,18 +82,18 @@ fn attempt_select(
     names: &SessionNames,
     params: &[Param],
     caller: Caller,
-    prunes: bool,
+    how: Planning,
     trailed: bool,
     statement: &Select,
     tally: &mut Tally,
     out: &mut Vec<u8>,
 ) -> Result<(), Stop>
     requires { MayAttempt stores.old caller }
-    ensures tally { (left : Option Left) → IsTallied left result stores.old tally.old tally.new caller (given.select_given prunes names.now params.now caller (select_tree statement.now)) }
-    ensures is { (left : Option Left) → IsStatement left (ended result) stores.old stores.new out.old.items out.new.items caller (attempted.select_attempted trailed prunes names.now params.now caller (select_tree statement.now)) }
+    ensures tally { (left : Option Left) → IsTallied left result stores.old tally.old tally.new caller (given.select_given how names.now params.now caller (select_tree statement.now)) }
+    ensures is { (left : Option Left) → IsStatement left (ended result) stores.old stores.new out.old.items out.new.items caller (attempted.select_attempted trailed how names.now params.now caller (select_tree statement.now)) }
 {
     check_room(stores, caller);
-    match select(alloc, stores, names, params, caller, prunes, statement) {
+    match select(alloc, stores, names, params, caller, how, statement) {
         Ok(answered) => {
             match print_answer(alloc, &stores.catalog, trailed, &answered, tally, out) {
                 Ok(()) => Ok(()),
@@ -159,7 +160,7 @@ fn attempt_update(
     names: &SessionNames,
     params: &[Param],
     caller: Caller,
-    prunes: bool,
+    how: Planning,
     trailed: bool,
     rest: Option<Rest>,
     statement: &Update,
@@ -168,14 +169,12 @@ fn attempt_update(
 ) -> Result<(), Stop>
     requires may { MayAttempt stores.old caller }
     requires rest { MayGoOn stores.old caller rest }
-    ensures tally { IsTallied rest result stores.old tally.old tally.new caller (λ h. given.given given.of_change (updated prunes names.now params.now caller rest statement.now.table (map setting statement.now.assignments) (maybe_tree statement.now.condition) h).told) }
+    ensures tally { IsTallied rest result stores.old tally.old tally.new caller (λ h. given.given given.of_change (updated how names.now params.now caller rest statement.now.table (map setting statement.now.assignments) (maybe_tree statement.now.condition) h).told) }
     ensures is { IsStatement rest (ended result) stores.old stores.new out.old.items out.new.items caller
-        (attempted.printed (attempted.changed_text trailed (codes "UPDATE")) (updated prunes names.now params.now caller rest statement.now.table (map setting statement.now.assignments) (maybe_tree statement.now.condition))) }
+        (attempted.printed (attempted.changed_text trailed (codes "UPDATE")) (updated how names.now params.now caller rest statement.now.table (map setting statement.now.assignments) (maybe_tree statement.now.condition))) }
 {
     check_room(stores, caller);
-    match update(
-        alloc, stores, names, params, caller, prunes, rest, statement,
-    ) {
+    match update(alloc, stores, names, params, caller, how, rest, statement) {
         Ok(changes) => {
             match print_changes(
                 alloc,
@@ -200,7 +199,7 @@ fn attempt_delete(
     names: &SessionNames,
     params: &[Param],
     caller: Caller,
-    prunes: bool,
+    how: Planning,
     trailed: bool,
     rest: Option<Rest>,
     statement: &Delete,
@@ -209,14 +208,12 @@ fn attempt_delete(
 ) -> Result<(), Stop>
     requires may { MayAttempt stores.old caller }
     requires rest { MayGoOn stores.old caller rest }
-    ensures tally { IsTallied rest result stores.old tally.old tally.new caller (λ h. given.given given.of_change (deleted prunes names.now params.now caller rest statement.now.table (maybe_tree statement.now.condition) h).told) }
+    ensures tally { IsTallied rest result stores.old tally.old tally.new caller (λ h. given.given given.of_change (deleted how names.now params.now caller rest statement.now.table (maybe_tree statement.now.condition) h).told) }
     ensures is { IsStatement rest (ended result) stores.old stores.new out.old.items out.new.items caller
-        (attempted.printed (attempted.changed_text trailed (codes "DELETE")) (deleted prunes names.now params.now caller rest statement.now.table (maybe_tree statement.now.condition))) }
+        (attempted.printed (attempted.changed_text trailed (codes "DELETE")) (deleted how names.now params.now caller rest statement.now.table (maybe_tree statement.now.condition))) }
 {
     check_room(stores, caller);
-    match delete(
-        alloc, stores, names, params, caller, prunes, rest, statement,
-    ) {
+    match delete(alloc, stores, names, params, caller, how, rest, statement) {
         Ok(changes) => {
             match print_changes(
                 alloc,
@@ -241,7 +238,7 @@ pub(crate) fn attempt_rows(
     names: &SessionNames,
     params: &[Param],
     caller: Caller,
-    prunes: bool,
+    how: Planning,
     trailed: bool,
     rest: Option<Rest>,
     statement: &RowStatement,
@@ -250,23 +247,23 @@ pub(crate) fn attempt_rows(
 ) -> Result<(), Stop>
     requires may { MayAttempt stores.old caller }
     requires rest { MayGoOn stores.old caller rest }
-    ensures tally { IsTallied rest result stores.old tally.old tally.new caller (given.row_given prunes names.now params.now caller rest (row_tree statement.now)) }
-    ensures is { IsStatement rest (ended result) stores.old stores.new out.old.items out.new.items caller (attempted.row_attempted trailed prunes names.now params.now caller rest (row_tree statement.now)) }
+    ensures tally { IsTallied rest result stores.old tally.old tally.new caller (given.row_given how names.now params.now caller rest (row_tree statement.now)) }
+    ensures is { IsStatement rest (ended result) stores.old stores.new out.old.items out.new.items caller (attempted.row_attempted trailed how names.now params.now caller rest (row_tree statement.now)) }
 {
     match statement {
         RowStatement::Select(s) => {
             attempt_select(
-                alloc, stores, names, params, caller, prunes, trailed, s, tally, out,
+                alloc, stores, names, params, caller, how, trailed, s, tally, out,
             )
         }
         RowStatement::Insert(s) => {
             attempt_insert(alloc, stores, names, params, caller, trailed, s, out)
         }
         RowStatement::Update(s) => attempt_update(
-            alloc, stores, names, params, caller, prunes, trailed, rest, s, tally, out,
+            alloc, stores, names, params, caller, how, trailed, rest, s, tally, out,
         ),
         RowStatement::Delete(s) => attempt_delete(
-            alloc, stores, names, params, caller, prunes, trailed, rest, s, tally, out,
+            alloc, stores, names, params, caller, how, trailed, rest, s, tally, out,
         ),
     }
 }
@@ -278,15 +275,15 @@ pub(crate) fn attempt_plan(
     names: &SessionNames,
     params: &[Param],
     caller: Caller,
-    prunes: bool,
+    how: Planning,
     statement: &Select,
     out: &mut Vec<u8>,
 ) -> Result<(), Stop>
     requires { MayAttempt stores.old caller }
-    ensures { (left : Option Left) → IsStatement left (ended result) stores.old stores.new out.old.items out.new.items caller (attempted.plan_attempted prunes names.now params.now caller (select_tree statement.now)) }
+    ensures { (left : Option Left) → IsStatement left (ended result) stores.old stores.new out.old.items out.new.items caller (attempted.plan_attempted how names.now params.now caller (select_tree statement.now)) }
 {
     check_room(stores, caller);
-    match explain(alloc, stores, names, params, caller, prunes, statement) {
+    match explain(alloc, stores, names, params, caller, how, statement) {
         Ok(answer) => match write_table(alloc, &answer, out) {
             Ok(()) => Ok(()),
             Err(NoMemory) => Err(Stop::NoMemory),
@@ -300,17 +297,17 @@ pub(crate) fn attempt_explain(
     stores: &mut Stores,
     names: &SessionNames,
     caller: Caller,
-    prunes: bool,
+    how: Planning,
     analyze: bool,
     statement: &Select,
     out: &mut Vec<u8>,
 ) -> Result<(), Stop>
     requires { MayAttempt stores.old caller }
-    ensures { (left : Option Left) → IsStatement left (ended result) stores.old stores.new out.old.items out.new.items caller (attempted.explain_attempted prunes names.now caller analyze (select_tree statement.now)) }
+    ensures { (left : Option Left) → IsStatement left (ended result) stores.old stores.new out.old.items out.new.items caller (attempted.explain_attempted how names.now caller analyze (select_tree statement.now)) }
 {
     if analyze {
         omit(alloc, stores, caller, b"ANALYZE", out)
     } else {
-        attempt_plan(alloc, stores, names, &[], caller, prunes, statement, out)
+        attempt_plan(alloc, stores, names, &[], caller, how, statement, out)
     }
 }

@@ -11,10 +11,10 @@ returns-then-analyze c left =
     let s = c.args.stores.now in
     let out = c.args.out.now.items in
     subst (λ (b : Bool). IsStatement left (ended c.omit.result) s s out out c.args.caller
-    (explain_execute_attempted c.args.prunes c.args.names.now c.args.caller (listed c.args.prepared.now) b c.args.name.now (trees c.args.arguments.now))) (sym c.if-analyze.true)
+    (explain_execute_attempted c.args.how c.args.names.now c.args.caller (listed c.args.prepared.now) b c.args.name.now (trees c.args.arguments.now))) (sym c.if-analyze.true)
     (subst (λ (o : List ℕ). IsStatement left (ended c.omit.result) s s o o c.args.caller (omitted (codes "ANALYZE"))) c.deref.ensures.value (c.omit.ensures left))
 
 pub returns-else-analyze : goal.returns-else-analyze
 returns-else-analyze c left =
     subst (λ (b : Bool). IsStatement left (ended c.explain_execution.result) c.args.stores.now c.explain_execution.new.stores c.args.out.now.items c.explain_execution.new.out.items c.args.caller
-    (explain_execute_attempted c.args.prunes c.args.names.now c.args.caller (listed c.args.prepared.now) b c.args.name.now (trees c.args.arguments.now))) (sym c.if-analyze.false) (c.explain_execution.ensures left)
+    (explain_execute_attempted c.args.how c.args.names.now c.args.caller (listed c.args.prepared.now) b c.args.name.now (trees c.args.arguments.now))) (sym c.if-analyze.false) (c.explain_execution.ensures left)

@@ -20,17 +20,17 @@ returns-in-Ok c left =
     let e = c.in-Ok.execution in
     let told = λ (h : History). explained_by h k.session (listed c.args.prepared.now) c.args.name.now (trees c.args.arguments.now) in
     same_statement left (ended c.plan_execution.result) c.args.stores.now c.plan_execution.new.stores k
-    (plan_of_execution c.args.prunes names e.params.items k (row_tree e.statement.value))
-    (λ h. execution_explained c.args.prunes names k (told h) h) c.args.out.now.items c.plan_execution.new.out.items
-    (λ h stands. ap (λ (r : Result Execution Fault). execution_explained c.args.prunes names k r h) (c.in-Ok.ensures h stands))
+    (plan_of_execution c.args.how names e.params.items k (row_tree e.statement.value))
+    (λ h. execution_explained c.args.how names k (told h) h) c.args.out.now.items c.plan_execution.new.out.items
+    (λ h stands. ap (λ (r : Result Execution Fault). execution_explained c.args.how names k r h) (c.in-Ok.ensures h stands))
     (subst (λ (ps : List Param). IsStatement left (ended c.plan_execution.result) c.args.stores.now c.plan_execution.new.stores c.args.out.now.items c.plan_execution.new.out.items k
-    (plan_of_execution c.args.prunes names ps k (row_tree e.statement.value))) c.deref.ensures.value
+    (plan_of_execution c.args.how names ps k (row_tree e.statement.value))) c.deref.ensures.value
     (subst (λ (s : RowStatement). IsStatement left (ended c.plan_execution.result) c.args.stores.now c.plan_execution.new.stores c.args.out.now.items c.plan_execution.new.out.items k
-    (plan_of_execution c.args.prunes names c.deref.result.now k (row_tree s))) c.deref-in-Ok.ensures (c.plan_execution.ensures left)))
+    (plan_of_execution c.args.how names c.deref.result.now k (row_tree s))) c.deref-in-Ok.ensures (c.plan_execution.ensures left)))
 
 pub returns-in-Err : goal.returns-in-Err
 returns-in-Err c left =
     let k = c.args.caller in
     let told = λ (h : History). explained_by h k.session (listed c.args.prepared.now) c.args.name.now (trees c.args.arguments.now) in
-    c.stop_for.ensures.is left c.args.out.now.items (λ h. execution_explained c.args.prunes c.args.names.now k (told h) h)
-    (λ h stands fault is. ap (λ (r : Result Execution Fault). execution_explained c.args.prunes c.args.names.now k r h) (told_fault c.in-Err.refusal fault (told h) is (c.in-Err.ensures h stands)))
+    c.stop_for.ensures.is left c.args.out.now.items (λ h. execution_explained c.args.how c.args.names.now k (told h) h)
+    (λ h stands fault is. ap (λ (r : Result Execution Fault). execution_explained c.args.how c.args.names.now k r h) (told_fault c.in-Err.refusal fault (told h) is (c.in-Err.ensures h stands)))
