@@ -3,10 +3,13 @@
 use Rattle.std.specs.Prelude.{Bool, false, if◌then◌else◌, List, [], ◌∷◌, map, Option, Some, None}
 use Rattle.pg_values.specs.declared.ids.LeafId.{LeafId}
 use Rattle.pg_values.specs.declared.ids.TableNo.{TableNo}
+use Rattle.pg_values.specs.declared.value.Value.{Value}
 use Rattle.row_router.specs.Trees.{TableTree}
+use Rattle.cond_logic.specs.Rewriting.{with_args}
 use Rattle.cond_logic.specs.Trees.{CondTree}
 use Rattle.plan_tree.specs.Conditions.{all_hold}
-use Rattle.plan_tree.specs.Kept.{Keeps, keeps_by, id_of, kept_leaves, kept_tables}
+use Rattle.plan_tree.specs.Kept.{Keeps, keeps_by, keeps_for as keeps_for_all, id_of, kept_leaves, kept_tables}
+use Rattle.plan_tree.specs.declared.planning.Planning.{Planning}
 use Rattle.cond_logic.specs.Asked.{SettingMeant}
 use Rattle.statement_steps.specs.Below.{below}
 use Rattle.statement_steps.specs.Gathered.{sets_key}
@@ -21,6 +24,14 @@ condition_or_all (Some c) = c
 -- which children are kept; all where the session prunes nothing
 abbrev pub keeps_for : (prunes : Bool) → Option CondTree → Keeps
 keeps_for prunes condition = keeps_by prunes (condition_or_all condition)
+
+-- and by this condition with values in the places of its parameters too
+abbrev pub keeps_with : (prunes : Bool) → (args : List Value) → CondTree → Keeps
+keeps_with prunes args c = keeps_for_all prunes 0 (c ∷ with_args args c ∷ [])
+
+-- a generic plan reads, of the leaves that it keeps, those that the values of parameters keep too
+abbrev pub keeps_started : Planning → (args : List Value) → Option CondTree → Keeps
+keeps_started how args condition = if how.is_generic then keeps_with how.prunes args (condition_or_all condition) else keeps_for how.prunes condition
 
 -- the leaves that are read
 abbrev pub leaves_read : Keeps → TableTree → List LeafId

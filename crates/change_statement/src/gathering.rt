@@ -11,7 +11,8 @@ use crate::asking::{Change, bind, table_named};
 use crate::keeping::keep;
 use expression_binder::Param;
 use pg_values::LockMode;
-use plan_tree::trees_can_be_pruned;
+use plan_tree::{Planning, trees_can_be_pruned};
+use sql_binder::{put_change_values, values_of};
 use statement_steps::{
     Caller, Gathered, SessionNames, Stop, lock_named, lock_tables, tree_and_path,
 };
@@ -19,19 +20,19 @@ use std::alloc::Global;
 use stores::Stores;
 
 /// The named table is found and locked, names and kinds are bound, and the tables under it that are needed
-/// are locked.
+/// are locked. Then a generic plan is started: the values of parameters are put in their places.
 pub(crate) fn gather(
     alloc: Global,
     stores: &mut Stores,
     names: &SessionNames,
     params: &[Param],
     caller: Caller,
-    prunes: bool,
+    how: Planning,
     change: Change<'_>,
 ) -> Result<Gathered, Stop>
     requires may { MayAttempt stores.old caller }
     requires few { length stores.old.catalog.tables ≤ 4096 }
-    ensures step { IsStep found_of result stores.old stores.new caller caller.cmd (gathered.gathered_for prunes names.now params.now caller change.entry) }
+    ensures step { IsStep found_of result stores.old stores.new caller caller.cmd (gathered.gathered_for how names.now params.now caller change.entry) }
     ensures found { IfOk result (λ g. IsGathered stores.new caller (found_of g)) }
     ensures rest { stores.new ≡ record stores.old { locks = stores.new.locks } }
 {
@@ -39,8 +40,9 @@ pub(crate) fn gather(
     let name = table_named(change).name.as_bytes();
     let table = lock_named(alloc, stores, names, caller, name, LockMode::RowExclusive)?;
     let (tree, path) = tree_and_path(alloc, stores, caller, table)?;
-    let ask = bind(alloc, stores, params, caller, change, table)?;
-    let kept = keep(alloc, prunes, &ask, &tree)?;
+    let ask = bind(alloc, stores, how, params, caller, change, table)?;
+    let args = values_of(alloc, how.apart(params))?;
+    let kept = keep(alloc, how, &args, &ask, &tree)?;
     lock_tables(
         alloc,
         stores,
@@ -49,6 +51,7 @@ pub(crate) fn gather(
         &kept.tables,
         LockMode::RowExclusive,
     )?;
+    let ask = put_change_values(alloc, ask, how.apart(params))?;
     Ok(Gathered {
         table,
         tree,

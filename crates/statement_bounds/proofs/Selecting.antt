@@ -35,6 +35,7 @@ use Rattle.statement_bounds.proofs.Parts.{Attempt, Now, Part, Parts, Gives, Any,
 use Rattle.statement_bounds.proofs.Locks.{Low, all_locked_parts, named_parts, held_at_parts}
 use Rattle.statement_bounds.proofs.Numbers.{IsLow, tree_low}
 use Rattle.statement_bounds.proofs.Trees.{all_kept}
+use Rattle.plan_tree.specs.declared.planning.Planning.{Planning}
 
 -- ---- what nothing happens by
 
@@ -78,19 +79,19 @@ module _ (k : Attempt) (names : List (List ℕ)) (params : List Param) where
 
   -- ---- what a plan locks
 
-  items_low : (prunes : Bool) (n : ℕ) (cs : List CondTree) (trees : List TableTree) → AreTrees trees → All (IsLow k) (flat_map (λ i. i.tables) (items_from prunes n cs trees))
-  items_low prunes n cs [] low = All-nil (IsLow k)
-  items_low prunes n cs (t ∷ ts) low =
-      All-append (IsLow k) (kept_tables (keeps_first prunes n (asked_at n cs)) t) (flat_map (λ i. i.tables) (items_from prunes (n + 1) (asked_later n cs) ts))
-      (all_kept (IsLow k) (keeps_first prunes n (asked_at n cs)) t (All-head (AllTables (IsLow k)) t ts low)) (items_low prunes (n + 1) (asked_later n cs) ts (All-tail (AllTables (IsLow k)) t ts low))
+  items_low : (how : Planning) (n : ℕ) (cs : List CondTree) (trees : List TableTree) → AreTrees trees → All (IsLow k) (flat_map (λ i. i.tables) (items_from how n cs trees))
+  items_low how n cs [] low = All-nil (IsLow k)
+  items_low how n cs (t ∷ ts) low =
+      All-append (IsLow k) (kept_tables (keeps_first how n (asked_at n cs)) t) (flat_map (λ i. i.tables) (items_from how (n + 1) (asked_later n cs) ts))
+      (all_kept (IsLow k) (keeps_first how n (asked_at n cs)) t (All-head (AllTables (IsLow k)) t ts low)) (items_low how (n + 1) (asked_later n cs) ts (All-tail (AllTables (IsLow k)) t ts low))
 
   none_or : (b : Bool) (tables : List TableNo) → All (IsLow k) tables → All (IsLow k) (if b then [] else tables)
   none_or true tables all = All-nil (IsLow k)
   none_or false tables all = all
 
-  plan_low : (prunes : Bool) (conditions : List CondTree) (trees : List TableTree) → AreTrees trees → All (IsLow k) (plan_tables (plan_for prunes conditions trees))
-  plan_low prunes conditions trees low =
-      none_or (is_empty (plan_for prunes conditions trees)) (flat_map (λ i. i.tables) (items_from prunes 0 (pool conditions) trees)) (items_low prunes 0 (pool conditions) trees low)
+  plan_low : (how : Planning) (conditions : List CondTree) (trees : List TableTree) → AreTrees trees → All (IsLow k) (plan_tables (plan_for how conditions trees))
+  plan_low how conditions trees low =
+      none_or (is_empty (plan_for how conditions trees)) (flat_map (λ i. i.tables) (items_from how 0 (pool conditions) trees)) (items_low how 0 (pool conditions) trees low)
 
   locked_below_parts : (tables : List TableNo) → All (IsLow k) tables → Parts k (Gives k Any) (locked_below names k.caller tables)
   locked_below_parts tables low = all_locked_parts k names AccessShare (map number_of tables) (All-map (λ n. n < k.bound) number_of tables low)
@@ -101,17 +102,17 @@ module _ (k : Attempt) (names : List (List ℕ)) (params : List Param) where
   by_plan_parts m plan low =
       then_parts k Any (Gives k Any) (locked_below names k.caller (plan_tables plan)) (λ u. answered k.caller m plan) (locked_below_parts (plan_tables plan) low) (λ u any. answered_parts m plan)
 
-  over_parts : (prunes : Bool) (t : SelectTree) (items : List Item) (trees : List TableTree) → AreTrees trees → Parts k (Gives k Any) (over prunes names params k.caller t items trees)
-  over_parts prunes t items trees low =
-      then_parts k Any (Gives k Any) (meant params k.caller t items) (λ m. by_plan names k.caller m (plan_for prunes m.conditions trees)) (meant_parts t items)
-      (λ m any. by_plan_parts m (plan_for prunes m.conditions trees) (plan_low prunes m.conditions trees low))
+  over_parts : (how : Planning) (t : SelectTree) (items : List Item) (trees : List TableTree) → AreTrees trees → Parts k (Gives k Any) (over how names params k.caller t items trees)
+  over_parts how t items trees low =
+      then_parts k Any (Gives k Any) (meant params k.caller t items) (λ m. by_plan names k.caller m (plan_for how m.conditions trees)) (meant_parts t items)
+      (λ m any. by_plan_parts m (plan_for how m.conditions trees) (plan_low how m.conditions trees low))
 
-  of_tables_parts : (prunes : Bool) (t : SelectTree) (ns : List ℕ) → AreLow ns → Parts k (Gives k Any) (of_tables prunes names params k.caller t ns)
-  of_tables_parts prunes t ns low h now = over_parts prunes t (items_of 0 (from_of t) (trees_for k.caller ns h)) (trees_for k.caller ns h) (trees_low ns low h now) h now
+  of_tables_parts : (how : Planning) (t : SelectTree) (ns : List ℕ) → AreLow ns → Parts k (Gives k Any) (of_tables how names params k.caller t ns)
+  of_tables_parts how t ns low h now = over_parts how t (items_of 0 (from_of t) (trees_for k.caller ns h)) (trees_for k.caller ns h) (trees_low ns low h now) h now
 
-  of_named_parts : (prunes : Bool) (t : SelectTree) → Parts k (Gives k Any) (of_named prunes names params k.caller t)
-  of_named_parts prunes t =
-      then_parts k AreLow (Gives k Any) (named_from names k.caller [] (from_of t)) (of_tables prunes names params k.caller t) (named_from_parts (from_of t) [] (All-nil (λ n. n < k.bound))) (of_tables_parts prunes t)
+  of_named_parts : (how : Planning) (t : SelectTree) → Parts k (Gives k Any) (of_named how names params k.caller t)
+  of_named_parts how t =
+      then_parts k AreLow (Gives k Any) (named_from names k.caller [] (from_of t)) (of_tables how names params k.caller t) (named_from_parts (from_of t) [] (All-nil (λ n. n < k.bound))) (of_tables_parts how t)
 
   bare_parts : (t : SelectTree) → Parts k (Gives k Any) (bare params k.caller t)
   bare_parts t =
@@ -121,12 +122,12 @@ module _ (k : Attempt) (names : List (List ℕ)) (params : List Param) where
   begins_parts : Parts k (Gives k Any) (begins k.caller)
   begins_parts = held_at_parts k k.caller.level k.caller.cmd
 
-  of_items_parts : (prunes : Bool) (t : SelectTree) (js : List Joined) → Parts k (Gives k Any) (of_items prunes names params k.caller t js)
-  of_items_parts prunes t [] = then_parts k Any (Gives k Any) (begins k.caller) (λ u. bare params k.caller t) begins_parts (λ u any. bare_parts t)
-  of_items_parts prunes t (j ∷ js) = then_parts k Any (Gives k Any) (begins k.caller) (λ u. of_named prunes names params k.caller t) begins_parts (λ u any. of_named_parts prunes t)
+  of_items_parts : (how : Planning) (t : SelectTree) (js : List Joined) → Parts k (Gives k Any) (of_items how names params k.caller t js)
+  of_items_parts how t [] = then_parts k Any (Gives k Any) (begins k.caller) (λ u. bare params k.caller t) begins_parts (λ u any. bare_parts t)
+  of_items_parts how t (j ∷ js) = then_parts k Any (Gives k Any) (begins k.caller) (λ u. of_named how names params k.caller t) begins_parts (λ u any. of_named_parts how t)
 
-  pub selected_parts : (prunes : Bool) (t : SelectTree) → Parts k (Gives k Any) (selected prunes names params k.caller t)
-  selected_parts prunes t = of_items_parts prunes t (from_of t)
+  pub selected_parts : (how : Planning) (t : SelectTree) → Parts k (Gives k Any) (selected how names params k.caller t)
+  selected_parts how t = of_items_parts how t (from_of t)
 
   -- ---- EXPLAIN
 
@@ -145,14 +146,14 @@ module _ (k : Attempt) (names : List (List ℕ)) (params : List Param) where
   gathered_parts t =
       then_parts k AreLow (Gives k HasTrees) (named_from names k.caller [] (from_of t)) (found_in params k.caller t) (named_from_parts (from_of t) [] (All-nil (λ n. n < k.bound))) (found_in_parts t)
 
-  planned_parts : (prunes : Bool) (g : Found) → HasTrees g → Parts k (Gives k Any) (planned_under prunes names k.caller g)
-  planned_parts prunes g low =
-      then_parts k Any (Gives k Any) (locked_below names k.caller (plan_tables (plan_of prunes g))) (λ u h. made [] (plan_of prunes g))
-      (locked_below_parts (plan_tables (plan_of prunes g)) (plan_low prunes g.meant.conditions g.trees low)) (λ u any h now. made_part k (Gives k Any) h (plan_of prunes g) now.may (now.still, tt))
+  planned_parts : (how : Planning) (g : Found) → HasTrees g → Parts k (Gives k Any) (planned_under how names k.caller g)
+  planned_parts how g low =
+      then_parts k Any (Gives k Any) (locked_below names k.caller (plan_tables (plan_of how g))) (λ u h. made [] (plan_of how g))
+      (locked_below_parts (plan_tables (plan_of how g)) (plan_low how g.meant.conditions g.trees low)) (λ u any h now. made_part k (Gives k Any) h (plan_of how g) now.may (now.still, tt))
 
-  pub explained_parts : (prunes : Bool) (t : SelectTree) → Parts k (Gives k Any) (explained prunes names params k.caller t)
-  explained_parts prunes t =
-      then_parts k Any (Gives k Any) (begins k.caller) (λ u. follow (gathered names params k.caller t) (λ g. follow (planned_under prunes names k.caller g) (printed t g))) begins_parts
-      (λ u any. then_parts k HasTrees (Gives k Any) (gathered names params k.caller t) (λ g. follow (planned_under prunes names k.caller g) (printed t g)) (gathered_parts t)
-      (λ g low. then_parts k Any (Gives k Any) (planned_under prunes names k.caller g) (printed t g) (planned_parts prunes g low)
+  pub explained_parts : (how : Planning) (t : SelectTree) → Parts k (Gives k Any) (explained how names params k.caller t)
+  explained_parts how t =
+      then_parts k Any (Gives k Any) (begins k.caller) (λ u. follow (gathered names params k.caller t) (λ g. follow (planned_under how names k.caller g) (printed t g))) begins_parts
+      (λ u any. then_parts k HasTrees (Gives k Any) (gathered names params k.caller t) (λ g. follow (planned_under how names k.caller g) (printed t g)) (gathered_parts t)
+      (λ g low. then_parts k Any (Gives k Any) (planned_under how names k.caller g) (printed t g) (planned_parts how g low)
       (λ p any h now. made_part k (Gives k Any) h (told t g p) now.may (now.still, tt))))

@@ -13,6 +13,7 @@ use Rattle.stores.specs.Events.{look_of}
 use Rattle.stores.specs.Good.{IsGood}
 use Rattle.statement_steps.specs.declared.caller.Caller.{Caller}
 use Rattle.select_statement.specs.Selected.{trees_for}
+use Rattle.plan_tree.specs.declared.planning.Planning.{Planning}
 
 -- the leaf is shown below one of these tables, by entries alone whose births count and no ends, and of which the snapshot sees
 -- no mark
@@ -21,8 +22,8 @@ IsShownBelowOne h session s tables leaf = (top : ℕ) × Contains tables top × 
 
 -- so is each leaf under a scan of a plan that is made there, whether it is run or printed
 abbrev pub ScansAreFresh : History → Type 0
-ScansAreFresh h = (prunes : Bool) (c : Caller) (m : SelectMeant) (ns : List ℕ) → All (IsMade (catalogue_events h)) ns
-    → All (λ l. IsShownBelowOne h c.session (look_of h c.session c.cmd) ns l.id) (scanned (plan_for prunes m.conditions (trees_for c ns h)))
+ScansAreFresh h = (how : Planning) (c : Caller) (m : SelectMeant) (ns : List ℕ) → All (IsMade (catalogue_events h)) ns
+    → All (λ l. IsShownBelowOne h c.session (look_of h c.session c.cmd) ns l.id) (scanned (plan_for how m.conditions (trees_for c ns h)))
 
 abbrev pub EachScanIsFresh : Type 0
 EachScanIsFresh = (h : History) → IsGood h → ScansAreFresh h
