@@ -8,5 +8,6 @@ pub mod Pools
 pub mod Pushing
 pub mod Right
 pub mod Small
+pub mod Starting
 pub mod Truths
 pub mod Weights
