@@ -248,12 +248,13 @@ one_table_plain lawful small once pruned h good how names params c t table looks
 scans_of_one : (i : PlannedItem) (at_last : List CondTree) → i.leaves ≡ scanned (record { items = i ∷ []; at_last = at_last })
 scans_of_one i at_last = by i.leaves refl
   where
-    none : (b : Bool) → [] ≡ (if b || false then [] else [])
-    none true = refl
-    none false = refl
+    -- whether nothing was kept or all was removed
+    none : (b : Bool) (ls : List Leaf) → ls ≡ [] → ls ≡ (if b || false then [] else ls ++ [])
+    none true ls is = is
+    none false ls is = sym (append-nil ls)
 
     by : (ls : List Leaf) → i.leaves ≡ ls → i.leaves ≡ (if (is_none i.leaves && i.removed == 0) || false then [] else i.leaves ++ [])
-    by [] is = subst (λ (xs : List Leaf). xs ≡ (if (is_none xs && i.removed == 0) || false then [] else xs ++ [])) (sym is) (none (i.removed == 0))
+    by [] is = subst (λ (xs : List Leaf). xs ≡ (if (is_none xs && i.removed == 0) || false then [] else xs ++ [])) (sym is) (none (i.removed == 0) [] refl)
     by (l ∷ ls) is = subst (λ (xs : List Leaf). xs ≡ (if (is_none xs && i.removed == 0) || false then [] else xs ++ [])) (sym is) (sym (append-nil (l ∷ ls)))
 
 pub reads_its_scans : OneItemIsReadOnce → OneTableReadsItsScans

@@ -190,7 +190,7 @@ too_many_asked how params session t items many = by how.is_generic
     by false = ap (if_bound (with_values (values_of params))) (too_many_bound params session t items many)
 
 pub too_many_meant : (how : Planning) (params : List Param) (caller : Caller) (t : SelectTree) (items : List Item) → 4 < length (from_of t) → meant how params caller t items ≡ meant how params caller t []
-too_many_meant how params caller t items many = ap (λ (r : Result SelectMeant Fault) (h : History). outcome r) (too_many_asked how params caller.session t items many ∙ sym (too_many_asked how params caller.session t [] many))
+too_many_meant how params caller t items many = ap {B = History → Made SelectMeant} (λ r h. outcome r) (too_many_asked how params caller.session t items many ∙ sym (too_many_asked how params caller.session t [] many))
 
 pub too_many_told : (how : Planning) (params : List Param) (caller : Caller) (t : SelectTree) (items : List Item) (h : History) → 4 < length (from_of t) → (meant how params caller t items h).told ≡ Err (Refused (too_many TablesInFrom))
 too_many_told how params caller t items h many = ap (λ (r : Result SelectMeant Fault). (outcome r).told) (too_many_asked how params caller.session t items many)
