@@ -119,8 +119,8 @@ fn plan_table(
     write_plan(alloc, &named, is_cut, &found.ask, plan)
 }
 
-/// An EXPLAIN of a SELECT of a session, with the arguments of its parameters: its plan, or why it stops. It locks what the SELECT locks, and is refused
-/// where that is refused before it reads. It reads nothing.
+/// An EXPLAIN of a SELECT of a session, with the arguments of its parameters: its plan, or why it stops. It locks what
+/// the SELECT locks, and is refused where that is refused before it reads. It reads nothing.
 pub fn explain(
     alloc: Global,
     stores: &mut Stores,

@@ -144,7 +144,7 @@ fn start_by<'t>(
     plan: Plan<'t>,
 ) -> Result<Plan<'t>, NoMemory>
     requires { All (λ i. CanPrune i.tree) (planned plan).items }
-    ensures { IfOk result (λ p. planned p ≡ started_by how args.now (planned plan)) }
+    ensures { IfOk result (λ p. planned p ≡ started_by how args.now (planned plan.entry)) }
 {
     if how.is_generic {
         plan.start(alloc, args)

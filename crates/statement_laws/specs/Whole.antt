@@ -1,6 +1,6 @@
 -- A whole SELECT, UPDATE or DELETE over all leaves of the trees of its tables (the manual, 5.11.4 Partition Pruning, with
 -- pruning off), under the locks of one that reads by its plan.
-use Rattle.std.specs.Prelude.{◌≡◌, ◌≤◌, ℕ, Bool, List, [], ◌∷◌, ◌++◌, Option, Some, Ok, length}
+use Rattle.std.specs.Prelude.{◌≡◌, ◌≤◌, ℕ, List, [], ◌∷◌, ◌++◌, Option, Some, Ok, length}
 use Rattle.pg_values.specs.declared.answer.Answer.{Answer}
 use Rattle.history.specs.Transactions.{open_of}
 use Rattle.history.specs.History.{History, tx_events}
