@@ -1,3 +1,4 @@
+pub mod Arguments
 pub mod Conditions
 pub mod Missed
 pub mod Nodes
