@@ -1,5 +1,5 @@
 -- The targets in the leaves that a statement reads are those in all leaves.
-use Rattle.std.proofs.Common.{◌≡◌, ◌≤◌, ◌+◌, ◌&&◌, arith, Bool, true, false, if◌then◌else◌, List, [], ◌∷◌, ◌++◌, length, map, refl, sym, ap, ◌∙◌, append_assoc, append-nil, length-append, subst}
+use Rattle.std.proofs.Common.{◌≡◌, ◌≤◌, ◌+◌, ◌&&◌, arith, Bool, true, false, if◌then◌else◌, List, [], ◌∷◌, ◌++◌, length, map, refl, sym, ap, ◌∙◌, append_assoc, length-append, subst}
 use Rattle.std.specs.Prelude.{Option, Some, None, filter}
 use Rattle.std.specs.List.{flat_map}
 use Rattle.std.proofs.lemmas.List.{length-map}
@@ -15,12 +15,13 @@ use Rattle.cond_logic.specs.declared.truth.Truth3.TheVariants.{Yes, No, Unknown}
 use Rattle.cond_logic.specs.Rewriting.{with_args}
 use Rattle.cond_logic.specs.Trees.{CondTree}
 use Rattle.cond_logic.specs.Truths.{truth}
-use Rattle.cond_logic.specs.Tuples.{Places, no_rows, put}
+use Rattle.cond_logic.specs.Tuples.{no_rows, put}
 use Rattle.cond_logic.specs.Tables.{Leaf}
-use Rattle.cond_logic.proofs.Bound.{bound_true}
 use Rattle.plan_tree.specs.Kept.{Keeps, keeps_for as keeps_for_all, id_of, leaf_of, named_leaves, all_named_leaves, keeps_plain, leaves_below, leaves_among, kept_leaves}
 use Rattle.plan_tree.specs.Laws.{is_yes, passes_beside, passing_in, row_of, shown, NoneIsMissed, ShownLieRight, TreesCanBePruned}
+use Rattle.plan_tree.proofs.Arguments.{given_true}
 use Rattle.plan_tree.proofs.Missed.{ids_named}
+use Rattle.plan_tree.proofs.Truths.{args_true}
 use Rattle.change_statement.specs.Targets as targets_spec
 use Rattle.change_statement.specs.Targets.{takes, target_of, targets, targets_in}
 use Rattle.statement_steps.specs.declared.rest.TargetRow.{TargetRow}
@@ -29,7 +30,7 @@ use Rattle.change_statement.specs.Kept.{condition_or_all, keeps_for, keeps_start
 use Rattle.stores.specs.Events.{look_of}
 use Rattle.change_statement.specs.Changed.{all_changed}
 use Rattle.change_statement.specs.Laws.{KeptHaveAllTargets, PrunedChangesArePlain, gathered_of}
-use Rattle.change_statement.proofs.Started.{args_true, asked_condition}
+use Rattle.change_statement.proofs.Started.{asked_condition}
 
 -- ---- lists of lists
 
@@ -162,16 +163,13 @@ same_both a b v first second = ap (λ x. is_yes x && (is_yes b && true)) first �
     twice No = refl
     twice Unknown = refl
 
-put_true : (rows : Places) (args : List Value) (c : CondTree) → truth rows args (with_args args c) ≡ truth rows args c
-put_true rows args c = subst (λ vs. truth rows vs (with_args args c) ≡ truth rows vs c) (append-nil args) (bound_true rows args [] c)
-
 -- and by the condition with values in the places of its parameters too
 same_start : (args : List Value) (condition : Option CondTree) (row : List Value) → passes_beside args no_rows 0 (condition_or_all condition ∷ with_args args (condition_or_all condition) ∷ []) row ≡ takes (condition_with args condition) row
 same_start args None row = refl
 same_start args (Some c) row =
     let rows = put no_rows 0 row in
-    let alone = args_true rows args c in
-    same_both (truth rows args c) (truth rows args (with_args args c)) (truth rows [] (with_args args c)) (sym alone) (put_true rows args c ∙ sym alone)
+    let alone = given_true rows args c in
+    same_both (truth rows args c) (truth rows args (with_args args c)) (truth rows [] (with_args args c)) (sym alone) (args_true rows args c ∙ sym alone)
 
 -- ---- so of a statement
 

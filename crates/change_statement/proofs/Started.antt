@@ -1,25 +1,19 @@
 -- What a generic plan reads: of the leaves that its condition keeps those that the values of parameters keep too, and no others.
-use Rattle.std.proofs.Common.{◌≡◌, ◌∙◌, ◌&&◌, ℕ, zero, suc, Bool, true, false, if◌then◌else◌, List, [], ◌∷◌, ◌++◌, Option, Some, None, Ok, Result, map, slice_get, slice_index_or, refl, ap, sym, subst, inl, inr}
+use Rattle.std.proofs.Common.{◌≡◌, ◌∙◌, ◌&&◌, Bool, true, false, if◌then◌else◌, List, [], ◌∷◌, Option, Ok, Result, map, refl, ap, sym, subst, inl, inr}
 use Rattle.std.specs.List.{Contains}
 use Rattle.std.proofs.lemmas.List.{map-append}
 use Rattle.std.proofs.lemmas.List.Elements.{Contains-append_left, Contains-append_right, Contains-append_cases}
 use Rattle.pg_values.specs.declared.ids.LeafId.{LeafId}
 use Rattle.pg_values.specs.declared.text.NoMemory.{NoMemory}
 use Rattle.pg_values.specs.declared.value.Value.{Value}
-use Rattle.pg_values.specs.declared.value.Value.TheVariants.{Null}
 use Rattle.bound_forms.specs.declared.level.Level.{Level}
 use Rattle.bound_forms.specs.declared.partition_bound.Bound.{Bound}
 use Rattle.bound_forms.specs.declared.partition_bound.Bound.TheVariants.{Default}
 use Rattle.row_router.specs.Trees.{TableTree, LeafTable, LevelTable, Trees, End, More}
 use Rattle.cond_logic.specs.Asked.{ChangeMeant, change_meant}
-use Rattle.cond_logic.specs.Rewriting.{given_or, operand_with, with_args, all_with_args}
 use Rattle.cond_logic.specs.Tables.{Leaf}
-use Rattle.cond_logic.specs.Trees.{CondTree, CondTrees, no_more, and_more, all_of, any_of, inverted, compares, null_test, known}
-use Rattle.cond_logic.specs.Truths.{opposite, truth, least_of, greatest_of}
-use Rattle.cond_logic.specs.Tuples.{Places, value_of}
+use Rattle.cond_logic.specs.Trees.{CondTree}
 use Rattle.cond_logic.specs.declared.change.ChangeAsk.{ChangeAsk}
-use Rattle.cond_logic.specs.declared.cond.Operand.{Operand}
-use Rattle.cond_logic.specs.declared.cond.Operand.TheVariants.{Column, Lit, Param as Parameter}
 use Rattle.expression_binder.specs.declared.scope.Param.{Param}
 use Rattle.plan_tree.specs.Kept.{Keeps, id_of, keeps_by, keeps_plain, kept_leaves, leaf_of, leaves_among, leaves_below, no_keys}
 use Rattle.plan_tree.specs.Plans.{apart}
@@ -111,39 +105,3 @@ put_apart how params kept ask put are told same = by how.is_generic are
     by : (v : Bool) → kept ≡ (if v then params else []) → change_meant put ≡ (if v then change_with_values (values_of (if v then params else [])) (change_meant ask) else change_meant ask)
     by true is = told ∙ ap (λ ps. change_with_values (values_of ps) (change_meant ask)) is
     by false is = ap change_meant (same_ask put ask (same is))
-
--- ---- values in the places of parameters
-
-module _ (rows : Places) where
-  given_alone : (args : List Value) (i : ℕ) → value_of rows [] (given_or (slice_get args i) i) ≡ slice_index_or args i Null
-  given_alone [] i = refl
-  given_alone (a ∷ args) zero = refl
-  given_alone (a ∷ args) (suc i) = given_in (slice_get args i) (given_alone args i)
-    where
-      given_in : (g : Option Value) → value_of rows [] (given_or g i) ≡ slice_index_or args i Null → value_of rows [] (given_or g (suc i)) ≡ slice_index_or args i Null
-      given_in None e = e
-      given_in (Some v) e = e
-
-  module _ (args : List Value) where
-    operand_alone : (x : Operand) → value_of rows [] (operand_with args x) ≡ value_of rows args x
-    operand_alone (Column c) = refl
-    operand_alone (Lit v) = refl
-    operand_alone (Parameter i) = given_alone args i
-
-    mutual
-      -- by themselves they make it as true as beside it
-      pub args_true : (t : CondTree) → truth rows [] (with_args args t) ≡ truth rows args t
-      args_true (all_of ts) = all_true ts
-      args_true (any_of ts) = any_true ts
-      args_true (inverted t) = ap opposite (args_true t)
-      args_true (compares op x y) = rw (operand_alone x, operand_alone y) refl
-      args_true (null_test x) = rw (operand_alone x) refl
-      args_true (known t) = refl
-
-      all_true : (ts : CondTrees) → least_of rows [] (all_with_args args ts) ≡ least_of rows args ts
-      all_true no_more = refl
-      all_true (and_more t ts) = rw (args_true t, all_true ts) refl
-
-      any_true : (ts : CondTrees) → greatest_of rows [] (all_with_args args ts) ≡ greatest_of rows args ts
-      any_true no_more = refl
-      any_true (and_more t ts) = rw (args_true t, any_true ts) refl
