@@ -39,12 +39,12 @@ leaves_read keeps tree = map id_of (kept_leaves keeps tree)
 
 -- ---- rows that may move
 
--- where no leaf is read nothing moves
+-- where no leaf is kept nothing moves
 abbrev pub if_some : {X : Type 0} → List X → Bool → Bool
 if_some [] b = false
 if_some (x ∷ xs) b = b
 
--- rows of the leaves that are read may get to any other
+-- rows of the kept leaves may get to any other
 abbrev pub moves : Keeps → List SettingMeant → TableTree → Bool
 moves keeps settings tree = if_some (kept_leaves keeps tree) (sets_key settings tree)
 
