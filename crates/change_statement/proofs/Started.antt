@@ -1,5 +1,5 @@
 -- What a generic plan reads: of the leaves that its condition keeps those that the values of parameters keep too, and no others.
-use Rattle.std.proofs.Common.{◌≡◌, ◌∙◌, ◌&&◌, Bool, true, false, if◌then◌else◌, List, [], ◌∷◌, Option, Ok, Result, map, refl, ap, sym, subst, inl, inr}
+use Rattle.std.proofs.Common.{◌≡◌, ◌∙◌, ◌&&◌, Bool, true, false, if◌then◌else◌, List, [], ◌∷◌, Option, Ok, Err, IfOk, Result, map, refl, ap, sym, subst, inl, inr}
 use Rattle.std.specs.List.{Contains}
 use Rattle.std.proofs.lemmas.List.{map-append}
 use Rattle.std.proofs.lemmas.List.Elements.{Contains-append_left, Contains-append_right, Contains-append_cases}
@@ -98,9 +98,10 @@ same_ask : (put ask : ChangeAsk) → answer put ≡ answer ask → put ≡ ask
 same_ask put ask e = cc
 
 -- the values of what stays apart are put in their places
-pub put_apart : (how : Planning) (params kept : List Param) (ask put : ChangeAsk) → kept ≡ apart how params → change_meant put ≡ change_with_values (values_of kept) (change_meant ask)
-    → (kept ≡ [] → answer put ≡ answer ask) → change_meant put ≡ asked_with how (values_of (apart how params)) (change_meant ask)
-put_apart how params kept ask put are told same = by how.is_generic are
+pub put_apart : (how : Planning) (params kept : List Param) (ask : ChangeAsk) (r : Result ChangeAsk NoMemory) → kept ≡ apart how params → IfOk r (λ put. change_meant put ≡ change_with_values (values_of kept) (change_meant ask)) → (kept ≡ [] → r ≡ Ok ask)
+    → IfOk r (λ put. change_meant put ≡ asked_with how (values_of (apart how params)) (change_meant ask))
+put_apart how params kept ask (Err e) are told same = tt
+put_apart how params kept ask (Ok put) are told same = by how.is_generic are
   where
     by : (v : Bool) → kept ≡ (if v then params else []) → change_meant put ≡ (if v then change_with_values (values_of (if v then params else [])) (change_meant ask) else change_meant ask)
     by true is = told ∙ ap (λ ps. change_with_values (values_of ps) (change_meant ask)) is
