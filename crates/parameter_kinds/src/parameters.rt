@@ -90,11 +90,11 @@ fn givens_of(
     Ok(givens)
 }
 
-fn wanted_for(declared: Option<Kind>, placed: Option<Kind>) -> Wanted
-    ensures { result ≡ parameters.wanted_for declared placed }
+fn wanted_for(declared: &Option<Kind>, placed: Option<Kind>) -> Wanted
+    ensures { result ≡ parameters.wanted_for declared.now placed }
 {
     match declared {
-        Some(kind) => Wanted::Declared(kind),
+        Some(kind) => Wanted::Declared(*kind),
         None => match placed {
             Some(kind) => Wanted::Placed(kind),
             None => Wanted::Free,
@@ -102,7 +102,7 @@ fn wanted_for(declared: Option<Kind>, placed: Option<Kind>) -> Wanted
     }
 }
 
-#[tactic(auto, using(crate::proofs::Firsts::count_told, crate::proofs::Firsts::place_told))]
+#[tactic(auto, using(crate::proofs::Firsts::count_told))]
 fn wanted_in(
     alloc: Global,
     statement: &RowStatement,
@@ -115,7 +115,7 @@ fn wanted_in(
     let placed = kinds_in_statement(alloc, statement, tables, givens, declared.len())?;
     let mut wanted = Vec::new(alloc);
     for (place, kind) in declared.iter().enumerate() {
-        wanted.push(wanted_for(*kind, placed[place]))?;
+        wanted.push(wanted_for(kind, placed[place]))?;
     }
     Ok(wanted)
 }
