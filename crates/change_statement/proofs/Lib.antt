@@ -14,6 +14,7 @@ pub mod Pruned
 pub mod Renewed
 pub mod Runs
 pub mod SameKeys
+pub mod Started
 pub mod Stays
 pub mod Still
 pub mod Taken

@@ -9,5 +9,5 @@ use Rattle.change_statement.specs.Moments.{ChangesArePlain}
 use Rattle.change_statement.proofs.Pruned.{pruned_plain}
 
 pub good_changes : (h : History) → IsGood h → ChangesArePlain h
-good_changes h good prunes change names c table m =
-    pruned_plain none_missed shown_right trees_prunable prunes change names c table m h (legal_of h good) (permitted_of h good)
+good_changes h good how args change names c table m =
+    pruned_plain none_missed shown_right trees_prunable how args change names c table m h (legal_of h good) (permitted_of h good)

@@ -7,6 +7,7 @@ use Rattle.history.specs.Rows.{RowEnded}
 use Rattle.history.specs.History.{History, RowChange}
 use Rattle.sql_ast.specs.Expressions.{Tree}
 use Rattle.sql_ast.specs.declared.named_table.NamedTable.{NamedTable}
+use Rattle.plan_tree.specs.declared.planning.Planning.{Planning}
 use Rattle.expression_binder.specs.declared.scope.Param.{Param}
 use Rattle.statement_steps.specs.Made.{Made, made}
 use Rattle.statement_steps.specs.declared.caller.Caller.{Caller}
@@ -26,7 +27,7 @@ deleting c leaf id row = ended c Deleted id
 
 -- DELETE FROM table [ WHERE condition ], from its beginning, or from where it stood; a transaction at REPEATABLE READ takes its
 -- snapshot before anything waits
-abbrev pub deleted : (prunes : Bool) → (names : List (List ℕ)) → List Param → Caller → Option Rest → NamedTable → (condition : Option Tree) → History → Made Told
-deleted prunes names params c rest table condition =
+abbrev pub deleted : Planning → (names : List (List ℕ)) → List Param → Caller → Option Rest → NamedTable → (condition : Option Tree) → History → Made Told
+deleted how names params c rest table condition =
     changed_by (λ g. deleting c) names c rest (follow (held_at c.level c.session c.cmd) (λ u.
-    follow (gathered prunes names params c table [] condition) (λ g. changed (deleting c) names c g)))
+    follow (gathered how names params c table [] condition) (λ g. changed (deleting c) names c g)))

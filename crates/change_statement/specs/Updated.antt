@@ -20,6 +20,7 @@ use Rattle.change_statement.specs.NewRows.{new_row}
 use Rattle.sql_ast.specs.Expressions.{Tree}
 use Rattle.sql_ast.specs.Queries.{Setting}
 use Rattle.sql_ast.specs.declared.named_table.NamedTable.{NamedTable}
+use Rattle.plan_tree.specs.declared.planning.Planning.{Planning}
 use Rattle.expression_binder.specs.declared.scope.Param.{Param}
 use Rattle.statement_steps.specs.Made.{Made, unless_refused, answered}
 use Rattle.statement_steps.specs.declared.caller.Caller.{Caller}
@@ -74,7 +75,7 @@ abbrev pub updating : Caller → Found → Changing
 updating c g old id row = follow (renewed g row) (stored c g old id)
 
 -- UPDATE table SET settings [ WHERE condition ], from its beginning, or from where it stood
-abbrev pub updated : (prunes : Bool) → (names : List (List ℕ)) → List Param → Caller → Option Rest → NamedTable → List Setting → (condition : Option Tree) → History → Made Told
-updated prunes names params c rest table settings condition =
+abbrev pub updated : Planning → (names : List (List ℕ)) → List Param → Caller → Option Rest → NamedTable → List Setting → (condition : Option Tree) → History → Made Told
+updated how names params c rest table settings condition =
     changed_by (λ g. updating c g) names c rest (follow (held_at c.level c.session c.cmd) (λ u.
-    follow (gathered prunes names params c table settings condition) (λ g. changed (updating c g) names c g)))
+    follow (gathered how names params c table settings condition) (λ g. changed (updating c g) names c g)))

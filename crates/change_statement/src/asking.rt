@@ -6,7 +6,6 @@ ghost use Rattle.expression_binder.specs.Firsts.{IsAnswerBy};
 ghost use Rattle.cond_logic.specs.Asked.{change_meant};
 ghost use Rattle.sql_binder.specs.Changes.{bound_change};
 ghost use Rattle.sql_binder.specs.From.{item_name};
-ghost use Rattle.sql_binder.specs.Values.{custom_change};
 ghost use Rattle.statement_steps.specs.Attempts.{MayAttempt};
 ghost use Rattle.statement_steps.specs.Steps.{IsStep};
 ghost use Rattle.change_statement.specs.Gathered as gathered;
@@ -16,6 +15,7 @@ use cond_logic::ChangeAsk;
 use expression_binder::{Param, ScopeItem};
 use history::Column;
 use pg_values::{NoMemory, PgText, Refusal, TableNo};
+use plan_tree::Planning;
 use sql_ast::{Delete, NamedTable, Update};
 use sql_binder::{bind_delete, bind_update, put_change_values};
 use statement_steps::{Caller, Stop, scope_columns};
@@ -73,23 +73,28 @@ fn bind_for(
 
 fn bind_columns(
     alloc: Global,
+    how: Planning,
     change: Change<'_>,
     columns: &[Column],
     params: &[Param],
     session: u32,
 ) -> Result<ChangeAsk, Refusal>
-    ensures { IsAnswerBy change_meant result (custom_change (gathered.item_of (gathered.table_named change.entry) columns.now) params.now session (gathered.settings_of change.entry) (gathered.condition_of change.entry)) }
+    ensures { IsAnswerBy change_meant result (gathered.asked_by how (gathered.item_of (gathered.table_named change.entry) columns.now) params.now session (gathered.settings_of change.entry) (gathered.condition_of change.entry)) }
 {
     let item = item_of(alloc, table_named(change), columns)?;
     let ask = bind_for(alloc, change, &item, params, session)?;
+    if how.is_generic {
+        return Ok(ask);
+    }
     Ok(put_change_values(alloc, ask, params)?)
 }
 
-/// Names and kinds are bound over the columns of the table, constants evaluated, and the values of parameters put in
-/// their places.
+/// Names and kinds are bound over the columns of the table and constants evaluated; for a custom plan the values of
+/// parameters are put in their places.
 pub(crate) fn bind(
     alloc: Global,
     stores: &Stores,
+    how: Planning,
     params: &[Param],
     caller: Caller,
     change: Change<'_>,
@@ -97,9 +102,9 @@ pub(crate) fn bind(
 ) -> Result<ChangeAsk, Stop>
     requires may { MayAttempt stores.now caller }
     requires known { table.number < length stores.now.catalog.tables }
-    ensures { IsStep change_meant result stores.now stores.now caller caller.cmd (gathered.meant params.now caller (gathered.table_named change.entry) (gathered.settings_of change.entry) (gathered.condition_of change.entry) table.number) }
+    ensures { IsStep change_meant result stores.now stores.now caller caller.cmd (gathered.meant how params.now caller (gathered.table_named change.entry) (gathered.settings_of change.entry) (gathered.condition_of change.entry) table.number) }
 {
     let columns = stores.catalog.table(table).columns.as_slice();
-    let ask = bind_columns(alloc, change, columns, params, caller.session)?;
+    let ask = bind_columns(alloc, how, change, columns, params, caller.session)?;
     Ok(ask)
 }

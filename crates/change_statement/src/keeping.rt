@@ -5,15 +5,16 @@ ghost use Rattle.std.specs.List.{list_any};
 ghost use Rattle.row_router.specs.Seen.{seen};
 ghost use Rattle.plan_tree.specs.Kept.{id_of, kept_leaves, kept_tables};
 ghost use Rattle.plan_tree.specs.Prunable.{CanPrune};
+ghost use Rattle.cond_logic.specs.Trees.{cond_tree};
 ghost use Rattle.cond_logic.specs.Asked.{change_meant, maybe_cond, setting_meant};
 ghost use Rattle.change_statement.specs.Kept as kept_spec;
-ghost use Rattle.change_statement.specs.Kept.{keeps_for};
+ghost use Rattle.change_statement.specs.Kept.{keeps_for, keeps_started};
 ghost use Rattle.statement_steps.specs.Gathered.{is_set, sets_key};
 
 use bound_forms::KeyColumn;
-use cond_logic::{ChangeAsk, Cond, NamedLeaf, Setting};
-use pg_values::{LeafId, NoMemory, TableNo};
-use plan_tree::{KeptParts, all_hold, prune_tree};
+use cond_logic::{ChangeAsk, Cond, NamedLeaf, Setting, bind_params};
+use pg_values::{LeafId, NoMemory, TableNo, Value};
+use plan_tree::{KeptParts, Planning, all_hold, copy_cond, prune_item, prune_tree};
 use row_router::{Shape, Tree};
 use statement_steps::tables_below;
 use std::alloc::Global;
@@ -98,22 +99,63 @@ fn prune<'t>(
     }
 }
 
-/// The leaves that the condition keeps, and the tables under the named one that lead to them; where rows may
-/// move from these leaves, all tables under it.
-pub(crate) fn keep(
+// The leaves that the condition keeps, and those that it keeps with these values of parameters too.
+fn prune_with(
     alloc: Global,
     prunes: bool,
+    cond: &Cond,
+    args: &[Value],
+    tree: &Tree,
+) -> Result<Vec<LeafId>, NoMemory>
+    requires { CanPrune (seen tree.now) }
+    ensures { IfOk result (λ ls. ls.items ≡ kept_spec.leaves_read (kept_spec.keeps_with prunes args.now (cond_tree cond.now)) (seen tree.now)) }
+{
+    let mut conds = Vec::new(alloc);
+    conds.push(copy_cond(alloc, cond)?)?;
+    conds.push(bind_params(alloc, cond, args)?)?;
+    let kept = prune_item(alloc, prunes, 0, &conds, tree)?;
+    ids_of(alloc, &kept.leaves)
+}
+
+// The leaves that are read.
+fn start(
+    alloc: Global,
+    how: Planning,
+    args: &[Value],
+    condition: &Option<Cond>,
+    kept: &[NamedLeaf<'_>],
+    tree: &Tree,
+) -> Result<Vec<LeafId>, NoMemory>
+    requires tree { CanPrune (seen tree.now) }
+    requires kept { kept.now ≡ kept_leaves (keeps_for how.prunes (maybe_cond condition.now)) (seen tree.now) }
+    ensures { IfOk result (λ ls. ls.items ≡ kept_spec.leaves_read (keeps_started how args.now (maybe_cond condition.now)) (seen tree.now)) }
+{
+    if !how.is_generic {
+        return ids_of(alloc, kept);
+    }
+    match condition {
+        Some(cond) => prune_with(alloc, how.prunes, cond, args, tree),
+        None => prune_with(alloc, how.prunes, &all_hold(alloc, &[])?, args, tree),
+    }
+}
+
+/// The tables under the named one that lead to leaves which the condition keeps, and where rows may move from such
+/// leaves, all tables under it. Of these leaves those are read that the values of parameters keep too.
+pub(crate) fn keep(
+    alloc: Global,
+    how: Planning,
+    args: &[Value],
     ask: &ChangeAsk,
     tree: &Tree,
 ) -> Result<Kept, NoMemory>
     requires { CanPrune (seen tree.now) }
-    ensures tables { IfOk result (λ k. k.tables.items ≡ kept_spec.tables_locked (keeps_for prunes (change_meant ask.now).condition) (change_meant ask.now).settings (seen tree.now)) }
-    ensures leaves { IfOk result (λ k. k.leaves.items ≡ kept_spec.leaves_read (keeps_for prunes (change_meant ask.now).condition) (seen tree.now)) }
-    ensures moves { IfOk result (λ k. k.moves ≡ kept_spec.moves (keeps_for prunes (change_meant ask.now).condition) (change_meant ask.now).settings (seen tree.now)) }
+    ensures tables { IfOk result (λ k. k.tables.items ≡ kept_spec.tables_locked (keeps_for how.prunes (change_meant ask.now).condition) (change_meant ask.now).settings (seen tree.now)) }
+    ensures leaves { IfOk result (λ k. k.leaves.items ≡ kept_spec.leaves_read (keeps_started how args.now (change_meant ask.now).condition) (seen tree.now)) }
+    ensures moves { IfOk result (λ k. k.moves ≡ kept_spec.moves (keeps_for how.prunes (change_meant ask.now).condition) (change_meant ask.now).settings (seen tree.now)) }
 {
-    let kept = prune(alloc, prunes, &ask.condition, tree)?;
-    let leaves = ids_of(alloc, &kept.leaves)?;
-    let moves = !leaves.is_empty() && sets_key(ask.settings.as_slice(), tree);
+    let kept = prune(alloc, how.prunes, &ask.condition, tree)?;
+    let leaves = start(alloc, how, args, &ask.condition, &kept.leaves, tree)?;
+    let moves = !kept.leaves.is_empty() && sets_key(ask.settings.as_slice(), tree);
     let tables = if moves {
         tables_below(alloc, tree)?
     } else {

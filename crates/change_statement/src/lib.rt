@@ -3,7 +3,8 @@
 //! The named table is found and locked, and the statement is bound. Under the named table those are locked
 //! that lead to a leaf which the condition keeps, and those of such leaves; or all, where SET names a key
 //! column, since rows may move then. The kept leaves alone are read, which leaves out no row that passes
-//! (`kept_have_all_targets`) and changes nothing of what is done (`pruned_changes_are_plain`).
+//! (`kept_have_all_targets`) and changes nothing of what is done (`pruned_changes_are_plain`). A generic plan
+//! keeps leaves without the values of parameters; of these it reads those that the values keep too.
 //!
 //! Then the rows are taken one after the other, as PostgreSQL does it: one that another open transaction has
 //! changed is waited for, and what became of it then decides. A statement that has to wait for a row keeps its

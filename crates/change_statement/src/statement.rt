@@ -15,6 +15,7 @@ use crate::gathering::gather;
 use crate::rows::{change_rows, find};
 use crate::standing::left_of;
 use expression_binder::Param;
+use plan_tree::Planning;
 use sql_ast::{Delete, Update};
 use statement_steps::{Caller, Rest, RestOfRows, SessionNames, Stop, hold_if_repeatable};
 use std::alloc::Global;
@@ -28,16 +29,16 @@ fn begin(
     names: &SessionNames,
     params: &[Param],
     caller: Caller,
-    prunes: bool,
+    how: Planning,
     change: Change<'_>,
 ) -> Result<ChangedRows, Stop>
     requires may { MayAttempt stores.old caller }
     requires next { caller.cmd < 4294967294 }
     requires few { length stores.old.catalog.tables ≤ 4096 }
-    ensures { IsCommand None told_by result stores.old stores.new caller (begun prunes names.now params.now caller change.entry) }
+    ensures { IsCommand None told_by result stores.old stores.new caller (begun how names.now params.now caller change.entry) }
 {
     hold_if_repeatable(alloc, stores, caller)?;
-    let gathered = gather(alloc, stores, names, params, caller, prunes, change)?;
+    let gathered = gather(alloc, stores, names, params, caller, how, change)?;
     let targets = find(alloc, stores, caller, &gathered)?;
     change_rows(alloc, stores, names, caller, gathered, change, &targets, 0)
 }
@@ -68,18 +69,18 @@ fn change_from(
     names: &SessionNames,
     params: &[Param],
     caller: Caller,
-    prunes: bool,
+    how: Planning,
     rest: Option<Rest>,
     change: Change<'_>,
 ) -> Result<ChangedRows, Stop>
     requires may { MayAttempt stores.old caller }
     requires rest { MayGoOn stores.old caller rest }
     requires few { length stores.old.catalog.tables ≤ 4096 }
-    ensures { IsCommand rest told_by result stores.old stores.new caller (changed_by (λ g. changing change.entry caller g) names.now caller rest (begun prunes names.now params.now caller change.entry)) }
+    ensures { IsCommand rest told_by result stores.old stores.new caller (changed_by (λ g. changing change.entry caller g) names.now caller rest (begun how names.now params.now caller change.entry)) }
 {
     match left_of(stores, caller, rest) {
         Some(rest) => go_on(alloc, stores, names, caller, change, rest),
-        None => begin(alloc, stores, names, params, caller, prunes, change),
+        None => begin(alloc, stores, names, params, caller, how, change),
     }
 }
 
@@ -95,17 +96,17 @@ pub fn delete(
     names: &SessionNames,
     params: &[Param],
     caller: Caller,
-    prunes: bool,
+    how: Planning,
     rest: Option<Rest>,
     statement: &Delete,
 ) -> Result<ChangedRows, Stop>
     requires may { MayAttempt stores.old caller }
     requires rest { MayGoOn stores.old caller rest }
     requires few { length stores.old.catalog.tables ≤ 4096 }
-    ensures { IsCommand rest told_by result stores.old stores.new caller (deleted prunes names.now params.now caller rest statement.now.table (maybe_tree statement.now.condition)) }
+    ensures { IsCommand rest told_by result stores.old stores.new caller (deleted how names.now params.now caller rest statement.now.table (maybe_tree statement.now.condition)) }
 {
     let change = Change::Delete(statement);
-    change_from(alloc, stores, names, params, caller, prunes, rest, change)
+    change_from(alloc, stores, names, params, caller, how, rest, change)
 }
 
 /// The UPDATE of a session, likewise. A version that is changed is followed by one with the row that the settings
@@ -118,15 +119,15 @@ pub fn update(
     names: &SessionNames,
     params: &[Param],
     caller: Caller,
-    prunes: bool,
+    how: Planning,
     rest: Option<Rest>,
     statement: &Update,
 ) -> Result<ChangedRows, Stop>
     requires may { MayAttempt stores.old caller }
     requires rest { MayGoOn stores.old caller rest }
     requires few { length stores.old.catalog.tables ≤ 4096 }
-    ensures { IsCommand rest told_by result stores.old stores.new caller (updated prunes names.now params.now caller rest statement.now.table (map setting statement.now.assignments) (maybe_tree statement.now.condition)) }
+    ensures { IsCommand rest told_by result stores.old stores.new caller (updated how names.now params.now caller rest statement.now.table (map setting statement.now.assignments) (maybe_tree statement.now.condition)) }
 {
     let change = Change::Update(statement);
-    change_from(alloc, stores, names, params, caller, prunes, rest, change)
+    change_from(alloc, stores, names, params, caller, how, rest, change)
 }

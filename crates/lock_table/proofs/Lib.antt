@@ -2,6 +2,7 @@ pub mod AnswerCauses
 pub mod AnswersTold
 pub mod Chains
 pub mod Cycles
+pub mod Idle
 pub mod Lists
 pub mod MayCome
 pub mod Queues

@@ -1,6 +1,6 @@
 -- The places at which somebody holds a mode.
-use Rattle.std.proofs.Common.{◌≡◌, ◌≢◌, ℕ, ◌+◌, ◌<◌, ◌≤◌, ◌==◌, ◌&&◌, ◌||◌, not, Bool, true, false, List, [], ◌∷◌, ◌++◌, length, take, get_or, slice_index_or, slice_set, filter, nat_eq, inl, inr, refl, sym, ap, subst, ◌∙◌, arith, add-one, length-append, take-suc}
-use Rattle.std.specs.List.{list_any, AllPairs}
+use Rattle.std.proofs.Common.{◌≡◌, ◌≢◌, ℕ, ◌+◌, ◌<◌, ◌≤◌, ◌==◌, ◌&&◌, ◌||◌, not, Bool, true, false, List, [], ◌∷◌, ◌++◌, length, take, get_or, slice_index_or, slice_set, filter, nat_eq, inl, inr, refl, sym, ap, ◌∙◌, arith, add-one, length-append, take-suc}
+use Rattle.std.specs.List.{list_any}
 use Rattle.std.proofs.lemmas.Grind.{common_steps, elements}
 use Rattle.std.proofs.lemmas.Bool.{cases_Bool, cases_lt, cases_eq}
 use Rattle.std.proofs.lemmas.Bool.Decides.{nat_tests, Decides-eqb}
@@ -32,7 +32,7 @@ somebody_in p s low here = elim (cases_Bool (nobody p)) [
   | inl t ↦ absurd (let gone = nobody_is p s low t in cc)
 ]
 
-no_bit : (s : ℕ) → has empty s ≡ false
+pub no_bit : (s : ℕ) → has empty s ≡ false
 no_bit s = grind (arith, common_steps, nat_tests, bit_at-zero s)
 
 -- a set that is as it was
@@ -57,6 +57,10 @@ same_taken old new places room is t = record {
   somebody = λ p here. same_at old new p (is p) ∙ t.somebody p here;
   none = λ p gone. same_at old new p (is p) ∙ t.none p gone;
 }
+
+-- the same places, as they are read
+pub as_read : (held : List SessionSet) (places read : List ℕ) (room : ℕ) → read ≡ places → AreTaken held places room → AreTaken held read room
+as_read held places read room is t = rw is t
 
 -- ---- one lock more
 

@@ -7,14 +7,14 @@
 //! snapshot that sees the mark leaves the partition out, while an older one keeps it until the
 //! entry's end is committed.
 //!
-//! `Catalog` keeps all tables and entries, each with its newest end and mark; what an aborted
-//! transaction did stays, and does not count. So no abort has anything to undo. An entry whose birth was
-//! aborted or whose end is committed is there for nobody, and stays so: such entries are forgotten, all at
-//! once when there are twice as many entries as were left the last time. The entries below a table stand in
-//! plain order from the moment they are added, so that a tree is built in one pass. Trees that statements asked for are kept until a table is made or an entry added: a tree of
-//! the same table with the same entries shares what stands below. The contracts say that the catalogue
-//! stands for a history of events, before a call and after it, and what a call answers is a definition
-//! over that history.
+//! `Catalog` keeps all tables and entries, each with its newest end and mark; what an aborted transaction did
+//! does not count, so that no abort has anything to undo. An entry whose birth was aborted or whose end is
+//! committed is there for nobody, and stays so: such entries are forgotten, all at once when there are twice
+//! as many entries as were left the last time. The entries below a table stand in plain order from the moment
+//! they are added, so that a tree is built in one pass. Trees that statements asked for are kept until a
+//! table is made or an entry added: a tree of the same table with the same entries shares what stands below.
+//! The contracts say that the catalogue stands for a history of events, before a call and after it, and what
+//! a call answers is a definition over that history.
 #![tactic(auto)]
 
 mod add;

@@ -1,6 +1,6 @@
 -- The scans among the lines of a plan.
 use Rattle.std.proofs.Common.{◌≡◌, ℕ, zero, suc, ◌+◌, ◌-◌, ◌*◌, ◌==◌, Bool, true, false, if◌then◌else◌, List, [], ◌∷◌, ◌++◌, map, replicate, refl, sym, ap, ◌∙◌, append-nil, append_assoc}
-use Rattle.std.specs.Prelude.{codes}
+use Rattle.std.specs.Prelude.{codes, decimal}
 use Rattle.std.specs.List.{flat_map}
 use Rattle.std.proofs.lemmas.List.Concat.{flat_map-append}
 use Rattle.cond_logic.specs.declared.select.SortKey.{SortKey}
@@ -12,7 +12,7 @@ use Rattle.plan_text.specs.Conditions.{all_text, several}
 use Rattle.plan_text.specs.Keys.{keys}
 use Rattle.plan_text.specs.Names.{alias_behind}
 use Rattle.plan_text.specs.Nodes.{Node, arrow, detail_line, alone, over, each, both}
-use Rattle.plan_text.specs.Plans.{scan_conjuncts, join_conjuncts, detail, filters, join_filters, scan_text, scan, scans, is_one_scan, item_scans, item, nested_loop, joined, result, joins, items, rows, sort_detail, sorted, limited}
+use Rattle.plan_text.specs.Plans.{scan_conjuncts, join_conjuncts, detail, filters, join_filters, scan_text, scan, scans, is_one_scan, removed_detail, item_scans, item, nested_loop, joined, result, joins, items, rows, sort_detail, sorted, limited}
 use Rattle.plan_text.specs.ScanLines.{unspaced, following, first_or, behind_arrow, scan_in, item_leaves, plan_leaves, ScansAreOfTheLeaves}
 
 -- ---- a line
@@ -61,6 +61,13 @@ filter_details (t ∷ ts) = (refl, tt)
 join_details : (ts : List (List ℕ)) → AreDetails (detail (codes "Join Filter: ") ts)
 join_details [] = tt
 join_details (t ∷ ts) = (refl, tt)
+
+removed_details : (removed : ℕ) → AreDetails (removed_detail removed)
+removed_details removed = by (removed == 0)
+  where
+    by : (b : Bool) → AreDetails (if b then [] else (codes "Subplans Removed: " ++ decimal removed) ∷ [])
+    by true = tt
+    by false = (refl, tt)
 
 -- ---- nodes
 
@@ -118,9 +125,9 @@ module _ (ns : List NamedItem) where
       here : (e : ℕ) → flat_map scan_in (item_scans ns i e) ≡ item_leaves ns i
       here e = scans_scan i.number (filters ns i) i.leaves e (filter_details (several ns (scan_conjuncts i)))
 
-      by : (b : Bool) → flat_map scan_in ((if b then item_scans ns i else over (codes "Append") [] (item_scans ns i)) d) ≡ item_leaves ns i
+      by : (b : Bool) → flat_map scan_in ((if b then item_scans ns i else over (codes "Append") (removed_detail i.removed) (item_scans ns i)) d) ≡ item_leaves ns i
       by true = here d
-      by false = over_scans (codes "Append") [] (item_scans ns i) (item_leaves ns i) append_is tt here d
+      by false = over_scans (codes "Append") (removed_detail i.removed) (item_scans ns i) (item_leaves ns i) append_is (removed_details i.removed) here d
 
   joined_scan : (is : List PlannedItem) (left : Node) (leaves : List (List ℕ)) → ((d : ℕ) → flat_map scan_in (left d) ≡ leaves) → (d : ℕ) → flat_map scan_in (joined ns left is d) ≡ leaves ++ flat_map (item_leaves ns) is
   joined_scan [] left leaves of_left d = of_left d ∙ sym (append-nil leaves)

@@ -1,5 +1,5 @@
 -- The text of a plan (14.1.1 EXPLAIN Basics; 5.11.4 Partition Pruning; EXPLAIN).
-use Rattle.std.specs.Prelude.{ℕ, ◌==◌, Bool, true, false, not, ◌&&◌, if◌then◌else◌, List, [], ◌∷◌, ◌++◌, map, filter, length, codes}
+use Rattle.std.specs.Prelude.{ℕ, ◌==◌, Bool, true, false, not, ◌&&◌, ◌||◌, if◌then◌else◌, List, [], ◌∷◌, ◌++◌, map, filter, length, codes, decimal}
 use Rattle.std.specs.List.{flat_map}
 use Rattle.pg_values.specs.declared.answer.Answer.{Answer}
 use Rattle.pg_values.specs.declared.value.Kind.TheVariants.{Text as KText}
@@ -49,15 +49,19 @@ scan ns n details leaf = alone (scan_text ns n leaf) details
 abbrev pub scans : List NamedItem → (item : ℕ) → (filters : List (List ℕ)) → List Leaf → Node
 scans ns n details = each (scan ns n details)
 
--- one that is not pruned again stands by itself
+-- one that is not pruned again, when the plan starts or beside a tuple, stands by itself
 abbrev pub is_one_scan : PlannedItem → Bool
-is_one_scan i = length i.leaves == 1 && not i.is_asked_again
+is_one_scan i = length i.leaves == 1 && not (i.is_asked_at_start || i.is_asked_again)
+
+-- how many leaves the start of the plan removed
+abbrev pub removed_detail : (removed : ℕ) → List (List ℕ)
+removed_detail removed = if removed == 0 then [] else (codes "Subplans Removed: " ++ decimal removed) ∷ []
 
 abbrev pub item_scans : List NamedItem → PlannedItem → Node
 item_scans ns i = scans ns i.number (filters ns i) i.leaves
 
 abbrev pub item : List NamedItem → PlannedItem → Node
-item ns i = if is_one_scan i then item_scans ns i else over (codes "Append") [] (item_scans ns i)
+item ns i = if is_one_scan i then item_scans ns i else over (codes "Append") (removed_detail i.removed) (item_scans ns i)
 
 -- ---- joins
 

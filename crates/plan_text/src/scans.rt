@@ -171,6 +171,20 @@ fn push_scans(
     Ok(())
 }
 
+// How many leaves the start of the plan removed.
+fn removed_detail(alloc: Global, removed: usize) -> Result<Vec<PgText>, NoMemory>
+    ensures { IfOk result (λ ds. ds.items ≡ plans.removed_detail removed) }
+{
+    let mut details = Vec::new(alloc);
+    if removed == 0 {
+        return Ok(details);
+    }
+    let mut digits = itoa::Buffer::new();
+    let count = digits.format(removed as u128);
+    details.push(worded(alloc, b"Subplans Removed: ", count.as_bytes())?)?;
+    Ok(details)
+}
+
 /// Appends the lines of an item: its scan, or an Append of its scans.
 pub(crate) fn push_item(
     alloc: Global,
@@ -184,9 +198,11 @@ pub(crate) fn push_item(
 {
     let number = item.number;
     let asked = filters(alloc, items, item)?;
-    if item.leaves.len() == 1 && !item.is_asked_again {
+    let is_pruned_again = item.is_asked_at_start || item.is_asked_again;
+    if item.leaves.len() == 1 && !is_pruned_again {
         return push_scans(alloc, items, number, &asked, &item.leaves, depth, out);
     }
-    push_node(alloc, depth, b"Append", &[], out)?;
+    let removed = removed_detail(alloc, item.removed)?;
+    push_node(alloc, depth, b"Append", &removed, out)?;
     push_scans(alloc, items, number, &asked, &item.leaves, depth + 1, out)
 }

@@ -1,3 +1,4 @@
+pub mod Arguments
 pub mod Conditions
 pub mod Missed
 pub mod Nodes
@@ -8,5 +9,6 @@ pub mod Pools
 pub mod Pushing
 pub mod Right
 pub mod Small
+pub mod Starting
 pub mod Truths
 pub mod Weights

@@ -61,26 +61,26 @@ yes_of No h = absurd (cc)
 yes_of Unknown h = absurd (cc)
 
 -- a row that passes and is accepted is kept by each condition
-passing_kept : (item : ℕ) (beside : Places) (t : CondTree) (level : Level) (bounds : List Bound) (b : Bound) (row : List Value) → item < 4 → IsOfLevel level b → accepts_among bounds (key_of level row) b ≡ true
-    → is_yes (truth (put beside item row) [] t) ≡ true → kept (asked item level) bounds [] t b ≡ true
-passing_kept item beside t level bounds b row low of acc is =
+passing_kept : (item : ℕ) (args : List Value) (beside : Places) (t : CondTree) (level : Level) (bounds : List Bound) (b : Bound) (row : List Value) → item < 4 → IsOfLevel level b → accepts_among bounds (key_of level row) b ≡ true
+    → is_yes (truth (put beside item row) args t) ≡ true → kept (asked item level) bounds [] t b ≡ true
+passing_kept item args beside t level bounds b row low of acc is =
     let full = put beside item row in
-    sound (asked item level) bounds beside [] row b low of acc (pushed (with_args [] t)) (pushed_true full [] (with_args [] t) ∙ bound_true full [] [] t ∙ yes_of (truth full [] t) is)
+    sound (asked item level) bounds beside args row b low of acc (pushed (with_args [] t)) (pushed_true full args (with_args [] t) ∙ bound_true full [] args t ∙ yes_of (truth full args t) is)
 
-all_kept : (item : ℕ) (beside : Places) (ts : List CondTree) (level : Level) (bounds : List Bound) (b : Bound) (row : List Value) → item < 4 → IsOfLevel level b → accepts_among bounds (key_of level row) b ≡ true
-    → passes_beside beside item ts row ≡ true → list_all (λ t. kept (asked item level) bounds [] t b) ts ≡ true
-all_kept item beside [] level bounds b row low of acc is = refl
-all_kept item beside (t ∷ ts) level bounds b row low of acc is =
-    let p = both_are (is_yes (truth (put beside item row) [] t)) (passes_beside beside item ts row) is in
+all_kept : (item : ℕ) (args : List Value) (beside : Places) (ts : List CondTree) (level : Level) (bounds : List Bound) (b : Bound) (row : List Value) → item < 4 → IsOfLevel level b → accepts_among bounds (key_of level row) b ≡ true
+    → passes_beside args beside item ts row ≡ true → list_all (λ t. kept (asked item level) bounds [] t b) ts ≡ true
+all_kept item args beside [] level bounds b row low of acc is = refl
+all_kept item args beside (t ∷ ts) level bounds b row low of acc is =
+    let p = both_are (is_yes (truth (put beside item row) args t)) (passes_beside args beside item ts row) is in
     and_true (kept (asked item level) bounds [] t b) (list_all (λ t. kept (asked item level) bounds [] t b) ts)
-    (passing_kept item beside t level bounds b row low of acc p.0) (all_kept item beside ts level bounds b row low of acc p.1)
+    (passing_kept item args beside t level bounds b row low of acc p.0) (all_kept item args beside ts level bounds b row low of acc p.1)
 
 -- so where a child is not kept, no row that it accepts passes
-not_passing : (prunes : Bool) (item : ℕ) (beside : Places) (ts : List CondTree) (level : Level) (bounds : List Bound) (b : Bound) (row : List Value) → item < 4 → IsOfLevel level b → accepts_among bounds (key_of level row) b ≡ true
-    → keeps_for prunes item ts level bounds b ≡ false → passes_beside beside item ts row ≡ false
-not_passing false item beside ts level bounds b row low of acc out = absurd (cc)
-not_passing true item beside ts level bounds b row low of acc out = elim (cases_Bool (passes_beside beside item ts row)) [
-  | inl is ↦ let in_it = all_kept item beside ts level bounds b row low of acc is in absurd (cc)
+not_passing : (prunes : Bool) (item : ℕ) (args : List Value) (beside : Places) (ts : List CondTree) (level : Level) (bounds : List Bound) (b : Bound) (row : List Value) → item < 4 → IsOfLevel level b → accepts_among bounds (key_of level row) b ≡ true
+    → keeps_for prunes item ts level bounds b ≡ false → passes_beside args beside item ts row ≡ false
+not_passing false item args beside ts level bounds b row low of acc out = absurd (cc)
+not_passing true item args beside ts level bounds b row low of acc out = elim (cases_Bool (passes_beside args beside item ts row)) [
+  | inl is ↦ let in_it = all_kept item args beside ts level bounds b row low of acc is in absurd (cc)
   | inr is ↦ is
 ]
 
@@ -139,5 +139,5 @@ module _ (keeps : Keeps) (test : List Value → Bool) (drops : Drops keeps test)
   whole (LevelTable node level bounds kids) can lie = below (LevelTable node level bounds kids) can lie
 
 pub none_missed : NoneIsMissed
-none_missed prunes item ts beside rows tree low can lie =
-    whole (keeps_for prunes item ts) (passes_beside beside item ts) (λ level bounds b row of acc out. not_passing prunes item beside ts level bounds b row low of acc out) rows tree can lie
+none_missed prunes item ts args beside rows tree low can lie =
+    whole (keeps_for prunes item ts) (passes_beside args beside item ts) (λ level bounds b row of acc out. not_passing prunes item args beside ts level bounds b row low of acc out) rows tree can lie

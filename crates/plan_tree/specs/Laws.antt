@@ -28,9 +28,9 @@ is_yes Yes = true
 is_yes No = false
 is_yes Unknown = false
 
--- a row of the item of that number, beside these rows of the others
-abbrev pub passes_beside : Places → (item : ℕ) → List CondTree → List Value → Bool
-passes_beside beside item ts row = list_all (λ t. is_yes (truth (put beside item row) [] t)) ts
+-- a row of the item of that number, beside these rows of the others, with these values of parameters
+abbrev pub passes_beside : (args : List Value) → Places → (item : ℕ) → List CondTree → List Value → Bool
+passes_beside args beside item ts row = list_all (λ t. is_yes (truth (put beside item row) args t)) ts
 
 -- ---- in trees
 
@@ -53,11 +53,11 @@ abbrev mutual
 abbrev pub passing_in : Rows → (List Value → Bool) → Leaf → List (Leaf × List Value)
 passing_in rows test leaf = map (λ row. (leaf, row)) (filter test (rows leaf.id.number))
 
--- whatever rows of the other items stand beside them: the rows of all leaves that pass are those of the kept leaves, in plain
--- order
+-- whatever values of parameters come, and rows of the other items stand beside them: the rows of all leaves that pass are those
+-- of the kept leaves, in plain order
 abbrev pub NoneIsMissed : Type 0
-NoneIsMissed = (prunes : Bool) (item : ℕ) (ts : List CondTree) (beside : Places) (rows : Rows) (tree : TableTree) → item < 4 → CanPrune tree → LieRight rows tree
-    → flat_map (passing_in rows (passes_beside beside item ts)) (named_leaves tree) ≡ flat_map (passing_in rows (passes_beside beside item ts)) (kept_leaves (keeps_for prunes item ts) tree)
+NoneIsMissed = (prunes : Bool) (item : ℕ) (ts : List CondTree) (args : List Value) (beside : Places) (rows : Rows) (tree : TableTree) → item < 4 → CanPrune tree → LieRight rows tree
+    → flat_map (passing_in rows (passes_beside args beside item ts)) (named_leaves tree) ≡ flat_map (passing_in rows (passes_beside args beside item ts)) (kept_leaves (keeps_for prunes item ts) tree)
 
 -- ---- in histories
 

@@ -13,13 +13,21 @@ pub fn copy_cond(alloc: Global, cond: &Cond) -> Result<Cond, NoMemory>
     bind_params(alloc, cond, &[])
 }
 
-/// The condition that all of these hold.
-pub fn all_hold(alloc: Global, conds: &[Cond]) -> Result<Cond, NoMemory>
-    ensures { IfOk result (λ c. cond_tree c ≡ conditions.all_hold (map cond_tree conds.now)) }
+/// Copies of these.
+pub(crate) fn copy_conds(alloc: Global, conds: &[Cond]) -> Result<Vec<Cond>, NoMemory>
+    ensures { IfOk result (λ cs. map cond_tree cs.items ≡ map cond_tree conds.now) }
 {
     let mut all = Vec::new(alloc);
     for cond in conds {
         all.push(copy_cond(alloc, cond)?)?;
     }
+    Ok(all)
+}
+
+/// The condition that all of these hold.
+pub fn all_hold(alloc: Global, conds: &[Cond]) -> Result<Cond, NoMemory>
+    ensures { IfOk result (λ c. cond_tree c ≡ conditions.all_hold (map cond_tree conds.now)) }
+{
+    let all = copy_conds(alloc, conds)?;
     Ok(Cond::And(CondList::from_vec(all)))
 }

@@ -7,6 +7,10 @@
 //! rows in the places of their columns (`PlanItem::leaves_beside`). Joins are nested loops, the first item
 //! outermost; where an item keeps no leaf when the plan is made, nothing is locked and nothing is read.
 //!
+//! A generic plan is made of conditions with parameters in them, whose values are not known yet. When it starts
+//! (`Plan::start`), each item that has such a condition keeps of its leaves those that these values keep too; the
+//! others stay locked, are not read, and are counted.
+//!
 //! A plan lends the trees of its tables. Contracts speak of it without where it lies in memory (`planned`).
 //!
 //! The leaves of a tree that a condition keeps, and the tables that lead to them.
@@ -27,7 +31,9 @@ mod conjuncts;
 mod item;
 mod laws;
 mod making;
+mod parameters;
 mod plan;
+mod planning;
 mod pruning;
 
 pub use condition::{all_hold, copy_cond};
@@ -35,4 +41,5 @@ pub use item::PlanItem;
 pub use laws::{none_is_missed, shown_lie_right, trees_can_be_pruned};
 pub use making::make_plan;
 pub use plan::Plan;
+pub use planning::Planning;
 pub use pruning::{KeptParts, prune_item, prune_tree};

@@ -15,3 +15,4 @@ mod Straight
 mod Steps
 mod Trees
 mod Whole
+mod Written

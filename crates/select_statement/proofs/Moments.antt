@@ -16,7 +16,7 @@ use Rattle.select_statement.proofs.Few.{leaves_few}
 use Rattle.select_statement.proofs.Plain.{one_table_plain, tables_plain}
 
 good_reads : (h : History) → IsGood h → ReadsArePlainIn h
-good_reads h good prunes c m ns = reads_plain none_missed shown_right trees_prunable prunes (c.sessions - 1) m h c.session ns (look_of h c.session c.cmd) (legal_of h good) (permitted_of h good)
+good_reads h good how c args m ns = reads_plain none_missed shown_right trees_prunable how (c.sessions - 1) args m h c.session ns (look_of h c.session c.cmd) (legal_of h good) (permitted_of h good)
 
 pub good_selects : (h : History) → IsGood h → SelectsArePlain h
 good_selects h good =

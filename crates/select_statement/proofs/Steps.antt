@@ -49,29 +49,27 @@ outcome_refused view NoMemory stores caller wanted may e = no_memory view stores
 -- ---- the answer
 
 -- what a run of the select gives, at each history for which the stores and the snapshot stand
-abbrev pub Answers : Result Answer Refusal → Stores → Caller → SelectMeant → Planned → KeptSnapshot → Type 0
-Answers r stores caller m plan snap = (h : History) (s : TakenSnapshot) → AreLent stores.txs stores.rows snap h s → IsAnswer r (answer_of m (select_course (caller.sessions - 1) [] m (shown h s) plan []))
+abbrev pub Answers : Result Answer Refusal → Stores → Caller → (args : List Value) → SelectMeant → Planned → KeptSnapshot → Type 0
+Answers r stores caller args m plan snap = (h : History) (s : TakenSnapshot) → AreLent stores.txs stores.rows snap h s → IsAnswer r (answer_of m (select_course (caller.sessions - 1) args m (shown h s) plan []))
 
 -- and what it has read
-abbrev pub Reads : Result Answer Refusal → List LeafId → Stores → Caller → SelectMeant → Planned → KeptSnapshot → Type 0
-Reads r now stores caller m plan snap = (h : History) (s : TakenSnapshot) → AreLent stores.txs stores.rows snap h s → IsRead r now (select_course (caller.sessions - 1) [] m (shown h s) plan [])
+abbrev pub Reads : Result Answer Refusal → List LeafId → Stores → Caller → (args : List Value) → SelectMeant → Planned → KeptSnapshot → Type 0
+Reads r now stores caller args m plan snap = (h : History) (s : TakenSnapshot) → AreLent stores.txs stores.rows snap h s → IsRead r now (select_course (caller.sessions - 1) args m (shown h s) plan [])
 
--- a run for so many sessions, without arguments, that has read nothing before
-pub told_for : (r : Result Answer Refusal) (stores : Stores) (caller : Caller) (m : SelectMeant) (plan : Planned) (snap : KeptSnapshot) (n : ℕ) (args : List Value) (before : List LeafId)
-    → n ≡ caller.sessions - 1 → args ≡ [] → before ≡ [] → ((h : History) (s : TakenSnapshot) → AreLent stores.txs stores.rows snap h s → IsAnswer r (answer_of m (select_course n args m (shown h s) plan before)))
-    → Answers r stores caller m plan snap
-told_for r stores caller m plan snap n args before count none fresh answers h s are =
+-- a run for so many sessions that has read nothing before
+pub told_for : (r : Result Answer Refusal) (stores : Stores) (caller : Caller) (args : List Value) (m : SelectMeant) (plan : Planned) (snap : KeptSnapshot) (n : ℕ) (before : List LeafId)
+    → n ≡ caller.sessions - 1 → before ≡ [] → ((h : History) (s : TakenSnapshot) → AreLent stores.txs stores.rows snap h s → IsAnswer r (answer_of m (select_course n args m (shown h s) plan before)))
+    → Answers r stores caller args m plan snap
+told_for r stores caller args m plan snap n before count fresh answers h s are =
     let counted = subst (λ k. IsAnswer r (answer_of m (select_course k args m (shown h s) plan before))) count (answers h s are) in
-    let bare = subst (λ xs. IsAnswer r (answer_of m (select_course (caller.sessions - 1) xs m (shown h s) plan before))) none counted in
-    subst (λ ls. IsAnswer r (answer_of m (select_course (caller.sessions - 1) [] m (shown h s) plan ls))) fresh bare
+    subst (λ ls. IsAnswer r (answer_of m (select_course (caller.sessions - 1) args m (shown h s) plan ls))) fresh counted
 
-pub read_for_it : (r : Result Answer Refusal) (now : List LeafId) (stores : Stores) (caller : Caller) (m : SelectMeant) (plan : Planned) (snap : KeptSnapshot) (n : ℕ) (args : List Value) (before : List LeafId)
-    → n ≡ caller.sessions - 1 → args ≡ [] → before ≡ [] → ((h : History) (s : TakenSnapshot) → AreLent stores.txs stores.rows snap h s → IsRead r now (select_course n args m (shown h s) plan before))
-    → Reads r now stores caller m plan snap
-read_for_it r now stores caller m plan snap n args before count none fresh reads h s are =
+pub read_for_it : (r : Result Answer Refusal) (now : List LeafId) (stores : Stores) (caller : Caller) (args : List Value) (m : SelectMeant) (plan : Planned) (snap : KeptSnapshot) (n : ℕ) (before : List LeafId)
+    → n ≡ caller.sessions - 1 → before ≡ [] → ((h : History) (s : TakenSnapshot) → AreLent stores.txs stores.rows snap h s → IsRead r now (select_course n args m (shown h s) plan before))
+    → Reads r now stores caller args m plan snap
+read_for_it r now stores caller args m plan snap n before count fresh reads h s are =
     let counted = subst (λ k. IsRead r now (select_course k args m (shown h s) plan before)) count (reads h s are) in
-    let bare = subst (λ xs. IsRead r now (select_course (caller.sessions - 1) xs m (shown h s) plan before)) none counted in
-    subst (λ ls. IsRead r now (select_course (caller.sessions - 1) [] m (shown h s) plan ls)) fresh bare
+    subst (λ ls. IsRead r now (select_course (caller.sessions - 1) args m (shown h s) plan ls)) fresh counted
 
 lent : (stores : Stores) (caller : Caller) (snap : KeptSnapshot) (h : History) → IsLookFor stores caller snap → Stands stores h → AreLent stores.txs stores.rows snap h (look_of h caller.session caller.cmd)
 lent stores caller snap h look stands = record { table = stands.all.txs; rows = stands.all.rows; past = look.past h stands.all.txs; snapshot = look.stands h stands.all.txs }
@@ -80,26 +78,26 @@ lent stores caller snap h look stands = record { table = stands.all.txs; rows = 
 is_told : (m : SelectMeant) (w : Course) (a : Answered) → answer_of m w ≡ Ok a.answer → a.trail.leaves ≡ reads_of w → told_of m w ≡ Ok (told_by a)
 is_told m w a answer reads = ap (with_reads (reads_of w)) answer ∙ ap (λ ls. with_reads ls (Ok a.answer)) (sym reads)
 
-pub answer_done : (a : Answered) (stores : Stores) (caller : Caller) (m : SelectMeant) (plan : Planned) (snap : KeptSnapshot) → MayAttempt stores caller → IsLookFor stores caller snap → Answers (Ok a.answer) stores caller m plan snap
-    → Reads (Ok a.answer) a.trail.leaves stores caller m plan snap → IsStep told_by (Ok a) stores stores caller (caller.cmd + 1) (answered caller m plan)
-answer_done a stores caller m plan snap may look answers reads = record {
+pub answer_done : (a : Answered) (stores : Stores) (caller : Caller) (args : List Value) (m : SelectMeant) (plan : Planned) (snap : KeptSnapshot) → MayAttempt stores caller → IsLookFor stores caller snap → Answers (Ok a.answer) stores caller args m plan snap
+    → Reads (Ok a.answer) a.trail.leaves stores caller args m plan snap → IsStep told_by (Ok a) stores stores caller (caller.cmd + 1) (answered caller args m plan)
+answer_done a stores caller args m plan snap may look answers reads = record {
   is = λ h stands at.
       let are = lent stores caller snap h look stands in
       let s = look_of h caller.session caller.cmd in
-      let told = is_told m (select_course (caller.sessions - 1) [] m (shown h s) plan []) a (answers h s are) (reads h s are) in
+      let told = is_told m (select_course (caller.sessions - 1) args m (shown h s) plan []) a (answers h s are) (reads h s are) in
       subst (IsTold told_by (Ok a) stores caller (caller.cmd + 1) h) (sym (ap outcome told))
       (refl, still_on stores h caller.session (caller.cmd + 1) stands (one_later h caller.session caller.cmd at));
   keeps = stays stores caller.session;
   waits = may.idle;
 }
 
-pub answer_refused : (r : Refusal) (stores : Stores) (caller : Caller) (m : SelectMeant) (plan : Planned) (snap : KeptSnapshot) → MayAttempt stores caller → IsLookFor stores caller snap → Answers (Err r) stores caller m plan snap
-    → IsStep told_by (Err (stop_of r)) stores stores caller (caller.cmd + 1) (answered caller m plan)
-answer_refused (Sql f) stores caller m plan snap may look answers =
-    refused_here told_by f stores caller (caller.cmd + 1) (answered caller m plan) may (λ h stands.
-    let w = select_course (caller.sessions - 1) [] m (shown h (look_of h caller.session caller.cmd)) plan [] in
+pub answer_refused : (r : Refusal) (stores : Stores) (caller : Caller) (args : List Value) (m : SelectMeant) (plan : Planned) (snap : KeptSnapshot) → MayAttempt stores caller → IsLookFor stores caller snap → Answers (Err r) stores caller args m plan snap
+    → IsStep told_by (Err (stop_of r)) stores stores caller (caller.cmd + 1) (answered caller args m plan)
+answer_refused (Sql f) stores caller args m plan snap may look answers =
+    refused_here told_by f stores caller (caller.cmd + 1) (answered caller args m plan) may (λ h stands.
+    let w = select_course (caller.sessions - 1) args m (shown h (look_of h caller.session caller.cmd)) plan [] in
     ap outcome (ap (with_reads (reads_of w)) (answers h (look_of h caller.session caller.cmd) (lent stores caller snap h look stands))))
-answer_refused NoMemory stores caller m plan snap may look answers = no_memory told_by stores stores caller (caller.cmd + 1) (answered caller m plan) (stays stores caller.session)
+answer_refused NoMemory stores caller args m plan snap may look answers = no_memory told_by stores stores caller (caller.cmd + 1) (answered caller args m plan) (stays stores caller.session)
 
 -- ---- a plan that is printed
 

@@ -7,6 +7,7 @@ use Rattle.std.proofs.lemmas.List.{length-map, map-append, drop_more}
 use Rattle.std.proofs.lemmas.List.Elements.{All-nil, All-head, All-tail, All-append}
 use Rattle.pg_values.specs.declared.fault.Fault.{Fault}
 use Rattle.pg_values.specs.declared.ids.TableNo.{TableNo}
+use Rattle.pg_values.specs.declared.value.Value.{Value}
 use Rattle.pg_values.specs.declared.which.Which.TheVariants.{TablesInFrom}
 use Rattle.refusals.specs.Refusals.{too_many, statement_cancelled}
 use Rattle.history.specs.Transactions.{IsPast}
@@ -27,10 +28,11 @@ use Rattle.expression_binder.specs.declared.scope.Param.{Param}
 use Rattle.expression_binder.specs.Firsts.{or_first, unless}
 use Rattle.expression_binder.specs.Scopes.{Item}
 use Rattle.sql_binder.specs.From.{item_name, twice_faults}
-use Rattle.sql_binder.specs.Selects.{from_of, name_faults, constant_faults, meaning}
-use Rattle.sql_binder.specs.Values.{if_bound, values_of, with_values}
+use Rattle.sql_binder.specs.Selects.{bound_select, from_of, name_faults, constant_faults, meaning}
+use Rattle.sql_binder.specs.Values.{custom_select, if_bound, values_of, with_values}
 use Rattle.plan_tree.specs.Conjuncts.{pool, asked_at, asked_later}
-use Rattle.plan_tree.specs.Plans.{PlannedItem, Planned, keeps_first, items_from, plan_for, is_empty, plan_tables, CanRead}
+use Rattle.plan_tree.specs.Plans.{PlannedItem, Planned, keeps_first, items_from, plan_for, is_empty, plan_tables, custom, started_item, started, started_by, plan_by, CanRead}
+use Rattle.plan_tree.specs.declared.planning.Planning.{Planning}
 use Rattle.select_answer.proofs.Kept.{plan_read as read_by}
 use Rattle.stores.specs.Events.{look_of}
 use Rattle.stores.specs.Laws.{LeavesAreHoused}
@@ -47,7 +49,7 @@ use Rattle.statement_steps.proofs.Parts.{refused_here}
 use Rattle.statement_steps.specs.Below.{number_of}
 use Rattle.select_statement.specs.Lent.{HasLeaves, MayLock, IsTreeFor, IsLookFor}
 use Rattle.select_statement.specs.declared.answered.Answered.{Answered}
-use Rattle.select_statement.specs.Selected.{Told, told_by, outcome, meant, uncancelled, trees_for}
+use Rattle.select_statement.specs.Selected.{Told, told_by, outcome, asked_by, meant, uncancelled, trees_for}
 use Rattle.select_statement.proofs.Kept.{tables_kept}
 use Rattle.select_statement.proofs.Known.{tree_for}
 
@@ -89,13 +91,18 @@ none_or : (stores : Stores) (caller : Caller) (b : Bool) (tables : List TableNo)
 none_or stores caller true tables all = All-nil (MayLock stores caller)
 none_or stores caller false tables all = all
 
-module _ {X : Type 0} (stores : Stores) (caller : Caller) (prunes : Bool) (conditions : List CondTree) (f : X → TableTree) (xs : List X) (its : All (λ x. IsTreeFor stores caller (f x)) xs) where
-  pub plan_read : (plan : Planned) → plan ≡ plan_for prunes conditions (map f xs) → All (CanRead stores.rows.leaves) plan.items
-  plan_read plan is =
-      read_by f stores.rows.leaves prunes conditions xs plan (can_prune_all stores caller f xs its) (all_more (λ x. IsTreeFor stores caller (f x)) (λ x. HasLeaves stores (f x)) xs (λ x t. t.leaves) its) is
+module _ {X : Type 0} (stores : Stores) (caller : Caller) (conditions : List CondTree) (f : X → TableTree) (xs : List X) (its : All (λ x. IsTreeFor stores caller (f x)) xs) where
+  -- once it is started
+  pub plan_read : (how : Planning) (args : List Value) (plan : Planned) → plan ≡ plan_by how args conditions (map f xs) → All (CanRead stores.rows.leaves) plan.items
+  plan_read how args plan is =
+      read_by f stores.rows.leaves how args conditions xs plan (can_prune_all stores caller f xs its) (all_more (λ x. IsTreeFor stores caller (f x)) (λ x. HasLeaves stores (f x)) xs (λ x t. t.leaves) its) is
 
-  pub plan_locked : (plan : Planned) → plan ≡ plan_for prunes conditions (map f xs) → All (MayLock stores caller) (plan_tables plan)
-  plan_locked plan is =
+  -- before that
+  pub plan_prunable : (prunes : Bool) (plan : Planned) → plan ≡ plan_for prunes conditions (map f xs) → All (λ i. CanPrune i.tree) plan.items
+  plan_prunable prunes plan is = all_more (CanRead stores.rows.leaves) (λ i. CanPrune i.tree) plan.items (λ i can. can.prunable) (plan_read (custom prunes) [] plan is)
+
+  pub plan_locked : (prunes : Bool) (plan : Planned) → plan ≡ plan_for prunes conditions (map f xs) → All (MayLock stores caller) (plan_tables plan)
+  plan_locked prunes plan is =
       subst (λ p. All (MayLock stores caller) (plan_tables p)) (sym is)
       (none_or stores caller (is_empty (plan_for prunes conditions (map f xs))) (flat_map (λ i. i.tables) (items_from prunes 0 (pool conditions) (map f xs))) (items_locked stores caller prunes 0 (pool conditions) (map f xs) (trees_for_all stores caller f xs its)))
 
@@ -104,12 +111,21 @@ as_many_items : (prunes : Bool) (n : ℕ) (cs : List CondTree) (trees : List Tab
 as_many_items prunes n cs [] = refl
 as_many_items prunes n cs (t ∷ ts) = ap suc (as_many_items prunes (n + 1) (asked_later n cs) ts)
 
-pub as_planned : {X : Type 0} (f : X → TableTree) (prunes : Bool) (conditions : List CondTree) (xs : List X) (plan : Planned) → plan ≡ plan_for prunes conditions (map f xs) → length xs ≤ 4 → length plan.items ≤ 4
-as_planned f prunes conditions xs plan is few =
+-- also once it is started
+as_many_started : (how : Planning) (args : List Value) (p : Planned) → length (started_by how args p).items ≡ length p.items
+as_many_started how args p = by how.is_generic
+  where
+    by : (b : Bool) → length (if b then started args p else p).items ≡ length p.items
+    by true = length-map p.items (started_item args)
+    by false = refl
+
+pub as_planned : {X : Type 0} (f : X → TableTree) (how : Planning) (args : List Value) (conditions : List CondTree) (xs : List X) (plan : Planned) → plan ≡ plan_by how args conditions (map f xs) → length xs ≤ 4 → length plan.items ≤ 4
+as_planned f how args conditions xs plan is few =
     let same = ap (λ (p : Planned). length p.items) is in
-    let each = as_many_items prunes 0 (pool conditions) (map f xs) in
+    let begun = as_many_started how args (plan_for how.prunes conditions (map f xs)) in
+    let each = as_many_items how.prunes 0 (pool conditions) (map f xs) in
     let n = length-map xs f in
-    omega (arith, same, each, n, few)
+    omega (arith, same, begun, each, n, few)
 
 -- locks leave it as it was
 pub reads_stay : (old new : Stores) (items : List PlannedItem) → new ≡ record old { locks = new.locks } → All (CanRead old.rows.leaves) items → All (CanRead new.rows.leaves) items
@@ -155,40 +171,40 @@ as_many stores caller f xs tables may are =
 -- ---- by how many items stand in FROM
 
 -- the binder refuses too many, whatever they stand for
-pub too_many_meant : (params : List Param) (caller : Caller) (t : SelectTree) (items : List Item) → 4 < length (from_of t) → meant params caller t items ≡ meant params caller t []
-too_many_meant params caller (selects ls from cond keys limit offset) items many = by (nat_le (length from) 4) (grind (arith, nat_tests, many))
+too_many_bound : (params : List Param) (session : ℕ) (t : SelectTree) (items : List Item) → 4 < length (from_of t) → bound_select items params session t ≡ Err (too_many TablesInFrom)
+too_many_bound params session (selects ls from cond keys limit offset) items many = by (nat_le (length from) 4) (grind (arith, nat_tests, many))
   where
-    -- what is told, by whether there are few enough
-    told : Bool → List Item → History → Made SelectMeant
-    told b items h =
-        outcome (if_bound (with_values (values_of params)) (or_first ((unless b (too_many TablesInFrom) ++ twice_faults [] (map item_name from))
-        ++ (name_faults items params caller.session (selects ls from cond keys limit offset) ++ constant_faults items params caller.session (selects ls from cond keys limit offset)))
-        (meaning items params caller.session (selects ls from cond keys limit offset))))
-
-    by : (b : Bool) → b ≡ false → told b items ≡ told b []
-    by true e = absurd (cc)
-    by false e = refl
-
-pub too_many_told : (params : List Param) (caller : Caller) (t : SelectTree) (items : List Item) (h : History) → 4 < length (from_of t) → (meant params caller t items h).told ≡ Err (Refused (too_many TablesInFrom))
-too_many_told params caller (selects ls from cond keys limit offset) items h many = by (nat_le (length from) 4) (grind (arith, nat_tests, many))
-  where
+    -- by whether there are few enough
     by : (b : Bool) → b ≡ false
-        → (outcome (if_bound (with_values (values_of params)) (or_first ((unless b (too_many TablesInFrom) ++ twice_faults [] (map item_name from))
-        ++ (name_faults items params caller.session (selects ls from cond keys limit offset) ++ constant_faults items params caller.session (selects ls from cond keys limit offset)))
-        (meaning items params caller.session (selects ls from cond keys limit offset))))).told ≡ Err (Refused (too_many TablesInFrom))
+        → or_first ((unless b (too_many TablesInFrom) ++ twice_faults [] (map item_name from))
+        ++ (name_faults items params session (selects ls from cond keys limit offset) ++ constant_faults items params session (selects ls from cond keys limit offset)))
+        (meaning items params session (selects ls from cond keys limit offset)) ≡ Err (too_many TablesInFrom)
     by true e = absurd (cc)
     by false e = refl
+
+too_many_asked : (how : Planning) (params : List Param) (session : ℕ) (t : SelectTree) (items : List Item) → 4 < length (from_of t) → asked_by how items params session t ≡ Err (too_many TablesInFrom)
+too_many_asked how params session t items many = by how.is_generic
+  where
+    by : (b : Bool) → (if b then bound_select items params session t else custom_select items params session t) ≡ Err (too_many TablesInFrom)
+    by true = too_many_bound params session t items many
+    by false = ap (if_bound (with_values (values_of params))) (too_many_bound params session t items many)
+
+pub too_many_meant : (how : Planning) (params : List Param) (caller : Caller) (t : SelectTree) (items : List Item) → 4 < length (from_of t) → meant how params caller t items ≡ meant how params caller t []
+too_many_meant how params caller t items many = ap {B = History → Made SelectMeant} (λ r h. outcome r) (too_many_asked how params caller.session t items many ∙ sym (too_many_asked how params caller.session t [] many))
+
+pub too_many_told : (how : Planning) (params : List Param) (caller : Caller) (t : SelectTree) (items : List Item) (h : History) → 4 < length (from_of t) → (meant how params caller t items h).told ≡ Err (Refused (too_many TablesInFrom))
+too_many_told how params caller t items h many = ap (λ (r : Result SelectMeant Fault). (outcome r).told) (too_many_asked how params caller.session t items many)
 
 -- so of too many nothing is meant
-pub none_meant : {X : Type 0} (view : X → SelectMeant) (r : Result X Stop) (stores : Stores) (params : List Param) (caller : Caller) (t : SelectTree) (items : List Item) (P : X → Type 0) → 4 < length (from_of t) → MayAttempt stores caller
-    → IsStep view r stores stores caller caller.cmd (meant params caller t items) → IfOk r P
-none_meant view (Ok x) stores params caller t items P many may step =
+pub none_meant : {X : Type 0} (view : X → SelectMeant) (r : Result X Stop) (stores : Stores) (how : Planning) (params : List Param) (caller : Caller) (t : SelectTree) (items : List Item) (P : X → Type 0) → 4 < length (from_of t) → MayAttempt stores caller
+    → IsStep view r stores stores caller caller.cmd (meant how params caller t items) → IfOk r P
+none_meant view (Ok x) stores how params caller t items P many may step =
     let h = may.sound.0 in
     let told = (step.is h may.sound.1 may.sound.2).0 in
-    let refused = too_many_told params caller t items h many in
+    let refused = too_many_told how params caller t items h many in
     let both : Err (Refused (too_many TablesInFrom)) ≡ Ok (view x) = sym refused ∙ told in
     absurd (cc)
-none_meant view (Err e) stores params caller t items P many may step = tt
+none_meant view (Err e) stores how params caller t items P many may step = tt
 
 -- ---- a SELECT that cancels itself
 

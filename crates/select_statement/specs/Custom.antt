@@ -1,13 +1,19 @@
 -- A custom plan is made of the statement with its values in place (the manual, PREPARE, Notes): with parameters a SELECT does
 -- what it does with their values written out, wherever the two bind alike.
 use Rattle.std.specs.Prelude.{◌≡◌, ℕ, ◌++◌, Bool, List, [], Ok, is_some, map}
+use Rattle.pg_values.specs.declared.value.Value.{Value}
 use Rattle.history.specs.History.{History}
 use Rattle.expression_binder.specs.Scopes.{Item}
 use Rattle.expression_binder.specs.declared.scope.Param.{Param}
 use Rattle.sql_ast.specs.Queries.{Joined, SelectTree}
 use Rattle.sql_ast.specs.declared.named_table.NamedTable.{NamedTable}
 use Rattle.sql_binder.specs.Selects.{from_of}
-use Rattle.sql_binder.specs.Values.{custom_select}
+use Rattle.sql_binder.specs.Values.{custom_select, with_values}
+use Rattle.cond_logic.specs.Asked.{SelectMeant}
+use Rattle.row_router.specs.Trees.{TableTree}
+use Rattle.plan_tree.specs.Laws.{Rows}
+use Rattle.plan_tree.specs.Plans.{custom}
+use Rattle.select_answer.specs.Laws.{plainly}
 use Rattle.statement_steps.specs.Made.{Made}
 use Rattle.statement_steps.specs.declared.caller.Caller.{Caller}
 use Rattle.statement_steps.specs.Steps.{follow}
@@ -43,13 +49,19 @@ BindAlike names params c t u h =
 
 abbrev pub CustomSelects : Type 0
 CustomSelects = (prunes : Bool) (names : List (List ℕ)) (params : List Param) (c : Caller) (t u : SelectTree) (h : History)
-    → tables_in t ≡ tables_in u → BindAlike names params c t u h → selected prunes names params c t h ≡ selected prunes names [] c u h
+    → tables_in t ≡ tables_in u → BindAlike names params c t u h → selected (custom prunes) names params c t h ≡ selected (custom prunes) names [] c u h
 
 -- so do their EXPLAINs, where both have an OFFSET or neither has
 abbrev pub CustomExplains : Type 0
 CustomExplains = (prunes : Bool) (names : List (List ℕ)) (params : List Param) (c : Caller) (t u : SelectTree) (h : History)
-    → tables_in t ≡ tables_in u → is_some (offset_of t) ≡ is_some (offset_of u) → BindAlike names params c t u h → explained prunes names params c t h ≡ explained prunes names [] c u h
+    → tables_in t ≡ tables_in u → is_some (offset_of t) ≡ is_some (offset_of u) → BindAlike names params c t u h → explained (custom prunes) names params c t h ≡ explained (custom prunes) names [] c u h
 
 -- and they cancel the same waits
 abbrev pub CustomCancels : Type 0
 CustomCancels = (params : List Param) (session sessions : ℕ) (t u : SelectTree) → tables_in t ≡ tables_in u → BindsAs params session t u [] → cancelled params session sessions t ≡ cancelled [] session sessions u
+
+-- ---- and a generic plan answers what they do
+
+-- the plain answer with these values of parameters is that with the values in their places
+abbrev pub PlainWithValues : Type 0
+PlainWithValues = (sessions : ℕ) (args : List Value) (m : SelectMeant) (rows : Rows) (trees : List TableTree) → plainly sessions args m rows trees ≡ plainly sessions [] (with_values args m) rows trees

@@ -2,6 +2,7 @@
 -- of the plan in place of its answer.
 use Rattle.std.specs.Prelude.{◌≡◌, ℕ, Bool, ◌||◌, List, [], ◌∷◌, Option, is_some, map}
 use Rattle.pg_values.specs.declared.answer.Answer.{Answer}
+use Rattle.pg_values.specs.declared.value.Value.{Value}
 use Rattle.history.specs.declared.catalogue.Column.{Column}
 use Rattle.history.specs.History.{History}
 use Rattle.row_router.specs.Trees.{TableTree}
@@ -13,7 +14,8 @@ use Rattle.sql_binder.specs.Selects.{from_of}
 use Rattle.cond_logic.specs.Asked.{SelectMeant}
 use Rattle.plan_tree.specs.Kept.{id_of}
 use Rattle.plan_tree.specs.Laws.{Rows}
-use Rattle.plan_tree.specs.Plans.{Planned, plan_for}
+use Rattle.plan_tree.specs.Plans.{Planned, plan_by}
+use Rattle.plan_tree.specs.declared.planning.Planning.{Planning}
 use Rattle.select_answer.specs.Laws.{plan_reads}
 use Rattle.plan_text.specs.declared.named_item.NamedItem.{NamedItem}
 use Rattle.plan_text.specs.Plans.{plan_lines, plan_table, scanned}
@@ -22,7 +24,7 @@ use Rattle.statement_steps.specs.declared.caller.Caller.{Caller}
 use Rattle.statement_steps.specs.Steps.{follow}
 use Rattle.select_statement.specs.Gathered.{Found, gathered, planned_under}
 use Rattle.select_statement.specs.Items.{node_of}
-use Rattle.select_statement.specs.Selected.{Told, answered, begins, selected}
+use Rattle.select_statement.specs.Selected.{Told, answered, begins, selected, values_by}
 
 -- ---- names
 
@@ -54,19 +56,19 @@ told t g p = plan_table (plan_lines (named_items (from_of t) g.trees) (is_cut t 
 abbrev pub printed : SelectTree → Found → Planned → History → Made Answer
 printed t g p h = made [] (told t g p)
 
--- of a session that prunes or does not
-abbrev pub explained : (prunes : Bool) → List (List ℕ) → List Param → Caller → SelectTree → History → Made Answer
-explained prunes names params c t = follow (begins c) (λ u. follow (gathered names params c t) (λ g. follow (planned_under prunes names c g) (printed t g)))
+-- of a session that plans so
+abbrev pub explained : Planning → List (List ℕ) → List Param → Caller → SelectTree → History → Made Answer
+explained how names params c t = follow (begins c) (λ u. follow (gathered how names params c t) (λ g. follow (planned_under how names c (values_by how params) g) (printed t g)))
 
 -- ---- the plan that is printed is the one that runs
 
 -- a SELECT of tables gathers and plans as its EXPLAIN does, and then reads by that plan
-abbrev pub run : (prunes : Bool) → List (List ℕ) → List Param → Caller → SelectTree → History → Made Told
-run prunes names params c t = follow (begins c) (λ u. follow (gathered names params c t) (λ g. follow (planned_under prunes names c g) (λ p. answered c g.meant p)))
+abbrev pub run : Planning → List (List ℕ) → List Param → Caller → SelectTree → History → Made Told
+run how names params c t = follow (begins c) (λ u. follow (gathered how names params c t) (λ g. follow (planned_under how names c (values_by how params) g) (λ p. answered c (values_by how params) g.meant p)))
 
 abbrev pub SelectsRunTheirPlan : Type 0
-SelectsRunTheirPlan = (prunes : Bool) (names : List (List ℕ)) (params : List Param) (c : Caller) (t : SelectTree) (j : Joined) (js : List Joined) (h : History) → from_of t ≡ j ∷ js → selected prunes names params c t h ≡ run prunes names params c t h
+SelectsRunTheirPlan = (how : Planning) (names : List (List ℕ)) (params : List Param) (c : Caller) (t : SelectTree) (j : Joined) (js : List Joined) (h : History) → from_of t ≡ j ∷ js → selected how names params c t h ≡ run how names params c t h
 
 -- of one table the leaves under the scans of the plan are those that are read, each once, in order
 abbrev pub OneTableReadsItsScans : Type 0
-OneTableReadsItsScans = (prunes : Bool) (m : SelectMeant) (rows : Rows) (tree : TableTree) → plan_reads prunes m rows (tree ∷ []) ≡ map id_of (scanned (plan_for prunes m.conditions (tree ∷ [])))
+OneTableReadsItsScans = (how : Planning) (args : List Value) (m : SelectMeant) (rows : Rows) (tree : TableTree) → plan_reads how args m rows (tree ∷ []) ≡ map id_of (scanned (plan_by how args m.conditions (tree ∷ [])))

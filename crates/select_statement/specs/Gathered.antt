@@ -1,6 +1,7 @@
 -- What a SELECT does before it reads (the manual, SELECT; EXPLAIN): what it stands for is gathered, its plan is made, and what
 -- the plan reads is locked. An EXPLAIN of the SELECT does the same.
 use Rattle.std.specs.Prelude.{ℕ, Bool, List, [], map}
+use Rattle.pg_values.specs.declared.value.Value.{Value}
 use Rattle.history.specs.History.{History}
 use Rattle.row_router.specs.Seen.{seen}
 use Rattle.row_router.specs.Trees.{TableTree}
@@ -8,7 +9,8 @@ use Rattle.expression_binder.specs.declared.scope.Param.{Param}
 use Rattle.sql_ast.specs.Queries.{SelectTree}
 use Rattle.sql_binder.specs.Selects.{from_of}
 use Rattle.cond_logic.specs.Asked.{SelectMeant, select_meant}
-use Rattle.plan_tree.specs.Plans.{Planned, plan_for, plan_tables}
+use Rattle.plan_tree.specs.Plans.{Planned, plan_for, plan_tables, started_by}
+use Rattle.plan_tree.specs.declared.planning.Planning.{Planning}
 use Rattle.statement_steps.specs.Made.{Made, made}
 use Rattle.statement_steps.specs.declared.caller.Caller.{Caller}
 use Rattle.statement_steps.specs.Steps.{follow}
@@ -24,21 +26,21 @@ pub record Found : Type 0 where
 abbrev pub found_by : Gathered → Found
 found_by g = record { meant = select_meant g.ask; trees = map seen g.trees.items }
 
-abbrev pub found_over : List Param → Caller → SelectTree → List TableTree → History → Made Found
-found_over params c t trees = follow (meant params c t (items_of 0 (from_of t) trees)) (λ m h. made [] (record { meant = m; trees = trees }))
+abbrev pub found_over : Planning → List Param → Caller → SelectTree → List TableTree → History → Made Found
+found_over how params c t trees = follow (meant how params c t (items_of 0 (from_of t) trees)) (λ m h. made [] (record { meant = m; trees = trees }))
 
 -- over the trees of these tables, which the command's snapshot shows
-abbrev pub found_in : List Param → Caller → SelectTree → List ℕ → History → Made Found
-found_in params c t ns h = found_over params c t (trees_for c ns h) h
+abbrev pub found_in : Planning → List Param → Caller → SelectTree → List ℕ → History → Made Found
+found_in how params c t ns h = found_over how params c t (trees_for c ns h) h
 
 -- once the tables of its items are found and locked
-abbrev pub gathered : List (List ℕ) → List Param → Caller → SelectTree → History → Made Found
-gathered names params c t = follow (named_from names c [] (from_of t)) (found_in params c t)
+abbrev pub gathered : Planning → List (List ℕ) → List Param → Caller → SelectTree → History → Made Found
+gathered how names params c t = follow (named_from names c [] (from_of t)) (found_in how params c t)
 
 -- the plan of what was found
 abbrev pub plan_of : (prunes : Bool) → Found → Planned
 plan_of prunes g = plan_for prunes g.meant.conditions g.trees
 
--- once the tables that lead to its leaves are locked
-abbrev pub planned_under : (prunes : Bool) → List (List ℕ) → Caller → Found → History → Made Planned
-planned_under prunes names c g = follow (locked_below names c (plan_tables (plan_of prunes g))) (λ u h. made [] (plan_of prunes g))
+-- once the tables that lead to its leaves are locked it is started
+abbrev pub planned_under : Planning → List (List ℕ) → Caller → (args : List Value) → Found → History → Made Planned
+planned_under how names c args g = follow (locked_below names c (plan_tables (plan_of how.prunes g))) (λ u h. made [] (started_by how args (plan_of how.prunes g)))

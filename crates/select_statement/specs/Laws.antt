@@ -1,5 +1,6 @@
 -- What holds of every SELECT of a run.
-use Rattle.std.specs.Prelude.{◌≡◌, ◌≤◌, ◌<◌, ℕ, ◌⊎◌, Bool, All, List, [], ◌∷◌, length}
+use Rattle.std.specs.Prelude.{◌≡◌, ◌≤◌, ◌<◌, ℕ, ◌⊎◌, All, List, [], ◌∷◌, length}
+use Rattle.pg_values.specs.declared.value.Value.{Value}
 use Rattle.pg_values.specs.declared.which.Which.TheVariants.{Scans}
 use Rattle.refusals.specs.Refusals.{too_many}
 use Rattle.history.specs.Catalogue.{tables_made}
@@ -16,7 +17,8 @@ use Rattle.plan_tree.specs.Laws.{shown}
 use Rattle.expression_binder.specs.declared.scope.Param.{Param}
 use Rattle.sql_ast.specs.Queries.{SelectTree}
 use Rattle.cond_logic.specs.Asked.{SelectMeant}
-use Rattle.plan_tree.specs.Plans.{plan_for}
+use Rattle.plan_tree.specs.Plans.{plan_by}
+use Rattle.plan_tree.specs.declared.planning.Planning.{Planning}
 use Rattle.select_answer.specs.Laws.{plan_reads}
 use Rattle.stores.specs.Events.{look_of}
 use Rattle.stores.specs.Good.{IsGood}
@@ -37,8 +39,8 @@ Looks c h = IsLooking h c.session (look_of h c.session c.cmd)
 
 -- a SELECT of one table makes of the history, and answers, what a SELECT does that scans all leaves
 abbrev pub OneTableIsPlainIn : History → Type 0
-OneTableIsPlainIn h = (prunes : Bool) (names : List (List ℕ)) (params : List Param) (c : Caller) (t : SelectTree) (table : ℕ) → Looks c h → IsMade (catalogue_events h) table
-    → giving answer_in (of_tables prunes names params c t (table ∷ []) h) ≡ selected_plainly prunes names params c t (table ∷ []) h
+OneTableIsPlainIn h = (how : Planning) (names : List (List ℕ)) (params : List Param) (c : Caller) (t : SelectTree) (table : ℕ) → Looks c h → IsMade (catalogue_events h) table
+    → giving answer_in (of_tables how names params c t (table ∷ []) h) ≡ selected_plainly how names params c t (table ∷ []) h
 
 -- in each history of a run
 abbrev pub OneTableIsPlain : Type 0
@@ -46,14 +48,14 @@ OneTableIsPlain = (h : History) → IsGood h → OneTableIsPlainIn h
 
 -- the answer by the plan over several tables is the plain one too, or the plan makes more scans than a statement may: then
 -- that is the fault
-abbrev pub IsPlainOrTooMuch : (prunes : Bool) → Caller → SelectMeant → List ℕ → History → Type 0
-IsPlainOrTooMuch prunes c m ns h =
-    (giving answer_in (answered c m (plan_for prunes m.conditions (trees_for c ns h)) h) ≡ answered_plainly c m (trees_for c ns h) h)
-    ⊎ ((SCAN_LIMIT < length (plan_reads prunes m (shown h (look_of h c.session c.cmd)) (trees_for c ns h)))
-    × (answered c m (plan_for prunes m.conditions (trees_for c ns h)) h ≡ halted [] (Refused (too_many Scans))))
+abbrev pub IsPlainOrTooMuch : Planning → Caller → (args : List Value) → SelectMeant → List ℕ → History → Type 0
+IsPlainOrTooMuch how c args m ns h =
+    (giving answer_in (answered c args m (plan_by how args m.conditions (trees_for c ns h)) h) ≡ answered_plainly c args m (trees_for c ns h) h)
+    ⊎ ((SCAN_LIMIT < length (plan_reads how args m (shown h (look_of h c.session c.cmd)) (trees_for c ns h)))
+    × (answered c args m (plan_by how args m.conditions (trees_for c ns h)) h ≡ halted [] (Refused (too_many Scans))))
 
 abbrev pub TablesArePlainIn : History → Type 0
-TablesArePlainIn h = (prunes : Bool) (c : Caller) (m : SelectMeant) (ns : List ℕ) → Looks c h → length ns ≤ 4 → All (IsMade (catalogue_events h)) ns → IsPlainOrTooMuch prunes c m ns h
+TablesArePlainIn h = (how : Planning) (c : Caller) (args : List Value) (m : SelectMeant) (ns : List ℕ) → Looks c h → length ns ≤ 4 → All (IsMade (catalogue_events h)) ns → IsPlainOrTooMuch how c args m ns h
 
 abbrev pub TablesArePlain : Type 0
 TablesArePlain = (h : History) → IsGood h → TablesArePlainIn h

@@ -17,12 +17,13 @@ ghost use Rattle.select_statement.specs.Named.{ColumnsAreNamedAsAsked, ItemsAreN
 use crate::Gathered;
 use crate::gathering::{gather, plan_under};
 use crate::items::{item_name, node_of};
+use crate::parts::values_by;
 use cond_logic::SelectAsk;
 use expression_binder::Param;
 use history::Column;
 use pg_values::{Answer, NameList, NoMemory, PgText};
 use plan_text::{NamedItem, write_plan};
-use plan_tree::Plan;
+use plan_tree::{Plan, Planning};
 use row_router::Tree;
 use select_answer::one_item_is_read_once;
 use sql_ast::{FromItem, Select};
@@ -118,24 +119,25 @@ fn plan_table(
     write_plan(alloc, &named, is_cut, &found.ask, plan)
 }
 
-/// An EXPLAIN of a SELECT of a session, with the arguments of its parameters: its plan, or why it stops. It locks what the SELECT locks, and is refused
-/// where that is refused before it reads. It reads nothing.
+/// An EXPLAIN of a SELECT of a session, with the arguments of its parameters: its plan, or why it stops. It locks what
+/// the SELECT locks, and is refused where that is refused before it reads. It reads nothing.
 pub fn explain(
     alloc: Global,
     stores: &mut Stores,
     names: &SessionNames,
     params: &[Param],
     caller: Caller,
-    prunes: bool,
+    how: Planning,
     select: &Select,
 ) -> Result<Answer, Stop>
     requires may { MayAttempt stores.old caller }
     requires few { length stores.old.catalog.tables ≤ 4096 }
-    ensures { IsStep (λ a. a) result stores.old stores.new caller (caller.cmd + 1) (explained.explained prunes names.now params.now caller (select_tree select.now)) }
+    ensures { IsStep (λ a. a) result stores.old stores.new caller (caller.cmd + 1) (explained.explained how names.now params.now caller (select_tree select.now)) }
 {
     hold_if_repeatable(alloc, stores, caller)?;
-    let found = gather(alloc, stores, names, params, caller, select)?;
-    let plan = plan_under(alloc, stores, names, caller, prunes, &found)?;
+    let found = gather(alloc, stores, names, how, params, caller, select)?;
+    let args = values_by(alloc, how, params)?;
+    let plan = plan_under(alloc, stores, names, caller, how, &args, &found)?;
     let table = plan_table(alloc, select, &found, &plan)?;
     Ok(table)
 }

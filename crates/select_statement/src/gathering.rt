@@ -6,7 +6,8 @@ ghost use Rattle.row_router.specs.Seen.{seen};
 ghost use Rattle.sql_ast.specs.Queries.{select_tree};
 ghost use Rattle.sql_binder.specs.Selects.{from_of};
 ghost use Rattle.cond_logic.specs.Asked.{select_meant};
-ghost use Rattle.plan_tree.specs.Plans.{CanRead, planned};
+ghost use Rattle.plan_tree.specs.Plans.{CanRead, planned, started_by};
+ghost use Rattle.plan_tree.specs.Prunable.{CanPrune};
 ghost use Rattle.stores.specs.Stand.{Stands};
 ghost use Rattle.statement_steps.specs.Attempts.{MayAttempt};
 ghost use Rattle.statement_steps.specs.Known.{IsKnownTo};
@@ -24,8 +25,8 @@ use crate::parts::{bind, lock_below};
 use crate::tables::{lock_items, read_trees};
 use cond_logic::SelectAsk;
 use expression_binder::Param;
-use pg_values::{NoMemory, TableNo};
-use plan_tree::{Plan, make_plan};
+use pg_values::{NoMemory, TableNo, Value};
+use plan_tree::{Plan, Planning, make_plan};
 use row_router::Tree;
 use sql_ast::Select;
 use statement_steps::{Caller, SessionNames, Stop};
@@ -47,6 +48,7 @@ pub(crate) fn look(alloc: Global, stores: &Stores, caller: Caller) -> Result<Sna
 fn bind_over(
     alloc: Global,
     stores: &Stores,
+    how: Planning,
     params: &[Param],
     caller: Caller,
     select: &Select,
@@ -54,20 +56,21 @@ fn bind_over(
 ) -> Result<SelectAsk, Stop>
     requires may { MayAttempt stores.now caller }
     requires each { length trees.now ≡ length (from_of (select_tree select.now)) }
-    ensures step { IsStep select_meant result stores.now stores.now caller caller.cmd (selected.meant params.now caller (select_tree select.now) (scope_of 0 (from_of (select_tree select.now)) (map seen trees.now))) }
+    ensures step { IsStep select_meant result stores.now stores.now caller caller.cmd (selected.meant how params.now caller (select_tree select.now) (scope_of 0 (from_of (select_tree select.now)) (map seen trees.now))) }
     ensures few { IfOk result (λ ask. length trees.now ≤ 4) }
 {
     if trees.len() > 4 {
-        return bind(alloc, stores, params, caller, select, &[]);
+        return bind(alloc, stores, how, params, caller, select, &[]);
     }
     let items = items_of(alloc, select.from.as_slice(), trees)?;
-    bind(alloc, stores, params, caller, select, &items)
+    bind(alloc, stores, how, params, caller, select, &items)
 }
 
 // The trees of the tables are read, and names and kinds bound over them.
 fn find(
     alloc: Global,
     stores: &Stores,
+    how: Planning,
     params: &[Param],
     caller: Caller,
     select: &Select,
@@ -77,7 +80,7 @@ fn find(
     requires few { length stores.now.catalog.tables ≤ 4096 }
     requires each { length tables.now ≡ length (from_of (select_tree select.now)) }
     requires known { All (λ t. IsKnownTo stores.now caller.session t.number) tables.now }
-    ensures step { IsStep found_by result stores.now stores.now caller caller.cmd (gathered.found_in params.now caller (select_tree select.now) (map number_of tables.now)) }
+    ensures step { IsStep found_by result stores.now stores.now caller caller.cmd (gathered.found_in how params.now caller (select_tree select.now) (map number_of tables.now)) }
     ensures few { IfOk result (λ g. length g.trees.items ≤ 4) }
     ensures each { IfOk result (λ g. length g.trees.items ≡ length (from_of (select_tree select.now))) }
     ensures trees { IfOk result (λ g. All (λ t. IsTreeFor stores.now caller (seen t)) g.trees.items) }
@@ -85,7 +88,7 @@ fn find(
 {
     let snap = look(alloc, stores, caller)?;
     let trees = read_trees(alloc, stores, caller, tables, &snap)?;
-    let ask = bind_over(alloc, stores, params, caller, select, &trees)?;
+    let ask = bind_over(alloc, stores, how, params, caller, select, &trees)?;
     Ok(Gathered { ask, trees, snap })
 }
 
@@ -108,18 +111,19 @@ fn keep_trees(
 }
 
 /// The tables of FROM are found and locked, their trees read under the snapshot of the command, names and kinds
-/// bound, constants evaluated, and the values of parameters put in their places.
+/// bound, and constants evaluated; for a custom plan the values of parameters are put in their places.
 pub(crate) fn gather(
     alloc: Global,
     stores: &mut Stores,
     names: &SessionNames,
+    how: Planning,
     params: &[Param],
     caller: Caller,
     select: &Select,
 ) -> Result<Gathered, Stop>
     requires may { MayAttempt stores.old caller }
     requires few { length stores.old.catalog.tables ≤ 4096 }
-    ensures step { IsStep found_by result stores.old stores.new caller caller.cmd (gathered.gathered names.now params.now caller (select_tree select.now)) }
+    ensures step { IsStep found_by result stores.old stores.new caller caller.cmd (gathered.gathered how names.now params.now caller (select_tree select.now)) }
     ensures few { IfOk result (λ g. length g.trees.items ≤ 4) }
     ensures each { IfOk result (λ g. length g.trees.items ≡ length (from_of (select_tree select.now))) }
     ensures trees { IfOk result (λ g. All (λ t. IsTreeFor stores.new caller (seen t)) g.trees.items) }
@@ -127,30 +131,54 @@ pub(crate) fn gather(
 {
     let tables = lock_items(alloc, stores, names, caller, select.from.as_slice())?;
     keep_trees(alloc, stores, caller, &tables)?;
-    find(alloc, stores, params, caller, select, &tables)
+    find(alloc, stores, how, params, caller, select, &tables)
 }
 
 // ---- the plan
 
-/// The plan is made, and what it reads is locked.
+// A generic plan is started.
+fn start_by<'t>(
+    alloc: Global,
+    how: Planning,
+    args: &[Value],
+    plan: Plan<'t>,
+) -> Result<Plan<'t>, NoMemory>
+    requires { All (λ i. CanPrune i.tree) (planned plan).items }
+    ensures { IfOk result (λ p. planned p ≡ started_by how args.now (planned plan.entry)) }
+{
+    if how.is_generic {
+        plan.start(alloc, args)
+    } else {
+        Ok(plan)
+    }
+}
+
+/// The plan is made, what it keeps is locked, and it is started with these values of parameters.
 pub(crate) fn plan_under<'t>(
     alloc: Global,
     stores: &mut Stores,
     names: &SessionNames,
     caller: Caller,
-    prunes: bool,
+    how: Planning,
+    args: &[Value],
     found: &'t Gathered,
 ) -> Result<Plan<'t>, Stop>
     requires may { MayAttempt stores.old caller }
     requires few { length found.now.trees.items ≤ 4 }
     requires trees { All (λ t. IsTreeFor stores.old caller (seen t)) found.now.trees.items }
-    ensures step { IsStep planned result stores.old stores.new caller caller.cmd (gathered.planned_under prunes names.now caller (found_by found.now)) }
+    ensures step { IsStep planned result stores.old stores.new caller caller.cmd (gathered.planned_under how names.now caller args.now (found_by found.now)) }
     ensures reads { IfOk result (λ p. All (CanRead stores.new.rows.leaves) (planned p).items) }
     ensures few { IfOk result (λ p. length (planned p).items ≤ 4) }
     ensures rest { stores.new ≡ record stores.old { locks = stores.new.locks } }
 {
-    let plan = make_plan(alloc, prunes, found.ask.conditions.as_slice(), &found.trees)?;
+    let plan = make_plan(
+        alloc,
+        how.prunes,
+        found.ask.conditions.as_slice(),
+        &found.trees,
+    )?;
     let tables = plan.tables(alloc)?;
     lock_below(alloc, stores, names, caller, &tables)?;
-    Ok(plan)
+    let started = start_by(alloc, how, args, plan)?;
+    Ok(started)
 }

@@ -1,4 +1,4 @@
-ghost use Rattle.select_statement.specs.Custom.{CustomCancels, CustomExplains, CustomSelects};
+ghost use Rattle.select_statement.specs.Custom.{CustomCancels, CustomExplains, CustomSelects, PlainWithValues};
 ghost use Rattle.select_statement.specs.Laws.{LeavesAreFew, OneTableIsPlain, TablesArePlain};
 
 use select_answer::{one_item_is_read_once, pruned_is_plain};
@@ -27,6 +27,12 @@ pub fn tables_are_plain()
     good_is_legal();
     pruned_is_plain();
 }
+
+/// A generic plan, which is run with the values of parameters, answers what a custom one does, which has them in its
+/// conditions: both answer plainly, and plain answers are the same.
+pub fn plain_with_values()
+    ensures { PlainWithValues }
+{}
 
 /// With parameters a SELECT makes of each history what it makes with their values written out, wherever the two bind
 /// alike. So does its EXPLAIN, and the same waits are cancelled by it.

@@ -12,8 +12,10 @@
 //! That a SELECT reads by the plan that its EXPLAIN prints is a law (`selects_run_their_plan`), and so is that a
 //! SELECT of one table reads just the leaves that stand there (`one_table_reads_its_scans`).
 //!
-//! A prepared SELECT is bound with the arguments of its parameters, and its plan made with their values in place. So it
-//! does what it does with these written out (`custom_selects_are_as_written_out`).
+//! A prepared SELECT is bound with the arguments of its parameters. A custom plan of it is made with their values in
+//! place, so it does what it does with these written out (`custom_selects_are_as_written_out`). A generic plan is
+//! made without those that are operands by themselves; what it keeps then is locked, and when it starts, their values
+//! leave out more. Its answer is the same (`plain_with_values`).
 //!
 //! What a SELECT of a run answers: what a plain scan of all leaves gives.
 //!
@@ -42,6 +44,7 @@ pub use explaining::{
 };
 pub use gathered::Gathered;
 pub use laws::{
-    custom_selects_are_as_written_out, leaves_are_few, one_table_is_plain, tables_are_plain,
+    custom_selects_are_as_written_out, leaves_are_few, one_table_is_plain, plain_with_values,
+    tables_are_plain,
 };
 pub use statement::select;

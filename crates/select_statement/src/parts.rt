@@ -1,4 +1,4 @@
-ghost use Rattle.std.specs.Prelude.{◌≡◌, ◌+◌, All};
+ghost use Rattle.std.specs.Prelude.{◌≡◌, ◌+◌, All, IfOk};
 ghost use Rattle.sql_ast.specs.Queries.{select_tree};
 ghost use Rattle.cond_logic.specs.Asked.{select_meant};
 ghost use Rattle.expression_binder.specs.Firsts.{IsAnswerBy};
@@ -12,12 +12,12 @@ ghost use Rattle.select_statement.specs.Selected as selected;
 use crate::Answered;
 use cond_logic::SelectAsk;
 use expression_binder::{Param, ScopeItem};
-use pg_values::{LockMode, Refusal, TableNo};
-use plan_tree::Plan;
+use pg_values::{LockMode, NoMemory, Refusal, TableNo, Value};
+use plan_tree::{Plan, Planning};
 use row_store::Trail;
 use select_answer::run_select;
 use sql_ast::Select;
-use sql_binder::{bind_select, put_values};
+use sql_binder::{bind_select, put_values, values_of};
 use statement_steps::{Caller, SessionNames, Stop, lock_tables};
 use std::alloc::Global;
 use stores::Stores;
@@ -37,20 +37,51 @@ pub(crate) fn bind_custom(
     Ok(put_values(alloc, ask, params)?)
 }
 
-/// Names and kinds are bound, constants evaluated, and the values of parameters put in their places.
+// The SELECT that the plan is made of.
+fn bind_by(
+    alloc: Global,
+    how: Planning,
+    select: &Select,
+    items: &[ScopeItem],
+    params: &[Param],
+    session: u32,
+) -> Result<SelectAsk, Refusal>
+    ensures { IsAnswerBy select_meant result (selected.asked_by how items.now params.now session (select_tree select.now)) }
+{
+    if how.is_generic {
+        bind_select(alloc, select, items, params, session)
+    } else {
+        bind_custom(alloc, select, items, params, session)
+    }
+}
+
+/// Names and kinds are bound and constants evaluated; for a custom plan the values of parameters are put in their
+/// places.
 pub(crate) fn bind(
     alloc: Global,
     stores: &Stores,
+    how: Planning,
     params: &[Param],
     caller: Caller,
     select: &Select,
     items: &[ScopeItem],
 ) -> Result<SelectAsk, Stop>
     requires { MayAttempt stores.now caller }
-    ensures { IsStep select_meant result stores.now stores.now caller caller.cmd (selected.meant params.now caller (select_tree select.now) items.now) }
+    ensures { IsStep select_meant result stores.now stores.now caller caller.cmd (selected.meant how params.now caller (select_tree select.now) items.now) }
 {
-    let ask = bind_custom(alloc, select, items, params, caller.session)?;
+    let ask = bind_by(alloc, how, select, items, params, caller.session)?;
     Ok(ask)
+}
+
+/// The values of parameters that start a generic plan; a custom one has them in its conditions.
+pub(crate) fn values_by(
+    alloc: Global,
+    how: Planning,
+    params: &[Param],
+) -> Result<Vec<Value>, NoMemory>
+    ensures { IfOk result (λ vs. vs.items ≡ selected.values_by how params.now) }
+{
+    values_of(alloc, how.apart(params))
 }
 
 /// The tables are locked, one after the other.
@@ -69,11 +100,12 @@ pub(crate) fn lock_below(
     lock_tables(alloc, stores, names, caller, tables, LockMode::AccessShare)
 }
 
-/// The answer by the plan for the rows that the snapshot shows.
+/// The answer by the plan, with these values of parameters, for the rows that the snapshot shows.
 pub(crate) fn answer(
     alloc: Global,
     stores: &Stores,
     caller: Caller,
+    args: &[Value],
     ask: &SelectAsk,
     plan: &Plan<'_>,
     snap: &Snapshot,
@@ -81,11 +113,13 @@ pub(crate) fn answer(
     requires may { MayAttempt stores.now caller }
     requires reads { All (CanRead stores.now.rows.leaves) (planned plan.now).items }
     requires look { IsLookFor stores.now caller snap.now }
-    ensures { IsStep selected.told_by result stores.now stores.now caller (caller.cmd + 1) (selected.answered caller (select_meant ask.now) (planned plan.now)) }
+    ensures { IsStep selected.told_by result stores.now stores.now caller (caller.cmd + 1) (selected.answered caller args.now (select_meant ask.now) (planned plan.now)) }
 {
     let sessions = caller.sessions - 1;
     let Stores { txs, rows, .. } = stores;
     let mut trail = Trail::new(alloc)?;
-    let answer = run_select(alloc, ask, &[], sessions, plan, rows, txs, snap, &mut trail)?;
+    let answer = run_select(
+        alloc, ask, args, sessions, plan, rows, txs, snap, &mut trail,
+    )?;
     Ok(Answered { answer, trail })
 }

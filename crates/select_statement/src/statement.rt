@@ -7,9 +7,9 @@ ghost use Rattle.select_statement.specs.Selected as selected;
 use crate::Answered;
 use crate::cancels::cancels_itself;
 use crate::gathering::{gather, look, plan_under};
-use crate::parts::{answer, bind};
+use crate::parts::{answer, bind, values_by};
 use expression_binder::Param;
-use plan_tree::make_plan;
+use plan_tree::{Planning, make_plan};
 use refusals::statement_cancelled;
 use sql_ast::Select;
 use statement_steps::{Caller, SessionNames, Stop, hold_if_repeatable};
@@ -31,13 +31,17 @@ fn select_bare(
 {
     hold_if_repeatable(alloc, stores, caller)?;
     let snap = look(alloc, stores, caller)?;
-    let ask = bind(alloc, stores, params, caller, select, &[])?;
+    let how = Planning {
+        prunes: false,
+        is_generic: false,
+    };
+    let ask = bind(alloc, stores, how, params, caller, select, &[])?;
     let plan = make_plan(alloc, false, ask.conditions.as_slice(), &[])?;
     let is_cancelled = cancels_itself(alloc, &ask, caller.session, caller.sessions - 1)?;
     if is_cancelled {
         return Err(Stop::Refused(statement_cancelled(alloc)));
     }
-    answer(alloc, stores, caller, &ask, &plan, &snap)
+    answer(alloc, stores, caller, &[], &ask, &plan, &snap)
 }
 
 // ---- of tables
@@ -48,38 +52,40 @@ fn select_tables(
     names: &SessionNames,
     params: &[Param],
     caller: Caller,
-    prunes: bool,
+    how: Planning,
     select: &Select,
 ) -> Result<Answered, Stop>
     requires may { MayAttempt stores.old caller }
     requires few { length stores.old.catalog.tables ≤ 4096 }
     ensures { IsStep selected.told_by result stores.old stores.new caller (caller.cmd + 1)
-        (follow (selected.begins caller) (λ u. selected.of_named prunes names.now params.now caller (select_tree select.now))) }
+        (follow (selected.begins caller) (λ u. selected.of_named how names.now params.now caller (select_tree select.now))) }
 {
     hold_if_repeatable(alloc, stores, caller)?;
-    let found = gather(alloc, stores, names, params, caller, select)?;
-    let plan = plan_under(alloc, stores, names, caller, prunes, &found)?;
-    answer(alloc, stores, caller, &found.ask, &plan, &found.snap)
+    let found = gather(alloc, stores, names, how, params, caller, select)?;
+    let args = values_by(alloc, how, params)?;
+    let plan = plan_under(alloc, stores, names, caller, how, &args, &found)?;
+    answer(alloc, stores, caller, &args, &found.ask, &plan, &found.snap)
 }
 
 /// A SELECT of a session, with the arguments of its parameters: its answer with the leaves that it has read, or why
-/// it stops. It locks and reads what its conditions keep, or all where the session prunes nothing.
+/// it stops. It locks and reads what its conditions keep, or all where the session prunes nothing. Where the plan is
+/// generic it locks what it keeps without the values of parameters, and reads what they keep of it.
 pub fn select(
     alloc: Global,
     stores: &mut Stores,
     names: &SessionNames,
     params: &[Param],
     caller: Caller,
-    prunes: bool,
+    how: Planning,
     select: &Select,
 ) -> Result<Answered, Stop>
     requires may { MayAttempt stores.old caller }
     requires few { length stores.old.catalog.tables ≤ 4096 }
-    ensures { IsStep selected.told_by result stores.old stores.new caller (caller.cmd + 1) (selected.selected prunes names.now params.now caller (select_tree select.now)) }
+    ensures { IsStep selected.told_by result stores.old stores.new caller (caller.cmd + 1) (selected.selected how names.now params.now caller (select_tree select.now)) }
 {
     if select.from.as_slice().is_empty() {
         select_bare(alloc, stores, params, caller, select)
     } else {
-        select_tables(alloc, stores, names, params, caller, prunes, select)
+        select_tables(alloc, stores, names, params, caller, how, select)
     }
 }

@@ -30,4 +30,4 @@ pub use arguments::{Wanted, bind_arguments};
 pub use changes::{bind_delete, bind_update};
 pub use inserts::bind_insert;
 pub use selects::bind_select;
-pub use values::{put_change_values, put_values};
+pub use values::{put_change_values, put_values, values_of};

@@ -10,7 +10,8 @@ use expression_binder::Param;
 use pg_values::{ListOf, NoMemory, Value, copy_value};
 use std::alloc::Global;
 
-fn values_of(alloc: Global, params: &[Param]) -> Result<Vec<Value>, NoMemory>
+/// The values of parameters, in order.
+pub fn values_of(alloc: Global, params: &[Param]) -> Result<Vec<Value>, NoMemory>
     ensures { IfOk result (λ values. values.items ≡ values_of params.now) }
 {
     let mut values = Vec::new(alloc);

@@ -24,12 +24,14 @@ use Rattle.row_change.specs.Ways.{AllTables, ways_below}
 use Rattle.row_change.specs.Targets.{holder_faults}
 use Rattle.part_catalog.specs.Found.{made_at}
 use Rattle.plan_tree.specs.Kept.{Keeps, kept_tables}
+use Rattle.plan_tree.specs.Plans.{apart}
+use Rattle.plan_tree.specs.declared.planning.Planning.{Planning}
 use Rattle.cond_logic.specs.Asked.{ChangeMeant}
 use Rattle.sql_ast.specs.Expressions.{Tree, Trees}
 use Rattle.sql_ast.specs.Queries.{Setting}
 use Rattle.sql_ast.specs.declared.named_table.NamedTable.{NamedTable}
 use Rattle.expression_binder.specs.declared.scope.Param.{Param}
-use Rattle.sql_binder.specs.Values.{custom_change}
+use Rattle.sql_binder.specs.Values.{values_of}
 use Rattle.stores.specs.Events.{look_of}
 use Rattle.statement_steps.specs.Asks.{named, all_locked, held_at}
 use Rattle.statement_steps.specs.Ended.{giving}
@@ -45,7 +47,7 @@ use Rattle.insert_statement.specs.Born.{born, all_born}
 use Rattle.insert_statement.specs.Inserted.{rows_meant, whole_rows, into_leaves, placed_rows, locked_into, below, into_shape, into, gathered as gathered_rows, inserted}
 use Rattle.change_statement.specs.Changed.{Changing, updater, waits_for_end, held_now, paused, conflict_fault, by_decision, one_changed, all_changed, changed_from, changed_on, Told, told_of, changed, begun_or_left, changed_by}
 use Rattle.change_statement.specs.Deleted.{deleting, deleted}
-use Rattle.change_statement.specs.Gathered.{found_by, item_of, meant, locked_all, locked_by, locked, of_table, gathered}
+use Rattle.change_statement.specs.Gathered.{asked_by, found_by, item_of, meant, locked_all, locked, of_table, gathered}
 use Rattle.change_statement.specs.Kept.{keeps_for, moves, tables_locked}
 use Rattle.change_statement.specs.NewRows.{new_row}
 use Rattle.change_statement.specs.Standing.{following, left_of, standing}
@@ -149,28 +151,29 @@ module _ (k : Attempt) (names : List (List ℕ)) where
   either_low keeps tree true all = all_under (IsLow k) tree all
   either_low keeps tree false all = all_kept (IsLow k) keeps tree all
 
-  locked_by_parts : (keeps : Keeps) (t : ℕ) (tree : TableTree) (path : List PathPart) (m : ChangeMeant) → AllTables (IsLow k) tree → Parts k (Gives k Any) (locked_by keeps names k.caller t tree path m)
-  locked_by_parts keeps t tree path m low =
-      then_parts k Any (Gives k Any) (locked_all names k.caller (tables_locked keeps m.settings tree)) (λ u h. made [] (found_by keeps (table_of t) tree path m))
+  locked_parts : (how : Planning) (args : List Value) (t : ℕ) (tree : TableTree) (path : List PathPart) (m : ChangeMeant) → AllTables (IsLow k) tree → Parts k (Gives k Any) (locked how names k.caller args t tree path m)
+  locked_parts how args t tree path m low =
+      let keeps = keeps_for how.prunes m.condition in
+      then_parts k Any (Gives k Any) (locked_all names k.caller (tables_locked keeps m.settings tree)) (λ u h. made [] (found_by how args (table_of t) tree path m))
       (all_locked_parts k names RowExclusive (map number_of (tables_locked keeps m.settings tree)) (All-map (λ n. n < k.bound) number_of (tables_locked keeps m.settings tree) (either_low keeps tree (moves keeps m.settings tree) low)))
-      (λ u any h now. made_part k (Gives k Any) h (found_by keeps (table_of t) tree path m) now.may (now.still, tt))
+      (λ u any h now. made_part k (Gives k Any) h (found_by how args (table_of t) tree path m) now.may (now.still, tt))
 
-  gathered_parts : (prunes : Bool) (params : List Param) (table : NamedTable) (settings : List Setting) (condition : Option Tree) → Parts k (Gives k Any) (gathered prunes names params k.caller table settings condition)
-  gathered_parts prunes params table settings condition =
-      then_parts k (Low k) (Gives k Any) (named names k.caller.session RowExclusive table.name) (of_table prunes names params k.caller table settings condition) (named_parts k names RowExclusive table.name)
+  gathered_parts : (how : Planning) (params : List Param) (table : NamedTable) (settings : List Setting) (condition : Option Tree) → Parts k (Gives k Any) (gathered how names params k.caller table settings condition)
+  gathered_parts how params table settings condition =
+      then_parts k (Low k) (Gives k Any) (named names k.caller.session RowExclusive table.name) (of_table how names params k.caller table settings condition) (named_parts k names RowExclusive table.name)
       (λ t low h now.
       let tree = tree_of h k.caller.session t (look_of h k.caller.session k.caller.cmd) in
       let path = path_of h k.caller.session t in
-      then_parts k Any (Gives k Any) (meant params k.caller table settings condition t) (locked prunes names k.caller t tree path)
-      (λ h now. answered_part k h now (custom_change (item_of table (made_at h t).columns) params k.caller.session settings condition))
-      (λ m any. locked_by_parts (keeps_for prunes m.condition) t tree path m (tree_low k h now k.caller.session t (look_of h k.caller.session k.caller.cmd) low)) h now)
+      then_parts k Any (Gives k Any) (meant how params k.caller table settings condition t) (locked how names k.caller (values_of (apart how params)) t tree path)
+      (λ h now. answered_part k h now (asked_by how (item_of table (made_at h t).columns) params k.caller.session settings condition))
+      (λ m any. locked_parts how (values_of (apart how params)) t tree path m (tree_low k h now k.caller.session t (look_of h k.caller.session k.caller.cmd) low)) h now)
 
-  begun_parts : (prunes : Bool) (params : List Param) (table : NamedTable) (settings : List Setting) (condition : Option Tree) (change : Found → Changing) → ((g : Found) → EachChanges k (change g))
-      → Parts k (Gives k Any) (follow (held_at k.caller.level k.caller.session k.caller.cmd) (λ u. follow (gathered prunes names params k.caller table settings condition) (λ g. changed (change g) names k.caller g)))
-  begun_parts prunes params table settings condition change each =
-      then_parts k Any (Gives k Any) (held_at k.caller.level k.caller.session k.caller.cmd) (λ u. follow (gathered prunes names params k.caller table settings condition) (λ g. changed (change g) names k.caller g))
+  begun_parts : (how : Planning) (params : List Param) (table : NamedTable) (settings : List Setting) (condition : Option Tree) (change : Found → Changing) → ((g : Found) → EachChanges k (change g))
+      → Parts k (Gives k Any) (follow (held_at k.caller.level k.caller.session k.caller.cmd) (λ u. follow (gathered how names params k.caller table settings condition) (λ g. changed (change g) names k.caller g)))
+  begun_parts how params table settings condition change each =
+      then_parts k Any (Gives k Any) (held_at k.caller.level k.caller.session k.caller.cmd) (λ u. follow (gathered how names params k.caller table settings condition) (λ g. changed (change g) names k.caller g))
       (held_at_parts k k.caller.level k.caller.cmd)
-      (λ u any. then_parts k Any (Gives k Any) (gathered prunes names params k.caller table settings condition) (λ g. changed (change g) names k.caller g) (gathered_parts prunes params table settings condition)
+      (λ u any. then_parts k Any (Gives k Any) (gathered how names params k.caller table settings condition) (λ g. changed (change g) names k.caller g) (gathered_parts how params table settings condition)
       (λ g more. changed_parts (change g) (each g) g))
 
   -- ---- UPDATE
@@ -183,17 +186,17 @@ module _ (k : Attempt) (names : List (List ℕ)) where
       (λ h now. answered_part k h now (or_first (against h k.caller.session g leaf new) tt))
       (λ u last h now. unless_part k h now (full_faults h new) (follows old id (newborn h leaf new (own h k.caller.session) k.caller.cmd)) tt refl)))
 
-  pub updated_parts : (prunes : Bool) (params : List Param) (rest : Option Rest) (table : NamedTable) (settings : List Setting) (condition : Option Tree) → Parts k (Gives k Any) (updated prunes names params k.caller rest table settings condition)
-  updated_parts prunes params rest table settings condition =
-      changed_by_parts (λ g. updating k.caller g) updating_parts rest (follow (held_at k.caller.level k.caller.session k.caller.cmd) (λ u. follow (gathered prunes names params k.caller table settings condition) (λ g. changed (updating k.caller g) names k.caller g)))
-      (begun_parts prunes params table settings condition (λ g. updating k.caller g) updating_parts)
+  pub updated_parts : (how : Planning) (params : List Param) (rest : Option Rest) (table : NamedTable) (settings : List Setting) (condition : Option Tree) → Parts k (Gives k Any) (updated how names params k.caller rest table settings condition)
+  updated_parts how params rest table settings condition =
+      changed_by_parts (λ g. updating k.caller g) updating_parts rest (follow (held_at k.caller.level k.caller.session k.caller.cmd) (λ u. follow (gathered how names params k.caller table settings condition) (λ g. changed (updating k.caller g) names k.caller g)))
+      (begun_parts how params table settings condition (λ g. updating k.caller g) updating_parts)
 
   -- ---- DELETE
 
   deleting_parts : EachChanges k (deleting k.caller)
   deleting_parts leaf id row h now = events_part k (Gives k Any) h (RowChange (RowEnded id.number (record { by = own h k.caller.session; cmd = k.caller.cmd; how = Deleted })) ∷ []) tt now.may tt (now.still, tt)
 
-  pub deleted_parts : (prunes : Bool) (params : List Param) (rest : Option Rest) (table : NamedTable) (condition : Option Tree) → Parts k (Gives k Any) (deleted prunes names params k.caller rest table condition)
-  deleted_parts prunes params rest table condition =
-      changed_by_parts (λ g. deleting k.caller) (λ g. deleting_parts) rest (follow (held_at k.caller.level k.caller.session k.caller.cmd) (λ u. follow (gathered prunes names params k.caller table [] condition) (λ g. changed (deleting k.caller) names k.caller g)))
-      (begun_parts prunes params table [] condition (λ g. deleting k.caller) (λ g. deleting_parts))
+  pub deleted_parts : (how : Planning) (params : List Param) (rest : Option Rest) (table : NamedTable) (condition : Option Tree) → Parts k (Gives k Any) (deleted how names params k.caller rest table condition)
+  deleted_parts how params rest table condition =
+      changed_by_parts (λ g. deleting k.caller) (λ g. deleting_parts) rest (follow (held_at k.caller.level k.caller.session k.caller.cmd) (λ u. follow (gathered how names params k.caller table [] condition) (λ g. changed (deleting k.caller) names k.caller g)))
+      (begun_parts how params table [] condition (λ g. deleting k.caller) (λ g. deleting_parts))

@@ -3,6 +3,7 @@ use Rattle.std.proofs.Common.{◌<◌, ℕ, ◌+◌, ◌-◌, Bool, true, false,
 use Rattle.std.proofs.lemmas.List.Elements.{All-nil, All-cons, All-head, All-tail, All-append, All-map, All-push}
 use Rattle.pg_values.specs.declared.fault.Fault.{Fault}
 use Rattle.pg_values.specs.declared.ids.TableNo.{TableNo}
+use Rattle.pg_values.specs.declared.value.Value.{Value}
 use Rattle.pg_values.specs.declared.lock_mode.LockMode.TheVariants.{AccessShare}
 use Rattle.refusals.specs.Refusals.{statement_cancelled}
 use Rattle.history.specs.History.{History}
@@ -12,10 +13,10 @@ use Rattle.row_change.specs.Ways.{AllTables}
 use Rattle.plan_tree.specs.Conjuncts.{pool, asked_at, asked_later}
 use Rattle.plan_tree.specs.Kept.{kept_tables}
 use Rattle.plan_tree.specs.Laws.{shown}
-use Rattle.plan_tree.specs.Plans.{Planned, plan_for, plan_tables, items_from, is_empty, keeps_first}
+use Rattle.plan_tree.specs.Plans.{Planned, custom, plan_for, plan_tables, items_from, is_empty, keeps_first, started_by}
+use Rattle.plan_tree.specs.declared.planning.Planning.{Planning}
 use Rattle.sql_ast.specs.Queries.{Joined, SelectTree}
 use Rattle.sql_binder.specs.Selects.{from_of}
-use Rattle.sql_binder.specs.Values.{custom_select}
 use Rattle.expression_binder.specs.Scopes.{Item}
 use Rattle.expression_binder.specs.declared.scope.Param.{Param}
 use Rattle.cond_logic.specs.Asked.{SelectMeant}
@@ -30,7 +31,7 @@ use Rattle.select_statement.specs.Cancels.{cancels_itself}
 use Rattle.select_statement.specs.Explained.{explained, printed, told}
 use Rattle.select_statement.specs.Gathered.{Found, found_over, found_in, gathered, plan_of, planned_under}
 use Rattle.select_statement.specs.Items.{items_of}
-use Rattle.select_statement.specs.Selected.{Told, told_of, outcome, meant, answered, uncancelled, bare, bare_plan, locked_below, by_plan, over, of_tables, trees_for, named_from, begins, of_named, of_items, selected}
+use Rattle.select_statement.specs.Selected.{Told, told_of, outcome, asked_by, meant, answered, uncancelled, bare, bare_plan, locked_below, by_plan, over, of_tables, trees_for, named_from, begins, of_named, of_items, selected, values_by}
 use Rattle.statement_bounds.proofs.Parts.{Attempt, Now, Part, Parts, Gives, Any, made_part, refused_part, then_parts}
 use Rattle.statement_bounds.proofs.Locks.{Low, all_locked_parts, named_parts, held_at_parts}
 use Rattle.statement_bounds.proofs.Numbers.{IsLow, tree_low}
@@ -43,11 +44,11 @@ outcome_part k h now (Ok x) = made_part k (Gives k Any) h x now.may (now.still, 
 outcome_part k h now (Err f) = refused_part k (Gives k Any) h f now.may
 
 module _ (k : Attempt) (names : List (List ℕ)) (params : List Param) where
-  meant_parts : (t : SelectTree) (items : List Item) → Parts k (Gives k Any) (meant params k.caller t items)
-  meant_parts t items h now = outcome_part k h now (custom_select items params k.caller.session t)
+  meant_parts : (how : Planning) (t : SelectTree) (items : List Item) → Parts k (Gives k Any) (meant how params k.caller t items)
+  meant_parts how t items h now = outcome_part k h now (asked_by how items params k.caller.session t)
 
-  answered_parts : (m : SelectMeant) (plan : Planned) → Parts k (Gives k Any) (answered k.caller m plan)
-  answered_parts m plan h now = outcome_part k h now (told_of m (select_course (k.caller.sessions - 1) [] m (shown h (look_of h k.caller.session k.caller.cmd)) plan []))
+  answered_parts : (args : List Value) (m : SelectMeant) (plan : Planned) → Parts k (Gives k Any) (answered k.caller args m plan)
+  answered_parts args m plan h now = outcome_part k h now (told_of m (select_course (k.caller.sessions - 1) args m (shown h (look_of h k.caller.session k.caller.cmd)) plan []))
 
   uncancelled_parts : (b : Bool) (f : History → Made Told) → Parts k (Gives k Any) f → Parts k (Gives k Any) (uncancelled b f)
   uncancelled_parts true f parts h now = refused_part k (Gives k Any) h statement_cancelled now.may
@@ -97,62 +98,62 @@ module _ (k : Attempt) (names : List (List ℕ)) (params : List Param) where
 
   -- ---- SELECT
 
-  by_plan_parts : (m : SelectMeant) (plan : Planned) → All (IsLow k) (plan_tables plan) → Parts k (Gives k Any) (by_plan names k.caller m plan)
-  by_plan_parts m plan low =
-      then_parts k Any (Gives k Any) (locked_below names k.caller (plan_tables plan)) (λ u. answered k.caller m plan) (locked_below_parts (plan_tables plan) low) (λ u any. answered_parts m plan)
+  by_plan_parts : (how : Planning) (args : List Value) (m : SelectMeant) (plan : Planned) → All (IsLow k) (plan_tables plan) → Parts k (Gives k Any) (by_plan how names k.caller args m plan)
+  by_plan_parts how args m plan low =
+      then_parts k Any (Gives k Any) (locked_below names k.caller (plan_tables plan)) (λ u. answered k.caller args m (started_by how args plan)) (locked_below_parts (plan_tables plan) low) (λ u any. answered_parts args m (started_by how args plan))
 
-  over_parts : (prunes : Bool) (t : SelectTree) (items : List Item) (trees : List TableTree) → AreTrees trees → Parts k (Gives k Any) (over prunes names params k.caller t items trees)
-  over_parts prunes t items trees low =
-      then_parts k Any (Gives k Any) (meant params k.caller t items) (λ m. by_plan names k.caller m (plan_for prunes m.conditions trees)) (meant_parts t items)
-      (λ m any. by_plan_parts m (plan_for prunes m.conditions trees) (plan_low prunes m.conditions trees low))
+  over_parts : (how : Planning) (t : SelectTree) (items : List Item) (trees : List TableTree) → AreTrees trees → Parts k (Gives k Any) (over how names params k.caller t items trees)
+  over_parts how t items trees low =
+      then_parts k Any (Gives k Any) (meant how params k.caller t items) (λ m. by_plan how names k.caller (values_by how params) m (plan_for how.prunes m.conditions trees)) (meant_parts how t items)
+      (λ m any. by_plan_parts how (values_by how params) m (plan_for how.prunes m.conditions trees) (plan_low how.prunes m.conditions trees low))
 
-  of_tables_parts : (prunes : Bool) (t : SelectTree) (ns : List ℕ) → AreLow ns → Parts k (Gives k Any) (of_tables prunes names params k.caller t ns)
-  of_tables_parts prunes t ns low h now = over_parts prunes t (items_of 0 (from_of t) (trees_for k.caller ns h)) (trees_for k.caller ns h) (trees_low ns low h now) h now
+  of_tables_parts : (how : Planning) (t : SelectTree) (ns : List ℕ) → AreLow ns → Parts k (Gives k Any) (of_tables how names params k.caller t ns)
+  of_tables_parts how t ns low h now = over_parts how t (items_of 0 (from_of t) (trees_for k.caller ns h)) (trees_for k.caller ns h) (trees_low ns low h now) h now
 
-  of_named_parts : (prunes : Bool) (t : SelectTree) → Parts k (Gives k Any) (of_named prunes names params k.caller t)
-  of_named_parts prunes t =
-      then_parts k AreLow (Gives k Any) (named_from names k.caller [] (from_of t)) (of_tables prunes names params k.caller t) (named_from_parts (from_of t) [] (All-nil (λ n. n < k.bound))) (of_tables_parts prunes t)
+  of_named_parts : (how : Planning) (t : SelectTree) → Parts k (Gives k Any) (of_named how names params k.caller t)
+  of_named_parts how t =
+      then_parts k AreLow (Gives k Any) (named_from names k.caller [] (from_of t)) (of_tables how names params k.caller t) (named_from_parts (from_of t) [] (All-nil (λ n. n < k.bound))) (of_tables_parts how t)
 
   bare_parts : (t : SelectTree) → Parts k (Gives k Any) (bare params k.caller t)
   bare_parts t =
-      then_parts k Any (Gives k Any) (meant params k.caller t []) (λ m. uncancelled (cancels_itself k.caller.session (k.caller.sessions - 1) m) (answered k.caller m (bare_plan m))) (meant_parts t [])
-      (λ m any. uncancelled_parts (cancels_itself k.caller.session (k.caller.sessions - 1) m) (answered k.caller m (bare_plan m)) (answered_parts m (bare_plan m)))
+      then_parts k Any (Gives k Any) (meant (custom false) params k.caller t []) (λ m. uncancelled (cancels_itself k.caller.session (k.caller.sessions - 1) m) (answered k.caller [] m (bare_plan m))) (meant_parts (custom false) t [])
+      (λ m any. uncancelled_parts (cancels_itself k.caller.session (k.caller.sessions - 1) m) (answered k.caller [] m (bare_plan m)) (answered_parts [] m (bare_plan m)))
 
   begins_parts : Parts k (Gives k Any) (begins k.caller)
   begins_parts = held_at_parts k k.caller.level k.caller.cmd
 
-  of_items_parts : (prunes : Bool) (t : SelectTree) (js : List Joined) → Parts k (Gives k Any) (of_items prunes names params k.caller t js)
-  of_items_parts prunes t [] = then_parts k Any (Gives k Any) (begins k.caller) (λ u. bare params k.caller t) begins_parts (λ u any. bare_parts t)
-  of_items_parts prunes t (j ∷ js) = then_parts k Any (Gives k Any) (begins k.caller) (λ u. of_named prunes names params k.caller t) begins_parts (λ u any. of_named_parts prunes t)
+  of_items_parts : (how : Planning) (t : SelectTree) (js : List Joined) → Parts k (Gives k Any) (of_items how names params k.caller t js)
+  of_items_parts how t [] = then_parts k Any (Gives k Any) (begins k.caller) (λ u. bare params k.caller t) begins_parts (λ u any. bare_parts t)
+  of_items_parts how t (j ∷ js) = then_parts k Any (Gives k Any) (begins k.caller) (λ u. of_named how names params k.caller t) begins_parts (λ u any. of_named_parts how t)
 
-  pub selected_parts : (prunes : Bool) (t : SelectTree) → Parts k (Gives k Any) (selected prunes names params k.caller t)
-  selected_parts prunes t = of_items_parts prunes t (from_of t)
+  pub selected_parts : (how : Planning) (t : SelectTree) → Parts k (Gives k Any) (selected how names params k.caller t)
+  selected_parts how t = of_items_parts how t (from_of t)
 
   -- ---- EXPLAIN
 
   abbrev HasTrees : Found → Type 0
   HasTrees g = AreTrees g.trees
 
-  found_over_parts : (t : SelectTree) (trees : List TableTree) → AreTrees trees → Parts k (Gives k HasTrees) (found_over params k.caller t trees)
-  found_over_parts t trees low =
-      then_parts k Any (Gives k HasTrees) (meant params k.caller t (items_of 0 (from_of t) trees)) (λ m h. made [] (record { meant = m; trees = trees })) (meant_parts t (items_of 0 (from_of t) trees))
+  found_over_parts : (how : Planning) (t : SelectTree) (trees : List TableTree) → AreTrees trees → Parts k (Gives k HasTrees) (found_over how params k.caller t trees)
+  found_over_parts how t trees low =
+      then_parts k Any (Gives k HasTrees) (meant how params k.caller t (items_of 0 (from_of t) trees)) (λ m h. made [] (record { meant = m; trees = trees })) (meant_parts how t (items_of 0 (from_of t) trees))
       (λ m any h now. made_part k (Gives k HasTrees) h (record { meant = m; trees = trees }) now.may (now.still, low))
 
-  found_in_parts : (t : SelectTree) (ns : List ℕ) → AreLow ns → Parts k (Gives k HasTrees) (found_in params k.caller t ns)
-  found_in_parts t ns low h now = found_over_parts t (trees_for k.caller ns h) (trees_low ns low h now) h now
+  found_in_parts : (how : Planning) (t : SelectTree) (ns : List ℕ) → AreLow ns → Parts k (Gives k HasTrees) (found_in how params k.caller t ns)
+  found_in_parts how t ns low h now = found_over_parts how t (trees_for k.caller ns h) (trees_low ns low h now) h now
 
-  gathered_parts : (t : SelectTree) → Parts k (Gives k HasTrees) (gathered names params k.caller t)
-  gathered_parts t =
-      then_parts k AreLow (Gives k HasTrees) (named_from names k.caller [] (from_of t)) (found_in params k.caller t) (named_from_parts (from_of t) [] (All-nil (λ n. n < k.bound))) (found_in_parts t)
+  gathered_parts : (how : Planning) (t : SelectTree) → Parts k (Gives k HasTrees) (gathered how names params k.caller t)
+  gathered_parts how t =
+      then_parts k AreLow (Gives k HasTrees) (named_from names k.caller [] (from_of t)) (found_in how params k.caller t) (named_from_parts (from_of t) [] (All-nil (λ n. n < k.bound))) (found_in_parts how t)
 
-  planned_parts : (prunes : Bool) (g : Found) → HasTrees g → Parts k (Gives k Any) (planned_under prunes names k.caller g)
-  planned_parts prunes g low =
-      then_parts k Any (Gives k Any) (locked_below names k.caller (plan_tables (plan_of prunes g))) (λ u h. made [] (plan_of prunes g))
-      (locked_below_parts (plan_tables (plan_of prunes g)) (plan_low prunes g.meant.conditions g.trees low)) (λ u any h now. made_part k (Gives k Any) h (plan_of prunes g) now.may (now.still, tt))
+  planned_parts : (how : Planning) (g : Found) → HasTrees g → Parts k (Gives k Any) (planned_under how names k.caller (values_by how params) g)
+  planned_parts how g low =
+      then_parts k Any (Gives k Any) (locked_below names k.caller (plan_tables (plan_of how.prunes g))) (λ u h. made [] (started_by how (values_by how params) (plan_of how.prunes g)))
+      (locked_below_parts (plan_tables (plan_of how.prunes g)) (plan_low how.prunes g.meant.conditions g.trees low)) (λ u any h now. made_part k (Gives k Any) h (started_by how (values_by how params) (plan_of how.prunes g)) now.may (now.still, tt))
 
-  pub explained_parts : (prunes : Bool) (t : SelectTree) → Parts k (Gives k Any) (explained prunes names params k.caller t)
-  explained_parts prunes t =
-      then_parts k Any (Gives k Any) (begins k.caller) (λ u. follow (gathered names params k.caller t) (λ g. follow (planned_under prunes names k.caller g) (printed t g))) begins_parts
-      (λ u any. then_parts k HasTrees (Gives k Any) (gathered names params k.caller t) (λ g. follow (planned_under prunes names k.caller g) (printed t g)) (gathered_parts t)
-      (λ g low. then_parts k Any (Gives k Any) (planned_under prunes names k.caller g) (printed t g) (planned_parts prunes g low)
+  pub explained_parts : (how : Planning) (t : SelectTree) → Parts k (Gives k Any) (explained how names params k.caller t)
+  explained_parts how t =
+      then_parts k Any (Gives k Any) (begins k.caller) (λ u. follow (gathered how names params k.caller t) (λ g. follow (planned_under how names k.caller (values_by how params) g) (printed t g))) begins_parts
+      (λ u any. then_parts k HasTrees (Gives k Any) (gathered how names params k.caller t) (λ g. follow (planned_under how names k.caller (values_by how params) g) (printed t g)) (gathered_parts how t)
+      (λ g low. then_parts k Any (Gives k Any) (planned_under how names k.caller (values_by how params) g) (printed t g) (planned_parts how g low)
       (λ p any h now. made_part k (Gives k Any) h (told t g p) now.may (now.still, tt))))

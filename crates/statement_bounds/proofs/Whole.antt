@@ -31,19 +31,22 @@ use Rattle.detach_statement.specs.Concurrent.{detached_concurrently}
 use Rattle.detach_statement.specs.Detached.{detached}
 use Rattle.detach_statement.specs.Finalized.{finalized}
 use Rattle.attach_statement.specs.Attached.{attached}
-use Rattle.statement_runs.specs.Attempted.{answer_text, attempted, changed_text, command_attempted, execute_attempted, execution_explained, inserted_text, is_trailed, listed, plan_attempted, plan_of_execution, row_attempted, query_attempted, silent, tabled, printed, omitted, nothing, as_table}
+use Rattle.statement_steps.specs.Asks.{held_at}
+use Rattle.statement_runs.specs.Attempted.{answer_text, attempted, changed_text, command_attempted, execute_attempted, execution_explained, inserted_text, is_trailed, listing, plan_attempted, plan_of_execution, planning_of, row_attempted, query_attempted, silent, tabled, taken, printed, omitted, nothing, as_table}
 use Rattle.statement_runs.specs.Database.{rest_told}
 use Rattle.statement_runs.specs.Executions.{Execution, executed, explained_by}
 use Rattle.statement_runs.specs.LeftOut.{command_word}
 use Rattle.statement_runs.specs.declared.options.Options.{Options}
 use Rattle.statement_ends.specs.Asking.{HasSessions, IsKnown, WaitsAsTold, MayAsk, Asks, AllAsk}
 use Rattle.statement_bounds.specs.Tables.{tables_named}
-use Rattle.statement_bounds.proofs.Parts.{Attempt, Told, Part, Parts, Gives, Any, Ends, made_part, refused_part, giving_part}
+use Rattle.statement_bounds.proofs.Parts.{Attempt, Told, Part, Parts, Gives, Any, Ends, made_part, refused_part, then_parts, giving_part}
+use Rattle.statement_bounds.proofs.Locks.{held_at_parts}
 use Rattle.statement_bounds.proofs.Numbers.{tables_below, entries_below}
 use Rattle.statement_bounds.proofs.Partitions.{EndsKnown, detached_parts, concurrently_parts, finalized_parts, attached_parts}
 use Rattle.statement_bounds.proofs.Rows.{inserted_parts, updated_parts, deleted_parts}
 use Rattle.statement_bounds.proofs.Selecting.{selected_parts, explained_parts}
 use Rattle.statement_bounds.proofs.Tables.{created_parts, partitioned_parts, dropped_parts, locked_parts}
+use Rattle.plan_tree.specs.declared.planning.Planning.{Planning}
 
 -- where it has committed what it did first, the others whose ends it waits for are sessions
 abbrev EndKnown : Ended → History → Type 0
@@ -67,9 +70,14 @@ module _ (k : Attempt) (names : List (List ℕ)) where
   omitted_parts : (word : List ℕ) → Parts k EndKnown (omitted word)
   omitted_parts word h now = refused_part k EndKnown h (left_out word) now.may
 
-  listed_parts : (r : Result (List Prepared) Fault) → Parts k EndKnown (listed r)
-  listed_parts (Ok ps) h now = made_part k EndKnown h (Done []) now.may tt
-  listed_parts (Err f) h now = refused_part k EndKnown h f now.may
+  taken_parts : (r : Result (List Prepared) Fault) → Parts k (Gives k Any) (taken r)
+  taken_parts (Ok ps) h now = made_part k (Gives k Any) h tt now.may (now.still, tt)
+  taken_parts (Err f) h now = refused_part k (Gives k Any) h f now.may
+
+  listed_parts : (r : Result (List Prepared) Fault) → Parts k EndKnown (silent (listing k.caller r))
+  listed_parts r =
+      silent_parts (Gives k Any) (listing k.caller r)
+      (then_parts k Any (Gives k Any) (held_at k.caller.level k.caller.session k.caller.cmd) (λ u. taken r) (held_at_parts k k.caller.level k.caller.cmd) (λ u any. taken_parts r))
 
   command_parts : (rest : Option Rest) → IsKnown rest → (ps : List Prepared) (t : CommandTree) → Parts k EndKnown (command_attempted names k.caller rest ps t)
   command_parts rest known ps (makes_table name columns by) = silent_parts Ends (created names k.caller name columns by) (created_parts k names name columns by)
@@ -89,45 +97,45 @@ module _ (k : Attempt) (names : List (List ℕ)) where
   command_parts rest known ps (deallocates name) = listed_parts (deallocated ps name)
   command_parts rest known ps deallocates_all = listed_parts (Ok [])
 
-  row_parts : (trailed prunes : Bool) (params : List Param) (rest : Option Rest) (t : RowTree) → Parts k EndKnown (row_attempted trailed prunes names params k.caller rest t)
-  row_parts trailed prunes params rest (selects s) = printed_parts (answer_text trailed) (selected prunes names params k.caller s) (selected_parts k names params prunes s)
-  row_parts trailed prunes params rest (inserts table columns values) = printed_parts (inserted_text trailed (length values)) (inserted names params k.caller table columns values) (inserted_parts k names params table columns values)
-  row_parts trailed prunes params rest (updates table settings condition) =
-      printed_parts (changed_text trailed (codes "UPDATE")) (updated prunes names params k.caller rest table settings condition) (updated_parts k names prunes params rest table settings condition)
-  row_parts trailed prunes params rest (deletes table condition) = printed_parts (changed_text trailed (codes "DELETE")) (deleted prunes names params k.caller rest table condition) (deleted_parts k names prunes params rest table condition)
+  row_parts : (trailed : Bool) (how : Planning) (params : List Param) (rest : Option Rest) (t : RowTree) → Parts k EndKnown (row_attempted trailed how names params k.caller rest t)
+  row_parts trailed how params rest (selects s) = printed_parts (answer_text trailed) (selected how names params k.caller s) (selected_parts k names params how s)
+  row_parts trailed how params rest (inserts table columns values) = printed_parts (inserted_text trailed (length values)) (inserted names params k.caller table columns values) (inserted_parts k names params table columns values)
+  row_parts trailed how params rest (updates table settings condition) =
+      printed_parts (changed_text trailed (codes "UPDATE")) (updated how names params k.caller rest table settings condition) (updated_parts k names how params rest table settings condition)
+  row_parts trailed how params rest (deletes table condition) = printed_parts (changed_text trailed (codes "DELETE")) (deleted how names params k.caller rest table condition) (deleted_parts k names how params rest table condition)
 
-  plan_parts : (prunes : Bool) (params : List Param) (s : SelectTree) → Parts k EndKnown (plan_attempted prunes names params k.caller s)
-  plan_parts prunes params s = tabled_parts (explained prunes names params k.caller s) (explained_parts k names params prunes s)
+  plan_parts : (how : Planning) (params : List Param) (s : SelectTree) → Parts k EndKnown (plan_attempted how names params k.caller s)
+  plan_parts how params s = tabled_parts (explained how names params k.caller s) (explained_parts k names params how s)
 
   -- what is executed asks what its statement asks
 
-  execute_parts : (trailed prunes : Bool) (rest : Option Rest) (r : Result Execution Fault) → Parts k EndKnown (execute_attempted trailed prunes names k.caller rest r)
-  execute_parts trailed prunes rest (Ok e) = row_parts trailed prunes e.params rest e.statement
-  execute_parts trailed prunes rest (Err f) = λ h now. refused_part k EndKnown h f now.may
+  execute_parts : (trailed : Bool) (how : Planning) (rest : Option Rest) (r : Result Execution Fault) → Parts k EndKnown (execute_attempted trailed how names k.caller rest r)
+  execute_parts trailed how rest (Ok e) = row_parts trailed how e.params rest e.statement
+  execute_parts trailed how rest (Err f) = λ h now. refused_part k EndKnown h f now.may
 
-  plan_execution_parts : (prunes : Bool) (params : List Param) (t : RowTree) → Parts k EndKnown (plan_of_execution prunes names params k.caller t)
-  plan_execution_parts prunes params (selects s) = plan_parts prunes params s
-  plan_execution_parts prunes params (inserts table columns values) = omitted_parts (codes "INSERT")
-  plan_execution_parts prunes params (updates table settings condition) = omitted_parts (codes "UPDATE")
-  plan_execution_parts prunes params (deletes table condition) = omitted_parts (codes "DELETE")
+  plan_execution_parts : (how : Planning) (params : List Param) (t : RowTree) → Parts k EndKnown (plan_of_execution how names params k.caller t)
+  plan_execution_parts how params (selects s) = plan_parts how params s
+  plan_execution_parts how params (inserts table columns values) = omitted_parts (codes "INSERT")
+  plan_execution_parts how params (updates table settings condition) = omitted_parts (codes "UPDATE")
+  plan_execution_parts how params (deletes table condition) = omitted_parts (codes "DELETE")
 
-  execution_explained_parts : (prunes : Bool) (r : Result Execution Fault) → Parts k EndKnown (execution_explained prunes names k.caller r)
-  execution_explained_parts prunes (Ok e) = plan_execution_parts prunes e.params e.statement
-  execution_explained_parts prunes (Err f) = λ h now. refused_part k EndKnown h f now.may
+  execution_explained_parts : (how : Planning) (r : Result Execution Fault) → Parts k EndKnown (execution_explained how names k.caller r)
+  execution_explained_parts how (Ok e) = plan_execution_parts how e.params e.statement
+  execution_explained_parts how (Err f) = λ h now. refused_part k EndKnown h f now.may
 
-  query_parts : (trailed prunes : Bool) (rest : Option Rest) (ps : List Prepared) (t : QueryTree) → Parts k EndKnown (query_attempted trailed prunes names k.caller rest ps t)
-  query_parts trailed prunes rest ps (rows r) = row_parts trailed prunes [] rest r
-  query_parts trailed prunes rest ps (prepares name types r) = listed_parts (prepared ps name types r)
-  query_parts trailed prunes rest ps (executes name ts) = λ h now. execute_parts trailed prunes rest (executed h k.caller.session rest ps name ts) h now
-  query_parts trailed prunes rest ps (explains_select true s) = omitted_parts (codes "ANALYZE")
-  query_parts trailed prunes rest ps (explains_select false s) = plan_parts prunes [] s
-  query_parts trailed prunes rest ps (explains_execute true name ts) = omitted_parts (codes "ANALYZE")
-  query_parts trailed prunes rest ps (explains_execute false name ts) = λ h now. execution_explained_parts prunes (explained_by h k.caller.session ps name ts) h now
+  query_parts : (trailed : Bool) (how : Planning) (rest : Option Rest) (ps : List Prepared) (t : QueryTree) → Parts k EndKnown (query_attempted trailed how names k.caller rest ps t)
+  query_parts trailed how rest ps (rows r) = row_parts trailed how [] rest r
+  query_parts trailed how rest ps (prepares name types r) = listed_parts (prepared ps name types r)
+  query_parts trailed how rest ps (executes name ts) = λ h now. execute_parts trailed how rest (executed h k.caller.session rest ps name ts) h now
+  query_parts trailed how rest ps (explains_select true s) = omitted_parts (codes "ANALYZE")
+  query_parts trailed how rest ps (explains_select false s) = plan_parts how [] s
+  query_parts trailed how rest ps (explains_execute true name ts) = omitted_parts (codes "ANALYZE")
+  query_parts trailed how rest ps (explains_execute false name ts) = λ h now. execution_explained_parts how (explained_by h k.caller.session ps name ts) h now
 
 attempted_parts : (k : Attempt) (o : Options) (rest : Option Rest) (g : Settings) → IsKnown rest → (ps : List Prepared) (t : StatementTree) → Parts k EndKnown (attempted o k.caller rest g ps t)
 unfolding attempted
 attempted_parts k o rest g known ps (commands t) = command_parts k o.names rest known ps t
-attempted_parts k o rest g known ps (queries t) = query_parts k o.names (is_trailed o k.caller) g.enable_partition_pruning rest ps t
+attempted_parts k o rest g known ps (queries t) = query_parts k o.names (is_trailed o k.caller) (planning_of g) rest ps t
 
 -- ---- a statement that may ask, with the tables of its catalogue
 

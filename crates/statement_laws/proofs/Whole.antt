@@ -4,6 +4,7 @@ use Rattle.std.specs.List.{All}
 use Rattle.std.proofs.lemmas.List.{length-append, append_assoc, map-append}
 use Rattle.std.proofs.lemmas.List.Elements.{All-nil, All-cons, All-append}
 use Rattle.pg_values.specs.declared.fault.Fault.{Fault}
+use Rattle.pg_values.specs.declared.value.Value.{Value}
 use Rattle.pg_values.specs.declared.lock_mode.LockMode.{LockMode}
 use Rattle.pg_values.specs.declared.lock_mode.LockMode.TheVariants.{AccessShare, RowExclusive}
 use Rattle.history.specs.Catalogue.{CatalogueEvents}
@@ -15,7 +16,8 @@ use Rattle.expression_binder.specs.declared.scope.Param.{Param}
 use Rattle.part_catalog.specs.Found.{made_at, is_meant, resolved, table_number}
 use Rattle.part_catalog.proofs.Found.{last_is}
 use Rattle.plan_tree.specs.Laws.{Rows, shown}
-use Rattle.plan_tree.specs.Plans.{plan_for, plan_tables}
+use Rattle.plan_tree.specs.Plans.{apart, plan_by, plan_for, plan_tables}
+use Rattle.plan_tree.specs.declared.planning.Planning.{Planning}
 use Rattle.cond_logic.specs.Asked.{ChangeMeant, SelectMeant}
 use Rattle.pg_values.specs.declared.isolation.Isolation.{Isolation}
 use Rattle.pg_values.specs.declared.isolation.Isolation.TheVariants.{ReadCommitted, ReadUncommitted, RepeatableRead}
@@ -43,14 +45,14 @@ use Rattle.statement_steps.specs.Below.{number_of}
 use Rattle.select_statement.specs.Items.{items_of}
 use Rattle.select_statement.specs.Laws.{Looks}
 use Rattle.select_statement.specs.Moments.{SelectsArePlain}
-use Rattle.select_statement.specs.Selected.{Told, answered, told_of, begins, by_plan, locked_below, named_from, of_items, of_named, of_tables, outcome, trees_for}
+use Rattle.select_statement.specs.Selected.{Told, answered, asked_by, told_of, begins, by_plan, locked_below, named_from, of_items, of_named, of_tables, outcome, trees_for, values_by}
 use Rattle.select_statement.specs.Plain.{answer_in, locked_plainly, selected_plainly}
 use Rattle.select_statement.proofs.Giving.{giving_then}
 use Rattle.select_statement.proofs.Moments.{good_selects}
 use Rattle.select_statement.proofs.Plain.{AreLocks, all_locks, both_locks, by_plan_plain, locked_locks, locks_show}
 use Rattle.change_statement.specs.Changed.{Changing, Told as ChangeTold, begun_or_left, changed, changed_by, changed_from, changed_on, told_of as change_told}
 use Rattle.change_statement.specs.Deleted.{deleting}
-use Rattle.sql_binder.specs.Values.{custom_change, custom_select}
+use Rattle.sql_binder.specs.Values.{values_of}
 use Rattle.change_statement.specs.Gathered.{found_by, gathered, item_of, locked_all, meant, of_table}
 use Rattle.change_statement.specs.Gathered as changes
 use Rattle.change_statement.specs.Kept.{keeps_for, tables_locked}
@@ -190,59 +192,64 @@ alone_after v m f g same = giving_then v m f ∙ same_after m (λ x. giving v (f
 
 -- ---- SELECT
 
-module _ (h : History) (good : IsGood h) (prunes : Bool) (names : List (List ℕ)) (params : List Param) (c : Caller) (t : SelectTree) (a : Told) (few : length (from_of t) ≤ 4) where
-  plan_plain : (g : History) (m : SelectMeant) (ns : List ℕ) → SelectsArePlain g → Looks c g → length ns ≤ 4 → All (IsMade (catalogue_events g)) ns → (by_plan names c m (plan_for prunes m.conditions (trees_for c ns g)) g).told ≡ Ok a
-      → giving answer_in (by_plan names c m (plan_for prunes m.conditions (trees_for c ns g)) g) ≡ locked_plainly prunes names c (trees_for c ns g) m g
+module _ (h : History) (good : IsGood h) (how : Planning) (names : List (List ℕ)) (params : List Param) (c : Caller) (t : SelectTree) (a : Told) (few : length (from_of t) ≤ 4) where
+  -- what starts the plan
+  abbrev args : List Value
+  args = values_by how params
+
+  plan_plain : (g : History) (m : SelectMeant) (ns : List ℕ) → SelectsArePlain g → Looks c g → length ns ≤ 4 → All (IsMade (catalogue_events g)) ns → (by_plan how names c args m (plan_for how.prunes m.conditions (trees_for c ns g)) g).told ≡ Ok a
+      → giving answer_in (by_plan how names c args m (plan_for how.prunes m.conditions (trees_for c ns g)) g) ≡ locked_plainly how names c args (trees_for c ns g) m g
   plan_plain g m ns plain looking low made done =
       let trees = trees_for c ns g in
-      let plan = plan_for prunes m.conditions trees in
+      let plan = plan_for how.prunes m.conditions trees in
+      let run = plan_by how args m.conditions trees in
       let locks = locked_below names c (plan_tables plan) g in
       let its = all_locks names c.session AccessShare (map number_of (plan_tables plan)) g in
       let rows : shown (locks.events ++ g) (look_of (locks.events ++ g) c.session c.cmd) ≡ shown g (look_of g c.session c.cmd) =
       ap (λ (es : History). shown (es ++ g) (look_of (es ++ g) c.session c.cmd)) its.1 ∙ locks_show g c.session c.cmd its.0 in
-      let parts = done_by locks (λ u. answered c m plan (locks.events ++ g)) a done in
-      elim (plain.2 prunes c m ns looking low made) [
-        | inl same ↦ by_plan_plain prunes names c m trees g same
+      let parts = done_by locks (λ u. answered c args m run (locks.events ++ g)) a done in
+      elim (plain.2 how c args m ns looking low made) [
+        | inl same ↦ by_plan_plain how names c args m trees g same
         | inr many ↦
-            let same : answered c m plan (locks.events ++ g) ≡ answered c m plan g = ap (λ (r : Rows). outcome (told_of m (select_course (c.sessions - 1) [] m r plan []))) rows in
+            let same : answered c args m run (locks.events ++ g) ≡ answered c args m run g = ap (λ (r : Rows). outcome (told_of m (select_course (c.sessions - 1) args m r run []))) rows in
             let told = sym (ap (λ (x : Made Told). x.told) (same ∙ many.1)) ∙ parts.later in
             absurd (let d = told in cc)
       ]
 
-  tables_plain : (g : History) (ns : List ℕ) → SelectsArePlain g → Looks c g → length ns ≤ 4 → All (IsMade (catalogue_events g)) ns → (of_tables prunes names params c t ns g).told ≡ Ok a → giving answer_in (of_tables prunes names params c t ns g) ≡ selected_plainly prunes names params c t ns g
-  tables_plain g ns plain looking low made = by (custom_select (items_of 0 (from_of t) (trees_for c ns g)) params c.session t)
+  tables_plain : (g : History) (ns : List ℕ) → SelectsArePlain g → Looks c g → length ns ≤ 4 → All (IsMade (catalogue_events g)) ns → (of_tables how names params c t ns g).told ≡ Ok a → giving answer_in (of_tables how names params c t ns g) ≡ selected_plainly how names params c t ns g
+  tables_plain g ns plain looking low made = by (asked_by how (items_of 0 (from_of t) (trees_for c ns g)) params c.session t)
     where
-      by : (r : Result SelectMeant Fault) → (and_then (outcome r) (λ m. by_plan names c m (plan_for prunes m.conditions (trees_for c ns g)) ((outcome r).events ++ g))).told ≡ Ok a
-          → giving answer_in (and_then (outcome r) (λ m. by_plan names c m (plan_for prunes m.conditions (trees_for c ns g)) ((outcome r).events ++ g))) ≡ and_then (outcome r) (λ m. locked_plainly prunes names c (trees_for c ns g) m ((outcome r).events ++ g))
+      by : (r : Result SelectMeant Fault) → (and_then (outcome r) (λ m. by_plan how names c args m (plan_for how.prunes m.conditions (trees_for c ns g)) ((outcome r).events ++ g))).told ≡ Ok a
+          → giving answer_in (and_then (outcome r) (λ m. by_plan how names c args m (plan_for how.prunes m.conditions (trees_for c ns g)) ((outcome r).events ++ g))) ≡ and_then (outcome r) (λ m. locked_plainly how names c args (trees_for c ns g) m ((outcome r).events ++ g))
       by (Ok m) done = ap (behind []) (plan_plain g m ns plain looking low made done)
       by (Err f) done = refl
 
-  named_plain : (g : History) → IsCaller c g → h ≡ (of_named prunes names params c t g).events ++ g → (of_named prunes names params c t g).told ≡ Ok a → giving answer_in (of_named prunes names params c t g) ≡ named_plainly prunes names params c t g
+  named_plain : (g : History) → IsCaller c g → h ≡ (of_named how names params c t g).events ++ g → (of_named how names params c t g).told ≡ Ok a → giving answer_in (of_named how names params c t g) ≡ named_plainly how names params c t g
   named_plain g call is done =
       let m = named_from names c [] (from_of t) g in
-      alone_after answer_in m (λ ns. of_tables prunes names params c t ns (m.events ++ g)) (λ ns. selected_plainly prunes names params c t ns (m.events ++ g)) (λ ns told.
+      alone_after answer_in m (λ ns. of_tables how names params c t ns (m.events ++ g)) (λ ns. selected_plainly how names params c t ns (m.events ++ g)) (λ ns told.
       let there = names_there names c [] (from_of t) g ns (All-nil (IsMade (catalogue_events g))) told in
       let later = m.events ++ g in
-      let goes = went_on h g m (λ xs. of_tables prunes names params c t xs later) ns told is in
-      let good_then : IsGood later = good_after (of_tables prunes names params c t ns later).events later (subst IsGood goes good) in
+      let goes = went_on h g m (λ xs. of_tables how names params c t xs later) ns told is in
+      let good_then : IsGood later = good_after (of_tables how names params c t ns later).events later (subst IsGood goes good) in
       let call_then : IsCaller c later = subst (λ (es : History). IsCaller c (es ++ g)) (sym there.events) (locks_call c there.locks g call) in
       let same : catalogue_events later ≡ catalogue_events g = ap (λ (es : History). catalogue_events (es ++ g)) there.events ∙ locks_catalogue there.locks g in
       let count = there.all in
-      let ends : (of_tables prunes names params c t ns later).told ≡ Ok a = sym (ap (λ (r : Result (List ℕ) Halt). (then_told {U = Told} r m.events (λ xs. of_tables prunes names params c t xs later)).told) told) ∙ done in
+      let ends : (of_tables how names params c t ns later).told ≡ Ok a = sym (ap (λ (r : Result (List ℕ) Halt). (then_told {U = Told} r m.events (λ xs. of_tables how names params c t xs later)).told) told) ∙ done in
       tables_plain later ns (good_selects later good_then) (looks c later good_then call_then) (omega (arith, few, count)) (subst (λ (cats : CatalogueEvents). All (IsMade cats) ns) (sym same) there.made) ends)
 
-  items_plain : (js : List Joined) (before : History) → IsCaller c before → h ≡ (of_items prunes names params c t js before).events ++ before → (of_items prunes names params c t js before).told ≡ Ok a → giving answer_in (of_items prunes names params c t js before) ≡ items_plainly prunes names params c t js before
+  items_plain : (js : List Joined) (before : History) → IsCaller c before → h ≡ (of_items how names params c t js before).events ++ before → (of_items how names params c t js before).told ≡ Ok a → giving answer_in (of_items how names params c t js before) ≡ items_plainly how names params c t js before
   items_plain [] before call is done = refl
   items_plain (j ∷ js) before call is done =
       let m = begins c before in
-      alone_after answer_in m (λ u. of_named prunes names params c t (m.events ++ before)) (λ u. named_plainly prunes names params c t (m.events ++ before)) (λ u told.
-      let goes = went_on h before m (λ v. of_named prunes names params c t (m.events ++ before)) u told is in
-      let good_before : IsGood before = good_after (of_items prunes names params c t (j ∷ js) before).events before (subst IsGood is good) in
-      let ends : (of_named prunes names params c t (m.events ++ before)).told ≡ Ok a = sym (ap (λ (r : Result (Unit {0}) Halt). (then_told {U = Told} r m.events (λ v. of_named prunes names params c t (m.events ++ before))).told) told) ∙ done in
+      alone_after answer_in m (λ u. of_named how names params c t (m.events ++ before)) (λ u. named_plainly how names params c t (m.events ++ before)) (λ u told.
+      let goes = went_on h before m (λ v. of_named how names params c t (m.events ++ before)) u told is in
+      let good_before : IsGood before = good_after (of_items how names params c t (j ∷ js) before).events before (subst IsGood is good) in
+      let ends : (of_named how names params c t (m.events ++ before)).told ≡ Ok a = sym (ap (λ (r : Result (Unit {0}) Halt). (then_told {U = Told} r m.events (λ v. of_named how names params c t (m.events ++ before))).told) told) ∙ done in
       named_plain (m.events ++ before) (held_call c c.level before good_before call) goes ends)
 
 selects_plain : (h : History) → IsGood h → CompletedSelectsArePlain h
-selects_plain h good prunes names params c t a before is call few done = items_plain h good prunes names params c t a few (from_of t) before call is done
+selects_plain h good how names params c t a before is call few done = items_plain h good how names params c t a few (from_of t) before call is done
 
 -- ---- UPDATE and DELETE
 
@@ -251,43 +258,47 @@ answered_locks (Ok x) = ([], refl)
 answered_locks (Err f) = ([], refl)
 
 -- what was gathered is what is known where the rows are looked for
-record IsGatheredOf (prunes : Bool) (c : Caller) (h after : History) (g : Found) : Type 0 where
+record IsGatheredOf (how : Planning) (args : List Value) (c : Caller) (h after : History) (g : Found) : Type 0 where
   table : ℕ
   asked : ChangeMeant
   made : IsMade (catalogue_events h) table
-  is : g ≡ gathered_of prunes c table asked after
+  is : g ≡ gathered_of how c args table asked after
 
-module _ (prunes : Bool) (names : List (List ℕ)) (params : List Param) (c : Caller) (table : NamedTable) (settings : List Setting) (condition : Option Tree) where
-  over_locks : (h : History) (t : ℕ) (tree : TableTree) (path : List PathPart) → AreLocks (changes.over prunes names params c table settings condition t tree path h)
+module _ (how : Planning) (names : List (List ℕ)) (params : List Param) (c : Caller) (table : NamedTable) (settings : List Setting) (condition : Option Tree) where
+  -- what starts the plan
+  abbrev values : List Value
+  values = values_of (apart how params)
+
+  over_locks : (h : History) (t : ℕ) (tree : TableTree) (path : List PathPart) → AreLocks (changes.over how names params c table settings condition t tree path h)
   over_locks h t tree path =
-      let first = meant params c table settings condition t h in
-      both_locks first (λ m. changes.locked prunes names c t tree path m (first.events ++ h)) (answered_locks (custom_change (item_of table (made_at h t).columns) params c.session settings condition)) (λ m.
-      let all = locked_all names c (tables_locked (keeps_for prunes m.condition) m.settings tree) (first.events ++ h) in
-      both_locks all (λ u. made [] (found_by (keeps_for prunes m.condition) (table_of t) tree path m)) (all_locks names c.session RowExclusive (map number_of (tables_locked (keeps_for prunes m.condition) m.settings tree)) (first.events ++ h)) (λ u. ([], refl)))
+      let first = meant how params c table settings condition t h in
+      both_locks first (λ m. changes.locked how names c values t tree path m (first.events ++ h)) (answered_locks (changes.asked_by how (item_of table (made_at h t).columns) params c.session settings condition)) (λ m.
+      let all = locked_all names c (tables_locked (keeps_for how.prunes m.condition) m.settings tree) (first.events ++ h) in
+      both_locks all (λ u. made [] (found_by how values (table_of t) tree path m)) (all_locks names c.session RowExclusive (map number_of (tables_locked (keeps_for how.prunes m.condition) m.settings tree)) (first.events ++ h)) (λ u. ([], refl)))
 
-  gathered_locks : (h : History) → AreLocks (gathered prunes names params c table settings condition h)
+  gathered_locks : (h : History) → AreLocks (gathered how names params c table settings condition h)
   gathered_locks h =
       let first = named names c.session RowExclusive table.name h in
-      both_locks first (λ t. of_table prunes names params c table settings condition t (first.events ++ h)) (named_locks names c.session RowExclusive table.name h) (λ t. over_locks (first.events ++ h) t (tree_of (first.events ++ h) c.session t (look_of (first.events ++ h) c.session c.cmd)) (path_of (first.events ++ h) c.session t))
+      both_locks first (λ t. of_table how names params c table settings condition t (first.events ++ h)) (named_locks names c.session RowExclusive table.name h) (λ t. over_locks (first.events ++ h) t (tree_of (first.events ++ h) c.session t (look_of (first.events ++ h) c.session c.cmd)) (path_of (first.events ++ h) c.session t))
 
-  gathered_there : (h : History) (g : Found) → (gathered prunes names params c table settings condition h).told ≡ Ok g → IsGatheredOf prunes c h ((gathered prunes names params c table settings condition h).events ++ h) g
+  gathered_there : (h : History) (g : Found) → (gathered how names params c table settings condition h).told ≡ Ok g → IsGatheredOf how values c h ((gathered how names params c table settings condition h).events ++ h) g
   gathered_there h g e =
-      let whole = gathered prunes names params c table settings condition h in
+      let whole = gathered how names params c table settings condition h in
       let locks = gathered_locks h in
       let first = named names c.session RowExclusive table.name h in
       let own = named_locks names c.session RowExclusive table.name h in
-      let one = done_by first (λ t. of_table prunes names params c table settings condition t (first.events ++ h)) g e in
+      let one = done_by first (λ t. of_table how names params c table settings condition t (first.events ++ h)) g e in
       let t = one.x in
       let there_after = first.events ++ h in
       let tree = tree_of there_after c.session t (look_of there_after c.session c.cmd) in
       let path = path_of there_after c.session t in
-      let second = meant params c table settings condition t there_after in
-      let two = done_by second (λ m. changes.locked prunes names c t tree path m (second.events ++ there_after)) g one.later in
+      let second = meant how params c table settings condition t there_after in
+      let two = done_by second (λ m. changes.locked how names c values t tree path m (second.events ++ there_after)) g one.later in
       let m = two.x in
-      let keeps = keeps_for prunes m.condition in
+      let keeps = keeps_for how.prunes m.condition in
       let third = locked_all names c (tables_locked keeps m.settings tree) (second.events ++ there_after) in
-      let three = done_by third (λ u. made [] (found_by keeps (table_of t) tree path m)) g two.later in
-      let found_is : found_by keeps (table_of t) tree path m ≡ g = (let d = three.later in cc) in
+      let three = done_by third (λ u. made [] (found_by how values (table_of t) tree path m)) g two.later in
+      let found_is : found_by how values (table_of t) tree path m ≡ g = (let d = three.later in cc) in
       let last = whole.events ++ h in
       let same_tree : tree ≡ tree_of last c.session t (look_of last c.session c.cmd) =
       (ap (λ (es : History). tree_of (es ++ h) c.session t (look_of (es ++ h) c.session c.cmd)) own.1 ∙ locks_tree own.0 h c.session t c.cmd)
@@ -298,13 +309,13 @@ module _ (prunes : Bool) (names : List (List ℕ)) (params : List Param) (c : Ca
         table = t;
         asked = m;
         made = named_made names c.session RowExclusive table.name h t one.told;
-        is = sym found_is ∙ (ap (λ (x : TableTree). found_by keeps (table_of t) x path m) same_tree ∙ ap (λ (p : List PathPart). found_by keeps (table_of t) (tree_of last c.session t (look_of last c.session c.cmd)) p m) same_path);
+        is = sym found_is ∙ (ap (λ (x : TableTree). found_by how values (table_of t) x path m) same_tree ∙ ap (λ (p : List PathPart). found_by how values (table_of t) (tree_of last c.session t (look_of last c.session c.cmd)) p m) same_path);
       }
 
 -- from its beginning
-abbrev begun : (change : Found → Changing) → (prunes : Bool) → List (List ℕ) → List Param → Caller → NamedTable → List Setting → Option Tree → History → Made ChangeTold
-begun change prunes names params c table settings condition =
-    follow (held_at c.level c.session c.cmd) (λ u. follow (gathered prunes names params c table settings condition) (λ g. changed (change g) names c g))
+abbrev begun : (change : Found → Changing) → Planning → List (List ℕ) → List Param → Caller → NamedTable → List Setting → Option Tree → History → Made ChangeTold
+begun change how names params c table settings condition =
+    follow (held_at c.level c.session c.cmd) (λ u. follow (gathered how names params c table settings condition) (λ g. changed (change g) names c g))
 
 -- how many rows are changed
 rows_alone : (t : ℕ → ChangeTold) → ((n : ℕ) → rows_in (t n) ≡ n) → (m : Made ℕ) → giving rows_in (giving t m) ≡ m
@@ -314,44 +325,44 @@ rows_alone t is m = by m.told
     by (Ok n) = ap (λ (k : ℕ). made m.events k) (is n)
     by (Err stop) = refl
 
-begun_plain : (change : Found → Changing) (h : History) → IsGood h → (prunes : Bool) (names : List (List ℕ)) (params : List Param) (c : Caller) (table : NamedTable) (settings : List Setting) (condition : Option Tree) (before : History)
-    → h ≡ (begun change prunes names params c table settings condition before).events ++ before → IsCaller c before
-    → giving rows_in (begun change prunes names params c table settings condition before) ≡ begun_plainly change prunes names params c table settings condition before
-begun_plain change h good prunes names params c table settings condition before is call =
+begun_plain : (change : Found → Changing) (h : History) → IsGood h → (how : Planning) (names : List (List ℕ)) (params : List Param) (c : Caller) (table : NamedTable) (settings : List Setting) (condition : Option Tree) (before : History)
+    → h ≡ (begun change how names params c table settings condition before).events ++ before → IsCaller c before
+    → giving rows_in (begun change how names params c table settings condition before) ≡ begun_plainly change how names params c table settings condition before
+begun_plain change h good how names params c table settings condition before is call =
     let holds = held_at c.level c.session c.cmd before in
     let there_after = holds.events ++ before in
-    let gathers = gathered prunes names params c table settings condition there_after in
-    let whole = λ (u : Unit {0}). follow (gathered prunes names params c table settings condition) (λ g. changed (change g) names c g) there_after in
-    alone_after rows_in holds whole (λ u. follow (gathered prunes names params c table settings condition) (λ g. plainly_changed (change g) names c g) there_after) (λ u told.
+    let gathers = gathered how names params c table settings condition there_after in
+    let whole = λ (u : Unit {0}). follow (gathered how names params c table settings condition) (λ g. changed (change g) names c g) there_after in
+    alone_after rows_in holds whole (λ u. follow (gathered how names params c table settings condition) (λ g. plainly_changed (change g) names c g) there_after) (λ u told.
     let goes = went_on h before holds whole u told is in
     let good_before : IsGood before = good_after (and_then holds whole).events before (subst IsGood is good) in
     let call_then : IsCaller c there_after = held_call c c.level before good_before call in
     alone_after rows_in gathers (λ g. changed (change g) names c g (gathers.events ++ there_after)) (λ g. plainly_changed (change g) names c g (gathers.events ++ there_after)) (λ g found_told.
-    let there = gathered_there prunes names params c table settings condition there_after g found_told in
-    let locks = gathered_locks prunes names params c table settings condition there_after in
+    let there = gathered_there how names params c table settings condition there_after g found_told in
+    let locks = gathered_locks how names params c table settings condition there_after in
     let last = gathers.events ++ there_after in
     let on = went_on h there_after gathers (λ x. changed (change x) names c x last) g found_told goes in
     let good_last : IsGood last = good_after (changed (change g) names c g last).events last (subst IsGood on good) in
     let call_last : IsCaller c last = subst (λ (es : History). IsCaller c (es ++ there_after)) (sym locks.1) (locks_call c locks.0 there_after call_then) in
     let same : catalogue_events last ≡ catalogue_events there_after = ap (λ (es : History). catalogue_events (es ++ there_after)) locks.1 ∙ locks_catalogue locks.0 there_after in
     let made_last : IsMade (catalogue_events last) there.table = subst (λ (cats : CatalogueEvents). IsMade cats there.table) (sym same) there.made in
-    let plain = good_changes last good_last prunes (change g) names c there.table there.asked (looks c last good_last call_last) made_last in
+    let plain = good_changes last good_last how (values_of (apart how params)) (change g) names c there.table there.asked (looks c last good_last call_last) made_last in
     rows_alone (change_told g) (λ n. refl) (changed_from (change g) names c g last)
     ∙ subst (λ (x : Found). changed_from (change g) names c x last ≡ plainly_changed (change g) names c x last) (sym there.is) plain))
 
-changed_plain : (change : Found → Changing) (h : History) → IsGood h → (prunes : Bool) (names : List (List ℕ)) (params : List Param) (c : Caller) (rest : Option Rest) (table : NamedTable) (settings : List Setting) (condition : Option Tree) (before : History)
-    → h ≡ (changed_by change names c rest (begun change prunes names params c table settings condition) before).events ++ before → IsCaller c before
-    → giving rows_in (changed_by change names c rest (begun change prunes names params c table settings condition) before) ≡ all_changed_by change prunes names params c rest table settings condition before
-changed_plain change h good prunes names params c rest table settings condition before is call = by (left_of before c rest) is
+changed_plain : (change : Found → Changing) (h : History) → IsGood h → (how : Planning) (names : List (List ℕ)) (params : List Param) (c : Caller) (rest : Option Rest) (table : NamedTable) (settings : List Setting) (condition : Option Tree) (before : History)
+    → h ≡ (changed_by change names c rest (begun change how names params c table settings condition) before).events ++ before → IsCaller c before
+    → giving rows_in (changed_by change names c rest (begun change how names params c table settings condition) before) ≡ all_changed_by change how names params c rest table settings condition before
+changed_plain change h good how names params c rest table settings condition before is call = by (left_of before c rest) is
   where
-    by : (o : Option RowsLeft) → h ≡ (begun_or_left (begun change prunes names params c table settings condition) (λ r k. giving (change_told r.found) (changed_on change names c r k)) o before).events ++ before
-        → giving rows_in (begun_or_left (begun change prunes names params c table settings condition) (λ r k. giving (change_told r.found) (changed_on change names c r k)) o before) ≡ begun_or_left (begun_plainly change prunes names params c table settings condition) (changed_on change names c) o before
-    by None e = begun_plain change h good prunes names params c table settings condition before e call
+    by : (o : Option RowsLeft) → h ≡ (begun_or_left (begun change how names params c table settings condition) (λ r k. giving (change_told r.found) (changed_on change names c r k)) o before).events ++ before
+        → giving rows_in (begun_or_left (begun change how names params c table settings condition) (λ r k. giving (change_told r.found) (changed_on change names c r k)) o before) ≡ begun_or_left (begun_plainly change how names params c table settings condition) (changed_on change names c) o before
+    by None e = begun_plain change h good how names params c table settings condition before e call
     by (Some r) e = rows_alone (change_told r.found) (λ n. refl) (changed_on change names c r before)
 
 pub good_whole : (h : History) → IsGood h → WholeStatementsArePlain h
 good_whole h good = record {
   selects = selects_plain h good;
-  updates = λ prunes names params c rest table settings condition before is call. changed_plain (λ g. updating c g) h good prunes names params c rest table settings condition before is call;
-  deletes = λ prunes names params c rest table condition before is call. changed_plain (λ g. deleting c) h good prunes names params c rest table [] condition before is call;
+  updates = λ how names params c rest table settings condition before is call. changed_plain (λ g. updating c g) h good how names params c rest table settings condition before is call;
+  deletes = λ how names params c rest table condition before is call. changed_plain (λ g. deleting c) h good how names params c rest table [] condition before is call;
 }

@@ -15,6 +15,7 @@ use Rattle.change_statement.specs.Running.{IsCommandTold}
 use Rattle.statement_runs.specs.Executions.{Execution}
 use Rattle.statement_runs.specs.Given.{given, execution_given}
 use Rattle.statement_runs.specs.Tallies.{none, added, Grows}
+use Rattle.plan_tree.specs.declared.planning.Planning.{Planning}
 
 abbrev so_much : ℕ → ℕ → Tally
 so_much a b = record { rows = a; reads = b }
@@ -52,6 +53,6 @@ stopped_gives Y see f stop.NoMemory new caller h m n told = tt
 
 -- ---- nor does an EXECUTE that is refused
 
-pub refused_gives : (prunes : Bool) (names : List (List ℕ)) (caller : Caller) (rest : Option Rest) (told : Result Execution Fault) (fault : Fault) (h : History) (n : Tally) → told ≡ Err fault
-    → n ≡ added n (execution_given prunes names caller rest told h)
-refused_gives prunes names caller rest told fault h n is = sym (nothing_more n) ∙ ap (λ (r : Result Execution Fault). added n (execution_given prunes names caller rest r h)) (sym is)
+pub refused_gives : (how : Planning) (names : List (List ℕ)) (caller : Caller) (rest : Option Rest) (told : Result Execution Fault) (fault : Fault) (h : History) (n : Tally) → told ≡ Err fault
+    → n ≡ added n (execution_given how names caller rest told h)
+refused_gives how names caller rest told fault h n is = sym (nothing_more n) ∙ ap (λ (r : Result Execution Fault). added n (execution_given how names caller rest r h)) (sym is)

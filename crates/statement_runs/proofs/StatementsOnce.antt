@@ -34,9 +34,10 @@ use Rattle.detach_statement.specs.Concurrent.{behind_nobody, by_rest, detach_of,
 use Rattle.detach_statement.specs.Detached.{detached}
 use Rattle.detach_statement.specs.Finalized.{finalized}
 use Rattle.attach_statement.specs.Attached.{attached}
-use Rattle.statement_runs.specs.Attempted.{answer_text, attempted, changed_text, command_attempted, execute_attempted, execution_explained, inserted_text, is_trailed, listed, plan_of_execution, query_attempted, row_attempted, table}
+use Rattle.statement_runs.specs.Attempted.{answer_text, attempted, changed_text, command_attempted, execute_attempted, execution_explained, inserted_text, is_trailed, listing, plan_of_execution, planning_of, query_attempted, row_attempted, table}
 use Rattle.statement_runs.specs.Roles.{command_committed, has_committed}
 use Rattle.statement_runs.specs.declared.options.Options.{Options}
+use Rattle.plan_tree.specs.declared.planning.Planning.{Planning}
 
 -- one that is done, or stops
 plain_once : {T : Type 0} (committed : Option Rest → Bool) (text : T → List ℕ) (t : Result T Halt) → CommitsOnce false (committed (rest_told (told_as (λ x. Done (text x)) t))) (outcome_told (told_as (λ x. Done (text x)) t))
@@ -59,10 +60,6 @@ later_once d (Err (Refused f)) = tt
 
 -- ---- each statement
 
-listed_once : (h : History) (r : Result (List Prepared) Fault) → CommitsOnce false false (outcome_told (listed r h).told)
-listed_once h (Ok ps) = tt
-listed_once h (Err f) = tt
-
 command_once : (names : List (List ℕ)) (c : Caller) (rest : Option Rest) (h : History) (ps : List Prepared) (t : CommandTree)
     → CommitsOnce (command_committed rest t) (command_committed (rest_told (command_attempted names c rest ps t h).told) t) (outcome_told (command_attempted names c rest ps t h).told)
 command_once names c rest h ps (makes_table name columns by) = plain_once (λ r. false) (λ (u : Unit {0}). []) (created names c name columns by h).told
@@ -82,43 +79,43 @@ command_once names c rest h ps commits = tt
 command_once names c rest h ps rolls_back = tt
 command_once names c rest h ps (sets name value) = tt
 command_once names c rest h ps (resets name) = tt
-command_once names c rest h ps (deallocates name) = listed_once h (deallocated ps name)
-command_once names c rest h ps deallocates_all = tt
+command_once names c rest h ps (deallocates name) = plain_once (λ r. false) (λ (u : Unit {0}). []) (listing c (deallocated ps name) h).told
+command_once names c rest h ps deallocates_all = plain_once (λ r. false) (λ (u : Unit {0}). []) (listing c (Ok []) h).told
 
-row_once : (trailed prunes : Bool) (names : List (List ℕ)) (params : List Param) (c : Caller) (rest : Option Rest) (h : History) (t : RowTree)
-    → CommitsOnce false false (outcome_told (row_attempted trailed prunes names params c rest t h).told)
-row_once trailed prunes names params c rest h (selects s) = let m = selected prunes names params c s h in plain_once (λ r. false) (answer_text trailed (m.events ++ h)) m.told
-row_once trailed prunes names params c rest h (inserts name columns values) = let m = inserted names params c name columns values h in plain_once (λ r. false) (inserted_text trailed (length values) (m.events ++ h)) m.told
-row_once trailed prunes names params c rest h (updates name settings condition) = let m = updated prunes names params c rest name settings condition h in plain_once (λ r. false) (changed_text trailed (codes "UPDATE") (m.events ++ h)) m.told
-row_once trailed prunes names params c rest h (deletes name condition) = let m = deleted prunes names params c rest name condition h in plain_once (λ r. false) (changed_text trailed (codes "DELETE") (m.events ++ h)) m.told
+row_once : (trailed : Bool) (how : Planning) (names : List (List ℕ)) (params : List Param) (c : Caller) (rest : Option Rest) (h : History) (t : RowTree)
+    → CommitsOnce false false (outcome_told (row_attempted trailed how names params c rest t h).told)
+row_once trailed how names params c rest h (selects s) = let m = selected how names params c s h in plain_once (λ r. false) (answer_text trailed (m.events ++ h)) m.told
+row_once trailed how names params c rest h (inserts name columns values) = let m = inserted names params c name columns values h in plain_once (λ r. false) (inserted_text trailed (length values) (m.events ++ h)) m.told
+row_once trailed how names params c rest h (updates name settings condition) = let m = updated how names params c rest name settings condition h in plain_once (λ r. false) (changed_text trailed (codes "UPDATE") (m.events ++ h)) m.told
+row_once trailed how names params c rest h (deletes name condition) = let m = deleted how names params c rest name condition h in plain_once (λ r. false) (changed_text trailed (codes "DELETE") (m.events ++ h)) m.told
 
-execute_once : (trailed prunes : Bool) (names : List (List ℕ)) (c : Caller) (rest : Option Rest) (h : History) (r : Result Execution Fault)
-    → CommitsOnce false false (outcome_told (execute_attempted trailed prunes names c rest r h).told)
-execute_once trailed prunes names c rest h (Ok e) = row_once trailed prunes names e.params c rest h e.statement
-execute_once trailed prunes names c rest h (Err f) = tt
+execute_once : (trailed : Bool) (how : Planning) (names : List (List ℕ)) (c : Caller) (rest : Option Rest) (h : History) (r : Result Execution Fault)
+    → CommitsOnce false false (outcome_told (execute_attempted trailed how names c rest r h).told)
+execute_once trailed how names c rest h (Ok e) = row_once trailed how names e.params c rest h e.statement
+execute_once trailed how names c rest h (Err f) = tt
 
-plan_once : (prunes : Bool) (names : List (List ℕ)) (params : List Param) (c : Caller) (h : History) (t : RowTree) → CommitsOnce false false (outcome_told (plan_of_execution prunes names params c t h).told)
-plan_once prunes names params c h (selects s) = plain_once (λ r. false) table (explained prunes names params c s h).told
-plan_once prunes names params c h (inserts name columns values) = tt
-plan_once prunes names params c h (updates name settings condition) = tt
-plan_once prunes names params c h (deletes name condition) = tt
+plan_once : (how : Planning) (names : List (List ℕ)) (params : List Param) (c : Caller) (h : History) (t : RowTree) → CommitsOnce false false (outcome_told (plan_of_execution how names params c t h).told)
+plan_once how names params c h (selects s) = plain_once (λ r. false) table (explained how names params c s h).told
+plan_once how names params c h (inserts name columns values) = tt
+plan_once how names params c h (updates name settings condition) = tt
+plan_once how names params c h (deletes name condition) = tt
 
-explained_once : (prunes : Bool) (names : List (List ℕ)) (c : Caller) (h : History) (r : Result Execution Fault) → CommitsOnce false false (outcome_told (execution_explained prunes names c r h).told)
-explained_once prunes names c h (Ok e) = plan_once prunes names e.params c h e.statement
-explained_once prunes names c h (Err f) = tt
+explained_once : (how : Planning) (names : List (List ℕ)) (c : Caller) (h : History) (r : Result Execution Fault) → CommitsOnce false false (outcome_told (execution_explained how names c r h).told)
+explained_once how names c h (Ok e) = plan_once how names e.params c h e.statement
+explained_once how names c h (Err f) = tt
 
-query_once : (trailed prunes : Bool) (names : List (List ℕ)) (c : Caller) (rest : Option Rest) (h : History) (ps : List Prepared) (t : QueryTree)
-    → CommitsOnce false false (outcome_told (query_attempted trailed prunes names c rest ps t h).told)
-query_once trailed prunes names c rest h ps (rows r) = row_once trailed prunes names [] c rest h r
-query_once trailed prunes names c rest h ps (prepares name types r) = listed_once h (prepared ps name types r)
-query_once trailed prunes names c rest h ps (executes name ts) = execute_once trailed prunes names c rest h (executed h c.session rest ps name ts)
-query_once trailed prunes names c rest h ps (explains_select true s) = tt
-query_once trailed prunes names c rest h ps (explains_select false s) = plain_once (λ r. false) table (explained prunes names [] c s h).told
-query_once trailed prunes names c rest h ps (explains_execute true name ts) = tt
-query_once trailed prunes names c rest h ps (explains_execute false name ts) = explained_once prunes names c h (explained_by h c.session ps name ts)
+query_once : (trailed : Bool) (how : Planning) (names : List (List ℕ)) (c : Caller) (rest : Option Rest) (h : History) (ps : List Prepared) (t : QueryTree)
+    → CommitsOnce false false (outcome_told (query_attempted trailed how names c rest ps t h).told)
+query_once trailed how names c rest h ps (rows r) = row_once trailed how names [] c rest h r
+query_once trailed how names c rest h ps (prepares name types r) = plain_once (λ r. false) (λ (u : Unit {0}). []) (listing c (prepared ps name types r) h).told
+query_once trailed how names c rest h ps (executes name ts) = execute_once trailed how names c rest h (executed h c.session rest ps name ts)
+query_once trailed how names c rest h ps (explains_select true s) = tt
+query_once trailed how names c rest h ps (explains_select false s) = plain_once (λ r. false) table (explained how names [] c s h).told
+query_once trailed how names c rest h ps (explains_execute true name ts) = tt
+query_once trailed how names c rest h ps (explains_execute false name ts) = explained_once how names c h (explained_by h c.session ps name ts)
 
 pub all_once : (o : Options) (c : Caller) (rest : Option Rest) (h : History) (g : Settings) (ps : List Prepared) (t : StatementTree)
     → CommitsOnce (has_committed rest t) (has_committed (rest_told (attempted o c rest g ps t h).told) t) (outcome_told (attempted o c rest g ps t h).told)
 unfolding attempted
 all_once o c rest h g ps (commands t) = command_once o.names c rest h ps t
-all_once o c rest h g ps (queries t) = query_once (is_trailed o c) g.enable_partition_pruning o.names c rest h ps t
+all_once o c rest h g ps (queries t) = query_once (is_trailed o c) (planning_of g) o.names c rest h ps t

@@ -1,5 +1,6 @@
 -- A part of a statement as the whole of it, with what it prints.
-use Rattle.std.proofs.Common.{◌≡◌, ℕ, ◌+◌, Bool, List, [], ◌++◌, refl, ap, sym, subst, append-nil, Ok, Err, Option, Result}
+use Rattle.std.proofs.Common.{◌≡◌, ℕ, ◌+◌, Bool, List, [], ◌++◌, refl, ap, sym, subst, append-nil, Ok, Err, IsErrAnd, Option, Result}
+use Rattle.std.proofs.lemmas.Result.{err_from_is_err_and}
 use Rattle.pg_values.specs.declared.answer.Answer.{Answer}
 use Rattle.pg_values.specs.declared.fault.Fault.{Fault}
 use Rattle.pg_values.specs.declared.lock_mode.LockMode.{LockMode}
@@ -29,12 +30,12 @@ use Rattle.statement_steps.specs.declared.ending.Ending.TheVariants as endings
 use Rattle.statement_steps.specs.declared.rest.Rest.{Rest}
 use Rattle.statement_steps.specs.declared.stop.Stop.{Stop}
 use Rattle.statement_steps.specs.declared.stop.Stop.TheVariants as stop
-use Rattle.statement_steps.specs.Steps.{IsStep}
+use Rattle.statement_steps.specs.Steps.{IsStep, IsTold}
 use Rattle.statement_steps.proofs.Numbers.{one_later}
-use Rattle.statement_steps.proofs.Parts.{stays, still_on}
+use Rattle.statement_steps.proofs.Parts.{refused_here, stays, still_on}
 use Rattle.change_statement.specs.Running.{IsCommand}
 use Rattle.change_statement.proofs.Commands.{goes_anywhere, waits_later}
-use Rattle.statement_runs.specs.Attempted.{as_table, command_attempted, listed, nothing, omitted, printed, silent, staged, table, tabled}
+use Rattle.statement_runs.specs.Attempted.{as_table, command_attempted, nothing, omitted, printed, silent, staged, table, tabled, taken}
 use Rattle.statement_runs.specs.LeftOut.{command_word}
 use Rattle.statement_runs.specs.Executions.{Execution, command_kept, execution}
 use Rattle.statement_runs.specs.Printed.{IsKept, IsStatement}
@@ -243,15 +244,19 @@ others_keep ps commands.DeallocateAll g k = absurd (k refl)
 
 -- ---- it changes
 
-pub listed_is : (left : Option Rest) (told : Result (List Prepared) Fault) (ps : List Prepared) (stores : Stores) (caller : Caller) (before : List ℕ) → MayAttempt stores caller → told ≡ Ok ps
-    → IsStatement left (Ok endings.Done) stores stores before before caller (listed told)
-listed_is left told ps stores caller before may is = record {
-  is = λ h stands at go. subst (λ (r : Result (List Prepared) Fault). IsAttempt (Ok endings.Done) stores before before caller h (listed r h)) (sym is)
-      ([], refl, sym (append-nil before), still_on stores h caller.session (caller.cmd + 1) stands (one_later h caller.session caller.cmd at));
+-- nor where a `?` hands a stop on
+pub kept_out : {r : Result (Unit {0}) Stop} {e : Stop} (ps after : List Prepared) → IsErrAnd r (λ s. s ≡ e) → IsKept (ended r) ps ps after
+kept_out {r = r} ps after is = let p = err_from_is_err_and r is in subst (λ (x : Result (Unit {0}) Stop). IsKept (ended x) ps ps after) (sym p.1) refl
+
+pub taken_is : (told : Result (List Prepared) Fault) (ps : List Prepared) (stores : Stores) (caller : Caller) → MayAttempt stores caller → told ≡ Ok ps
+    → IsStep (λ (u : Unit {0}). u) (Ok tt) stores stores caller (caller.cmd + 1) (taken told)
+taken_is told ps stores caller may is = record {
+  is = λ h stands at. subst (λ (r : Result (List Prepared) Fault). IsTold (λ (u : Unit {0}). u) (Ok tt) stores caller (caller.cmd + 1) h (taken r h)) (sym is)
+      (refl, still_on stores h caller.session (caller.cmd + 1) stands (one_later h caller.session caller.cmd at));
   keeps = stays stores caller.session;
   waits = may.idle;
 }
 
-pub listed_stops : (left : Option Rest) (told : Result (List Prepared) Fault) (fault : Fault) (stores : Stores) (caller : Caller) (before : List ℕ) → MayAttempt stores caller → told ≡ Err fault
-    → IsStatement left (Err (stop.Refused fault)) stores stores before before caller (listed told)
-listed_stops left told fault stores caller before may is = refused_is left fault stores caller (listed told) before may (λ h stands. ap (λ (r : Result (List Prepared) Fault). listed r h) is)
+pub taken_stops : (told : Result (List Prepared) Fault) (fault : Fault) (stores : Stores) (caller : Caller) → MayAttempt stores caller → told ≡ Err fault
+    → IsStep (λ (u : Unit {0}). u) (Err (stop.Refused fault)) stores stores caller (caller.cmd + 1) (taken told)
+taken_stops told fault stores caller may is = refused_here (λ (u : Unit {0}). u) fault stores caller (caller.cmd + 1) (taken told) may (λ h stands. ap (λ (r : Result (List Prepared) Fault). taken r h) is)

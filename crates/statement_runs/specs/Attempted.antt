@@ -6,6 +6,8 @@ use Rattle.refusals.specs.Refusals.{left_out}
 use Rattle.history.specs.History.{History}
 use Rattle.schedule.specs.declared.block.BlockKind.{BlockKind}
 use Rattle.schedule.specs.declared.block.BlockKind.TheVariants.{Step}
+use Rattle.sessions.specs.declared.settings.PlanCacheMode.{PlanCacheMode}
+use Rattle.sessions.specs.declared.settings.PlanCacheMode.TheVariants.{ForceGenericPlan}
 use Rattle.sessions.specs.declared.settings.Settings.{Settings}
 use Rattle.sql_ast.specs.Commands.{CommandTree, makes_table, makes_partition, drops, attaches, detaches, locks, deallocates, deallocates_all}
 use Rattle.sql_ast.specs.declared.detachment.Detachment.TheVariants.{AtOnce, Concurrently, Finalize}
@@ -15,6 +17,8 @@ use Rattle.sql_ast.specs.Statements.{StatementTree, commands, queries}
 use Rattle.out_text.specs.Table.{printed_table}
 use Rattle.statement_steps.specs.Ended.{Ended, Done, silent_end, giving}
 use Rattle.statement_steps.specs.Made.{Made, Refused, made, halted}
+use Rattle.statement_steps.specs.Asks.{held_at}
+use Rattle.statement_steps.specs.Steps.{follow}
 use Rattle.statement_steps.specs.declared.caller.Caller.{Caller}
 use Rattle.statement_steps.specs.declared.ending.Ending.{Ending}
 use Rattle.statement_steps.specs.declared.rest.Rest.{Rest}
@@ -38,6 +42,7 @@ use Rattle.statement_runs.specs.Executions.{Execution, executed, explained_by}
 use Rattle.statement_runs.specs.LeftOut.{command_word}
 use Rattle.statement_runs.specs.declared.options.Options.{Options}
 use Rattle.statement_runs.specs.Trails.{trail_text}
+use Rattle.plan_tree.specs.declared.planning.Planning.{Planning}
 
 abbrev pub is_step : BlockKind → Bool
 is_step Step = true
@@ -46,6 +51,16 @@ is_step _ = false
 -- the trails of steps alone are printed
 abbrev pub is_trailed : Options → Caller → Bool
 is_trailed o c = o.trail && is_step c.kind
+
+-- ---- how a session plans
+
+-- plans of prepared statements are generic where the session asks for it; those of a statement without parameters are alike
+abbrev pub is_generic : PlanCacheMode → Bool
+is_generic ForceGenericPlan = true
+is_generic _ = false
+
+abbrev pub planning_of : Settings → Planning
+planning_of g = record { prunes = g.enable_partition_pruning; is_generic = is_generic g.plan_cache_mode }
 
 -- ---- what is printed
 
@@ -89,9 +104,13 @@ abbrev pub omitted : (word : List ℕ) → History → Made Ended
 omitted word h = halted [] (Refused (left_out word))
 
 -- what is prepared changes, or the first fault is told
-abbrev pub listed : Result (List Prepared) Fault → History → Made Ended
-listed (Ok ps) h = made [] (Done [])
-listed (Err f) h = halted [] (Refused f)
+abbrev pub taken : Result (List Prepared) Fault → History → Made (Unit {0})
+taken (Ok ps) h = made [] tt
+taken (Err f) h = halted [] (Refused f)
+
+-- a transaction at REPEATABLE READ takes its snapshot then, too
+abbrev pub listing : Caller → Result (List Prepared) Fault → History → Made (Unit {0})
+listing c told = follow (held_at c.level c.session c.cmd) (λ u. taken told)
 
 abbrev pub command_attempted : (names : List (List ℕ)) → Caller → Option Rest → List Prepared → CommandTree → History → Made Ended
 command_attempted names c rest ps (makes_table name columns by) = silent (created names c name columns by)
@@ -102,57 +121,57 @@ command_attempted names c rest ps (detaches parent name AtOnce) = silent (detach
 command_attempted names c rest ps (detaches parent name Concurrently) = staged (detached_concurrently names c rest parent name)
 command_attempted names c rest ps (detaches parent name Finalize) = silent (finalized names c parent name)
 command_attempted names c rest ps (locks tables mode) = silent (locked names c.session tables mode)
-command_attempted names c rest ps (deallocates name) = listed (deallocated ps name)
-command_attempted names c rest ps deallocates_all = listed (Ok [])
+command_attempted names c rest ps (deallocates name) = silent (listing c (deallocated ps name))
+command_attempted names c rest ps deallocates_all = silent (listing c (Ok []))
 command_attempted names c rest ps t = omitted (command_word t)
 
-abbrev pub select_attempted : (trailed prunes : Bool) → (names : List (List ℕ)) → List Param → Caller → SelectTree → History → Made Ended
-select_attempted trailed prunes names params c s = printed (answer_text trailed) (selected prunes names params c s)
+abbrev pub select_attempted : (trailed : Bool) → Planning → (names : List (List ℕ)) → List Param → Caller → SelectTree → History → Made Ended
+select_attempted trailed how names params c s = printed (answer_text trailed) (selected how names params c s)
 
 -- with the values of its parameters
-abbrev pub row_attempted : (trailed prunes : Bool) → (names : List (List ℕ)) → List Param → Caller → Option Rest → RowTree → History → Made Ended
-row_attempted trailed prunes names params c rest (selects s) = select_attempted trailed prunes names params c s
-row_attempted trailed prunes names params c rest (inserts table columns values) = printed (inserted_text trailed (length values)) (inserted names params c table columns values)
-row_attempted trailed prunes names params c rest (updates table settings condition) = printed (changed_text trailed (codes "UPDATE")) (updated prunes names params c rest table settings condition)
-row_attempted trailed prunes names params c rest (deletes table condition) = printed (changed_text trailed (codes "DELETE")) (deleted prunes names params c rest table condition)
+abbrev pub row_attempted : (trailed : Bool) → Planning → (names : List (List ℕ)) → List Param → Caller → Option Rest → RowTree → History → Made Ended
+row_attempted trailed how names params c rest (selects s) = select_attempted trailed how names params c s
+row_attempted trailed how names params c rest (inserts table columns values) = printed (inserted_text trailed (length values)) (inserted names params c table columns values)
+row_attempted trailed how names params c rest (updates table settings condition) = printed (changed_text trailed (codes "UPDATE")) (updated how names params c rest table settings condition)
+row_attempted trailed how names params c rest (deletes table condition) = printed (changed_text trailed (codes "DELETE")) (deleted how names params c rest table condition)
 
-abbrev pub plan_attempted : (prunes : Bool) → (names : List (List ℕ)) → List Param → Caller → SelectTree → History → Made Ended
-plan_attempted prunes names params c s = tabled (explained prunes names params c s)
+abbrev pub plan_attempted : Planning → (names : List (List ℕ)) → List Param → Caller → SelectTree → History → Made Ended
+plan_attempted how names params c s = tabled (explained how names params c s)
 
 -- one that runs the SELECT too is left out
-abbrev pub explain_attempted : (prunes : Bool) → (names : List (List ℕ)) → Caller → (analyze : Bool) → SelectTree → History → Made Ended
-explain_attempted prunes names c false s = plan_attempted prunes names [] c s
-explain_attempted prunes names c true s = omitted (codes "ANALYZE")
+abbrev pub explain_attempted : Planning → (names : List (List ℕ)) → Caller → (analyze : Bool) → SelectTree → History → Made Ended
+explain_attempted how names c false s = plan_attempted how names [] c s
+explain_attempted how names c true s = omitted (codes "ANALYZE")
 
 -- ---- what was prepared
 
-abbrev pub execute_attempted : (trailed prunes : Bool) → (names : List (List ℕ)) → Caller → Option Rest → Result Execution Fault → History → Made Ended
-execute_attempted trailed prunes names c rest (Ok e) = row_attempted trailed prunes names e.params c rest e.statement
-execute_attempted trailed prunes names c rest (Err f) = λ h. halted [] (Refused f)
+abbrev pub execute_attempted : (trailed : Bool) → Planning → (names : List (List ℕ)) → Caller → Option Rest → Result Execution Fault → History → Made Ended
+execute_attempted trailed how names c rest (Ok e) = row_attempted trailed how names e.params c rest e.statement
+execute_attempted trailed how names c rest (Err f) = λ h. halted [] (Refused f)
 
 -- the plan of a SELECT; that of another statement is refused before
-abbrev pub plan_of_execution : (prunes : Bool) → (names : List (List ℕ)) → List Param → Caller → RowTree → History → Made Ended
-plan_of_execution prunes names params c (selects s) = plan_attempted prunes names params c s
-plan_of_execution prunes names params c s = omitted (first_word s)
+abbrev pub plan_of_execution : Planning → (names : List (List ℕ)) → List Param → Caller → RowTree → History → Made Ended
+plan_of_execution how names params c (selects s) = plan_attempted how names params c s
+plan_of_execution how names params c s = omitted (first_word s)
 
-abbrev pub execution_explained : (prunes : Bool) → (names : List (List ℕ)) → Caller → Result Execution Fault → History → Made Ended
-execution_explained prunes names c (Ok e) = plan_of_execution prunes names e.params c e.statement
-execution_explained prunes names c (Err f) = λ h. halted [] (Refused f)
+abbrev pub execution_explained : Planning → (names : List (List ℕ)) → Caller → Result Execution Fault → History → Made Ended
+execution_explained how names c (Ok e) = plan_of_execution how names e.params c e.statement
+execution_explained how names c (Err f) = λ h. halted [] (Refused f)
 
-abbrev pub explain_execute_attempted : (prunes : Bool) → (names : List (List ℕ)) → Caller → List Prepared → (analyze : Bool) → (name : List ℕ) → Trees → History → Made Ended
-explain_execute_attempted prunes names c ps false name ts = λ h. execution_explained prunes names c (explained_by h c.session ps name ts) h
-explain_execute_attempted prunes names c ps true name ts = omitted (codes "ANALYZE")
+abbrev pub explain_execute_attempted : Planning → (names : List (List ℕ)) → Caller → List Prepared → (analyze : Bool) → (name : List ℕ) → Trees → History → Made Ended
+explain_execute_attempted how names c ps false name ts = λ h. execution_explained how names c (explained_by h c.session ps name ts) h
+explain_execute_attempted how names c ps true name ts = omitted (codes "ANALYZE")
 
 -- ---- each statement, in a session that has prepared these
 
-abbrev pub query_attempted : (trailed prunes : Bool) → (names : List (List ℕ)) → Caller → Option Rest → List Prepared → QueryTree → History → Made Ended
-query_attempted trailed prunes names c rest ps (rows r) = row_attempted trailed prunes names [] c rest r
-query_attempted trailed prunes names c rest ps (prepares name types s) = listed (prepared ps name types s)
-query_attempted trailed prunes names c rest ps (executes name ts) = λ h. execute_attempted trailed prunes names c rest (executed h c.session rest ps name ts) h
-query_attempted trailed prunes names c rest ps (explains_select analyze s) = explain_attempted prunes names c analyze s
-query_attempted trailed prunes names c rest ps (explains_execute analyze name ts) = explain_execute_attempted prunes names c ps analyze name ts
+abbrev pub query_attempted : (trailed : Bool) → Planning → (names : List (List ℕ)) → Caller → Option Rest → List Prepared → QueryTree → History → Made Ended
+query_attempted trailed how names c rest ps (rows r) = row_attempted trailed how names [] c rest r
+query_attempted trailed how names c rest ps (prepares name types s) = silent (listing c (prepared ps name types s))
+query_attempted trailed how names c rest ps (executes name ts) = λ h. execute_attempted trailed how names c rest (executed h c.session rest ps name ts) h
+query_attempted trailed how names c rest ps (explains_select analyze s) = explain_attempted how names c analyze s
+query_attempted trailed how names c rest ps (explains_execute analyze name ts) = explain_execute_attempted how names c ps analyze name ts
 
 -- from its beginning, or from where it stood, in a session with these settings; it is opened where that matters alone
 unfoldable pub attempted : Options → Caller → Option Rest → Settings → List Prepared → StatementTree → History → Made Ended
 attempted o c rest g ps (commands t) = command_attempted o.names c rest ps t
-attempted o c rest g ps (queries t) = query_attempted (is_trailed o c) g.enable_partition_pruning o.names c rest ps t
+attempted o c rest g ps (queries t) = query_attempted (is_trailed o c) (planning_of g) o.names c rest ps t

@@ -19,6 +19,8 @@ use Rattle.change_statement.specs.Updated.{updated}
 use Rattle.statement_runs.specs.Executions.{Execution, executed}
 use Rattle.statement_runs.specs.Tallies.{none}
 use Rattle.statement_runs.specs.declared.options.Options.{Options}
+use Rattle.plan_tree.specs.declared.planning.Planning.{Planning}
+use Rattle.statement_runs.specs.Attempted.{planning_of}
 
 -- by what is told of it: nothing, where it waits or is refused
 abbrev pub given : {T : Type 0} → (T → Tally) → Result T Halt → Tally
@@ -31,27 +33,27 @@ of_select t = record { rows = length t.answer.rows; reads = length t.reads }
 abbrev pub of_change : ChangeTold → Tally
 of_change t = record { rows = 0; reads = length t.reads }
 
-abbrev pub select_given : (prunes : Bool) → (names : List (List ℕ)) → List Param → Caller → SelectTree → History → Tally
-select_given prunes names params c s h = given of_select (selected prunes names params c s h).told
+abbrev pub select_given : Planning → (names : List (List ℕ)) → List Param → Caller → SelectTree → History → Tally
+select_given how names params c s h = given of_select (selected how names params c s h).told
 
 -- INSERT reads no leaf
-abbrev pub row_given : (prunes : Bool) → (names : List (List ℕ)) → List Param → Caller → Option Rest → RowTree → History → Tally
-row_given prunes names params c rest (selects s) h = select_given prunes names params c s h
-row_given prunes names params c rest (inserts table columns values) h = none
-row_given prunes names params c rest (updates table settings condition) h = given of_change (updated prunes names params c rest table settings condition h).told
-row_given prunes names params c rest (deletes table condition) h = given of_change (deleted prunes names params c rest table condition h).told
+abbrev pub row_given : Planning → (names : List (List ℕ)) → List Param → Caller → Option Rest → RowTree → History → Tally
+row_given how names params c rest (selects s) h = select_given how names params c s h
+row_given how names params c rest (inserts table columns values) h = none
+row_given how names params c rest (updates table settings condition) h = given of_change (updated how names params c rest table settings condition h).told
+row_given how names params c rest (deletes table condition) h = given of_change (deleted how names params c rest table condition h).told
 
-abbrev pub execution_given : (prunes : Bool) → (names : List (List ℕ)) → Caller → Option Rest → Result Execution Fault → History → Tally
-execution_given prunes names c rest (Ok e) h = row_given prunes names e.params c rest e.statement h
-execution_given prunes names c rest (Err f) h = none
+abbrev pub execution_given : Planning → (names : List (List ℕ)) → Caller → Option Rest → Result Execution Fault → History → Tally
+execution_given how names c rest (Ok e) h = row_given how names e.params c rest e.statement h
+execution_given how names c rest (Err f) h = none
 
 -- PREPARE and EXPLAIN give and read nothing
-abbrev pub query_given : (prunes : Bool) → (names : List (List ℕ)) → Caller → Option Rest → List Prepared → QueryTree → History → Tally
-query_given prunes names c rest ps (row_query r) h = row_given prunes names [] c rest r h
-query_given prunes names c rest ps (executes name ts) h = execution_given prunes names c rest (executed h c.session rest ps name ts) h
-query_given prunes names c rest ps t h = none
+abbrev pub query_given : Planning → (names : List (List ℕ)) → Caller → Option Rest → List Prepared → QueryTree → History → Tally
+query_given how names c rest ps (row_query r) h = row_given how names [] c rest r h
+query_given how names c rest ps (executes name ts) h = execution_given how names c rest (executed h c.session rest ps name ts) h
+query_given how names c rest ps t h = none
 
 -- if it comes to its end there
 unfoldable pub statement_given : Options → Caller → Option Rest → Settings → List Prepared → StatementTree → History → Tally
 statement_given o c rest g ps (commands t) h = none
-statement_given o c rest g ps (queries t) h = query_given g.enable_partition_pruning o.names c rest ps t h
+statement_given o c rest g ps (queries t) h = query_given (planning_of g) o.names c rest ps t h

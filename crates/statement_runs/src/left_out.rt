@@ -1,11 +1,21 @@
-ghost use Rattle.std.specs.Prelude.{◌≡◌};
+ghost use Rattle.std.specs.Prelude.{◌≡◌, Option};
 ghost use Rattle.sql_ast.specs.Commands.{command_tree};
-ghost use Rattle.statement_runs.specs.LeftOut as left_out;
+ghost use Rattle.statement_steps.specs.Attempts.{MayAttempt};
+ghost use Rattle.statement_steps.specs.Ended.{ended};
+ghost use Rattle.statement_steps.specs.declared.rest.Rest.{Rest as Left};
+ghost use Rattle.statement_runs.specs.Attempted as attempted;
+ghost use Rattle.statement_runs.specs.LeftOut as spec;
+ghost use Rattle.statement_runs.specs.Printed.{IsStatement};
 
+use pg_values::NoMemory;
+use refusals::left_out;
 use sql_ast::Command;
+use statement_steps::{Caller, Stop};
+use std::alloc::Global;
+use stores::Stores;
 
 pub(crate) fn command_word(command: &Command) -> &'static [u8]
-    ensures { result.now ≡ left_out.command_word (command_tree command.now) }
+    ensures { result.now ≡ spec.command_word (command_tree command.now) }
 {
     match command {
         Command::Begin(_) => b"BEGIN",
@@ -21,5 +31,22 @@ pub(crate) fn command_word(command: &Command) -> &'static [u8]
         Command::Lock(_, _) => b"LOCK",
         Command::Deallocate(_) => b"DEALLOCATE",
         Command::DeallocateAll => b"DEALLOCATE",
+    }
+}
+
+// It is refused, and told by that word.
+pub(crate) fn omit(
+    alloc: Global,
+    stores: &Stores,
+    caller: Caller,
+    word: &[u8],
+    out: &[u8],
+) -> Result<(), Stop>
+    requires { MayAttempt stores.now caller }
+    ensures { (left : Option Left) → IsStatement left (ended result) stores.now stores.now out.now out.now caller (attempted.omitted word.now) }
+{
+    match left_out(alloc, word) {
+        Ok(fault) => Err(Stop::Refused(fault)),
+        Err(NoMemory) => Err(Stop::NoMemory),
     }
 }

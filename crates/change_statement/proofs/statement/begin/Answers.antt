@@ -34,20 +34,20 @@ pub returns-in_err-hold_if_repeatable : goal.returns-in_err-hold_if_repeatable
 returns-in_err-hold_if_repeatable c =
     let caller = c.args.caller in
     handed_command c.from_residual.ensures.1
-    (stop_command (held_at caller.level caller.session caller.cmd) (λ u. gathered_and_changed c.args.prunes c.args.names.now c.args.params.now caller c.args.change) c.in_err-hold_if_repeatable.ensures.step)
+    (stop_command (held_at caller.level caller.session caller.cmd) (λ u. gathered_and_changed c.args.how c.args.names.now c.args.params.now caller c.args.change) c.in_err-hold_if_repeatable.ensures.step)
 
 pub returns-in_err-gathered : goal.returns-in_err-gathered
 returns-in_err-gathered c =
     let names = c.args.names.now in
     let caller = c.args.caller in
     handed_command c.from_residual-in_err-gathered.ensures.1
-    (then_command (held_at caller.level caller.session caller.cmd) (λ u. gathered_and_changed c.args.prunes names c.args.params.now caller c.args.change) c.in_ok-hold_if_repeatable.ensures.step
-    (stop_command (gathered_for c.args.prunes names c.args.params.now caller c.args.change) (λ g. changed (changing c.args.change caller g) names caller g) c.in_err-gathered.ensures.step))
+    (then_command (held_at caller.level caller.session caller.cmd) (λ u. gathered_and_changed c.args.how names c.args.params.now caller c.args.change) c.in_ok-hold_if_repeatable.ensures.step
+    (stop_command (gathered_for c.args.how names c.args.params.now caller c.args.change) (λ g. changed (changing c.args.change caller g) names caller g) c.in_err-gathered.ensures.step))
 
 pub returns-in_err-targets : goal.returns-in_err-targets
 returns-in_err-targets c =
     let caller = c.args.caller in
-    then_command (held_at caller.level caller.session caller.cmd) (λ u. gathered_and_changed c.args.prunes c.args.names.now c.args.params.now caller c.args.change) c.in_ok-hold_if_repeatable.ensures.step
+    then_command (held_at caller.level caller.session caller.cmd) (λ u. gathered_and_changed c.args.how c.args.names.now c.args.params.now caller c.args.change) c.in_ok-hold_if_repeatable.ensures.step
     (out_command c.from_residual-in_err-targets.ensures.1 c.in_ok-gathered.ensures.step)
 
 pub returns : goal.returns
@@ -57,7 +57,7 @@ returns c =
     let found = found_of c.in_ok-gathered.gathered in
     let mid = c.gather.new.stores in
     let may = may_go_on _ _ _ _ _ _ (may_go_on _ _ _ _ _ _ c.requires.may c.in_ok-hold_if_repeatable.ensures.step) c.in_ok-gathered.ensures.step in
-    then_command (held_at caller.level caller.session caller.cmd) (λ u. gathered_and_changed c.args.prunes names c.args.params.now caller c.args.change) c.in_ok-hold_if_repeatable.ensures.step
-    (then_command (gathered_for c.args.prunes names c.args.params.now caller c.args.change) (λ g. changed (changing c.args.change caller g) names caller g) c.in_ok-gathered.ensures.step
+    then_command (held_at caller.level caller.session caller.cmd) (λ u. gathered_and_changed c.args.how names c.args.params.now caller c.args.change) c.in_ok-hold_if_repeatable.ensures.step
+    (then_command (gathered_for c.args.how names c.args.params.now caller c.args.change) (λ g. changed (changing c.args.change caller g) names caller g) c.in_ok-gathered.ensures.step
     (run_is_command told_by c.change_rows.result mid c.change_rows.new.stores caller found (changed (changing c.args.change caller found) names caller found) may c.in_ok-gathered.ensures.found
     (from_there (changing c.args.change caller found) names c.change_rows.result mid c.change_rows.new.stores caller found c.deref.result.now (λ h stands. c.deref.ensures.value ∙ c.in_ok-targets.ensures.are h stands) c.change_rows.ensures)))

@@ -13,10 +13,10 @@ go_on-requires-clause-own c = own_run c.args.stores.now c.args.caller c.args.res
 
 pub returns-in-Some : goal.returns-in-Some
 returns-in-Some c =
-    gone_on (λ g. changing c.args.change c.args.caller g) c.args.names.now c.args.rest c.in-Some.rest c.go_on.result c.args.stores.now c.go_on.new.stores c.args.caller (begun c.args.prunes c.args.names.now c.args.params.now c.args.caller c.args.change)
+    gone_on (λ g. changing c.args.change c.args.caller g) c.args.names.now c.args.rest c.in-Some.rest c.go_on.result c.args.stores.now c.go_on.new.stores c.args.caller (begun c.args.how c.args.names.now c.args.params.now c.args.caller c.args.change)
     (λ h stands. c.in-Some.ensures h stands) c.go_on.ensures
 
 pub returns-in-None : goal.returns-in-None
 returns-in-None c =
-    begun_by (λ g. changing c.args.change c.args.caller g) c.args.names.now c.args.rest c.begin.result c.args.stores.now c.begin.new.stores c.args.caller (begun c.args.prunes c.args.names.now c.args.params.now c.args.caller c.args.change)
+    begun_by (λ g. changing c.args.change c.args.caller g) c.args.names.now c.args.rest c.begin.result c.args.stores.now c.begin.new.stores c.args.caller (begun c.args.how c.args.names.now c.args.params.now c.args.caller c.args.change)
     (λ h stands. c.in-None.ensures h stands) c.begin.ensures

@@ -20,13 +20,13 @@ bind_over-requires-clause-each c =
 
 pub returns-in_err-ask-clause-step : goal.returns-in_err-ask-clause-step
 returns-in_err-ask-clause-step c =
-    handed_on c.from_residual-in_err-ask.ensures.1 (found_step c.args.params.now c.args.caller (select_tree c.args.select.now) (map number_of c.args.tables.now) (map seen c.deref.result.now) _ _ _ (λ h stands. ap (map seen) c.deref.ensures.value ∙ c.in_ok-trees.ensures.trees h stands)
-    (stops (meant c.args.params.now c.args.caller (select_tree c.args.select.now) (items_of 0 (from_of (select_tree c.args.select.now)) (map seen c.deref.result.now))) (λ m h. made [] (record { meant = m; trees = map seen c.deref.result.now })) c.in_err-ask.ensures.step))
+    handed_on c.from_residual-in_err-ask.ensures.1 (found_step c.args.how c.args.params.now c.args.caller (select_tree c.args.select.now) (map number_of c.args.tables.now) (map seen c.deref.result.now) _ _ _ (λ h stands. ap (map seen) c.deref.ensures.value ∙ c.in_ok-trees.ensures.trees h stands)
+    (stops (meant c.args.how c.args.params.now c.args.caller (select_tree c.args.select.now) (items_of 0 (from_of (select_tree c.args.select.now)) (map seen c.deref.result.now))) (λ m h. made [] (record { meant = m; trees = map seen c.deref.result.now })) c.in_err-ask.ensures.step))
 
 pub returns-clause-step : goal.returns-clause-step
 returns-clause-step c =
-    found_step c.args.params.now c.args.caller (select_tree c.args.select.now) (map number_of c.args.tables.now) (map seen c.deref.result.now) _ _ _ (λ h stands. ap (map seen) c.deref.ensures.value ∙ c.in_ok-trees.ensures.trees h stands)
-    (goes (meant c.args.params.now c.args.caller (select_tree c.args.select.now) (items_of 0 (from_of (select_tree c.args.select.now)) (map seen c.deref.result.now))) (λ m h. made [] (record { meant = m; trees = map seen c.deref.result.now })) c.in_ok-ask.ensures.step
+    found_step c.args.how c.args.params.now c.args.caller (select_tree c.args.select.now) (map number_of c.args.tables.now) (map seen c.deref.result.now) _ _ _ (λ h stands. ap (map seen) c.deref.ensures.value ∙ c.in_ok-trees.ensures.trees h stands)
+    (goes (meant c.args.how c.args.params.now c.args.caller (select_tree c.args.select.now) (items_of 0 (from_of (select_tree c.args.select.now)) (map seen c.deref.result.now))) (λ m h. made [] (record { meant = m; trees = map seen c.deref.result.now })) c.in_ok-ask.ensures.step
     (nothing_done found_by _ _ c.args.caller (λ h. made [] (record { meant = select_meant c.in_ok-ask.ask; trees = map seen c.deref.result.now })) c.requires.may
     (λ h stands. ap (λ ts. made [] (record { meant = select_meant c.in_ok-ask.ask; trees = map seen ts })) c.deref.ensures.value)))
 

@@ -16,7 +16,7 @@ use Rattle.select_statement.proofs.gathering.gather.Goals as goal
 
 pub returns-in_err-tables-clause-step : goal.returns-in_err-tables-clause-step
 returns-in_err-tables-clause-step c =
-    handed_on c.from_residual.ensures.1 (stops (named_from c.args.names.now c.args.caller [] (from_of (select_tree c.args.select.now))) (found_in c.args.params.now c.args.caller (select_tree c.args.select.now))
+    handed_on c.from_residual.ensures.1 (stops (named_from c.args.names.now c.args.caller [] (from_of (select_tree c.args.select.now))) (found_in c.args.how c.args.params.now c.args.caller (select_tree c.args.select.now))
     (moved (λ items. named_from c.args.names.now c.args.caller [] (map joined_tree items)) _ _ c.as_slice.ensures c.in_err-tables.ensures.step))
 
 pub keep_trees-requires-clause-may : goal.keep_trees-requires-clause-may
@@ -28,8 +28,8 @@ keep_trees-requires-clause-known c = subst (All (λ t. IsKnownTo c.lock_items.ne
 pub returns-in_err-keep_trees-clause-step : goal.returns-in_err-keep_trees-clause-step
 returns-in_err-keep_trees-clause-step c =
     let found = subst (λ items. IsStep numbers (Ok c.in_ok-tables.tables) c.args.stores.now c.lock_items.new.stores c.args.caller c.args.caller.cmd (named_from c.args.names.now c.args.caller [] (map joined_tree items))) c.as_slice.ensures c.in_ok-tables.ensures.step in
-    goes (named_from c.args.names.now c.args.caller [] (from_of (select_tree c.args.select.now))) (found_in c.args.params.now c.args.caller (select_tree c.args.select.now)) found
-    (subst (λ (s : Stores). IsStep found_by c.from_residual-in_err-keep_trees.result c.lock_items.new.stores s c.args.caller c.args.caller.cmd (found_in c.args.params.now c.args.caller (select_tree c.args.select.now) (map number_of c.in_ok-tables.tables.items))) (sym c.keep_trees.ensures) (out_here c.from_residual-in_err-keep_trees.ensures.1))
+    goes (named_from c.args.names.now c.args.caller [] (from_of (select_tree c.args.select.now))) (found_in c.args.how c.args.params.now c.args.caller (select_tree c.args.select.now)) found
+    (subst (λ (s : Stores). IsStep found_by c.from_residual-in_err-keep_trees.result c.lock_items.new.stores s c.args.caller c.args.caller.cmd (found_in c.args.how c.args.params.now c.args.caller (select_tree c.args.select.now) (map number_of c.in_ok-tables.tables.items))) (sym c.keep_trees.ensures) (out_here c.from_residual-in_err-keep_trees.ensures.1))
 
 pub find-requires-clause-may : goal.find-requires-clause-may
 find-requires-clause-may c = subst (λ (s : Stores). MayAttempt s c.args.caller) (sym c.keep_trees.ensures) (may_go_on numbers _ _ _ _ _ c.requires.may c.in_ok-tables.ensures.step)
@@ -50,6 +50,6 @@ find-requires-clause-known c =
 pub returns-clause-step : goal.returns-clause-step
 returns-clause-step c =
     let found = subst (λ items. IsStep numbers (Ok c.in_ok-tables.tables) c.args.stores.now c.lock_items.new.stores c.args.caller c.args.caller.cmd (named_from c.args.names.now c.args.caller [] (map joined_tree items))) c.as_slice.ensures c.in_ok-tables.ensures.step in
-    let over = subst (λ ts. IsStep found_by c.find.result c.keep_trees.new.stores c.keep_trees.new.stores c.args.caller c.args.caller.cmd (found_in c.args.params.now c.args.caller (select_tree c.args.select.now) (map number_of ts))) c.deref-2.ensures.value c.find.ensures.step in
-    goes (named_from c.args.names.now c.args.caller [] (from_of (select_tree c.args.select.now))) (found_in c.args.params.now c.args.caller (select_tree c.args.select.now)) found
-    (subst (λ (s : Stores). IsStep found_by c.find.result s c.keep_trees.new.stores c.args.caller c.args.caller.cmd (found_in c.args.params.now c.args.caller (select_tree c.args.select.now) (map number_of c.in_ok-tables.tables.items))) c.keep_trees.ensures over)
+    let over = subst (λ ts. IsStep found_by c.find.result c.keep_trees.new.stores c.keep_trees.new.stores c.args.caller c.args.caller.cmd (found_in c.args.how c.args.params.now c.args.caller (select_tree c.args.select.now) (map number_of ts))) c.deref-2.ensures.value c.find.ensures.step in
+    goes (named_from c.args.names.now c.args.caller [] (from_of (select_tree c.args.select.now))) (found_in c.args.how c.args.params.now c.args.caller (select_tree c.args.select.now)) found
+    (subst (λ (s : Stores). IsStep found_by c.find.result s c.keep_trees.new.stores c.args.caller c.args.caller.cmd (found_in c.args.how c.args.params.now c.args.caller (select_tree c.args.select.now) (map number_of c.in_ok-tables.tables.items))) c.keep_trees.ensures over)

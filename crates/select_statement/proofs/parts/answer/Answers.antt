@@ -8,14 +8,14 @@ use Rattle.select_statement.proofs.parts.answer.Goals as goal
 
 pub returns : goal.returns
 returns c =
-    answer_done (record { answer = c.in_ok-answer.answer; trail = c.run_select.new.trail }) c.args.stores.now c.args.caller (select_meant c.args.ask.now) (planned c.args.plan.now) c.args.snap.now c.requires.may c.requires.look
-    (told_for (Ok c.in_ok-answer.answer) c.args.stores.now c.args.caller (select_meant c.args.ask.now) (planned c.args.plan.now) c.args.snap.now _ _ _ refl refl c.in_ok-trail.ensures.0 c.in_ok-answer.ensures.answer)
-    (read_for_it (Ok c.in_ok-answer.answer) _ c.args.stores.now c.args.caller (select_meant c.args.ask.now) (planned c.args.plan.now) c.args.snap.now _ _ _ refl refl c.in_ok-trail.ensures.0 c.in_ok-answer.ensures.trail)
+    answer_done (record { answer = c.in_ok-answer.answer; trail = c.run_select.new.trail }) c.args.stores.now c.args.caller c.args.args.now (select_meant c.args.ask.now) (planned c.args.plan.now) c.args.snap.now c.requires.may c.requires.look
+    (told_for (Ok c.in_ok-answer.answer) c.args.stores.now c.args.caller c.args.args.now (select_meant c.args.ask.now) (planned c.args.plan.now) c.args.snap.now _ _ refl c.in_ok-trail.ensures.0 c.in_ok-answer.ensures.answer)
+    (read_for_it (Ok c.in_ok-answer.answer) _ c.args.stores.now c.args.caller c.args.args.now (select_meant c.args.ask.now) (planned c.args.plan.now) c.args.snap.now _ _ refl c.in_ok-trail.ensures.0 c.in_ok-answer.ensures.trail)
 
 pub returns-in_err-answer : goal.returns-in_err-answer
 returns-in_err-answer c =
-    handed_on c.from_residual-in_err-answer.ensures.1 (answer_refused c.in_err-answer.field-0.0 c.args.stores.now c.args.caller (select_meant c.args.ask.now) (planned c.args.plan.now) c.args.snap.now c.requires.may c.requires.look
-    (told_for (Err c.in_err-answer.field-0.0) c.args.stores.now c.args.caller (select_meant c.args.ask.now) (planned c.args.plan.now) c.args.snap.now _ _ _ refl refl c.in_ok-trail.ensures.0 c.in_err-answer.ensures.answer))
+    handed_on c.from_residual-in_err-answer.ensures.1 (answer_refused c.in_err-answer.field-0.0 c.args.stores.now c.args.caller c.args.args.now (select_meant c.args.ask.now) (planned c.args.plan.now) c.args.snap.now c.requires.may c.requires.look
+    (told_for (Err c.in_err-answer.field-0.0) c.args.stores.now c.args.caller c.args.args.now (select_meant c.args.ask.now) (planned c.args.plan.now) c.args.snap.now _ _ refl c.in_ok-trail.ensures.0 c.in_err-answer.ensures.answer))
 
 pub returns-in_err-trail : goal.returns-in_err-trail
 returns-in_err-trail c = out_here c.from_residual.ensures.1

@@ -3,7 +3,7 @@ use Rattle.std.proofs.lemmas.List.Elements.{All-nil}
 use Rattle.sql_ast.specs.Queries.{select_tree}
 use Rattle.cond_logic.specs.Trees.{cond_tree}
 use Rattle.cond_logic.specs.Asked.{select_meant}
-use Rattle.plan_tree.specs.Plans.{Planned, CanRead, plan_for}
+use Rattle.plan_tree.specs.Plans.{Planned, CanRead, custom, plan_for}
 use Rattle.statement_steps.proofs.Steps.{goes, handed_on, may_go_on, moved, out_behind, stops}
 use Rattle.select_statement.specs.Cancels.{cancels_itself}
 use Rattle.select_statement.specs.Selected.{begins, meant, bare, answered, bare_plan, uncancelled}
@@ -19,14 +19,14 @@ bind-requires c = may_go_on _ _ _ _ _ _ c.requires c.in_ok-hold_if_repeatable.en
 pub returns-in_err-ask : goal.returns-in_err-ask
 returns-in_err-ask c =
     handed_on c.from_residual-in_err-ask.ensures.1 (goes (begins c.args.caller) (λ u. bare c.args.params.now c.args.caller (select_tree c.args.select.now)) c.in_ok-hold_if_repeatable.ensures.step
-    (stops (meant c.args.params.now c.args.caller (select_tree c.args.select.now) []) (λ m. uncancelled (cancels_itself c.args.caller.session (c.args.caller.sessions - 1) m) (answered c.args.caller m (bare_plan m))) c.in_err-ask.ensures))
+    (stops (meant (custom false) c.args.params.now c.args.caller (select_tree c.args.select.now) []) (λ m. uncancelled (cancels_itself c.args.caller.session (c.args.caller.sessions - 1) m) (answered c.args.caller [] m (bare_plan m))) c.in_err-ask.ensures))
 
 pub returns-then-is_cancelled : goal.returns-then-is_cancelled
 returns-then-is_cancelled c =
     let m = select_meant c.in_ok-ask.ask in
     goes (begins c.args.caller) (λ u. bare c.args.params.now c.args.caller (select_tree c.args.select.now)) c.in_ok-hold_if_repeatable.ensures.step
-    (goes (meant c.args.params.now c.args.caller (select_tree c.args.select.now) []) (λ m. uncancelled (cancels_itself c.args.caller.session (c.args.caller.sessions - 1) m) (answered c.args.caller m (bare_plan m))) c.in_ok-ask.ensures
-    (cancelled_here (cancels_itself c.args.caller.session (c.args.caller.sessions - 1) m) _ (answered c.args.caller m (bare_plan m)) _ c.args.caller
+    (goes (meant (custom false) c.args.params.now c.args.caller (select_tree c.args.select.now) []) (λ m. uncancelled (cancels_itself c.args.caller.session (c.args.caller.sessions - 1) m) (answered c.args.caller [] m (bare_plan m))) c.in_ok-ask.ensures
+    (cancelled_here (cancels_itself c.args.caller.session (c.args.caller.sessions - 1) m) _ (answered c.args.caller [] m (bare_plan m)) _ c.args.caller
     (may_go_on _ _ _ _ _ _ c.requires c.in_ok-hold_if_repeatable.ensures.step) (sym c.in_ok-is_cancelled.ensures ∙ c.if-is_cancelled.true) c.statement_cancelled.ensures))
 
 pub answer-requires-clause-may : goal.answer-requires-clause-may
@@ -40,9 +40,9 @@ pub returns : goal.returns
 returns c =
     let m = select_meant c.in_ok-ask.ask in
     goes (begins c.args.caller) (λ u. bare c.args.params.now c.args.caller (select_tree c.args.select.now)) c.in_ok-hold_if_repeatable.ensures.step
-    (goes (meant c.args.params.now c.args.caller (select_tree c.args.select.now) []) (λ m. uncancelled (cancels_itself c.args.caller.session (c.args.caller.sessions - 1) m) (answered c.args.caller m (bare_plan m))) c.in_ok-ask.ensures
-    (not_cancelled (cancels_itself c.args.caller.session (c.args.caller.sessions - 1) m) (answered c.args.caller m (bare_plan m)) (sym c.in_ok-is_cancelled.ensures ∙ c.if-is_cancelled.false)
-    (moved (answered c.args.caller m) _ _ (c.in_ok-plan.ensures ∙ ap (λ cs. plan_for false (map cond_tree cs) []) c.as_slice.ensures) c.answer.ensures)))
+    (goes (meant (custom false) c.args.params.now c.args.caller (select_tree c.args.select.now) []) (λ m. uncancelled (cancels_itself c.args.caller.session (c.args.caller.sessions - 1) m) (answered c.args.caller [] m (bare_plan m))) c.in_ok-ask.ensures
+    (not_cancelled (cancels_itself c.args.caller.session (c.args.caller.sessions - 1) m) (answered c.args.caller [] m (bare_plan m)) (sym c.in_ok-is_cancelled.ensures ∙ c.if-is_cancelled.false)
+    (moved (answered c.args.caller [] m) _ _ (c.in_ok-plan.ensures ∙ ap (λ cs. plan_for false (map cond_tree cs) []) c.as_slice.ensures) c.answer.ensures)))
 
 pub returns-in_err-snap : goal.returns-in_err-snap
 returns-in_err-snap c = out_behind c.from_residual-in_err-snap.ensures.1 c.in_ok-hold_if_repeatable.ensures.step

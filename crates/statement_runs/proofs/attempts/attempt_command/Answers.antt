@@ -1,4 +1,4 @@
-use Rattle.std.proofs.Common.{List, [], ℕ, ◌+◌, Result, Ok, ap, refl, sym, subst}
+use Rattle.std.proofs.Common.{List, [], ℕ, ◌+◌, Result, Ok, sym, subst}
 use Rattle.history.specs.History.{History}
 use Rattle.sql_ast.specs.Commands.{bound_tree, command_tree, detaches}
 use Rattle.sql_ast.specs.declared.detachment.Detachment.{Detachment}
@@ -17,10 +17,9 @@ use Rattle.detach_statement.specs.Concurrent.{detached_concurrently}
 use Rattle.detach_statement.specs.Detached.{detached}
 use Rattle.detach_statement.specs.Finalized.{finalized}
 use Rattle.attach_statement.specs.Attached.{attached}
-use Rattle.pg_values.specs.declared.fault.Fault.{Fault}
 use Rattle.prepared_statements.specs.Kept.{listed}
-use Rattle.prepared_statements.specs.Prepared.{Prepared, deallocated}
-use Rattle.statement_runs.specs.Attempted.{command_attempted, listed as listed_told, omitted}
+use Rattle.prepared_statements.specs.Prepared.{deallocated}
+use Rattle.statement_runs.specs.Attempted.{command_attempted, listing, omitted}
 use Rattle.statement_runs.specs.Executions.{command_kept, listed_after}
 use Rattle.statement_runs.specs.Printed.{IsKept, IsStatement}
 use Rattle.statement_runs.proofs.Whole.{command_omitted, kept_still, others_keep, silent_ends, staged_is}
@@ -145,37 +144,33 @@ returns-in_default-clause-kept c =
 
 pub returns-in-Deallocate-clause-is : goal.returns-in-Deallocate-clause-is
 returns-in-Deallocate-clause-is c =
-    let s = c.args.stores.now in
-    let out = c.args.out.now in
     let ps = listed c.args.prepared.now in
-    subst (λ (x : Command). IsStatement c.args.rest c.ended-in-Deallocate.result s s out out c.args.caller (command_attempted c.args.names.now c.args.caller c.args.rest ps (command_tree x))) (sym c.in-Deallocate.is)
-    (subst (λ (r : Result Ending Stop). IsStatement c.args.rest r s s out out c.args.caller (listed_told (deallocated ps c.in-Deallocate.name))) (sym c.ended-in-Deallocate.ensures)
-    (subst (λ (n : List ℕ). IsStatement c.args.rest (ended c.list.result) s s out out c.args.caller (listed_told (deallocated ps n))) c.as_bytes.ensures
-    (c.list.ensures.is c.args.rest (listed c.deallocate-done.new.self) (deallocated ps c.as_bytes.result.now) c.deallocate-done.ensures.answer)))
+    let old = c.args.stores.now in
+    let new = c.attempt_deallocate.new.stores in
+    let n = c.in-Deallocate.name in
+    let step = subst (λ (x : List ℕ). IsStep (λ (u : Unit {0}). u) c.attempt_deallocate.result old new c.args.caller (c.args.caller.cmd + 1) (listing c.args.caller (deallocated ps x))) c.as_bytes-name.ensures c.attempt_deallocate.ensures.is in
+    let is = silent_ends c.args.rest c.ended-in-Deallocate.result c.attempt_deallocate.result c.ended-in-Deallocate.ensures old new c.args.caller (listing c.args.caller (deallocated ps n)) c.args.out.now step in
+    subst (λ (x : Command). IsStatement c.args.rest c.ended-in-Deallocate.result old new c.args.out.now c.args.out.now c.args.caller (command_attempted c.args.names.now c.args.caller c.args.rest ps (command_tree x))) (sym c.in-Deallocate.is) is
 
 pub returns-in-Deallocate-clause-kept : goal.returns-in-Deallocate-clause-kept
 returns-in-Deallocate-clause-kept c =
     let ps = listed c.args.prepared.now in
-    let new = listed c.deallocate-done.new.self in
+    let new = listed c.attempt_deallocate.new.prepared in
     subst (λ (x : Command). IsKept c.ended-in-Deallocate.result ps new (command_kept ps (command_tree x))) (sym c.in-Deallocate.is)
     (subst (λ (r : Result Ending Stop). IsKept r ps new (listed_after ps (deallocated ps c.in-Deallocate.name))) (sym c.ended-in-Deallocate.ensures)
-    (subst (λ (n : List ℕ). IsKept (ended c.list.result) ps new (listed_after ps (deallocated ps n))) c.as_bytes.ensures
-    (c.list.ensures.kept ps new (deallocated ps c.as_bytes.result.now) c.deallocate-done.ensures.answer c.deallocate-done.ensures.kept)))
+    (subst (λ (n : List ℕ). IsKept (ended c.attempt_deallocate.result) ps new (listed_after ps (deallocated ps n))) c.as_bytes-name.ensures c.attempt_deallocate.ensures.kept))
 
 pub returns-in-DeallocateAll-clause-is : goal.returns-in-DeallocateAll-clause-is
 returns-in-DeallocateAll-clause-is c =
-    let s = c.args.stores.now in
-    let out = c.args.out.now in
     let ps = listed c.args.prepared.now in
-    subst (λ (x : Command). IsStatement c.args.rest c.ended-in-DeallocateAll.result s s out out c.args.caller (command_attempted c.args.names.now c.args.caller c.args.rest ps (command_tree x))) (sym c.in-DeallocateAll.is)
-    (subst (λ (r : Result Ending Stop). IsStatement c.args.rest r s s out out c.args.caller (listed_told (Ok []))) (sym c.ended-in-DeallocateAll.ensures)
-    (c.list-in-DeallocateAll.ensures.is c.args.rest [] (Ok []) refl))
+    let old = c.args.stores.now in
+    let new = c.attempt_deallocate_all.new.stores in
+    let is = silent_ends c.args.rest c.ended-in-DeallocateAll.result c.attempt_deallocate_all.result c.ended-in-DeallocateAll.ensures old new c.args.caller (listing c.args.caller (Ok [])) c.args.out.now c.attempt_deallocate_all.ensures.is in
+    subst (λ (x : Command). IsStatement c.args.rest c.ended-in-DeallocateAll.result old new c.args.out.now c.args.out.now c.args.caller (command_attempted c.args.names.now c.args.caller c.args.rest ps (command_tree x))) (sym c.in-DeallocateAll.is) is
 
 pub returns-in-DeallocateAll-clause-kept : goal.returns-in-DeallocateAll-clause-kept
 returns-in-DeallocateAll-clause-kept c =
     let ps = listed c.args.prepared.now in
-    let new = listed c.deallocate_all.new.self in
-    let none : Result (List Prepared) Fault = Ok [] in
+    let new = listed c.attempt_deallocate_all.new.prepared in
     subst (λ (x : Command). IsKept c.ended-in-DeallocateAll.result ps new (command_kept ps (command_tree x))) (sym c.in-DeallocateAll.is)
-    (subst (λ (r : Result Ending Stop). IsKept r ps new (listed_after ps none)) (sym c.ended-in-DeallocateAll.ensures)
-    (c.list-in-DeallocateAll.ensures.kept ps new none (ap Ok (sym c.deallocate_all.ensures)) tt))
+    (subst (λ (r : Result Ending Stop). IsKept r ps new []) (sym c.ended-in-DeallocateAll.ensures) c.attempt_deallocate_all.ensures.kept)

@@ -19,7 +19,7 @@ invariant_of-self c =
     let Q : KeptLocks → Type 0 = λ k. slice_index_or k.wants c.args.session None ≡ None in
     let R : KeptLocks → Type 0 = λ k. IsKnown k.tables (Some c.args.want) in
     let kept = waited_kept _ c.args.session c.args.want c.self.invariant.0 (subst P (sym c.self.view_is) c.requires.session) (subst Q (sym c.self.view_is) c.requires.idle) (subst R (sym c.self.view_is) c.requires.known) in
-    (rw (c.push.ensures.items, c.unwrap.ensures) kept, (grind (arith, common_steps, c.self.invariant.1.0), c.self.invariant.1.1))
+    (rw (c.push.ensures.items, c.unwrap.ensures) kept, (grind (arith, common_steps, c.self.invariant.1.0), c.self.invariant.1.1, c.self.invariant.1.2, c.self.invariant.1.3))
 
 pub returns-clause-kept : goal.returns-clause-kept
 returns-clause-kept c = rw (c.push.ensures.items, c.unwrap.ensures) (ap (λ k. waiting k c.args.session c.args.want) c.self.view_is)

@@ -8,22 +8,21 @@ use Rattle.lock_table.proofs.table.LockTable.give.Goals as goal
 pub grant-requires-clause-known : goal.grant-requires-clause-known
 grant-requires-clause-known c =
     let R : KeptLocks → Type 0 = λ k. IsKnown k.tables c.args.want in
-    known_placed _ _ c.args.want c.self.invariant.1.1.0 (subst R (sym c.self.view_is) c.requires.known)
+    known_placed _ _ c.args.want c.self.invariant.1.1 (subst R (sym c.self.view_is) c.requires.known)
 
 pub grant-requires-clause-place : goal.grant-requires-clause-place
 grant-requires-clause-place c =
     let R : KeptLocks → Type 0 = λ k. IsKnown k.tables c.args.want in
-    known_placed _ _ c.args.want c.self.invariant.1.1.1.0 (subst R (sym c.self.view_is) c.requires.known)
+    known_placed _ _ c.args.want c.self.invariant.1.2 (subst R (sym c.self.view_is) c.requires.known)
 
 pub invariant_of-self : goal.invariant_of-self
 invariant_of-self c = (
   given_kept _ _ c.self.invariant.0,
   (
     c.self.invariant.1.0,
-    (
-      grind (arith, common_steps, c.self.invariant.1.1.0, c.grant.ensures.room),
-      (grind (arith, common_steps, c.self.invariant.1.1.1.0, c.grant.ensures.places), c.grant.ensures.taken),
-    ),
+    grind (arith, common_steps, c.self.invariant.1.1, c.grant.ensures.room),
+    grind (arith, common_steps, c.self.invariant.1.2, c.grant.ensures.places),
+    c.grant.ensures.taken,
   ),
 )
 

@@ -1,5 +1,0 @@
-use Rattle.statement_runs.proofs.Whole.{omitted_is}
-use Rattle.statement_runs.proofs.attempts.omit.Goals as goal
-
-pub returns-in-Ok : goal.returns-in-Ok
-returns-in-Ok c left = omitted_is left c.args.word.now c.in-Ok.fault c.args.stores.now c.args.caller c.args.out.now c.requires c.in-Ok.ensures
