@@ -1,4 +1,4 @@
-ghost use Rattle.std.specs.Prelude.{◌≡◌, IfOk, map};
+ghost use Rattle.std.specs.Prelude.{◌≡◌, None, IfOk, map, slice_index_or};
 ghost use Rattle.sql_ast.specs.Expressions.{tree, trees, listed};
 ghost use Rattle.sql_ast.specs.Queries.{row_tree};
 ghost use Rattle.expression_binder.specs.Firsts.{IsAnswerBy};
@@ -90,15 +90,24 @@ fn givens_of(
     Ok(givens)
 }
 
-fn wanted_for(declared: &Option<Kind>, placed: Option<Kind>) -> Wanted
-    ensures { result ≡ parameters.wanted_for declared.now placed }
+fn wanted_for(declared: Option<Kind>, placed: Option<Kind>) -> Wanted
+    ensures { result ≡ parameters.wanted_for declared placed }
 {
     match declared {
-        Some(kind) => Wanted::Declared(*kind),
+        Some(kind) => Wanted::Declared(kind),
         None => match placed {
             Some(kind) => Wanted::Placed(kind),
             None => Wanted::Free,
         },
+    }
+}
+
+fn declared_kind(declared: &[Option<Kind>], place: usize) -> Option<Kind>
+    ensures { result ≡ slice_index_or declared.now place None }
+{
+    match declared.get(place) {
+        Some(kind) => *kind,
+        None => None,
     }
 }
 
@@ -114,8 +123,9 @@ fn wanted_in(
 {
     let placed = kinds_in_statement(alloc, statement, tables, givens, declared.len())?;
     let mut wanted = Vec::new(alloc);
-    for (place, kind) in declared.iter().enumerate() {
-        wanted.push(wanted_for(kind, placed[place]))?;
+    for place in 0..declared.len() {
+        let own = declared_kind(declared, place);
+        wanted.push(wanted_for(own, placed[place]))?;
     }
     Ok(wanted)
 }

@@ -15,5 +15,5 @@ loop-place-preserved c =
     let known : ks ≡ noted (none_known (length ds)) ps = c.in_ok-placed.ensures in
     let within : c.loop-place.place < length ks = omega (arith, ap length known ∙ count_told (length ds) ps, c.loop-place-test.true) in
     let read : c.index.result.now ≡ get_or ks c.loop-place.place None = grind (arith, common_steps, elements, within, c.index.ensures) in
-    wanted_step ps ds ks c.loop-place.place c.index-declared-place.result c.index.result.now c.wanted_for.result c.loop-place.wanted.items c.push.new.self.items _ known c.loop-place-test.true c.index-declared-place.is read
+    wanted_step ps ds ks c.loop-place.place c.declared_kind-own.result c.index.result.now c.wanted_for.result c.loop-place.wanted.items c.push.new.self.items _ known c.loop-place-test.true c.declared_kind-own.ensures read
     c.wanted_for.ensures c.in_ok-push.ensures.items c.loop-place.invariant

@@ -1,4 +1,4 @@
-use Rattle.std.proofs.Common.{rules, ◌≡◌, ◌+◌, true, [], map, drop, refl, ap, ◌∙◌, arith}
+use Rattle.std.proofs.Common.{◌≡◌, ◌+◌, true, map, drop, refl, ap, ◌∙◌, arith}
 use Rattle.sql_ast.specs.declared.expr.Expr.{Binary, Between, In}
 use Rattle.sql_ast.specs.Expressions.{tree, trees, listed, binary, in_list, between}
 use Rattle.expression_binder.proofs.Trees.{part_less, parts_step, binary_is, between_is}
@@ -6,7 +6,7 @@ use Rattle.parameter_kinds.specs.Firsts.{noted}
 use Rattle.parameter_kinds.specs.Places.{given, part, part_places, places}
 use Rattle.parameter_kinds.proofs.Firsts.{noted_none}
 use Rattle.parameter_kinds.proofs.Loops.{all_noted}
-use Rattle.parameter_kinds.proofs.Operands.{in_is, binary_noted, in_noted, between_noted, part_passed}
+use Rattle.parameter_kinds.proofs.Operands.{leaf_is, call_of_all_is, in_is, binary_noted, in_noted, between_noted, part_passed}
 use Rattle.parameter_kinds.proofs.places.+place.Goals as goal
 
 pub note_parts-note_part-requires : goal.note_parts-note_part-requires
@@ -67,10 +67,10 @@ note_in-returns-in-Between t c =
     c.own_kind-own.result _ _ _ _ e hx hy hz c.own_kind.ensures c.own_kind-in-Between.ensures c.either-ends.ensures c.own_kind-own.ensures ha hb hd
 
 pub note_in-returns-in-Leaf : goal.note_in-returns-in-Leaf
-note_in-returns-in-Leaf t c = let none : places c.args.names.now c.args.givens.now (tree c.args.e.now) ≡ [] = search rules in noted_none c.args.firsts.now _ none
+note_in-returns-in-Leaf t c = noted_none c.args.firsts.now _ (ap (places c.args.names.now c.args.givens.now) (ap tree c.in-Leaf.is ∙ leaf_is c.in-Leaf.field-0))
 
 pub note_in-returns-in-CallOfAll : goal.note_in-returns-in-CallOfAll
-note_in-returns-in-CallOfAll t c = let none : places c.args.names.now c.args.givens.now (tree c.args.e.now) ≡ [] = search rules in noted_none c.args.firsts.now _ none
+note_in-returns-in-CallOfAll t c = noted_none c.args.firsts.now _ (ap (places c.args.names.now c.args.givens.now) (ap tree c.in-CallOfAll.is ∙ call_of_all_is c.in-CallOfAll.field-0))
 
 pub note_parts-returns : goal.note_parts-returns
 note_parts-returns t c =
