@@ -34,17 +34,17 @@ none_from n (k ∷ ks) = ap (λ j. j ∷ noted_from (n + 1) ks []) (either_none 
 pub noted_both : (ks : List (Option Kind)) (xs ys : List Place) → noted ks (xs ++ ys) ≡ noted (noted ks xs) ys
 noted_both ks xs ys = both_from 1 ks xs ys
 
-pub noted_none : (ks : List (Option Kind)) → ks ≡ noted ks []
-noted_none ks = sym (none_from 1 ks)
+pub noted_none : (ks : List (Option Kind)) (ps : List Place) → ps ≡ [] → ks ≡ noted ks ps
+noted_none ks ps is = sym (ap (noted ks) is ∙ none_from 1 ks)
 
 -- ---- one place
 
 other : (n m : ℕ) (k : Kind) (b : Bool) → (n == m) ≡ b → b ≡ false → kind_of m ((n, k) ∷ []) ≡ None
-other n m k b is no = ap (λ t. if t then Some k else None) (is ∙ no)
+other n m k b is fails = ap (λ t. if t then Some k else None) (is ∙ fails)
 
 differ : (n m : ℕ) → (n ≡ m → ⊥) → (n == m) ≡ false
-differ n m no = elim (eqb_tells n m) [
-  | inl y ↦ absurd (no y.1)
+differ n m apart = elim (eqb_tells n m) [
+  | inl y ↦ absurd (apart y.1)
   | inr z ↦ z.0
 ]
 
@@ -58,46 +58,33 @@ same n = elim (eqb_tells n n) [
 below_from : (m n : ℕ) (k : Kind) (ks : List (Option Kind)) → n < m → noted_from m ks ((n, k) ∷ []) ≡ ks
 below_from m n k [] lt = refl
 below_from m n k (j ∷ ks) lt =
-    let no : kind_of m ((n, k) ∷ []) ≡ None = other n m k (n == m) refl (differ n m (λ e. omega (arith, lt, e))) in
-    ap (λ i. either j i ∷ noted_from (m + 1) ks ((n, k) ∷ [])) no ∙ (ap (λ i. i ∷ noted_from (m + 1) ks ((n, k) ∷ [])) (either_none j) ∙ ap (λ js. j ∷ js) (below_from (m + 1) n k ks (omega (arith, lt))))
+    let none : kind_of m ((n, k) ∷ []) ≡ None = other n m k (n == m) refl (differ n m (λ e. omega (arith, lt, e))) in
+    ap (λ i. either j i ∷ noted_from (m + 1) ks ((n, k) ∷ [])) none ∙ (ap (λ i. i ∷ noted_from (m + 1) ks ((n, k) ∷ [])) (either_none j) ∙ ap (λ js. j ∷ js) (below_from (m + 1) n k ks (omega (arith, lt))))
 
 above_from : (m n : ℕ) (k : Kind) (ks : List (Option Kind)) → m + length ks ≤ n → noted_from m ks ((n, k) ∷ []) ≡ ks
 above_from m n k [] le = refl
 above_from m n k (j ∷ ks) le =
-    let no : kind_of m ((n, k) ∷ []) ≡ None = other n m k (n == m) refl (differ n m (λ e. omega (arith, le, e))) in
-    ap (λ i. either j i ∷ noted_from (m + 1) ks ((n, k) ∷ [])) no ∙ (ap (λ i. i ∷ noted_from (m + 1) ks ((n, k) ∷ [])) (either_none j) ∙ ap (λ js. j ∷ js) (above_from (m + 1) n k ks (omega (arith, le))))
+    let none : kind_of m ((n, k) ∷ []) ≡ None = other n m k (n == m) refl (differ n m (λ e. omega (arith, le, e))) in
+    ap (λ i. either j i ∷ noted_from (m + 1) ks ((n, k) ∷ [])) none ∙ (ap (λ i. i ∷ noted_from (m + 1) ks ((n, k) ∷ [])) (either_none j) ∙ ap (λ js. j ∷ js) (above_from (m + 1) n k ks (omega (arith, le))))
 
 pub none_of_these : (n : ℕ) (k : Kind) (ks : List (Option Kind)) → ((n < 1) ⊎ (length ks < n)) → ks ≡ noted ks ((n, k) ∷ [])
 none_of_these n k ks (inl lt) = sym (below_from 1 n k ks lt)
 none_of_these n k ks (inr lt) = sym (above_from 1 n k ks (omega (arith, lt)))
 
--- a kind that is known stays
-known_from : (m i n : ℕ) (k f : Kind) (ks : List (Option Kind)) → n ≡ m + i → i < length ks → get_or ks i None ≡ Some f → noted_from m ks ((n, k) ∷ []) ≡ ks
-known_from m i n k f [] at lt is = refl
-known_from m zero n k f (j ∷ ks) at lt is =
-    let head : either j (kind_of m ((n, k) ∷ [])) ≡ j = ap (λ i. either i (kind_of m ((n, k) ∷ []))) is ∙ sym is in
-    ap (λ i. i ∷ noted_from (m + 1) ks ((n, k) ∷ [])) head ∙ ap (λ js. j ∷ js) (below_from (m + 1) n k ks (omega (arith, at)))
-known_from m (suc i) n k f (j ∷ ks) at lt is =
-    let no : kind_of m ((n, k) ∷ []) ≡ None = other n m k (n == m) refl (differ n m (λ e. omega (arith, at, e))) in
-    ap (λ i. either j i ∷ noted_from (m + 1) ks ((n, k) ∷ [])) no ∙ (ap (λ i. i ∷ noted_from (m + 1) ks ((n, k) ∷ [])) (either_none j) ∙ ap (λ js. j ∷ js) (known_from (m + 1) i n k f ks (omega (arith, at)) (omega (arith, lt)) is))
-
--- and one that is not known comes
-new_from : (m i n : ℕ) (k : Kind) (ks : List (Option Kind)) → n ≡ m + i → i < length ks → get_or ks i None ≡ None → noted_from m ks ((n, k) ∷ []) ≡ set ks i (Some k)
-new_from m i n k [] at lt is = absurd (omega (arith, lt))
-new_from m zero n k (j ∷ ks) at lt is =
+-- and of one of these a kind that is known stays, else it comes
+one_from : (m i n : ℕ) (k : Kind) (ks : List (Option Kind)) → n ≡ m + i → i < length ks → set ks i (either (get_or ks i None) (Some k)) ≡ noted_from m ks ((n, k) ∷ [])
+one_from m i n k [] at lt = absurd (omega (arith, lt))
+one_from m zero n k (j ∷ ks) at lt =
     let here : n ≡ m = omega (arith, at) in
     let this : kind_of m ((n, k) ∷ []) ≡ Some k = ap (λ t. if t then Some k else None) (ap (λ l. l == m) here ∙ same m) in
-    let head : either j (kind_of m ((n, k) ∷ [])) ≡ Some k = ap (λ i. either i (kind_of m ((n, k) ∷ []))) is ∙ this in
-    ap (λ i. i ∷ noted_from (m + 1) ks ((n, k) ∷ [])) head ∙ ap (λ js. Some k ∷ js) (below_from (m + 1) n k ks (omega (arith, at)))
-new_from m (suc i) n k (j ∷ ks) at lt is =
-    let no : kind_of m ((n, k) ∷ []) ≡ None = other n m k (n == m) refl (differ n m (λ e. omega (arith, at, e))) in
-    ap (λ i. either j i ∷ noted_from (m + 1) ks ((n, k) ∷ [])) no ∙ (ap (λ i. i ∷ noted_from (m + 1) ks ((n, k) ∷ [])) (either_none j) ∙ ap (λ js. j ∷ js) (new_from (m + 1) i n k ks (omega (arith, at)) (omega (arith, lt)) is))
+    sym (ap (λ i. either j i ∷ noted_from (m + 1) ks ((n, k) ∷ [])) this ∙ ap (λ js. either j (Some k) ∷ js) (below_from (m + 1) n k ks (omega (arith, at))))
+one_from m (suc i) n k (j ∷ ks) at lt =
+    let none : kind_of m ((n, k) ∷ []) ≡ None = other n m k (n == m) refl (differ n m (λ e. omega (arith, at, e))) in
+    ap (λ js. j ∷ js) (one_from (m + 1) i n k ks (omega (arith, at)) (omega (arith, lt)))
+    ∙ sym (ap (λ i. either j i ∷ noted_from (m + 1) ks ((n, k) ∷ [])) none ∙ ap (λ i. i ∷ noted_from (m + 1) ks ((n, k) ∷ [])) (either_none j))
 
-pub known_stays : (n i : ℕ) (k f : Kind) (ks : List (Option Kind)) → n ≡ 1 + i → i < length ks → get_or ks i None ≡ Some f → ks ≡ noted ks ((n, k) ∷ [])
-known_stays n i k f ks at lt is = sym (known_from 1 i n k f ks at lt is)
-
-pub new_comes : (n i : ℕ) (k : Kind) (ks : List (Option Kind)) → n ≡ 1 + i → i < length ks → get_or ks i None ≡ None → set ks i (Some k) ≡ noted ks ((n, k) ∷ [])
-new_comes n i k ks at lt is = sym (new_from 1 i n k ks at lt is)
+pub one_of_these : (n i : ℕ) (k : Kind) (ks : List (Option Kind)) → n ≡ 1 + i → i < length ks → set ks i (either (get_or ks i None) (Some k)) ≡ noted ks ((n, k) ∷ [])
+one_of_these n i k ks at lt = one_from 1 i n k ks at lt
 
 -- ---- where nothing was known
 

@@ -1,3 +1,4 @@
 pub mod Firsts
 pub mod Loops
 pub mod Operands
+pub mod Wanting

@@ -1,22 +1,43 @@
 -- What the places in an operator's operands give, which stand one behind the other.
-use Rattle.std.proofs.Common.{Box, Global, ◌≡◌, Bool, List, ◌++◌, Option, refl, sym, ap, subst, ◌∙◌}
+use Rattle.std.proofs.Common.{Box, Global, ◌≡◌, ℕ, Bool, List, [], ◌++◌, Option, Some, None, refl, sym, ap, subst, ◌∙◌}
 use Rattle.pg_values.specs.declared.value.Kind.{Kind}
-use Rattle.sql_ast.specs.declared.expr.Expr.{Expr, In}
+use Rattle.sql_ast.specs.declared.expr.Expr.{Expr, Leaf, Call, CallOfAll, In, And, Or}
 use Rattle.sql_ast.specs.declared.expr.Expr.TheFolds.{fold-roll-Expr}
-use Rattle.sql_ast.specs.declared.expr.Expr.TheOpen.{In as in-F}
-use Rattle.sql_ast.specs.declared.expr.Expr.TheVariants.{rolls-In}
+use Rattle.sql_ast.specs.declared.expr.Expr.TheOpen.{Leaf as leaf-F, Call as call-F, CallOfAll as all-F, In as in-F, And as and-F, Or as or-F}
+use Rattle.sql_ast.specs.declared.expr.Expr.TheVariants.{rolls-Leaf, rolls-Call, rolls-CallOfAll, rolls-In, rolls-And, rolls-Or}
 use Rattle.sql_ast.specs.declared.expr.ExprList.{ExprList}
+use Rattle.sql_ast.specs.declared.leaf.Leaf.{Leaf as OneLeaf}
 use Rattle.sql_ast.specs.declared.leaf.Operator.{Operator}
-use Rattle.sql_ast.specs.Expressions.{layer, list_layer, tree, trees, Tree, Trees, and_more, binary, in_list, between}
+use Rattle.sql_ast.specs.Expressions.{layer, list_layer, tree, trees, Tree, Trees, and_more, leaf, call, call_of_all, binary, in_list, between, all_of, any_of}
 use Rattle.expression_binder.specs.declared.typed.Given.{Given}
 use Rattle.expression_binder.specs.Scopes.{Scope}
 use Rattle.parameter_kinds.specs.Firsts.{noted}
-use Rattle.parameter_kinds.specs.Places.{Place, either, own_kind, beside, given, kind_of_any, part, part_places, places}
+use Rattle.parameter_kinds.specs.Places.{Place, at, either, own_kind, beside, given, kind_of_any, part, part_places, places}
 use Rattle.parameter_kinds.proofs.Firsts.{noted_both}
 use Rattle.parameter_kinds.proofs.Loops.{is_noted}
 
 pub in_is : (b : Bool) (e : Box Expr Global) (list : ExprList) → tree (In b e list) ≡ in_list b (tree e.value) (trees list)
 in_is b e list = ap tree (sym (rolls-In b e list)) ∙ fold-roll-Expr Tree Trees layer list_layer (in-F b e list)
+
+pub leaf_is : (l : OneLeaf) → tree (Leaf l) ≡ leaf l
+leaf_is l = ap tree (sym (rolls-Leaf l)) ∙ fold-roll-Expr Tree Trees layer list_layer (leaf-F l)
+
+pub call_is : (f : List ℕ) (list : ExprList) → tree (Call f list) ≡ call f (trees list)
+call_is f list = ap tree (sym (rolls-Call f list)) ∙ fold-roll-Expr Tree Trees layer list_layer (call-F f list)
+
+pub call_of_all_is : (f : List ℕ) → tree (CallOfAll f) ≡ call_of_all f
+call_of_all_is f = ap tree (sym (rolls-CallOfAll f)) ∙ fold-roll-Expr Tree Trees layer list_layer (all-F f)
+
+pub all_is : (list : ExprList) → tree (And list) ≡ all_of (trees list)
+all_is list = ap tree (sym (rolls-And list)) ∙ fold-roll-Expr Tree Trees layer list_layer (and-F list)
+
+pub any_is : (list : ExprList) → tree (Or list) ≡ any_of (trees list)
+any_is list = ap tree (sym (rolls-Or list)) ∙ fold-roll-Expr Tree Trees layer list_layer (or-F list)
+
+-- an operand that is no leaf gives nothing itself
+pub none_at : (o : Option Kind) (t u : Tree) → t ≡ u → ((k : Kind) → at (Some k) u ≡ []) → at o t ≡ []
+none_at None t u e nothing = refl
+none_at (Some k) t u e nothing = ap (at (Some k)) e ∙ nothing k
 
 -- two lists, one behind the other
 both_noted : (xs ys : List Place) (f g h : List (Option Kind)) → g ≡ noted f xs → h ≡ noted g ys → h ≡ noted f (xs ++ ys)

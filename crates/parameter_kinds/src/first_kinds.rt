@@ -1,6 +1,7 @@
 ghost use Rattle.std.specs.Prelude.{◌≡◌, [], ◌∷◌, IfOk};
 ghost use Rattle.parameter_kinds.specs.Firsts.{noted, none_known};
 
+use crate::places::either;
 use pg_values::{Kind, NoMemory};
 use std::alloc::Global;
 use std::marker::Model;
@@ -34,12 +35,12 @@ impl FirstKinds {
     pub(crate) fn note(&mut self, n: u64, kind: Kind)
         ensures { self.new ≡ noted self.old ((n, kind) ∷ []) }
     {
-        if n == 0 || n > self.kinds.len() as u64 {
+        if n == 0 {
             return;
         }
         let place = (n - 1) as usize;
-        if self.kinds[place].is_none() {
-            self.kinds[place] = Some(kind);
+        if place < self.kinds.len() {
+            self.kinds[place] = either(self.kinds[place], Some(kind));
         }
     }
 

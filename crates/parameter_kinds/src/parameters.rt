@@ -1,4 +1,4 @@
-ghost use Rattle.std.specs.Prelude.{◌≡◌, IfOk, map};
+ghost use Rattle.std.specs.Prelude.{◌≡◌, None, IfOk, map, slice_index_or};
 ghost use Rattle.sql_ast.specs.Expressions.{tree, trees, listed};
 ghost use Rattle.sql_ast.specs.Queries.{row_tree};
 ghost use Rattle.expression_binder.specs.Firsts.{IsAnswerBy};
@@ -102,7 +102,16 @@ fn wanted_for(declared: Option<Kind>, placed: Option<Kind>) -> Wanted
     }
 }
 
-#[tactic(auto, using(crate::proofs::Firsts::count_told, crate::proofs::Firsts::place_told))]
+fn declared_kind(declared: &[Option<Kind>], place: usize) -> Option<Kind>
+    ensures { result ≡ slice_index_or declared.now place None }
+{
+    match declared.get(place) {
+        Some(kind) => *kind,
+        None => None,
+    }
+}
+
+#[tactic(auto, using(crate::proofs::Firsts::count_told))]
 fn wanted_in(
     alloc: Global,
     statement: &RowStatement,
@@ -114,8 +123,9 @@ fn wanted_in(
 {
     let placed = kinds_in_statement(alloc, statement, tables, givens, declared.len())?;
     let mut wanted = Vec::new(alloc);
-    for (place, kind) in declared.iter().enumerate() {
-        wanted.push(wanted_for(*kind, placed[place]))?;
+    for place in 0..declared.len() {
+        let own = declared_kind(declared, place);
+        wanted.push(wanted_for(own, placed[place]))?;
     }
     Ok(wanted)
 }

@@ -1,6 +1,6 @@
 -- Tables and entries that are made.
-use Rattle.std.proofs.Common.{◌≡◌, ◌<◌, ◌≤◌, ℕ, ◌+◌, ◌++◌, arith, ap, refl, sym, subst, ◌∙◌, Bool, false, List, [], ◌∷◌, Option, Some, None, filter, length, map, get_or, inl, inr}
-use Rattle.std.specs.Prelude.{Ok}
+use Rattle.std.proofs.Common.{◌≡◌, ◌<◌, ◌≤◌, ℕ, ◌+◌, ◌++◌, arith, ap, refl, sym, subst, ◌∙◌, Bool, true, false, List, [], ◌∷◌, Option, Some, None, filter, length, map, get_or, inl, inr}
+use Rattle.std.specs.Prelude.{Ok, nat_lt}
 use Rattle.std.specs.List.{All, find}
 use Rattle.std.proofs.lemmas.Grind.{common_steps, elements}
 use Rattle.std.proofs.lemmas.Bool.{cases_Bool}
@@ -19,8 +19,8 @@ use Rattle.history.specs.declared.catalogue.TableShape.{TableShape}
 use Rattle.history.specs.declared.catalogue.TableShape.TheVariants.{Leaf, Level}
 use Rattle.history.specs.declared.catalogue.Entry.{Entry}
 use Rattle.history.specs.Transactions.{session_of}
-use Rattle.history.specs.Catalogue.{tables_made, entries_added}
-use Rattle.history.specs.History.{History, tx_events, catalogue_events}
+use Rattle.history.specs.Catalogue.{TableMade, EntryAdded, tables_made, entries_added}
+use Rattle.history.specs.History.{History, CatalogueChange, tx_events, catalogue_events}
 use Rattle.history.specs.Places.{table_at, HasColumnsOf, TakesBound, Suits}
 use Rattle.history.specs.Presence.{is_present, entries_present}
 use Rattle.row_router.specs.declared.node.Node.{Node}
@@ -34,14 +34,14 @@ use Rattle.tx_table.specs.Stands.{TableStands}
 use Rattle.row_store.specs.Kept.{KeptRows}
 use Rattle.row_store.specs.Stands.{StoreStands}
 use Rattle.part_catalog.specs.Answers.{AreTogether, child_told, pending_entry, is_pending_below}
-use Rattle.part_catalog.specs.Found.{made_at}
+use Rattle.part_catalog.specs.Found.{made_at, table_number}
 use Rattle.part_catalog.specs.Full.{partitions, tables_above, levels, EntryRefused, MayAdd}
 use Rattle.part_catalog.specs.declared.new_table.CatalogRefused.TheVariants.{Full}
 use Rattle.part_catalog.specs.Kept.{KeptCatalogue, table_in, next_entry}
 use Rattle.part_catalog.specs.Stands.{CatalogueStands}
 use Rattle.part_ddl.specs.Made.{made_by, IsMade}
-use Rattle.part_ddl.specs.Partitions.{MayMake}
-use Rattle.part_ddl.specs.Tables.{count_faults, next_table, new_table, table_events, made_table}
+use Rattle.part_ddl.specs.Partitions.{MayMake, made_partition, new_entry, partition_events}
+use Rattle.part_ddl.specs.Tables.{count_faults, next_table, shape_of, leaf_events, new_table, table_events, made_table}
 use Rattle.part_ddl.proofs.Free.{room_of}
 
 pub table_count : (kept : KeptCatalogue) (h : History) → CatalogueStands kept h → length kept.tables ≡ length (tables_made (catalogue_events h))
@@ -198,3 +198,57 @@ never_full table kept store kept2 store2 name columns parent b level by cmd t wh
     let low : levels g s parent.number t.number ≤ 8 = omega (arith, up, one, room.levels) in
     let full = subst (λ n. EntryRefused g n parent.number t.number (Full which)) (owner_with m.h name columns level by cmd by.number) (refused g (txs_with table m.h name columns level by cmd m.txs) there.catalogue) in
     refused_none g s parent.number t.number which few low full
+
+-- ---- what a call answers that makes it
+
+none_stops : (faults : List Fault) (t given : TableNo) (events : History) (kept : KeptCatalogue) (store : KeptRows) (h : History) → faults ≡ [] → t ≡ given → CatalogueStands kept (events ++ h) → StoreStands store (events ++ h) → IsMade (Ok given) kept store h (made_by faults t events)
+none_stops [] t given events kept store h none is cat rows =
+    let told : (made_by [] t events).told ≡ Ok given = ap (λ (x : TableNo). (made_by [] x events).told) is in
+    (told, record { catalogue = cat; rows = rows })
+none_stops (f ∷ fs) t given events kept store h none is cat rows = absurd (cc)
+
+-- a leaf that is added changes nothing of the catalogue
+leaf_stays : (kept : KeptCatalogue) (h : History) (level : Option OneLevel) → CatalogueStands kept h → CatalogueStands kept (leaf_events h level ++ h)
+leaf_stays kept h None st = record { sound = st.sound; tables = st.tables; drops = st.drops; added = st.added; entries = st.entries; ends = st.ends; marks = st.marks; checks = st.checks }
+leaf_stays kept h (Some level) st = st
+
+-- a table of its own
+pub table_is_made : (old new : KeptCatalogue) (store : KeptRows) (h : History) (name : List ℕ) (columns : List Column) (level : Option OneLevel) (by : TxId) (cmd : ℕ) (t : TableNo) (shape : TableShape) → CatalogueStands old h → t.number ≡ length old.tables → length old.tables < 4096 → shape ≡ shape_of h level → StoreStands store (leaf_events h level ++ h)
+    → ((g : History) → CatalogueStands old g → CatalogueStands new (CatalogueChange (TableMade (record { id = t; name = name; columns = columns; shape = shape; by = by; cmd = cmd })) ∷ g))
+    → IsMade (Ok t) new store h (made_table h name columns level by cmd)
+table_is_made old new store h name columns level by cmd t shape st number few is rows added =
+    let count : table_number h ≡ length old.tables = sym (table_count old h st) in
+    let low : nat_lt (table_number h) 4096 ≡ true = grind (arith, nat_tests, count, few) in
+    let none : count_faults h ≡ [] = rw low refl in
+    let id : t ≡ next_table h = ap table_of (number ∙ sym count) in
+    let g : History = leaf_events h level ++ h in
+    let made : CatalogueStands new (CatalogueChange (TableMade (record { id = t; name = name; columns = columns; shape = shape; by = by; cmd = cmd })) ∷ g) = added g (leaf_stays old h level st) in
+    let shaped : CatalogueStands new (CatalogueChange (TableMade (record { id = t; name = name; columns = columns; shape = shape_of h level; by = by; cmd = cmd })) ∷ g) =
+    subst (λ (s : TableShape). CatalogueStands new (CatalogueChange (TableMade (record { id = t; name = name; columns = columns; shape = s; by = by; cmd = cmd })) ∷ g)) is made in
+    let cat : CatalogueStands new (table_events h name columns level by cmd ++ h) =
+    subst (λ (i : TableNo). CatalogueStands new (CatalogueChange (TableMade (record { id = i; name = name; columns = columns; shape = shape_of h level; by = by; cmd = cmd })) ∷ g)) id shaped in
+    let there : StoreStands store (table_events h name columns level by cmd ++ h) = record { sound = rows.sound; births = rows.births; ends = rows.ends; leaves = rows.leaves; room = rows.room } in
+    none_stops (count_faults h) (next_table h) t (table_events h name columns level by cmd) new store h none (sym id) cat there
+
+entries_with : (h : History) (name : List ℕ) (columns : List Column) (level : Option OneLevel) (by : TxId) (cmd : ℕ) → length (entries_added (catalogue_events (table_events h name columns level by cmd ++ h))) ≡ length (entries_added (catalogue_events h))
+entries_with h name columns None by cmd = refl
+entries_with h name columns (Some level) by cmd = refl
+
+-- and one below a parent
+pub partition_is_made : (table : KeptTable) (kept new : KeptCatalogue) (store : KeptRows) (h : History) (name : List ℕ) (columns : List Column) (parent : TableNo) (b : Bound) (level : Option OneLevel) (by : TxId) (cmd : ℕ) (t : TableNo) → TableStands table h → columns ≡ (made_at h parent.number).columns → IsMade (Ok t) kept store h (made_table h name columns level by cmd)
+    → ((g : History) → TableStands table g → CatalogueStands kept g → CatalogueStands new (CatalogueChange (EntryAdded (next_entry kept parent t b by cmd)) ∷ g))
+    → IsMade (Ok t) new store h (made_partition h name parent.number b level by cmd)
+partition_is_made table kept new store h name columns parent b level by cmd t txs is made added =
+    let there = is_there kept store h name columns level by cmd t made in
+    let g : History = table_events h name columns level by cmd ++ h in
+    let n : ℕ = length (entries_added (catalogue_events h)) in
+    let count : kept.added ≡ n = there.catalogue.added ∙ entries_with h name columns level by cmd in
+    let at : ℕ → TableNo → Entry = λ k c. record { id = record { number = k }; parent = parent; child = c; bound = b; by = by; cmd = cmd } in
+    let same : next_entry kept parent t b by cmd ≡ new_entry h parent.number b by cmd = ap (λ (k : ℕ). at k t) count ∙ ap (λ (c : TableNo). at n c) (sym there.number) in
+    let added_to : CatalogueStands new (CatalogueChange (EntryAdded (next_entry kept parent t b by cmd)) ∷ g) = added g (txs_with table h name columns level by cmd txs) there.catalogue in
+    let placed : CatalogueStands new (CatalogueChange (EntryAdded (new_entry h parent.number b by cmd)) ∷ g) = subst (λ (e : Entry). CatalogueStands new (CatalogueChange (EntryAdded e) ∷ g)) same added_to in
+    let rows : StoreStands store (CatalogueChange (EntryAdded (new_entry h parent.number b by cmd)) ∷ g) = record { sound = there.rows.sound; births = there.rows.births; ends = there.rows.ends; leaves = there.rows.leaves; room = there.rows.room } in
+    let events : List Column → History = λ cs. CatalogueChange (EntryAdded (new_entry h parent.number b by cmd)) ∷ table_events h name cs level by cmd in
+    none_stops (count_faults h) (next_table h) t (partition_events h name parent.number b level by cmd) new store h there.faults there.number
+    (subst (λ (cs : List Column). CatalogueStands new (events cs ++ h)) is placed)
+    (subst (λ (cs : List Column). StoreStands store (events cs ++ h)) is rows)

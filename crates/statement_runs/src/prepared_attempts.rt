@@ -1,4 +1,4 @@
-ghost use Rattle.std.specs.Prelude.{◌≡◌, ℕ, [], Err, List, OnErr, Option, Result};
+ghost use Rattle.std.specs.Prelude.{◌≡◌, ◌+◌, ℕ, [], Err, List, OnErr, Option, Result};
 ghost use Rattle.pg_values.specs.declared.fault.Fault.{Fault as OneFault};
 ghost use Rattle.pg_values.specs.declared.fault.Refusal.TheVariants.{Sql};
 ghost use Rattle.history.specs.History.{History};
