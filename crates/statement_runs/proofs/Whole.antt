@@ -32,7 +32,7 @@ use Rattle.statement_steps.specs.declared.stop.Stop.{Stop}
 use Rattle.statement_steps.specs.declared.stop.Stop.TheVariants as stop
 use Rattle.statement_steps.specs.Steps.{IsStep, IsTold}
 use Rattle.statement_steps.proofs.Numbers.{one_later}
-use Rattle.statement_steps.proofs.Parts.{refused_here, stays, still_on}
+use Rattle.statement_steps.proofs.Parts.{stays, still_on}
 use Rattle.change_statement.specs.Running.{IsCommand}
 use Rattle.change_statement.proofs.Commands.{goes_anywhere, waits_later}
 use Rattle.statement_runs.specs.Attempted.{as_table, command_attempted, nothing, omitted, printed, silent, staged, table, tabled, taken}
@@ -245,8 +245,8 @@ others_keep ps commands.DeallocateAll g k = absurd (k refl)
 -- ---- it changes
 
 -- nor where a `?` hands a stop on
-pub kept_out : {r : Result (Unit {0}) Stop} {e : Stop} (ps after : List Prepared) → IsErrAnd r (λ s. s ≡ e) → IsKept (ended r) ps ps after
-kept_out {r = r} ps after is = let p = err_from_is_err_and r is in subst (λ (x : Result (Unit {0}) Stop). IsKept (ended x) ps ps after) (sym p.1) refl
+pub kept_out : (r : Result (Unit {0}) Stop) (e : Stop) (ps after : List Prepared) → IsErrAnd r (λ s. s ≡ e) → IsKept (ended r) ps ps after
+kept_out r e ps after is = let p = err_from_is_err_and r is in subst (λ (x : Result (Unit {0}) Stop). IsKept (ended x) ps ps after) (sym p.1) refl
 
 pub taken_is : (told : Result (List Prepared) Fault) (ps : List Prepared) (stores : Stores) (caller : Caller) → MayAttempt stores caller → told ≡ Ok ps
     → IsStep (λ (u : Unit {0}). u) (Ok tt) stores stores caller (caller.cmd + 1) (taken told)
@@ -256,7 +256,3 @@ taken_is told ps stores caller may is = record {
   keeps = stays stores caller.session;
   waits = may.idle;
 }
-
-pub taken_stops : (told : Result (List Prepared) Fault) (fault : Fault) (stores : Stores) (caller : Caller) → MayAttempt stores caller → told ≡ Err fault
-    → IsStep (λ (u : Unit {0}). u) (Err (stop.Refused fault)) stores stores caller (caller.cmd + 1) (taken told)
-taken_stops told fault stores caller may is = refused_here (λ (u : Unit {0}). u) fault stores caller (caller.cmd + 1) (taken told) may (λ h stands. ap (λ (r : Result (List Prepared) Fault). taken r h) is)
