@@ -1,5 +1,5 @@
 -- Which lines of a plan are scans, and of what (14.1.1 EXPLAIN Basics).
-use Rattle.std.specs.Prelude.{◌≡◌, ℕ, ◌==◌, Bool, if◌then◌else◌, List, [], ◌∷◌, ◌++◌, map, codes}
+use Rattle.std.specs.Prelude.{◌≡◌, ℕ, ◌==◌, Bool, if◌then◌else◌, List, [], ◌∷◌, ◌++◌, None, map, codes}
 use Rattle.std.specs.List.{flat_map}
 use Rattle.cond_logic.specs.Asked.{SelectMeant}
 use Rattle.plan_tree.specs.Plans.{PlannedItem, Planned, is_empty}
@@ -40,6 +40,6 @@ item_leaves ns i = map (λ leaf. leaf.name ++ alias_behind ns i.number) i.leaves
 abbrev pub plan_leaves : List NamedItem → Planned → List (List ℕ)
 plan_leaves ns p = if is_empty p then [] else flat_map (item_leaves ns) p.items
 
--- the lines that are scans tell the leaves of the plan, in order
+-- the lines that are scans tell the leaves of the plan, in order, where it is not run
 abbrev pub ScansAreOfTheLeaves : Type 0
-ScansAreOfTheLeaves = (ns : List NamedItem) (is_cut : Bool) (m : SelectMeant) (p : Planned) → flat_map scan_in (plan_lines ns is_cut m p) ≡ plan_leaves ns p
+ScansAreOfTheLeaves = (ns : List NamedItem) (is_cut : Bool) (m : SelectMeant) (p : Planned) → flat_map scan_in (plan_lines ns None is_cut m p) ≡ plan_leaves ns p

@@ -4,7 +4,8 @@
 //! joined by Nested Loops from the left, and an item is an Append of the scans of its kept leaves, or one scan alone.
 //! Where an item keeps no leaf a Result stands in place of all of them, since nothing is read. Each node is a line,
 //! behind an arrow and six spaces further in than the node above it, with a line for each of its details below:
-//! what a scan or a join asks, and by what is sorted.
+//! what a scan or a join asks, and by what is sorted. Of a plan that was run each node's line tells the rows that it gave,
+//! and how often it was run (`PlanCounts`).
 //!
 //! Conditions are printed as the plan asks them, with NOT pushed inwards: each comparison, IS NULL, AND and OR in
 //! its own parentheses, a column on the left of a constant.
@@ -16,6 +17,7 @@
 
 mod comparisons;
 mod conditions;
+mod counts;
 mod keys;
 mod laws;
 mod named_item;

@@ -1,9 +1,10 @@
 //! The lines of a node: behind an arrow, further in with each level.
 
-ghost use Rattle.std.specs.Prelude.{◌≡◌, ◌≤◌, ◌++◌, OnOk, IfOk, map, replicate};
+ghost use Rattle.std.specs.Prelude.{◌≡◌, ◌≤◌, ◌++◌, OnOk, IfOk, decimal, map, replicate};
 ghost use Rattle.plan_text.specs.Nodes as nodes;
 
 use pg_values::{NoMemory, PgText};
+use plan_tree::Count;
 use std::alloc::Global;
 
 fn write_spaces(count: usize, out: &mut Vec<u8>) -> Result<(), NoMemory>
@@ -27,13 +28,53 @@ fn write_arrow(depth: usize, out: &mut Vec<u8>) -> Result<(), NoMemory>
     Ok(())
 }
 
-fn node_line(alloc: Global, depth: usize, text: &[u8]) -> Result<PgText, NoMemory>
+fn write_number(number: u64, out: &mut Vec<u8>) -> Result<(), NoMemory>
+    ensures { OnOk result (out.new.items ≡ out.old.items ++ decimal number) }
+{
+    let mut digits = itoa::Buffer::new();
+    out.extend_from_slice(digits.format(number as u128).as_bytes())?;
+    Ok(())
+}
+
+// What ANALYZE tells of a node.
+fn write_count(count: Count, out: &mut Vec<u8>) -> Result<(), NoMemory>
+    ensures { OnOk result (out.new.items ≡ out.old.items ++ nodes.count_text count) }
+{
+    if count.loops == 0 {
+        out.extend_from_slice(b" (never executed)")?;
+        return Ok(());
+    }
+    out.extend_from_slice(b" (rows=")?;
+    write_number(count.rows, out)?;
+    out.extend_from_slice(b" loops=")?;
+    write_number(count.loops, out)?;
+    out.push(b')')?;
+    Ok(())
+}
+
+// The text of a node, and what was counted of it behind.
+fn write_counted(text: &[u8], count: Option<Count>, out: &mut Vec<u8>) -> Result<(), NoMemory>
+    ensures { OnOk result (out.new.items ≡ out.old.items ++ nodes.counted text.now count) }
+{
+    out.extend_from_slice(text)?;
+    match count {
+        None => Ok(()),
+        Some(count) => write_count(count, out),
+    }
+}
+
+fn node_line(
+    alloc: Global,
+    depth: usize,
+    text: &[u8],
+    count: Option<Count>,
+) -> Result<PgText, NoMemory>
     requires { depth ≤ 100 }
-    ensures { IfOk result (λ l. l ≡ nodes.arrow depth ++ text.now) }
+    ensures { IfOk result (λ l. l ≡ nodes.arrow depth ++ nodes.counted text.now count) }
 {
     let mut line = Vec::new(alloc);
     write_arrow(depth, &mut line)?;
-    line.extend_from_slice(text)?;
+    write_counted(text, count, &mut line)?;
     PgText::from_vec(alloc, line)
 }
 
@@ -62,17 +103,18 @@ fn push_details(
     Ok(())
 }
 
-/// Appends the line of a node at a depth, and those of its details.
+/// Appends the line of a node at a depth, with what was counted of it, and those of its details.
 pub(crate) fn push_node(
     alloc: Global,
     depth: usize,
     text: &[u8],
+    count: Option<Count>,
     details: &[PgText],
     out: &mut Vec<PgText>,
 ) -> Result<(), NoMemory>
     requires { depth ≤ 100 }
-    ensures { OnOk result (out.new.items ≡ out.old.items ++ nodes.alone text.now details.now depth) }
+    ensures { OnOk result (out.new.items ≡ out.old.items ++ nodes.alone (nodes.counted text.now count) details.now depth) }
 {
-    out.push(node_line(alloc, depth, text)?)?;
+    out.push(node_line(alloc, depth, text, count)?)?;
     push_details(alloc, depth, details, out)
 }

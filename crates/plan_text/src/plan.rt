@@ -1,15 +1,17 @@
 ghost use Rattle.std.specs.Prelude.{◌≡◌, ◌≤◌, ◌+◌, ◌++◌, ◌∷◌, [], OnOk, IfOk, length, map};
 ghost use Rattle.cond_logic.specs.Asked.{output_tree, select_meant};
+ghost use Rattle.cond_logic.specs.Tuples.{lent};
 ghost use Rattle.plan_tree.specs.Plans.{planned, planned_item};
 ghost use Rattle.plan_text.specs.Plans as plans;
 
 use crate::NamedItem;
+use crate::counts::{of_answer, of_given, of_join};
 use crate::keys::write_keys;
 use crate::nodes::push_node;
 use crate::scans::{join_filters, push_item};
 use cond_logic::{Output, SelectAsk, SortKey};
 use pg_values::{Answer, Kind, KindList, NameList, NoMemory, PgText, Row, RowList, Value};
-use plan_tree::{Plan, PlanItem};
+use plan_tree::{Plan, PlanCounts, PlanItem};
 use std::alloc::Global;
 
 // ---- items
@@ -18,23 +20,25 @@ use std::alloc::Global;
 fn push_joined(
     alloc: Global,
     items: &[NamedItem],
+    counts: Option<&PlanCounts>,
     joined: &[PlanItem<'_>],
     depth: usize,
     out: &mut Vec<PgText>,
 ) -> Result<(), NoMemory>
     requires { depth + length joined.now ≤ 99 }
-    ensures { OnOk result (out.new.items ≡ out.old.items ++ plans.joins items.now (map planned_item joined.now) depth) }
+    ensures { OnOk result (out.new.items ≡ out.old.items ++ plans.joins items.now (lent counts.entry) (map planned_item joined.now) depth) }
 {
     match joined.split_last() {
         None => Ok(()),
         Some((last, before)) => {
             if before.is_empty() {
-                return push_item(alloc, items, last, depth, out);
+                return push_item(alloc, items, counts, last, depth, out);
             }
             let asked = join_filters(alloc, items, last)?;
-            push_node(alloc, depth, b"Nested Loop", &asked, out)?;
-            push_joined(alloc, items, before, depth + 1, out)?;
-            push_item(alloc, items, last, depth + 1, out)
+            let count = of_join(counts, last.number);
+            push_node(alloc, depth, b"Nested Loop", count, &asked, out)?;
+            push_joined(alloc, items, counts, before, depth + 1, out)?;
+            push_item(alloc, items, counts, last, depth + 1, out)
         }
     }
 }
@@ -50,21 +54,22 @@ fn one(alloc: Global, text: PgText) -> Result<Vec<PgText>, NoMemory>
 fn push_rows(
     alloc: Global,
     items: &[NamedItem],
+    counts: Option<&PlanCounts>,
     plan: &Plan<'_>,
     depth: usize,
     out: &mut Vec<PgText>,
 ) -> Result<(), NoMemory>
     requires { depth + length (planned plan.now).items ≤ 99 }
-    ensures { OnOk result (out.new.items ≡ out.old.items ++ plans.rows items.now (planned plan.now) depth) }
+    ensures { OnOk result (out.new.items ≡ out.old.items ++ plans.rows items.now (lent counts.entry) (planned plan.now) depth) }
 {
     if plan.is_empty() {
         let never = one(alloc, PgText::from_bytes(alloc, b"One-Time Filter: false")?)?;
-        return push_node(alloc, depth, b"Result", &never, out);
+        return push_node(alloc, depth, b"Result", of_given(counts), &never, out);
     }
     if plan.items.is_empty() {
-        return push_node(alloc, depth, b"Result", &[], out);
+        return push_node(alloc, depth, b"Result", of_given(counts), &[], out);
     }
-    push_joined(alloc, items, &plan.items, depth, out)
+    push_joined(alloc, items, counts, &plan.items, depth, out)
 }
 
 // ---- ORDER BY, LIMIT and OFFSET
@@ -86,6 +91,7 @@ fn sort_detail(
 fn push_sorted(
     alloc: Global,
     items: &[NamedItem],
+    counts: Option<&PlanCounts>,
     outputs: &[Output],
     order: &[SortKey],
     plan: &Plan<'_>,
@@ -93,32 +99,34 @@ fn push_sorted(
     out: &mut Vec<PgText>,
 ) -> Result<(), NoMemory>
     requires { depth + length (planned plan.now).items ≤ 98 }
-    ensures { OnOk result (out.new.items ≡ out.old.items ++ plans.sorted items.now (map output_tree outputs.now) order.now (plans.rows items.now (planned plan.now)) depth) }
+    ensures { OnOk result (out.new.items ≡ out.old.items ++ plans.sorted items.now (lent counts.entry) (map output_tree outputs.now) order.now (plans.rows items.now (lent counts.entry) (planned plan.now)) depth) }
 {
     if order.is_empty() {
-        return push_rows(alloc, items, plan, depth, out);
+        return push_rows(alloc, items, counts, plan, depth, out);
     }
     let keys = sort_detail(alloc, items, outputs, order)?;
-    push_node(alloc, depth, b"Sort", &keys, out)?;
-    push_rows(alloc, items, plan, depth + 1, out)
+    push_node(alloc, depth, b"Sort", of_given(counts), &keys, out)?;
+    push_rows(alloc, items, counts, plan, depth + 1, out)
 }
 
 fn plan_lines(
     alloc: Global,
     items: &[NamedItem],
+    counts: Option<&PlanCounts>,
     is_cut: bool,
     ask: &SelectAsk,
     plan: &Plan<'_>,
 ) -> Result<Vec<PgText>, NoMemory>
     requires { length (planned plan.now).items ≤ 4 }
-    ensures { IfOk result (λ ls. ls.items ≡ plans.plan_lines items.now is_cut (select_meant ask.now) (planned plan.now)) }
+    ensures { IfOk result (λ ls. ls.items ≡ plans.plan_lines items.now (lent counts.entry) is_cut (select_meant ask.now) (planned plan.now)) }
 {
     let mut lines = Vec::new(alloc);
     if is_cut {
-        push_node(alloc, 0, b"Limit", &[], &mut lines)?;
+        push_node(alloc, 0, b"Limit", of_answer(counts), &[], &mut lines)?;
         push_sorted(
             alloc,
             items,
+            counts,
             ask.outputs.as_slice(),
             ask.order.as_slice(),
             plan,
@@ -130,6 +138,7 @@ fn plan_lines(
     push_sorted(
         alloc,
         items,
+        counts,
         ask.outputs.as_slice(),
         ask.order.as_slice(),
         plan,
@@ -174,16 +183,18 @@ fn plan_table(alloc: Global, lines: Vec<PgText>) -> Result<Answer, NoMemory>
 }
 
 /// The plan of a SELECT as EXPLAIN answers it, a line a row. The items of FROM go by these names; `is_cut` tells
-/// whether there is an OFFSET, or a LIMIT that is not null. Fails only for want of memory.
+/// whether there is an OFFSET, or a LIMIT that is not null. Where the plan was run each node tells what was counted of it.
+/// Fails only for want of memory.
 pub fn write_plan(
     alloc: Global,
     items: &[NamedItem],
+    counts: Option<&PlanCounts>,
     is_cut: bool,
     ask: &SelectAsk,
     plan: &Plan<'_>,
 ) -> Result<Answer, NoMemory>
     requires few { length (planned plan.now).items ≤ 4 }
-    ensures { IfOk result (λ a. a ≡ plans.plan_table (plans.plan_lines items.now is_cut (select_meant ask.now) (planned plan.now))) }
+    ensures { IfOk result (λ a. a ≡ plans.plan_table (plans.plan_lines items.now (lent counts.entry) is_cut (select_meant ask.now) (planned plan.now))) }
 {
-    plan_table(alloc, plan_lines(alloc, items, is_cut, ask, plan)?)
+    plan_table(alloc, plan_lines(alloc, items, counts, is_cut, ask, plan)?)
 }

@@ -1,81 +1,50 @@
 //! The items of a plan: scans of leaves, with what they ask.
 
-ghost use Rattle.std.specs.Prelude.{◌≡◌, ◌≤◌, ◌++◌, not, OnOk, IfOk, map, filter, codes};
-ghost use Rattle.std.specs.List.{list_all};
-ghost use Rattle.cond_logic.specs.Trees.{cond_tree};
-ghost use Rattle.plan_tree.specs.Conjuncts.{is_within, lies_within};
-ghost use Rattle.plan_tree.specs.Plans.{planned_item};
+ghost use Rattle.std.specs.Prelude.{◌≡◌, ◌≤◌, ◌++◌, OnOk, IfOk, codes};
+ghost use Rattle.cond_logic.specs.Tuples.{lent};
+ghost use Rattle.plan_tree.specs.Plans.{join_conjuncts, planned_item, scan_conjuncts};
 ghost use Rattle.plan_text.specs.Conditions.{several};
 ghost use Rattle.plan_text.specs.Plans as plans;
 
 use crate::NamedItem;
 use crate::conditions::push_conjuncts;
+use crate::counts::{of_append, of_scan};
 use crate::names::write_alias;
 use crate::nodes::push_node;
 use crate::rows::all_text;
-use cond_logic::{ColumnId, Cond, NamedLeaf, columns_used};
+use cond_logic::NamedLeaf;
 use pg_values::{NoMemory, PgText};
-use plan_tree::PlanItem;
+use plan_tree::{PlanCounts, PlanItem};
 use std::alloc::Global;
 
-fn is_of(column: ColumnId, number: u32) -> bool
-    ensures { result ≡ is_within number number column }
-{
-    number <= column.item && column.item <= number
-}
-
-fn are_of(columns: &[ColumnId], number: u32) -> bool
-    ensures { result ≡ list_all (is_within number number) columns.now }
-{
-    for column in columns {
-        if !is_of(*column, number) {
-            return false;
-        }
-    }
-    true
-}
-
-// Whether a conjunct names the item alone.
-#[tactic(auto, using(crate::proofs::Lying::all_used))]
-fn lies_in(alloc: Global, cond: &Cond, number: u32) -> Result<bool, NoMemory>
-    ensures { IfOk result (λ b. b ≡ lies_within number number (cond_tree cond.now)) }
-{
-    let columns = columns_used(alloc, cond)?;
-    Ok(are_of(&columns, number))
-}
-
-// Those that name no other item.
+// What its scans ask.
 fn scan_texts(
     alloc: Global,
     items: &[NamedItem],
-    conjuncts: &[Cond],
-    number: u32,
+    item: &PlanItem<'_>,
 ) -> Result<Vec<PgText>, NoMemory>
-    ensures { IfOk result (λ ts. ts.items ≡ several items.now (filter (lies_within number number) (map cond_tree conjuncts.now))) }
+    ensures { IfOk result (λ ts. ts.items ≡ several items.now (scan_conjuncts (planned_item item.now))) }
 {
     let mut texts = Vec::new(alloc);
-    for cond in conjuncts {
-        let is_own = lies_in(alloc, cond, number)?;
-        if is_own {
+    for cond in &item.conjuncts {
+        if item.scans_ask(cond) {
             push_conjuncts(alloc, items, cond, &mut texts)?;
         }
     }
     Ok(texts)
 }
 
-// Those that name others too.
+// What its join with the items before it asks.
 fn join_texts(
     alloc: Global,
     items: &[NamedItem],
-    conjuncts: &[Cond],
-    number: u32,
+    item: &PlanItem<'_>,
 ) -> Result<Vec<PgText>, NoMemory>
-    ensures { IfOk result (λ ts. ts.items ≡ several items.now (filter (λ c. not (lies_within number number c)) (map cond_tree conjuncts.now))) }
+    ensures { IfOk result (λ ts. ts.items ≡ several items.now (join_conjuncts (planned_item item.now))) }
 {
     let mut texts = Vec::new(alloc);
-    for cond in conjuncts {
-        let is_own = lies_in(alloc, cond, number)?;
-        if !is_own {
+    for cond in &item.conjuncts {
+        if !item.scans_ask(cond) {
             push_conjuncts(alloc, items, cond, &mut texts)?;
         }
     }
@@ -106,7 +75,7 @@ fn detail(alloc: Global, word: &[u8], texts: &[PgText]) -> Result<Vec<PgText>, N
 fn filters(alloc: Global, items: &[NamedItem], item: &PlanItem<'_>) -> Result<Vec<PgText>, NoMemory>
     ensures { IfOk result (λ ds. ds.items ≡ plans.filters items.now (planned_item item.now)) }
 {
-    let texts = scan_texts(alloc, items, &item.conjuncts, item.number)?;
+    let texts = scan_texts(alloc, items, item)?;
     detail(alloc, b"Filter: ", &texts)
 }
 
@@ -118,7 +87,7 @@ pub(crate) fn join_filters(
 ) -> Result<Vec<PgText>, NoMemory>
     ensures { IfOk result (λ ds. ds.items ≡ plans.join_filters items.now (planned_item item.now)) }
 {
-    let texts = join_texts(alloc, items, &item.conjuncts, item.number)?;
+    let texts = join_texts(alloc, items, item)?;
     detail(alloc, b"Join Filter: ", &texts)
 }
 
@@ -140,6 +109,7 @@ fn scan_text(
 fn push_scan(
     alloc: Global,
     items: &[NamedItem],
+    counts: Option<&PlanCounts>,
     number: u32,
     filters: &[PgText],
     leaf: &NamedLeaf<'_>,
@@ -147,15 +117,17 @@ fn push_scan(
     out: &mut Vec<PgText>,
 ) -> Result<(), NoMemory>
     requires { depth ≤ 100 }
-    ensures { OnOk result (out.new.items ≡ out.old.items ++ plans.scan items.now number filters.now leaf.now depth) }
+    ensures { OnOk result (out.new.items ≡ out.old.items ++ plans.scan items.now (lent counts.entry) number filters.now leaf.now depth) }
 {
     let text = scan_text(alloc, items, number, leaf)?;
-    push_node(alloc, depth, text.as_bytes(), filters, out)
+    let count = of_scan(counts, number, leaf.id);
+    push_node(alloc, depth, text.as_bytes(), count, filters, out)
 }
 
 fn push_scans(
     alloc: Global,
     items: &[NamedItem],
+    counts: Option<&PlanCounts>,
     number: u32,
     filters: &[PgText],
     leaves: &[NamedLeaf<'_>],
@@ -163,10 +135,10 @@ fn push_scans(
     out: &mut Vec<PgText>,
 ) -> Result<(), NoMemory>
     requires { depth ≤ 100 }
-    ensures { OnOk result (out.new.items ≡ out.old.items ++ plans.scans items.now number filters.now leaves.now depth) }
+    ensures { OnOk result (out.new.items ≡ out.old.items ++ plans.scans items.now (lent counts.entry) number filters.now leaves.now depth) }
 {
     for leaf in leaves {
-        push_scan(alloc, items, number, filters, leaf, depth, out)?;
+        push_scan(alloc, items, counts, number, filters, leaf, depth, out)?;
     }
     Ok(())
 }
@@ -189,20 +161,40 @@ fn removed_detail(alloc: Global, removed: usize) -> Result<Vec<PgText>, NoMemory
 pub(crate) fn push_item(
     alloc: Global,
     items: &[NamedItem],
+    counts: Option<&PlanCounts>,
     item: &PlanItem<'_>,
     depth: usize,
     out: &mut Vec<PgText>,
 ) -> Result<(), NoMemory>
     requires { depth ≤ 99 }
-    ensures { OnOk result (out.new.items ≡ out.old.items ++ plans.item items.now (planned_item item.now) depth) }
+    ensures { OnOk result (out.new.items ≡ out.old.items ++ plans.item items.now (lent counts.entry) (planned_item item.now) depth) }
 {
     let number = item.number;
     let asked = filters(alloc, items, item)?;
     let is_pruned_again = item.is_asked_at_start || item.is_asked_again;
     if item.leaves.len() == 1 && !is_pruned_again {
-        return push_scans(alloc, items, number, &asked, &item.leaves, depth, out);
+        return push_scans(
+            alloc,
+            items,
+            counts,
+            number,
+            &asked,
+            &item.leaves,
+            depth,
+            out,
+        );
     }
     let removed = removed_detail(alloc, item.removed)?;
-    push_node(alloc, depth, b"Append", &removed, out)?;
-    push_scans(alloc, items, number, &asked, &item.leaves, depth + 1, out)
+    let count = of_append(counts, number);
+    push_node(alloc, depth, b"Append", count, &removed, out)?;
+    push_scans(
+        alloc,
+        items,
+        counts,
+        number,
+        &asked,
+        &item.leaves,
+        depth + 1,
+        out,
+    )
 }

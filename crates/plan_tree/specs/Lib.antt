@@ -1,6 +1,7 @@
 pub mod Beside
 pub mod Conditions
 pub mod Conjuncts
+pub mod Counts
 pub mod Kept
 pub mod Laws
 pub mod Parameters

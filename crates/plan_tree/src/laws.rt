@@ -1,3 +1,4 @@
+ghost use Rattle.plan_tree.specs.Counts.{CountsAreTimes};
 ghost use Rattle.plan_tree.specs.Laws.{NoneIsMissed, ShownLieRight, TreesCanBePruned};
 
 /// Where rows lie in leaves that accept them, those of all leaves that pass are those of the kept leaves.
@@ -13,4 +14,9 @@ pub fn shown_lie_right()
 /// Each tree of a history can be pruned.
 pub fn trees_can_be_pruned()
     ensures { TreesCanBePruned }
+{}
+
+/// What is counted of a node of a plan that is run is how often that happened.
+pub fn counts_are_times()
+    ensures { CountsAreTimes }
 {}

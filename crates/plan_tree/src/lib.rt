@@ -11,6 +11,9 @@
 //! (`Plan::start`), each item that has such a condition keeps of its leaves those that these values keep too; the
 //! others stay locked, are not read, and are counted.
 //!
+//! What happens while a plan is run is counted, for EXPLAIN ANALYZE, node by node (`PlanCounts`): a node's rows and loops
+//! are how often that happened (`counts_are_times`).
+//!
 //! A plan lends the trees of its tables. Contracts speak of it without where it lies in memory (`planned`).
 //!
 //! The leaves of a tree that a condition keeps, and the tables that lead to them.
@@ -28,18 +31,23 @@
 mod beside;
 mod condition;
 mod conjuncts;
+mod count;
 mod item;
+mod item_counts;
 mod laws;
 mod making;
 mod parameters;
 mod plan;
+mod plan_counts;
 mod planning;
 mod pruning;
 
 pub use condition::{all_hold, copy_cond};
+pub use count::Count;
 pub use item::PlanItem;
-pub use laws::{none_is_missed, shown_lie_right, trees_can_be_pruned};
+pub use laws::{counts_are_times, none_is_missed, shown_lie_right, trees_can_be_pruned};
 pub use making::make_plan;
 pub use plan::Plan;
+pub use plan_counts::PlanCounts;
 pub use planning::Planning;
 pub use pruning::{KeptParts, prune_item, prune_tree};

@@ -1,5 +1,6 @@
 pub mod Answer
 pub mod Course
+pub mod Happenings
 pub mod Keys
 pub mod Laws
 pub mod Rows

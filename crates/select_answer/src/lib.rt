@@ -13,6 +13,8 @@
 //! A statement makes so many scans at most, and an answer has so many tuples and so many bytes of
 //! values before the cut: what is passed first stops it, as does the first fault of a select list
 //! (`specs/Course.antt`). The trail has the leaves that were read until then.
+//!
+//! What happens on the way is counted for EXPLAIN ANALYZE, where somebody asks for it (`specs/Happenings.antt`).
 #![tactic(auto)]
 
 mod answering;
@@ -25,7 +27,10 @@ mod row;
 
 pub use answering::run_select;
 pub use keyed_row::KeyedRow;
-pub use laws::{one_item_is_read_once, pruned_is_plain, reads_are_plain, rows_are_of_all_tuples};
+pub use laws::{
+    happenings_are_of_marks, one_item_is_read_once, pruned_is_plain, reads_are_plain,
+    rows_are_of_all_tuples,
+};
 
 /// How many tuples an answer has at most, before it is cut.
 pub const TUPLE_LIMIT: usize = 1_000_000;

@@ -1,6 +1,6 @@
 -- What a SELECT does before it reads (the manual, SELECT; EXPLAIN): what it stands for is gathered, its plan is made, and what
 -- the plan reads is locked. An EXPLAIN of the SELECT does the same.
-use Rattle.std.specs.Prelude.{ℕ, Bool, List, [], map}
+use Rattle.std.specs.Prelude.{ℕ, ◌-◌, Bool, false, List, [], map}
 use Rattle.pg_values.specs.declared.value.Value.{Value}
 use Rattle.history.specs.History.{History}
 use Rattle.row_router.specs.Seen.{seen}
@@ -9,14 +9,15 @@ use Rattle.expression_binder.specs.declared.scope.Param.{Param}
 use Rattle.sql_ast.specs.Queries.{SelectTree}
 use Rattle.sql_binder.specs.Selects.{from_of}
 use Rattle.cond_logic.specs.Asked.{SelectMeant, select_meant}
-use Rattle.plan_tree.specs.Plans.{Planned, plan_for, plan_tables, started_by}
+use Rattle.plan_tree.specs.Plans.{Planned, custom, plan_for, plan_tables, started_by}
 use Rattle.plan_tree.specs.declared.planning.Planning.{Planning}
 use Rattle.statement_steps.specs.Made.{Made, made}
 use Rattle.statement_steps.specs.declared.caller.Caller.{Caller}
 use Rattle.statement_steps.specs.Steps.{follow}
 use Rattle.select_statement.specs.declared.gathered.Gathered.{Gathered}
+use Rattle.select_statement.specs.Cancels.{cancels_itself}
 use Rattle.select_statement.specs.Items.{items_of}
-use Rattle.select_statement.specs.Selected.{meant, locked_below, trees_for, named_from}
+use Rattle.select_statement.specs.Selected.{meant, locked_below, trees_for, named_from, uncancelled}
 
 -- what a SELECT asks for, and the trees of its tables
 pub record Found : Type 0 where
@@ -36,6 +37,13 @@ found_in how params c t ns h = found_over how params c t (trees_for c ns h) h
 -- once the tables of its items are found and locked
 abbrev pub gathered : Planning → List (List ℕ) → List Param → Caller → SelectTree → History → Made Found
 gathered how names params c t = follow (named_from names c [] (from_of t)) (found_in how params c t)
+
+-- without FROM, unless the SELECT cancels itself
+abbrev pub found_bare : Caller → SelectMeant → History → Made Found
+found_bare c m = uncancelled (cancels_itself c.session (c.sessions - 1) m) (λ h. made [] (record { meant = m; trees = [] }))
+
+abbrev pub gathered_bare : List Param → Caller → SelectTree → History → Made Found
+gathered_bare params c t = follow (meant (custom false) params c t []) (found_bare c)
 
 -- the plan of what was found
 abbrev pub plan_of : (prunes : Bool) → Found → Planned

@@ -72,7 +72,7 @@ abbrev pub answered : Caller → (args : List Value) → SelectMeant → Planned
 answered c args m plan h = outcome (told_of m (select_course (c.sessions - 1) args m (shown h (look_of h c.session c.cmd)) plan []))
 
 -- unless it cancels itself
-abbrev pub uncancelled : Bool → (History → Made Told) → History → Made Told
+abbrev pub uncancelled : {T : Type 0} → Bool → (History → Made T) → History → Made T
 uncancelled true f = λ h. halted [] (Refused statement_cancelled)
 uncancelled false f = f
 

@@ -5,6 +5,7 @@ ghost use Rattle.row_router.specs.Seen.{seen};
 ghost use Rattle.sql_ast.specs.Queries.{joined_tree, select_tree};
 ghost use Rattle.sql_binder.specs.Selects.{from_of};
 ghost use Rattle.cond_logic.specs.Asked.{select_meant};
+ghost use Rattle.cond_logic.specs.Tuples.{lent};
 ghost use Rattle.plan_tree.specs.Plans.{planned};
 ghost use Rattle.statement_steps.specs.Attempts.{MayAttempt};
 ghost use Rattle.statement_steps.specs.Steps.{IsStep};
@@ -15,6 +16,7 @@ ghost use Rattle.select_statement.specs.Joins.{JoinsReadTheirScans, ReachedScans
 ghost use Rattle.select_statement.specs.Named.{ColumnsAreNamedAsAsked, ItemsAreNamedAsAsked};
 
 use crate::Gathered;
+use crate::analyzing::analyze_select;
 use crate::gathering::{gather, plan_under};
 use crate::items::{item_name, node_of};
 use crate::parts::values_by;
@@ -23,7 +25,7 @@ use expression_binder::Param;
 use history::Column;
 use pg_values::{Answer, NameList, NoMemory, PgText};
 use plan_text::{NamedItem, write_plan};
-use plan_tree::{Plan, Planning};
+use plan_tree::{Plan, PlanCounts, Planning};
 use row_router::Tree;
 use select_answer::one_item_is_read_once;
 use sql_ast::{FromItem, Select};
@@ -103,25 +105,25 @@ fn is_cut(select: &Select, ask: &SelectAsk) -> bool
 
 // ---- the statement
 
-// The plan as it is printed.
-fn plan_table(
+/// The plan as it is printed, with what was counted of its nodes if it was run.
+pub(crate) fn plan_table(
     alloc: Global,
     select: &Select,
     found: &Gathered,
     plan: &Plan<'_>,
+    counts: Option<&PlanCounts>,
 ) -> Result<Answer, NoMemory>
     requires each { length found.now.trees.items ≡ length (from_of (select_tree select.now)) }
     requires few { length (planned plan.now).items ≤ 4 }
-    ensures { IfOk result (λ a. a ≡ explained.told (select_tree select.now) (found_by found.now) (planned plan.now)) }
+    ensures { IfOk result (λ a. a ≡ explained.told (select_tree select.now) (found_by found.now) (lent counts.entry) (planned plan.now)) }
 {
     let named = named_items(alloc, select.from.as_slice(), &found.trees)?;
     let is_cut = is_cut(select, &found.ask);
-    write_plan(alloc, &named, is_cut, &found.ask, plan)
+    write_plan(alloc, &named, counts, is_cut, &found.ask, plan)
 }
 
-/// An EXPLAIN of a SELECT of a session, with the arguments of its parameters: its plan, or why it stops. It locks what
-/// the SELECT locks, and is refused where that is refused before it reads. It reads nothing.
-pub fn explain(
+// The plan is printed, and not run.
+fn explain_plan(
     alloc: Global,
     stores: &mut Stores,
     names: &SessionNames,
@@ -138,6 +140,30 @@ pub fn explain(
     let found = gather(alloc, stores, names, how, params, caller, select)?;
     let args = values_by(alloc, how, params)?;
     let plan = plan_under(alloc, stores, names, caller, how, &args, &found)?;
-    let table = plan_table(alloc, select, &found, &plan)?;
+    let table = plan_table(alloc, select, &found, &plan, None)?;
     Ok(table)
+}
+
+/// An EXPLAIN of a SELECT of a session, with the arguments of its parameters: its plan, or why it stops. It locks what
+/// the SELECT locks, and is refused where that is refused before it reads. With ANALYZE it runs the SELECT, and each node
+/// of the plan tells what it gave; else it reads nothing.
+pub fn explain(
+    alloc: Global,
+    stores: &mut Stores,
+    names: &SessionNames,
+    params: &[Param],
+    caller: Caller,
+    how: Planning,
+    analyze: bool,
+    select: &Select,
+) -> Result<Answer, Stop>
+    requires may { MayAttempt stores.old caller }
+    requires few { length stores.old.catalog.tables ≤ 4096 }
+    ensures { IsStep (λ a. a) result stores.old stores.new caller (caller.cmd + 1) (explained.explains analyze how names.now params.now caller (select_tree select.now)) }
+{
+    if analyze {
+        analyze_select(alloc, stores, names, params, caller, how, select)
+    } else {
+        explain_plan(alloc, stores, names, params, caller, how, select)
+    }
 }

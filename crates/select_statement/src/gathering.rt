@@ -1,6 +1,6 @@
 //! What a SELECT does before it reads, and an EXPLAIN of it too.
 
-ghost use Rattle.std.specs.Prelude.{◌≡◌, ◌≤◌, All, IfOk, length, map};
+ghost use Rattle.std.specs.Prelude.{◌≡◌, ◌≤◌, [], All, IfOk, length, map};
 ghost use Rattle.history.specs.History.{History};
 ghost use Rattle.row_router.specs.Seen.{seen};
 ghost use Rattle.sql_ast.specs.Queries.{select_tree};
@@ -20,6 +20,7 @@ ghost use Rattle.select_statement.specs.Lent.{IsTreeFor, IsLookFor};
 ghost use Rattle.select_statement.specs.Selected as selected;
 
 use crate::Gathered;
+use crate::cancels::cancels_itself;
 use crate::items::items_of;
 use crate::parts::{bind, lock_below};
 use crate::tables::{lock_items, read_trees};
@@ -27,6 +28,7 @@ use cond_logic::SelectAsk;
 use expression_binder::Param;
 use pg_values::{NoMemory, TableNo, Value};
 use plan_tree::{Plan, Planning, make_plan};
+use refusals::statement_cancelled;
 use row_router::Tree;
 use sql_ast::Select;
 use statement_steps::{Caller, SessionNames, Stop};
@@ -132,6 +134,33 @@ pub(crate) fn gather(
     let tables = lock_items(alloc, stores, names, caller, select.from.as_slice())?;
     keep_trees(alloc, stores, caller, &tables)?;
     find(alloc, stores, how, params, caller, select, &tables)
+}
+
+/// What a SELECT without FROM stands for; refused where it cancels itself.
+pub(crate) fn gather_bare(
+    alloc: Global,
+    stores: &Stores,
+    params: &[Param],
+    caller: Caller,
+    select: &Select,
+) -> Result<Gathered, Stop>
+    requires { MayAttempt stores.now caller }
+    ensures step { IsStep found_by result stores.now stores.now caller caller.cmd (gathered.gathered_bare params.now caller (select_tree select.now)) }
+    ensures trees { IfOk result (λ g. g.trees.items ≡ []) }
+    ensures look { IfOk result (λ g. IsLookFor stores.now caller g.snap) }
+{
+    let snap = look(alloc, stores, caller)?;
+    let how = Planning {
+        prunes: false,
+        is_generic: false,
+    };
+    let ask = bind(alloc, stores, how, params, caller, select, &[])?;
+    let is_cancelled = cancels_itself(alloc, &ask, caller.session, caller.sessions - 1)?;
+    if is_cancelled {
+        return Err(Stop::Refused(statement_cancelled(alloc)));
+    }
+    let trees = Vec::new(alloc);
+    Ok(Gathered { ask, trees, snap })
 }
 
 // ---- the plan

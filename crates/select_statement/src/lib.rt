@@ -8,7 +8,8 @@
 //! run over the rows that the snapshot shows. A session that prunes nothing keeps all leaves. A part that
 //! waits or is refused ends the statement, which keeps the locks that it has got.
 //!
-//! An EXPLAIN of a SELECT does all of this but for the last part, and prints the plan in its place (`explain`).
+//! An EXPLAIN of a SELECT does all of this but for the last part, and prints the plan in its place (`explain`). With ANALYZE
+//! it does that too, as its SELECT does it (`analyzes_run_their_select`), and each node of the plan tells what it gave.
 //! That a SELECT reads by the plan that its EXPLAIN prints is a law (`selects_run_their_plan`), and so is that a
 //! SELECT of one table reads just the leaves that stand there (`one_table_reads_its_scans`).
 //!
@@ -25,6 +26,7 @@
 //! plan. Of several tables the same holds, but for the refusal of too many scans.
 #![tactic(auto)]
 
+mod analyzing;
 mod answered;
 mod cancels;
 mod explaining;
@@ -36,6 +38,7 @@ mod parts;
 mod statement;
 mod tables;
 
+pub use analyzing::analyzes_run_their_select;
 pub use answered::Answered;
 pub use cancels::cancelled;
 pub use explaining::{

@@ -1,9 +1,15 @@
-ghost use Rattle.std.specs.Prelude.{◌≡◌, ◌+◌, All, IfOk};
+ghost use Rattle.std.specs.Prelude.{◌≡◌, ◌+◌, All, IfOk, length};
+ghost use Rattle.history.specs.History.{History};
 ghost use Rattle.sql_ast.specs.Queries.{select_tree};
 ghost use Rattle.cond_logic.specs.Asked.{select_meant};
 ghost use Rattle.expression_binder.specs.Firsts.{IsAnswerBy};
+ghost use Rattle.plan_tree.specs.Counts.{answered_with, counted};
+ghost use Rattle.plan_tree.specs.Laws.{shown};
 ghost use Rattle.plan_tree.specs.Plans.{CanRead, planned};
+ghost use Rattle.select_answer.specs.Happenings.{happenings};
 ghost use Rattle.sql_binder.specs.Values.{custom_select};
+ghost use Rattle.stores.specs.Events.{look_of};
+ghost use Rattle.stores.specs.Stand.{Stands};
 ghost use Rattle.statement_steps.specs.Attempts.{MayAttempt};
 ghost use Rattle.statement_steps.specs.Steps.{IsStep};
 ghost use Rattle.select_statement.specs.Lent.{IsLookFor, MayLock};
@@ -13,7 +19,7 @@ use crate::Answered;
 use cond_logic::SelectAsk;
 use expression_binder::{Param, ScopeItem};
 use pg_values::{LockMode, NoMemory, Refusal, TableNo, Value};
-use plan_tree::{Plan, Planning};
+use plan_tree::{Plan, PlanCounts, Planning};
 use row_store::Trail;
 use select_answer::run_select;
 use sql_ast::Select;
@@ -100,6 +106,34 @@ pub(crate) fn lock_below(
     lock_tables(alloc, stores, names, caller, tables, LockMode::AccessShare)
 }
 
+/// The answer by the plan, with these values of parameters, for the rows that the snapshot shows; and what happens at the
+/// nodes of the plan is counted.
+pub(crate) fn answer_counted(
+    alloc: Global,
+    stores: &Stores,
+    caller: Caller,
+    args: &[Value],
+    ask: &SelectAsk,
+    plan: &Plan<'_>,
+    snap: &Snapshot,
+    counts: &mut PlanCounts,
+) -> Result<Answered, Stop>
+    requires may { MayAttempt stores.now caller }
+    requires reads { All (CanRead stores.now.rows.leaves) (planned plan.now).items }
+    requires look { IsLookFor stores.now caller snap.now }
+    ensures step { IsStep selected.told_by result stores.now stores.now caller (caller.cmd + 1) (selected.answered caller args.now (select_meant ask.now) (planned plan.now)) }
+    ensures counts { (h : History) → Stands stores.now h → IfOk result (λ a. counts.new ≡ answered_with (length a.answer.rows)
+        (counted counts.old (happenings args.now (shown h (look_of h caller.session caller.cmd)) (planned plan.now)))) }
+{
+    let sessions = caller.sessions - 1;
+    let Stores { txs, rows, .. } = stores;
+    let mut trail = Trail::new(alloc)?;
+    let answer = run_select(
+        alloc, ask, args, sessions, plan, rows, txs, snap, &mut trail, counts,
+    )?;
+    Ok(Answered { answer, trail })
+}
+
 /// The answer by the plan, with these values of parameters, for the rows that the snapshot shows.
 pub(crate) fn answer(
     alloc: Global,
@@ -115,11 +149,6 @@ pub(crate) fn answer(
     requires look { IsLookFor stores.now caller snap.now }
     ensures { IsStep selected.told_by result stores.now stores.now caller (caller.cmd + 1) (selected.answered caller args.now (select_meant ask.now) (planned plan.now)) }
 {
-    let sessions = caller.sessions - 1;
-    let Stores { txs, rows, .. } = stores;
-    let mut trail = Trail::new(alloc)?;
-    let answer = run_select(
-        alloc, ask, args, sessions, plan, rows, txs, snap, &mut trail,
-    )?;
-    Ok(Answered { answer, trail })
+    let mut counts = PlanCounts::none(alloc);
+    answer_counted(alloc, stores, caller, args, ask, plan, snap, &mut counts)
 }

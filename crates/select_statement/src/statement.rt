@@ -5,12 +5,10 @@ ghost use Rattle.statement_steps.specs.Steps.{IsStep, follow};
 ghost use Rattle.select_statement.specs.Selected as selected;
 
 use crate::Answered;
-use crate::cancels::cancels_itself;
-use crate::gathering::{gather, look, plan_under};
-use crate::parts::{answer, bind, values_by};
+use crate::gathering::{gather, gather_bare, plan_under};
+use crate::parts::{answer, values_by};
 use expression_binder::Param;
 use plan_tree::{Planning, make_plan};
-use refusals::statement_cancelled;
 use sql_ast::Select;
 use statement_steps::{Caller, SessionNames, Stop, hold_if_repeatable};
 use std::alloc::Global;
@@ -30,18 +28,9 @@ fn select_bare(
         (follow (selected.begins caller) (λ u. selected.bare params.now caller (select_tree select.now))) }
 {
     hold_if_repeatable(alloc, stores, caller)?;
-    let snap = look(alloc, stores, caller)?;
-    let how = Planning {
-        prunes: false,
-        is_generic: false,
-    };
-    let ask = bind(alloc, stores, how, params, caller, select, &[])?;
-    let plan = make_plan(alloc, false, ask.conditions.as_slice(), &[])?;
-    let is_cancelled = cancels_itself(alloc, &ask, caller.session, caller.sessions - 1)?;
-    if is_cancelled {
-        return Err(Stop::Refused(statement_cancelled(alloc)));
-    }
-    answer(alloc, stores, caller, &[], &ask, &plan, &snap)
+    let found = gather_bare(alloc, stores, params, caller, select)?;
+    let plan = make_plan(alloc, false, found.ask.conditions.as_slice(), &found.trees)?;
+    answer(alloc, stores, caller, &[], &found.ask, &plan, &found.snap)
 }
 
 // ---- of tables

@@ -22,7 +22,7 @@ use Rattle.statement_steps.specs.Steps.{follow}
 use Rattle.statement_steps.specs.declared.caller.Caller.{Caller}
 use Rattle.statement_steps.specs.declared.ending.Ending.{Ending}
 use Rattle.statement_steps.specs.declared.rest.Rest.{Rest}
-use Rattle.select_statement.specs.Explained.{explained}
+use Rattle.select_statement.specs.Explained.{explains}
 use Rattle.select_statement.specs.Selected.{Told as SelectTold, selected}
 use Rattle.insert_statement.specs.Inserted.{inserted}
 use Rattle.change_statement.specs.Changed.{Told as ChangeTold}
@@ -135,13 +135,9 @@ row_attempted trailed how names params c rest (inserts table columns values) = p
 row_attempted trailed how names params c rest (updates table settings condition) = printed (changed_text trailed (codes "UPDATE")) (updated how names params c rest table settings condition)
 row_attempted trailed how names params c rest (deletes table condition) = printed (changed_text trailed (codes "DELETE")) (deleted how names params c rest table condition)
 
-abbrev pub plan_attempted : Planning → (names : List (List ℕ)) → List Param → Caller → SelectTree → History → Made Ended
-plan_attempted how names params c s = tabled (explained how names params c s)
-
--- one that runs the SELECT too is left out
-abbrev pub explain_attempted : Planning → (names : List (List ℕ)) → Caller → (analyze : Bool) → SelectTree → History → Made Ended
-explain_attempted how names c false s = plan_attempted how names [] c s
-explain_attempted how names c true s = omitted (codes "ANALYZE")
+-- with ANALYZE it is run too; it has no trail
+abbrev pub plan_attempted : Planning → (names : List (List ℕ)) → List Param → Caller → (analyze : Bool) → SelectTree → History → Made Ended
+plan_attempted how names params c analyze s = tabled (explains analyze how names params c s)
 
 -- ---- what was prepared
 
@@ -150,17 +146,16 @@ execute_attempted trailed how names c rest (Ok e) = row_attempted trailed how na
 execute_attempted trailed how names c rest (Err f) = λ h. halted [] (Refused f)
 
 -- the plan of a SELECT; that of another statement is refused before
-abbrev pub plan_of_execution : Planning → (names : List (List ℕ)) → List Param → Caller → RowTree → History → Made Ended
-plan_of_execution how names params c (selects s) = plan_attempted how names params c s
-plan_of_execution how names params c s = omitted (first_word s)
+abbrev pub plan_of_execution : Planning → (names : List (List ℕ)) → List Param → Caller → (analyze : Bool) → RowTree → History → Made Ended
+plan_of_execution how names params c analyze (selects s) = plan_attempted how names params c analyze s
+plan_of_execution how names params c analyze s = omitted (first_word s)
 
-abbrev pub execution_explained : Planning → (names : List (List ℕ)) → Caller → Result Execution Fault → History → Made Ended
-execution_explained how names c (Ok e) = plan_of_execution how names e.params c e.statement
-execution_explained how names c (Err f) = λ h. halted [] (Refused f)
+abbrev pub execution_explained : Planning → (names : List (List ℕ)) → Caller → (analyze : Bool) → Result Execution Fault → History → Made Ended
+execution_explained how names c analyze (Ok e) = plan_of_execution how names e.params c analyze e.statement
+execution_explained how names c analyze (Err f) = λ h. halted [] (Refused f)
 
 abbrev pub explain_execute_attempted : Planning → (names : List (List ℕ)) → Caller → List Prepared → (analyze : Bool) → (name : List ℕ) → Trees → History → Made Ended
-explain_execute_attempted how names c ps false name ts = λ h. execution_explained how names c (explained_by h c.session ps name ts) h
-explain_execute_attempted how names c ps true name ts = omitted (codes "ANALYZE")
+explain_execute_attempted how names c ps analyze name ts = λ h. execution_explained how names c analyze (explained_by h c.session ps name ts) h
 
 -- ---- each statement, in a session that has prepared these
 
@@ -168,7 +163,7 @@ abbrev pub query_attempted : (trailed : Bool) → Planning → (names : List (Li
 query_attempted trailed how names c rest ps (rows r) = row_attempted trailed how names [] c rest r
 query_attempted trailed how names c rest ps (prepares name types s) = silent (listing c (prepared ps name types s))
 query_attempted trailed how names c rest ps (executes name ts) = λ h. execute_attempted trailed how names c rest (executed h c.session rest ps name ts) h
-query_attempted trailed how names c rest ps (explains_select analyze s) = explain_attempted how names c analyze s
+query_attempted trailed how names c rest ps (explains_select analyze s) = plan_attempted how names [] c analyze s
 query_attempted trailed how names c rest ps (explains_execute analyze name ts) = explain_execute_attempted how names c ps analyze name ts
 
 -- from its beginning, or from where it stood, in a session with these settings; it is opened where that matters alone

@@ -6,7 +6,7 @@ use Rattle.sessions.specs.declared.role.Role.{Role}
 use Rattle.sessions.specs.declared.role.Role.TheVariants.{Begin, Commit, Rollback, Set, Query}
 use Rattle.sessions.specs.declared.settings.Settings.{Settings}
 use Rattle.sql_ast.specs.Commands.{CommandTree, begins, commits, rolls_back, sets, resets, detaches, locks}
-use Rattle.sql_ast.specs.Queries.{RowTree, QueryTree, selects, rows, executes}
+use Rattle.sql_ast.specs.Queries.{RowTree, QueryTree, selects, rows, executes, explains_select, explains_execute}
 use Rattle.sql_ast.specs.Statements.{StatementTree, commands, queries}
 use Rattle.sql_ast.specs.declared.detachment.Detachment.TheVariants.{Concurrently}
 use Rattle.statement_steps.specs.declared.rest.Rest.{Rest}
@@ -74,7 +74,7 @@ abbrev pub has_committed : Option Rest → StatementTree → Bool
 has_committed rest (commands t) = command_committed rest t
 has_committed rest (queries t) = false
 
--- a SELECT alone cancels waits; where it has a FROM it has no such call, so its parameters are those of no table
+-- a SELECT alone cancels waits, where it is run; where it has a FROM it has no such call, so its parameters are those of no table
 abbrev pub row_cancelled : List Param → (session sessions : ℕ) → RowTree → List ℕ
 row_cancelled params s sessions (selects t) = cancelled params s sessions t
 row_cancelled params s sessions t = []
@@ -86,6 +86,8 @@ execution_cancelled s sessions (Err f) = []
 abbrev pub query_cancelled : (session sessions : ℕ) → List Prepared → QueryTree → List ℕ
 query_cancelled s sessions ps (rows r) = row_cancelled [] s sessions r
 query_cancelled s sessions ps (executes name ts) = execution_cancelled s sessions (executed_over [] ps name ts)
+query_cancelled s sessions ps (explains_select true t) = cancelled [] s sessions t
+query_cancelled s sessions ps (explains_execute true name ts) = execution_cancelled s sessions (executed_over [] ps name ts)
 query_cancelled s sessions ps t = []
 
 -- the control session is one of the sessions, and no number names it

@@ -131,7 +131,7 @@ fn attempt_query(
             )
         }
         Query::ExplainSelect(analyze, s) => {
-            attempt_explain(alloc, stores, names, caller, how, *analyze, s, out)
+            attempt_explain(alloc, stores, names, &[], caller, how, *analyze, s, out)
         }
         Query::ExplainExecute(analyze, name, arguments) => {
             let name = name.as_bytes();

@@ -22,7 +22,7 @@ ghost use Rattle.statement_steps.specs.Steps.{IsStep};
 
 use crate::executing::{executed, explained_by};
 use crate::left_out::omit;
-use crate::row_attempts::{attempt_plan, attempt_rows};
+use crate::row_attempts::{attempt_explain, attempt_rows};
 use expression_binder::Param;
 use pg_values::{PgText, Refusal};
 use plan_tree::Planning;
@@ -158,46 +158,20 @@ fn plan_execution(
     params: &[Param],
     caller: Caller,
     how: Planning,
+    analyze: bool,
     statement: &RowStatement,
     out: &mut Vec<u8>,
 ) -> Result<(), Stop>
     requires { MayAttempt stores.old caller }
-    ensures { (left : Option Left) → IsStatement left (ended result) stores.old stores.new out.old.items out.new.items caller (attempted.plan_of_execution how names.now params.now caller (row_tree statement.now)) }
+    ensures { (left : Option Left) → IsStatement left (ended result) stores.old stores.new out.old.items out.new.items caller (attempted.plan_of_execution how names.now params.now caller analyze (row_tree statement.now)) }
 {
     match statement {
-        RowStatement::Select(s) => attempt_plan(alloc, stores, names, params, caller, how, s, out),
+        RowStatement::Select(s) => {
+            attempt_explain(alloc, stores, names, params, caller, how, analyze, s, out)
+        }
         RowStatement::Insert(_) => omit(alloc, stores, caller, b"INSERT", out),
         RowStatement::Update(_) => omit(alloc, stores, caller, b"UPDATE", out),
         RowStatement::Delete(_) => omit(alloc, stores, caller, b"DELETE", out),
-    }
-}
-
-fn explain_execution(
-    alloc: Global,
-    stores: &mut Stores,
-    names: &SessionNames,
-    caller: Caller,
-    how: Planning,
-    prepared: &PreparedList,
-    name: &[u8],
-    arguments: &ExprList,
-    out: &mut Vec<u8>,
-) -> Result<(), Stop>
-    requires { MayAttempt stores.old caller }
-    ensures { (left : Option Left) → IsStatement left (ended result) stores.old stores.new out.old.items out.new.items caller (λ h. attempted.execution_explained how names.now caller (executions.explained_by h caller.session (listed prepared.now) name.now (trees arguments.now)) h) }
-{
-    match explained_by(alloc, stores, caller, prepared, name, arguments) {
-        Ok(execution) => plan_execution(
-            alloc,
-            stores,
-            names,
-            &execution.params,
-            caller,
-            how,
-            &execution.statement,
-            out,
-        ),
-        Err(refusal) => Err(stop_for(stores, caller, refusal)),
     }
 }
 
@@ -216,11 +190,18 @@ pub(crate) fn attempt_explain_execute(
     requires { MayAttempt stores.old caller }
     ensures { (left : Option Left) → IsStatement left (ended result) stores.old stores.new out.old.items out.new.items caller (attempted.explain_execute_attempted how names.now caller (listed prepared.now) analyze name.now (trees arguments.now)) }
 {
-    if analyze {
-        omit(alloc, stores, caller, b"ANALYZE", out)
-    } else {
-        explain_execution(
-            alloc, stores, names, caller, how, prepared, name, arguments, out,
-        )
+    match explained_by(alloc, stores, caller, prepared, name, arguments) {
+        Ok(execution) => plan_execution(
+            alloc,
+            stores,
+            names,
+            &execution.params,
+            caller,
+            how,
+            analyze,
+            &execution.statement,
+            out,
+        ),
+        Err(refusal) => Err(stop_for(stores, caller, refusal)),
     }
 }

@@ -1,8 +1,10 @@
-ghost use Rattle.std.specs.Prelude.{◌≡◌, IfOk};
+ghost use Rattle.std.specs.Prelude.{◌≡◌, [], IfOk};
+ghost use Rattle.sql_ast.specs.Expressions.{trees};
 ghost use Rattle.sessions.specs.Answers.{IsAnswerBy};
 ghost use Rattle.sql_ast.specs.Queries.{row_tree};
 ghost use Rattle.sql_ast.specs.Statements.{statement_tree};
 ghost use Rattle.prepared_statements.specs.Kept.{listed};
+ghost use Rattle.statement_runs.specs.Executions.{executed_over};
 ghost use Rattle.statement_runs.specs.Roles as roles;
 
 use crate::executing::executed_bare;
@@ -13,7 +15,7 @@ use pg_values::{Fault, NoMemory, Refusal};
 use prepared_statements::PreparedList;
 use select_statement::cancelled;
 use sessions::{Place, Role, Settings};
-use sql_ast::{Command, Detachment, Query, RowStatement, Statement};
+use sql_ast::{Command, Detachment, ExprList, Query, RowStatement, Statement};
 use std::alloc::Global;
 use table_statements::lock_misplaced;
 
@@ -98,6 +100,26 @@ fn cancelled_by_rows(
     }
 }
 
+fn cancelled_by_execution(
+    alloc: Global,
+    session: u32,
+    sessions: u32,
+    prepared: &PreparedList,
+    name: &[u8],
+    arguments: &ExprList,
+) -> Result<Vec<usize>, NoMemory>
+    ensures { IfOk result (λ cut. cut.items ≡ roles.execution_cancelled session sessions (executed_over [] (listed prepared.now) name.now (trees arguments.now))) }
+{
+    match executed_bare(alloc, prepared, name, arguments) {
+        Ok(execution) => {
+            let params = &execution.params;
+            cancelled_by_rows(alloc, session, sessions, params, &execution.statement)
+        }
+        Err(Refusal::Sql(_)) => Ok(Vec::new(alloc)),
+        Err(Refusal::NoMemory) => Err(NoMemory),
+    }
+}
+
 /// The sessions whose waits the statement of that session cancels, one after the other.
 pub(crate) fn cancelled_by(
     alloc: Global,
@@ -113,16 +135,12 @@ pub(crate) fn cancelled_by(
         Statement::Query(Query::Rows(statement)) => {
             cancelled_by_rows(alloc, session, others, &[], statement)
         }
-        Statement::Query(Query::Execute(name, arguments)) => {
-            match executed_bare(alloc, prepared, name.as_bytes(), arguments) {
-                Ok(execution) => {
-                    let params = &execution.params;
-                    cancelled_by_rows(alloc, session, others, params, &execution.statement)
-                }
-                Err(Refusal::Sql(_)) => Ok(Vec::new(alloc)),
-                Err(Refusal::NoMemory) => Err(NoMemory),
-            }
+        Statement::Query(Query::ExplainSelect(true, select)) => {
+            cancelled(alloc, select, &[], session, others)
         }
+        Statement::Query(
+            Query::Execute(name, arguments) | Query::ExplainExecute(true, name, arguments),
+        ) => cancelled_by_execution(alloc, session, others, prepared, name.as_bytes(), arguments),
         _ => Ok(Vec::new(alloc)),
     }
 }

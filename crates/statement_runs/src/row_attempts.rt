@@ -16,7 +16,6 @@ ghost use Rattle.statement_runs.specs.Given as given;
 ghost use Rattle.statement_runs.specs.Printed.{IsStatement, IsTallied};
 ghost use Rattle.statement_runs.specs.Tallies.{added};
 
-use crate::left_out::omit;
 use crate::room::check_room;
 use crate::tallies::count;
 use crate::trails::write_trail;
@@ -268,34 +267,12 @@ pub(crate) fn attempt_rows(
     }
 }
 
-// The plan is printed as a table; the SELECT is not run.
-pub(crate) fn attempt_plan(
-    alloc: Global,
-    stores: &mut Stores,
-    names: &SessionNames,
-    params: &[Param],
-    caller: Caller,
-    how: Planning,
-    statement: &Select,
-    out: &mut Vec<u8>,
-) -> Result<(), Stop>
-    requires { MayAttempt stores.old caller }
-    ensures { (left : Option Left) → IsStatement left (ended result) stores.old stores.new out.old.items out.new.items caller (attempted.plan_attempted how names.now params.now caller (select_tree statement.now)) }
-{
-    check_room(stores, caller);
-    match explain(alloc, stores, names, params, caller, how, statement) {
-        Ok(answer) => match write_table(alloc, &answer, out) {
-            Ok(()) => Ok(()),
-            Err(NoMemory) => Err(Stop::NoMemory),
-        },
-        Err(stop) => Err(stop),
-    }
-}
-
+/// The plan is printed as a table. With ANALYZE the SELECT is run too; nothing of that is counted.
 pub(crate) fn attempt_explain(
     alloc: Global,
     stores: &mut Stores,
     names: &SessionNames,
+    params: &[Param],
     caller: Caller,
     how: Planning,
     analyze: bool,
@@ -303,11 +280,16 @@ pub(crate) fn attempt_explain(
     out: &mut Vec<u8>,
 ) -> Result<(), Stop>
     requires { MayAttempt stores.old caller }
-    ensures { (left : Option Left) → IsStatement left (ended result) stores.old stores.new out.old.items out.new.items caller (attempted.explain_attempted how names.now caller analyze (select_tree statement.now)) }
+    ensures { (left : Option Left) → IsStatement left (ended result) stores.old stores.new out.old.items out.new.items caller (attempted.plan_attempted how names.now params.now caller analyze (select_tree statement.now)) }
 {
-    if analyze {
-        omit(alloc, stores, caller, b"ANALYZE", out)
-    } else {
-        attempt_plan(alloc, stores, names, &[], caller, how, statement, out)
+    check_room(stores, caller);
+    match explain(
+        alloc, stores, names, params, caller, how, analyze, statement,
+    ) {
+        Ok(answer) => match write_table(alloc, &answer, out) {
+            Ok(()) => Ok(()),
+            Err(NoMemory) => Err(Stop::NoMemory),
+        },
+        Err(stop) => Err(stop),
     }
 }

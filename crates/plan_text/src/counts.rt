@@ -1,0 +1,58 @@
+//! What was counted of the nodes of a plan that was run.
+
+ghost use Rattle.std.specs.Prelude.{◌≡◌, option_map};
+ghost use Rattle.cond_logic.specs.Tuples.{lent};
+ghost use Rattle.plan_tree.specs.Counts as spec;
+
+use pg_values::LeafId;
+use plan_tree::{Count, PlanCounts};
+
+/// Of the scan of a leaf.
+pub(crate) fn of_scan(counts: Option<&PlanCounts>, item: u32, leaf: LeafId) -> Option<Count>
+    ensures { result ≡ option_map (spec.scan_count item leaf) (lent counts.entry) }
+{
+    match counts {
+        None => None,
+        Some(counts) => Some(counts.of_scan(item, leaf)),
+    }
+}
+
+/// Of an item's Append.
+pub(crate) fn of_append(counts: Option<&PlanCounts>, item: u32) -> Option<Count>
+    ensures { result ≡ option_map (spec.append_count item) (lent counts.entry) }
+{
+    match counts {
+        None => None,
+        Some(counts) => Some(counts.of_append(item)),
+    }
+}
+
+/// Of the Nested Loop of an item with those before it.
+pub(crate) fn of_join(counts: Option<&PlanCounts>, item: u32) -> Option<Count>
+    ensures { result ≡ option_map (spec.join_count item) (lent counts.entry) }
+{
+    match counts {
+        None => None,
+        Some(counts) => Some(counts.of_join(item)),
+    }
+}
+
+/// Of a Sort, and of a Result in the place of items.
+pub(crate) fn of_given(counts: Option<&PlanCounts>) -> Option<Count>
+    ensures { result ≡ option_map spec.given_count (lent counts.entry) }
+{
+    match counts {
+        None => None,
+        Some(counts) => Some(counts.of_given()),
+    }
+}
+
+/// Of a Limit.
+pub(crate) fn of_answer(counts: Option<&PlanCounts>) -> Option<Count>
+    ensures { result ≡ option_map spec.answer_count (lent counts.entry) }
+{
+    match counts {
+        None => None,
+        Some(counts) => Some(counts.of_answer()),
+    }
+}
