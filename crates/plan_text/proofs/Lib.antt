@@ -1,3 +1,2 @@
-pub mod Lying
 mod ScanLines
 pub mod Told

@@ -21,7 +21,7 @@ use Rattle.statement_steps.specs.declared.rest.Rest.{Rest}
 use Rattle.statement_steps.specs.declared.rest.Rest.TheVariants.{Detach}
 use Rattle.statement_steps.specs.declared.rest.RestOfDetach.{RestOfDetach}
 use Rattle.statement_steps.specs.Steps.{told_on}
-use Rattle.select_statement.specs.Explained.{explained}
+use Rattle.select_statement.specs.Explained.{explains}
 use Rattle.select_statement.specs.Selected.{selected}
 use Rattle.insert_statement.specs.Inserted.{inserted}
 use Rattle.change_statement.specs.Deleted.{deleted}
@@ -94,25 +94,23 @@ execute_once : (trailed : Bool) (how : Planning) (names : List (List ℕ)) (c : 
 execute_once trailed how names c rest h (Ok e) = row_once trailed how names e.params c rest h e.statement
 execute_once trailed how names c rest h (Err f) = tt
 
-plan_once : (how : Planning) (names : List (List ℕ)) (params : List Param) (c : Caller) (h : History) (t : RowTree) → CommitsOnce false false (outcome_told (plan_of_execution how names params c t h).told)
-plan_once how names params c h (selects s) = plain_once (λ r. false) table (explained how names params c s h).told
-plan_once how names params c h (inserts name columns values) = tt
-plan_once how names params c h (updates name settings condition) = tt
-plan_once how names params c h (deletes name condition) = tt
+plan_once : (how : Planning) (names : List (List ℕ)) (params : List Param) (c : Caller) (analyze : Bool) (h : History) (t : RowTree) → CommitsOnce false false (outcome_told (plan_of_execution how names params c analyze t h).told)
+plan_once how names params c analyze h (selects s) = plain_once (λ r. false) table (explains analyze how names params c s h).told
+plan_once how names params c analyze h (inserts name columns values) = tt
+plan_once how names params c analyze h (updates name settings condition) = tt
+plan_once how names params c analyze h (deletes name condition) = tt
 
-explained_once : (how : Planning) (names : List (List ℕ)) (c : Caller) (h : History) (r : Result Execution Fault) → CommitsOnce false false (outcome_told (execution_explained how names c r h).told)
-explained_once how names c h (Ok e) = plan_once how names e.params c h e.statement
-explained_once how names c h (Err f) = tt
+explained_once : (how : Planning) (names : List (List ℕ)) (c : Caller) (analyze : Bool) (h : History) (r : Result Execution Fault) → CommitsOnce false false (outcome_told (execution_explained how names c analyze r h).told)
+explained_once how names c analyze h (Ok e) = plan_once how names e.params c analyze h e.statement
+explained_once how names c analyze h (Err f) = tt
 
 query_once : (trailed : Bool) (how : Planning) (names : List (List ℕ)) (c : Caller) (rest : Option Rest) (h : History) (ps : List Prepared) (t : QueryTree)
     → CommitsOnce false false (outcome_told (query_attempted trailed how names c rest ps t h).told)
 query_once trailed how names c rest h ps (rows r) = row_once trailed how names [] c rest h r
 query_once trailed how names c rest h ps (prepares name types r) = plain_once (λ r. false) (λ (u : Unit {0}). []) (listing c (prepared ps name types r) h).told
 query_once trailed how names c rest h ps (executes name ts) = execute_once trailed how names c rest h (executed h c.session rest ps name ts)
-query_once trailed how names c rest h ps (explains_select true s) = tt
-query_once trailed how names c rest h ps (explains_select false s) = plain_once (λ r. false) table (explained how names [] c s h).told
-query_once trailed how names c rest h ps (explains_execute true name ts) = tt
-query_once trailed how names c rest h ps (explains_execute false name ts) = explained_once how names c h (explained_by h c.session ps name ts)
+query_once trailed how names c rest h ps (explains_select analyze s) = plain_once (λ r. false) table (explains analyze how names [] c s h).told
+query_once trailed how names c rest h ps (explains_execute analyze name ts) = explained_once how names c analyze h (explained_by h c.session ps name ts)
 
 pub all_once : (o : Options) (c : Caller) (rest : Option Rest) (h : History) (g : Settings) (ps : List Prepared) (t : StatementTree)
     → CommitsOnce (has_committed rest t) (has_committed (rest_told (attempted o c rest g ps t h).told) t) (outcome_told (attempted o c rest g ps t h).told)
