@@ -47,7 +47,7 @@ abbrev pub execution_given : Planning → (names : List (List ℕ)) → Caller �
 execution_given how names c rest (Ok e) h = row_given how names e.params c rest e.statement h
 execution_given how names c rest (Err f) h = none
 
--- PREPARE and EXPLAIN give and read nothing
+-- PREPARE gives and reads nothing, and what an EXPLAIN reads is not counted
 abbrev pub query_given : Planning → (names : List (List ℕ)) → Caller → Option Rest → List Prepared → QueryTree → History → Tally
 query_given how names c rest ps (row_query r) h = row_given how names [] c rest r h
 query_given how names c rest ps (executes name ts) h = execution_given how names c rest (executed h c.session rest ps name ts) h
