@@ -52,10 +52,10 @@ impl Model for Catalog {
 
 impl Catalog {
     /// No table.
-    pub fn new(alloc: Global) -> Result<Self, NoMemory>
-        ensures { IfOk result (λ c. CatalogueStands c []) }
+    pub fn new(alloc: Global) -> Self
+        ensures { CatalogueStands result [] }
     {
-        Ok(Catalog {
+        Catalog {
             tables: Vec::new(alloc),
             entries: Vec::new(alloc),
             checks: Vec::new(alloc),
@@ -65,7 +65,7 @@ impl Catalog {
             added: 0,
             left: 0,
             alloc,
-        })
+        }
     }
 
     /// How many tables were made, dropped ones too. Their numbers are below it.

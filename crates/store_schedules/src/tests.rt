@@ -27,7 +27,7 @@ fn put(txs: &TxTable, store: &mut RowStore, row: Row) -> Result<(), PutRefused> 
 fn a_full_store_hands_the_row_back(rt: HostRuntime) -> Result<(), NoMemory> {
     let alloc = rt.alloc();
     let mut txs = TxTable::new(alloc, 1)?;
-    let mut store = RowStore::new(alloc)?;
+    let mut store = RowStore::new(alloc);
     if store.leaf_count() == 0 {
         store.add_leaf()?;
     }

@@ -268,7 +268,7 @@ fn run(
 // The answers to a line of steps, and the leaves that were scanned.
 pub(crate) fn schedule(alloc: Global, line: &[u8], out: &mut Vec<u8>) -> Result<(), NoMemory> {
     let mut txs = TxTable::new(alloc, SESSIONS)?;
-    let mut store = RowStore::new(alloc)?;
+    let mut store = RowStore::new(alloc);
     let mut trail = Trail::new(alloc)?;
     for (place, kind) in line.iter().enumerate() {
         let step = Step {

@@ -27,8 +27,8 @@ impl Stores {
     {
         Ok(Stores {
             txs: TxTable::new(alloc, sessions)?,
-            rows: RowStore::new(alloc)?,
-            catalog: Catalog::new(alloc)?,
+            rows: RowStore::new(alloc),
+            catalog: Catalog::new(alloc),
             locks: LockTable::new(alloc, sessions, tables)?,
         })
     }
