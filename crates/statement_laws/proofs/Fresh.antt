@@ -1,5 +1,5 @@
 -- The scans of a plan are of leaves that its trees show.
-use Rattle.std.proofs.Common.{ℕ, ◌+◌, ◌<◌, arith, Bool, true, false, if◌then◌else◌, List, [], ◌∷◌, ◌++◌, length, map, refl}
+use Rattle.std.proofs.Common.{ℕ, ◌+◌, arith, Bool, true, false, if◌then◌else◌, List, [], ◌∷◌, map, refl}
 use Rattle.std.specs.Prelude.{All}
 use Rattle.std.specs.List.{Contains, flat_map}
 use Rattle.std.proofs.lemmas.List.Elements.{All-nil, All-append, All-head, All-tail, All-weaker, All-contains_itself, Contains-append_right}
@@ -10,7 +10,7 @@ use Rattle.history.specs.Snapshots.{TakenSnapshot}
 use Rattle.row_router.specs.Histories.{tree_of}
 use Rattle.row_router.specs.Trees.{TableTree, leaves}
 use Rattle.soundness.specs.Worlds.{IsMade}
-use Rattle.detach_laws.specs.Laws.{IsShownBelow, TreesAreFresh}
+use Rattle.detach_laws.specs.Laws.{TreesAreFresh}
 use Rattle.detach_laws.proofs.Fresh.{legal_is_fresh}
 use Rattle.cond_logic.specs.Tables.{Leaf}
 use Rattle.cond_logic.specs.Trees.{CondTree}
