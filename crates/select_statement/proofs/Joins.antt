@@ -6,7 +6,7 @@ use Rattle.std.specs.List.Sorted.{IsPermutation}
 use Rattle.std.proofs.lemmas.List.{map-append}
 use Rattle.std.proofs.lemmas.List.Concat.{flat_map-append}
 use Rattle.std.proofs.lemmas.List.Folds.{list_all-append}
-use Rattle.std.proofs.lemmas.List.Elements.{All-nil, All-append, All-contains, All-contains_itself, All-weaker, All-map, Contains-append_left, Contains-append_right, Contains-append_cases, Contains-get_or}
+use Rattle.std.proofs.lemmas.List.Elements.{All-nil, All-append, All-contains, All-contains_itself, All-weaker, All-map, Contains-append_left, Contains-append_right, Contains-append_cases}
 use Rattle.std.proofs.lemmas.List.Sorted.{IsPermutation-refl, IsPermutation-trans, IsPermutation-append, IsPermutation-append_comm, IsPermutation-append_right, All-permutation, Contains-permutation}
 use Rattle.pg_values.specs.declared.ids.LeafId.{LeafId}
 use Rattle.pg_values.specs.declared.value.Value.{Value}
@@ -25,7 +25,7 @@ use Rattle.plan_tree.specs.Kept.{Keeps, id_of, keeps_for, leaf_of, no_keys, keep
 use Rattle.plan_tree.specs.Laws.{Rows}
 use Rattle.plan_tree.specs.Plans.{PlannedItem, Planned, keeps_beside, is_empty, item_for, items_from, kept_beside, leaves_for, plan_for, pruned_at_start, started_item, started, plan_by}
 use Rattle.plan_tree.specs.declared.planning.Planning.{Planning}
-use Rattle.select_answer.specs.Tuples.{Tuple, Mark, Reads, Gives, no_tuple, passes, tuples_in, given_marks, leaf_marks, scan_marks, for_each, joined, tuples_of, reads_in}
+use Rattle.select_answer.specs.Tuples.{Tuple, Mark, Reads, Gives, no_tuple, passes, tuples_in, scan_marks, for_each, joined, tuples_of, reads_in}
 use Rattle.select_answer.specs.Laws.{plan_reads}
 use Rattle.select_answer.proofs.Kept.{in_first, in_second}
 use Rattle.select_answer.proofs.Plain.{reads_append, given_reads, leaves_reads, leaves_tuples}

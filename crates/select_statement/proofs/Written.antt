@@ -1,14 +1,13 @@
 -- The plain answer with the values of parameters is that with these values in their places.
-use Rattle.std.proofs.Common.{◌≡◌, ℕ, Bool, ◌&&◌, List, [], ◌∷◌, map, refl, ap, sym, ◌∙◌, Result, Ok, Err}
+use Rattle.std.proofs.Common.{◌≡◌, ℕ, ◌&&◌, List, [], ◌∷◌, map, refl, ap, sym, ◌∙◌, Result, Ok, Err}
 use Rattle.pg_values.specs.declared.fault.Fault.{Fault}
 use Rattle.pg_values.specs.declared.value.Value.{Value}
-use Rattle.row_router.specs.Trees.{TableTree}
 use Rattle.cond_logic.specs.Asked.{SelectMeant}
 use Rattle.cond_logic.specs.Rewriting.{with_args}
 use Rattle.cond_logic.specs.Trees.{CondTree}
 use Rattle.cond_logic.specs.Truths.{truth}
 use Rattle.plan_tree.specs.Kept.{named_leaves}
-use Rattle.plan_tree.specs.Laws.{Rows, is_yes}
+use Rattle.plan_tree.specs.Laws.{is_yes}
 use Rattle.plan_tree.proofs.Arguments.{given_true}
 use Rattle.sql_binder.specs.Values.{with_values}
 use Rattle.select_answer.specs.Answer.{answer_of}

@@ -1,6 +1,6 @@
 -- What the scans of a plan read (the manual, 14.1 Using EXPLAIN): a Nested Loop runs those of its right item beside each tuple
 -- of its left side.
-use Rattle.std.specs.Prelude.{◌≡◌, ℕ, ◌<◌, Bool, false, All, if◌then◌else◌, List, [], ◌∷◌, ◌++◌, length, map, filter}
+use Rattle.std.specs.Prelude.{◌≡◌, ◌<◌, false, All, if◌then◌else◌, List, [], ◌∷◌, ◌++◌, length, map, filter}
 use Rattle.std.specs.List.{Contains, flat_map}
 use Rattle.std.specs.List.Sorted.{IsPermutation}
 use Rattle.pg_values.specs.declared.ids.LeafId.{LeafId}
