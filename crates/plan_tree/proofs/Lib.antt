@@ -1,5 +1,6 @@
 pub mod Arguments
 pub mod Conditions
+pub mod Counting
 pub mod Missed
 pub mod Nodes
 pub mod Numbered
@@ -10,5 +11,6 @@ pub mod Pushing
 pub mod Right
 pub mod Small
 pub mod Starting
+pub mod Times
 pub mod Truths
 pub mod Weights
