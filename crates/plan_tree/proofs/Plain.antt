@@ -9,7 +9,8 @@ use Rattle.bound_forms.specs.declared.partition_bound.Bound.{Bound}
 use Rattle.bound_forms.specs.declared.partition_bound.Bound.TheVariants.{Default}
 use Rattle.bound_forms.specs.Bounds.{in_plain_order}
 use Rattle.cond_logic.specs.Trees.{CondTree}
-use Rattle.plan_tree.specs.Kept.{keeps_for, keeps_plain, no_keys, is_kept, AreKept}
+use Rattle.prune_steps.specs.Bits.{bit}
+use Rattle.plan_tree.specs.Kept.{keeps_for, keeps_plain, no_keys, AreKept}
 
 one_proof : (s : Strategy) (columns : List KeyColumn) → IsProp (s ≡ ByList → length columns ≡ 1)
 one_proof s columns = hlevel ℕ_set
@@ -23,7 +24,7 @@ level_same ByHash columns one e f = absurd (cc)
 pub alone : (bounds items : List Bound) → items ≡ Default ∷ [] → bounds ≡ in_plain_order items → bounds ≡ Default ∷ []
 alone bounds items is order = order ∙ ap in_plain_order is
 
-pub plain_is : (prunes : Bool) (item : ℕ) (ts : List CondTree) (level : Level) (bounds : List Bound) (kept : List (List Bool)) (b : Bool) → level.strategy ≡ ByRange → level.columns ≡ [] → bounds ≡ Default ∷ [] → AreKept kept (keeps_for prunes item ts level bounds) bounds → b ≡ is_kept kept 0
+pub plain_is : (prunes : Bool) (item : ℕ) (ts : List CondTree) (level : Level) (bounds : List Bound) (kept : List ℕ) (b : Bool) → level.strategy ≡ ByRange → level.columns ≡ [] → bounds ≡ Default ∷ [] → AreKept kept (keeps_for prunes item ts level bounds) bounds → b ≡ bit kept 0
     → b ≡ keeps_plain (keeps_for prunes item ts)
 plain_is prunes item ts level bounds kept b e f is agree told =
     let same : level ≡ no_keys = level_same level.strategy level.columns level.one_if_list e f in

@@ -15,7 +15,8 @@ use Rattle.row_router.specs.Seen.{seen, items_of}
 use Rattle.row_router.proofs.Seen.{seen_level}
 use Rattle.row_router.specs.Trees.{TableTree, LeafTable, LevelTable, Trees, trees_of, count, height, heights}
 use Rattle.cond_logic.specs.Tables.{Leaf}
-use Rattle.plan_tree.specs.Kept.{Keeps, AreKept, is_kept, led, leaves_below, leaves_among, kept_tables, tables_among, node_of}
+use Rattle.prune_steps.specs.Bits.{bit}
+use Rattle.plan_tree.specs.Kept.{Keeps, AreKept, led, leaves_below, leaves_among, kept_tables, tables_among, node_of}
 use Rattle.plan_tree.specs.Prunable.{CanPrune, AllCanPrune}
 
 abbrev pub kids : List Tree → Trees
@@ -98,7 +99,7 @@ test_of keeps (LeafTable node leaf) = λ b. false
 test_of keeps (LevelTable node level bounds kids) = keeps level bounds
 
 -- before a child: what stands in the lists, with that of the children from this one on, is all
-pub record Going (keeps : Keeps) (tree : TableTree) (items : List Tree) (set : List (List Bool)) (k : ℕ) (now_tables old_tables : List TableNo) (now_leaves old_leaves : List Leaf) : Type 0 where
+pub record Going (keeps : Keeps) (tree : TableTree) (items : List Tree) (set : List ℕ) (k : ℕ) (now_tables old_tables : List TableNo) (now_leaves old_leaves : List Leaf) : Type 0 where
   pub tables : now_tables ++ tables_among keeps (test_of keeps tree) (drop k (bounds_of tree)) (kids (drop k items)) ≡ old_tables ++ kept_tables keeps tree
   pub leaves : now_leaves ++ leaves_among keeps (test_of keeps tree) (drop k (bounds_of tree)) (kids (drop k items)) ≡ old_leaves ++ leaves_below keeps tree
   pub can : AllCanPrune (kids (drop k items))
@@ -106,7 +107,7 @@ pub record Going (keeps : Keeps) (tree : TableTree) (items : List Tree) (set : L
   pub paired : length (bounds_of tree) ≡ length items
   pub kept : AreKept set (test_of keeps tree) (bounds_of tree)
 
-pub begins : (keeps : Keeps) (t : Tree) (level : Level) (bounds : List Bound) (children : TreeList) (items : List Tree) (kept : List (List Bool)) (tables : List TableNo) (leaves : List Leaf) → t.shape ≡ ShapeLevel level bounds children → items ≡ items_of children
+pub begins : (keeps : Keeps) (t : Tree) (level : Level) (bounds : List Bound) (children : TreeList) (items : List Tree) (kept : List ℕ) (tables : List TableNo) (leaves : List Leaf) → t.shape ≡ ShapeLevel level bounds children → items ≡ items_of children
     → CanPrune (seen t) → AreKept kept (keeps level bounds) bounds → Going keeps (seen t) items kept 0 tables tables leaves leaves
 begins keeps t level bounds children items kept tables leaves is are can agree =
     let s = seen_level t level bounds children is in
@@ -129,14 +130,14 @@ can_ask t level bounds children is can =
     let whole : CanPrune (LevelTable t.node level bounds (kids (items_of children))) = subst CanPrune (seen_level t level bounds children is) can in
     (whole.1, whole.2)
 
-module _ (keeps : Keeps) (tree : TableTree) (items : List Tree) (kept : List (List Bool)) (k : ℕ) (child : Tree) (tables tables_before : List TableNo) (leaves leaves_before : List Leaf) (lt : k < length items) (is : child ≡ get_or items k child) (going : Going keeps tree items kept k tables tables_before leaves leaves_before) where
+module _ (keeps : Keeps) (tree : TableTree) (items : List Tree) (kept : List ℕ) (k : ℕ) (child : Tree) (tables tables_before : List TableNo) (leaves leaves_before : List Leaf) (lt : k < length items) (is : child ≡ get_or items k child) (going : Going keeps tree items kept k tables tables_before leaves leaves_before) where
   in_bounds : k < length (bounds_of tree)
   in_bounds = let same = going.paired in omega (arith, same, lt)
 
   pub below_most : k < 1024
   below_most = let few = going.few in let low = in_bounds in omega (arith, few, low)
 
-  pub goes_on : (now_tables : List TableNo) (now_leaves : List Leaf) → is_kept kept k ≡ true → now_tables ≡ tables ++ led (leaves_below keeps (seen child)) (node_of (seen child)).table (kept_tables keeps (seen child)) → now_leaves ≡ leaves ++ leaves_below keeps (seen child)
+  pub goes_on : (now_tables : List TableNo) (now_leaves : List Leaf) → bit kept k ≡ true → now_tables ≡ tables ++ led (leaves_below keeps (seen child)) (node_of (seen child)).table (kept_tables keeps (seen child)) → now_leaves ≡ leaves ++ leaves_below keeps (seen child)
       → Going keeps tree items kept (k + 1) now_tables tables_before now_leaves leaves_before
   goes_on now_tables now_leaves in_it more more_leaves =
       let yes = sym (going.kept k in_bounds) ∙ in_it in
@@ -149,7 +150,7 @@ module _ (keeps : Keeps) (tree : TableTree) (items : List Tree) (kept : List (Li
         kept = going.kept;
       }
 
-  pub passes_over : is_kept kept k ≡ false → Going keeps tree items kept (k + 1) tables tables_before leaves leaves_before
+  pub passes_over : bit kept k ≡ false → Going keeps tree items kept (k + 1) tables tables_before leaves leaves_before
   passes_over out =
       let no = sym (going.kept k in_bounds) ∙ out in
       record {
@@ -165,7 +166,7 @@ module _ (keeps : Keeps) (tree : TableTree) (items : List Tree) (kept : List (Li
   child_prunes = child_can keeps (test_of keeps tree) (bounds_of tree) items k child in_bounds lt is going.can
 
 -- behind the last child
-pub ends : (keeps : Keeps) (tree : TableTree) (items : List Tree) (kept : List (List Bool)) (k : ℕ) (tables tables_before : List TableNo) (leaves leaves_before : List Leaf) → length items ≤ k → Going keeps tree items kept k tables tables_before leaves leaves_before
+pub ends : (keeps : Keeps) (tree : TableTree) (items : List Tree) (kept : List ℕ) (k : ℕ) (tables tables_before : List TableNo) (leaves leaves_before : List Leaf) → length items ≤ k → Going keeps tree items kept k tables tables_before leaves leaves_before
     → (tables ≡ tables_before ++ kept_tables keeps tree) × (leaves ≡ leaves_before ++ leaves_below keeps tree)
 ends keeps tree items kept k tables tables_before leaves leaves_before past going =
     let none : drop k items ≡ [] = drop_of_length-le items past in

@@ -13,7 +13,7 @@ use Rattle.row_router.specs.Trees.{TableTree, LeafTable, LevelTable, Trees, End,
 use Rattle.cond_logic.specs.Tables.{Leaf}
 use Rattle.cond_logic.specs.Trees.{CondTree}
 use Rattle.prune_steps.specs.Atoms.{asked}
-use Rattle.prune_steps.specs.Bits.{bit}
+use Rattle.prune_steps.specs.Bits.{AreBits}
 use Rattle.prune_steps.specs.Kept.{kept}
 
 -- whether a level with these bounds keeps the child under one of them
@@ -97,12 +97,8 @@ abbrev mutual
   tables_among keeps test [] (More k ks) = []
   tables_among keeps test (b ∷ bs) (More k ks) = (if test b then led (leaves_below keeps k) (node_of k).table (kept_tables keeps k) else []) ++ tables_among keeps test bs ks
 
--- ---- sets of children
+-- ---- a set of children
 
--- what all sets have; without a set all children are kept
-abbrev pub is_kept : List (List Bool) → ℕ → Bool
-is_kept sets k = list_all (λ bits. bit bits k) sets
-
--- the children that the test takes, by their numbers
-abbrev pub AreKept : List (List Bool) → (Bound → Bool) → List Bound → Type 0
-AreKept kept test bounds = (k : ℕ) → k < length bounds → is_kept kept k ≡ test (slice_index_or bounds k Default)
+-- the set has the children that the test takes, by their numbers
+abbrev pub AreKept : List ℕ → (Bound → Bool) → List Bound → Type 0
+AreKept kept test bounds = AreBits (length bounds) kept (λ k. test (slice_index_or bounds k Default))

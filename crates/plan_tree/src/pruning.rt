@@ -9,7 +9,7 @@ ghost use Rattle.prune_steps.specs.Atoms.{asked};
 ghost use Rattle.prune_steps.specs.Bits.{AreBits};
 ghost use Rattle.prune_steps.specs.Kept as kept_one;
 ghost use Rattle.plan_tree.specs.Kept as kept_spec;
-ghost use Rattle.plan_tree.specs.Kept.{AreKept, is_kept, keeps_by, keeps_for, keeps_plain, led, leaves_below, node_of};
+ghost use Rattle.plan_tree.specs.Kept.{AreKept, keeps_by, keeps_for, keeps_plain, led, leaves_below, node_of};
 ghost use Rattle.plan_tree.specs.Prunable.{CanPrune};
 
 use crate::condition::copy_cond;
@@ -51,7 +51,7 @@ fn kept_children<L: Ledger>(
     Ok(run_steps(&asked, set, &mut steps))
 }
 
-// Those that each of the conditions keeps; no set where nothing is pruned.
+// Those that each of the conditions keeps; all of them where nothing is pruned.
 fn kept_of(
     alloc: Global,
     prunes: bool,
@@ -59,33 +59,20 @@ fn kept_of(
     conds: &[Cond],
     level: &Level,
     set: &BoundSet<ValueKey>,
-) -> Result<Vec<KeptSet>, NoMemory>
+) -> Result<KeptSet, NoMemory>
     requires small { length set.now ≤ 1024 }
     requires level { All (IsOfLevel level.now) set.now }
-    ensures { IfOk result (λ kept. AreKept kept.items (keeps_for prunes item (map cond_tree conds.now) level.now set.now) set.now) }
+    ensures { IfOk result (λ kept. AreKept kept (keeps_for prunes item (map cond_tree conds.now) level.now set.now) set.now) }
 {
-    let mut kept = Vec::new(alloc);
+    let mut kept = KeptSet::all();
     if !prunes {
         return Ok(kept);
     }
     for cond in conds {
         let own = kept_children::<Brand>(alloc, item, cond, level, set, Blank::new(1))?;
-        kept.push(own)?;
+        kept.meet(&own);
     }
     Ok(kept)
-}
-
-// Whether all sets have the child.
-fn keeps_child(kept: &[KeptSet], child: usize) -> bool
-    requires { child < 1024 }
-    ensures { result ≡ is_kept kept.now child }
-{
-    for set in kept {
-        if !set.keeps(child) {
-            return false;
-        }
-    }
-    true
 }
 
 // Puts the kept leaves of a tree behind the one list, and the tables below it that lead to them behind the
@@ -115,7 +102,7 @@ fn push_below<'t>(
         Shape::Level(level, set, children) => {
             let kept = kept_of(alloc, prunes, item, conds, level, set)?;
             for (k, child) in children.as_slice().iter().enumerate() {
-                if keeps_child(&kept, k) {
+                if kept.keeps(k) {
                     push_led(alloc, prunes, item, conds, child, tables, leaves)?;
                 }
             }
@@ -162,7 +149,7 @@ fn is_plain_kept(alloc: Global, prunes: bool, item: u32, conds: &[Cond]) -> Resu
     bounds.push(Bound::Default)?;
     let set = make_set(alloc, bounds, ValueKey)?;
     let kept = kept_of(alloc, prunes, item, conds, &level, &set)?;
-    Ok(keeps_child(&kept, 0))
+    Ok(kept.keeps(0))
 }
 
 /// The leaves of the tree of a FROM item that each of the conditions keeps, and the tables under it that lead

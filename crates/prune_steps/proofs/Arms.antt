@@ -16,24 +16,24 @@ use Rattle.prune_steps.specs.Steps.{step_keeps, step_part, atoms, Atom, of_chain
 use Rattle.prune_steps.proofs.StepParts.{keeps_all, keeps_nothing, keeps_default, keeps_chain, keeps_listed, keeps_null, keeps_value, keeps_key, atoms_chain, atoms_listed, atoms_key}
 
 -- bits of all 1024 children are those of the first ones
-pub fewer : (n : ℕ) (bits : List Bool) (f : ℕ → Bool) → n ≤ 1024 → AreBits 1024 bits f → AreBits n bits f
+pub fewer : (n : ℕ) (bits : List ℕ) (f : ℕ → Bool) → n ≤ 1024 → AreBits 1024 bits f → AreBits n bits f
 fewer n bits f small h k lt = h k (omega (arith, lt, small))
 
 -- the step keeps what its part keeps
-pub arm : (bounds : List Bound) (s t : Step) (part : Bound → Bool) (bits : List Bool) → s ≡ t → step_keeps bounds t ≡ part → AreBits (length bounds) bits (λ k. part (get_or bounds k Default)) → AreBits (length bounds) bits (λ k. step_keeps bounds s (get_or bounds k Default))
+pub arm : (bounds : List Bound) (s t : Step) (part : Bound → Bool) (bits : List ℕ) → s ≡ t → step_keeps bounds t ≡ part → AreBits (length bounds) bits (λ k. part (get_or bounds k Default)) → AreBits (length bounds) bits (λ k. step_keeps bounds s (get_or bounds k Default))
 arm bounds s t part bits is e h k lt = h k lt ∙ sym (rw is (ap (λ f. f (get_or bounds k Default)) e))
 
-pub arm_all : (bounds : List Bound) (s : Step) (bits : List Bool) → s ≡ KeepAll → length bounds ≤ 1024 → AreBits 1024 bits (λ k. true) → AreBits (length bounds) bits (λ k. step_keeps bounds s (get_or bounds k Default))
+pub arm_all : (bounds : List Bound) (s : Step) (bits : List ℕ) → s ≡ KeepAll → length bounds ≤ 1024 → AreBits 1024 bits (λ k. true) → AreBits (length bounds) bits (λ k. step_keeps bounds s (get_or bounds k Default))
 arm_all bounds s bits is small h = arm bounds s KeepAll (λ b. true) bits is (keeps_all bounds) (fewer (length bounds) bits (λ k. true) small h)
 
-pub arm_nothing : (bounds : List Bound) (s : Step) (bits : List Bool) → s ≡ Nothing → length bounds ≤ 1024 → AreBits 1024 bits (λ k. false) → AreBits (length bounds) bits (λ k. step_keeps bounds s (get_or bounds k Default))
+pub arm_nothing : (bounds : List Bound) (s : Step) (bits : List ℕ) → s ≡ Nothing → length bounds ≤ 1024 → AreBits 1024 bits (λ k. false) → AreBits (length bounds) bits (λ k. step_keeps bounds s (get_or bounds k Default))
 arm_nothing bounds s bits is small h = arm bounds s Nothing (λ b. false) bits is (keeps_nothing bounds) (fewer (length bounds) bits (λ k. false) small h)
 
 and_true : (t : Bool) → (false || (t && true)) ≡ t
 and_true true = refl
 and_true false = refl
 
-pub arm_default : (bounds : List Bound) (s : Step) (none bits : List Bool) → s ≡ DefaultAlone → length bounds ≤ 1024 → AreBits 1024 none (λ k. false) → AreBits (length bounds) bits (λ k. bit none k || (is_default (get_or bounds k Default) && true))
+pub arm_default : (bounds : List Bound) (s : Step) (none bits : List ℕ) → s ≡ DefaultAlone → length bounds ≤ 1024 → AreBits 1024 none (λ k. false) → AreBits (length bounds) bits (λ k. bit none k || (is_default (get_or bounds k Default) && true))
     → AreBits (length bounds) bits (λ k. step_keeps bounds s (get_or bounds k Default))
 arm_default bounds s none bits is small h g = arm bounds s DefaultAlone is_default bits is (keeps_default bounds) (λ k lt. g k lt ∙ rw (h k (omega (arith, lt, small))) (and_true (is_default (get_or bounds k Default))))
 

@@ -24,7 +24,7 @@ by_itself bounds key (Range l u) h = cc
 by_itself bounds key (Listed values) h = cc
 by_itself bounds key Default h = cc
 
-pub found_kept : (bounds : List Bound) (key : List Value) (none new : List Bool) (i : ℕ) → IsHashLevel bounds → IsInPlainOrder bounds → AtMostOneAccepts → length bounds ≤ 1024 → Some i ≡ position (accepts_among bounds key) bounds
+pub found_kept : (bounds : List Bound) (key : List Value) (none new : List ℕ) (i : ℕ) → IsHashLevel bounds → IsInPlainOrder bounds → AtMostOneAccepts → length bounds ≤ 1024 → Some i ≡ position (accepts_among bounds key) bounds
     → AreBits 1024 none (λ k. false) → AreBits 1024 new (λ k. bit none k || ((k == i) && true)) → AreBits (length bounds) new (λ k. accepts key (get_or bounds k Default))
 found_kept bounds key none new i hashes order one small found empty bits k lt = bits k (omega (arith, lt, small)) ∙ rw (empty k (omega (arith, lt, small))) (by (k == i) refl (accepts key (get_or bounds k Default)) refl)
   where
@@ -42,6 +42,6 @@ found_kept bounds key none new i hashes order one small found empty bits k lt = 
         let no : (k == i) ≡ true = grind (arith, nat_tests, same) in
         absurd (true≢false (sym no ∙ e))
 
-pub none_kept : (bounds : List Bound) (key : List Value) (none : List Bool) → IsHashLevel bounds → length bounds ≤ 1024 → None ≡ position (accepts_among bounds key) bounds → AreBits 1024 none (λ k. false) → AreBits (length bounds) none (λ k. accepts key (get_or bounds k Default))
+pub none_kept : (bounds : List Bound) (key : List Value) (none : List ℕ) → IsHashLevel bounds → length bounds ≤ 1024 → None ≡ position (accepts_among bounds key) bounds → AreBits 1024 none (λ k. false) → AreBits (length bounds) none (λ k. accepts key (get_or bounds k Default))
 none_kept bounds key none hashes small found empty k lt =
     empty k (omega (arith, lt, small)) ∙ sym (sym (by_itself bounds key (get_or bounds k Default) (hashes k Default lt)) ∙ position-None (accepts_among bounds key) bounds (sym found) k Default lt)

@@ -18,3 +18,4 @@ pub mod StepParts
 pub mod Stepping
 pub mod Tallies
 pub mod Weights
+pub mod Words

@@ -282,7 +282,7 @@ default_is bounds Gt v from to lists run = refl
 default_is bounds Ge v from to lists run = refl
 
 -- the marked children and the default together
-pub all_listed : (bounds : List Bound) (op : CompareOp) (v : Value) (from to : ℕ) (inside keeps : Bool) (counts : List ℕ) (none middle new : List Bool) → IsListLevel bounds → RunOf bounds op v from to → length bounds ≤ 1024
+pub all_listed : (bounds : List Bound) (op : CompareOp) (v : Value) (from to : ℕ) (inside keeps : Bool) (counts : List ℕ) (none middle new : List ℕ) → IsListLevel bounds → RunOf bounds op v from to → length bounds ≤ 1024
     → inside ≡ passes_inside op → keeps ≡ keeps_default op from to → ((k : ℕ) → k < 1024 → count_at counts k ≡ owned_by (owners bounds) from to to k) → AreBits 1024 none (λ k. false)
     → AreBits (length bounds) middle (λ k. bit none k || is_counted inside (count_at counts k) (get_or bounds k Default)) → AreBits (length bounds) new (λ k. bit middle k || (is_default (get_or bounds k Default) && keeps))
     → AreBits (length bounds) new (λ k. list_keeps bounds op v (get_or bounds k Default))

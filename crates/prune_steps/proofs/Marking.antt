@@ -17,7 +17,7 @@ or_false : (t : Bool) → (t || false) ≡ t
 or_false true = refl
 or_false false = refl
 
-pub done_more : (f : ℕ → Bool) (initial old new : List Bool) (i : ℕ) (hit : Bool) → hit ≡ f i → AreBits 1024 new (λ k. bit old k || ((k == i) && hit))
+pub done_more : (f : ℕ → Bool) (initial old new : List ℕ) (i : ℕ) (hit : Bool) → hit ≡ f i → AreBits 1024 new (λ k. bit old k || ((k == i) && hit))
     → ((j : ℕ) → j < i → j < 1024 → bit old j ≡ (bit initial j || f j)) → ((j : ℕ) → i ≤ j → j < 1024 → bit old j ≡ bit initial j)
     → (j : ℕ) → j < i + 1 → j < 1024 → bit new j ≡ (bit initial j || f j)
 done_more f initial old new i hit is bits done rest j lt small = elim (cases_lt j i) [
@@ -30,7 +30,7 @@ done_more f initial old new i hit is bits done rest j lt small = elim (cases_lt 
       bits j small ∙ rw (there, rest j at small, is) (ap (λ k. bit initial j || f k) (sym same))
 ]
 
-pub rest_more : (initial old new : List Bool) (i : ℕ) (hit : Bool) → AreBits 1024 new (λ k. bit old k || ((k == i) && hit)) → ((j : ℕ) → i ≤ j → j < 1024 → bit old j ≡ bit initial j)
+pub rest_more : (initial old new : List ℕ) (i : ℕ) (hit : Bool) → AreBits 1024 new (λ k. bit old k || ((k == i) && hit)) → ((j : ℕ) → i ≤ j → j < 1024 → bit old j ≡ bit initial j)
     → (j : ℕ) → i + 1 ≤ j → j < 1024 → bit new j ≡ bit initial j
 rest_more initial old new i hit bits rest j le small =
     let no : (j == i) ≡ false = grind (arith, nat_tests, le) in

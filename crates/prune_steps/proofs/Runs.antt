@@ -256,7 +256,7 @@ one_more bounds from i none here k le lt = elim (cases_lt k i) [
 ]
 
 -- the default added
-pub added : (bounds : List Bound) (old new : List Bool) (n : ℕ) (x : Bound) (keeps : Bool) → InRow bounds → n ≡ length bounds → length bounds ≤ 1024 → x ≡ get_or bounds (n - 1) x → x ≡ Default → keeps ≡ true
+pub added : (bounds : List Bound) (old new : List ℕ) (n : ℕ) (x : Bound) (keeps : Bool) → InRow bounds → n ≡ length bounds → length bounds ≤ 1024 → x ≡ get_or bounds (n - 1) x → x ≡ Default → keeps ≡ true
     → AreBits 1024 new (λ k. bit old k || (k == n - 1)) → AreBits (length bounds) new (λ k. bit old k || (is_default (get_or bounds k Default) && keeps))
 added bounds old new n x keeps h long small at is kept bits k lt = bits k (omega (arith, lt, small)) ∙ rw (last_is bounds k n x h lt long at is, kept) (by (bit old k) (k == n - 1))
   where
@@ -265,7 +265,7 @@ added bounds old new n x keeps h long small at is kept bits k lt = bits k (omega
     by false true = refl
     by false false = refl
 
-pub not_added : (bounds : List Bound) (old : List Bool) (n : ℕ) (x : Bound) (keeps : Bool) → InRow bounds → n ≡ length bounds → x ≡ get_or bounds (n - 1) x → (x ≡ Default → ⊥) → AreBits (length bounds) old (λ k. bit old k || (is_default (get_or bounds k Default) && keeps))
+pub not_added : (bounds : List Bound) (old : List ℕ) (n : ℕ) (x : Bound) (keeps : Bool) → InRow bounds → n ≡ length bounds → x ≡ get_or bounds (n - 1) x → (x ≡ Default → ⊥) → AreBits (length bounds) old (λ k. bit old k || (is_default (get_or bounds k Default) && keeps))
 not_added bounds old n x keeps h long at other k lt = rw (none_is bounds k n x h lt long at other) (by (bit old k))
   where
     by : (s : Bool) → s ≡ s || false
@@ -273,7 +273,7 @@ not_added bounds old n x keeps h long at other k lt = rw (none_is bounds k n x h
     by false = refl
 
 -- the run and the default together
-pub all_kept : (bounds : List Bound) (short : Bool) (c : Chain) (a b : ℕ) (keeps : Bool) (old new : List Bool) → InRow bounds → Ends bounds c a b → length bounds ≤ 1024 → keeps ≡ chain_keeps bounds short c Default
+pub all_kept : (bounds : List Bound) (short : Bool) (c : Chain) (a b : ℕ) (keeps : Bool) (old new : List ℕ) → InRow bounds → Ends bounds c a b → length bounds ≤ 1024 → keeps ≡ chain_keeps bounds short c Default
     → AreBits 1024 old (in_run (a / 2) ((b + 1) / 2)) → AreBits (length bounds) new (λ k. bit old k || (is_default (get_or bounds k Default) && keeps)) → AreBits (length bounds) new (λ k. chain_keeps bounds short c (get_or bounds k Default))
 all_kept bounds short c a b keeps old new h e small is run added k lt =
     added k lt ∙ ap (λ t. t || (is_default (get_or bounds k Default) && keeps)) (run k (omega (arith, lt, small))) ∙ child_kept bounds short c a b k keeps h e lt is

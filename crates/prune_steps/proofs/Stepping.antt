@@ -11,10 +11,10 @@ use Rattle.prune_steps.specs.Steps.{step_keeps, atoms, joined, Atom, comparisons
 use Rattle.prune_steps.proofs.StepParts.{comparisons_append}
 use Rattle.prune_steps.specs.declared.step.Step.{Step}
 
-abbrev pub AllTold : List Bound → List Step → ℕ → List Bool → (Bound → Bool) → Type 0
+abbrev pub AllTold : List Bound → List Step → ℕ → List ℕ → (Bound → Bool) → Type 0
 AllTold bounds xs i bits all = (k : ℕ) → k < length bounds → (bit bits k && list_all (λ p. p (get_or bounds k Default)) (map (step_keeps bounds) (drop i xs))) ≡ all (get_or bounds k Default)
 
-abbrev pub AnyTold : List Bound → List Step → ℕ → List Bool → (Bound → Bool) → Type 0
+abbrev pub AnyTold : List Bound → List Step → ℕ → List ℕ → (Bound → Bool) → Type 0
 AnyTold bounds xs i bits all = (k : ℕ) → k < length bounds → (bit bits k || list_any (λ p. p (get_or bounds k Default)) (map (step_keeps bounds) (drop i xs))) ≡ all (get_or bounds k Default)
 
 abbrev pub Asked : List Bound → List Step → ℕ → Type 0
@@ -37,7 +37,7 @@ all_right P (x ∷ xs) ys h = all_right P xs ys (All-tail P x (xs ++ ys) h)
 next : (xs : List Step) (i : ℕ) (x : Step) → i < length xs → x ≡ get_or xs i x → drop i xs ≡ x ∷ drop (i + 1) xs
 next xs i x lt at = drop-cons xs i x lt ∙ rw (add-one, ← at) refl
 
-pub all_told : (bounds : List Bound) (xs : List Step) (i : ℕ) (x : Step) (old own new : List Bool) (all : Bound → Bool) → i < length xs → x ≡ get_or xs i x → length bounds ≤ 1024
+pub all_told : (bounds : List Bound) (xs : List Step) (i : ℕ) (x : Step) (old own new : List ℕ) (all : Bound → Bool) → i < length xs → x ≡ get_or xs i x → length bounds ≤ 1024
     → AreBits (length bounds) own (λ k. step_keeps bounds x (get_or bounds k Default)) → AreBits 1024 new (λ k. bit old k && bit own k) → AllTold bounds xs i old all → AllTold bounds xs (i + 1) new all
 all_told bounds xs i x old own new all lt at small mine both told k h =
     let before = rw (next xs i x lt at) at (told k h) in
@@ -47,7 +47,7 @@ all_told bounds xs i x old own new all lt at small mine both told k h =
     by true t u = refl
     by false t u = refl
 
-pub any_told : (bounds : List Bound) (xs : List Step) (i : ℕ) (x : Step) (old own new : List Bool) (all : Bound → Bool) → i < length xs → x ≡ get_or xs i x → length bounds ≤ 1024
+pub any_told : (bounds : List Bound) (xs : List Step) (i : ℕ) (x : Step) (old own new : List ℕ) (all : Bound → Bool) → i < length xs → x ≡ get_or xs i x → length bounds ≤ 1024
     → AreBits (length bounds) own (λ k. step_keeps bounds x (get_or bounds k Default)) → AreBits 1024 new (λ k. bit old k || bit own k) → AnyTold bounds xs i old all → AnyTold bounds xs (i + 1) new all
 any_told bounds xs i x old own new all lt at small mine both told k h =
     let before = rw (next xs i x lt at) at (told k h) in

@@ -3,18 +3,18 @@ ghost use Rattle.prune_steps.specs.Bits.{bit, in_run, AreBits};
 
 use std::marker::Model;
 
-/// A set of at most 1,024 children, seen as its bits. It takes no memory.
+/// A set of at most 1,024 children, seen as the words of its bits. It takes no memory.
 #[derive(Drop)]
 pub struct KeptSet {
-    bits: [bool; 1024],
+    words: [u128; 8],
 }
 
 impl Model for KeptSet {
-    ghost use Rattle.std.specs.Prelude.{List, Bool};
+    ghost use Rattle.std.specs.Prelude.{List, ℕ};
 
-    ghost Value = { List Bool };
+    ghost Value = { List ℕ };
 
-    ghost view = { λ s. s.bits };
+    ghost view = { λ s. s.words };
 }
 
 impl KeptSet {
@@ -22,8 +22,15 @@ impl KeptSet {
     pub(crate) fn none() -> KeptSet
         ensures { AreBits 1024 result (λ k. false) }
     {
+        KeptSet { words: [0; 8] }
+    }
+
+    /// All of them.
+    pub fn all() -> KeptSet
+        ensures { AreBits 1024 result (λ k. true) }
+    {
         KeptSet {
-            bits: [false; 1024],
+            words: [u128::MAX; 8],
         }
     }
 
@@ -32,15 +39,16 @@ impl KeptSet {
         requires { child < 1024 }
         ensures { result ≡ bit self.now child }
     {
-        self.bits[child]
+        (self.words[child / 128] >> (child % 128)) & 1 == 1
     }
 
     /// Makes it the set of all of the first children.
     pub(crate) fn fill(&mut self, all: bool)
         ensures { AreBits 1024 self.new (λ k. all) }
     {
-        for i in 0..1024 {
-            self.bits[i] = all;
+        let word = if all { u128::MAX } else { 0 };
+        for i in 0..8 {
+            self.words[i] = word;
         }
     }
 
@@ -49,8 +57,9 @@ impl KeptSet {
         requires { to ≤ 1024 }
         ensures { AreBits 1024 self.new (in_run from to) }
     {
-        for i in 0..1024 {
-            self.bits[i] = from <= i && i < to;
+        self.fill(false);
+        for child in from..to {
+            self.add_if(child, true);
         }
     }
 
@@ -60,16 +69,16 @@ impl KeptSet {
         ensures { AreBits 1024 self.new (λ k. bit self.old k || ((k == child) && yes)) }
     {
         if yes {
-            self.bits[child] = true;
+            self.words[child / 128] |= 1 << (child % 128);
         }
     }
 
     /// Keeps the children that the other set has too.
-    pub(crate) fn meet(&mut self, other: &KeptSet)
+    pub fn meet(&mut self, other: &KeptSet)
         ensures { AreBits 1024 self.new (λ k. bit self.old k && bit other.now k) }
     {
-        for i in 0..1024 {
-            self.bits[i] = self.bits[i] && other.bits[i];
+        for i in 0..8 {
+            self.words[i] &= other.words[i];
         }
     }
 
@@ -77,8 +86,8 @@ impl KeptSet {
     pub(crate) fn join(&mut self, other: &KeptSet)
         ensures { AreBits 1024 self.new (λ k. bit self.old k || bit other.now k) }
     {
-        for i in 0..1024 {
-            self.bits[i] = self.bits[i] || other.bits[i];
+        for i in 0..8 {
+            self.words[i] |= other.words[i];
         }
     }
 }

@@ -13,4 +13,4 @@ abbrev pub decreases-push_led : goal.decreases-push_led
 decreases-push_led l = 2 * height (seen l.tree.now) + 1
 
 abbrev pub invariant-push_below-loop-k : goal.invariant-push_below-loop-k
-invariant-push_below-loop-k l = Going (keeps_for l.prunes l.item (map cond_tree l.conds)) (seen l.fn.tree) l.child-items l.kept.items l.k l.tables.items l.fn.tables.items l.leaves.items l.fn.leaves.items
+invariant-push_below-loop-k l = Going (keeps_for l.prunes l.item (map cond_tree l.conds)) (seen l.fn.tree) l.child-items l.kept l.k l.tables.items l.fn.tables.items l.leaves.items l.fn.leaves.items

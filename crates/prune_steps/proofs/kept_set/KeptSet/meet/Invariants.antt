@@ -1,9 +1,9 @@
-use Rattle.std.proofs.Common.{◌≡◌, ℕ, ◌<◌, ◌≤◌, ◌&&◌, false, get_or}
+use Rattle.std.proofs.Common.{◌≡◌, ℕ, ◌<◌, ◌≤◌, get_or, bit_and}
 use Rattle.prune_steps.proofs.kept_set.KeptSet.meet.Given as goal
 
--- the bits so far are joined, the others are as they were
+-- the words so far are done, the others are as they were
 abbrev pub invariant-loop-i : goal.invariant-loop-i
 invariant-loop-i l = record {
-  done : (k : ℕ) → k < l.i → get_or l.self-inside.bits k false ≡ (get_or l.initial.self-inside.bits k false && get_or l.other-inside.bits k false);
-  rest : (k : ℕ) → l.i ≤ k → get_or l.self-inside.bits k false ≡ get_or l.initial.self-inside.bits k false;
+  done : (j : ℕ) → j < l.i → get_or l.self-inside.words j 0 ≡ bit_and (get_or l.initial.self-inside.words j 0) (get_or l.other-inside.words j 0);
+  rest : (j : ℕ) → l.i ≤ j → get_or l.self-inside.words j 0 ≡ get_or l.initial.self-inside.words j 0;
 }
