@@ -1,6 +1,5 @@
 use Rattle.std.proofs.Common.{◌≡◌, sym, subst, ◌∙◌, arith}
 use Rattle.std.specs.Prelude.{IfOk}
-use Rattle.cond_logic.specs.Trees.{cond_tree}
 use Rattle.prune_steps.specs.Atoms.{asked}
 use Rattle.prune_steps.proofs.CondTrees.{part_less, and_less, or_less, given_one, given_many, none_given, some_given}
 use Rattle.prune_steps.proofs.atoms.+given.Goals as goal

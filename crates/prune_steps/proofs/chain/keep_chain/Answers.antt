@@ -1,4 +1,4 @@
-use Rattle.std.proofs.Common.{ℕ, ◌≡◌, ◌*◌, ◌<◌, ◌≤◌, true, false, length, subst, sym, arith}
+use Rattle.std.proofs.Common.{◌*◌, ◌<◌, ◌≤◌, true, false, length, subst, sym, arith}
 use Rattle.part_bounds.specs.Stored.{stored, width, passes, Splits}
 use Rattle.part_bounds.proofs.Strategies.{ranges_have_points}
 use Rattle.part_bounds.proofs.StoredLaws.{short}

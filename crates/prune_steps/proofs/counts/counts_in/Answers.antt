@@ -1,6 +1,5 @@
-use Rattle.std.proofs.Common.{◌≡◌, ℕ, zero, suc, ◌+◌, ◌<◌, ◌≤◌, get_or, length, sym, ap, ◌∙◌, arith, add-one}
+use Rattle.std.proofs.Common.{sym, ◌∙◌, arith}
 use Rattle.part_bounds.specs.Stored.{owners}
-use Rattle.prune_steps.specs.Lists.{owned_by}
 use Rattle.prune_steps.proofs.ListLaws.{owner_within, owned_start, owned_next, owned_end}
 use Rattle.prune_steps.proofs.counts.counts_in.Goals as goal
 

@@ -1,4 +1,4 @@
-use Rattle.std.proofs.Common.{sym, ◌∙◌, ◌++◌}
+use Rattle.std.proofs.Common.{◌∙◌, ◌++◌}
 use Rattle.cond_logic.specs.Rewriting.{pushed, with_args}
 use Rattle.cond_logic.specs.Tuples.{put}
 use Rattle.cond_logic.proofs.Bound.{bound_true}

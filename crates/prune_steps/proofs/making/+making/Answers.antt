@@ -1,6 +1,5 @@
 use Rattle.std.proofs.Common.{◌≡◌, ◌++◌, [], ◌∷◌, false, sym, ap, subst, ◌∙◌, arith, rules}
 use Rattle.std.proofs.lemmas.Result.{IfOk-weaker}
-use Rattle.bound_forms.specs.declared.partition_bound.Bound.{Bound}
 use Rattle.cond_logic.specs.Trees.{cond_tree, inverted}
 use Rattle.prune_steps.specs.Atoms.{asked, given}
 use Rattle.prune_steps.specs.Kept.{part_keeps, key_keeps, full_key}

@@ -1,4 +1,4 @@
-use Rattle.std.proofs.Common.{◌≡◌, ◌+◌, ◌*◌, map, take}
+use Rattle.std.proofs.Common.{◌+◌, ◌*◌, map, take}
 use Rattle.std.specs.List.{AllZip}
 use Rattle.cond_logic.specs.Trees.{cond_tree, listed}
 use Rattle.prune_steps.specs.Atoms.{asked}

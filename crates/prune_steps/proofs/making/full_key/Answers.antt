@@ -1,6 +1,4 @@
-use Rattle.std.proofs.Common.{true, length, ap}
-use Rattle.std.specs.Prelude.{None}
-use Rattle.pg_values.specs.declared.strategy.Strategy.TheVariants.{Hash as ByHash}
+use Rattle.std.proofs.Common.{length, ap}
 use Rattle.bound_forms.specs.declared.level.KeyColumn.{KeyColumn}
 use Rattle.cond_logic.specs.Trees.{cond_tree}
 use Rattle.prune_steps.specs.Atoms.{asked}

@@ -1,4 +1,4 @@
-use Rattle.std.proofs.Common.{◌≡◌, ◌+◌, length, nat_lt, slice_index_or, subst}
+use Rattle.std.proofs.Common.{◌+◌, length, nat_lt, slice_index_or, subst}
 use Rattle.bound_forms.specs.declared.partition_bound.Bound.TheVariants.{Default}
 use Rattle.prune_steps.specs.Bits.{AreBits}
 use Rattle.prune_steps.specs.Chains.{chain_keeps}
