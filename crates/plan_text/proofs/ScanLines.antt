@@ -1,18 +1,17 @@
 -- The scans among the lines of a plan.
 use Rattle.std.proofs.Common.{◌≡◌, ℕ, zero, suc, ◌+◌, ◌-◌, ◌*◌, ◌==◌, Bool, true, false, if◌then◌else◌, List, [], ◌∷◌, ◌++◌, map, replicate, refl, sym, ap, ◌∙◌, append-nil, append_assoc}
-use Rattle.std.specs.Prelude.{codes, decimal}
+use Rattle.std.specs.Prelude.{None, codes, decimal}
 use Rattle.std.specs.List.{flat_map}
 use Rattle.std.proofs.lemmas.List.Concat.{flat_map-append}
 use Rattle.cond_logic.specs.declared.select.SortKey.{SortKey}
-use Rattle.cond_logic.specs.Asked.{OutputTree, SelectMeant}
+use Rattle.cond_logic.specs.Asked.{OutputTree}
 use Rattle.cond_logic.specs.Tables.{Leaf}
-use Rattle.plan_tree.specs.Plans.{PlannedItem, Planned, is_empty}
+use Rattle.plan_tree.specs.Plans.{PlannedItem, Planned, is_empty, scan_conjuncts, join_conjuncts}
 use Rattle.plan_text.specs.declared.named_item.NamedItem.{NamedItem}
-use Rattle.plan_text.specs.Conditions.{all_text, several}
-use Rattle.plan_text.specs.Keys.{keys}
+use Rattle.plan_text.specs.Conditions.{several}
 use Rattle.plan_text.specs.Names.{alias_behind}
-use Rattle.plan_text.specs.Nodes.{Node, arrow, detail_line, alone, over, each, both}
-use Rattle.plan_text.specs.Plans.{scan_conjuncts, join_conjuncts, detail, filters, join_filters, scan_text, scan, scans, is_one_scan, removed_detail, item_scans, item, nested_loop, joined, result, joins, items, rows, sort_detail, sorted, limited}
+use Rattle.plan_text.specs.Nodes.{Node, arrow, detail_line, alone, over, both}
+use Rattle.plan_text.specs.Plans.{Counts, detail, filters, join_filters, scan_text, scan, scans, is_one_scan, removed_detail, item_scans, item, nested_loop, joined, result, items, rows, sort_detail, sorted, limited}
 use Rattle.plan_text.specs.ScanLines.{unspaced, following, first_or, behind_arrow, scan_in, item_leaves, plan_leaves, ScansAreOfTheLeaves}
 
 -- ---- a line
@@ -101,67 +100,70 @@ sort_is = record { is_text = record { spaces = refl; unarrowed = refl }; scan = 
 limit_is : IsOther (codes "Limit")
 limit_is = record { is_text = record { spaces = refl; unarrowed = refl }; scan = refl }
 
--- ---- items
+-- ---- items, of a plan that was not run
+
+abbrev unrun : Counts
+unrun = None
 
 module _ (ns : List NamedItem) where
   scan_is : (n : ℕ) (leaf : Leaf) → IsText (scan_text ns n leaf)
   scan_is n leaf = record { spaces = refl; unarrowed = refl }
 
-  scan_scans : (n : ℕ) (details : List (List ℕ)) (leaf : Leaf) (d : ℕ) → AreDetails details → flat_map scan_in (scan ns n details leaf d) ≡ (leaf.name ++ alias_behind ns n) ∷ []
+  scan_scans : (n : ℕ) (details : List (List ℕ)) (leaf : Leaf) (d : ℕ) → AreDetails details → flat_map scan_in (scan ns unrun n details leaf d) ≡ (leaf.name ++ alias_behind ns n) ∷ []
   scan_scans n details leaf d h =
       ap (λ l. l ++ flat_map scan_in (map (detail_line d) details)) (scan_of_node d (scan_text ns n leaf) (scan_is n leaf))
       ∙ ap (λ l. (leaf.name ++ alias_behind ns n) ∷ l) (details_scan_nothing d details h)
 
-  scans_scan : (n : ℕ) (details : List (List ℕ)) (ls : List Leaf) (d : ℕ) → AreDetails details → flat_map scan_in (scans ns n details ls d) ≡ map (λ leaf. leaf.name ++ alias_behind ns n) ls
+  scans_scan : (n : ℕ) (details : List (List ℕ)) (ls : List Leaf) (d : ℕ) → AreDetails details → flat_map scan_in (scans ns unrun n details ls d) ≡ map (λ leaf. leaf.name ++ alias_behind ns n) ls
   scans_scan n details [] d h = refl
   scans_scan n details (l ∷ ls) d h =
-      flat_map-append scan_in (scan ns n details l d) (scans ns n details ls d)
-      ∙ ap (λ x. x ++ flat_map scan_in (scans ns n details ls d)) (scan_scans n details l d h)
+      flat_map-append scan_in (scan ns unrun n details l d) (scans ns unrun n details ls d)
+      ∙ ap (λ x. x ++ flat_map scan_in (scans ns unrun n details ls d)) (scan_scans n details l d h)
       ∙ ap (λ x. (l.name ++ alias_behind ns n) ∷ x) (scans_scan n details ls d h)
 
-  item_scan : (i : PlannedItem) (d : ℕ) → flat_map scan_in (item ns i d) ≡ item_leaves ns i
+  item_scan : (i : PlannedItem) (d : ℕ) → flat_map scan_in (item ns unrun i d) ≡ item_leaves ns i
   item_scan i d = by (is_one_scan i)
     where
-      here : (e : ℕ) → flat_map scan_in (item_scans ns i e) ≡ item_leaves ns i
+      here : (e : ℕ) → flat_map scan_in (item_scans ns unrun i e) ≡ item_leaves ns i
       here e = scans_scan i.number (filters ns i) i.leaves e (filter_details (several ns (scan_conjuncts i)))
 
-      by : (b : Bool) → flat_map scan_in ((if b then item_scans ns i else over (codes "Append") (removed_detail i.removed) (item_scans ns i)) d) ≡ item_leaves ns i
+      by : (b : Bool) → flat_map scan_in ((if b then item_scans ns unrun i else over (codes "Append") (removed_detail i.removed) (item_scans ns unrun i)) d) ≡ item_leaves ns i
       by true = here d
-      by false = over_scans (codes "Append") (removed_detail i.removed) (item_scans ns i) (item_leaves ns i) append_is (removed_details i.removed) here d
+      by false = over_scans (codes "Append") (removed_detail i.removed) (item_scans ns unrun i) (item_leaves ns i) append_is (removed_details i.removed) here d
 
-  joined_scan : (is : List PlannedItem) (left : Node) (leaves : List (List ℕ)) → ((d : ℕ) → flat_map scan_in (left d) ≡ leaves) → (d : ℕ) → flat_map scan_in (joined ns left is d) ≡ leaves ++ flat_map (item_leaves ns) is
+  joined_scan : (is : List PlannedItem) (left : Node) (leaves : List (List ℕ)) → ((d : ℕ) → flat_map scan_in (left d) ≡ leaves) → (d : ℕ) → flat_map scan_in (joined ns unrun left is d) ≡ leaves ++ flat_map (item_leaves ns) is
   joined_scan [] left leaves of_left d = of_left d ∙ sym (append-nil leaves)
   joined_scan (i ∷ is) left leaves of_left d =
-      joined_scan is (nested_loop ns left i) (leaves ++ item_leaves ns i) loop d ∙ append_assoc leaves (item_leaves ns i) (flat_map (item_leaves ns) is)
+      joined_scan is (nested_loop ns unrun left i) (leaves ++ item_leaves ns i) loop d ∙ append_assoc leaves (item_leaves ns i) (flat_map (item_leaves ns) is)
     where
-      sides : (e : ℕ) → flat_map scan_in (both left (item ns i) e) ≡ leaves ++ item_leaves ns i
+      sides : (e : ℕ) → flat_map scan_in (both left (item ns unrun i) e) ≡ leaves ++ item_leaves ns i
       sides e =
-          flat_map-append scan_in (left e) (item ns i e) ∙ ap (λ l. l ++ flat_map scan_in (item ns i e)) (of_left e)
+          flat_map-append scan_in (left e) (item ns unrun i e) ∙ ap (λ l. l ++ flat_map scan_in (item ns unrun i e)) (of_left e)
           ∙ ap (λ l. leaves ++ l) (item_scan i e)
 
-      loop : (e : ℕ) → flat_map scan_in (nested_loop ns left i e) ≡ leaves ++ item_leaves ns i
-      loop = over_scans (codes "Nested Loop") (join_filters ns i) (both left (item ns i)) (leaves ++ item_leaves ns i) loop_is (join_details (several ns (join_conjuncts i))) sides
+      loop : (e : ℕ) → flat_map scan_in (nested_loop ns unrun left i e) ≡ leaves ++ item_leaves ns i
+      loop = over_scans (codes "Nested Loop") (join_filters ns i) (both left (item ns unrun i)) (leaves ++ item_leaves ns i) loop_is (join_details (several ns (join_conjuncts i))) sides
 
-  items_scan : (is : List PlannedItem) (d : ℕ) → flat_map scan_in (items ns is d) ≡ flat_map (item_leaves ns) is
+  items_scan : (is : List PlannedItem) (d : ℕ) → flat_map scan_in (items ns unrun is d) ≡ flat_map (item_leaves ns) is
   items_scan [] d = alone_scans (codes "Result") [] d result_is tt
-  items_scan (i ∷ is) d = joined_scan is (item ns i) (item_leaves ns i) (item_scan i) d
+  items_scan (i ∷ is) d = joined_scan is (item ns unrun i) (item_leaves ns i) (item_scan i) d
 
-  rows_scan : (p : Planned) (d : ℕ) → flat_map scan_in (rows ns p d) ≡ plan_leaves ns p
+  rows_scan : (p : Planned) (d : ℕ) → flat_map scan_in (rows ns unrun p d) ≡ plan_leaves ns p
   rows_scan p d = by (is_empty p)
     where
-      by : (b : Bool) → flat_map scan_in ((if b then result (codes "One-Time Filter: false" ∷ []) else items ns p.items) d) ≡ (if b then [] else flat_map (item_leaves ns) p.items)
+      by : (b : Bool) → flat_map scan_in ((if b then result unrun (codes "One-Time Filter: false" ∷ []) else items ns unrun p.items) d) ≡ (if b then [] else flat_map (item_leaves ns) p.items)
       by true = alone_scans (codes "Result") (codes "One-Time Filter: false" ∷ []) d result_is (refl, tt)
       by false = items_scan p.items d
 
-  sorted_scan : (os : List OutputTree) (ks : List SortKey) (n : Node) (leaves : List (List ℕ)) → ((d : ℕ) → flat_map scan_in (n d) ≡ leaves) → (d : ℕ) → flat_map scan_in (sorted ns os ks n d) ≡ leaves
+  sorted_scan : (os : List OutputTree) (ks : List SortKey) (n : Node) (leaves : List (List ℕ)) → ((d : ℕ) → flat_map scan_in (n d) ≡ leaves) → (d : ℕ) → flat_map scan_in (sorted ns unrun os ks n d) ≡ leaves
   sorted_scan os [] n leaves of_node d = of_node d
   sorted_scan os (k ∷ ks) n leaves of_node d = over_scans (codes "Sort") (sort_detail ns os (k ∷ ks)) n leaves sort_is (refl, tt) of_node d
 
-limited_scan : (is_cut : Bool) (n : Node) (leaves : List (List ℕ)) → ((d : ℕ) → flat_map scan_in (n d) ≡ leaves) → (d : ℕ) → flat_map scan_in (limited is_cut n d) ≡ leaves
+limited_scan : (is_cut : Bool) (n : Node) (leaves : List (List ℕ)) → ((d : ℕ) → flat_map scan_in (n d) ≡ leaves) → (d : ℕ) → flat_map scan_in (limited unrun is_cut n d) ≡ leaves
 limited_scan false n leaves of_node d = of_node d
 limited_scan true n leaves of_node d = over_scans (codes "Limit") [] n leaves limit_is tt of_node d
 
 pub of_the_leaves : ScansAreOfTheLeaves
 of_the_leaves ns is_cut m p =
-    limited_scan is_cut (sorted ns m.outputs m.order (rows ns p)) (plan_leaves ns p)
-    (sorted_scan ns m.outputs m.order (rows ns p) (plan_leaves ns p) (rows_scan ns p)) 0
+    limited_scan is_cut (sorted ns unrun m.outputs m.order (rows ns unrun p)) (plan_leaves ns p)
+    (sorted_scan ns m.outputs m.order (rows ns unrun p) (plan_leaves ns p) (rows_scan ns p)) 0

@@ -1,6 +1,6 @@
 -- The texts of a plan, part by part.
 use Rattle.std.proofs.Common.{◌≡◌, ℕ, ◌+◌, ◌==◌, ◌<◌, false, List, [], ◌∷◌, ◌++◌, codes, map, drop, take, length, get_or, add-one, arith, refl, sym, ap, ◌∙◌, append_assoc, Result, Ok, Err}
-use Rattle.std.specs.Prelude.{OnOk}
+use Rattle.std.specs.Prelude.{OnOk, Option, option_map}
 use Rattle.std.specs.List.{flat_map}
 use Rattle.std.proofs.Math.Seq.{take-suc}
 use Rattle.std.proofs.lemmas.List.{flat_map_more, map-append}
@@ -10,11 +10,13 @@ use Rattle.cond_logic.specs.Asked.{OutputTree}
 use Rattle.cond_logic.specs.Conjuncts as conditions
 use Rattle.cond_logic.specs.Trees.{CondTree, CondTrees, no_more, and_more, all_of, any_of, inverted, compares, null_test, known, listed, cond_tree}
 use Rattle.prune_steps.proofs.CondTrees.{parts_step}
+use Rattle.plan_tree.specs.Counts.{join_count, given_count}
 use Rattle.plan_tree.specs.Plans.{PlannedItem}
+use Rattle.plan_tree.specs.declared.count.Count.{Count}
 use Rattle.plan_text.specs.declared.named_item.NamedItem.{NamedItem}
 use Rattle.plan_text.specs.Conditions.{conjuncts, all_conjuncts, condition}
-use Rattle.plan_text.specs.Nodes.{Node, alone}
-use Rattle.plan_text.specs.Plans.{joined, joins, join_filters, nested_loop, item, sort_detail, sorted}
+use Rattle.plan_text.specs.Nodes.{Node, counted, alone}
+use Rattle.plan_text.specs.Plans.{Counts, told, joined, joins, join_filters, nested_loop, item, sort_detail, sorted}
 
 -- ---- the conjuncts of an AND
 
@@ -42,24 +44,24 @@ mutual
 -- ---- joins
 
 -- the last is joined with all before it
-joined_last : (ns : List NamedItem) (n : Node) (is : List PlannedItem) (i : PlannedItem) → joined ns n (is ++ i ∷ []) ≡ nested_loop ns (joined ns n is) i
-joined_last ns n [] i = refl
-joined_last ns n (j ∷ js) i = joined_last ns (nested_loop ns n j) js i
+joined_last : (ns : List NamedItem) (c : Counts) (n : Node) (is : List PlannedItem) (i : PlannedItem) → joined ns c n (is ++ i ∷ []) ≡ nested_loop ns c (joined ns c n is) i
+joined_last ns c n [] i = refl
+joined_last ns c n (j ∷ js) i = joined_last ns c (nested_loop ns c n j) js i
 
-pub joins_last : (ns : List NamedItem) (is : List PlannedItem) (i : PlannedItem) (d : ℕ) → 0 < length is → joins ns (is ++ i ∷ []) d ≡ nested_loop ns (joins ns is) i d
-joins_last ns [] i d some = absurd (omega (arith, some))
-joins_last ns (j ∷ js) i d some = ap (λ (n : Node). n d) (joined_last ns (item ns j) js i)
+pub joins_last : (ns : List NamedItem) (c : Counts) (is : List PlannedItem) (i : PlannedItem) (d : ℕ) → 0 < length is → joins ns c (is ++ i ∷ []) d ≡ nested_loop ns c (joins ns c is) i d
+joins_last ns c [] i d some = absurd (omega (arith, some))
+joins_last ns c (j ∷ js) i d some = ap (λ (n : Node). n d) (joined_last ns c (item ns c j) js i)
 
 -- a loop is told, the items before and the last
-pub loop_told : (ns : List NamedItem) (is : List PlannedItem) (i : PlannedItem) (all : List PlannedItem) (d : ℕ) (o0 o1 o2 o3 details : List (List ℕ)) → 0 < length is → all ≡ is ++ i ∷ [] → details ≡ join_filters ns i
-    → o1 ≡ o0 ++ alone (codes "Nested Loop") details d → o2 ≡ o1 ++ joins ns is (d + 1) → o3 ≡ o2 ++ item ns i (d + 1) → o3 ≡ o0 ++ joins ns all d
-loop_told ns is i all d o0 o1 o2 o3 details some split asked head left right =
-    let a = alone (codes "Nested Loop") (join_filters ns i) d in
-    let b = joins ns is (d + 1) in
-    let c = item ns i (d + 1) in
-    let first : o1 ≡ o0 ++ a = head ∙ ap (λ x. o0 ++ alone (codes "Nested Loop") x d) asked in
-    right ∙ ap (λ l. l ++ c) (left ∙ ap (λ l. l ++ b) first) ∙ append_assoc (o0 ++ a) b c ∙ append_assoc o0 a (b ++ c)
-    ∙ ap (λ l. o0 ++ l) (sym (joins_last ns is i d some) ∙ ap (λ l. joins ns l d) (sym split))
+pub loop_told : (ns : List NamedItem) (c : Counts) (is : List PlannedItem) (i : PlannedItem) (all : List PlannedItem) (d : ℕ) (count : Option Count) (o0 o1 o2 o3 details : List (List ℕ)) → 0 < length is → all ≡ is ++ i ∷ [] → count ≡ option_map (join_count i.number) c → details ≡ join_filters ns i
+    → o1 ≡ o0 ++ alone (counted (codes "Nested Loop") count) details d → o2 ≡ o1 ++ joins ns c is (d + 1) → o3 ≡ o2 ++ item ns c i (d + 1) → o3 ≡ o0 ++ joins ns c all d
+loop_told ns c is i all d count o0 o1 o2 o3 details some split loops asked head left right =
+    let a = alone (told (join_count i.number) c (codes "Nested Loop")) (join_filters ns i) d in
+    let b = joins ns c is (d + 1) in
+    let e = item ns c i (d + 1) in
+    let first : o1 ≡ o0 ++ a = head ∙ ap (λ n. o0 ++ alone (counted (codes "Nested Loop") n) details d) loops ∙ ap (λ x. o0 ++ alone (told (join_count i.number) c (codes "Nested Loop")) x d) asked in
+    right ∙ ap (λ l. l ++ e) (left ∙ ap (λ l. l ++ b) first) ∙ append_assoc (o0 ++ a) b e ∙ append_assoc o0 a (b ++ e)
+    ∙ ap (λ l. o0 ++ l) (sym (joins_last ns c is i d some) ∙ ap (λ l. joins ns c l d) (sym split))
 
 pub some_items : {X : Type 0} (f : X → PlannedItem) (xs : List X) → (length xs == 0) ≡ false → 0 < length (map f xs)
 some_items f [] none = absurd (cc)
@@ -68,11 +70,12 @@ some_items f (x ∷ xs) some = omega arith
 -- ---- ORDER BY
 
 -- a sort is told, and what stands below it
-pub sorted_told : (ns : List NamedItem) (os : List OutputTree) (order : List SortKey) (n : Node) (d : ℕ) (o0 o1 o2 details : List (List ℕ)) → (length order == 0) ≡ false → details ≡ sort_detail ns os order
-    → o1 ≡ o0 ++ alone (codes "Sort") details d → o2 ≡ o1 ++ n (d + 1) → o2 ≡ o0 ++ sorted ns os order n d
-sorted_told ns os [] n d o0 o1 o2 details none keyed head rest = absurd (cc)
-sorted_told ns os (k ∷ ks) n d o0 o1 o2 details some keyed head rest =
-    rest ∙ ap (λ l. l ++ n (d + 1)) (head ∙ ap (λ x. o0 ++ alone (codes "Sort") x d) keyed) ∙ append_assoc o0 (alone (codes "Sort") (sort_detail ns os (k ∷ ks)) d) (n (d + 1))
+pub sorted_told : (ns : List NamedItem) (c : Counts) (os : List OutputTree) (order : List SortKey) (n : Node) (d : ℕ) (count : Option Count) (o0 o1 o2 details : List (List ℕ)) → (length order == 0) ≡ false → count ≡ option_map given_count c → details ≡ sort_detail ns os order
+    → o1 ≡ o0 ++ alone (counted (codes "Sort") count) details d → o2 ≡ o1 ++ n (d + 1) → o2 ≡ o0 ++ sorted ns c os order n d
+sorted_told ns c os [] n d count o0 o1 o2 details none given keyed head rest = absurd (cc)
+sorted_told ns c os (k ∷ ks) n d count o0 o1 o2 details some given keyed head rest =
+    let first = head ∙ ap (λ m. o0 ++ alone (counted (codes "Sort") m) details d) given ∙ ap (λ x. o0 ++ alone (told given_count c (codes "Sort")) x d) keyed in
+    rest ∙ ap (λ l. l ++ n (d + 1)) first ∙ append_assoc o0 (alone (told given_count c (codes "Sort")) (sort_detail ns os (k ∷ ks)) d) (n (d + 1))
 
 -- ---- scans
 
