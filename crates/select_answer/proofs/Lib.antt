@@ -1,4 +1,6 @@
+pub mod Agreeing
 pub mod Bytes
+pub mod Counting
 pub mod Courses
 pub mod Gathering
 pub mod Items
