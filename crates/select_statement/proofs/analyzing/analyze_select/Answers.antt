@@ -1,9 +1,8 @@
-use Rattle.std.proofs.Common.{◌≡◌, ◌==◌, ◌≤◌, ◌∙◌, [], ap, length, map, subst, sym, true, false}
+use Rattle.std.proofs.Common.{◌==◌, ◌∙◌, List, ap, length, sym}
 use Rattle.sql_ast.specs.Queries.{joined_tree, select_tree}
 use Rattle.sql_binder.specs.Selects.{from_of}
 use Rattle.sql_ast.specs.declared.select.FromItem.{FromItem}
-use Rattle.stores.specs.declared.stores.Stores.{Stores}
-use Rattle.statement_steps.proofs.Steps.{goes, may_go_on}
+use Rattle.statement_steps.proofs.Steps.{goes}
 use Rattle.select_statement.specs.Explained.{analyzed_items}
 use Rattle.select_statement.specs.Selected.{begins}
 use Rattle.select_statement.proofs.Analyzed.{items_none, items_some}

@@ -14,7 +14,7 @@ returns-in_err-found c =
     let names = c.args.names.now in
     let t = select_tree c.args.select.now in
     let args = values_by c.args.how c.args.params.now in
-    handed_on c.from_residual-in_err-found.ensures.1
+    handed_on c.from_residual.ensures.1
     (stops (gathered c.args.how names c.args.params.now c.args.caller t) (λ (g : Found). follow (planned_under c.args.how names c.args.caller args g) (run_counted c.args.caller args t g)) c.in_err-found.ensures.step)
 
 pub returns-in_err-args : goal.returns-in_err-args

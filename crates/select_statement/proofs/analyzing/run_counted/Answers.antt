@@ -19,5 +19,5 @@ returns-in_err-table c = out_here c.from_residual-in_err-table.ensures.1
 
 pub returns : goal.returns
 returns c =
-    run_done c.args.caller c.args.args.now (select_tree c.args.select.now) (found_by c.args.found.now) (planned c.args.plan.now) c.in_ok-answer_counted.answer_counted c.in_ok-table.table c.answer_counted.new.counts c.args.stores.now c.requires.may c.in_ok-answer_counted.ensures.step
+    run_done c.args.caller c.args.args.now (select_tree c.args.select.now) (found_by c.args.found.now) (planned c.args.plan.now) c.in_ok-answer_counted.field-0 c.in_ok-table.table c.answer_counted.new.counts c.args.stores.now c.requires.may c.in_ok-answer_counted.ensures.step
     (λ h stands. c.in_ok-answer_counted.ensures.counts h stands) c.in_ok-table.ensures

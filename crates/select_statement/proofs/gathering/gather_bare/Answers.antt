@@ -13,7 +13,7 @@ use Rattle.select_statement.proofs.Steps.{cancelled_here, not_cancelled}
 use Rattle.select_statement.proofs.gathering.gather_bare.Goals as goal
 
 pub returns-in_err-snap-clause-step : goal.returns-in_err-snap-clause-step
-returns-in_err-snap-clause-step c = out_here c.from_residual-in_err-snap.ensures.1
+returns-in_err-snap-clause-step c = out_here c.from_residual.ensures.1
 
 pub returns-in_err-ask-clause-step : goal.returns-in_err-ask-clause-step
 returns-in_err-ask-clause-step c =
