@@ -3,11 +3,10 @@ use Rattle.std.proofs.lemmas.List.Elements.{All-nil}
 use Rattle.row_router.specs.Seen.{seen}
 use Rattle.sql_ast.specs.Queries.{select_tree}
 use Rattle.cond_logic.specs.Trees.{cond_tree}
-use Rattle.cond_logic.specs.Asked.{select_meant}
 use Rattle.plan_tree.specs.Plans.{Planned, CanRead, plan_for}
 use Rattle.plan_tree.specs.Prunable.{CanPrune}
 use Rattle.statement_steps.proofs.Parts.{out_here}
-use Rattle.statement_steps.proofs.Steps.{goes, handed_on, moved, out_behind, stops}
+use Rattle.statement_steps.proofs.Steps.{goes, handed_on, moved, stops}
 use Rattle.select_statement.specs.Explained.{run_counted}
 use Rattle.select_statement.specs.Gathered.{Found, found_by, gathered_bare}
 use Rattle.select_statement.specs.Selected.{bare_plan}

@@ -7,7 +7,7 @@ use Rattle.cond_logic.specs.Asked.{select_meant}
 use Rattle.plan_tree.specs.Plans.{Planned, CanRead, plan_for}
 use Rattle.plan_tree.specs.Prunable.{CanPrune}
 use Rattle.statement_steps.proofs.Steps.{goes, handed_on, may_go_on, moved, out_behind, stops}
-use Rattle.select_statement.specs.Gathered.{found_by, gathered_bare}
+use Rattle.select_statement.specs.Gathered.{gathered_bare}
 use Rattle.select_statement.specs.Selected.{answered, bare, begins}
 use Rattle.select_statement.proofs.Analyzed.{bare_answered, bare_step}
 use Rattle.select_statement.proofs.statement.select_bare.Goals as goal
