@@ -145,10 +145,10 @@ module _ (prunes : Bool) (names : List (List ℕ)) (params : List Param) (c : Ca
       follow_alike f (found_in (custom prunes) params c t) (found_in (custom prunes) [] c u) h (λ ns told. found_alike ((f h).events ++ h) ns (binds ns told))
       ∙ follow_from f (named_from names c [] (from_of u)) (found_in (custom prunes) [] c u) h (names_same names c (from_of t) (from_of u) same h)
 
-  told_alike : is_some (offset_of t) ≡ is_some (offset_of u) → (g : Found) (p : Planned) → told t g p ≡ told u g p
+  told_alike : is_some (offset_of t) ≡ is_some (offset_of u) → (g : Found) (p : Planned) → told t g None p ≡ told u g None p
   told_alike offsets g p =
-      ap (λ (is : List NamedItem). plan_table (plan_lines is (is_some (offset_of t) || is_some g.meant.limit) g.meant p)) (named_same (from_of t) (from_of u) g.trees same)
-      ∙ ap (λ (b : Bool). plan_table (plan_lines (named_items (from_of u) g.trees) (b || is_some g.meant.limit) g.meant p)) offsets
+      ap (λ (is : List NamedItem). plan_table (plan_lines is None (is_some (offset_of t) || is_some g.meant.limit) g.meant p)) (named_same (from_of t) (from_of u) g.trees same)
+      ∙ ap (λ (b : Bool). plan_table (plan_lines (named_items (from_of u) g.trees) None (b || is_some g.meant.limit) g.meant p)) offsets
 
   explains_alike : is_some (offset_of t) ≡ is_some (offset_of u) → (h : History) → BindsBehind h
       → follow (gathered (custom prunes) names params c t) (λ g. follow (planned_under (custom prunes) names c [] g) (printed t g)) h ≡ follow (gathered (custom prunes) names [] c u) (λ g. follow (planned_under (custom prunes) names c [] g) (printed u g)) h

@@ -1,3 +1,4 @@
+mod Analyzed
 pub mod Custom
 pub mod Few
 pub mod Giving

@@ -1,5 +1,5 @@
 -- The parts of a SELECT.
-use Rattle.std.proofs.Common.{Bool, Err, List, Ok, Result, ℕ, [], ap, false, refl, subst, sym, true, ◌+◌, ◌-◌, ◌∙◌, ◌≡◌}
+use Rattle.std.proofs.Common.{Bool, Err, List, None, Ok, Result, ℕ, [], ap, false, refl, subst, sym, true, ◌+◌, ◌-◌, ◌∙◌, ◌≡◌}
 use Rattle.pg_values.specs.Refusals.{IsAnswer}
 use Rattle.pg_values.specs.declared.answer.Answer.{Answer}
 use Rattle.pg_values.specs.declared.fault.Fault.{Fault}
@@ -33,7 +33,7 @@ use Rattle.sql_ast.specs.Queries.{SelectTree}
 use Rattle.select_statement.specs.Explained.{told, printed}
 use Rattle.select_statement.specs.Gathered.{Found}
 use Rattle.select_statement.specs.Lent.{IsLookFor}
-use Rattle.select_statement.specs.Selected.{Told, answered, outcome, told_by, told_of, uncancelled, with_reads}
+use Rattle.select_statement.specs.Selected.{answered, outcome, told_by, told_of, uncancelled, with_reads}
 use Rattle.select_statement.specs.declared.answered.Answered.{Answered}
 
 -- ---- a part by which nothing happens
@@ -71,7 +71,7 @@ read_for_it r now stores caller args m plan snap n before count fresh reads h s 
     let counted = subst (λ k. IsRead r now (select_course k args m (shown h s) plan before)) count (reads h s are) in
     subst (λ ls. IsRead r now (select_course (caller.sessions - 1) args m (shown h s) plan ls)) fresh counted
 
-lent : (stores : Stores) (caller : Caller) (snap : KeptSnapshot) (h : History) → IsLookFor stores caller snap → Stands stores h → AreLent stores.txs stores.rows snap h (look_of h caller.session caller.cmd)
+pub lent : (stores : Stores) (caller : Caller) (snap : KeptSnapshot) (h : History) → IsLookFor stores caller snap → Stands stores h → AreLent stores.txs stores.rows snap h (look_of h caller.session caller.cmd)
 lent stores caller snap h look stands = record { table = stands.all.txs; rows = stands.all.rows; past = look.past h stands.all.txs; snapshot = look.stands h stands.all.txs }
 
 -- the answer with what was read
@@ -101,7 +101,7 @@ answer_refused NoMemory stores caller args m plan snap may look answers = no_mem
 
 -- ---- a plan that is printed
 
-pub printed_done : (a : Answer) (stores : Stores) (caller : Caller) (t : SelectTree) (g : Found) (p : Planned) → MayAttempt stores caller → a ≡ told t g p → IsStep (λ (x : Answer). x) (Ok a) stores stores caller (caller.cmd + 1) (printed t g p)
+pub printed_done : (a : Answer) (stores : Stores) (caller : Caller) (t : SelectTree) (g : Found) (p : Planned) → MayAttempt stores caller → a ≡ told t g None p → IsStep (λ (x : Answer). x) (Ok a) stores stores caller (caller.cmd + 1) (printed t g p)
 printed_done a stores caller t g p may e = record {
   is = λ h stands at.
       subst (λ m. IsTold (λ (x : Answer). x) (Ok a) stores caller (caller.cmd + 1) h (made [] m)) e
@@ -112,10 +112,10 @@ printed_done a stores caller t g p may e = record {
 
 -- ---- a SELECT that cancels itself, or does not
 
-pub cancelled_here : (own : Bool) (f : Fault) (g : History → Made Told) (stores : Stores) (caller : Caller) → MayAttempt stores caller → own ≡ true → f ≡ statement_cancelled
-    → IsStep told_by (Err (stop.Refused f)) stores stores caller (caller.cmd + 1) (uncancelled own g)
-cancelled_here own f g stores caller may e is =
-    refused_here told_by f stores caller (caller.cmd + 1) (uncancelled own g) may (λ h stands. ap (λ b. uncancelled b g h) e ∙ ap (λ x. halted [] (Refused x)) (sym is))
+pub cancelled_here : {X T : Type 0} (see : X → T) (own : Bool) (f : Fault) (g : History → Made T) (stores : Stores) (caller : Caller) (n : ℕ) → MayAttempt stores caller → own ≡ true → f ≡ statement_cancelled
+    → IsStep see (Err (stop.Refused f)) stores stores caller n (uncancelled own g)
+cancelled_here see own f g stores caller n may e is =
+    refused_here see f stores caller n (uncancelled own g) may (λ h stands. ap (λ b. uncancelled b g h) e ∙ ap (λ x. halted [] (Refused x)) (sym is))
 
-pub not_cancelled : {r : Result Answered Stop} {stores : Stores} {caller : Caller} {n : ℕ} (own : Bool) (g : History → Made Told) → own ≡ false → IsStep told_by r stores stores caller n g → IsStep told_by r stores stores caller n (uncancelled own g)
-not_cancelled {r = r} {stores = stores} {caller = caller} {n = n} own g e step = subst (λ b. IsStep told_by r stores stores caller n (uncancelled b g)) (sym e) step
+pub not_cancelled : {X T : Type 0} {see : X → T} {r : Result X Stop} {stores : Stores} {caller : Caller} {n : ℕ} (own : Bool) (g : History → Made T) → own ≡ false → IsStep see r stores stores caller n g → IsStep see r stores stores caller n (uncancelled own g)
+not_cancelled {see = see} {r = r} {stores = stores} {caller = caller} {n = n} own g e step = subst (λ b. IsStep see r stores stores caller n (uncancelled b g)) (sym e) step

@@ -9,7 +9,7 @@ use Rattle.pg_values.specs.declared.fault.Fault.{Fault}
 use Rattle.pg_values.specs.declared.ids.TableNo.{TableNo}
 use Rattle.pg_values.specs.declared.value.Value.{Value}
 use Rattle.pg_values.specs.declared.which.Which.TheVariants.{TablesInFrom}
-use Rattle.refusals.specs.Refusals.{too_many, statement_cancelled}
+use Rattle.refusals.specs.Refusals.{too_many}
 use Rattle.history.specs.Transactions.{IsPast}
 use Rattle.history.specs.Snapshots.{TakenSnapshot}
 use Rattle.history.specs.History.{History, tx_events}
@@ -38,18 +38,15 @@ use Rattle.stores.specs.Events.{look_of}
 use Rattle.stores.specs.Laws.{LeavesAreHoused}
 use Rattle.stores.specs.Stand.{AllStand, Stands, IsSound}
 use Rattle.stores.specs.declared.stores.Stores.{Stores}
-use Rattle.statement_steps.specs.Made.{Made, Refused, halted}
+use Rattle.statement_steps.specs.Made.{Made, Refused}
 use Rattle.statement_steps.specs.Attempts.{MayAttempt}
 use Rattle.statement_steps.specs.declared.caller.Caller.{Caller}
 use Rattle.statement_steps.specs.declared.stop.Stop.{Stop}
-use Rattle.statement_steps.specs.declared.stop.Stop.TheVariants as stop
 use Rattle.statement_steps.specs.Known.{IsKnownTo}
 use Rattle.statement_steps.specs.Steps.{IsStep}
-use Rattle.statement_steps.proofs.Parts.{refused_here}
 use Rattle.statement_steps.specs.Below.{number_of}
 use Rattle.select_statement.specs.Lent.{HasLeaves, MayLock, IsTreeFor, IsLookFor}
-use Rattle.select_statement.specs.declared.answered.Answered.{Answered}
-use Rattle.select_statement.specs.Selected.{Told, told_by, outcome, asked_by, meant, uncancelled, trees_for}
+use Rattle.select_statement.specs.Selected.{outcome, asked_by, meant, trees_for}
 use Rattle.select_statement.proofs.Kept.{tables_kept}
 use Rattle.select_statement.proofs.Known.{tree_for}
 
@@ -205,15 +202,3 @@ none_meant view (Ok x) stores how params caller t items P many may step =
     let both : Err (Refused (too_many TablesInFrom)) ≡ Ok (view x) = sym refused ∙ told in
     absurd (cc)
 none_meant view (Err e) stores how params caller t items P many may step = tt
-
--- ---- a SELECT that cancels itself
-
-pub itself_refused : (b : Bool) (f : History → Made Told) (fault : Fault) (stores : Stores) (caller : Caller) → b ≡ true → fault ≡ statement_cancelled → MayAttempt stores caller
-    → IsStep told_by (Err (stop.Refused fault)) stores stores caller (caller.cmd + 1) (uncancelled b f)
-itself_refused true f fault stores caller on is may = refused_here told_by fault stores caller (caller.cmd + 1) (uncancelled true f) may (λ h stands. ap (λ x. halted [] (Refused x)) (sym is))
-itself_refused false f fault stores caller on is may = absurd (cc)
-
-pub others_answered : (b : Bool) (f : History → Made Told) (r : Result Answered Stop) (stores : Stores) (caller : Caller) → b ≡ false
-    → IsStep told_by r stores stores caller (caller.cmd + 1) f → IsStep told_by r stores stores caller (caller.cmd + 1) (uncancelled b f)
-others_answered true f r stores caller off step = absurd (cc)
-others_answered false f r stores caller off step = step

@@ -8,7 +8,7 @@ use Rattle.select_statement.specs.Explained.{printed}
 use Rattle.select_statement.specs.Gathered.{Found, found_by, gathered, planned_under}
 use Rattle.select_statement.specs.Selected.{begins, values_by}
 use Rattle.select_statement.proofs.Steps.{printed_done}
-use Rattle.select_statement.proofs.explaining.explain.Goals as goal
+use Rattle.select_statement.proofs.explaining.explain_plan.Goals as goal
 
 pub gather-requires-clause-may : goal.gather-requires-clause-may
 gather-requires-clause-may c = may_go_on _ _ _ _ _ _ c.requires.may c.in_ok-hold_if_repeatable.ensures.step
