@@ -31,7 +31,7 @@ use Rattle.select_statement.specs.Cancels.{cancels_itself}
 use Rattle.select_statement.specs.Explained.{analyzed, analyzed_bare, analyzed_items, analyzed_tables, explained, explains, printed, run_counted, run_over, told}
 use Rattle.select_statement.specs.Gathered.{Found, found_bare, found_over, found_in, gathered, gathered_bare, plan_of, planned_under}
 use Rattle.select_statement.specs.Items.{items_of}
-use Rattle.select_statement.specs.Selected.{Told, told_of, outcome, asked_by, meant, answered, uncancelled, bare, bare_plan, locked_below, by_plan, over, of_tables, trees_for, named_from, begins, of_named, of_items, selected, values_by}
+use Rattle.select_statement.specs.Selected.{told_of, outcome, asked_by, meant, answered, uncancelled, bare, bare_plan, locked_below, by_plan, over, of_tables, trees_for, named_from, begins, of_named, of_items, selected, values_by}
 use Rattle.statement_bounds.proofs.Parts.{Attempt, Now, Part, Parts, Gives, Any, made_part, refused_part, then_parts}
 use Rattle.statement_bounds.proofs.Locks.{Low, all_locked_parts, named_parts, held_at_parts}
 use Rattle.statement_bounds.proofs.Numbers.{IsLow, tree_low}

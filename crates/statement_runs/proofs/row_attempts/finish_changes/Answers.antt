@@ -1,4 +1,4 @@
-use Rattle.std.proofs.Common.{Result, Err, ap, sym, subst, ◌∙◌}
+use Rattle.std.proofs.Common.{Result, ap, sym, subst, ◌∙◌}
 use Rattle.change_statement.specs.Changed.{Told, told_by}
 use Rattle.change_statement.specs.Running.{IsCommand}
 use Rattle.change_statement.specs.declared.changed_rows.ChangedRows.{ChangedRows}
