@@ -157,7 +157,7 @@ fn print_changes(
     )
 }
 
-// They are printed where the statement is done. Where it is not, its stop is handed on.
+// An UPDATE or a DELETE that is done is counted, and its trail is printed; the stop of one that is not is handed on.
 fn finish_changes(
     alloc: Global,
     stores: &Stores,
