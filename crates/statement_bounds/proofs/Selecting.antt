@@ -1,5 +1,5 @@
 -- SELECT and EXPLAIN.
-use Rattle.std.proofs.Common.{◌<◌, ℕ, ◌+◌, ◌-◌, Bool, true, false, if◌then◌else◌, List, [], ◌∷◌, ◌++◌, Result, Ok, Err, All, map, flat_map}
+use Rattle.std.proofs.Common.{◌<◌, ℕ, ◌+◌, ◌-◌, Bool, true, false, if◌then◌else◌, List, [], ◌∷◌, ◌++◌, None, Result, Ok, Err, All, map, flat_map}
 use Rattle.std.proofs.lemmas.List.Elements.{All-nil, All-cons, All-head, All-tail, All-append, All-map, All-push}
 use Rattle.pg_values.specs.declared.fault.Fault.{Fault}
 use Rattle.pg_values.specs.declared.ids.TableNo.{TableNo}
@@ -28,10 +28,10 @@ use Rattle.statement_steps.specs.Made.{Made, made}
 use Rattle.statement_steps.specs.Steps.{follow}
 use Rattle.statement_steps.specs.Below.{number_of}
 use Rattle.select_statement.specs.Cancels.{cancels_itself}
-use Rattle.select_statement.specs.Explained.{explained, printed, told}
-use Rattle.select_statement.specs.Gathered.{Found, found_over, found_in, gathered, plan_of, planned_under}
+use Rattle.select_statement.specs.Explained.{analyzed, analyzed_bare, analyzed_items, analyzed_tables, explained, explains, printed, run_counted, run_over, told}
+use Rattle.select_statement.specs.Gathered.{Found, found_bare, found_over, found_in, gathered, gathered_bare, plan_of, planned_under}
 use Rattle.select_statement.specs.Items.{items_of}
-use Rattle.select_statement.specs.Selected.{Told, told_of, outcome, asked_by, meant, answered, uncancelled, bare, bare_plan, locked_below, by_plan, over, of_tables, trees_for, named_from, begins, of_named, of_items, selected, values_by}
+use Rattle.select_statement.specs.Selected.{told_of, outcome, asked_by, meant, answered, uncancelled, bare, bare_plan, locked_below, by_plan, over, of_tables, trees_for, named_from, begins, of_named, of_items, selected, values_by}
 use Rattle.statement_bounds.proofs.Parts.{Attempt, Now, Part, Parts, Gives, Any, made_part, refused_part, then_parts}
 use Rattle.statement_bounds.proofs.Locks.{Low, all_locked_parts, named_parts, held_at_parts}
 use Rattle.statement_bounds.proofs.Numbers.{IsLow, tree_low}
@@ -50,7 +50,7 @@ module _ (k : Attempt) (names : List (List ℕ)) (params : List Param) where
   answered_parts : (args : List Value) (m : SelectMeant) (plan : Planned) → Parts k (Gives k Any) (answered k.caller args m plan)
   answered_parts args m plan h now = outcome_part k h now (told_of m (select_course (k.caller.sessions - 1) args m (shown h (look_of h k.caller.session k.caller.cmd)) plan []))
 
-  uncancelled_parts : (b : Bool) (f : History → Made Told) → Parts k (Gives k Any) f → Parts k (Gives k Any) (uncancelled b f)
+  uncancelled_parts : {T : Type 0} (b : Bool) (f : History → Made T) → Parts k (Gives k Any) f → Parts k (Gives k Any) (uncancelled b f)
   uncancelled_parts true f parts h now = refused_part k (Gives k Any) h statement_cancelled now.may
   uncancelled_parts false f parts h now = parts h now
 
@@ -151,9 +151,43 @@ module _ (k : Attempt) (names : List (List ℕ)) (params : List Param) where
       then_parts k Any (Gives k Any) (locked_below names k.caller (plan_tables (plan_of how.prunes g))) (λ u h. made [] (started_by how (values_by how params) (plan_of how.prunes g)))
       (locked_below_parts (plan_tables (plan_of how.prunes g)) (plan_low how.prunes g.meant.conditions g.trees low)) (λ u any h now. made_part k (Gives k Any) h (started_by how (values_by how params) (plan_of how.prunes g)) now.may (now.still, tt))
 
-  pub explained_parts : (how : Planning) (t : SelectTree) → Parts k (Gives k Any) (explained how names params k.caller t)
+  explained_parts : (how : Planning) (t : SelectTree) → Parts k (Gives k Any) (explained how names params k.caller t)
   explained_parts how t =
       then_parts k Any (Gives k Any) (begins k.caller) (λ u. follow (gathered how names params k.caller t) (λ g. follow (planned_under how names k.caller (values_by how params) g) (printed t g))) begins_parts
       (λ u any. then_parts k HasTrees (Gives k Any) (gathered how names params k.caller t) (λ g. follow (planned_under how names k.caller (values_by how params) g) (printed t g)) (gathered_parts how t)
       (λ g low. then_parts k Any (Gives k Any) (planned_under how names k.caller (values_by how params) g) (printed t g) (planned_parts how g low)
-      (λ p any h now. made_part k (Gives k Any) h (told t g p) now.may (now.still, tt))))
+      (λ p any h now. made_part k (Gives k Any) h (told t g None p) now.may (now.still, tt))))
+
+  -- ---- EXPLAIN ANALYZE reads as its SELECT does
+
+  run_counted_parts : (args : List Value) (t : SelectTree) (g : Found) (p : Planned) → Parts k (Gives k Any) (run_counted k.caller args t g p)
+  run_counted_parts args t g p h now = outcome_part k h now (run_over k.caller args t g p (shown h (look_of h k.caller.session k.caller.cmd)))
+
+  found_bare_parts : (m : SelectMeant) → Parts k (Gives k Any) (found_bare k.caller m)
+  found_bare_parts m =
+      uncancelled_parts (cancels_itself k.caller.session (k.caller.sessions - 1) m) (λ h. made [] (record { meant = m; trees = [] }))
+      (λ h now. made_part k (Gives k Any) h (record { meant = m; trees = [] }) now.may (now.still, tt))
+
+  gathered_bare_parts : (t : SelectTree) → Parts k (Gives k Any) (gathered_bare params k.caller t)
+  gathered_bare_parts t = then_parts k Any (Gives k Any) (meant (custom false) params k.caller t []) (found_bare k.caller) (meant_parts (custom false) t []) (λ m any. found_bare_parts m)
+
+  analyzed_bare_parts : (t : SelectTree) → Parts k (Gives k Any) (analyzed_bare params k.caller t)
+  analyzed_bare_parts t =
+      then_parts k Any (Gives k Any) (gathered_bare params k.caller t) (λ g. run_counted k.caller [] t g (bare_plan g.meant)) (gathered_bare_parts t) (λ g any. run_counted_parts [] t g (bare_plan g.meant))
+
+  analyzed_tables_parts : (how : Planning) (t : SelectTree) → Parts k (Gives k Any) (analyzed_tables how names params k.caller t)
+  analyzed_tables_parts how t =
+      then_parts k HasTrees (Gives k Any) (gathered how names params k.caller t) (λ g. follow (planned_under how names k.caller (values_by how params) g) (run_counted k.caller (values_by how params) t g)) (gathered_parts how t)
+      (λ g low. then_parts k Any (Gives k Any) (planned_under how names k.caller (values_by how params) g) (run_counted k.caller (values_by how params) t g) (planned_parts how g low)
+      (λ p any. run_counted_parts (values_by how params) t g p))
+
+  analyzed_items_parts : (how : Planning) (t : SelectTree) (js : List Joined) → Parts k (Gives k Any) (analyzed_items how names params k.caller t js)
+  analyzed_items_parts how t [] = analyzed_bare_parts t
+  analyzed_items_parts how t (j ∷ js) = analyzed_tables_parts how t
+
+  analyzed_parts : (how : Planning) (t : SelectTree) → Parts k (Gives k Any) (analyzed how names params k.caller t)
+  analyzed_parts how t = then_parts k Any (Gives k Any) (begins k.caller) (λ u. analyzed_items how names params k.caller t (from_of t)) begins_parts (λ u any. analyzed_items_parts how t (from_of t))
+
+  pub explains_parts : (analyze : Bool) (how : Planning) (t : SelectTree) → Parts k (Gives k Any) (explains analyze how names params k.caller t)
+  explains_parts false how t = explained_parts how t
+  explains_parts true how t = analyzed_parts how t

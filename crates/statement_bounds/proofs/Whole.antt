@@ -1,5 +1,5 @@
 -- Each statement asks as a session may.
-use Rattle.std.proofs.Common.{◌≤◌, ℕ, Bool, true, false, List, [], ◌++◌, Option, Result, Ok, Err, refl, sym, subst, length, codes, arith}
+use Rattle.std.proofs.Common.{◌≤◌, ℕ, Bool, List, [], ◌++◌, Option, Result, Ok, Err, refl, sym, subst, length, codes, arith}
 use Rattle.pg_values.specs.declared.answer.Answer.{Answer}
 use Rattle.pg_values.specs.declared.fault.Fault.{Fault}
 use Rattle.refusals.specs.Refusals.{left_out}
@@ -18,7 +18,7 @@ use Rattle.statement_steps.specs.declared.caller.Caller.{Caller}
 use Rattle.statement_steps.specs.declared.ending.Ending.{Ending}
 use Rattle.statement_steps.specs.declared.ending.Ending.TheVariants as endings
 use Rattle.statement_steps.specs.declared.rest.Rest.{Rest}
-use Rattle.select_statement.specs.Explained.{explained}
+use Rattle.select_statement.specs.Explained.{explains}
 use Rattle.select_statement.specs.Selected.{selected}
 use Rattle.insert_statement.specs.Inserted.{inserted}
 use Rattle.change_statement.specs.Deleted.{deleted}
@@ -44,7 +44,7 @@ use Rattle.statement_bounds.proofs.Locks.{held_at_parts}
 use Rattle.statement_bounds.proofs.Numbers.{tables_below, entries_below}
 use Rattle.statement_bounds.proofs.Partitions.{EndsKnown, detached_parts, concurrently_parts, finalized_parts, attached_parts}
 use Rattle.statement_bounds.proofs.Rows.{inserted_parts, updated_parts, deleted_parts}
-use Rattle.statement_bounds.proofs.Selecting.{selected_parts, explained_parts}
+use Rattle.statement_bounds.proofs.Selecting.{selected_parts, explains_parts}
 use Rattle.statement_bounds.proofs.Tables.{created_parts, partitioned_parts, dropped_parts, locked_parts}
 use Rattle.plan_tree.specs.declared.planning.Planning.{Planning}
 
@@ -104,8 +104,8 @@ module _ (k : Attempt) (names : List (List ℕ)) where
       printed_parts (changed_text trailed (codes "UPDATE")) (updated how names params k.caller rest table settings condition) (updated_parts k names how params rest table settings condition)
   row_parts trailed how params rest (deletes table condition) = printed_parts (changed_text trailed (codes "DELETE")) (deleted how names params k.caller rest table condition) (deleted_parts k names how params rest table condition)
 
-  plan_parts : (how : Planning) (params : List Param) (s : SelectTree) → Parts k EndKnown (plan_attempted how names params k.caller s)
-  plan_parts how params s = tabled_parts (explained how names params k.caller s) (explained_parts k names params how s)
+  plan_parts : (how : Planning) (params : List Param) (analyze : Bool) (s : SelectTree) → Parts k EndKnown (plan_attempted how names params k.caller analyze s)
+  plan_parts how params analyze s = tabled_parts (explains analyze how names params k.caller s) (explains_parts k names params analyze how s)
 
   -- what is executed asks what its statement asks
 
@@ -113,24 +113,22 @@ module _ (k : Attempt) (names : List (List ℕ)) where
   execute_parts trailed how rest (Ok e) = row_parts trailed how e.params rest e.statement
   execute_parts trailed how rest (Err f) = λ h now. refused_part k EndKnown h f now.may
 
-  plan_execution_parts : (how : Planning) (params : List Param) (t : RowTree) → Parts k EndKnown (plan_of_execution how names params k.caller t)
-  plan_execution_parts how params (selects s) = plan_parts how params s
-  plan_execution_parts how params (inserts table columns values) = omitted_parts (codes "INSERT")
-  plan_execution_parts how params (updates table settings condition) = omitted_parts (codes "UPDATE")
-  plan_execution_parts how params (deletes table condition) = omitted_parts (codes "DELETE")
+  plan_execution_parts : (how : Planning) (params : List Param) (analyze : Bool) (t : RowTree) → Parts k EndKnown (plan_of_execution how names params k.caller analyze t)
+  plan_execution_parts how params analyze (selects s) = plan_parts how params analyze s
+  plan_execution_parts how params analyze (inserts table columns values) = omitted_parts (codes "INSERT")
+  plan_execution_parts how params analyze (updates table settings condition) = omitted_parts (codes "UPDATE")
+  plan_execution_parts how params analyze (deletes table condition) = omitted_parts (codes "DELETE")
 
-  execution_explained_parts : (how : Planning) (r : Result Execution Fault) → Parts k EndKnown (execution_explained how names k.caller r)
-  execution_explained_parts how (Ok e) = plan_execution_parts how e.params e.statement
-  execution_explained_parts how (Err f) = λ h now. refused_part k EndKnown h f now.may
+  execution_explained_parts : (how : Planning) (analyze : Bool) (r : Result Execution Fault) → Parts k EndKnown (execution_explained how names k.caller analyze r)
+  execution_explained_parts how analyze (Ok e) = plan_execution_parts how e.params analyze e.statement
+  execution_explained_parts how analyze (Err f) = λ h now. refused_part k EndKnown h f now.may
 
   query_parts : (trailed : Bool) (how : Planning) (rest : Option Rest) (ps : List Prepared) (t : QueryTree) → Parts k EndKnown (query_attempted trailed how names k.caller rest ps t)
   query_parts trailed how rest ps (rows r) = row_parts trailed how [] rest r
   query_parts trailed how rest ps (prepares name types r) = listed_parts (prepared ps name types r)
   query_parts trailed how rest ps (executes name ts) = λ h now. execute_parts trailed how rest (executed h k.caller.session rest ps name ts) h now
-  query_parts trailed how rest ps (explains_select true s) = omitted_parts (codes "ANALYZE")
-  query_parts trailed how rest ps (explains_select false s) = plan_parts how [] s
-  query_parts trailed how rest ps (explains_execute true name ts) = omitted_parts (codes "ANALYZE")
-  query_parts trailed how rest ps (explains_execute false name ts) = λ h now. execution_explained_parts how (explained_by h k.caller.session ps name ts) h now
+  query_parts trailed how rest ps (explains_select analyze s) = plan_parts how [] analyze s
+  query_parts trailed how rest ps (explains_execute analyze name ts) = λ h now. execution_explained_parts how analyze (explained_by h k.caller.session ps name ts) h now
 
 attempted_parts : (k : Attempt) (o : Options) (rest : Option Rest) (g : Settings) → IsKnown rest → (ps : List Prepared) (t : StatementTree) → Parts k EndKnown (attempted o k.caller rest g ps t)
 unfolding attempted

@@ -70,11 +70,11 @@ some_is : (a b : Wanted) → Some a ≡ Some b → a ≡ b
 some_is a b e = cc
 
 -- its session waits, and no more is left than that
-pub record Waited (tables : CatalogueEvents → ℕ) (n bound : ℕ) (moved : List Bool) (session limit : ℕ) (w : Database) : Type 0 where
+pub record Waited (tables : CatalogueEvents → ℕ) (n bound : ℕ) (moved : List Bool) (session rank : ℕ) (w : Database) : Type 0 where
   pub kept : IsKept tables n bound moved w None
   pub what : Wanted
   pub waits : wanted (lock_events w.history) session ≡ Some what
-  pub no_higher : slack n bound moved w ≤ limit
+  pub no_higher : slack n bound moved w ≤ rank
 
 -- a statement that is not refused first was not cancelled
 not_cancelled : (b : Bool) (n : ℕ) → refused_first b n ≡ None → b ≡ false

@@ -11,7 +11,7 @@ use Rattle.sql_ast.specs.Statements.{StatementTree}
 use Rattle.stores.specs.Events.{tx_in}
 use Rattle.statement_runs.specs.Attempted.{attempted}
 use Rattle.statement_runs.specs.Roles.{cancelled_by}
-use Rattle.statement_runs.specs.Database.{Database, course, cut_by, caller_of, command_of, refusal_of, rest_of, rest_told, outcome_told, prepared_of, anew, attempt_of, given_by, goes_on, empty}
+use Rattle.statement_runs.specs.Database.{Database, course, cut_by, caller_of, command_of, refusal_of, rest_of, rest_told, outcome_told, prepared_of, anew, attempt_of, given_by, goes_on}
 use Rattle.run_ends.specs.Executors.{HasRank, LowersIn}
 use Rattle.statement_ends.specs.Asking.{IsKnown, MayAsk, Asks, AllAsk}
 use Rattle.statement_ends.specs.Rank.{slack, IsKept, IsRanked}

@@ -1,11 +1,11 @@
 -- What statements give and read.
-use Rattle.std.proofs.Common.{◌≡◌, ℕ, ◌+◌, Bool, List, Option, Result, Ok, Err, refl, ap, sym, ◌∙◌, arith}
+use Rattle.std.proofs.Common.{◌≡◌, ℕ, ◌+◌, List, Option, Result, Ok, Err, ap, sym, ◌∙◌, arith}
 use Rattle.history.specs.History.{History}
 use Rattle.pg_values.specs.declared.fault.Fault.{Fault}
 use Rattle.schedule.specs.declared.tally.Tally.{Tally}
 use Rattle.stores.specs.declared.stores.Stores.{Stores}
 use Rattle.statement_steps.specs.Ended.{ended}
-use Rattle.statement_steps.specs.Made.{Made, Halt}
+use Rattle.statement_steps.specs.Made.{Made}
 use Rattle.statement_steps.specs.Steps.{IsTold}
 use Rattle.statement_steps.specs.declared.caller.Caller.{Caller}
 use Rattle.statement_steps.specs.declared.rest.Rest.{Rest}

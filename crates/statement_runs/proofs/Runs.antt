@@ -3,7 +3,6 @@ use Rattle.std.proofs.Common.{◌≡◌, ◌≢◌, ℕ, zero, suc, ◌+◌, ◌
 use Rattle.std.proofs.lemmas.Grind.{common_steps, elements}
 use Rattle.std.proofs.lemmas.Bool.{cases_eq}
 use Rattle.std.proofs.lemmas.Bool.Decides.{nat_tests}
-use Rattle.std.proofs.lemmas.List.{length-append, length-map}
 use Rattle.std.proofs.lemmas.List.Elements.{All-nil, All-cons, All-append}
 use Rattle.pg_values.specs.declared.fault.Fault.{Fault}
 use Rattle.pg_values.specs.declared.which.Which.TheVariants.{Commands}
@@ -11,11 +10,9 @@ use Rattle.refusals.specs.Refusals.{too_many}
 use Rattle.history.specs.declared.wait.WaitOn.{WaitOn}
 use Rattle.history.specs.declared.wait.Wanted.{Wanted}
 use Rattle.history.specs.declared.wait.Wanted.TheVariants.{Lock, Others}
-use Rattle.history.specs.Rows.{LeafAdded, RowBorn, RowEnded}
 use Rattle.history.specs.Locks.{wanted}
 use Rattle.history.specs.Waits.{ready}
-use Rattle.history.specs.History.{History, TxChange, SnapshotChange, RowChange, LockChange, CatalogueChange, lock_events, versions}
-use Rattle.row_store.specs.Kept.{version_of}
+use Rattle.history.specs.History.{History, lock_events}
 use Rattle.lock_table.specs.Stands.{IsIdle, TableStands as LocksStand, names}
 use Rattle.schedule.specs.declared.tally.Tally.{Tally}
 use Rattle.sessions.specs.declared.asker.Asker.{Asker}
@@ -24,7 +21,7 @@ use Rattle.pg_values.specs.declared.isolation.Isolation.{Isolation}
 use Rattle.sessions.specs.declared.settings.Settings.{Settings}
 use Rattle.sessions.specs.declared.outcome.Outcome.TheVariants as outcomes
 use Rattle.stores.specs.Numbers.{IsAt}
-use Rattle.stores.specs.Stand.{Stands, IsSameSize}
+use Rattle.stores.specs.Stand.{IsSameSize}
 use Rattle.stores.specs.declared.stores.Stores.{Stores}
 use Rattle.statement_steps.specs.Ended.{Ended, Done, Commits}
 use Rattle.statement_steps.specs.Made.{Made, Halt, Waits, Refused, number_after}

@@ -26,7 +26,6 @@ use Rattle.statement_steps.specs.Attempts.{CanGoOn}
 use Rattle.statement_steps.proofs.Lasting.{goes_on_still}
 use Rattle.statement_runs.proofs.Lasting.{begun_still, ended_still, since_let_go, since_resumed, since_withdrawn}
 use Rattle.statement_steps.specs.declared.rest.Rest.{Rest}
-use Rattle.statement_steps.specs.declared.rest.Rest.TheVariants.{Rows, Detach}
 use Rattle.statement_runs.specs.Kept.{KeptSeats, AreSeated, AreWaits, TellOf, AreKept, Adds}
 use Rattle.statement_steps.proofs.Numbers.{Ends, at_lock, at_dropped, at_begun, at_ended}
 use Rattle.statement_runs.proofs.Waiting.{same_rest, given_up_standing, snapshot_standing, resumed_standing, withdrawn_standing}

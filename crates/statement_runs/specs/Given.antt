@@ -1,6 +1,6 @@
 -- What completed statements give and read (partscript's own): the rows that SELECTs answer, and the leaves that are read,
 -- each as often as it is read.
-use Rattle.std.specs.Prelude.{ℕ, Bool, List, [], Option, Result, Ok, Err, length}
+use Rattle.std.specs.Prelude.{ℕ, List, [], Option, Result, Ok, Err, length}
 use Rattle.history.specs.History.{History}
 use Rattle.schedule.specs.declared.tally.Tally.{Tally}
 use Rattle.sessions.specs.declared.settings.Settings.{Settings}

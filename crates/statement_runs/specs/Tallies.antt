@@ -1,5 +1,5 @@
 -- What statements have given and read (partscript's own).
-use Rattle.std.specs.Prelude.{◌≡◌, ℕ, ◌+◌, Option, Some, None, Result, Ok, Err}
+use Rattle.std.specs.Prelude.{◌≡◌, ◌+◌, Option, Some, None, Result, Ok, Err}
 use Rattle.pg_values.specs.declared.fault.Fault.{Fault}
 use Rattle.schedule.specs.declared.tally.Tally.{Tally}
 use Rattle.statement_steps.specs.declared.stop.Stop.{Stop}

@@ -1,7 +1,6 @@
-use Rattle.std.proofs.Common.{ℕ, List, [], sym, subst}
-use Rattle.history.specs.History.{History}
+use Rattle.std.proofs.Common.{ℕ, List, sym, subst}
 use Rattle.sql_ast.specs.Expressions.{trees}
-use Rattle.sql_ast.specs.Queries.{prepares, query_tree, row_tree}
+use Rattle.sql_ast.specs.Queries.{query_tree, row_tree}
 use Rattle.sql_ast.specs.declared.query.Query.{Query}
 use Rattle.prepared_statements.specs.Kept.{listed}
 use Rattle.prepared_statements.specs.Prepared.{prepared}

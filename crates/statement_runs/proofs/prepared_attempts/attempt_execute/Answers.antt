@@ -1,4 +1,4 @@
-use Rattle.std.proofs.Common.{List, Result, Ok, Err, ap, sym, subst}
+use Rattle.std.proofs.Common.{List, Result, ap, sym, subst}
 use Rattle.pg_values.specs.declared.fault.Fault.{Fault}
 use Rattle.history.specs.History.{History}
 use Rattle.sql_ast.specs.Expressions.{trees}

@@ -1,4 +1,4 @@
-use Rattle.std.proofs.Common.{List, Result, ap, subst, sym}
+use Rattle.std.proofs.Common.{Result, subst}
 use Rattle.pg_values.specs.declared.fault.Refusal.{Refusal}
 use Rattle.expression_binder.specs.Firsts.{IsAnswerBy}
 use Rattle.statement_runs.proofs.Whole.{taken_is}

@@ -1,4 +1,4 @@
-use Rattle.std.proofs.Common.{◌≡◌, ℕ, true, List, Result, Ok, Err, sym}
+use Rattle.std.proofs.Common.{true, List, Result, Ok, Err, sym}
 use Rattle.pg_values.specs.declared.fault.Fault.{Fault}
 use Rattle.sql_ast.specs.Statements.{StatementTree}
 use Rattle.sql_syntax.specs.Block.{passed}
