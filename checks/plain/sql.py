@@ -2,6 +2,7 @@
 import functools
 import re
 
+from grammar import judge_block
 from script import NotRead
 
 RESERVED = set(
@@ -219,8 +220,8 @@ class Reader:
         if self.took("("):
             if self.took(")"):
                 return ("call", name, [])
-            if self.took("*"):
-                raise NotRead("a call of *")
+            if self.took("*", ")"):
+                return ("call", name, ["*"])
             arguments = self.list_of(self.expression)
             self.take(")")
             return ("call", name, arguments)
@@ -450,8 +451,19 @@ class Reader:
         return name, self.expression()
 
 
-@functools.lru_cache(maxsize=4096)
 def read_block(text):
+    """The statements of a block. What is not read here is refused where the grammar refuses it."""
+    try:
+        return statements_of(text)
+    except NotRead:
+        refusal = judge_block(text)
+        if refusal is None:
+            raise
+        raise refusal from None
+
+
+@functools.lru_cache(maxsize=4096)
+def statements_of(text):
     reader, found = Reader(text), []
     while reader.at < len(reader.tokens):
         if reader.took(";"):
