@@ -149,28 +149,19 @@ def finished(a, b, c):
 
 # ---- a bound as it is written
 
-def no_column(written):
-    """Refuses what has no place in a bound."""
-    sort = written[0]
-    if sort == "column":
-        raise Refusal("0A000", f"{written[2]} is not in this profile")
-    if sort == "parameter":
-        raise Refusal("0A000", f"{written[1]} is not in this profile")
-    if sort == "regclass":
-        raise Refusal("0A000", ":: is not in this profile")
-    for part in written[1:]:
-        if isinstance(part, tuple):
-            no_column(part)
-        elif isinstance(part, list):
-            for one in part:
-                no_column(one)
+class Constants(Scope):
+    """Where neither a column nor a parameter has a place."""
+
+    def operand(self, written):
+        if written[0] in ("column", "parameter"):
+            raise Refusal("0A000", f"{written[-1]} is not in this profile")
+        return super().operand(written)
 
 
 def bound_value(written, kind):
     if written[0] == "string":
         return read_value(kind, written[1])
-    no_column(written)
-    scope = Scope([])
+    scope = Constants([])
     bound = scope.value(written)
     judge_kind = bound.kind
     scope.compute_constants()

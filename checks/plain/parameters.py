@@ -130,7 +130,7 @@ class Places:
             yield from self.find(written[1], self.first(ends))
             for end in ends:
                 yield from self.find(end, self.first([written[1]]))
-        elif sort == "call":
+        elif sort == "call" and written[2] != ["*"]:
             for argument in written[2]:
                 yield from self.find(argument, "integer" if written[1] == "pg_cancel_backend" else None)
         elif sort in ("is null", "not", "row"):

@@ -2,6 +2,7 @@
 import functools
 import re
 
+from grammar import judge_block
 from script import NotRead
 
 RESERVED = set(
@@ -219,8 +220,8 @@ class Reader:
         if self.took("("):
             if self.took(")"):
                 return ("call", name, [])
-            if self.took("*"):
-                raise NotRead("a call of *")
+            if self.took("*", ")"):
+                return ("call", name, ["*"])
             arguments = self.list_of(self.expression)
             self.take(")")
             return ("call", name, arguments)
@@ -291,11 +292,13 @@ class Reader:
             return value, self.name()
         return value, self.name() if self.is_name() else None
 
-    def table_with_alias(self):
+    def table_with_alias(self, is_changed=False):
+        """(the SET of an UPDATE is an alias just where another one follows that is not a column)"""
         name = self.name()
         if self.took("as"):
             return name, self.name()
-        if self.is_name() and not (self.peek() == ("word", "set") and self.peek(1)[1] != "set"):
+        is_set = is_changed and self.peek() == ("word", "set")
+        if self.is_name() and not (is_set and (self.peek(1) != ("word", "set") or self.peek(2)[1] == "=")):
             return name, self.name()
         return name, None
 
@@ -423,7 +426,7 @@ class Reader:
             rows = self.list_of(lambda: self.in_parentheses(self.expression))
             return Statement("INSERT", name=name, columns=columns, rows=rows)
         if self.took("update"):
-            table = self.table_with_alias()
+            table = self.table_with_alias(True)
             self.take("set")
             changes = self.list_of(self.change)
             return Statement("UPDATE", table=table, changes=changes, where=self.expression() if self.took("where") else None)
@@ -450,8 +453,19 @@ class Reader:
         return name, self.expression()
 
 
-@functools.lru_cache(maxsize=4096)
 def read_block(text):
+    """The statements of a block. What is not read here is refused where the grammar refuses it."""
+    try:
+        return statements_of(text)
+    except NotRead:
+        refusal = judge_block(text)
+        if refusal is None:
+            raise
+        raise refusal from None
+
+
+@functools.lru_cache(maxsize=4096)
+def statements_of(text):
     reader, found = Reader(text), []
     while reader.at < len(reader.tokens):
         if reader.took(";"):

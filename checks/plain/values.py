@@ -108,7 +108,7 @@ class Scope:
 
     def __init__(self, items, user=None, calls=None, params=()):
         self.items, self.user, self.calls, self.params = items, user, calls, params
-        self.constants = []
+        self.constants, self.has_tables = [], False     # (`tableoid::regclass` has a place where that is set)
 
     def of_items(self, items):
         """The same, where these items alone may be named."""
@@ -178,6 +178,8 @@ class Scope:
             item, place, kind = self.only(found, written[2])
             return Bound(kind, lambda row: row[item][0][place], False, item=item, place=place)
         if sort == "regclass":
+            if not self.has_tables:
+                raise Refusal("0A000", ":: is not in this profile")
             number = self.only(self.called(written[1]), "tableoid")[0]
             return Bound("text", lambda row: row[number][1], False, table=number)
         if sort == "arithmetic":
@@ -186,10 +188,17 @@ class Scope:
             return self.call(written)
         if sort == "row":
             return self.operand(written[1])
+        # (an operator of conditions, of which the parts are judged first)
+        for part in parts_of(written):
+            self.operand(part)
         words = {"compare": lambda: written[1], "is null": lambda: "IS", "in": lambda: "IN", "between": lambda: "BETWEEN"}
         raise Refusal("0A000", f"{words.get(sort, sort.upper)()} is not in this profile")
 
     def call(self, written):
+        if written[2] == ["*"]:
+            # (which fits count alone)
+            name = written[1]
+            raise Refusal("0A000", "count is not in this profile") if name == "count" else Refusal("42883", f"no function {name}")
         name, arguments = written[1], [self.operand(argument) for argument in written[2]]
         if name in ("count", "sum", "min", "max"):
             raise Refusal("0A000", f"{name} is not in this profile")
@@ -307,6 +316,17 @@ class Scope:
                 return None
             return {"=": x == y, "<>": x != y, "<": x < y, "<=": x <= y, ">": x > y, ">=": x >= y}[sign]
         return Test("compare", [sign, left, right], decide)
+
+
+def parts_of(written):
+    """The parts of an operator of conditions, in text order."""
+    if written[0] == "compare":
+        return written[2:4]
+    if written[0] == "in":
+        return [written[1], *written[2]]
+    if written[0] == "between":
+        return written[1:4]
+    return written[1] if written[0] in ("and", "or") else written[1:2]
 
 
 def several(word, parts):
