@@ -138,10 +138,6 @@ command_stops left view text (stop.Refused fault) old new caller f before step =
 }
 command_stops left view text stop.NoMemory old new caller f before step = record { is = λ h stands at go. tt; keeps = step.keeps; waits = tt }
 
--- where its text finds no memory
-pub command_lost : {X T : Type 0} (left : Option Rest) (view : X → T) (text : History → T → List ℕ) (x : X) (old new : Stores) (caller : Caller) (f : History → Made T) (before after : List ℕ) → IsCommand left view (Ok x) old new caller f → IsStatement left (Err stop.NoMemory) old new before after caller (printed text f)
-command_lost left view text x old new caller f before after step = record { is = λ h stands at go. tt; keeps = step.keeps; waits = tt }
-
 -- ---- it prints a table
 
 pub tabled_is : (left : Option Rest) → (a : Answer) (old new : Stores) (caller : Caller) (f : History → Made Answer) (before after : List ℕ) → after ≡ before ++ table a → IsStep (λ (x : Answer). x) (Ok a) old new caller (caller.cmd + 1) f → IsStatement left (Ok endings.Done) old new before after caller (tabled f)
