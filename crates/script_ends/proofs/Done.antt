@@ -17,7 +17,6 @@ use Rattle.script_program.specs.declared.ended.Ended.TheVariants.{Done}
 use Rattle.script_program.specs.declared.input.TheConstants.{INPUT_LIMIT}
 use Rattle.script_program.specs.declared.work.Work.{Work}
 use Rattle.script_program.specs.declared.work.Work.TheVariants as works
-use Rattle.script_program.proofs.Answers.{same_work, reads_or_not}
 use Rattle.script_program.proofs.Checks as checks
 use Rattle.script_program.proofs.Texts as texts
 use Rattle.step_engine.specs.Run.{rules, opened, refused, HoldsThroughout}
@@ -41,6 +40,18 @@ all_of_it text other (Some xs) None is g = absurd g.given
 all_of_it text other (Some xs) (Some ys) is g =
     let same : xs ≡ text = cc in
     sym (append-nil other) ∙ ap (λ zs. other ++ zs) (sym g.ended) ∙ sym g.given ∙ same
+
+-- ---- what is asked for
+
+some_is : (v w : Work) → Some v ≡ Some w → w ≡ v
+some_is v w h = cc
+
+same_work : (words : List (List ℕ)) (v w : Work) → work_by words ≡ Some v → work_by words ≡ Some w → w ≡ v
+same_work words v w h k = some_is v w (sym h ∙ k)
+
+-- it reads its input, or it does not
+reads_or_not : (words : List (List ℕ)) (v w : Work) → work_by words ≡ Some v → work_by words ≡ Some w → reads_input v ≡ true → reads_input w ≡ false → ⊥
+reads_or_not words v w h k reads not = let same : reads_input w ≡ reads_input v = ap reads_input (same_work words v w h k) in absurd (cc)
 
 -- ---- what comes of it
 
