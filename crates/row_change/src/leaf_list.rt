@@ -1,4 +1,4 @@
-ghost use Rattle.std.specs.Prelude.{◌≡◌, ◌++◌, ◌∷◌, [], OnOk};
+ghost use Rattle.std.specs.Prelude.{◌≡◌, ◌++◌, ◌∷◌, [], OnOk, OnErr};
 
 use pg_values::{LeafId, NoMemory};
 use std::alloc::Global;
@@ -35,7 +35,8 @@ impl LeafList {
     }
 
     pub fn push(&mut self, leaf: LeafId) -> Result<(), NoMemory>
-        ensures { OnOk result (self.new ≡ self.old ++ leaf ∷ []) }
+        ensures ok { OnOk result (self.new ≡ self.old ++ leaf ∷ []) }
+        ensures err { OnErr result (self.new ≡ self.old) }
     {
         self.leaves.push(leaf)?;
         Ok(())

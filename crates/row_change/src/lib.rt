@@ -39,9 +39,9 @@ pub use laws::{
 pub use leaf_list::LeafList;
 pub use leaves::{leaves_and_ways, leaves_of};
 pub use leaves_below::leaf_targets;
-pub use placing::{check_bounds, place_rows};
+pub use placing::check_bounds;
 pub use storing::{check_leaf, store_rows};
 pub use succession::succeed_row;
 pub use target::Target;
-pub use testing::{check_kept, check_row};
-pub use way::{leaf_way, push_way};
+pub use testing::check_kept;
+pub use way::leaf_way;

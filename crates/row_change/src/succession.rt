@@ -1,6 +1,6 @@
 //! A row version that is followed by another one.
 
-ghost use Rattle.std.specs.Prelude.{◌≡◌, ◌≢◌, ◌<◌, true, length};
+ghost use Rattle.std.specs.Prelude.{◌≡◌, ◌≢◌, ◌<◌, true, length, OnErr};
 ghost use Rattle.history.specs.History.{History};
 ghost use Rattle.tx_table.specs.Stands.{TableStands, IsOpen, sees_now_by};
 ghost use Rattle.row_store.specs.Kept.{stored_at};
@@ -33,6 +33,7 @@ fn replace_row(
     requires own { (stored_at store.old.stored id).version.leaf ≡ leaf }
     ensures made { (h : History) → TableStands txs.now h → StoreStands store.old h → IsMade result store.new h (succeeded h leaf id leaf row by cmd) }
     ensures keeps { KeepsVersions store.old store.new }
+    ensures err { OnErr result (store.new ≡ store.old) }
 {
     match store.replace(txs, id, row, by, cmd) {
         Ok(()) => Ok(()),
@@ -60,6 +61,7 @@ fn move_row(
     requires leaf { leaf.number < store.old.leaves }
     ensures made { (h : History) → TableStands txs.now h → StoreStands store.old h → IsMade result store.new h (succeeded h from id leaf row by cmd) }
     ensures keeps { KeepsVersions store.old store.new }
+    ensures err { OnErr result (store.new ≡ store.old) }
 {
     match store.put(txs, leaf, row, by, cmd) {
         Ok(()) => {
@@ -92,6 +94,7 @@ pub fn succeed_row(
     requires leaf { leaf.number < store.old.leaves }
     ensures made { (h : History) → TableStands txs.now h → StoreStands store.old h → IsMade result store.new h (succeeded h from id leaf row by cmd) }
     ensures keeps { KeepsVersions store.old store.new }
+    ensures err { OnErr result (store.new ≡ store.old) }
 {
     if from.number == leaf.number {
         replace_row(alloc, txs, store, from, id, row, by, cmd)
