@@ -1,4 +1,4 @@
-ghost use Rattle.std.specs.Prelude.{◌≡◌, ◌<◌, ◌≤◌, ◌+◌, ◌++◌, ℕ, Bool, true, false, Ok, IfOk, OnOk, IfSome, option_copied};
+ghost use Rattle.std.specs.Prelude.{◌≡◌, ◌<◌, ◌≤◌, ◌+◌, ◌++◌, ℕ, Bool, true, false, Ok, IfOk, OnOk, OnErr, IfSome, option_copied};
 ghost use Rattle.schedule.specs.Rules.{Rules, Carries};
 
 use crate::block::BlockKind;
@@ -20,7 +20,7 @@ pub enum Progress {
 /// A database with sessions, each of which runs a block by small events. Session 0 is the control
 /// session.
 pub trait Database: Sized + Drop {
-    ghost use Rattle.std.specs.Prelude.{◌≡◌, ◌<◌, ◌≤◌, ◌+◌, ◌++◌, ℕ, Bool, true, false, Ok, IfOk, OnOk, IfSome, option_copied};
+    ghost use Rattle.std.specs.Prelude.{◌≡◌, ◌<◌, ◌≤◌, ◌+◌, ◌++◌, ℕ, Bool, true, false, Ok, IfOk, OnOk, OnErr, IfSome, option_copied};
     ghost use Rattle.schedule.specs.Rules.{Rules, Carries};
     ghost use Rattle.schedule.specs.declared.database.Progress.TheVariants.{Goes, Waits as IsWaiting};
 
@@ -73,7 +73,8 @@ pub trait Database: Sized + Drop {
         ensures stands { OnOk result (Carries stands (λ v. rules.begun v session kind text.now) self.old self.new) }
         ensures free { OnOk result (waiting self.new session ≡ false) }
         ensures count { count self.new ≡ count self.old }
-        ensures weight { OnOk result (weight self.new ≤ weight self.old + cost) };
+        ensures weight { OnOk result (weight self.new ≤ weight self.old + cost) }
+        ensures err { OnErr result (self.new ≡ self.old) };
 
     /// It goes on by one small event.
     fn step(&mut self, alloc: Global, session: usize) -> Result<Progress, NoMemory>
@@ -154,7 +155,8 @@ pub trait Database: Sized + Drop {
 
     /// Appends the code and the text of a fault.
     fn write_fault(alloc: Global, fault: &Fault, out: &mut Vec<u8>) -> Result<(), NoMemory>
-        ensures { OnOk result (out.new.items ≡ out.old.items ++ rules.fault_text fault.now) };
+        ensures ok { OnOk result (out.new.items ≡ out.old.items ++ rules.fault_text fault.now) }
+        ensures err { OnErr result (out.new.items ≡ out.old.items) };
 
     /// What each database stands for is good.
     ghost stands_are_good: { (d : Self) (v : State) → stands d v → good v };

@@ -98,7 +98,7 @@ pub trait Executor: Sized + Drop {
         requires free { waiting self.old session ≡ false }
         ensures stands { OnOk result (Carries stands (λ v. course.began v session) self.old self.new) }
         ensures transactions { OnOk result (in_transaction self.new ≡ slice_set (in_transaction self.old) session true) }
-        ensures err { OnErr result (in_transaction self.new ≡ in_transaction self.old) }
+        ensures err { OnErr result (self.new ≡ self.old) }
         ensures committed { AreAsBefore (has_committed self.old) (has_committed self.new) }
         ensures free { waiting self.new session ≡ false }
         ensures slack { slack self.old ≤ most → slack self.new ≤ most };
@@ -200,7 +200,8 @@ pub trait Executor: Sized + Drop {
 
     /// Appends the code and the text of a fault.
     fn write_fault(alloc: Global, fault: &Fault, out: &mut Vec<u8>) -> Result<(), NoMemory>
-        ensures { OnOk result (out.new.items ≡ out.old.items ++ course.fault_text fault.now) };
+        ensures ok { OnOk result (out.new.items ≡ out.old.items ++ course.fault_text fault.now) }
+        ensures err { OnErr result (out.new.items ≡ out.old.items) };
 
     /// What each executor stands for is good.
     ghost stands_are_good: { (e : Self) (v : State) → stands e v → good v };
