@@ -17,6 +17,10 @@ pub enum CatalogRefused {
 }
 
 impl From<NoMemory> for CatalogRefused {
+    ghost use Rattle.part_catalog.specs.declared.new_table.CatalogRefused.TheVariants as refusals;
+
+    ghost from_gives = { λ _ e. e ≡ refusals.NoMemory };
+
     fn from(_: NoMemory) -> Self {
         CatalogRefused::NoMemory
     }

@@ -1,6 +1,7 @@
 -- What a scan shows is what the snapshot sees.
-use Rattle.std.proofs.Common.{◌≡◌, ℕ, ◌<◌, ◌==◌, ◌&&◌, not, zero, suc, arith, ap, sym, ◌∙◌, refl, List, [], ◌∷◌, Option, Some, None, map, filter, true, false, Bool, if◌then◌else◌, inl, inr, length, slice_index_or, subst, All}
+use Rattle.std.proofs.Common.{◌≡◌, ℕ, ◌<◌, ◌==◌, ◌&&◌, not, zero, suc, arith, ap, sym, ◌∙◌, refl, List, [], ◌∷◌, Option, Some, None, map, filter, true, false, Bool, if◌then◌else◌, inl, inr, length, slice_index_or, subst, All, ◌≤◌}
 use Rattle.std.proofs.lemmas.Bool.{cases_Bool}
+use Rattle.std.proofs.lemmas.List.{length-map}
 use Rattle.pg_values.specs.declared.value.Value.{Value}
 use Rattle.pg_values.specs.declared.ids.RowId.{RowId}
 use Rattle.history.specs.declared.transaction.Fate.TheVariants.{Running, Aborted}
@@ -156,3 +157,18 @@ rest_below V i ids (j ∷ js) e below =
     let same : js ≡ ids = cc in
     let P : List RowId → Type 0 = λ x. AreBelow x V in
     subst P same (λ k lt. below (suc k) (omega (arith, lt)))
+
+-- what is left of a list is no longer than the list
+filter_few : {X : Type 0} (p : X → Bool) (xs : List X) → length (filter p xs) ≤ length xs
+filter_few p [] = omega arith
+filter_few p (x ∷ xs) =
+    let few = filter_few p xs in
+    elim (cases_Bool (p x)) [
+      | inl holds ↦ rw holds (omega (arith, few))
+      | inr fails ↦ rw fails (omega (arith, few))
+    ]
+
+-- no more rows are left than numbers
+pub shown_few : (table : KeptTable) (ks : KeptSnapshot) (stored : List Stored) (ids : List RowId) → length (rows_left table ks stored ids) ≤ length ids
+shown_few table ks stored ids =
+    omega (arith, length-map (filter (shows_by table ks) (map (stored_at stored) ids)) shown_stored, filter_few (shows_by table ks) (map (stored_at stored) ids), length-map ids (stored_at stored))

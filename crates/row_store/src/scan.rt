@@ -1,4 +1,4 @@
-ghost use Rattle.std.specs.Prelude.{◌≡◌, ◌<◌, [], ◌∷◌, MatchOption, length};
+ghost use Rattle.std.specs.Prelude.{◌≡◌, ◌<◌, ◌≤◌, [], ◌∷◌, MatchOption, length};
 ghost use Rattle.std.specs.Iterator.{YieldsFirstBy, item_count};
 ghost use Rattle.row_store.specs.Told.{shown_row};
 ghost use Rattle.row_store.specs.Kept.{AreBelow, stored_at};
@@ -38,6 +38,15 @@ impl<'s> Model for Scan<'s> {
     ghost view = { λ s. rows_left s.txs.now s.snap.now s.versions.now s.ids.now };
 
     ghost invariant = { λ s. AreBelow s.ids.now s.versions.now };
+}
+
+impl<'s> Scan<'s> {
+    /// So many rows are left at most.
+    pub fn rows_at_most(&self) -> usize
+        ensures { length self.now ≤ result }
+    {
+        self.ids.len()
+    }
 }
 
 impl<'s> Iterator for Scan<'s> {
