@@ -51,6 +51,7 @@ KINDS = {
     },
     "cancels": {"select": 3, "insert": 4, "delete": 4, "lock": 4, "cancel": 5},
     "joins": {"join": 12, "select": 1, "lock": 4, "insert": 4, "delete": 1, "setting": 2},
+    "hashed": {"join": 9, "plan": 6, "insert": 4, "update": 2, "delete": 2, "lock": 1, "setting": 3, "mode": 1},
     "prunes": {"select": 9, "lock": 6, "insert": 3, "setting": 2},
     "plans": {"plan": 12, "select": 1, "lock": 3, "insert": 2, "setting": 2, "attach": 2, "detach": 1, "partition": 1},
     "pruned": {"select": 1, "insert": 2, "delete": 5, "update": 9, "lock": 5, "setting": 2},
@@ -102,7 +103,7 @@ class Maker:
         self.tables, self.parents, self.plain, self.keys = [], {}, [], []
         self.free = self.numbers.of((0, 1, 2, 2)) if self.default_chance() else self.numbers.of((2, 2, None))
         self.free_bound, self.own_bounds, self.cut_off = "", {}, ""
-        self.prepares, self.has_all = kind in ("prepared", "generic", "analyzed"), False
+        self.prepares, self.has_all = kind in ("prepared", "generic", "analyzed", "hashed"), False
         self.prepared = {}       # by their names: the first words and the kinds of the parameters
 
     # ---- tables
@@ -224,6 +225,13 @@ class Maker:
                 for place, bound in enumerate(("IN (0, 1, NULL)", "IN (2, 3)")):
                     self.setup.append(f"CREATE TABLE {name}{place} PARTITION OF {name} FOR VALUES {bound};")
                     self.plain.append(f"{name}{place}")
+        if self.kind == "hashed":
+            # (its keys are wider than those that they meet, and some are null)
+            self.plain.append("w")
+            self.setup.append("CREATE TABLE w (a bigint, v int, d date, c text, f boolean);")
+            for _ in range(2 + numbers.below(3)):
+                given = ", ".join(numbers.of(VALUES[kind]) for kind in "dcf")
+                self.setup.append(f"INSERT INTO w VALUES ({numbers.of(('NULL', numbers.below(20)))}, {self.second()}, {given});")
         taken = [key for key in range(30) if "pd" in self.tables or self.place_of(key) not in (self.free, None)]
         if self.kind == "above":
             self.cut_off = numbers.of(sorted(self.own_bounds))
@@ -294,8 +302,13 @@ class Maker:
     def comparison(self, left, right):
         """Of a column of one item with a column of another, or with a value."""
         numbers = self.numbers
-        sign = numbers.of(("=", "=", "=", "<", ">=", "<>"))
-        if left == right or numbers.chance(25):
+        is_hashed = self.kind == "hashed"
+        sign = numbers.of(("=", "=", "=", "<", ">=", "<>")) if not is_hashed or numbers.chance(30) else "="
+        if is_hashed and self.has_all and numbers.chance(20):
+            # (of dates, texts and truth values too, where both tables have them)
+            name = numbers.of("dcf")
+            return f"q{left}.{name} {sign} q{right}.{name}"
+        if left == right or numbers.chance(10 if is_hashed else 25):
             other = numbers.of(self.keys) if numbers.chance(70) else numbers.of(("NULL", numbers.below(24)))
         else:
             other = f"q{right}.{numbers.of(('a', 'a', 'v'))}"
@@ -339,7 +352,7 @@ class Maker:
 
     def explain(self):
         numbers = self.numbers
-        if self.kind == "analyzed" and numbers.chance(70):
+        if self.kind in ("analyzed", "hashed") and numbers.chance(70 if self.kind == "analyzed" else 40):
             return f"EXPLAIN {numbers.of(('ANALYZE ', '(ANALYZE) ', '(COSTS OFF, ANALYZE, TIMING OFF) '))}"
         return f"EXPLAIN {numbers.of(('', '', '(COSTS OFF) ', '(TIMING OFF, SUMMARY OFF) '))}"
 
@@ -374,6 +387,8 @@ class Maker:
         return f"LOCK TABLE {', '.join(names)}{mode};"
 
     def setting(self):
+        if self.numbers.chance(50):
+            return self.numbers.of(("SET enable_hashjoin = off;", "SET enable_hashjoin = on;", "RESET enable_hashjoin;"))
         return self.numbers.of((
             "SET enable_partition_pruning = off;", "SET enable_partition_pruning = on;", "RESET enable_partition_pruning;",
         ))
@@ -549,7 +564,7 @@ class Maker:
         """The blocks of a session, in the order in which it runs them."""
         numbers, found, is_open = self.numbers, [], False
         self.prepared = {}
-        if self.kind in ("generic", "analyzed") and numbers.chance(80):
+        if self.kind in ("generic", "analyzed", "hashed") and numbers.chance(80 if self.kind != "hashed" else 30):
             found.append("SET plan_cache_mode = force_generic_plan;")
         while len(found) < wanted or is_open:
             begin = numbers.of(("BEGIN;", "BEGIN;", "BEGIN ISOLATION LEVEL REPEATABLE READ;"))

@@ -78,7 +78,7 @@ def item_lines(plan, naming, item, depth, analyzes):
         for leaf in leaves:
             yield from node(depth, f"Seq Scan on {leaf.name}{naming.alias(item)}", details(naming, "Filter", own), told(leaf))
     planned = len(plan.planned[item])
-    if planned == 1 and not (plan.prunes and (plan.joins(item) or plan.has_params(item))):
+    if planned == 1 and not (plan.prunes_beside(item) or plan.prunes and plan.has_params(item)):
         return list(scans(depth))
     removed = [f"Subplans Removed: {planned - len(leaves)}"] if planned > len(leaves) else []
     return node(depth, "Append", removed, told()) + list(scans(depth + 1))
@@ -90,7 +90,9 @@ def joined(plan, naming, count, depth, analyzes):
     if last == 0:
         return item_lines(plan, naming, 0, depth, analyzes)
     told = counted(plan.counts["joined", last]) if analyzes else ""
-    lines = node(depth, "Nested Loop", details(naming, "Join Filter", plan.joins(last)), told)
+    found_by = plan.hash_conds(last)
+    asked = details(naming, "Hash Cond", found_by) + details(naming, "Join Filter", [atom for atom in plan.joins(last) if atom not in found_by])
+    lines = node(depth, "Hash Join" if found_by else "Nested Loop", asked, told)
     return lines + joined(plan, naming, last, depth + 1, analyzes) + item_lines(plan, naming, last, depth + 1, analyzes)
 
 

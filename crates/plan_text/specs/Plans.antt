@@ -9,7 +9,9 @@ use Rattle.cond_logic.specs.declared.select.SortKey.{SortKey}
 use Rattle.cond_logic.specs.Asked.{OutputTree, SelectMeant}
 use Rattle.cond_logic.specs.Tables.{Leaf}
 use Rattle.plan_tree.specs.Counts.{PlanCount, scan_count, append_count, join_count, given_count, answer_count}
-use Rattle.plan_tree.specs.Plans.{PlannedItem, Planned, is_empty, scan_conjuncts, join_conjuncts}
+use Rattle.plan_tree.specs.Plans.{PlannedItem, Planned, is_empty, scan_conjuncts, hash_conds, join_filter}
+use Rattle.plan_tree.specs.declared.join_kind.JoinKind.{JoinKind}
+use Rattle.plan_tree.specs.declared.join_kind.JoinKind.TheVariants.{NestedLoop, HashJoin}
 use Rattle.plan_tree.specs.declared.count.Count.{Count}
 use Rattle.plan_text.specs.declared.named_item.NamedItem.{NamedItem}
 use Rattle.plan_text.specs.Conditions.{all_text, several}
@@ -36,8 +38,8 @@ detail word (t ∷ ts) = (word ++ all_text (t ∷ ts)) ∷ []
 abbrev pub filters : List NamedItem → PlannedItem → List (List ℕ)
 filters ns i = detail (codes "Filter: ") (several ns (scan_conjuncts i))
 
-abbrev pub join_filters : List NamedItem → PlannedItem → List (List ℕ)
-join_filters ns i = detail (codes "Join Filter: ") (several ns (join_conjuncts i))
+abbrev pub join_details : List NamedItem → PlannedItem → List (List ℕ)
+join_details ns i = detail (codes "Hash Cond: ") (several ns (hash_conds i)) ++ detail (codes "Join Filter: ") (several ns (join_filter i))
 
 -- ---- items
 
@@ -70,13 +72,17 @@ item ns c i = if is_one_scan i then item_scans ns c i else append ns c i
 
 -- ---- joins
 
-abbrev pub nested_loop : List NamedItem → Counts → (left : Node) → PlannedItem → Node
-nested_loop ns c left i = over (told (join_count i.number) c (codes "Nested Loop")) (join_filters ns i) (both left (item ns c i))
+abbrev pub join_text : JoinKind → List ℕ
+join_text NestedLoop = codes "Nested Loop"
+join_text HashJoin = codes "Hash Join"
+
+abbrev pub join : List NamedItem → Counts → (left : Node) → PlannedItem → Node
+join ns c left i = over (told (join_count i.number) c (join_text i.join)) (join_details ns i) (both left (item ns c i))
 
 -- items are joined from the left
 abbrev pub joined : List NamedItem → Counts → (left : Node) → List PlannedItem → Node
 joined ns c left [] = left
-joined ns c left (i ∷ is) = joined ns c (nested_loop ns c left i) is
+joined ns c left (i ∷ is) = joined ns c (join ns c left i) is
 
 abbrev pub result : Counts → (details : List (List ℕ)) → Node
 result c = alone (told given_count c (codes "Result"))

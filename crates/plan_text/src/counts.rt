@@ -27,7 +27,7 @@ pub(crate) fn of_append(counts: Option<&PlanCounts>, item: u32) -> Option<Count>
     }
 }
 
-/// Of the Nested Loop of an item with those before it.
+/// Of the join of an item with those before it.
 pub(crate) fn of_join(counts: Option<&PlanCounts>, item: u32) -> Option<Count>
     ensures { result ≡ option_map (spec.join_count item) (lent counts.entry) }
 {

@@ -8,13 +8,22 @@ use crate::NamedItem;
 use crate::counts::{of_answer, of_given, of_join};
 use crate::keys::write_keys;
 use crate::nodes::push_node;
-use crate::scans::{join_filters, push_item};
+use crate::scans::{join_details, push_item};
 use cond_logic::{Output, SelectAsk, SortKey};
 use pg_values::{Answer, Kind, KindList, NameList, NoMemory, PgText, Row, RowList, Value};
-use plan_tree::{Plan, PlanCounts, PlanItem};
+use plan_tree::{JoinKind, Plan, PlanCounts, PlanItem};
 use std::alloc::Global;
 
 // ---- items
+
+fn join_text(join: JoinKind) -> &'static [u8]
+    ensures { result.now ≡ plans.join_text join }
+{
+    match join {
+        JoinKind::NestedLoop => b"Nested Loop",
+        JoinKind::HashJoin => b"Hash Join",
+    }
+}
 
 // Items that are joined from the left: the last with all before it.
 fn push_joined(
@@ -34,9 +43,9 @@ fn push_joined(
             if before.is_empty() {
                 return push_item(alloc, items, counts, last, depth, out);
             }
-            let asked = join_filters(alloc, items, last)?;
+            let details = join_details(alloc, items, last)?;
             let count = of_join(counts, last.number);
-            push_node(alloc, depth, b"Nested Loop", count, &asked, out)?;
+            push_node(alloc, depth, join_text(last.join), count, &details, out)?;
             push_joined(alloc, items, counts, before, depth + 1, out)?;
             push_item(alloc, items, counts, last, depth + 1, out)
         }

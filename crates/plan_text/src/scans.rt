@@ -2,7 +2,7 @@
 
 ghost use Rattle.std.specs.Prelude.{◌≡◌, ◌≤◌, ◌++◌, OnOk, IfOk, codes};
 ghost use Rattle.cond_logic.specs.Tuples.{lent};
-ghost use Rattle.plan_tree.specs.Plans.{join_conjuncts, planned_item, scan_conjuncts};
+ghost use Rattle.plan_tree.specs.Plans.{hash_conds, join_filter, planned_item, scan_conjuncts};
 ghost use Rattle.plan_text.specs.Conditions.{several};
 ghost use Rattle.plan_text.specs.Plans as plans;
 
@@ -34,17 +34,34 @@ fn scan_texts(
     Ok(texts)
 }
 
-// What its join with the items before it asks.
-fn join_texts(
+// By what a Hash Join finds rows.
+fn hash_texts(
     alloc: Global,
     items: &[NamedItem],
     item: &PlanItem<'_>,
 ) -> Result<Vec<PgText>, NoMemory>
-    ensures { IfOk result (λ ts. ts.items ≡ several items.now (join_conjuncts (planned_item item.now))) }
+    ensures { IfOk result (λ ts. ts.items ≡ several items.now (hash_conds (planned_item item.now))) }
 {
     let mut texts = Vec::new(alloc);
     for cond in &item.conjuncts {
-        if !item.scans_ask(cond) {
+        if item.hash_cond(cond).is_some() {
+            push_conjuncts(alloc, items, cond, &mut texts)?;
+        }
+    }
+    Ok(texts)
+}
+
+// What a join asks of the rows that it found.
+fn filter_texts(
+    alloc: Global,
+    items: &[NamedItem],
+    item: &PlanItem<'_>,
+) -> Result<Vec<PgText>, NoMemory>
+    ensures { IfOk result (λ ts. ts.items ≡ several items.now (join_filter (planned_item item.now))) }
+{
+    let mut texts = Vec::new(alloc);
+    for cond in &item.conjuncts {
+        if item.join_filters(cond) {
             push_conjuncts(alloc, items, cond, &mut texts)?;
         }
     }
@@ -60,35 +77,46 @@ fn worded(alloc: Global, word: &[u8], text: &[u8]) -> Result<PgText, NoMemory>
     PgText::from_vec(alloc, line)
 }
 
-fn detail(alloc: Global, word: &[u8], texts: &[PgText]) -> Result<Vec<PgText>, NoMemory>
-    ensures { IfOk result (λ ds. ds.items ≡ plans.detail word.now texts.now) }
+// Appends a detail, where there is something to ask.
+fn push_detail(
+    alloc: Global,
+    word: &[u8],
+    texts: &[PgText],
+    details: &mut Vec<PgText>,
+) -> Result<(), NoMemory>
+    ensures { OnOk result (details.new.items ≡ details.old.items ++ plans.detail word.now texts.now) }
 {
-    let mut details = Vec::new(alloc);
     if texts.is_empty() {
-        return Ok(details);
+        return Ok(());
     }
     let text = all_text(alloc, texts)?;
     details.push(worded(alloc, word, text.as_bytes())?)?;
-    Ok(details)
+    Ok(())
 }
 
 fn filters(alloc: Global, items: &[NamedItem], item: &PlanItem<'_>) -> Result<Vec<PgText>, NoMemory>
     ensures { IfOk result (λ ds. ds.items ≡ plans.filters items.now (planned_item item.now)) }
 {
-    let texts = scan_texts(alloc, items, item)?;
-    detail(alloc, b"Filter: ", &texts)
+    let mut details = Vec::new(alloc);
+    let asked = scan_texts(alloc, items, item)?;
+    push_detail(alloc, b"Filter: ", &asked, &mut details)?;
+    Ok(details)
 }
 
 /// What the join with the items before it asks of an item.
-pub(crate) fn join_filters(
+pub(crate) fn join_details(
     alloc: Global,
     items: &[NamedItem],
     item: &PlanItem<'_>,
 ) -> Result<Vec<PgText>, NoMemory>
-    ensures { IfOk result (λ ds. ds.items ≡ plans.join_filters items.now (planned_item item.now)) }
+    ensures { IfOk result (λ ds. ds.items ≡ plans.join_details items.now (planned_item item.now)) }
 {
-    let texts = join_texts(alloc, items, item)?;
-    detail(alloc, b"Join Filter: ", &texts)
+    let mut details = Vec::new(alloc);
+    let found_by = hash_texts(alloc, items, item)?;
+    push_detail(alloc, b"Hash Cond: ", &found_by, &mut details)?;
+    let asked = filter_texts(alloc, items, item)?;
+    push_detail(alloc, b"Join Filter: ", &asked, &mut details)?;
+    Ok(details)
 }
 
 fn scan_text(

@@ -2,6 +2,7 @@ pub mod Beside
 pub mod Conditions
 pub mod Conjuncts
 pub mod Counts
+pub mod JoinKinds
 pub mod Kept
 pub mod Laws
 pub mod Parameters

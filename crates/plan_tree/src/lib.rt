@@ -4,8 +4,10 @@
 //! are there: a scan asks those that name no other item, the join with the items before it asks the others.
 //! An item's leaves are those that its own conjuncts keep. A conjunct that joins it with items before says
 //! more once their rows are known: then the leaves are asked again beside each tuple, with the values of its
-//! rows in the places of their columns (`PlanItem::leaves_beside`). Joins are nested loops, the first item
-//! outermost; where an item keeps no leaf when the plan is made, nothing is locked and nothing is read.
+//! rows in the places of their columns (`PlanItem::leaves_beside`). Items are joined from the left, by nested loops,
+//! the first item outermost. Where an equality of columns joins an item with those before it, the join is a Hash
+//! Join: it reads the leaves of the item before those to its left, once, so these are not asked again
+//! (`JoinKind`). Where an item keeps no leaf when the plan is made, nothing is locked and nothing is read.
 //!
 //! A generic plan is made of conditions with parameters in them, whose values are not known yet. When it starts
 //! (`Plan::start`), each item that has such a condition keeps of its leaves those that these values keep too; the
@@ -34,6 +36,7 @@ mod conjuncts;
 mod count;
 mod item;
 mod item_counts;
+mod join_kind;
 mod laws;
 mod making;
 mod parameters;
@@ -45,6 +48,7 @@ mod pruning;
 pub use condition::{all_hold, copy_cond};
 pub use count::Count;
 pub use item::PlanItem;
+pub use join_kind::{Equality, JoinKind};
 pub use laws::{counts_are_times, none_is_missed, shown_lie_right, trees_can_be_pruned};
 pub use making::make_plan;
 pub use plan::Plan;

@@ -1,7 +1,9 @@
 pub mod Answer
 pub mod Course
 pub mod Happenings
+pub mod HashTables
 pub mod Keys
 pub mod Laws
+pub mod OpenItems
 pub mod Rows
 pub mod Tuples

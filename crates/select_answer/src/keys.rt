@@ -44,8 +44,8 @@ fn cmp_key(key: &SortKey, a: &Value, b: &Value) -> Ordering
         .then(cmp_directed(key.descending, a, b))
 }
 
-// The value at a place, or the null that is passed.
-fn value_at<'a>(row: &'a Row, place: usize, none: &'a Value) -> &'a Value
+/// The value at a place, or the null that is passed.
+pub(crate) fn value_at<'a>(row: &'a Row, place: usize, none: &'a Value) -> &'a Value
     requires { none.now ≡ Null }
     ensures { result.now ≡ slice_index_or row.now place Null }
 {

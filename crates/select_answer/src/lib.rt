@@ -1,7 +1,9 @@
-//! The answer of a SELECT by its plan, which joins the items of FROM in nested loops.
+//! The answer of a SELECT by its plan, which joins the items of FROM from the left.
 //!
 //! The leaves of the first item are read in order. Each of its rows that passes what is asked there goes on:
-//! the leaves of the next item that are kept beside it are read, and so on to the last. The rows that the
+//! the leaves of the next item that are kept beside it are read, and so on to the last. An item that a Hash Join joins is read
+//! before all that, once, the last such item first: its rows stand in a table (`HashTable`), where each tuple finds those whose
+//! values are equal to its own. The rows that the
 //! snapshot sees are lent until they are projected: a tuple of all items that passes gives a row to the
 //! answer, with the values that it is sorted by (`KeyedRow`). Then the rows are sorted, stably, and cut by
 //! OFFSET and LIMIT. What this gives is the definition of an answer (`specs/Answer.antt`).
@@ -19,17 +21,19 @@
 
 mod answering;
 mod gathered;
+mod hash_table;
 mod keyed_row;
 mod keys;
 mod laws;
+mod opening;
 mod reading;
 mod row;
 
 pub use answering::run_select;
 pub use keyed_row::KeyedRow;
 pub use laws::{
-    happenings_are_of_marks, one_item_is_read_once, pruned_is_plain, reads_are_plain,
-    rows_are_of_all_tuples,
+    happenings_are_of_marks, marks_are_of_joins, one_item_is_read_once, pruned_is_plain,
+    reads_are_plain, rows_are_of_all_tuples,
 };
 
 /// How many tuples an answer has at most, before it is cut.

@@ -13,6 +13,7 @@ use Rattle.cond_logic.specs.Asked.{SelectMeant}
 use Rattle.row_router.specs.Trees.{TableTree}
 use Rattle.plan_tree.specs.Laws.{Rows}
 use Rattle.plan_tree.specs.Plans.{custom}
+use Rattle.plan_tree.specs.declared.planning.Planning.{Planning}
 use Rattle.select_answer.specs.Laws.{plainly}
 use Rattle.statement_steps.specs.Made.{Made}
 use Rattle.statement_steps.specs.declared.caller.Caller.{Caller}
@@ -48,13 +49,13 @@ BindAlike names params c t u h =
 -- ---- they do the same
 
 abbrev pub CustomSelects : Type 0
-CustomSelects = (prunes : Bool) (names : List (List ℕ)) (params : List Param) (c : Caller) (t u : SelectTree) (h : History)
-    → tables_in t ≡ tables_in u → BindAlike names params c t u h → selected (custom prunes) names params c t h ≡ selected (custom prunes) names [] c u h
+CustomSelects = (how : Planning) (names : List (List ℕ)) (params : List Param) (c : Caller) (t u : SelectTree) (h : History)
+    → tables_in t ≡ tables_in u → BindAlike names params c t u h → selected (custom how) names params c t h ≡ selected (custom how) names [] c u h
 
 -- so do their EXPLAINs, where both have an OFFSET or neither has
 abbrev pub CustomExplains : Type 0
-CustomExplains = (prunes : Bool) (names : List (List ℕ)) (params : List Param) (c : Caller) (t u : SelectTree) (h : History)
-    → tables_in t ≡ tables_in u → is_some (offset_of t) ≡ is_some (offset_of u) → BindAlike names params c t u h → explained (custom prunes) names params c t h ≡ explained (custom prunes) names [] c u h
+CustomExplains = (how : Planning) (names : List (List ℕ)) (params : List Param) (c : Caller) (t u : SelectTree) (h : History)
+    → tables_in t ≡ tables_in u → is_some (offset_of t) ≡ is_some (offset_of u) → BindAlike names params c t u h → explained (custom how) names params c t h ≡ explained (custom how) names [] c u h
 
 -- and they cancel the same waits
 abbrev pub CustomCancels : Type 0

@@ -9,7 +9,7 @@ use Rattle.expression_binder.specs.declared.scope.Param.{Param}
 use Rattle.sql_ast.specs.Queries.{SelectTree}
 use Rattle.sql_binder.specs.Selects.{from_of}
 use Rattle.cond_logic.specs.Asked.{SelectMeant, select_meant}
-use Rattle.plan_tree.specs.Plans.{Planned, custom, plan_for, plan_tables, started_by}
+use Rattle.plan_tree.specs.Plans.{Planned, plan_for, plan_tables, started_by, without_from}
 use Rattle.plan_tree.specs.declared.planning.Planning.{Planning}
 use Rattle.statement_steps.specs.Made.{Made, made}
 use Rattle.statement_steps.specs.declared.caller.Caller.{Caller}
@@ -43,12 +43,12 @@ abbrev pub found_bare : Caller → SelectMeant → History → Made Found
 found_bare c m = uncancelled (cancels_itself c.session (c.sessions - 1) m) (λ h. made [] (record { meant = m; trees = [] }))
 
 abbrev pub gathered_bare : List Param → Caller → SelectTree → History → Made Found
-gathered_bare params c t = follow (meant (custom false) params c t []) (found_bare c)
+gathered_bare params c t = follow (meant without_from params c t []) (found_bare c)
 
 -- the plan of what was found
-abbrev pub plan_of : (prunes : Bool) → Found → Planned
-plan_of prunes g = plan_for prunes g.meant.conditions g.trees
+abbrev pub plan_of : Planning → Found → Planned
+plan_of how g = plan_for how g.meant.conditions g.trees
 
 -- once the tables that lead to its leaves are locked it is started
 abbrev pub planned_under : Planning → List (List ℕ) → Caller → (args : List Value) → Found → History → Made Planned
-planned_under how names c args g = follow (locked_below names c (plan_tables (plan_of how.prunes g))) (λ u h. made [] (started_by how args (plan_of how.prunes g)))
+planned_under how names c args g = follow (locked_below names c (plan_tables (plan_of how g))) (λ u h. made [] (started_by how args (plan_of how g)))

@@ -1,5 +1,5 @@
 -- What the scans of a plan read (the manual, 14.1 Using EXPLAIN): a Nested Loop runs those of its right item beside each tuple
--- of its left side.
+-- of its left side, a Hash Join once.
 use Rattle.std.specs.Prelude.{◌≡◌, ◌<◌, false, All, if◌then◌else◌, List, [], ◌∷◌, ◌++◌, length, map, filter}
 use Rattle.std.specs.List.{Contains, flat_map}
 use Rattle.std.specs.List.Sorted.{IsPermutation}
@@ -10,6 +10,8 @@ use Rattle.cond_logic.specs.Asked.{SelectMeant}
 use Rattle.plan_tree.specs.Kept.{id_of}
 use Rattle.plan_tree.specs.Laws.{Rows}
 use Rattle.plan_tree.specs.Plans.{PlannedItem, Planned, is_empty, leaves_for, plan_by}
+use Rattle.plan_tree.specs.declared.join_kind.JoinKind.{JoinKind}
+use Rattle.plan_tree.specs.declared.join_kind.JoinKind.TheVariants.{NestedLoop, HashJoin}
 use Rattle.plan_tree.specs.declared.planning.Planning.{Planning}
 use Rattle.select_answer.specs.Laws.{plan_reads}
 use Rattle.select_answer.specs.Tuples.{Tuple, no_tuple, passes, tuples_in}
@@ -21,6 +23,10 @@ use Rattle.plan_text.specs.Plans.{scanned}
 abbrev pub read_beside : PlannedItem → List Tuple → List LeafId
 read_beside i left = flat_map (λ t. map id_of (leaves_for i t.rows)) left
 
+abbrev pub item_reads : JoinKind → PlannedItem → List Tuple → List LeafId
+item_reads NestedLoop i left = read_beside i left
+item_reads HashJoin i left = map id_of i.leaves
+
 -- the tuples with the rows that come of these scans and pass
 abbrev pub joined_with : (args : List Value) → Rows → PlannedItem → List Tuple → List Tuple
 joined_with args rows i left = flat_map (λ t. filter (passes args i.conjuncts) (flat_map (tuples_in rows i.number t) (leaves_for i t.rows))) left
@@ -28,15 +34,15 @@ joined_with args rows i left = flat_map (λ t. filter (passes args i.conjuncts) 
 -- items from the left, where these tuples came of those before
 abbrev pub items_read : (args : List Value) → Rows → List PlannedItem → (left : List Tuple) → List LeafId
 items_read args rows [] left = []
-items_read args rows (i ∷ is) left = read_beside i left ++ items_read args rows is (joined_with args rows i left)
+items_read args rows (i ∷ is) left = item_reads i.join i left ++ items_read args rows is (joined_with args rows i left)
 
 abbrev pub scans_read : (args : List Value) → Rows → Planned → List LeafId
 scans_read args rows p = if is_empty p then [] else items_read args rows p.items (no_tuple ∷ [])
 
 -- ---- the plan that is printed is the one that runs
 
--- but for their order the reads are those of the scans, each as often as there are tuples to its left beside which its leaf
--- is kept
+-- but for their order the reads are those of the scans: of a Nested Loop each as often as there are tuples to its left beside
+-- which its leaf is kept, of a Hash Join each once
 abbrev pub JoinsReadTheirScans : Type 0
 JoinsReadTheirScans = (how : Planning) (args : List Value) (m : SelectMeant) (rows : Rows) (trees : List TableTree) → IsPermutation (scans_read args rows (plan_by how args m.conditions trees)) (plan_reads how args m rows trees)
 
@@ -44,10 +50,14 @@ JoinsReadTheirScans = (how : Planning) (args : List Value) (m : SelectMeant) (ro
 abbrev pub ReadsAreScanned : Type 0
 ReadsAreScanned = (how : Planning) (args : List Value) (m : SelectMeant) (rows : Rows) (trees : List TableTree) → All (Contains (map id_of (scanned (plan_by how args m.conditions trees)))) (plan_reads how args m rows trees)
 
--- no left side comes out empty, and beside none leaves are pruned again
+-- in a Nested Loop no left side comes out empty, and beside none leaves are pruned again
+abbrev pub IsReached : JoinKind → PlannedItem → (left : List Tuple) → Type 0
+IsReached NestedLoop i left = (0 < length left) × (i.is_asked_again ≡ false)
+IsReached HashJoin i left = Unit {0}
+
 abbrev pub AreReached : (args : List Value) → Rows → List PlannedItem → (left : List Tuple) → Type 0
 AreReached args rows [] left = Unit {0}
-AreReached args rows (i ∷ is) left = (0 < length left) × (i.is_asked_again ≡ false) × AreReached args rows is (joined_with args rows i left)
+AreReached args rows (i ∷ is) left = IsReached i.join i left × AreReached args rows is (joined_with args rows i left)
 
 -- then each leaf under a scan that is printed is read
 abbrev pub ReachedScansAreRead : Type 0

@@ -30,7 +30,7 @@ answered_plainly c args m trees h = outcome (plainly (c.sessions - 1) args m (sh
 
 -- the tables that the plan reads are locked
 abbrev pub locked_plainly : Planning → List (List ℕ) → Caller → (args : List Value) → List TableTree → SelectMeant → History → Made Answer
-locked_plainly how names c args trees m = follow (locked_below names c (plan_tables (plan_for how.prunes m.conditions trees))) (λ u. answered_plainly c args m trees)
+locked_plainly how names c args trees m = follow (locked_below names c (plan_tables (plan_for how m.conditions trees))) (λ u. answered_plainly c args m trees)
 
 -- of these tables, which are found and locked
 abbrev pub selected_plainly : Planning → List (List ℕ) → List Param → Caller → SelectTree → List ℕ → History → Made Answer

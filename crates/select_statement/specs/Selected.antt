@@ -17,7 +17,7 @@ use Rattle.expression_binder.specs.declared.scope.Param.{Param}
 use Rattle.cond_logic.specs.Asked.{SelectMeant}
 use Rattle.sql_binder.specs.Selects.{bound_select, from_of}
 use Rattle.sql_binder.specs.Values.{custom_select, values_of}
-use Rattle.plan_tree.specs.Plans.{Planned, apart, custom, plan_for, plan_tables, started_by}
+use Rattle.plan_tree.specs.Plans.{Planned, apart, plan_for, plan_tables, started_by, without_from}
 use Rattle.plan_tree.specs.declared.planning.Planning.{Planning}
 use Rattle.select_answer.specs.Answer.{answer_of, select_course}
 use Rattle.select_answer.specs.Course.{Course, reads_of}
@@ -78,10 +78,10 @@ uncancelled false f = f
 
 -- without FROM
 abbrev pub bare_plan : SelectMeant → Planned
-bare_plan m = plan_for false m.conditions []
+bare_plan m = plan_for without_from m.conditions []
 
 abbrev pub bare : List Param → Caller → SelectTree → History → Made Told
-bare params c t = follow (meant (custom false) params c t []) (λ m. uncancelled (cancels_itself c.session (c.sessions - 1) m) (answered c [] m (bare_plan m)))
+bare params c t = follow (meant without_from params c t []) (λ m. uncancelled (cancels_itself c.session (c.sessions - 1) m) (answered c [] m (bare_plan m)))
 
 -- these tables are locked, one after the other
 abbrev pub locked_below : List (List ℕ) → Caller → List TableNo → History → Made (Unit {0})
@@ -94,7 +94,7 @@ by_plan how names c args m plan = follow (locked_below names c (plan_tables plan
 
 -- what the names stand for and the trees are known
 abbrev pub over : Planning → List (List ℕ) → List Param → Caller → SelectTree → List Item → List TableTree → History → Made Told
-over how names params c t items trees = follow (meant how params c t items) (λ m. by_plan how names c (values_by how params) m (plan_for how.prunes m.conditions trees))
+over how names params c t items trees = follow (meant how params c t items) (λ m. by_plan how names c (values_by how params) m (plan_for how m.conditions trees))
 
 abbrev pub of_trees : Planning → List (List ℕ) → List Param → Caller → SelectTree → List TableTree → History → Made Told
 of_trees how names params c t trees = over how names params c t (items_of 0 (from_of t) trees) trees
@@ -122,6 +122,6 @@ abbrev pub of_items : Planning → List (List ℕ) → List Param → Caller →
 of_items how names params c t [] = follow (begins c) (λ u. bare params c t)
 of_items how names params c t (j ∷ js) = follow (begins c) (λ u. of_named how names params c t)
 
--- of a session that plans so (`enable_partition_pruning`, and for a prepared statement `plan_cache_mode`)
+-- of a session that plans so (`enable_partition_pruning`, `enable_hashjoin`, and for a prepared statement `plan_cache_mode`)
 abbrev pub selected : Planning → List (List ℕ) → List Param → Caller → SelectTree → History → Made Told
 selected how names params c t = of_items how names params c t (from_of t)

@@ -72,7 +72,12 @@ fn analyze_bare(
     ensures { IsStep (λ a. a) result stores.now stores.now caller (caller.cmd + 1) (explained.analyzed_bare params.now caller (select_tree select.now)) }
 {
     let found = gather_bare(alloc, stores, params, caller, select)?;
-    let plan = make_plan(alloc, false, found.ask.conditions.as_slice(), &found.trees)?;
+    let plan = make_plan(
+        alloc,
+        Planning::without_from(),
+        found.ask.conditions.as_slice(),
+        &found.trees,
+    )?;
     run_counted(alloc, stores, caller, &[], select, &found, &plan)
 }
 

@@ -150,10 +150,7 @@ pub(crate) fn gather_bare(
     ensures look { IfOk result (λ g. IsLookFor stores.now caller g.snap) }
 {
     let snap = look(alloc, stores, caller)?;
-    let how = Planning {
-        prunes: false,
-        is_generic: false,
-    };
+    let how = Planning::without_from();
     let ask = bind(alloc, stores, how, params, caller, select, &[])?;
     let is_cancelled = cancels_itself(alloc, &ask, caller.session, caller.sessions - 1)?;
     if is_cancelled {
@@ -200,12 +197,7 @@ pub(crate) fn plan_under<'t>(
     ensures few { IfOk result (λ p. length (planned p).items ≤ 4) }
     ensures rest { stores.new ≡ record stores.old { locks = stores.new.locks } }
 {
-    let plan = make_plan(
-        alloc,
-        how.prunes,
-        found.ask.conditions.as_slice(),
-        &found.trees,
-    )?;
+    let plan = make_plan(alloc, how, found.ask.conditions.as_slice(), &found.trees)?;
     let tables = plan.tables(alloc)?;
     lock_below(alloc, stores, names, caller, &tables)?;
     let started = start_by(alloc, how, args, plan)?;

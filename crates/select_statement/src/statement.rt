@@ -29,7 +29,12 @@ fn select_bare(
 {
     hold_if_repeatable(alloc, stores, caller)?;
     let found = gather_bare(alloc, stores, params, caller, select)?;
-    let plan = make_plan(alloc, false, found.ask.conditions.as_slice(), &found.trees)?;
+    let plan = make_plan(
+        alloc,
+        Planning::without_from(),
+        found.ask.conditions.as_slice(),
+        &found.trees,
+    )?;
     answer(alloc, stores, caller, &[], &found.ask, &plan, &found.snap)
 }
 

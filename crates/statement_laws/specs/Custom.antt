@@ -19,6 +19,7 @@ use Rattle.change_statement.specs.Gathered.{item_of}
 use Rattle.change_statement.specs.Updated.{updated}
 use Rattle.insert_statement.specs.Inserted.{inserted, whole_rows}
 use Rattle.plan_tree.specs.Plans.{custom}
+use Rattle.plan_tree.specs.declared.planning.Planning.{Planning}
 
 -- the table of that name is found and locked
 abbrev pub located : List (List ℕ) → Caller → (name : List ℕ) → History → Made ℕ
@@ -40,14 +41,14 @@ ChangesBindAs params c table one other h t =
     custom_change (item_of table (made_at h t).columns) params c.session one.0 one.1 ≡ custom_change (item_of table (made_at h t).columns) [] c.session other.0 other.1
 
 abbrev pub CustomUpdates : Type 0
-CustomUpdates = (prunes : Bool) (names : List (List ℕ)) (params : List Param) (c : Caller) (rest : Option Rest) (table : NamedTable) (settings others : List Setting) (condition other : Option Tree) (h : History)
+CustomUpdates = (how : Planning) (names : List (List ℕ)) (params : List Param) (c : Caller) (rest : Option Rest) (table : NamedTable) (settings others : List Setting) (condition other : Option Tree) (h : History)
     → WhereLocated names c table.name (ChangesBindAs params c table (settings, condition) (others, other)) h
-    → updated (custom prunes) names params c rest table settings condition h ≡ updated (custom prunes) names [] c rest table others other h
+    → updated (custom how) names params c rest table settings condition h ≡ updated (custom how) names [] c rest table others other h
 
 abbrev pub CustomDeletes : Type 0
-CustomDeletes = (prunes : Bool) (names : List (List ℕ)) (params : List Param) (c : Caller) (rest : Option Rest) (table : NamedTable) (condition other : Option Tree) (h : History)
+CustomDeletes = (how : Planning) (names : List (List ℕ)) (params : List Param) (c : Caller) (rest : Option Rest) (table : NamedTable) (condition other : Option Tree) (h : History)
     → WhereLocated names c table.name (ChangesBindAs params c table ([], condition) ([], other)) h
-    → deleted (custom prunes) names params c rest table condition h ≡ deleted (custom prunes) names [] c rest table other h
+    → deleted (custom how) names params c rest table condition h ≡ deleted (custom how) names [] c rest table other h
 
 -- ---- INSERT
 

@@ -148,6 +148,7 @@ fn planning_of(settings: Settings) -> Planning
 {
     Planning {
         prunes: settings.enable_partition_pruning,
+        hashes: settings.enable_hashjoin,
         is_generic: matches!(settings.plan_cache_mode, PlanCacheMode::ForceGenericPlan),
     }
 }
