@@ -80,7 +80,8 @@ fn keep_tree(
     ensures { stores.new ≡ stores.old }
 {
     let snap = stores.look(alloc, caller.session, caller.cmd)?;
-    stores.keep(table, caller.session, &snap)
+    stores.keep_tree(table, caller.session, &snap)?;
+    Ok(())
 }
 
 /// The rows are placed below a partitioned table and stored, by a tree that is kept.

@@ -3,11 +3,15 @@
 ghost use Rattle.std.specs.Prelude.{◌≡◌, ◌<◌, true, List, [], All, IfOk, IfSome, length, map, filter};
 ghost use Rattle.history.specs.declared.catalogue.Table.{Table as OneTable};
 ghost use Rattle.history.specs.declared.catalogue.Entry.{Entry as OneEntry};
+ghost use Rattle.history.specs.Transactions.{IsPast};
+ghost use Rattle.history.specs.Snapshots.{TakenSnapshot};
+ghost use Rattle.history.specs.History.{History, tx_events};
+ghost use Rattle.tx_table.specs.Stands.{TableStands, SnapshotStands};
 ghost use Rattle.row_router.specs.Seen.{seen};
-ghost use Rattle.row_router.specs.Histories.{tree_within};
+ghost use Rattle.row_router.specs.Histories.{tree_within, tree_of};
 ghost use Rattle.part_catalog.specs.Answers.{AreTogether};
 ghost use Rattle.part_catalog.specs.Kept.{table_in, by_place};
-ghost use Rattle.part_catalog.specs.Stands.{is_flagged};
+ghost use Rattle.part_catalog.specs.Stands.{CatalogueStands, is_flagged};
 ghost use Rattle.part_catalog.specs.Groves.{IsGrove, IsGrownFrom, grown_for};
 
 use crate::below::Below;
@@ -106,25 +110,28 @@ fn put(kept: &mut Vec<KeptTree>, new: KeptTree) -> Result<(), NoMemory>
 }
 
 impl Catalog {
-    /// Keeps the tree of a partitioned table that a statement of the session reads under its snapshot.
-    /// Nothing else changes.
-    pub fn keep(
+    /// The tree of a table that a statement of the session reads under its snapshot (as `tree` answers it), which is kept
+    /// for the statements that come where the table is partitioned. Nothing else changes.
+    pub fn keep_tree(
         &mut self,
         txs: &TxTable,
         table: TableNo,
         session: u32,
         snap: &Snapshot,
-    ) -> Result<(), NoMemory>
+    ) -> Result<Tree, NoMemory>
         requires known { table.number < length self.old.tables }
         requires siblings { AreTogether txs.now self.old session }
-        ensures { self.new ≡ self.old }
+        ensures tree { IfOk result (λ t. (h : History) (s : TakenSnapshot) → TableStands txs.now h → CatalogueStands self.old h →
+            IsPast s.past (tx_events h) → SnapshotStands snap.now s → seen t ≡ tree_of h session table.number s) }
+        ensures same { self.new ≡ self.old }
     {
         if let TableShape::Leaf(_) = self.tables[table.number as usize].table.shape {
-            return Ok(());
+            return self.tree(self.alloc, txs, table, session, snap);
         }
         let flags = see::shown_flags(self.alloc, &self.entries, txs, session, snap)?;
-        if find_kept(&self.trees, table, &flags).is_some() {
-            return Ok(());
+        if let Some(kept) = find_kept(&self.trees, table, &flags) {
+            let shared = kept.share(self.alloc)?;
+            return Ok(shared);
         }
         let tree = grow(
             self.alloc,
@@ -136,7 +143,8 @@ impl Catalog {
             table,
             7,
         )?;
+        let shared = tree.share(self.alloc)?;
         put(&mut self.trees, KeptTree { table, flags, tree })?;
-        Ok(())
+        Ok(shared)
     }
 }

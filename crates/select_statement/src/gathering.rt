@@ -107,7 +107,7 @@ fn keep_trees(
 {
     let snap = look(alloc, stores, caller)?;
     for table in tables {
-        stores.keep(*table, caller.session, &snap)?;
+        stores.keep_tree(*table, caller.session, &snap)?;
     }
     Ok(())
 }

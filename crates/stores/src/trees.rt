@@ -41,15 +41,22 @@ impl Stores {
         self.catalog.ddl_tree(alloc, &self.txs, table, session)
     }
 
-    /// Keeps the tree of a partitioned table that a statement of the session reads under its snapshot,
-    /// for the statements that come. Nothing else changes.
-    pub fn keep(&mut self, table: TableNo, session: u32, snap: &Snapshot) -> Result<(), NoMemory>
+    /// The tree of a table that a statement of the session reads under its snapshot (as `tree` answers it), which is kept
+    /// for the statements that come where the table is partitioned. Nothing else changes.
+    pub fn keep_tree(
+        &mut self,
+        table: TableNo,
+        session: u32,
+        snap: &Snapshot,
+    ) -> Result<Tree, NoMemory>
         requires known { table.number < length self.old.catalog.tables }
         requires sound { IsSound self.old }
-        ensures { self.new ≡ self.old }
+        ensures tree { IfOk result (λ t. (h : History) (s : TakenSnapshot) → AllStand self.old h → IsPast s.past (tx_events h) →
+            SnapshotStands snap.now s → seen t ≡ tree_of h session table.number s) }
+        ensures same { self.new ≡ self.old }
     {
         trees_are_together();
-        self.catalog.keep(&self.txs, table, session, snap)
+        self.catalog.keep_tree(&self.txs, table, session, snap)
     }
 
     /// A table and those above it, upwards, with the CHECKs kept for each and its place where it is a

@@ -5,5 +5,5 @@ use Rattle.statement_steps.specs.Known.{IsKnownTo}
 use Rattle.select_statement.proofs.Whole.{is_sound}
 use Rattle.select_statement.proofs.gathering.keep_trees.Goals as goal
 
-pub keep-requires-clause-sound : goal.keep-requires-clause-sound
-keep-requires-clause-sound c = subst IsSound (sym c.loop-table.invariant) (is_sound c.args.stores.now c.args.caller c.requires.may)
+pub keep_tree-requires-clause-sound : goal.keep_tree-requires-clause-sound
+keep_tree-requires-clause-sound c = subst IsSound (sym c.loop-table.invariant) (is_sound c.args.stores.now c.args.caller c.requires.may)
