@@ -1,3 +1,5 @@
+ghost use Rattle.std.specs.Prelude.{◌≡◌};
+
 use history::{Columns, TableShape};
 use pg_values::{NoMemory, PgText, Which};
 
