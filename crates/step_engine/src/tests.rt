@@ -202,6 +202,10 @@ fn each_failed_read_and_write_is_answered(rt: HostRuntime) {
         around.out_fails = &fails;
         let failed = call(alloc, BOTH.as_bytes(), &around).expect(&rt, "memory");
         assert!(rt; failed.is_cut(write, 0));
+        around = no_fault(1);
+        around.out_takes_nothing = &fails;
+        let failed = call(alloc, BOTH.as_bytes(), &around).expect(&rt, "memory");
+        assert!(rt; failed.is_cut(write, 0));
     }
     for write in 0..45_u64 {
         let fails = [write];
