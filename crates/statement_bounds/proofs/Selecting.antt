@@ -13,7 +13,7 @@ use Rattle.row_change.specs.Ways.{AllTables}
 use Rattle.plan_tree.specs.Conjuncts.{pool, asked_at, asked_later}
 use Rattle.plan_tree.specs.Kept.{kept_tables}
 use Rattle.plan_tree.specs.Laws.{shown}
-use Rattle.plan_tree.specs.Plans.{Planned, custom, plan_for, plan_tables, items_from, is_empty, keeps_first, started_by}
+use Rattle.plan_tree.specs.Plans.{Planned, plan_for, plan_tables, items_from, is_empty, keeps_first, started_by, without_from}
 use Rattle.plan_tree.specs.declared.planning.Planning.{Planning}
 use Rattle.sql_ast.specs.Queries.{Joined, SelectTree}
 use Rattle.sql_binder.specs.Selects.{from_of}
@@ -79,19 +79,19 @@ module _ (k : Attempt) (names : List (List ℕ)) (params : List Param) where
 
   -- ---- what a plan locks
 
-  items_low : (prunes : Bool) (n : ℕ) (cs : List CondTree) (trees : List TableTree) → AreTrees trees → All (IsLow k) (flat_map (λ i. i.tables) (items_from prunes n cs trees))
-  items_low prunes n cs [] low = All-nil (IsLow k)
-  items_low prunes n cs (t ∷ ts) low =
-      All-append (IsLow k) (kept_tables (keeps_first prunes n (asked_at n cs)) t) (flat_map (λ i. i.tables) (items_from prunes (n + 1) (asked_later n cs) ts))
-      (all_kept (IsLow k) (keeps_first prunes n (asked_at n cs)) t (All-head (AllTables (IsLow k)) t ts low)) (items_low prunes (n + 1) (asked_later n cs) ts (All-tail (AllTables (IsLow k)) t ts low))
+  items_low : (how : Planning) (n : ℕ) (cs : List CondTree) (trees : List TableTree) → AreTrees trees → All (IsLow k) (flat_map (λ i. i.tables) (items_from how n cs trees))
+  items_low how n cs [] low = All-nil (IsLow k)
+  items_low how n cs (t ∷ ts) low =
+      All-append (IsLow k) (kept_tables (keeps_first how.prunes n (asked_at n cs)) t) (flat_map (λ i. i.tables) (items_from how (n + 1) (asked_later n cs) ts))
+      (all_kept (IsLow k) (keeps_first how.prunes n (asked_at n cs)) t (All-head (AllTables (IsLow k)) t ts low)) (items_low how (n + 1) (asked_later n cs) ts (All-tail (AllTables (IsLow k)) t ts low))
 
   none_or : (b : Bool) (tables : List TableNo) → All (IsLow k) tables → All (IsLow k) (if b then [] else tables)
   none_or true tables all = All-nil (IsLow k)
   none_or false tables all = all
 
-  plan_low : (prunes : Bool) (conditions : List CondTree) (trees : List TableTree) → AreTrees trees → All (IsLow k) (plan_tables (plan_for prunes conditions trees))
-  plan_low prunes conditions trees low =
-      none_or (is_empty (plan_for prunes conditions trees)) (flat_map (λ i. i.tables) (items_from prunes 0 (pool conditions) trees)) (items_low prunes 0 (pool conditions) trees low)
+  plan_low : (how : Planning) (conditions : List CondTree) (trees : List TableTree) → AreTrees trees → All (IsLow k) (plan_tables (plan_for how conditions trees))
+  plan_low how conditions trees low =
+      none_or (is_empty (plan_for how conditions trees)) (flat_map (λ i. i.tables) (items_from how 0 (pool conditions) trees)) (items_low how 0 (pool conditions) trees low)
 
   locked_below_parts : (tables : List TableNo) → All (IsLow k) tables → Parts k (Gives k Any) (locked_below names k.caller tables)
   locked_below_parts tables low = all_locked_parts k names AccessShare (map number_of tables) (All-map (λ n. n < k.bound) number_of tables low)
@@ -104,8 +104,8 @@ module _ (k : Attempt) (names : List (List ℕ)) (params : List Param) where
 
   over_parts : (how : Planning) (t : SelectTree) (items : List Item) (trees : List TableTree) → AreTrees trees → Parts k (Gives k Any) (over how names params k.caller t items trees)
   over_parts how t items trees low =
-      then_parts k Any (Gives k Any) (meant how params k.caller t items) (λ m. by_plan how names k.caller (values_by how params) m (plan_for how.prunes m.conditions trees)) (meant_parts how t items)
-      (λ m any. by_plan_parts how (values_by how params) m (plan_for how.prunes m.conditions trees) (plan_low how.prunes m.conditions trees low))
+      then_parts k Any (Gives k Any) (meant how params k.caller t items) (λ m. by_plan how names k.caller (values_by how params) m (plan_for how m.conditions trees)) (meant_parts how t items)
+      (λ m any. by_plan_parts how (values_by how params) m (plan_for how m.conditions trees) (plan_low how m.conditions trees low))
 
   of_tables_parts : (how : Planning) (t : SelectTree) (ns : List ℕ) → AreLow ns → Parts k (Gives k Any) (of_tables how names params k.caller t ns)
   of_tables_parts how t ns low h now = over_parts how t (items_of 0 (from_of t) (trees_for k.caller ns h)) (trees_for k.caller ns h) (trees_low ns low h now) h now
@@ -116,7 +116,7 @@ module _ (k : Attempt) (names : List (List ℕ)) (params : List Param) where
 
   bare_parts : (t : SelectTree) → Parts k (Gives k Any) (bare params k.caller t)
   bare_parts t =
-      then_parts k Any (Gives k Any) (meant (custom false) params k.caller t []) (λ m. uncancelled (cancels_itself k.caller.session (k.caller.sessions - 1) m) (answered k.caller [] m (bare_plan m))) (meant_parts (custom false) t [])
+      then_parts k Any (Gives k Any) (meant without_from params k.caller t []) (λ m. uncancelled (cancels_itself k.caller.session (k.caller.sessions - 1) m) (answered k.caller [] m (bare_plan m))) (meant_parts without_from t [])
       (λ m any. uncancelled_parts (cancels_itself k.caller.session (k.caller.sessions - 1) m) (answered k.caller [] m (bare_plan m)) (answered_parts [] m (bare_plan m)))
 
   begins_parts : Parts k (Gives k Any) (begins k.caller)
@@ -148,8 +148,8 @@ module _ (k : Attempt) (names : List (List ℕ)) (params : List Param) where
 
   planned_parts : (how : Planning) (g : Found) → HasTrees g → Parts k (Gives k Any) (planned_under how names k.caller (values_by how params) g)
   planned_parts how g low =
-      then_parts k Any (Gives k Any) (locked_below names k.caller (plan_tables (plan_of how.prunes g))) (λ u h. made [] (started_by how (values_by how params) (plan_of how.prunes g)))
-      (locked_below_parts (plan_tables (plan_of how.prunes g)) (plan_low how.prunes g.meant.conditions g.trees low)) (λ u any h now. made_part k (Gives k Any) h (started_by how (values_by how params) (plan_of how.prunes g)) now.may (now.still, tt))
+      then_parts k Any (Gives k Any) (locked_below names k.caller (plan_tables (plan_of how g))) (λ u h. made [] (started_by how (values_by how params) (plan_of how g)))
+      (locked_below_parts (plan_tables (plan_of how g)) (plan_low how g.meant.conditions g.trees low)) (λ u any h now. made_part k (Gives k Any) h (started_by how (values_by how params) (plan_of how g)) now.may (now.still, tt))
 
   explained_parts : (how : Planning) (t : SelectTree) → Parts k (Gives k Any) (explained how names params k.caller t)
   explained_parts how t =
@@ -169,7 +169,7 @@ module _ (k : Attempt) (names : List (List ℕ)) (params : List Param) where
       (λ h now. made_part k (Gives k Any) h (record { meant = m; trees = [] }) now.may (now.still, tt))
 
   gathered_bare_parts : (t : SelectTree) → Parts k (Gives k Any) (gathered_bare params k.caller t)
-  gathered_bare_parts t = then_parts k Any (Gives k Any) (meant (custom false) params k.caller t []) (found_bare k.caller) (meant_parts (custom false) t []) (λ m any. found_bare_parts m)
+  gathered_bare_parts t = then_parts k Any (Gives k Any) (meant without_from params k.caller t []) (found_bare k.caller) (meant_parts without_from t []) (λ m any. found_bare_parts m)
 
   analyzed_bare_parts : (t : SelectTree) → Parts k (Gives k Any) (analyzed_bare params k.caller t)
   analyzed_bare_parts t =
