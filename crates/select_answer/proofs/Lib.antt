@@ -2,10 +2,13 @@ pub mod Agreeing
 pub mod Bytes
 pub mod Counting
 pub mod Courses
+pub mod Finding
 pub mod Gathering
 pub mod Items
+pub mod JoinByJoin
 pub mod Kept
 pub mod Marks
+pub mod Opened
 pub mod Plain
 pub mod Pruned
 pub mod ReadLeaves
