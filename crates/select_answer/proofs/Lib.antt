@@ -2,10 +2,14 @@ pub mod Agreeing
 pub mod Bytes
 pub mod Counting
 pub mod Courses
+pub mod FirstReads
 pub mod Gathering
+pub mod HashOrder
+pub mod HashSearch
 pub mod Items
 pub mod Kept
 pub mod Marks
+pub mod Matches
 pub mod Plain
 pub mod Pruned
 pub mod ReadLeaves
