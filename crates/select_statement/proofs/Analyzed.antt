@@ -9,7 +9,7 @@ use Rattle.cond_logic.specs.Asked.{SelectMeant}
 use Rattle.expression_binder.specs.declared.scope.Param.{Param}
 use Rattle.plan_tree.specs.Counts.{PlanCount}
 use Rattle.plan_tree.specs.Laws.{shown}
-use Rattle.plan_tree.specs.Plans.{Planned, custom}
+use Rattle.plan_tree.specs.Plans.{Planned, without_from}
 use Rattle.plan_tree.specs.declared.planning.Planning.{Planning}
 use Rattle.select_answer.specs.Answer.{select_course}
 use Rattle.select_answer.specs.Happenings.{counts_of}
@@ -105,7 +105,7 @@ module _ (params : List Param) (c : Caller) (t : SelectTree) where
 
   pub bare_runs : (h : History) → follow (gathered_bare params c t) bare_answered h ≡ bare params c t h
   bare_runs h =
-      let f = meant (custom false) params c t [] in
+      let f = meant without_from params c t [] in
       follow_again f (found_bare c) bare_answered h
       ∙ follow_same f (λ m. follow (found_bare c m) bare_answered) (λ m. uncancelled (cancels_itself c.session (c.sessions - 1) m) (answered c [] m (bare_plan m))) h
       (λ m k. found_then (cancels_itself c.session (c.sessions - 1) m) m k)

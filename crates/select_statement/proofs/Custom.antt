@@ -12,6 +12,7 @@ use Rattle.sql_ast.specs.declared.named_table.NamedTable.{NamedTable}
 use Rattle.sql_binder.specs.From.{item_name}
 use Rattle.sql_binder.specs.Selects.{from_of}
 use Rattle.plan_tree.specs.Plans.{Planned, custom, plan_for}
+use Rattle.plan_tree.specs.declared.planning.Planning.{Planning}
 use Rattle.plan_text.specs.Plans.{plan_lines, plan_table}
 use Rattle.plan_text.specs.declared.named_item.NamedItem.{NamedItem}
 use Rattle.statement_steps.specs.Asks.{named}
@@ -82,7 +83,7 @@ none_is_one l ks same = absurd (cc)
 
 -- ---- the statement
 
-module _ (prunes : Bool) (names : List (List ℕ)) (params : List Param) (c : Caller) (t u : SelectTree) (same : tables_in t ≡ tables_in u) where
+module _ (how : Planning) (names : List (List ℕ)) (params : List Param) (c : Caller) (t u : SelectTree) (same : tables_in t ≡ tables_in u) where
   -- over the items of these tables the two bind alike
   abbrev BindsOver : History → List ℕ → Type 0
   BindsOver h ns = BindsAs params c.session t u (items_of 0 (from_of t) (trees_for c ns h))
@@ -98,17 +99,17 @@ module _ (prunes : Bool) (names : List (List ℕ)) (params : List Param) (c : Ca
       let done = both_done b (λ x. named_from names c [] (from_of t) (b.events ++ h)) v ns first second in
       subst (λ (es : History). BindsOver es ns) (ap (λ (es : History). es ++ h) done.1 ∙ append_assoc n.events b.events h) (alike ns done.0)
 
-  tables_alike : (h : History) (ns : List ℕ) → BindsOver h ns → of_tables (custom prunes) names params c t ns h ≡ of_tables (custom prunes) names [] c u ns h
+  tables_alike : (h : History) (ns : List ℕ) → BindsOver h ns → of_tables (custom how) names params c t ns h ≡ of_tables (custom how) names [] c u ns h
   tables_alike h ns binds =
       let trees = trees_for c ns h in
-      ap (λ (r : Result SelectMeant Fault). and_then (outcome r) (λ m. by_plan (custom prunes) names c [] m (plan_for prunes m.conditions trees) ((outcome r).events ++ h))) binds
-      ∙ ap (λ (is : List Item). over (custom prunes) names [] c u is trees h) (items_same (from_of t) (from_of u) trees same)
+      ap (λ (r : Result SelectMeant Fault). and_then (outcome r) (λ m. by_plan (custom how) names c [] m (plan_for (custom how) m.conditions trees) ((outcome r).events ++ h))) binds
+      ∙ ap (λ (is : List Item). over (custom how) names [] c u is trees h) (items_same (from_of t) (from_of u) trees same)
 
-  named_alike : (h : History) → BindsBehind h → of_named (custom prunes) names params c t h ≡ of_named (custom prunes) names [] c u h
+  named_alike : (h : History) → BindsBehind h → of_named (custom how) names params c t h ≡ of_named (custom how) names [] c u h
   named_alike h binds =
       let f = named_from names c [] (from_of t) in
-      follow_alike f (of_tables (custom prunes) names params c t) (of_tables (custom prunes) names [] c u) h (λ ns told. tables_alike ((f h).events ++ h) ns (binds ns told))
-      ∙ follow_from f (named_from names c [] (from_of u)) (of_tables (custom prunes) names [] c u) h (names_same names c (from_of t) (from_of u) same h)
+      follow_alike f (of_tables (custom how) names params c t) (of_tables (custom how) names [] c u) h (λ ns told. tables_alike ((f h).events ++ h) ns (binds ns told))
+      ∙ follow_from f (named_from names c [] (from_of u)) (of_tables (custom how) names [] c u) h (names_same names c (from_of t) (from_of u) same h)
 
   bare_alike : (h : History) → BindsAs params c.session t u [] → bare params c t h ≡ bare [] c u h
   bare_alike h binds =
@@ -120,11 +121,11 @@ module _ (prunes : Bool) (names : List (List ℕ)) (params : List Param) (c : Ca
       let m = named_from names c [] (from_of t) h in
       subst (λ js. BindsAs params c.session t u (items_of 0 js (trees_for c [] (m.events ++ h)))) none (binds [] (ap (λ js. (named_from names c [] js h).told) none))
 
-  items_alike : (js ks : List Joined) → from_of t ≡ js → from_of u ≡ ks → (h : History) → BindAlike names params c t u h → of_items (custom prunes) names params c t js h ≡ of_items (custom prunes) names [] c u ks h
+  items_alike : (js ks : List Joined) → from_of t ≡ js → from_of u ≡ ks → (h : History) → BindAlike names params c t u h → of_items (custom how) names params c t js h ≡ of_items (custom how) names [] c u ks h
   items_alike [] [] none other h alike =
       follow_alike (begins c) (λ v. bare params c t) (λ v. bare [] c u) h (λ v first. bare_alike ((begins c h).events ++ h) (binds_bare ((begins c h).events ++ h) none (binds_behind h alike v first)))
   items_alike (j ∷ js) (l ∷ ks) is other h alike =
-      follow_alike (begins c) (λ v. of_named (custom prunes) names params c t) (λ v. of_named (custom prunes) names [] c u) h (λ v first. named_alike ((begins c h).events ++ h) (binds_behind h alike v first))
+      follow_alike (begins c) (λ v. of_named (custom how) names params c t) (λ v. of_named (custom how) names [] c u) h (λ v first. named_alike ((begins c h).events ++ h) (binds_behind h alike v first))
   items_alike [] (l ∷ ks) none other h alike = none_is_one l ks (sym (ap (map table_in) none) ∙ same ∙ ap (map table_in) other)
   items_alike (j ∷ js) [] is none h alike = none_is_one j js (sym (ap (map table_in) none) ∙ sym same ∙ ap (map table_in) is)
 
@@ -133,17 +134,17 @@ module _ (prunes : Bool) (names : List (List ℕ)) (params : List Param) (c : Ca
   abbrev found_with : List TableTree → SelectMeant → Made Found
   found_with trees m = made [] (record { meant = m; trees = trees })
 
-  found_alike : (h : History) (ns : List ℕ) → BindsOver h ns → found_in (custom prunes) params c t ns h ≡ found_in (custom prunes) [] c u ns h
+  found_alike : (h : History) (ns : List ℕ) → BindsOver h ns → found_in (custom how) params c t ns h ≡ found_in (custom how) [] c u ns h
   found_alike h ns binds =
       let trees = trees_for c ns h in
       ap (λ (r : Result SelectMeant Fault). and_then (outcome r) (found_with trees)) binds
-      ∙ ap (λ (is : List Item). follow (meant (custom prunes) [] c u is) (λ m k. found_with trees m) h) (items_same (from_of t) (from_of u) trees same)
+      ∙ ap (λ (is : List Item). follow (meant (custom how) [] c u is) (λ m k. found_with trees m) h) (items_same (from_of t) (from_of u) trees same)
 
-  gathered_alike : (h : History) → BindsBehind h → gathered (custom prunes) names params c t h ≡ gathered (custom prunes) names [] c u h
+  gathered_alike : (h : History) → BindsBehind h → gathered (custom how) names params c t h ≡ gathered (custom how) names [] c u h
   gathered_alike h binds =
       let f = named_from names c [] (from_of t) in
-      follow_alike f (found_in (custom prunes) params c t) (found_in (custom prunes) [] c u) h (λ ns told. found_alike ((f h).events ++ h) ns (binds ns told))
-      ∙ follow_from f (named_from names c [] (from_of u)) (found_in (custom prunes) [] c u) h (names_same names c (from_of t) (from_of u) same h)
+      follow_alike f (found_in (custom how) params c t) (found_in (custom how) [] c u) h (λ ns told. found_alike ((f h).events ++ h) ns (binds ns told))
+      ∙ follow_from f (named_from names c [] (from_of u)) (found_in (custom how) [] c u) h (names_same names c (from_of t) (from_of u) same h)
 
   told_alike : is_some (offset_of t) ≡ is_some (offset_of u) → (g : Found) (p : Planned) → told t g None p ≡ told u g None p
   told_alike offsets g p =
@@ -151,19 +152,19 @@ module _ (prunes : Bool) (names : List (List ℕ)) (params : List Param) (c : Ca
       ∙ ap (λ (b : Bool). plan_table (plan_lines (named_items (from_of u) g.trees) None (b || is_some g.meant.limit) g.meant p)) offsets
 
   explains_alike : is_some (offset_of t) ≡ is_some (offset_of u) → (h : History) → BindsBehind h
-      → follow (gathered (custom prunes) names params c t) (λ g. follow (planned_under (custom prunes) names c [] g) (printed t g)) h ≡ follow (gathered (custom prunes) names [] c u) (λ g. follow (planned_under (custom prunes) names c [] g) (printed u g)) h
+      → follow (gathered (custom how) names params c t) (λ g. follow (planned_under (custom how) names c [] g) (printed t g)) h ≡ follow (gathered (custom how) names [] c u) (λ g. follow (planned_under (custom how) names c [] g) (printed u g)) h
   explains_alike offsets h binds =
-      follow_from (gathered (custom prunes) names params c t) (gathered (custom prunes) names [] c u) (λ g. follow (planned_under (custom prunes) names c [] g) (printed t g)) h (gathered_alike h binds)
-      ∙ follow_same (gathered (custom prunes) names [] c u) (λ g. follow (planned_under (custom prunes) names c [] g) (printed t g)) (λ g. follow (planned_under (custom prunes) names c [] g) (printed u g)) h
-      (λ g k. follow_same (planned_under (custom prunes) names c [] g) (printed t g) (printed u g) k (λ p i. ap (made []) (told_alike offsets g p)))
+      follow_from (gathered (custom how) names params c t) (gathered (custom how) names [] c u) (λ g. follow (planned_under (custom how) names c [] g) (printed t g)) h (gathered_alike h binds)
+      ∙ follow_same (gathered (custom how) names [] c u) (λ g. follow (planned_under (custom how) names c [] g) (printed t g)) (λ g. follow (planned_under (custom how) names c [] g) (printed u g)) h
+      (λ g k. follow_same (planned_under (custom how) names c [] g) (printed t g) (printed u g) k (λ p i. ap (made []) (told_alike offsets g p)))
 
 pub custom_selects : CustomSelects
-custom_selects prunes names params c t u h same alike = items_alike prunes names params c t u same (from_of t) (from_of u) refl refl h alike
+custom_selects how names params c t u h same alike = items_alike how names params c t u same (from_of t) (from_of u) refl refl h alike
 
 pub custom_explains : CustomExplains
-custom_explains prunes names params c t u h same offsets alike =
-    follow_alike (begins c) (λ v. follow (gathered (custom prunes) names params c t) (λ g. follow (planned_under (custom prunes) names c [] g) (printed t g))) (λ v. follow (gathered (custom prunes) names [] c u) (λ g. follow (planned_under (custom prunes) names c [] g) (printed u g))) h
-    (λ v first. explains_alike prunes names params c t u same offsets ((begins c h).events ++ h) (binds_behind prunes names params c t u same h alike v first))
+custom_explains how names params c t u h same offsets alike =
+    follow_alike (begins c) (λ v. follow (gathered (custom how) names params c t) (λ g. follow (planned_under (custom how) names c [] g) (printed t g))) (λ v. follow (gathered (custom how) names [] c u) (λ g. follow (planned_under (custom how) names c [] g) (printed u g))) h
+    (λ v first. explains_alike how names params c t u same offsets ((begins c h).events ++ h) (binds_behind how names params c t u same h alike v first))
 
 pub custom_cancels : CustomCancels
 custom_cancels params session sessions t u same binds = by (from_of t) (from_of u) same

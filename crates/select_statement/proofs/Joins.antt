@@ -23,15 +23,19 @@ use Rattle.plan_tree.specs.Beside.{beside}
 use Rattle.plan_tree.specs.Conjuncts.{pool, asked_at, asked_later}
 use Rattle.plan_tree.specs.Kept.{Keeps, id_of, keeps_for, leaf_of, no_keys, keeps_plain, leaves_below, leaves_among, kept_leaves}
 use Rattle.plan_tree.specs.Laws.{Rows}
-use Rattle.plan_tree.specs.Plans.{PlannedItem, Planned, keeps_beside, is_empty, item_for, items_from, kept_beside, leaves_for, plan_for, pruned_at_start, started_item, started, plan_by}
+use Rattle.plan_tree.specs.Conditions.{all_hold}
+use Rattle.plan_tree.specs.JoinKinds.{join_kind}
+use Rattle.plan_tree.specs.declared.join_kind.JoinKind.{JoinKind}
+use Rattle.plan_tree.specs.declared.join_kind.JoinKind.TheVariants.{NestedLoop, HashJoin}
+use Rattle.plan_tree.specs.Plans.{PlannedItem, Planned, asks_again, keeps_first, keeps_beside, is_empty, item_for, items_from, kept_beside, leaves_for, plan_for, pruned_at_start, started_item, started, plan_by}
 use Rattle.plan_tree.specs.declared.planning.Planning.{Planning}
-use Rattle.select_answer.specs.Tuples.{Tuple, Mark, Reads, Gives, no_tuple, passes, tuples_in, scan_marks, for_each, joined, tuples_of, reads_in}
+use Rattle.select_answer.specs.Tuples.{Tuple, Mark, Reads, Gives, no_tuple, passes, tuples_in, scan_marks, beside_marks, first_marks, read_first, for_each, joined, tuples_of, reads_in}
 use Rattle.select_answer.specs.Laws.{plan_reads}
 use Rattle.select_answer.proofs.Kept.{in_first, in_second}
 use Rattle.select_answer.proofs.Plain.{reads_append, given_reads, leaves_reads, leaves_tuples}
 use Rattle.select_answer.proofs.Marks.{of_ids, asked_once}
 use Rattle.plan_text.specs.Plans.{scanned}
-use Rattle.select_statement.specs.Joins.{read_beside, joined_with, items_read, scans_read, AreReached, JoinsReadTheirScans, ReadsAreScanned, ReachedScansAreRead}
+use Rattle.select_statement.specs.Joins.{read_beside, item_reads, joined_with, items_read, scans_read, IsReached, AreReached, JoinsReadTheirScans, ReadsAreScanned, ReachedScansAreRead}
 
 -- ---- lists with the same elements
 
@@ -58,60 +62,6 @@ module _ {X Y : Type 0} (f g h : X → List Y) (both : (x : X) → IsPermutation
 flat_of_flat : {X Y Z : Type 0} (f : Y → List Z) (g : X → List Y) (xs : List X) → flat_map f (flat_map g xs) ≡ flat_map (λ x. flat_map f (g x)) xs
 flat_of_flat f g [] = refl
 flat_of_flat f g (x ∷ xs) = flat_map-append f (g x) (flat_map g xs) ∙ ap (λ l. flat_map f (g x) ++ l) (flat_of_flat f g xs)
-
--- ---- nested loops
-
--- what is read of marks, each tuple of which is followed: what was read there, and behind each tuple
-followed : (next : Tuple → List Mark) (ms : List Mark) → IsPermutation (reads_in ms ++ flat_map (λ t. reads_in (next t)) (tuples_of ms)) (reads_in (for_each next ms))
-followed next [] = IsPermutation-refl []
-followed next (Reads leaf ∷ ms) = IsPermutation-append_right (leaf ∷ []) _ _ (followed next ms)
-followed next (Gives t ∷ ms) =
-    let behind = flat_map (λ x. reads_in (next x)) (tuples_of ms) in
-    subst (IsPermutation (reads_in ms ++ (reads_in (next t) ++ behind))) (sym (reads_append (next t) (for_each next ms)))
-    (IsPermutation-trans _ _ _ (to_front (reads_in ms) (reads_in (next t)) behind)
-    (IsPermutation-append_right (reads_in (next t)) (reads_in ms ++ behind) (reads_in (for_each next ms)) (followed next ms)))
-
-module _ (args : List Value) (rows : Rows) (cs : List CondTree) where
-  abbrev loops_reads : List PlannedItem → Tuple → List LeafId
-  loops_reads is t = reads_in (joined args rows is cs t)
-
-  -- behind the last item nothing is read
-  at_end : (left : List Tuple) → flat_map (loops_reads []) left ≡ []
-  at_end [] = refl
-  at_end (t ∷ left) = ap (λ l. l ++ flat_map (loops_reads []) left) (given_reads (filter (passes args cs) (t ∷ []))) ∙ at_end left
-
-  abbrev scan_ids : PlannedItem → Tuple → List LeafId
-  scan_ids i t = map id_of (leaves_for i t.rows)
-
-  abbrev scan_gives : PlannedItem → Tuple → List Tuple
-  scan_gives i t = filter (passes args i.conjuncts) (flat_map (tuples_in rows i.number t) (leaves_for i t.rows))
-
-  -- beside one tuple
-  beside_one : (i : PlannedItem) (is : List PlannedItem) (t : Tuple) → IsPermutation (scan_ids i t ++ flat_map (loops_reads is) (scan_gives i t)) (loops_reads (i ∷ is) t)
-  beside_one i is t =
-      let next = joined args rows is cs in
-      let ls = leaves_for i t.rows in
-      subst (λ l. IsPermutation (l ++ flat_map (loops_reads is) (scan_gives i t)) (loops_reads (i ∷ is) t)) (leaves_reads (passes args i.conjuncts) rows i.number t ls)
-      (subst (λ (ts : List Tuple). IsPermutation (reads_in (scan_marks args rows i t) ++ flat_map (loops_reads is) ts) (loops_reads (i ∷ is) t)) (leaves_tuples (passes args i.conjuncts) rows i.number t ls)
-      (followed next (scan_marks args rows i t)))
-
-  loops : (is : List PlannedItem) (left : List Tuple) → IsPermutation (items_read args rows is left) (flat_map (loops_reads is) left)
-  loops [] left = subst (IsPermutation []) (sym (at_end left)) (IsPermutation-refl [])
-  loops (i ∷ is) left =
-      let more = joined_with args rows i left in
-      IsPermutation-trans _ _ _ (IsPermutation-append_right (read_beside i left) (items_read args rows is more) (flat_map (loops_reads is) more) (loops is more))
-      (subst (λ l. IsPermutation (read_beside i left ++ l) (flat_map (loops_reads (i ∷ is)) left)) (sym (flat_of_flat (loops_reads is) (scan_gives i) left))
-      (of_each (scan_ids i) (λ t. flat_map (loops_reads is) (scan_gives i t)) (loops_reads (i ∷ is)) (beside_one i is) left))
-
-pub joins_read : JoinsReadTheirScans
-joins_read how args m rows trees = by (is_empty plan)
-  where
-    plan : Planned
-    plan = plan_by how args m.conditions trees
-
-    by : (b : Bool) → IsPermutation (if b then [] else items_read args rows plan.items (no_tuple ∷ [])) (reads_in (if b then [] else joined args rows plan.items plan.at_last no_tuple))
-    by true = IsPermutation-refl []
-    by false = subst (IsPermutation (items_read args rows plan.items (no_tuple ∷ []))) (append-nil (loops_reads args rows plan.at_last plan.items no_tuple)) (loops args rows plan.at_last plan.items (no_tuple ∷ []))
 
 -- ---- the leaves that are kept beside a tuple are among those of the item
 
@@ -153,53 +103,168 @@ front_true false b is = absurd (cc)
 fewer_keep : (n : ℕ) (level : Level) (bounds : List Bound) (b : Bound) (ts more : List CondTree) → keeps_for true n (ts ++ more) level bounds b ≡ true → keeps_for true n ts level bounds b ≡ true
 fewer_keep n level bounds b ts more is = front_true (keeps_for true n ts level bounds b) (keeps_for true n more level bounds b) (sym (list_all-append (λ t. kept (asked n level) bounds [] t b) ts more) ∙ is)
 
--- an item that is asked again keeps what its conditions keep
-abbrev IsKeptBy : PlannedItem → Type 0
-IsKeptBy i = i.is_asked_again ≡ true → i.leaves ≡ kept_leaves (keeps_for true i.number i.kept_by) i.tree
+-- an item of a plan: where it is asked again, it keeps what its conditions keep, and a Hash Join's is not asked again
+record IsPlanned (i : PlannedItem) : Type 0 where
+  kept : i.is_asked_again ≡ true → i.leaves ≡ kept_leaves (keeps_for true i.number i.kept_by) i.tree
+  once : i.join ≡ HashJoin → i.is_asked_again ≡ false
 
-kept_made : (prunes : Bool) (n : ℕ) (cs : List CondTree) (tree : TableTree) → IsKeptBy (item_for prunes n cs tree)
-kept_made true n cs tree is = refl
-kept_made false n cs tree is = absurd (cc)
+kept_first : (prunes : Bool) (kind : JoinKind) (n : ℕ) (cs : List CondTree) (tree : TableTree) → asks_again prunes kind n cs ≡ true → kept_leaves (keeps_first prunes n cs) tree ≡ kept_leaves (keeps_for true n (all_hold cs ∷ [])) tree
+kept_first true kind n cs tree is = refl
+kept_first false NestedLoop n cs tree is = absurd (cc)
+kept_first false HashJoin n cs tree is = absurd (cc)
 
-kept_started : (args : List Value) (i : PlannedItem) → IsKeptBy i → IsKeptBy (started_item args i)
-kept_started args i own = by i.is_asked_at_start
+hashed_once : (prunes : Bool) (kind : JoinKind) (n : ℕ) (cs : List CondTree) → kind ≡ HashJoin → asks_again prunes kind n cs ≡ false
+hashed_once prunes NestedLoop n cs is = absurd (cc)
+hashed_once prunes HashJoin n cs is = refl
+
+item_planned : (how : Planning) (n : ℕ) (cs : List CondTree) (tree : TableTree) → IsPlanned (item_for how n cs tree)
+item_planned how n cs tree =
+    let kind = join_kind how.hashes n cs in
+    record { kept = kept_first how.prunes kind n cs tree; once = hashed_once how.prunes kind n cs }
+
+started_planned : (args : List Value) (i : PlannedItem) → IsPlanned i → IsPlanned (started_item args i)
+started_planned args i its = by i.is_asked_at_start
   where
-    by : (b : Bool) → IsKeptBy (if b then pruned_at_start args i else i)
-    by true = λ is. refl
-    by false = own
+    by : (b : Bool) → IsPlanned (if b then pruned_at_start args i else i)
+    by true = record { kept = λ is. refl; once = its.once }
+    by false = its
 
-of_item : (i : PlannedItem) → IsKeptBy i → (rows : Places) (l : Leaf) → Contains (leaves_for i rows) l → Contains i.leaves l
-of_item i own rows l h = by i.is_asked_again refl h
+of_item : (i : PlannedItem) → IsPlanned i → (rows : Places) (l : Leaf) → Contains (leaves_for i rows) l → Contains i.leaves l
+of_item i its rows l h = by i.is_asked_again refl h
   where
     by : (v : Bool) → i.is_asked_again ≡ v → Contains (if v then kept_beside i rows else i.leaves) l → Contains i.leaves l
     by true is here =
         let more = beside i.number rows i.asked ∷ [] in
-        subst (λ (ls : List Leaf). Contains ls l) (sym (own is))
+        subst (λ (ls : List Leaf). Contains ls l) (sym (its.kept is))
         (kept_within (keeps_beside i rows) (keeps_for true i.number i.kept_by) (λ level bounds b. fewer_keep i.number level bounds b i.kept_by more) i.tree l here)
     by false is here = here
 
--- so do those of a plan
-abbrev AreKeptBy : List PlannedItem → Type 0
-AreKeptBy [] = Unit {0}
-AreKeptBy (i ∷ is) = IsKeptBy i × AreKeptBy is
+-- so are those of a plan
+abbrev ArePlanned : List PlannedItem → Type 0
+ArePlanned [] = Unit {0}
+ArePlanned (i ∷ is) = IsPlanned i × ArePlanned is
 
-all_made : (prunes : Bool) (n : ℕ) (cs : List CondTree) (trees : List TableTree) → AreKeptBy (items_from prunes n cs trees)
-all_made prunes n cs [] = tt
-all_made prunes n cs (tree ∷ trees) = (kept_made prunes n (asked_at n cs) tree, all_made prunes (n + 1) (asked_later n cs) trees)
+items_planned : (how : Planning) (n : ℕ) (cs : List CondTree) (trees : List TableTree) → ArePlanned (items_from how n cs trees)
+items_planned how n cs [] = tt
+items_planned how n cs (tree ∷ trees) = (item_planned how n (asked_at n cs) tree, items_planned how (n + 1) (asked_later n cs) trees)
 
-all_started : (args : List Value) (is : List PlannedItem) → AreKeptBy is → AreKeptBy (map (started_item args) is)
-all_started args [] own = tt
-all_started args (i ∷ is) own = (kept_started args i own.0, all_started args is own.1)
+all_started : (args : List Value) (is : List PlannedItem) → ArePlanned is → ArePlanned (map (started_item args) is)
+all_started args [] its = tt
+all_started args (i ∷ is) its = (started_planned args i its.0, all_started args is its.1)
 
-all_kept : (how : Planning) (args : List Value) (conditions : List CondTree) (trees : List TableTree) → AreKeptBy (plan_by how args conditions trees).items
-all_kept how args conditions trees = by how.is_generic
+all_planned : (how : Planning) (args : List Value) (conditions : List CondTree) (trees : List TableTree) → ArePlanned (plan_by how args conditions trees).items
+all_planned how args conditions trees = by how.is_generic
   where
     plan : Planned
-    plan = plan_for how.prunes conditions trees
+    plan = plan_for how conditions trees
 
-    by : (b : Bool) → AreKeptBy (if b then started args plan else plan).items
-    by true = all_started args plan.items (all_made how.prunes 0 (pool conditions) trees)
-    by false = all_made how.prunes 0 (pool conditions) trees
+    by : (b : Bool) → ArePlanned (if b then started args plan else plan).items
+    by true = all_started args plan.items (items_planned how 0 (pool conditions) trees)
+    by false = items_planned how 0 (pool conditions) trees
+
+-- ---- joins
+
+-- what is read of marks, each tuple of which is followed: what was read there, and behind each tuple
+followed : (next : Tuple → List Mark) (ms : List Mark) → IsPermutation (reads_in ms ++ flat_map (λ t. reads_in (next t)) (tuples_of ms)) (reads_in (for_each next ms))
+followed next [] = IsPermutation-refl []
+followed next (Reads leaf ∷ ms) = IsPermutation-append_right (leaf ∷ []) _ _ (followed next ms)
+followed next (Gives t ∷ ms) =
+    let behind = flat_map (λ x. reads_in (next x)) (tuples_of ms) in
+    subst (IsPermutation (reads_in ms ++ (reads_in (next t) ++ behind))) (sym (reads_append (next t) (for_each next ms)))
+    (IsPermutation-trans _ _ _ (to_front (reads_in ms) (reads_in (next t)) behind)
+    (IsPermutation-append_right (reads_in (next t)) (reads_in ms ++ behind) (reads_in (for_each next ms)) (followed next ms)))
+
+-- of tuples alone, what is read behind each
+given_followed : (next : Tuple → List Mark) (ts : List Tuple) → flat_map (λ t. reads_in (next t)) ts ≡ reads_in (for_each next (map Gives ts))
+given_followed next [] = refl
+given_followed next (t ∷ ts) = ap (λ l. reads_in (next t) ++ l) (given_followed next ts) ∙ sym (reads_append (next t) (for_each next (map Gives ts)))
+
+leaves_first : (ls : List Leaf) → map id_of ls ≡ reads_in (map (λ l. Reads l.id) ls)
+leaves_first [] = refl
+leaves_first (l ∷ ls) = ap (λ ids. l.id ∷ ids) (leaves_first ls)
+
+module _ (args : List Value) (rows : Rows) (cs : List CondTree) where
+  abbrev loops_reads : List PlannedItem → Tuple → List LeafId
+  loops_reads is t = reads_in (joined args rows is cs t)
+
+  -- behind the last item nothing is read
+  at_end : (left : List Tuple) → flat_map (loops_reads []) left ≡ []
+  at_end [] = refl
+  at_end (t ∷ left) = ap (λ l. l ++ flat_map (loops_reads []) left) (given_reads (filter (passes args cs) (t ∷ []))) ∙ at_end left
+
+  module _ (i : PlannedItem) (is : List PlannedItem) where
+    abbrev next : Tuple → List Mark
+    next = joined args rows is cs
+
+    -- what is read of the item and of those behind it, beside a tuple
+    abbrev beside_reads : JoinKind → Tuple → List LeafId
+    beside_reads kind t = reads_in (for_each next (beside_marks kind args rows i t))
+
+    abbrev scan_ids : Tuple → List LeafId
+    scan_ids t = map id_of (leaves_for i t.rows)
+
+    abbrev gives : Tuple → List Tuple
+    gives t = filter (passes args i.conjuncts) (flat_map (tuples_in rows i.number t) (leaves_for i t.rows))
+
+    -- in a Nested Loop
+    scanned_one : (t : Tuple) → IsPermutation (scan_ids t ++ flat_map (loops_reads is) (gives t)) (beside_reads NestedLoop t)
+    scanned_one t =
+        let ls = leaves_for i t.rows in
+        subst (λ l. IsPermutation (l ++ flat_map (loops_reads is) (gives t)) (beside_reads NestedLoop t)) (leaves_reads (passes args i.conjuncts) rows i.number t ls)
+        (subst (λ (ts : List Tuple). IsPermutation (reads_in (scan_marks args rows i t) ++ flat_map (loops_reads is) ts) (beside_reads NestedLoop t)) (leaves_tuples (passes args i.conjuncts) rows i.number t ls)
+        (followed next (scan_marks args rows i t)))
+
+    -- in a Hash Join
+    found_one : (t : Tuple) → i.is_asked_again ≡ false → flat_map (loops_reads is) (gives t) ≡ beside_reads HashJoin t
+    found_one t once =
+        ap (λ (ls : List Leaf). flat_map (loops_reads is) (filter (passes args i.conjuncts) (flat_map (tuples_in rows i.number t) ls))) (asked_once i t.rows once)
+        ∙ given_followed next (filter (passes args i.conjuncts) (flat_map (tuples_in rows i.number t) i.leaves))
+
+    found_each : (left : List Tuple) → i.is_asked_again ≡ false → flat_map (loops_reads is) (joined_with args rows i left) ≡ flat_map (beside_reads HashJoin) left
+    found_each [] once = refl
+    found_each (t ∷ left) once =
+        flat_map-append (loops_reads is) (gives t) (joined_with args rows i left)
+        ∙ ap (λ l. l ++ flat_map (loops_reads is) (joined_with args rows i left)) (found_one t once)
+        ∙ ap (λ l. beside_reads HashJoin t ++ l) (found_each left once)
+
+    -- the item beside all tuples of its left side
+    one_join : (kind : JoinKind) → (kind ≡ HashJoin → i.is_asked_again ≡ false) → (left : List Tuple)
+        → IsPermutation (item_reads kind i left ++ flat_map (loops_reads is) (joined_with args rows i left)) (reads_in (first_marks kind i) ++ flat_map (beside_reads kind) left)
+    one_join NestedLoop once left =
+        subst (λ l. IsPermutation (read_beside i left ++ l) (flat_map (beside_reads NestedLoop) left)) (sym (flat_of_flat (loops_reads is) gives left))
+        (of_each scan_ids (λ t. flat_map (loops_reads is) (gives t)) (beside_reads NestedLoop) scanned_one left)
+    one_join HashJoin once left =
+        let found = flat_map (loops_reads is) (joined_with args rows i left) in
+        let ids = map id_of i.leaves in
+        subst (IsPermutation (ids ++ found)) (ap (λ l. l ++ found) (leaves_first i.leaves) ∙ ap (λ l. reads_in (first_marks HashJoin i) ++ l) (found_each left (once refl)))
+        (IsPermutation-refl (ids ++ found))
+
+  all_joins : (is : List PlannedItem) → ArePlanned is → (left : List Tuple) → IsPermutation (items_read args rows is left) (reads_in (read_first is) ++ flat_map (loops_reads is) left)
+  all_joins [] its left = subst (IsPermutation []) (sym (at_end left)) (IsPermutation-refl [])
+  all_joins (i ∷ is) its left =
+      let more = joined_with args rows i left in
+      let own = item_reads i.join i left in
+      let first = reads_in (read_first is) in
+      let here = reads_in (first_marks i.join i) in
+      let all = flat_map (loops_reads (i ∷ is)) left in
+      subst (IsPermutation (own ++ items_read args rows is more)) (sym (append_assoc first here all) ∙ ap (λ l. l ++ all) (sym (reads_append (read_first is) (first_marks i.join i))))
+      (IsPermutation-trans _ _ _ (IsPermutation-append_right own (items_read args rows is more) (first ++ flat_map (loops_reads is) more) (all_joins is its.1 more))
+      (IsPermutation-trans _ _ _ (to_front own first (flat_map (loops_reads is) more))
+      (IsPermutation-append_right first (own ++ flat_map (loops_reads is) more) (here ++ all) (one_join i is i.join its.0.once left))))
+
+pub joins_read : JoinsReadTheirScans
+joins_read how args m rows trees = by (is_empty plan)
+  where
+    plan : Planned
+    plan = plan_by how args m.conditions trees
+
+    by : (b : Bool) → IsPermutation (if b then [] else items_read args rows plan.items (no_tuple ∷ [])) (reads_in (if b then [] else read_first plan.items ++ joined args rows plan.items plan.at_last no_tuple))
+    by true = IsPermutation-refl []
+    by false =
+        let first = reads_in (read_first plan.items) in
+        subst (IsPermutation (items_read args rows plan.items (no_tuple ∷ [])))
+        (ap (λ l. first ++ l) (append-nil (loops_reads args rows plan.at_last plan.items no_tuple)) ∙ sym (reads_append (read_first plan.items) (joined args rows plan.items plan.at_last no_tuple)))
+        (all_joins args rows plan.at_last plan.items (all_planned how args m.conditions trees) (no_tuple ∷ []))
 
 -- ---- what holds of the leaves under the scans holds of those that are read
 
@@ -210,21 +275,25 @@ module _ (P : LeafId → Type 0) where
       let each : All (λ (l : Leaf). P l.id) ls = of_ids P ls h in
       All-map P id_of kept (All-weaker (Contains kept) (λ (l : Leaf). P l.id) (λ l at. All-contains (λ (x : Leaf). P x.id) ls l each (within l at)) kept (All-contains_itself kept))
 
-  of_beside : (i : PlannedItem) → IsKeptBy i → (left : List Tuple) → All P (map id_of i.leaves) → All P (read_beside i left)
-  of_beside i own [] h = All-nil P
-  of_beside i own (t ∷ left) h =
+  of_beside : (i : PlannedItem) → IsPlanned i → (left : List Tuple) → All P (map id_of i.leaves) → All P (read_beside i left)
+  of_beside i its [] h = All-nil P
+  of_beside i its (t ∷ left) h =
       All-append P (map id_of (leaves_for i t.rows)) (read_beside i left)
-      (of_kept i.leaves (leaves_for i t.rows) (of_item i own t.rows) h)
-      (of_beside i own left h)
+      (of_kept i.leaves (leaves_for i t.rows) (of_item i its t.rows) h)
+      (of_beside i its left h)
 
-  of_items : (args : List Value) (rows : Rows) (is : List PlannedItem) → AreKeptBy is → (left : List Tuple) → All P (map id_of (flat_map (λ i. i.leaves) is)) → All P (items_read args rows is left)
-  of_items args rows [] own left h = All-nil P
-  of_items args rows (i ∷ is) own left h =
+  of_join : (kind : JoinKind) (i : PlannedItem) → IsPlanned i → (left : List Tuple) → All P (map id_of i.leaves) → All P (item_reads kind i left)
+  of_join NestedLoop i its left h = of_beside i its left h
+  of_join HashJoin i its left h = h
+
+  of_items : (args : List Value) (rows : Rows) (is : List PlannedItem) → ArePlanned is → (left : List Tuple) → All P (map id_of (flat_map (λ i. i.leaves) is)) → All P (items_read args rows is left)
+  of_items args rows [] its left h = All-nil P
+  of_items args rows (i ∷ is) its left h =
       let others = flat_map (λ (x : PlannedItem). x.leaves) is in
       let parts = subst (All P) (map-append id_of i.leaves others) h in
-      All-append P (read_beside i left) (items_read args rows is (joined_with args rows i left))
-      (of_beside i own.0 left (in_first P (map id_of i.leaves) (map id_of others) parts))
-      (of_items args rows is own.1 (joined_with args rows i left) (in_second P (map id_of i.leaves) (map id_of others) parts))
+      All-append P (item_reads i.join i left) (items_read args rows is (joined_with args rows i left))
+      (of_join i.join i its.0 left (in_first P (map id_of i.leaves) (map id_of others) parts))
+      (of_items args rows is its.1 (joined_with args rows i left) (in_second P (map id_of i.leaves) (map id_of others) parts))
 
 pub are_scanned : ReadsAreScanned
 are_scanned how args m rows trees = All-permutation (Contains (map id_of (scanned plan))) (scans_read args rows plan) _ (joins_read how args m rows trees) (by (is_empty plan))
@@ -236,29 +305,34 @@ are_scanned how args m rows trees = All-permutation (Contains (map id_of (scanne
     by true = All-nil (Contains [])
     by false =
         let ids = map id_of (flat_map (λ i. i.leaves) plan.items) in
-        of_items (Contains ids) args rows plan.items (all_kept how args m.conditions trees) (no_tuple ∷ []) (All-contains_itself ids)
+        of_items (Contains ids) args rows plan.items (all_planned how args m.conditions trees) (no_tuple ∷ []) (All-contains_itself ids)
 
 -- ---- scans that are reached
 
 module _ (args : List Value) (rows : Rows) where
-  reached_item : (i : PlannedItem) (left : List Tuple) (rest : List LeafId) → 0 < length left → i.is_asked_again ≡ false → All (Contains (read_beside i left ++ rest)) (map id_of i.leaves)
-  reached_item i [] rest some once = absurd (omega (arith, some))
-  reached_item i (t ∷ left) rest some once =
+  beside_reached : (i : PlannedItem) (left : List Tuple) → 0 < length left → i.is_asked_again ≡ false → All (Contains (read_beside i left)) (map id_of i.leaves)
+  beside_reached i [] some once = absurd (omega (arith, some))
+  beside_reached i (t ∷ left) some once =
       let same : map id_of (leaves_for i t.rows) ≡ map id_of i.leaves = ap (map id_of) (asked_once i t.rows once) in
       let ids = map id_of i.leaves in
-      All-weaker (Contains ids) (Contains (read_beside i (t ∷ left) ++ rest))
-      (λ x at. Contains-append_left (read_beside i (t ∷ left)) rest x (Contains-append_left (map id_of (leaves_for i t.rows)) (read_beside i left) x (subst (λ l. Contains l x) (sym same) at)))
+      All-weaker (Contains ids) (Contains (read_beside i (t ∷ left)))
+      (λ x at. Contains-append_left (map id_of (leaves_for i t.rows)) (read_beside i left) x (subst (λ l. Contains l x) (sym same) at))
       ids (All-contains_itself ids)
+
+  item_reached : (kind : JoinKind) (i : PlannedItem) (left : List Tuple) → IsReached kind i left → All (Contains (item_reads kind i left)) (map id_of i.leaves)
+  item_reached NestedLoop i left h = beside_reached i left h.0 h.1
+  item_reached HashJoin i left h = All-contains_itself (map id_of i.leaves)
 
   reached : (is : List PlannedItem) (left : List Tuple) → AreReached args rows is left → All (Contains (items_read args rows is left)) (map id_of (flat_map (λ i. i.leaves) is))
   reached [] left h = All-nil (Contains [])
   reached (i ∷ is) left h =
+      let own = item_reads i.join i left in
       let more = items_read args rows is (joined_with args rows i left) in
       let others = flat_map (λ i. i.leaves) is in
-      let all = read_beside i left ++ more in
-      subst (All (Contains all)) (sym (map-append id_of i.leaves others))
-      (All-append (Contains all) (map id_of i.leaves) (map id_of others) (reached_item i left more h.0 h.1)
-      (All-weaker (Contains more) (Contains all) (λ x at. Contains-append_right (read_beside i left) more x at) (map id_of others) (reached is (joined_with args rows i left) h.2)))
+      subst (All (Contains (own ++ more))) (sym (map-append id_of i.leaves others))
+      (All-append (Contains (own ++ more)) (map id_of i.leaves) (map id_of others)
+      (All-weaker (Contains own) (Contains (own ++ more)) (λ x at. Contains-append_left own more x at) (map id_of i.leaves) (item_reached i.join i left h.0))
+      (All-weaker (Contains more) (Contains (own ++ more)) (λ x at. Contains-append_right own more x at) (map id_of others) (reached is (joined_with args rows i left) h.1)))
 
 pub are_read : ReachedScansAreRead
 are_read how args m rows trees h =

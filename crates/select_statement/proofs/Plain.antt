@@ -24,7 +24,10 @@ use Rattle.lock_table.specs.Asked.{AskedView, AtOnce, WaitsBehind, ClosesCycle, 
 use Rattle.sql_binder.specs.Selects.{from_of}
 use Rattle.cond_logic.specs.Asked.{SelectMeant}
 use Rattle.plan_tree.specs.Conjuncts.{pool, lies_within, asked_at, asked_later}
-use Rattle.plan_tree.specs.Plans.{Planned, PlannedItem, keeps_first, is_joined, is_none, item_for, plan_for, plan_tables, kept_at_start, pruned_at_start, started_item, started, plan_by}
+use Rattle.plan_tree.specs.Plans.{Planned, PlannedItem, keeps_first, is_joined, asks_again, is_none, item_for, plan_for, plan_tables, kept_at_start, pruned_at_start, started_item, started, plan_by}
+use Rattle.plan_tree.specs.JoinKinds.{join_kind}
+use Rattle.plan_tree.specs.declared.join_kind.JoinKind.{JoinKind}
+use Rattle.plan_tree.specs.declared.join_kind.JoinKind.TheVariants.{NestedLoop, HashJoin}
 use Rattle.plan_tree.specs.declared.planning.Planning.{Planning}
 use Rattle.select_answer.specs.Answer.{answer_of, select_course}
 use Rattle.select_answer.specs.Course.{reads_of}
@@ -94,8 +97,12 @@ pub record IsOne (tree : TableTree) (i : PlannedItem) : Type 0 where
   pub once : i.is_asked_again ≡ false
   pub few : length i.leaves ≤ length (leaves tree)
 
-one_made : (prunes : Bool) (cs : List CondTree) (tree : TableTree) → IsOne tree (item_for prunes 0 (asked_at 0 cs) tree)
-one_made prunes cs tree = record { once = and_false prunes (is_joined 0 (asked_at 0 cs)) (none_joined cs); few = kept_few (keeps_first prunes 0 (asked_at 0 cs)) tree }
+not_again : (prunes : Bool) (k : JoinKind) (cs : List CondTree) → asks_again prunes k 0 (asked_at 0 cs) ≡ false
+not_again prunes NestedLoop cs = and_false prunes (is_joined 0 (asked_at 0 cs)) (none_joined cs)
+not_again prunes HashJoin cs = refl
+
+one_made : (how : Planning) (cs : List CondTree) (tree : TableTree) → IsOne tree (item_for how 0 (asked_at 0 cs) tree)
+one_made how cs tree = record { once = not_again how.prunes (join_kind how.hashes 0 (asked_at 0 cs)) cs; few = kept_few (keeps_first how.prunes 0 (asked_at 0 cs)) tree }
 
 one_started : (args : List Value) (i : PlannedItem) → IsOne i.tree i → IsOne i.tree (started_item args i)
 one_started args i one = by i.is_asked_at_start
@@ -117,11 +124,11 @@ few_reads once how args m rows tree = by how.is_generic
     cs = pool m.conditions
 
     item : PlannedItem
-    item = item_for how.prunes 0 (asked_at 0 cs) tree
+    item = item_for how 0 (asked_at 0 cs) tree
 
-    by : (b : Bool) → length (reads_in (marks args rows (if b then started args (plan_for how.prunes m.conditions (tree ∷ [])) else plan_for how.prunes m.conditions (tree ∷ [])))) ≤ length (leaves tree)
-    by true = few_of once args rows tree (started_item args item) (asked_later 0 cs) (one_started args item (one_made how.prunes cs tree))
-    by false = few_of once args rows tree item (asked_later 0 cs) (one_made how.prunes cs tree)
+    by : (b : Bool) → length (reads_in (marks args rows (if b then started args (plan_for how m.conditions (tree ∷ [])) else plan_for how m.conditions (tree ∷ [])))) ≤ length (leaves tree)
+    by true = few_of once args rows tree (started_item args item) (asked_later 0 cs) (one_started args item (one_made how cs tree))
+    by false = few_of once args rows tree item (asked_later 0 cs) (one_made how cs tree)
 
 -- ---- there are not too many tables
 
@@ -217,9 +224,9 @@ same_then {T = T} m f g same = by m.told
 -- ---- the statement
 
 pub by_plan_plain : (how : Planning) (names : List (List ℕ)) (c : Caller) (args : List Value) (m : SelectMeant) (trees : List TableTree) (h : History)
-    → giving answer_in (answered c args m (plan_by how args m.conditions trees) h) ≡ answered_plainly c args m trees h → giving answer_in (by_plan how names c args m (plan_for how.prunes m.conditions trees) h) ≡ locked_plainly how names c args trees m h
+    → giving answer_in (answered c args m (plan_by how args m.conditions trees) h) ≡ answered_plainly c args m trees h → giving answer_in (by_plan how names c args m (plan_for how m.conditions trees) h) ≡ locked_plainly how names c args trees m h
 by_plan_plain how names c args m trees h same =
-    let plan = plan_for how.prunes m.conditions trees in
+    let plan = plan_for how m.conditions trees in
     let run = plan_by how args m.conditions trees in
     let locks = locked_below names c (plan_tables plan) h in
     let its = all_locks names c.session AccessShare (map number_of (plan_tables plan)) h in
@@ -239,7 +246,7 @@ one_table_plain lawful small once pruned h good how names params c t table looks
     args : List Value
     args = values_by how params
 
-    by : (r : Result SelectMeant Fault) → giving answer_in (and_then (outcome r) (λ m. by_plan how names c args m (plan_for how.prunes m.conditions trees) ((outcome r).events ++ h))) ≡ and_then (outcome r) (λ m. locked_plainly how names c args trees m ((outcome r).events ++ h))
+    by : (r : Result SelectMeant Fault) → giving answer_in (and_then (outcome r) (λ m. by_plan how names c args m (plan_for how m.conditions trees) ((outcome r).events ++ h))) ≡ and_then (outcome r) (λ m. locked_plainly how names c args trees m ((outcome r).events ++ h))
     by (Ok m) = ap (behind []) (by_plan_plain how names c args m trees h (one_plain lawful small once pruned how c args m table h good looks made))
     by (Err f) = refl
 
@@ -264,12 +271,12 @@ reads_its_scans once how args m rows tree = by how.is_generic
     cs = pool m.conditions
 
     item : PlannedItem
-    item = item_for how.prunes 0 (asked_at 0 cs) tree
+    item = item_for how 0 (asked_at 0 cs) tree
 
     one : (i : PlannedItem) → IsOne tree i → reads_in (marks args rows (record { items = i ∷ []; at_last = asked_later 0 cs })) ≡ map id_of (scanned (record { items = i ∷ []; at_last = asked_later 0 cs }))
     one i is = once args rows i (asked_later 0 cs) is.once ∙ ap (map id_of) (scans_of_one i (asked_later 0 cs))
 
-    by : (b : Bool) → reads_in (marks args rows (if b then started args (plan_for how.prunes m.conditions (tree ∷ [])) else plan_for how.prunes m.conditions (tree ∷ [])))
-        ≡ map id_of (scanned (if b then started args (plan_for how.prunes m.conditions (tree ∷ [])) else plan_for how.prunes m.conditions (tree ∷ [])))
-    by true = one (started_item args item) (one_started args item (one_made how.prunes cs tree))
-    by false = one item (one_made how.prunes cs tree)
+    by : (b : Bool) → reads_in (marks args rows (if b then started args (plan_for how m.conditions (tree ∷ [])) else plan_for how m.conditions (tree ∷ [])))
+        ≡ map id_of (scanned (if b then started args (plan_for how m.conditions (tree ∷ [])) else plan_for how m.conditions (tree ∷ [])))
+    by true = one (started_item args item) (one_started args item (one_made how cs tree))
+    by false = one item (one_made how cs tree)

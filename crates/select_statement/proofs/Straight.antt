@@ -59,9 +59,9 @@ module _ (how : Planning) (names : List (List ℕ)) (params : List Param) (c : C
   abbrev args : List Value
   args = values_by how params
 
-  planned : (m : SelectMeant) (trees : List TableTree) (h : History) → follow (planned_under how names c args (record { meant = m; trees = trees })) (answered c args m) h ≡ by_plan how names c args m (plan_for how.prunes m.conditions trees) h
+  planned : (m : SelectMeant) (trees : List TableTree) (h : History) → follow (planned_under how names c args (record { meant = m; trees = trees })) (answered c args m) h ≡ by_plan how names c args m (plan_for how m.conditions trees) h
   planned m trees h =
-      let p = plan_for how.prunes m.conditions trees in
+      let p = plan_for how m.conditions trees in
       let q = started_by how args p in
       follow_again (locked_below names c (plan_tables p)) (λ u k. made [] q) (answered c args m) h
       ∙ follow_same (locked_below names c (plan_tables p)) (λ u. follow (λ k. made [] q) (answered c args m)) (λ u. answered c args m q) h (λ u k. follow_made q (answered c args m) k)
@@ -72,7 +72,7 @@ module _ (how : Planning) (names : List (List ℕ)) (params : List Param) (c : C
       let f = meant how params c t (items_of 0 (from_of t) trees) in
       let next : Found → History → Made Told = λ g. follow (planned_under how names c args g) (λ p. answered c args g.meant p) in
       follow_again f (λ m k. made [] (record { meant = m; trees = trees })) next h
-      ∙ follow_same f (λ m. follow (λ k. made [] (record { meant = m; trees = trees })) next) (λ m. by_plan how names c args m (plan_for how.prunes m.conditions trees)) h
+      ∙ follow_same f (λ m. follow (λ k. made [] (record { meant = m; trees = trees })) next) (λ m. by_plan how names c args m (plan_for how m.conditions trees)) h
       (λ m k. follow_made (record { meant = m; trees = trees }) next k ∙ planned m trees k)
 
   pub runs : (h : History) → follow (gathered how names params c t) (λ g. follow (planned_under how names c args g) (λ p. answered c args g.meant p)) h ≡ of_named how names params c t h

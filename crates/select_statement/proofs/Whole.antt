@@ -4,7 +4,7 @@ use Rattle.std.specs.Prelude.{nat_le}
 use Rattle.std.specs.List.{flat_map, slice_index_or}
 use Rattle.std.proofs.lemmas.Bool.Decides.{nat_tests}
 use Rattle.std.proofs.lemmas.List.{length-map, map-append, drop_more}
-use Rattle.std.proofs.lemmas.List.Elements.{All-nil, All-head, All-tail, All-append}
+use Rattle.std.proofs.lemmas.List.Elements.{All-nil, All-cons, All-head, All-tail, All-append}
 use Rattle.pg_values.specs.declared.fault.Fault.{Fault}
 use Rattle.pg_values.specs.declared.ids.TableNo.{TableNo}
 use Rattle.pg_values.specs.declared.value.Value.{Value}
@@ -31,7 +31,7 @@ use Rattle.sql_binder.specs.From.{item_name, twice_faults}
 use Rattle.sql_binder.specs.Selects.{bound_select, from_of, name_faults, constant_faults, meaning}
 use Rattle.sql_binder.specs.Values.{custom_select, if_bound, values_of, with_values}
 use Rattle.plan_tree.specs.Conjuncts.{pool, asked_at, asked_later}
-use Rattle.plan_tree.specs.Plans.{PlannedItem, Planned, keeps_first, items_from, plan_for, is_empty, plan_tables, custom, started_item, started, started_by, plan_by, CanRead}
+use Rattle.plan_tree.specs.Plans.{PlannedItem, Planned, keeps_first, item_for, items_from, plan_for, is_empty, plan_tables, started_item, started, started_by, plan_by, CanRead}
 use Rattle.plan_tree.specs.declared.planning.Planning.{Planning}
 use Rattle.select_answer.proofs.Kept.{plan_read as read_by}
 use Rattle.stores.specs.Events.{look_of}
@@ -78,11 +78,17 @@ trees_for_all stores caller f (x ∷ xs) all = (All-head (λ x. IsTreeFor stores
 pub can_prune_all : {X : Type 0} (stores : Stores) (caller : Caller) (f : X → TableTree) (xs : List X) → All (λ x. IsTreeFor stores caller (f x)) xs → All (λ x. CanPrune (f x)) xs
 can_prune_all stores caller f xs all = all_more (λ x. IsTreeFor stores caller (f x)) (λ x. CanPrune (f x)) xs (λ x its. its.prunable) all
 
-items_locked : (stores : Stores) (caller : Caller) (prunes : Bool) (n : ℕ) (cs : List CondTree) (trees : List TableTree) → AreTreesFor stores caller trees → All (MayLock stores caller) (flat_map (λ i. i.tables) (items_from prunes n cs trees))
-items_locked stores caller prunes n cs [] its = All-nil (MayLock stores caller)
-items_locked stores caller prunes n cs (t ∷ ts) its =
-    All-append (MayLock stores caller) (kept_tables (keeps_first prunes n (asked_at n cs)) t) (flat_map (λ i. i.tables) (items_from prunes (n + 1) (asked_later n cs) ts))
-    (tables_kept (MayLock stores caller) (keeps_first prunes n (asked_at n cs)) t its.0.locks) (items_locked stores caller prunes (n + 1) (asked_later n cs) ts its.1)
+items_locked : (stores : Stores) (caller : Caller) (how : Planning) (n : ℕ) (cs : List CondTree) (trees : List TableTree) → AreTreesFor stores caller trees → All (MayLock stores caller) (flat_map (λ i. i.tables) (items_from how n cs trees))
+items_locked stores caller how n cs [] its = All-nil (MayLock stores caller)
+items_locked stores caller how n cs (t ∷ ts) its =
+    All-append (MayLock stores caller) (kept_tables (keeps_first how.prunes n (asked_at n cs)) t) (flat_map (λ i. i.tables) (items_from how (n + 1) (asked_later n cs) ts))
+    (tables_kept (MayLock stores caller) (keeps_first how.prunes n (asked_at n cs)) t its.0.locks) (items_locked stores caller how (n + 1) (asked_later n cs) ts its.1)
+
+-- the trees of its items can be pruned
+items_prunable : (stores : Stores) (caller : Caller) (how : Planning) (n : ℕ) (cs : List CondTree) (trees : List TableTree) → AreTreesFor stores caller trees → All (λ (i : PlannedItem). CanPrune i.tree) (items_from how n cs trees)
+items_prunable stores caller how n cs [] its = All-nil (λ (i : PlannedItem). CanPrune i.tree)
+items_prunable stores caller how n cs (t ∷ ts) its =
+    All-cons (λ (i : PlannedItem). CanPrune i.tree) (item_for how n (asked_at n cs) t) (items_from how (n + 1) (asked_later n cs) ts) its.0.prunable (items_prunable stores caller how (n + 1) (asked_later n cs) ts its.1)
 
 none_or : (stores : Stores) (caller : Caller) (b : Bool) (tables : List TableNo) → All (MayLock stores caller) tables → All (MayLock stores caller) (if b then [] else tables)
 none_or stores caller true tables all = All-nil (MayLock stores caller)
@@ -95,18 +101,18 @@ module _ {X : Type 0} (stores : Stores) (caller : Caller) (conditions : List Con
       read_by f stores.rows.leaves how args conditions xs plan (can_prune_all stores caller f xs its) (all_more (λ x. IsTreeFor stores caller (f x)) (λ x. HasLeaves stores (f x)) xs (λ x t. t.leaves) its) is
 
   -- before that
-  pub plan_prunable : (prunes : Bool) (plan : Planned) → plan ≡ plan_for prunes conditions (map f xs) → All (λ i. CanPrune i.tree) plan.items
-  plan_prunable prunes plan is = all_more (CanRead stores.rows.leaves) (λ i. CanPrune i.tree) plan.items (λ i can. can.prunable) (plan_read (custom prunes) [] plan is)
+  pub plan_prunable : (how : Planning) (plan : Planned) → plan ≡ plan_for how conditions (map f xs) → All (λ i. CanPrune i.tree) plan.items
+  plan_prunable how plan is = subst (λ (p : Planned). All (λ (i : PlannedItem). CanPrune i.tree) p.items) (sym is) (items_prunable stores caller how 0 (pool conditions) (map f xs) (trees_for_all stores caller f xs its))
 
-  pub plan_locked : (prunes : Bool) (plan : Planned) → plan ≡ plan_for prunes conditions (map f xs) → All (MayLock stores caller) (plan_tables plan)
-  plan_locked prunes plan is =
+  pub plan_locked : (how : Planning) (plan : Planned) → plan ≡ plan_for how conditions (map f xs) → All (MayLock stores caller) (plan_tables plan)
+  plan_locked how plan is =
       subst (λ p. All (MayLock stores caller) (plan_tables p)) (sym is)
-      (none_or stores caller (is_empty (plan_for prunes conditions (map f xs))) (flat_map (λ i. i.tables) (items_from prunes 0 (pool conditions) (map f xs))) (items_locked stores caller prunes 0 (pool conditions) (map f xs) (trees_for_all stores caller f xs its)))
+      (none_or stores caller (is_empty (plan_for how conditions (map f xs))) (flat_map (λ i. i.tables) (items_from how 0 (pool conditions) (map f xs))) (items_locked stores caller how 0 (pool conditions) (map f xs) (trees_for_all stores caller f xs its)))
 
 -- a plan has an item for each tree
-as_many_items : (prunes : Bool) (n : ℕ) (cs : List CondTree) (trees : List TableTree) → length (items_from prunes n cs trees) ≡ length trees
-as_many_items prunes n cs [] = refl
-as_many_items prunes n cs (t ∷ ts) = ap suc (as_many_items prunes (n + 1) (asked_later n cs) ts)
+as_many_items : (how : Planning) (n : ℕ) (cs : List CondTree) (trees : List TableTree) → length (items_from how n cs trees) ≡ length trees
+as_many_items how n cs [] = refl
+as_many_items how n cs (t ∷ ts) = ap suc (as_many_items how (n + 1) (asked_later n cs) ts)
 
 -- also once it is started
 as_many_started : (how : Planning) (args : List Value) (p : Planned) → length (started_by how args p).items ≡ length p.items
@@ -119,8 +125,8 @@ as_many_started how args p = by how.is_generic
 pub as_planned : {X : Type 0} (f : X → TableTree) (how : Planning) (args : List Value) (conditions : List CondTree) (xs : List X) (plan : Planned) → plan ≡ plan_by how args conditions (map f xs) → length xs ≤ 4 → length plan.items ≤ 4
 as_planned f how args conditions xs plan is few =
     let same = ap (λ (p : Planned). length p.items) is in
-    let begun = as_many_started how args (plan_for how.prunes conditions (map f xs)) in
-    let each = as_many_items how.prunes 0 (pool conditions) (map f xs) in
+    let begun = as_many_started how args (plan_for how conditions (map f xs)) in
+    let each = as_many_items how 0 (pool conditions) (map f xs) in
     let n = length-map xs f in
     omega (arith, same, begun, each, n, few)
 

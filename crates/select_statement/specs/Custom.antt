@@ -1,6 +1,6 @@
 -- A custom plan is made of the statement with its values in place (the manual, PREPARE, Notes): with parameters a SELECT does
 -- what it does with their values written out, wherever the two bind alike.
-use Rattle.std.specs.Prelude.{◌≡◌, ℕ, ◌++◌, Bool, List, [], Ok, is_some, map}
+use Rattle.std.specs.Prelude.{◌≡◌, ℕ, ◌++◌, List, [], Ok, is_some, map}
 use Rattle.pg_values.specs.declared.value.Value.{Value}
 use Rattle.history.specs.History.{History}
 use Rattle.expression_binder.specs.Scopes.{Item}

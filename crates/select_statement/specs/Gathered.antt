@@ -1,6 +1,6 @@
 -- What a SELECT does before it reads (the manual, SELECT; EXPLAIN): what it stands for is gathered, its plan is made, and what
 -- the plan reads is locked. An EXPLAIN of the SELECT does the same.
-use Rattle.std.specs.Prelude.{ℕ, ◌-◌, Bool, false, List, [], map}
+use Rattle.std.specs.Prelude.{ℕ, ◌-◌, List, [], map}
 use Rattle.pg_values.specs.declared.value.Value.{Value}
 use Rattle.history.specs.History.{History}
 use Rattle.row_router.specs.Seen.{seen}

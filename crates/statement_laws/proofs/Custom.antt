@@ -1,5 +1,5 @@
 -- With parameters an UPDATE, a DELETE or an INSERT does what it does with their values written out.
-use Rattle.std.proofs.Common.{◌≡◌, ℕ, Bool, List, [], ◌++◌, refl, ap, subst, ◌∙◌, append_assoc, Option, Some, None, Result, Ok}
+use Rattle.std.proofs.Common.{◌≡◌, ℕ, List, [], ◌++◌, refl, ap, subst, ◌∙◌, append_assoc, Option, Some, None, Result, Ok}
 use Rattle.pg_values.specs.declared.fault.Fault.{Fault}
 use Rattle.pg_values.specs.declared.value.Value.{Value}
 use Rattle.pg_values.specs.declared.lock_mode.LockMode.TheVariants.{RowExclusive}
@@ -8,6 +8,7 @@ use Rattle.row_router.specs.Histories.{path_of, tree_of}
 use Rattle.cond_logic.specs.Asked.{ChangeMeant}
 use Rattle.expression_binder.specs.declared.scope.Param.{Param}
 use Rattle.plan_tree.specs.Plans.{custom}
+use Rattle.plan_tree.specs.declared.planning.Planning.{Planning}
 use Rattle.sql_ast.specs.Expressions.{Trees}
 use Rattle.sql_ast.specs.declared.named_table.NamedTable.{NamedTable}
 use Rattle.stores.specs.Events.{look_of}
@@ -44,26 +45,26 @@ located_behind names c name P h there v first t second =
 
 -- ---- UPDATE and DELETE
 
-module _ (prunes : Bool) (names : List (List ℕ)) (c : Caller) (table : NamedTable) where
+module _ (how : Planning) (names : List (List ℕ)) (c : Caller) (table : NamedTable) where
   abbrev begun : (change : Found → Changing) → List Param → Change → History → Made Told
-  begun change params one = follow (held_at c.level c.session c.cmd) (λ u. follow (gathered (custom prunes) names params c table one.0 one.1) (λ g. changed (change g) names c g))
+  begun change params one = follow (held_at c.level c.session c.cmd) (λ u. follow (gathered (custom how) names params c table one.0 one.1) (λ g. changed (change g) names c g))
 
   module _ (params : List Param) (one other : Change) where
-    table_alike : (h : History) (t : ℕ) → ChangesBindAs params c table one other h t → of_table (custom prunes) names params c table one.0 one.1 t h ≡ of_table (custom prunes) names [] c table other.0 other.1 t h
+    table_alike : (h : History) (t : ℕ) → ChangesBindAs params c table one other h t → of_table (custom how) names params c table one.0 one.1 t h ≡ of_table (custom how) names [] c table other.0 other.1 t h
     table_alike h t binds =
-        ap (λ (r : Result ChangeMeant Fault). and_then (answered r) (λ m. locked (custom prunes) names c [] t (tree_of h c.session t (look_of h c.session c.cmd)) (path_of h c.session t) m ((answered r).events ++ h))) binds
+        ap (λ (r : Result ChangeMeant Fault). and_then (answered r) (λ m. locked (custom how) names c [] t (tree_of h c.session t (look_of h c.session c.cmd)) (path_of h c.session t) m ((answered r).events ++ h))) binds
 
-    gathered_alike : (h : History) → WhereNamed names c table.name (ChangesBindAs params c table one other) h → gathered (custom prunes) names params c table one.0 one.1 h ≡ gathered (custom prunes) names [] c table other.0 other.1 h
+    gathered_alike : (h : History) → WhereNamed names c table.name (ChangesBindAs params c table one other) h → gathered (custom how) names params c table one.0 one.1 h ≡ gathered (custom how) names [] c table other.0 other.1 h
     gathered_alike h there =
         let f = named names c.session RowExclusive table.name in
-        follow_alike f (of_table (custom prunes) names params c table one.0 one.1) (of_table (custom prunes) names [] c table other.0 other.1) h (λ t told. table_alike ((f h).events ++ h) t (there t told))
+        follow_alike f (of_table (custom how) names params c table one.0 one.1) (of_table (custom how) names [] c table other.0 other.1) h (λ t told. table_alike ((f h).events ++ h) t (there t told))
 
     begun_alike : (change : Found → Changing) (h : History) → WhereLocated names c table.name (ChangesBindAs params c table one other) h → begun change params one h ≡ begun change [] other h
     begun_alike change h there =
         let b = held_at c.level c.session c.cmd in
         let next : Found → History → Made Told = λ g. changed (change g) names c g in
-        follow_alike b (λ u. follow (gathered (custom prunes) names params c table one.0 one.1) next) (λ u. follow (gathered (custom prunes) names [] c table other.0 other.1) next) h (λ v first.
-        follow_from (gathered (custom prunes) names params c table one.0 one.1) (gathered (custom prunes) names [] c table other.0 other.1) next ((b h).events ++ h)
+        follow_alike b (λ u. follow (gathered (custom how) names params c table one.0 one.1) next) (λ u. follow (gathered (custom how) names [] c table other.0 other.1) next) h (λ v first.
+        follow_from (gathered (custom how) names params c table one.0 one.1) (gathered (custom how) names [] c table other.0 other.1) next ((b h).events ++ h)
         (gathered_alike ((b h).events ++ h) (located_behind names c table.name (ChangesBindAs params c table one other) h there v first)))
 
     -- one that goes on takes the rows that it has left
@@ -76,10 +77,10 @@ module _ (prunes : Bool) (names : List (List ℕ)) (c : Caller) (table : NamedTa
         by (Some r) = refl
 
 pub custom_updates : CustomUpdates
-custom_updates prunes names params c rest table settings others condition other h there = changed_alike prunes names c table params (settings, condition) (others, other) (λ g. updating c g) rest h there
+custom_updates how names params c rest table settings others condition other h there = changed_alike how names c table params (settings, condition) (others, other) (λ g. updating c g) rest h there
 
 pub custom_deletes : CustomDeletes
-custom_deletes prunes names params c rest table condition other h there = changed_alike prunes names c table params ([], condition) ([], other) (λ g. deleting c) rest h there
+custom_deletes how names params c rest table condition other h there = changed_alike how names c table params ([], condition) ([], other) (λ g. deleting c) rest h there
 
 -- ---- INSERT
 

@@ -48,13 +48,13 @@ module _ (h : History) (session : ℕ) (s : TakenSnapshot) (fresh : TreesAreFres
   OfItems [] = Unit {0}
   OfItems (i ∷ is) = OfItem i × OfItems is
 
-  made_items : (prunes : Bool) (k : ℕ) (cs : List CondTree) (ns : List ℕ) → ((n : ℕ) → Contains ns n → Contains all n) → All (IsMade (catalogue_events h)) ns → OfItems (items_from prunes k cs (map tree_for ns))
-  made_items prunes k cs [] within made = tt
-  made_items prunes k cs (n ∷ ns) within made =
+  made_items : (how : Planning) (k : ℕ) (cs : List CondTree) (ns : List ℕ) → ((n : ℕ) → Contains ns n → Contains all n) → All (IsMade (catalogue_events h)) ns → OfItems (items_from how k cs (map tree_for ns))
+  made_items how k cs [] within made = tt
+  made_items how k cs (n ∷ ns) within made =
       let here : Contains (n ∷ ns) n = (0, omega arith, refl) in
       let whole = of_tree n (within n here) (All-head (IsMade (catalogue_events h)) n ns made) in (
-        record { whole = whole; kept = leaves_kept IsShown (keeps_first prunes k (asked_at k cs)) (tree_for n) whole },
-        made_items prunes (k + 1) (asked_later k cs) ns (λ x at. within x (Contains-append_right (n ∷ []) ns x at)) (All-tail (IsMade (catalogue_events h)) n ns made),
+        record { whole = whole; kept = leaves_kept IsShown (keeps_first how.prunes k (asked_at k cs)) (tree_for n) whole },
+        made_items how (k + 1) (asked_later k cs) ns (λ x at. within x (Contains-append_right (n ∷ []) ns x at)) (All-tail (IsMade (catalogue_events h)) n ns made),
       )
 
   started_of : (args : List Value) (i : PlannedItem) → OfItem i → OfItem (started_item args i)
@@ -68,11 +68,11 @@ module _ (h : History) (session : ℕ) (s : TakenSnapshot) (fresh : TreesAreFres
   started_items args [] its = tt
   started_items args (i ∷ is) its = (started_of args i its.0, started_items args is its.1)
 
-  plan_items : (how : Planning) (args : List Value) (conditions : List CondTree) (ns : List ℕ) → OfItems (plan_for how.prunes conditions (map tree_for ns)).items → OfItems (plan_by how args conditions (map tree_for ns)).items
+  plan_items : (how : Planning) (args : List Value) (conditions : List CondTree) (ns : List ℕ) → OfItems (plan_for how conditions (map tree_for ns)).items → OfItems (plan_by how args conditions (map tree_for ns)).items
   plan_items how args conditions ns its = by how.is_generic
     where
       plan : Planned
-      plan = plan_for how.prunes conditions (map tree_for ns)
+      plan = plan_for how conditions (map tree_for ns)
 
       by : (b : Bool) → OfItems (if b then started args plan else plan).items
       by true = started_items args plan.items its
@@ -98,4 +98,4 @@ good_scans h good how c args m ns made = by (is_empty plan)
     by true = All-nil (λ l. IsShownBelowOne h c.session snap ns l.id)
     by false =
         of_items h c.session snap fresh ns plan.items
-        (plan_items h c.session snap fresh ns how args m.conditions ns (made_items h c.session snap fresh ns how.prunes 0 (pool m.conditions) ns (λ n at. at) made))
+        (plan_items h c.session snap fresh ns how args m.conditions ns (made_items h c.session snap fresh ns how 0 (pool m.conditions) ns (λ n at. at) made))

@@ -197,11 +197,11 @@ module _ (h : History) (good : IsGood h) (how : Planning) (names : List (List �
   abbrev args : List Value
   args = values_by how params
 
-  plan_plain : (g : History) (m : SelectMeant) (ns : List ℕ) → SelectsArePlain g → Looks c g → length ns ≤ 4 → All (IsMade (catalogue_events g)) ns → (by_plan how names c args m (plan_for how.prunes m.conditions (trees_for c ns g)) g).told ≡ Ok a
-      → giving answer_in (by_plan how names c args m (plan_for how.prunes m.conditions (trees_for c ns g)) g) ≡ locked_plainly how names c args (trees_for c ns g) m g
+  plan_plain : (g : History) (m : SelectMeant) (ns : List ℕ) → SelectsArePlain g → Looks c g → length ns ≤ 4 → All (IsMade (catalogue_events g)) ns → (by_plan how names c args m (plan_for how m.conditions (trees_for c ns g)) g).told ≡ Ok a
+      → giving answer_in (by_plan how names c args m (plan_for how m.conditions (trees_for c ns g)) g) ≡ locked_plainly how names c args (trees_for c ns g) m g
   plan_plain g m ns plain looking low made done =
       let trees = trees_for c ns g in
-      let plan = plan_for how.prunes m.conditions trees in
+      let plan = plan_for how m.conditions trees in
       let run = plan_by how args m.conditions trees in
       let locks = locked_below names c (plan_tables plan) g in
       let its = all_locks names c.session AccessShare (map number_of (plan_tables plan)) g in
@@ -219,8 +219,8 @@ module _ (h : History) (good : IsGood h) (how : Planning) (names : List (List �
   tables_plain : (g : History) (ns : List ℕ) → SelectsArePlain g → Looks c g → length ns ≤ 4 → All (IsMade (catalogue_events g)) ns → (of_tables how names params c t ns g).told ≡ Ok a → giving answer_in (of_tables how names params c t ns g) ≡ selected_plainly how names params c t ns g
   tables_plain g ns plain looking low made = by (asked_by how (items_of 0 (from_of t) (trees_for c ns g)) params c.session t)
     where
-      by : (r : Result SelectMeant Fault) → (and_then (outcome r) (λ m. by_plan how names c args m (plan_for how.prunes m.conditions (trees_for c ns g)) ((outcome r).events ++ g))).told ≡ Ok a
-          → giving answer_in (and_then (outcome r) (λ m. by_plan how names c args m (plan_for how.prunes m.conditions (trees_for c ns g)) ((outcome r).events ++ g))) ≡ and_then (outcome r) (λ m. locked_plainly how names c args (trees_for c ns g) m ((outcome r).events ++ g))
+      by : (r : Result SelectMeant Fault) → (and_then (outcome r) (λ m. by_plan how names c args m (plan_for how m.conditions (trees_for c ns g)) ((outcome r).events ++ g))).told ≡ Ok a
+          → giving answer_in (and_then (outcome r) (λ m. by_plan how names c args m (plan_for how m.conditions (trees_for c ns g)) ((outcome r).events ++ g))) ≡ and_then (outcome r) (λ m. locked_plainly how names c args (trees_for c ns g) m ((outcome r).events ++ g))
       by (Ok m) done = ap (behind []) (plan_plain g m ns plain looking low made done)
       by (Err f) done = refl
 

@@ -1,6 +1,6 @@
 -- A custom plan is made of the statement with its values in place (the manual, PREPARE, Notes): with parameters an UPDATE, a
 -- DELETE or an INSERT does what it does with their values written out, wherever the two bind alike.
-use Rattle.std.specs.Prelude.{◌≡◌, ℕ, ◌++◌, Bool, List, [], Ok, Option}
+use Rattle.std.specs.Prelude.{◌≡◌, ℕ, ◌++◌, List, [], Ok, Option}
 use Rattle.pg_values.specs.declared.lock_mode.LockMode.TheVariants.{RowExclusive}
 use Rattle.history.specs.History.{History}
 use Rattle.part_catalog.specs.Found.{made_at}

@@ -1,4 +1,4 @@
-use Rattle.std.proofs.Common.{◌≤◌, ◌∙◌, [], false, All, ap, arith, length, map, subst, sym}
+use Rattle.std.proofs.Common.{◌≤◌, ◌∙◌, [], All, ap, arith, length, map, subst, sym}
 use Rattle.std.proofs.lemmas.List.Elements.{All-nil}
 use Rattle.row_router.specs.Seen.{seen}
 use Rattle.sql_ast.specs.Queries.{select_tree}
@@ -31,18 +31,18 @@ run_counted-requires-clause-each c = ap length c.in_ok-found.ensures.trees ∙ s
 
 pub run_counted-requires-clause-few : goal.run_counted-requires-clause-few
 run_counted-requires-clause-few c =
-    subst (λ (p : Planned). length p.items ≤ 4) (sym (c.in_ok-plan.ensures ∙ ap (λ ts. plan_for false (map cond_tree c.as_slice.result.now) (map seen ts)) (c.deref.ensures.value ∙ c.in_ok-found.ensures.trees))) (omega arith)
+    subst (λ (p : Planned). length p.items ≤ 4) (sym (c.in_ok-plan.ensures ∙ ap (λ ts. plan_for c.without_from.result (map cond_tree c.as_slice.result.now) (map seen ts)) (c.deref.ensures.value ∙ c.in_ok-found.ensures.trees))) (omega arith)
 
 pub run_counted-requires-clause-reads : goal.run_counted-requires-clause-reads
 run_counted-requires-clause-reads c =
     subst (λ (p : Planned). All (CanRead c.args.stores.now.rows.leaves) p.items)
-    (sym (c.in_ok-plan.ensures ∙ ap (λ ts. plan_for false (map cond_tree c.as_slice.result.now) (map seen ts)) (c.deref.ensures.value ∙ c.in_ok-found.ensures.trees))) (All-nil (CanRead c.args.stores.now.rows.leaves))
+    (sym (c.in_ok-plan.ensures ∙ ap (λ ts. plan_for c.without_from.result (map cond_tree c.as_slice.result.now) (map seen ts)) (c.deref.ensures.value ∙ c.in_ok-found.ensures.trees))) (All-nil (CanRead c.args.stores.now.rows.leaves))
 
 pub returns : goal.returns
 returns c =
     let t = select_tree c.args.select.now in
     let g = found_by c.in_ok-found.found in
-    let is = c.in_ok-plan.ensures ∙ ap (λ cs. plan_for false (map cond_tree cs) (map seen c.deref.result.now)) c.as_slice.ensures
-    ∙ ap (λ ts. plan_for false g.meant.conditions (map seen ts)) (c.deref.ensures.value ∙ c.in_ok-found.ensures.trees) in
+    let is = c.in_ok-plan.ensures ∙ ap (λ cs. plan_for c.without_from.result (map cond_tree cs) (map seen c.deref.result.now)) c.as_slice.ensures
+    ∙ ap (λ ts. plan_for c.without_from.result g.meant.conditions (map seen ts)) (c.deref.ensures.value ∙ c.in_ok-found.ensures.trees) in
     goes (gathered_bare c.args.params.now c.args.caller t) (λ (x : Found). run_counted c.args.caller [] t x (bare_plan x.meant)) c.in_ok-found.ensures.step
     (moved (run_counted c.args.caller [] t g) _ _ is c.run_counted.ensures)

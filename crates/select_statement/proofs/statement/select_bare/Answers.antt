@@ -1,4 +1,4 @@
-use Rattle.std.proofs.Common.{◌≤◌, ◌∙◌, [], false, All, ap, arith, length, map, subst, sym}
+use Rattle.std.proofs.Common.{◌≤◌, ◌∙◌, [], All, ap, arith, length, map, subst, sym}
 use Rattle.std.proofs.lemmas.List.Elements.{All-nil}
 use Rattle.row_router.specs.Seen.{seen}
 use Rattle.sql_ast.specs.Queries.{select_tree}
@@ -39,15 +39,15 @@ answer-requires-clause-may c = may_go_on _ _ _ _ _ _ c.requires c.in_ok-hold_if_
 pub answer-requires-clause-reads : goal.answer-requires-clause-reads
 answer-requires-clause-reads c =
     subst (λ (p : Planned). All (CanRead c.hold_if_repeatable.new.stores.rows.leaves) p.items)
-    (sym (c.in_ok-plan.ensures ∙ ap (λ ts. plan_for false (map cond_tree c.as_slice.result.now) (map seen ts)) (c.deref.ensures.value ∙ c.in_ok-found.ensures.trees))) (All-nil (CanRead c.hold_if_repeatable.new.stores.rows.leaves))
+    (sym (c.in_ok-plan.ensures ∙ ap (λ ts. plan_for c.without_from.result (map cond_tree c.as_slice.result.now) (map seen ts)) (c.deref.ensures.value ∙ c.in_ok-found.ensures.trees))) (All-nil (CanRead c.hold_if_repeatable.new.stores.rows.leaves))
 
 pub returns : goal.returns
 returns c =
     let params = c.args.params.now in
     let t = select_tree c.args.select.now in
     let m = select_meant c.in_ok-found.found.ask in
-    let is = c.in_ok-plan.ensures ∙ ap (λ cs. plan_for false (map cond_tree cs) (map seen c.deref.result.now)) c.as_slice.ensures
-    ∙ ap (λ ts. plan_for false m.conditions (map seen ts)) (c.deref.ensures.value ∙ c.in_ok-found.ensures.trees) in
+    let is = c.in_ok-plan.ensures ∙ ap (λ cs. plan_for c.without_from.result (map cond_tree cs) (map seen c.deref.result.now)) c.as_slice.ensures
+    ∙ ap (λ ts. plan_for c.without_from.result m.conditions (map seen ts)) (c.deref.ensures.value ∙ c.in_ok-found.ensures.trees) in
     goes (begins c.args.caller) (λ u. bare params c.args.caller t) c.in_ok-hold_if_repeatable.ensures.step
     (bare_step params c.args.caller t (goes (gathered_bare params c.args.caller t) (bare_answered params c.args.caller t) c.in_ok-found.ensures.step
     (moved (answered c.args.caller [] m) _ _ is c.answer.ensures)))
