@@ -3,7 +3,6 @@ pub mod Bytes
 pub mod Counting
 pub mod Courses
 pub mod Finding
-
 pub mod FirstReads
 pub mod Gathering
 pub mod HashOrder
@@ -12,9 +11,8 @@ pub mod Items
 pub mod JoinByJoin
 pub mod Kept
 pub mod Marks
-pub mod Opened
-
 pub mod Matches
+pub mod Opened
 pub mod Plain
 pub mod Pruned
 pub mod ReadLeaves
