@@ -6,12 +6,14 @@ use Rattle.std.proofs.lemmas.List.Concat.{flat_map-append}
 use Rattle.cond_logic.specs.declared.select.SortKey.{SortKey}
 use Rattle.cond_logic.specs.Asked.{OutputTree}
 use Rattle.cond_logic.specs.Tables.{Leaf}
-use Rattle.plan_tree.specs.Plans.{PlannedItem, Planned, is_empty, scan_conjuncts, join_conjuncts}
+use Rattle.plan_tree.specs.Plans.{PlannedItem, Planned, is_empty, scan_conjuncts, hash_conds, join_filter}
+use Rattle.plan_tree.specs.declared.join_kind.JoinKind.{JoinKind}
+use Rattle.plan_tree.specs.declared.join_kind.JoinKind.TheVariants.{NestedLoop, HashJoin}
 use Rattle.plan_text.specs.declared.named_item.NamedItem.{NamedItem}
 use Rattle.plan_text.specs.Conditions.{several}
 use Rattle.plan_text.specs.Names.{alias_behind}
 use Rattle.plan_text.specs.Nodes.{Node, arrow, detail_line, alone, over, both}
-use Rattle.plan_text.specs.Plans.{Counts, detail, filters, join_filters, scan_text, scan, scans, is_one_scan, removed_detail, item_scans, item, nested_loop, joined, result, items, rows, sort_detail, sorted, limited}
+use Rattle.plan_text.specs.Plans.{Counts, detail, filters, join_details, scan_text, scan, scans, is_one_scan, removed_detail, item_scans, item, join_text, join, joined, result, items, rows, sort_detail, sorted, limited}
 use Rattle.plan_text.specs.ScanLines.{unspaced, following, first_or, behind_arrow, scan_in, item_leaves, plan_leaves, ScansAreOfTheLeaves}
 
 -- ---- a line
@@ -57,9 +59,23 @@ filter_details : (ts : List (List ℕ)) → AreDetails (detail (codes "Filter: "
 filter_details [] = tt
 filter_details (t ∷ ts) = (refl, tt)
 
-join_details : (ts : List (List ℕ)) → AreDetails (detail (codes "Join Filter: ") ts)
-join_details [] = tt
-join_details (t ∷ ts) = (refl, tt)
+hash_details : (ts : List (List ℕ)) → AreDetails (detail (codes "Hash Cond: ") ts)
+hash_details [] = tt
+hash_details (t ∷ ts) = (refl, tt)
+
+join_filter_details : (ts : List (List ℕ)) → AreDetails (detail (codes "Join Filter: ") ts)
+join_filter_details [] = tt
+join_filter_details (t ∷ ts) = (refl, tt)
+
+all_details : (xs ys : List (List ℕ)) → AreDetails xs → AreDetails ys → AreDetails (xs ++ ys)
+all_details [] ys h k = k
+all_details (x ∷ xs) ys h k = (h.0, all_details xs ys h.1 k)
+
+of_join : (ns : List NamedItem) (i : PlannedItem) → AreDetails (join_details ns i)
+of_join ns i =
+    let conds = several ns (hash_conds i) in
+    let asked = several ns (join_filter i) in
+    all_details (detail (codes "Hash Cond: ") conds) (detail (codes "Join Filter: ") asked) (hash_details conds) (join_filter_details asked)
 
 removed_details : (removed : ℕ) → AreDetails (removed_detail removed)
 removed_details removed = by (removed == 0)
@@ -88,8 +104,9 @@ over_scans text details below leaves is h of_below d =
 append_is : IsOther (codes "Append")
 append_is = record { is_text = record { spaces = refl; unarrowed = refl }; scan = refl }
 
-loop_is : IsOther (codes "Nested Loop")
-loop_is = record { is_text = record { spaces = refl; unarrowed = refl }; scan = refl }
+join_is : (k : JoinKind) → IsOther (join_text k)
+join_is NestedLoop = record { is_text = record { spaces = refl; unarrowed = refl }; scan = refl }
+join_is HashJoin = record { is_text = record { spaces = refl; unarrowed = refl }; scan = refl }
 
 result_is : IsOther (codes "Result")
 result_is = record { is_text = record { spaces = refl; unarrowed = refl }; scan = refl }
@@ -134,15 +151,15 @@ module _ (ns : List NamedItem) where
   joined_scan : (is : List PlannedItem) (left : Node) (leaves : List (List ℕ)) → ((d : ℕ) → flat_map scan_in (left d) ≡ leaves) → (d : ℕ) → flat_map scan_in (joined ns unrun left is d) ≡ leaves ++ flat_map (item_leaves ns) is
   joined_scan [] left leaves of_left d = of_left d ∙ sym (append-nil leaves)
   joined_scan (i ∷ is) left leaves of_left d =
-      joined_scan is (nested_loop ns unrun left i) (leaves ++ item_leaves ns i) loop d ∙ append_assoc leaves (item_leaves ns i) (flat_map (item_leaves ns) is)
+      joined_scan is (join ns unrun left i) (leaves ++ item_leaves ns i) here d ∙ append_assoc leaves (item_leaves ns i) (flat_map (item_leaves ns) is)
     where
       sides : (e : ℕ) → flat_map scan_in (both left (item ns unrun i) e) ≡ leaves ++ item_leaves ns i
       sides e =
           flat_map-append scan_in (left e) (item ns unrun i e) ∙ ap (λ l. l ++ flat_map scan_in (item ns unrun i e)) (of_left e)
           ∙ ap (λ l. leaves ++ l) (item_scan i e)
 
-      loop : (e : ℕ) → flat_map scan_in (nested_loop ns unrun left i e) ≡ leaves ++ item_leaves ns i
-      loop = over_scans (codes "Nested Loop") (join_filters ns i) (both left (item ns unrun i)) (leaves ++ item_leaves ns i) loop_is (join_details (several ns (join_conjuncts i))) sides
+      here : (e : ℕ) → flat_map scan_in (join ns unrun left i e) ≡ leaves ++ item_leaves ns i
+      here = over_scans (join_text i.join) (join_details ns i) (both left (item ns unrun i)) (leaves ++ item_leaves ns i) (join_is i.join) (of_join ns i) sides
 
   items_scan : (is : List PlannedItem) (d : ℕ) → flat_map scan_in (items ns unrun is d) ≡ flat_map (item_leaves ns) is
   items_scan [] d = alone_scans (codes "Result") [] d result_is tt

@@ -16,7 +16,7 @@ use Rattle.plan_tree.specs.declared.count.Count.{Count}
 use Rattle.plan_text.specs.declared.named_item.NamedItem.{NamedItem}
 use Rattle.plan_text.specs.Conditions.{conjuncts, all_conjuncts, condition}
 use Rattle.plan_text.specs.Nodes.{Node, counted, alone}
-use Rattle.plan_text.specs.Plans.{Counts, told, joined, joins, join_filters, nested_loop, item, sort_detail, sorted}
+use Rattle.plan_text.specs.Plans.{Counts, told, join_details, join_text, join, joined, joins, item, sort_detail, sorted}
 
 -- ---- the conjuncts of an AND
 
@@ -44,22 +44,25 @@ mutual
 -- ---- joins
 
 -- the last is joined with all before it
-joined_last : (ns : List NamedItem) (c : Counts) (n : Node) (is : List PlannedItem) (i : PlannedItem) → joined ns c n (is ++ i ∷ []) ≡ nested_loop ns c (joined ns c n is) i
+joined_last : (ns : List NamedItem) (c : Counts) (n : Node) (is : List PlannedItem) (i : PlannedItem) → joined ns c n (is ++ i ∷ []) ≡ join ns c (joined ns c n is) i
 joined_last ns c n [] i = refl
-joined_last ns c n (j ∷ js) i = joined_last ns c (nested_loop ns c n j) js i
+joined_last ns c n (j ∷ js) i = joined_last ns c (join ns c n j) js i
 
-pub joins_last : (ns : List NamedItem) (c : Counts) (is : List PlannedItem) (i : PlannedItem) (d : ℕ) → 0 < length is → joins ns c (is ++ i ∷ []) d ≡ nested_loop ns c (joins ns c is) i d
+pub joins_last : (ns : List NamedItem) (c : Counts) (is : List PlannedItem) (i : PlannedItem) (d : ℕ) → 0 < length is → joins ns c (is ++ i ∷ []) d ≡ join ns c (joins ns c is) i d
 joins_last ns c [] i d some = absurd (omega (arith, some))
 joins_last ns c (j ∷ js) i d some = ap (λ (n : Node). n d) (joined_last ns c (item ns c j) js i)
 
--- a loop is told, the items before and the last
-pub loop_told : (ns : List NamedItem) (c : Counts) (is : List PlannedItem) (i : PlannedItem) (all : List PlannedItem) (d : ℕ) (count : Option Count) (o0 o1 o2 o3 details : List (List ℕ)) → 0 < length is → all ≡ is ++ i ∷ [] → count ≡ option_map (join_count i.number) c → details ≡ join_filters ns i
-    → o1 ≡ o0 ++ alone (counted (codes "Nested Loop") count) details d → o2 ≡ o1 ++ joins ns c is (d + 1) → o3 ≡ o2 ++ item ns c i (d + 1) → o3 ≡ o0 ++ joins ns c all d
-loop_told ns c is i all d count o0 o1 o2 o3 details some split loops asked head left right =
-    let a = alone (told (join_count i.number) c (codes "Nested Loop")) (join_filters ns i) d in
+-- a join is told, the items before and the last
+pub join_told : (ns : List NamedItem) (c : Counts) (is : List PlannedItem) (i : PlannedItem) (all : List PlannedItem) (d : ℕ) (count : Option Count) (text : List ℕ) (o0 o1 o2 o3 details : List (List ℕ)) → 0 < length is → all ≡ is ++ i ∷ []
+    → text ≡ join_text i.join → count ≡ option_map (join_count i.number) c → details ≡ join_details ns i
+    → o1 ≡ o0 ++ alone (counted text count) details d → o2 ≡ o1 ++ joins ns c is (d + 1) → o3 ≡ o2 ++ item ns c i (d + 1) → o3 ≡ o0 ++ joins ns c all d
+join_told ns c is i all d count text o0 o1 o2 o3 details some split kind times asked head left right =
+    let word = join_text i.join in
+    let a = alone (told (join_count i.number) c word) (join_details ns i) d in
     let b = joins ns c is (d + 1) in
     let e = item ns c i (d + 1) in
-    let first : o1 ≡ o0 ++ a = head ∙ ap (λ n. o0 ++ alone (counted (codes "Nested Loop") n) details d) loops ∙ ap (λ x. o0 ++ alone (told (join_count i.number) c (codes "Nested Loop")) x d) asked in
+    let first : o1 ≡ o0 ++ a =
+    head ∙ ap (λ t. o0 ++ alone (counted t count) details d) kind ∙ ap (λ n. o0 ++ alone (counted word n) details d) times ∙ ap (λ x. o0 ++ alone (told (join_count i.number) c word) x d) asked in
     right ∙ ap (λ l. l ++ e) (left ∙ ap (λ l. l ++ b) first) ∙ append_assoc (o0 ++ a) b e ∙ append_assoc o0 a (b ++ e)
     ∙ ap (λ l. o0 ++ l) (sym (joins_last ns c is i d some) ∙ ap (λ l. joins ns c l d) (sym split))
 
