@@ -110,6 +110,11 @@ printed_done a stores caller t g p may e = record {
   waits = may.idle;
 }
 
+-- ---- stores that have not changed
+
+pub same_stores : {X T : Type 0} {view : X → T} {r : Result X Stop} {old new : Stores} {caller : Caller} {n : ℕ} {f : History → Made T} → new ≡ old → IsStep view r new new caller n f → IsStep view r old old caller n f
+same_stores {view = view} {r = r} {caller = caller} {n = n} {f = f} same step = subst (λ (s : Stores). IsStep view r s s caller n f) same step
+
 -- ---- a SELECT that cancels itself, or does not
 
 pub cancelled_here : {X T : Type 0} (see : X → T) (own : Bool) (f : Fault) (g : History → Made T) (stores : Stores) (caller : Caller) (n : ℕ) → MayAttempt stores caller → own ≡ true → f ≡ statement_cancelled

@@ -71,45 +71,28 @@ fn bind_over(
 // The trees of the tables are read, and names and kinds bound over them.
 fn find(
     alloc: Global,
-    stores: &Stores,
+    stores: &mut Stores,
     how: Planning,
     params: &[Param],
     caller: Caller,
     select: &Select,
     tables: &[TableNo],
 ) -> Result<Gathered, Stop>
-    requires may { MayAttempt stores.now caller }
-    requires few { length stores.now.catalog.tables ≤ 4096 }
+    requires may { MayAttempt stores.old caller }
+    requires few { length stores.old.catalog.tables ≤ 4096 }
     requires each { length tables.now ≡ length (from_of (select_tree select.now)) }
-    requires known { All (λ t. IsKnownTo stores.now caller.session t.number) tables.now }
-    ensures step { IsStep found_by result stores.now stores.now caller caller.cmd (gathered.found_in how params.now caller (select_tree select.now) (map number_of tables.now)) }
+    requires known { All (λ t. IsKnownTo stores.old caller.session t.number) tables.now }
+    ensures step { IsStep found_by result stores.old stores.old caller caller.cmd (gathered.found_in how params.now caller (select_tree select.now) (map number_of tables.now)) }
     ensures few { IfOk result (λ g. length g.trees.items ≤ 4) }
     ensures each { IfOk result (λ g. length g.trees.items ≡ length (from_of (select_tree select.now))) }
-    ensures trees { IfOk result (λ g. All (λ t. IsTreeFor stores.now caller (seen t)) g.trees.items) }
-    ensures look { IfOk result (λ g. IsLookFor stores.now caller g.snap) }
+    ensures trees { IfOk result (λ g. All (λ t. IsTreeFor stores.old caller (seen t)) g.trees.items) }
+    ensures look { IfOk result (λ g. IsLookFor stores.old caller g.snap) }
+    ensures same { stores.new ≡ stores.old }
 {
     let snap = look(alloc, stores, caller)?;
     let trees = read_trees(alloc, stores, caller, tables, &snap)?;
     let ask = bind_over(alloc, stores, how, params, caller, select, &trees)?;
     Ok(Gathered { ask, trees, snap })
-}
-
-// The trees of the tables are kept for the statements that come.
-fn keep_trees(
-    alloc: Global,
-    stores: &mut Stores,
-    caller: Caller,
-    tables: &[TableNo],
-) -> Result<(), NoMemory>
-    requires may { MayAttempt stores.old caller }
-    requires known { All (λ t. IsKnownTo stores.old caller.session t.number) tables.now }
-    ensures { stores.new ≡ stores.old }
-{
-    let snap = look(alloc, stores, caller)?;
-    for table in tables {
-        stores.keep_tree(*table, caller.session, &snap)?;
-    }
-    Ok(())
 }
 
 /// The tables of FROM are found and locked, their trees read under the snapshot of the command, names and kinds
@@ -132,7 +115,6 @@ pub(crate) fn gather(
     ensures look { IfOk result (λ g. IsLookFor stores.new caller g.snap) }
 {
     let tables = lock_items(alloc, stores, names, caller, select.from.as_slice())?;
-    keep_trees(alloc, stores, caller, &tables)?;
     find(alloc, stores, how, params, caller, select, &tables)
 }
 

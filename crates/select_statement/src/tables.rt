@@ -50,42 +50,43 @@ pub(crate) fn lock_items(
 }
 
 fn read_tree(
-    alloc: Global,
-    stores: &Stores,
+    stores: &mut Stores,
     caller: Caller,
     table: TableNo,
     snap: &Snapshot,
 ) -> Result<Tree, NoMemory>
-    requires may { MayAttempt stores.now caller }
-    requires few { length stores.now.catalog.tables ≤ 4096 }
-    requires known { IsKnownTo stores.now caller.session table.number }
-    requires look { IsLookFor stores.now caller snap.now }
-    ensures tree { IfOk result (λ t. (h : History) → Stands stores.now h → seen t ≡ tree_of h caller.session table.number (look_of h caller.session caller.cmd)) }
-    ensures fit { IfOk result (λ t. IsTreeFor stores.now caller (seen t)) }
+    requires may { MayAttempt stores.old caller }
+    requires few { length stores.old.catalog.tables ≤ 4096 }
+    requires known { IsKnownTo stores.old caller.session table.number }
+    requires look { IsLookFor stores.old caller snap.now }
+    ensures tree { IfOk result (λ t. (h : History) → Stands stores.old h → seen t ≡ tree_of h caller.session table.number (look_of h caller.session caller.cmd)) }
+    ensures fit { IfOk result (λ t. IsTreeFor stores.old caller (seen t)) }
+    ensures same { stores.new ≡ stores.old }
 {
     leaves_are_housed();
     trees_can_be_pruned();
-    stores.tree(alloc, table, caller.session, snap)
+    stores.keep_tree(table, caller.session, snap)
 }
 
-/// The trees of the tables under the snapshot of the command.
+/// The trees of the tables under the snapshot of the command, which are kept for the statements that come.
 pub(crate) fn read_trees(
     alloc: Global,
-    stores: &Stores,
+    stores: &mut Stores,
     caller: Caller,
     tables: &[TableNo],
     snap: &Snapshot,
 ) -> Result<Vec<Tree>, NoMemory>
-    requires may { MayAttempt stores.now caller }
-    requires few { length stores.now.catalog.tables ≤ 4096 }
-    requires known { All (λ t. IsKnownTo stores.now caller.session t.number) tables.now }
-    requires look { IsLookFor stores.now caller snap.now }
-    ensures trees { IfOk result (λ trees. (h : History) → Stands stores.now h → map seen trees.items ≡ selected.trees_for caller (map number_of tables.now) h) }
-    ensures each { IfOk result (λ trees. All (λ t. IsTreeFor stores.now caller (seen t)) trees.items) }
+    requires may { MayAttempt stores.old caller }
+    requires few { length stores.old.catalog.tables ≤ 4096 }
+    requires known { All (λ t. IsKnownTo stores.old caller.session t.number) tables.now }
+    requires look { IsLookFor stores.old caller snap.now }
+    ensures trees { IfOk result (λ trees. (h : History) → Stands stores.old h → map seen trees.items ≡ selected.trees_for caller (map number_of tables.now) h) }
+    ensures each { IfOk result (λ trees. All (λ t. IsTreeFor stores.old caller (seen t)) trees.items) }
+    ensures same { stores.new ≡ stores.old }
 {
     let mut trees = Vec::new(alloc);
     for table in tables {
-        trees.push(read_tree(alloc, stores, caller, *table, snap)?)?;
+        trees.push(read_tree(stores, caller, *table, snap)?)?;
     }
     Ok(trees)
 }
