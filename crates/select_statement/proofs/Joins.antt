@@ -32,7 +32,7 @@ use Rattle.plan_tree.specs.declared.planning.Planning.{Planning}
 use Rattle.select_answer.specs.Tuples.{Tuple, Mark, Reads, Gives, no_tuple, passes, tuples_in, scan_marks, beside_marks, first_marks, read_first, for_each, joined, tuples_of, reads_in}
 use Rattle.select_answer.specs.Laws.{plan_reads}
 use Rattle.select_answer.proofs.Kept.{in_first, in_second}
-use Rattle.select_answer.proofs.Plain.{reads_append, given_reads, leaves_reads, leaves_tuples}
+use Rattle.select_answer.proofs.Plain.{reads_append, given_reads, leaves_first, leaves_reads, leaves_tuples}
 use Rattle.select_answer.proofs.Marks.{of_ids, asked_once}
 use Rattle.plan_text.specs.Plans.{scanned}
 use Rattle.select_statement.specs.Joins.{read_beside, item_reads, joined_with, items_read, scans_read, IsReached, AreReached, JoinsReadTheirScans, ReadsAreScanned, ReachedScansAreRead}
@@ -179,10 +179,6 @@ given_followed : (next : Tuple → List Mark) (ts : List Tuple) → flat_map (λ
 given_followed next [] = refl
 given_followed next (t ∷ ts) = ap (λ l. reads_in (next t) ++ l) (given_followed next ts) ∙ sym (reads_append (next t) (for_each next (map Gives ts)))
 
-leaves_first : (ls : List Leaf) → map id_of ls ≡ reads_in (map (λ l. Reads l.id) ls)
-leaves_first [] = refl
-leaves_first (l ∷ ls) = ap (λ ids. l.id ∷ ids) (leaves_first ls)
-
 module _ (args : List Value) (rows : Rows) (cs : List CondTree) where
   abbrev loops_reads : List PlannedItem → Tuple → List LeafId
   loops_reads is t = reads_in (joined args rows is cs t)
@@ -236,7 +232,7 @@ module _ (args : List Value) (rows : Rows) (cs : List CondTree) where
     one_join HashJoin once left =
         let found = flat_map (loops_reads is) (joined_with args rows i left) in
         let ids = map id_of i.leaves in
-        subst (IsPermutation (ids ++ found)) (ap (λ l. l ++ found) (leaves_first i.leaves) ∙ ap (λ l. reads_in (first_marks HashJoin i) ++ l) (found_each left (once refl)))
+        subst (IsPermutation (ids ++ found)) (ap (λ l. l ++ found) (sym (leaves_first i.leaves)) ∙ ap (λ l. reads_in (first_marks HashJoin i) ++ l) (found_each left (once refl)))
         (IsPermutation-refl (ids ++ found))
 
   all_joins : (is : List PlannedItem) → ArePlanned is → (left : List Tuple) → IsPermutation (items_read args rows is left) (reads_in (read_first is) ++ flat_map (loops_reads is) left)
