@@ -1,15 +1,19 @@
 ghost use Rattle.std.specs.Prelude.{◌≡◌, ◌&&◌, ◌++◌, Err, OnOk, Option, Result, codes, length, map};
 ghost use Rattle.history.specs.History.{History};
 ghost use Rattle.part_catalog.specs.Stands.{CatalogueStands};
+ghost use Rattle.stores.specs.declared.stores.Stores.{Stores as OneStores};
 ghost use Rattle.sql_ast.specs.Expressions.{trees};
 ghost use Rattle.sql_ast.specs.Queries.{maybe_tree, row_tree, select_tree, setting};
 ghost use Rattle.statement_steps.specs.Attempts.{MayAttempt, MayGoOn};
 ghost use Rattle.statement_steps.specs.Ended.{ended};
+ghost use Rattle.statement_steps.specs.Made.{Made};
+ghost use Rattle.statement_steps.specs.declared.caller.Caller.{Caller as OneCaller};
 ghost use Rattle.statement_steps.specs.declared.rest.Rest.{Rest as Left};
 ghost use Rattle.select_statement.specs.Selected as selected;
 ghost use Rattle.insert_statement.specs.Inserted.{inserted};
-ghost use Rattle.change_statement.specs.Changed as changed;
+ghost use Rattle.change_statement.specs.Changed.{Told, told_by};
 ghost use Rattle.change_statement.specs.Deleted.{deleted};
+ghost use Rattle.change_statement.specs.Running.{IsCommand};
 ghost use Rattle.change_statement.specs.Updated.{updated};
 ghost use Rattle.statement_runs.specs.Attempted as attempted;
 ghost use Rattle.statement_runs.specs.Given as given;
@@ -138,8 +142,8 @@ fn print_changes(
     tally: &mut Tally,
     out: &mut Vec<u8>,
 ) -> Result<(), NoMemory>
-    ensures tally { OnOk result (tally.new ≡ added tally.old (given.of_change (changed.told_by changes.now))) }
-    ensures text { OnOk result ((h : History) → CatalogueStands catalog.now h → out.new.items ≡ out.old.items ++ attempted.changed_text trailed word.now h (changed.told_by changes.now)) }
+    ensures tally { OnOk result (tally.new ≡ added tally.old (given.of_change (told_by changes.now))) }
+    ensures text { OnOk result ((h : History) → CatalogueStands catalog.now h → out.new.items ≡ out.old.items ++ attempted.changed_text trailed word.now h (told_by changes.now)) }
 {
     count(tally, 0, changes.reads.len() as u64)?;
     write_trail(
@@ -151,6 +155,32 @@ fn print_changes(
         &changes.reads,
         out,
     )
+}
+
+// An UPDATE or a DELETE that is done is counted, and its trail is printed; the stop of one that is not is handed on.
+fn finish_changes(
+    alloc: Global,
+    stores: &Stores,
+    trailed: bool,
+    word: &[u8],
+    done: Result<ChangedRows, Stop>,
+    tally: &mut Tally,
+    out: &mut Vec<u8>,
+) -> Result<(), Stop>
+    ensures tally { (left : Option Left) (old : OneStores) (caller : OneCaller) (f : History → Made Told) → IsCommand left told_by done old stores.now caller f →
+        IsTallied left result old tally.old tally.new caller (λ h. given.given given.of_change (f h).told) }
+    ensures is { (left : Option Left) (old : OneStores) (caller : OneCaller) (f : History → Made Told) → IsCommand left told_by done old stores.now caller f →
+        IsStatement left (ended result) old stores.now out.old.items out.new.items caller (attempted.printed (attempted.changed_text trailed word.now) f) }
+{
+    match done {
+        Ok(changes) => {
+            match print_changes(alloc, &stores.catalog, trailed, word, &changes, tally, out) {
+                Ok(()) => Ok(()),
+                Err(NoMemory) => Err(Stop::NoMemory),
+            }
+        }
+        Err(stop) => Err(stop),
+    }
 }
 
 fn attempt_update(
@@ -173,23 +203,8 @@ fn attempt_update(
         (attempted.printed (attempted.changed_text trailed (codes "UPDATE")) (updated how names.now params.now caller rest statement.now.table (map setting statement.now.assignments) (maybe_tree statement.now.condition))) }
 {
     check_room(stores, caller);
-    match update(alloc, stores, names, params, caller, how, rest, statement) {
-        Ok(changes) => {
-            match print_changes(
-                alloc,
-                &stores.catalog,
-                trailed,
-                b"UPDATE",
-                &changes,
-                tally,
-                out,
-            ) {
-                Ok(()) => Ok(()),
-                Err(NoMemory) => Err(Stop::NoMemory),
-            }
-        }
-        Err(stop) => Err(stop),
-    }
+    let done = update(alloc, stores, names, params, caller, how, rest, statement);
+    finish_changes(alloc, stores, trailed, b"UPDATE", done, tally, out)
 }
 
 fn attempt_delete(
@@ -212,23 +227,8 @@ fn attempt_delete(
         (attempted.printed (attempted.changed_text trailed (codes "DELETE")) (deleted how names.now params.now caller rest statement.now.table (maybe_tree statement.now.condition))) }
 {
     check_room(stores, caller);
-    match delete(alloc, stores, names, params, caller, how, rest, statement) {
-        Ok(changes) => {
-            match print_changes(
-                alloc,
-                &stores.catalog,
-                trailed,
-                b"DELETE",
-                &changes,
-                tally,
-                out,
-            ) {
-                Ok(()) => Ok(()),
-                Err(NoMemory) => Err(Stop::NoMemory),
-            }
-        }
-        Err(stop) => Err(stop),
-    }
+    let done = delete(alloc, stores, names, params, caller, how, rest, statement);
+    finish_changes(alloc, stores, trailed, b"DELETE", done, tally, out)
 }
 
 pub(crate) fn attempt_rows(
