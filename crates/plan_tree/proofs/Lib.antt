@@ -4,6 +4,7 @@ pub mod Counting
 pub mod Missed
 pub mod Nodes
 pub mod Numbered
+pub mod OrderedParts
 pub mod Places
 pub mod Plain
 pub mod Pools

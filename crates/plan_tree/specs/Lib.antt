@@ -5,6 +5,7 @@ pub mod Counts
 pub mod JoinKinds
 pub mod Kept
 pub mod Laws
+pub mod OrderedAppends
 pub mod Parameters
 pub mod Plans
 pub mod Prunable

@@ -9,6 +9,9 @@
 //! Join: it reads the leaves of the item before those to its left, once, so these are not asked again
 //! (`JoinKind`). Where an item keeps no leaf when the plan is made, nothing is locked and nothing is read.
 //!
+//! Where the keys of ORDER BY begin with those of a table that is partitioned by range, ascending, its partitions stand in the
+//! order of the rows already: then each is sorted by itself (`Plan::sorted_parts`).
+//!
 //! A generic plan is made of conditions with parameters in them, whose values are not known yet. When it starts
 //! (`Plan::start`), each item that has such a condition keeps of its leaves those that these values keep too; the
 //! others stay locked, are not read, and are counted.
@@ -39,6 +42,7 @@ mod item_counts;
 mod join_kind;
 mod laws;
 mod making;
+mod ordered;
 mod parameters;
 mod plan;
 mod plan_counts;
