@@ -9,14 +9,14 @@ use Rattle.std.specs.Prelude.{Result}
 use Rattle.sql_tokens.specs.declared.kind.TokenKind.{TokenKind}
 use Rattle.sql_tokens.specs.declared.kind.TokenKind.TheVariants as word
 use Rattle.sql_tokens.specs.declared.token.Token.{Token}
-use Rattle.sql_expressions.specs.Grammar.{any, below, freed, nullity_at, rules, sum_at, test_at, under_depth}
-use Rattle.sql_expressions.specs.Levels.{Deep, Room, Rules, begins_nested, begins_test, is_comparison, nested, call_of, tested, compared, inverted_by, unary, named_leaf, test, comparison, negation}
-use Rattle.sql_expressions.specs.Views.{comparison_of, named_at, operand_of, part_of, chain_at}
+use Rattle.sql_expressions.specs.Grammar.{any, below, freed, nullity_at, rules, under_depth}
+use Rattle.sql_expressions.specs.Levels.{Deep, Room, Rules, begins_nested, begins_test, is_comparison, nested, call_of, maybe_tested, tested, maybe_compared, compared, inverted_by, unary, named_leaf, negation}
+use Rattle.sql_expressions.specs.Views as views
+use Rattle.sql_expressions.specs.Views.{named_at, operand_of, part_of}
 use Rattle.sql_tokens.specs.Classes.{a}
 use Rattle.sql_expressions.specs.Words.{name}
 use Rattle.sql_expressions.specs.declared.signs.Joint.{Joint}
 use Rattle.sql_expressions.specs.declared.signs.Chain.{Chain}
-use Rattle.sql_expressions.specs.declared.signs.Chain.TheVariants as chains
 
 -- the second of two values that are read one after another
 second_read : {A B : Type 0} (x : A) (r : Reading Token B) → ((r >>= λ y. given (x, y.0) y.1) >>= λ (z : (A × B) × List Token). given (second_of z.0) z.1) ≡ r
@@ -32,13 +32,11 @@ module _ (room : Room) (everything lower : Rules) (ts : List Token) where
       (named_leaf text room everything lower).read ts ≡ (call_of lower.expression x.1).read rest
   named_with_room text x rest e b l = rw (e, b, l) (second_read x ((call_of lower.expression x.1).read rest))
 
-  test_with_room : (sum : Rule Token Deep) (x : Deep) (rest : List Token) → sum.read ts ≡ Ok (x, rest) → begins_in begins_test rest ≡ true → room x.1 ≡ true →
-      (test room everything lower sum).read ts ≡ (tested lower x).read rest
-  test_with_room sum x rest e b l = rw (e, b, l) (second_read x ((tested lower x).read rest))
+  tested_with_room : (x : Deep) → begins_in begins_test ts ≡ true → room x.1 ≡ true → (maybe_tested room everything lower x).read ts ≡ (tested lower x).read ts
+  tested_with_room x b l = rw (b, l) refl
 
-  comparison_with_room : (first : Rule Token Deep) (x : Deep) (rest : List Token) → first.read ts ≡ Ok (x, rest) → begins_in is_comparison rest ≡ true → room x.1 ≡ true →
-      (comparison room everything lower first).read ts ≡ (compared lower x).read rest
-  comparison_with_room first x rest e b l = rw (e, b, l) (second_read x ((compared lower x).read rest))
+  compared_with_room : (x : Deep) → begins_in is_comparison ts ≡ true → room x.1 ≡ true → (maybe_compared room everything lower x).read ts ≡ (compared lower x).read ts
+  compared_with_room x b l = rw (b, l) refl
 
   negation_with_room : (nullity : Rule Token Deep) → begins_in (a word.Not) ts ≡ true → room 0 ≡ true → (negation room everything lower nullity).read ts ≡ (inverted_by lower).read ts
   negation_with_room nullity b l = rw (b, l) refl
@@ -62,17 +60,17 @@ module _ (text : List ℕ) (n m : ℕ) (h : n ≡ suc m) (ts : List Token) where
   unfolding under_depth
   operand_deeper chain = subst (λ k. (operand_of chain (under_depth text k)).read ts ≡ (operand_of chain (rules text m)).read ts) (sym h) refl
 
-  pub test_deeper : (x : Deep) (rest : List Token) → (chain_at text chains.Sum n).read ts ≡ Ok (x, rest) → begins_in begins_test rest ≡ true → x.1 < n → (rules text n).test.read ts ≡ (tested (rules text m) x).read rest
+  pub tested_deeper : (x : Deep) → begins_in begins_test ts ≡ true → x.1 < n → (views.maybe_tested text n x).read ts ≡ (tested (rules text m) x).read ts
   unfolding under_depth
-  test_deeper x rest e b l =
-      subst (λ k. (chain_at text chains.Sum k).read ts ≡ Ok (x, rest) → x.1 < k → (rules text k).test.read ts ≡ (tested (rules text m) x).read rest) (sym h)
-      (λ e l. test_with_room (below (suc m)) (any text) lower ts (sum_at text (suc m) (under_depth text (suc m))) x rest e b (is_below x.1 (suc m) l)) e l
+  tested_deeper x b l =
+      subst (λ k. x.1 < k → (views.maybe_tested text k x).read ts ≡ (tested (rules text m) x).read ts) (sym h)
+      (λ l. tested_with_room (below (suc m)) (any text) lower ts x b (is_below x.1 (suc m) l)) l
 
-  pub comparison_deeper : (x : Deep) (rest : List Token) → (rules text n).test.read ts ≡ Ok (x, rest) → begins_in is_comparison rest ≡ true → x.1 < n → (comparison_of text n).read ts ≡ (compared (rules text m) x).read rest
+  pub compared_deeper : (x : Deep) → begins_in is_comparison ts ≡ true → x.1 < n → (views.maybe_compared text n x).read ts ≡ (compared (rules text m) x).read ts
   unfolding under_depth
-  comparison_deeper x rest e b l =
-      subst (λ k. (rules text k).test.read ts ≡ Ok (x, rest) → x.1 < k → (comparison_of text k).read ts ≡ (compared (rules text m) x).read rest) (sym h)
-      (λ e l. comparison_with_room (below (suc m)) (any text) lower ts (test_at text (suc m) (under_depth text (suc m))) x rest e b (is_below x.1 (suc m) l)) e l
+  compared_deeper x b l =
+      subst (λ k. x.1 < k → (views.maybe_compared text k x).read ts ≡ (compared (rules text m) x).read ts) (sym h)
+      (λ l. compared_with_room (below (suc m)) (any text) lower ts x b (is_below x.1 (suc m) l)) l
 
   pub negation_deeper : begins_in (a word.Not) ts ≡ true → (rules text n).negation.read ts ≡ (inverted_by (rules text m)).read ts
   unfolding under_depth

@@ -1,4 +1,5 @@
 mod Alone
+pub mod Climbs
 pub mod Deeper
 pub mod DepthLaws
 pub mod LevelLaws

@@ -3,13 +3,16 @@ ghost use Rattle.sql_expressions.specs.Grammar as grammar;
 ghost use Rattle.sql_ast.specs.Expressions as trees_of;
 
 mod calls;
+mod climbs;
 mod comparisons;
 mod conjunctions;
 mod negations;
 mod operands;
 mod sums;
 
-use conjunctions::disjunction;
+use crate::deep::unread;
+use crate::signs::Level;
+use climbs::at_level;
 use grammar::Refused;
 use sql_ast::Expr;
 use sql_tokens::Token;
@@ -27,6 +30,14 @@ pub fn expression<'a>(
 ) -> Result<(Expr, &'a [Token]), Refused>
     ensures { Gives (λ x. (trees_of.tree x.0, x.1.now)) result ((grammar.expression text.now).read tokens.now) }
 {
-    let (deep, rest) = disjunction(alloc, text, tokens, MOST_DEPTH)?;
+    let mut deep = unread();
+    let rest = at_level(
+        alloc,
+        text,
+        Level::Expression,
+        &mut deep,
+        tokens,
+        MOST_DEPTH,
+    )?;
     Ok((deep.expr, rest))
 }

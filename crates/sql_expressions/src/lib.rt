@@ -1,10 +1,11 @@
 //! Reads expressions of SQL.
 //!
-//! An expression is read level by level, from the loosest (OR) to the tightest (a unary minus), with
-//! one token of look-ahead (PostgreSQL's "4.1.6 Operator Precedence"). `specs/Levels.antt` has a line
-//! for each production. What stands deeper (behind a sign, in parentheses, in a call) is read by the
-//! same levels with one less of the depth that is left, so the depth of the calls here is bounded by
-//! the limit on the depth of an expression, however long the text is. Chains of ANDs and ORs, IN lists
+//! An expression is an operand and what stands behind it, from the operators that bind the tightest (a product) to the
+//! loosest (OR), each seen by one token of look-ahead (PostgreSQL's "4.1.6 Operator Precedence"). `specs/Levels.antt` has a
+//! line for each production. What stands deeper (behind a sign, in parentheses, in a call) is read in the same way with one
+//! less of the depth that is left, so the depth of the calls here is bounded by the limit on the depth of an expression,
+//! however long the text is. An operand is read at once, and not through a call for each level that it may belong to, and
+//! into a place that the caller has, so that a level of depth takes little of the stack. Chains of ANDs and ORs, IN lists
 //! and arguments are flat lists and are read by loops.
 //!
 //! Three answers are told apart, each at the first token that does not fit: no expression goes on

@@ -23,6 +23,89 @@ pub(crate) enum Joint {
     And,
 }
 
+/// A level of expressions, from the tightest to the loosest.
+#[derive(Clone, Copy)]
+pub(crate) enum Level {
+    Unary,
+    Product,
+    Sum,
+    Test,
+    Negation,
+    Conjunction,
+    Expression,
+}
+
+/// What may stand behind an operand, from the tightest to the loosest.
+#[derive(Clone, Copy)]
+pub(crate) enum Behind {
+    Products,
+    Sums,
+    Test,
+    Comparison,
+    Nulls,
+    Conjunctions,
+    Disjunctions,
+}
+
+/// How many of those may stand behind an operand in an expression of the level.
+pub(crate) fn reach(level: Level) -> u8
+    ensures { result ≡ views.reach level }
+{
+    match level {
+        Level::Unary => 0,
+        Level::Product => 1,
+        Level::Sum => 2,
+        Level::Test => 3,
+        Level::Negation => 5,
+        Level::Conjunction => 6,
+        Level::Expression => 7,
+    }
+}
+
+pub(crate) fn behind_at(place: u8) -> Behind
+    ensures { result ≡ views.behind_at place }
+{
+    match place {
+        0 => Behind::Products,
+        1 => Behind::Sums,
+        2 => Behind::Test,
+        3 => Behind::Comparison,
+        4 => Behind::Nulls,
+        5 => Behind::Conjunctions,
+        _ => Behind::Disjunctions,
+    }
+}
+
+/// Whether a NOT comes that begins an expression of the level.
+pub(crate) fn not_comes(level: Level, tokens: &[Token]) -> bool
+    ensures { result ≡ views.not_comes level tokens.now }
+{
+    match level {
+        Level::Unary | Level::Product | Level::Sum | Level::Test => false,
+        Level::Negation | Level::Conjunction | Level::Expression => comes(tokens, TokenKind::Not),
+    }
+}
+
+/// The level of the operands of a chain.
+pub(crate) fn operand_level(chain: Chain) -> Level
+    ensures { result ≡ views.operand_level chain }
+{
+    match chain {
+        Chain::Sum => Level::Product,
+        Chain::Product => Level::Unary,
+    }
+}
+
+/// The level of the parts of a chain.
+pub(crate) fn part_level(joint: Joint) -> Level
+    ensures { result ≡ views.part_level joint }
+{
+    match joint {
+        Joint::Or => Level::Conjunction,
+        Joint::And => Level::Negation,
+    }
+}
+
 pub(crate) fn operator_of(sign: Token) -> Operator
     ensures { result ≡ levels.operator_of sign }
 {

@@ -6,131 +6,162 @@ ghost use Rattle.sql_expressions.specs.Levels as levels;
 ghost use Rattle.sql_expressions.specs.Views as views;
 ghost use Rattle.sql_tokens.specs.Classes.{a};
 
-use crate::deep::{Deep, Parts, only_part};
-use crate::levels::conjunctions::disjunction;
-use crate::signs::expression_comes;
+use crate::deep::{Deep, Parts, add, no_parts, only_part, set_call, unread};
+use crate::levels::climbs::at_level;
+use crate::signs::{Level, expression_comes};
 use grammar::{Refused, comes, word};
 use pg_values::PgText;
-use sql_ast::{Expr, ExprList};
+use sql_ast::Expr;
 use sql_tokens::{Token, TokenKind};
 use std::alloc::Global;
 
+/// `*` and a closing parenthesis.
+#[inline(never)]
+fn called_of_all<'a>(
+    function: PgText,
+    left: &mut Deep,
+    tokens: &'a [Token],
+) -> Result<&'a [Token], Refused>
+    ensures reads { Gives (λ rest. (views.deep left.new, rest.now)) result ((views.call_of_all function).read tokens.now) }
+    ensures within { IfOk result (λ rest. left.new.depth ≤ 1) }
+{
+    let (_, rest) = word(tokens, TokenKind::Star)?;
+    let (_, rest) = word(rest, TokenKind::CloseParenthesis)?;
+    *left = Deep {
+        expr: Expr::CallOfAll(function),
+        depth: 1,
+    };
+    Ok(rest)
+}
+
 /// The parentheses of a call.
 #[cycle(levels)]
+#[inline(never)]
 pub(crate) fn called<'a>(
     alloc: Global,
     text: &[u8],
     function: PgText,
+    left: &mut Deep,
     tokens: &'a [Token],
     below: u8,
-) -> Result<(Deep, &'a [Token]), Refused>
+) -> Result<&'a [Token], Refused>
     requires { below < 255 }
-    ensures reads { Gives (λ x. (views.deep x.0, x.1.now)) result ((levels.call_of (grammar.rules text.now below).expression function).read tokens.now) }
-    ensures within { IfOk result (λ x. x.0.depth ≤ below + 1) }
+    ensures reads { Gives (λ rest. (views.deep left.new, rest.now)) result ((levels.call_of (grammar.rules text.now below).expression function).read tokens.now) }
+    ensures within { IfOk result (λ rest. left.new.depth ≤ below + 1) }
 {
     let (_, rest) = word(tokens, TokenKind::OpenParenthesis)?;
     if comes(rest, TokenKind::Star) {
-        let (_, rest) = word(rest, TokenKind::Star)?;
-        let (_, rest) = word(rest, TokenKind::CloseParenthesis)?;
-        let deep = Deep {
-            expr: Expr::CallOfAll(function),
-            depth: 1,
-        };
-        return Ok((deep, rest));
+        return called_of_all(function, left, rest);
     }
-    let (list, rest) = arguments(alloc, text, rest, below)?;
+    let mut list = no_parts(alloc);
+    let rest = arguments(alloc, text, &mut list, rest, below)?;
     let (_, rest) = word(rest, TokenKind::CloseParenthesis)?;
-    let deep = Deep {
-        expr: Expr::Call(function, ExprList::from_vec(list.items)),
-        depth: list.depth + 1,
-    };
-    Ok((deep, rest))
+    set_call(left, function, list);
+    Ok(rest)
 }
 
 #[cycle(levels)]
 fn arguments<'a>(
     alloc: Global,
     text: &[u8],
+    list: &mut Parts,
     tokens: &'a [Token],
     below: u8,
-) -> Result<(Parts, &'a [Token]), Refused>
+) -> Result<&'a [Token], Refused>
     requires { below < 255 }
-    ensures reads { Gives (λ x. (views.parts x.0, x.1.now)) result ((levels.arguments (grammar.rules text.now below).expression).read tokens.now) }
-    ensures within { IfOk result (λ x. x.0.depth ≤ below) }
+    ensures reads { Gives (λ rest. (views.parts list.new, rest.now)) result ((levels.arguments (grammar.rules text.now below).expression).read tokens.now) }
+    ensures within { IfOk result (λ rest. list.new.depth ≤ below) }
 {
     if expression_comes(tokens) {
-        return list(alloc, text, tokens, below);
+        return items(alloc, text, list, tokens, below);
     }
-    let none = Parts {
-        items: Vec::new(alloc),
-        depth: 0,
-    };
-    Ok((none, tokens))
+    *list = no_parts(alloc);
+    Ok(tokens)
 }
 
 /// Expressions with commas between.
 #[cycle(levels)]
-pub(crate) fn list<'a>(
+pub(crate) fn items<'a>(
     alloc: Global,
     text: &[u8],
+    list: &mut Parts,
     tokens: &'a [Token],
     below: u8,
-) -> Result<(Parts, &'a [Token]), Refused>
+) -> Result<&'a [Token], Refused>
     requires { below < 255 }
-    ensures reads { Gives (λ x. (views.parts x.0, x.1.now)) result ((levels.list_of (grammar.rules text.now below).expression).read tokens.now) }
-    ensures within { IfOk result (λ x. x.0.depth ≤ below) }
+    ensures reads { Gives (λ rest. (views.parts list.new, rest.now)) result ((levels.list_of (grammar.rules text.now below).expression).read tokens.now) }
+    ensures within { IfOk result (λ rest. list.new.depth ≤ below) }
 {
-    let (first, rest) = disjunction(alloc, text, tokens, below)?;
-    let first = only_part(alloc, first)?;
-    more_items(alloc, text, first, rest, below)
+    let rest = first_item(alloc, text, list, tokens, below)?;
+    more_items(alloc, text, list, rest, below)
+}
+
+/// An expression as a list of its own.
+#[cycle(levels)]
+#[inline(never)]
+fn first_item<'a>(
+    alloc: Global,
+    text: &[u8],
+    list: &mut Parts,
+    tokens: &'a [Token],
+    below: u8,
+) -> Result<&'a [Token], Refused>
+    requires { below < 255 }
+    ensures reads { Gives (λ rest. (views.parts list.new, rest.now)) result ((views.first_part (grammar.rules text.now below).expression).read tokens.now) }
+    ensures within { IfOk result (λ rest. list.new.depth ≤ below) }
+{
+    let mut first = unread();
+    let rest = at_level(alloc, text, Level::Expression, &mut first, tokens, below)?;
+    *list = only_part(alloc, &mut first)?;
+    Ok(rest)
 }
 
 #[cycle(levels)]
+#[inline(never)]
 #[tactic(auto, unfolding(grammar::specs::Repeats::read_step))]
 fn item_step<'a>(
     alloc: Global,
     text: &[u8],
-    mut list: Parts,
+    list: &mut Parts,
     tokens: &'a [Token],
     below: u8,
-) -> Result<(bool, Parts, &'a [Token]), Refused>
+) -> Result<(bool, &'a [Token]), Refused>
     requires budget { below < 255 }
-    requires within { list.depth ≤ below }
-    ensures reads { Gives (λ x. ((x.0, views.parts x.1), x.2.now)) result (read_step (a TokenKind.Comma) always levels.add_part (λ _. (grammar.rules text.now below).expression.read) (views.parts list) tokens.now) }
-    ensures within { IfOk result (λ x. x.1.depth ≤ below) }
+    requires within { list.old.depth ≤ below }
+    ensures reads { Gives (λ x. ((x.0, views.parts list.new), x.1.now)) result (read_step (a TokenKind.Comma) always levels.add_part (λ _. (grammar.rules text.now below).expression.read) (views.parts list.old) tokens.now) }
+    ensures within { IfOk result (λ x. list.new.depth ≤ below) }
 {
     if !comes(tokens, TokenKind::Comma) {
-        return Ok((false, list, tokens));
+        return Ok((false, tokens));
     }
     let (_, rest) = word(tokens, TokenKind::Comma)?;
-    let (next, rest) = disjunction(alloc, text, rest, below)?;
-    list.items.push(next.expr)?;
-    list.depth = list.depth.max(next.depth);
-    Ok((true, list, rest))
+    let mut next = unread();
+    let rest = at_level(alloc, text, Level::Expression, &mut next, rest, below)?;
+    add(list, &mut next)?;
+    Ok((true, rest))
 }
 
 #[cycle(levels)]
+#[inline(never)]
 fn more_items<'a>(
     alloc: Global,
     text: &[u8],
-    first: Parts,
+    list: &mut Parts,
     tokens: &'a [Token],
     below: u8,
-) -> Result<(Parts, &'a [Token]), Refused>
+) -> Result<&'a [Token], Refused>
     requires budget { below < 255 }
-    requires within { first.depth ≤ below }
-    ensures reads { Gives (λ x. (views.parts x.0, x.1.now)) result (read_repeats (a TokenKind.Comma) always levels.add_part (λ _. (grammar.rules text.now below).expression.read) (length tokens.now) (views.parts first) tokens.now) }
-    ensures within { IfOk result (λ x. x.0.depth ≤ below) }
+    requires within { list.old.depth ≤ below }
+    ensures reads { Gives (λ rest. (views.parts list.new, rest.now)) result (read_repeats (a TokenKind.Comma) always levels.add_part (λ _. (grammar.rules text.now below).expression.read) (length tokens.now) (views.parts list.old) tokens.now) }
+    ensures within { IfOk result (λ rest. list.new.depth ≤ below) }
 {
-    let mut done = first;
     let mut rest = tokens;
     for _ in 0..tokens.len() {
-        let (more, longer, after) = item_step(alloc, text, done, rest, below)?;
+        let (more, after) = item_step(alloc, text, list, rest, below)?;
         if !more {
-            return Ok((longer, after));
+            return Ok(after);
         }
-        done = longer;
         rest = after;
     }
-    Ok((done, rest))
+    Ok(rest)
 }

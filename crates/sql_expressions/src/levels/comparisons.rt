@@ -5,52 +5,55 @@ ghost use Rattle.sql_expressions.specs.Grammar as grammar;
 ghost use Rattle.sql_expressions.specs.Levels as levels;
 ghost use Rattle.sql_expressions.specs.Views as views;
 
-use crate::deep::{Deep, between, binary, in_list};
-use crate::levels::calls::list;
-use crate::levels::sums::chain_of_operators;
-use crate::signs::{Chain, comparison_comes, operator_of, sign, test_comes};
+use crate::deep::{Deep, between, in_list, join, no_parts, unread};
+use crate::levels::calls::items;
+use crate::levels::climbs::at_level;
+use crate::signs::{Level, comparison_comes, operator_of, sign, test_comes};
 use grammar::{Refused, comes, word};
 use sql_tokens::{Token, TokenKind};
 use std::alloc::Global;
 
-/// A sum, and IN or BETWEEN behind it.
+/// IN or BETWEEN behind a sum, or nothing.
 #[cycle(levels)]
-fn test<'a>(
+#[inline(never)]
+pub(crate) fn maybe_tested<'a>(
     alloc: Global,
     text: &[u8],
+    left: &mut Deep,
     tokens: &'a [Token],
     budget: u8,
-) -> Result<(Deep, &'a [Token]), Refused>
-    ensures reads { Gives (λ x. (views.deep x.0, x.1.now)) result ((grammar.rules text.now budget).test.read tokens.now) }
-    ensures within { IfOk result (λ x. x.0.depth ≤ budget) }
+) -> Result<&'a [Token], Refused>
+    requires { left.old.depth ≤ budget }
+    ensures reads { Gives (λ rest. (views.deep left.new, rest.now)) result ((views.maybe_tested text.now budget (views.deep left.old)).read tokens.now) }
+    ensures within { IfOk result (λ rest. left.new.depth ≤ budget) }
 {
-    let (sum, rest) = chain_of_operators(alloc, text, Chain::Sum, tokens, budget)?;
-    if !test_comes(rest) {
-        return Ok((sum, rest));
+    if !test_comes(tokens) {
+        return Ok(tokens);
     }
-    if sum.depth >= budget {
-        return Err(Refused::Limit(rest.len()));
+    if left.depth >= budget {
+        return Err(Refused::Limit(tokens.len()));
     }
-    tested(alloc, text, sum, rest, budget - 1)
+    tested(alloc, text, left, tokens, budget - 1)
 }
 
 #[cycle(levels)]
+#[inline(never)]
 fn tested<'a>(
     alloc: Global,
     text: &[u8],
-    operand: Deep,
+    left: &mut Deep,
     tokens: &'a [Token],
     below: u8,
-) -> Result<(Deep, &'a [Token]), Refused>
-    requires { (below < 255) × (operand.depth ≤ below) }
-    ensures reads { Gives (λ x. (views.deep x.0, x.1.now)) result ((levels.tested (grammar.rules text.now below) (views.deep operand)).read tokens.now) }
-    ensures within { IfOk result (λ x. x.0.depth ≤ below + 1) }
+) -> Result<&'a [Token], Refused>
+    requires { (below < 255) × (left.old.depth ≤ below) }
+    ensures reads { Gives (λ rest. (views.deep left.new, rest.now)) result ((levels.tested (grammar.rules text.now below) (views.deep left.old)).read tokens.now) }
+    ensures within { IfOk result (λ rest. left.new.depth ≤ below + 1) }
 {
     if comes(tokens, TokenKind::Not) {
         let (_, rest) = word(tokens, TokenKind::Not)?;
-        return in_or_between(alloc, text, true, operand, rest, below);
+        return in_or_between(alloc, text, true, left, rest, below);
     }
-    in_or_between(alloc, text, false, operand, tokens, below)
+    in_or_between(alloc, text, false, left, tokens, below)
 }
 
 #[cycle(levels)]
@@ -58,63 +61,109 @@ fn in_or_between<'a>(
     alloc: Global,
     text: &[u8],
     is_not: bool,
-    operand: Deep,
+    left: &mut Deep,
     tokens: &'a [Token],
     below: u8,
-) -> Result<(Deep, &'a [Token]), Refused>
-    requires { (below < 255) × (operand.depth ≤ below) }
-    ensures reads { Gives (λ x. (views.deep x.0, x.1.now)) result ((levels.in_or_between (grammar.rules text.now below) is_not (views.deep operand)).read tokens.now) }
-    ensures within { IfOk result (λ x. x.0.depth ≤ below + 1) }
+) -> Result<&'a [Token], Refused>
+    requires { (below < 255) × (left.old.depth ≤ below) }
+    ensures reads { Gives (λ rest. (views.deep left.new, rest.now)) result ((levels.in_or_between (grammar.rules text.now below) is_not (views.deep left.old)).read tokens.now) }
+    ensures within { IfOk result (λ rest. left.new.depth ≤ below + 1) }
 {
     if comes(tokens, TokenKind::In) {
-        let (_, rest) = word(tokens, TokenKind::In)?;
-        let (_, rest) = word(rest, TokenKind::OpenParenthesis)?;
-        let (items, rest) = list(alloc, text, rest, below)?;
-        let (_, rest) = word(rest, TokenKind::CloseParenthesis)?;
-        return Ok((in_list(alloc, is_not, operand, items)?, rest));
+        return among(alloc, text, is_not, left, tokens, below);
     }
-    let (_, rest) = word(tokens, TokenKind::Between)?;
-    let (from, rest) = chain_of_operators(alloc, text, Chain::Sum, rest, below)?;
-    let (_, rest) = word(rest, TokenKind::And)?;
-    let (to, rest) = chain_of_operators(alloc, text, Chain::Sum, rest, below)?;
-    Ok((between(alloc, is_not, operand, from, to)?, rest))
+    within_bounds(alloc, text, is_not, left, tokens, below)
 }
 
-/// A test, and at most one comparison with another.
+/// IN and its list.
 #[cycle(levels)]
-pub(crate) fn comparison<'a>(
+#[inline(never)]
+fn among<'a>(
     alloc: Global,
     text: &[u8],
+    is_not: bool,
+    left: &mut Deep,
+    tokens: &'a [Token],
+    below: u8,
+) -> Result<&'a [Token], Refused>
+    requires { (below < 255) × (left.old.depth ≤ below) }
+    ensures reads { Gives (λ rest. (views.deep left.new, rest.now)) result ((views.among (grammar.rules text.now below) is_not (views.deep left.old)).read tokens.now) }
+    ensures within { IfOk result (λ rest. left.new.depth ≤ below + 1) }
+{
+    let (_, rest) = word(tokens, TokenKind::In)?;
+    let (_, rest) = word(rest, TokenKind::OpenParenthesis)?;
+    let mut list = no_parts(alloc);
+    let rest = items(alloc, text, &mut list, rest, below)?;
+    let (_, rest) = word(rest, TokenKind::CloseParenthesis)?;
+    in_list(alloc, is_not, left, list)?;
+    Ok(rest)
+}
+
+/// BETWEEN and its bounds.
+#[cycle(levels)]
+#[inline(never)]
+fn within_bounds<'a>(
+    alloc: Global,
+    text: &[u8],
+    is_not: bool,
+    left: &mut Deep,
+    tokens: &'a [Token],
+    below: u8,
+) -> Result<&'a [Token], Refused>
+    requires { (below < 255) × (left.old.depth ≤ below) }
+    ensures reads { Gives (λ rest. (views.deep left.new, rest.now)) result ((views.within_bounds (grammar.rules text.now below) is_not (views.deep left.old)).read tokens.now) }
+    ensures within { IfOk result (λ rest. left.new.depth ≤ below + 1) }
+{
+    let (_, rest) = word(tokens, TokenKind::Between)?;
+    let mut from = unread();
+    let rest = at_level(alloc, text, Level::Sum, &mut from, rest, below)?;
+    let (_, rest) = word(rest, TokenKind::And)?;
+    let mut to = unread();
+    let rest = at_level(alloc, text, Level::Sum, &mut to, rest, below)?;
+    between(alloc, is_not, left, &mut from, &mut to)?;
+    Ok(rest)
+}
+
+/// A comparison with another test, or nothing.
+#[cycle(levels)]
+#[inline(never)]
+pub(crate) fn maybe_compared<'a>(
+    alloc: Global,
+    text: &[u8],
+    left: &mut Deep,
     tokens: &'a [Token],
     budget: u8,
-) -> Result<(Deep, &'a [Token]), Refused>
-    ensures reads { Gives (λ x. (views.deep x.0, x.1.now)) result ((views.comparison_of text.now budget).read tokens.now) }
-    ensures within { IfOk result (λ x. x.0.depth ≤ budget) }
+) -> Result<&'a [Token], Refused>
+    requires { left.old.depth ≤ budget }
+    ensures reads { Gives (λ rest. (views.deep left.new, rest.now)) result ((views.maybe_compared text.now budget (views.deep left.old)).read tokens.now) }
+    ensures within { IfOk result (λ rest. left.new.depth ≤ budget) }
 {
-    let (left, rest) = test(alloc, text, tokens, budget)?;
-    if !comparison_comes(rest) {
-        return Ok((left, rest));
+    if !comparison_comes(tokens) {
+        return Ok(tokens);
     }
     if left.depth >= budget {
-        return Err(Refused::Limit(rest.len()));
+        return Err(Refused::Limit(tokens.len()));
     }
-    compared(alloc, text, left, rest, budget - 1)
+    compared(alloc, text, left, tokens, budget - 1)
 }
 
 #[cycle(levels)]
+#[inline(never)]
 fn compared<'a>(
     alloc: Global,
     text: &[u8],
-    left: Deep,
+    left: &mut Deep,
     tokens: &'a [Token],
     below: u8,
-) -> Result<(Deep, &'a [Token]), Refused>
-    requires depth { (below < 255) × (left.depth ≤ below) }
+) -> Result<&'a [Token], Refused>
+    requires depth { (below < 255) × (left.old.depth ≤ below) }
     requires comes { begins_in levels.is_comparison tokens.now ≡ true }
-    ensures reads { Gives (λ x. (views.deep x.0, x.1.now)) result ((levels.compared (grammar.rules text.now below) (views.deep left)).read tokens.now) }
-    ensures within { IfOk result (λ x. x.0.depth ≤ below + 1) }
+    ensures reads { Gives (λ rest. (views.deep left.new, rest.now)) result ((levels.compared (grammar.rules text.now below) (views.deep left.old)).read tokens.now) }
+    ensures within { IfOk result (λ rest. left.new.depth ≤ below + 1) }
 {
     let (sign, rest) = sign(tokens)?;
-    let (right, rest) = test(alloc, text, rest, below)?;
-    Ok((binary(alloc, operator_of(sign), left, right)?, rest))
+    let mut right = unread();
+    let rest = at_level(alloc, text, Level::Test, &mut right, rest, below)?;
+    join(alloc, operator_of(sign), left, &mut right)?;
+    Ok(rest)
 }

@@ -5,29 +5,12 @@ ghost use Rattle.sql_expressions.specs.Grammar as grammar;
 ghost use Rattle.sql_expressions.specs.Levels as levels;
 ghost use Rattle.sql_expressions.specs.Views as views;
 
-use crate::deep::{Deep, Parts, node_of, only_part};
-use crate::levels::negations::negation;
-use crate::signs::{Joint, joint_comes, sign};
+use crate::deep::{Deep, Parts, add, only_part, set_node, unread};
+use crate::levels::climbs::at_level;
+use crate::signs::{Joint, joint_comes, part_level, sign};
 use grammar::Refused;
 use sql_tokens::Token;
 use std::alloc::Global;
-
-#[cycle(levels)]
-fn part<'a>(
-    alloc: Global,
-    text: &[u8],
-    joint: Joint,
-    tokens: &'a [Token],
-    budget: u8,
-) -> Result<(Deep, &'a [Token]), Refused>
-    ensures reads { Gives (λ x. (views.deep x.0, x.1.now)) result ((views.part_of joint (grammar.rules text.now budget)).read tokens.now) }
-    ensures within { IfOk result (λ x. x.0.depth ≤ budget) }
-{
-    match joint {
-        Joint::Or => chain_of_parts(alloc, text, Joint::And, tokens, budget),
-        Joint::And => negation(alloc, text, tokens, budget),
-    }
-}
 
 /// The part behind an AND or an OR.
 #[cycle(levels)]
@@ -35,116 +18,107 @@ fn right_part<'a>(
     alloc: Global,
     text: &[u8],
     joint: Joint,
+    right: &mut Deep,
     tokens: &'a [Token],
     budget: u8,
-) -> Result<(Deep, &'a [Token]), Refused>
+) -> Result<&'a [Token], Refused>
     requires { 0 < budget }
-    ensures reads { Gives (λ x. (views.deep x.0, x.1.now)) result ((views.part_of joint (grammar.under_depth text.now budget)).read tokens.now) }
-    ensures within { IfOk result (λ x. x.0.depth < budget) }
+    ensures reads { Gives (λ rest. (views.deep right.new, rest.now)) result ((views.part_of joint (grammar.under_depth text.now budget)).read tokens.now) }
+    ensures within { IfOk result (λ rest. right.new.depth < budget) }
 {
-    part(alloc, text, joint, tokens, budget - 1)
+    at_level(alloc, text, part_level(joint), right, tokens, budget - 1)
 }
 
-/// A part, and those behind it, each behind an AND or an OR.
+/// The parts behind the first one, each behind an AND or an OR, or nothing.
 #[cycle(levels)]
-fn chain_of_parts<'a>(
+#[inline(never)]
+pub(crate) fn more_of_joint<'a>(
     alloc: Global,
     text: &[u8],
     joint: Joint,
+    left: &mut Deep,
     tokens: &'a [Token],
     budget: u8,
-) -> Result<(Deep, &'a [Token]), Refused>
-    ensures reads { Gives (λ x. (views.deep x.0, x.1.now)) result ((views.joint_at text.now joint budget).read tokens.now) }
-    ensures within { IfOk result (λ x. x.0.depth ≤ budget) }
+) -> Result<&'a [Token], Refused>
+    requires { left.old.depth ≤ budget }
+    ensures reads { Gives (λ rest. (views.deep left.new, rest.now)) result ((views.more_of_joint text.now joint budget (views.deep left.old)).read tokens.now) }
+    ensures within { IfOk result (λ rest. left.new.depth ≤ budget) }
 {
-    let (first, rest) = part(alloc, text, joint, tokens, budget)?;
-    if !joint_comes(joint, rest) {
-        return Ok((first, rest));
+    if !joint_comes(joint, tokens) {
+        return Ok(tokens);
     }
-    more_of_joint(alloc, text, joint, first, rest, budget)
+    joined(alloc, text, joint, left, tokens, budget)
 }
 
-/// The chain behind its first part.
 #[cycle(levels)]
-fn more_of_joint<'a>(
+#[inline(never)]
+fn joined<'a>(
     alloc: Global,
     text: &[u8],
     joint: Joint,
-    first: Deep,
+    left: &mut Deep,
     tokens: &'a [Token],
     budget: u8,
-) -> Result<(Deep, &'a [Token]), Refused>
-    requires { first.depth ≤ budget }
-    ensures reads { Gives (λ x. (views.deep x.0, x.1.now)) result ((views.more_of_joint text.now joint budget (views.deep first)).read tokens.now) }
-    ensures within { IfOk result (λ x. x.0.depth ≤ budget) }
+) -> Result<&'a [Token], Refused>
+    requires { left.old.depth ≤ budget }
+    ensures reads { Gives (λ rest. (views.deep left.new, rest.now)) result ((views.more_of_joint text.now joint budget (views.deep left.old)).read tokens.now) }
+    ensures within { IfOk result (λ rest. left.new.depth ≤ budget) }
 {
-    let first = only_part(alloc, first)?;
-    let (parts, rest) = more_parts(alloc, text, joint, first, tokens, budget)?;
-    Ok((node_of(joint, parts), rest))
+    let mut parts = only_part(alloc, left)?;
+    let rest = more_parts(alloc, text, joint, &mut parts, tokens, budget)?;
+    set_node(joint, left, parts);
+    Ok(rest)
 }
 
 #[cycle(levels)]
+#[inline(never)]
 #[tactic(auto, unfolding(grammar::specs::Repeats::read_step))]
 fn part_step<'a>(
     alloc: Global,
     text: &[u8],
     joint: Joint,
-    mut parts: Parts,
+    parts: &mut Parts,
     tokens: &'a [Token],
     budget: u8,
-) -> Result<(bool, Parts, &'a [Token]), Refused>
-    requires { views.Fits budget parts }
-    ensures reads { Gives (λ x. ((x.0, views.parts x.1), x.2.now)) result (read_step (views.joint_sign joint) (levels.parts_room (grammar.below budget)) levels.add_part (λ _. (views.part_of joint (grammar.under_depth text.now budget)).read) (views.parts parts) tokens.now) }
-    ensures within { IfOk result (λ x. views.Fits budget x.1) }
+) -> Result<(bool, &'a [Token]), Refused>
+    requires { views.Fits budget parts.old }
+    ensures reads { Gives (λ x. ((x.0, views.parts parts.new), x.1.now)) result (read_step (views.joint_sign joint) (levels.parts_room (grammar.below budget)) levels.add_part (λ _. (views.part_of joint (grammar.under_depth text.now budget)).read) (views.parts parts.old) tokens.now) }
+    ensures within { IfOk result (λ x. views.Fits budget parts.new) }
 {
     if !joint_comes(joint, tokens) {
-        return Ok((false, parts, tokens));
+        return Ok((false, tokens));
     }
     if parts.depth >= budget {
         return Err(Refused::Limit(tokens.len()));
     }
     let (_, rest) = sign(tokens)?;
-    let (next, rest) = right_part(alloc, text, joint, rest, budget)?;
-    parts.items.push(next.expr)?;
-    parts.depth = parts.depth.max(next.depth);
-    Ok((true, parts, rest))
+    let mut next = unread();
+    let rest = right_part(alloc, text, joint, &mut next, rest, budget)?;
+    add(parts, &mut next)?;
+    Ok((true, rest))
 }
 
 #[cycle(levels)]
+#[inline(never)]
 fn more_parts<'a>(
     alloc: Global,
     text: &[u8],
     joint: Joint,
-    first: Parts,
+    parts: &mut Parts,
     tokens: &'a [Token],
     budget: u8,
-) -> Result<(Parts, &'a [Token]), Refused>
-    requires { views.Fits budget first }
-    ensures reads { Gives (λ x. (views.parts x.0, x.1.now)) result (read_repeats (views.joint_sign joint) (levels.parts_room (grammar.below budget)) levels.add_part (λ _. (views.part_of joint (grammar.under_depth text.now budget)).read) (length tokens.now) (views.parts first) tokens.now) }
-    ensures within { IfOk result (λ x. views.Fits budget x.0) }
+) -> Result<&'a [Token], Refused>
+    requires { views.Fits budget parts.old }
+    ensures reads { Gives (λ rest. (views.parts parts.new, rest.now)) result (read_repeats (views.joint_sign joint) (levels.parts_room (grammar.below budget)) levels.add_part (λ _. (views.part_of joint (grammar.under_depth text.now budget)).read) (length tokens.now) (views.parts parts.old) tokens.now) }
+    ensures within { IfOk result (λ rest. views.Fits budget parts.new) }
 {
-    let mut done = first;
     let mut rest = tokens;
     for _ in 0..tokens.len() {
-        let (more, longer, after) = part_step(alloc, text, joint, done, rest, budget)?;
+        let (more, after) = part_step(alloc, text, joint, parts, rest, budget)?;
         if !more {
-            return Ok((longer, after));
+            return Ok(after);
         }
-        done = longer;
         rest = after;
     }
-    Ok((done, rest))
-}
-
-#[cycle(levels)]
-pub(crate) fn disjunction<'a>(
-    alloc: Global,
-    text: &[u8],
-    tokens: &'a [Token],
-    budget: u8,
-) -> Result<(Deep, &'a [Token]), Refused>
-    ensures reads { Gives (λ x. (views.deep x.0, x.1.now)) result ((grammar.rules text.now budget).expression.read tokens.now) }
-    ensures within { IfOk result (λ x. x.0.depth ≤ budget) }
-{
-    chain_of_parts(alloc, text, Joint::Or, tokens, budget)
+    Ok(rest)
 }

@@ -1,13 +1,15 @@
-ghost use Rattle.std.specs.Prelude.{◌<◌, ◌≤◌, ◌+◌, IfOk, length};
+ghost use Rattle.std.specs.Prelude.{◌≡◌, ◌<◌, ◌≤◌, ◌+◌, IfOk, length, true};
 ghost use Rattle.grammar.specs.Gives.{Gives};
+ghost use Rattle.grammar.specs.Reading.{begins_in};
 ghost use Rattle.grammar.specs.Repeats.{read_repeats, read_step};
 ghost use Rattle.sql_expressions.specs.Grammar as grammar;
 ghost use Rattle.sql_expressions.specs.Levels as levels;
 ghost use Rattle.sql_expressions.specs.Views as views;
 ghost use Rattle.sql_tokens.specs.Classes.{a};
 
-use crate::deep::{Deep, inverted, is_null};
-use crate::levels::comparisons::comparison;
+use crate::deep::{Deep, ask_null, invert};
+use crate::levels::climbs::at_level;
+use crate::signs::Level;
 use grammar::{Refused, comes, word};
 use sql_tokens::{Token, TokenKind};
 use std::alloc::Global;
@@ -28,97 +30,83 @@ fn null_or_not(tokens: &[Token]) -> Result<(bool, &[Token]), Refused>
 #[tactic(auto, unfolding(grammar::specs::Repeats::read_step))]
 fn null_step<'a>(
     alloc: Global,
-    left: Deep,
+    left: &mut Deep,
     tokens: &'a [Token],
     budget: u8,
-) -> Result<(bool, Deep, &'a [Token]), Refused>
-    requires { left.depth ≤ budget }
-    ensures reads { Gives (λ x. ((x.0, views.deep x.1), x.2.now)) result (read_step (a TokenKind.Is) (levels.has_room (grammar.below budget)) levels.null_join (λ _. levels.null_or_not.read) (views.deep left) tokens.now) }
-    ensures within { IfOk result (λ x. x.1.depth ≤ budget) }
+) -> Result<(bool, &'a [Token]), Refused>
+    requires { left.old.depth ≤ budget }
+    ensures reads { Gives (λ x. ((x.0, views.deep left.new), x.1.now)) result (read_step (a TokenKind.Is) (levels.has_room (grammar.below budget)) levels.null_join (λ _. levels.null_or_not.read) (views.deep left.old) tokens.now) }
+    ensures within { IfOk result (λ x. left.new.depth ≤ budget) }
 {
     if !comes(tokens, TokenKind::Is) {
-        return Ok((false, left, tokens));
+        return Ok((false, tokens));
     }
     if left.depth >= budget {
         return Err(Refused::Limit(tokens.len()));
     }
     let (_, rest) = word(tokens, TokenKind::Is)?;
     let (is_not, rest) = null_or_not(rest)?;
-    Ok((true, is_null(alloc, is_not, left)?, rest))
+    ask_null(alloc, is_not, left)?;
+    Ok((true, rest))
 }
 
-fn more_nulls<'a>(
+/// Any number of IS NULL behind a comparison.
+#[inline(never)]
+pub(crate) fn more_nulls<'a>(
     alloc: Global,
-    first: Deep,
+    left: &mut Deep,
     tokens: &'a [Token],
     budget: u8,
-) -> Result<(Deep, &'a [Token]), Refused>
-    requires { first.depth ≤ budget }
-    ensures reads { Gives (λ x. (views.deep x.0, x.1.now)) result (read_repeats (a TokenKind.Is) (levels.has_room (grammar.below budget)) levels.null_join (λ _. levels.null_or_not.read) (length tokens.now) (views.deep first) tokens.now) }
-    ensures within { IfOk result (λ x. x.0.depth ≤ budget) }
+) -> Result<&'a [Token], Refused>
+    requires { left.old.depth ≤ budget }
+    ensures reads { Gives (λ rest. (views.deep left.new, rest.now)) result (read_repeats (a TokenKind.Is) (levels.has_room (grammar.below budget)) levels.null_join (λ _. levels.null_or_not.read) (length tokens.now) (views.deep left.old) tokens.now) }
+    ensures within { IfOk result (λ rest. left.new.depth ≤ budget) }
 {
-    let mut left = first;
     let mut rest = tokens;
     for _ in 0..tokens.len() {
-        let (more, asked, after) = null_step(alloc, left, rest, budget)?;
+        let (more, after) = null_step(alloc, left, rest, budget)?;
         if !more {
-            return Ok((asked, after));
+            return Ok(after);
         }
-        left = asked;
         rest = after;
     }
-    Ok((left, rest))
+    Ok(rest)
 }
 
-/// A comparison, and any number of IS NULL behind it.
+/// NOT, and what it inverts.
 #[cycle(levels)]
-fn nullity<'a>(
+pub(crate) fn inverted_first<'a>(
     alloc: Global,
     text: &[u8],
+    left: &mut Deep,
     tokens: &'a [Token],
     budget: u8,
-) -> Result<(Deep, &'a [Token]), Refused>
-    ensures reads { Gives (λ x. (views.deep x.0, x.1.now)) result ((views.nullity_of text.now budget).read tokens.now) }
-    ensures within { IfOk result (λ x. x.0.depth ≤ budget) }
+) -> Result<&'a [Token], Refused>
+    requires { begins_in (a TokenKind.Not) tokens.now ≡ true }
+    ensures reads { Gives (λ rest. (views.deep left.new, rest.now)) result ((grammar.rules text.now budget).negation.read tokens.now) }
+    ensures within { IfOk result (λ rest. left.new.depth ≤ budget) }
 {
-    let (first, rest) = comparison(alloc, text, tokens, budget)?;
-    if !comes(rest, TokenKind::Is) {
-        return Ok((first, rest));
+    if budget == 0 {
+        return Err(Refused::Limit(tokens.len()));
     }
-    more_nulls(alloc, first, rest, budget)
+    inverted_by(alloc, text, left, tokens, budget - 1)
 }
 
 #[cycle(levels)]
-pub(crate) fn negation<'a>(
-    alloc: Global,
-    text: &[u8],
-    tokens: &'a [Token],
-    budget: u8,
-) -> Result<(Deep, &'a [Token]), Refused>
-    ensures reads { Gives (λ x. (views.deep x.0, x.1.now)) result ((grammar.rules text.now budget).negation.read tokens.now) }
-    ensures within { IfOk result (λ x. x.0.depth ≤ budget) }
-{
-    if comes(tokens, TokenKind::Not) {
-        if budget == 0 {
-            return Err(Refused::Limit(tokens.len()));
-        }
-        return inverted_by(alloc, text, tokens, budget - 1);
-    }
-    nullity(alloc, text, tokens, budget)
-}
-
-#[cycle(levels)]
+#[inline(never)]
 fn inverted_by<'a>(
     alloc: Global,
     text: &[u8],
+    left: &mut Deep,
     tokens: &'a [Token],
     below: u8,
-) -> Result<(Deep, &'a [Token]), Refused>
+) -> Result<&'a [Token], Refused>
     requires { below < 255 }
-    ensures reads { Gives (λ x. (views.deep x.0, x.1.now)) result ((levels.inverted_by (grammar.rules text.now below)).read tokens.now) }
-    ensures within { IfOk result (λ x. x.0.depth ≤ below + 1) }
+    ensures reads { Gives (λ rest. (views.deep left.new, rest.now)) result ((levels.inverted_by (grammar.rules text.now below)).read tokens.now) }
+    ensures within { IfOk result (λ rest. left.new.depth ≤ below + 1) }
 {
     let (_, rest) = word(tokens, TokenKind::Not)?;
-    let (operand, rest) = negation(alloc, text, rest, below)?;
-    Ok((inverted(alloc, operand)?, rest))
+    let rest = at_level(alloc, text, Level::Negation, left, rest, below)?;
+    invert(alloc, left)?;
+    Ok(rest)
 }

@@ -5,29 +5,12 @@ ghost use Rattle.sql_expressions.specs.Grammar as grammar;
 ghost use Rattle.sql_expressions.specs.Levels as levels;
 ghost use Rattle.sql_expressions.specs.Views as views;
 
-use crate::deep::{Deep, binary};
-use crate::levels::operands::unary;
-use crate::signs::{Chain, operator_of, sign, sign_comes};
+use crate::deep::{Deep, join, unread};
+use crate::levels::climbs::at_level;
+use crate::signs::{Chain, operand_level, operator_of, sign, sign_comes};
 use grammar::Refused;
 use sql_tokens::Token;
 use std::alloc::Global;
-
-#[cycle(levels)]
-fn operand<'a>(
-    alloc: Global,
-    text: &[u8],
-    chain: Chain,
-    tokens: &'a [Token],
-    budget: u8,
-) -> Result<(Deep, &'a [Token]), Refused>
-    ensures reads { Gives (λ x. (views.deep x.0, x.1.now)) result ((views.operand_of chain (grammar.rules text.now budget)).read tokens.now) }
-    ensures within { IfOk result (λ x. x.0.depth ≤ budget) }
-{
-    match chain {
-        Chain::Sum => chain_of_operators(alloc, text, Chain::Product, tokens, budget),
-        Chain::Product => unary(alloc, text, tokens, budget),
-    }
-}
 
 /// The operand behind a sign.
 #[cycle(levels)]
@@ -35,82 +18,67 @@ fn right_operand<'a>(
     alloc: Global,
     text: &[u8],
     chain: Chain,
+    right: &mut Deep,
     tokens: &'a [Token],
     budget: u8,
-) -> Result<(Deep, &'a [Token]), Refused>
+) -> Result<&'a [Token], Refused>
     requires { 0 < budget }
-    ensures reads { Gives (λ x. (views.deep x.0, x.1.now)) result ((views.operand_of chain (grammar.under_depth text.now budget)).read tokens.now) }
-    ensures within { IfOk result (λ x. x.0.depth < budget) }
+    ensures reads { Gives (λ rest. (views.deep right.new, rest.now)) result ((views.operand_of chain (grammar.under_depth text.now budget)).read tokens.now) }
+    ensures within { IfOk result (λ rest. right.new.depth < budget) }
 {
-    operand(alloc, text, chain, tokens, budget - 1)
+    at_level(alloc, text, operand_level(chain), right, tokens, budget - 1)
 }
 
 #[cycle(levels)]
-pub(crate) fn chain_of_operators<'a>(
-    alloc: Global,
-    text: &[u8],
-    chain: Chain,
-    tokens: &'a [Token],
-    budget: u8,
-) -> Result<(Deep, &'a [Token]), Refused>
-    ensures reads { Gives (λ x. (views.deep x.0, x.1.now)) result ((views.chain_at text.now chain budget).read tokens.now) }
-    ensures within { IfOk result (λ x. x.0.depth ≤ budget) }
-{
-    let (first, rest) = operand(alloc, text, chain, tokens, budget)?;
-    if !sign_comes(chain, rest) {
-        return Ok((first, rest));
-    }
-    more_operands(alloc, text, chain, first, rest, budget)
-}
-
-#[cycle(levels)]
+#[inline(never)]
 #[tactic(auto, unfolding(grammar::specs::Repeats::read_step))]
 fn operand_step<'a>(
     alloc: Global,
     text: &[u8],
     chain: Chain,
-    left: Deep,
+    left: &mut Deep,
     tokens: &'a [Token],
     budget: u8,
-) -> Result<(bool, Deep, &'a [Token]), Refused>
-    requires { left.depth ≤ budget }
-    ensures reads { Gives (λ x. ((x.0, views.deep x.1), x.2.now)) result (read_step (views.sign_of chain) (levels.has_room (grammar.below budget)) levels.join (λ _. (views.operand_of chain (grammar.under_depth text.now budget)).read) (views.deep left) tokens.now) }
-    ensures within { IfOk result (λ x. x.1.depth ≤ budget) }
+) -> Result<(bool, &'a [Token]), Refused>
+    requires { left.old.depth ≤ budget }
+    ensures reads { Gives (λ x. ((x.0, views.deep left.new), x.1.now)) result (read_step (views.sign_of chain) (levels.has_room (grammar.below budget)) levels.join (λ _. (views.operand_of chain (grammar.under_depth text.now budget)).read) (views.deep left.old) tokens.now) }
+    ensures within { IfOk result (λ x. left.new.depth ≤ budget) }
 {
     if !sign_comes(chain, tokens) {
-        return Ok((false, left, tokens));
+        return Ok((false, tokens));
     }
     if left.depth >= budget {
         return Err(Refused::Limit(tokens.len()));
     }
     let (sign, rest) = sign(tokens)?;
-    let (right, rest) = right_operand(alloc, text, chain, rest, budget)?;
-    let joined = binary(alloc, operator_of(sign), left, right)?;
-    Ok((true, joined, rest))
+    let mut right = unread();
+    let rest = right_operand(alloc, text, chain, &mut right, rest, budget)?;
+    join(alloc, operator_of(sign), left, &mut right)?;
+    Ok((true, rest))
 }
 
+/// Signs and operands behind one that stands there.
 #[cycle(levels)]
-fn more_operands<'a>(
+#[inline(never)]
+pub(crate) fn more_operands<'a>(
     alloc: Global,
     text: &[u8],
     chain: Chain,
-    first: Deep,
+    left: &mut Deep,
     tokens: &'a [Token],
     budget: u8,
-) -> Result<(Deep, &'a [Token]), Refused>
-    requires { first.depth ≤ budget }
-    ensures reads { Gives (λ x. (views.deep x.0, x.1.now)) result (read_repeats (views.sign_of chain) (levels.has_room (grammar.below budget)) levels.join (λ _. (views.operand_of chain (grammar.under_depth text.now budget)).read) (length tokens.now) (views.deep first) tokens.now) }
-    ensures within { IfOk result (λ x. x.0.depth ≤ budget) }
+) -> Result<&'a [Token], Refused>
+    requires { left.old.depth ≤ budget }
+    ensures reads { Gives (λ rest. (views.deep left.new, rest.now)) result (read_repeats (views.sign_of chain) (levels.has_room (grammar.below budget)) levels.join (λ _. (views.operand_of chain (grammar.under_depth text.now budget)).read) (length tokens.now) (views.deep left.old) tokens.now) }
+    ensures within { IfOk result (λ rest. left.new.depth ≤ budget) }
 {
-    let mut left = first;
     let mut rest = tokens;
     for _ in 0..tokens.len() {
-        let (more, joined, after) = operand_step(alloc, text, chain, left, rest, budget)?;
+        let (more, after) = operand_step(alloc, text, chain, left, rest, budget)?;
         if !more {
-            return Ok((joined, after));
+            return Ok(after);
         }
-        left = joined;
         rest = after;
     }
-    Ok((left, rest))
+    Ok(rest)
 }

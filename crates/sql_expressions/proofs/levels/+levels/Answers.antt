@@ -1,11 +1,11 @@
 use Rattle.std.proofs.Common.{◌-◌, ◌+◌, length, arith, ap, sym, subst, ◌∙◌, Ok}
 use Rattle.std.proofs.lemmas.Result.{err_from_is_err_and}
 use Rattle.grammar.specs.Gives.{Refuses}
+use Rattle.grammar.specs.Repeats.{always}
 use Rattle.grammar.proofs.Steps.{repeats_more, repeats_done, repeats_end, repeats_fail}
 use Rattle.grammar.proofs.WholeLaws.{gives_by}
-use Rattle.sql_expressions.proofs.Alone.{alone, goes_on, single, valued_alone}
-use Rattle.sql_expressions.proofs.Deeper.{chain_gives, comparison_deeper, named_deeper, negation_deeper, operand_deeper, part_deeper, test_deeper, unary_deeper}
-use Rattle.grammar.specs.Repeats.{always}
+use Rattle.sql_expressions.proofs.Climbs.{at_operand, at_negation, not_begins, list_read, first_refuses, then_reads, no_joint, all_read, step_reads, step_refuses}
+use Rattle.sql_expressions.proofs.Deeper.{chain_gives, compared_deeper, named_deeper, negation_deeper, operand_deeper, part_deeper, tested_deeper, unary_deeper}
 use Rattle.sql_tokens.specs.Classes.{a}
 use Rattle.sql_tokens.specs.declared.kind.TokenKind.TheVariants as kinds
 use Rattle.sql_expressions.specs.Grammar as grammar
@@ -22,55 +22,25 @@ pub operands::named-returns-then-comes-clause-reads : goal.operands::named-retur
 operands::named-returns-then-comes-clause-reads t c =
     gives_by _ c.called.result _ _ (named_deeper c.args.text.now c.args.budget (c.args.budget - 1) (omega arith) c.args.tokens.now _ _ c.in_ok-kind.ensures (sym c.comes.ensures ∙ c.if-comes.true)) c.called.ensures.reads
 
-pub negations::negation-returns-then-comes-clause-reads : goal.negations::negation-returns-then-comes-clause-reads
-negations::negation-returns-then-comes-clause-reads t c =
-    gives_by _ c.inverted_by.result _ _ (negation_deeper c.args.text.now c.args.budget (c.args.budget - 1) (omega arith) c.args.tokens.now (sym c.comes.ensures ∙ c.if-comes.true)) c.inverted_by.ensures.reads
+pub negations::inverted_first-returns-clause-reads : goal.negations::inverted_first-returns-clause-reads
+negations::inverted_first-returns-clause-reads t c =
+    gives_by _ c.inverted_by.result _ _ (negation_deeper c.args.text.now c.args.budget (c.args.budget - 1) (omega arith) c.args.tokens.now c.requires) c.inverted_by.ensures.reads
 
 pub sums::right_operand-returns-clause-reads : goal.sums::right_operand-returns-clause-reads
 sums::right_operand-returns-clause-reads t c =
-    gives_by _ c.operand.result _ _ (operand_deeper c.args.text.now c.args.budget (c.args.budget - 1) (omega arith) c.args.tokens.now c.args.chain) c.operand.ensures.reads
+    gives_by _ c.at_level.result _ _ (operand_deeper c.args.text.now c.args.budget (c.args.budget - 1) (omega arith) c.args.tokens.now c.args.chain) c.at_level.ensures.reads
 
 pub conjunctions::right_part-returns-clause-reads : goal.conjunctions::right_part-returns-clause-reads
 conjunctions::right_part-returns-clause-reads t c =
-    gives_by _ c.part.result _ _ (part_deeper c.args.text.now c.args.budget (c.args.budget - 1) (omega arith) c.args.tokens.now c.args.joint) c.part.ensures.reads
+    gives_by _ c.at_level.result _ _ (part_deeper c.args.text.now c.args.budget (c.args.budget - 1) (omega arith) c.args.tokens.now c.args.joint) c.at_level.ensures.reads
 
-pub comparisons::test-returns-clause-reads : goal.comparisons::test-returns-clause-reads
-comparisons::test-returns-clause-reads t c =
-    gives_by _ c.tested.result _ _ (test_deeper c.args.text.now c.args.budget (c.args.budget - 1) (omega arith) c.args.tokens.now _ _ c.in_ok-sum.ensures.reads (sym c.test_comes.ensures ∙ c.if-not-test_comes.false) c.if-sum-budget.false) c.tested.ensures.reads
+pub comparisons::maybe_tested-returns-clause-reads : goal.comparisons::maybe_tested-returns-clause-reads
+comparisons::maybe_tested-returns-clause-reads t c =
+    gives_by _ c.tested.result _ _ (tested_deeper c.args.text.now c.args.budget (c.args.budget - 1) (omega arith) c.args.tokens.now _ (sym c.test_comes.ensures ∙ c.if-not-test_comes.false) c.if-left-budget.false) c.tested.ensures.reads
 
-pub comparisons::comparison-returns-clause-reads : goal.comparisons::comparison-returns-clause-reads
-comparisons::comparison-returns-clause-reads t c =
-    gives_by _ c.compared.result _ _ (comparison_deeper c.args.text.now c.args.budget (c.args.budget - 1) (omega arith) c.args.tokens.now _ _ c.in_ok-left.ensures.reads (sym c.comparison_comes.ensures ∙ c.if-not-comparison_comes.false) c.if-left-budget.false) c.compared.ensures.reads
-
--- a chain, behind its first part
-pub calls::list-returns-clause-reads : goal.calls::list-returns-clause-reads
-calls::list-returns-clause-reads t c =
-    chain_gives _ c.more_items.result (a kinds.Comma) always levels.only_part levels.add_part (grammar.rules c.args.text.now c.args.below).expression (λ _. (grammar.rules c.args.text.now c.args.below).expression)
-    c.args.tokens.now _ _ _ c.in_ok-first.ensures.reads c.in_ok-first-2.ensures.0 c.more_items.ensures.reads
-
--- a chain whose first part stands alone, and one that goes on
-pub sums::chain_of_operators-returns-then-not-sign_comes-clause-reads : goal.sums::chain_of_operators-returns-then-not-sign_comes-clause-reads
-sums::chain_of_operators-returns-then-not-sign_comes-clause-reads t c =
-    alone (views.sign_of c.args.chain) (levels.has_room (grammar.below c.args.budget)) levels.itself levels.join (views.operand_of c.args.chain (grammar.rules c.args.text.now c.args.budget))
-    (λ _. views.operand_of c.args.chain (grammar.under_depth c.args.text.now c.args.budget)) c.args.tokens.now _ _ c.in_ok-first.ensures.reads (sym c.sign_comes.ensures ∙ c.if-not-sign_comes.true)
-
-pub negations::nullity-returns-then-not-comes-clause-reads : goal.negations::nullity-returns-then-not-comes-clause-reads
-negations::nullity-returns-then-not-comes-clause-reads t c =
-    alone (a kinds.Is) (levels.has_room (grammar.below c.args.budget)) levels.itself levels.null_join (views.comparison_of c.args.text.now c.args.budget)
-    (λ _. levels.null_or_not) c.args.tokens.now _ _ c.in_ok-first.ensures.reads (sym c.comes.ensures ∙ c.if-not-comes.true)
-
-pub conjunctions::chain_of_parts-returns-then-not-joint_comes-clause-reads : goal.conjunctions::chain_of_parts-returns-then-not-joint_comes-clause-reads
-conjunctions::chain_of_parts-returns-then-not-joint_comes-clause-reads t c =
-    valued_alone (views.joint_sign c.args.joint) (levels.parts_room (grammar.below c.args.budget)) levels.only_part levels.add_part
-    (views.part_of c.args.joint (grammar.rules c.args.text.now c.args.budget)) (λ _. views.part_of c.args.joint (grammar.under_depth c.args.text.now c.args.budget))
-    c.args.tokens.now _ _ c.in_ok-first.ensures.reads (views.joint_value c.args.joint) (sym c.joint_comes.ensures ∙ c.if-not-joint_comes.true)
-    ∙ ap (λ z. Ok (z, c.in_ok-first.rest.now)) (single c.args.joint (views.deep c.in_ok-first.first))
-
-pub conjunctions::chain_of_parts-returns-clause-reads : goal.conjunctions::chain_of_parts-returns-clause-reads
-conjunctions::chain_of_parts-returns-clause-reads t c =
-    gives_by _ c.more_of_joint.result _ _ (goes_on (views.joint_sign c.args.joint) (levels.parts_room (grammar.below c.args.budget)) levels.only_part levels.add_part
-    (views.part_of c.args.joint (grammar.rules c.args.text.now c.args.budget)) (λ _. views.part_of c.args.joint (grammar.under_depth c.args.text.now c.args.budget))
-    c.args.tokens.now _ _ c.in_ok-first.ensures.reads (views.joint_value c.args.joint)) c.more_of_joint.ensures.reads
+pub comparisons::maybe_compared-returns-clause-reads : goal.comparisons::maybe_compared-returns-clause-reads
+comparisons::maybe_compared-returns-clause-reads t c =
+    gives_by _ c.compared.result _ _ (compared_deeper c.args.text.now c.args.budget (c.args.budget - 1) (omega arith) c.args.tokens.now _ (sym c.comparison_comes.ensures ∙ c.if-not-comparison_comes.false) c.if-left-budget.false) c.compared.ensures.reads
 
 -- items with commas between
 pub calls::more_items-returns-in_err-more-clause-reads : goal.calls::more_items-returns-in_err-more-clause-reads
@@ -131,3 +101,66 @@ conjunctions::more_parts-loop-preserved t c = record {
 
 pub conjunctions::more_parts-returns-clause-reads : goal.conjunctions::more_parts-returns-clause-reads
 conjunctions::more_parts-returns-clause-reads t c = sym c.loop.invariant.reads ∙ repeats_end _ _ _ _ (length c.args.tokens.now - c.loop.counter) _ _ (omega arith)
+
+pub calls::items-returns-in_err-rest-clause-reads : goal.calls::items-returns-in_err-rest-clause-reads
+calls::items-returns-in_err-rest-clause-reads t c =
+    let p = err_from_is_err_and c.from_residual.result c.from_residual.ensures.1 in
+    rw (p.1, p.2) (first_refuses _ _ _ (list_read (grammar.rules c.args.text.now c.args.below).expression c.args.tokens.now) c.in_err-rest.field-0.0 c.in_err-rest.ensures.reads)
+
+pub calls::items-returns-clause-reads : goal.calls::items-returns-clause-reads
+calls::items-returns-clause-reads t c =
+    gives_by _ c.more_items.result _ _ (then_reads _ _ _ (list_read (grammar.rules c.args.text.now c.args.below).expression c.args.tokens.now) _ c.in_ok-rest.ensures.reads) c.more_items.ensures.reads
+
+-- behind the first operand
+pub climbs::at_level-returns-in_err-rest-clause-reads : goal.climbs::at_level-returns-in_err-rest-clause-reads
+climbs::at_level-returns-in_err-rest-clause-reads t c =
+    let p = err_from_is_err_and c.from_residual.result c.from_residual.ensures.1 in
+    rw (p.1, p.2) (first_refuses _ _ _ (at_operand c.args.text.now c.args.budget c.args.tokens.now c.args.level (sym c.not_comes.ensures ∙ c.if-not_comes.false)) c.in_err-rest.field-0.0 c.in_err-rest.ensures.reads)
+
+pub climbs::at_level-returns-clause-reads : goal.climbs::at_level-returns-clause-reads
+climbs::at_level-returns-clause-reads t c =
+    gives_by _ c.climbed.result _ _
+    (then_reads _ _ _ (at_operand c.args.text.now c.args.budget c.args.tokens.now c.args.level (sym c.not_comes.ensures ∙ c.if-not_comes.false)) _ c.in_ok-rest.ensures.reads)
+    c.climbed.ensures.reads
+
+-- behind a NOT
+pub climbs::inverted_level-inverted_first-requires : goal.climbs::inverted_level-inverted_first-requires
+climbs::inverted_level-inverted_first-requires t c = not_begins c.args.level c.args.tokens.now c.requires
+
+pub climbs::inverted_level-returns-in_err-rest-clause-reads : goal.climbs::inverted_level-returns-in_err-rest-clause-reads
+climbs::inverted_level-returns-in_err-rest-clause-reads t c =
+    let p = err_from_is_err_and c.from_residual.result c.from_residual.ensures.1 in
+    rw (p.1, p.2) (first_refuses _ _ _ (at_negation c.args.text.now c.args.budget c.args.tokens.now c.args.level c.requires) c.in_err-rest.field-0.0 c.in_err-rest.ensures.reads)
+
+pub climbs::inverted_level-returns-clause-reads : goal.climbs::inverted_level-returns-clause-reads
+climbs::inverted_level-returns-clause-reads t c =
+    gives_by _ c.climbed.result _ _
+    (then_reads _ _ _ (at_negation c.args.text.now c.args.budget c.args.tokens.now c.args.level c.requires) _ c.in_ok-rest.ensures.reads)
+    c.climbed.ensures.reads
+
+-- one place after another
+pub climbs::climbed-returns-in_err-after-clause-reads : goal.climbs::climbed-returns-in_err-after-clause-reads
+climbs::climbed-returns-in_err-after-clause-reads t c =
+    let p = err_from_is_err_and c.from_residual.result c.from_residual.ensures.1 in
+    rw (p.1, p.2) (subst (Refuses c.in_err-after.field-0.0) c.loop-place.invariant.reads
+    (step_refuses c.args.text.now c.args.budget c.loop-place.place (c.loop-place.place + 1) (views.reach c.args.level - c.loop-place.place) (views.reach c.args.level - (c.loop-place.place + 1))
+    (omega (arith, c.loop-place-test.true, c.reach.ensures)) (omega arith) _ c.behind_at.ensures _ _ c.in_err-after.field-0.0 c.in_err-after.ensures.reads))
+
+pub climbs::climbed-loop-place-preserved : goal.climbs::climbed-loop-place-preserved
+climbs::climbed-loop-place-preserved t c = record {
+  reads =
+      step_reads c.args.text.now c.args.budget c.loop-place.place (c.loop-place.place + 1) (views.reach c.args.level - c.loop-place.place) (views.reach c.args.level - (c.loop-place.place + 1))
+      (omega (arith, c.loop-place-test.true, c.reach.ensures)) (omega arith) _ c.behind_at.ensures _ _ _ _ c.in_ok-after.ensures.reads
+      ∙ c.loop-place.invariant.reads;
+  within = c.in_ok-after.ensures.within;
+}
+
+pub climbs::climbed-returns-clause-reads : goal.climbs::climbed-returns-clause-reads
+climbs::climbed-returns-clause-reads t c =
+    sym c.loop-place.invariant.reads
+    ∙ all_read c.args.text.now c.args.budget c.loop-place.place (views.reach c.args.level - c.loop-place.place) _ _ (omega (arith, c.loop-place-test.false, c.reach.ensures))
+
+-- no AND and no OR
+pub conjunctions::more_of_joint-returns-then-not-joint_comes-clause-reads : goal.conjunctions::more_of_joint-returns-then-not-joint_comes-clause-reads
+conjunctions::more_of_joint-returns-then-not-joint_comes-clause-reads t c =
+    no_joint c.args.text.now c.args.joint c.args.budget _ c.args.tokens.now (sym c.joint_comes.ensures ∙ c.if-not-joint_comes.true)

@@ -12,6 +12,6 @@ abbrev pub invariant-loop : goal.invariant-loop
 invariant-loop l = record {
   reads :
       read_repeats (a kinds.Is) (levels.has_room (grammar.below l.budget)) levels.null_join (λ _. levels.null_or_not.read) (l.end - l.counter) (views.deep l.left) l.rest
-      ≡ read_repeats (a kinds.Is) (levels.has_room (grammar.below l.budget)) levels.null_join (λ _. levels.null_or_not.read) (length l.fn.tokens) (views.deep l.fn.first) l.fn.tokens;
+      ≡ read_repeats (a kinds.Is) (levels.has_room (grammar.below l.budget)) levels.null_join (λ _. levels.null_or_not.read) (length l.fn.tokens) (views.deep l.fn.left) l.fn.tokens;
   within : l.left.depth ≤ l.budget;
 }
