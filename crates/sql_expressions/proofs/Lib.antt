@@ -1,7 +1,7 @@
 mod Alone
-pub mod Climbs
 pub mod Deeper
 pub mod DepthLaws
+pub mod FirstOperands
 pub mod LevelLaws
 pub mod LevelLimits
 pub mod LevelPlaces

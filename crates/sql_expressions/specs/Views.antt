@@ -1,5 +1,5 @@
 -- How the code sees what it reads, and its levels by number.
-use Rattle.std.specs.Prelude.{◌≡◌, ◌<◌, ◌≤◌, ◌⊎◌, ℕ, zero, suc, Bool, false, List, [], ◌∷◌, ◌++◌, length, map, max}
+use Rattle.std.specs.Prelude.{◌≡◌, ◌<◌, ◌≤◌, ◌⊎◌, ℕ, zero, suc, Bool, false, if◌then◌else◌, nat_lt, List, [], ◌∷◌, ◌++◌, length, map, max}
 use Rattle.grammar.specs.Reading.{Class, Reading, Rule, ◌>>=◌, given, begins_in, one}
 use Rattle.sql_tokens.specs.declared.kind.TokenKind.{TokenKind}
 use Rattle.sql_tokens.specs.declared.kind.TokenKind.TheVariants as word
@@ -142,13 +142,11 @@ behind text n places.Disjunctions x = more_of_joint text joints.Or n x
 
 -- the same by number, and how many of them an expression of a level may have
 abbrev pub behind_at : ℕ → Behind
-behind_at zero = places.Products
-behind_at (suc zero) = places.Sums
-behind_at (suc (suc zero)) = places.Test
-behind_at (suc (suc (suc zero))) = places.Comparison
-behind_at (suc (suc (suc (suc zero)))) = places.Nulls
-behind_at (suc (suc (suc (suc (suc zero))))) = places.Conjunctions
-behind_at (suc (suc (suc (suc (suc (suc n)))))) = places.Disjunctions
+behind_at place =
+    if nat_lt place 1 then places.Products else (if nat_lt place 2 then places.Sums
+    else (if nat_lt place 3 then places.Test else (if nat_lt place 4 then places.Comparison
+    else (if nat_lt place 5 then places.Nulls else (if nat_lt place 6 then places.Conjunctions
+    else places.Disjunctions)))))
 
 abbrev pub reach : Level → ℕ
 reach at_levels.Unary = 0

@@ -182,9 +182,9 @@ pub(crate) fn only_part(alloc: Global, left: &mut Deep) -> Result<Parts, Refused
 pub(crate) fn add(parts: &mut Parts, next: &mut Deep) -> Result<(), Refused>
     ensures { MatchResult result (λ _. (views.parts parts.new ≡ views.added (views.parts parts.old) (views.deep next.old)) × (parts.new.depth ≡ max parts.old.depth next.old.depth)) (λ e. e ≡ refusals.NoMemory) }
 {
-    let next = taken(next);
-    parts.items.push(next.expr)?;
-    parts.depth = parts.depth.max(next.depth);
+    let part = taken(next);
+    parts.items.push(part.expr)?;
+    parts.depth = parts.depth.max(part.depth);
     Ok(())
 }
 

@@ -62,17 +62,24 @@ pub(crate) fn reach(level: Level) -> u8
     }
 }
 
+/// What may stand at a place behind an operand, where 0 is the tightest.
 pub(crate) fn behind_at(place: u8) -> Behind
     ensures { result ≡ views.behind_at place }
 {
-    match place {
-        0 => Behind::Products,
-        1 => Behind::Sums,
-        2 => Behind::Test,
-        3 => Behind::Comparison,
-        4 => Behind::Nulls,
-        5 => Behind::Conjunctions,
-        _ => Behind::Disjunctions,
+    if place < 1 {
+        Behind::Products
+    } else if place < 2 {
+        Behind::Sums
+    } else if place < 3 {
+        Behind::Test
+    } else if place < 4 {
+        Behind::Comparison
+    } else if place < 5 {
+        Behind::Nulls
+    } else if place < 6 {
+        Behind::Conjunctions
+    } else {
+        Behind::Disjunctions
     }
 }
 

@@ -1,11 +1,11 @@
-use Rattle.std.proofs.Common.{◌-◌, ◌+◌, length, arith, ap, sym, subst, ◌∙◌, Ok}
+use Rattle.std.proofs.Common.{◌-◌, ◌+◌, length, arith, sym, subst, ◌∙◌}
 use Rattle.std.proofs.lemmas.Result.{err_from_is_err_and}
 use Rattle.grammar.specs.Gives.{Refuses}
 use Rattle.grammar.specs.Repeats.{always}
 use Rattle.grammar.proofs.Steps.{repeats_more, repeats_done, repeats_end, repeats_fail}
 use Rattle.grammar.proofs.WholeLaws.{gives_by}
-use Rattle.sql_expressions.proofs.Climbs.{at_operand, at_negation, not_begins, list_read, first_refuses, then_reads, no_joint, all_read, step_reads, step_refuses}
-use Rattle.sql_expressions.proofs.Deeper.{chain_gives, compared_deeper, named_deeper, negation_deeper, operand_deeper, part_deeper, tested_deeper, unary_deeper}
+use Rattle.sql_expressions.proofs.Deeper.{compared_deeper, named_deeper, negation_deeper, operand_deeper, part_deeper, tested_deeper, unary_deeper}
+use Rattle.sql_expressions.proofs.FirstOperands.{at_operand, at_negation, not_begins, list_read, first_refuses, then_reads, no_joint, all_read, step_reads, step_refuses}
 use Rattle.sql_tokens.specs.Classes.{a}
 use Rattle.sql_tokens.specs.declared.kind.TokenKind.TheVariants as kinds
 use Rattle.sql_expressions.specs.Grammar as grammar

@@ -17,15 +17,12 @@ use Rattle.sql_expressions.specs.declared.signs.Joint.TheVariants as joints
 use Rattle.sql_expressions.specs.declared.signs.Level.{Level}
 use Rattle.sql_expressions.specs.declared.signs.Level.TheVariants as at_levels
 use Rattle.sql_expressions.proofs.Alone.{ends_there, single}
+use Rattle.sql_expressions.proofs.Deeper.{second_read}
 
 -- readers one after another
 then_then : {A B C : Type 0} (r : Result A Stop) (f : A → Result B Stop) (g : B → Result C Stop) → (r >>= f) >>= g ≡ (r >>= λ x. f x >>= g)
 then_then (Ok x) f g = refl
 then_then (Err e) f g = refl
-
-second_read : {A B : Type 0} (x : A) (r : Reading Token B) → ((r >>= λ y. given (x, y.0) y.1) >>= λ (z : (A × B) × List Token). given (second_of z.0) z.1) ≡ r
-second_read x (Ok y) = refl
-second_read x (Err e) = refl
 
 -- where the value of the second is that of both
 follow_read : {A B : Type 0} (r : Reading Token A) (g : A → List Token → Reading Token B) →
@@ -43,14 +40,8 @@ module _ {A B : Type 0} (t : Reading Token B) (r : Reading Token A) (f : A × Li
   first_refuses (Syntax i) k = h ∙ ap (λ z. z >>= f) k
   first_refuses (Limit i) k = h ∙ ap (λ z. z >>= f) k
 
-  module _ (x : A × List Token) (k : r ≡ Ok x) where
-    pub then_reads : t ≡ f x
-    then_reads = h ∙ ap (λ z. z >>= f) k
-
-    pub then_refuses : (e : Refused) → Refuses e (f x) → Refuses e t
-    then_refuses NoMemory l = tt
-    then_refuses (Syntax i) l = then_reads ∙ l
-    then_refuses (Limit i) l = then_reads ∙ l
+  pub then_reads : (x : A × List Token) → r ≡ Ok x → t ≡ f x
+  then_reads x k = h ∙ ap (λ z. z >>= f) k
 
 module _ (text : List ℕ) (n : ℕ) where
   abbrev pub from : ℕ → ℕ → Deep × List Token → Reading Token Deep
