@@ -9,9 +9,11 @@ use Rattle.sql_tokens.specs.Classes.{a}
 use Rattle.sql_tokens.specs.declared.kind.TokenKind.TheVariants as word
 use Rattle.sql_tokens.specs.declared.token.Token.{Token}
 use Rattle.sql_expressions.specs.Grammar.{any, below, comparison_at, freed, nullity_at, rules, under_depth}
-use Rattle.sql_expressions.specs.Levels.{Deep, Parts, Room, Rules, add_part, list_of, negation, only_part, parts_room}
-use Rattle.sql_expressions.specs.Views.{at, behind, behind_at, climbed, first_part, joint_sign, joint_value, maybe_compared, maybe_tested, more_of_joint, not_comes, part_of, reach}
+use Rattle.sql_expressions.specs.Levels.{Deep, Parts, Room, Rules, add_part, has_room, is_product, is_sum, join, list_of, negation, null_join, null_or_not, only_part, parts_room}
+use Rattle.sql_expressions.specs.Views.{at, behind, behind_at, behind_sign, climbed, first_part, joint_sign, joint_value, maybe_compared, maybe_tested, more_of_joint, not_comes, operand_of, part_of, reach}
 use Rattle.sql_expressions.specs.declared.signs.Behind.{Behind}
+use Rattle.sql_expressions.specs.declared.signs.Behind.TheVariants as places
+use Rattle.sql_expressions.specs.declared.signs.Chain.TheVariants as chains
 use Rattle.sql_expressions.specs.declared.signs.Joint.{Joint}
 use Rattle.sql_expressions.specs.declared.signs.Joint.TheVariants as joints
 use Rattle.sql_expressions.specs.declared.signs.Level.{Level}
@@ -159,6 +161,22 @@ module _ (text : List ℕ) (n : ℕ) where
     at_negation at_levels.Conjunction h = conjoined
     at_negation at_levels.Expression h = disjoined
 
+-- where no AND or OR comes
+pub no_joint : (text : List ℕ) (joint : Joint) (n : ℕ) (x : Deep) (ts : List Token) → begins_in (joint_sign joint) ts ≡ false → (more_of_joint text joint n x).read ts ≡ Ok (x, ts)
+no_joint text joint n x ts h =
+    ap (λ z. z >>= part_value text n joint) (ends_there (joint_sign joint) (parts_room (below n)) add_part (λ _. part_of joint (under_depth text n)) (length ts) (only_part x) ts h)
+    ∙ ap (λ z. given z ts) (single joint x)
+
+-- where nothing comes that may stand at a place
+pub nothing_behind : (text : List ℕ) (n : ℕ) (b : Behind) (x : Deep) (ts : List Token) → begins_in (behind_sign b) ts ≡ false → (behind text n b x).read ts ≡ Ok (x, ts)
+nothing_behind text n places.Products x ts h = ends_there is_product (has_room (below n)) join (λ _. operand_of chains.Product (under_depth text n)) (length ts) x ts h
+nothing_behind text n places.Sums x ts h = ends_there is_sum (has_room (below n)) join (λ _. operand_of chains.Sum (under_depth text n)) (length ts) x ts h
+nothing_behind text n places.Test x ts h = rw h refl
+nothing_behind text n places.Comparison x ts h = rw h refl
+nothing_behind text n places.Nulls x ts h = ends_there (a word.Is) (has_room (below n)) null_join (λ _. null_or_not) (length ts) x ts h
+nothing_behind text n places.Conjunctions x ts h = no_joint text joints.And n x ts h
+nothing_behind text n places.Disjunctions x ts h = no_joint text joints.Or n x ts h
+
 -- a step of the loop
 module _ (text : List ℕ) (n place next count more : ℕ) (h : count ≡ suc more) (k : next ≡ suc place) (b : Behind) (q : b ≡ behind_at place) (x : Deep) (ts : List Token) where
   abbrev others : Deep × List Token → Reading Token Deep
@@ -173,6 +191,9 @@ module _ (text : List ℕ) (n place next count more : ℕ) (h : count ≡ suc mo
 
   pub step_reads : (y : Deep) (rest : List Token) → (behind text n b x).read ts ≡ Ok (y, rest) → climbed text n next more y rest ≡ climbed text n place count x ts
   step_reads y rest e = sym (then_reads (climbed text n place count x ts) ((behind text n b x).read ts) others stepped (y, rest) e)
+
+  pub step_skips : begins_in (behind_sign b) ts ≡ false → climbed text n next more x ts ≡ climbed text n place count x ts
+  step_skips e = step_reads x ts (nothing_behind text n b x ts e)
 
 pub all_read : (text : List ℕ) (n place count : ℕ) (x : Deep) (ts : List Token) → count ≡ 0 → climbed text n place count x ts ≡ Ok (x, ts)
 unfolding climbed
@@ -191,9 +212,3 @@ not_begins at_levels.Expression ts h = h
 -- a list is its first expression, and what stands behind that
 pub list_read : (p : Rule Token Deep) (ts : List Token) → (list_of p).read ts ≡ ((first_part p).read ts >>= λ y. read_repeats (a word.Comma) always add_part (λ _. p.read) (length y.1) y.0 y.1)
 list_read p ts = sym (then_then (p.read ts) (λ x. given (only_part x.0) x.1) (λ y. read_repeats (a word.Comma) always add_part (λ _. p.read) (length y.1) y.0 y.1))
-
--- where no AND or OR comes
-pub no_joint : (text : List ℕ) (joint : Joint) (n : ℕ) (x : Deep) (ts : List Token) → begins_in (joint_sign joint) ts ≡ false → (more_of_joint text joint n x).read ts ≡ Ok (x, ts)
-no_joint text joint n x ts h =
-    ap (λ z. z >>= part_value text n joint) (ends_there (joint_sign joint) (parts_room (below n)) add_part (λ _. part_of joint (under_depth text n)) (length ts) (only_part x) ts h)
-    ∙ ap (λ z. given z ts) (single joint x)

@@ -140,6 +140,16 @@ behind text n places.Nulls x = more_nulls n x
 behind text n places.Conjunctions x = more_of_joint text joints.And n x
 behind text n places.Disjunctions x = more_of_joint text joints.Or n x
 
+-- the tokens with which they begin
+abbrev pub behind_sign : Behind → Class Token
+behind_sign places.Products = level.is_product
+behind_sign places.Sums = level.is_sum
+behind_sign places.Test = level.begins_test
+behind_sign places.Comparison = level.is_comparison
+behind_sign places.Nulls = a word.Is
+behind_sign places.Conjunctions = a word.And
+behind_sign places.Disjunctions = a word.Or
+
 -- the same by number, and how many of them an expression of a level may have
 abbrev pub behind_at : ℕ → Behind
 behind_at place =

@@ -83,6 +83,21 @@ pub(crate) fn behind_at(place: u8) -> Behind
     }
 }
 
+/// Whether it stands there.
+pub(crate) fn behind_comes(place: Behind, tokens: &[Token]) -> bool
+    ensures { result ≡ begins_in (views.behind_sign place) tokens.now }
+{
+    match place {
+        Behind::Products => sign_comes(Chain::Product, tokens),
+        Behind::Sums => sign_comes(Chain::Sum, tokens),
+        Behind::Test => test_comes(tokens),
+        Behind::Comparison => comparison_comes(tokens),
+        Behind::Nulls => comes(tokens, TokenKind::Is),
+        Behind::Conjunctions => joint_comes(Joint::And, tokens),
+        Behind::Disjunctions => joint_comes(Joint::Or, tokens),
+    }
+}
+
 /// Whether a NOT comes that begins an expression of the level.
 pub(crate) fn not_comes(level: Level, tokens: &[Token]) -> bool
     ensures { result ≡ views.not_comes level tokens.now }

@@ -9,7 +9,7 @@ use crate::levels::conjunctions::more_of_joint;
 use crate::levels::negations::{inverted_first, more_nulls};
 use crate::levels::operands::unary;
 use crate::levels::sums::more_operands;
-use crate::signs::{Behind, Chain, Joint, Level, behind_at, not_comes, reach};
+use crate::signs::{Behind, Chain, Joint, Level, behind_at, behind_comes, not_comes, reach};
 use grammar::Refused;
 use sql_tokens::Token;
 use std::alloc::Global;
@@ -58,8 +58,11 @@ fn climbed<'a>(
 {
     let mut rest = tokens;
     for place in from..reach(level) {
-        let after = grown(alloc, text, behind_at(place), left, rest, budget)?;
-        rest = after;
+        let behind = behind_at(place);
+        if behind_comes(behind, rest) {
+            let after = grown(alloc, text, behind, left, rest, budget)?;
+            rest = after;
+        }
     }
     Ok(rest)
 }

@@ -5,7 +5,7 @@ use Rattle.grammar.specs.Repeats.{always}
 use Rattle.grammar.proofs.Steps.{repeats_more, repeats_done, repeats_end, repeats_fail}
 use Rattle.grammar.proofs.WholeLaws.{gives_by}
 use Rattle.sql_expressions.proofs.Deeper.{compared_deeper, named_deeper, negation_deeper, operand_deeper, part_deeper, tested_deeper, unary_deeper}
-use Rattle.sql_expressions.proofs.FirstOperands.{at_operand, at_negation, not_begins, list_read, first_refuses, then_reads, no_joint, all_read, step_reads, step_refuses}
+use Rattle.sql_expressions.proofs.FirstOperands.{at_operand, at_negation, not_begins, list_read, first_refuses, then_reads, no_joint, all_read, step_reads, step_refuses, step_skips}
 use Rattle.sql_tokens.specs.Classes.{a}
 use Rattle.sql_tokens.specs.declared.kind.TokenKind.TheVariants as kinds
 use Rattle.sql_expressions.specs.Grammar as grammar
@@ -139,8 +139,8 @@ climbs::inverted_level-returns-clause-reads t c =
     c.climbed.ensures.reads
 
 -- one place after another
-pub climbs::climbed-returns-in_err-after-clause-reads : goal.climbs::climbed-returns-in_err-after-clause-reads
-climbs::climbed-returns-in_err-after-clause-reads t c =
+pub climbs::climbed-returns-then-behind_comes-in_err-after-clause-reads : goal.climbs::climbed-returns-then-behind_comes-in_err-after-clause-reads
+climbs::climbed-returns-then-behind_comes-in_err-after-clause-reads t c =
     let p = err_from_is_err_and c.from_residual.result c.from_residual.ensures.1 in
     rw (p.1, p.2) (subst (Refuses c.in_err-after.field-0.0) c.loop-place.invariant.reads
     (step_refuses c.args.text.now c.args.budget c.loop-place.place (c.loop-place.place + 1) (views.reach c.args.level - c.loop-place.place) (views.reach c.args.level - (c.loop-place.place + 1))
@@ -148,6 +148,15 @@ climbs::climbed-returns-in_err-after-clause-reads t c =
 
 pub climbs::climbed-loop-place-preserved : goal.climbs::climbed-loop-place-preserved
 climbs::climbed-loop-place-preserved t c = record {
+  reads =
+      step_skips c.args.text.now c.args.budget c.loop-place.place (c.loop-place.place + 1) (views.reach c.args.level - c.loop-place.place) (views.reach c.args.level - (c.loop-place.place + 1))
+      (omega (arith, c.loop-place-test.true, c.reach.ensures)) (omega arith) _ c.behind_at.ensures _ _ (sym c.behind_comes.ensures ∙ c.if-behind_comes.false)
+      ∙ c.loop-place.invariant.reads;
+  within = c.loop-place.invariant.within;
+}
+
+pub climbs::climbed-loop-place-preserved-then-behind_comes : goal.climbs::climbed-loop-place-preserved-then-behind_comes
+climbs::climbed-loop-place-preserved-then-behind_comes t c = record {
   reads =
       step_reads c.args.text.now c.args.budget c.loop-place.place (c.loop-place.place + 1) (views.reach c.args.level - c.loop-place.place) (views.reach c.args.level - (c.loop-place.place + 1))
       (omega (arith, c.loop-place-test.true, c.reach.ensures)) (omega arith) _ c.behind_at.ensures _ _ _ _ c.in_ok-after.ensures.reads
