@@ -5,7 +5,7 @@ use Rattle.sql_tokens.specs.declared.kind.TokenKind.{TokenKind}
 use Rattle.sql_tokens.specs.declared.kind.TokenKind.TheVariants as word
 use Rattle.sql_tokens.specs.declared.token.Token.{Token}
 use Rattle.sql_expressions.specs.Levels as level
-use Rattle.grammar.specs.Reading.{as_value}
+use Rattle.grammar.specs.Reading.{as_value, nothing}
 use Rattle.grammar.specs.Words.{◌>>◌, ◌<<◌, ◌&◌}
 use Rattle.grammar.specs.Repeats.{repeats}
 use Rattle.sql_expressions.specs.Grammar.{any, below, freed, rules, under_depth}
@@ -49,6 +49,15 @@ constant text = as_value level.flat (literal text)
 abbrev pub no_call : List ℕ → TokenKind × List ℕ → Rule Token level.Deep
 no_call text x = as_value level.flat (column text x)
 
+-- a closing parenthesis behind what stands there
+abbrev pub ended : level.Deep → Rule Token level.Deep
+ended x = nothing x << a word.CloseParenthesis
+
+-- a list with a closing parenthesis
+abbrev pub closed_list : level.Rules → Rule Token level.Parts
+closed_list below = level.list_of below.expression << a word.CloseParenthesis
+
+-- "*" and a closing parenthesis
 abbrev pub call_of_all : List ℕ → Rule Token level.Deep
 call_of_all f = as_value (level.all_call f) (one (a word.Star)) << a word.CloseParenthesis
 

@@ -36,7 +36,6 @@ pub(crate) fn flat(leaf: Leaf) -> Deep
 }
 
 /// What stands where an expression is to be read.
-#[inline(never)]
 pub(crate) fn unread() -> Deep {
     flat(Leaf::Null)
 }
@@ -47,6 +46,14 @@ fn taken(left: &mut Deep) -> Deep
 {
     replace(left, unread())
 }
+
+/// Lets an expression go. Where a function does that by itself, it takes more of the stack.
+#[inline(never)]
+pub(crate) fn discard(_deep: Deep) {}
+
+/// Lets expressions go.
+#[inline(never)]
+pub(crate) fn discard_parts(_parts: Parts) {}
 
 fn boxed(alloc: Global, deep: Deep) -> Result<(Box<Expr>, u8), Refused>
     ensures { MatchResult result (λ x. (trees_of.tree x.0.value ≡ trees_of.tree deep.expr) × (x.1 ≡ deep.depth)) (λ e. e ≡ refusals.NoMemory) }
@@ -98,14 +105,14 @@ pub(crate) fn join(
     alloc: Global,
     operator: Operator,
     left: &mut Deep,
-    right: &mut Deep,
+    right: Deep,
 ) -> Result<(), Refused>
-    requires { (left.old.depth < 255) × (right.old.depth < 255) }
-    ensures { MatchResult result (λ _. views.deep left.new ≡ levels.joined operator (views.deep left.old) (views.deep right.old)) (λ e. e ≡ refusals.NoMemory) }
+    requires { (left.old.depth < 255) × (right.depth < 255) }
+    ensures { MatchResult result (λ _. views.deep left.new ≡ levels.joined operator (views.deep left.old) (views.deep right)) (λ e. e ≡ refusals.NoMemory) }
 {
     let depth = left.depth.max(right.depth) + 1;
     let (operand, _) = boxed(alloc, taken(left))?;
-    let (right, _) = boxed(alloc, taken(right))?;
+    let (right, _) = boxed(alloc, right)?;
     *left = Deep {
         expr: Expr::Binary(operator, operand, right),
         depth,
@@ -137,16 +144,16 @@ pub(crate) fn between(
     alloc: Global,
     is_not: bool,
     left: &mut Deep,
-    from: &mut Deep,
-    to: &mut Deep,
+    from: Deep,
+    to: Deep,
 ) -> Result<(), Refused>
-    requires { (left.old.depth < 255) × (from.old.depth < 255) × (to.old.depth < 255) }
-    ensures { MatchResult result (λ _. views.deep left.new ≡ levels.between_value is_not (views.deep left.old) (views.deep from.old, views.deep to.old)) (λ e. e ≡ refusals.NoMemory) }
+    requires { (left.old.depth < 255) × (from.depth < 255) × (to.depth < 255) }
+    ensures { MatchResult result (λ _. views.deep left.new ≡ levels.between_value is_not (views.deep left.old) (views.deep from, views.deep to)) (λ e. e ≡ refusals.NoMemory) }
 {
     let depth = left.depth.max(from.depth.max(to.depth)) + 1;
     let (operand, _) = boxed(alloc, taken(left))?;
-    let (from, _) = boxed(alloc, taken(from))?;
-    let (to, _) = boxed(alloc, taken(to))?;
+    let (from, _) = boxed(alloc, from)?;
+    let (to, _) = boxed(alloc, to)?;
     *left = Deep {
         expr: Expr::Between(is_not, operand, from, to),
         depth,
@@ -177,14 +184,35 @@ pub(crate) fn only_part(alloc: Global, left: &mut Deep) -> Result<Parts, Refused
     })
 }
 
+/// None at all.
+#[inline(never)]
+pub(crate) fn set_none(alloc: Global, parts: &mut Parts)
+    ensures { (views.parts parts.new ≡ ([], 0)) × (parts.new.depth ≡ 0) }
+{
+    *parts = no_parts(alloc);
+}
+
+/// One alone.
+#[inline(never)]
+pub(crate) fn set_only(alloc: Global, parts: &mut Parts, deep: Deep) -> Result<(), Refused>
+    ensures { MatchResult result (λ _. (views.parts parts.new ≡ levels.only_part (views.deep deep)) × (parts.new.depth ≡ deep.depth)) (λ e. e ≡ refusals.NoMemory) }
+{
+    let mut items = Vec::new(alloc);
+    items.push(deep.expr)?;
+    *parts = Parts {
+        items,
+        depth: deep.depth,
+    };
+    Ok(())
+}
+
 /// One more at the end.
 #[inline(never)]
-pub(crate) fn add(parts: &mut Parts, next: &mut Deep) -> Result<(), Refused>
-    ensures { MatchResult result (λ _. (views.parts parts.new ≡ views.added (views.parts parts.old) (views.deep next.old)) × (parts.new.depth ≡ max parts.old.depth next.old.depth)) (λ e. e ≡ refusals.NoMemory) }
+pub(crate) fn add(parts: &mut Parts, next: Deep) -> Result<(), Refused>
+    ensures { MatchResult result (λ _. (views.parts parts.new ≡ views.added (views.parts parts.old) (views.deep next)) × (parts.new.depth ≡ max parts.old.depth next.depth)) (λ e. e ≡ refusals.NoMemory) }
 {
-    let part = taken(next);
-    parts.items.push(part.expr)?;
-    parts.depth = parts.depth.max(part.depth);
+    parts.items.push(next.expr)?;
+    parts.depth = parts.depth.max(next.depth);
     Ok(())
 }
 

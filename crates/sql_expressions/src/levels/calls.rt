@@ -1,4 +1,4 @@
-ghost use Rattle.std.specs.Prelude.{◌<◌, ◌≤◌, ◌+◌, IfOk, length};
+ghost use Rattle.std.specs.Prelude.{◌≡◌, ◌<◌, ◌≤◌, ◌+◌, IfOk, length};
 ghost use Rattle.grammar.specs.Gives.{Gives};
 ghost use Rattle.grammar.specs.Repeats.{always, read_repeats, read_step};
 ghost use Rattle.sql_expressions.specs.Grammar as grammar;
@@ -6,7 +6,9 @@ ghost use Rattle.sql_expressions.specs.Levels as levels;
 ghost use Rattle.sql_expressions.specs.Views as views;
 ghost use Rattle.sql_tokens.specs.Classes.{a};
 
-use crate::deep::{Deep, Parts, add, no_parts, only_part, set_call, unread};
+use crate::deep::{
+    Deep, Parts, add, discard, discard_parts, no_parts, set_call, set_none, set_only, unread,
+};
 use crate::levels::climbs::at_level;
 use crate::signs::{Level, expression_comes};
 use grammar::{Refused, comes, word};
@@ -34,6 +36,23 @@ fn called_of_all<'a>(
     Ok(rest)
 }
 
+/// The end of a call with its arguments.
+#[inline(never)]
+fn end_call<'a>(
+    function: PgText,
+    left: &mut Deep,
+    list: Parts,
+    tokens: &'a [Token],
+) -> Result<&'a [Token], Refused>
+    requires { list.depth < 255 }
+    ensures reads { Gives (λ rest. (views.deep left.new, rest.now)) result ((views.ended (levels.call_value function (views.parts list))).read tokens.now) }
+    ensures within { IfOk result (λ rest. left.new.depth ≡ list.depth + 1) }
+{
+    let (_, rest) = word(tokens, TokenKind::CloseParenthesis)?;
+    set_call(left, function, list);
+    Ok(rest)
+}
+
 /// The parentheses of a call.
 #[cycle(levels)]
 #[inline(never)]
@@ -54,10 +73,13 @@ pub(crate) fn called<'a>(
         return called_of_all(function, left, rest);
     }
     let mut list = no_parts(alloc);
-    let rest = arguments(alloc, text, &mut list, rest, below)?;
-    let (_, rest) = word(rest, TokenKind::CloseParenthesis)?;
-    set_call(left, function, list);
-    Ok(rest)
+    match arguments(alloc, text, &mut list, rest, below) {
+        Ok(rest) => end_call(function, left, list, rest),
+        Err(refused) => {
+            discard_parts(list);
+            Err(refused)
+        }
+    }
 }
 
 #[cycle(levels)]
@@ -75,7 +97,7 @@ fn arguments<'a>(
     if expression_comes(tokens) {
         return items(alloc, text, list, tokens, below);
     }
-    *list = no_parts(alloc);
+    set_none(alloc, list);
     Ok(tokens)
 }
 
@@ -111,9 +133,16 @@ fn first_item<'a>(
     ensures within { IfOk result (λ rest. list.new.depth ≤ below) }
 {
     let mut first = unread();
-    let rest = at_level(alloc, text, Level::Expression, &mut first, tokens, below)?;
-    *list = only_part(alloc, &mut first)?;
-    Ok(rest)
+    match at_level(alloc, text, Level::Expression, &mut first, tokens, below) {
+        Ok(rest) => {
+            set_only(alloc, list, first)?;
+            Ok(rest)
+        }
+        Err(refused) => {
+            discard(first);
+            Err(refused)
+        }
+    }
 }
 
 #[cycle(levels)]
@@ -136,9 +165,16 @@ fn item_step<'a>(
     }
     let (_, rest) = word(tokens, TokenKind::Comma)?;
     let mut next = unread();
-    let rest = at_level(alloc, text, Level::Expression, &mut next, rest, below)?;
-    add(list, &mut next)?;
-    Ok((true, rest))
+    match at_level(alloc, text, Level::Expression, &mut next, rest, below) {
+        Ok(rest) => {
+            add(list, next)?;
+            Ok((true, rest))
+        }
+        Err(refused) => {
+            discard(next);
+            Err(refused)
+        }
+    }
 }
 
 #[cycle(levels)]

@@ -5,7 +5,7 @@ ghost use Rattle.sql_expressions.specs.Grammar as grammar;
 ghost use Rattle.sql_expressions.specs.Levels as levels;
 ghost use Rattle.sql_expressions.specs.Views as views;
 
-use crate::deep::{Deep, between, in_list, join, no_parts, unread};
+use crate::deep::{Deep, Parts, between, discard_parts, in_list, join, no_parts, unread};
 use crate::levels::calls::items;
 use crate::levels::climbs::at_level;
 use crate::signs::{Level, comparison_comes, operator_of, sign, test_comes};
@@ -93,9 +93,33 @@ fn among<'a>(
     let (_, rest) = word(tokens, TokenKind::In)?;
     let (_, rest) = word(rest, TokenKind::OpenParenthesis)?;
     let mut list = no_parts(alloc);
-    let rest = items(alloc, text, &mut list, rest, below)?;
+    match closed_items(alloc, text, &mut list, rest, below) {
+        Ok(rest) => {
+            in_list(alloc, is_not, left, list)?;
+            Ok(rest)
+        }
+        Err(refused) => {
+            discard_parts(list);
+            Err(refused)
+        }
+    }
+}
+
+/// Expressions with commas between, and a closing parenthesis.
+#[cycle(levels)]
+fn closed_items<'a>(
+    alloc: Global,
+    text: &[u8],
+    list: &mut Parts,
+    tokens: &'a [Token],
+    below: u8,
+) -> Result<&'a [Token], Refused>
+    requires { below < 255 }
+    ensures reads { Gives (λ rest. (views.parts list.new, rest.now)) result ((views.closed_list (grammar.rules text.now below)).read tokens.now) }
+    ensures within { IfOk result (λ rest. list.new.depth ≤ below) }
+{
+    let rest = items(alloc, text, list, tokens, below)?;
     let (_, rest) = word(rest, TokenKind::CloseParenthesis)?;
-    in_list(alloc, is_not, left, list)?;
     Ok(rest)
 }
 
@@ -120,7 +144,7 @@ fn within_bounds<'a>(
     let (_, rest) = word(rest, TokenKind::And)?;
     let mut to = unread();
     let rest = at_level(alloc, text, Level::Sum, &mut to, rest, below)?;
-    between(alloc, is_not, left, &mut from, &mut to)?;
+    between(alloc, is_not, left, from, to)?;
     Ok(rest)
 }
 
@@ -164,6 +188,6 @@ fn compared<'a>(
     let (sign, rest) = sign(tokens)?;
     let mut right = unread();
     let rest = at_level(alloc, text, Level::Test, &mut right, rest, below)?;
-    join(alloc, operator_of(sign), left, &mut right)?;
+    join(alloc, operator_of(sign), left, right)?;
     Ok(rest)
 }

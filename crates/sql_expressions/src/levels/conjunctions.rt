@@ -5,7 +5,7 @@ ghost use Rattle.sql_expressions.specs.Grammar as grammar;
 ghost use Rattle.sql_expressions.specs.Levels as levels;
 ghost use Rattle.sql_expressions.specs.Views as views;
 
-use crate::deep::{Deep, Parts, add, only_part, set_node, unread};
+use crate::deep::{Deep, Parts, add, discard, only_part, set_node, unread};
 use crate::levels::climbs::at_level;
 use crate::signs::{Joint, joint_comes, part_level, sign};
 use grammar::Refused;
@@ -93,9 +93,16 @@ fn part_step<'a>(
     }
     let (_, rest) = sign(tokens)?;
     let mut next = unread();
-    let rest = right_part(alloc, text, joint, &mut next, rest, budget)?;
-    add(parts, &mut next)?;
-    Ok((true, rest))
+    match right_part(alloc, text, joint, &mut next, rest, budget) {
+        Ok(rest) => {
+            add(parts, next)?;
+            Ok((true, rest))
+        }
+        Err(refused) => {
+            discard(next);
+            Err(refused)
+        }
+    }
 }
 
 #[cycle(levels)]

@@ -53,7 +53,7 @@ fn operand_step<'a>(
     let (sign, rest) = sign(tokens)?;
     let mut right = unread();
     let rest = right_operand(alloc, text, chain, &mut right, rest, budget)?;
-    join(alloc, operator_of(sign), left, &mut right)?;
+    join(alloc, operator_of(sign), left, right)?;
     Ok((true, rest))
 }
 

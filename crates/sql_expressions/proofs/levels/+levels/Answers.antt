@@ -144,13 +144,13 @@ climbs::climbed-returns-then-behind_comes-in_err-after-clause-reads t c =
     let p = err_from_is_err_and c.from_residual.result c.from_residual.ensures.1 in
     rw (p.1, p.2) (subst (Refuses c.in_err-after.field-0.0) c.loop-place.invariant.reads
     (step_refuses c.args.text.now c.args.budget c.loop-place.place (c.loop-place.place + 1) (views.reach c.args.level - c.loop-place.place) (views.reach c.args.level - (c.loop-place.place + 1))
-    (omega (arith, c.loop-place-test.true, c.reach.ensures)) (omega arith) _ c.behind_at.ensures _ _ c.in_err-after.field-0.0 c.in_err-after.ensures.reads))
+    (omega (arith, c.loop-place-test.true, c.reach-place-end.ensures)) (omega arith) _ c.behind_at-behind.ensures _ _ c.in_err-after.field-0.0 c.in_err-after.ensures.reads))
 
 pub climbs::climbed-loop-place-preserved : goal.climbs::climbed-loop-place-preserved
 climbs::climbed-loop-place-preserved t c = record {
   reads =
       step_skips c.args.text.now c.args.budget c.loop-place.place (c.loop-place.place + 1) (views.reach c.args.level - c.loop-place.place) (views.reach c.args.level - (c.loop-place.place + 1))
-      (omega (arith, c.loop-place-test.true, c.reach.ensures)) (omega arith) _ c.behind_at.ensures _ _ (sym c.behind_comes.ensures ∙ c.if-behind_comes.false)
+      (omega (arith, c.loop-place-test.true, c.reach-place-end.ensures)) (omega arith) _ c.behind_at-behind.ensures _ _ (sym c.behind_comes.ensures ∙ c.if-behind_comes.false)
       ∙ c.loop-place.invariant.reads;
   within = c.loop-place.invariant.within;
 }
@@ -159,7 +159,7 @@ pub climbs::climbed-loop-place-preserved-then-behind_comes : goal.climbs::climbe
 climbs::climbed-loop-place-preserved-then-behind_comes t c = record {
   reads =
       step_reads c.args.text.now c.args.budget c.loop-place.place (c.loop-place.place + 1) (views.reach c.args.level - c.loop-place.place) (views.reach c.args.level - (c.loop-place.place + 1))
-      (omega (arith, c.loop-place-test.true, c.reach.ensures)) (omega arith) _ c.behind_at.ensures _ _ _ _ c.in_ok-after.ensures.reads
+      (omega (arith, c.loop-place-test.true, c.reach-place-end.ensures)) (omega arith) _ c.behind_at-behind.ensures _ _ _ _ c.in_ok-after.ensures.reads
       ∙ c.loop-place.invariant.reads;
   within = c.in_ok-after.ensures.within;
 }
@@ -167,7 +167,7 @@ climbs::climbed-loop-place-preserved-then-behind_comes t c = record {
 pub climbs::climbed-returns-clause-reads : goal.climbs::climbed-returns-clause-reads
 climbs::climbed-returns-clause-reads t c =
     sym c.loop-place.invariant.reads
-    ∙ all_read c.args.text.now c.args.budget c.loop-place.place (views.reach c.args.level - c.loop-place.place) _ _ (omega (arith, c.loop-place-test.false, c.reach.ensures))
+    ∙ all_read c.args.text.now c.args.budget c.loop-place.place (views.reach c.args.level - c.loop-place.place) _ _ (omega (arith, c.loop-place-test.false, c.reach-place-end.ensures))
 
 -- no AND and no OR
 pub conjunctions::more_of_joint-returns-then-not-joint_comes-clause-reads : goal.conjunctions::more_of_joint-returns-then-not-joint_comes-clause-reads

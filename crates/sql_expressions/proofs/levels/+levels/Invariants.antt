@@ -90,14 +90,17 @@ decreases-calls::arguments l = 32 * l.below + 21
 abbrev pub decreases-calls::called : goal.decreases-calls::called
 decreases-calls::called l = 32 * l.below + 22
 
+abbrev pub decreases-comparisons::closed_items : goal.decreases-comparisons::closed_items
+decreases-comparisons::closed_items l = 32 * l.below + 21
+
 abbrev pub decreases-comparisons::among : goal.decreases-comparisons::among
-decreases-comparisons::among l = 32 * l.below + 21
+decreases-comparisons::among l = 32 * l.below + 22
 
 abbrev pub decreases-comparisons::in_or_between : goal.decreases-comparisons::in_or_between
-decreases-comparisons::in_or_between l = 32 * l.below + 22
+decreases-comparisons::in_or_between l = 32 * l.below + 23
 
 abbrev pub decreases-comparisons::tested : goal.decreases-comparisons::tested
-decreases-comparisons::tested l = 32 * l.below + 23
+decreases-comparisons::tested l = 32 * l.below + 24
 
 -- the rest is read from where the loop stands
 abbrev pub invariant-climbs::climbed-loop-place : goal.invariant-climbs::climbed-loop-place
